@@ -1,13 +1,12 @@
-// A library with one function.
+//! What a run is made of: texts, values, messages, entries and the journal, and what a run of the join machine is.
+//! Stands on: arrayvec (the members of a firing). Used by: every crate that speaks of values or entries.
+//! Promise: each value is within its limits by its type, and each definition of `specs/` is the machine's own.
+//! Read `specs/` in the order of its `Lib.antt`: it is the language's meaning, and every theorem above cites it.
+//! Not here: what the bodies of a program ask (chord_code, chord_lists), and how a journal is written (chord_journal).
 #![tactic(auto)]
 
-ghost use Rattle.std.specs.Prelude.{◌≡◌};
-ghost use Rattle.chord_base.specs.Echo.{echo_of};
-
-// The `ensures` clause is the contract: what `echo` returns is `echo_of` of its argument, a definition
-// in `specs/Echo.antt`, which a caller's clause can cite too.
-pub fn echo(x: usize) -> usize
-    ensures { result ≡ echo_of x }
-{
-    x
-}
+pub mod event;
+pub mod journal;
+pub mod members;
+pub mod text;
+pub mod value;

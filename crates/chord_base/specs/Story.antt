@@ -1,0 +1,92 @@
+-- Stories: what one place keeps of a run, as one task, one desk or one parcel.
+use Rattle.std.specs.Prelude.{◌≡◌, ℕ, ◌<◌, Bool, true, false, ◌==◌, List, [], ◌∷◌, IsSome, if◌then◌else◌}
+use Rattle.chord_base.specs.Meaning.{Program}
+use Rattle.chord_base.specs.Bodies.{Doing, Absent, Unplaced, Ready, Waits, Over, doing, Asks}
+use Rattle.chord_base.specs.Machine.{IsPast}
+use Rattle.chord_base.specs.declared.event.What.{What}
+use Rattle.chord_base.specs.declared.event.What.TheVariants.{Begun, Made, Sent, Called, Printed, Fired, Ended}
+use Rattle.chord_base.specs.declared.event.Entry.{Entry}
+
+-- the number of an entry is above that of the one before it
+abbrev pub Rises : ℕ → List Entry → Type 0
+Rises n [] = Unit {0}
+Rises n (e ∷ h) = e.number < n
+
+-- an entry is its body's first, or its body's next ask
+abbrev pub Tells : Program → List Entry → ℕ → ℕ → What → Type 0
+Tells p h n b Begun = b ≡ n
+Tells p h n b (Fired k o ms vs) = b ≡ n
+Tells p h n b (Made c) = Asks p h b (Made c)
+Tells p h n b (Sent o j vs) = Asks p h b (Sent o j vs)
+Tells p h n b (Called o j vs) = Asks p h b (Called o j vs)
+Tells p h n b (Printed t) = Asks p h b (Printed t)
+Tells p h n b (Ended x) = Asks p h b (Ended x)
+
+-- the numbers rise, each body begins here, and each later entry is its body's next ask
+abbrev pub IsTold : Program → List Entry → Type 0
+IsTold p [] = Unit {0}
+IsTold p (e ∷ h) = IsTold p h × Rises e.number h × Tells p h e.number e.body e.what
+
+-- the program says what the body does next
+abbrev pub IsDefined : Program → Doing → Type 0
+IsDefined p (Ready s d rs) = IsSome (p.next s d rs)
+IsDefined p (Waits s d rs q l) = IsSome (p.next s d rs)
+IsDefined p Absent = Unit {0}
+IsDefined p Unplaced = Unit {0}
+IsDefined p (Over x) = Unit {0}
+
+-- a story: it is told, and what each of its bodies does is defined
+pub record IsStory (p : Program) (h : List Entry) : Type 0 where
+  pub told : IsTold p h
+  pub is_defined : (b : ℕ) → IsDefined p (doing p h b)
+
+-- the entries of these numbers
+abbrev pub kept : (ℕ → Bool) → List Entry → List Entry
+kept keep [] = []
+kept keep (e ∷ h) = if keep e.number then e ∷ kept keep h else kept keep h
+
+-- the entries stand in places, `at` gives the place of a number, and what each place keeps is told
+abbrev pub AreTold : Program → (ℕ → ℕ) → List Entry → Type 0
+AreTold p at h = (c : ℕ) → IsTold p (kept (λ n. at n == c) h)
+
+-- a run that is kept in places: place i keeps the history view i, and each is told
+pub record IsMerged (p : Program) (view : ℕ → List Entry) (h : List Entry) : Type 0 where
+  pub past : IsPast p h
+  pub at : ℕ → ℕ
+  pub keeps : (i : ℕ) → kept (λ n. at n == i) h ≡ view i
+  pub told : (i : ℕ) → IsTold p (view i)
+
+-- an entry of this kind is no first entry of a body
+abbrev pub IsOwn : What → Type 0
+IsOwn Begun = ⊥
+IsOwn (Fired k o ms vs) = ⊥
+IsOwn (Made c) = Unit {0}
+IsOwn (Sent o j vs) = Unit {0}
+IsOwn (Called o j vs) = Unit {0}
+IsOwn (Printed t) = Unit {0}
+IsOwn (Ended x) = Unit {0}
+
+-- asynchronous methods are sent, and synchronous ones are called
+abbrev pub HasKind : Program → What → Type 0
+HasKind p (Sent o j vs) = p.is_sync o.class j ≡ false
+HasKind p (Called o j vs) = p.is_sync o.class j ≡ true
+HasKind p Begun = Unit {0}
+HasKind p (Made c) = Unit {0}
+HasKind p (Printed t) = Unit {0}
+HasKind p (Fired k o ms vs) = Unit {0}
+HasKind p (Ended x) = Unit {0}
+
+-- a sound program: in every run, what each body does is defined and each message has the kind of its method
+pub record IsSound (p : Program) : Type 0 where
+  pub is_defined : (h : List Entry) (b : ℕ) → IsPast p h → IsDefined p (doing p h b)
+  pub kinds : (h : List Entry) (e : Entry) → IsPast p (e ∷ h) → HasKind p e.what
+
+-- each number is below this one
+abbrev pub AllBelow : ℕ → List Entry → Type 0
+AllBelow n [] = Unit {0}
+AllBelow n (e ∷ h) = (e.number < n) × AllBelow n h
+
+-- each number is above those of all entries before it
+abbrev pub IsRising : List Entry → Type 0
+IsRising [] = Unit {0}
+IsRising (e ∷ h) = AllBelow e.number h × IsRising h
