@@ -1,0 +1,27 @@
+-- When nothing may follow.
+use Rattle.std.proofs.Common.{◌≡◌, ℕ, ◌<◌, List, length, Option, Some, None, sym, ap, ◌∙◌, arith}
+use Rattle.chord_base.specs.declared.value.Object.{Object}
+use Rattle.chord_base.specs.declared.value.Value as value
+use Rattle.chord_base.specs.declared.event.What.{What}
+use Rattle.chord_base.specs.declared.event.What.TheVariants.{Begun, Made, Sent, Called, Printed, Fired, Ended}
+use Rattle.chord_base.specs.declared.event.Entry.{Entry}
+use Rattle.chord_base.specs.Meaning.{Program, Asked}
+use Rattle.chord_base.specs.Bodies.{doing, asked, Asks}
+use Rattle.chord_base.specs.Machine.{Comes, Fires, IsPast, IsFinal}
+
+no_ask : (p : Program) (h : List Entry) (b : ℕ) (w : What) → asked p (doing p h b) ≡ None → Asks p h b w → ⊥
+no_ask p h b w n a = let c : ◌≡◌ {A = Option Asked} None (Some (record { what = w; depth = a.0 })) = sym n ∙ a.1 in cc
+
+nothing_comes : (p : Program) (h : List Entry) (n b : ℕ) (w : What) → 0 < length h → ((i : ℕ) → asked p (doing p h i) ≡ None) → ((k : ℕ) (o : Object) (ms : List ℕ) (vs : List value.Value) → Fires p h k o ms vs → ⊥) → Comes p h n b w → ⊥
+nothing_comes p h n b Begun s q f c = let e : length h ≡ 0 = ap length c.0 in absurd (omega (arith, e, s))
+nothing_comes p h n b (Fired k o ms vs) s q f c = f k o ms vs c.1
+nothing_comes p h n b (Made k) s q f c = no_ask p h b (Made k) (q b) c
+nothing_comes p h n b (Sent o j vs) s q f c = no_ask p h b (Sent o j vs) (q b) c
+nothing_comes p h n b (Called o j vs) s q f c = no_ask p h b (Called o j vs) (q b) c
+nothing_comes p h n b (Printed t) s q f c = no_ask p h b (Printed t) (q b) c
+nothing_comes p h n b (Ended x) s q f c = no_ask p h b (Ended x) (q b) c
+
+-- a past in which no body has a next ask and no chord has all its messages
+pub final_when : (p : Program) (h : List Entry) → IsPast p h → 0 < length h → ((b : ℕ) → asked p (doing p h b) ≡ None) → ((k : ℕ) (o : Object) (ms : List ℕ) (vs : List value.Value) → Fires p h k o ms vs → ⊥) → IsFinal p h
+final_when p h r s q f =
+    record { past = r; nothing = λ e m. nothing_comes p h e.number e.body e.what s q f m.comes }

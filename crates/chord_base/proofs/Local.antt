@@ -1,0 +1,44 @@
+-- What an entry changes for the other bodies.
+use Rattle.std.proofs.Common.{◌≡◌, ℕ, Bool, true, false, ◌==◌, List, [], ◌∷◌, ◌++◌, Option, Some, None, refl}
+use Rattle.std.proofs.lemmas.Bool.{eq-eqb}
+use Rattle.chord_base.specs.declared.event.End.{End}
+use Rattle.chord_base.specs.declared.event.What.{What}
+use Rattle.chord_base.specs.declared.event.What.TheVariants.{Begun, Made, Sent, Called, Printed, Fired, Ended}
+use Rattle.chord_base.specs.declared.event.Entry.{Entry}
+use Rattle.chord_base.specs.Meaning.{Program, Start}
+use Rattle.chord_base.specs.Bodies.{Doing, Absent, Unplaced, Ready, Waits, Over, answered, heard, doing, serves}
+use Rattle.chord_base.specs.Printed.{is_end}
+
+-- the body waits for this call
+abbrev pub waits_for : Option ℕ → Doing → Bool
+waits_for None d = false
+waits_for (Some c) (Waits s d rs q l) = c == q
+waits_for (Some c) (Ready s d rs) = false
+waits_for (Some c) Absent = false
+waits_for (Some c) Unplaced = false
+waits_for (Some c) (Over x) = false
+
+pub answered_same : (x : End) (c : Option ℕ) (d : Doing) → waits_for c d ≡ false → answered x c d ≡ d
+answered_same x None d n = refl
+answered_same x (Some c) (Waits s d rs q l) n = rw n
+answered_same x (Some c) (Ready s d rs) n = refl
+answered_same x (Some c) Absent n = refl
+answered_same x (Some c) Unplaced n = refl
+answered_same x (Some c) (Over y) n = refl
+
+pub heard_same : (w : What) (c : Option ℕ) (d : Doing) → (is_end w ≡ true → waits_for c d ≡ false) → heard w c d ≡ d
+heard_same (Ended x) c d n = answered_same x c d (n refl)
+heard_same Begun c d n = refl
+heard_same (Made k) c d n = refl
+heard_same (Sent o j vs) c d n = refl
+heard_same (Called o j vs) c d n = refl
+heard_same (Printed t) c d n = refl
+heard_same (Fired k o ms vs) c d n = refl
+
+-- an entry of another body changes nothing, unless it ends the body that serves this one's open call
+pub other_body : (p : Program) (e : Entry) (h : List Entry) (b : ℕ) → (e.body == b) ≡ false → (is_end e.what ≡ true → waits_for (serves p e.body h) (doing p h b) ≡ false) → doing p (e ∷ h) b ≡ doing p h b
+other_body p e h b n m = rw n (heard_same e.what (serves p e.body h) (doing p h b) m)
+
+-- the end of the serving body is the caller's answer
+pub call_answered : (p : Program) (e : Entry) (h : List Entry) (b : ℕ) (x : End) (s : Start) (d : ℕ) (rs : List End) (q l : ℕ) → (e.body == b) ≡ false → e.what ≡ Ended x → doing p h b ≡ Waits s d rs q l → serves p e.body h ≡ Some q → doing p (e ∷ h) b ≡ Ready s d (rs ++ x ∷ [])
+call_answered p e h b x s d rs q l n w o c = rw (n, w, c, o, eq-eqb q q refl)
