@@ -1,0 +1,4 @@
+//! The top call: from the words of the command line and the bytes of a source to what is written, and the status.
+#![tactic(auto)]
+
+pub mod small;
