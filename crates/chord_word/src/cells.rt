@@ -1,5 +1,5 @@
 //! The words of cells and heads: how a message stands in the table, and which message follows it.
-ghost use Rattle.std.specs.Prelude.{◌≡◌, ◌≢◌, ◌⊎◌, ◌↔◌, ℕ, ◌+◌, ◌*◌, ◌/◌, ◌%◌, ◌^◌, ◌<◌, ◌≤◌, IsTrue, Some, None, IsNone, IfSome, MatchOption};
+ghost use Rattle.std.specs.Prelude.{◌≡◌, ◌≢◌, ◌⊎◌, ◌↔◌, ℕ, ◌+◌, ◌*◌, ◌/◌, ◌%◌, ◌^◌, ◌<◌, ◌≤◌, IsTrue, Option, Some, None, IsNone, IfSome, MatchOption};
 ghost use Rattle.chord_word.specs.Cells.{state_of, link_of, waker_of, word_of, HasNext, WordFits, ShowsCell, IsNoCell};
 
 use crate::parts::part;
@@ -51,30 +51,6 @@ pub struct Word {
     pub next: Option<u32>,
 }
 
-/// The word of a bag's head, or the next of a cell: 0 for no message, else the message's number plus 1.
-#[inline]
-pub fn pack_head(first: Option<u32>) -> u64
-    ensures value { result ≡ link_of first }
-{
-    match first {
-        None => 0,
-        Some(number) => number as u64 + 1,
-    }
-}
-
-/// The message that the word of a head names.
-#[inline]
-pub fn unpack_head(word: u64) -> Option<u32>
-    requires head { word ≤ 65536 }
-    ensures value { link_of result ≡ word }
-{
-    if word == 0 {
-        None
-    } else {
-        Some((word - 1) as u32)
-    }
-}
-
 impl Cell {
     // The number of this state.
     fn state(self) -> u64
@@ -114,7 +90,8 @@ impl Cell {
     // The cell of this state and this waking message, if there is one.
     fn of_parts(state: u64, waker: u64) -> Option<Cell>
         requires waker { waker < 65536 }
-        ensures value { MatchOption result ((6 < state) ⊎ ((state ≢ 4) × (waker ≢ 0))) (λ c. (state_of c ≡ state) × (waker_of c ≡ waker)) }
+        ensures value { MatchOption result ((6 < state) ⊎ ((state ≢ 4) × (waker ≢ 0)))
+            (λ c. (state_of c ≡ state) × (waker_of c ≡ waker)) }
     {
         match (state, waker) {
             (4, message) => Some(Cell::Woken(message as u32)),
@@ -126,6 +103,31 @@ impl Cell {
             (6, 0) => Some(Cell::Started),
             _ => None,
         }
+    }
+}
+
+/// The word of a bag's head, or the next of a cell: 0 for no message, else the message's number plus 1.
+#[inline]
+pub fn pack_head(first: Option<u32>) -> u64
+    ensures value { result ≡ link_of first }
+{
+    match first {
+        None => 0,
+        Some(number) => number as u64 + 1,
+    }
+}
+
+/// The message that the word of a head names.
+#[inline]
+pub fn unpack_head(word: u64) -> Option<u32>
+    requires head { word ≤ 65536 }
+    ensures value { link_of result ≡ word }
+    ensures back { (first : Option ℕ) → link_of first ≡ word → result ≡ first }
+{
+    if word == 0 {
+        None
+    } else {
+        Some((word - 1) as u32)
     }
 }
 
@@ -141,12 +143,13 @@ pub fn pack(word: &Word) -> u64
     word.cell.state() | (pack_head(word.next) << NEXT_FROM) | (word.cell.waker() << WAKER_FROM)
 }
 
-/// The cell of a word, None exactly where no cell has it.
+/// The cell of a word, None exactly where no cell has it. What was packed comes back.
 #[inline]
 pub fn unpack(word: u64) -> Option<Word>
     ensures none { IsNone result ↔ IsNoCell word }
     ensures some { IfSome result (λ w. WordFits w × (word_of w ≡ word)) }
     ensures parts { IfSome result (λ w. ShowsCell word w) }
+    ensures back { (w : Word) → WordFits w → word_of w ≡ word → result ≡ Some w }
 {
     if word >> CELL_BITS != 0 {
         return None;

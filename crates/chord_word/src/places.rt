@@ -37,7 +37,8 @@ pub fn pack_place(object: Object, method: u8) -> u64
     ensures value { result ≡ place_of object method }
     ensures parts { ShowsPlace result object method }
     ensures place { ¬ IsNoPlace result }
-    ensures alone { (other : Object) (at : ℕ) → PlaceFits other at → place_of other at ≡ result → (other ≡ object) × (at ≡ method) }
+    ensures alone { (other : Object) (at : ℕ) → PlaceFits other at
+        → place_of other at ≡ result → (other ≡ object) × (at ≡ method) }
 {
     ((object.number as u64) << NUMBER_FROM)
         | PLACED
@@ -45,14 +46,16 @@ pub fn pack_place(object: Object, method: u8) -> u64
         | ((method as u64) << METHOD_FROM)
 }
 
-/// The object and the method of a place's word, None exactly where no place has it.
+/// The object and the method of a place's word, None exactly where no place has it. What was packed comes back.
 #[inline]
 pub fn unpack_place(word: u64) -> Option<(Object, u8)>
     ensures none { IsNone result ↔ IsNoPlace word }
     ensures some { IfSome result (λ p. PlaceFits p.0 p.1 × (place_of p.0 p.1 ≡ word)) }
     ensures parts { IfSome result (λ p. ShowsPlace word p.0 p.1) }
+    ensures back { (object : Object) (method : ℕ) → PlaceFits object method
+        → place_of object method ≡ word → result ≡ Some (object, method) }
 {
-    if part(word, 0, NUMBER_FROM) != PLACED || word >> PLACE_BITS != 0 {
+    if word & PLACED == 0 || word >> PLACE_BITS != 0 {
         return None;
     }
     let number = part(word, NUMBER_FROM, NUMBER_BITS) as u32;
