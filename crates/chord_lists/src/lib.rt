@@ -5,5 +5,6 @@
 //! Not here: the reading of sources (chord_run).
 #![tactic(auto)]
 
+pub mod complete;
 pub mod play;
 pub mod small;

@@ -9,7 +9,7 @@ ghost use Rattle.chord_base.specs.declared.value.Value.{Value};
 ghost use Rattle.chord_lists.specs.declared.small.SmallLine.{SmallLine};
 ghost use Rattle.chord_lists.specs.declared.play.PendingPut.{PendingPut};
 ghost use Rattle.chord_lists.specs.declared.small.SmallLine.TheVariants.{Put, Print, PrintGet};
-ghost use Rattle.chord_lists.specs.States.{Playing, Calling, Stops, After};
+ghost use Rattle.chord_lists.specs.States.{Playing, Calling, Fits, Stops, After};
 
 use crate::small::{Small, SmallLine};
 use chord_base::event::{End, Entry, Limits, What};
@@ -69,7 +69,7 @@ fn put(
 ) -> Result<(), AllocError>
     requires { vec_len entries.old < 65536 }
     ensures len { IfOk result (λ _. vec_len entries.new ≡ vec_len entries.old + 1) }
-    ensures state { IfOk result (λ _. (ls rest : List SmallLine) → Playing ls (Put text.now ∷ rest) (reverse puts.old.items) (reverse entries.old.items) → Playing ls rest (reverse puts.new.items) (reverse entries.new.items)) }
+    ensures state { IfOk result (λ _. (ls rest : List SmallLine) → Playing ls (Put text.now ∷ rest) (reverse puts.old.items) (reverse entries.old.items) → Fits (reverse entries.old.items) → Playing ls rest (reverse puts.new.items) (reverse entries.new.items) × Fits (reverse entries.new.items)) }
 {
     let number = entries.len() as u32;
     let values = one_text(alloc, text)?;
@@ -83,7 +83,7 @@ fn put(
 fn print(alloc: Global, entries: &mut Vec<Entry>, text: &Text) -> Result<(), AllocError>
     requires { vec_len entries.old < 65536 }
     ensures len { IfOk result (λ _. vec_len entries.new ≡ vec_len entries.old + 1) }
-    ensures state { IfOk result (λ _. (ls rest : List SmallLine) (stack : List PendingPut) → Playing ls (Print text.now ∷ rest) stack (reverse entries.old.items) → Playing ls rest stack (reverse entries.new.items)) }
+    ensures state { IfOk result (λ _. (ls rest : List SmallLine) (stack : List PendingPut) → Playing ls (Print text.now ∷ rest) stack (reverse entries.old.items) → Fits (reverse entries.old.items) → Playing ls rest stack (reverse entries.new.items) × Fits (reverse entries.new.items)) }
 {
     let printed = text.copied(alloc)?;
     note(entries, 0, What::Printed(printed))?;
@@ -110,7 +110,7 @@ fn serve(
 ) -> Result<bool, AllocError>
     requires room { vec_len entries.old < events }
     requires bound { events ≤ 65536 }
-    ensures state { IfOk result (λ goes. (ls rest : List SmallLine) (stack : List PendingPut) → Calling ls rest (taken ∷ stack) call (reverse entries.old.items) → After goes ls rest events stack (reverse entries.new.items)) }
+    ensures state { IfOk result (λ goes. (ls rest : List SmallLine) (stack : List PendingPut) → Calling ls rest (taken ∷ stack) call (reverse entries.old.items) → Fits (reverse entries.old.items) → After goes ls rest events stack (reverse entries.new.items)) }
     ensures within { IfOk result (λ _. vec_len entries.new ≤ events) }
 {
     let body = entries.len() as u32;
@@ -138,7 +138,7 @@ fn get(
 ) -> Result<bool, AllocError>
     requires room { vec_len entries.old < events }
     requires bound { events ≤ 65536 }
-    ensures state { IfOk result (λ goes. (ls rest : List SmallLine) → Playing ls (PrintGet ∷ rest) (reverse puts.old.items) (reverse entries.old.items) → After goes ls rest events (reverse puts.new.items) (reverse entries.new.items)) }
+    ensures state { IfOk result (λ goes. (ls rest : List SmallLine) → Playing ls (PrintGet ∷ rest) (reverse puts.old.items) (reverse entries.old.items) → Fits (reverse entries.old.items) → After goes ls rest events (reverse puts.new.items) (reverse entries.new.items)) }
     ensures within { IfOk result (λ _. vec_len entries.new ≤ events) }
 {
     let call = entries.len() as u32;
