@@ -18,13 +18,13 @@ pub fn write_all<K: Sink>(sink: &mut K, piece: &[u8]) -> Result<(), Failed>
     ensures failed { OnErr result (Rose (K.faults sink.old) (K.faults sink.new)) }
     ensures never_falls { K.faults sink.old ≤ K.faults sink.new }
 {
-    let mut rest = piece;
-    while !rest.is_empty() {
-        let count = sink.write(rest)?;
+    let mut taken = 0;
+    while taken < piece.len() {
+        let count = sink.write(&piece[taken..])?;
         if count == 0 {
             return Err(Failed);
         }
-        rest = &rest[count..];
+        taken += count;
     }
     Ok(())
 }
