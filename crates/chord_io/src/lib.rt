@@ -5,11 +5,13 @@
 //! Not here: what the bytes mean, and any text of the program.
 #![tactic(auto)]
 
+mod memory;
 mod read;
 mod sink;
 mod source;
 mod write;
 
+pub use memory::{MemSink, MemSource};
 pub use read::{MAX_TEXT_BYTES, ReadFault, read_all, read_up_to};
 pub use sink::Sink;
 pub use source::Source;
