@@ -9,12 +9,14 @@ mod memory;
 mod read;
 mod sink;
 mod source;
+mod standard;
 mod write;
 
 pub use memory::{MemSink, MemSource};
 pub use read::{MAX_TEXT_BYTES, ReadFault, read_all, read_up_to};
 pub use sink::Sink;
 pub use source::Source;
+pub use standard::{StdSink, StdSource};
 pub use write::write_all;
 
 /// A read or a write that failed.
