@@ -1,7 +1,7 @@
 -- Pieces given or taken one after the other are one piece, and a count that rose in one call rose over several.
-use Rattle.std.proofs.Common.{◌≡◌, ℕ, ◌<◌, ◌≤◌, ◌+◌, ◌⊎◌, inl, inr, List, [], ◌∷◌, ◌++◌, length, take, drop, Option, None, Some, IfSome, refl, ap, sym, ◌∙◌, append_assoc, append-nil, arith}
+use Rattle.std.proofs.Common.{◌≡◌, ℕ, ◌≤◌, inl, inr, List, [], ◌++◌, Option, None, Some, IfSome, refl, ap, sym, ◌∙◌, append_assoc, append-nil, arith}
 use Rattle.std.specs.Option.{option_map}
-use Rattle.chord_io.specs.Faults.{Rose, last_count}
+use Rattle.chord_io.specs.Faults.{Rose}
 use Rattle.chord_io.specs.Pieces.{Gave, IsSpent, Took}
 
 -- nothing was taken

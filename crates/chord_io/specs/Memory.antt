@@ -1,5 +1,5 @@
 -- What a source and a sink in memory are, as their callers see them.
-use Rattle.std.specs.Prelude.{◌≡◌, ℕ, ◌-◌, ◌<◌, List, length, min, Contains, ◌⊎◌}
+use Rattle.std.specs.Prelude.{◌≡◌, ℕ, ◌<◌, List, length, Contains, ◌⊎◌}
 use Rattle.chord_io.specs.Faults.{one_more}
 
 -- the bytes that are left, the most that one call moves, the calls that are to fail, and how many calls and faults there were

@@ -1,5 +1,5 @@
 -- What a source gives and a sink takes, piece by piece. The bytes are None where the source or the sink does not tell them.
-use Rattle.std.specs.Prelude.{◌≡◌, ℕ, ◌≤◌, ◌<◌, List, [], ◌++◌, length, take, Option, IfSome}
+use Rattle.std.specs.Prelude.{◌≡◌, ℕ, ◌≤◌, List, [], ◌++◌, length, take, Option, IfSome}
 use Rattle.std.specs.Option.{option_map}
 
 -- a source gave a piece: what was left before is the piece, and then what is left after

@@ -5,6 +5,7 @@
 //! Not here: what the bytes mean, and any text of the program.
 #![tactic(auto)]
 
+mod count;
 mod memory;
 mod read;
 mod sink;
@@ -22,3 +23,6 @@ pub use write::write_all;
 /// A read or a write that failed.
 #[derive(Clone, Copy, Debug, PartialEq, Eq)]
 pub struct Failed;
+
+#[cfg(test)]
+mod tests;

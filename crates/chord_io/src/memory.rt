@@ -4,10 +4,10 @@ ghost use Rattle.chord_io.specs.Faults.{Rose, one_more};
 ghost use Rattle.chord_io.specs.Memory.{Supply, Store, ReadFails, WriteFails};
 ghost use Rattle.chord_io.specs.Pieces.{Gave, IsSpent, Took};
 
+use crate::count::one_more;
+use crate::{Failed, Sink, Source};
 use std::alloc::{AllocError, Global};
 use std::marker::Model;
-
-use crate::{Failed, Sink, Source};
 
 /// A source that gives the bytes of a list.
 #[derive(Drop)]
@@ -24,11 +24,11 @@ impl Model for MemSource {
     ghost Value = { Supply };
 
     ghost view = { λ s. record {
-        left = drop s.next s.bytes.items;
-        piece = s.piece;
-        fails = s.fails.items;
-        calls = s.calls;
-        faults = s.faults;
+      left = drop s.next s.bytes.items;
+      piece = s.piece;
+      fails = s.fails.items;
+      calls = s.calls;
+      faults = s.faults;
     } };
 
     ghost invariant = { λ s. (s.next ≤ vec_len s.bytes) × (1 ≤ s.piece) };
@@ -66,9 +66,9 @@ impl Source for MemSource {
         ensures failed { OnErr result (Rose self.old.faults self.new.faults) }
         ensures never_falls { self.old.faults ≤ self.new.faults }
     {
-        self.calls = self.calls.saturating_add(1);
+        self.calls = one_more(self.calls);
         if is_listed(&self.fails, self.calls) {
-            self.faults = self.faults.saturating_add(1);
+            self.faults = one_more(self.faults);
             return Err(Failed);
         }
         let left = &self.bytes[self.next..];
@@ -94,12 +94,12 @@ impl Model for MemSink {
     ghost Value = { Store };
 
     ghost view = { λ s. record {
-        taken = s.bytes.items;
-        room = s.room;
-        piece = s.piece;
-        fails = s.fails.items;
-        calls = s.calls;
-        faults = s.faults;
+      taken = s.bytes.items;
+      room = s.room;
+      piece = s.piece;
+      fails = s.fails.items;
+      calls = s.calls;
+      faults = s.faults;
     } };
 
     ghost invariant = { λ s. (vec_len s.bytes ≤ s.room) × (s.room ≤ vec_capacity s.bytes) × (1 ≤ s.piece) };
@@ -112,12 +112,7 @@ impl MemSink {
     /// # Errors
     ///
     /// `AllocError` where there is no memory for the room.
-    pub fn new(
-        alloc: Global,
-        room: u32,
-        piece: u32,
-        fails: Vec<u32>,
-    ) -> Result<MemSink, AllocError>
+    pub fn new(alloc: Global, room: u32, piece: u32, fails: Vec<u32>) -> Result<MemSink, AllocError>
         requires { 1 ≤ piece }
         ensures { IfOk result (λ sink. sink
             ≡ record { taken = []; room = room; piece = piece; fails = fails.items; calls = 0; faults = 0 }) }
@@ -155,11 +150,11 @@ impl Sink for MemSink {
         ensures failed { OnErr result (Rose self.old.faults self.new.faults) }
         ensures never_falls { self.old.faults ≤ self.new.faults }
     {
-        self.calls = self.calls.saturating_add(1);
+        self.calls = one_more(self.calls);
         let free = self.room as usize - self.bytes.len();
         let no_room = free == 0 && !piece.is_empty();
         if no_room || is_listed(&self.fails, self.calls) {
-            self.faults = self.faults.saturating_add(1);
+            self.faults = one_more(self.faults);
             return Err(Failed);
         }
         let count = piece.len().min(self.piece as usize).min(free);

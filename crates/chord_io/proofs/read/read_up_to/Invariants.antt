@@ -1,4 +1,4 @@
-use Rattle.std.proofs.Common.{ℕ, ◌+◌, ◌≤◌, ◌-◌, length, vec_len}
+use Rattle.std.proofs.Common.{◌+◌, ◌≤◌, ◌-◌, vec_len}
 use Rattle.chord_io.specs.Pieces.{Gave}
 use Rattle.chord_io.proofs.read.read_up_to.Given as goal
 

@@ -1,4 +1,4 @@
-use Rattle.std.proofs.Common.{ℕ, ◌≤◌, ◌-◌, length, take}
+use Rattle.std.proofs.Common.{◌≤◌, ◌-◌, length, take}
 use Rattle.chord_io.specs.Pieces.{Took}
 use Rattle.chord_io.proofs.write.write_all.Given as goal
 
