@@ -1,8 +1,12 @@
 -- Pieces given or taken one after the other are one piece, and a count that rose in one call rose over several.
-use Rattle.std.proofs.Common.{◌≡◌, ℕ, ◌≤◌, inl, inr, List, [], ◌++◌, Option, None, Some, IfSome, refl, ap, sym, ◌∙◌, append_assoc, append-nil, arith}
+use Rattle.std.proofs.Common.{◌≡◌, ℕ, ◌≤◌, inl, inr, List, [], ◌++◌, Option, None, Some, IfSome, refl, ap, sym, ◌∙◌, append_assoc, append-nil, arith, length, take, drop, ◌<◌, ◌+◌, ◌∷◌, length-append, add-one, suc, get_or}
+use Rattle.std.proofs.Math.Seq.{drop-cons, take-suc, take-append-add}
+use Rattle.std.proofs.lemmas.List.{take-append-le, take-append-drop}
+use Rattle.std.proofs.lemmas.Grind.{flat_map-append}
+use Rattle.std.specs.List.{flat_map}
 use Rattle.std.specs.Option.{option_map}
 use Rattle.chord_io.specs.Faults.{Rose}
-use Rattle.chord_io.specs.Pieces.{Gave, IsSpent, Took}
+use Rattle.chord_io.specs.Pieces.{Gave, IsSpent, Took, TookFront}
 
 -- nothing was taken
 pub Took-nothing : (a : Option (List ℕ)) → Took a [] a
@@ -51,3 +55,39 @@ Rose-after a b c grows (inr last) = inr last
 pub Rose-before : (a b c : ℕ) → Rose a b → b ≤ c → Rose a c
 Rose-before a b c (inl higher) grows = inl (omega arith)
 Rose-before a b c (inr last) grows = inr (omega arith)
+
+-- a front of a first text is a front of the two together
+pub TookFront-first : (a b : Option (List ℕ)) (p q : List ℕ) → TookFront a p b → TookFront a (p ++ q) b
+TookFront-first a b p q (n, within, took) =
+    (n, omega (arith, length-append p q), rw (take-append-le n p q within) took)
+
+-- a first text was taken, and then a front of a second
+pub TookFront-second : (a b c : Option (List ℕ)) (p q : List ℕ) → Took a p b → TookFront b q c → TookFront a (p ++ q) c
+TookFront-second a b c p q first (n, within, took) =
+    (length p + n, omega (arith, length-append p q), rw (take-append-add p q n) (Took-join a b c p (take n q) first took))
+
+-- a list is what stands before a place, what stands at it, and what stands behind it
+pub around : {X : Type 0} (xs : List X) (i : ℕ) (x : X) → i < length xs → x ≡ get_or xs i x → xs ≡ take i xs ++ (x ∷ drop (i + 1) xs)
+around xs i x within at =
+    let tail : drop i xs ≡ x ∷ drop (i + 1) xs = rw add-one (drop-cons xs i x within ∙ ap (λ y. y ∷ drop (suc i) xs) (sym at)) in
+    sym (take-append-drop i xs) ∙ ap (λ t. take i xs ++ t) tail
+
+-- the items before the next place are those before this one, and the one that stands here
+pub before_next : {X : Type 0} (xs : List X) (i : ℕ) (x : X) → i < length xs → x ≡ get_or xs i x → take (i + 1) xs ≡ take i xs ++ (x ∷ [])
+before_next xs i x within at = rw add-one (take-suc xs i x within ∙ ap (λ y. take i xs ++ (y ∷ [])) (sym at))
+
+-- of texts that are written one by one: those before the next place were taken
+pub Took-next :
+    {X : Type 0} (text : X → List ℕ) (xs : List X) (i : ℕ) (x : X) (a b c : Option (List ℕ)) → i < length xs → x ≡ get_or xs i x →
+    Took a (flat_map text (take i xs)) b → Took b (text x) c → Took a (flat_map text (take (i + 1) xs)) c
+Took-next text xs i x a b c within at first second =
+    rw (before_next xs i x within at, flat_map-append text (take i xs) (x ∷ []), append-nil (text x)) (Took-join a b c _ _ first second)
+
+-- of texts that are written one by one: a front of all was taken, where a front of the next was
+pub TookFront-next :
+    {X : Type 0} (text : X → List ℕ) (xs : List X) (i : ℕ) (x : X) (a b c : Option (List ℕ)) → i < length xs → x ≡ get_or xs i x →
+    Took a (flat_map text (take i xs)) b → TookFront b (text x) c → TookFront a (flat_map text xs) c
+TookFront-next text xs i x a b c within at first second =
+    let whole : flat_map text xs ≡ flat_map text (take i xs) ++ (text x ++ flat_map text (drop (i + 1) xs)) =
+        ap (λ ys. flat_map text ys) (around xs i x within at) ∙ flat_map-append text (take i xs) (x ∷ drop (i + 1) xs) in
+    rw whole (TookFront-second a b c _ _ first (TookFront-first b c (text x) _ second))
