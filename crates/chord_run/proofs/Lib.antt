@@ -1,3 +1,5 @@
+pub mod Words
+pub mod Breaks
 pub mod Fronts
 pub mod Calls
 pub mod LineByLine

@@ -1,4 +1,7 @@
 //! The top call: from the words of the command line and the bytes of a source to what is written, and the status.
 #![tactic(auto)]
 
+pub mod command;
+pub mod place;
+pub mod refusal;
 pub mod small;

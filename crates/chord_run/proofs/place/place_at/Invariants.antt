@@ -1,0 +1,7 @@
+use Rattle.std.proofs.Common.{◌≡◌, ◌+◌, ◌≤◌}
+use Rattle.chord_run.specs.Places.{place_of}
+use Rattle.chord_run.proofs.Breaks.{HasCome}
+use Rattle.chord_run.proofs.place.place_at.Given as goal
+
+abbrev pub invariant-loop-i : goal.invariant-loop-i
+invariant-loop-i l = HasCome l.text l.i l.place
