@@ -58,13 +58,19 @@ Rose-before a b c (inr last) grows = inr (omega arith)
 
 -- a front of a first text is a front of the two together
 pub TookFront-first : (a b : Option (List ℕ)) (p q : List ℕ) → TookFront a p b → TookFront a (p ++ q) b
-TookFront-first a b p q (n, within, took) =
-    (n, omega (arith, length-append p q), rw (take-append-le n p q within) took)
+TookFront-first a b p q front = record {
+  count = front.count;
+  within = omega (arith, length-append p q, front.within);
+  took = rw (take-append-le front.count p q front.within) front.took;
+}
 
 -- a first text was taken, and then a front of a second
 pub TookFront-second : (a b c : Option (List ℕ)) (p q : List ℕ) → Took a p b → TookFront b q c → TookFront a (p ++ q) c
-TookFront-second a b c p q first (n, within, took) =
-    (length p + n, omega (arith, length-append p q), rw (take-append-add p q n) (Took-join a b c p (take n q) first took))
+TookFront-second a b c p q first front = record {
+  count = length p + front.count;
+  within = omega (arith, length-append p q, front.within);
+  took = rw (take-append-add p q front.count) (Took-join a b c p (take front.count q) first front.took);
+}
 
 -- a list is what stands before a place, what stands at it, and what stands behind it
 pub around : {X : Type 0} (xs : List X) (i : ℕ) (x : X) → i < length xs → x ≡ get_or xs i x → xs ≡ take i xs ++ (x ∷ drop (i + 1) xs)
@@ -94,27 +100,33 @@ TookFront-next text xs i x a b c within at first second =
 
 -- what a pen held is written, and then a text
 pub Wrote-through : (a b c : Option (List ℕ)) (h t k : List ℕ) → Took a h b → k ≡ [] → Took b t c → Wrote a h t c k
-Wrote-through a b c h t k first none second =
-    (h ++ t, Took-join a b c h t first second, ap (λ x. (h ++ t) ++ x) none ∙ append-nil (h ++ t))
+Wrote-through a b c h t k first none second = record {
+  out = h ++ t;
+  took = Took-join a b c h t first second;
+  same = ap (λ x. (h ++ t) ++ x) none ∙ append-nil (h ++ t);
+}
 
 -- two texts that a pen writes one after the other are one
 pub Wrote-join :
     (a b c : Option (List ℕ)) (h k m t u : List ℕ) → Wrote a h t b k → Wrote b k u c m → Wrote a h (t ++ u) c m
-Wrote-join a b c h k m t u (out, took, same) (more, took_more, same_more) =
-    ( out ++ more,
-      Took-join a b c out more took took_more,
-      append_assoc out more m ∙ ap (λ x. out ++ x) same_more ∙ sym (append_assoc out k u) ∙ ap (λ x. x ++ u) same ∙ append_assoc h t u )
+Wrote-join a b c h k m t u first second = record {
+  out = first.out ++ second.out;
+  took = Took-join a b c first.out second.out first.took second.took;
+  same = append_assoc first.out second.out m ∙ ap (λ x. first.out ++ x) second.same ∙ sym (append_assoc first.out k u) ∙ ap (λ x. x ++ u) first.same ∙
+  append_assoc h t u;
+}
 
 -- a front of a first text is a front of the two together
 pub WroteFront-first : (a b : Option (List ℕ)) (h t u : List ℕ) → WroteFront a h t b → WroteFront a h (t ++ u) b
-WroteFront-first a b h t u front = rw (← append_assoc h t u) (TookFront-first a b (h ++ t) u front)
+WroteFront-first a b h t u front = record { front = rw (← append_assoc h t u) (TookFront-first a b (h ++ t) u front.front) }
 
 -- a first text was written, and then a front of a second
 pub WroteFront-second :
     (a b c : Option (List ℕ)) (h k t u : List ℕ) → Wrote a h t b k → WroteFront b k u c → WroteFront a h (t ++ u) c
-WroteFront-second a b c h k t u (out, took, same) front =
-    let whole : h ++ (t ++ u) ≡ out ++ (k ++ u) = sym (append_assoc h t u) ∙ ap (λ x. x ++ u) (sym same) ∙ append_assoc out k u in
-    rw whole (TookFront-second a b c out (k ++ u) took front)
+WroteFront-second a b c h k t u first second =
+    let whole : h ++ (t ++ u) ≡ first.out ++ (k ++ u) =
+        sym (append_assoc h t u) ∙ ap (λ x. x ++ u) (sym first.same) ∙ append_assoc first.out k u in
+    record { front = rw whole (TookFront-second a b c first.out (k ++ u) first.took second.front) }
 
 -- of texts that a pen writes one by one: those before the next place were written
 pub Wrote-next :
@@ -135,8 +147,8 @@ WroteFront-next text xs i x a b c h k within at first second =
 
 -- a text is written whole where a pen that held nothing wrote it, and then what it held
 pub Took-by_pen : (a b c : Option (List ℕ)) (t k : List ℕ) → Wrote a [] t b k → Took b k c → Took a t c
-Took-by_pen a b c t k (out, took, same) rest = rw (← same) (Took-join a b c out k took rest)
+Took-by_pen a b c t k first rest = rw (← first.same) (Took-join a b c first.out k first.took rest)
 
 -- a front of a text is written where a pen that held nothing wrote it, and then a front of what it held
 pub TookFront-by_pen : (a b c : Option (List ℕ)) (t k : List ℕ) → Wrote a [] t b k → TookFront b k c → TookFront a t c
-TookFront-by_pen a b c t k (out, took, same) rest = rw (← same) (TookFront-second a b c out k took rest)
+TookFront-by_pen a b c t k first rest = rw (← first.same) (TookFront-second a b c first.out k first.took rest)

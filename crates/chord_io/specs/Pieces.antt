@@ -15,13 +15,17 @@ abbrev pub Took : Option (List ℕ) → List ℕ → Option (List ℕ) → Type 
 Took before piece after = after ≡ option_map (λ bytes. bytes ++ piece) before
 
 -- a sink took a front of a text, and no more of it
-abbrev pub TookFront : Option (List ℕ) → List ℕ → Option (List ℕ) → Type 0
-TookFront before text after = (n : ℕ) × (n ≤ length text) × Took before (take n text) after
+pub record TookFront (before : Option (List ℕ)) (text : List ℕ) (after : Option (List ℕ)) : Type 0 where
+  pub count : ℕ
+  pub within : count ≤ length text
+  pub took : Took before (take count text) after
 
--- through a pen, which holds bytes back: what the pen held and a text were written, as far as the pen does not hold them now
-abbrev pub Wrote : Option (List ℕ) → List ℕ → List ℕ → Option (List ℕ) → List ℕ → Type 0
-Wrote before held_before text after held_after = (out : List ℕ) × Took before out after × (out ++ held_after ≡ held_before ++ text)
+-- through a pen, which holds bytes back: what it held and a text were written, as far as it does not hold them now
+pub record Wrote (before : Option (List ℕ)) (held_before text : List ℕ) (after : Option (List ℕ)) (held_after : List ℕ) : Type 0 where
+  pub out : List ℕ
+  pub took : Took before out after
+  pub same : out ++ held_after ≡ held_before ++ text
 
 -- through a pen: a front of what it held and of a text was written, and no more of it
-abbrev pub WroteFront : Option (List ℕ) → List ℕ → List ℕ → Option (List ℕ) → Type 0
-WroteFront before held_before text after = TookFront before (held_before ++ text) after
+pub record WroteFront (before : Option (List ℕ)) (held_before text : List ℕ) (after : Option (List ℕ)) : Type 0 where
+  pub front : TookFront before (held_before ++ text) after

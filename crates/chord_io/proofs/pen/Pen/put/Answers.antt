@@ -16,4 +16,6 @@ returns-clause-front g c =
     let kept : c.try_extend_from_slice.new.self.items ≡ c.args.self.now = grind arith in
     let flushed = rw kept at c.in_ok-flush.ensures.whole in
     on_err_weaker c.write_all.result
-    (λ took. TookFront-second _ _ _ _ _ flushed (took.0, omega (arith, took.1), took.2)) c.write_all.ensures.part
+    (λ took.
+        record { front = TookFront-second _ _ _ _ _ flushed (record { count = took.0; within = omega (arith, took.1); took = took.2 }) })
+    c.write_all.ensures.part
