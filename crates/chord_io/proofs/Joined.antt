@@ -6,7 +6,7 @@ use Rattle.std.proofs.lemmas.Grind.{flat_map-append}
 use Rattle.std.specs.List.{flat_map}
 use Rattle.std.specs.Option.{option_map}
 use Rattle.chord_io.specs.Faults.{Rose}
-use Rattle.chord_io.specs.Pieces.{Gave, IsSpent, Took, TookFront, Wrote, WroteFront}
+use Rattle.chord_io.specs.Pieces.{Gave, IsSpent, Took, TookFront}
 
 -- nothing was taken
 pub Took-nothing : (a : Option (List ℕ)) → Took a [] a
@@ -97,58 +97,3 @@ TookFront-next text xs i x a b c within at first second =
     let whole : flat_map text xs ≡ flat_map text (take i xs) ++ (text x ++ flat_map text (drop (i + 1) xs)) =
         ap (λ ys. flat_map text ys) (around xs i x within at) ∙ flat_map-append text (take i xs) (x ∷ drop (i + 1) xs) in
     rw whole (TookFront-second a b c _ _ first (TookFront-first b c (text x) _ second))
-
--- what a pen held is written, and then a text
-pub Wrote-through : (a b c : Option (List ℕ)) (h t k : List ℕ) → Took a h b → k ≡ [] → Took b t c → Wrote a h t c k
-Wrote-through a b c h t k first none second = record {
-  out = h ++ t;
-  took = Took-join a b c h t first second;
-  same = ap (λ x. (h ++ t) ++ x) none ∙ append-nil (h ++ t);
-}
-
--- two texts that a pen writes one after the other are one
-pub Wrote-join :
-    (a b c : Option (List ℕ)) (h k m t u : List ℕ) → Wrote a h t b k → Wrote b k u c m → Wrote a h (t ++ u) c m
-Wrote-join a b c h k m t u first second = record {
-  out = first.out ++ second.out;
-  took = Took-join a b c first.out second.out first.took second.took;
-  same = append_assoc first.out second.out m ∙ ap (λ x. first.out ++ x) second.same ∙ sym (append_assoc first.out k u) ∙ ap (λ x. x ++ u) first.same ∙
-  append_assoc h t u;
-}
-
--- a front of a first text is a front of the two together
-pub WroteFront-first : (a b : Option (List ℕ)) (h t u : List ℕ) → WroteFront a h t b → WroteFront a h (t ++ u) b
-WroteFront-first a b h t u front = record { front = rw (← append_assoc h t u) (TookFront-first a b (h ++ t) u front.front) }
-
--- a first text was written, and then a front of a second
-pub WroteFront-second :
-    (a b c : Option (List ℕ)) (h k t u : List ℕ) → Wrote a h t b k → WroteFront b k u c → WroteFront a h (t ++ u) c
-WroteFront-second a b c h k t u first second =
-    let whole : h ++ (t ++ u) ≡ first.out ++ (k ++ u) =
-        sym (append_assoc h t u) ∙ ap (λ x. x ++ u) (sym first.same) ∙ append_assoc first.out k u in
-    record { front = rw whole (TookFront-second a b c first.out (k ++ u) first.took second.front) }
-
--- of texts that a pen writes one by one: those before the next place were written
-pub Wrote-next :
-    {X : Type 0} (text : X → List ℕ) (xs : List X) (i : ℕ) (x : X) (a b c : Option (List ℕ)) (h k m : List ℕ) → i < length xs →
-    x ≡ get_or xs i x → Wrote a h (flat_map text (take i xs)) b k → Wrote b k (text x) c m → Wrote a h (flat_map text (take (i + 1) xs)) c m
-Wrote-next text xs i x a b c h k m within at first second =
-    rw (before_next xs i x within at, flat_map-append text (take i xs) (x ∷ []), append-nil (text x))
-    (Wrote-join a b c h k m _ _ first second)
-
--- of texts that a pen writes one by one: a front of all was written, where a front of the next was
-pub WroteFront-next :
-    {X : Type 0} (text : X → List ℕ) (xs : List X) (i : ℕ) (x : X) (a b c : Option (List ℕ)) (h k : List ℕ) → i < length xs →
-    x ≡ get_or xs i x → Wrote a h (flat_map text (take i xs)) b k → WroteFront b k (text x) c → WroteFront a h (flat_map text xs) c
-WroteFront-next text xs i x a b c h k within at first second =
-    let whole : flat_map text xs ≡ flat_map text (take i xs) ++ (text x ++ flat_map text (drop (i + 1) xs)) =
-        ap (λ ys. flat_map text ys) (around xs i x within at) ∙ flat_map-append text (take i xs) (x ∷ drop (i + 1) xs) in
-    rw whole (WroteFront-second a b c h k _ _ first (WroteFront-first b c k (text x) _ second))
-
--- a text is written whole where a pen that held nothing wrote it, and then what it held
-pub Took-by_pen : (a b c : Option (List ℕ)) (t k : List ℕ) → Wrote a [] t b k → Took b k c → Took a t c
-Took-by_pen a b c t k first rest = rw (← first.same) (Took-join a b c first.out k first.took rest)
-
--- a front of a text is written where a pen that held nothing wrote it, and then a front of what it held
-pub TookFront-by_pen : (a b c : Option (List ℕ)) (t k : List ℕ) → Wrote a [] t b k → TookFront b k c → TookFront a t c
-TookFront-by_pen a b c t k first rest = rw (← first.same) (TookFront-second a b c first.out k first.took rest)

@@ -19,13 +19,3 @@ pub record TookFront (before : Option (List ℕ)) (text : List ℕ) (after : Opt
   pub count : ℕ
   pub within : count ≤ length text
   pub took : Took before (take count text) after
-
--- through a pen, which holds bytes back: what it held and a text were written, as far as it does not hold them now
-pub record Wrote (before : Option (List ℕ)) (held_before text : List ℕ) (after : Option (List ℕ)) (held_after : List ℕ) : Type 0 where
-  pub out : List ℕ
-  pub took : Took before out after
-  pub same : out ++ held_after ≡ held_before ++ text
-
--- through a pen: a front of what it held and of a text was written, and no more of it
-pub record WroteFront (before : Option (List ℕ)) (held_before text : List ℕ) (after : Option (List ℕ)) : Type 0 where
-  pub front : TookFront before (held_before ++ text) after
