@@ -58,13 +58,19 @@ Rose-before a b c (inr last) grows = inr (omega arith)
 
 -- a front of a first text is a front of the two together
 pub TookFront-first : (a b : Option (List ℕ)) (p q : List ℕ) → TookFront a p b → TookFront a (p ++ q) b
-TookFront-first a b p q (n, within, took) =
-    (n, omega (arith, length-append p q), rw (take-append-le n p q within) took)
+TookFront-first a b p q front = record {
+  count = front.count;
+  within = omega (arith, length-append p q, front.within);
+  took = rw (take-append-le front.count p q front.within) front.took;
+}
 
 -- a first text was taken, and then a front of a second
 pub TookFront-second : (a b c : Option (List ℕ)) (p q : List ℕ) → Took a p b → TookFront b q c → TookFront a (p ++ q) c
-TookFront-second a b c p q first (n, within, took) =
-    (length p + n, omega (arith, length-append p q), rw (take-append-add p q n) (Took-join a b c p (take n q) first took))
+TookFront-second a b c p q first front = record {
+  count = length p + front.count;
+  within = omega (arith, length-append p q, front.within);
+  took = rw (take-append-add p q front.count) (Took-join a b c p (take front.count q) first front.took);
+}
 
 -- a list is what stands before a place, what stands at it, and what stands behind it
 pub around : {X : Type 0} (xs : List X) (i : ℕ) (x : X) → i < length xs → x ≡ get_or xs i x → xs ≡ take i xs ++ (x ∷ drop (i + 1) xs)

@@ -6,5 +6,6 @@
 #![tactic(auto)]
 
 mod lines;
+mod write;
 
 pub use lines::write_lines;
