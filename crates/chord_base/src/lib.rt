@@ -5,6 +5,7 @@
 //! Not here: what the bodies of a program ask (chord_code, chord_lists), and how a journal is written (chord_journal).
 #![tactic(auto)]
 
+pub mod equal;
 pub mod event;
 pub mod journal;
 pub mod members;
