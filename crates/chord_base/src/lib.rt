@@ -5,9 +5,11 @@
 //! Not here: what the bodies of a program ask (chord_code, chord_lists), and how a journal is written (chord_journal).
 #![tactic(auto)]
 
+mod body;
 pub mod equal;
 pub mod event;
 pub mod journal;
+pub mod meaning;
 pub mod members;
 pub mod text;
 pub mod value;
