@@ -11,5 +11,6 @@ pub mod event;
 pub mod journal;
 pub mod meaning;
 pub mod members;
+mod past;
 pub mod text;
 pub mod value;
