@@ -8,6 +8,7 @@
 mod body;
 pub mod equal;
 pub mod event;
+mod firing;
 pub mod journal;
 pub mod meaning;
 pub mod members;
