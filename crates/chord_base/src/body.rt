@@ -72,7 +72,7 @@ impl Begun {
 
 impl Body {
     /// An equal body.
-    fn copied(&self, alloc: Global) -> Result<Body, AllocError>
+    pub(crate) fn copied(&self, alloc: Global) -> Result<Body, AllocError>
         ensures { IfOk result (λ body. doing_of body ≡ doing_of self.now) }
     {
         match self {

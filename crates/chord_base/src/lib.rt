@@ -13,5 +13,6 @@ pub mod journal;
 pub mod meaning;
 pub mod members;
 mod past;
+pub mod prefix;
 pub mod text;
 pub mod value;
