@@ -1,5 +1,5 @@
 -- The call that a firing serves, found along its methods.
-use Rattle.std.proofs.Common.{◌≡◌, ℕ, ◌+◌, ◌<◌, ◌≤◌, Bool, true, false, List, [], ◌∷◌, length, drop, get_or, Some, None, refl, sym, ap, ◌∙◌, add-one}
+use Rattle.std.proofs.Common.{◌≡◌, ℕ, ◌+◌, ◌<◌, Bool, true, false, List, [], ◌∷◌, length, drop, get_or, Some, None, refl, add-one}
 use Rattle.std.proofs.Math.Seq.{drop-cons}
 use Rattle.chord_base.specs.Bodies.{served_among}
 

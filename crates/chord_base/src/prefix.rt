@@ -8,9 +8,9 @@ ghost use Rattle.std.specs.Prelude.{◌≡◌, ℕ, ◌∷◌, [], List, map, le
 ghost use Rattle.chord_base.specs.declared.event.What.{What};
 ghost use Rattle.chord_base.specs.Messages.{maker};
 ghost use Rattle.chord_base.specs.Bodies.{served, served_among, serves, begun, own, waiting, answered, heard, asked};
-ghost use Rattle.chord_base.specs.Machine.{Fires, MayFollow};
+ghost use Rattle.chord_base.specs.Machine.{MayFollow};
 ghost use Rattle.chord_base.specs.Called.{start_of, asked_by};
-ghost use Rattle.chord_base.specs.Prefix.{doing_of, doing_at, IsTable, IsRunLength};
+ghost use Rattle.chord_base.specs.Prefix.{doing_of, doing_at, IsTable, IsFiring, IsRunLength};
 
 use crate::body::{Begun, Body};
 use crate::equal::same_what;
@@ -208,4 +208,112 @@ fn table_copied(alloc: Global, bodies: &[Body]) -> Result<Vec<Body>, AllocError>
         copy.push(body.copied(alloc)?)?;
     }
     Ok(copy)
+}
+
+/// What the other bodies do after an entry.
+fn others<M: Meaning>(
+    alloc: Global,
+    meaning: &M,
+    bodies: &[Body],
+    past: &[Entry],
+    entry: &Entry,
+) -> Result<Vec<Body>, AllocError>
+    ensures { IfOk result (λ after. map doing_of after.items ≡ map (λ body. heard entry.now.what (serves (M.program meaning.now) entry.now.body (reverse past.now)) (doing_of body)) bodies.now) }
+{
+    match &entry.what {
+        What::Ended(end) => match served_by_body(alloc, meaning, past, entry.body)? {
+            Some(call) => after_end(alloc, bodies, end, call),
+            None => table_copied(alloc, bodies),
+        },
+        _ => table_copied(alloc, bodies),
+    }
+}
+
+/// The table after one more entry, which may follow.
+fn after<M: Meaning>(
+    alloc: Global,
+    meaning: &M,
+    bodies: &[Body],
+    past: &[Entry],
+    entry: &Entry,
+) -> Result<Vec<Body>, AllocError>
+    requires table { IsTable (M.program meaning.now) (reverse past.now) bodies.now }
+    requires may { MayFollow (M.program meaning.now) (reverse past.now) entry.now }
+    ensures { IfOk result (λ after. IsTable (M.program meaning.now) (entry.now ∷ reverse past.now) after.items) }
+{
+    let mine = own(alloc, meaning, bodies, past, entry)?;
+    let mut after = others(alloc, meaning, bodies, past, entry)?;
+    after.push(Body::Absent)?;
+    after[entry.body as usize] = mine;
+    Ok(after)
+}
+
+/// Whether a chord may fire so.
+fn may_fire<M: Meaning>(
+    alloc: Global,
+    meaning: &M,
+    past: &[Entry],
+    what: &What,
+) -> Result<bool, AllocError>
+    ensures { IfOk result (λ yes. IsTrue yes ↔ IsFiring (M.program meaning.now) (reverse past.now) what.now) }
+{
+    match what {
+        What::Fired(chord, object, members, values) => {
+            match meaning.chord(alloc, object.class, *chord)? {
+                Some(methods) => Ok(are_taken(
+                    past,
+                    *object,
+                    &methods,
+                    members.items(),
+                    values.items(),
+                )),
+                None => Ok(false),
+            }
+        }
+        _ => Ok(false),
+    }
+}
+
+/// Whether the entry may follow the entries before it.
+fn may_follow<M: Meaning>(
+    alloc: Global,
+    meaning: &M,
+    bodies: &[Body],
+    past: &[Entry],
+    entry: &Entry,
+) -> Result<bool, AllocError>
+    requires { IsTable (M.program meaning.now) (reverse past.now) bodies.now }
+    ensures { IfOk result (λ yes. IsTrue yes ↔ MayFollow (M.program meaning.now) (reverse past.now) entry.now) }
+{
+    if entry.number as usize != past.len() {
+        return Ok(false);
+    }
+    match &entry.what {
+        What::Begun => Ok(past.len() == 0 && entry.body == 0),
+        What::Fired(..) => Ok(
+            entry.body == entry.number && may_fire(alloc, meaning, past, &entry.what)?,
+        ),
+        _ => is_next(alloc, meaning, bodies, entry.body, &entry.what),
+    }
+}
+
+/// How many of the entries are a run: each of these may follow those before it, and the next one, if there is one, may not.
+///
+/// `AllocError` is want of memory.
+pub fn run_length<M: Meaning>(
+    alloc: Global,
+    meaning: &M,
+    entries: &[Entry],
+) -> Result<usize, AllocError>
+    ensures { IfOk result (IsRunLength (M.program meaning.now) entries.now) }
+{
+    let mut bodies = Vec::new(alloc);
+    for i in 0..entries.len() {
+        let (past, entry) = (&entries[..i], &entries[i]);
+        if !may_follow(alloc, meaning, &bodies, past, entry)? {
+            return Ok(i);
+        }
+        bodies = after(alloc, meaning, &bodies, past, entry)?;
+    }
+    Ok(entries.len())
 }

@@ -1,4 +1,3 @@
-use Rattle.std.proofs.Common.{◌≡◌}
 use Rattle.chord_base.proofs.Entries.{has_any}
 use Rattle.chord_base.proofs.past.takes.Goals as goal
 

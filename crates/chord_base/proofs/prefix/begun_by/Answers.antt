@@ -1,4 +1,4 @@
-use Rattle.std.proofs.Common.{◌≡◌, Some, reverse, refl, sym, ap, ◌∙◌}
+use Rattle.std.proofs.Common.{Some, reverse, refl, sym, ap, ◌∙◌}
 use Rattle.std.proofs.lemmas.Option.{slice_get_past, slice_get-get_or}
 use Rattle.chord_base.proofs.Entries.{maker_by}
 use Rattle.chord_base.proofs.prefix.begun_by.Goals as goal
