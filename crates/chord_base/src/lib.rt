@@ -15,5 +15,7 @@ pub mod meaning;
 pub mod members;
 mod past;
 pub mod prefix;
+#[cfg(test)]
+mod prefix_tests;
 pub mod text;
 pub mod value;
