@@ -1,3 +1,4 @@
+pub mod Answering
 pub mod Words
 pub mod Breaks
 pub mod Fronts

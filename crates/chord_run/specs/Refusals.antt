@@ -7,6 +7,8 @@ use Rattle.chord_lists.specs.declared.small.SmallLine.{SmallLine}
 use Rattle.chord_run.specs.Places.{place_of}
 use Rattle.chord_run.specs.SmallForm.{IsSmallForm, kinds_of}
 use Rattle.chord_run.specs.Sources.{IsShort}
+use Rattle.chord_run.specs.declared.front.FrontFault.{FrontFault}
+use Rattle.chord_run.specs.declared.front.FrontFault.TheVariants.{Memory, Refused}
 use Rattle.chord_run.specs.declared.place.Place.{Place}
 use Rattle.chord_run.specs.declared.refusal.Refusal.{Refusal}
 use Rattle.chord_run.specs.declared.refusal.Refusal.TheVariants.{Long, Bad, Unbuilt}
@@ -43,3 +45,8 @@ abbrev pub IsPlaced : List ℕ → Refusal → Type 0
 IsPlaced source Long = Unit {0}
 IsPlaced source (Bad k) = IsShort source × (k ≤ length (after_mark source))
 IsPlaced source Unbuilt = Unit {0}
+
+-- what a fault of the front says: of a refusal its cause
+abbrev pub IsFrontFault : List ℕ → FrontFault → Type 0
+IsFrontFault source Memory = Unit {0}
+IsFrontFault source (Refused refusal) = IsCause source refusal × IsPlaced source refusal

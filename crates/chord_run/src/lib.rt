@@ -2,6 +2,9 @@
 #![tactic(auto)]
 
 pub mod command;
+pub mod front;
 pub mod place;
 pub mod refusal;
+pub mod report;
 pub mod small;
+pub mod top;
