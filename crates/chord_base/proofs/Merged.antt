@@ -10,6 +10,7 @@ use Rattle.chord_base.specs.Meaning.{Program}
 use Rattle.chord_base.specs.Bodies.{Doing, Absent, Unplaced, Ready, Waits, Over, doing, asked, Asks}
 use Rattle.chord_base.specs.Machine.{Comes, Fires, MayFollow, IsPast, IsFinal}
 use Rattle.chord_base.specs.Story.{kept, Tells, Rises, AreTold, IsMerged, IsOwn, IsDefined, IsStory, IsSound, AllBelow, IsRising}
+pub use Rattle.chord_base.specs.Story.{grown}
 use Rattle.chord_base.proofs.Waits.{either}
 use Rattle.chord_base.proofs.Merge.{next_in_story, agrees, Agrees, whole_of_told, body_known, IsSeen, known_kept}
 use Rattle.chord_base.proofs.Places.{union_told, kept_below, below_rises}
@@ -37,10 +38,6 @@ kept_same f g n (e ∷ h) a s =
 -- the map of places with one more number
 abbrev pub placed_at : (ℕ → ℕ) → ℕ → ℕ → ℕ → ℕ
 placed_at at n i m = if m == n then i else at m
-
--- the views with one more entry in place i
-abbrev pub grown : (ℕ → List Entry) → ℕ → Entry → ℕ → List Entry
-grown view i e j = if i == j then e ∷ view j else view j
 
 placed_old : (at : ℕ → ℕ) (n i m : ℕ) → m < n → placed_at at n i m ≡ at m
 placed_old at n i m l = rw (ne_eqb m n (λ e. omega (arith, e, l)))
