@@ -5,8 +5,18 @@
 //! Not here: what the bodies of a program ask (chord_code, chord_lists), and how a journal is written (chord_journal).
 #![tactic(auto)]
 
+mod body;
+pub mod equal;
 pub mod event;
+mod firing;
 pub mod journal;
+pub mod laws;
+pub mod listed;
+pub mod meaning;
 pub mod members;
+mod past;
+pub mod prefix;
+#[cfg(test)]
+mod prefix_tests;
 pub mod text;
 pub mod value;
