@@ -144,7 +144,7 @@ fn get(
     let call = entries.len() as u32;
     let values = Values::of_items(Vec::new(alloc));
     note(entries, 0, What::Called(FIRST, 0, values))?;
-    if entries.len() == events {
+    if entries.len() >= events {
         return Ok(false);
     }
     match puts.pop() {

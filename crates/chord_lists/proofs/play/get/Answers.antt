@@ -14,7 +14,7 @@ returns-then-len-events-clause-state c =
     let h1 = rw (c.of_items-values.ensures, c.new.ensures.items) at c.in_ok-note.ensures.entry in
     let s1 = call_step ls rest (reverse c.args.puts.now.items) h s in
     let f1 = fits_more 0 (Called first 0 []) h room (lit< tt) call_within f in
-    let full : length (reverse c.note.new.entries.items) ≡ c.args.events = omega (arith, length-reverse c.note.new.entries.items) in
+    let full : length (reverse c.note.new.entries.items) ≡ c.args.events = omega (arith, length-reverse c.note.new.entries.items, c.in_ok-note.ensures.len) in
     let g = rw h1 at full in
     rw h1 (f1, inr (s1.past, g))
 
