@@ -9,3 +9,4 @@ mod lines;
 mod write;
 
 pub use lines::write_lines;
+pub use write::write_text;
