@@ -15,5 +15,7 @@ abbrev pub Took : Option (List ℕ) → List ℕ → Option (List ℕ) → Type 
 Took before piece after = after ≡ option_map (λ bytes. bytes ++ piece) before
 
 -- a sink took a front of a text, and no more of it
-abbrev pub TookFront : Option (List ℕ) → List ℕ → Option (List ℕ) → Type 0
-TookFront before text after = (n : ℕ) × (n ≤ length text) × Took before (take n text) after
+pub record TookFront (before : Option (List ℕ)) (text : List ℕ) (after : Option (List ℕ)) : Type 0 where
+  pub count : ℕ
+  pub within : count ≤ length text
+  pub took : Took before (take count text) after

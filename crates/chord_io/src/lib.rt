@@ -7,6 +7,7 @@
 
 mod count;
 mod memory;
+mod pen;
 mod read;
 mod sink;
 mod source;
@@ -14,6 +15,7 @@ mod standard;
 mod write;
 
 pub use memory::{MemSink, MemSource};
+pub use pen::Pen;
 pub use read::{MAX_TEXT_BYTES, ReadFault, read_all, read_up_to};
 pub use sink::Sink;
 pub use source::Source;

@@ -4,11 +4,16 @@ ghost use Rattle.chord_base.specs.Printed.{lines, line_of};
 ghost use Rattle.chord_io.specs.Faults.{Rose};
 ghost use Rattle.chord_io.specs.Pieces.{Took, TookFront};
 
+use arrayvec::ArrayVec;
 use chord_base::event::{Entry, What};
 use chord_base::journal::Journal;
+use chord_base::text::MAX_TEXT_BYTES;
 use chord_io::{Failed, Sink, write_all};
 
-/// Writes the lines of a journal.
+/// The bytes of the longest line, with its end.
+const LINE_BYTES: usize = MAX_TEXT_BYTES + 1;
+
+/// Writes the lines of a journal, each with one `write_all`.
 ///
 /// # Errors
 ///
@@ -34,11 +39,10 @@ fn write_line<K: Sink>(entry: &Entry, sink: &mut K) -> Result<(), Failed>
 {
     match &entry.what {
         What::Printed(text) => {
-            let bytes = text.items();
-            let end = bytes.len();
-            let mut line = [b'\n'; 1025];
-            line[..end].copy_from_slice(bytes);
-            write_all(sink, &line[..=end])
+            let mut line = ArrayVec::<u8, LINE_BYTES>::new();
+            line.try_extend_from_slice(text.items()).unwrap();
+            line.push(b'\n');
+            write_all(sink, line.as_slice())
         }
         _ => Ok(()),
     }
