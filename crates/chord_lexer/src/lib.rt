@@ -5,4 +5,12 @@
 #![tactic(auto)]
 
 pub mod bytes;
+mod comment;
+pub mod lexer;
+mod literal;
+mod mark;
+mod number;
+pub mod piece;
+mod scan;
 pub mod token;
+mod word;
