@@ -6,6 +6,7 @@
 
 pub mod bytes;
 mod comment;
+pub mod laws;
 pub mod lexer;
 mod literal;
 mod mark;
