@@ -21,7 +21,7 @@ pub enum LexFault {
 }
 
 /// The text after a leading mark EF BB BF.
-fn unmarked(source: &[u8]) -> &[u8]
+pub fn unmarked(source: &[u8]) -> &[u8]
     ensures { result.now ≡ after_mark source.now }
 {
     match source {
