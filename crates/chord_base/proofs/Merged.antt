@@ -10,11 +10,14 @@ use Rattle.chord_base.specs.Meaning.{Program}
 use Rattle.chord_base.specs.Bodies.{Doing, Absent, Unplaced, Ready, Waits, Over, doing, asked, Asks}
 use Rattle.chord_base.specs.Machine.{Comes, Fires, MayFollow, IsPast, IsFinal}
 use Rattle.chord_base.specs.Story.{kept, Tells, Rises, AreTold, IsMerged, IsOwn, IsDefined, IsStory, IsSound, AllBelow, IsRising}
+pub use Rattle.chord_base.specs.Story.{grown}
+use Rattle.chord_base.specs.Laws.{CompleteInPlaces}
 use Rattle.chord_base.proofs.Waits.{either}
 use Rattle.chord_base.proofs.Merge.{next_in_story, agrees, Agrees, whole_of_told, body_known, IsSeen, known_kept}
 use Rattle.chord_base.proofs.Places.{union_told, kept_below, below_rises}
 use Rattle.chord_base.proofs.Pending.{NoneFires}
-use Rattle.chord_base.proofs.Final.{final_when}
+use Rattle.chord_base.proofs.Final.{final_when, some_length}
+pub use Rattle.chord_base.proofs.Final.{own_comes}
 
 -- the numbers of a past are their places
 pub past_below : (p : Program) (h : List Entry) (n : ℕ) → IsPast p h → length h ≤ n → AllBelow n h
@@ -37,10 +40,6 @@ kept_same f g n (e ∷ h) a s =
 -- the map of places with one more number
 abbrev pub placed_at : (ℕ → ℕ) → ℕ → ℕ → ℕ → ℕ
 placed_at at n i m = if m == n then i else at m
-
--- the views with one more entry in place i
-abbrev pub grown : (ℕ → List Entry) → ℕ → Entry → ℕ → List Entry
-grown view i e j = if i == j then e ∷ view j else view j
 
 placed_old : (at : ℕ → ℕ) (n i m : ℕ) → m < n → placed_at at n i m ≡ at m
 placed_old at n i m l = rw (ne_eqb m n (λ e. omega (arith, e, l)))
@@ -75,15 +74,6 @@ merged_told p view h m j = rw (m.keeps j) (m.told j)
 -- a body's next ask in its place is its next ask in the run
 pub merged_asks : (p : Program) (view : ℕ → List Entry) (h : List Entry) (i b : ℕ) (w : What) → IsMerged p view h → Asks p (view i) b w → Asks p h b w
 merged_asks p view h i b w m a = next_in_story p m.at h i b w (merged_told p view h m) (rw (m.keeps i) a)
-
-pub own_comes : (p : Program) (h : List Entry) (n b : ℕ) (w : What) → IsOwn w → Asks p h b w → Comes p h n b w
-own_comes p h n b Begun o a = absurd o
-own_comes p h n b (Fired k o' ms vs) o a = absurd o
-own_comes p h n b (Made c) o a = a
-own_comes p h n b (Sent o' j vs) o a = a
-own_comes p h n b (Called o' j vs) o a = a
-own_comes p h n b (Printed t) o a = a
-own_comes p h n b (Ended x) o a = a
 
 pub own_tells : (p : Program) (h : List Entry) (n b : ℕ) (w : What) → IsOwn w → Asks p h b w → Tells p h n b w
 own_tells p h n b Begun o a = absurd o
@@ -172,3 +162,6 @@ merged_story p view h s m i =
                 let z : true ≡ false = sym k ∙ o in cc)
           ]);
     }
+
+pub complete_in_places : CompleteInPlaces
+complete_in_places p view h m n q f = merged_final p view h m (some_length h n) q f

@@ -129,3 +129,11 @@ asked p (Over x) = None
 -- the body's next ask after the history is this
 abbrev pub Asks : Program → List Entry → ℕ → What → Type 0
 Asks p h b w = (l : ℕ) × (asked p (doing p h b) ≡ Some (record { what = w; depth = l }))
+
+-- the body waits for this call
+abbrev pub WaitsFor : ℕ → Doing → Type 0
+WaitsFor q (Waits s d rs c l) = q ≡ c
+WaitsFor q (Ready s d rs) = ⊥
+WaitsFor q Absent = ⊥
+WaitsFor q Unplaced = ⊥
+WaitsFor q (Over x) = ⊥

@@ -1,8 +1,8 @@
 -- The join machine: what may follow a history, and so what a run and a complete run are.
-use Rattle.std.specs.Prelude.{◌≡◌, ℕ, List, [], ◌∷◌, ◌++◌, length, reverse, Some, slice_get}
+use Rattle.std.specs.Prelude.{◌≡◌, ℕ, List, [], ◌∷◌, ◌++◌, length, reverse, Some, None, slice_get}
 use Rattle.chord_base.specs.Meaning.{Program}
 use Rattle.chord_base.specs.Messages.{pending}
-use Rattle.chord_base.specs.Bodies.{Asks}
+use Rattle.chord_base.specs.Bodies.{doing, asked, Asks}
 use Rattle.chord_base.specs.declared.value.Object.{Object}
 use Rattle.chord_base.specs.declared.value.Value as value
 use Rattle.chord_base.specs.declared.event.What.{What}
@@ -53,3 +53,11 @@ IsRun p entries = IsPast p (reverse entries)
 -- a complete run: a run that no entry may follow
 abbrev pub IsComplete : Program → List Entry → Type 0
 IsComplete p entries = IsFinal p (reverse entries)
+
+-- no chord has all its messages
+abbrev pub NoneFires : Program → List Entry → Type 0
+NoneFires p h = (k : ℕ) (o : Object) (ms : List ℕ) (vs : List value.Value) → Fires p h k o ms vs → ⊥
+
+-- no body has a next ask
+abbrev pub NoneAsks : Program → List Entry → Type 0
+NoneAsks p h = (b : ℕ) → asked p (doing p h b) ≡ None

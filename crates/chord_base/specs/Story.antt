@@ -1,5 +1,5 @@
 -- Stories: what one place keeps of a run, as one task, one desk or one parcel.
-use Rattle.std.specs.Prelude.{◌≡◌, ℕ, ◌<◌, Bool, true, false, ◌==◌, List, [], ◌∷◌, IsSome, if◌then◌else◌}
+use Rattle.std.specs.Prelude.{◌≡◌, ◌⊎◌, ℕ, ◌<◌, Bool, true, false, not, ◌==◌, List, [], ◌∷◌, length, IsSome, if◌then◌else◌}
 use Rattle.chord_base.specs.Meaning.{Program}
 use Rattle.chord_base.specs.Bodies.{Doing, Absent, Unplaced, Ready, Waits, Over, doing, Asks}
 use Rattle.chord_base.specs.Machine.{IsPast}
@@ -90,3 +90,21 @@ AllBelow n (e ∷ h) = (e.number < n) × AllBelow n h
 abbrev pub IsRising : List Entry → Type 0
 IsRising [] = Unit {0}
 IsRising (e ∷ h) = AllBelow e.number h × IsRising h
+
+-- the entry stands in the list
+abbrev pub IsIn : Entry → List Entry → Type 0
+IsIn e [] = ⊥
+IsIn e (x ∷ h) = (e ≡ x) ⊎ IsIn e h
+
+-- each number is the place of its entry
+abbrev pub AreNumbered : List Entry → Type 0
+AreNumbered [] = Unit {0}
+AreNumbered (e ∷ h) = (e.number ≡ length h) × AreNumbered h
+
+-- the places, where place i keeps one more entry
+abbrev pub grown : (ℕ → List Entry) → ℕ → Entry → ℕ → List Entry
+grown view i e j = if i == j then e ∷ view j else view j
+
+-- the places, where of the entries of place i those of these numbers have gone to place j
+abbrev pub parted : (ℕ → List Entry) → ℕ → ℕ → (ℕ → Bool) → ℕ → List Entry
+parted view i j goes c = if c == j then kept goes (view i) else if c == i then kept (λ n. not (goes n)) (view i) else view c

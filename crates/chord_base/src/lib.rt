@@ -10,6 +10,7 @@ pub mod equal;
 pub mod event;
 mod firing;
 pub mod journal;
+pub mod laws;
 pub mod listed;
 pub mod meaning;
 pub mod members;

@@ -3,11 +3,12 @@
 use crate::event::{End, Entry, Trap, What};
 use crate::listed::{Class, Listed, Tale};
 use crate::meaning::{Next, Start};
-use crate::members::Members;
+use crate::members::{MAX_MEMBERS, Members};
 use crate::prefix::run_length;
 use crate::text::Text;
-use crate::value::{Object, Value, Values};
+use crate::value::{MAX_VALUES, Object, Value, Values};
 use std::alloc::Global;
+use std::process::Abort;
 use std::test::Fail;
 
 const FIRST: Object = Object {
@@ -20,535 +21,654 @@ const SECOND: Object = Object {
     class: 0,
 };
 
+/// A value, written short.
+#[derive(Clone, Copy)]
+enum Part<'a> {
+    Unit,
+    Int(i32),
+    Word(&'a [u8]),
+    Ref(Object),
+}
+
+/// An end, written short.
+#[derive(Clone, Copy)]
+enum Ends<'a> {
+    Gives(Part<'a>),
+    Traps(Trap),
+}
+
+/// What an entry says, written short.
+#[derive(Clone, Copy)]
+enum Says<'a> {
+    Begun,
+    Made,
+    Sent(Object, u8, &'a [Part<'a>]),
+    Called(Object, u8, &'a [Part<'a>]),
+    Printed(&'a [u8]),
+    Fired(u16, Object, &'a [u32], &'a [Part<'a>]),
+    Ended(Ends<'a>),
+}
+
+/// An entry, written short: its number, its body, and what it says.
+type Line<'a> = (u32, u32, Says<'a>);
+
+/// A body, written short: the chord that began it, if any, with its arguments, its depth, its asks, and the answers to them.
+#[derive(Clone, Copy)]
+struct Told<'a> {
+    chord: Option<u16>,
+    arguments: &'a [Part<'a>],
+    depth: u32,
+    asks: &'a [Says<'a>],
+    answers: &'a [Ends<'a>],
+}
+
 fn text(alloc: Global, bytes: &[u8]) -> Result<Text, Fail> {
     Ok(Text::of_bytes(alloc, bytes).ok().ok_or("no text")?)
 }
 
-fn none(alloc: Global) -> Values {
-    Values::of_items(Vec::new(alloc))
-}
-
-fn one(alloc: Global, value: Value) -> Result<Values, Fail> {
-    let mut values = Vec::new(alloc);
-    values.push(value)?;
-    Ok(Values::of_items(values))
-}
-
-fn two(alloc: Global, first: i32, second: i32) -> Result<Values, Fail> {
-    let mut values = Vec::new(alloc);
-    values.push(Value::Int(first))?;
-    values.push(Value::Int(second))?;
-    Ok(Values::of_items(values))
-}
-
-fn word(alloc: Global, bytes: &[u8]) -> Result<Values, Fail> {
-    one(alloc, Value::Text(text(alloc, bytes)?))
-}
-
-fn printed(alloc: Global, bytes: &[u8]) -> Result<What, Fail> {
-    Ok(What::Printed(text(alloc, bytes)?))
-}
-
-fn gives_text(alloc: Global, bytes: &[u8]) -> Result<End, Fail> {
-    Ok(End::Gives(Value::Text(text(alloc, bytes)?)))
-}
-
-fn fired_one(chord: u16, object: Object, member: u32, values: Values) -> What {
-    let mut members = Members::new();
-    members.push(member);
-    What::Fired(chord, object, members, values)
-}
-
-fn fired_two(chord: u16, object: Object, first: u32, second: u32, values: Values) -> What {
-    let mut members = Members::new();
-    members.push(first);
-    members.push(second);
-    What::Fired(chord, object, members, values)
-}
-
-/// One more entry.
-fn put(entries: &mut Vec<Entry>, number: u32, body: u32, what: What) -> Result<(), Fail> {
-    entries.push(Entry { number, body, what })?;
-    Ok(())
-}
-
-/// A tale that is to be told.
-fn tale(alloc: Global, start: Start, depth: u64) -> Tale {
-    Tale {
-        start,
-        depth,
-        answers: Vec::new(alloc),
-        asks: Vec::new(alloc),
+fn value(alloc: Global, part: Part) -> Result<Value, Fail> {
+    match part {
+        Part::Unit => Ok(Value::Unit),
+        Part::Int(number) => Ok(Value::Int(number)),
+        Part::Word(bytes) => Ok(Value::Text(text(alloc, bytes)?)),
+        Part::Ref(object) => Ok(Value::Ref(object)),
     }
 }
 
-impl Tale {
-    /// It asks this, and is answered so.
-    fn asks(&mut self, what: What, depth: u32, answer: End) -> Result<(), Fail> {
-        self.asks.push(Next { what, depth })?;
-        self.answers.push(answer)?;
-        Ok(())
+fn values(alloc: Global, parts: &[Part]) -> Result<Values, Fail> {
+    let mut list = Vec::new(alloc);
+    for part in parts {
+        list.push(value(alloc, *part)?)?;
     }
+    if list.len() > MAX_VALUES {
+        return Err(Fail::from("too many values"));
+    }
+    Ok(Values::of_items(list))
+}
 
-    /// It ends so.
-    fn ends(&mut self, end: End, depth: u32) -> Result<(), Fail> {
-        self.asks.push(Next {
-            what: What::Ended(end),
-            depth,
+fn members(numbers: &[u32]) -> Members {
+    let mut list = Members::new();
+    for number in numbers {
+        if list.items().len() < MAX_MEMBERS {
+            list.push(*number);
+        }
+    }
+    list
+}
+
+fn end(alloc: Global, ends: Ends) -> Result<End, Fail> {
+    match ends {
+        Ends::Gives(part) => Ok(End::Gives(value(alloc, part)?)),
+        Ends::Traps(trap) => Ok(End::Traps(trap)),
+    }
+}
+
+fn what(alloc: Global, says: Says) -> Result<What, Fail> {
+    match says {
+        Says::Begun => Ok(What::Begun),
+        Says::Made => Ok(What::Made(0)),
+        Says::Sent(object, method, parts) => Ok(What::Sent(object, method, values(alloc, parts)?)),
+        Says::Called(object, method, parts) => Ok(What::Called(
+            object,
+            method,
+            values(alloc, parts)?,
+        )),
+        Says::Printed(bytes) => Ok(What::Printed(text(alloc, bytes)?)),
+        Says::Fired(chord, object, numbers, parts) => Ok(What::Fired(
+            chord,
+            object,
+            members(numbers),
+            values(alloc, parts)?,
+        )),
+        Says::Ended(ends) => Ok(What::Ended(end(alloc, ends)?)),
+    }
+}
+
+fn entry(alloc: Global, line: Line) -> Result<Entry, Fail> {
+    Ok(Entry {
+        number: line.0,
+        body: line.1,
+        what: what(alloc, line.2)?,
+    })
+}
+
+/// The journal of these lines, but with another line at one place.
+fn journal(alloc: Global, lines: &[Line], place: usize, other: Line) -> Result<Vec<Entry>, Fail> {
+    let mut entries = Vec::new(alloc);
+    for i in 0..lines.len() {
+        entries.push(entry(alloc, if i == place { other } else { lines[i] })?)?;
+    }
+    Ok(entries)
+}
+
+fn asks(alloc: Global, told: Told) -> Result<Vec<Next>, Fail> {
+    let mut asks = Vec::new(alloc);
+    for says in told.asks {
+        asks.push(Next {
+            what: what(alloc, *says)?,
+            depth: told.depth,
         })?;
-        Ok(())
+    }
+    Ok(asks)
+}
+
+fn answers(alloc: Global, told: Told) -> Result<Vec<End>, Fail> {
+    let mut answers = Vec::new(alloc);
+    for ends in told.answers {
+        answers.push(end(alloc, *ends)?)?;
+    }
+    Ok(answers)
+}
+
+fn start(alloc: Global, told: Told) -> Result<Start, Fail> {
+    match told.chord {
+        Some(chord) => Ok(Start::Chord(chord, FIRST, values(alloc, told.arguments)?)),
+        None => Ok(Start::Main),
     }
 }
 
-/// A class with these chords, each of the methods in one of the lists, whose method 0 has callers that wait.
-fn class(alloc: Global, first: &[u8], second: &[u8]) -> Result<Class, Fail> {
-    let mut class = Class {
-        chords: Vec::new(alloc),
-        waits: Vec::new(alloc),
-    };
-    class.chords.push(Vec::from_slice(alloc, first)?)?;
-    class.chords.push(Vec::from_slice(alloc, second)?)?;
-    class.waits.push(true)?;
-    Ok(class)
+fn tale(alloc: Global, told: Told) -> Result<Tale, Fail> {
+    Ok(Tale {
+        start: start(alloc, told)?,
+        depth: u64::from(told.depth),
+        answers: answers(alloc, told)?,
+        asks: asks(alloc, told)?,
+    })
+}
+
+fn tales(alloc: Global, all: &[Told]) -> Result<Vec<Tale>, Fail> {
+    let mut tales = Vec::new(alloc);
+    for told in all {
+        tales.push(tale(alloc, *told)?)?;
+    }
+    Ok(tales)
+}
+
+/// The class 0, with these chords, of whose methods the first has callers that wait.
+fn class(alloc: Global, chords: &[&[u8]]) -> Result<Class, Fail> {
+    let mut list = Vec::new(alloc);
+    for methods in chords {
+        list.push(Vec::from_slice(alloc, *methods)?)?;
+    }
+    let mut waits = Vec::new(alloc);
+    waits.push(true)?;
+    Ok(Class {
+        chords: list,
+        waits,
+    })
+}
+
+/// The program of these bodies, whose one class has these chords.
+fn program(alloc: Global, all: &[Told], chords: &[&[u8]]) -> Result<Listed, Fail> {
+    let tales = tales(alloc, all)?;
+    let mut classes = Vec::new(alloc);
+    classes.push(class(alloc, chords)?)?;
+    Ok(Listed { tales, classes })
+}
+
+/// How many entries are a run, where each case changes one line of the journal.
+fn check(
+    rt: &impl Abort,
+    alloc: Global,
+    meaning: &Listed,
+    lines: &[Line],
+    cases: &[(&str, usize, Line, usize)],
+) -> Result<(), Fail> {
+    for (name, place, other, length) in cases {
+        let entries = journal(alloc, lines, *place, *other)?;
+        assert_eq!(rt; run_length(alloc, meaning, &entries)?, *length, "{name}");
+    }
+    Ok(())
 }
 
 /// `Main` makes a buffer, puts `hi` into it, gets it and prints it.
-fn buffer_main(alloc: Global) -> Result<Tale, Fail> {
-    let mut main = tale(alloc, Start::Main, 1);
-    main.asks(What::Made(0), 1, End::Gives(Value::Ref(FIRST)))?;
-    main.asks(
-        What::Sent(FIRST, 1, word(alloc, b"hi")?),
-        1,
-        End::Gives(Value::Unit),
-    )?;
-    main.asks(
-        What::Called(FIRST, 0, none(alloc)),
-        1,
-        gives_text(alloc, b"hi")?,
-    )?;
-    main.asks(printed(alloc, b"hi")?, 1, End::Gives(Value::Unit))?;
-    main.ends(End::Gives(Value::Unit), 1)?;
-    Ok(main)
-}
-
-/// The buffer: method 0 gets, method 1 puts, and their chord gives what was put.
-fn buffer(alloc: Global) -> Result<Listed, Fail> {
-    let mut get = tale(alloc, Start::Chord(0, FIRST, word(alloc, b"hi")?), 2);
-    get.ends(gives_text(alloc, b"hi")?, 2)?;
-    let mut listed = Listed {
-        tales: Vec::new(alloc),
-        classes: Vec::new(alloc),
-    };
-    listed.tales.push(buffer_main(alloc)?)?;
-    listed.tales.push(get)?;
-    listed.classes.push(class(alloc, &[0, 1], &[])?)?;
-    Ok(listed)
-}
-
-/// The buffer's journal, with these members and these numbers of its last entries.
-fn buffer_journal(alloc: Global, first: u32, second: u32, last: u32) -> Result<Vec<Entry>, Fail> {
-    let mut entries = Vec::new(alloc);
-    put(&mut entries, 0, 0, What::Begun)?;
-    put(&mut entries, 1, 0, What::Made(0))?;
-    put(
-        &mut entries,
-        2,
-        0,
-        What::Sent(FIRST, 1, word(alloc, b"hi")?),
-    )?;
-    put(&mut entries, 3, 0, What::Called(FIRST, 0, none(alloc)))?;
-    put(
-        &mut entries,
-        4,
-        4,
-        fired_two(0, FIRST, first, second, word(alloc, b"hi")?),
-    )?;
-    put(&mut entries, 5, 4, What::Ended(gives_text(alloc, b"hi")?))?;
-    put(&mut entries, 6, 0, printed(alloc, b"hi")?)?;
-    put(&mut entries, last, 0, What::Ended(End::Gives(Value::Unit)))?;
-    Ok(entries)
-}
-
 #[test]
-fn buffer_runs(rt: HostRuntime) -> Result<(), Fail> {
-    let alloc = rt.alloc();
-    let meaning = buffer(alloc)?;
-    for (name, first, second, last, length) in [
-        ("as it is", 3, 2, 7, 8),
-        ("members in the wrong order", 2, 3, 7, 4),
-        ("a message taken twice", 3, 3, 7, 4),
-        ("a member that is no message", 3, 1, 7, 4),
-        ("a wrong number", 3, 2, 8, 7),
-    ] {
-        let entries = buffer_journal(alloc, first, second, last)?;
-        assert_eq!(rt; run_length(alloc, &meaning, &entries)?, length, "{name}");
-    }
-    Ok(())
+fn buffer(rt: HostRuntime) -> Result<(), Fail> {
+    let hi = [Part::Word(b"hi")];
+    let gives_hi = [
+        Ends::Gives(Part::Ref(FIRST)),
+        Ends::Gives(Part::Unit),
+        Ends::Gives(hi[0]),
+        Ends::Gives(Part::Unit),
+    ];
+    let main = [
+        Says::Made,
+        Says::Sent(FIRST, 1, &hi),
+        Says::Called(FIRST, 0, &[]),
+        Says::Printed(b"hi"),
+        Says::Ended(Ends::Gives(Part::Unit)),
+    ];
+    let get = [Says::Ended(Ends::Gives(hi[0]))];
+    let bodies = [
+        Told {
+            chord: None,
+            arguments: &[],
+            depth: 1,
+            asks: &main,
+            answers: &gives_hi,
+        },
+        Told {
+            chord: Some(0),
+            arguments: &hi,
+            depth: 2,
+            asks: &get,
+            answers: &[],
+        },
+    ];
+    let meaning = program(rt.alloc(), &bodies, &[&[0, 1]])?;
+    let lines = [
+        (0, 0, Says::Begun),
+        (1, 0, Says::Made),
+        (2, 0, Says::Sent(FIRST, 1, &hi)),
+        (3, 0, Says::Called(FIRST, 0, &[])),
+        (4, 4, Says::Fired(0, FIRST, &[3, 2], &hi)),
+        (5, 4, Says::Ended(Ends::Gives(hi[0]))),
+        (6, 0, Says::Printed(b"hi")),
+        (7, 0, Says::Ended(Ends::Gives(Part::Unit))),
+    ];
+    check(
+        &rt,
+        rt.alloc(),
+        &meaning,
+        &lines,
+        &[
+            ("as it is", 0, lines[0], 8),
+            (
+                "members in the wrong order",
+                4,
+                (4, 4, Says::Fired(0, FIRST, &[2, 3], &hi)),
+                4,
+            ),
+            (
+                "one message twice",
+                4,
+                (4, 4, Says::Fired(0, FIRST, &[3, 3], &hi)),
+                4,
+            ),
+            (
+                "a member that is no message",
+                4,
+                (4, 4, Says::Fired(0, FIRST, &[3, 1], &hi)),
+                4,
+            ),
+            (
+                "a member less",
+                4,
+                (4, 4, Says::Fired(0, FIRST, &[3], &[])),
+                4,
+            ),
+            (
+                "no arguments",
+                4,
+                (4, 4, Says::Fired(0, FIRST, &[3, 2], &[])),
+                4,
+            ),
+            (
+                "no such chord",
+                4,
+                (4, 4, Says::Fired(1, FIRST, &[3, 2], &hi)),
+                4,
+            ),
+            (
+                "a firing of another body",
+                4,
+                (4, 0, Says::Fired(0, FIRST, &[3, 2], &hi)),
+                4,
+            ),
+            (
+                "the end of `Main` for that of the chord",
+                5,
+                (5, 0, Says::Ended(Ends::Gives(hi[0]))),
+                5,
+            ),
+            ("a wrong number", 6, (7, 0, Says::Printed(b"hi")), 6),
+            ("another line", 6, (6, 0, Says::Printed(b"ho")), 6),
+            ("a second beginning", 6, (6, 6, Says::Begun), 6),
+        ],
+    )
 }
 
-/// `Main` gets from a buffer into which nothing was put.
-fn parked(alloc: Global) -> Result<Listed, Fail> {
-    let mut main = tale(alloc, Start::Main, 1);
-    main.asks(What::Made(0), 1, End::Gives(Value::Ref(FIRST)))?;
-    main.asks(
-        What::Called(FIRST, 0, none(alloc)),
-        1,
-        gives_text(alloc, b"hi")?,
-    )?;
-    let mut listed = Listed {
-        tales: Vec::new(alloc),
-        classes: Vec::new(alloc),
-    };
-    listed.tales.push(main)?;
-    listed.classes.push(class(alloc, &[0, 1], &[])?)?;
-    Ok(listed)
-}
-
-/// What is tried after the three entries of parked `Main`.
-fn after_parked(alloc: Global, case: u8) -> Result<What, Fail> {
-    match case {
-        0 => Ok(fired_one(0, FIRST, 2, none(alloc))),
-        1 => Ok(fired_two(0, FIRST, 2, 2, none(alloc))),
-        2 => Ok(What::Ended(End::Gives(Value::Unit))),
-        _ => printed(alloc, b"hi"),
-    }
-}
-
+/// `Main` gets from a buffer into which nothing was put, and waits.
 #[test]
-fn parked_main_stays(rt: HostRuntime) -> Result<(), Fail> {
-    let alloc = rt.alloc();
-    let meaning = parked(alloc)?;
-    for (name, body, case) in [
-        ("a chord that lacks a message", 3, 0),
-        ("one message in the place of two", 3, 1),
-        ("the end of a body that waits", 0, 2),
-        ("a line of a body that waits", 0, 3),
-    ] {
-        let mut entries = Vec::new(alloc);
-        put(&mut entries, 0, 0, What::Begun)?;
-        put(&mut entries, 1, 0, What::Made(0))?;
-        put(&mut entries, 2, 0, What::Called(FIRST, 0, none(alloc)))?;
-        assert_eq!(rt; run_length(alloc, &meaning, &entries)?, 3, "before {name}");
-        put(&mut entries, 3, body, after_parked(alloc, case)?)?;
-        assert_eq!(rt; run_length(alloc, &meaning, &entries)?, 3, "{name}");
-    }
-    Ok(())
+fn parked_main(rt: HostRuntime) -> Result<(), Fail> {
+    let answers = [Ends::Gives(Part::Ref(FIRST)), Ends::Gives(Part::Unit)];
+    let main = [
+        Says::Made,
+        Says::Called(FIRST, 0, &[]),
+        Says::Ended(Ends::Gives(Part::Unit)),
+    ];
+    let bodies = [Told {
+        chord: None,
+        arguments: &[],
+        depth: 1,
+        asks: &main,
+        answers: &answers,
+    }];
+    let meaning = program(rt.alloc(), &bodies, &[&[0, 1]])?;
+    let end = (3, 0, Says::Ended(Ends::Gives(Part::Unit)));
+    let lines = [
+        (0, 0, Says::Begun),
+        (1, 0, Says::Made),
+        (2, 0, Says::Called(FIRST, 0, &[])),
+        end,
+    ];
+    check(
+        &rt,
+        rt.alloc(),
+        &meaning,
+        &lines,
+        &[
+            ("the end of a body that waits", 3, end, 3),
+            (
+                "a chord that lacks a message",
+                3,
+                (3, 3, Says::Fired(0, FIRST, &[2], &[])),
+                3,
+            ),
+            (
+                "one message in two places",
+                3,
+                (3, 3, Says::Fired(0, FIRST, &[2, 2], &[])),
+                3,
+            ),
+        ],
+    )?;
+    check(
+        &rt,
+        rt.alloc(),
+        &meaning,
+        &lines[..3],
+        &[("as it is", 3, end, 3)],
+    )
 }
 
-/// `Main` prints `before`, has 1 divided by 0, and would print `after`.
-fn division(alloc: Global) -> Result<Listed, Fail> {
-    let mut main = tale(alloc, Start::Main, 1);
-    main.asks(What::Made(0), 1, End::Gives(Value::Ref(FIRST)))?;
-    main.asks(printed(alloc, b"before")?, 1, End::Gives(Value::Unit))?;
-    main.asks(
-        What::Called(FIRST, 0, two(alloc, 1, 0)?),
-        1,
-        End::Traps(Trap::DivideByZero),
-    )?;
-    main.ends(End::Traps(Trap::DivideByZero), 1)?;
-    let mut div = tale(alloc, Start::Chord(0, FIRST, two(alloc, 1, 0)?), 2);
-    div.ends(End::Traps(Trap::DivideByZero), 2)?;
-    let mut listed = Listed {
-        tales: Vec::new(alloc),
-        classes: Vec::new(alloc),
-    };
-    listed.tales.push(main)?;
-    listed.tales.push(div)?;
-    listed.classes.push(class(alloc, &[0], &[])?)?;
-    Ok(listed)
-}
-
-/// The journal of the division, where the caller ends by this trap.
-fn division_journal(alloc: Global, trap: Trap) -> Result<Vec<Entry>, Fail> {
-    let mut entries = Vec::new(alloc);
-    put(&mut entries, 0, 0, What::Begun)?;
-    put(&mut entries, 1, 0, What::Made(0))?;
-    put(&mut entries, 2, 0, printed(alloc, b"before")?)?;
-    put(
-        &mut entries,
-        3,
-        0,
-        What::Called(FIRST, 0, two(alloc, 1, 0)?),
-    )?;
-    put(
-        &mut entries,
-        4,
-        4,
-        fired_one(0, FIRST, 3, two(alloc, 1, 0)?),
-    )?;
-    put(
-        &mut entries,
-        5,
-        4,
-        What::Ended(End::Traps(Trap::DivideByZero)),
-    )?;
-    put(&mut entries, 6, 0, What::Ended(End::Traps(trap)))?;
-    Ok(entries)
-}
-
+/// A method divides 1 by 0 for `Main`, which has printed `before`.
 #[test]
-fn division_traps_through_a_call(rt: HostRuntime) -> Result<(), Fail> {
-    let alloc = rt.alloc();
-    let meaning = division(alloc)?;
-    for (name, trap, length) in [
-        ("as it is", Trap::DivideByZero, 7),
-        ("another trap than the caller got", Trap::TooDeep, 6),
-    ] {
-        let entries = division_journal(alloc, trap)?;
-        assert_eq!(rt; run_length(alloc, &meaning, &entries)?, length, "{name}");
-    }
-    Ok(())
+fn division_trap_through_a_call(rt: HostRuntime) -> Result<(), Fail> {
+    let trap = Says::Ended(Ends::Traps(Trap::DivideByZero));
+    let arguments = [Part::Int(1), Part::Int(0)];
+    let answers = [
+        Ends::Gives(Part::Ref(FIRST)),
+        Ends::Gives(Part::Unit),
+        Ends::Traps(Trap::DivideByZero),
+    ];
+    let main = [
+        Says::Made,
+        Says::Printed(b"before"),
+        Says::Called(FIRST, 0, &arguments),
+        trap,
+    ];
+    let div = [trap];
+    let bodies = [
+        Told {
+            chord: None,
+            arguments: &[],
+            depth: 1,
+            asks: &main,
+            answers: &answers,
+        },
+        Told {
+            chord: Some(0),
+            arguments: &arguments,
+            depth: 2,
+            asks: &div,
+            answers: &[],
+        },
+    ];
+    let meaning = program(rt.alloc(), &bodies, &[&[0]])?;
+    let lines = [
+        (0, 0, Says::Begun),
+        (1, 0, Says::Made),
+        (2, 0, Says::Printed(b"before")),
+        (3, 0, Says::Called(FIRST, 0, &arguments)),
+        (4, 4, Says::Fired(0, FIRST, &[3], &arguments)),
+        (5, 4, trap),
+        (6, 0, trap),
+    ];
+    check(
+        &rt,
+        rt.alloc(),
+        &meaning,
+        &lines,
+        &[
+            ("as it is", 0, lines[0], 7),
+            (
+                "another trap than the caller got",
+                6,
+                (6, 0, Says::Ended(Ends::Traps(Trap::TooDeep))),
+                6,
+            ),
+            ("the caller ends first", 5, (5, 0, trap), 5),
+            (
+                "arguments in another order",
+                4,
+                (
+                    4,
+                    4,
+                    Says::Fired(0, FIRST, &[3], &[Part::Int(0), Part::Int(1)]),
+                ),
+                4,
+            ),
+        ],
+    )
 }
 
-/// A method that calls itself, at a depth limit of 3: the body at depth 3 traps at its call.
-fn deep(alloc: Global) -> Result<Listed, Fail> {
-    let mut main = tale(alloc, Start::Main, 1);
-    main.asks(What::Made(0), 1, End::Gives(Value::Ref(FIRST)))?;
-    main.asks(
-        What::Called(FIRST, 0, one(alloc, Value::Int(1))?),
-        1,
-        End::Traps(Trap::TooDeep),
-    )?;
-    main.ends(End::Traps(Trap::TooDeep), 1)?;
-    let mut second = tale(alloc, Start::Chord(0, FIRST, one(alloc, Value::Int(1))?), 2);
-    second.asks(
-        What::Called(FIRST, 0, one(alloc, Value::Int(2))?),
-        2,
-        End::Traps(Trap::TooDeep),
-    )?;
-    second.ends(End::Traps(Trap::TooDeep), 2)?;
-    let mut third = tale(alloc, Start::Chord(0, FIRST, one(alloc, Value::Int(2))?), 3);
-    third.ends(End::Traps(Trap::TooDeep), 3)?;
-    let mut listed = Listed {
-        tales: Vec::new(alloc),
-        classes: Vec::new(alloc),
-    };
-    listed.tales.push(main)?;
-    listed.tales.push(second)?;
-    listed.tales.push(third)?;
-    listed.classes.push(class(alloc, &[0], &[])?)?;
-    Ok(listed)
-}
-
-/// The journal of the deep calls, where these bodies make its last three entries.
-fn deep_journal(alloc: Global, first: u32, second: u32) -> Result<Vec<Entry>, Fail> {
-    let mut entries = Vec::new(alloc);
-    put(&mut entries, 0, 0, What::Begun)?;
-    put(&mut entries, 1, 0, What::Made(0))?;
-    put(
-        &mut entries,
-        2,
-        0,
-        What::Called(FIRST, 0, one(alloc, Value::Int(1))?),
-    )?;
-    put(
-        &mut entries,
-        3,
-        3,
-        fired_one(0, FIRST, 2, one(alloc, Value::Int(1))?),
-    )?;
-    put(
-        &mut entries,
-        4,
-        3,
-        What::Called(FIRST, 0, one(alloc, Value::Int(2))?),
-    )?;
-    put(
-        &mut entries,
-        5,
-        5,
-        fired_one(0, FIRST, 4, one(alloc, Value::Int(2))?),
-    )?;
-    put(
-        &mut entries,
-        6,
-        first,
-        What::Ended(End::Traps(Trap::TooDeep)),
-    )?;
-    put(
-        &mut entries,
-        7,
-        second,
-        What::Ended(End::Traps(Trap::TooDeep)),
-    )?;
-    put(&mut entries, 8, 0, What::Ended(End::Traps(Trap::TooDeep)))?;
-    Ok(entries)
-}
-
+/// A method calls itself until the depth limit, here 3.
 #[test]
-fn deep_calls_trap(rt: HostRuntime) -> Result<(), Fail> {
-    let alloc = rt.alloc();
-    let meaning = deep(alloc)?;
-    for (name, first, second, length) in [
-        ("as it is", 5, 3, 9),
-        ("the caller ends before the body that serves it", 3, 5, 6),
-        ("a body ends twice", 5, 5, 7),
-    ] {
-        let entries = deep_journal(alloc, first, second)?;
-        assert_eq!(rt; run_length(alloc, &meaning, &entries)?, length, "{name}");
-    }
-    Ok(())
+fn too_deep_in_small(rt: HostRuntime) -> Result<(), Fail> {
+    let trap = Says::Ended(Ends::Traps(Trap::TooDeep));
+    let one = [Part::Int(1)];
+    let two = [Part::Int(2)];
+    let deep = [Ends::Traps(Trap::TooDeep)];
+    let main = [Says::Made, Says::Called(FIRST, 0, &one), trap];
+    let second = [Says::Called(FIRST, 0, &two), trap];
+    let third = [trap];
+    let answers = [Ends::Gives(Part::Ref(FIRST)), deep[0]];
+    let bodies = [
+        Told {
+            chord: None,
+            arguments: &[],
+            depth: 1,
+            asks: &main,
+            answers: &answers,
+        },
+        Told {
+            chord: Some(0),
+            arguments: &one,
+            depth: 2,
+            asks: &second,
+            answers: &deep,
+        },
+        Told {
+            chord: Some(0),
+            arguments: &two,
+            depth: 3,
+            asks: &third,
+            answers: &[],
+        },
+    ];
+    let meaning = program(rt.alloc(), &bodies, &[&[0]])?;
+    let lines = [
+        (0, 0, Says::Begun),
+        (1, 0, Says::Made),
+        (2, 0, Says::Called(FIRST, 0, &one)),
+        (3, 3, Says::Fired(0, FIRST, &[2], &one)),
+        (4, 3, Says::Called(FIRST, 0, &two)),
+        (5, 5, Says::Fired(0, FIRST, &[4], &two)),
+        (6, 5, trap),
+        (7, 3, trap),
+        (8, 0, trap),
+    ];
+    check(
+        &rt,
+        rt.alloc(),
+        &meaning,
+        &lines,
+        &[
+            ("as it is", 0, lines[0], 9),
+            (
+                "a caller ends before the body that serves it",
+                6,
+                (6, 3, trap),
+                6,
+            ),
+            ("a body ends twice", 7, (7, 5, trap), 7),
+            ("the end skips a caller", 7, (7, 0, trap), 7),
+        ],
+    )
 }
 
-/// `Main` makes two buffers, puts into the first and gets from one of them.
-fn buffers(alloc: Global, second: Object) -> Result<Listed, Fail> {
-    let mut main = tale(alloc, Start::Main, 1);
-    main.asks(What::Made(0), 1, End::Gives(Value::Ref(FIRST)))?;
-    main.asks(What::Made(0), 1, End::Gives(Value::Ref(SECOND)))?;
-    main.asks(
-        What::Sent(FIRST, 1, word(alloc, b"hi")?),
-        1,
-        End::Gives(Value::Unit),
-    )?;
-    main.asks(
-        What::Called(second, 0, none(alloc)),
-        1,
-        gives_text(alloc, b"hi")?,
-    )?;
-    let mut listed = Listed {
-        tales: Vec::new(alloc),
-        classes: Vec::new(alloc),
-    };
-    listed.tales.push(main)?;
-    listed.classes.push(class(alloc, &[0, 1], &[])?)?;
-    Ok(listed)
-}
-
+/// `Main` makes two buffers, puts into the first and gets from the second.
 #[test]
-fn another_object_keeps_its_message(rt: HostRuntime) -> Result<(), Fail> {
-    let alloc = rt.alloc();
-    for (name, object, length) in [("the same object", FIRST, 6), ("another object", SECOND, 5)] {
-        let meaning = buffers(alloc, object)?;
-        let mut entries = Vec::new(alloc);
-        put(&mut entries, 0, 0, What::Begun)?;
-        put(&mut entries, 1, 0, What::Made(0))?;
-        put(&mut entries, 2, 0, What::Made(0))?;
-        put(
-            &mut entries,
-            3,
-            0,
-            What::Sent(FIRST, 1, word(alloc, b"hi")?),
-        )?;
-        put(&mut entries, 4, 0, What::Called(object, 0, none(alloc)))?;
-        put(
-            &mut entries,
-            5,
-            5,
-            fired_two(0, object, 4, 3, word(alloc, b"hi")?),
-        )?;
-        assert_eq!(rt; run_length(alloc, &meaning, &entries)?, length, "{name}");
-    }
-    Ok(())
+fn another_object(rt: HostRuntime) -> Result<(), Fail> {
+    let hi = [Part::Word(b"hi")];
+    let answers = [
+        Ends::Gives(Part::Ref(FIRST)),
+        Ends::Gives(Part::Ref(SECOND)),
+        Ends::Gives(Part::Unit),
+    ];
+    let main = [
+        Says::Made,
+        Says::Made,
+        Says::Sent(FIRST, 1, &hi),
+        Says::Called(SECOND, 0, &[]),
+    ];
+    let bodies = [Told {
+        chord: None,
+        arguments: &[],
+        depth: 1,
+        asks: &main,
+        answers: &answers,
+    }];
+    let meaning = program(rt.alloc(), &bodies, &[&[0, 1], &[1]])?;
+    let lines = [
+        (0, 0, Says::Begun),
+        (1, 0, Says::Made),
+        (2, 0, Says::Made),
+        (3, 0, Says::Sent(FIRST, 1, &hi)),
+        (4, 0, Says::Called(SECOND, 0, &[])),
+        (5, 5, Says::Fired(0, SECOND, &[4, 3], &hi)),
+    ];
+    check(
+        &rt,
+        rt.alloc(),
+        &meaning,
+        &lines,
+        &[
+            ("a message of another object", 0, lines[0], 5),
+            (
+                "the message of the object",
+                5,
+                (5, 5, Says::Fired(1, FIRST, &[3], &hi)),
+                6,
+            ),
+        ],
+    )
 }
 
-/// A body with one number that gives it to its caller.
-fn echo(alloc: Global, number: i32) -> Result<Tale, Fail> {
-    let mut echo = tale(
-        alloc,
-        Start::Chord(0, FIRST, one(alloc, Value::Int(number))?),
-        2,
-    );
-    echo.ends(End::Gives(Value::Int(number)), 2)?;
-    Ok(echo)
-}
-
-/// `Main` starts a body and gets its own number back; where it got this number it prints this line.
-fn echo_main(alloc: Global, number: i32, line: &[u8]) -> Result<Tale, Fail> {
-    let mut main = tale(alloc, Start::Main, 1);
-    main.asks(What::Made(0), 1, End::Gives(Value::Ref(FIRST)))?;
-    main.asks(
-        What::Sent(FIRST, 1, none(alloc)),
-        1,
-        End::Gives(Value::Unit),
-    )?;
-    main.asks(
-        What::Called(FIRST, 0, one(alloc, Value::Int(1))?),
-        1,
-        End::Gives(Value::Int(number)),
-    )?;
-    main.asks(printed(alloc, line)?, 1, End::Gives(Value::Unit))?;
-    Ok(main)
-}
-
-/// The started body gets its own number back.
-fn echo_started(alloc: Global) -> Result<Tale, Fail> {
-    let mut started = tale(alloc, Start::Chord(1, FIRST, none(alloc)), 1);
-    started.asks(
-        What::Called(FIRST, 0, one(alloc, Value::Int(2))?),
-        1,
-        End::Gives(Value::Int(2)),
-    )?;
-    Ok(started)
-}
-
-/// Two bodies that call one method at a time, each with its own number.
-fn echoes(alloc: Global) -> Result<Listed, Fail> {
-    let mut listed = Listed {
-        tales: Vec::new(alloc),
-        classes: Vec::new(alloc),
-    };
-    listed.tales.push(echo_main(alloc, 1, b"1")?)?;
-    listed.tales.push(echo_main(alloc, 2, b"2")?)?;
-    listed.tales.push(echo_started(alloc)?)?;
-    listed.tales.push(echo(alloc, 1)?)?;
-    listed.tales.push(echo(alloc, 2)?)?;
-    listed.classes.push(class(alloc, &[0], &[1])?)?;
-    Ok(listed)
-}
-
-/// The journal of the two callers, where `Main` prints this line, and the message of the started body is taken again.
-fn echoes_journal(alloc: Global, line: &[u8], again: u32) -> Result<Vec<Entry>, Fail> {
-    let mut entries = Vec::new(alloc);
-    put(&mut entries, 0, 0, What::Begun)?;
-    put(&mut entries, 1, 0, What::Made(0))?;
-    put(&mut entries, 2, 0, What::Sent(FIRST, 1, none(alloc)))?;
-    put(
-        &mut entries,
-        3,
-        0,
-        What::Called(FIRST, 0, one(alloc, Value::Int(1))?),
-    )?;
-    put(&mut entries, 4, 4, fired_one(1, FIRST, 2, none(alloc)))?;
-    put(
-        &mut entries,
-        5,
-        4,
-        What::Called(FIRST, 0, one(alloc, Value::Int(2))?),
-    )?;
-    put(
-        &mut entries,
-        6,
-        6,
-        fired_one(0, FIRST, 3, one(alloc, Value::Int(1))?),
-    )?;
-    put(
-        &mut entries,
-        7,
-        7,
-        fired_one(0, FIRST, 5, one(alloc, Value::Int(2))?),
-    )?;
-    put(&mut entries, 8, 7, What::Ended(End::Gives(Value::Int(2))))?;
-    put(&mut entries, 9, 6, What::Ended(End::Gives(Value::Int(1))))?;
-    put(&mut entries, 10, 0, printed(alloc, line)?)?;
-    put(
-        &mut entries,
-        11,
-        11,
-        fired_one(1, FIRST, again, none(alloc)),
-    )?;
-    Ok(entries)
-}
-
+/// Two bodies call one method at a time, each with its own number, and get it back; the second ends first.
 #[test]
-fn each_caller_gets_its_own_end(rt: HostRuntime) -> Result<(), Fail> {
-    let alloc = rt.alloc();
-    let meaning = echoes(alloc)?;
-    for (name, line, length) in [
-        ("its own end, then a message taken twice", b"1", 11),
-        ("the end of another body", b"2", 10),
-    ] {
-        let entries = echoes_journal(alloc, line, 2)?;
-        assert_eq!(rt; run_length(alloc, &meaning, &entries)?, length, "{name}");
-    }
-    Ok(())
+fn two_callers(rt: HostRuntime) -> Result<(), Fail> {
+    let one = [Part::Int(1)];
+    let two = [Part::Int(2)];
+    let gets_one = [
+        Ends::Gives(Part::Ref(FIRST)),
+        Ends::Gives(Part::Unit),
+        Ends::Gives(one[0]),
+    ];
+    let gets_two = [
+        Ends::Gives(Part::Ref(FIRST)),
+        Ends::Gives(Part::Unit),
+        Ends::Gives(two[0]),
+    ];
+    let main_one = [
+        Says::Made,
+        Says::Sent(FIRST, 1, &[]),
+        Says::Called(FIRST, 0, &one),
+        Says::Printed(b"1"),
+    ];
+    let main_two = [
+        Says::Made,
+        Says::Sent(FIRST, 1, &[]),
+        Says::Called(FIRST, 0, &one),
+        Says::Printed(b"2"),
+    ];
+    let bodies = [
+        Told {
+            chord: None,
+            arguments: &[],
+            depth: 1,
+            asks: &main_one,
+            answers: &gets_one,
+        },
+        Told {
+            chord: None,
+            arguments: &[],
+            depth: 1,
+            asks: &main_two,
+            answers: &gets_two,
+        },
+        Told {
+            chord: Some(1),
+            arguments: &[],
+            depth: 1,
+            asks: &[Says::Called(FIRST, 0, &two)],
+            answers: &[],
+        },
+        Told {
+            chord: Some(0),
+            arguments: &one,
+            depth: 2,
+            asks: &[Says::Ended(Ends::Gives(one[0]))],
+            answers: &[],
+        },
+        Told {
+            chord: Some(0),
+            arguments: &two,
+            depth: 2,
+            asks: &[Says::Ended(Ends::Gives(two[0]))],
+            answers: &[],
+        },
+    ];
+    let meaning = program(rt.alloc(), &bodies, &[&[0], &[1]])?;
+    let lines = [
+        (0, 0, Says::Begun),
+        (1, 0, Says::Made),
+        (2, 0, Says::Sent(FIRST, 1, &[])),
+        (3, 0, Says::Called(FIRST, 0, &one)),
+        (4, 4, Says::Fired(1, FIRST, &[2], &[])),
+        (5, 4, Says::Called(FIRST, 0, &two)),
+        (6, 6, Says::Fired(0, FIRST, &[3], &one)),
+        (7, 7, Says::Fired(0, FIRST, &[5], &two)),
+        (8, 7, Says::Ended(Ends::Gives(two[0]))),
+        (9, 6, Says::Ended(Ends::Gives(one[0]))),
+        (10, 0, Says::Printed(b"1")),
+    ];
+    check(
+        &rt,
+        rt.alloc(),
+        &meaning,
+        &lines,
+        &[
+            ("each caller gets its own", 0, lines[0], 11),
+            (
+                "`Main` gets the end of the other body",
+                10,
+                (10, 0, Says::Printed(b"2")),
+                10,
+            ),
+            (
+                "a message taken twice",
+                10,
+                (10, 10, Says::Fired(1, FIRST, &[2], &[])),
+                10,
+            ),
+            (
+                "`Main` goes on at the other's end",
+                9,
+                (9, 0, Says::Printed(b"2")),
+                9,
+            ),
+        ],
+    )
 }

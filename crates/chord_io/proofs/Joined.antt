@@ -73,27 +73,27 @@ TookFront-second a b c p q first front = record {
 }
 
 -- a list is what stands before a place, what stands at it, and what stands behind it
-pub around : {X : Type 0} (xs : List X) (i : ℕ) (x : X) → i < length xs → x ≡ get_or xs i x → xs ≡ take i xs ++ (x ∷ drop (i + 1) xs)
-around xs i x within at =
-    let tail : drop i xs ≡ x ∷ drop (i + 1) xs = rw add-one (drop-cons xs i x within ∙ ap (λ y. y ∷ drop (suc i) xs) (sym at)) in
+pub around : {X : Type 0} (xs : List X) (i : ℕ) (x d : X) → i < length xs → x ≡ get_or xs i d → xs ≡ take i xs ++ (x ∷ drop (i + 1) xs)
+around xs i x d within at =
+    let tail : drop i xs ≡ x ∷ drop (i + 1) xs = rw add-one (drop-cons xs i d within ∙ ap (λ y. y ∷ drop (suc i) xs) (sym at)) in
     sym (take-append-drop i xs) ∙ ap (λ t. take i xs ++ t) tail
 
 -- the items before the next place are those before this one, and the one that stands here
-pub before_next : {X : Type 0} (xs : List X) (i : ℕ) (x : X) → i < length xs → x ≡ get_or xs i x → take (i + 1) xs ≡ take i xs ++ (x ∷ [])
-before_next xs i x within at = rw add-one (take-suc xs i x within ∙ ap (λ y. take i xs ++ (y ∷ [])) (sym at))
+pub before_next : {X : Type 0} (xs : List X) (i : ℕ) (x d : X) → i < length xs → x ≡ get_or xs i d → take (i + 1) xs ≡ take i xs ++ (x ∷ [])
+before_next xs i x d within at = rw add-one (take-suc xs i d within ∙ ap (λ y. take i xs ++ (y ∷ [])) (sym at))
 
 -- of texts that are written one by one: those before the next place were taken
 pub Took-next :
-    {X : Type 0} (text : X → List ℕ) (xs : List X) (i : ℕ) (x : X) (a b c : Option (List ℕ)) → i < length xs → x ≡ get_or xs i x →
+    {X : Type 0} (text : X → List ℕ) (xs : List X) (i : ℕ) (x d : X) (a b c : Option (List ℕ)) → i < length xs → x ≡ get_or xs i d →
     Took a (flat_map text (take i xs)) b → Took b (text x) c → Took a (flat_map text (take (i + 1) xs)) c
-Took-next text xs i x a b c within at first second =
-    rw (before_next xs i x within at, flat_map-append text (take i xs) (x ∷ []), append-nil (text x)) (Took-join a b c _ _ first second)
+Took-next text xs i x d a b c within at first second =
+    rw (before_next xs i x d within at, flat_map-append text (take i xs) (x ∷ []), append-nil (text x)) (Took-join a b c _ _ first second)
 
 -- of texts that are written one by one: a front of all was taken, where a front of the next was
 pub TookFront-next :
-    {X : Type 0} (text : X → List ℕ) (xs : List X) (i : ℕ) (x : X) (a b c : Option (List ℕ)) → i < length xs → x ≡ get_or xs i x →
+    {X : Type 0} (text : X → List ℕ) (xs : List X) (i : ℕ) (x d : X) (a b c : Option (List ℕ)) → i < length xs → x ≡ get_or xs i d →
     Took a (flat_map text (take i xs)) b → TookFront b (text x) c → TookFront a (flat_map text xs) c
-TookFront-next text xs i x a b c within at first second =
+TookFront-next text xs i x d a b c within at first second =
     let whole : flat_map text xs ≡ flat_map text (take i xs) ++ (text x ++ flat_map text (drop (i + 1) xs)) =
-        ap (λ ys. flat_map text ys) (around xs i x within at) ∙ flat_map-append text (take i xs) (x ∷ drop (i + 1) xs) in
+        ap (λ ys. flat_map text ys) (around xs i x d within at) ∙ flat_map-append text (take i xs) (x ∷ drop (i + 1) xs) in
     rw whole (TookFront-second a b c _ _ first (TookFront-first b c (text x) _ second))

@@ -47,11 +47,11 @@ Writes-join {a = a} {f = f} {p = p} {t = t} {b = b} {g = g} {q = q} {u = u} {c =
 -- of texts that a pen writes one by one: those before the next place
 pub Writes-next :
     {X : Type 0} {a : Option (List ℕ)} {f : ℕ} {p : Option (List ℕ)} {b : Option (List ℕ)} {g : ℕ} {q : Option (List ℕ)}
-    {c : Option (List ℕ)} {h : ℕ} {r : Option (List ℕ)} (text : X → List ℕ) (xs : List X) (i : ℕ) (x : X) → i < length xs →
-    x ≡ get_or xs i x → Writes a f p (flat_map text (take i xs)) b g q → Writes b g q (text x) c h r →
+    {c : Option (List ℕ)} {h : ℕ} {r : Option (List ℕ)} (text : X → List ℕ) (xs : List X) (i : ℕ) (x d : X) → i < length xs →
+    x ≡ get_or xs i d → Writes a f p (flat_map text (take i xs)) b g q → Writes b g q (text x) c h r →
     Writes a f p (flat_map text (take (i + 1) xs)) c h r
-Writes-next text xs i x within at first second =
-    rw (before_next xs i x within at, flat_map-append text (take i xs) (x ∷ []), append-nil (text x)) (Writes-join first second)
+Writes-next text xs i x d within at first second =
+    rw (before_next xs i x d within at, flat_map-append text (take i xs) (x ∷ []), append-nil (text x)) (Writes-join first second)
 
 -- a front of a text was taken, where a pen wrote the text from the start and then a front of what it held was taken
 pub TookFront-finished :

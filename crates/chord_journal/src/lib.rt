@@ -5,7 +5,10 @@
 //! Not here: what a journal means (chord_base).
 #![tactic(auto)]
 
+mod gathered;
 mod lines;
 mod write;
 
+pub use gathered::gather;
 pub use lines::write_lines;
+pub use write::write_text;

@@ -12,7 +12,7 @@ pub returns-in_err-write_line-clause-front : goal.returns-in_err-write_line-clau
 returns-in_err-write_line-clause-front g c =
     let failed = err_from_is_err_and c.from_residual.result c.from_residual.ensures.1 in
     rw (failed.1, lines_one_by_one, ← c.entries-entry-items.ensures.entries)
-    (TookFront-next (λ e. line_of e.what) _ c.loop-entry.entry-index c.entry-item.result _ _ _ c.loop-entry-test.true c.entry-item.is
+    (TookFront-next (λ e. line_of e.what) _ c.loop-entry.entry-index c.entry-item.result _ _ _ _ c.loop-entry-test.true c.entry-item.is
     c.loop-entry.invariant.took c.in_err-write_line.ensures.front)
 
 pub returns-clause-whole : goal.returns-clause-whole
