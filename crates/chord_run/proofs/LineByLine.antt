@@ -61,9 +61,9 @@ reads_line n whole rest lines l apart r f e =
     let s = front_splits (line_kinds n l) rest e in
     let rest' = drop (length (line_kinds n l)) rest in
     record {
-        fit = fit_more lines l r.fit f;
-        back = λ ls g. r.back (l ∷ ls) (s ∙ ap (λ x. line_kinds n l ++ x) g) ∙ ap (λ x. body n x) (sym (append_assoc lines (l ∷ []) ls));
-        forth = λ ls fs g. line_forth n apart lines ls l rest rest' s (r.forth ls fs g)
+      fit = fit_more lines l r.fit f;
+      back = λ ls g. r.back (l ∷ ls) (s ∙ ap (λ x. line_kinds n l ++ x) g) ∙ ap (λ x. body n x) (sym (append_assoc lines (l ∷ []) ls));
+      forth = λ ls fs g. line_forth n apart lines ls l rest rest' s (r.forth ls fs g);
     }
 
 -- at the end of the lines: what is left is the end of `Main`
@@ -78,7 +78,6 @@ none_left n rest none other (l ∷ ms) f e = none l f.0 (ap (λ x. take (length 
 pub reads_none : (n : Chosen) (whole rest : List Kind) (lines : List line.SmallLine) → ReadsOn n whole rest lines → ((l : line.SmallLine) → IsFit l → take (length (line_kinds n l)) rest ≡ line_kinds n l → ⊥) → (rest ≡ spelled n tail → ⊥) → (ls : List line.SmallLine) → AreFit ls → whole ≡ body n ls → ⊥
 reads_none n whole rest lines r none other ls f e = none_left n rest none other (r.forth ls f e).0 (r.forth ls f e).2 (r.forth ls f e).3
 
-
 -- the head of a small source stands first, and the lines behind it
 pub form_head : (n : Chosen) (kinds rest : List Kind) → kinds ≡ spelled n head ++ rest → take 39 kinds ≡ spelled n head
 form_head n kinds rest e = ap (λ x. take 39 x) e
@@ -89,19 +88,19 @@ form_lines n kinds rest e = ap (λ x. drop 39 x) e
 -- each name of the head stands where it is looked for
 pub head_stands : (n : Chosen) (kinds rest : List Kind) → kinds ≡ spelled n head ++ rest → StandInHead n kinds
 head_stands n kinds rest e = record {
-    buffer = ap (λ x. slice_get x 1) e;
-    get = ap (λ x. slice_get x 5) e;
-    put = ap (λ x. slice_get x 11) e;
-    parameter = ap (λ x. slice_get x 14) e;
-    program = ap (λ x. slice_get x 23) e;
-    variable = ap (λ x. slice_get x 32) e
+  buffer = ap (λ x. slice_get x 1) e;
+  get = ap (λ x. slice_get x 5) e;
+  put = ap (λ x. slice_get x 11) e;
+  parameter = ap (λ x. slice_get x 14) e;
+  program = ap (λ x. slice_get x 23) e;
+  variable = ap (λ x. slice_get x 32) e;
 }
 
 -- what begins with the head and goes on with lines is a small source
 pub form_of : (n : Chosen) (kinds : List Kind) (ls : List line.SmallLine) → AreApart n → AreFit ls → take 39 kinds ≡ spelled n head → drop 39 kinds ≡ body n ls → IsSmallForm kinds ls
 form_of n kinds ls apart fit a b = record {
-    chosen = n;
-    apart = apart;
-    fit = fit;
-    is = front_splits (spelled n head) kinds a ∙ ap (λ x. spelled n head ++ x) b
+  chosen = n;
+  apart = apart;
+  fit = fit;
+  is = front_splits (spelled n head) kinds a ∙ ap (λ x. spelled n head ++ x) b;
 }

@@ -61,12 +61,12 @@ impl<'a> Model for Names<'a> {
     ghost Value = { Chosen };
 
     ghost view = { λ n. record {
-        buffer = n.buffer.now;
-        get = n.get.now;
-        put = n.put.now;
-        parameter = n.parameter.now;
-        program = n.program.now;
-        variable = n.variable.now;
+      buffer = n.buffer.now;
+      get = n.get.now;
+      put = n.put.now;
+      parameter = n.parameter.now;
+      program = n.program.now;
+      variable = n.variable.now;
     } };
 }
 
@@ -151,10 +151,7 @@ const PRINT_GET: [Piece; 11] = [
 ];
 
 /// `}}`
-const TAIL: [Piece; 2] = [
-    Piece::Mark(Mark::CloseBrace),
-    Piece::Mark(Mark::CloseBrace),
-];
+const TAIL: [Piece; 2] = [Piece::Mark(Mark::CloseBrace), Piece::Mark(Mark::CloseBrace)];
 
 /// The name of this role.
 fn name<'a>(names: &Names<'a>, role: Role) -> &'a [u8]
@@ -187,9 +184,7 @@ fn is_piece(kind: &Kind, names: &Names, piece: Piece) -> bool
 
 /// Whether the tokens begin with these pieces.
 fn begins_with(tokens: &[Token], names: &Names, pieces: &[Piece]) -> bool
-    ensures begins {
-        IsTrue result ↔ (take (length pieces.now) (kinds_of tokens.now) ≡ spelled names.now pieces.now)
-    }
+    ensures begins { IsTrue result ↔ (take (length pieces.now) (kinds_of tokens.now) ≡ spelled names.now pieces.now) }
     ensures enough { IsTrue result → length pieces.now ≤ length tokens.now }
 {
     if tokens.len() < pieces.len() {
@@ -205,10 +200,8 @@ fn begins_with(tokens: &[Token], names: &Names, pieces: &[Piece]) -> bool
 
 /// The name at this place.
 fn name_at(tokens: &[Token], place: usize) -> Option<&[u8]>
-    ensures {
-        (name : List ℕ) → slice_get (kinds_of tokens.now) place ≡ Some (a_kind.Name name)
-            → IsSomeAnd result (λ found. found.now ≡ name)
-    }
+    ensures { (name : List ℕ) → slice_get (kinds_of tokens.now) place ≡ Some (a_kind.Name name)
+        → IsSomeAnd result (λ found. found.now ≡ name) }
 {
     match tokens.get(place) {
         Some(token) => match &token.kind {
@@ -227,14 +220,10 @@ fn literal_call(
     front: &[Piece],
 ) -> Result<Option<Text>, AllocError>
     requires { length front.now ≡ 4 }
-    ensures some {
-        IfOk result (λ found. IfSome found (λ text.
-            take 7 (kinds_of tokens.now) ≡ with_literal names.now front.now text × length text ≤ 1024))
-    }
-    ensures none {
-        IfOk result (λ found. IfNone found ((text : List ℕ) → length text ≤ 1024
-            → take 7 (kinds_of tokens.now) ≡ with_literal names.now front.now text → ⊥))
-    }
+    ensures some { IfOk result (λ found. IfSome found (λ text.
+        take 7 (kinds_of tokens.now) ≡ with_literal names.now front.now text × length text ≤ 1024)) }
+    ensures none { IfOk result (λ found. IfNone found ((text : List ℕ) → length text ≤ 1024
+        → take 7 (kinds_of tokens.now) ≡ with_literal names.now front.now text → ⊥)) }
 {
     if !begins_with(tokens, names, front) || tokens.len() < 7 {
         return Ok(None);
@@ -253,19 +242,11 @@ fn literal_call(
 }
 
 /// The line at the front of the tokens.
-fn line_at(
-    alloc: Global,
-    tokens: &[Token],
-    names: &Names,
-) -> Result<Option<SmallLine>, AllocError>
-    ensures some {
-        IfOk result (λ found. IfSome found (λ line.
-            take (length (line_kinds names.now line)) (kinds_of tokens.now) ≡ line_kinds names.now line × IsFit line))
-    }
-    ensures none {
-        IfOk result (λ found. IfNone found ((line : line.SmallLine) → IsFit line
-            → take (length (line_kinds names.now line)) (kinds_of tokens.now) ≡ line_kinds names.now line → ⊥))
-    }
+fn line_at(alloc: Global, tokens: &[Token], names: &Names) -> Result<Option<SmallLine>, AllocError>
+    ensures some { IfOk result (λ found. IfSome found (λ line.
+        take (length (line_kinds names.now line)) (kinds_of tokens.now) ≡ line_kinds names.now line × IsFit line)) }
+    ensures none { IfOk result (λ found. IfNone found ((line : line.SmallLine) → IsFit line
+        → take (length (line_kinds names.now line)) (kinds_of tokens.now) ≡ line_kinds names.now line → ⊥)) }
 {
     if let Some(text) = literal_call(alloc, tokens, names, &PUT)? {
         return Ok(Some(SmallLine::Put(text)));
@@ -292,9 +273,7 @@ fn length_of(line: &SmallLine) -> usize
 
 /// The name at each place where `HEAD` has a chosen name for the first time.
 fn names_of(tokens: &[Token]) -> Option<Names<'_>>
-    ensures {
-        (chosen : Chosen) → StandInHead chosen (kinds_of tokens.now) → result ≡ Some chosen
-    }
+    ensures { (chosen : Chosen) → StandInHead chosen (kinds_of tokens.now) → result ≡ Some chosen }
 {
     Some(Names {
         buffer: name_at(tokens, 1)?,
@@ -335,14 +314,10 @@ fn lines_of(
     names: &Names,
 ) -> Result<Option<Vec<SmallLine>>, AllocError>
     requires { AreApart names.now }
-    ensures some {
-        IfOk result (λ found. IfSome found (λ lines.
-            kinds_of tokens.now ≡ body names.now lines.items × AreFit lines.items))
-    }
-    ensures none {
-        IfOk result (λ found. IfNone found ((lines : List line.SmallLine) → AreFit lines
-            → kinds_of tokens.now ≡ body names.now lines → ⊥))
-    }
+    ensures some { IfOk result (λ found. IfSome found (λ lines.
+        kinds_of tokens.now ≡ body names.now lines.items × AreFit lines.items)) }
+    ensures none { IfOk result (λ found. IfNone found ((lines : List line.SmallLine) → AreFit lines
+        → kinds_of tokens.now ≡ body names.now lines → ⊥)) }
 {
     let mut rest = tokens;
     let mut lines = Vec::new(alloc);
@@ -360,12 +335,8 @@ fn lines_of(
 
 /// The lines of the small source that these tokens are, if they are one.
 pub fn small_of(alloc: Global, tokens: &[Token]) -> Result<Option<Small>, AllocError>
-    ensures small {
-        IfOk result (λ found. IfSome found (λ lines. IsSmallForm (kinds_of tokens.now) lines))
-    }
-    ensures other {
-        IfOk result (λ found. IfNone found ((lines : List line.SmallLine) → IsSmallForm (kinds_of tokens.now) lines → ⊥))
-    }
+    ensures small { IfOk result (λ found. IfSome found (λ lines. IsSmallForm (kinds_of tokens.now) lines)) }
+    ensures other { IfOk result (λ found. IfNone found ((lines : List line.SmallLine) → IsSmallForm (kinds_of tokens.now) lines → ⊥)) }
 {
     let Some(names) = names_of(tokens) else {
         return Ok(None);

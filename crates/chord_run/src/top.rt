@@ -47,10 +47,8 @@ pub fn chord<R: Threads + Wait + Sync, S: Source, K: Sink, G: Gate + Sync>(
     ensures taken_words { (result.status ≡ 2) ⊎ AreTaken (texts words.now) }
     ensures read_fault { result.status ≡ 3 → Rose (S.faults source.old) (S.faults source.new) }
     ensures write_fault { result.status ≡ 5 → Rose (K.faults sink.old) (K.faults sink.new) }
-    ensures headline {
-        IsSilence result (K.taken sink.old) (K.taken sink.new)
-            ⊎ Answers (texts words.now) (S.left source.old) result (K.taken sink.old) (K.taken sink.new)
-    }
+    ensures headline { IsSilence result (K.taken sink.old) (K.taken sink.new)
+        ⊎ Answers (texts words.now) (S.left source.old) result (K.taken sink.old) (K.taken sink.new) }
 {
     answer(alloc, words, source, sink)
 }
@@ -66,10 +64,8 @@ fn answer<S: Source, K: Sink>(
     ensures taken_words { (result.status ≡ 2) ⊎ AreTaken (texts words.now) }
     ensures read_fault { result.status ≡ 3 → Rose (S.faults source.old) (S.faults source.new) }
     ensures write_fault { result.status ≡ 5 → Rose (K.faults sink.old) (K.faults sink.new) }
-    ensures headline {
-        IsSilence result (K.taken sink.old) (K.taken sink.new)
-            ⊎ Answers (texts words.now) (S.left source.old) result (K.taken sink.old) (K.taken sink.new)
-    }
+    ensures headline { IsSilence result (K.taken sink.old) (K.taken sink.new)
+        ⊎ Answers (texts words.now) (S.left source.old) result (K.taken sink.old) (K.taken sink.new) }
 {
     let Some(limits) = limits_of(words) else {
         return Report::silent(2);
@@ -87,10 +83,8 @@ fn answer_source<K: Sink>(alloc: Global, source: &[u8], limits: &Limits, sink: &
     requires short { IsShort source.now }
     requires some { 1 ≤ limits.now.events }
     requires bound { limits.now.events ≤ 65536 }
-    ensures answered {
-        IsUnanswered result (K.taken sink.old) (K.taken sink.new)
-            ⊎ IsAnswered source.now limits.now.events result (K.taken sink.old) (K.taken sink.new)
-    }
+    ensures answered { IsUnanswered result (K.taken sink.old) (K.taken sink.new)
+        ⊎ IsAnswered source.now limits.now.events result (K.taken sink.old) (K.taken sink.new) }
     ensures fault { result.status ≡ 5 → Rose (K.faults sink.old) (K.faults sink.new) }
 {
     match small_source(alloc, source) {
@@ -103,10 +97,8 @@ fn answer_source<K: Sink>(alloc: Global, source: &[u8], limits: &Limits, sink: &
 /// Writes the line of a refusal.
 fn refuse<K: Sink>(alloc: Global, source: &[u8], refusal: Refusal, sink: &mut K) -> Report
     requires { IsPlaced source.now refusal }
-    ensures answered {
-        IsUnanswered result (K.taken sink.old) (K.taken sink.new)
-            ⊎ IsRefused source.now refusal result (K.taken sink.old) (K.taken sink.new)
-    }
+    ensures answered { IsUnanswered result (K.taken sink.old) (K.taken sink.new)
+        ⊎ IsRefused source.now refusal result (K.taken sink.old) (K.taken sink.new) }
     ensures fault { result.status ≡ 5 → Rose (K.faults sink.old) (K.faults sink.new) }
 {
     match line_of(alloc, source, refusal) {
@@ -122,10 +114,8 @@ fn refuse<K: Sink>(alloc: Global, source: &[u8], refusal: Refusal, sink: &mut K)
 fn run<K: Sink>(alloc: Global, small: &Small, limits: &Limits, sink: &mut K) -> Report
     requires some { 1 ≤ limits.now.events }
     requires bound { limits.now.events ≤ 65536 }
-    ensures answered {
-        IsUnanswered result (K.taken sink.old) (K.taken sink.new)
-            ⊎ IsRunOf (small_program small.now) limits.now.events result (K.taken sink.old) (K.taken sink.new)
-    }
+    ensures answered { IsUnanswered result (K.taken sink.old) (K.taken sink.new)
+        ⊎ IsRunOf (small_program small.now) limits.now.events result (K.taken sink.old) (K.taken sink.new) }
     ensures fault { result.status ≡ 5 → Rose (K.faults sink.old) (K.faults sink.new) }
 {
     match play_small(alloc, small, limits) {
@@ -142,11 +132,9 @@ fn run<K: Sink>(alloc: Global, small: &Small, limits: &Limits, sink: &mut K) -> 
 
 /// The status of a run of a small program: the journal's where it is complete, and 6 where it may go on.
 fn due_status(journal: &Journal) -> u8
-    ensures gives {
-        (program : List small.SmallLine) (events : ℕ) → IsRun (small_program program) journal.now
-            → IsComplete (small_program program) journal.now ⊎ (length journal.now ≡ events)
-            → Gives (small_program program) events journal.now result
-    }
+    ensures gives { (program : List small.SmallLine) (events : ℕ) → IsRun (small_program program) journal.now
+        → IsComplete (small_program program) journal.now ⊎ (length journal.now ≡ events)
+        → Gives (small_program program) events journal.now result }
     ensures no_fault { result ≡ 5 → ⊥ }
 {
     if is_complete(journal) {

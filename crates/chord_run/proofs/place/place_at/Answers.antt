@@ -9,6 +9,6 @@ loop-i-preserved c =
     let within : c.loop-i.i < length c.args.text.now = omega arith in
     let ends : ends_line (get_or c.args.text.now c.loop-i.i 0) (drop (c.loop-i.i + 1) c.args.text.now) ≡ c.ends_after.result = ap (λ x. ends_line (get_or c.args.text.now c.loop-i.i 0) x) (sym c.split_at.ensures.back) ∙ sym c.ends_after.ensures in
     elim c.if-ends_after.branch [
-        then-ends_after w ↦ rw w.place-is (comes_to_line c.args.text.now c.loop-i.i 0 c.loop-i.place c.loop-i.invariant within (ends ∙ w.if-ends_after.true))
-        | else-ends_after w ↦ rw w.place-is (comes_to_column c.args.text.now c.loop-i.i 0 c.loop-i.place c.loop-i.invariant within (ends ∙ w.if-ends_after.false))
+      | then-ends_after w ↦ rw w.place-is (comes_to_line c.args.text.now c.loop-i.i 0 c.loop-i.place c.loop-i.invariant within (ends ∙ w.if-ends_after.true))
+      | else-ends_after w ↦ rw w.place-is (comes_to_column c.args.text.now c.loop-i.i 0 c.loop-i.place c.loop-i.invariant within (ends ∙ w.if-ends_after.false))
     ]
