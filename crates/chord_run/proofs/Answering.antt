@@ -1,5 +1,5 @@
 -- A source that gave too many bytes is answered by its refusal.
-use Rattle.std.proofs.Common.{◌≡◌, ℕ, ◌<◌, List, ◌++◌, length, length-append, Option, Some, None, refl, sym, ap, ◌∙◌, arith}
+use Rattle.std.proofs.Common.{◌≡◌, ℕ, ◌<◌, List, ◌++◌, length, length-append, Option, Some, None, refl, ap, arith}
 use Rattle.chord_io.specs.Pieces.{Gave}
 use Rattle.chord_run.specs.Answers.{IsAnswered, IsRefused}
 use Rattle.chord_run.specs.Written.{IsGiven}

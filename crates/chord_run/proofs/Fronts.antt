@@ -1,5 +1,5 @@
 -- Fronts of two lists that are mapped to the same kinds.
-use Rattle.std.proofs.Common.{◌≡◌, ℕ, ◌+◌, ◌<◌, ◌≤◌, List, [], ◌∷◌, ◌++◌, length, take, drop, map, get_or, refl, sym, ap, ◌∙◌, arith, IsTrue, true, false}
+use Rattle.std.proofs.Common.{◌≡◌, ℕ, ◌+◌, ◌<◌, List, length, take, map, get_or, ap}
 use Rattle.std.proofs.lemmas.List.{take-map, map_more, get_or-map, get_or-take}
 
 -- one more element on both sides

@@ -1,3 +1,5 @@
+pub mod Causes
+pub mod Complete
 pub mod Answering
 pub mod Words
 pub mod Breaks

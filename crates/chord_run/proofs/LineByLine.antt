@@ -1,9 +1,8 @@
 -- The lines of a small source are read one by one, and each list of kinds has at most one reading.
-use Rattle.std.proofs.Common.{◌≡◌, ℕ, ◌≤◌, List, [], ◌∷◌, ◌++◌, length, take, drop, min, slice_get, Some, refl, sym, ap, ◌∙◌, arith, append_assoc, subst}
+use Rattle.std.proofs.Common.{◌≡◌, ◌≤◌, List, [], ◌∷◌, ◌++◌, length, take, drop, slice_get, refl, sym, ap, ◌∙◌, arith, append_assoc}
 use Rattle.std.proofs.lemmas.List.{take-append-drop, length-take, append-nil}
 use Rattle.std.proofs.Math.Seq.{take-append_seam}
 use Rattle.chord_lexer.specs.declared.token.Kind.{Kind}
-use Rattle.chord_lexer.specs.declared.token.Kind.TheVariants as a_kind
 use Rattle.chord_lists.specs.declared.small.SmallLine as line
 use Rattle.chord_lists.specs.declared.small.SmallLine.TheVariants.{Put, Print, PrintGet}
 use Rattle.chord_run.specs.Chosen.{Chosen, AreApart}

@@ -6,3 +6,4 @@ pub mod Places
 pub mod Refusals
 pub mod Written
 pub mod Answers
+pub mod Rows

@@ -1,5 +1,5 @@
 -- The place of a byte in a text. A line ends at CR LF, at LF or at CR. Lines and columns count from 1, and columns count bytes.
-use Rattle.std.specs.Prelude.{ℕ, ◌+◌, Bool, true, false, ◌==◌, ◌||◌, ◌&&◌, not, List, [], ◌∷◌, take, count_by}
+use Rattle.std.specs.Prelude.{ℕ, ◌+◌, Bool, false, ◌==◌, ◌||◌, ◌&&◌, not, List, [], ◌∷◌, take, count_by}
 use Rattle.std.specs.List.{suffix_len}
 use Rattle.chord_run.specs.declared.place.Place.{Place}
 

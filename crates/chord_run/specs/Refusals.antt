@@ -1,5 +1,5 @@
 -- Why a source is refused, and the line that says so.
-use Rattle.std.specs.Prelude.{◌≡◌, ℕ, ◌<◌, ◌≤◌, ◌++◌, List, codes, decimal}
+use Rattle.std.specs.Prelude.{ℕ, ◌<◌, ◌≤◌, ◌++◌, List, codes, decimal}
 use Rattle.std.specs.Prelude.{length}
 use Rattle.chord_lexer.specs.Reading.{IsRead, IsRefused, after_mark}
 use Rattle.chord_lexer.specs.declared.token.Token.{Token}

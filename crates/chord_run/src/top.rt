@@ -9,6 +9,7 @@ ghost use Rattle.chord_lists.specs.declared.small.SmallLine as small;
 ghost use Rattle.chord_run.specs.Answers.{Answers, Gives, IsAnswered, IsRefused, IsRunOf, IsSilence, IsUnanswered};
 ghost use Rattle.chord_run.specs.Command.{AreTaken, texts};
 ghost use Rattle.chord_run.specs.Refusals.{IsPlaced};
+ghost use Rattle.chord_run.specs.Rows.{CutsShort, Fills, Finishes, IsOrderly, Refuses, RefusesOthers, RunsAccepted};
 ghost use Rattle.chord_run.specs.Sources.{IsShort};
 
 use crate::command::limits_of;
@@ -43,12 +44,30 @@ pub fn chord<R: Threads + Wait + Sync, S: Source, K: Sink, G: Gate + Sync>(
     sink: &mut K,
     _gate: &G,
 ) -> Report
-    ensures other_words { result.status ≡ 2 → AreTaken (texts words.now) → ⊥ }
-    ensures taken_words { (result.status ≡ 2) ⊎ AreTaken (texts words.now) }
-    ensures read_fault { result.status ≡ 3 → Rose (S.faults source.old) (S.faults source.new) }
-    ensures write_fault { result.status ≡ 5 → Rose (K.faults sink.old) (K.faults sink.new) }
+    // The headline: where nothing is said but the status, nothing is written; else the words asked for a run, and for the
+    // source that was read, what is due is written: the lines of the journal in the report, which is a complete run of the
+    // source's join machine or a run of as many entries as are allowed, or the line of the refusal.
     ensures headline { IsSilence result (K.taken sink.old) (K.taken sink.new)
         ⊎ Answers (texts words.now) (S.left source.old) result (K.taken sink.old) (K.taken sink.new) }
+
+    // Each status has its cause.
+    ensures status_0 { result.status ≡ 0 → Finishes (S.left source.old) result (K.taken sink.old) (K.taken sink.new) 0 }
+    ensures status_1 { result.status ≡ 1 → Refuses (S.left source.old) result (K.taken sink.old) (K.taken sink.new) }
+    ensures status_2 { result.status ≡ 2 → AreTaken (texts words.now) → ⊥ }
+    ensures status_2_exactly { (result.status ≡ 2) ⊎ AreTaken (texts words.now) }
+    ensures status_3 { result.status ≡ 3 → Rose (S.faults source.old) (S.faults source.new) }
+    ensures status_4 { result.status ≡ 4 → Finishes (S.left source.old) result (K.taken sink.old) (K.taken sink.new) 4 }
+    ensures status_5 { result.status ≡ 5 → Rose (K.faults sink.old) (K.faults sink.new) }
+    ensures status_5_prefix { result.status ≡ 5
+        → CutsShort (S.left source.old) 65536 result (K.taken sink.old) (K.taken sink.new) }
+    ensures status_6 { result.status ≡ 6 → Fills (S.left source.old) 65536 result (K.taken sink.old) (K.taken sink.new) }
+    ensures status_8 { result.status ≡ 8 → Finishes (S.left source.old) result (K.taken sink.old) (K.taken sink.new) 8 }
+
+    // Where the words are taken and no count of faults rises, only want of memory stands between a source and its answer.
+    ensures accepted { IsOrderly (AreTaken (texts words.now)) (S.faults source.old) (S.faults source.new)
+        (K.faults sink.old) (K.faults sink.new) → RunsAccepted (S.left source.old) result.status }
+    ensures not_accepted { IsOrderly (AreTaken (texts words.now)) (S.faults source.old) (S.faults source.new)
+        (K.faults sink.old) (K.faults sink.new) → RefusesOthers (S.left source.old) result.status }
 {
     answer(alloc, words, source, sink)
 }

@@ -1,4 +1,4 @@
-use Rattle.std.proofs.Common.{◌≡◌, refl, sym, ◌∙◌, string_bytes}
+use Rattle.std.proofs.Common.{refl, sym, ◌∙◌, string_bytes}
 use Rattle.std.specs.Cmp.Lexicographic.{same_text}
 use Rattle.chord_run.proofs.Words.{two_words}
 use Rattle.chord_run.proofs.command.limits_of.Goals as goal

@@ -1,4 +1,4 @@
-use Rattle.std.proofs.Common.{◌≡◌, ℕ, ◌+◌, ◌<◌, length, get_or, drop, sym, ap, ◌∙◌, arith, true, false}
+use Rattle.std.proofs.Common.{◌≡◌, ◌+◌, ◌<◌, length, get_or, drop, sym, ap, ◌∙◌, arith}
 use Rattle.chord_run.specs.Places.{ends_line}
 use Rattle.chord_run.proofs.Breaks.{comes_to_line, comes_to_column}
 use Rattle.chord_run.proofs.place.place_at.Goals as goal

@@ -1,5 +1,3 @@
-use Rattle.std.proofs.Common.{◌≡◌, ◌+◌, ◌≤◌}
-use Rattle.chord_run.specs.Places.{place_of}
 use Rattle.chord_run.proofs.Breaks.{HasCome}
 use Rattle.chord_run.proofs.place.place_at.Given as goal
 

@@ -1,6 +1,6 @@
-use Rattle.std.proofs.Common.{◌≡◌, ◌<◌, ℕ, length, take, refl, IsTrue, true, false, arith}
+use Rattle.std.proofs.Common.{◌<◌, length, refl, arith}
 use Rattle.chord_lexer.specs.declared.token.Keyword.TheVariants.{Async}
-use Rattle.chord_run.specs.SmallForm.{kind_of_piece, kinds_of, spelled}
+use Rattle.chord_run.specs.SmallForm.{kind_of_piece}
 use Rattle.chord_run.specs.declared.small.Piece.TheVariants.{Word}
 use Rattle.chord_run.proofs.Fronts.{front_more, front_same}
 use Rattle.chord_run.proofs.small.begins_with.Goals as goal

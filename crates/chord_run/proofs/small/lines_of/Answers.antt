@@ -1,7 +1,7 @@
-use Rattle.std.proofs.Common.{◌≡◌, ℕ, List, ◌∷◌, ◌++◌, [], length, take, drop, map, refl, sym, ap, ◌∙◌, arith, subst, IsTrue, true}
+use Rattle.std.proofs.Common.{◌≡◌, length, drop, sym, ap, ◌∙◌, true}
 use Rattle.std.proofs.lemmas.List.{drop-map}
-use Rattle.chord_run.specs.SmallForm.{kinds_of, line_kinds, spelled, tail}
-use Rattle.chord_run.proofs.LineByLine.{ReadsOn, reads_line, reads_end, reads_none}
+use Rattle.chord_run.specs.SmallForm.{kinds_of, line_kinds}
+use Rattle.chord_run.proofs.LineByLine.{reads_line, reads_end, reads_none}
 use Rattle.chord_run.proofs.small.lines_of.Goals as goal
 
 pub loop-lines-preserved : goal.loop-lines-preserved

@@ -1,4 +1,4 @@
-use Rattle.std.proofs.Common.{◌≡◌, ℕ, ◌≤◌, length, take, map, sym, ap, ◌∙◌, arith, inl, inr, true}
+use Rattle.std.proofs.Common.{◌≡◌, length, take, arith, inl, inr, true}
 use Rattle.std.proofs.lemmas.List.{length-map}
 use Rattle.chord_run.specs.SmallForm.{kinds_of, spelled}
 use Rattle.chord_run.proofs.Calls.{parts_of_call}

@@ -1,7 +1,6 @@
-use Rattle.std.proofs.Common.{◌≡◌, ℕ, List, ◌∷◌, ◌++◌, [], length, take, drop, map, refl, sym, ap, ◌∙◌, arith, subst, IsTrue, true, Some, None}
-use Rattle.std.proofs.lemmas.List.{drop-map, take-append-drop}
-use Rattle.chord_run.specs.Chosen.{Chosen, AreApart}
-use Rattle.chord_run.specs.SmallForm.{IsSmallForm, kinds_of, body, head, spelled}
+use Rattle.std.proofs.Common.{◌≡◌, drop, sym, ap, ◌∙◌, true, Some, None}
+use Rattle.std.proofs.lemmas.List.{drop-map}
+use Rattle.chord_run.specs.SmallForm.{kinds_of, body}
 use Rattle.chord_run.proofs.LineByLine.{form_head, form_lines, form_of, head_stands}
 use Rattle.chord_run.proofs.small.small_of.Goals as goal
 

@@ -1,4 +1,4 @@
-use Rattle.std.proofs.Common.{◌≡◌, ◌<◌, length, refl, inl, inr, arith}
+use Rattle.std.proofs.Common.{refl, inl, inr, arith}
 use Rattle.chord_run.proofs.Answering.{long_answers, source_of}
 use Rattle.chord_run.proofs.top.answer.Goals as goal
 

@@ -1,4 +1,4 @@
-use Rattle.std.proofs.Common.{◌≡◌, refl, inl, inr, true, false}
+use Rattle.std.proofs.Common.{◌≡◌, refl, inl, inr, true}
 use Rattle.chord_run.proofs.top.due_status.Goals as goal
 
 pub returns-then-is_complete-clause-gives : goal.returns-then-is_complete-clause-gives

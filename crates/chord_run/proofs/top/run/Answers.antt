@@ -1,4 +1,4 @@
-use Rattle.std.proofs.Common.{◌≡◌, refl, sym, ap, ◌∙◌, inl, inr}
+use Rattle.std.proofs.Common.{sym, ap, ◌∙◌, inl, inr}
 use Rattle.chord_run.proofs.top.run.Goals as goal
 
 pub returns-in-Ok-write_lines-clause-answered : goal.returns-in-Ok-write_lines-clause-answered
