@@ -1,5 +1,5 @@
 -- A run in places: one more entry, places that become one, and the end.
-use Rattle.std.proofs.Common.{◌≡◌, ℕ, ◌<◌, ◌≤◌, Bool, true, false, ◌==◌, List, [], ◌∷◌, length, None, refl, sym, ap, ◌∙◌, subst, arith, inl, inr, if◌then◌else◌}
+use Rattle.std.proofs.Common.{◌≡◌, ℕ, ◌<◌, ◌≤◌, Bool, true, false, ◌==◌, List, [], ◌∷◌, length, None, refl, sym, ap, ◌∙◌, subst, arith, ◌⊎◌, inl, inr, if◌then◌else◌}
 use Rattle.std.proofs.lemmas.Bool.{eq-eqb, eqb-true, ne_eqb}
 use Rattle.chord_base.specs.declared.value.Object.{Object}
 use Rattle.chord_base.specs.declared.value.Value as value
@@ -11,7 +11,7 @@ use Rattle.chord_base.specs.Bodies.{Doing, Absent, Unplaced, Ready, Waits, Over,
 use Rattle.chord_base.specs.Machine.{Comes, Fires, MayFollow, IsPast, IsFinal}
 use Rattle.chord_base.specs.Story.{kept, Tells, Rises, AreTold, IsMerged, IsOwn, IsDefined, IsStory, IsSound, AllBelow, IsRising}
 pub use Rattle.chord_base.specs.Story.{grown}
-use Rattle.chord_base.specs.Laws.{CompleteInPlaces}
+use Rattle.chord_base.specs.Laws.{CompleteInPlaces, PlaceKnows}
 use Rattle.chord_base.proofs.Waits.{either}
 use Rattle.chord_base.proofs.Merge.{next_in_story, agrees, Agrees, whole_of_told, body_known, IsSeen, known_kept}
 use Rattle.chord_base.proofs.Places.{union_told, kept_below, below_rises}
@@ -112,6 +112,20 @@ agrees_back p Unplaced d' a u e = absurd (u refl)
 agrees_back p (Ready s k rs) d' a u e = let f : Doing → Type 0 = λ o. asked p o ≡ None in subst f a e
 agrees_back p (Waits s k rs q l) d' a u e = let f : Doing → Type 0 = λ o. asked p o ≡ None in subst f a e
 agrees_back p (Over x) d' a u e = let f : Doing → Type 0 = λ o. asked p o ≡ None in subst f a e
+
+agrees_or : (d d' : Doing) → Agrees d d' → (d ≡ Unplaced) ⊎ (d ≡ d')
+agrees_or Unplaced d' a = inl refl
+agrees_or Absent d' a = inr a
+agrees_or (Ready s k rs) d' a = inr a
+agrees_or (Waits s k rs q l) d' a = inr a
+agrees_or (Over x) d' a = inr a
+
+-- a body does in its place what it does in the run, or lacks its call there
+pub place_knows : PlaceKnows
+place_knows p view h b m =
+    subst (λ (v : List Entry). (doing p v b ≡ Unplaced) ⊎ (doing p v b ≡ doing p h b)) (m.keeps (m.at b))
+    (agrees_or (doing p (kept (λ n. m.at n == m.at b) h) b) (doing p h b)
+    (agrees p (λ n. m.at n == m.at b) h (whole_of_told p m.at h (merged_told p view h m) (m.at b)) b (eq-eqb (m.at b) (m.at b) refl)))
 
 -- each body asks nothing in its place
 pub merged_quiet : (p : Program) (view : ℕ → List Entry) (h : List Entry) (m : IsMerged p view h) → ((i b : ℕ) → (asked p (doing p (view i) b) ≡ None) × (doing p (view i) b ≡ Unplaced → ⊥)) → (b : ℕ) → asked p (doing p h b) ≡ None

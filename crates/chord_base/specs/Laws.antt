@@ -1,5 +1,5 @@
 -- The laws of the join machine: what is true of every program, every history and every run.
-use Rattle.std.specs.Prelude.{◌≡◌, ℕ, Bool, true, false, not, ◌==◌, List, [], ◌∷◌, ◌++◌, length, reverse, Some, None, option_map}
+use Rattle.std.specs.Prelude.{◌≡◌, ◌⊎◌, ℕ, Bool, true, false, not, ◌==◌, List, [], ◌∷◌, ◌++◌, length, reverse, Some, None, option_map}
 use Rattle.chord_base.specs.declared.value.Object.{Object}
 use Rattle.chord_base.specs.declared.value.Value as value
 use Rattle.chord_base.specs.declared.event.End.{End}
@@ -52,7 +52,12 @@ TakenOnce =
 
 -- ## Places
 
--- a body's next ask in the place that keeps it is its next ask in the whole run
+-- what a body does in the place that keeps it is what it does in the whole run, unless it lacks there the call that it serves
+abbrev pub PlaceKnows : Type 0
+PlaceKnows =
+    (p : Program) (view : ℕ → List Entry) (h : List Entry) (b : ℕ) (m : IsMerged p view h) → (doing p (view (m.at b)) b ≡ Unplaced) ⊎ (doing p (view (m.at b)) b ≡ doing p h b)
+
+-- so a body's next ask in the place that keeps it is its next ask in the whole run
 abbrev pub PlaceAsks : Type 0
 PlaceAsks =
     (p : Program) (view : ℕ → List Entry) (h : List Entry) (i b : ℕ) (w : What) → IsMerged p view h → Asks p (view i) b w → Asks p h b w

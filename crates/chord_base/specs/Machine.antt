@@ -17,11 +17,13 @@ Takes h o (j ∷ js) [] vs = ⊥
 Takes h o (j ∷ js) (i ∷ ms) vs =
     (us : List value.Value) × (rest : List value.Value) × (pending i h ≡ Some (record { object = o; method = j; arguments = us })) × (vs ≡ us ++ rest) × Takes h o js ms rest
 
--- the machine may fire: the object's class has the chord, and the members are one pending message for each of its methods
+-- the machine may fire: the object's class has the chord, and the members are pending messages to the object, one for each
+-- of its methods
 abbrev pub Fires : Program → List Entry → ℕ → Object → List ℕ → List value.Value → Type 0
 Fires p h k o ms vs = (js : List ℕ) × (slice_get (p.chords o.class) k ≡ Some js) × Takes h o js ms vs
 
--- what may come next, of this body, with this number
+-- what may come next, of this body, with this number: `Main` begins where nothing was before, a chord fires, or the body
+-- makes its next ask
 abbrev pub Comes : Program → List Entry → ℕ → ℕ → What → Type 0
 Comes p h n b Begun = (h ≡ []) × (b ≡ 0)
 Comes p h n b (Fired k o ms vs) = (b ≡ n) × Fires p h k o ms vs
@@ -36,12 +38,12 @@ pub record MayFollow (p : Program) (h : List Entry) (e : Entry) : Type 0 where
   pub numbered : e.number ≡ length h
   pub comes : Comes p h e.number e.body e.what
 
--- each entry may follow those before it
+-- a past: each entry may follow those before it
 abbrev pub IsPast : Program → List Entry → Type 0
 IsPast p [] = Unit {0}
 IsPast p (e ∷ h) = IsPast p h × MayFollow p h e
 
--- each entry may follow those before it, and no entry may follow the whole
+-- a final past: no entry may follow it
 pub record IsFinal (p : Program) (h : List Entry) : Type 0 where
   pub past : IsPast p h
   pub nothing : (e : Entry) → MayFollow p h e → ⊥

@@ -3,7 +3,7 @@
 //! They hold of every program, sound or not, but where a law says that it is of a sound one.
 #![tactic(auto)]
 
-ghost use Rattle.chord_base.specs.Laws.{OthersChangeNothing, EndAnswersCaller, CallerMadeCall, PendingUntilTaken, TakesPending, TakenOnce, PlaceAsks, NoteKeepsPlaces, FiringKeepsPlaces, UnionKeepsPlaces, PartingKeepsPlaces, PlacesAreStories, RunIsTold, PlacesGather, CompleteWhenQuiet, QuietWhenComplete, CompleteInPlaces, ServesItsMember, ServesOnlyCalls, EntriesAreAsks, CallIsLastAsk};
+ghost use Rattle.chord_base.specs.Laws.{OthersChangeNothing, EndAnswersCaller, CallerMadeCall, PendingUntilTaken, TakesPending, TakenOnce, PlaceKnows, PlaceAsks, NoteKeepsPlaces, FiringKeepsPlaces, UnionKeepsPlaces, PartingKeepsPlaces, PlacesAreStories, RunIsTold, PlacesGather, CompleteWhenQuiet, QuietWhenComplete, CompleteInPlaces, ServesItsMember, ServesOnlyCalls, EntriesAreAsks, CallIsLastAsk};
 
 /// Locality: an entry of another body changes nothing of what a body does, unless it ends the body that serves its open
 /// call; that end is the caller's answer. In a run a body waits only for a call that it has made itself.
@@ -21,9 +21,11 @@ pub fn messages()
     ensures once { TakenOnce }
 {}
 
-/// Places, where each keeps what it tells: a body's next ask in the place that keeps it is its next ask in the whole run,
-/// and the run stays one in places as a place adds it, or a firing of pending messages.
+/// Places, where each keeps what it tells: what a body does in the place that keeps it is what it does in the whole run,
+/// unless it lacks its call there. So its next ask in its place is its next ask, and the run stays one in places as a
+/// place adds it, or a firing of pending messages.
 pub fn growing_places()
+    ensures knows { PlaceKnows }
     ensures asks { PlaceAsks }
     ensures note { NoteKeepsPlaces }
     ensures firing { FiringKeepsPlaces }

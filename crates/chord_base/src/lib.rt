@@ -6,6 +6,7 @@
 #![tactic(auto)]
 
 mod body;
+pub mod cross;
 pub mod equal;
 pub mod event;
 mod firing;
