@@ -1,18 +1,16 @@
 -- In a run, what a body's entries after its first say is the list of its asks.
-use Rattle.std.proofs.Common.{◌≡◌, ℕ, ◌<◌, ◌≤◌, Bool, true, false, ◌==◌, List, [], ◌∷◌, ◌++◌, length, reverse, map, Option, Some, None, option_map, refl, sym, ap, ◌∙◌, subst, arith, inl, inr, append_assoc}
+use Rattle.std.proofs.Common.{◌≡◌, ℕ, ◌<◌, ◌≤◌, true, false, ◌==◌, List, [], ◌∷◌, ◌++◌, length, reverse, Option, Some, None, option_map, refl, sym, ap, ◌∙◌, subst, arith, inl, inr, append_assoc}
 use Rattle.std.proofs.lemmas.Bool.{eq-eqb, eqb-true, ne_eqb}
 use Rattle.std.proofs.lemmas.List.{reverse-append, map-append}
-use Rattle.chord_base.specs.declared.value.Object.{Object}
-use Rattle.chord_base.specs.declared.value.Value as value
 use Rattle.chord_base.specs.declared.event.End.{End}
 use Rattle.chord_base.specs.declared.event.What.{What}
 use Rattle.chord_base.specs.declared.event.What.TheVariants.{Begun, Made, Sent, Called, Printed, Fired, Ended}
 use Rattle.chord_base.specs.declared.event.Entry.{Entry}
-use Rattle.chord_base.specs.Meaning.{Program, Start, Main, Chord, Asked}
+use Rattle.chord_base.specs.Meaning.{Program, Start, Chord, Asked}
 use Rattle.chord_base.specs.Messages.{maker}
-use Rattle.chord_base.specs.Bodies.{Doing, Absent, Unplaced, Ready, Waits, Over, replied, waiting, placed, begun, begun_by, served, own, answered, heard, doing, serves, asked, Asks}
+use Rattle.chord_base.specs.Bodies.{Doing, Absent, Unplaced, Ready, Waits, Over, replied, waiting, placed, begun, begun_by, served, own, answered, heard, doing, serves, asked}
 use Rattle.chord_base.specs.Asks.{said, asks_on, asks_of, all_some}
-use Rattle.chord_base.specs.Machine.{Comes, MayFollow, IsPast}
+use Rattle.chord_base.specs.Machine.{Comes, IsPast}
 use Rattle.chord_base.specs.Laws.{EntriesAreAsks, CallIsLastAsk}
 use Rattle.chord_base.proofs.Waits.{either}
 

@@ -1,5 +1,5 @@
 -- In a run of a sound program a firing serves a call exactly where the call is a member of it.
-use Rattle.std.proofs.Common.{◌≡◌, ℕ, ◌<◌, Bool, true, false, ◌==◌, List, [], ◌∷◌, length, Option, Some, None, slice_get, refl, sym, ap, ◌∙◌, subst, arith, inl, inr}
+use Rattle.std.proofs.Common.{◌≡◌, ℕ, ◌<◌, Bool, true, false, ◌==◌, List, [], ◌∷◌, length, Option, Some, None, refl, sym, ap, ◌∙◌, subst, arith, inl, inr}
 use Rattle.std.proofs.lemmas.Bool.{eq-eqb, eqb-true, ne_eqb}
 use Rattle.chord_base.specs.declared.value.Object.{Object}
 use Rattle.chord_base.specs.declared.value.Value as value
@@ -8,7 +8,7 @@ use Rattle.chord_base.specs.declared.event.What.TheVariants.{Begun, Made, Sent, 
 use Rattle.chord_base.specs.declared.event.Entry.{Entry}
 use Rattle.chord_base.specs.Meaning.{Program, HasOneSync}
 use Rattle.chord_base.specs.Messages.{Message, IsCall, has, message_of, members_of, pending}
-use Rattle.chord_base.specs.Bodies.{served_among, served, or_none}
+use Rattle.chord_base.specs.Bodies.{served_among, served}
 use Rattle.chord_base.specs.Machine.{Takes, Comes, IsPast}
 use Rattle.chord_base.specs.Story.{IsIn, HasKind, IsSound}
 use Rattle.chord_base.specs.Laws.{ServesItsMember, ServesOnlyCalls}

@@ -1,5 +1,5 @@
 -- What firings take, in a run.
-use Rattle.std.proofs.Common.{◌≡◌, ℕ, ◌<◌, Bool, true, false, ◌==◌, List, [], ◌∷◌, length, Option, Some, None, refl, sym, ap, ◌∙◌, subst, arith, inl, inr}
+use Rattle.std.proofs.Common.{◌≡◌, ℕ, ◌<◌, true, false, ◌==◌, List, [], ◌∷◌, length, Option, Some, None, refl, sym, ap, ◌∙◌, arith, inl, inr}
 use Rattle.std.proofs.lemmas.Bool.{eqb-true, ne_eqb}
 use Rattle.chord_base.specs.declared.value.Object.{Object}
 use Rattle.chord_base.specs.declared.value.Value as value
@@ -7,7 +7,7 @@ use Rattle.chord_base.specs.declared.event.What.{What}
 use Rattle.chord_base.specs.declared.event.What.TheVariants.{Begun, Made, Sent, Called, Printed, Fired, Ended}
 use Rattle.chord_base.specs.declared.event.Entry.{Entry}
 use Rattle.chord_base.specs.Meaning.{Program}
-use Rattle.chord_base.specs.Messages.{Message, has, message_of, members_of, pending}
+use Rattle.chord_base.specs.Messages.{Message, has, members_of, pending}
 use Rattle.chord_base.specs.Machine.{Takes, Comes, MayFollow, IsPast}
 use Rattle.chord_base.specs.Story.{IsIn}
 use Rattle.chord_base.specs.Laws.{PendingUntilTaken, TakesPending, TakenOnce}

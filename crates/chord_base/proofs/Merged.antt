@@ -8,7 +8,7 @@ use Rattle.chord_base.specs.declared.event.What.TheVariants.{Begun, Made, Sent, 
 use Rattle.chord_base.specs.declared.event.Entry.{Entry}
 use Rattle.chord_base.specs.Meaning.{Program}
 use Rattle.chord_base.specs.Bodies.{Doing, Absent, Unplaced, Ready, Waits, Over, doing, asked, Asks}
-use Rattle.chord_base.specs.Machine.{Comes, Fires, MayFollow, IsPast, IsFinal}
+use Rattle.chord_base.specs.Machine.{Fires, MayFollow, IsPast, IsFinal}
 use Rattle.chord_base.specs.Story.{kept, Tells, Rises, AreTold, IsMerged, IsOwn, IsDefined, IsStory, IsSound, AllBelow, IsRising}
 pub use Rattle.chord_base.specs.Story.{grown}
 use Rattle.chord_base.specs.Laws.{CompleteInPlaces, PlaceKnows}

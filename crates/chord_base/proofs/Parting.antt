@@ -1,12 +1,12 @@
 -- Entries that leave a place, a run in one place, and the entries of all places.
-use Rattle.std.proofs.Common.{◌≡◌, ℕ, ◌<◌, Bool, true, false, not, ◌==◌, ◌&&◌, List, [], ◌∷◌, length, refl, sym, ap, ◌∙◌, subst, arith, inl, inr, if◌then◌else◌}
+use Rattle.std.proofs.Common.{◌≡◌, ℕ, Bool, true, false, not, ◌==◌, ◌&&◌, List, [], ◌∷◌, length, refl, sym, ap, ◌∙◌, subst, arith, inl, inr, if◌then◌else◌}
 use Rattle.std.proofs.lemmas.Bool.{eq-eqb, eqb-true, ne_eqb}
 use Rattle.chord_base.specs.declared.event.What.{What}
 use Rattle.chord_base.specs.declared.event.What.TheVariants.{Begun, Made, Sent, Called, Printed, Fired, Ended}
 use Rattle.chord_base.specs.declared.event.Entry.{Entry}
 use Rattle.chord_base.specs.Meaning.{Program}
 use Rattle.chord_base.specs.Machine.{Comes, IsPast}
-use Rattle.chord_base.specs.Story.{IsIn, kept, Tells, Rises, IsTold, IsMerged, parted}
+use Rattle.chord_base.specs.Story.{IsIn, kept, Tells, Rises}
 use Rattle.chord_base.specs.Laws.{PartingKeepsPlaces, RunIsTold, PlacesGather}
 use Rattle.chord_base.proofs.Waits.{either}
 use Rattle.chord_base.proofs.Collected.{past_numbered, view_in, collected}

@@ -1,5 +1,5 @@
 -- A meaning that is listed: the asks of finitely many bodies, written down.
-use Rattle.std.specs.Prelude.{ℕ, Bool, true, false, ◌==◌, ◌&&◌, nat_eq, List, [], length, map, take, find, slice_get, unwrap_or, Option, Some, None, Vec, option_map, option_and_then}
+use Rattle.std.specs.Prelude.{ℕ, Bool, true, false, ◌==◌, ◌&&◌, nat_eq, List, [], length, map, take, find, slice_get, unwrap_or, Option, Some, None, Vec, option_and_then}
 use Rattle.std.specs.Ordering.{int_eq}
 use Rattle.std.specs.Global.{Global}
 use Rattle.std.specs.Cmp.Lexicographic.{pointwise}
