@@ -16,3 +16,6 @@ mod top;
 pub use refusal::Refusal;
 pub use report::Report;
 pub use top::{Gate, chord};
+
+#[cfg(test)]
+mod tests;

@@ -15,7 +15,7 @@ ghost use Rattle.chord_run.specs.Sources.{IsShort};
 use crate::command::limits_of;
 use crate::front::{FrontFault, small_source};
 use crate::refusal::{Refusal, line_of};
-use crate::report::Report;
+use crate::report::{AT_LIMIT, NO_MEMORY, OTHER_WORDS, READ_FAULT, REFUSED, Report, WRITE_FAULT};
 use chord_base::event::Limits;
 use chord_base::journal::Journal;
 use chord_io::{Failed, ReadFault, Sink, Source, read_all, write_all};
@@ -87,11 +87,11 @@ fn answer<S: Source, K: Sink>(
         ⊎ Answers (texts words.now) (S.left source.old) result (K.taken sink.old) (K.taken sink.new) }
 {
     let Some(limits) = limits_of(words) else {
-        return Report::silent(2);
+        return Report::silent(OTHER_WORDS);
     };
     match read_all(alloc, source) {
-        Err(ReadFault::Failed) => Report::silent(3),
-        Err(ReadFault::Memory) => Report::silent(7),
+        Err(ReadFault::Failed) => Report::silent(READ_FAULT),
+        Err(ReadFault::Memory) => Report::silent(NO_MEMORY),
         Err(ReadFault::TooLong) => refuse(alloc, b"", Refusal::Long, sink),
         Ok(bytes) => answer_source(alloc, &bytes, &limits, sink),
     }
@@ -107,7 +107,7 @@ fn answer_source<K: Sink>(alloc: Global, source: &[u8], limits: &Limits, sink: &
     ensures fault { result.status ≡ 5 → Rose (K.faults sink.old) (K.faults sink.new) }
 {
     match small_source(alloc, source) {
-        Err(FrontFault::Memory) => Report::silent(7),
+        Err(FrontFault::Memory) => Report::silent(NO_MEMORY),
         Err(FrontFault::Refused(refusal)) => refuse(alloc, source, refusal, sink),
         Ok(small) => run(alloc, &small, limits, sink),
     }
@@ -121,10 +121,10 @@ fn refuse<K: Sink>(alloc: Global, source: &[u8], refusal: Refusal, sink: &mut K)
     ensures fault { result.status ≡ 5 → Rose (K.faults sink.old) (K.faults sink.new) }
 {
     match line_of(alloc, source, refusal) {
-        Err(_) => Report::silent(7),
+        Err(_) => Report::silent(NO_MEMORY),
         Ok(line) => match write_all(sink, &line) {
-            Ok(()) => Report::refused(1, refusal),
-            Err(Failed) => Report::refused(5, refusal),
+            Ok(()) => Report::refused(REFUSED, refusal),
+            Err(Failed) => Report::refused(WRITE_FAULT, refusal),
         },
     }
 }
@@ -138,12 +138,12 @@ fn run<K: Sink>(alloc: Global, small: &Small, limits: &Limits, sink: &mut K) -> 
     ensures fault { result.status ≡ 5 → Rose (K.faults sink.old) (K.faults sink.new) }
 {
     match play_small(alloc, small, limits) {
-        Err(_) => Report::silent(7),
+        Err(_) => Report::silent(NO_MEMORY),
         Ok(journal) => {
             let due = due_status(&journal);
             match write_lines(&journal, sink) {
                 Ok(()) => Report::played(due, journal),
-                Err(Failed) => Report::played(5, journal),
+                Err(Failed) => Report::played(WRITE_FAULT, journal),
             }
         }
     }
@@ -159,6 +159,6 @@ fn due_status(journal: &Journal) -> u8
     if is_complete(journal) {
         journal.status()
     } else {
-        6
+        AT_LIMIT
     }
 }
