@@ -1,0 +1,8 @@
+//! The tokens of a source, each as long as it can be.
+//! Stands on: chord_base (texts). Used by: chord_tree (spelling), chord_parser, chord_run.
+//! Promise: `lex` gives the one list of tokens that a source reads as, with their places, or the first byte at which none begins (specs/Reading.antt).
+//! Not here: which lists of tokens are programs (chord_tree), what a name means (chord_types).
+#![tactic(auto)]
+
+pub mod bytes;
+pub mod token;
