@@ -1,0 +1,3 @@
+//! Programs.
+#![tactic(auto)]
+
