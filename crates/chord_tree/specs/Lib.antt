@@ -11,3 +11,4 @@ pub mod View
 pub mod Shape
 pub mod Forms
 pub mod Members
+pub mod Program

@@ -76,7 +76,7 @@ node_rest (results.Value (types.Class class)) x formals more body = Made grammar
 node_rest result x formals more body = Made grammar.Rest (node_plain result ▸ name x ▸ node_formals formals ▸ node_headers more ▸ node_block body ▸ End)
 
 abbrev pub node_chord : List HeaderTree → BlockTree → Node
-node_chord [] body = Made grammar.Member End
+node_chord [] body = Made grammar.Member (node_block body ▸ End)
 node_chord (header ∷ more) body = Made grammar.Member (node_modifiers header.modifiers ▸ node_rest header.result_type header.name header.formals more body ▸ End)
 
 abbrev pub node_member : MemberTree → Node
@@ -113,9 +113,9 @@ abbrev pub node_usings : List UsingTree → Node
 node_usings [] = Made grammar.Usings End
 node_usings (line ∷ more) = Made grammar.Usings (node_using line ▸ node_usings more ▸ End)
 
--- the first class, and the others
+-- There is a first class, and there are others. The grammar derives no node without it.
 abbrev pub node_all_classes : List UsingTree → List ClassTree → Node
-node_all_classes usings [] = Made grammar.Program End
+node_all_classes usings [] = Made grammar.Program (node_usings usings ▸ End)
 node_all_classes usings (class ∷ more) = Made grammar.Program (node_usings usings ▸ node_class class ▸ node_classes more ▸ End)
 
 abbrev pub node_program : ProgramTree → Node

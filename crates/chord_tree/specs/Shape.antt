@@ -60,14 +60,12 @@ mark_of operators.Times = marks.Times
 mark_of operators.Divide = marks.Divide
 mark_of operators.Remainder = marks.Remainder
 
--- the level of a chain is that of its first operator
-abbrev pub links_level : LinkTrees → ℕ
-links_level NoLinks = 0
-links_level (MoreLinks (MakeLink operator at operand) more) = level operator
+abbrev pub link_level : LinkTree → ℕ
+link_level (MakeLink operator at operand) = level operator
 
--- the level of an expression
+-- the level of an expression: that of a chain is that of its first operator
 abbrev pub rank : ExprTree → ℕ
-rank (Chained first more) = links_level more
+rank (Chained first link more) = link_level link
 rank _ = 0
 
 -- a symbol of a level without operators of that level
@@ -82,7 +80,10 @@ lifted (suc l) m node = cond (nat_lt m (suc l)) (alone (suc l) (lifted l m node)
 abbrev mutual
   -- an expression as the symbol of its own level
   pub bare : ExprTree → Node
-  bare (Chained first more) = Made (level_symbol (links_level more)) (lifted (links_level more - 1) (rank first) (bare first) ▸ node_links (links_level more) more ▸ End)
+  bare (Chained first (MakeLink operator at operand) more) =
+      Made (level_symbol (level operator)) (lifted (level operator - 1) (rank first) (bare first)
+          ▸ Made (level_tail (level operator)) (mark (mark_of operator) at ▸ lifted (level operator - 1) (rank operand) (bare operand) ▸ node_links (level operator) more ▸ End)
+          ▸ End)
   bare (Negated at operand) = Made grammar.Unary (mark marks.Minus at ▸ bare operand ▸ End)
   bare (Denied at operand) = Made grammar.Unary (mark marks.Not at ▸ bare operand ▸ End)
   bare (Simple start calls) = Made grammar.Unary (Made grammar.Primary (node_start start ▸ node_dots calls ▸ End) ▸ End)

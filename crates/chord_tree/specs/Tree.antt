@@ -11,7 +11,7 @@ use Rattle.chord_tree.specs.declared.classes.NamePart.{NamePart}
 mutual
   -- an expression: operators of one level with their operands, `-`, `!`, or a start with the calls on it
   pub data ExprTree : Type 0 where
-    Chained : (first : ExprTree) (more : LinkTrees) → ExprTree
+    Chained : (first : ExprTree) (link : LinkTree) (more : LinkTrees) → ExprTree
     Negated : (at : ℕ) (operand : ExprTree) → ExprTree
     Denied : (at : ℕ) (operand : ExprTree) → ExprTree
     Simple : (start : StartTree) (calls : DotTrees) → ExprTree
@@ -113,6 +113,11 @@ pub record ProgramTree : Type 0 where
 abbrev pub links : List LinkTree → LinkTrees
 links [] = NoLinks
 links (link ∷ more) = MoreLinks link (links more)
+
+-- a chain; without links it is its operand
+abbrev pub chained : ExprTree → List LinkTree → ExprTree
+chained first [] = first
+chained first (link ∷ more) = Chained first link (links more)
 
 abbrev pub exprs : List ExprTree → ExprTrees
 exprs [] = NoExprs

@@ -6,7 +6,7 @@ use Rattle.chord_tree.specs.declared.classes.Member.{Member}
 use Rattle.chord_tree.specs.declared.classes.Member.TheVariants as members
 use Rattle.chord_tree.specs.declared.classes.Class.{Class}
 use Rattle.chord_tree.specs.declared.classes.Using.{Using}
-use Rattle.chord_tree.specs.Tree.{FormalsTree, HeaderTree, MemberTree, AConstructor, AChord, ClassTree, UsingTree}
+use Rattle.chord_tree.specs.Tree.{FormalsTree, HeaderTree, MemberTree, AConstructor, AChord, ClassTree, UsingTree, ProgramTree}
 use Rattle.chord_tree.specs.ViewStmts.{see_block}
 
 abbrev pub see_formals : Formals → FormalsTree
@@ -33,3 +33,11 @@ see_class class = record {
 
 abbrev pub see_using : Using → UsingTree
 see_using line = record { first = line.first; parts = line.more.items }
+
+-- the parts of a program in memory
+pub record Parts : Type 0 where
+  pub usings : List Using
+  pub classes : List Class
+
+abbrev pub tree_of : Parts → ProgramTree
+tree_of parts = record { usings = map see_using parts.usings; classes = map see_class parts.classes }

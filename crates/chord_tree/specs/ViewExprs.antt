@@ -8,10 +8,10 @@ use Rattle.chord_tree.specs.declared.exprs.Dot.{Dot}
 use Rattle.chord_tree.specs.declared.exprs.Expr.TheOpen.{Expr-F, Link-F, Start-F, Actuals-F, Dot-F}
 use Rattle.chord_tree.specs.declared.exprs.Expr.TheOpen as parts
 use Rattle.chord_tree.specs.declared.exprs.Expr.TheFolds.{fold-Expr, fold-Link, fold-Start, fold-Actuals, fold-Dot}
-use Rattle.chord_tree.specs.Tree.{ExprTree, LinkTree, StartTree, ActualsTree, DotTree, Chained, Negated, Denied, Simple, MakeLink, Variable, Called, This, New, Numeral, Literal, Yes, No, Group, MakeActuals, MakeDot, links, exprs, dots}
+use Rattle.chord_tree.specs.Tree.{ExprTree, LinkTree, StartTree, ActualsTree, DotTree, Negated, Denied, Simple, MakeLink, Variable, Called, This, New, Numeral, Literal, Yes, No, Group, MakeActuals, MakeDot, chained, exprs, dots}
 
 abbrev pub expr_step : Expr-F ExprTree StartTree ActualsTree DotTree LinkTree → ExprTree
-expr_step (parts.Chain first more) = Chained first.value (links more.items)
+expr_step (parts.Chain first more) = chained first.value more.items
 expr_step (parts.Minus at operand) = Negated at operand.value
 expr_step (parts.Not at operand) = Denied at operand.value
 expr_step (parts.Primary start calls) = Simple start (dots calls.items)

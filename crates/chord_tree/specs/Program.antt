@@ -1,0 +1,27 @@
+-- What a program spells, and what holds of every program.
+use Rattle.std.specs.Prelude.{◌≡◌, ℕ, List, [], ◌∷◌, map}
+use Rattle.chord_lexer.specs.declared.token.Kind.{Kind}
+use Rattle.chord_lexer.specs.declared.token.Token.{Token}
+use Rattle.chord_tree.specs.Symbols.{Program}
+use Rattle.chord_tree.specs.Derivation.{kinds_of}
+use Rattle.chord_tree.specs.Node.{Node, spell, IsDerived, IsNumbered}
+use Rattle.chord_tree.specs.Tree.{ProgramTree}
+use Rattle.chord_tree.specs.Members.{node_program}
+
+-- the kinds of the tokens that a program spells, in their order
+abbrev pub spelling : ProgramTree → List Kind
+spelling program = kinds_of (spell (node_program program) 0 [])
+
+-- The grammar derives it, and each number in it is the place of its token in the list that it spells.
+pub record IsProgram (program : ProgramTree) : Type 0 where
+  pub derived : IsDerived Program (node_program program)
+  pub numbered : IsNumbered (node_program program) 0
+
+-- the kinds of tokens
+abbrev pub told : List Token → List Kind
+told [] = []
+told (token ∷ more) = token.kind ∷ told more
+
+-- a token that has no place in a text: its span is empty
+abbrev pub unplaced : Kind → Token
+unplaced kind = record { kind = kind; start = 0; end = 0 }
