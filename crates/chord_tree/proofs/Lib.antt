@@ -4,3 +4,7 @@ pub mod LookAhead
 pub mod OneTree
 pub mod Back
 pub mod BackClasses
+pub mod Words
+pub mod SeenExprs
+pub mod SeenStmts
+pub mod Weights

@@ -9,3 +9,6 @@ pub mod exprs;
 pub mod stmts;
 pub mod classes;
 pub mod program;
+mod puts;
+mod spell_exprs;
+mod spell_stmts;
