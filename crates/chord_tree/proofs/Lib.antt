@@ -8,3 +8,5 @@ pub mod Words
 pub mod SeenExprs
 pub mod SeenStmts
 pub mod Weights
+pub mod WeightsStmts
+pub mod WordsStmts

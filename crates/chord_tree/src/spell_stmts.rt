@@ -1,5 +1,5 @@
 //! The tokens that a statement spells.
-#![tactic(none)]
+#![tactic(auto)]
 
 ghost use Rattle.std.specs.Prelude.{◌≡◌, map, OnOk};
 ghost use Rattle.chord_tree.specs.Forms.{node_block, node_items, node_stmt, node_item, local_item};
