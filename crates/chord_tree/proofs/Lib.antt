@@ -10,3 +10,4 @@ pub mod SeenStmts
 pub mod Weights
 pub mod WeightsStmts
 pub mod WordsStmts
+pub mod WordsClasses

@@ -114,3 +114,12 @@ drop_end (a ∷ xs) (suc i) l = drop_end xs i (omega arith)
 pub length_zero : {A : Type 0} (xs : List A) → length xs ≡ 0 → xs ≡ []
 length_zero [] e = refl
 length_zero (x ∷ xs) e = absurd (omega arith)
+
+any_or : {A : Type 0} (xs : List A) (i : ℕ) (d e : A) → i < length xs → get_or xs i d ≡ get_or xs i e
+any_or [] i d e l = absurd (omega arith)
+any_or (a ∷ xs) zero d e l = refl
+any_or (a ∷ xs) (suc i) d e l = any_or xs i d e (omega arith)
+
+-- the same where the loop reads the thing itself
+pub dropped_or : {A : Type 0} (xs : List A) (i : ℕ) (d : A) → i < length xs → drop i xs ≡ get_or xs i d ∷ drop (i + 1) xs
+dropped_or xs i d l = dropped xs i (get_or xs i d) l (any_or xs i d (get_or xs i d) l)

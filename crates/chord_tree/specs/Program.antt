@@ -8,8 +8,8 @@ use Rattle.chord_tree.specs.Node.{Node, Nodes, End, ◌▸◌, Leaf, Made, spell
 use Rattle.chord_lexer.specs.declared.token.Mark.TheVariants as marks
 use Rattle.chord_tree.specs.Symbols as grammar
 use Rattle.chord_tree.specs.Shape.{mark, node_expr}
-use Rattle.chord_tree.specs.Tree.{ExprTree, ProgramTree}
-use Rattle.chord_tree.specs.Members.{node_program}
+use Rattle.chord_tree.specs.Tree.{ExprTree, HeaderTree, ProgramTree}
+use Rattle.chord_tree.specs.Members.{node_header, node_headers, node_program}
 
 -- the kinds of the tokens that a program spells, in their order
 abbrev pub spelling : ProgramTree → List Kind
@@ -46,3 +46,8 @@ pub record Adds (old new : List Token) (node : Node) : Type 0 where
 -- a condition in brackets, which is no symbol of its own
 abbrev pub node_test : ExprTree → Node
 node_test test = Made grammar.Expr (mark marks.OpenParenthesis 0 ▸ node_expr test ▸ mark marks.CloseParenthesis 0 ▸ End)
+
+-- the headers of a chord, which are no symbol of their own
+abbrev pub node_header_list : List HeaderTree → Node
+node_header_list [] = Made grammar.Headers End
+node_header_list (header ∷ more) = Made grammar.Headers (node_header header ▸ node_headers more ▸ End)

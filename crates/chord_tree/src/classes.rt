@@ -22,7 +22,7 @@ pub enum ModifierWord {
 }
 
 /// A modifier, and the number of its token.
-#[derive(Clone, Copy, Debug, PartialEq, Eq)]
+#[derive(Drop)]
 pub struct Modifier {
     /// What it says.
     pub word: ModifierWord,

@@ -12,3 +12,5 @@ pub mod program;
 mod puts;
 mod spell_exprs;
 mod spell_stmts;
+mod spell_classes;
+pub mod spelling;
