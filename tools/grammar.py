@@ -12,8 +12,8 @@ MADE = "Made by tools/grammar.py."
 COUNTED = ["Item", "Stmt", "Expr", "Unary"]
 # classes of tokens that stand in no program
 UNUSED = ["DO", "UNUSED", "INCREMENT", "DECREMENT"]
-# symbols that take their last right side at each class at which no right side fits, so that the error comes where that one stops
-EAGER = "Classes Members Member Modifiers Header Optional_formals Items Item After_name Stmt Optional_expr Optional_exprs Expr And Equal Order Sum Product Unary Primary".split()
+# symbols that take their last right side at each class at which no right side fits, so that the error comes where that one stops; so does each symbol of one right side
+EAGER = "Classes Members Optional_formals Items Item After_name Stmt Optional_expr Optional_exprs Unary".split()
 
 
 class Grammar:
@@ -111,8 +111,10 @@ class Grammar:
         for i, (head, side) in enumerate(self.rules):
             if not side:
                 self.default.setdefault(head, i)
-        for head in EAGER:
-            self.default[head] = [i for i, (h, _) in enumerate(self.rules) if h == head][-1]
+        for head in self.heads:
+            own = [i for i, (h, _) in enumerate(self.rules) if h == head]
+            if head in EAGER or len(own) == 1:
+                self.default[head] = own[-1]
         for head, i in self.default.items():
             for c in range(self.end + 1):
                 if self.choice[head][c] == none and not (i == self.no_else and c == otherwise):
@@ -215,7 +217,7 @@ use Rattle.chord_parser.proofs.Reading.{{begun}}
         """At each class but the excluded ones the choice of symbol x is the value, by one computation."""
         tests = "".join(f"nat_eq x {b} || (" for b in excluded) + f"nat_eq (choice {x} x) {value}" + ")" * len(excluded)
         proof = f"below {end + 1} (λ x. {tests}) refl c l"
-        for b in reversed(excluded):
+        for b in excluded:
             proof = f"else_rule c {b} _ n{b} ({proof})"
         o.extend([f"pub {name} : (c : ℕ) → c < suc class_count" + "".join(f" → c ≢ {b}" for b in excluded) + f" → choice {x} c ≡ {value}",
                   "unfolding choice choices class_count rule_count",
@@ -241,6 +243,21 @@ use Rattle.chord_parser.proofs.Reading.{{begun}}
     return o[:-1]
 
 
+def samples(g):
+    """A kind of token of each class."""
+    words = {name: name.capitalize() for name in "USING CLASS PUBLIC PRIVATE PROTECTED VIRTUAL OVERRIDE STATIC ASYNC VOID INT BOOL STRING IF WHILE RETURN THIS NEW ELSE TRUE FALSE DO UNUSED".split()}
+    marks = {"OPEN": "OpenParenthesis", "CLOSE": "CloseParenthesis"}
+    special = {"NAME": "kinds.Name []", "NUMBER": "kinds.Number 0", "LITERAL": "kinds.Literal []"}
+    o = [f"-- A kind of token of each class. {MADE}", "use Rattle.std.specs.Prelude.{ℕ, List, [], ◌∷◌, get_or}",
+         "use Rattle.chord_lexer.specs.declared.token.Kind.{Kind}", "use Rattle.chord_lexer.specs.declared.token.Kind.TheVariants as kinds",
+         "use Rattle.chord_lexer.specs.declared.token.Keyword.TheVariants as words", "use Rattle.chord_lexer.specs.declared.token.Mark.TheVariants as marks", "",
+         "abbrev pub samples : List Kind", "samples ="]
+    for name in g.classes:
+        kind = special.get(name) or (f"kinds.Word words.{words[name]}" if name in words else "kinds.Mark marks." + marks.get(name, name.title().replace("_", "")))
+        o.append(f"    {kind} ∷")
+    return o + ["    []", "", "abbrev pub sample : ℕ → Kind", "sample c = get_or samples c (kinds.Number 0)"]
+
+
 def classes(g):
     o = ["//! The numbers of the classes of tokens, and the number that stands for the end of the text. " + MADE, ""]
     o += [f"pub const {name}: u8 = {i};" for i, name in enumerate(g.classes)]
@@ -261,6 +278,7 @@ def main():
     write(root, "crates/chord_tree/specs/Symbols.antt", symbols(g))
     write(root, "crates/chord_tree/specs/Grammar.antt", productions(g))
     write(root, "crates/chord_tree/proofs/Table.antt", tables(g))
+    write(root, "crates/chord_parser/specs/Samples.antt", samples(g))
     write(root, "crates/chord_parser/proofs/Steps.antt", steps(g))
     write(root, "crates/chord_parser/src/class.rt", classes(g))
 

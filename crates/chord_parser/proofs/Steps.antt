@@ -495,17 +495,9 @@ pub optional_actuals_actuals : {all d : ℕ} {ks : List Kind} → choice 52 (nex
 unfolding parts_of inside productions counted rule_count
 optional_actuals_actuals e = begun 52 120 e (lit< tt)
 
-pub program_usings_at_using : (c : ℕ) → c ≡ 0 → choice 0 c ≡ 0
-unfolding choice choices
-program_usings_at_using c e = ap (choice 0) e
-
-pub program_usings_at_class : (c : ℕ) → c ≡ 4 → choice 0 c ≡ 0
-unfolding choice choices
-program_usings_at_class c e = ap (choice 0) e
-
-pub program_usings_at_public : (c : ℕ) → c ≡ 7 → choice 0 c ≡ 0
-unfolding choice choices
-program_usings_at_public c e = ap (choice 0) e
+pub program_usings_at : (c : ℕ) → c < suc class_count → choice 0 c ≡ 0
+unfolding choice choices class_count rule_count
+program_usings_at c l = eqb-true _ _ (below 53 (λ x. nat_eq (choice 0 x) 0) refl c l)
 
 pub usings_none_at : (c : ℕ) → c < suc class_count → c ≢ 0 → choice 1 c ≡ 1
 unfolding choice choices class_count rule_count
@@ -519,9 +511,9 @@ pub classes_class_at : (c : ℕ) → c < suc class_count → c ≢ 52 → choice
 unfolding choice choices class_count rule_count
 classes_class_at c l n52 = eqb-true _ _ (else_rule c 52 _ n52 (below 53 (λ x. nat_eq x 52 || (nat_eq (choice 2 x) 4)) refl c l))
 
-pub using_using_at : (c : ℕ) → c ≡ 0 → choice 3 c ≡ 5
-unfolding choice choices
-using_using_at c e = ap (choice 3) e
+pub using_using_at : (c : ℕ) → c < suc class_count → choice 3 c ≡ 5
+unfolding choice choices class_count rule_count
+using_using_at c l = eqb-true _ _ (below 53 (λ x. nat_eq (choice 3 x) 5) refl c l)
 
 pub name_parts_none_at : (c : ℕ) → c < suc class_count → c ≢ 3 → choice 4 c ≡ 6
 unfolding choice choices class_count rule_count
@@ -531,13 +523,9 @@ pub name_parts_dot_at : (c : ℕ) → c ≡ 3 → choice 4 c ≡ 7
 unfolding choice choices
 name_parts_dot_at c e = ap (choice 4) e
 
-pub class_optional_public_at_class : (c : ℕ) → c ≡ 4 → choice 5 c ≡ 8
-unfolding choice choices
-class_optional_public_at_class c e = ap (choice 5) e
-
-pub class_optional_public_at_public : (c : ℕ) → c ≡ 7 → choice 5 c ≡ 8
-unfolding choice choices
-class_optional_public_at_public c e = ap (choice 5) e
+pub class_optional_public_at : (c : ℕ) → c < suc class_count → choice 5 c ≡ 8
+unfolding choice choices class_count rule_count
+class_optional_public_at c l = eqb-true _ _ (below 53 (λ x. nat_eq (choice 5 x) 8) refl c l)
 
 pub optional_public_none_at : (c : ℕ) → c < suc class_count → c ≢ 7 → choice 6 c ≡ 9
 unfolding choice choices class_count rule_count
@@ -567,33 +555,33 @@ pub member_modifiers_at : (c : ℕ) → c < suc class_count → choice 9 c ≡ 1
 unfolding choice choices class_count rule_count
 member_modifiers_at c l = eqb-true _ _ (below 53 (λ x. nat_eq (choice 9 x) 15) refl c l)
 
-pub modifiers_none_at_name : (c : ℕ) → c ≡ 1 → choice 10 c ≡ 16
-unfolding choice choices
-modifiers_none_at_name c e = ap (choice 10) e
-
-pub modifiers_none_at_async : (c : ℕ) → c ≡ 15 → choice 10 c ≡ 16
-unfolding choice choices
-modifiers_none_at_async c e = ap (choice 10) e
-
-pub modifiers_none_at_void : (c : ℕ) → c ≡ 16 → choice 10 c ≡ 16
-unfolding choice choices
-modifiers_none_at_void c e = ap (choice 10) e
-
-pub modifiers_none_at_int : (c : ℕ) → c ≡ 17 → choice 10 c ≡ 16
-unfolding choice choices
-modifiers_none_at_int c e = ap (choice 10) e
-
-pub modifiers_none_at_bool : (c : ℕ) → c ≡ 18 → choice 10 c ≡ 16
-unfolding choice choices
-modifiers_none_at_bool c e = ap (choice 10) e
-
-pub modifiers_none_at_string : (c : ℕ) → c ≡ 19 → choice 10 c ≡ 16
-unfolding choice choices
-modifiers_none_at_string c e = ap (choice 10) e
-
-pub modifiers_modifier_at : (c : ℕ) → c < suc class_count → c ≢ 1 → c ≢ 15 → c ≢ 16 → c ≢ 17 → c ≢ 18 → c ≢ 19 → choice 10 c ≡ 17
+pub modifiers_none_at : (c : ℕ) → c < suc class_count → c ≢ 7 → c ≢ 9 → c ≢ 10 → c ≢ 11 → c ≢ 12 → c ≢ 13 → choice 10 c ≡ 16
 unfolding choice choices class_count rule_count
-modifiers_modifier_at c l n1 n15 n16 n17 n18 n19 = eqb-true _ _ (else_rule c 1 _ n1 (else_rule c 15 _ n15 (else_rule c 16 _ n16 (else_rule c 17 _ n17 (else_rule c 18 _ n18 (else_rule c 19 _ n19 (below 53 (λ x. nat_eq x 1 || (nat_eq x 15 || (nat_eq x 16 || (nat_eq x 17 || (nat_eq x 18 || (nat_eq x 19 || (nat_eq (choice 10 x) 17))))))) refl c l)))))))
+modifiers_none_at c l n7 n9 n10 n11 n12 n13 = eqb-true _ _ (else_rule c 13 _ n13 (else_rule c 12 _ n12 (else_rule c 11 _ n11 (else_rule c 10 _ n10 (else_rule c 9 _ n9 (else_rule c 7 _ n7 (below 53 (λ x. nat_eq x 7 || (nat_eq x 9 || (nat_eq x 10 || (nat_eq x 11 || (nat_eq x 12 || (nat_eq x 13 || (nat_eq (choice 10 x) 16))))))) refl c l)))))))
+
+pub modifiers_modifier_at_public : (c : ℕ) → c ≡ 7 → choice 10 c ≡ 17
+unfolding choice choices
+modifiers_modifier_at_public c e = ap (choice 10) e
+
+pub modifiers_modifier_at_private : (c : ℕ) → c ≡ 9 → choice 10 c ≡ 17
+unfolding choice choices
+modifiers_modifier_at_private c e = ap (choice 10) e
+
+pub modifiers_modifier_at_protected : (c : ℕ) → c ≡ 10 → choice 10 c ≡ 17
+unfolding choice choices
+modifiers_modifier_at_protected c e = ap (choice 10) e
+
+pub modifiers_modifier_at_virtual : (c : ℕ) → c ≡ 11 → choice 10 c ≡ 17
+unfolding choice choices
+modifiers_modifier_at_virtual c e = ap (choice 10) e
+
+pub modifiers_modifier_at_override : (c : ℕ) → c ≡ 12 → choice 10 c ≡ 17
+unfolding choice choices
+modifiers_modifier_at_override c e = ap (choice 10) e
+
+pub modifiers_modifier_at_static : (c : ℕ) → c ≡ 13 → choice 10 c ≡ 17
+unfolding choice choices
+modifiers_modifier_at_static c e = ap (choice 10) e
 
 pub modifier_public_at : (c : ℕ) → c ≡ 7 → choice 11 c ≡ 18
 unfolding choice choices
@@ -707,9 +695,9 @@ pub plain_string_at : (c : ℕ) → c ≡ 19 → choice 17 c ≡ 37
 unfolding choice choices
 plain_string_at c e = ap (choice 17) e
 
-pub formals_open_at : (c : ℕ) → c ≡ 20 → choice 18 c ≡ 38
-unfolding choice choices
-formals_open_at c e = ap (choice 18) e
+pub formals_open_at : (c : ℕ) → c < suc class_count → choice 18 c ≡ 38
+unfolding choice choices class_count rule_count
+formals_open_at c l = eqb-true _ _ (below 53 (λ x. nat_eq (choice 18 x) 38) refl c l)
 
 pub optional_formals_none_at : (c : ℕ) → c ≡ 21 → choice 19 c ≡ 39
 unfolding choice choices
@@ -727,21 +715,9 @@ pub more_formals_comma_at : (c : ℕ) → c ≡ 22 → choice 20 c ≡ 42
 unfolding choice choices
 more_formals_comma_at c e = ap (choice 20) e
 
-pub formal_value_type_at_name : (c : ℕ) → c ≡ 1 → choice 21 c ≡ 43
-unfolding choice choices
-formal_value_type_at_name c e = ap (choice 21) e
-
-pub formal_value_type_at_int : (c : ℕ) → c ≡ 17 → choice 21 c ≡ 43
-unfolding choice choices
-formal_value_type_at_int c e = ap (choice 21) e
-
-pub formal_value_type_at_bool : (c : ℕ) → c ≡ 18 → choice 21 c ≡ 43
-unfolding choice choices
-formal_value_type_at_bool c e = ap (choice 21) e
-
-pub formal_value_type_at_string : (c : ℕ) → c ≡ 19 → choice 21 c ≡ 43
-unfolding choice choices
-formal_value_type_at_string c e = ap (choice 21) e
+pub formal_value_type_at : (c : ℕ) → c < suc class_count → choice 21 c ≡ 43
+unfolding choice choices class_count rule_count
+formal_value_type_at c l = eqb-true _ _ (below 53 (λ x. nat_eq (choice 21 x) 43) refl c l)
 
 pub value_type_int_at : (c : ℕ) → c ≡ 17 → choice 22 c ≡ 44
 unfolding choice choices
@@ -759,9 +735,9 @@ pub value_type_name_at : (c : ℕ) → c ≡ 1 → choice 22 c ≡ 47
 unfolding choice choices
 value_type_name_at c e = ap (choice 22) e
 
-pub block_open_brace_at : (c : ℕ) → c ≡ 5 → choice 23 c ≡ 48
-unfolding choice choices
-block_open_brace_at c e = ap (choice 23) e
+pub block_open_brace_at : (c : ℕ) → c < suc class_count → choice 23 c ≡ 48
+unfolding choice choices class_count rule_count
+block_open_brace_at c l = eqb-true _ _ (below 53 (λ x. nat_eq (choice 23 x) 48) refl c l)
 
 pub items_none_at : (c : ℕ) → c ≡ 6 → choice 24 c ≡ 49
 unfolding choice choices
@@ -789,7 +765,7 @@ item_name_at c e = ap (choice 25) e
 
 pub item_other_at : (c : ℕ) → c < suc class_count → c ≢ 1 → c ≢ 17 → c ≢ 18 → c ≢ 19 → choice 25 c ≡ 55
 unfolding choice choices class_count rule_count
-item_other_at c l n1 n17 n18 n19 = eqb-true _ _ (else_rule c 1 _ n1 (else_rule c 17 _ n17 (else_rule c 18 _ n18 (else_rule c 19 _ n19 (below 53 (λ x. nat_eq x 1 || (nat_eq x 17 || (nat_eq x 18 || (nat_eq x 19 || (nat_eq (choice 25 x) 55))))) refl c l)))))
+item_other_at c l n1 n17 n18 n19 = eqb-true _ _ (else_rule c 19 _ n19 (else_rule c 18 _ n18 (else_rule c 17 _ n17 (else_rule c 1 _ n1 (below 53 (λ x. nat_eq x 1 || (nat_eq x 17 || (nat_eq x 18 || (nat_eq x 19 || (nat_eq (choice 25 x) 55))))) refl c l)))))
 
 pub after_name_name_at : (c : ℕ) → c ≡ 1 → choice 26 c ≡ 56
 unfolding choice choices
@@ -863,9 +839,9 @@ pub optional_expr_expr_at : (c : ℕ) → c < suc class_count → c ≢ 2 → ch
 unfolding choice choices class_count rule_count
 optional_expr_expr_at c l n2 = eqb-true _ _ (else_rule c 2 _ n2 (below 53 (λ x. nat_eq x 2 || (nat_eq (choice 31 x) 73)) refl c l))
 
-pub dot_dot_at : (c : ℕ) → c ≡ 3 → choice 32 c ≡ 74
-unfolding choice choices
-dot_dot_at c e = ap (choice 32) e
+pub dot_dot_at : (c : ℕ) → c < suc class_count → choice 32 c ≡ 74
+unfolding choice choices class_count rule_count
+dot_dot_at c l = eqb-true _ _ (below 53 (λ x. nat_eq (choice 32 x) 74) refl c l)
 
 pub dots_none_at : (c : ℕ) → c < suc class_count → c ≢ 3 → choice 33 c ≡ 75
 unfolding choice choices class_count rule_count
@@ -875,9 +851,9 @@ pub dots_dot_at : (c : ℕ) → c ≡ 3 → choice 33 c ≡ 76
 unfolding choice choices
 dots_dot_at c e = ap (choice 33) e
 
-pub actuals_open_at : (c : ℕ) → c ≡ 20 → choice 34 c ≡ 77
-unfolding choice choices
-actuals_open_at c e = ap (choice 34) e
+pub actuals_open_at : (c : ℕ) → c < suc class_count → choice 34 c ≡ 77
+unfolding choice choices class_count rule_count
+actuals_open_at c l = eqb-true _ _ (below 53 (λ x. nat_eq (choice 34 x) 77) refl c l)
 
 pub optional_exprs_none_at : (c : ℕ) → c ≡ 21 → choice 35 c ≡ 78
 unfolding choice choices
@@ -925,7 +901,7 @@ equal_order_at c l = eqb-true _ _ (below 53 (λ x. nat_eq (choice 41 x) 88) refl
 
 pub more_equal_none_at : (c : ℕ) → c < suc class_count → c ≢ 32 → c ≢ 33 → choice 42 c ≡ 89
 unfolding choice choices class_count rule_count
-more_equal_none_at c l n32 n33 = eqb-true _ _ (else_rule c 32 _ n32 (else_rule c 33 _ n33 (below 53 (λ x. nat_eq x 32 || (nat_eq x 33 || (nat_eq (choice 42 x) 89))) refl c l)))
+more_equal_none_at c l n32 n33 = eqb-true _ _ (else_rule c 33 _ n33 (else_rule c 32 _ n32 (below 53 (λ x. nat_eq x 32 || (nat_eq x 33 || (nat_eq (choice 42 x) 89))) refl c l)))
 
 pub more_equal_equal_at : (c : ℕ) → c ≡ 32 → choice 42 c ≡ 90
 unfolding choice choices
@@ -941,7 +917,7 @@ order_sum_at c l = eqb-true _ _ (below 53 (λ x. nat_eq (choice 43 x) 92) refl c
 
 pub more_order_none_at : (c : ℕ) → c < suc class_count → c ≢ 34 → c ≢ 35 → c ≢ 36 → c ≢ 37 → choice 44 c ≡ 93
 unfolding choice choices class_count rule_count
-more_order_none_at c l n34 n35 n36 n37 = eqb-true _ _ (else_rule c 34 _ n34 (else_rule c 35 _ n35 (else_rule c 36 _ n36 (else_rule c 37 _ n37 (below 53 (λ x. nat_eq x 34 || (nat_eq x 35 || (nat_eq x 36 || (nat_eq x 37 || (nat_eq (choice 44 x) 93))))) refl c l)))))
+more_order_none_at c l n34 n35 n36 n37 = eqb-true _ _ (else_rule c 37 _ n37 (else_rule c 36 _ n36 (else_rule c 35 _ n35 (else_rule c 34 _ n34 (below 53 (λ x. nat_eq x 34 || (nat_eq x 35 || (nat_eq x 36 || (nat_eq x 37 || (nat_eq (choice 44 x) 93))))) refl c l)))))
 
 pub more_order_less_at : (c : ℕ) → c ≡ 34 → choice 44 c ≡ 94
 unfolding choice choices
@@ -965,7 +941,7 @@ sum_product_at c l = eqb-true _ _ (below 53 (λ x. nat_eq (choice 45 x) 98) refl
 
 pub more_sum_none_at : (c : ℕ) → c < suc class_count → c ≢ 38 → c ≢ 39 → choice 46 c ≡ 99
 unfolding choice choices class_count rule_count
-more_sum_none_at c l n38 n39 = eqb-true _ _ (else_rule c 38 _ n38 (else_rule c 39 _ n39 (below 53 (λ x. nat_eq x 38 || (nat_eq x 39 || (nat_eq (choice 46 x) 99))) refl c l)))
+more_sum_none_at c l n38 n39 = eqb-true _ _ (else_rule c 39 _ n39 (else_rule c 38 _ n38 (below 53 (λ x. nat_eq x 38 || (nat_eq x 39 || (nat_eq (choice 46 x) 99))) refl c l)))
 
 pub more_sum_plus_at : (c : ℕ) → c ≡ 38 → choice 46 c ≡ 100
 unfolding choice choices
@@ -981,7 +957,7 @@ product_unary_at c l = eqb-true _ _ (below 53 (λ x. nat_eq (choice 47 x) 102) r
 
 pub more_product_none_at : (c : ℕ) → c < suc class_count → c ≢ 40 → c ≢ 41 → c ≢ 42 → choice 48 c ≡ 103
 unfolding choice choices class_count rule_count
-more_product_none_at c l n40 n41 n42 = eqb-true _ _ (else_rule c 40 _ n40 (else_rule c 41 _ n41 (else_rule c 42 _ n42 (below 53 (λ x. nat_eq x 40 || (nat_eq x 41 || (nat_eq x 42 || (nat_eq (choice 48 x) 103)))) refl c l))))
+more_product_none_at c l n40 n41 n42 = eqb-true _ _ (else_rule c 42 _ n42 (else_rule c 41 _ n41 (else_rule c 40 _ n40 (below 53 (λ x. nat_eq x 40 || (nat_eq x 41 || (nat_eq x 42 || (nat_eq (choice 48 x) 103)))) refl c l))))
 
 pub more_product_times_at : (c : ℕ) → c ≡ 40 → choice 48 c ≡ 104
 unfolding choice choices
@@ -1005,7 +981,7 @@ unary_not_at c e = ap (choice 49) e
 
 pub unary_primary_at : (c : ℕ) → c < suc class_count → c ≢ 39 → c ≢ 43 → choice 49 c ≡ 109
 unfolding choice choices class_count rule_count
-unary_primary_at c l n39 n43 = eqb-true _ _ (else_rule c 39 _ n39 (else_rule c 43 _ n43 (below 53 (λ x. nat_eq x 39 || (nat_eq x 43 || (nat_eq (choice 49 x) 109))) refl c l)))
+unary_primary_at c l n39 n43 = eqb-true _ _ (else_rule c 43 _ n43 (else_rule c 39 _ n39 (below 53 (λ x. nat_eq x 39 || (nat_eq x 43 || (nat_eq (choice 49 x) 109))) refl c l)))
 
 pub primary_start_at : (c : ℕ) → c < suc class_count → choice 50 c ≡ 110
 unfolding choice choices class_count rule_count
@@ -1051,70 +1027,38 @@ pub optional_actuals_actuals_at : (c : ℕ) → c ≡ 20 → choice 52 c ≡ 120
 unfolding choice choices
 optional_actuals_actuals_at c e = ap (choice 52) e
 
-pub program_stuck : (c : ℕ) → c < suc class_count → c ≢ 0 → c ≢ 4 → c ≢ 7 → choice 0 c ≡ rule_count
-unfolding choice choices class_count rule_count
-program_stuck c l n0 n4 n7 = eqb-true _ _ (else_rule c 0 _ n0 (else_rule c 4 _ n4 (else_rule c 7 _ n7 (below 53 (λ x. nat_eq x 0 || (nat_eq x 4 || (nat_eq x 7 || (nat_eq (choice 0 x) rule_count)))) refl c l))))
-
-pub using_stuck : (c : ℕ) → c < suc class_count → c ≢ 0 → choice 3 c ≡ rule_count
-unfolding choice choices class_count rule_count
-using_stuck c l n0 = eqb-true _ _ (else_rule c 0 _ n0 (below 53 (λ x. nat_eq x 0 || (nat_eq (choice 3 x) rule_count)) refl c l))
-
-pub class_stuck : (c : ℕ) → c < suc class_count → c ≢ 4 → c ≢ 7 → choice 5 c ≡ rule_count
-unfolding choice choices class_count rule_count
-class_stuck c l n4 n7 = eqb-true _ _ (else_rule c 4 _ n4 (else_rule c 7 _ n7 (below 53 (λ x. nat_eq x 4 || (nat_eq x 7 || (nat_eq (choice 5 x) rule_count))) refl c l)))
-
 pub modifier_stuck : (c : ℕ) → c < suc class_count → c ≢ 7 → c ≢ 9 → c ≢ 10 → c ≢ 11 → c ≢ 12 → c ≢ 13 → choice 11 c ≡ rule_count
 unfolding choice choices class_count rule_count
-modifier_stuck c l n7 n9 n10 n11 n12 n13 = eqb-true _ _ (else_rule c 7 _ n7 (else_rule c 9 _ n9 (else_rule c 10 _ n10 (else_rule c 11 _ n11 (else_rule c 12 _ n12 (else_rule c 13 _ n13 (below 53 (λ x. nat_eq x 7 || (nat_eq x 9 || (nat_eq x 10 || (nat_eq x 11 || (nat_eq x 12 || (nat_eq x 13 || (nat_eq (choice 11 x) rule_count))))))) refl c l)))))))
+modifier_stuck c l n7 n9 n10 n11 n12 n13 = eqb-true _ _ (else_rule c 13 _ n13 (else_rule c 12 _ n12 (else_rule c 11 _ n11 (else_rule c 10 _ n10 (else_rule c 9 _ n9 (else_rule c 7 _ n7 (below 53 (λ x. nat_eq x 7 || (nat_eq x 9 || (nat_eq x 10 || (nat_eq x 11 || (nat_eq x 12 || (nat_eq x 13 || (nat_eq (choice 11 x) rule_count))))))) refl c l)))))))
 
 pub rest_stuck : (c : ℕ) → c < suc class_count → c ≢ 1 → c ≢ 15 → c ≢ 16 → c ≢ 17 → c ≢ 18 → c ≢ 19 → choice 12 c ≡ rule_count
 unfolding choice choices class_count rule_count
-rest_stuck c l n1 n15 n16 n17 n18 n19 = eqb-true _ _ (else_rule c 1 _ n1 (else_rule c 15 _ n15 (else_rule c 16 _ n16 (else_rule c 17 _ n17 (else_rule c 18 _ n18 (else_rule c 19 _ n19 (below 53 (λ x. nat_eq x 1 || (nat_eq x 15 || (nat_eq x 16 || (nat_eq x 17 || (nat_eq x 18 || (nat_eq x 19 || (nat_eq (choice 12 x) rule_count))))))) refl c l)))))))
+rest_stuck c l n1 n15 n16 n17 n18 n19 = eqb-true _ _ (else_rule c 19 _ n19 (else_rule c 18 _ n18 (else_rule c 17 _ n17 (else_rule c 16 _ n16 (else_rule c 15 _ n15 (else_rule c 1 _ n1 (below 53 (λ x. nat_eq x 1 || (nat_eq x 15 || (nat_eq x 16 || (nat_eq x 17 || (nat_eq x 18 || (nat_eq x 19 || (nat_eq (choice 12 x) rule_count))))))) refl c l)))))))
 
 pub after_stuck : (c : ℕ) → c < suc class_count → c ≢ 1 → c ≢ 20 → choice 13 c ≡ rule_count
 unfolding choice choices class_count rule_count
-after_stuck c l n1 n20 = eqb-true _ _ (else_rule c 1 _ n1 (else_rule c 20 _ n20 (below 53 (λ x. nat_eq x 1 || (nat_eq x 20 || (nat_eq (choice 13 x) rule_count))) refl c l)))
+after_stuck c l n1 n20 = eqb-true _ _ (else_rule c 20 _ n20 (else_rule c 1 _ n1 (below 53 (λ x. nat_eq x 1 || (nat_eq x 20 || (nat_eq (choice 13 x) rule_count))) refl c l)))
 
 pub result_stuck : (c : ℕ) → c < suc class_count → c ≢ 1 → c ≢ 15 → c ≢ 16 → c ≢ 17 → c ≢ 18 → c ≢ 19 → choice 16 c ≡ rule_count
 unfolding choice choices class_count rule_count
-result_stuck c l n1 n15 n16 n17 n18 n19 = eqb-true _ _ (else_rule c 1 _ n1 (else_rule c 15 _ n15 (else_rule c 16 _ n16 (else_rule c 17 _ n17 (else_rule c 18 _ n18 (else_rule c 19 _ n19 (below 53 (λ x. nat_eq x 1 || (nat_eq x 15 || (nat_eq x 16 || (nat_eq x 17 || (nat_eq x 18 || (nat_eq x 19 || (nat_eq (choice 16 x) rule_count))))))) refl c l)))))))
+result_stuck c l n1 n15 n16 n17 n18 n19 = eqb-true _ _ (else_rule c 19 _ n19 (else_rule c 18 _ n18 (else_rule c 17 _ n17 (else_rule c 16 _ n16 (else_rule c 15 _ n15 (else_rule c 1 _ n1 (below 53 (λ x. nat_eq x 1 || (nat_eq x 15 || (nat_eq x 16 || (nat_eq x 17 || (nat_eq x 18 || (nat_eq x 19 || (nat_eq (choice 16 x) rule_count))))))) refl c l)))))))
 
 pub plain_stuck : (c : ℕ) → c < suc class_count → c ≢ 15 → c ≢ 16 → c ≢ 17 → c ≢ 18 → c ≢ 19 → choice 17 c ≡ rule_count
 unfolding choice choices class_count rule_count
-plain_stuck c l n15 n16 n17 n18 n19 = eqb-true _ _ (else_rule c 15 _ n15 (else_rule c 16 _ n16 (else_rule c 17 _ n17 (else_rule c 18 _ n18 (else_rule c 19 _ n19 (below 53 (λ x. nat_eq x 15 || (nat_eq x 16 || (nat_eq x 17 || (nat_eq x 18 || (nat_eq x 19 || (nat_eq (choice 17 x) rule_count)))))) refl c l))))))
-
-pub formals_stuck : (c : ℕ) → c < suc class_count → c ≢ 20 → choice 18 c ≡ rule_count
-unfolding choice choices class_count rule_count
-formals_stuck c l n20 = eqb-true _ _ (else_rule c 20 _ n20 (below 53 (λ x. nat_eq x 20 || (nat_eq (choice 18 x) rule_count)) refl c l))
-
-pub formal_stuck : (c : ℕ) → c < suc class_count → c ≢ 1 → c ≢ 17 → c ≢ 18 → c ≢ 19 → choice 21 c ≡ rule_count
-unfolding choice choices class_count rule_count
-formal_stuck c l n1 n17 n18 n19 = eqb-true _ _ (else_rule c 1 _ n1 (else_rule c 17 _ n17 (else_rule c 18 _ n18 (else_rule c 19 _ n19 (below 53 (λ x. nat_eq x 1 || (nat_eq x 17 || (nat_eq x 18 || (nat_eq x 19 || (nat_eq (choice 21 x) rule_count))))) refl c l)))))
+plain_stuck c l n15 n16 n17 n18 n19 = eqb-true _ _ (else_rule c 19 _ n19 (else_rule c 18 _ n18 (else_rule c 17 _ n17 (else_rule c 16 _ n16 (else_rule c 15 _ n15 (below 53 (λ x. nat_eq x 15 || (nat_eq x 16 || (nat_eq x 17 || (nat_eq x 18 || (nat_eq x 19 || (nat_eq (choice 17 x) rule_count)))))) refl c l))))))
 
 pub value_type_stuck : (c : ℕ) → c < suc class_count → c ≢ 1 → c ≢ 17 → c ≢ 18 → c ≢ 19 → choice 22 c ≡ rule_count
 unfolding choice choices class_count rule_count
-value_type_stuck c l n1 n17 n18 n19 = eqb-true _ _ (else_rule c 1 _ n1 (else_rule c 17 _ n17 (else_rule c 18 _ n18 (else_rule c 19 _ n19 (below 53 (λ x. nat_eq x 1 || (nat_eq x 17 || (nat_eq x 18 || (nat_eq x 19 || (nat_eq (choice 22 x) rule_count))))) refl c l)))))
-
-pub block_stuck : (c : ℕ) → c < suc class_count → c ≢ 5 → choice 23 c ≡ rule_count
-unfolding choice choices class_count rule_count
-block_stuck c l n5 = eqb-true _ _ (else_rule c 5 _ n5 (below 53 (λ x. nat_eq x 5 || (nat_eq (choice 23 x) rule_count)) refl c l))
+value_type_stuck c l n1 n17 n18 n19 = eqb-true _ _ (else_rule c 19 _ n19 (else_rule c 18 _ n18 (else_rule c 17 _ n17 (else_rule c 1 _ n1 (below 53 (λ x. nat_eq x 1 || (nat_eq x 17 || (nat_eq x 18 || (nat_eq x 19 || (nat_eq (choice 22 x) rule_count))))) refl c l)))))
 
 pub tail_stuck : (c : ℕ) → c < suc class_count → c ≢ 3 → c ≢ 20 → c ≢ 23 → choice 28 c ≡ rule_count
 unfolding choice choices class_count rule_count
-tail_stuck c l n3 n20 n23 = eqb-true _ _ (else_rule c 3 _ n3 (else_rule c 20 _ n20 (else_rule c 23 _ n23 (below 53 (λ x. nat_eq x 3 || (nat_eq x 20 || (nat_eq x 23 || (nat_eq (choice 28 x) rule_count)))) refl c l))))
+tail_stuck c l n3 n20 n23 = eqb-true _ _ (else_rule c 23 _ n23 (else_rule c 20 _ n20 (else_rule c 3 _ n3 (below 53 (λ x. nat_eq x 3 || (nat_eq x 20 || (nat_eq x 23 || (nat_eq (choice 28 x) rule_count)))) refl c l))))
 
 pub other_stuck : (c : ℕ) → c < suc class_count → c ≢ 2 → c ≢ 5 → c ≢ 24 → c ≢ 25 → c ≢ 26 → c ≢ 27 → c ≢ 28 → choice 29 c ≡ rule_count
 unfolding choice choices class_count rule_count
-other_stuck c l n2 n5 n24 n25 n26 n27 n28 = eqb-true _ _ (else_rule c 2 _ n2 (else_rule c 5 _ n5 (else_rule c 24 _ n24 (else_rule c 25 _ n25 (else_rule c 26 _ n26 (else_rule c 27 _ n27 (else_rule c 28 _ n28 (below 53 (λ x. nat_eq x 2 || (nat_eq x 5 || (nat_eq x 24 || (nat_eq x 25 || (nat_eq x 26 || (nat_eq x 27 || (nat_eq x 28 || (nat_eq (choice 29 x) rule_count)))))))) refl c l))))))))
-
-pub dot_stuck : (c : ℕ) → c < suc class_count → c ≢ 3 → choice 32 c ≡ rule_count
-unfolding choice choices class_count rule_count
-dot_stuck c l n3 = eqb-true _ _ (else_rule c 3 _ n3 (below 53 (λ x. nat_eq x 3 || (nat_eq (choice 32 x) rule_count)) refl c l))
-
-pub actuals_stuck : (c : ℕ) → c < suc class_count → c ≢ 20 → choice 34 c ≡ rule_count
-unfolding choice choices class_count rule_count
-actuals_stuck c l n20 = eqb-true _ _ (else_rule c 20 _ n20 (below 53 (λ x. nat_eq x 20 || (nat_eq (choice 34 x) rule_count)) refl c l))
+other_stuck c l n2 n5 n24 n25 n26 n27 n28 = eqb-true _ _ (else_rule c 28 _ n28 (else_rule c 27 _ n27 (else_rule c 26 _ n26 (else_rule c 25 _ n25 (else_rule c 24 _ n24 (else_rule c 5 _ n5 (else_rule c 2 _ n2 (below 53 (λ x. nat_eq x 2 || (nat_eq x 5 || (nat_eq x 24 || (nat_eq x 25 || (nat_eq x 26 || (nat_eq x 27 || (nat_eq x 28 || (nat_eq (choice 29 x) rule_count)))))))) refl c l))))))))
 
 pub start_stuck : (c : ℕ) → c < suc class_count → c ≢ 1 → c ≢ 20 → c ≢ 27 → c ≢ 28 → c ≢ 44 → c ≢ 45 → c ≢ 46 → c ≢ 47 → choice 51 c ≡ rule_count
 unfolding choice choices class_count rule_count
-start_stuck c l n1 n20 n27 n28 n44 n45 n46 n47 = eqb-true _ _ (else_rule c 1 _ n1 (else_rule c 20 _ n20 (else_rule c 27 _ n27 (else_rule c 28 _ n28 (else_rule c 44 _ n44 (else_rule c 45 _ n45 (else_rule c 46 _ n46 (else_rule c 47 _ n47 (below 53 (λ x. nat_eq x 1 || (nat_eq x 20 || (nat_eq x 27 || (nat_eq x 28 || (nat_eq x 44 || (nat_eq x 45 || (nat_eq x 46 || (nat_eq x 47 || (nat_eq (choice 51 x) rule_count))))))))) refl c l)))))))))
+start_stuck c l n1 n20 n27 n28 n44 n45 n46 n47 = eqb-true _ _ (else_rule c 47 _ n47 (else_rule c 46 _ n46 (else_rule c 45 _ n45 (else_rule c 44 _ n44 (else_rule c 28 _ n28 (else_rule c 27 _ n27 (else_rule c 20 _ n20 (else_rule c 1 _ n1 (below 53 (λ x. nat_eq x 1 || (nat_eq x 20 || (nat_eq x 27 || (nat_eq x 28 || (nat_eq x 44 || (nat_eq x 45 || (nat_eq x 46 || (nat_eq x 47 || (nat_eq (choice 51 x) rule_count))))))))) refl c l)))))))))

@@ -1,13 +1,7 @@
-// A library with one function.
+//! From tokens to a program, or the exact token at which they are none.
+//! Stands on: chord_tree (grammar, trees), chord_lexer (tokens), chord_base (texts). Used by: chord_run.
+//! Promise: `parse` gives the one program that the tokens spell, or the first token that fits no program, or the first that is too deep (specs/Answers.antt).
+//! Not here: what a program is (chord_tree), what it means (chord_types, chord_rules).
 #![tactic(auto)]
 
-ghost use Rattle.std.specs.Prelude.{◌≡◌};
-ghost use Rattle.chord_parser.specs.Echo.{echo_of};
-
-// The `ensures` clause is the contract: what `echo` returns is `echo_of` of its argument, a definition
-// in `specs/Echo.antt`, which a caller's clause can cite too.
-pub fn echo(x: usize) -> usize
-    ensures { result ≡ echo_of x }
-{
-    x
-}
+mod class;

@@ -1,0 +1,6 @@
+pub mod Reading
+pub mod Finish
+pub mod Fit
+pub mod Outcomes
+pub mod Prefix
+pub mod Steps
