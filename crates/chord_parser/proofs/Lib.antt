@@ -4,3 +4,5 @@ pub mod Fit
 pub mod Outcomes
 pub mod Prefix
 pub mod Steps
+pub mod Single
+pub mod Chains

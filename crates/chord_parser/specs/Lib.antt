@@ -1,3 +1,4 @@
+pub mod Exact
 pub mod Samples
 pub mod Runs
-pub mod Exact
+pub mod Reading

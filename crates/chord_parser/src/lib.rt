@@ -5,3 +5,7 @@
 #![tactic(auto)]
 
 mod class;
+mod faults;
+mod tokens;
+mod build;
+mod exprs;
