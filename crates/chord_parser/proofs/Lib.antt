@@ -6,3 +6,4 @@ pub mod Prefix
 pub mod Steps
 pub mod Single
 pub mod Chains
+pub mod StmtLists

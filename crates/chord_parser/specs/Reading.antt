@@ -13,7 +13,9 @@ use Rattle.chord_tree.specs.Classes.{class_of, mark_part}
 use Rattle.chord_tree.specs.Derivation.{next, Want}
 use Rattle.chord_parser.specs.Runs.{Verdict, Fine, Wrong, High, Runs, Reads}
 use Rattle.chord_tree.specs.Node.{Node, Nodes, End, ◌▸◌, Leaf, Made}
-use Rattle.chord_tree.specs.Tree.{ExprTree, LinkTree, MakeLink, DotTree}
+use Rattle.chord_tree.specs.Tree.{ExprTree, LinkTree, MakeLink, DotTree, StmtTree, ItemTree, Assigns, Calls, CallsThrough}
+use Rattle.chord_tree.specs.declared.names.Name.{Name}
+use Rattle.chord_tree.specs.Forms.{node_item}
 use Rattle.chord_tree.specs.Shape.{level, link_level, level_tail, mark, mark_of, rank, bare, lifted, node_dot}
 
 -- the classes whose tokens say more
@@ -84,3 +86,21 @@ before_more (x ∷ xs) n = Made grammar.More_exprs (mark marks.Comma 0 ▸ lifte
 abbrev pub before_opt : List ExprTree → Node → Node
 before_opt [] n = n
 before_opt (x ∷ xs) n = Made grammar.Optional_exprs (lifted 6 (rank x) (bare x) ▸ before_more xs n ▸ End)
+
+-- the statement begins with the name
+abbrev pub IsNamed : StmtTree → Name → Type 0
+IsNamed (Assigns x assign value) y = x ≡ y
+IsNamed (Calls x actuals calls) y = x ≡ y
+IsNamed (CallsThrough x first calls) y = x ≡ y
+IsNamed _ y = ⊥
+
+-- no name begins the statement
+abbrev pub IsUnnamed : StmtTree → Type 0
+IsUnnamed (Assigns x assign value) = ⊥
+IsUnnamed (Calls x actuals calls) = ⊥
+IsUnnamed (CallsThrough x first calls) = ⊥
+IsUnnamed _ = Unit {0}
+
+abbrev pub before_items : List ItemTree → Node → Node
+before_items [] n = n
+before_items (x ∷ xs) n = Made grammar.Items (node_item x ▸ before_items xs n ▸ End)

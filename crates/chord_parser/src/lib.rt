@@ -9,3 +9,4 @@ mod faults;
 mod tokens;
 mod build;
 mod exprs;
+mod stmts;
