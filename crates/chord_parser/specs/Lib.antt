@@ -1,0 +1,4 @@
+pub mod Exact
+pub mod Samples
+pub mod Runs
+pub mod Reading

@@ -1,0 +1,14 @@
+pub mod Part
+pub mod Symbols
+pub mod Grammar
+pub mod Classes
+pub mod Derivation
+pub mod Node
+pub mod Tree
+pub mod ViewExprs
+pub mod ViewStmts
+pub mod View
+pub mod Shape
+pub mod Forms
+pub mod Members
+pub mod Program
