@@ -17,7 +17,7 @@ source_of (Some bytes) (Some rest) given g =
 -- where a source has too many bytes, the refusal `long` is its answer
 pub long_answers : (none source : List ℕ) (events : ℕ) (report : Report) (before after : Option (List ℕ)) → 1048576 < length source → IsRefused none Long report before after → IsAnswered source events report before after
 long_answers none source events report before after long r = record {
-  due = record { status = 1; text = _ };
-  is_due = rw (r.journal, r.reported) (record { cause = long; status_is = refl; text = refl });
+  due = record { status = 1; text = r.line };
+  is_due = rw (r.journal, r.reported) (record { cause = long; status_is = refl; text = r.is_line });
   written = r.written;
 }

@@ -11,16 +11,18 @@ use Rattle.chord_run.specs.Rows.{CutsShort, Fills, Finishes, Refuses}
 use Rattle.chord_run.specs.Sources.{IsAccepted}
 use Rattle.chord_run.specs.Written.{Due}
 use Rattle.chord_run.specs.declared.refusal.Refusal.{Refusal}
-use Rattle.chord_run.specs.declared.refusal.Refusal.TheVariants.{Long, Bad, Unbuilt}
+use Rattle.chord_run.specs.declared.refusal.Refusal.TheVariants.{Long, Bad, Syntax, Tall, Unbuilt}
 use Rattle.chord_run.specs.declared.report.Report.{Report}
 
 -- a source with a cause of refusal is not accepted
 pub cause_refuses : (source : List ℕ) (refusal : Refusal) → IsCause source refusal → IsAccepted source → ⊥
 cause_refuses source Long long a = let s = a.1.1.short in omega arith
 cause_refuses source (Bad k) bad a = not_both source a.1.1.tokens k a.1.1.read bad.1
+cause_refuses source (Syntax k) c a = c
+cause_refuses source (Tall k) c a = c
 cause_refuses source Unbuilt other a =
     let e = one_list source other.tokens a.1.1.tokens other.read a.1.1.read in
-    other.other a.1.0 (rw e a.1.1.small)
+    other.says a.1.0 (rw e a.1.1.small)
 
 abbrev status_by : Bool → Bool → ℕ
 status_by failed ended = if failed then 8 else if ended then 0 else 4
@@ -130,7 +132,9 @@ refuses words left report before after a e = elim a.answered.written [
       reported = q.1;
       cause = q.2.cause;
       not_accepted = cause_refuses a.source q.0 q.2.cause;
-      written = rw q.2.text at w.1;
+      line = a.answered.due.text;
+      is_line = q.2.text;
+      written = w.1;
     }
   ]
   | inr w ↦ (let x : 1 ≡ 5 = sym e ∙ w.0 in absurd (omega arith))

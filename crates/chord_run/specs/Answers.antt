@@ -6,7 +6,7 @@ use Rattle.chord_base.specs.Printed.{lines, status_of}
 use Rattle.chord_base.specs.declared.event.Entry.{Entry}
 use Rattle.chord_base.specs.declared.event.Limits.{Limits}
 use Rattle.chord_run.specs.Command.{Asks}
-use Rattle.chord_run.specs.Refusals.{IsCause, refusal_line}
+use Rattle.chord_run.specs.Refusals.{IsCause, IsLine}
 use Rattle.chord_run.specs.Sources.{IsMachine}
 use Rattle.chord_run.specs.Written.{Due, IsGiven, IsWritten}
 use Rattle.chord_run.specs.declared.refusal.Refusal.{Refusal}
@@ -39,7 +39,7 @@ pub record IsPlayed (source : List ℕ) (events : ℕ) (journal : List Entry) (d
 pub record IsRefusal (source : List ℕ) (refusal : Refusal) (due : Due) : Type 0 where
   pub cause : IsCause source refusal
   pub status_is : due.status ≡ 1
-  pub text : due.text ≡ refusal_line source refusal
+  pub text : IsLine source refusal due.text
 
 -- what is due: a run where the report has a journal, a refusal where it has a refusal; it has one of the two
 abbrev pub IsDue : List ℕ → ℕ → Option (List Entry) → Option Refusal → Due → Type 0
@@ -93,4 +93,6 @@ pub record IsRunOf (program : Program) (events : ℕ) (report : Report) (before 
 pub record IsRefused (source : List ℕ) (refusal : Refusal) (report : Report) (before after : Option (List ℕ)) : Type 0 where
   pub journal : report.journal ≡ None
   pub reported : report.refusal ≡ Some refusal
-  pub written : IsWritten (record { status = 1; text = refusal_line source refusal }) report.status before after
+  pub line : List ℕ
+  pub is_line : IsLine source refusal line
+  pub written : IsWritten (record { status = 1; text = line }) report.status before after

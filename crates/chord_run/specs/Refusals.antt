@@ -1,6 +1,5 @@
 -- Why a source is refused, and the line that says so.
-use Rattle.std.specs.Prelude.{ℕ, ◌<◌, ◌≤◌, ◌++◌, List, codes, decimal}
-use Rattle.std.specs.Prelude.{length}
+use Rattle.std.specs.Prelude.{◌≡◌, ℕ, ◌<◌, ◌≤◌, ◌++◌, List, codes, decimal, length, slice_get, unwrap_or, option_map}
 use Rattle.chord_lexer.specs.Reading.{IsRead, IsRefused, after_mark}
 use Rattle.chord_lexer.specs.declared.token.Token.{Token}
 use Rattle.chord_lists.specs.declared.small.SmallLine.{SmallLine}
@@ -11,42 +10,67 @@ use Rattle.chord_run.specs.declared.front.FrontFault.{FrontFault}
 use Rattle.chord_run.specs.declared.front.FrontFault.TheVariants.{Memory, Refused}
 use Rattle.chord_run.specs.declared.place.Place.{Place}
 use Rattle.chord_run.specs.declared.refusal.Refusal.{Refusal}
-use Rattle.chord_run.specs.declared.refusal.Refusal.TheVariants.{Long, Bad, Unbuilt}
+use Rattle.chord_run.specs.declared.refusal.Refusal.TheVariants.{Long, Bad, Syntax, Tall, Unbuilt}
+
+-- a source of at most 1,048,576 bytes reads as tokens of which this holds
+pub record ReadsAs (source : List ℕ) (holds : List Token → Type 0) : Type 0 where
+  pub short : IsShort source
+  pub tokens : List Token
+  pub read : IsRead source tokens
+  pub says : holds tokens
 
 -- the tokens are of no small source
 abbrev pub IsNoSmall : List Token → Type 0
 IsNoSmall tokens = (lines : List SmallLine) → IsSmallForm (kinds_of tokens) lines → ⊥
 
--- a source reads as tokens that are of no small source
-pub record IsUnbuilt (source : List ℕ) : Type 0 where
-  pub short : IsShort source
-  pub tokens : List Token
-  pub read : IsRead source tokens
-  pub other : IsNoSmall tokens
-
 -- the cause of a refusal: too many bytes, a byte at which nothing begins, or a program that is not small
 abbrev pub IsCause : List ℕ → Refusal → Type 0
 IsCause source Long = 1048576 < length source
 IsCause source (Bad k) = IsShort source × IsRefused source k
-IsCause source Unbuilt = IsUnbuilt source
+IsCause source (Syntax k) = ⊥
+IsCause source (Tall k) = ⊥
+IsCause source Unbuilt = ReadsAs source IsNoSmall
+
+-- the byte at which token k begins; where k is the number of tokens, the end of the text
+abbrev pub start_of : List Token → ℕ → ℕ → ℕ
+start_of tokens k end = unwrap_or (option_map (λ token. token.start) (slice_get tokens k)) end
+
+-- the byte is in the text of a source, or at its end
+pub record IsWithin (source : List ℕ) (byte : ℕ) : Type 0 where
+  pub short : IsShort source
+  pub within : byte ≤ length (after_mark source)
+
+-- the byte at which the tokens of a source refuse it
+pub record IsTokenAt (source : List ℕ) (k byte : ℕ) : Type 0 where
+  pub tokens : List Token
+  pub read : IsRead source tokens
+  pub at : byte ≡ start_of tokens k (length (after_mark source))
+
+-- the byte at which a refusal points, where it points at one
+abbrev pub PointsAt : List ℕ → Refusal → ℕ → Type 0
+PointsAt source Long byte = Unit {0}
+PointsAt source (Bad k) byte = IsWithin source byte × (byte ≡ k)
+PointsAt source (Syntax k) byte = IsWithin source byte × IsTokenAt source k byte
+PointsAt source (Tall k) byte = IsWithin source byte × IsTokenAt source k byte
+PointsAt source Unbuilt byte = Unit {0}
 
 -- a line that ends with a place: its line, `:` and its column
 abbrev pub with_place : List ℕ → Place → List ℕ
 with_place front place = front ++ decimal place.line ++ codes ":" ++ decimal place.column ++ codes "\n"
 
+-- a line that ends with the place of a byte at which the refusal points
+abbrev pub PointsIn : List ℕ → Refusal → List ℕ → List ℕ → Type 0
+PointsIn source refusal front line = (byte : ℕ) × PointsAt source refusal byte × (line ≡ with_place front (place_of (after_mark source) byte))
+
 -- the line of a refusal
-abbrev pub refusal_line : List ℕ → Refusal → List ℕ
-refusal_line source Long = codes "refused long\n"
-refusal_line source (Bad k) = with_place (codes "refused byte ") (place_of (after_mark source) k)
-refusal_line source Unbuilt = codes "refused unbuilt\n"
+abbrev pub IsLine : List ℕ → Refusal → List ℕ → Type 0
+IsLine source Long line = line ≡ codes "refused long\n"
+IsLine source (Bad k) line = PointsIn source (Bad k) (codes "refused byte ") line
+IsLine source (Syntax k) line = PointsIn source (Syntax k) (codes "refused syntax ") line
+IsLine source (Tall k) line = PointsIn source (Tall k) (codes "refused tall ") line
+IsLine source Unbuilt line = line ≡ codes "refused unbuilt\n"
 
--- the byte of a refusal stands in the text or at its end
-abbrev pub IsPlaced : List ℕ → Refusal → Type 0
-IsPlaced source Long = Unit {0}
-IsPlaced source (Bad k) = IsShort source × (k ≤ length (after_mark source))
-IsPlaced source Unbuilt = Unit {0}
-
--- what a fault of the front says: of a refusal its cause
+-- what a fault of the front says: of a refusal its cause, and the byte at which it points
 abbrev pub IsFrontFault : List ℕ → FrontFault → Type 0
 IsFrontFault source Memory = Unit {0}
-IsFrontFault source (Refused refusal) = IsCause source refusal × IsPlaced source refusal
+IsFrontFault source (Refused refusal byte) = IsCause source refusal × PointsAt source refusal byte

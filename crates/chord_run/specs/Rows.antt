@@ -7,7 +7,7 @@ use Rattle.chord_base.specs.declared.event.Entry.{Entry}
 use Rattle.chord_io.specs.Faults.{Rose}
 use Rattle.chord_io.specs.Pieces.{Took, TookFront}
 use Rattle.chord_run.specs.Answers.{IsDue, IsFull}
-use Rattle.chord_run.specs.Refusals.{IsCause, refusal_line}
+use Rattle.chord_run.specs.Refusals.{IsCause, IsLine}
 use Rattle.chord_run.specs.Sources.{IsAccepted, IsMachine}
 use Rattle.chord_run.specs.Written.{Due, IsGiven}
 use Rattle.chord_run.specs.declared.refusal.Refusal.{Refusal}
@@ -44,7 +44,9 @@ pub record Refuses (left : Option (List ℕ)) (report : Report) (before after : 
   pub reported : report.refusal ≡ Some refusal
   pub cause : IsCause source refusal
   pub not_accepted : IsAccepted source → ⊥
-  pub written : Took before (refusal_line source refusal) after
+  pub line : List ℕ
+  pub is_line : IsLine source refusal line
+  pub written : Took before line after
 
 -- 5: of the text that is due, a front was taken, and the report says for what it was due
 pub record CutsShort (left : Option (List ℕ)) (events : ℕ) (report : Report) (before after : Option (List ℕ)) : Type 0 where

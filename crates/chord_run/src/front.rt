@@ -16,8 +16,8 @@ use std::alloc::Global;
 pub enum FrontFault {
     /// For want of memory.
     Memory,
-    /// It is refused.
-    Refused(Refusal),
+    /// It is refused, and the refusal points at this byte, where it points at one.
+    Refused(Refusal, u32),
 }
 
 /// The lines of a small source.
@@ -29,10 +29,10 @@ pub fn small_source(alloc: Global, source: &[u8]) -> Result<Small, FrontFault>
     match lex(alloc, source) {
         Ok(tokens) => match small_of(alloc, &tokens) {
             Ok(Some(small)) => Ok(small),
-            Ok(None) => Err(FrontFault::Refused(Refusal::Unbuilt)),
+            Ok(None) => Err(FrontFault::Refused(Refusal::Unbuilt, 0)),
             Err(_) => Err(FrontFault::Memory),
         },
         Err(LexFault::Memory) => Err(FrontFault::Memory),
-        Err(LexFault::Bad(k)) => Err(FrontFault::Refused(Refusal::Bad(k))),
+        Err(LexFault::Bad(k)) => Err(FrontFault::Refused(Refusal::Bad(k), k)),
     }
 }

@@ -2,7 +2,9 @@
 #![tactic(auto)]
 
 ghost use Rattle.std.specs.Prelude.{◌≡◌, IfOk};
-ghost use Rattle.chord_run.specs.Refusals.{IsPlaced, refusal_line, with_place};
+ghost use Rattle.chord_lexer.specs.Reading.{after_mark};
+ghost use Rattle.chord_run.specs.Places.{place_of};
+ghost use Rattle.chord_run.specs.Refusals.{IsLine, IsWithin, PointsAt, with_place};
 
 use crate::place::{Place, place_at};
 use chord_lexer::lexer::unmarked;
@@ -16,23 +18,48 @@ pub enum Refusal {
     Long,
     /// No token, blank or comment begins at this byte, counted from 0 after a leading mark EF BB BF.
     Bad(u32),
+    /// Its tokens before this one, counted from 0, begin some program, and with this one they begin none. Where it is the
+    /// number of tokens, the end of the text refuses: the tokens are no program.
+    Syntax(u32),
+    /// Its tokens up to this one begin some program, and this one is deeper than 200; none before it is.
+    Tall(u32),
     /// It is a program of the language that is not built yet.
     Unbuilt,
 }
 
-/// The line of a refusal, with its end.
-pub fn line_of(alloc: Global, source: &[u8], refusal: Refusal) -> Result<Vec<u8>, AllocError>
-    requires { IsPlaced source.now refusal }
-    ensures { IfOk result (λ line. line.items ≡ refusal_line source.now refusal) }
+/// The line of a refusal that points at this byte, with its end.
+pub fn line_of(
+    alloc: Global,
+    source: &[u8],
+    refusal: Refusal,
+    byte: u32,
+) -> Result<Vec<u8>, AllocError>
+    requires { PointsAt source.now refusal byte }
+    ensures { IfOk result (λ line. IsLine source.now refusal line.items) }
 {
     match refusal {
         Refusal::Long => Vec::from_slice(alloc, b"refused long\n"),
         Refusal::Unbuilt => Vec::from_slice(alloc, b"refused unbuilt\n"),
-        Refusal::Bad(k) => {
-            let place = place_at(unmarked(source), k as usize);
-            placed_line(alloc, b"refused byte ", place)
-        }
+        Refusal::Bad(_) => pointing_line(alloc, b"refused byte ", source, byte),
+        Refusal::Syntax(_) => pointing_line(alloc, b"refused syntax ", source, byte),
+        Refusal::Tall(_) => pointing_line(alloc, b"refused tall ", source, byte),
     }
+}
+
+/// A line that ends with the place of a byte.
+fn pointing_line(
+    alloc: Global,
+    front: &[u8],
+    source: &[u8],
+    byte: u32,
+) -> Result<Vec<u8>, AllocError>
+    requires { IsWithin source.now byte }
+    ensures {
+        IfOk result (λ line. line.items ≡ with_place front.now (place_of (after_mark source.now) byte))
+    }
+{
+    let place = place_at(unmarked(source), byte as usize);
+    placed_line(alloc, front, place)
 }
 
 /// A line that ends with a place.

@@ -8,7 +8,7 @@ ghost use Rattle.chord_lists.specs.Small.{small_program};
 ghost use Rattle.chord_lists.specs.declared.small.SmallLine as small;
 ghost use Rattle.chord_run.specs.Answers.{Answers, Gives, IsAnswered, IsRefused, IsRunOf, IsSilence, IsUnanswered};
 ghost use Rattle.chord_run.specs.Command.{AreTaken, texts};
-ghost use Rattle.chord_run.specs.Refusals.{IsPlaced};
+ghost use Rattle.chord_run.specs.Refusals.{PointsAt};
 ghost use Rattle.chord_run.specs.Rows.{CutsShort, Fills, Finishes, IsOrderly, Refuses, RefusesOthers, RunsAccepted};
 ghost use Rattle.chord_run.specs.Sources.{IsShort};
 
@@ -92,7 +92,7 @@ fn answer<S: Source, K: Sink>(
     match read_all(alloc, source) {
         Err(ReadFault::Failed) => Report::silent(READ_FAULT),
         Err(ReadFault::Memory) => Report::silent(NO_MEMORY),
-        Err(ReadFault::TooLong) => refuse(alloc, b"", Refusal::Long, sink),
+        Err(ReadFault::TooLong) => refuse(alloc, b"", Refusal::Long, 0, sink),
         Ok(bytes) => answer_source(alloc, &bytes, &limits, sink),
     }
 }
@@ -108,19 +108,25 @@ fn answer_source<K: Sink>(alloc: Global, source: &[u8], limits: &Limits, sink: &
 {
     match small_source(alloc, source) {
         Err(FrontFault::Memory) => Report::silent(NO_MEMORY),
-        Err(FrontFault::Refused(refusal)) => refuse(alloc, source, refusal, sink),
+        Err(FrontFault::Refused(refusal, byte)) => refuse(alloc, source, refusal, byte, sink),
         Ok(small) => run(alloc, &small, limits, sink),
     }
 }
 
-/// Writes the line of a refusal.
-fn refuse<K: Sink>(alloc: Global, source: &[u8], refusal: Refusal, sink: &mut K) -> Report
-    requires { IsPlaced source.now refusal }
+/// Writes the line of a refusal that points at this byte.
+fn refuse<K: Sink>(
+    alloc: Global,
+    source: &[u8],
+    refusal: Refusal,
+    byte: u32,
+    sink: &mut K,
+) -> Report
+    requires { PointsAt source.now refusal byte }
     ensures answered { IsUnanswered result (K.taken sink.old) (K.taken sink.new)
         ⊎ IsRefused source.now refusal result (K.taken sink.old) (K.taken sink.new) }
     ensures fault { result.status ≡ 5 → Rose (K.faults sink.old) (K.faults sink.new) }
 {
-    match line_of(alloc, source, refusal) {
+    match line_of(alloc, source, refusal, byte) {
         Err(_) => Report::silent(NO_MEMORY),
         Ok(line) => match write_all(sink, &line) {
             Ok(()) => Report::refused(REFUSED, refusal),
