@@ -1,3 +1,4 @@
+pub mod Starts
 pub mod Causes
 pub mod Complete
 pub mod Answering
