@@ -1,2 +1,4 @@
 pub mod Printed
 pub mod Gathering
+pub mod Fronts
+pub mod Digits

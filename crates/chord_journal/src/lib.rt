@@ -7,6 +7,7 @@
 
 mod gathered;
 mod lines;
+mod parts;
 mod write;
 
 pub use gathered::gather;
