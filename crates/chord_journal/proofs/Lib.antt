@@ -2,3 +2,5 @@ pub mod Printed
 pub mod Gathering
 pub mod Fronts
 pub mod Digits
+pub mod Many
+pub mod Faults

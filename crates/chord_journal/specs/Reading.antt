@@ -24,11 +24,15 @@ infixl 10 ◌>>=◌
 abbrev pub ◌>>=◌ : {A B : Type 0} → Option A → (A → Option B) → Option B
 o >>= f = option_and_then f o
 
+-- a call that failed had no memory, or there was nothing to read
+abbrev pub Fails : {Y : Type 0} → LineFault → Option Y → Type 0
+Fails Memory read = Unit {0}
+Fails Wrong read = read ≡ None
+
 -- what a call gave, seen by view, is what reading gives, unless memory ran out
 abbrev pub Gives : {X Y : Type 0} → (X → Y) → Result X LineFault → Option Y → Type 0
 Gives view (Ok x) read = read ≡ Some (view x)
-Gives view (Err Memory) read = Unit {0}
-Gives view (Err Wrong) read = read ≡ None
+Gives view (Err e) read = Fails e read
 
 -- the bytes behind this text, if it stands at the front
 abbrev pub after : List ℕ → List ℕ → Option (List ℕ)
@@ -52,13 +56,14 @@ number_at bound bytes =
     let count = prefix_len is_ascii_digit bytes in
     if is_plain (take count bytes) then value_if_below bound (take count bytes) >>= (λ n. Some (n, drop count bytes)) else None
 
+-- the number of 32 bits that stands behind a sign
+unfoldable pub negative_at : List ℕ → Read ℤ
+negative_at bytes = number_at 2147483649 bytes >>= (λ n. if n.0 == 0 then None else Some (negsuc (n.0 - 1), n.1))
+
 -- a number of 32 bits, with a sign where it is negative
 unfoldable pub int_at : List ℕ → Read ℤ
 int_at [] = None
-int_at (b ∷ bytes) =
-    if b == 45
-    then number_at 2147483649 bytes >>= (λ n. if n.0 == 0 then None else Some (negsuc (n.0 - 1), n.1))
-    else number_at 2147483648 (b ∷ bytes) >>= (λ n. Some (pos n.0, n.1))
+int_at (b ∷ bytes) = if b == 45 then negative_at bytes else number_at 2147483648 (b ∷ bytes) >>= (λ n. Some (pos n.0, n.1))
 
 -- an object
 unfoldable pub object_at : List ℕ → Read Object
