@@ -50,3 +50,27 @@ pub many_end :
 unfolding many
 many_end begins part zero front rest ended = rw (ended, append-nil front) refl
 many_end begins part (suc room) front rest ended = rw (ended, append-nil front) refl
+
+-- where the next number is read, it stands behind those so far
+pub numbers_next :
+    (count : ℕ) (front : List ℕ) (rest more : List ℕ) (n : ℕ) → length front < count → next_number_at rest ≡ Some (n, more) →
+    with_front (front ++ (n ∷ [])) (numbers_at (count - length (front ++ (n ∷ []))) more) ≡ with_front front (numbers_at (count - length front) rest)
+unfolding numbers_at
+numbers_next count front rest more n less read =
+    rw (room_next count front n less, read) (with_front_next front n (numbers_at (count - length (front ++ (n ∷ []))) more))
+
+-- where the next is no number, nothing is read
+pub numbers_wrong :
+    (count : ℕ) (front : List ℕ) (rest : List ℕ) → length front < count → next_number_at rest ≡ None →
+    with_front front (numbers_at (count - length front) rest) ≡ None
+unfolding numbers_at
+numbers_wrong count front rest less read =
+    let next : count - length front ≡ suc (count - length front - 1) = omega arith in
+    rw (next, read) refl
+
+-- where as many are read as there are to be, they are all
+pub numbers_end : (count : ℕ) (front : List ℕ) (rest : List ℕ) → length front ≡ count → with_front front (numbers_at (count - length front) rest) ≡ Some (front, rest)
+unfolding numbers_at
+numbers_end count front rest full =
+    let none : count - length front ≡ 0 = omega arith in
+    rw (none, append-nil front) refl

@@ -8,6 +8,7 @@
 mod gathered;
 mod lines;
 mod parts;
+mod values;
 mod write;
 
 pub use gathered::gather;
