@@ -147,14 +147,23 @@ unfoldable pub numbers_at : ℕ → List ℕ → Read (List ℕ)
 numbers_at zero bytes = Some ([], bytes)
 numbers_at (suc count) bytes = next_number_at bytes >>= (λ n. numbers_at count n.1 >>= (λ ns. Some (n.0 ∷ ns.0, ns.1)))
 
--- a message: its object, its method and its values
-unfoldable pub message_at : (Object → ℕ → List value.Value → What) → List ℕ → Read What
-message_at made bytes = do
+-- an asynchronous call: its object, its method and its values
+unfoldable pub sending_at : List ℕ → Read What
+sending_at bytes = do
   object ← object_at bytes
   blank ← after (codes " ") object.1
   method ← number_at 16 blank
   values ← values_at 8 method.1
-  Some (made object.0 method.0 values.0, values.1)
+  Some (Sent object.0 method.0 values.0, values.1)
+
+-- a synchronous call: its object, its method and its values
+unfoldable pub calling_at : List ℕ → Read What
+calling_at bytes = do
+  object ← object_at bytes
+  blank ← after (codes " ") object.1
+  method ← number_at 16 blank
+  values ← values_at 8 method.1
+  Some (Called object.0 method.0 values.0, values.1)
 
 -- a firing: its chord, its object, how many members it has, its members and its values
 unfoldable pub firing_at : List ℕ → Read What
@@ -181,16 +190,28 @@ end_at bytes =
     (on (codes "!long") bytes (λ rest. Some (Traps TextTooLong, rest))
     (value_at bytes >>= (λ v. Some (gives v.0, v.1))))))
 
+-- the class of an object that is made
+unfoldable pub made_at : List ℕ → Read What
+made_at bytes = number_at 1024 bytes >>= (λ class. Some (Made class.0, class.1))
+
+-- the text of a printed line
+unfoldable pub printed_at : List ℕ → Read What
+printed_at bytes = text_at bytes >>= (λ text. Some (Printed text.0, text.1))
+
+-- how a body ended
+unfoldable pub ended_at : List ℕ → Read What
+ended_at bytes = end_at bytes >>= (λ end. Some (Ended end.0, end.1))
+
 -- what happened, by its word
 unfoldable pub what_at : List ℕ → Read What
 what_at bytes =
     on (codes "begun") bytes (λ rest. Some (Begun, rest))
-    (on (codes "made ") bytes (λ rest. number_at 1024 rest >>= (λ class. Some (Made class.0, class.1)))
-    (on (codes "sent ") bytes (message_at Sent)
-    (on (codes "called ") bytes (message_at Called)
-    (on (codes "printed x") bytes (λ rest. text_at rest >>= (λ text. Some (Printed text.0, text.1)))
+    (on (codes "made ") bytes made_at
+    (on (codes "sent ") bytes sending_at
+    (on (codes "called ") bytes calling_at
+    (on (codes "printed x") bytes printed_at
     (on (codes "fired ") bytes firing_at
-    (on (codes "ended ") bytes (λ rest. end_at rest >>= (λ end. Some (Ended end.0, end.1)))
+    (on (codes "ended ") bytes ended_at
     None))))))
 
 -- the line of the entry with this number

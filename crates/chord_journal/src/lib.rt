@@ -6,6 +6,7 @@
 #![tactic(auto)]
 
 mod gathered;
+mod line;
 mod lines;
 mod parts;
 mod values;

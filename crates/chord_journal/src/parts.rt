@@ -1,5 +1,5 @@
 //! Reading the parts of a line from its front.
-ghost use Rattle.std.specs.Prelude.{◌≡◌, ℕ, ◌<◌, ◌≤◌, IfOk, IfSome, EachIndex, length, slice_index};
+ghost use Rattle.std.specs.Prelude.{◌≡◌, ℕ, ◌<◌, ◌≤◌, None, IfOk, OnErr, IfSome, EachIndex, length, slice_index};
 ghost use Rattle.std.specs.List.{prefix_len};
 ghost use Rattle.std.specs.Char.{is_ascii_digit};
 ghost use Rattle.chord_journal.specs.Reading.{Gives, number_at, negative_at, value_if_below, int_at, byte_at, text_at, object_at};
@@ -30,7 +30,8 @@ impl<T: Drop> From<AllocFailed<T>> for LineFault {
 
 /// The bytes behind a text.
 pub fn after<'a>(bytes: &'a [u8], text: &[u8]) -> Result<&'a [u8], LineFault>
-    ensures { Gives (λ rest. rest.now) result (after_lem text.now bytes.now) }
+    ensures read { Gives (λ rest. rest.now) result (after_lem text.now bytes.now) }
+    ensures wrong { OnErr result (after_lem text.now bytes.now ≡ None) }
 {
     match bytes.strip_prefix(text) {
         Some(rest) => Ok(rest),
