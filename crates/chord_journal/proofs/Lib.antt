@@ -4,3 +4,5 @@ pub mod Fronts
 pub mod Digits
 pub mod Many
 pub mod Faults
+pub mod Binds
+pub mod Numbers

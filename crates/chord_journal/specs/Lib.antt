@@ -1,3 +1,4 @@
 pub mod Text
 pub mod Gathered
 pub mod Reading
+pub mod Typed
