@@ -6,3 +6,4 @@ pub mod Many
 pub mod Faults
 pub mod Binds
 pub mod Numbers
+pub mod Repeats
