@@ -7,3 +7,4 @@ pub mod Faults
 pub mod Binds
 pub mod Numbers
 pub mod Repeats
+pub mod Hexes
