@@ -23,3 +23,8 @@ same_read {A} x y rest more is =
     let part : Option (A × List ℕ) → A = λ o. elim o [ Some p ↦ p.0 | None ↦ x ] in
     let left : Option (A × List ℕ) → List ℕ = λ o. elim o [ Some p ↦ p.1 | None ↦ rest ] in
     (ap part is, ap left is)
+
+-- what a choice gave, one of the two gave, whose way the test went
+pub chosen : {A R : Type 0} (b : Bool) (x y : Option A) (z : A) → cond b x y ≡ Some z → (b ≡ true → x ≡ Some z → R) → (b ≡ false → y ≡ Some z → R) → R
+chosen true x y z read then_x then_y = then_x refl read
+chosen false x y z read then_x then_y = then_y refl read

@@ -8,3 +8,4 @@ pub mod Binds
 pub mod Numbers
 pub mod Repeats
 pub mod Hexes
+pub mod ValueTexts
