@@ -9,3 +9,4 @@ pub mod Numbers
 pub mod Repeats
 pub mod Hexes
 pub mod ValueTexts
+pub mod LineTexts

@@ -1,0 +1,116 @@
+-- Lines: what is read has their text, and their text is read.
+use Rattle.std.proofs.Common.{◌≡◌, ℕ, zero, suc, ◌<◌, ◌≤◌, ◌+◌, Bool, true, false, cond, if◌then◌else◌, ◌==◌, List, [], ◌∷◌, ◌++◌, length, Option, Some, None, refl, ap, sym, ◌∙◌, append_assoc, arith, subst}
+use Rattle.std.specs.Prelude.{codes, decimal}
+use Rattle.std.specs.List.{flat_map, prefix_len}
+use Rattle.std.specs.Char.{is_ascii_digit}
+use Rattle.std.proofs.lemmas.Bool.Decides.{nat_tests}
+use Rattle.chord_base.specs.Bounds.{IsObjectWithin, IsValueWithin, AreValuesWithin, AreNumbersWithin, IsMessageWithin, IsFiringWithin, IsEndWithin, IsWhatWithin}
+use Rattle.chord_base.specs.declared.value.Object.{Object}
+use Rattle.chord_base.specs.declared.value.Value as value
+use Rattle.chord_base.specs.declared.value.Value.TheVariants as a_value
+use Rattle.chord_base.specs.declared.event.Trap.{Trap}
+use Rattle.chord_base.specs.declared.event.Trap.TheVariants.{DivideByZero, OutOfTurns, TooDeep, TextTooLong}
+use Rattle.chord_base.specs.declared.event.End.{End}
+use Rattle.chord_base.specs.declared.event.End.TheVariants.{Gives, Traps}
+use Rattle.chord_base.specs.declared.event.What.{What}
+use Rattle.chord_base.specs.declared.event.What.TheVariants.{Begun, Made, Sent, Called, Printed, Fired, Ended}
+use Rattle.chord_base.specs.declared.event.Entry.{Entry}
+use Rattle.chord_journal.specs.Text.{byte_text, bytes_text, object_text, value_text, values_text, numbers_text, message_text, firing_text, trap_text, end_text, what_text, entry_text, header_text}
+use Rattle.chord_journal.specs.Typed.{IsTypedValue, AreTypedValues, IsTypedEnd, IsTypedWhat, IsText}
+use Rattle.chord_journal.specs.Reading.{Read, ◌>>=◌, on, after, number_at, text_at, object_at, value_at, begins_digit, begins_blank, values_at, numbers_at, sending_at, calling_at, made_at, printed_at, ended_at, firing_at, end_at, what_at, entry_at, header_at}
+use Rattle.chord_journal.proofs.Binds.{bound, same_read, chosen, passed, guarded}
+use Rattle.chord_journal.proofs.Fronts.{after_takes}
+use Rattle.chord_journal.proofs.Numbers.{number_again, number_takes}
+use Rattle.chord_journal.proofs.Hexes.{text_again, text_takes}
+use Rattle.chord_journal.proofs.ValueTexts.{Stops, object_again, object_takes, value_again, value_takes, values_again, values_takes, numbers_again, numbers_takes}
+
+-- the end of a line stops what stands before it
+line_end : (more : List ℕ) → Stops (10 ∷ more)
+line_end more = record { decimal = refl; hexadecimal = refl }
+
+-- so do values, since each stands behind a blank
+values_stop : (vs : List value.Value) (rest : List ℕ) → Stops rest → Stops (values_text vs ++ rest)
+values_stop [] rest stops = stops
+values_stop (v ∷ vs) rest stops = record { decimal = refl; hexadecimal = refl }
+
+-- and numbers
+numbers_stop : (ns : List ℕ) (rest : List ℕ) → Stops rest → Stops (numbers_text ns ++ rest)
+numbers_stop [] rest stops = stops
+numbers_stop (n ∷ ns) rest stops = record { decimal = refl; hexadecimal = refl }
+
+-- the text of a message in front of what follows, part by part
+message_parts : (o : Object) (j : ℕ) (vs : List value.Value) (rest : List ℕ) →
+    message_text o j vs ++ rest ≡ object_text o ++ (32 ∷ (decimal j ++ (values_text vs ++ rest)))
+message_parts o j vs rest =
+    append_assoc (object_text o) (32 ∷ (decimal j ++ values_text vs)) rest ∙ ap (λ b. object_text o ++ (32 ∷ b)) (append_assoc (decimal j) (values_text vs) rest)
+
+-- messages are read at the end of a line
+sending_again : (o : Object) (j : ℕ) (vs : List value.Value) (more : List ℕ) → IsMessageWithin o j vs → AreTypedValues vs →
+    sending_at (message_text o j vs ++ (10 ∷ more)) ≡ Some (Sent o j vs, 10 ∷ more)
+unfolding sending_at
+sending_again o j vs more within typed =
+    let stops = line_end more in
+    let object = object_again o (32 ∷ (decimal j ++ (values_text vs ++ (10 ∷ more)))) within.object refl in
+    let method = number_again 16 j (values_text vs ++ (10 ∷ more)) within.method (omega arith) (values_stop vs (10 ∷ more) stops).decimal in
+    let values = values_again 8 vs (10 ∷ more) within.few within.values typed stops refl in
+    ap sending_at (message_parts o j vs (10 ∷ more)) ∙ rw (object, method, values) refl
+
+calling_again : (o : Object) (j : ℕ) (vs : List value.Value) (more : List ℕ) → IsMessageWithin o j vs → AreTypedValues vs →
+    calling_at (message_text o j vs ++ (10 ∷ more)) ≡ Some (Called o j vs, 10 ∷ more)
+unfolding calling_at
+calling_again o j vs more within typed =
+    let stops = line_end more in
+    let object = object_again o (32 ∷ (decimal j ++ (values_text vs ++ (10 ∷ more)))) within.object refl in
+    let method = number_again 16 j (values_text vs ++ (10 ∷ more)) within.method (omega arith) (values_stop vs (10 ∷ more) stops).decimal in
+    let values = values_again 8 vs (10 ∷ more) within.few within.values typed stops refl in
+    ap calling_at (message_parts o j vs (10 ∷ more)) ∙ rw (object, method, values) refl
+
+-- the text of a firing in front of what follows, part by part
+firing_parts : (k : ℕ) (o : Object) (ms : List ℕ) (vs : List value.Value) (rest : List ℕ) →
+    firing_text k o ms vs ++ rest ≡ decimal k ++ (32 ∷ (object_text o ++ (32 ∷ (decimal (length ms) ++ (numbers_text ms ++ (values_text vs ++ rest))))))
+firing_parts k o ms vs rest =
+    let lists = append_assoc (numbers_text ms) (values_text vs) rest in
+    let counted = append_assoc (decimal (length ms)) (numbers_text ms ++ values_text vs) rest ∙ ap (λ b. decimal (length ms) ++ b) lists in
+    let object = append_assoc (object_text o) (32 ∷ (decimal (length ms) ++ (numbers_text ms ++ values_text vs))) rest ∙ ap (λ b. object_text o ++ (32 ∷ b)) counted in
+    append_assoc (decimal k) (32 ∷ (object_text o ++ (32 ∷ (decimal (length ms) ++ (numbers_text ms ++ values_text vs))))) rest ∙ ap (λ b. decimal k ++ (32 ∷ b)) object
+
+-- firings are read at the end of a line
+firing_again : (k : ℕ) (o : Object) (ms : List ℕ) (vs : List value.Value) (more : List ℕ) → IsFiringWithin k o ms vs → AreTypedValues vs →
+    firing_at (firing_text k o ms vs ++ (10 ∷ more)) ≡ Some (Fired k o ms vs, 10 ∷ more)
+unfolding firing_at
+firing_again k o ms vs more within typed =
+    let stops = line_end more in
+    let behind = values_text vs ++ (10 ∷ more) in
+    let chord = number_again 256 k (32 ∷ (object_text o ++ (32 ∷ (decimal (length ms) ++ (numbers_text ms ++ behind))))) within.chord (omega arith) refl in
+    let object = object_again o (32 ∷ (decimal (length ms) ++ (numbers_text ms ++ behind))) within.object refl in
+    let few : length ms < 9 = omega (arith, within.few_members) in
+    let count = number_again 9 (length ms) (numbers_text ms ++ behind) few (omega arith) (numbers_stop ms behind (values_stop vs (10 ∷ more) stops)).decimal in
+    let some : (length ms == 0) ≡ false = grind (arith, nat_tests, within.some) in
+    let members = numbers_again ms behind within.members (values_stop vs (10 ∷ more) stops).decimal in
+    let values = values_again 64 vs (10 ∷ more) within.few_values within.values typed stops refl in
+    ap firing_at (firing_parts k o ms vs (10 ∷ more)) ∙ rw (chord, object, count, some, members, values) refl
+
+-- ends are read at the end of a line
+end_again : (x : End) (more : List ℕ) → IsEndWithin x → IsTypedEnd x → end_at (end_text x ++ (10 ∷ more)) ≡ Some (x, 10 ∷ more)
+unfolding end_at
+end_again (Traps DivideByZero) more within typed = refl
+end_again (Traps OutOfTurns) more within typed = refl
+end_again (Traps TooDeep) more within typed = refl
+end_again (Traps TextTooLong) more within typed = refl
+end_again (Gives a_value.Unit) more within typed = rw (value_again a_value.Unit (10 ∷ more) within typed (line_end more)) refl
+end_again (Gives (a_value.Int n)) more within typed = rw (value_again (a_value.Int n) (10 ∷ more) within typed (line_end more)) refl
+end_again (Gives (a_value.Flag true)) more within typed = rw (value_again (a_value.Flag true) (10 ∷ more) within typed (line_end more)) refl
+end_again (Gives (a_value.Flag false)) more within typed = rw (value_again (a_value.Flag false) (10 ∷ more) within typed (line_end more)) refl
+end_again (Gives (a_value.Text t)) more within typed = rw (value_again (a_value.Text t) (10 ∷ more) within typed (line_end more)) refl
+end_again (Gives (a_value.Ref o)) more within typed = rw (value_again (a_value.Ref o) (10 ∷ more) within typed (line_end more)) refl
+
+-- what happened is read at the end of a line
+what_again : (w : What) (more : List ℕ) → IsWhatWithin w → IsTypedWhat w → what_at (what_text w ++ (10 ∷ more)) ≡ Some (w, 10 ∷ more)
+unfolding what_at made_at printed_at ended_at
+what_again Begun more within typed = refl
+what_again (Made c) more within typed = rw (number_again 1024 c (10 ∷ more) within (omega arith) refl) refl
+what_again (Sent o j vs) more within typed = sending_again o j vs more within typed
+what_again (Called o j vs) more within typed = calling_again o j vs more within typed
+what_again (Printed t) more within typed = rw (text_again t (10 ∷ more) typed refl) refl
+what_again (Fired k o ms vs) more within typed = firing_again k o ms vs more within typed
+what_again (Ended x) more within typed = rw (end_again x more within typed) refl
