@@ -114,3 +114,82 @@ what_again (Called o j vs) more within typed = calling_again o j vs more within 
 what_again (Printed t) more within typed = rw (text_again t (10 ∷ more) typed refl) refl
 what_again (Fired k o ms vs) more within typed = firing_again k o ms vs more within typed
 what_again (Ended x) more within typed = rw (end_again x more within typed) refl
+
+-- what stands at the front, and what was read of it
+abbrev IsWhatRead : List ℕ → What → List ℕ → Type 0
+IsWhatRead bytes w rest = (bytes ≡ what_text w ++ rest) × IsWhatWithin w × IsTypedWhat w
+
+-- a message that was read
+abbrev IsMessageRead : List ℕ → Object → ℕ → List value.Value → List ℕ → Type 0
+IsMessageRead bytes o j vs rest = (bytes ≡ message_text o j vs ++ rest) × IsMessageWithin o j vs × AreTypedValues vs
+
+message_takes : (bytes : List ℕ) (o : Object × List ℕ) (blank : List ℕ) (j : ℕ × List ℕ) (vs : List value.Value × List ℕ) →
+    object_at bytes ≡ Some o → after (codes " ") o.1 ≡ Some blank → number_at 16 blank ≡ Some j → values_at 8 j.1 ≡ Some vs → IsMessageRead bytes o.0 j.0 vs.0 vs.1
+message_takes bytes o blank j vs first second third fourth =
+    let (text₁, object) = object_takes bytes o.0 o.1 first in
+    let text₂ = after_takes (codes " ") o.1 blank second in
+    let (text₃, method) = number_takes 16 blank j.0 j.1 (omega arith) third in
+    let (text₄, few, values, typed) = values_takes 8 j.1 vs.0 vs.1 fourth in
+    let whole : bytes ≡ object_text o.0 ++ (32 ∷ (decimal j.0 ++ (values_text vs.0 ++ vs.1))) =
+        text₁ ∙ ap (λ b. object_text o.0 ++ b) (text₂ ∙ ap (λ b. 32 ∷ b) (text₃ ∙ ap (λ b. decimal j.0 ++ b) text₄)) in
+    (whole ∙ sym (message_parts o.0 j.0 vs.0 vs.1), record { object = object; method = method; few = few; values = values }, typed)
+
+-- parts of messages, as they are read
+abbrev as_message : (Object → ℕ → List value.Value → What) → Object → ℕ → List value.Value × List ℕ → Read What
+as_message made o j vs = Some (made o j vs.0, vs.1)
+
+abbrev with_method : (Object → ℕ → List value.Value → What) → Object → ℕ × List ℕ → Read What
+with_method made o j = values_at 8 j.1 >>= as_message made o j.0
+
+abbrev with_blank : (Object → ℕ → List value.Value → What) → Object → List ℕ → Read What
+with_blank made o blank = number_at 16 blank >>= with_method made o
+
+abbrev with_object : (Object → ℕ → List value.Value → What) → Object × List ℕ → Read What
+with_object made o = after (codes " ") o.1 >>= with_blank made o.0
+
+sending_takes : (bytes : List ℕ) (w : What) (rest : List ℕ) → sending_at bytes ≡ Some (w, rest) → IsWhatRead (codes "sent " ++ bytes) w rest
+unfolding sending_at
+sending_takes bytes w rest read =
+    let (o, first, read₁) = bound (object_at bytes) (with_object Sent) (w, rest) read in
+    let (blank, second, read₂) = bound (after (codes " ") o.1) (with_blank Sent o.0) (w, rest) read₁ in
+    let (j, third, read₃) = bound (number_at 16 blank) (with_method Sent o.0) (w, rest) read₂ in
+    let (vs, fourth, is) = bound (values_at 8 j.1) (as_message Sent o.0 j.0) (w, rest) read₃ in
+    let (same, left) = same_read (Sent o.0 j.0 vs.0) w vs.1 rest is in
+    let (text, within, typed) = message_takes bytes o blank j vs first second third fourth in
+    subst (λ x. IsWhatRead (codes "sent " ++ bytes) x rest) same
+    (ap (λ b. codes "sent " ++ b) (text ∙ ap (λ r. message_text o.0 j.0 vs.0 ++ r) left), within, typed)
+
+calling_takes : (bytes : List ℕ) (w : What) (rest : List ℕ) → calling_at bytes ≡ Some (w, rest) → IsWhatRead (codes "called " ++ bytes) w rest
+unfolding calling_at
+calling_takes bytes w rest read =
+    let (o, first, read₁) = bound (object_at bytes) (with_object Called) (w, rest) read in
+    let (blank, second, read₂) = bound (after (codes " ") o.1) (with_blank Called o.0) (w, rest) read₁ in
+    let (j, third, read₃) = bound (number_at 16 blank) (with_method Called o.0) (w, rest) read₂ in
+    let (vs, fourth, is) = bound (values_at 8 j.1) (as_message Called o.0 j.0) (w, rest) read₃ in
+    let (same, left) = same_read (Called o.0 j.0 vs.0) w vs.1 rest is in
+    let (text, within, typed) = message_takes bytes o blank j vs first second third fourth in
+    subst (λ x. IsWhatRead (codes "called " ++ bytes) x rest) same
+    (ap (λ b. codes "called " ++ b) (text ∙ ap (λ r. message_text o.0 j.0 vs.0 ++ r) left), within, typed)
+
+made_takes : (bytes : List ℕ) (w : What) (rest : List ℕ) → made_at bytes ≡ Some (w, rest) → IsWhatRead (codes "made " ++ bytes) w rest
+unfolding made_at
+made_takes bytes w rest read =
+    let (c, number, is) = bound (number_at 1024 bytes) as_made (w, rest) read in
+    let (same, left) = same_read (Made c.0) w c.1 rest is in
+    let (text, less) = number_takes 1024 bytes c.0 c.1 (omega arith) number in
+    subst (λ x. IsWhatRead (codes "made " ++ bytes) x rest) same (ap (λ b. codes "made " ++ b) (text ∙ ap (λ r. decimal c.0 ++ r) left), less, tt)
+  where
+    as_made : ℕ × List ℕ → Read What
+    as_made c = Some (Made c.0, c.1)
+
+printed_takes : (bytes : List ℕ) (w : What) (rest : List ℕ) → printed_at bytes ≡ Some (w, rest) → IsWhatRead (codes "printed x" ++ bytes) w rest
+unfolding printed_at
+printed_takes bytes w rest read =
+    let (t, found, is) = bound (text_at bytes) as_printed (w, rest) read in
+    let (same, left) = same_read (Printed t.0) w t.1 rest is in
+    let (text, typed) = text_takes bytes t.0 t.1 found in
+    subst (λ x. IsWhatRead (codes "printed x" ++ bytes) x rest) same
+    (ap (λ b. codes "printed x" ++ b) (text ∙ ap (λ r. flat_map byte_text t.0 ++ r) left), tt, typed)
+  where
+    as_printed : List ℕ × List ℕ → Read What
+    as_printed t = Some (Printed t.0, t.1)
