@@ -193,3 +193,130 @@ printed_takes bytes w rest read =
   where
     as_printed : List ℕ × List ℕ → Read What
     as_printed t = Some (Printed t.0, t.1)
+
+-- parts of a firing, as they are read
+abbrev as_firing : ℕ → Object → List ℕ → List value.Value × List ℕ → Read What
+as_firing k o ms vs = Some (Fired k o ms vs.0, vs.1)
+
+abbrev with_members : ℕ → Object → List ℕ × List ℕ → Read What
+with_members k o ms = values_at 64 ms.1 >>= as_firing k o ms.0
+
+abbrev with_count : ℕ → Object → ℕ × List ℕ → Read What
+with_count k o count = (if count.0 == 0 then None else numbers_at count.0 count.1) >>= with_members k o
+
+abbrev with_next : ℕ → Object → List ℕ → Read What
+with_next k o next = number_at 9 next >>= with_count k o
+
+abbrev with_target : ℕ → Object × List ℕ → Read What
+with_target k o = after (codes " ") o.1 >>= with_next k o.0
+
+abbrev with_space : ℕ → List ℕ → Read What
+with_space k blank = object_at blank >>= with_target k
+
+abbrev with_chord : ℕ × List ℕ → Read What
+with_chord k = after (codes " ") k.1 >>= with_space k.0
+
+firing_takes : (bytes : List ℕ) (w : What) (rest : List ℕ) → firing_at bytes ≡ Some (w, rest) → IsWhatRead (codes "fired " ++ bytes) w rest
+unfolding firing_at
+firing_takes bytes w rest read =
+    let (k, first, read₁) = bound (number_at 256 bytes) with_chord (w, rest) read in
+    let (blank, second, read₂) = bound (after (codes " ") k.1) (with_space k.0) (w, rest) read₁ in
+    let (o, third, read₃) = bound (object_at blank) (with_target k.0) (w, rest) read₂ in
+    let (next, fourth, read₄) = bound (after (codes " ") o.1) (with_next k.0 o.0) (w, rest) read₃ in
+    let (count, fifth, read₅) = bound (number_at 9 next) (with_count k.0 o.0) (w, rest) read₄ in
+    let (ms, tested, read₆) = bound (if count.0 == 0 then None else numbers_at count.0 count.1) (with_members k.0 o.0) (w, rest) read₅ in
+    let (some, sixth) = passed (count.0 == 0) (numbers_at count.0 count.1) ms tested in
+    let (vs, seventh, is) = bound (values_at 64 ms.1) (as_firing k.0 o.0 ms.0) (w, rest) read₆ in
+    let (same, left) = same_read (Fired k.0 o.0 ms.0 vs.0) w vs.1 rest is in
+    let (text₁, chord) = number_takes 256 bytes k.0 k.1 (omega arith) first in
+    let text₂ = after_takes (codes " ") k.1 blank second in
+    let (text₃, object) = object_takes blank o.0 o.1 third in
+    let text₄ = after_takes (codes " ") o.1 next fourth in
+    let (text₅, small) = number_takes 9 next count.0 count.1 (omega arith) fifth in
+    let (text₆, counted, members) = numbers_takes count.0 count.1 ms.0 ms.1 sixth in
+    let (text₇, few, values, typed) = values_takes 64 ms.1 vs.0 vs.1 seventh in
+    let above : 0 < count.0 = grind (arith, nat_tests, some) in
+    let parts : bytes ≡ decimal k.0 ++ (32 ∷ (object_text o.0 ++ (32 ∷ (decimal count.0 ++ (numbers_text ms.0 ++ (values_text vs.0 ++ vs.1)))))) =
+        text₁ ∙
+        ap (λ b. decimal k.0 ++ b)
+        (text₂ ∙
+        ap (λ b. 32 ∷ b)
+        (text₃ ∙
+        ap (λ b. object_text o.0 ++ b)
+        (text₄ ∙ ap (λ b. 32 ∷ b) (text₅ ∙ ap (λ b. decimal count.0 ++ b) (text₆ ∙ ap (λ b. numbers_text ms.0 ++ b) text₇))))) in
+    let whole : bytes ≡ firing_text k.0 o.0 ms.0 vs.0 ++ vs.1 =
+        parts ∙ ap (λ n. decimal k.0 ++ (32 ∷ (object_text o.0 ++ (32 ∷ (decimal n ++ (numbers_text ms.0 ++ (values_text vs.0 ++ vs.1))))))) (sym counted) ∙
+        sym (firing_parts k.0 o.0 ms.0 vs.0 vs.1) in
+    let within : IsFiringWithin k.0 o.0 ms.0 vs.0 =
+        record {
+          chord = chord;
+          object = object;
+          some = omega (arith, above, counted);
+          few_members = omega (arith, small, counted);
+          members = members;
+          few_values = few;
+          values = values;
+        } in
+    subst (λ x. IsWhatRead (codes "fired " ++ bytes) x rest) same
+    (ap (λ b. codes "fired " ++ b) (whole ∙ ap (λ r. firing_text k.0 o.0 ms.0 vs.0 ++ r) left), within, typed)
+
+-- what a word was followed by, or what was read without it
+followed : {A R : Type 0} (word bytes : List ℕ) (part : List ℕ → Read A) (other : Read A) (y : A × List ℕ) → on word bytes part other ≡ Some y →
+    ((front : List ℕ) → bytes ≡ word ++ front → part front ≡ Some y → R) → (other ≡ Some y → R) → R
+followed {A} {R} word bytes part other y read here there =
+    elim (after word bytes) as (λ o. after word bytes ≡ o → (elim o [ Some front ↦ part front | None ↦ other ]) ≡ Some y → R) [
+      Some front ↦ λ is found. here front (after_takes word bytes front is) found
+    | None ↦ λ is found. there found
+    ] refl read
+
+abbrev IsEndRead : List ℕ → End → List ℕ → Type 0
+IsEndRead bytes x rest = (bytes ≡ end_text x ++ rest) × IsEndWithin x × IsTypedEnd x
+
+trap_takes : (bytes front : List ℕ) (t : Trap) (x : End) (rest : List ℕ) → bytes ≡ trap_text t ++ front →
+    ◌≡◌ {A = Option (End × List ℕ)} (Some (Traps t, front)) (Some (x, rest)) → IsEndRead bytes x rest
+trap_takes bytes front t x rest text read =
+    let (same, left) = same_read (Traps t) x front rest read in
+    subst (λ y. IsEndRead bytes y rest) same (text ∙ ap (λ r. trap_text t ++ r) left, tt, tt)
+
+abbrev as_end : value.Value × List ℕ → Read End
+as_end v = Some (Gives v.0, v.1)
+
+end_takes : (bytes : List ℕ) (x : End) (rest : List ℕ) → end_at bytes ≡ Some (x, rest) → IsEndRead bytes x rest
+unfolding end_at
+end_takes bytes x rest read =
+    followed (codes "!divide") bytes _ _ (x, rest) read (λ front text found. trap_takes bytes front DivideByZero x rest text found)
+    (λ read₁. followed (codes "!turns") bytes _ _ (x, rest) read₁ (λ front text found. trap_takes bytes front OutOfTurns x rest text found)
+    (λ read₂. followed (codes "!deep") bytes _ _ (x, rest) read₂ (λ front text found. trap_takes bytes front TooDeep x rest text found)
+    (λ read₃. followed (codes "!long") bytes _ _ (x, rest) read₃ (λ front text found. trap_takes bytes front TextTooLong x rest text found)
+    (λ read₄.
+      let (v, found, is) = bound (value_at bytes) as_end (x, rest) read₄ in
+      let (same, left) = same_read (Gives v.0) x v.1 rest is in
+      let (text, within, typed) = value_takes bytes v.0 v.1 found in
+      subst (λ y. IsEndRead bytes y rest) same (text ∙ ap (λ r. value_text v.0 ++ r) left, within, typed)))))
+
+ended_takes : (bytes : List ℕ) (w : What) (rest : List ℕ) → ended_at bytes ≡ Some (w, rest) → IsWhatRead (codes "ended " ++ bytes) w rest
+unfolding ended_at
+ended_takes bytes w rest read =
+    let (x, found, is) = bound (end_at bytes) as_ended (w, rest) read in
+    let (same, left) = same_read (Ended x.0) w x.1 rest is in
+    let (text, within, typed) = end_takes bytes x.0 x.1 found in
+    subst (λ y. IsWhatRead (codes "ended " ++ bytes) y rest) same (ap (λ b. codes "ended " ++ b) (text ∙ ap (λ r. end_text x.0 ++ r) left), within, typed)
+  where
+    as_ended : End × List ℕ → Read What
+    as_ended x = Some (Ended x.0, x.1)
+
+-- what is read is what happened
+pub what_takes : (bytes : List ℕ) (w : What) (rest : List ℕ) → what_at bytes ≡ Some (w, rest) → IsWhatRead bytes w rest
+unfolding what_at
+what_takes bytes w rest read =
+    followed (codes "begun") bytes _ _ (w, rest) read
+    (λ front text found.
+      let (same, left) = same_read Begun w front rest found in
+      subst (λ y. IsWhatRead bytes y rest) same (text ∙ ap (λ r. codes "begun" ++ r) left, tt, tt))
+    (λ read₁. followed (codes "made ") bytes made_at _ (w, rest) read₁ (λ front text found. rw text (made_takes front w rest found))
+    (λ read₂. followed (codes "sent ") bytes sending_at _ (w, rest) read₂ (λ front text found. rw text (sending_takes front w rest found))
+    (λ read₃. followed (codes "called ") bytes calling_at _ (w, rest) read₃ (λ front text found. rw text (calling_takes front w rest found))
+    (λ read₄. followed (codes "printed x") bytes printed_at _ (w, rest) read₄ (λ front text found. rw text (printed_takes front w rest found))
+    (λ read₅. followed (codes "fired ") bytes firing_at _ (w, rest) read₅ (λ front text found. rw text (firing_takes front w rest found))
+    (λ read₆. followed (codes "ended ") bytes ended_at _ (w, rest) read₆ (λ front text found. rw text (ended_takes front w rest found))
+    (λ none. absurd (cc))))))))
