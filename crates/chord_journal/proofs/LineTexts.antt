@@ -17,6 +17,7 @@ use Rattle.chord_base.specs.declared.event.What.TheVariants.{Begun, Made, Sent, 
 use Rattle.chord_base.specs.declared.event.Entry.{Entry}
 use Rattle.chord_journal.specs.Text.{byte_text, bytes_text, object_text, value_text, values_text, numbers_text, message_text, firing_text, trap_text, end_text, what_text, entry_text, header_text}
 use Rattle.chord_journal.specs.Typed.{IsTypedValue, AreTypedValues, IsTypedEnd, IsTypedWhat, IsText}
+use Rattle.chord_journal.specs.Wrong.{IsEntryAt}
 use Rattle.chord_journal.specs.Reading.{Read, ◌>>=◌, on, after, number_at, text_at, object_at, value_at, begins_digit, begins_blank, values_at, numbers_at, sending_at, calling_at, made_at, printed_at, ended_at, firing_at, end_at, what_at, entry_at, header_at}
 use Rattle.chord_journal.proofs.Binds.{bound, same_read, chosen, passed, guarded}
 use Rattle.chord_journal.proofs.Fronts.{after_takes}
@@ -320,3 +321,100 @@ what_takes bytes w rest read =
     (λ read₅. followed (codes "fired ") bytes firing_at _ (w, rest) read₅ (λ front text found. rw text (firing_takes front w rest found))
     (λ read₆. followed (codes "ended ") bytes ended_at _ (w, rest) read₆ (λ front text found. rw text (ended_takes front w rest found))
     (λ none. absurd (cc))))))))
+
+-- the text of a line in front of what follows, part by part
+line_parts : (e : Entry) (rest : List ℕ) →
+    entry_text e ++ rest ≡ decimal e.number ++ (32 ∷ (decimal e.body ++ (32 ∷ (what_text e.what ++ (10 ∷ rest)))))
+line_parts e rest =
+    let what = append_assoc (what_text e.what) (10 ∷ []) rest in
+    let body = append_assoc (decimal e.body) (32 ∷ (what_text e.what ++ (10 ∷ []))) rest ∙ ap (λ b. decimal e.body ++ (32 ∷ b)) what in
+    append_assoc (decimal e.number) (32 ∷ (decimal e.body ++ (32 ∷ (what_text e.what ++ (10 ∷ []))))) rest ∙ ap (λ b. decimal e.number ++ (32 ∷ b)) body
+
+-- the line of an entry is read
+pub entry_again : (place : ℕ) (e : Entry) (rest : List ℕ) → IsEntryAt place e → place < 65536 → entry_at place (entry_text e ++ rest) ≡ Some (e, rest)
+unfolding entry_at
+entry_again place e rest right few =
+    let low : e.number < 65536 = omega (arith, right.number, few) in
+    let number = number_again 65536 e.number (32 ∷ (decimal e.body ++ (32 ∷ (what_text e.what ++ (10 ∷ rest))))) low (omega arith) refl in
+    let here : (e.number == place) ≡ true = grind (arith, nat_tests, right.number) in
+    let body = number_again 65536 e.body (32 ∷ (what_text e.what ++ (10 ∷ rest))) right.body (omega arith) refl in
+    let what = what_again e.what rest right.what right.typed in
+    ap (λ b. entry_at place b) (line_parts e rest) ∙ rw (number, here, body, what) refl
+
+-- parts of a line, as they are read
+abbrev as_entry : ℕ → ℕ → What → List ℕ → Read Entry
+as_entry number body what rest = Some (record { number = number; body = body; what = what }, rest)
+
+abbrev with_what : ℕ → ℕ → What × List ℕ → Read Entry
+with_what number body what = after (codes "\n") what.1 >>= as_entry number body what.0
+
+abbrev with_gap : ℕ → ℕ → List ℕ → Read Entry
+with_gap number body next = what_at next >>= with_what number body
+
+abbrev with_body : ℕ → ℕ × List ℕ → Read Entry
+with_body number body = after (codes " ") body.1 >>= with_gap number body.0
+
+abbrev behind_number : ℕ → List ℕ → Read Entry
+behind_number number blank = number_at 65536 blank >>= with_body number
+
+abbrev with_number : ℕ → ℕ × List ℕ → Read Entry
+with_number place number = (if number.0 == place then after (codes " ") number.1 else None) >>= behind_number number.0
+
+-- what is read is the line of an entry
+pub entry_takes : (place : ℕ) (bytes : List ℕ) (e : Entry) (rest : List ℕ) → entry_at place bytes ≡ Some (e, rest) →
+    (bytes ≡ entry_text e ++ rest) × IsEntryAt place e
+unfolding entry_at
+entry_takes place bytes e rest read =
+    let (number, first, read₁) = bound (number_at 65536 bytes) (with_number place) (e, rest) read in
+    let (blank, tested, read₂) = bound (if number.0 == place then after (codes " ") number.1 else None) (behind_number number.0) (e, rest) read₁ in
+    let (here, second) = guarded (number.0 == place) (after (codes " ") number.1) blank tested in
+    let (body, third, read₃) = bound (number_at 65536 blank) (with_body number.0) (e, rest) read₂ in
+    let (next, fourth, read₄) = bound (after (codes " ") body.1) (with_gap number.0 body.0) (e, rest) read₃ in
+    let (what, fifth, read₅) = bound (what_at next) (with_what number.0 body.0) (e, rest) read₄ in
+    let (behind, sixth, is) = bound (after (codes "\n") what.1) (as_entry number.0 body.0 what.0) (e, rest) read₅ in
+    let (same, left) = same_read (record { number = number.0; body = body.0; what = what.0 }) e behind rest is in
+    let (text₁, low) = number_takes 65536 bytes number.0 number.1 (omega arith) first in
+    let text₂ = after_takes (codes " ") number.1 blank second in
+    let (text₃, small) = number_takes 65536 blank body.0 body.1 (omega arith) third in
+    let text₄ = after_takes (codes " ") body.1 next fourth in
+    let (text₅, within, typed) = what_takes next what.0 what.1 fifth in
+    let text₆ = after_takes (codes "\n") what.1 behind sixth in
+    let parts : bytes ≡ decimal number.0 ++ (32 ∷ (decimal body.0 ++ (32 ∷ (what_text what.0 ++ (10 ∷ behind))))) =
+        text₁ ∙
+        ap (λ b. decimal number.0 ++ b)
+        (text₂ ∙ ap (λ b. 32 ∷ b) (text₃ ∙ ap (λ b. decimal body.0 ++ b) (text₄ ∙ ap (λ b. 32 ∷ b) (text₅ ∙ ap (λ b. what_text what.0 ++ b) text₆)))) in
+    let whole = parts ∙ sym (line_parts (record { number = number.0; body = body.0; what = what.0 }) behind) ∙
+        ap (λ r. entry_text (record { number = number.0; body = body.0; what = what.0 }) ++ r) left in
+    let at : number.0 ≡ place = grind (arith, nat_tests, here) in
+    subst (λ x. (bytes ≡ entry_text x ++ rest) × IsEntryAt place x) same (whole, record { number = at; body = small; what = within; typed = typed })
+
+-- a header is read
+pub header_again : (count : ℕ) (rest : List ℕ) → count ≤ 65536 → header_at (header_text count ++ rest) ≡ Some (count, rest)
+unfolding header_at
+header_again count rest few =
+    let regrouped = append_assoc (decimal count) (10 ∷ []) rest in
+    let number = number_again 65537 count (10 ∷ rest) (omega (arith, few)) (omega arith) refl in
+    rw (regrouped, number) refl
+
+-- what is read is a header
+pub header_takes : (bytes : List ℕ) (count : ℕ) (rest : List ℕ) → header_at bytes ≡ Some (count, rest) →
+    (bytes ≡ header_text count ++ rest) × (count ≤ 65536)
+unfolding header_at
+header_takes bytes count rest read =
+    let (front, first, read₁) = bound (after (codes "journal 1 ") bytes) after_word (count, rest) read in
+    let (number, second, read₂) = bound (number_at 65537 front) after_count (count, rest) read₁ in
+    let (behind, third, is) = bound (after (codes "\n") number.1) (as_header number.0) (count, rest) read₂ in
+    let (same, left) = same_read number.0 count behind rest is in
+    let text₁ = after_takes (codes "journal 1 ") bytes front first in
+    let (text₂, low) = number_takes 65537 front number.0 number.1 (omega arith) second in
+    let text₃ = after_takes (codes "\n") number.1 behind third in
+    let whole : bytes ≡ header_text number.0 ++ rest =
+        text₁ ∙ ap (λ b. codes "journal 1 " ++ b) (text₂ ∙ ap (λ b. decimal number.0 ++ b) (text₃ ∙ ap (λ b. 10 ∷ b) left) ∙ sym (append_assoc (decimal number.0) (10 ∷ []) rest)) in
+    subst (λ n. (bytes ≡ header_text n ++ rest) × (n ≤ 65536)) same (whole, omega (arith, low))
+  where
+    as_header : ℕ → List ℕ → Read ℕ
+    as_header count rest = Some (count, rest)
+    after_count : ℕ × List ℕ → Read ℕ
+    after_count count = after (codes "\n") count.1 >>= as_header count.0
+    after_word : List ℕ → Read ℕ
+    after_word front = number_at 65537 front >>= after_count
