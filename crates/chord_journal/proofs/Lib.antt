@@ -10,3 +10,4 @@ pub mod Repeats
 pub mod Hexes
 pub mod ValueTexts
 pub mod LineTexts
+pub mod JournalTexts

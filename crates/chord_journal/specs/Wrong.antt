@@ -5,6 +5,8 @@ use Rattle.chord_base.specs.Bounds.{IsWhatWithin}
 use Rattle.chord_base.specs.declared.event.Entry.{Entry}
 use Rattle.chord_journal.specs.Text.{header_text, entry_text}
 use Rattle.chord_journal.specs.Typed.{IsTypedWhat}
+use Rattle.chord_journal.specs.declared.reading.JournalFault.{JournalFault}
+use Rattle.chord_journal.specs.declared.reading.JournalFault.TheVariants.{Memory, At}
 
 -- an entry with this number, within the bounds of a journal
 pub record IsEntryAt (place : ℕ) (e : Entry) : Type 0 where
@@ -42,3 +44,7 @@ abbrev pub IsWrongAt : List ℕ → ℕ → Type 0
 IsWrongAt bytes zero = HasNoHeader bytes
 IsWrongAt bytes (suc place) =
     (count : ℕ) × (entries : List Entry) × (rest : List ℕ) × Begins bytes count entries rest × (length entries ≡ place) × IsWrongBehind count place rest
+
+-- an answer is this one, unless memory ran out
+abbrev pub UnlessMemory : Result (List Entry) JournalFault → Result (List Entry) JournalFault → Type 0
+UnlessMemory answer this = (answer ≡ Err Memory) ⊎ (answer ≡ this)

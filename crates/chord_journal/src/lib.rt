@@ -9,9 +9,11 @@ mod gathered;
 mod line;
 mod lines;
 mod parts;
+mod reading;
 mod values;
 mod write;
 
 pub use gathered::gather;
 pub use lines::write_lines;
+pub use reading::{JournalFault, read};
 pub use write::write_text;
