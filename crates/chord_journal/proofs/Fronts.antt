@@ -1,5 +1,5 @@
 -- A text at the front of bytes.
-use Rattle.std.proofs.Common.{◌≡◌, ℕ, Bool, true, false, ◌==◌, ◌&&◌, nat_eq, List, [], ◌∷◌, ◌++◌, length, take, drop, Option, Some, None, cond, refl, ap, sym, ◌∙◌, arith}
+use Rattle.std.proofs.Common.{◌≡◌, ℕ, true, false, ◌==◌, ◌&&◌, nat_eq, List, [], ◌∷◌, ◌++◌, length, take, drop, Some, None, cond, refl, arith}
 use Rattle.std.specs.Cmp.Lexicographic.{pointwise}
 use Rattle.chord_journal.specs.Reading.{after}
 
@@ -9,8 +9,8 @@ after_front [] bytes same = refl
 after_front (c ∷ cs) [] same = absurd (cc)
 after_front (c ∷ cs) (b ∷ bytes) same =
     elim (b == c) as (λ t. (b == c) ≡ t → (t && pointwise nat_eq (take (length cs) bytes) cs) ≡ true → cond t (after cs bytes) None ≡ Some (drop (length cs) bytes)) [
-      true ↦ λ is rest. after_front cs bytes rest
-    | false ↦ λ is rest. absurd (cc)
+      | true ↦ λ is rest. after_front cs bytes rest
+      | false ↦ λ is rest. absurd (cc)
     ] refl same
 
 -- where it is not, nothing
@@ -19,8 +19,8 @@ after_none [] bytes same = absurd (cc)
 after_none (c ∷ cs) [] same = refl
 after_none (c ∷ cs) (b ∷ bytes) same =
     elim (b == c) as (λ t. (b == c) ≡ t → (t && pointwise nat_eq (take (length cs) bytes) cs) ≡ false → cond t (after cs bytes) None ≡ None) [
-      true ↦ λ is rest. after_none cs bytes rest
-    | false ↦ λ is rest. refl
+      | true ↦ λ is rest. after_none cs bytes rest
+      | false ↦ λ is rest. refl
     ] refl same
 
 -- bytes with a text in front
@@ -36,6 +36,6 @@ after_takes [] bytes rest read = cc
 after_takes (c ∷ cs) [] rest read = absurd (cc)
 after_takes (c ∷ cs) (b ∷ bytes) rest read =
     elim (b == c) as (λ t. (b == c) ≡ t → cond t (after cs bytes) None ≡ Some rest → b ∷ bytes ≡ c ∷ (cs ++ rest)) [
-      true ↦ λ is found. (let head : b ≡ c = grind arith in let tail = after_takes cs bytes rest found in cc)
-    | false ↦ λ is found. absurd (cc)
+      | true ↦ λ is found. (let head : b ≡ c = grind arith in let tail = after_takes cs bytes rest found in cc)
+      | false ↦ λ is found. absurd (cc)
     ] refl read

@@ -1,10 +1,10 @@
 -- Texts: what is read has these digits, and these digits are read.
-use Rattle.std.proofs.Common.{◌≡◌, ℕ, ◌<◌, ◌≤◌, ◌+◌, ◌-◌, ◌*◌, ◌/◌, ◌%◌, Bool, true, false, cond, if◌then◌else◌, ◌&&◌, List, [], ◌∷◌, ◌++◌, length, Option, Some, None, refl, ap, sym, ◌∙◌, arith, subst}
+use Rattle.std.proofs.Common.{◌≡◌, ℕ, ◌<◌, ◌+◌, ◌-◌, ◌*◌, ◌/◌, ◌%◌, true, false, if◌then◌else◌, ◌&&◌, List, [], ◌∷◌, ◌++◌, Some, None, refl, arith}
 use Rattle.std.specs.Prelude.{nat_lt, nat_le}
 use Rattle.std.specs.List.{flat_map}
 use Rattle.std.specs.Fmt.{digit_glyph}
 use Rattle.std.proofs.lemmas.Bool.Decides.{nat_tests}
-use Rattle.chord_journal.specs.Text.{byte_text, bytes_text}
+use Rattle.chord_journal.specs.Text.{byte_text}
 use Rattle.chord_journal.specs.Typed.{AreBytes, IsText}
 use Rattle.chord_journal.specs.Reading.{Read, ◌>>=◌, digit_of, begins_digit, byte_at, text_at}
 use Rattle.chord_journal.proofs.Binds.{bound, guarded, same_read}
@@ -14,8 +14,8 @@ use Rattle.chord_journal.proofs.Repeats.{Each, many_takes, many_again}
 glyph_again : (d : ℕ) → d < 16 → digit_of (digit_glyph false d) ≡ Some d
 glyph_again d less =
     elim (nat_lt d 10) as (λ t. nat_lt d 10 ≡ t → digit_of (if t then 48 + d else 87 + d) ≡ Some d) [
-      true ↦ λ is. grind (arith, nat_tests)
-    | false ↦ λ is. grind (arith, nat_tests)
+      | true ↦ λ is. grind (arith, nat_tests)
+      | false ↦ λ is. grind (arith, nat_tests)
     ] refl
 
 -- what a digit stands for is below 16 and has this digit
@@ -24,11 +24,11 @@ digit_takes a d read =
     elim (nat_le 48 a && nat_lt a 58) as
     (λ t. (nat_le 48 a && nat_lt a 58) ≡ t →
     (if t then Some (a - 48) else (if nat_le 97 a && nat_lt a 103 then Some (a - 87) else None)) ≡ Some d → (d < 16) × (digit_glyph false d ≡ a)) [
-      true ↦ λ is found. (let same : a - 48 ≡ d = cc in (grind (arith, nat_tests), grind (arith, nat_tests)))
-    | false ↦ λ no other.
-        (let (is, found) = guarded (nat_le 97 a && nat_lt a 103) (Some (a - 87)) d other in
-        let same : a - 87 ≡ d = cc in
-        (grind (arith, nat_tests), grind (arith, nat_tests)))
+      | true ↦ λ is found. (let same : a - 48 ≡ d = cc in (grind (arith, nat_tests), grind (arith, nat_tests)))
+      | false ↦ λ no other.
+          (let (is, found) = guarded (nat_le 97 a && nat_lt a 103) (Some (a - 87)) d other in
+          let same : a - 87 ≡ d = cc in
+          (grind (arith, nat_tests), grind (arith, nat_tests)))
     ] refl read
 
 -- a byte from its digits

@@ -1,8 +1,8 @@
 -- Journals: what is read has their text, their text is read, and one line at most is the least that is wrong.
-use Rattle.std.proofs.Common.{◌≡◌, ℕ, zero, suc, ◌<◌, ◌≤◌, ◌+◌, List, [], ◌∷◌, ◌++◌, length, reverse, Option, Some, None, refl, ap, sym, ◌∙◌, append_assoc, append-nil, arith, subst, ◌⊎◌, inl, inr, length-append}
+use Rattle.std.proofs.Common.{◌≡◌, ℕ, zero, suc, ◌<◌, ◌≤◌, ◌+◌, List, [], ◌∷◌, ◌++◌, length, reverse, Some, None, refl, ap, sym, ◌∙◌, append_assoc, append-nil, arith, subst, inl, inr, length-append, add-one}
 use Rattle.std.specs.List.{flat_map}
 use Rattle.std.proofs.lemmas.Grind.{flat_map-append}
-use Rattle.std.proofs.lemmas.List.{reverse-append, length-reverse}
+use Rattle.std.proofs.lemmas.List.{reverse-append}
 use Rattle.std.proofs.lemmas.Bool.{cases_lt}
 use Rattle.chord_base.specs.Bounds.{AreWithin, IsJournal}
 use Rattle.chord_base.specs.declared.event.Entry.{Entry}
@@ -11,7 +11,7 @@ use Rattle.chord_journal.specs.Typed.{AreTyped}
 use Rattle.chord_journal.specs.Wrong.{IsEntryAt, AreEntriesFrom, Begins, HasNoHeader, HasNoEntry, IsWrongBehind, IsWrongAt}
 use Rattle.chord_journal.specs.Reading.{entry_at, header_at}
 use Rattle.chord_journal.proofs.Binds.{same_read}
-use Rattle.chord_journal.proofs.LineTexts.{entry_again, entry_takes, header_again, header_takes}
+use Rattle.chord_journal.proofs.LineTexts.{entry_again, entry_takes, header_again}
 
 -- where no header is read, none stands there
 pub no_header : (bytes : List ℕ) → header_at bytes ≡ None → HasNoHeader bytes
@@ -41,8 +41,8 @@ begins_next bytes count es rest more e begun less read =
     let (text, right) = entry_takes (length es) rest e more read in
     let at : length es ≡ 0 + length es = omega arith in
     let lines : flat_map entry_text es ++ rest ≡ flat_map entry_text (es ++ (e ∷ [])) ++ more =
-        ap (λ b. flat_map entry_text es ++ b) text ∙ sym (append_assoc (flat_map entry_text es) (entry_text e) more) ∙
-        ap (λ b. b ++ more) (sym (flat_map-append entry_text es (e ∷ []) ∙ ap (λ b. flat_map entry_text es ++ b) (append-nil (entry_text e)))) in
+    ap (λ b. flat_map entry_text es ++ b) text ∙ sym (append_assoc (flat_map entry_text es) (entry_text e) more) ∙
+    ap (λ b. b ++ more) (sym (flat_map-append entry_text es (e ∷ []) ∙ ap (λ b. flat_map entry_text es ++ b) (append-nil (entry_text e)))) in
     record {
       counted = begun.counted;
       few = omega (arith, less, length-append es (e ∷ []));
@@ -157,12 +157,12 @@ not_wrong es bytes zero journal typed text none = none (length es) (flat_map ent
 not_wrong es bytes (suc place) journal typed text (count, front, rest, begun, long, wrong) =
     let all = journal_entries es journal typed in
     let whole : Begins bytes (length es) es [] =
-        record {
-          counted = journal.few;
-          few = omega arith;
-          right = all;
-          text = text ∙ ap (λ b. header_text (length es) ++ b) (sym (append-nil (flat_map entry_text es)));
-        } in
+    record {
+      counted = journal.few;
+      few = omega arith;
+      right = all;
+      text = text ∙ ap (λ b. header_text (length es) ++ b) (sym (append-nil (flat_map entry_text es)));
+    } in
     let (counts, lines) = same_count bytes count (length es) front es rest [] begun whole in
     let on = goes_on 0 front es rest [] begun.right all (omega (arith, journal.few)) (omega (arith, begun.few, counts)) lines in
     let at : 0 + length front ≡ place = omega (arith, long) in
@@ -188,10 +188,23 @@ wrong_first bytes (suc place) (suc later) (count, front, rest, begun, long, wron
 pub wrong_once : (bytes : List ℕ) (j k : ℕ) → IsWrongAt bytes j → IsWrongAt bytes k → j ≡ k
 wrong_once bytes j k wrong other =
     elim (cases_lt j k) [
-      inl before ↦ absurd (wrong_first bytes j k wrong other before)
-    | inr behind ↦
-      elim (cases_lt k j) [
-        inl after ↦ absurd (wrong_first bytes k j other wrong after)
-      | inr equal ↦ omega (arith, behind, equal)
-      ]
+      | inl before ↦ absurd (wrong_first bytes j k wrong other before)
+      | inr behind ↦
+          elim (cases_lt k j) [
+            | inl after ↦ absurd (wrong_first bytes k j other wrong after)
+            | inr equal ↦ omega (arith, behind, equal)
+          ]
     ]
+
+-- the line behind right ones is the least that is wrong, where it is due and not read
+pub wrong_line : (bytes : List ℕ) (count : ℕ) (es : List Entry) (rest : List ℕ) (place : ℕ) → Begins bytes count es rest → length es ≡ place → place < count →
+    entry_at place rest ≡ None → IsWrongAt bytes (place + 1)
+wrong_line bytes count es rest place begun long less none =
+    rw (add-one place) (count, es, rest, begun, long, inl (less, no_entry place rest (omega (arith, less, begun.counted)) none))
+
+-- right lines with nothing behind them are the text, where they are all
+pub whole_text : (bytes : List ℕ) (count : ℕ) (es : List Entry) (rest : List ℕ) → Begins bytes count es rest → length es ≡ count → rest ≡ [] →
+    bytes ≡ text_of es
+whole_text bytes count es rest begun all none =
+    begun.text ∙ ap (λ n. header_text n ++ (flat_map entry_text es ++ rest)) (sym all) ∙
+    ap (λ b. header_text (length es) ++ b) (ap (λ r. flat_map entry_text es ++ r) none ∙ append-nil (flat_map entry_text es))

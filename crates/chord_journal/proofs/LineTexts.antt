@@ -1,10 +1,9 @@
 -- Lines: what is read has their text, and their text is read.
-use Rattle.std.proofs.Common.{◌≡◌, ℕ, zero, suc, ◌<◌, ◌≤◌, ◌+◌, Bool, true, false, cond, if◌then◌else◌, ◌==◌, List, [], ◌∷◌, ◌++◌, length, Option, Some, None, refl, ap, sym, ◌∙◌, append_assoc, arith, subst}
+use Rattle.std.proofs.Common.{◌≡◌, ℕ, ◌<◌, ◌≤◌, true, false, if◌then◌else◌, ◌==◌, List, [], ◌∷◌, ◌++◌, length, Option, Some, None, refl, ap, sym, ◌∙◌, append_assoc, arith, subst}
 use Rattle.std.specs.Prelude.{codes, decimal}
-use Rattle.std.specs.List.{flat_map, prefix_len}
-use Rattle.std.specs.Char.{is_ascii_digit}
+use Rattle.std.specs.List.{flat_map}
 use Rattle.std.proofs.lemmas.Bool.Decides.{nat_tests}
-use Rattle.chord_base.specs.Bounds.{IsObjectWithin, IsValueWithin, AreValuesWithin, AreNumbersWithin, IsMessageWithin, IsFiringWithin, IsEndWithin, IsWhatWithin}
+use Rattle.chord_base.specs.Bounds.{IsMessageWithin, IsFiringWithin, IsEndWithin, IsWhatWithin}
 use Rattle.chord_base.specs.declared.value.Object.{Object}
 use Rattle.chord_base.specs.declared.value.Value as value
 use Rattle.chord_base.specs.declared.value.Value.TheVariants as a_value
@@ -15,11 +14,11 @@ use Rattle.chord_base.specs.declared.event.End.TheVariants.{Gives, Traps}
 use Rattle.chord_base.specs.declared.event.What.{What}
 use Rattle.chord_base.specs.declared.event.What.TheVariants.{Begun, Made, Sent, Called, Printed, Fired, Ended}
 use Rattle.chord_base.specs.declared.event.Entry.{Entry}
-use Rattle.chord_journal.specs.Text.{byte_text, bytes_text, object_text, value_text, values_text, numbers_text, message_text, firing_text, trap_text, end_text, what_text, entry_text, header_text}
-use Rattle.chord_journal.specs.Typed.{IsTypedValue, AreTypedValues, IsTypedEnd, IsTypedWhat, IsText}
+use Rattle.chord_journal.specs.Text.{byte_text, object_text, value_text, values_text, numbers_text, message_text, firing_text, trap_text, end_text, what_text, entry_text, header_text}
+use Rattle.chord_journal.specs.Typed.{AreTypedValues, IsTypedEnd, IsTypedWhat}
 use Rattle.chord_journal.specs.Wrong.{IsEntryAt}
-use Rattle.chord_journal.specs.Reading.{Read, ◌>>=◌, on, after, number_at, text_at, object_at, value_at, begins_digit, begins_blank, values_at, numbers_at, sending_at, calling_at, made_at, printed_at, ended_at, firing_at, end_at, what_at, entry_at, header_at}
-use Rattle.chord_journal.proofs.Binds.{bound, same_read, chosen, passed, guarded}
+use Rattle.chord_journal.specs.Reading.{Read, ◌>>=◌, on, after, number_at, text_at, object_at, value_at, values_at, numbers_at, sending_at, calling_at, made_at, printed_at, ended_at, firing_at, end_at, what_at, entry_at, header_at}
+use Rattle.chord_journal.proofs.Binds.{bound, same_read, passed, guarded}
 use Rattle.chord_journal.proofs.Fronts.{after_takes}
 use Rattle.chord_journal.proofs.Numbers.{number_again, number_takes}
 use Rattle.chord_journal.proofs.Hexes.{text_again, text_takes}
@@ -132,7 +131,7 @@ message_takes bytes o blank j vs first second third fourth =
     let (text₃, method) = number_takes 16 blank j.0 j.1 (omega arith) third in
     let (text₄, few, values, typed) = values_takes 8 j.1 vs.0 vs.1 fourth in
     let whole : bytes ≡ object_text o.0 ++ (32 ∷ (decimal j.0 ++ (values_text vs.0 ++ vs.1))) =
-        text₁ ∙ ap (λ b. object_text o.0 ++ b) (text₂ ∙ ap (λ b. 32 ∷ b) (text₃ ∙ ap (λ b. decimal j.0 ++ b) text₄)) in
+    text₁ ∙ ap (λ b. object_text o.0 ++ b) (text₂ ∙ ap (λ b. 32 ∷ b) (text₃ ∙ ap (λ b. decimal j.0 ++ b) text₄)) in
     (whole ∙ sym (message_parts o.0 j.0 vs.0 vs.1), record { object = object; method = method; few = few; values = values }, typed)
 
 -- parts of messages, as they are read
@@ -238,26 +237,26 @@ firing_takes bytes w rest read =
     let (text₇, few, values, typed) = values_takes 64 ms.1 vs.0 vs.1 seventh in
     let above : 0 < count.0 = grind (arith, nat_tests, some) in
     let parts : bytes ≡ decimal k.0 ++ (32 ∷ (object_text o.0 ++ (32 ∷ (decimal count.0 ++ (numbers_text ms.0 ++ (values_text vs.0 ++ vs.1)))))) =
-        text₁ ∙
-        ap (λ b. decimal k.0 ++ b)
-        (text₂ ∙
-        ap (λ b. 32 ∷ b)
-        (text₃ ∙
-        ap (λ b. object_text o.0 ++ b)
-        (text₄ ∙ ap (λ b. 32 ∷ b) (text₅ ∙ ap (λ b. decimal count.0 ++ b) (text₆ ∙ ap (λ b. numbers_text ms.0 ++ b) text₇))))) in
+    text₁ ∙
+    ap (λ b. decimal k.0 ++ b)
+    (text₂ ∙
+    ap (λ b. 32 ∷ b)
+    (text₃ ∙
+    ap (λ b. object_text o.0 ++ b)
+    (text₄ ∙ ap (λ b. 32 ∷ b) (text₅ ∙ ap (λ b. decimal count.0 ++ b) (text₆ ∙ ap (λ b. numbers_text ms.0 ++ b) text₇))))) in
     let whole : bytes ≡ firing_text k.0 o.0 ms.0 vs.0 ++ vs.1 =
-        parts ∙ ap (λ n. decimal k.0 ++ (32 ∷ (object_text o.0 ++ (32 ∷ (decimal n ++ (numbers_text ms.0 ++ (values_text vs.0 ++ vs.1))))))) (sym counted) ∙
-        sym (firing_parts k.0 o.0 ms.0 vs.0 vs.1) in
+    parts ∙ ap (λ n. decimal k.0 ++ (32 ∷ (object_text o.0 ++ (32 ∷ (decimal n ++ (numbers_text ms.0 ++ (values_text vs.0 ++ vs.1))))))) (sym counted) ∙
+    sym (firing_parts k.0 o.0 ms.0 vs.0 vs.1) in
     let within : IsFiringWithin k.0 o.0 ms.0 vs.0 =
-        record {
-          chord = chord;
-          object = object;
-          some = omega (arith, above, counted);
-          few_members = omega (arith, small, counted);
-          members = members;
-          few_values = few;
-          values = values;
-        } in
+    record {
+      chord = chord;
+      object = object;
+      some = omega (arith, above, counted);
+      few_members = omega (arith, small, counted);
+      members = members;
+      few_values = few;
+      values = values;
+    } in
     subst (λ x. IsWhatRead (codes "fired " ++ bytes) x rest) same
     (ap (λ b. codes "fired " ++ b) (whole ∙ ap (λ r. firing_text k.0 o.0 ms.0 vs.0 ++ r) left), within, typed)
 
@@ -266,8 +265,8 @@ followed : {A R : Type 0} (word bytes : List ℕ) (part : List ℕ → Read A) (
     ((front : List ℕ) → bytes ≡ word ++ front → part front ≡ Some y → R) → (other ≡ Some y → R) → R
 followed {A} {R} word bytes part other y read here there =
     elim (after word bytes) as (λ o. after word bytes ≡ o → (elim o [ Some front ↦ part front | None ↦ other ]) ≡ Some y → R) [
-      Some front ↦ λ is found. here front (after_takes word bytes front is) found
-    | None ↦ λ is found. there found
+      | Some front ↦ λ is found. here front (after_takes word bytes front is) found
+      | None ↦ λ is found. there found
     ] refl read
 
 abbrev IsEndRead : List ℕ → End → List ℕ → Type 0
@@ -290,10 +289,10 @@ end_takes bytes x rest read =
     (λ read₂. followed (codes "!deep") bytes _ _ (x, rest) read₂ (λ front text found. trap_takes bytes front TooDeep x rest text found)
     (λ read₃. followed (codes "!long") bytes _ _ (x, rest) read₃ (λ front text found. trap_takes bytes front TextTooLong x rest text found)
     (λ read₄.
-      let (v, found, is) = bound (value_at bytes) as_end (x, rest) read₄ in
-      let (same, left) = same_read (Gives v.0) x v.1 rest is in
-      let (text, within, typed) = value_takes bytes v.0 v.1 found in
-      subst (λ y. IsEndRead bytes y rest) same (text ∙ ap (λ r. value_text v.0 ++ r) left, within, typed)))))
+    let (v, found, is) = bound (value_at bytes) as_end (x, rest) read₄ in
+    let (same, left) = same_read (Gives v.0) x v.1 rest is in
+    let (text, within, typed) = value_takes bytes v.0 v.1 found in
+    subst (λ y. IsEndRead bytes y rest) same (text ∙ ap (λ r. value_text v.0 ++ r) left, within, typed)))))
 
 ended_takes : (bytes : List ℕ) (w : What) (rest : List ℕ) → ended_at bytes ≡ Some (w, rest) → IsWhatRead (codes "ended " ++ bytes) w rest
 unfolding ended_at
@@ -312,8 +311,8 @@ unfolding what_at
 what_takes bytes w rest read =
     followed (codes "begun") bytes _ _ (w, rest) read
     (λ front text found.
-      let (same, left) = same_read Begun w front rest found in
-      subst (λ y. IsWhatRead bytes y rest) same (text ∙ ap (λ r. codes "begun" ++ r) left, tt, tt))
+    let (same, left) = same_read Begun w front rest found in
+    subst (λ y. IsWhatRead bytes y rest) same (text ∙ ap (λ r. codes "begun" ++ r) left, tt, tt))
     (λ read₁. followed (codes "made ") bytes made_at _ (w, rest) read₁ (λ front text found. rw text (made_takes front w rest found))
     (λ read₂. followed (codes "sent ") bytes sending_at _ (w, rest) read₂ (λ front text found. rw text (sending_takes front w rest found))
     (λ read₃. followed (codes "called ") bytes calling_at _ (w, rest) read₃ (λ front text found. rw text (calling_takes front w rest found))
@@ -380,11 +379,11 @@ entry_takes place bytes e rest read =
     let (text₅, within, typed) = what_takes next what.0 what.1 fifth in
     let text₆ = after_takes (codes "\n") what.1 behind sixth in
     let parts : bytes ≡ decimal number.0 ++ (32 ∷ (decimal body.0 ++ (32 ∷ (what_text what.0 ++ (10 ∷ behind))))) =
-        text₁ ∙
-        ap (λ b. decimal number.0 ++ b)
-        (text₂ ∙ ap (λ b. 32 ∷ b) (text₃ ∙ ap (λ b. decimal body.0 ++ b) (text₄ ∙ ap (λ b. 32 ∷ b) (text₅ ∙ ap (λ b. what_text what.0 ++ b) text₆)))) in
+    text₁ ∙
+    ap (λ b. decimal number.0 ++ b)
+    (text₂ ∙ ap (λ b. 32 ∷ b) (text₃ ∙ ap (λ b. decimal body.0 ++ b) (text₄ ∙ ap (λ b. 32 ∷ b) (text₅ ∙ ap (λ b. what_text what.0 ++ b) text₆)))) in
     let whole = parts ∙ sym (line_parts (record { number = number.0; body = body.0; what = what.0 }) behind) ∙
-        ap (λ r. entry_text (record { number = number.0; body = body.0; what = what.0 }) ++ r) left in
+    ap (λ r. entry_text (record { number = number.0; body = body.0; what = what.0 }) ++ r) left in
     let at : number.0 ≡ place = grind (arith, nat_tests, here) in
     subst (λ x. (bytes ≡ entry_text x ++ rest) × IsEntryAt place x) same (whole, record { number = at; body = small; what = within; typed = typed })
 
@@ -409,12 +408,14 @@ header_takes bytes count rest read =
     let (text₂, low) = number_takes 65537 front number.0 number.1 (omega arith) second in
     let text₃ = after_takes (codes "\n") number.1 behind third in
     let whole : bytes ≡ header_text number.0 ++ rest =
-        text₁ ∙ ap (λ b. codes "journal 1 " ++ b) (text₂ ∙ ap (λ b. decimal number.0 ++ b) (text₃ ∙ ap (λ b. 10 ∷ b) left) ∙ sym (append_assoc (decimal number.0) (10 ∷ []) rest)) in
+    text₁ ∙ ap (λ b. codes "journal 1 " ++ b) (text₂ ∙ ap (λ b. decimal number.0 ++ b) (text₃ ∙ ap (λ b. 10 ∷ b) left) ∙ sym (append_assoc (decimal number.0) (10 ∷ []) rest)) in
     subst (λ n. (bytes ≡ header_text n ++ rest) × (n ≤ 65536)) same (whole, omega (arith, low))
   where
     as_header : ℕ → List ℕ → Read ℕ
     as_header count rest = Some (count, rest)
+
     after_count : ℕ × List ℕ → Read ℕ
     after_count count = after (codes "\n") count.1 >>= as_header count.0
+
     after_word : List ℕ → Read ℕ
     after_word front = number_at 65537 front >>= after_count

@@ -1,5 +1,5 @@
 -- Parts that are read one after the other.
-use Rattle.std.proofs.Common.{◌≡◌, ℕ, zero, suc, ◌<◌, ◌≤◌, ◌+◌, ◌-◌, Bool, true, false, List, [], ◌∷◌, ◌++◌, length, Option, Some, None, cond, refl, ap, sym, ◌∙◌, append_assoc, append-nil, arith, length-append, add-one}
+use Rattle.std.proofs.Common.{◌≡◌, ℕ, zero, suc, ◌<◌, ◌-◌, Bool, true, false, List, [], ◌∷◌, ◌++◌, length, Some, None, refl, ap, append_assoc, append-nil, arith, length-append}
 use Rattle.chord_journal.specs.Reading.{Read, ◌>>=◌, many, with_front, numbers_at, next_number_at}
 
 -- nothing in front

@@ -1,8 +1,8 @@
 -- Numbers: what is read is the decimal, and the decimal is read.
-use Rattle.std.proofs.Common.{◌≡◌, ◌≢◌, ℕ, zero, suc, ◌<◌, ◌≤◌, ◌+◌, ◌-◌, ◌^◌, Bool, true, false, cond, if◌then◌else◌, ◌==◌, not, List, [], ◌∷◌, ◌++◌, length, take, drop, get_or, Option, Some, None, refl, ap, sym, ◌∙◌, arith, ◌⊎◌, inl, inr, subst}
+use Rattle.std.proofs.Common.{◌≡◌, ℕ, zero, suc, ◌<◌, ◌≤◌, ◌+◌, ◌-◌, ◌^◌, true, false, cond, if◌then◌else◌, ◌==◌, List, [], ◌∷◌, ◌++◌, length, take, drop, get_or, Some, None, refl, ap, sym, ◌∙◌, arith, ◌⊎◌, inl, inr, subst}
 use Rattle.std.specs.Prelude.{decimal, nat_lt}
 use Rattle.std.specs.List.{prefix_len}
-use Rattle.std.specs.Char.{is_ascii_digit, digit_value}
+use Rattle.std.specs.Char.{is_ascii_digit}
 use Rattle.std.specs.Str.Parse.{digits_value, AllDigits}
 use Rattle.std.proofs.lemmas.Str.Parse.{IsNumeralModel, numerals_by_value, tells_digits, digit_from_value}
 use Rattle.std.proofs.lemmas.Str.{digit_value_digit}
@@ -31,12 +31,12 @@ front_all : (bytes : List ℕ) → AllDigits 10 (take (prefix_len is_ascii_digit
 front_all [] = tt
 front_all (b ∷ bytes) =
     elim (is_ascii_digit b) as (λ t. is_ascii_digit b ≡ t → AllDigits 10 (take (cond t (1 + prefix_len is_ascii_digit bytes) 0) (b ∷ bytes))) [
-      true ↦ λ is.
-        (let value = digit_value_digit b (digit_range b is) in
-        let range = digit_range b is in
-        let one : 1 + prefix_len is_ascii_digit bytes ≡ suc (prefix_len is_ascii_digit bytes) = omega arith in
-        rw one (omega (arith, value, range), front_all bytes))
-    | false ↦ λ is. tt
+      | true ↦ λ is.
+          (let value = digit_value_digit b (digit_range b is) in
+          let range = digit_range b is in
+          let one : 1 + prefix_len is_ascii_digit bytes ≡ suc (prefix_len is_ascii_digit bytes) = omega arith in
+          rw one (omega (arith, value, range), front_all bytes))
+      | false ↦ λ is. tt
     ] refl
 
 -- all digits in front of what does not begin with one
@@ -150,9 +150,10 @@ negative_takes bytes z rest read =
     let (text, less) = number_takes 2147483649 bytes n.0 n.1 (omega arith) number in
     let above : 0 < n.0 = grind (arith, nat_tests, some) in
     let one : n.0 ≡ suc (n.0 - 1) = omega (arith, above) in
-    let fits : n.0 - 1 < 2147483648 = omega (arith, less, above) in
-    ( ap (λ xs. 45 ∷ xs) (text ∙ ap (λ m. decimal m ++ n.1) one) ∙ ap (λ y. signed_decimal y ++ n.1) same ∙ ap (λ r. signed_decimal z ++ r) left,
-      subst IsInt same fits )
+    let fits : n.0 - 1 < 2147483648 = omega (arith, less, above) in (
+      ap (λ xs. 45 ∷ xs) (text ∙ ap (λ m. decimal m ++ n.1) one) ∙ ap (λ y. signed_decimal y ++ n.1) same ∙ ap (λ r. signed_decimal z ++ r) left,
+      subst IsInt same fits,
+    )
 
 -- what is read is a number of 32 bits
 pub int_takes : (bytes : List ℕ) (z : ℤ) (rest : List ℕ) → int_at bytes ≡ Some (z, rest) → (bytes ≡ signed_decimal z ++ rest) × IsInt z
@@ -162,6 +163,6 @@ int_takes (b ∷ bytes) z rest read =
     elim (b == 45) as
     (λ t. (b == 45) ≡ t → cond t (negative_at bytes) (number_at 2147483648 (b ∷ bytes) >>= as_int) ≡ Some (z, rest) →
     (b ∷ bytes ≡ signed_decimal z ++ rest) × IsInt z) [
-      true ↦ λ is found. (let sign : b ≡ 45 = grind (arith, nat_tests, is) in rw sign (negative_takes bytes z rest found))
-    | false ↦ λ is found. unsigned_takes (b ∷ bytes) z rest found
+      | true ↦ λ is found. (let sign : b ≡ 45 = grind (arith, nat_tests, is) in rw sign (negative_takes bytes z rest found))
+      | false ↦ λ is found. unsigned_takes (b ∷ bytes) z rest found
     ] refl read

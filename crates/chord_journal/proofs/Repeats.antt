@@ -1,8 +1,8 @@
 -- Parts one after the other: what is read has their texts, and their texts are read.
-use Rattle.std.proofs.Common.{◌≡◌, ℕ, zero, suc, ◌<◌, ◌≤◌, ◌+◌, Bool, true, false, cond, List, [], ◌∷◌, ◌++◌, length, Option, Some, None, refl, ap, sym, ◌∙◌, append_assoc, arith, subst}
+use Rattle.std.proofs.Common.{◌≡◌, ℕ, zero, suc, ◌≤◌, Bool, true, false, cond, List, [], ◌∷◌, ◌++◌, length, Some, refl, ap, sym, ◌∙◌, append_assoc, arith, subst}
 use Rattle.std.specs.List.{flat_map}
 use Rattle.chord_journal.specs.Reading.{Read, ◌>>=◌, many}
-use Rattle.chord_journal.proofs.Binds.{bound, guarded, passed, same_read}
+use Rattle.chord_journal.proofs.Binds.{bound, passed, same_read}
 
 -- of each item
 abbrev pub Each : {A : Type 0} → (A → Type 0) → List A → Type 0
@@ -31,18 +31,18 @@ many_takes {A} begins part text P takes (suc room) bytes xs rest read =
     elim (begins bytes) as
     (λ t. cond t (part bytes >>= then_more begins part room) (Some ([], bytes)) ≡ Some (xs, rest) →
     (bytes ≡ flat_map text xs ++ rest) × Each P xs × (length xs ≤ suc room)) [
-      true ↦ λ found.
-        (let (x, first, second) = bound (part bytes) (then_more begins part room) (xs, rest) found in
-        let (ys, others, is) = bound (many begins part room x.1) (put_front x.0) (xs, rest) second in
-        let (all, left) = same_read {A = List A} (x.0 ∷ ys.0) xs ys.1 rest is in
-        let (here, good) = takes bytes x.0 x.1 first in
-        let (there, each, few) = many_takes begins part text P takes room x.1 ys.0 ys.1 others in
-        let whole : bytes ≡ flat_map text (x.0 ∷ ys.0) ++ rest =
-            here ∙ ap (λ b. text x.0 ++ b) (there ∙ ap (λ r. flat_map text ys.0 ++ r) left) ∙ sym (append_assoc (text x.0) (flat_map text ys.0) rest) in
-        subst (λ (zs : List A). (bytes ≡ flat_map text zs ++ rest) × Each P zs × (length zs ≤ suc room)) all (whole, (good, each), omega (arith, few)))
-    | false ↦ λ found.
-        (let (none, left) = same_read {A = List A} [] xs bytes rest found in
-        subst (λ (ys : List A). (bytes ≡ flat_map text ys ++ rest) × Each P ys × (length ys ≤ suc room)) none (left, tt, omega arith))
+      | true ↦ λ found.
+          (let (x, first, second) = bound (part bytes) (then_more begins part room) (xs, rest) found in
+          let (ys, others, is) = bound (many begins part room x.1) (put_front x.0) (xs, rest) second in
+          let (all, left) = same_read {A = List A} (x.0 ∷ ys.0) xs ys.1 rest is in
+          let (here, good) = takes bytes x.0 x.1 first in
+          let (there, each, few) = many_takes begins part text P takes room x.1 ys.0 ys.1 others in
+          let whole : bytes ≡ flat_map text (x.0 ∷ ys.0) ++ rest =
+          here ∙ ap (λ b. text x.0 ++ b) (there ∙ ap (λ r. flat_map text ys.0 ++ r) left) ∙ sym (append_assoc (text x.0) (flat_map text ys.0) rest) in
+          subst (λ (zs : List A). (bytes ≡ flat_map text zs ++ rest) × Each P zs × (length zs ≤ suc room)) all (whole, (good, each), omega (arith, few)))
+      | false ↦ λ found.
+          (let (none, left) = same_read {A = List A} [] xs bytes rest found in
+          subst (λ (ys : List A). (bytes ≡ flat_map text ys ++ rest) × Each P ys × (length ys ≤ suc room)) none (left, tt, omega arith))
     ] read
 
 -- the texts of parts are read, where what follows begins none

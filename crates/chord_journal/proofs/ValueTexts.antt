@@ -1,5 +1,5 @@
 -- Objects, values and members: what is read has their text, and their text is read.
-use Rattle.std.proofs.Common.{◌≡◌, ℕ, zero, suc, ◌<◌, ◌≤◌, ◌+◌, Bool, true, false, cond, if◌then◌else◌, ◌==◌, List, [], ◌∷◌, ◌++◌, length, Option, Some, None, refl, ap, sym, ◌∙◌, append_assoc, arith, subst}
+use Rattle.std.proofs.Common.{◌≡◌, ℕ, zero, suc, ◌≤◌, true, false, ◌==◌, List, [], ◌∷◌, ◌++◌, length, Option, Some, refl, ap, sym, ◌∙◌, append_assoc, arith, subst}
 use Rattle.std.specs.Prelude.{codes, decimal, ℤ}
 use Rattle.std.specs.List.{flat_map, prefix_len}
 use Rattle.std.specs.Char.{is_ascii_digit}
@@ -46,15 +46,18 @@ object_takes bytes o rest read =
     let whole₃ = after_takes (codes ".") number.1 dot third in
     let (whole₄, small) = number_takes 1024 dot class.0 class.1 (omega arith) fourth in
     let text : bytes ≡ object_text (record { number = number.0; class = class.0 }) ++ class.1 =
-        whole₁ ∙ ap (λ b. 111 ∷ b) (whole₂ ∙ ap (λ b. decimal number.0 ++ b) (whole₃ ∙ ap (λ b. 46 ∷ b) whole₄) ∙ sym (append_assoc (decimal number.0) (46 ∷ decimal class.0) class.1)) in
+    whole₁ ∙ ap (λ b. 111 ∷ b) (whole₂ ∙ ap (λ b. decimal number.0 ++ b) (whole₃ ∙ ap (λ b. 46 ∷ b) whole₄) ∙ sym (append_assoc (decimal number.0) (46 ∷ decimal class.0) class.1)) in
     (text ∙ ap (λ p. object_text p ++ class.1) same ∙ ap (λ r. object_text o ++ r) left, subst IsObjectWithin same (record { number = few; class = small }))
   where
     made : ℕ → ℕ × List ℕ → Read Object
     made number class = Some (record { number = number; class = class.0 }, class.1)
+
     after_dot : ℕ → List ℕ → Read Object
     after_dot number dot = number_at 1024 dot >>= made number
+
     after_number : ℕ × List ℕ → Read Object
     after_number number = after (codes ".") number.1 >>= after_dot number.0
+
     after_o : List ℕ → Read Object
     after_o front = number_at 65536 front >>= after_number
 
@@ -199,11 +202,12 @@ numbers_takes (suc count) bytes ns rest read =
     let (text, less) = number_takes 65536 front n.0 n.1 (omega arith) number in
     let (others, counted, within) = numbers_takes count n.1 ms.0 ms.1 third in
     let whole : bytes ≡ numbers_text (n.0 ∷ ms.0) ++ rest =
-        after_takes (codes " ") bytes front blank ∙
-        ap (λ b. 32 ∷ b) (text ∙ ap (λ b. decimal n.0 ++ b) (others ∙ ap (λ r. numbers_text ms.0 ++ r) left) ∙ sym (append_assoc (decimal n.0) (numbers_text ms.0) rest)) in
+    after_takes (codes " ") bytes front blank ∙
+    ap (λ b. 32 ∷ b) (text ∙ ap (λ b. decimal n.0 ++ b) (others ∙ ap (λ r. numbers_text ms.0 ++ r) left) ∙ sym (append_assoc (decimal n.0) (numbers_text ms.0) rest)) in
     subst (λ xs. (bytes ≡ numbers_text xs ++ rest) × (length xs ≡ suc count) × AreNumbersWithin xs) all (whole, omega (arith, counted), (less, within))
   where
     put_number : ℕ → List ℕ × List ℕ → Read (List ℕ)
     put_number n xs = Some (n ∷ xs.0, xs.1)
+
     then_numbers : ℕ × List ℕ → Read (List ℕ)
     then_numbers n = numbers_at count n.1 >>= put_number n.0

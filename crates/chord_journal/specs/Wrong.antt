@@ -1,12 +1,12 @@
 -- The least line of bytes that keeps them from being the text of a journal. Line 0 is the header, and line i + 1 that of entry i.
-use Rattle.std.specs.Prelude.{◌≡◌, ◌≢◌, ℕ, zero, suc, ◌+◌, ◌<◌, ◌≤◌, ◌⊎◌, List, [], ◌∷◌, ◌++◌, length, Result, Ok, Err}
+use Rattle.std.specs.Prelude.{◌≡◌, ◌≢◌, ℕ, zero, suc, ◌+◌, ◌<◌, ◌≤◌, ◌⊎◌, List, [], ◌∷◌, ◌++◌, length, Result, Err}
 use Rattle.std.specs.List.{flat_map}
 use Rattle.chord_base.specs.Bounds.{IsWhatWithin}
 use Rattle.chord_base.specs.declared.event.Entry.{Entry}
 use Rattle.chord_journal.specs.Text.{header_text, entry_text}
 use Rattle.chord_journal.specs.Typed.{IsTypedWhat}
 use Rattle.chord_journal.specs.declared.reading.JournalFault.{JournalFault}
-use Rattle.chord_journal.specs.declared.reading.JournalFault.TheVariants.{Memory, At}
+use Rattle.chord_journal.specs.declared.reading.JournalFault.TheVariants.{Memory}
 
 -- an entry with this number, within the bounds of a journal
 pub record IsEntryAt (place : ℕ) (e : Entry) : Type 0 where

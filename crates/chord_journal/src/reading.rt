@@ -8,13 +8,11 @@ ghost use Rattle.chord_journal.specs.Wrong.{IsWrongAt, UnlessMemory};
 ghost use Rattle.chord_journal.specs.Reading.{Gives, header_at};
 ghost use Rattle.chord_journal.specs.declared.reading.JournalFault.TheVariants.{Memory as no_memory};
 
-use std::alloc::{AllocFailed, Global};
-
-use chord_base::event::Entry;
-use chord_base::journal::Journal;
-
 use crate::line::read_entry;
 use crate::parts::{LineFault, after, read_number};
+use chord_base::event::Entry;
+use chord_base::journal::Journal;
+use std::alloc::{AllocFailed, Global};
 
 /// Why bytes were not read as a journal.
 #[derive(Clone, Copy, Debug, PartialEq, Eq)]

@@ -1,5 +1,4 @@
 -- The digits that stand at the front are digits.
-use Rattle.std.proofs.Common.{get_or-take, arith}
 use Rattle.chord_journal.proofs.Digits.{front_digits}
 use Rattle.chord_journal.proofs.parts.read_number.Goals as goal
 

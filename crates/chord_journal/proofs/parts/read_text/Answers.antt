@@ -1,5 +1,5 @@
 -- The bytes so far, and then the next.
-use Rattle.std.proofs.Common.{◌≡◌, ◌∙◌, sym, ap, arith, List, ℕ, Some}
+use Rattle.std.proofs.Common.{◌∙◌, sym, ap, arith, List, ℕ, Some}
 use Rattle.std.proofs.lemmas.Result.{err_from_is_err_and}
 use Rattle.chord_journal.specs.Reading.{begins_digit, byte_at, text_at}
 use Rattle.chord_journal.proofs.Many.{with_front_nothing, many_next, many_wrong, many_full, many_end}

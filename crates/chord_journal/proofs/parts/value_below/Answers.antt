@@ -1,6 +1,5 @@
 -- Digits so far that stand for too much stand for too much with those behind them.
-use Rattle.std.proofs.Common.{◌≡◌, ◌≤◌, ◌+◌, true, false, nat_lt, arith}
-use Rattle.std.specs.Str.Parse.{digits_value}
+use Rattle.std.proofs.Common.{◌+◌, arith}
 use Rattle.chord_journal.proofs.Digits.{value_next, value_front, value_if_above}
 use Rattle.chord_journal.proofs.parts.value_below.Goals as goal
 

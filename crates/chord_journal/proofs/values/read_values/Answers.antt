@@ -10,7 +10,7 @@ pub returns-then-len-most : goal.returns-then-len-most
 returns-then-len-most c =
     let begun = sym c.begins_blank.ensures ∙ c.loop-alloc-test.true in
     let full : length c.loop-alloc.values.items ≡ c.args.most =
-        omega (arith, c.len.ensures, c.if-len-most.true, c.loop-alloc.invariant.few, c.loop-alloc.values.ok.0) in
+    omega (arith, c.len.ensures, c.if-len-most.true, c.loop-alloc.invariant.few, c.loop-alloc.values.ok.0) in
     sym c.loop-alloc.invariant.read ∙ many_full begins_blank next_value_at c.args.most _ _ begun full
 
 pub returns-in_err-value : goal.returns-in_err-value

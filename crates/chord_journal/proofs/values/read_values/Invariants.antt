@@ -6,8 +6,8 @@ abbrev pub invariant-loop-alloc : goal.invariant-loop-alloc
 invariant-loop-alloc l = record {
   few : length l.values.items ≤ l.most;
   read :
-    with_front l.values.items (many begins_blank next_value_at (l.most - length l.values.items) l.rest) ≡
-    many begins_blank next_value_at l.most l.fn.bytes;
+      with_front l.values.items (many begins_blank next_value_at (l.most - length l.values.items) l.rest) ≡
+      many begins_blank next_value_at l.most l.fn.bytes;
 }
 
 abbrev pub decreases-loop-alloc : goal.decreases-loop-alloc
