@@ -17,3 +17,6 @@ pub use gathered::gather;
 pub use lines::write_lines;
 pub use reading::{JournalFault, read};
 pub use write::write_text;
+
+#[cfg(test)]
+mod tests;
