@@ -4,7 +4,11 @@ use Rattle.std.proofs.lemmas.List.{length-append}
 use Rattle.chord_lexer.specs.declared.token.Kind.{Kind}
 use Rattle.chord_tree.specs.Derivation.{Spelled, kinds_of, next, Low, Derives}
 use Rattle.chord_tree.proofs.OneTree.{start_legal}
-use Rattle.chord_parser.specs.Answers.{start}
+use Rattle.chord_tree.specs.Tree.{ProgramTree}
+use Rattle.chord_parser.specs.declared.parser.ParseFault.{ParseFault}
+use Rattle.chord_parser.specs.declared.parser.ParseFault.TheVariants as answers
+use Rattle.chord_parser.specs.Answers.{start, IsAnswer}
+use Rattle.chord_parser.proofs.Whole.{IsFound, not_wrong, not_high}
 use Rattle.chord_parser.specs.Exact.{Begins, IsWrong, IsHigh}
 use Rattle.chord_parser.proofs.Prefix.{prefix, alike, DepthAt}
 
@@ -96,3 +100,19 @@ not_both ks n m o p =
     let c : length o.front < length p.front + 1 → ⊥ = λ l. o.refuses (p.front ++ ((p.kind, p.depth) ∷ p.rest)) (no_fewer ks n o front p.rest p.back e (p.front ++ ((p.kind, p.depth) ∷ p.rest)) q (omega arith)) p.opens in
     let d : length p.front < length o.front → ⊥ = high_inside ks m p o.front o.rest o.back o.cut o.low o.opens in
     absurd (omega arith)
+
+pub at_only : (ks : List Kind) (f : ParseFault) → IsAnswer ks f → (k : ℕ) → IsAnswer ks (answers.At k) → (f ≡ answers.Memory) ⊎ (f ≡ answers.At k)
+at_only ks answers.Memory h k a = inl refl
+at_only ks (answers.At j) h k a = let e = one_wrong ks h.0 a.0 h.2 a.2 in let x = h.1 in let y = a.1 in let z : j ≡ k = omega arith in inr (ap answers.At z)
+at_only ks (answers.Tall j) h k a = absurd (not_both ks a.0 h.0 a.2 h.2)
+
+pub tall_only : (ks : List Kind) (f : ParseFault) → IsAnswer ks f → (k : ℕ) → IsAnswer ks (answers.Tall k) → (f ≡ answers.Memory) ⊎ (f ≡ answers.Tall k)
+tall_only ks answers.Memory h k a = inl refl
+tall_only ks (answers.At j) h k a = absurd (not_both ks h.0 a.0 h.2 a.2)
+tall_only ks (answers.Tall j) h k a = let e = one_high ks h.0 a.0 h.2 a.2 in let x = h.1 in let y = a.1 in let z : j ≡ k = omega arith in inr (ap answers.Tall z)
+
+pub found_not_at : (ks : List Kind) (t : ProgramTree) → IsFound ks t → (k : ℕ) → IsAnswer ks (answers.At k) → ⊥
+found_not_at ks t f k a = not_wrong ks t a.0 f.program f.spelled a.2
+
+pub found_not_tall : (ks : List Kind) (t : ProgramTree) → IsFound ks t → (k : ℕ) → IsAnswer ks (answers.Tall k) → ⊥
+found_not_tall ks t f k a = not_high ks t a.0 f.program f.low f.spelled a.2

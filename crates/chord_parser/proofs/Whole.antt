@@ -73,11 +73,11 @@ begins_append [] back = refl
 begins_append (f ∷ fs) back = (refl, begins_append fs back)
 
 -- tokens of a program are not refused
-not_wrong : (ks : List Kind) (t : ProgramTree) (left : ℕ) → IsProgram t → spelling t ≡ ks → IsWrong start ks left → ⊥
+pub not_wrong : (ks : List Kind) (t : ProgramTree) (left : ℕ) → IsProgram t → spelling t ≡ ks → IsWrong start ks left → ⊥
 not_wrong ks t left a e o = o.refuses (spell (node_program t) 0 []) (subst (λ z. Begins z (kinds_of o.front) (next o.back)) (sym (e ∙ o.cut)) (begins_append (kinds_of o.front) o.back)) (derives a.derived done)
 
 -- nor found too deep where none is
-not_high : (ks : List Kind) (t : ProgramTree) (left : ℕ) → IsProgram t → IsLow t → spelling t ≡ ks → IsHigh start ks left → ⊥
+pub not_high : (ks : List Kind) (t : ProgramTree) (left : ℕ) → IsProgram t → IsLow t → spelling t ≡ ks → IsHigh start ks left → ⊥
 not_high ks t left a l e o =
     let al = alike o.front o.kind o.depth o.rest (spell (node_program t) 0 []) o.back (e ∙ o.cut) in
     let h = prefix o.front o.depth o.opens (derives a.derived done) refl al start_legal in

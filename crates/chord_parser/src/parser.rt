@@ -1,7 +1,7 @@
 //! From tokens to a program, or the exact token at which they are none.
 #![tactic(auto)]
 
-ghost use Rattle.std.specs.Prelude.{◌<◌, ◌^◌, ◌≡◌, IfOk, IfErr, length};
+ghost use Rattle.std.specs.Prelude.{◌<◌, ◌^◌, ◌≡◌, ◌⊎◌, ℕ, IfOk, IfErr, MatchResult, length};
 ghost use Rattle.chord_tree.specs.Program.{IsProgram, spelling, told};
 ghost use Rattle.chord_tree.specs.Tree.{ProgramTree};
 ghost use Rattle.chord_tree.specs.View.{tree_of};
@@ -42,6 +42,13 @@ pub fn parse(alloc: Global, tokens: &[Token]) -> Result<Program, ParseFault>
     // and only memory may lack, if none of them is too deep
     ensures found {
         (t : ProgramTree) → IsProgram t → IsLow t → spelling t ≡ told tokens.now → IfErr result (λ fault. fault ≡ faults.Memory)
+    }
+    // where token k is the first that fits no program, or the first that is too deep, that is told
+    ensures at {
+        (k : ℕ) → IsAnswer (told tokens.now) (faults.At k) → MatchResult result (λ _. ⊥) (λ fault. (fault ≡ faults.Memory) ⊎ (fault ≡ faults.At k))
+    }
+    ensures tall {
+        (k : ℕ) → IsAnswer (told tokens.now) (faults.Tall k) → MatchResult result (λ _. ⊥) (λ fault. (fault ≡ faults.Memory) ⊎ (fault ≡ faults.Tall k))
     }
 {
     match program(alloc, tokens.len() as u32, tokens) {

@@ -4,6 +4,7 @@ use Rattle.chord_tree.specs.Program.{IsProgram, spelling, told}
 use Rattle.chord_tree.specs.View.{tree_of}
 use Rattle.chord_parser.specs.Answers.{IsLow}
 use Rattle.chord_parser.proofs.Whole.{IsFound, found, stopped, only_memory, the_one}
+use Rattle.chord_parser.proofs.OneVerdict.{at_only, tall_only, found_not_at, found_not_tall}
 use Rattle.chord_parser.proofs.parser.parse.Goals as goal
 
 pub new-requires : goal.new-requires
@@ -32,3 +33,15 @@ returns-in-Err-clause-the_one c = λ t a e. tt
 
 pub returns-in-Err-clause-found : goal.returns-in-Err-clause-found
 returns-in-Err-clause-found c = only_memory _ _ c.placed.ensures
+
+pub returns-in-Ok-clause-at : goal.returns-in-Ok-clause-at
+returns-in-Ok-clause-at c = found_not_at _ _ (found _ c.args.tokens.now _ (tree_of (record { usings = c.in-Ok.usings.items; classes = c.in-Ok.classes.items })) refl c.in-Ok.ensures.end c.in-Ok.ensures.ok)
+
+pub returns-in-Ok-clause-tall : goal.returns-in-Ok-clause-tall
+returns-in-Ok-clause-tall c = found_not_tall _ _ (found _ c.args.tokens.now _ (tree_of (record { usings = c.in-Ok.usings.items; classes = c.in-Ok.classes.items })) refl c.in-Ok.ensures.end c.in-Ok.ensures.ok)
+
+pub returns-in-Err-clause-at : goal.returns-in-Err-clause-at
+returns-in-Err-clause-at c = at_only _ _ c.placed.ensures
+
+pub returns-in-Err-clause-tall : goal.returns-in-Err-clause-tall
+returns-in-Err-clause-tall c = tall_only _ _ c.placed.ensures
