@@ -11,4 +11,5 @@ pub mod View
 pub mod Shape
 pub mod Forms
 pub mod Members
+pub mod Derived
 pub mod Program
