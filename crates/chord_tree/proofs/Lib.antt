@@ -11,3 +11,4 @@ pub mod Weights
 pub mod WeightsStmts
 pub mod WordsStmts
 pub mod WordsClasses
+pub mod Checked

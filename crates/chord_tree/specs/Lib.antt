@@ -13,3 +13,5 @@ pub mod Forms
 pub mod Members
 pub mod Derived
 pub mod Program
+pub mod Terms
+pub mod Walk
