@@ -12,3 +12,4 @@ pub mod WeightsStmts
 pub mod WordsStmts
 pub mod WordsClasses
 pub mod Checked
+pub mod Counts

@@ -1,9 +1,10 @@
 //! Expressions. Chains of operators and of dots are lists, brackets are kept, and tokens are known by their numbers.
 #![tactic(auto)]
 
-ghost use Rattle.std.specs.Prelude.{◌≡◌, IfOk, map};
+ghost use Rattle.std.specs.Prelude.{◌≡◌, false, IfOk, map};
 ghost use Rattle.chord_tree.specs.Derived.{IsExpr, IsLink, IsStart, IsActuals, IsDot};
 ghost use Rattle.chord_tree.specs.Tree.{chained, exprs, dots, Negated, Denied, Simple, MakeLink, Variable, Called, This, New, Numeral, Literal, Yes, No, Group, MakeActuals, MakeDot};
+ghost use Rattle.chord_tree.specs.Terms.{term, started, first_token};
 ghost use Rattle.chord_tree.specs.ViewExprs.{see_expr, see_link, see_start, see_actuals, see_dot};
 
 use crate::names::Name;
@@ -176,6 +177,18 @@ impl Expr {
     {
         Expr::Primary { start, calls }
     }
+
+    /// The number of its first token.
+    pub fn first_token(&self) -> u32
+        ensures { result ≡ first_token (term (see_expr self.now)) }
+    {
+        match self {
+            Expr::Chain { first, links: _ } => first.first_token(),
+            Expr::Minus { at, operand: _ } => *at,
+            Expr::Not { at, operand: _ } => *at,
+            Expr::Primary { start, calls: _ } => start.first_token(),
+        }
+    }
 }
 
 impl Link {
@@ -261,6 +274,27 @@ impl Start {
             at,
             inner: Box::new(alloc, inner)?,
         })
+    }
+
+    /// The number of its first token.
+    pub fn first_token(&self) -> u32
+        ensures { result ≡ first_token (started (see_start self.now) false) }
+    {
+        match self {
+            Start::Variable(name) => name.at,
+            Start::Call { name, actuals: _ } => name.at,
+            Start::This { at } => *at,
+            Start::New {
+                at,
+                name: _,
+                actuals: _,
+            } => *at,
+            Start::Number { value: _, at } => *at,
+            Start::Literal { bytes: _, at } => *at,
+            Start::True { at } => *at,
+            Start::False { at } => *at,
+            Start::Group { at, inner: _ } => *at,
+        }
     }
 }
 
