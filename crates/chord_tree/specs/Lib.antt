@@ -13,5 +13,6 @@ pub mod Forms
 pub mod Members
 pub mod Derived
 pub mod Program
+pub mod Example
 pub mod Terms
 pub mod Walk
