@@ -9,12 +9,15 @@ use crate::classes::{Class, Formal, Formals, Header, Member, Modifier, ModifierW
 use crate::exprs::{Actuals, Dot, Expr, Link, Operator, Start};
 use crate::names::{BasicType, Name, ValueType};
 use crate::program::Program;
+use crate::spell_exprs::put_expr;
+use crate::spell_stmts::put_block;
 use crate::spelling::spell;
 use crate::stmts::{Block, Item, Stmt};
 use chord_base::text::Text;
 use chord_lexer::bytes::Bytes;
 use chord_lexer::token::{Keyword, Kind, Mark, Token};
 use std::alloc::{AllocError, Global};
+use std::process::Abort;
 use std::test::Fail;
 
 fn named(alloc: Global, bytes: &[u8], at: u32) -> Result<Name, AllocError>
@@ -155,6 +158,11 @@ fn kind(alloc: Global, text: &[u8]) -> Result<Kind, AllocError> {
         b"void" => Kind::Word(Keyword::Void),
         b"async" => Kind::Word(Keyword::Async),
         b"string" => Kind::Word(Keyword::String),
+        b"if" => Kind::Word(Keyword::If),
+        b"else" => Kind::Word(Keyword::Else),
+        b"while" => Kind::Word(Keyword::While),
+        b"true" => Kind::Word(Keyword::True),
+        b"false" => Kind::Word(Keyword::False),
         b"return" => Kind::Word(Keyword::Return),
         b"new" => Kind::Word(Keyword::New),
         b"{" => Kind::Mark(Mark::OpenBrace),
@@ -164,6 +172,11 @@ fn kind(alloc: Global, text: &[u8]) -> Result<Kind, AllocError> {
         b"&" => Kind::Mark(Mark::Ampersand),
         b";" => Kind::Mark(Mark::Semicolon),
         b"." => Kind::Mark(Mark::Dot),
+        b"-" => Kind::Mark(Mark::Minus),
+        b"!" => Kind::Mark(Mark::Not),
+        b"<" => Kind::Mark(Mark::Less),
+        b"1" => Kind::Number(1),
+        b"2" => Kind::Number(2),
         b"=" => Kind::Mark(Mark::Assign),
         b"\"hi\"" => Kind::Literal(Bytes::of_items(Vec::from_slice(alloc, b"hi")?)),
         name => Kind::Name(named(alloc, name, 0)?.text),
@@ -173,6 +186,7 @@ fn kind(alloc: Global, text: &[u8]) -> Result<Kind, AllocError> {
 
 fn same(one: &Kind, other: &Kind) -> bool {
     match (one, other) {
+        (Kind::Number(number), Kind::Number(other)) => number == other,
         (Kind::Word(word), Kind::Word(other)) => word == other,
         (Kind::Mark(mark), Kind::Mark(other)) => mark == other,
         (Kind::Name(text), Kind::Name(other)) => text.items() == other.items(),
@@ -181,21 +195,92 @@ fn same(one: &Kind, other: &Kind) -> bool {
     }
 }
 
+// Statements that take memory for their branches, and expressions that take it for their operands.
+fn branches(alloc: Global) -> Result<Block, AllocError> {
+    let one_number = Expr::primary(Start::number(1, 6), Vec::new(alloc));
+    let negative = Expr::minus(alloc, 5, one_number)?;
+    let two_number = Expr::primary(Start::number(2, 8), Vec::new(alloc));
+    let link = Link::new(Operator::Less, 7, two_number);
+    let links = one(alloc, link)?;
+    let chain = Expr::chain(alloc, negative, links)?;
+    let group = Start::group(alloc, 4, chain)?;
+    let inner = Expr::primary(group, Vec::new(alloc));
+    let test = Expr::not(alloc, 3, inner)?;
+    let never = Expr::primary(Start::no(19), Vec::new(alloc));
+    let inside = Stmt::if_then(alloc, 17, 18, never, Stmt::leave(21))?;
+    let always = Expr::primary(Start::yes(15), Vec::new(alloc));
+    let turns = Stmt::repeat(alloc, 13, 14, always, inside)?;
+    let all = Stmt::if_else(alloc, 1, 2, test, Stmt::empty(), turns)?;
+    let item = Item::plain(all);
+    let items = one(alloc, item)?;
+    Ok(Block::new(items, 23))
+}
+
+// The tokens are those of the text, in which a blank stands between two tokens.
+fn assert_spelled(
+    rt: &impl Abort,
+    alloc: Global,
+    tokens: &[Token],
+    text: &str,
+) -> Result<(), Fail> {
+    let mut left = tokens;
+    for part in text.split(' ') {
+        let (token, more) = left.split_first().ok_or("a token is missing")?;
+        let due = kind(alloc, part.as_bytes())?;
+        assert!(rt; same(&token.kind, &due), "{part}");
+        assert_eq!(rt; (token.start, token.end), (0, 0), "{part}");
+        left = more;
+    }
+    assert_eq!(rt; left.len(), 0, "{text}");
+    Ok(())
+}
+
 #[test]
 fn a_program_spells_its_tokens(rt: HostRuntime) -> Result<(), Fail> {
     let program = first_program(rt.alloc())?;
     let tokens = spell(rt.alloc(), &program)?;
-    let source =
-        "class Buffer { public string Get ( ) & public async Put ( string s ) { return s ; } } class Program { static void Main ( ) { Buffer b = new Buffer ( ) ; b . Put ( \"hi\" ) ; Console . WriteLine ( b . Get ( ) ) ; } }";
-    let mut left = tokens.as_slice();
-    for text in source.split(' ') {
-        let (token, more) = left.split_first().ok_or("a token is missing")?;
-        let due = kind(rt.alloc(), text.as_bytes())?;
-        assert!(rt; same(&token.kind, &due), "{text}");
-        assert_eq!(rt; token.end, 0, "{text}");
-        left = more;
-    }
-    assert_eq!(rt; left.len(), 0);
+    assert_spelled(
+        &rt,
+        rt.alloc(),
+        &tokens,
+        "class Buffer { public string Get ( ) & public async Put ( string s ) { return s ; } } class Program { static void Main ( ) { Buffer b = new Buffer ( ) ; b . Put ( \"hi\" ) ; Console . WriteLine ( b . Get ( ) ) ; } }",
+    )?;
     assert_eq!(rt; program.token_count(), 59);
+    Ok(())
+}
+
+#[test]
+fn branches_spell_their_tokens(rt: HostRuntime) -> Result<(), Fail> {
+    let block = branches(rt.alloc())?;
+    let mut tokens = Vec::new(rt.alloc());
+    put_block(rt.alloc(), &mut tokens, &block)?;
+    assert_spelled(
+        &rt,
+        rt.alloc(),
+        &tokens,
+        "{ if ( ! ( - 1 < 2 ) ) ; else while ( true ) if ( false ) return ; }",
+    )
+}
+
+#[test]
+fn a_long_chain_is_walked_and_dropped(rt: HostRuntime) -> Result<(), Fail> {
+    let mut links = Vec::new(rt.alloc());
+    for at in 0..100_000u32 {
+        let operand = Expr::primary(Start::this(at), Vec::new(rt.alloc()));
+        links.push(Link {
+            operator: Operator::Plus,
+            at,
+            operand,
+        })?;
+    }
+    let first = Expr::primary(Start::this(7), Vec::new(rt.alloc()));
+    let chain = Expr::Chain {
+        first: Box::new(rt.alloc(), first)?,
+        links,
+    };
+    assert_eq!(rt; chain.first_token(), 7);
+    let mut tokens = Vec::new(rt.alloc());
+    put_expr(rt.alloc(), &mut tokens, &chain)?;
+    assert_eq!(rt; tokens.len(), 200_001);
     Ok(())
 }
