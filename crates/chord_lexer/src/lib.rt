@@ -13,5 +13,7 @@ mod mark;
 mod number;
 pub mod piece;
 mod scan;
+#[cfg(test)]
+mod tests;
 pub mod token;
 mod word;
