@@ -41,8 +41,6 @@ pub fn number(text: &[u8]) -> Option<(Piece, usize)>
     if follows(text, length, Class::Word) {
         return None;
     }
-    match decimal(&text[..length]) {
-        Some(n) => Some((Piece::Token(Kind::Number(n)), length)),
-        None => None,
-    }
+    let n = decimal(&text[..length])?;
+    Some((Piece::Token(Kind::Number(n)), length))
 }
