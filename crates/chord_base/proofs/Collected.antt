@@ -1,19 +1,11 @@
 -- The entries of all places, in number order, are the journal.
-use Rattle.std.proofs.Common.{◌≡◌, ℕ, ◌<◌, Bool, List, [], ◌∷◌, length, refl, ap, arith, ◌⊎◌, inl, inr}
+use Rattle.std.proofs.Common.{◌≡◌, ℕ, ◌<◌, Bool, List, [], ◌∷◌, length, refl, ap, arith, inl, inr}
 use Rattle.chord_base.specs.declared.event.Entry.{Entry}
 use Rattle.chord_base.specs.Meaning.{Program}
 use Rattle.chord_base.specs.Machine.{IsPast}
 use Rattle.chord_base.specs.Story.{kept}
+pub use Rattle.chord_base.specs.Story.{IsIn, AreNumbered}
 use Rattle.chord_base.proofs.Waits.{either}
-
-abbrev pub IsIn : Entry → List Entry → Type 0
-IsIn e [] = ⊥
-IsIn e (x ∷ h) = (e ≡ x) ⊎ IsIn e h
-
--- each number is the place of its entry
-abbrev pub AreNumbered : List Entry → Type 0
-AreNumbered [] = Unit {0}
-AreNumbered (e ∷ h) = (e.number ≡ length h) × AreNumbered h
 
 pub past_numbered : (p : Program) (h : List Entry) → IsPast p h → AreNumbered h
 past_numbered p [] r = tt

@@ -1,13 +1,16 @@
 -- What an entry changes for the other bodies.
-use Rattle.std.proofs.Common.{◌≡◌, ℕ, Bool, true, false, ◌==◌, List, [], ◌∷◌, ◌++◌, Option, Some, None, refl}
-use Rattle.std.proofs.lemmas.Bool.{eq-eqb}
+use Rattle.std.proofs.Common.{◌≡◌, ℕ, Bool, true, false, ◌==◌, List, [], ◌∷◌, ◌++◌, Option, Some, None, refl, sym, subst, inl, inr}
+use Rattle.std.proofs.lemmas.Bool.{eq-eqb, eqb-true, ne_eqb}
 use Rattle.chord_base.specs.declared.event.End.{End}
 use Rattle.chord_base.specs.declared.event.What.{What}
 use Rattle.chord_base.specs.declared.event.What.TheVariants.{Begun, Made, Sent, Called, Printed, Fired, Ended}
 use Rattle.chord_base.specs.declared.event.Entry.{Entry}
 use Rattle.chord_base.specs.Meaning.{Program, Start}
-use Rattle.chord_base.specs.Bodies.{Doing, Absent, Unplaced, Ready, Waits, Over, answered, heard, doing, serves}
+use Rattle.chord_base.specs.Bodies.{Doing, Absent, Unplaced, Ready, Waits, Over, WaitsFor, answered, heard, doing, serves}
+use Rattle.chord_base.specs.Messages.{maker}
+use Rattle.chord_base.specs.Laws.{OthersChangeNothing, EndAnswersCaller, CallerMadeCall}
 use Rattle.chord_base.specs.Printed.{is_end}
+use Rattle.chord_base.proofs.Waits.{either, WaitsOn, waits_for_own}
 
 -- the body waits for this call
 abbrev pub waits_for : Option ℕ → Doing → Bool
@@ -42,3 +45,44 @@ other_body p e h b n m = rw n (heard_same e.what (serves p e.body h) (doing p h 
 -- the end of the serving body is the caller's answer
 pub call_answered : (p : Program) (e : Entry) (h : List Entry) (b : ℕ) (x : End) (s : Start) (d : ℕ) (rs : List End) (q l : ℕ) → (e.body == b) ≡ false → e.what ≡ Ended x → doing p h b ≡ Waits s d rs q l → serves p e.body h ≡ Some q → doing p (e ∷ h) b ≡ Ready s d (rs ++ x ∷ [])
 call_answered p e h b x s d rs q l n w o c = rw (n, w, c, o, eq-eqb q q refl)
+
+end_of : (w : What) → is_end w ≡ true → (x : End) × (w ≡ Ended x)
+end_of (Ended x) e = (x, refl)
+end_of Begun e = cc
+end_of (Made k) e = cc
+end_of (Sent o j vs) e = cc
+end_of (Called o j vs) e = cc
+end_of (Printed t) e = cc
+end_of (Fired k o ms vs) e = cc
+
+waits_of : (c : Option ℕ) (d : Doing) → waits_for c d ≡ true → (q : ℕ) × (c ≡ Some q) × WaitsFor q d
+waits_of None d e = cc
+waits_of (Some c) (Waits s d rs q l) e = (c, refl, eqb-true c q e)
+waits_of (Some c) (Ready s d rs) e = cc
+waits_of (Some c) Absent e = cc
+waits_of (Some c) Unplaced e = cc
+waits_of (Some c) (Over x) e = cc
+
+-- an entry of another body changes nothing, unless it ends the body that serves this one's open call
+pub others_change_nothing : OthersChangeNothing
+others_change_nothing p e h b other unless =
+    other_body p e h b (ne_eqb e.body b other)
+    (λ is.
+    elim (either (waits_for (serves p e.body h) (doing p h b))) [
+      | inl y ↦ (let x = end_of e.what is in let w = waits_of (serves p e.body h) (doing p h b) y in absurd (unless (x.0, w.0, x.1, w.1, w.2)))
+      | inr n ↦ n
+    ])
+
+pub end_answers_caller : EndAnswersCaller
+end_answers_caller p e h b q d l x s rs other is serving waits = call_answered p e h b x s d rs q l (ne_eqb e.body b other) is waits serving
+
+waits_on_it : (P : ℕ → Type 0) (q : ℕ) (d : Doing) → WaitsOn P d → WaitsFor q d → P q
+waits_on_it P q (Waits s d rs c l) w e = subst P (sym e) w
+waits_on_it P q (Ready s d rs) w e = absurd e
+waits_on_it P q Absent w e = absurd e
+waits_on_it P q Unplaced w e = absurd e
+waits_on_it P q (Over x) w e = absurd e
+
+-- a body waits for a call that it has made itself
+pub caller_made_call : CallerMadeCall
+caller_made_call p h b q r w = waits_on_it (λ i. maker i h ≡ Some b) q (doing p h b) (waits_for_own p h b r) w

@@ -1,5 +1,5 @@
 -- A run in places: one more entry, places that become one, and the end.
-use Rattle.std.proofs.Common.{◌≡◌, ℕ, ◌<◌, ◌≤◌, Bool, true, false, ◌==◌, List, [], ◌∷◌, length, None, refl, sym, ap, ◌∙◌, subst, arith, inl, inr, if◌then◌else◌}
+use Rattle.std.proofs.Common.{◌≡◌, ℕ, ◌<◌, ◌≤◌, Bool, true, false, ◌==◌, List, [], ◌∷◌, length, None, refl, sym, ap, ◌∙◌, subst, arith, ◌⊎◌, inl, inr, if◌then◌else◌}
 use Rattle.std.proofs.lemmas.Bool.{eq-eqb, eqb-true, ne_eqb}
 use Rattle.chord_base.specs.declared.value.Object.{Object}
 use Rattle.chord_base.specs.declared.value.Value as value
@@ -8,13 +8,16 @@ use Rattle.chord_base.specs.declared.event.What.TheVariants.{Begun, Made, Sent, 
 use Rattle.chord_base.specs.declared.event.Entry.{Entry}
 use Rattle.chord_base.specs.Meaning.{Program}
 use Rattle.chord_base.specs.Bodies.{Doing, Absent, Unplaced, Ready, Waits, Over, doing, asked, Asks}
-use Rattle.chord_base.specs.Machine.{Comes, Fires, MayFollow, IsPast, IsFinal}
+use Rattle.chord_base.specs.Machine.{Fires, MayFollow, IsPast, IsFinal}
 use Rattle.chord_base.specs.Story.{kept, Tells, Rises, AreTold, IsMerged, IsOwn, IsDefined, IsStory, IsSound, AllBelow, IsRising}
+pub use Rattle.chord_base.specs.Story.{grown}
+use Rattle.chord_base.specs.Laws.{CompleteInPlaces, PlaceKnows}
 use Rattle.chord_base.proofs.Waits.{either}
 use Rattle.chord_base.proofs.Merge.{next_in_story, agrees, Agrees, whole_of_told, body_known, IsSeen, known_kept}
 use Rattle.chord_base.proofs.Places.{union_told, kept_below, below_rises}
 use Rattle.chord_base.proofs.Pending.{NoneFires}
-use Rattle.chord_base.proofs.Final.{final_when}
+use Rattle.chord_base.proofs.Final.{final_when, some_length}
+pub use Rattle.chord_base.proofs.Final.{own_comes}
 
 -- the numbers of a past are their places
 pub past_below : (p : Program) (h : List Entry) (n : ℕ) → IsPast p h → length h ≤ n → AllBelow n h
@@ -37,10 +40,6 @@ kept_same f g n (e ∷ h) a s =
 -- the map of places with one more number
 abbrev pub placed_at : (ℕ → ℕ) → ℕ → ℕ → ℕ → ℕ
 placed_at at n i m = if m == n then i else at m
-
--- the views with one more entry in place i
-abbrev pub grown : (ℕ → List Entry) → ℕ → Entry → ℕ → List Entry
-grown view i e j = if i == j then e ∷ view j else view j
 
 placed_old : (at : ℕ → ℕ) (n i m : ℕ) → m < n → placed_at at n i m ≡ at m
 placed_old at n i m l = rw (ne_eqb m n (λ e. omega (arith, e, l)))
@@ -75,15 +74,6 @@ merged_told p view h m j = rw (m.keeps j) (m.told j)
 -- a body's next ask in its place is its next ask in the run
 pub merged_asks : (p : Program) (view : ℕ → List Entry) (h : List Entry) (i b : ℕ) (w : What) → IsMerged p view h → Asks p (view i) b w → Asks p h b w
 merged_asks p view h i b w m a = next_in_story p m.at h i b w (merged_told p view h m) (rw (m.keeps i) a)
-
-pub own_comes : (p : Program) (h : List Entry) (n b : ℕ) (w : What) → IsOwn w → Asks p h b w → Comes p h n b w
-own_comes p h n b Begun o a = absurd o
-own_comes p h n b (Fired k o' ms vs) o a = absurd o
-own_comes p h n b (Made c) o a = a
-own_comes p h n b (Sent o' j vs) o a = a
-own_comes p h n b (Called o' j vs) o a = a
-own_comes p h n b (Printed t) o a = a
-own_comes p h n b (Ended x) o a = a
 
 pub own_tells : (p : Program) (h : List Entry) (n b : ℕ) (w : What) → IsOwn w → Asks p h b w → Tells p h n b w
 own_tells p h n b Begun o a = absurd o
@@ -122,6 +112,20 @@ agrees_back p Unplaced d' a u e = absurd (u refl)
 agrees_back p (Ready s k rs) d' a u e = let f : Doing → Type 0 = λ o. asked p o ≡ None in subst f a e
 agrees_back p (Waits s k rs q l) d' a u e = let f : Doing → Type 0 = λ o. asked p o ≡ None in subst f a e
 agrees_back p (Over x) d' a u e = let f : Doing → Type 0 = λ o. asked p o ≡ None in subst f a e
+
+agrees_or : (d d' : Doing) → Agrees d d' → (d ≡ Unplaced) ⊎ (d ≡ d')
+agrees_or Unplaced d' a = inl refl
+agrees_or Absent d' a = inr a
+agrees_or (Ready s k rs) d' a = inr a
+agrees_or (Waits s k rs q l) d' a = inr a
+agrees_or (Over x) d' a = inr a
+
+-- a body does in its place what it does in the run, or lacks its call there
+pub place_knows : PlaceKnows
+place_knows p view h b m =
+    subst (λ (v : List Entry). (doing p v b ≡ Unplaced) ⊎ (doing p v b ≡ doing p h b)) (m.keeps (m.at b))
+    (agrees_or (doing p (kept (λ n. m.at n == m.at b) h) b) (doing p h b)
+    (agrees p (λ n. m.at n == m.at b) h (whole_of_told p m.at h (merged_told p view h m) (m.at b)) b (eq-eqb (m.at b) (m.at b) refl)))
 
 -- each body asks nothing in its place
 pub merged_quiet : (p : Program) (view : ℕ → List Entry) (h : List Entry) (m : IsMerged p view h) → ((i b : ℕ) → (asked p (doing p (view i) b) ≡ None) × (doing p (view i) b ≡ Unplaced → ⊥)) → (b : ℕ) → asked p (doing p h b) ≡ None
@@ -172,3 +176,6 @@ merged_story p view h s m i =
                 let z : true ≡ false = sym k ∙ o in cc)
           ]);
     }
+
+pub complete_in_places : CompleteInPlaces
+complete_in_places p view h m n q f = merged_final p view h m (some_length h n) q f

@@ -8,11 +8,9 @@ use Rattle.chord_base.specs.Meaning.{Program}
 use Rattle.chord_base.specs.Messages.{Message, has, message_of, members_of, pending}
 use Rattle.chord_base.specs.Bodies.{served_among}
 use Rattle.chord_base.specs.Machine.{Takes, Fires}
+pub use Rattle.chord_base.specs.Machine.{NoneFires}
+pub use Rattle.chord_base.specs.Meaning.{NoneSync, OneSync}
 use Rattle.chord_base.proofs.Waits.{either}
-
--- no chord has all its messages
-abbrev pub NoneFires : Program → List Entry → Type 0
-NoneFires p h = (k : ℕ) (o : Object) (ms : List ℕ) (vs : List value.Value) → Fires p h k o ms vs → ⊥
 
 -- what is pending after an entry that is no message was pending before
 pub pending_before : (e : Entry) (h : List Entry) (n : ℕ) (m : Message) → message_of e.what ≡ None → pending n (e ∷ h) ≡ Some m → pending n h ≡ Some m
@@ -39,7 +37,7 @@ taken_after e h n m no_message t s =
 pub pending_other : (e : Entry) (h : List Entry) (n : ℕ) → members_of e.what ≡ [] → (e.number == n) ≡ false → pending n (e ∷ h) ≡ pending n h
 pending_other e h n none o = rw (o, none)
 
-has_more : (n i : ℕ) (ms : List ℕ) → has n ms ≡ true → has n (i ∷ ms) ≡ true
+pub has_more : (n i : ℕ) (ms : List ℕ) → has n ms ≡ true → has n (i ∷ ms) ≡ true
 has_more n i ms s = elim (either (n == i)) [ inl y ↦ rw y refl | inr o ↦ rw (o, s) refl ]
 
 not_member : (n i : ℕ) (ms : List ℕ) → has n ms ≡ false → has i ms ≡ true → (n == i) ≡ false
@@ -94,15 +92,6 @@ none_fires_after p f e h no_message n t none k o ms vs x =
       | inl y ↦ not_taken f (e ∷ h) e.number no_message t o x.0 ms vs y x.2
       | inr out ↦ none k o ms vs (fires_without p e h k o ms vs n out (fires_before p f (e ∷ h) k o ms vs no_message x))
     ]
-
--- at most one of the methods is synchronous
-abbrev pub NoneSync : (ℕ → Bool) → List ℕ → Type 0
-NoneSync sync [] = Unit {0}
-NoneSync sync (j ∷ js) = (sync j ≡ false) × NoneSync sync js
-
-abbrev pub OneSync : (ℕ → Bool) → List ℕ → Type 0
-OneSync sync [] = Unit {0}
-OneSync sync (j ∷ js) = (sync j ≡ true → NoneSync sync js) × OneSync sync js
 
 none_sync_member : (sync : ℕ → Bool) (h : List Entry) (o : Object) (js ms : List ℕ) (vs : List value.Value) (q : ℕ) (m : Message) → NoneSync sync js → Takes h o js ms vs → pending q h ≡ Some m → sync m.method ≡ true → has q ms ≡ false
 none_sync_member sync h o [] [] vs q m n t p s = refl

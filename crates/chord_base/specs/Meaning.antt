@@ -1,5 +1,5 @@
 -- What a program means to the join machine: how its bodies go on, and which methods its chords have.
-use Rattle.std.specs.Prelude.{ℕ, Bool, List, Option}
+use Rattle.std.specs.Prelude.{◌≡◌, ℕ, Bool, true, false, List, [], ◌∷◌, Option, Some, slice_get}
 use Rattle.chord_base.specs.declared.value.Object.{Object}
 use Rattle.chord_base.specs.declared.value.Value as value
 use Rattle.chord_base.specs.declared.event.End.{End}
@@ -24,3 +24,17 @@ pub record Program : Type 0 where
   pub chords : ℕ → List (List ℕ)
   -- whether callers of this method of the class wait
   pub is_sync : ℕ → ℕ → Bool
+
+-- none of these methods has callers that wait
+abbrev pub NoneSync : (ℕ → Bool) → List ℕ → Type 0
+NoneSync sync [] = Unit {0}
+NoneSync sync (j ∷ js) = (sync j ≡ false) × NoneSync sync js
+
+-- at most one of these methods has callers that wait
+abbrev pub OneSync : (ℕ → Bool) → List ℕ → Type 0
+OneSync sync [] = Unit {0}
+OneSync sync (j ∷ js) = (sync j ≡ true → NoneSync sync js) × OneSync sync js
+
+-- each chord has at most one method with callers that wait
+abbrev pub HasOneSync : Program → Type 0
+HasOneSync p = (class k : ℕ) (js : List ℕ) → slice_get (p.chords class) k ≡ Some js → OneSync (p.is_sync class) js

@@ -1,7 +1,7 @@
 -- Messages: what was sent or called, and which of them wait to be taken.
 --
 -- A history is a list of entries with the newest first, so the entries before one are its tail.
-use Rattle.std.specs.Prelude.{ℕ, Bool, false, ◌==◌, ◌||◌, List, [], ◌∷◌, Option, Some, None, if◌then◌else◌}
+use Rattle.std.specs.Prelude.{◌≡◌, ℕ, Bool, false, ◌==◌, ◌||◌, List, [], ◌∷◌, Option, Some, None, if◌then◌else◌}
 use Rattle.chord_base.specs.declared.value.Object.{Object}
 use Rattle.chord_base.specs.declared.value.Value as value
 use Rattle.chord_base.specs.declared.event.What.{What}
@@ -39,3 +39,7 @@ pending n (e ∷ h) = if e.number == n then message_of e.what else if has n (mem
 abbrev pub maker : ℕ → List Entry → Option ℕ
 maker n [] = None
 maker n (e ∷ h) = if e.number == n then Some e.body else maker n h
+
+-- the entry is a synchronous call of this number
+abbrev pub IsCall : ℕ → Entry → Type 0
+IsCall q e = (e.number ≡ q) × ((o : Object) × (j : ℕ) × (vs : List value.Value) × (e.what ≡ Called o j vs))

@@ -1,5 +1,7 @@
--- Stories: what one place keeps of a run, as one task, one desk or one parcel.
-use Rattle.std.specs.Prelude.{◌≡◌, ℕ, ◌<◌, Bool, true, false, ◌==◌, List, [], ◌∷◌, IsSome, if◌then◌else◌}
+-- Stories: what one place keeps of a run, as a task, a desk or a parcel does.
+--
+-- A place has a number, and keeps the entries of some numbers of the run. Moving entries changes where a number stands.
+use Rattle.std.specs.Prelude.{◌≡◌, ◌⊎◌, ℕ, ◌<◌, Bool, true, false, not, ◌==◌, List, [], ◌∷◌, length, IsSome, if◌then◌else◌}
 use Rattle.chord_base.specs.Meaning.{Program}
 use Rattle.chord_base.specs.Bodies.{Doing, Absent, Unplaced, Ready, Waits, Over, doing, Asks}
 use Rattle.chord_base.specs.Machine.{IsPast}
@@ -12,7 +14,7 @@ abbrev pub Rises : ℕ → List Entry → Type 0
 Rises n [] = Unit {0}
 Rises n (e ∷ h) = e.number < n
 
--- an entry is its body's first, or its body's next ask
+-- an entry is told by what its place kept before: it is its body's first, or its body's next ask
 abbrev pub Tells : Program → List Entry → ℕ → ℕ → What → Type 0
 Tells p h n b Begun = b ≡ n
 Tells p h n b (Fired k o ms vs) = b ≡ n
@@ -22,7 +24,7 @@ Tells p h n b (Called o j vs) = Asks p h b (Called o j vs)
 Tells p h n b (Printed t) = Asks p h b (Printed t)
 Tells p h n b (Ended x) = Asks p h b (Ended x)
 
--- the numbers rise, each body begins here, and each later entry is its body's next ask
+-- a history is told: the numbers rise, each body begins here, and each later entry is its body's next ask
 abbrev pub IsTold : Program → List Entry → Type 0
 IsTold p [] = Unit {0}
 IsTold p (e ∷ h) = IsTold p h × Rises e.number h × Tells p h e.number e.body e.what
@@ -40,7 +42,7 @@ pub record IsStory (p : Program) (h : List Entry) : Type 0 where
   pub told : IsTold p h
   pub is_defined : (b : ℕ) → IsDefined p (doing p h b)
 
--- the entries of these numbers
+-- of a history, the entries of these numbers
 abbrev pub kept : (ℕ → Bool) → List Entry → List Entry
 kept keep [] = []
 kept keep (e ∷ h) = if keep e.number then e ∷ kept keep h else kept keep h
@@ -90,3 +92,21 @@ AllBelow n (e ∷ h) = (e.number < n) × AllBelow n h
 abbrev pub IsRising : List Entry → Type 0
 IsRising [] = Unit {0}
 IsRising (e ∷ h) = AllBelow e.number h × IsRising h
+
+-- the entry stands in the list
+abbrev pub IsIn : Entry → List Entry → Type 0
+IsIn e [] = ⊥
+IsIn e (x ∷ h) = (e ≡ x) ⊎ IsIn e h
+
+-- each number is the place of its entry
+abbrev pub AreNumbered : List Entry → Type 0
+AreNumbered [] = Unit {0}
+AreNumbered (e ∷ h) = (e.number ≡ length h) × AreNumbered h
+
+-- the places, where place i keeps one more entry
+abbrev pub grown : (ℕ → List Entry) → ℕ → Entry → ℕ → List Entry
+grown view i e j = if i == j then e ∷ view j else view j
+
+-- the places, where of the entries of place i those of these numbers have gone to place j
+abbrev pub parted : (ℕ → List Entry) → ℕ → ℕ → (ℕ → Bool) → ℕ → List Entry
+parted view i j goes c = if c == j then kept goes (view i) else if c == i then kept (λ n. not (goes n)) (view i) else view c

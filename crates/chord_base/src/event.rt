@@ -83,3 +83,46 @@ impl End {
         }
     }
 }
+
+impl What {
+    /// An equal one.
+    pub fn copied(&self, alloc: Global) -> Result<What, AllocError>
+        ensures { IfOk result (λ what. what ≡ self.now) }
+    {
+        match self {
+            What::Begun => Ok(What::Begun),
+            What::Made(class) => Ok(What::Made(*class)),
+            What::Sent(object, method, values) => Ok(What::Sent(
+                *object,
+                *method,
+                values.copied(alloc)?,
+            )),
+            What::Called(object, method, values) => Ok(What::Called(
+                *object,
+                *method,
+                values.copied(alloc)?,
+            )),
+            What::Printed(text) => Ok(What::Printed(text.copied(alloc)?)),
+            What::Fired(chord, object, members, values) => Ok(What::Fired(
+                *chord,
+                *object,
+                members.copied(),
+                values.copied(alloc)?,
+            )),
+            What::Ended(end) => Ok(What::Ended(end.copied(alloc)?)),
+        }
+    }
+}
+
+impl Entry {
+    /// An equal entry.
+    pub fn copied(&self, alloc: Global) -> Result<Entry, AllocError>
+        ensures { IfOk result (λ entry. entry ≡ self.now) }
+    {
+        Ok(Entry {
+            number: self.number,
+            body: self.body,
+            what: self.what.copied(alloc)?,
+        })
+    }
+}

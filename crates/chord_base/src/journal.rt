@@ -132,3 +132,55 @@ impl Journal {
         }
     }
 }
+
+#[cfg(test)]
+mod tests {
+    use super::*;
+    use crate::event::Trap;
+    use crate::value::Value;
+    use std::alloc::Global;
+    use std::test::Fail;
+
+    fn entry(number: u32, what: What) -> Entry
+        ensures number { result.number ≡ number }
+        ensures body { result.body ≡ 0 }
+        ensures what { result.what ≡ what }
+    {
+        Entry {
+            number,
+            body: 0,
+            what,
+        }
+    }
+
+    /// The status of a journal in which `Main` begins.
+    fn begun(alloc: Global) -> Result<u8, Fail> {
+        let mut entries = Vec::new(alloc);
+        entries.push(entry(0, What::Begun))?;
+        Ok(Journal::of_entries(entries).status())
+    }
+
+    /// The status of a journal in which `Main` begins and ends.
+    fn ended(alloc: Global) -> Result<u8, Fail> {
+        let mut entries = Vec::new(alloc);
+        entries.push(entry(0, What::Begun))?;
+        entries.push(entry(1, What::Ended(End::Gives(Value::Unit))))?;
+        Ok(Journal::of_entries(entries).status())
+    }
+
+    /// The status of a journal in which `Main` begins and traps.
+    fn trapped(alloc: Global) -> Result<u8, Fail> {
+        let mut entries = Vec::new(alloc);
+        entries.push(entry(0, What::Begun))?;
+        entries.push(entry(1, What::Ended(End::Traps(Trap::DivideByZero))))?;
+        Ok(Journal::of_entries(entries).status())
+    }
+
+    #[test]
+    fn status_of_main(rt: HostRuntime) -> Result<(), Fail> {
+        assert_eq!(rt; begun(rt.alloc())?, 4, "`Main` has not ended");
+        assert_eq!(rt; ended(rt.alloc())?, 0, "`Main` has ended");
+        assert_eq!(rt; trapped(rt.alloc())?, 8, "`Main` has trapped");
+        Ok(())
+    }
+}

@@ -1,0 +1,9 @@
+pub mod Letters
+pub mod Words
+pub mod Numbers
+pub mod Literals
+pub mod Comments
+pub mod Marks
+pub mod Pieces
+pub mod Reading
+pub mod Scanning

@@ -1,8 +1,20 @@
 //! The tokens of a source, each as long as it can be.
 //! Stands on: chord_base (texts). Used by: chord_tree (spelling), chord_parser, chord_run.
-//! Promise: `lex` gives the one list of tokens that a source reads as, with their places, or the first byte at which none begins (specs/Reading.antt).
+//! Promise: `lex` gives the one list of tokens that a source reads as, with their places, or the one byte at which it is refused
+//! (specs/Reading.antt). Read `specs/` in the order of its `Lib.antt`; its last file, `Scanning`, is of the code alone.
 //! Not here: which lists of tokens are programs (chord_tree), what a name means (chord_types).
 #![tactic(auto)]
 
 pub mod bytes;
+mod comment;
+pub mod laws;
+pub mod lexer;
+mod literal;
+mod mark;
+mod number;
+pub mod piece;
+mod scan;
+#[cfg(test)]
+mod tests;
 pub mod token;
+mod word;

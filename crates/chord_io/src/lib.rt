@@ -1,0 +1,30 @@
+//! Where the bytes of a run come from and where they go: sources and sinks that count their faults.
+//! Stands on: nothing of the repository. Used by: chord_journal, chord_gen, chord_run, chord_prog.
+//! Promise: `read_all` gives exactly the bytes that were left, `write_all` adds exactly the piece,
+//! and a fault is answered only where the count of faults rose (specs/Pieces.antt, specs/Faults.antt).
+//! Not here: what the bytes mean, and any text of the program.
+#![tactic(auto)]
+
+mod count;
+mod memory;
+mod pen;
+mod read;
+mod sink;
+mod source;
+mod standard;
+mod write;
+
+pub use memory::{MemSink, MemSource};
+pub use pen::Pen;
+pub use read::{MAX_TEXT_BYTES, ReadFault, read_all, read_up_to};
+pub use sink::Sink;
+pub use source::Source;
+pub use standard::{StdSink, StdSource};
+pub use write::write_all;
+
+/// A read or a write that failed.
+#[derive(Clone, Copy, Debug, PartialEq, Eq)]
+pub struct Failed;
+
+#[cfg(test)]
+mod tests;

@@ -1,0 +1,88 @@
+//! Reading a source to its end.
+ghost use Rattle.std.specs.Prelude.{◌≡◌, ℕ, ◌<◌, ◌≤◌, ◌+◌, List, length, Ok, IfOk, OnOk, OnErr, IsErrOf, IfSome, vec_len};
+ghost use Rattle.chord_io.specs.Faults.{Rose};
+ghost use Rattle.chord_io.specs.Pieces.{Gave, IsSpent};
+ghost use Rattle.chord_io.specs.declared.read.ReadFault.TheVariants.{Failed as read_failed, Memory as no_memory};
+
+use crate::{Failed, Source};
+use std::alloc::{AllocError, Global};
+
+/// The most bytes that a text of a program may have.
+pub const MAX_TEXT_BYTES: u32 = 1_048_576;
+
+/// The bytes that one read asks for.
+const PIECE_BYTES: usize = 4096;
+
+/// Why the bytes of a source were not had.
+#[derive(Clone, Copy, Debug, PartialEq, Eq)]
+pub enum ReadFault {
+    /// The source failed.
+    Failed,
+    /// The source gave more bytes than are allowed.
+    TooLong,
+    /// There was no memory for the bytes.
+    Memory,
+}
+
+impl From<Failed> for ReadFault {
+    ghost from_gives = { λ _ fault. fault ≡ read_failed };
+
+    fn from(_failed: Failed) -> ReadFault {
+        ReadFault::Failed
+    }
+}
+
+impl From<AllocError> for ReadFault {
+    ghost from_gives = { λ _ fault. fault ≡ no_memory };
+
+    fn from(_error: AllocError) -> ReadFault {
+        ReadFault::Memory
+    }
+}
+
+/// Reads a text of a program: `read_up_to` of `MAX_TEXT_BYTES`.
+pub fn read_all<S: Source>(alloc: Global, source: &mut S) -> Result<Vec<u8>, ReadFault>
+    ensures all { IfOk result (λ bytes. IfSome (S.left source.old) (λ left. bytes.items ≡ left)) }
+    ensures gave { IfOk result (λ bytes. Gave (S.left source.old) bytes.items (S.left source.new)) }
+    ensures spent { OnOk result (IsSpent (S.left source.new)) }
+    ensures fits { IfOk result (λ bytes. vec_len bytes ≤ 1048576) }
+    ensures too_long { IsErrOf result ReadFault.TooLong → (given : List ℕ) × (length given ≡ 1048577)
+        × Gave (S.left source.old) given (S.left source.new) }
+    ensures failed { IsErrOf result ReadFault.Failed → Rose (S.faults source.old) (S.faults source.new) }
+    ensures part { OnErr result ((given : List ℕ) × Gave (S.left source.old) given (S.left source.new)) }
+    ensures never_falls { S.faults source.old ≤ S.faults source.new }
+{
+    read_up_to(alloc, source, MAX_TEXT_BYTES)
+}
+
+/// Reads all bytes to the end of input, of which there may be `most`.
+///
+/// # Errors
+///
+/// `Failed` where a read failed, which the source's count of faults shows. `TooLong` exactly where the source
+/// gave more than `most` bytes, which ends the reading at `most + 1`. `Memory` where there was none.
+/// What was read then is lost.
+pub fn read_up_to<S: Source>(alloc: Global, source: &mut S, most: u32) -> Result<Vec<u8>, ReadFault>
+    ensures all { IfOk result (λ bytes. IfSome (S.left source.old) (λ left. bytes.items ≡ left)) }
+    ensures gave { IfOk result (λ bytes. Gave (S.left source.old) bytes.items (S.left source.new)) }
+    ensures spent { OnOk result (IsSpent (S.left source.new)) }
+    ensures fits { IfOk result (λ bytes. vec_len bytes ≤ most) }
+    ensures too_long { IsErrOf result ReadFault.TooLong → (given : List ℕ) × (length given ≡ most + 1)
+        × Gave (S.left source.old) given (S.left source.new) }
+    ensures failed { IsErrOf result ReadFault.Failed → Rose (S.faults source.old) (S.faults source.new) }
+    ensures part { OnErr result ((given : List ℕ) × Gave (S.left source.old) given (S.left source.new)) }
+    ensures never_falls { S.faults source.old ≤ S.faults source.new }
+{
+    let most = most as usize;
+    let mut bytes = Vec::new(alloc);
+    let mut buffer = [0; PIECE_BYTES];
+    while bytes.len() <= most {
+        let room = PIECE_BYTES.min(most - bytes.len() + 1);
+        let count = source.read(&mut buffer[..room])?;
+        if count == 0 {
+            return Ok(bytes);
+        }
+        bytes.extend_from_slice(&buffer[..count])?;
+    }
+    Err(ReadFault::TooLong)
+}

@@ -1,0 +1,30 @@
+//! Writing a whole piece.
+ghost use Rattle.std.specs.Prelude.{◌≡◌, ℕ, ◌<◌, ◌≤◌, ◌+◌, List, length, take, OnOk, OnErr};
+ghost use Rattle.chord_io.specs.Faults.{Rose};
+ghost use Rattle.chord_io.specs.Pieces.{Took};
+
+use crate::{Failed, Sink};
+
+/// Writes the whole piece, in as many writes as the sink wants.
+///
+/// # Errors
+///
+/// `Failed` where a write failed or took nothing, which the sink's count of faults shows.
+/// A front of the piece was taken, and not the whole.
+pub fn write_all<K: Sink>(sink: &mut K, piece: &[u8]) -> Result<(), Failed>
+    ensures whole { OnOk result (Took (K.taken sink.old) piece.now (K.taken sink.new)) }
+    ensures part { OnErr result ((n : ℕ) × (n < length piece.now)
+        × Took (K.taken sink.old) (take n piece.now) (K.taken sink.new)) }
+    ensures failed { OnErr result (Rose (K.faults sink.old) (K.faults sink.new)) }
+    ensures never_falls { K.faults sink.old ≤ K.faults sink.new }
+{
+    let mut taken = 0;
+    while taken < piece.len() {
+        let count = sink.write(&piece[taken..])?;
+        if count == 0 {
+            return Err(Failed);
+        }
+        taken += count;
+    }
+    Ok(())
+}

@@ -1,0 +1,11 @@
+use Rattle.std.proofs.Common.{take, ◌++◌}
+use Rattle.std.specs.List.{flat_map}
+use Rattle.std.specs.Prelude.{codes, decimal}
+use Rattle.chord_io.specs.Pen.{Writes}
+use Rattle.chord_journal.specs.Text.{byte_text, value_text, entry_text}
+use Rattle.chord_journal.proofs.write.put_entries.Given as goal
+
+abbrev pub invariant-loop-entry : goal.invariant-loop-entry
+invariant-loop-entry g l =
+    Writes (g.K.Sink.taken l.initial.sink) (g.K.Sink.faults l.initial.sink) l.initial.pen (flat_map (entry_text) (take l.entry-index l.entries))
+    (g.K.Sink.taken l.sink) (g.K.Sink.faults l.sink) l.pen

@@ -1,0 +1,9 @@
+pub mod Runs
+pub mod Leads
+pub mod Reserved
+pub mod Wording
+pub mod Numbering
+pub mod Quoting
+pub mod Commenting
+pub mod Marking
+pub mod Chains

@@ -1,0 +1,80 @@
+-- Numbers: the longest is the whole run of digits, and there is none where a letter follows or the value is too large.
+use Rattle.std.proofs.Common.{◌≡◌, ℕ, zero, suc, ◌+◌, ◌-◌, ◌*◌, ◌<◌, ◌≤◌, Bool, true, false, ◌||◌, List, [], ◌∷◌, ◌++◌, length, take, drop, get_or, refl, sym, ap, subst, ◌∙◌, arith, add-one}
+use Rattle.std.proofs.lemmas.List.{take-append-drop}
+use Rattle.std.proofs.lemmas.Bool.{leb-true}
+use Rattle.std.specs.Prelude.{nat_le}
+use Rattle.chord_lexer.specs.declared.token.Kind.TheVariants as kinds
+use Rattle.chord_lexer.specs.declared.piece.Piece.{Piece}
+use Rattle.chord_lexer.specs.declared.piece.Piece.TheVariants as pieces
+use Rattle.chord_lexer.specs.declared.scan.Lead.TheVariants as leads
+use Rattle.chord_lexer.specs.Letters.{is_letter, is_digit, is_word_byte, first_passes, IsRun}
+use Rattle.chord_lexer.specs.Numbers.{IsNumber, value_after}
+use Rattle.chord_lexer.specs.Pieces.{IsPiece, IsNone}
+use Rattle.chord_lexer.specs.Scanning.{lead_of, Begins}
+use Rattle.chord_lexer.proofs.Runs.{run_same, and_left, and_right}
+use Rattle.chord_lexer.proofs.Leads.{leads_to, only_number, told}
+
+digit_goes_on : (a b : Bool) → (a || b) ≡ false → b ≡ false
+digit_goes_on true b h = cc
+digit_goes_on false b h = h
+
+-- where no letter, `_` or digit follows, no digit does
+pub no_digit : (rest : List ℕ) → first_passes is_word_byte rest ≡ false → first_passes is_digit rest ≡ false
+no_digit [] h = refl
+no_digit (b ∷ rest) h = digit_goes_on (is_letter b) (is_digit b) h
+
+-- a number at the front is the whole run of digits
+number_at_front : (text : List ℕ) (n : ℕ) → lead_of text ≡ leads.Digit → IsRun is_digit (take n text) (drop n text) → (q : Piece) (v more : List ℕ) → v ++ more ≡ text → IsPiece q v more
+    → (x : ℕ) × IsNumber x v more × (v ≡ take n text) × (more ≡ drop n text)
+number_at_front text n h r q v more e k =
+    let w = only_number q v more (leads_to text leads.Digit h q v more e k) k in
+    let s = run_same is_digit (take n text) (drop n text) v more r (w.1.all, no_digit more w.1.end) (e ∙ sym (take-append-drop n text)) in
+    (w.0, w.1, s.0, s.1)
+
+some_digit : (text : List ℕ) (n : ℕ) → lead_of text ≡ leads.Digit → IsRun is_digit (take n text) (drop n text) → 0 < length (take n text)
+some_digit [] n h r = cc
+some_digit (b ∷ bs) zero h r = let f = sym r.1 ∙ told leads.Digit b bs h in cc
+some_digit (b ∷ bs) (suc n) h r = omega arith
+
+pub number_begins : (text : List ℕ) (n x : ℕ) → lead_of text ≡ leads.Digit → n ≤ length text → IsRun is_digit (take n text) (drop n text) → first_passes is_word_byte (drop n text) ≡ false → x ≡ value_after 0 (take n text) → x ≤ 2147483648
+    → Begins text (pieces.Token (kinds.Number x)) n
+number_begins text n x h l r f i m = record {
+  within = l;
+  longest = record {
+    is = record { some = some_digit text n h r; all = r.0; end = f; value = sym i; small = m };
+    most = λ q v more e k. let g = ap length (number_at_front text n h r q v more (e ∙ take-append-drop n text) k).2 in omega arith;
+  };
+}
+
+pub followed : (text : List ℕ) (n : ℕ) → lead_of text ≡ leads.Digit → IsRun is_digit (take n text) (drop n text) → first_passes is_word_byte (drop n text) ≡ true → IsNone text
+followed text n h r f q v more e k =
+    let s = number_at_front text n h r q v more e k in
+    let g = sym (subst (λ z. first_passes is_word_byte z ≡ false) s.3 s.1.end) ∙ f in cc
+
+pub too_large : (text : List ℕ) (n : ℕ) → lead_of text ≡ leads.Digit → IsRun is_digit (take n text) (drop n text) → 2147483648 < value_after 0 (take n text) → IsNone text
+too_large text n h r f q v more e k =
+    let s = number_at_front text n h r q v more e k in
+    let g : value_after 0 (take n text) ≡ s.0 = ap (value_after 0) (sym s.2) ∙ s.1.value in
+    let j : s.0 ≤ 2147483648 = s.1.small in
+    omega arith
+
+-- decimal digits, from the left
+pub digit_range : (b : ℕ) → is_digit b ≡ true → (48 ≤ b) × (b ≤ 57)
+digit_range b h = (leb-true _ _ (and_left _ _ h), leb-true _ _ (and_right (nat_le 48 b) _ h))
+
+value_grows : (digits : List ℕ) (n : ℕ) → n ≤ value_after n digits
+value_grows [] n = omega arith
+value_grows (b ∷ digits) n = let h = value_grows digits (10 * n + (b - 48)) in omega arith
+
+step_at : (digits : List ℕ) (i n : ℕ) → i < length digits → value_after n (drop i digits) ≡ value_after (10 * n + (get_or digits i 0 - 48)) (drop (suc i) digits)
+step_at [] i n l = absurd (omega arith)
+step_at (b ∷ digits) zero n l = refl
+step_at (b ∷ digits) (suc i) n l = step_at digits i n (omega arith)
+
+-- one more digit
+pub value_more : (digits : List ℕ) (i n : ℕ) → i < length digits → value_after n (drop i digits) ≡ value_after (10 * n + (get_or digits i 0 - 48)) (drop (i + 1) digits)
+value_more digits i n l = rw add-one (step_at digits i n l)
+
+-- what is too large stays so
+pub value_large : (digits : List ℕ) (i n : ℕ) → i < length digits → value_after 0 digits ≡ value_after n (drop i digits) → 2147483648 < 10 * n + (get_or digits i 0 - 48) → 2147483648 < value_after 0 digits
+value_large digits i n l e h = let s = e ∙ value_more digits i n l in let g = value_grows (drop (i + 1) digits) (10 * n + (get_or digits i 0 - 48)) in omega arith

@@ -1,0 +1,84 @@
+//! Marks, by the longest reading.
+#![tactic(auto)]
+
+ghost use Rattle.std.specs.Prelude.{◌≡◌, ◌<◌, ◌∷◌, [], length, take, IfSome, IfNone};
+ghost use Rattle.chord_lexer.specs.Marks.{spelling};
+ghost use Rattle.chord_lexer.specs.Pieces.{IsNone};
+ghost use Rattle.chord_lexer.specs.Scanning.{lead_of, single_mark, pair_mark, pair_mark_of, Begins};
+ghost use Rattle.chord_lexer.specs.declared.scan.Lead.TheVariants as leads;
+
+use crate::piece::Piece;
+use crate::token::{Kind, Mark};
+
+/// The mark of one byte.
+fn single(byte: u8) -> Option<Mark>
+    ensures value { result ≡ single_mark byte }
+    ensures spelled { IfSome result (λ mark. spelling mark ≡ byte ∷ []) }
+{
+    match byte {
+        b'{' => Some(Mark::OpenBrace),
+        b'}' => Some(Mark::CloseBrace),
+        b'(' => Some(Mark::OpenParenthesis),
+        b')' => Some(Mark::CloseParenthesis),
+        b';' => Some(Mark::Semicolon),
+        b',' => Some(Mark::Comma),
+        b'.' => Some(Mark::Dot),
+        b':' => Some(Mark::Colon),
+        b'=' => Some(Mark::Assign),
+        b'<' => Some(Mark::Less),
+        b'>' => Some(Mark::Greater),
+        b'+' => Some(Mark::Plus),
+        b'-' => Some(Mark::Minus),
+        b'*' => Some(Mark::Times),
+        b'/' => Some(Mark::Divide),
+        b'%' => Some(Mark::Remainder),
+        b'!' => Some(Mark::Not),
+        b'&' => Some(Mark::Ampersand),
+        _ => None,
+    }
+}
+
+/// The mark of two bytes.
+fn pair(first: u8, second: u8) -> Option<Mark>
+    ensures value { result ≡ pair_mark first second }
+    ensures spelled { IfSome result (λ mark. spelling mark ≡ first ∷ second ∷ []) }
+{
+    match (first, second) {
+        (b'=', b'=') => Some(Mark::Equal),
+        (b'!', b'=') => Some(Mark::NotEqual),
+        (b'<', b'=') => Some(Mark::LessOrEqual),
+        (b'>', b'=') => Some(Mark::GreaterOrEqual),
+        (b'&', b'&') => Some(Mark::And),
+        (b'|', b'|') => Some(Mark::Or),
+        (b'+', b'+') => Some(Mark::Increment),
+        (b'-', b'-') => Some(Mark::Decrement),
+        _ => None,
+    }
+}
+
+/// The mark of the first two bytes.
+fn pair_at(text: &[u8]) -> Option<Mark>
+    ensures value { result ≡ pair_mark_of text.now }
+    ensures spelled { IfSome result (λ mark. spelling mark ≡ take 2 text.now) }
+{
+    match text {
+        [first, second, ..] => pair(*first, *second),
+        _ => None,
+    }
+}
+
+/// The mark at the front, of two bytes if it can be.
+pub fn mark(text: &[u8]) -> Option<(Piece, usize)>
+    requires some { 0 < length text.now }
+    requires led { lead_of text.now ≡ leads.Mark }
+    ensures found { IfSome result (λ r. Begins text.now r.0 r.1) }
+    ensures none { IfNone result (IsNone text.now) }
+{
+    match pair_at(text) {
+        Some(mark) => Some((Piece::Token(Kind::Mark(mark)), 2)),
+        None => match single(text[0]) {
+            Some(mark) => Some((Piece::Token(Kind::Mark(mark)), 1)),
+            None => None,
+        },
+    }
+}

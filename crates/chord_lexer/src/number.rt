@@ -1,0 +1,46 @@
+//! Numbers.
+#![tactic(auto)]
+
+ghost use Rattle.std.specs.Prelude.{◌≡◌, ◌<◌, ◌≤◌, true, IfSome, IfNone};
+ghost use Rattle.chord_lexer.specs.Letters.{is_digit, all_pass};
+ghost use Rattle.chord_lexer.specs.Numbers.{value_after};
+ghost use Rattle.chord_lexer.specs.Pieces.{IsNone};
+ghost use Rattle.chord_lexer.specs.Scanning.{lead_of, Begins};
+ghost use Rattle.chord_lexer.specs.declared.scan.Lead.TheVariants as leads;
+
+use crate::piece::Piece;
+use crate::scan::{Class, follows, run};
+use crate::token::Kind;
+
+/// The largest number that a token has. It stands only after a unary `-`, which is a rule on programs.
+const MAX_NUMBER: u64 = 2147483648;
+
+/// The value of decimal digits, up to 2,147,483,648. Zeros may lead.
+fn decimal(digits: &[u8]) -> Option<u32>
+    requires { all_pass is_digit digits.now ≡ true }
+    ensures some { IfSome result (λ n. (n ≡ value_after 0 digits.now) × (n ≤ 2147483648)) }
+    ensures none { IfNone result (2147483648 < value_after 0 digits.now) }
+{
+    let mut n: u64 = 0;
+    for digit in digits {
+        n = 10 * n + (*digit - b'0') as u64;
+        if n > MAX_NUMBER {
+            return None;
+        }
+    }
+    Some(n as u32)
+}
+
+/// The number at the front: digits with no letter after them, of a value that is not too large.
+pub fn number(text: &[u8]) -> Option<(Piece, usize)>
+    requires { lead_of text.now ≡ leads.Digit }
+    ensures found { IfSome result (λ r. Begins text.now r.0 r.1) }
+    ensures none { IfNone result (IsNone text.now) }
+{
+    let length = run(text, Class::Digit);
+    if follows(text, length, Class::Word) {
+        return None;
+    }
+    let n = decimal(&text[..length])?;
+    Some((Piece::Token(Kind::Number(n)), length))
+}

@@ -1,0 +1,132 @@
+//! The longest piece at the front of a text: what its first bytes say of it, and runs of bytes.
+#![tactic(auto)]
+
+ghost use Rattle.std.specs.Prelude.{◌≡◌, ◌<◌, ◌≤◌, length, take, drop, IfOk, IfErr};
+ghost use Rattle.chord_lexer.specs.Letters.{IsRun, first_passes};
+ghost use Rattle.chord_lexer.specs.Comments.{begins_comment};
+ghost use Rattle.chord_lexer.specs.Scanning.{test_of, lead_of, Begins, IsStop};
+
+use crate::comment::comment;
+use crate::literal::literal;
+use crate::mark::mark;
+use crate::number::number;
+use crate::piece::Piece;
+use crate::word::word;
+use std::alloc::Global;
+
+/// Why no piece was found.
+#[derive(Clone, Copy, Debug, PartialEq, Eq)]
+pub enum Stop {
+    /// For want of memory.
+    Memory,
+    /// None begins here.
+    Nothing,
+}
+
+/// Bytes that runs are made of.
+#[derive(Clone, Copy, Debug, PartialEq, Eq)]
+pub enum Class {
+    Digit,
+    /// What a word goes on with.
+    Word,
+    /// All but the ends of lines.
+    Line,
+}
+
+/// What may begin a text, by its first bytes.
+#[derive(Clone, Copy, Debug, PartialEq, Eq)]
+pub enum Lead {
+    Digit,
+    Letter,
+    Blank,
+    Quote,
+    Comment,
+    Mark,
+}
+
+#[inline]
+fn fits(class: Class, byte: u8) -> bool
+    ensures { result ≡ test_of class byte }
+{
+    match class {
+        Class::Digit => byte.is_ascii_digit(),
+        Class::Word => byte.is_ascii_alphabetic() || byte == b'_' || byte.is_ascii_digit(),
+        Class::Line => byte != b'\r' && byte != b'\n',
+    }
+}
+
+/// How many bytes at the front are of the class.
+#[inline]
+pub fn run(bytes: &[u8], class: Class) -> usize
+    ensures within { result ≤ length bytes.now }
+    ensures is { IsRun (test_of class) (take result bytes.now) (drop result bytes.now) }
+{
+    let mut at = 0;
+    while at < bytes.len() && fits(class, bytes[at]) {
+        at += 1;
+    }
+    at
+}
+
+/// The bytes after the first `n`.
+pub fn after(bytes: &[u8], n: usize) -> &[u8]
+    requires { n ≤ length bytes.now }
+    ensures { result.now ≡ drop n bytes.now }
+{
+    &bytes[n..]
+}
+
+/// Whether a byte of the class stands there.
+pub fn follows(bytes: &[u8], at: usize, class: Class) -> bool
+    ensures { result ≡ first_passes (test_of class) (drop at bytes.now) }
+{
+    at < bytes.len() && fits(class, bytes[at])
+}
+
+/// Whether a comment is the only thing that may begin here.
+fn begins_comment(text: &[u8]) -> bool
+    ensures { result ≡ begins_comment text.now }
+{
+    match text {
+        [first, second, ..] => *first == b'/' && (*second == b'/' || *second == b'*'),
+        _ => false,
+    }
+}
+
+fn leading(text: &[u8]) -> Lead
+    requires { 0 < length text.now }
+    ensures { result ≡ lead_of text.now }
+{
+    let first = text[0];
+    if first.is_ascii_digit() {
+        Lead::Digit
+    } else if first.is_ascii_alphabetic() || first == b'_' {
+        Lead::Letter
+    } else if first == b' ' || first == b'\t' || first == b'\r' || first == b'\n' {
+        Lead::Blank
+    } else if first == b'"' {
+        Lead::Quote
+    } else if begins_comment(text) {
+        Lead::Comment
+    } else {
+        Lead::Mark
+    }
+}
+
+/// The longest piece at the front, and how many bytes it has.
+///
+/// `Nothing` comes exactly where no piece begins the text.
+pub fn longest(alloc: Global, text: &[u8]) -> Result<(Piece, usize), Stop>
+    requires { 0 < length text.now }
+    ensures found { IfOk result (λ r. Begins text.now r.0 r.1) }
+    ensures none { IfErr result (IsStop text.now) }
+{
+    match leading(text) {
+        Lead::Digit => number(text).ok_or(Stop::Nothing),
+        Lead::Letter => word(alloc, text),
+        Lead::Blank => Ok((Piece::Blank, 1)),
+        Lead::Quote => literal(alloc, text),
+        Lead::Comment => comment(text).ok_or(Stop::Nothing),
+        Lead::Mark => mark(text).ok_or(Stop::Nothing),
+    }
+}

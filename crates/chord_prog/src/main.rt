@@ -1,0 +1,40 @@
+//! The program: the words of the command line, standard input and standard output go to the top call as they are.
+//! Stands on: chord_run, chord_io. Used by: nobody.
+//! Promise: none; the stored run shows it.
+//! Not here: any decision but that words which are not text are no words of the command line.
+#![tactic(auto)]
+
+use chord_io::{StdSink, StdSource};
+use chord_run::{Gate, chord};
+use std::alloc::Global;
+use std::process::ExitCode;
+use std::rt::Env;
+use std::{env, io};
+
+/// The gate that does nothing.
+struct Open;
+
+impl Gate for Open {
+    fn started(&self, _body: u32) {}
+}
+
+/// The words of the command line, without the program's name.
+fn words<R: Env + Alloc<A = Global>>(rt: &R) -> io::Result<Vec<String>> {
+    Ok(env::args(rt)?.skip(1).collect(rt.alloc())?)
+}
+
+fn main(rt: HostRuntime) -> ExitCode {
+    let words = match words(&rt) {
+        Ok(words) => words,
+        Err(error) => {
+            return ExitCode::from(match error.kind() {
+                io::ErrorKind::OutOfMemory => 7,
+                _ => 2,
+            });
+        }
+    };
+    let mut source = StdSource::new(rt.stdin());
+    let mut sink = StdSink::new(rt.stdout());
+    let report = chord(&rt, rt.alloc(), &words, &mut source, &mut sink, &Open);
+    ExitCode::from(report.status)
+}

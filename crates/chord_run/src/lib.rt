@@ -1,0 +1,21 @@
+//! The top call: from the words of the command line and the bytes of a source to what is written, and the status.
+//! Stands on: chord_io, chord_lexer, chord_lists, chord_journal, chord_base. Used by: chord_prog.
+//! Promise: `chord` writes the lines of the journal it keeps, which is a complete run of the source's join machine, or a run
+//! of as many entries as are allowed; every other answer has its cause (specs/Answers.antt, after Command, Sources, Refusals).
+//! Not here: what a program means (chord_base, chord_lists), and what a terminal or a file gives (chord_prog).
+#![tactic(auto)]
+
+mod command;
+mod front;
+mod place;
+mod refusal;
+mod report;
+mod small;
+mod top;
+
+pub use refusal::Refusal;
+pub use report::Report;
+pub use top::{Gate, chord};
+
+#[cfg(test)]
+mod tests;

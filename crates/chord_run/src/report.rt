@@ -1,0 +1,72 @@
+//! What the top call reports.
+#![tactic(auto)]
+
+ghost use Rattle.std.specs.Prelude.{◌≡◌, None, Some};
+
+use crate::refusal::Refusal;
+use chord_base::journal::Journal;
+
+/// The source is refused, and the refusal's line was written.
+pub const REFUSED: u8 = 1;
+
+/// The words are not taken, and nothing was read or written.
+pub const OTHER_WORDS: u8 = 2;
+
+/// The source failed, and nothing was written.
+pub const READ_FAULT: u8 = 3;
+
+/// The sink failed, and a front of what was due was written.
+pub const WRITE_FAULT: u8 = 5;
+
+/// The journal has as many entries as are allowed, and some entry may follow it.
+pub const AT_LIMIT: u8 = 6;
+
+/// No memory was found, and nothing was written.
+pub const NO_MEMORY: u8 = 7;
+
+/// The answer of the top call.
+#[derive(Drop)]
+pub struct Report {
+    /// How the call ended; it is the status of the program. A complete run ends with the journal's own status: 8 if a body
+    /// that serves no caller ended by a trap, else 4 if `Main` has not ended, else 0. Every other status has a name here.
+    pub status: u8,
+    /// The journal of the run, where the source was accepted and the status is none of 2, 3 and 7.
+    pub journal: Option<Journal>,
+    /// Why the source was refused, where it was and the status is none of 2, 3 and 7.
+    pub refusal: Option<Refusal>,
+}
+
+impl Report {
+    /// A report of a call that wrote nothing.
+    pub fn silent(status: u8) -> Report
+        ensures { result ≡ record { status = status; journal = None; refusal = None } }
+    {
+        Report {
+            status,
+            journal: None,
+            refusal: None,
+        }
+    }
+
+    /// A report of a refused source.
+    pub fn refused(status: u8, refusal: Refusal) -> Report
+        ensures { result ≡ record { status = status; journal = None; refusal = Some refusal } }
+    {
+        Report {
+            status,
+            journal: None,
+            refusal: Some(refusal),
+        }
+    }
+
+    /// A report of a run.
+    pub fn played(status: u8, journal: Journal) -> Report
+        ensures { result ≡ record { status = status; journal = Some journal; refusal = None } }
+    {
+        Report {
+            status,
+            journal: Some(journal),
+            refusal: None,
+        }
+    }
+}

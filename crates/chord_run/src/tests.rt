@@ -1,0 +1,328 @@
+//! The top call on whole sources: what is written, the status, and what the report has.
+use crate::{Gate, Refusal, Report, chord};
+use chord_io::{MemSink, MemSource};
+use std::alloc::{AllocError, Global};
+use std::sync::Wait;
+use std::test::Fail;
+use std::thread::Threads;
+
+/// The gate that does nothing.
+struct Open;
+
+impl Gate for Open {
+    fn started(&self, _body: u32) {}
+}
+
+const HEAD: &str = "class Buffer {
+  public string Get() & public async Put(string s) { return s; }
+}
+class Program {
+  static void Main() {
+    Buffer b = new Buffer();
+";
+
+const TAIL: &str = "  }
+}
+";
+
+/// A source, and what the top call answers on it.
+struct Case {
+    name: &'static str,
+    words: &'static str,
+    /// The lines of `Main`, so many times each.
+    puts: usize,
+    gets: usize,
+    /// The bytes that the sink takes, and the write that fails.
+    room: u32,
+    failing_write: u32,
+    written: &'static str,
+    status: u8,
+    /// The number of entries, where there is a journal.
+    entries: Option<usize>,
+}
+
+const NEVER: u32 = u32::MAX;
+
+const CASES: [Case; 9] = [
+    Case {
+        name: "buffer",
+        words: "run --one",
+        puts: 1,
+        gets: 1,
+        room: 100,
+        failing_write: NEVER,
+        written: "hi\n",
+        status: 0,
+        entries: Some(8),
+    },
+    Case {
+        name: "parked Main",
+        words: "run --one",
+        puts: 0,
+        gets: 1,
+        room: 100,
+        failing_write: NEVER,
+        written: "",
+        status: 4,
+        entries: Some(3),
+    },
+    Case {
+        name: "a put for each of two gets",
+        words: "run --one",
+        puts: 2,
+        gets: 2,
+        room: 100,
+        failing_write: NEVER,
+        written: "hi\nhi\n",
+        status: 0,
+        entries: Some(13),
+    },
+    Case {
+        name: "journal just full",
+        words: "run --one",
+        puts: 65_533,
+        gets: 0,
+        room: 100,
+        failing_write: NEVER,
+        written: "",
+        status: 0,
+        entries: Some(65_536),
+    },
+    Case {
+        name: "one entry too many",
+        words: "run --one",
+        puts: 65_534,
+        gets: 0,
+        room: 100,
+        failing_write: NEVER,
+        written: "",
+        status: 6,
+        entries: Some(65_536),
+    },
+    Case {
+        name: "words before workers",
+        words: "run",
+        puts: 1,
+        gets: 1,
+        room: 100,
+        failing_write: NEVER,
+        written: "",
+        status: 2,
+        entries: None,
+    },
+    Case {
+        name: "other words",
+        words: "walk",
+        puts: 1,
+        gets: 1,
+        room: 100,
+        failing_write: NEVER,
+        written: "",
+        status: 2,
+        entries: None,
+    },
+    Case {
+        name: "first write fails",
+        words: "run --one",
+        puts: 1,
+        gets: 1,
+        room: 100,
+        failing_write: 1,
+        written: "",
+        status: 5,
+        entries: Some(8),
+    },
+    Case {
+        name: "a sink with room for two bytes",
+        words: "run --one",
+        puts: 1,
+        gets: 1,
+        room: 2,
+        failing_write: NEVER,
+        written: "hi",
+        status: 5,
+        entries: Some(8),
+    },
+];
+
+/// The source of a case.
+fn source_of(alloc: Global, case: &Case) -> Result<Vec<u8>, AllocError> {
+    let mut source = Vec::from_slice(alloc, HEAD.as_bytes())?;
+    for _ in 0..case.puts {
+        source.extend_from_slice(b"b.Put(\"hi\");\n")?;
+    }
+    for _ in 0..case.gets {
+        source.extend_from_slice(b"Console.WriteLine(b.Get());\n")?;
+    }
+    source.extend_from_slice(TAIL.as_bytes())?;
+    Ok(source)
+}
+
+/// The words of a command line that has one blank between two of them.
+fn words_of(alloc: Global, line: &str) -> Result<Vec<String>, AllocError> {
+    let mut words = Vec::new(alloc);
+    for word in line.split(' ') {
+        words.push(String::from_str(alloc, word)?)?;
+    }
+    Ok(words)
+}
+
+/// The top call over memory.
+fn answer<R: Threads + Wait + Sync>(
+    rt: &R,
+    alloc: Global,
+    words: &str,
+    mut source: MemSource,
+    sink: &mut MemSink,
+) -> Result<Report, AllocError> {
+    let words = words_of(alloc, words)?;
+    Ok(chord(rt, alloc, &words, &mut source, sink, &Open))
+}
+
+#[test]
+fn runs(rt: HostRuntime) -> Result<(), Fail> {
+    for case in &CASES {
+        let alloc = rt.alloc();
+        let source = MemSource::new(source_of(alloc, case)?, 4096, Vec::new(alloc));
+        let fails = Vec::from_slice(alloc, &[case.failing_write])?;
+        let mut sink = MemSink::new(alloc, case.room, 4096, fails)?;
+        let report = answer(&rt, alloc, case.words, source, &mut sink)?;
+        let name = case.name;
+        assert_eq!(rt; sink.taken(), case.written.as_bytes(), "{name}");
+        assert_eq!(rt; report.status, case.status, "{name}");
+        assert_eq!(rt; report.refusal, None, "{name}");
+        let entries = match &report.journal {
+            Some(journal) => Some(journal.entries().len()),
+            None => None,
+        };
+        assert_eq!(rt; entries, case.entries, "{name}");
+    }
+    Ok(())
+}
+
+/// A source that is refused.
+struct Refused {
+    name: &'static str,
+    source: &'static str,
+    written: &'static str,
+    refusal: Refusal,
+}
+
+const REFUSED: [Refused; 5] = [
+    Refused {
+        name: "empty input",
+        source: "",
+        written: "refused unbuilt\n",
+        refusal: Refusal::Unbuilt,
+    },
+    Refused {
+        name: "byte",
+        source: "class P { # }",
+        written: "refused byte 1:11\n",
+        refusal: Refusal::Bad(10),
+    },
+    Refused {
+        name: "byte behind a mark and three ends of lines",
+        source: "\u{FEFF}class P\r\n{\r\n\r  @",
+        written: "refused byte 4:3\n",
+        refusal: Refusal::Bad(15),
+    },
+    Refused {
+        name: "not small",
+        source: "class P { static void Main() { } }",
+        written: "refused unbuilt\n",
+        refusal: Refusal::Unbuilt,
+    },
+    Refused {
+        name: "one class for both names",
+        source: "class A { public string G() & public async P(string s) { return s; } }
+            class A { static void Main() { A b = new A(); } }",
+        written: "refused unbuilt\n",
+        refusal: Refusal::Unbuilt,
+    },
+];
+
+#[test]
+fn refusals(rt: HostRuntime) -> Result<(), Fail> {
+    for case in &REFUSED {
+        let alloc = rt.alloc();
+        let bytes = Vec::from_slice(alloc, case.source.as_bytes())?;
+        let source = MemSource::new(bytes, 5, Vec::new(alloc));
+        let mut sink = MemSink::new(alloc, 100, 100, Vec::new(alloc))?;
+        let report = answer(&rt, alloc, "run --one", source, &mut sink)?;
+        let name = case.name;
+        assert_eq!(rt; sink.taken(), case.written.as_bytes(), "{name}");
+        assert_eq!(rt; report.status, 1, "{name}");
+        assert_eq!(rt; report.refusal, Some(case.refusal), "{name}");
+        assert!(rt; report.journal.is_none(), "{name}");
+    }
+    Ok(())
+}
+
+/// A source of blanks with a read that fails, and what is answered.
+struct Blanks {
+    name: &'static str,
+    blanks: usize,
+    failing_read: u32,
+    failing_write: u32,
+    written: &'static str,
+    status: u8,
+    refusal: Option<Refusal>,
+}
+
+const BLANKS: [Blanks; 4] = [
+    Blanks {
+        name: "failing read",
+        blanks: 10,
+        failing_read: 1,
+        failing_write: NEVER,
+        written: "",
+        status: 3,
+        refusal: None,
+    },
+    Blanks {
+        name: "failing read at the end of input",
+        blanks: 10,
+        failing_read: 2,
+        failing_write: NEVER,
+        written: "",
+        status: 3,
+        refusal: None,
+    },
+    Blanks {
+        name: "one byte too many",
+        blanks: 1_048_577,
+        failing_read: NEVER,
+        failing_write: NEVER,
+        written: "refused long\n",
+        status: 1,
+        refusal: Some(Refusal::Long),
+    },
+    Blanks {
+        name: "a refusal that is not written",
+        blanks: 1_048_577,
+        failing_read: NEVER,
+        failing_write: 1,
+        written: "",
+        status: 5,
+        refusal: Some(Refusal::Long),
+    },
+];
+
+#[test]
+fn faults(rt: HostRuntime) -> Result<(), Fail> {
+    for case in &BLANKS {
+        let alloc = rt.alloc();
+        let bytes = vec![in alloc; b' '; case.blanks]?;
+        let source = MemSource::new(bytes, 4096, Vec::from_slice(alloc, &[case.failing_read])?);
+        let fails = Vec::from_slice(alloc, &[case.failing_write])?;
+        let mut sink = MemSink::new(alloc, 100, 100, fails)?;
+        let report = answer(&rt, alloc, "run --one", source, &mut sink)?;
+        let name = case.name;
+        assert_eq!(rt; sink.taken(), case.written.as_bytes(), "{name}");
+        assert_eq!(rt; report.status, case.status, "{name}");
+        assert_eq!(rt; report.refusal, case.refusal, "{name}");
+        assert!(rt; report.journal.is_none(), "{name}");
+    }
+    Ok(())
+}
