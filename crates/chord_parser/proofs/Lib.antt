@@ -1,0 +1,12 @@
+pub mod Reading
+pub mod Finish
+pub mod Fit
+pub mod Outcomes
+pub mod Prefix
+pub mod Steps
+pub mod Single
+pub mod Chains
+pub mod StmtLists
+pub mod ClassLists
+pub mod Whole
+pub mod OneVerdict

@@ -1,0 +1,9 @@
+use Rattle.std.proofs.Common.{rules, ◌≡◌, ◌≢◌, ◌<◌, ◌≤◌, ◌-◌, ◌∷◌, [], length, ℕ, ◌+◌, List, refl, sym, ap, subst, ◌∙◌, arith}
+use Rattle.chord_lexer.specs.declared.token.Kind.TheVariants as kinds
+use Rattle.chord_tree.specs.Derivation.{next}
+use Rattle.chord_tree.specs.Program.{told}
+use Rattle.chord_parser.proofs.Single.{told_length, skipped, taken, read, read_as, stops_other, stops_high, end_next, none_left}
+use Rattle.chord_parser.proofs.tokens.literal_next.Goals as goal
+
+pub returns-in_ok-bytes-in-Literal-clause-ok : goal.returns-in_ok-bytes-in-Literal-clause-ok
+returns-in_ok-bytes-in-Literal-clause-ok c = read_as _ _ _ _ _ _ _ _ c.in_ok-first.ensures.ok c.in_ok-first.ensures.low (c.in-Literal.is ∙ ap kinds.Literal (sym c.in_ok-bytes-in-Literal.ensures)) c.place-at.ensures refl

@@ -1,0 +1,9 @@
+use Rattle.std.proofs.Common.{rules, ◌≡◌, ◌≢◌, ◌<◌, ◌≤◌, ◌-◌, ◌∷◌, [], length, ℕ, ◌+◌, List, refl, sym, ap, subst, ◌∙◌, arith}
+use Rattle.chord_lexer.specs.declared.token.Kind.TheVariants as kinds
+use Rattle.chord_tree.specs.Derivation.{next}
+use Rattle.chord_tree.specs.Program.{told}
+use Rattle.chord_parser.proofs.Single.{told_length, skipped, taken, read, read_as, stops_other, stops_high, end_next, none_left}
+use Rattle.chord_parser.proofs.tokens.name_of.Goals as goal
+
+pub returns-in_ok-text-in-Name-clause-ok : goal.returns-in_ok-text-in-Name-clause-ok
+returns-in_ok-text-in-Name-clause-ok c = read_as _ _ _ _ _ _ _ _ c.in_ok-first.ensures.ok c.in_ok-first.ensures.low (c.in-Name.is ∙ ap kinds.Name (sym c.in_ok-text-in-Name.ensures)) c.place-at.ensures refl

@@ -1,0 +1,106 @@
+-- What each function of the parser promises.
+use Rattle.std.specs.Prelude.{◌≡◌, ℕ, ◌+◌, ◌-◌, ◌<◌, ◌≤◌, ◌≢◌, List, [], ◌∷◌, ◌++◌, length, map, Option, Some, None}
+use Rattle.chord_parser.specs.declared.faults.Fault.TheVariants as faults
+use Rattle.chord_lexer.specs.declared.token.Mark.TheVariants as marks
+use Rattle.chord_lexer.specs.declared.token.Kind.TheVariants as kinds
+use Rattle.chord_tree.specs.declared.exprs.Operator.{Operator}
+use Rattle.chord_tree.specs.declared.exprs.Operator.TheVariants as operators
+use Rattle.chord_tree.specs.Symbols as grammar
+use Rattle.chord_lexer.specs.declared.token.Kind.{Kind}
+use Rattle.chord_parser.specs.declared.faults.Fault.{Fault}
+use Rattle.chord_tree.specs.Part.{Part, Terminal, Symbol, number_of}
+use Rattle.chord_tree.specs.Classes.{class_of, mark_part}
+use Rattle.chord_tree.specs.Derivation.{next, Want}
+use Rattle.chord_parser.specs.Runs.{Verdict, Fine, Wrong, High, Runs, Reads}
+use Rattle.chord_tree.specs.Node.{Node, Nodes, End, ◌▸◌, Leaf, Made}
+use Rattle.chord_tree.specs.Tree.{ExprTree, LinkTree, MakeLink, DotTree, StmtTree, ItemTree, Assigns, Calls, CallsThrough}
+use Rattle.chord_tree.specs.declared.names.Name.{Name}
+use Rattle.chord_tree.specs.Forms.{node_item}
+use Rattle.chord_tree.specs.Shape.{level, link_level, level_tail, mark, mark_of, rank, bare, lifted, node_dot}
+
+-- the classes whose tokens say more
+abbrev pub said : List ℕ
+said = number_of grammar.NAME ∷ number_of grammar.NUMBER ∷ number_of grammar.LITERAL ∷ []
+
+-- The first token is of class c, and then come those of rest.
+pub record Heads (c : ℕ) (ks rest : List Kind) (k : Kind) : Type 0 where
+  pub class : class_of k ≡ c
+  pub same : ks ≡ k ∷ rest
+
+-- The reader stops there, whatever else is wanted.
+abbrev pub StopsAs : Part → ℕ → List Kind → Fault → Type 0
+StopsAs p d ks faults.Memory = Unit {0}
+StopsAs p d ks (faults.At n) = (s : List Want) → Runs ((p, d) ∷ s) ks (Wrong n)
+StopsAs p d ks (faults.Tall n) = (s : List Want) → Runs ((p, d) ∷ s) ks (High n)
+
+-- Where mid is read as part q, all of ks is read as p, with g of its node.
+pub record Continues (all : ℕ) (p : Part) (d : ℕ) (ks : List Kind) (q : Part) (e : ℕ) (mid : List Kind) (g : Node → Node) : Type 0 where
+  pub reads : (rest : List Kind) (n : Node) → Reads all q e mid rest n → Reads all p d ks rest (g n)
+  pub runs : (s : List Want) (v : Verdict) → Runs ((q, e) ∷ s) mid v → Runs ((p, d) ∷ s) ks v
+
+-- the operator that a kind of token is
+abbrev pub operator_at : Kind → Option Operator
+operator_at (kinds.Mark marks.Or) = Some operators.Or
+operator_at (kinds.Mark marks.And) = Some operators.And
+operator_at (kinds.Mark marks.Equal) = Some operators.Equal
+operator_at (kinds.Mark marks.NotEqual) = Some operators.NotEqual
+operator_at (kinds.Mark marks.Less) = Some operators.Less
+operator_at (kinds.Mark marks.Greater) = Some operators.Greater
+operator_at (kinds.Mark marks.LessOrEqual) = Some operators.LessOrEqual
+operator_at (kinds.Mark marks.GreaterOrEqual) = Some operators.GreaterOrEqual
+operator_at (kinds.Mark marks.Plus) = Some operators.Plus
+operator_at (kinds.Mark marks.Minus) = Some operators.Minus
+operator_at (kinds.Mark marks.Times) = Some operators.Times
+operator_at (kinds.Mark marks.Divide) = Some operators.Divide
+operator_at (kinds.Mark marks.Remainder) = Some operators.Remainder
+operator_at _ = None
+
+abbrev pub operator_class : Operator → ℕ
+operator_class operator = number_of (mark_part (mark_of operator))
+
+-- no operator of the level comes next
+abbrev pub IsOther : ℕ → List Kind → Type 0
+IsOther l ks = (o : Operator) → next ks ≡ operator_class o → level o ≢ l
+
+-- the first link is of the level
+abbrev pub IsLed : ℕ → List LinkTree → Type 0
+IsLed l [] = Unit {0}
+IsLed l (x ∷ xs) = link_level x ≡ l
+
+-- links before another node
+abbrev pub one_link : ℕ → LinkTree → Node → Node
+one_link l (MakeLink o at t) n = Made (level_tail l) (mark (mark_of o) at ▸ lifted (l - 1) (rank t) (bare t) ▸ n ▸ End)
+
+abbrev pub before_links : ℕ → List LinkTree → Node → Node
+before_links l [] n = n
+before_links l (x ∷ xs) n = one_link l x (before_links l xs n)
+
+abbrev pub before_dots : List DotTree → Node → Node
+before_dots [] n = n
+before_dots (x ∷ xs) n = Made grammar.Dots (node_dot x ▸ before_dots xs n ▸ End)
+
+abbrev pub before_more : List ExprTree → Node → Node
+before_more [] n = n
+before_more (x ∷ xs) n = Made grammar.More_exprs (mark marks.Comma 0 ▸ lifted 6 (rank x) (bare x) ▸ before_more xs n ▸ End)
+
+abbrev pub before_opt : List ExprTree → Node → Node
+before_opt [] n = n
+before_opt (x ∷ xs) n = Made grammar.Optional_exprs (lifted 6 (rank x) (bare x) ▸ before_more xs n ▸ End)
+
+-- the statement begins with the name
+abbrev pub IsNamed : StmtTree → Name → Type 0
+IsNamed (Assigns x assign value) y = x ≡ y
+IsNamed (Calls x actuals calls) y = x ≡ y
+IsNamed (CallsThrough x first calls) y = x ≡ y
+IsNamed _ y = ⊥
+
+-- no name begins the statement
+abbrev pub IsUnnamed : StmtTree → Type 0
+IsUnnamed (Assigns x assign value) = ⊥
+IsUnnamed (Calls x actuals calls) = ⊥
+IsUnnamed (CallsThrough x first calls) = ⊥
+IsUnnamed _ = Unit {0}
+
+abbrev pub before_items : List ItemTree → Node → Node
+before_items [] n = n
+before_items (x ∷ xs) n = Made grammar.Items (node_item x ▸ before_items xs n ▸ End)

@@ -1,0 +1,15 @@
+pub mod Table
+pub mod Ahead
+pub mod LookAhead
+pub mod OneTree
+pub mod Back
+pub mod BackClasses
+pub mod Words
+pub mod SeenExprs
+pub mod SeenStmts
+pub mod Weights
+pub mod WeightsStmts
+pub mod WordsStmts
+pub mod WordsClasses
+pub mod Checked
+pub mod Counts

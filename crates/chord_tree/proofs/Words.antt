@@ -1,0 +1,125 @@
+-- The kinds that a node spells do not turn on its depth, and the tokens of a list grow by one thing after another.
+use Rattle.std.proofs.Common.{◌≡◌, ℕ, zero, suc, ◌+◌, ◌-◌, ◌<◌, ◌≤◌, Bool, true, false, cond, List, [], ◌∷◌, ◌++◌, length, drop, get_or, map, refl, sym, ap, subst, ◌∙◌, arith, add-one, append_assoc, append-nil, Result, Ok, Err, OnOk}
+use Rattle.std.proofs.lemmas.List.{map-append}
+use Rattle.std.specs.Prelude.{nat_lt}
+use Rattle.chord_lexer.specs.declared.token.Kind.{Kind}
+use Rattle.chord_lexer.specs.declared.token.Kind.TheVariants as kinds
+use Rattle.chord_lexer.specs.declared.token.Token.{Token}
+use Rattle.chord_tree.specs.Part.{Part}
+use Rattle.chord_tree.specs.Symbols as grammar
+use Rattle.chord_tree.specs.Derivation.{Spelled, kinds_of, inside}
+use Rattle.chord_tree.specs.Node.{Node, Nodes, End, ◌▸◌, Leaf, Made, spell, spell_all}
+use Rattle.chord_tree.specs.Tree.{ExprTree, LinkTrees, LinkTree, DotTrees, DotTree, MoreDots, MakeDot, NoLinks, MoreLinks, MakeLink, links, chained}
+use Rattle.chord_tree.specs.Shape.{mark, level, mark_of, level_tail, bare, lifted, alone, rank, node_links, node_dots, node_dot, node_expr}
+use Rattle.chord_tree.specs.declared.exprs.Link.{Link, out-Link}
+use Rattle.chord_tree.specs.ViewExprs.{see_expr, see_link}
+use Rattle.chord_tree.proofs.SeenExprs.{seen_link}
+use Rattle.chord_tree.specs.Program.{words, words_all, unplaced, Adds}
+
+mutual
+  -- what a node spells are its words, whatever the depth
+  pub spell_words : (n : Node) (d : ℕ) (w : List Spelled) → kinds_of (spell n d w) ≡ words n ++ kinds_of w
+  spell_words (Leaf kind at) d w = refl
+  spell_words (Made p ns) d w = spell_all_words ns _ w
+
+  spell_all_words : (ns : Nodes) (d : ℕ) (w : List Spelled) → kinds_of (spell_all ns d w) ≡ words_all ns ++ kinds_of w
+  spell_all_words End d w = refl
+  spell_all_words (n ▸ ns) d w = spell_words n d _ ∙ ap (λ z. words n ++ z) (spell_all_words ns d w) ∙ sym (append_assoc (words n) (words_all ns) (kinds_of w))
+
+pub words_lifted : (l m : ℕ) (n : Node) → words (lifted l m n) ≡ words n
+words_lifted zero m n = refl
+words_lifted (suc l) m n = elim (nat_lt m (suc l)) as (λ b. words (cond b (alone (suc l) (lifted l m n)) n) ≡ words n) [ true ↦ append-nil (words (lifted l m n)) ∙ words_lifted l m n | false ↦ refl ]
+
+-- nor on the level
+words_links : (l : ℕ) (ls : LinkTrees) → words (node_links l ls) ≡ words (node_links 0 ls)
+words_links l NoLinks = refl
+words_links l (MoreLinks (MakeLink o at t) more) =
+    ap (λ z. kinds.Mark (mark_of o) ∷ (z ++ (words (node_links l more) ++ []))) (words_lifted (l - 1) (rank t) (bare t) ∙ sym (words_lifted 0 (rank t) (bare t)))
+    ∙ ap (λ z. kinds.Mark (mark_of o) ∷ (words (lifted 0 (rank t) (bare t)) ++ (z ++ []))) (words_links l more)
+
+pub words_chained : (first : ExprTree) (ls : List LinkTree) → words (bare (chained first ls)) ≡ words (bare first) ++ words (node_links 0 (links ls))
+words_chained first [] = sym (append-nil (words (bare first)))
+words_chained first (MakeLink o at t ∷ more) =
+    ap (λ z. z ++ (words (node_links (level o) (MoreLinks (MakeLink o at t) (links more))) ++ [])) (words_lifted (level o - 1) (rank first) (bare first))
+    ∙ ap (λ z. words (bare first) ++ z) (append-nil (words (node_links (level o) (MoreLinks (MakeLink o at t) (links more)))) ∙ words_links (level o) (MoreLinks (MakeLink o at t) (links more)))
+
+pub words_expr : (e : ExprTree) → words (node_expr e) ≡ words (bare e)
+words_expr e = words_lifted 6 (rank e) (bare e)
+
+-- the tokens of kinds
+abbrev pub tokens : List Kind → List Token
+tokens ks = map unplaced ks
+
+pub tokens_append : (xs ys : List Kind) → tokens (xs ++ ys) ≡ tokens xs ++ tokens ys
+tokens_append xs ys = map-append unplaced xs ys
+
+-- The tokens grow by those of nodes, one after another.
+pub record AddsAll (old new : List Token) (nodes : Nodes) : Type 0 where
+  pub grown : new ≡ old ++ tokens (words_all nodes)
+
+grown_on : (a b c : List Token) (xs ys : List Kind) → b ≡ a ++ tokens xs → c ≡ b ++ tokens ys → c ≡ a ++ tokens (xs ++ ys)
+grown_on a b c xs ys h g = g ∙ ap (λ z. z ++ tokens ys) h ∙ append_assoc a (tokens xs) (tokens ys) ∙ ap (λ z. a ++ z) (sym (tokens_append xs ys))
+
+pub nil : {a : List Token} → AddsAll a a End
+nil {a} = record { grown = sym (append-nil a) }
+
+pub cons : {a b c : List Token} {n : Node} {ns : Nodes} → Adds a b n → AddsAll b c ns → AddsAll a c (n ▸ ns)
+cons {a} {b} {c} {n} {ns} h g = record { grown = grown_on a b c (words n) (words_all ns) h.grown g.grown }
+
+pub made : {p : Part} {a c : List Token} {ns : Nodes} → AddsAll a c ns → Adds a c (Made p ns)
+made h = record { grown = h.grown }
+
+pub leaf : {a b : List Token} {k : Kind} {x y : ℕ} → Adds a b (Leaf k x) → Adds a b (Leaf k y)
+leaf h = record { grown = h.grown }
+
+pub same_words : {a b : List Token} {n m : Node} → Adds a b n → words n ≡ words m → Adds a b m
+same_words {a} {b} h e = record { grown = h.grown ∙ ap (λ z. a ++ tokens z) e }
+
+pub as_level : {a b : List Token} (l : ℕ) (e : ExprTree) → Adds a b (bare e) → Adds a b (lifted l (rank e) (bare e))
+as_level l e h = same_words h (sym (words_lifted l (rank e) (bare e)))
+
+-- an operand and the links after it
+pub chain_added : {a b c : List Token} (first : ExprTree) (ls : List LinkTree) → Adds a b (bare first) → Adds b c (node_links 0 (links ls)) → Adds a c (bare (chained first ls))
+chain_added {a} {b} {c} first ls h g = record { grown = grown_on a b c (words (bare first)) (words (node_links 0 (links ls))) h.grown g.grown ∙ ap (λ z. a ++ tokens z) (sym (words_chained first ls)) }
+
+pub dots_added : {a b c : List Token} (d : DotTree) (ds : DotTrees) → Adds a b (node_dot d) → Adds b c (node_dots ds) → Adds a c (node_dots (MoreDots d ds))
+dots_added (MakeDot at x actuals) ds h g = made (cons h (cons g nil))
+
+pub links_added : {a b c d : List Token} {n : ℕ} (l : Link) (ls : LinkTrees) → Adds a b (mark (mark_of (out-Link l).operator) n) → Adds b c (bare (see_expr (out-Link l).operand)) → Adds c d (node_links 0 ls) → Adds a d (node_links 0 (MoreLinks (see_link l) ls))
+links_added {a} {b} {c} {d} l ls h g k = subst (λ z. Adds a d (node_links 0 (MoreLinks z ls))) (sym (seen_link l)) (made (cons (leaf h) (cons (as_level 0 (see_expr (out-Link l).operand) g) (cons k nil))))
+
+-- what a value is seen as
+pub seen_as : {V : Type 0} (f : V → Node) {a c : List Token} (v w : V) → v ≡ w → Adds a c (f w) → Adds a c (f v)
+seen_as f {a} {c} v w e h = subst (λ z. Adds a c (f z)) (sym e) h
+
+pub on_ok : {T E : Type 0} (r : Result T E) (P Q : Type 0) → (P → Q) → OnOk r P → OnOk r Q
+on_ok (Ok x) P Q f h = f h
+on_ok (Err e) P Q f h = tt
+
+-- a list at one of its places, and at its end
+dropped_at : {A : Type 0} (xs : List A) (i : ℕ) (x : A) → i < length xs → x ≡ get_or xs i x → x ∷ drop (suc i) xs ≡ drop i xs
+dropped_at [] i x l e = absurd (omega arith)
+dropped_at (a ∷ xs) zero x l e = ap (λ z. z ∷ xs) e
+dropped_at (a ∷ xs) (suc i) x l e = dropped_at xs i x (omega arith) e
+
+pub dropped : {A : Type 0} (xs : List A) (i : ℕ) (x : A) → i < length xs → x ≡ get_or xs i x → drop i xs ≡ x ∷ drop (i + 1) xs
+dropped xs i x l e = rw add-one (sym (dropped_at xs i x l e))
+
+pub drop_end : {A : Type 0} (xs : List A) (i : ℕ) → length xs ≤ i → drop i xs ≡ []
+drop_end [] zero l = refl
+drop_end [] (suc i) l = refl
+drop_end (a ∷ xs) zero l = absurd (omega arith)
+drop_end (a ∷ xs) (suc i) l = drop_end xs i (omega arith)
+
+pub length_zero : {A : Type 0} (xs : List A) → length xs ≡ 0 → xs ≡ []
+length_zero [] e = refl
+length_zero (x ∷ xs) e = absurd (omega arith)
+
+any_or : {A : Type 0} (xs : List A) (i : ℕ) (d e : A) → i < length xs → get_or xs i d ≡ get_or xs i e
+any_or [] i d e l = absurd (omega arith)
+any_or (a ∷ xs) zero d e l = refl
+any_or (a ∷ xs) (suc i) d e l = any_or xs i d e (omega arith)
+
+-- the same where the loop reads the thing itself
+pub dropped_or : {A : Type 0} (xs : List A) (i : ℕ) (d : A) → i < length xs → drop i xs ≡ get_or xs i d ∷ drop (i + 1) xs
+dropped_or xs i d l = dropped xs i (get_or xs i d) l (any_or xs i d (get_or xs i d) l)

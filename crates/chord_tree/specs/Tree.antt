@@ -1,0 +1,132 @@
+-- Programs as trees, without where their parts lie in memory. A number is that of a token.
+use Rattle.std.specs.Prelude.{ℕ, List, [], ◌∷◌, Option}
+use Rattle.chord_tree.specs.declared.names.Name.{Name}
+use Rattle.chord_tree.specs.declared.names.ValueType.{ValueType}
+use Rattle.chord_tree.specs.declared.exprs.Operator.{Operator}
+use Rattle.chord_tree.specs.declared.classes.Modifier.{Modifier}
+use Rattle.chord_tree.specs.declared.classes.ReturnType.{ReturnType}
+use Rattle.chord_tree.specs.declared.classes.Formal.{Formal}
+use Rattle.chord_tree.specs.declared.classes.NamePart.{NamePart}
+
+mutual
+  -- an expression: operators of one level with their operands, `-`, `!`, or a start with the calls on it
+  pub data ExprTree : Type 0 where
+    Chained : (first : ExprTree) (link : LinkTree) (more : LinkTrees) → ExprTree
+    Negated : (at : ℕ) (operand : ExprTree) → ExprTree
+    Denied : (at : ℕ) (operand : ExprTree) → ExprTree
+    Simple : (start : StartTree) (calls : DotTrees) → ExprTree
+
+  pub data LinkTrees : Type 0 where
+    NoLinks : LinkTrees
+    MoreLinks : LinkTree → LinkTrees → LinkTrees
+
+  -- an operator and its right operand
+  pub data LinkTree : Type 0 where
+    MakeLink : (operator : Operator) (at : ℕ) (operand : ExprTree) → LinkTree
+
+  pub data StartTree : Type 0 where
+    Variable : (name : Name) → StartTree
+    Called : (name : Name) (actuals : ActualsTree) → StartTree
+    This : (at : ℕ) → StartTree
+    New : (at : ℕ) (name : Name) (actuals : ActualsTree) → StartTree
+    Numeral : (value at : ℕ) → StartTree
+    Literal : (bytes : List ℕ) (at : ℕ) → StartTree
+    Yes : (at : ℕ) → StartTree
+    No : (at : ℕ) → StartTree
+    Group : (at : ℕ) (inner : ExprTree) → StartTree
+
+  -- the number of `(`, and the arguments
+  pub data ActualsTree : Type 0 where
+    MakeActuals : (at : ℕ) (all : ExprTrees) → ActualsTree
+
+  pub data ExprTrees : Type 0 where
+    NoExprs : ExprTrees
+    MoreExprs : ExprTree → ExprTrees → ExprTrees
+
+  pub data DotTrees : Type 0 where
+    NoDots : DotTrees
+    MoreDots : DotTree → DotTrees → DotTrees
+
+  -- the number of `.`, a method and its arguments
+  pub data DotTree : Type 0 where
+    MakeDot : (at : ℕ) (name : Name) (actuals : ActualsTree) → DotTree
+
+mutual
+  -- a statement; the numbers are those of its word, of `(`, and of `=`
+  pub data StmtTree : Type 0 where
+    Assigns : (name : Name) (assign : ℕ) (value : ExprTree) → StmtTree
+    Calls : (name : Name) (actuals : ActualsTree) (calls : DotTrees) → StmtTree
+    CallsThrough : (name : Name) (first : DotTree) (calls : DotTrees) → StmtTree
+    CallsThis : (at : ℕ) (first : DotTree) (calls : DotTrees) → StmtTree
+    Makes : (at : ℕ) (name : Name) (actuals : ActualsTree) (calls : DotTrees) → StmtTree
+    Braces : (block : BlockTree) → StmtTree
+    Nothing : StmtTree
+    IfThen : (at bracket : ℕ) (test : ExprTree) (first : StmtTree) → StmtTree
+    IfElse : (at bracket : ℕ) (test : ExprTree) (first second : StmtTree) → StmtTree
+    Repeats : (at bracket : ℕ) (test : ExprTree) (body : StmtTree) → StmtTree
+    Returns : (at : ℕ) → StmtTree
+    Gives : (at : ℕ) (value : ExprTree) → StmtTree
+
+  -- the items, and the number of `}`
+  pub data BlockTree : Type 0 where
+    MakeBlock : (items : ItemTrees) (end : ℕ) → BlockTree
+
+  pub data ItemTrees : Type 0 where
+    NoItems : ItemTrees
+    MoreItems : ItemTree → ItemTrees → ItemTrees
+
+  pub data ItemTree : Type 0 where
+    Declares : (value_type : ValueType) (name : Name) (assign : ℕ) (value : ExprTree) → ItemTree
+    Does : (stmt : StmtTree) → ItemTree
+
+-- parameters, and the number of `(`
+pub record FormalsTree : Type 0 where
+  pub at : ℕ
+  pub all : List Formal
+
+pub record HeaderTree : Type 0 where
+  pub modifiers : List Modifier
+  pub result_type : ReturnType
+  pub name : Name
+  pub formals : FormalsTree
+
+pub data MemberTree : Type 0 where
+  AConstructor : (modifiers : List Modifier) (name : Name) (formals : FormalsTree) (body : BlockTree) → MemberTree
+  AChord : (headers : List HeaderTree) (body : BlockTree) → MemberTree
+
+-- a class: the number of `public` if it is there, and that of `}`
+pub record ClassTree : Type 0 where
+  pub public_at : Option ℕ
+  pub name : Name
+  pub base : Option Name
+  pub members : List MemberTree
+  pub end : ℕ
+
+pub record UsingTree : Type 0 where
+  pub first : Name
+  pub parts : List NamePart
+
+pub record ProgramTree : Type 0 where
+  pub usings : List UsingTree
+  pub classes : List ClassTree
+
+abbrev pub links : List LinkTree → LinkTrees
+links [] = NoLinks
+links (link ∷ more) = MoreLinks link (links more)
+
+-- a chain; without links it is its operand
+abbrev pub chained : ExprTree → List LinkTree → ExprTree
+chained first [] = first
+chained first (link ∷ more) = Chained first link (links more)
+
+abbrev pub exprs : List ExprTree → ExprTrees
+exprs [] = NoExprs
+exprs (expr ∷ more) = MoreExprs expr (exprs more)
+
+abbrev pub dots : List DotTree → DotTrees
+dots [] = NoDots
+dots (dot ∷ more) = MoreDots dot (dots more)
+
+abbrev pub items : List ItemTree → ItemTrees
+items [] = NoItems
+items (item ∷ more) = MoreItems item (items more)

@@ -1,0 +1,119 @@
+//! The tokens that an expression spells.
+#![tactic(auto)]
+
+ghost use Rattle.std.specs.Prelude.{◌≡◌, map, OnOk};
+ghost use Rattle.chord_tree.specs.Program.{Adds};
+ghost use Rattle.chord_tree.specs.Shape.{bare, node_links, node_start, node_actuals, node_dot, node_dots, node_exprs};
+ghost use Rattle.chord_tree.specs.Tree.{links, dots, exprs};
+ghost use Rattle.chord_tree.specs.ViewExprs.{see_expr, see_link, see_start, see_actuals, see_dot};
+
+use crate::exprs::{Actuals, Dot, Expr, Link, Start};
+use crate::puts::{operator_mark, put, put_literal, put_mark, put_name, put_word};
+use chord_lexer::token::{Keyword, Kind, Mark, Token};
+use std::alloc::{AllocError, Global};
+
+#[cycle(spell)]
+pub fn put_expr(alloc: Global, out: &mut Vec<Token>, expr: &Expr) -> Result<(), AllocError>
+    ensures { OnOk result (Adds out.old.items out.new.items (bare (see_expr expr.now))) }
+{
+    match expr {
+        Expr::Chain { first, links } => {
+            put_expr(alloc, out, first)?;
+            put_links(alloc, out, links)
+        }
+        Expr::Minus { at: _, operand } => {
+            put_mark(out, Mark::Minus)?;
+            put_expr(alloc, out, operand)
+        }
+        Expr::Not { at: _, operand } => {
+            put_mark(out, Mark::Not)?;
+            put_expr(alloc, out, operand)
+        }
+        Expr::Primary { start, calls } => {
+            put_start(alloc, out, start)?;
+            put_dots(alloc, out, calls)
+        }
+    }
+}
+
+#[cycle(spell)]
+fn put_links(alloc: Global, out: &mut Vec<Token>, more: &[Link]) -> Result<(), AllocError>
+    ensures { OnOk result (Adds out.old.items out.new.items (node_links 0 (links (map see_link more.now)))) }
+{
+    'each: for link in more {
+        put_mark(out, operator_mark(link.operator))?;
+        put_expr(alloc, out, &link.operand)?;
+    }
+    Ok(())
+}
+
+#[cycle(spell)]
+fn put_start(alloc: Global, out: &mut Vec<Token>, start: &Start) -> Result<(), AllocError>
+    ensures { OnOk result (Adds out.old.items out.new.items (node_start (see_start start.now))) }
+{
+    match start {
+        Start::Variable(name) => put_name(alloc, out, name),
+        Start::Call { name, actuals } => {
+            put_name(alloc, out, name)?;
+            put_actuals(alloc, out, actuals)
+        }
+        Start::This { at: _ } => put_word(out, Keyword::This),
+        Start::New { at: _, name, actuals } => {
+            put_word(out, Keyword::New)?;
+            put_name(alloc, out, name)?;
+            put_actuals(alloc, out, actuals)
+        }
+        Start::Number { value, at: _ } => put(out, Kind::Number(*value)),
+        Start::Literal { bytes, at: _ } => put_literal(alloc, out, bytes),
+        Start::True { at: _ } => put_word(out, Keyword::True),
+        Start::False { at: _ } => put_word(out, Keyword::False),
+        Start::Group { at: _, inner } => {
+            put_mark(out, Mark::OpenParenthesis)?;
+            put_expr(alloc, out, inner)?;
+            put_mark(out, Mark::CloseParenthesis)
+        }
+    }
+}
+
+#[cycle(spell)]
+pub fn put_actuals(alloc: Global, out: &mut Vec<Token>, actuals: &Actuals) -> Result<(), AllocError>
+    ensures { OnOk result (Adds out.old.items out.new.items (node_actuals (see_actuals actuals.now))) }
+{
+    put_mark(out, Mark::OpenParenthesis)?;
+    put_exprs(alloc, out, &actuals.all)?;
+    put_mark(out, Mark::CloseParenthesis)
+}
+
+#[cycle(spell)]
+fn put_exprs(alloc: Global, out: &mut Vec<Token>, all: &[Expr]) -> Result<(), AllocError>
+    ensures { OnOk result (Adds out.old.items out.new.items (node_exprs (exprs (map see_expr all.now)))) }
+{
+    let Some((first, more)) = all.split_first() else {
+        return Ok(());
+    };
+    put_expr(alloc, out, first)?;
+    'each: for expr in more {
+        put_mark(out, Mark::Comma)?;
+        put_expr(alloc, out, expr)?;
+    }
+    Ok(())
+}
+
+#[cycle(spell)]
+pub fn put_dots(alloc: Global, out: &mut Vec<Token>, calls: &[Dot]) -> Result<(), AllocError>
+    ensures { OnOk result (Adds out.old.items out.new.items (node_dots (dots (map see_dot calls.now)))) }
+{
+    'each: for dot in calls {
+        put_dot(alloc, out, dot)?;
+    }
+    Ok(())
+}
+
+#[cycle(spell)]
+pub fn put_dot(alloc: Global, out: &mut Vec<Token>, dot: &Dot) -> Result<(), AllocError>
+    ensures { OnOk result (Adds out.old.items out.new.items (node_dot (see_dot dot.now))) }
+{
+    put_mark(out, Mark::Dot)?;
+    put_name(alloc, out, &dot.name)?;
+    put_actuals(alloc, out, &dot.actuals)
+}

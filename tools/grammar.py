@@ -1,0 +1,287 @@
+#!/usr/bin/env python3
+"""Reads tools/grammar.txt, and writes what follows from it: the grammar by name, the tables of one token ahead, and the lemmas by which the parser's functions begin.
+
+    tools/grammar.py [ROOT]     writes below ROOT, which is the repository if none is given
+    tools/grammar.py -v         prints the numbers of symbols, classes and productions
+"""
+import os
+import sys
+
+HERE = os.path.dirname(os.path.abspath(__file__))
+MADE = "Made by tools/grammar.py."
+COUNTED = ["Item", "Stmt", "Expr", "Unary"]
+# classes of tokens that stand in no program
+UNUSED = ["DO", "UNUSED", "INCREMENT", "DECREMENT"]
+# symbols that take their last right side at each class at which no right side fits, so that the error comes where that one stops; so does each symbol of one right side
+EAGER = "Classes Members Optional_formals Items Item After_name Stmt Optional_expr Optional_exprs Unary".split()
+
+
+class Grammar:
+    """The productions of grammar.txt, with the tables of one token ahead."""
+
+    def __init__(self, path):
+        self.printed = {}
+        self.heads = []
+        sides = []
+        above = None
+        for line in open(path, encoding="utf-8"):
+            line = line.strip()
+            if not line or line.startswith("#"):
+                continue
+            if line.startswith("--"):
+                above = line[2:].strip()
+                continue
+            head, right = (part.strip() for part in line.split("=", 1))
+            self.heads.append(head)
+            if above:
+                self.printed[head] = above
+                above = None
+            sides += [(head, side.split()) for side in right.split("|")]
+        self.symbol = {head: i for i, head in enumerate(self.heads)}
+        self.classes = []
+        for _, side in sides:
+            self.classes += [p for p in dict.fromkeys(side) if p.isupper() and p not in self.classes]
+        self.classes += UNUSED
+        self.number = {name: i for i, name in enumerate(self.classes)}
+        self.end = len(self.classes)
+        self.rules = sides
+        self.first_and_empty()
+        self.follow_sets()
+        self.choices()
+        self.shortest()
+
+    def is_class(self, part):
+        return part in self.number
+
+    def empty_part(self, part):
+        return part in self.symbol and self.empty[part]
+
+    def under(self, parts, after):
+        """The classes at which the parts may begin, where those of after may follow them."""
+        found = set()
+        for part in parts:
+            found |= {self.number[part]} if self.is_class(part) else self.first[part]
+            if not self.empty_part(part):
+                return found
+        return found | after
+
+    def first_and_empty(self):
+        self.empty = {head: False for head in self.heads}
+        self.first = {head: set() for head in self.heads}
+        changed = True
+        while changed:
+            changed = False
+            for head, side in self.rules:
+                if all(map(self.empty_part, side)) and not self.empty[head]:
+                    self.empty[head] = changed = True
+                more = self.under(side, set())
+                if not more <= self.first[head]:
+                    self.first[head] |= more
+                    changed = True
+
+    def follow_sets(self):
+        self.follow = {head: set() for head in self.heads}
+        self.follow[self.heads[0]] = {self.end}
+        changed = True
+        while changed:
+            changed = False
+            for head, side in self.rules:
+                for i, part in enumerate(side):
+                    if self.is_class(part):
+                        continue
+                    more = self.under(side[i + 1:], self.follow[head])
+                    if not more <= self.follow[part]:
+                        self.follow[part] |= more
+                        changed = True
+
+    def choices(self):
+        """The rule of each symbol at each class: one rule at most fits, but for an `else`, which the nearest `if` takes."""
+        none = len(self.rules)
+        self.no_else = self.rules.index(("Optional_else", []))
+        otherwise = self.number["ELSE"]
+        self.choice = {head: [none] * (self.end + 1) for head in self.heads}
+        for i, (head, side) in enumerate(self.rules):
+            for c in self.under(side, self.follow[head]):
+                if i == self.no_else and c == otherwise:
+                    continue
+                if self.choice[head][c] != none:
+                    sys.exit(f"two right sides of {head} fit at {c}")
+                self.choice[head][c] = i
+        self.default = {}
+        for i, (head, side) in enumerate(self.rules):
+            if not side:
+                self.default.setdefault(head, i)
+        for head in self.heads:
+            own = [i for i, (h, _) in enumerate(self.rules) if h == head]
+            if head in EAGER or len(own) == 1:
+                self.default[head] = own[-1]
+        for head, i in self.default.items():
+            for c in range(self.end + 1):
+                if self.choice[head][c] == none and not (i == self.no_else and c == otherwise):
+                    self.choice[head][c] = i
+
+    def shortest(self):
+        """A rule of each symbol by which it can be finished, and a bound on the steps to its end."""
+        self.weight, self.finish = {}, {}
+        while len(self.weight) < len(self.heads):
+            for i, (head, side) in enumerate(self.rules):
+                if head not in self.weight and all(self.is_class(p) or p in self.weight for p in side):
+                    self.weight[head] = 1 + sum(1 if self.is_class(p) else self.weight[p] for p in side)
+                    self.finish[head] = i
+
+    def rule_name(self, i):
+        head, side = self.rules[i]
+        return f"{head.lower()}_{side[0].lower() if side else 'none'}"
+
+
+def listed(items):
+    return "".join(f"{x} ∷ " for x in items) + "[]"
+
+
+def write(root, path, lines):
+    path = os.path.join(root, path)
+    os.makedirs(os.path.dirname(path), exist_ok=True)
+    with open(path, "w", encoding="utf-8") as out:
+        out.write("\n".join(lines) + "\n")
+
+
+def symbols(g):
+    o = [f"-- The symbols of the grammar and the classes of its tokens, by name. {MADE}",
+         "use Rattle.chord_tree.specs.Part.{Part, Terminal, Symbol}", ""]
+    for i, head in enumerate(g.heads):
+        o += [f"abbrev pub {head} : Part", f"{head} = Symbol {i}", ""]
+    for i, name in enumerate(g.classes):
+        o += [f"abbrev pub {name} : Part", f"{name} = Terminal {i}", ""]
+    return o[:-1]
+
+
+def productions(g):
+    o = [f"-- The grammar, a production a line. A symbol stands for each repeated or optional part; a capital is a token of a class. {MADE}",
+         "use Rattle.std.specs.Prelude.{ℕ, List, [], ◌∷◌}",
+         "use Rattle.chord_tree.specs.Part.{Part, Production, ◌⟶◌}",
+         "use Rattle.chord_tree.specs.Symbols.{" + ", ".join(g.heads + g.classes[:-len(UNUSED)]) + "}", "",
+         "unfoldable pub productions : List Production", "productions ="]
+    seen = None
+    for head, side in g.rules:
+        if head != seen and head in g.printed:
+            o.append(f"    -- {g.printed[head]}")
+        seen = head
+        o.append(f"    ({head} ⟶ {listed(side)}) ∷")
+    o += ["    []", "",
+          "-- the depth of a token counts the nodes of these symbols around it",
+          "unfoldable pub counted : List ℕ", "counted = " + listed(g.symbol[x] for x in COUNTED)]
+    said = {"rule_count": "how many productions there are", "symbol_count": "how many symbols there are", "class_count": "how many classes of tokens there are",
+            "else_class": "the class of `else`", "no_else": "the production of an `if` without `else`"}
+    for name, value in [("rule_count", len(g.rules)), ("symbol_count", len(g.heads)), ("class_count", g.end), ("else_class", g.number["ELSE"]), ("no_else", g.no_else)]:
+        o += ["", f"-- {said[name]}", f"unfoldable pub {name} : ℕ", f"{name} = {value}"]
+    return o
+
+
+def tables(g):
+    o = [f"-- The tables of one token ahead. {MADE}", "use Rattle.std.specs.Prelude.{ℕ, List, [], ◌∷◌}"]
+
+    def table(name, rows, meaning):
+        o.extend(["", f"-- {meaning}", f"unfoldable pub {name} : List (List ℕ)", f"{name} ="])
+        o.extend(f"    ({listed(sorted(row) if isinstance(row, set) else row)}) ∷" for row in rows)
+        o.append("    []")
+
+    def row(name, values, meaning):
+        o.extend(["", f"-- {meaning}", f"unfoldable pub {name} : List ℕ", f"{name} = {listed(values)}"])
+    table("firsts", [g.first[h] for h in g.heads], "the classes that may begin each symbol")
+    table("follows", [g.follow[h] for h in g.heads], "the classes that may follow each symbol")
+    table("choices", [g.choice[h] for h in g.heads], "the production of each symbol at each class, or the number of productions")
+    row("empties", [i for i, h in enumerate(g.heads) if g.empty[h]], "the symbols that may derive nothing")
+    row("finishes", [g.finish[h] for h in g.heads], "a production of each symbol by which it ends soonest")
+    row("weights", [g.weight[h] for h in g.heads], "a bound on the parts until each symbol has ended")
+    return o
+
+
+def steps(g):
+    heads, end, total = g.heads, g.end, len(g.rules)
+    o = [f"""-- How each symbol begins, by each of its productions, and which production it has at a class. {MADE}
+use Rattle.std.proofs.Common.{{◌≡◌, ℕ, suc, ◌+◌, ◌<◌, ◌≢◌, List, [], ◌∷◌, Bool, true, ◌||◌, refl, sym, ap, subst, ◌∙◌, lit<, inl, inr, eqb-true}}
+use Rattle.std.specs.Prelude.{{nat_eq}}
+use Rattle.chord_lexer.specs.declared.token.Kind.{{Kind}}
+use Rattle.chord_tree.specs.Part.{{Part, Terminal, Symbol}}
+use Rattle.chord_tree.specs.Grammar.{{productions, counted, rule_count, class_count}}
+use Rattle.chord_tree.specs.Derivation.{{next, parts_of, inside}}
+use Rattle.chord_tree.specs.Node.{{Node, Made}}
+use Rattle.chord_tree.proofs.Table.{{choices}}
+use Rattle.chord_tree.proofs.Ahead.{{choice, below, next_small, all_below, else_rule}}
+use Rattle.chord_parser.specs.Runs.{{Onward}}
+use Rattle.chord_parser.proofs.Reading.{{begun}}
+"""]
+    part = lambda p: f"Terminal {g.number[p]}" if g.is_class(p) else f"Symbol {g.symbol[p]}"
+
+    def by_table(name, x, excluded, value):
+        """At each class but the excluded ones the choice of symbol x is the value, by one computation."""
+        tests = "".join(f"nat_eq x {b} || (" for b in excluded) + f"nat_eq (choice {x} x) {value}" + ")" * len(excluded)
+        proof = f"below {end + 1} (λ x. {tests}) refl c l"
+        for b in excluded:
+            proof = f"else_rule c {b} _ n{b} ({proof})"
+        o.extend([f"pub {name} : (c : ℕ) → c < suc class_count" + "".join(f" → c ≢ {b}" for b in excluded) + f" → choice {x} c ≡ {value}",
+                  "unfolding choice choices class_count rule_count",
+                  f"{name} c l" + "".join(f" n{b}" for b in excluded) + f" = eqb-true _ _ ({proof})", ""])
+    for i, (head, side) in enumerate(g.rules):
+        x = g.symbol[head]
+        depth = "d + 1" if head in COUNTED else "d"
+        o += [f"pub {g.rule_name(i)} : {{all d : ℕ}} {{ks : List Kind}} → choice {x} (next ks) ≡ {i} → Onward all (Symbol {x}) d ks ({''.join(part(p) + ' ∷ ' for p in side)}[]) ({depth}) ks (Made (Symbol {x}))",
+              "unfolding parts_of inside productions counted rule_count", f"{g.rule_name(i)} e = begun {x} {i} e (lit< tt)", ""]
+    for i, (head, side) in enumerate(g.rules):
+        x = g.symbol[head]
+        good = [c for c in range(end + 1) if g.choice[head][c] == i]
+        if g.default.get(head) == i:
+            by_table(g.rule_name(i) + "_at", x, [c for c in range(end + 1) if g.choice[head][c] != i], i)
+            continue
+        good = [c for c in good if c != end]
+        for c in good:
+            name = g.rule_name(i) + ("_at" if len(good) == 1 else f"_at_{g.classes[c].lower()}")
+            o += [f"pub {name} : (c : ℕ) → c ≡ {c} → choice {x} c ≡ {i}", "unfolding choice choices", f"{name} c e = ap (choice {x}) e", ""]
+    for head in heads:
+        if head not in g.default:
+            by_table(f"{head.lower()}_stuck", g.symbol[head], [c for c in range(end + 1) if g.choice[head][c] != total], "rule_count")
+    return o[:-1]
+
+
+def samples(g):
+    """A kind of token of each class."""
+    words = {name: name.capitalize() for name in "USING CLASS PUBLIC PRIVATE PROTECTED VIRTUAL OVERRIDE STATIC ASYNC VOID INT BOOL STRING IF WHILE RETURN THIS NEW ELSE TRUE FALSE DO UNUSED".split()}
+    marks = {"OPEN": "OpenParenthesis", "CLOSE": "CloseParenthesis"}
+    special = {"NAME": "kinds.Name []", "NUMBER": "kinds.Number 0", "LITERAL": "kinds.Literal []"}
+    o = [f"-- A kind of token of each class. {MADE}", "use Rattle.std.specs.Prelude.{ℕ, List, [], ◌∷◌, get_or}",
+         "use Rattle.chord_lexer.specs.declared.token.Kind.{Kind}", "use Rattle.chord_lexer.specs.declared.token.Kind.TheVariants as kinds",
+         "use Rattle.chord_lexer.specs.declared.token.Keyword.TheVariants as words", "use Rattle.chord_lexer.specs.declared.token.Mark.TheVariants as marks", "",
+         "abbrev pub samples : List Kind", "samples ="]
+    for name in g.classes:
+        kind = special.get(name) or (f"kinds.Word words.{words[name]}" if name in words else "kinds.Mark marks." + marks.get(name, name.title().replace("_", "")))
+        o.append(f"    {kind} ∷")
+    return o + ["    []", "", "abbrev pub sample : ℕ → Kind", "sample c = get_or samples c (kinds.Number 0)"]
+
+
+def classes(g):
+    o = ["//! The numbers of the classes of tokens, and the number that stands for the end of the text. " + MADE, ""]
+    o += [f"pub const {name}: u8 = {i};" for i, name in enumerate(g.classes)]
+    return o + [f"pub const END: u8 = {g.end};"]
+
+
+def main():
+    g = Grammar(os.path.join(HERE, "grammar.txt"))
+    if "-v" in sys.argv:
+        print(len(g.rules), "productions", len(g.heads), "symbols", g.end, "classes")
+        for i in range(len(g.rules)):
+            print(i, g.rule_name(i), g.rules[i][0], g.rules[i][1])
+        for i, head in enumerate(g.heads):
+            print(i, head, "default", g.default.get(head))
+        print("; ".join(f"{i} {name}" for i, name in enumerate(g.classes)))
+        return
+    root = sys.argv[1] if len(sys.argv) > 1 else os.path.dirname(HERE)
+    write(root, "crates/chord_tree/specs/Symbols.antt", symbols(g))
+    write(root, "crates/chord_tree/specs/Grammar.antt", productions(g))
+    write(root, "crates/chord_tree/proofs/Table.antt", tables(g))
+    write(root, "crates/chord_parser/specs/Samples.antt", samples(g))
+    write(root, "crates/chord_parser/proofs/Steps.antt", steps(g))
+    write(root, "crates/chord_parser/src/class.rt", classes(g))
+
+
+if __name__ == "__main__":
+    main()
