@@ -1,17 +1,18 @@
 -- What firings take, in a run.
-use Rattle.std.proofs.Common.{◌≡◌, ℕ, ◌<◌, true, false, ◌==◌, List, [], ◌∷◌, length, Option, Some, None, refl, sym, ap, ◌∙◌, arith, inl, inr}
-use Rattle.std.proofs.lemmas.Bool.{eqb-true, ne_eqb}
+use Rattle.std.proofs.Common.{◌≡◌, ℕ, ◌<◌, true, false, ◌==◌, List, [], ◌∷◌, length, Option, Some, None, refl, sym, ap, ◌∙◌, subst, arith, inl, inr}
+use Rattle.std.proofs.lemmas.Bool.{eq-eqb, eqb-true, ne_eqb}
 use Rattle.chord_base.specs.declared.value.Object.{Object}
 use Rattle.chord_base.specs.declared.value.Value as value
 use Rattle.chord_base.specs.declared.event.What.{What}
 use Rattle.chord_base.specs.declared.event.What.TheVariants.{Begun, Made, Sent, Called, Printed, Fired, Ended}
 use Rattle.chord_base.specs.declared.event.Entry.{Entry}
 use Rattle.chord_base.specs.Meaning.{Program}
-use Rattle.chord_base.specs.Messages.{Message, has, members_of, pending}
+use Rattle.chord_base.specs.Messages.{Message, AreDifferent, has, members_of, pending}
 use Rattle.chord_base.specs.Machine.{Takes, Comes, MayFollow, IsPast}
 use Rattle.chord_base.specs.Story.{IsIn}
-use Rattle.chord_base.specs.Laws.{PendingUntilTaken, TakesPending, TakenOnce}
+use Rattle.chord_base.specs.Laws.{PendingUntilTaken, TakesPending, TakenOnce, MembersDiffer}
 use Rattle.chord_base.proofs.Waits.{either}
+use Rattle.chord_base.proofs.Pending.{has_more}
 
 -- a pending message is an entry
 pub pending_within : (p : Program) (h : List Entry) (n : ℕ) (m : Message) → IsPast p h → pending n h ≡ Some m → n < length h
@@ -98,3 +99,36 @@ taken_once p (x ∷ h) e f n r i j t u =
       | inl y ↦ elim j [ inl z ↦ y ∙ sym z | inr z ↦ absurd (not_again p h x e f n r.0 r.1 y z t u) ]
       | inr y ↦ elim j [ inl z ↦ absurd (not_again p h x f e n r.0 r.1 z y u t) | inr z ↦ taken_once p h e f n r.0 y z t u ]
     ]
+
+-- the method of a member is a method of the chord
+taken_method : (h : List Entry) (o : Object) (js ms : List ℕ) (vs : List value.Value) (n : ℕ) (m : Message) → Takes h o js ms vs → has n ms ≡ true → pending n h ≡ Some m → has m.method js ≡ true
+taken_method h o [] [] vs n m t s e = cc
+taken_method h o [] (i ∷ ms) vs n m t s e = absurd t
+taken_method h o (j ∷ js) [] vs n m t s e = absurd t
+taken_method h o (j ∷ js) (i ∷ ms) vs n m t s e =
+    elim (either (n == i)) [
+      | inl y ↦
+          (let same : Some m ≡ Some (record { object = o; method = j; arguments = t.0 }) = sym e ∙ ap (λ z. pending z h) (eqb-true n i y) ∙ t.2 in
+          let to : m ≡ record { object = o; method = j; arguments = t.0 } = cc in
+          rw (eq-eqb m.method j (ap (λ (z : Message). z.method) to)) refl)
+      | inr d ↦ has_more m.method j js (taken_method h o js ms t.1 n m t.4 (rw d at s) e)
+    ]
+
+taken_different : (h : List Entry) (o : Object) (js ms : List ℕ) (vs : List value.Value) → Takes h o js ms vs → AreDifferent js → AreDifferent ms
+taken_different h o [] [] vs t d = tt
+taken_different h o [] (i ∷ ms) vs t d = absurd t
+taken_different h o (j ∷ js) [] vs t d = absurd t
+taken_different h o (j ∷ js) (i ∷ ms) vs t d = (
+  elim (either (has i ms)) [
+    | inl y ↦ (let again = taken_method h o js ms t.1 i _ t.4 y t.2 in let z : true ≡ false = sym again ∙ d.0 in cc)
+    | inr n ↦ n
+  ],
+  taken_different h o js ms t.1 t.4 d.1,
+)
+
+-- a firing of a chord without a method twice takes no message twice
+pub members_differ : MembersDiffer
+members_differ p h k o js ms vs c d f =
+    let same : Some f.0 ≡ Some js = sym f.1 ∙ c in
+    let it : f.0 ≡ js = cc in
+    taken_different h o js ms vs (subst (λ (z : List ℕ). Takes h o z ms vs) it f.2) d

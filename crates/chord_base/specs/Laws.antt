@@ -1,5 +1,5 @@
 -- The laws of the join machine: what is true of every program, every history and every run.
-use Rattle.std.specs.Prelude.{◌≡◌, ◌⊎◌, ℕ, Bool, true, false, not, ◌==◌, List, [], ◌∷◌, ◌++◌, length, reverse, Some, None, option_map}
+use Rattle.std.specs.Prelude.{◌≡◌, ◌⊎◌, ℕ, Bool, true, false, not, ◌==◌, List, [], ◌∷◌, ◌++◌, length, reverse, Some, None, slice_get, option_map}
 use Rattle.chord_base.specs.declared.value.Object.{Object}
 use Rattle.chord_base.specs.declared.value.Value as value
 use Rattle.chord_base.specs.declared.event.End.{End}
@@ -7,7 +7,7 @@ use Rattle.chord_base.specs.declared.event.What.{What}
 use Rattle.chord_base.specs.declared.event.What.TheVariants.{Fired, Ended}
 use Rattle.chord_base.specs.declared.event.Entry.{Entry}
 use Rattle.chord_base.specs.Meaning.{Program, Start, HasOneSync}
-use Rattle.chord_base.specs.Messages.{Message, IsCall, has, maker, members_of, pending}
+use Rattle.chord_base.specs.Messages.{Message, IsCall, AreDifferent, has, maker, members_of, pending}
 use Rattle.chord_base.specs.Bodies.{Unplaced, Ready, Waits, WaitsFor, serves, served, doing, asked, Asks}
 use Rattle.chord_base.specs.Machine.{Fires, MayFollow, IsPast, IsFinal, NoneFires, NoneAsks}
 use Rattle.chord_base.specs.Story.{IsIn, AreNumbered, kept, IsTold, IsStory, IsMerged, IsOwn, IsSound, grown, parted}
@@ -49,6 +49,11 @@ TakesPending =
 abbrev pub TakenOnce : Type 0
 TakenOnce =
     (p : Program) (h : List Entry) (e f : Entry) (n : ℕ) → IsPast p h → IsIn e h → IsIn f h → has n (members_of e.what) ≡ true → has n (members_of f.what) ≡ true → e ≡ f
+
+-- a firing takes no message twice, where its chord has no method twice
+abbrev pub MembersDiffer : Type 0
+MembersDiffer =
+    (p : Program) (h : List Entry) (k : ℕ) (o : Object) (js ms : List ℕ) (vs : List value.Value) → slice_get (p.chords o.class) k ≡ Some js → AreDifferent js → Fires p h k o ms vs → AreDifferent ms
 
 -- ## Places
 
@@ -114,12 +119,13 @@ CompleteInPlaces =
 
 -- ## Calls
 
--- in a run of a sound program, whose chords have at most one synchronous method each, a firing serves a call exactly
--- where the call is a member of it
+-- in a run of a sound program, whose chords have at most one synchronous method each, a firing that has a call among its
+-- members serves it
 abbrev pub ServesItsMember : Type 0
 ServesItsMember =
     (p : Program) (h : List Entry) (c f : Entry) (q : ℕ) → IsSound p → HasOneSync p → IsPast p h → IsIn c h → IsCall q c → IsIn f h → has q (members_of f.what) ≡ true → served p f.what ≡ Some q
 
+-- and it serves only a call that is a member of it
 abbrev pub ServesOnlyCalls : Type 0
 ServesOnlyCalls =
     (p : Program) (h : List Entry) (f : Entry) (q : ℕ) → IsSound p → IsPast p h → IsIn f h → served p f.what ≡ Some q → (has q (members_of f.what) ≡ true) × ((c : Entry) × IsIn c h × IsCall q c)

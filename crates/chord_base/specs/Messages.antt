@@ -30,6 +30,11 @@ abbrev pub has : ℕ → List ℕ → Bool
 has n [] = false
 has n (m ∷ ms) = (n == m) || has n ms
 
+-- no number stands among these twice
+abbrev pub AreDifferent : List ℕ → Type 0
+AreDifferent [] = Unit {0}
+AreDifferent (n ∷ ns) = (has n ns ≡ false) × AreDifferent ns
+
 -- the pending message of this number: it was sent or called, and no firing has taken it since
 abbrev pub pending : ℕ → List Entry → Option Message
 pending n [] = None

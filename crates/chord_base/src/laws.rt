@@ -3,7 +3,7 @@
 //! They hold of every program, sound or not, but where a law says that it is of a sound one.
 #![tactic(auto)]
 
-ghost use Rattle.chord_base.specs.Laws.{OthersChangeNothing, EndAnswersCaller, CallerMadeCall, PendingUntilTaken, TakesPending, TakenOnce, PlaceKnows, PlaceAsks, NoteKeepsPlaces, FiringKeepsPlaces, UnionKeepsPlaces, PartingKeepsPlaces, PlacesAreStories, RunIsTold, PlacesGather, CompleteWhenQuiet, QuietWhenComplete, CompleteInPlaces, ServesItsMember, ServesOnlyCalls, EntriesAreAsks, CallIsLastAsk};
+ghost use Rattle.chord_base.specs.Laws.{OthersChangeNothing, EndAnswersCaller, CallerMadeCall, PendingUntilTaken, TakesPending, TakenOnce, MembersDiffer, PlaceKnows, PlaceAsks, NoteKeepsPlaces, FiringKeepsPlaces, UnionKeepsPlaces, PartingKeepsPlaces, PlacesAreStories, RunIsTold, PlacesGather, CompleteWhenQuiet, QuietWhenComplete, CompleteInPlaces, ServesItsMember, ServesOnlyCalls, EntriesAreAsks, CallIsLastAsk};
 
 /// Locality: an entry of another body changes nothing of what a body does, unless it ends the body that serves its open
 /// call; that end is the caller's answer. In a run a body waits only for a call that it has made itself.
@@ -14,11 +14,12 @@ pub fn locality()
 {}
 
 /// Messages: in a run a pending message stays pending until a firing takes it, a firing takes only what is pending, and
-/// no two firings take one message.
+/// no two firings take one message, nor does one take it twice where its chord has no method twice.
 pub fn messages()
     ensures stays { PendingUntilTaken }
     ensures taken { TakesPending }
     ensures once { TakenOnce }
+    ensures different { MembersDiffer }
 {}
 
 /// Places, where each keeps what it tells: what a body does in the place that keeps it is what it does in the whole run,

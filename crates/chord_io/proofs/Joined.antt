@@ -95,5 +95,5 @@ pub TookFront-next :
     Took a (flat_map text (take i xs)) b → TookFront b (text x) c → TookFront a (flat_map text xs) c
 TookFront-next text xs i x d a b c within at first second =
     let whole : flat_map text xs ≡ flat_map text (take i xs) ++ (text x ++ flat_map text (drop (i + 1) xs)) =
-        ap (λ ys. flat_map text ys) (around xs i x d within at) ∙ flat_map-append text (take i xs) (x ∷ drop (i + 1) xs) in
+    ap (λ ys. flat_map text ys) (around xs i x d within at) ∙ flat_map-append text (take i xs) (x ∷ drop (i + 1) xs) in
     rw whole (TookFront-second a b c _ _ first (TookFront-first b c (text x) _ second))

@@ -1,11 +1,10 @@
 -- Texts that a pen writes one after the other are one text.
-use Rattle.std.proofs.Common.{◌≡◌, ℕ, ◌≤◌, ◌<◌, ◌+◌, List, [], ◌∷◌, ◌++◌, length, take, drop, get_or, Option, Some, None, IfSome, refl, ap, sym, ◌∙◌, append_assoc, append-nil, arith}
+use Rattle.std.proofs.Common.{◌≡◌, ℕ, ◌≤◌, ◌<◌, ◌+◌, List, [], ◌∷◌, ◌++◌, length, take, get_or, Option, Some, None, refl, ap, sym, ◌∙◌, append_assoc, append-nil, arith}
 use Rattle.std.specs.List.{flat_map}
 use Rattle.std.proofs.lemmas.Grind.{flat_map-append}
-use Rattle.chord_io.specs.Faults.{Rose}
-use Rattle.chord_io.specs.Pieces.{Took, TookFront}
+use Rattle.chord_io.specs.Pieces.{TookFront}
 use Rattle.chord_io.specs.Pen.{HasWritten, Writes}
-use Rattle.chord_io.proofs.Joined.{Took-nothing, Took-join, TookFront-first, TookFront-second, Rose-after, Rose-before, around, before_next}
+use Rattle.chord_io.proofs.Joined.{Took-nothing, Took-join, TookFront-first, TookFront-second, Rose-after, Rose-before, before_next}
 
 -- an empty text is written by doing nothing
 pub Writes-nothing : (a : Option (List ℕ)) (f : ℕ) (p : Option (List ℕ)) → Writes a f p [] a f p
@@ -19,21 +18,22 @@ HasWritten-join :
     HasWritten a f p (t ++ u) c h r
 HasWritten-join a f None t b g q u c h r up on first second =
     elim q as (λ x. q ≡ x → HasWritten b g x u c h r → (c ≡ a) × (r ≡ None)) [
-      None ↦ λ none rest. (rest.0 ∙ first.0, rest.1)
-    | Some held ↦ λ some rest. absurd (let broken = first.1 in cc)
+      | None ↦ λ none rest. (rest.0 ∙ first.0, rest.1)
+      | Some held ↦ λ some rest. absurd (let broken = first.1 in cc)
     ] refl second
 HasWritten-join a f (Some held) t b g None u c h r up on first second =
     elim r as (λ x. r ≡ x → HasWritten a f (Some held) (t ++ u) c h x) [
-      None ↦ λ none. (rw (second.0, ← append_assoc held t u) (TookFront-first a b (held ++ t) u first.0), Rose-before f g h first.1 on)
-    | Some left ↦ λ some. absurd (let broken = second.1 in cc)
+      | None ↦ λ none. (rw (second.0, ← append_assoc held t u) (TookFront-first a b (held ++ t) u first.0), Rose-before f g h first.1 on)
+      | Some left ↦ λ some. absurd (let broken = second.1 in cc)
     ] refl
 HasWritten-join a f (Some held) t b g (Some left) u c h None up on (out, took, same) second =
     let whole : held ++ (t ++ u) ≡ out ++ (left ++ u) = sym (append_assoc held t u) ∙ ap (λ x. x ++ u) (sym same) ∙ append_assoc out left u in
     (rw whole (TookFront-second a b c out (left ++ u) took second.0), Rose-after f g h up second.1)
-HasWritten-join a f (Some held) t b g (Some left) u c h (Some last) up on (out, took, same) (more, took_more, same_more) =
-    ( out ++ more,
-      Took-join a b c out more took took_more,
-      append_assoc out more last ∙ ap (λ x. out ++ x) same_more ∙ sym (append_assoc out left u) ∙ ap (λ x. x ++ u) same ∙ append_assoc held t u )
+HasWritten-join a f (Some held) t b g (Some left) u c h (Some last) up on (out, took, same) (more, took_more, same_more) = (
+  out ++ more,
+  Took-join a b c out more took took_more,
+  append_assoc out more last ∙ ap (λ x. out ++ x) same_more ∙ sym (append_assoc out left u) ∙ ap (λ x. x ++ u) same ∙ append_assoc held t u,
+)
 
 -- two texts that a pen writes one after the other are one
 pub Writes-join :

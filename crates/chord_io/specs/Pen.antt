@@ -1,5 +1,5 @@
 -- What a pen does. It holds back bytes that it was given, until a write to its sink fails: from then on it is broken and holds None.
-use Rattle.std.specs.Prelude.{◌≡◌, ℕ, ◌≤◌, List, [], ◌++◌, Option, Some, None}
+use Rattle.std.specs.Prelude.{◌≡◌, ℕ, ◌≤◌, List, ◌++◌, Option, Some, None}
 use Rattle.chord_io.specs.Faults.{Rose}
 use Rattle.chord_io.specs.Pieces.{Took, TookFront}
 

@@ -4,11 +4,9 @@ ghost use Rattle.chord_io.specs.Faults.{Rose};
 ghost use Rattle.chord_io.specs.Pieces.{Took, TookFront};
 ghost use Rattle.chord_io.specs.Pen.{Writes};
 
-use std::marker::Model;
-
-use arrayvec::ArrayVec;
-
 use crate::{Failed, Sink, write_all};
+use arrayvec::ArrayVec;
+use std::marker::Model;
 
 /// The bytes that a pen holds at most.
 const HELD_BYTES: usize = 4096;

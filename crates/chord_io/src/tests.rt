@@ -1,7 +1,7 @@
 //! What no clause says: that calls succeed with memory, that readers and writers of std are passed on, and one fault
 //! in mid-stream of each kind.
 use crate::{
-    Failed, MAX_TEXT_BYTES, MemSink, MemSource, ReadFault, StdSink, StdSource, read_all,
+    Failed, MAX_TEXT_BYTES, MemSink, MemSource, Pen, ReadFault, StdSink, StdSource, read_all,
     read_up_to, write_all,
 };
 use std::io;
@@ -128,5 +128,28 @@ fn a_writer_of_std_gets_the_whole_piece(rt: HostRuntime) -> Result<(), Fail> {
     );
     assert!(rt; room.as_slice() == b"abcd".as_slice());
     assert_eq!(rt; write_all(&mut StdSink::new(Broken), b"a"), Err(Failed));
+    Ok(())
+}
+
+#[test]
+fn a_pen_writes_pieces_of_any_length(rt: HostRuntime) -> Result<(), Fail> {
+    // A piece that is held, one that fills the pen, and one that is longer than the pen.
+    for (length, room, whole) in [
+        (3, 20_000, true),
+        (4096, 20_000, true),
+        (5000, 20_000, true),
+        (5000, 9000, false),
+    ] {
+        let piece = vec![in rt.alloc(); b'p'; length]?;
+        let mut sink = MemSink::new(rt.alloc(), room, 700, Vec::new(rt.alloc()))?;
+        let mut pen = Pen::new();
+        for _ in 0..3u8 {
+            pen.put(&mut sink, piece.as_slice());
+        }
+        let expected = if whole { Ok(()) } else { Err(Failed) };
+        assert_eq!(rt; pen.finish(&mut sink), expected, "three pieces of {length}");
+        let taken = if whole { 3 * length } else { room as usize };
+        assert_eq!(rt; sink.taken().len(), taken, "three pieces of {length}");
+    }
     Ok(())
 }

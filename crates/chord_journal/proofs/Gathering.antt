@@ -1,11 +1,11 @@
 -- Sorted by their numbers, the entries of a journal are the journal.
-use Rattle.std.proofs.Common.{◌≡◌, ℕ, zero, suc, ◌<◌, ◌≤◌, ◌+◌, ◌-◌, List, [], ◌∷◌, ◌++◌, length, take, reverse, get_or, refl, ap, sym, ◌∙◌, arith, add-one, ◌⊎◌, inl, inr}
-use Rattle.std.specs.Prelude.{All, Any}
+use Rattle.std.proofs.Common.{◌≡◌, ℕ, zero, suc, ◌<◌, ◌≤◌, ◌+◌, ◌-◌, List, [], ◌∷◌, ◌++◌, length, take, reverse, get_or, refl, ap, sym, ◌∙◌, arith, add-one, inl, inr}
+use Rattle.std.specs.Prelude.{All}
 use Rattle.std.specs.List.Sorted.{IsNonDecreasingBy, IsPermutation}
 use Rattle.std.proofs.lemmas.List.{length-reverse, reverse-append, get_or_default, length-take-le, take_all}
 use Rattle.std.proofs.lemmas.List.Sorted.{All-permutation, Contains-permutation, length_permutation}
 use Rattle.std.proofs.lemmas.Bool.{cases_lt}
-use Rattle.chord_base.specs.Bounds.{AreWithin, IsWhatWithin, IsJournal}
+use Rattle.chord_base.specs.Bounds.{AreWithin, IsJournal}
 use Rattle.chord_base.specs.declared.event.Entry.{Entry}
 use Rattle.chord_io.proofs.Joined.{before_next}
 use Rattle.chord_journal.specs.Gathered.{IsEntryWithin, AreOfJournal}

@@ -1,2 +1,13 @@
 pub mod Printed
 pub mod Gathering
+pub mod Fronts
+pub mod Digits
+pub mod Many
+pub mod Faults
+pub mod Binds
+pub mod Numbers
+pub mod Repeats
+pub mod Hexes
+pub mod ValueTexts
+pub mod LineTexts
+pub mod JournalTexts

@@ -3,10 +3,9 @@ ghost use Rattle.std.specs.Prelude.{IfOk, OnOk, IsPermutation};
 ghost use Rattle.std.specs.List.Sorted.{IsNonDecreasingBy};
 ghost use Rattle.chord_journal.specs.Gathered.{AreOfJournal};
 
-use std::alloc::{AllocError, Global};
-
 use chord_base::event::Entry;
 use chord_base::journal::Journal;
+use std::alloc::{AllocError, Global};
 
 /// The journal of these entries, which are sorted by their numbers.
 ///

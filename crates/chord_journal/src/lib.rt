@@ -6,9 +6,17 @@
 #![tactic(auto)]
 
 mod gathered;
+mod line;
 mod lines;
+mod parts;
+mod reading;
+mod values;
 mod write;
 
 pub use gathered::gather;
 pub use lines::write_lines;
+pub use reading::{JournalFault, read};
 pub use write::write_text;
+
+#[cfg(test)]
+mod tests;

@@ -1,5 +1,5 @@
 -- Tests of bytes, and runs of bytes that pass one.
-use Rattle.std.proofs.Common.{◌≡◌, ℕ, zero, suc, ◌+◌, ◌<◌, ◌≤◌, Bool, true, false, ◌&&◌, ◌||◌, List, [], ◌∷◌, ◌++◌, length, take, drop, get_or, refl, sym, ap, subst, ◌∙◌, arith, add-one, ◌⊎◌, inl, inr}
+use Rattle.std.proofs.Common.{◌≡◌, ℕ, zero, suc, ◌+◌, ◌<◌, ◌≤◌, Bool, true, false, ◌&&◌, ◌||◌, List, [], ◌∷◌, ◌++◌, length, take, drop, get_or, refl, sym, ap, subst, ◌∙◌, arith, add-one, ◌⊎◌, inl, inr, Option, Some, None, IfNone}
 use Rattle.chord_lexer.specs.Letters.{all_pass, first_passes, IsRun}
 
 pub and_left : (a b : Bool) → (a && b) ≡ true → a ≡ true
@@ -77,3 +77,8 @@ drop_first zero [] l = absurd (omega arith)
 drop_first zero (b ∷ text) l = refl
 drop_first (suc n) [] l = absurd (omega arith)
 drop_first (suc n) (b ∷ text) l = let e : suc n + 1 ≡ suc (n + 1) = omega arith in rw e (drop_first n text (omega arith))
+
+-- what holds anyway holds where there is nothing
+pub none_told : {A P : Type 0} (o : Option A) → P → IfNone o P
+none_told None p = p
+none_told (Some x) p = tt

@@ -1,13 +1,21 @@
 //! Comments.
 #![tactic(auto)]
 
-ghost use Rattle.std.specs.Prelude.{◌≡◌, ◌<◌, ◌≤◌, ◌+◌, length, take, drop, IfSome, IfNone, IfOk, IfErr};
+ghost use Rattle.std.specs.Prelude.{◌≡◌, ◌↔◌, IsTrue, ◌<◌, ◌≤◌, ◌+◌, length, take, drop, IfSome, IfNone};
 ghost use Rattle.chord_lexer.specs.Comments.{IsUnclosed};
-ghost use Rattle.chord_lexer.specs.Scanning.{lead_of, Begins, IsStop, IsClosedAt, IsExtent, IsUndelimited};
+ghost use Rattle.chord_lexer.specs.Pieces.{IsNone};
+ghost use Rattle.chord_lexer.specs.Scanning.{lead_of, Begins, IsClosedAt, IsExtent, IsUndelimited};
 ghost use Rattle.chord_lexer.specs.declared.scan.Lead.TheVariants as leads;
 
 use crate::piece::Piece;
-use crate::scan::{Class, Stop, after, run};
+use crate::scan::{Class, after, run};
+
+/// Whether the two bytes are `*/`.
+fn is_close(first: u8, second: u8) -> bool
+    ensures { IsTrue result ↔ ((first ≡ 42) × (second ≡ 47)) }
+{
+    first == b'*' && second == b'/'
+}
 
 /// How many bytes stand before the first `*/`.
 fn close(text: &[u8]) -> Option<usize>
@@ -16,7 +24,7 @@ fn close(text: &[u8]) -> Option<usize>
     ensures none { IfNone result (IsUnclosed text.now) }
 {
     for at in 1..text.len() {
-        if text[at - 1] == b'*' && text[at] == b'/' {
+        if is_close(text[at - 1], text[at]) {
             return Some(at - 1);
         }
     }
@@ -42,16 +50,14 @@ fn extent(text: &[u8]) -> Option<usize>
 /// The comment at the front.
 ///
 /// Its bytes are UTF-8. One that is not, or that `*/` does not close, is none.
-pub fn comment(text: &[u8]) -> Result<(Piece, usize), Stop>
+pub fn comment(text: &[u8]) -> Option<(Piece, usize)>
     requires { lead_of text.now ≡ leads.Comment }
-    ensures found { IfOk result (λ r. Begins text.now r.0 r.1) }
-    ensures none { IfErr result (IsStop text.now) }
+    ensures found { IfSome result (λ r. Begins text.now r.0 r.1) }
+    ensures none { IfNone result (IsNone text.now) }
 {
-    match extent(text) {
-        Some(length) => match str::from_utf8(&text[..length]) {
-            Ok(_) => Ok((Piece::Comment, length)),
-            Err(_) => Err(Stop::Nothing),
-        },
-        None => Err(Stop::Nothing),
+    let length = extent(text)?;
+    match str::from_utf8(&text[..length]) {
+        Ok(_) => Some((Piece::Comment, length)),
+        Err(_) => None,
     }
 }

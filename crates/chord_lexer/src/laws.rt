@@ -7,14 +7,7 @@ ghost use Rattle.chord_lexer.specs.declared.token.Token.{Token};
 
 /// A source reads as one list of tokens at most, is refused at one byte at most, and is not both read and refused.
 pub fn one_reading()
-    ensures one_list {
-        (source : List ℕ) (these those : List Token) → IsRead source these → IsRead source those → these ≡ those
-    }
-    ensures one_place {
-        (source : List ℕ) (j k : ℕ) → IsRefused source j → IsRefused source k → j ≡ k
-    }
-    ensures not_both {
-        (source : List ℕ) (tokens : List Token) (k : ℕ) → IsRead source tokens → IsRefused source k → ⊥
-    }
-{
-}
+    ensures one_list { (source : List ℕ) (these those : List Token) → IsRead source these → IsRead source those → these ≡ those }
+    ensures one_place { (source : List ℕ) (j k : ℕ) → IsRefused source j → IsRefused source k → j ≡ k }
+    ensures not_both { (source : List ℕ) (tokens : List Token) (k : ℕ) → IsRead source tokens → IsRefused source k → ⊥ }
+{}

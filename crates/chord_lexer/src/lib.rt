@@ -1,6 +1,7 @@
 //! The tokens of a source, each as long as it can be.
 //! Stands on: chord_base (texts). Used by: chord_tree (spelling), chord_parser, chord_run.
-//! Promise: `lex` gives the one list of tokens that a source reads as, with their places, or the first byte at which none begins (specs/Reading.antt).
+//! Promise: `lex` gives the one list of tokens that a source reads as, with their places, or the one byte at which it is refused
+//! (specs/Reading.antt). Read `specs/` in the order of its `Lib.antt`; its last file, `Scanning`, is of the code alone.
 //! Not here: which lists of tokens are programs (chord_tree), what a name means (chord_types).
 #![tactic(auto)]
 
@@ -13,5 +14,7 @@ mod mark;
 mod number;
 pub mod piece;
 mod scan;
+#[cfg(test)]
+mod tests;
 pub mod token;
 mod word;

@@ -1,13 +1,13 @@
 //! Marks, by the longest reading.
 #![tactic(auto)]
 
-ghost use Rattle.std.specs.Prelude.{◌≡◌, ◌<◌, ◌∷◌, [], length, take, IfSome, IfOk, IfErr};
+ghost use Rattle.std.specs.Prelude.{◌≡◌, ◌<◌, ◌∷◌, [], length, take, IfSome, IfNone};
 ghost use Rattle.chord_lexer.specs.Marks.{spelling};
-ghost use Rattle.chord_lexer.specs.Scanning.{lead_of, single_mark, pair_mark, pair_mark_of, Begins, IsStop};
+ghost use Rattle.chord_lexer.specs.Pieces.{IsNone};
+ghost use Rattle.chord_lexer.specs.Scanning.{lead_of, single_mark, pair_mark, pair_mark_of, Begins};
 ghost use Rattle.chord_lexer.specs.declared.scan.Lead.TheVariants as leads;
 
 use crate::piece::Piece;
-use crate::scan::Stop;
 use crate::token::{Kind, Mark};
 
 /// The mark of one byte.
@@ -68,17 +68,17 @@ fn pair_at(text: &[u8]) -> Option<Mark>
 }
 
 /// The mark at the front, of two bytes if it can be.
-pub fn mark(text: &[u8]) -> Result<(Piece, usize), Stop>
+pub fn mark(text: &[u8]) -> Option<(Piece, usize)>
     requires some { 0 < length text.now }
     requires led { lead_of text.now ≡ leads.Mark }
-    ensures found { IfOk result (λ r. Begins text.now r.0 r.1) }
-    ensures none { IfErr result (IsStop text.now) }
+    ensures found { IfSome result (λ r. Begins text.now r.0 r.1) }
+    ensures none { IfNone result (IsNone text.now) }
 {
     match pair_at(text) {
-        Some(mark) => Ok((Piece::Token(Kind::Mark(mark)), 2)),
+        Some(mark) => Some((Piece::Token(Kind::Mark(mark)), 2)),
         None => match single(text[0]) {
-            Some(mark) => Ok((Piece::Token(Kind::Mark(mark)), 1)),
-            None => Err(Stop::Nothing),
+            Some(mark) => Some((Piece::Token(Kind::Mark(mark)), 1)),
+            None => None,
         },
     }
 }

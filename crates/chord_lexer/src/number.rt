@@ -1,14 +1,15 @@
 //! Numbers.
 #![tactic(auto)]
 
-ghost use Rattle.std.specs.Prelude.{◌≡◌, ◌<◌, ◌≤◌, true, IfSome, IfNone, IfOk, IfErr};
+ghost use Rattle.std.specs.Prelude.{◌≡◌, ◌<◌, ◌≤◌, true, IfSome, IfNone};
 ghost use Rattle.chord_lexer.specs.Letters.{is_digit, all_pass};
 ghost use Rattle.chord_lexer.specs.Numbers.{value_after};
-ghost use Rattle.chord_lexer.specs.Scanning.{lead_of, Begins, IsStop};
+ghost use Rattle.chord_lexer.specs.Pieces.{IsNone};
+ghost use Rattle.chord_lexer.specs.Scanning.{lead_of, Begins};
 ghost use Rattle.chord_lexer.specs.declared.scan.Lead.TheVariants as leads;
 
 use crate::piece::Piece;
-use crate::scan::{Class, Stop, follows, run};
+use crate::scan::{Class, follows, run};
 use crate::token::Kind;
 
 /// The largest number that a token has. It stands only after a unary `-`, which is a rule on programs.
@@ -31,17 +32,15 @@ fn decimal(digits: &[u8]) -> Option<u32>
 }
 
 /// The number at the front: digits with no letter after them, of a value that is not too large.
-pub fn number(text: &[u8]) -> Result<(Piece, usize), Stop>
+pub fn number(text: &[u8]) -> Option<(Piece, usize)>
     requires { lead_of text.now ≡ leads.Digit }
-    ensures found { IfOk result (λ r. Begins text.now r.0 r.1) }
-    ensures none { IfErr result (IsStop text.now) }
+    ensures found { IfSome result (λ r. Begins text.now r.0 r.1) }
+    ensures none { IfNone result (IsNone text.now) }
 {
     let length = run(text, Class::Digit);
     if follows(text, length, Class::Word) {
-        return Err(Stop::Nothing);
+        return None;
     }
-    match decimal(&text[..length]) {
-        Some(n) => Ok((Piece::Token(Kind::Number(n)), length)),
-        None => Err(Stop::Nothing),
-    }
+    let n = decimal(&text[..length])?;
+    Some((Piece::Token(Kind::Number(n)), length))
 }

@@ -122,11 +122,11 @@ pub fn longest(alloc: Global, text: &[u8]) -> Result<(Piece, usize), Stop>
     ensures none { IfErr result (IsStop text.now) }
 {
     match leading(text) {
-        Lead::Digit => number(text),
+        Lead::Digit => number(text).ok_or(Stop::Nothing),
         Lead::Letter => word(alloc, text),
         Lead::Blank => Ok((Piece::Blank, 1)),
         Lead::Quote => literal(alloc, text),
-        Lead::Comment => comment(text),
-        Lead::Mark => mark(text),
+        Lead::Comment => comment(text).ok_or(Stop::Nothing),
+        Lead::Mark => mark(text).ok_or(Stop::Nothing),
     }
 }

@@ -7,3 +7,6 @@ pub mod Steps
 pub mod Single
 pub mod Chains
 pub mod StmtLists
+pub mod ClassLists
+pub mod Whole
+pub mod OneVerdict

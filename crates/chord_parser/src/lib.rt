@@ -10,3 +10,7 @@ mod tokens;
 mod build;
 mod exprs;
 mod stmts;
+mod plain;
+mod words;
+mod classes;
+pub mod parser;

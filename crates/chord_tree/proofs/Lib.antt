@@ -11,3 +11,5 @@ pub mod Weights
 pub mod WeightsStmts
 pub mod WordsStmts
 pub mod WordsClasses
+pub mod Checked
+pub mod Counts

@@ -11,4 +11,8 @@ pub mod View
 pub mod Shape
 pub mod Forms
 pub mod Members
+pub mod Derived
 pub mod Program
+pub mod Example
+pub mod Terms
+pub mod Walk

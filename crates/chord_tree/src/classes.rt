@@ -1,6 +1,12 @@
 //! Classes, their members and headers, and the `using` lines before them.
 #![tactic(auto)]
 
+ghost use Rattle.std.specs.Prelude.{◌≡◌, map};
+ghost use Rattle.chord_tree.specs.Derived.{IsFormals, IsHeader, IsMember, IsClass, IsUsing};
+ghost use Rattle.chord_tree.specs.Tree.{AConstructor, AChord};
+ghost use Rattle.chord_tree.specs.View.{see_formals, see_header, see_member, see_class, see_using};
+ghost use Rattle.chord_tree.specs.ViewStmts.{see_block};
+
 use crate::names::{Name, ValueType};
 use crate::stmts::Block;
 
@@ -76,9 +82,17 @@ pub struct Header {
 #[derive(Drop)]
 pub enum Member {
     /// A constructor.
-    Constructor { modifiers: Vec<Modifier>, name: Name, formals: Formals, body: Block },
+    Constructor {
+        modifiers: Vec<Modifier>,
+        name: Name,
+        formals: Formals,
+        body: Block,
+    },
     /// A chord: one header or more, joined by `&`, and their body.
-    Chord { headers: Vec<Header>, body: Block },
+    Chord {
+        headers: Vec<Header>,
+        body: Block,
+    },
 }
 
 /// A class.
@@ -112,4 +126,145 @@ pub struct Using {
     pub first: Name,
     /// The other parts.
     pub more: Vec<NamePart>,
+}
+
+// What has no parts but tokens is always derived, so its constructor has no condition.
+impl Modifier {
+    /// A modifier, and the number of its token.
+    pub fn new(word: ModifierWord, at: u32) -> Modifier
+        ensures { result ≡ record { word = word; at = at } }
+    {
+        Modifier { word, at }
+    }
+}
+
+impl ReturnType {
+    /// `async`
+    pub fn asynchronous(at: u32) -> ReturnType
+        ensures { result ≡ ReturnType.Async at }
+    {
+        ReturnType::Async { at }
+    }
+
+    /// `void`
+    pub fn void(at: u32) -> ReturnType
+        ensures { result ≡ ReturnType.Void at }
+    {
+        ReturnType::Void { at }
+    }
+
+    /// The type of a value.
+    pub fn value(value_type: ValueType) -> ReturnType
+        ensures { result ≡ ReturnType.Value value_type }
+    {
+        ReturnType::Value(value_type)
+    }
+}
+
+impl Formal {
+    /// A parameter.
+    pub fn new(value_type: ValueType, name: Name) -> Formal
+        ensures { result ≡ record { value_type = value_type; name = name } }
+    {
+        Formal { value_type, name }
+    }
+}
+
+impl Formals {
+    /// Parameters in brackets; the number is that of `(`.
+    pub fn new(at: u32, all: Vec<Formal>) -> Formals
+        requires { IsFormals (record { at = at; all = all.items }) }
+        ensures { see_formals result ≡ record { at = at; all = all.items } }
+    {
+        Formals { at, all }
+    }
+}
+
+impl Header {
+    /// A method's header.
+    pub fn new(
+        modifiers: Vec<Modifier>,
+        result_type: ReturnType,
+        name: Name,
+        formals: Formals,
+    ) -> Header
+        requires { IsHeader (record { modifiers = modifiers.items; result_type = result_type; name = name; formals = see_formals formals }) }
+        ensures { see_header result ≡ record { modifiers = modifiers.items; result_type = result_type; name = name; formals = see_formals formals } }
+    {
+        Header {
+            modifiers,
+            result_type,
+            name,
+            formals,
+        }
+    }
+}
+
+impl Member {
+    /// A constructor of a class.
+    pub fn constructor(
+        modifiers: Vec<Modifier>,
+        name: Name,
+        formals: Formals,
+        body: Block,
+    ) -> Member
+        requires { IsMember (AConstructor modifiers.items name (see_formals formals) (see_block body)) }
+        ensures { see_member result ≡ AConstructor modifiers.items name (see_formals formals) (see_block body) }
+    {
+        Member::Constructor {
+            modifiers,
+            name,
+            formals,
+            body,
+        }
+    }
+
+    /// A chord.
+    pub fn chord(headers: Vec<Header>, body: Block) -> Member
+        requires { IsMember (AChord (map see_header headers.items) (see_block body)) }
+        ensures { see_member result ≡ AChord (map see_header headers.items) (see_block body) }
+    {
+        Member::Chord { headers, body }
+    }
+}
+
+impl Class {
+    /// A class; the numbers are those of `public`, if it is there, and of `}`.
+    pub fn new(
+        public: Option<u32>,
+        name: Name,
+        base: Option<Name>,
+        members: Vec<Member>,
+        end: u32,
+    ) -> Class
+        requires { IsClass (record { public_at = public; name = name; base = base; members = map see_member members.items; end = end }) }
+        ensures { see_class result ≡ record { public_at = public; name = name; base = base; members = map see_member members.items; end = end } }
+    {
+        Class {
+            public,
+            name,
+            base,
+            members,
+            end,
+        }
+    }
+}
+
+impl NamePart {
+    /// A dot and a part of a name.
+    pub fn new(at: u32, name: Name) -> NamePart
+        ensures { result ≡ record { at = at; name = name } }
+    {
+        NamePart { at, name }
+    }
+}
+
+impl Using {
+    /// A `using` line.
+    pub fn new(first: Name, more: Vec<NamePart>) -> Using
+        requires { IsUsing (record { first = first; parts = more.items }) }
+        ensures { see_using result ≡ record { first = first; parts = more.items } }
+    {
+        Using { first, more }
+    }
 }

@@ -4,13 +4,15 @@
 //! Not here: which tokens are a program's (chord_parser), what a name in it means (chord_types).
 #![tactic(auto)]
 
-pub mod names;
-pub mod exprs;
-pub mod stmts;
 pub mod classes;
+pub mod exprs;
+pub mod names;
 pub mod program;
 mod puts;
+mod spell_classes;
 mod spell_exprs;
 mod spell_stmts;
-mod spell_classes;
 pub mod spelling;
+pub mod stmts;
+#[cfg(test)]
+mod tests;

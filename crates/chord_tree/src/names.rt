@@ -1,6 +1,8 @@
 //! Names and the written types, with the numbers of their tokens.
 #![tactic(auto)]
 
+ghost use Rattle.std.specs.Prelude.{◌≡◌};
+
 use chord_base::text::Text;
 
 /// A name, and the number of its token.
@@ -30,4 +32,30 @@ pub enum ValueType {
     Basic { basic: BasicType, at: u32 },
     /// The name of a class.
     Class(Name),
+}
+
+// What is one token is always derived, so these constructors have no condition.
+impl Name {
+    /// A name, and the number of its token.
+    pub fn new(text: Text, at: u32) -> Name
+        ensures { result ≡ record { text = text; at = at } }
+    {
+        Name { text, at }
+    }
+}
+
+impl ValueType {
+    /// The word of a basic type, and the number of its token.
+    pub fn basic(basic: BasicType, at: u32) -> ValueType
+        ensures { result ≡ ValueType.Basic basic at }
+    {
+        ValueType::Basic { basic, at }
+    }
+
+    /// The name of a class.
+    pub fn class(name: Name) -> ValueType
+        ensures { result ≡ ValueType.Class name }
+    {
+        ValueType::Class(name)
+    }
 }

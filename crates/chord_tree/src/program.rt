@@ -29,7 +29,7 @@ impl Model for Program {
 }
 
 impl Program {
-    ghost use Rattle.std.specs.Prelude.{◌≡◌};
+    ghost use Rattle.std.specs.Prelude.{◌≡◌, ◌<◌, ◌^◌, length};
     ghost use Rattle.chord_tree.specs.View.{tree_of};
     ghost use Rattle.chord_tree.specs.Program.{IsProgram, spelling};
 
@@ -54,6 +54,17 @@ impl Program {
         ensures program { IsProgram (tree_of self.now) }
     {
         self.classes.as_slice()
+    }
+
+    /// How many tokens it spells, which is the number of the end of the text.
+    pub fn token_count(&self) -> u32
+        requires { length (spelling (tree_of self.now)) < 2 ^ 32 }
+        ensures { result ≡ length (spelling (tree_of self.now)) }
+    {
+        match self.classes.last() {
+            Some(class) => class.end + 1,
+            None => 0,
+        }
     }
 
     /// A law: programs that spell the same tokens have the same tree.

@@ -1,5 +1,5 @@
-use Rattle.chord_base.proofs.Firings.{pending_until_taken, takes_pending, taken_once}
+use Rattle.chord_base.proofs.Firings.{pending_until_taken, takes_pending, taken_once, members_differ}
 use Rattle.chord_base.proofs.laws.messages.Goals as goal
 
 pub returns : goal.returns
-returns c = record { stays = pending_until_taken; taken = takes_pending; once = taken_once }
+returns c = record { stays = pending_until_taken; taken = takes_pending; once = taken_once; different = members_differ }

@@ -11,5 +11,5 @@ of_entries-requires c =
     let moved = rw c.as_mut_slice.ensures.value at c.in_ok-sort.ensures.moved in
     let long = length_permutation _ sorted moved in
     let whole : take c.args.entries.len (sorted ++ drop (length sorted) c.args.entries.items) ≡ sorted =
-        take-append-le _ sorted _ (omega (arith, long, c.args.entries.ok.0)) ∙ take_all _ sorted (omega (arith, long, c.args.entries.ok.0)) in
+    take-append-le _ sorted _ (omega (arith, long, c.args.entries.ok.0)) ∙ take_all _ sorted (omega (arith, long, c.args.entries.ok.0)) in
     rw whole (sorted_is_journal _ sorted c.requires moved c.in_ok-sort.ensures.ok)

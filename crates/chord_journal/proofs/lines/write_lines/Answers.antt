@@ -1,6 +1,4 @@
 -- The lines before an entry were taken, and then a front of its line, or its line.
-use Rattle.std.proofs.Common.{ap, sym}
-use Rattle.std.specs.List.{flat_map}
 use Rattle.std.proofs.lemmas.List.{take_all}
 use Rattle.std.proofs.lemmas.Result.{err_from_is_err_and}
 use Rattle.chord_base.specs.Printed.{line_of}

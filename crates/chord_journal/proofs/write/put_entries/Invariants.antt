@@ -1,8 +1,7 @@
-use Rattle.std.proofs.Common.{take, ◌++◌}
+use Rattle.std.proofs.Common.{take}
 use Rattle.std.specs.List.{flat_map}
-use Rattle.std.specs.Prelude.{codes, decimal}
 use Rattle.chord_io.specs.Pen.{Writes}
-use Rattle.chord_journal.specs.Text.{byte_text, value_text, entry_text}
+use Rattle.chord_journal.specs.Text.{entry_text}
 use Rattle.chord_journal.proofs.write.put_entries.Given as goal
 
 abbrev pub invariant-loop-entry : goal.invariant-loop-entry

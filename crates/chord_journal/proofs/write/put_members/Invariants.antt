@@ -2,7 +2,6 @@ use Rattle.std.proofs.Common.{take, ◌++◌}
 use Rattle.std.specs.List.{flat_map}
 use Rattle.std.specs.Prelude.{codes, decimal}
 use Rattle.chord_io.specs.Pen.{Writes}
-use Rattle.chord_journal.specs.Text.{byte_text, value_text, entry_text}
 use Rattle.chord_journal.proofs.write.put_members.Given as goal
 
 abbrev pub invariant-loop-number : goal.invariant-loop-number

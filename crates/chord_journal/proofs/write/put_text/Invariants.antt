@@ -1,8 +1,7 @@
-use Rattle.std.proofs.Common.{take, ◌++◌}
+use Rattle.std.proofs.Common.{take}
 use Rattle.std.specs.List.{flat_map}
-use Rattle.std.specs.Prelude.{codes, decimal}
 use Rattle.chord_io.specs.Pen.{Writes}
-use Rattle.chord_journal.specs.Text.{byte_text, value_text, entry_text}
+use Rattle.chord_journal.specs.Text.{byte_text}
 use Rattle.chord_journal.proofs.write.put_text.Given as goal
 
 abbrev pub invariant-loop-byte : goal.invariant-loop-byte

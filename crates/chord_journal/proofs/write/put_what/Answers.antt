@@ -1,6 +1,5 @@
 -- A word, and what belongs to it.
 use Rattle.chord_io.proofs.Pens.{Writes-join}
-use Rattle.chord_journal.specs.Text.{what_text}
 use Rattle.chord_journal.proofs.write.put_what.Goals as goal
 
 pub returns-in-Sent : goal.returns-in-Sent

@@ -1,0 +1,38 @@
+-- Of each answer what its cause says, and by the laws of texts that no other cause can stand.
+use Rattle.std.proofs.Common.{◌≡◌, List, ℕ, Ok, Err, Result, ap, sym, ◌∙◌, refl, inl, inr, IfOk}
+use Rattle.chord_base.specs.Bounds.{IsJournal}
+use Rattle.chord_base.specs.declared.event.Entry.{Entry}
+use Rattle.chord_journal.specs.Text.{text_of}
+use Rattle.chord_journal.specs.Typed.{AreTyped}
+use Rattle.chord_journal.specs.Wrong.{IsWrongAt, UnlessMemory}
+use Rattle.chord_journal.specs.declared.reading.JournalFault.{JournalFault}
+use Rattle.chord_journal.specs.declared.reading.JournalFault.TheVariants.{Memory, At}
+use Rattle.chord_journal.proofs.JournalTexts.{same_journal, not_wrong, wrong_once}
+use Rattle.chord_journal.proofs.reading.read.Goals as goal
+
+-- what was read has these bytes as its text
+abbrev Found : List ℕ → List Entry → Type 0
+Found bytes journal = (bytes ≡ text_of journal) × AreTyped journal × IsJournal journal
+
+-- a line that is named is the least that is wrong
+abbrev Named : List ℕ → Result (List Entry) JournalFault → Type 0
+Named bytes answer = (k : ℕ) → answer ≡ Err (At k) → IsWrongAt bytes k
+
+only : (bytes : List ℕ) (answer : Result (List Entry) JournalFault) → IfOk answer (Found bytes) → Named bytes answer → (journal : List Entry) →
+    IsJournal journal → AreTyped journal → bytes ≡ text_of journal → UnlessMemory answer (Ok journal)
+only bytes (Ok other) found named journal is typed text =
+    inr (ap (λ (es : List Entry). Ok es) (same_journal other journal found.2 found.1 is typed (sym found.0 ∙ text)))
+only bytes (Err Memory) found named journal is typed text = inl refl
+only bytes (Err (At k)) found named journal is typed text = absurd (not_wrong journal bytes k is typed text (named k refl))
+
+only_wrong : (bytes : List ℕ) (answer : Result (List Entry) JournalFault) → IfOk answer (Found bytes) → Named bytes answer → (k : ℕ) → IsWrongAt bytes k →
+    UnlessMemory answer (Err (At k))
+only_wrong bytes (Ok journal) found named k wrong = absurd (not_wrong journal bytes k found.2 found.1 found.0 wrong)
+only_wrong bytes (Err Memory) found named k wrong = inl refl
+only_wrong bytes (Err (At j)) found named k wrong = inr (ap (λ (i : ℕ). Err (At i)) (wrong_once bytes j k (named j refl) wrong))
+
+pub returns-clause-only : goal.returns-clause-only
+returns-clause-only c = only c.args.bytes.now c.read_lines.result c.read_lines.ensures.found c.read_lines.ensures.wrong
+
+pub returns-clause-only_wrong : goal.returns-clause-only_wrong
+returns-clause-only_wrong c = only_wrong c.args.bytes.now c.read_lines.result c.read_lines.ensures.found c.read_lines.ensures.wrong

@@ -1,0 +1,53 @@
+-- What the types of an entry's parts hold of them: ints have 32 bits, and texts are at most 1,024 bytes.
+use Rattle.std.specs.Prelude.{ℕ, ◌<◌, ◌≤◌, List, [], ◌∷◌, length, ℤ, pos, negsuc}
+use Rattle.chord_base.specs.declared.value.Value as value
+use Rattle.chord_base.specs.declared.value.Value.TheVariants as a_value
+use Rattle.chord_base.specs.declared.event.End.{End}
+use Rattle.chord_base.specs.declared.event.End.TheVariants.{Gives, Traps}
+use Rattle.chord_base.specs.declared.event.What.{What}
+use Rattle.chord_base.specs.declared.event.What.TheVariants.{Begun, Made, Sent, Called, Printed, Fired, Ended}
+use Rattle.chord_base.specs.declared.event.Entry.{Entry}
+
+-- a number of 32 bits with a sign
+abbrev pub IsInt : ℤ → Type 0
+IsInt (pos n) = n < 2147483648
+IsInt (negsuc n) = n < 2147483648
+
+-- each is a byte
+abbrev pub AreBytes : List ℕ → Type 0
+AreBytes [] = Unit {0}
+AreBytes (b ∷ bytes) = (b < 256) × AreBytes bytes
+
+-- at most 1,024 bytes
+pub record IsText (text : List ℕ) : Type 0 where
+  pub few : length text ≤ 1024
+  pub bytes : AreBytes text
+
+abbrev pub IsTypedValue : value.Value → Type 0
+IsTypedValue (a_value.Int n) = IsInt n
+IsTypedValue (a_value.Text t) = IsText t
+IsTypedValue a_value.Unit = Unit {0}
+IsTypedValue (a_value.Flag b) = Unit {0}
+IsTypedValue (a_value.Ref o) = Unit {0}
+
+abbrev pub AreTypedValues : List value.Value → Type 0
+AreTypedValues [] = Unit {0}
+AreTypedValues (v ∷ vs) = IsTypedValue v × AreTypedValues vs
+
+abbrev pub IsTypedEnd : End → Type 0
+IsTypedEnd (Gives v) = IsTypedValue v
+IsTypedEnd (Traps t) = Unit {0}
+
+abbrev pub IsTypedWhat : What → Type 0
+IsTypedWhat (Sent o method values) = AreTypedValues values
+IsTypedWhat (Called o method values) = AreTypedValues values
+IsTypedWhat (Printed text) = IsText text
+IsTypedWhat (Fired chord o members values) = AreTypedValues values
+IsTypedWhat (Ended end) = IsTypedEnd end
+IsTypedWhat Begun = Unit {0}
+IsTypedWhat (Made class) = Unit {0}
+
+-- each entry says what its types hold
+abbrev pub AreTyped : List Entry → Type 0
+AreTyped [] = Unit {0}
+AreTyped (e ∷ es) = IsTypedWhat e.what × AreTyped es

@@ -1,0 +1,273 @@
+-- Lists of classes, members, headers and formals, as the parser's loops read them.
+use Rattle.std.proofs.Common.{◌≡◌, ℕ, zero, suc, ◌+◌, ◌-◌, ◌<◌, ◌≤◌, ◌≢◌, List, [], ◌∷◌, ◌++◌, length, map, refl, sym, ap, subst, ◌∙◌, arith}
+use Rattle.std.proofs.lemmas.List.{map-append, length-append}
+use Rattle.chord_lexer.specs.declared.token.Kind.{Kind}
+use Rattle.chord_lexer.specs.declared.token.Kind.TheVariants as kinds
+use Rattle.chord_lexer.specs.declared.token.Token.{Token}
+use Rattle.chord_lexer.specs.declared.token.Mark.TheVariants as marks
+use Rattle.chord_tree.specs.declared.names.Name.{Name}
+use Rattle.chord_tree.specs.declared.names.ValueType.TheVariants as types
+use Rattle.chord_tree.specs.declared.classes.ModifierWord.{ModifierWord}
+use Rattle.chord_tree.specs.declared.classes.ModifierWord.TheVariants as modifiers
+use Rattle.chord_tree.specs.declared.classes.Modifier.{Modifier}
+use Rattle.chord_tree.specs.declared.classes.ReturnType.{ReturnType}
+use Rattle.chord_tree.specs.declared.classes.ReturnType.TheVariants as results
+use Rattle.chord_tree.specs.declared.classes.Formal.{Formal}
+use Rattle.chord_tree.specs.declared.classes.NamePart.{NamePart}
+use Rattle.chord_tree.specs.declared.classes.Header.{Header}
+use Rattle.chord_tree.specs.declared.classes.Class.{Class}
+use Rattle.chord_tree.specs.Part.{Part, Terminal, Symbol, number_of}
+use Rattle.chord_tree.specs.Grammar.{class_count}
+use Rattle.chord_tree.specs.Symbols as grammar
+use Rattle.chord_tree.specs.Classes.{class_of, word_part}
+use Rattle.chord_tree.specs.Derivation.{next}
+use Rattle.chord_tree.specs.Node.{Node, Nodes, End, ◌▸◌, Leaf, Made, size, size_all}
+use Rattle.chord_tree.specs.Program.{told}
+use Rattle.chord_tree.specs.Shape.{word, mark, name}
+use Rattle.chord_tree.specs.Forms.{node_block}
+use Rattle.chord_tree.specs.Tree.{FormalsTree, HeaderTree, MemberTree, AConstructor, AChord, ClassTree, UsingTree, BlockTree, MakeBlock}
+use Rattle.chord_tree.specs.Members.{modifier_word, node_modifier, node_modifiers, node_type, node_formal, node_more_formals, node_formal_list, node_formals, node_plain, node_result, node_header, node_headers, node_rest, node_chord, node_member, node_members, node_public, node_class, node_classes, node_name_parts, node_using, node_usings, node_all_classes}
+use Rattle.chord_tree.proofs.Table.{choices}
+use Rattle.chord_tree.proofs.Ahead.{choice, next_small, small}
+use Rattle.chord_parser.specs.declared.plain.PlainWord.{PlainWord}
+use Rattle.chord_parser.specs.declared.plain.PlainWord.TheVariants as plains
+use Rattle.chord_parser.specs.Lists.{modifier_class, plain_class, plain_word, plain_node, IsPlain, node_rest_of, IsHeaded, IsFirst, headers_after, classes_after, wrapped, wrapped_after, before_formals}
+use Rattle.chord_parser.specs.Runs.{Reads, Onward}
+use Rattle.chord_parser.specs.Samples.{sample}
+use Rattle.chord_parser.proofs.Single.{bare_word}
+use Rattle.chord_parser.proofs.Reading.{step, ends, measured}
+use Rattle.chord_parser.proofs.Chains.{told_size}
+use Rattle.chord_parser.proofs.Steps.{modifiers_modifier, modifiers_modifier_at_public, modifiers_modifier_at_private, modifiers_modifier_at_protected, modifiers_modifier_at_virtual, modifiers_modifier_at_override, modifiers_modifier_at_static, modifier_public, modifier_public_at, modifier_private, modifier_private_at, modifier_protected, modifier_protected_at, modifier_virtual, modifier_virtual_at, modifier_override, modifier_override_at, modifier_static, modifier_static_at, plain_async, plain_async_at, plain_void, plain_void_at, plain_int, plain_int_at, plain_bool, plain_bool_at, plain_string, plain_string_at, result_plain, result_plain_at_async, result_plain_at_void, result_plain_at_int, result_plain_at_bool, result_plain_at_string, rest_plain, rest_plain_at_async, rest_plain_at_void, rest_plain_at_int, rest_plain_at_bool, rest_plain_at_string}
+
+-- a list that grows at its end
+module _ {A : Type 0} (f : A → Node → Node) where
+  pub grown : (xs : List A) (x : A) (n : Node) → wrapped f (xs ++ (x ∷ [])) n ≡ wrapped f xs (f x n)
+  grown [] x n = refl
+  grown (y ∷ xs) x n = ap (f y) (grown xs x n)
+
+  pub push : (xs ys : List A) (x : A) (n : Node) → ys ≡ xs ++ (x ∷ []) → wrapped f xs (f x n) ≡ wrapped f ys n
+  push xs ys x n e = sym (grown xs x n) ∙ ap (λ z. wrapped f z n) (sym e)
+
+  after_first : (y : A) (xs ys : List A) (x : A) (n : Node) → ys ≡ (y ∷ xs) ++ (x ∷ []) → wrapped f xs (f x n) ≡ wrapped_after f ys n
+  after_first y xs ys x n e = sym (grown xs x n) ∙ ap (λ z. wrapped_after f z n) (sym e)
+
+  pub push_after : (xs ys : List A) (x first : A) (n : Node) → IsFirst first xs → ys ≡ xs ++ (x ∷ []) → wrapped_after f xs (f x n) ≡ wrapped_after f ys n
+  push_after [] ys x first n h e = elim h [ ]
+  push_after (y ∷ xs) ys x first n h e = after_first y xs ys x n e
+
+pub first_stays : {A : Type 0} (xs ys : List A) (x first : A) → IsFirst first xs → ys ≡ xs ++ (x ∷ []) → IsFirst first ys
+first_stays [] ys x first h e = elim h [ ]
+first_stays (y ∷ xs) ys x first h e = subst (λ z. IsFirst first z) (sym e) h
+
+-- the same through a view
+module _ {A B : Type 0} (see : A → B) (f : B → Node → Node) where
+  pub push_seen : (xs ys : List A) (x : A) (n : Node) → ys ≡ xs ++ (x ∷ []) → wrapped f (map see xs) (f (see x) n) ≡ wrapped f (map see ys) n
+  push_seen xs ys x n e = push f (map see xs) (map see ys) (see x) n (ap (map see) e ∙ map-append see xs (x ∷ []))
+
+  pub push_seen_after : (xs ys : List A) (x : A) (first : B) (n : Node) → IsFirst first (map see xs) → ys ≡ xs ++ (x ∷ []) → wrapped_after f (map see xs) (f (see x) n) ≡ wrapped_after f (map see ys) n
+  push_seen_after xs ys x first n h e = push_after f (map see xs) (map see ys) (see x) first n h (ap (map see) e ∙ map-append see xs (x ∷ []))
+
+  pub first_seen : (xs ys : List A) (x : A) (first : B) → IsFirst first (map see xs) → ys ≡ xs ++ (x ∷ []) → IsFirst first (map see ys)
+  first_seen xs ys x first h e = first_stays (map see xs) (map see ys) (see x) first h (ap (map see) e ∙ map-append see xs (x ∷ []))
+
+  pub one_seen : (ys : List A) (x : A) → ys ≡ x ∷ [] → IsFirst (see x) (map see ys)
+  one_seen ys x e = subst (λ z. IsFirst (see x) (map see z)) (sym e) refl
+
+  pub one_after : (ys : List A) (x : A) (n : Node) → ys ≡ x ∷ [] → n ≡ wrapped_after f (map see ys) n
+  one_after ys x n e = ap (λ z. wrapped_after f (map see z) n) (sym e)
+
+-- the ways of each list
+abbrev pub modifier_way : Modifier → Node → Node
+modifier_way x n = Made grammar.Modifiers (node_modifier x ▸ n ▸ End)
+
+abbrev pub part_way : NamePart → Node → Node
+part_way x n = Made grammar.Name_parts (mark marks.Dot x.at ▸ name x.name ▸ n ▸ End)
+
+abbrev pub formal_way : Formal → Node → Node
+formal_way y m = Made grammar.More_formals (mark marks.Comma 0 ▸ node_formal y ▸ m ▸ End)
+
+abbrev pub header_way : HeaderTree → Node → Node
+header_way x n = Made grammar.Headers (mark marks.Ampersand 0 ▸ node_header x ▸ n ▸ End)
+
+abbrev pub member_way : MemberTree → Node → Node
+member_way x n = Made grammar.Members (node_member x ▸ n ▸ End)
+
+abbrev pub class_way : ClassTree → Node → Node
+class_way x n = Made grammar.Classes (node_class x ▸ n ▸ End)
+
+abbrev pub using_way : UsingTree → Node → Node
+using_way x n = Made grammar.Usings (node_using x ▸ n ▸ End)
+
+pub all_modifiers : (xs : List Modifier) → wrapped modifier_way xs (Made grammar.Modifiers End) ≡ node_modifiers xs
+all_modifiers [] = refl
+all_modifiers (x ∷ xs) = ap (modifier_way x) (all_modifiers xs)
+
+pub all_parts : (xs : List NamePart) → wrapped part_way xs (Made grammar.Name_parts End) ≡ node_name_parts xs
+all_parts [] = refl
+all_parts (x ∷ xs) = ap (part_way x) (all_parts xs)
+
+all_formals : (xs : List Formal) → wrapped formal_way xs (Made grammar.More_formals End) ≡ node_more_formals xs
+all_formals [] = refl
+all_formals (x ∷ xs) = ap (formal_way x) (all_formals xs)
+
+pub formal_list : (xs : List Formal) → 0 < length xs → before_formals xs (Made grammar.More_formals End) ≡ node_formal_list xs
+formal_list [] h = absurd (omega arith)
+formal_list (x ∷ xs) h = ap (λ z. Made grammar.Optional_formals (node_formal x ▸ z ▸ End)) (all_formals xs)
+
+pub formals_first : (ys : List Formal) (x : Formal) (n : Node) → ys ≡ x ∷ [] → Made grammar.Optional_formals (node_formal x ▸ n ▸ End) ≡ before_formals ys n
+formals_first ys x n e = ap (λ z. before_formals z n) (sym e)
+
+pub formals_push : (xs ys : List Formal) (x : Formal) (n : Node) → 0 < length xs → ys ≡ xs ++ (x ∷ []) → before_formals xs (formal_way x n) ≡ before_formals ys n
+formals_push [] ys x n h e = absurd (omega arith)
+formals_push (y ∷ xs) ys x n h e = ap (λ z. Made grammar.Optional_formals (node_formal y ▸ z ▸ End)) (sym (grown formal_way xs x n)) ∙ ap (λ z. before_formals z n) (sym e)
+
+all_headers : (xs : List HeaderTree) → wrapped header_way xs (Made grammar.Headers End) ≡ node_headers xs
+all_headers [] = refl
+all_headers (x ∷ xs) = ap (header_way x) (all_headers xs)
+
+pub headers_all : (xs : List HeaderTree) → wrapped_after header_way xs (Made grammar.Headers End) ≡ headers_after xs
+headers_all [] = refl
+headers_all (x ∷ xs) = all_headers xs
+
+pub all_members : (xs : List MemberTree) → wrapped member_way xs (Made grammar.Members End) ≡ node_members xs
+all_members [] = refl
+all_members (x ∷ xs) = ap (member_way x) (all_members xs)
+
+all_classes : (xs : List ClassTree) → wrapped class_way xs (Made grammar.Classes End) ≡ node_classes xs
+all_classes [] = refl
+all_classes (x ∷ xs) = ap (class_way x) (all_classes xs)
+
+pub classes_all : (xs : List ClassTree) → wrapped_after class_way xs (Made grammar.Classes End) ≡ classes_after xs
+classes_all [] = refl
+classes_all (x ∷ xs) = all_classes xs
+
+pub all_usings : (xs : List UsingTree) → wrapped using_way xs (Made grammar.Usings End) ≡ node_usings xs
+all_usings [] = refl
+all_usings (x ∷ xs) = ap (using_way x) (all_usings xs)
+
+-- modifiers
+pub modifiers_begun : {all d : ℕ} {ks : List Kind} (w : ModifierWord) → next ks ≡ modifier_class w → Onward all grammar.Modifiers d ks (grammar.Modifier ∷ grammar.Modifiers ∷ []) d ks (Made grammar.Modifiers)
+modifiers_begun modifiers.Public e = modifiers_modifier (modifiers_modifier_at_public _ e)
+modifiers_begun modifiers.Private e = modifiers_modifier (modifiers_modifier_at_private _ e)
+modifiers_begun modifiers.Protected e = modifiers_modifier (modifiers_modifier_at_protected _ e)
+modifiers_begun modifiers.Virtual e = modifiers_modifier (modifiers_modifier_at_virtual _ e)
+modifiers_begun modifiers.Override e = modifiers_modifier (modifiers_modifier_at_override _ e)
+modifiers_begun modifiers.Static e = modifiers_modifier (modifiers_modifier_at_static _ e)
+
+pub modifier_begun : {all d : ℕ} {ks : List Kind} (w : ModifierWord) → next ks ≡ modifier_class w → Onward all grammar.Modifier d ks (Terminal (modifier_class w) ∷ []) d ks (Made grammar.Modifier)
+modifier_begun modifiers.Public e = modifier_public (modifier_public_at _ e)
+modifier_begun modifiers.Private e = modifier_private (modifier_private_at _ e)
+modifier_begun modifiers.Protected e = modifier_protected (modifier_protected_at _ e)
+modifier_begun modifiers.Virtual e = modifier_virtual (modifier_virtual_at _ e)
+modifier_begun modifiers.Override e = modifier_override (modifier_override_at _ e)
+modifier_begun modifiers.Static e = modifier_static (modifier_static_at _ e)
+
+pub modifier_read : {all d at : ℕ} {ks rest : List Kind} (c : ℕ) (w : ModifierWord) → c ≡ modifier_class w → Reads all (Terminal c) d ks rest (Leaf (sample c) at) → Reads all (Terminal (modifier_class w)) d ks rest (word (modifier_word w) at)
+modifier_read {all} {d} {at} {ks} {rest} c w e r = subst (λ z. Reads all (Terminal (modifier_class w)) d ks rest (Leaf z at)) (bare_word (modifier_word w)) (subst (λ z. Reads all (Terminal z) d ks rest (Leaf (sample z) at)) e r)
+
+pub no_modifier : (c : ℕ) → c ≢ modifier_class modifiers.Public → c ≢ modifier_class modifiers.Private → c ≢ modifier_class modifiers.Protected → c ≢ modifier_class modifiers.Virtual → c ≢ modifier_class modifiers.Override → c ≢ modifier_class modifiers.Static → (w : ModifierWord) → c ≢ modifier_class w
+no_modifier c h1 h2 h3 h4 h5 h6 modifiers.Public = h1
+no_modifier c h1 h2 h3 h4 h5 h6 modifiers.Private = h2
+no_modifier c h1 h2 h3 h4 h5 h6 modifiers.Protected = h3
+no_modifier c h1 h2 h3 h4 h5 h6 modifiers.Virtual = h4
+no_modifier c h1 h2 h3 h4 h5 h6 modifiers.Override = h5
+no_modifier c h1 h2 h3 h4 h5 h6 modifiers.Static = h6
+
+-- words of results
+pub plain_begun : {all d : ℕ} {ks : List Kind} (w : PlainWord) → next ks ≡ plain_class w → Onward all grammar.Plain d ks (Terminal (plain_class w) ∷ []) d ks (Made grammar.Plain)
+plain_begun plains.Async e = plain_async (plain_async_at _ e)
+plain_begun plains.Void e = plain_void (plain_void_at _ e)
+plain_begun plains.Int e = plain_int (plain_int_at _ e)
+plain_begun plains.Bool e = plain_bool (plain_bool_at _ e)
+plain_begun plains.String e = plain_string (plain_string_at _ e)
+
+pub result_begun : {all d : ℕ} {ks : List Kind} (w : PlainWord) → next ks ≡ plain_class w → Onward all grammar.Result d ks (grammar.Plain ∷ []) d ks (Made grammar.Result)
+result_begun plains.Async e = result_plain (result_plain_at_async _ e)
+result_begun plains.Void e = result_plain (result_plain_at_void _ e)
+result_begun plains.Int e = result_plain (result_plain_at_int _ e)
+result_begun plains.Bool e = result_plain (result_plain_at_bool _ e)
+result_begun plains.String e = result_plain (result_plain_at_string _ e)
+
+pub rest_begun : {all d : ℕ} {ks : List Kind} (w : PlainWord) → next ks ≡ plain_class w → Onward all grammar.Rest d ks (grammar.Plain ∷ grammar.NAME ∷ grammar.Formals ∷ grammar.Headers ∷ grammar.Block ∷ []) d ks (Made grammar.Rest)
+rest_begun plains.Async e = rest_plain (rest_plain_at_async _ e)
+rest_begun plains.Void e = rest_plain (rest_plain_at_void _ e)
+rest_begun plains.Int e = rest_plain (rest_plain_at_int _ e)
+rest_begun plains.Bool e = rest_plain (rest_plain_at_bool _ e)
+rest_begun plains.String e = rest_plain (rest_plain_at_string _ e)
+
+pub plain_read : {all d at : ℕ} {ks rest : List Kind} (c : ℕ) (w : PlainWord) → c ≡ plain_class w → Reads all (Terminal c) d ks rest (Leaf (sample c) at) → Reads all (Terminal (plain_class w)) d ks rest (word (plain_word w) at)
+plain_read {all} {d} {at} {ks} {rest} c w e r = subst (λ z. Reads all (Terminal (plain_class w)) d ks rest (Leaf z at)) (bare_word (plain_word w)) (subst (λ z. Reads all (Terminal z) d ks rest (Leaf (sample z) at)) e r)
+
+pub no_plain : (c : ℕ) → c ≢ plain_class plains.Async → c ≢ plain_class plains.Void → c ≢ plain_class plains.Int → c ≢ plain_class plains.Bool → c ≢ plain_class plains.String → (w : PlainWord) → c ≢ plain_class w
+no_plain c h1 h2 h3 h4 h5 plains.Async = h1
+no_plain c h1 h2 h3 h4 h5 plains.Void = h2
+no_plain c h1 h2 h3 h4 h5 plains.Int = h3
+no_plain c h1 h2 h3 h4 h5 plains.Bool = h4
+no_plain c h1 h2 h3 h4 h5 plains.String = h5
+
+pub plain_result : (r : ReturnType) → IsPlain r → Made grammar.Result (node_plain r ▸ End) ≡ node_result r
+plain_result (results.Async at) h = refl
+plain_result (results.Void at) h = refl
+plain_result (results.Value (types.Basic basic at)) h = refl
+plain_result (results.Value (types.Class class)) h = elim h [ ]
+
+plain_rest : (r : ReturnType) (x : Name) (f : FormalsTree) (hs : List HeaderTree) (b : BlockTree) → IsPlain r → Made grammar.Rest (node_plain r ▸ name x ▸ node_formals f ▸ node_headers hs ▸ node_block b ▸ End) ≡ node_rest r x f hs b
+plain_rest (results.Async at) x f hs b h = refl
+plain_rest (results.Void at) x f hs b h = refl
+plain_rest (results.Value (types.Basic basic at)) x f hs b h = refl
+plain_rest (results.Value (types.Class class)) x f hs b h = elim h [ ]
+
+-- a chord whose first header has a word as its result
+pub plain_chord : (first : HeaderTree) (hs : List HeaderTree) (b : BlockTree) → IsPlain first.result_type → IsFirst first hs → Made grammar.Rest (node_plain first.result_type ▸ name first.name ▸ node_formals first.formals ▸ headers_after hs ▸ node_block b ▸ End) ≡ node_rest_of (AChord hs b)
+plain_chord first [] b p h = elim h [ ]
+plain_chord first (x ∷ hs) b p h = plain_rest first.result_type first.name first.formals hs b p ∙ ap (λ z. node_rest z.result_type z.name z.formals hs b) (sym h)
+
+-- and one whose first header has a class
+pub class_chord : (first : HeaderTree) (class : Name) (hs : List HeaderTree) (b : BlockTree) → first.result_type ≡ results.Value (types.Class class) → IsFirst first hs → Made grammar.Rest (name class ▸ Made grammar.After (name first.name ▸ node_formals first.formals ▸ headers_after hs ▸ node_block b ▸ End) ▸ End) ≡ node_rest_of (AChord hs b)
+class_chord first class [] b p h = elim h [ ]
+class_chord first class (x ∷ hs) b p h = ap (λ r. node_rest r first.name first.formals hs b) (sym p) ∙ ap (λ z. node_rest z.result_type z.name z.formals hs b) (sym h)
+
+pub chord_headed : (first : HeaderTree) (hs : List HeaderTree) (b : BlockTree) (ms : List Modifier) → first.modifiers ≡ ms → IsFirst first hs → IsHeaded (AChord hs b) ms
+chord_headed first [] b ms e h = elim h [ ]
+chord_headed first (x ∷ hs) b ms e h = ap (λ z. z.modifiers) h ∙ e
+
+pub member_of : (m : MemberTree) (ms : List Modifier) → IsHeaded m ms → Made grammar.Member (node_modifiers ms ▸ node_rest_of m ▸ End) ≡ node_member m
+member_of (AConstructor k x f b) ms h = ap (λ z. Made grammar.Member (node_modifiers z ▸ node_rest_of (AConstructor k x f b) ▸ End)) (sym h)
+member_of (AChord [] b) ms h = elim h [ ]
+member_of (AChord (x ∷ hs) b) ms h = ap (λ z. Made grammar.Member (node_modifiers z ▸ node_rest_of (AChord (x ∷ hs) b) ▸ End)) (sym h)
+
+-- a program
+pub program_of : (us : List UsingTree) (first : ClassTree) (cs : List ClassTree) → IsFirst first cs → Made grammar.Program (node_usings us ▸ node_class first ▸ classes_after cs ▸ End) ≡ node_all_classes us cs
+program_of us first [] h = elim h [ ]
+program_of us first (c ∷ cs) h = ap (λ z. Made grammar.Program (node_usings us ▸ node_class z ▸ node_classes cs ▸ End)) (sym h)
+
+-- each of these has a token
+pub shorter_by : {all d : ℕ} {q : Part} {n : Node} (left rest : List Token) → Reads all q d (told left) (told rest) n → 0 < size n → length rest < length left
+shorter_by left rest h l = let a = measured h in let y = told_size left in let z = told_size rest in omega arith
+
+sized_rest : (r : ReturnType) (x : Name) (f : FormalsTree) (hs : List HeaderTree) (b : BlockTree) → 0 < size (node_rest r x f hs b)
+sized_rest (results.Async at) x f hs b = omega arith
+sized_rest (results.Void at) x f hs b = omega arith
+sized_rest (results.Value (types.Basic basic at)) x f hs b = omega arith
+sized_rest (results.Value (types.Class class)) x f hs b = omega arith
+
+pub sized_member : (m : MemberTree) → 0 < size (node_member m)
+sized_member (AConstructor ms x f b) = omega arith
+sized_member (AChord [] (MakeBlock is end)) = omega arith
+sized_member (AChord (h ∷ hs) b) = let k = sized_rest h.result_type h.name h.formals hs b in omega arith
+
+pub sized_class : (c : ClassTree) → 0 < size (node_class c)
+sized_class c = omega arith
+
+pub sized_using : (u : UsingTree) → 0 < size (node_using u)
+sized_using u = omega arith
+
+-- at the end of the tokens
+pub classes_end : (c : ℕ) → c ≡ 52 → choice (number_of grammar.Classes) c ≡ 3
+unfolding choice choices
+classes_end c e = ap (choice (number_of grammar.Classes)) e
+
+pub at_end_of : (ks : List Kind) → next ks ≡ 52 → ks ≡ []
+unfolding class_count
+at_end_of [] e = refl
+at_end_of (k ∷ ks) e = let h = small k in absurd (omega arith)

@@ -1,0 +1,14 @@
+use Rattle.std.proofs.Common.{length, ◌<◌, List, map}
+use Rattle.chord_tree.specs.Symbols as grammar
+use Rattle.chord_tree.specs.Program.{told}
+use Rattle.chord_tree.specs.View.{see_header, see_member, see_class, see_using}
+use Rattle.chord_parser.specs.Reading.{Continues}
+use Rattle.chord_parser.specs.Lists.{wrapped, wrapped_after, before_formals, IsFirst}
+use Rattle.chord_parser.proofs.ClassLists.{modifier_way, part_way, header_way, member_way, class_way, using_way}
+use Rattle.chord_parser.proofs.classes.formals_inside.Given as goal
+
+abbrev pub invariant-each : goal.invariant-each
+invariant-each l = Continues l.all grammar.Optional_formals 0 (told l.tokens) grammar.More_formals 0 (told l.left) (before_formals l.list.items) × (0 < length l.list.items)
+
+abbrev pub decreases-each : goal.decreases-each
+decreases-each l = length l.left

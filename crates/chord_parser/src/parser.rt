@@ -1,0 +1,71 @@
+//! From tokens to a program, or the exact token at which they are none.
+#![tactic(auto)]
+
+ghost use Rattle.std.specs.Prelude.{◌<◌, ◌^◌, ◌≡◌, ◌⊎◌, ℕ, IfOk, IfErr, MatchResult, length};
+ghost use Rattle.chord_tree.specs.Program.{IsProgram, spelling, told};
+ghost use Rattle.chord_tree.specs.Tree.{ProgramTree};
+ghost use Rattle.chord_tree.specs.View.{tree_of};
+ghost use Rattle.chord_parser.specs.Answers.{IsAnswer, IsLow, IsStop};
+ghost use Rattle.chord_parser.specs.declared.parser.ParseFault.TheVariants as faults;
+
+use crate::classes::program;
+use crate::faults::Fault;
+use chord_lexer::token::Token;
+use chord_tree::program::Program;
+use std::alloc::Global;
+
+/// Why tokens are no program.
+#[derive(Clone, Copy, Debug, PartialEq, Eq)]
+pub enum ParseFault {
+    /// No memory was found.
+    Memory,
+    /// The first token, by its number, that fits no program, or the number of tokens where they end too soon.
+    At(u32),
+    /// The first token, by its number, that is deeper than 200.
+    Tall(u32),
+}
+
+/// The program that the tokens spell, by their kinds alone.
+///
+/// `At(k)`: some program begins with the first k tokens, which are not too deep, and none with token k too; or these are all tokens, and no program.
+/// `Tall(k)`: some program begins with the tokens up to k, and k is the first that is too deep.
+pub fn parse(alloc: Global, tokens: &[Token]) -> Result<Program, ParseFault>
+    requires { length tokens.now < 2 ^ 32 }
+    ensures spelled { IfOk result (λ p. spelling (tree_of p) ≡ told tokens.now) }
+    ensures program { IfOk result (λ p. IsProgram (tree_of p)) }
+    ensures low { IfOk result (λ p. IsLow (tree_of p)) }
+    ensures fault { IfErr result (λ fault. IsAnswer (told tokens.now) fault) }
+    // where the tokens are those of a program, that is the one
+    ensures the_one {
+        (t : ProgramTree) → IsProgram t → spelling t ≡ told tokens.now → IfOk result (λ p. tree_of p ≡ t)
+    }
+    // and only memory may lack, if none of them is too deep
+    ensures found {
+        (t : ProgramTree) → IsProgram t → IsLow t → spelling t ≡ told tokens.now → IfErr result (λ fault. fault ≡ faults.Memory)
+    }
+    // where token k is the first that fits no program, or the first that is too deep, that is told
+    ensures at {
+        (k : ℕ) → IsAnswer (told tokens.now) (faults.At k) → MatchResult result (λ _. ⊥) (λ fault. (fault ≡ faults.Memory) ⊎ (fault ≡ faults.At k))
+    }
+    ensures tall {
+        (k : ℕ) → IsAnswer (told tokens.now) (faults.Tall k) → MatchResult result (λ _. ⊥) (λ fault. (fault ≡ faults.Memory) ⊎ (fault ≡ faults.Tall k))
+    }
+{
+    match program(alloc, tokens.len() as u32, tokens) {
+        Ok((usings, classes, _)) => Ok(Program::new(usings, classes)),
+        Err(fault) => Err(placed(tokens, fault)),
+    }
+}
+
+/// The fault by the number of its token.
+fn placed(tokens: &[Token], fault: Fault) -> ParseFault
+    requires short { length tokens.now < 2 ^ 32 }
+    requires stopped { IsStop (told tokens.now) fault }
+    ensures { IsAnswer (told tokens.now) result }
+{
+    match fault {
+        Fault::Memory => ParseFault::Memory,
+        Fault::At(left) => ParseFault::At((tokens.len() - left) as u32),
+        Fault::Tall(left) => ParseFault::Tall((tokens.len() - left) as u32),
+    }
+}

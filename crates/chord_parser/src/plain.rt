@@ -1,0 +1,17 @@
+//! The words that say a result.
+#![tactic(auto)]
+
+/// A word that stands in the place of a result.
+#[derive(Clone, Copy, Debug, PartialEq, Eq)]
+pub enum PlainWord {
+    /// `async`
+    Async,
+    /// `void`
+    Void,
+    /// `int`
+    Int,
+    /// `bool`
+    Bool,
+    /// `string`
+    String,
+}

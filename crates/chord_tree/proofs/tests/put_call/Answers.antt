@@ -1,0 +1,28 @@
+use Rattle.std.proofs.Common.{◌≡◌, refl, ap}
+use Rattle.chord_tree.specs.Tree.{FormalsTree, HeaderTree}
+use Rattle.chord_tree.specs.Example.{example}
+use Rattle.chord_tree.specs.Members.{node_program}
+use Rattle.chord_tree.specs.Grammar.{productions, rule_count, class_count, no_else, else_class}
+use Rattle.chord_tree.specs.Derivation.{head_of, parts_of, allowed}
+use Rattle.chord_tree.proofs.Checked.{derived}
+use Rattle.chord_tree.proofs.tests.put_call.Goals as goal
+
+pub primary-text-requires : goal.primary-text-requires
+unfolding productions rule_count class_count no_else else_class head_of parts_of allowed
+primary-text-requires c = rw (c.literal.ensures, c.new.ensures.items) (derived _ _ refl)
+
+pub new-actuals-requires : goal.new-actuals-requires
+unfolding productions rule_count class_count no_else else_class head_of parts_of allowed
+new-actuals-requires c = rw (c.in_ok-passed.ensures, c.primary-text.ensures, c.literal.ensures, c.new.ensures.items) (derived _ _ refl)
+
+pub new-dot-requires : goal.new-dot-requires
+unfolding productions rule_count class_count no_else else_class head_of parts_of allowed
+new-dot-requires c = rw (c.new-actuals.ensures, c.in_ok-passed.ensures, c.primary-text.ensures, c.literal.ensures, c.new.ensures.items) (derived _ _ refl)
+
+pub through-call-requires : goal.through-call-requires
+unfolding productions rule_count class_count no_else else_class head_of parts_of allowed
+through-call-requires c = rw (c.new-dot.ensures, c.new-actuals.ensures, c.in_ok-passed.ensures, c.primary-text.ensures, c.literal.ensures, c.new.ensures.items, c.new-2.ensures.items) (derived _ _ refl)
+
+pub plain-requires : goal.plain-requires
+unfolding productions rule_count class_count no_else else_class head_of parts_of allowed
+plain-requires c = rw (c.through-call.ensures, c.new-dot.ensures, c.new-actuals.ensures, c.in_ok-passed.ensures, c.primary-text.ensures, c.literal.ensures, c.new.ensures.items, c.new-2.ensures.items) (derived _ _ refl)

@@ -1,0 +1,78 @@
+-- An example: the tree of a buffer, whose `Get` waits for a `Put`, and of a program that uses it.
+use Rattle.std.specs.Prelude.{ℕ, List, [], ◌∷◌, Option, Some, None, codes}
+use Rattle.chord_tree.specs.declared.names.Name.{Name}
+use Rattle.chord_tree.specs.declared.names.BasicType.TheVariants as basics
+use Rattle.chord_tree.specs.declared.names.ValueType.TheVariants as types
+use Rattle.chord_tree.specs.declared.classes.ModifierWord.TheVariants as modifiers
+use Rattle.chord_tree.specs.declared.classes.ReturnType.TheVariants as results
+use Rattle.chord_tree.specs.Tree.{ExprTree, Simple, Variable, New, Literal, MakeActuals, NoExprs, MoreExprs, NoDots, MoreDots, MakeDot, CallsThrough, Gives, MakeBlock, NoItems, MoreItems, Declares, Does, ItemTree, HeaderTree, AChord, ClassTree, ProgramTree}
+
+abbrev named : List ℕ → ℕ → Name
+named bytes at = record { text = bytes; at = at }
+
+abbrev variable : List ℕ → ℕ → ExprTree
+variable bytes at = Simple (Variable (named bytes at)) NoDots
+
+-- public string Get()
+abbrev get_header : HeaderTree
+get_header = record {
+  modifiers = record { word = modifiers.Public; at = 3 } ∷ [];
+  result_type = results.Value (types.Basic basics.String 4);
+  name = named (codes "Get") 5;
+  formals = record { at = 6; all = [] };
+}
+
+-- & public async Put(string s)
+abbrev put_header : HeaderTree
+put_header = record {
+  modifiers = record { word = modifiers.Public; at = 9 } ∷ [];
+  result_type = results.Async 10;
+  name = named (codes "Put") 11;
+  formals = record { at = 12; all = record { value_type = types.Basic basics.String 13; name = named (codes "s") 14 } ∷ [] };
+}
+
+-- class Buffer { public string Get() & public async Put(string s) { return s; } }
+abbrev pub buffer_class : ClassTree
+buffer_class = record {
+  public_at = None;
+  name = named (codes "Buffer") 1;
+  base = None;
+  members = AChord (get_header ∷ put_header ∷ []) (MakeBlock (MoreItems (Does (Gives 17 (variable (codes "s") 18))) NoItems) 20) ∷ [];
+  end = 21;
+}
+
+-- static void Main()
+abbrev main_header : HeaderTree
+main_header = record {
+  modifiers = record { word = modifiers.Static; at = 25 } ∷ [];
+  result_type = results.Void 26;
+  name = named (codes "Main") 27;
+  formals = record { at = 28; all = [] };
+}
+
+-- b.Get()
+abbrev got : ExprTree
+got = Simple (Variable (named (codes "b") 50)) (MoreDots (MakeDot 51 (named (codes "Get") 52) (MakeActuals 53 NoExprs)) NoDots)
+
+-- b.Put("hi");
+abbrev pub put_item : ItemTree
+put_item = Does (CallsThrough (named (codes "b") 39) (MakeDot 40 (named (codes "Put") 41) (MakeActuals 42 (MoreExprs (Simple (Literal (codes "hi") 43) NoDots) NoExprs))) NoDots)
+
+-- Console.WriteLine(b.Get());
+abbrev pub print_item : ItemTree
+print_item = Does (CallsThrough (named (codes "Console") 46) (MakeDot 47 (named (codes "WriteLine") 48) (MakeActuals 49 (MoreExprs got NoExprs))) NoDots)
+
+-- class Program { static void Main() { Buffer b = new Buffer(); b.Put("hi"); Console.WriteLine(b.Get()); } }
+abbrev pub main_class : ClassTree
+main_class = record {
+  public_at = None;
+  name = named (codes "Program") 23;
+  base = None;
+  members = AChord (main_header ∷ []) (MakeBlock
+      (MoreItems (Declares (types.Class (named (codes "Buffer") 31)) (named (codes "b") 32) 33 (Simple (New 34 (named (codes "Buffer") 35) (MakeActuals 36 NoExprs)) NoDots))
+      (MoreItems put_item (MoreItems print_item NoItems))) 57) ∷ [];
+  end = 58;
+}
+
+abbrev pub example : ProgramTree
+example = record { usings = []; classes = buffer_class ∷ main_class ∷ [] }
