@@ -4,7 +4,8 @@ use Rattle.chord_lexer.specs.Reading.{Chain, IsRead, after_mark, more, none, tok
 use Rattle.chord_lexer.specs.declared.piece.Piece.{Piece}
 use Rattle.chord_lexer.specs.declared.piece.Piece.TheVariants as pieces
 use Rattle.chord_lexer.specs.declared.token.Token.{Token}
-use Rattle.chord_run.specs.Refusals.{start_of}
+use Rattle.chord_run.specs.Refusals.{IsTokenAt, IsWithin, start_of}
+use Rattle.chord_run.specs.Sources.{IsShort}
 
 -- each token begins at this byte or before it
 abbrev pub BeginWithin : ℕ → List Token → Type 0
@@ -40,3 +41,9 @@ pub token_within : (source : List ℕ) (tokens : List Token) (k : ℕ) → IsRea
 token_within source tokens k read =
     let b : BeginWithin (0 + length (after_mark source)) tokens = chain_within read in
     start_within (length (after_mark source)) tokens k (further_within (0 + length (after_mark source)) (length (after_mark source)) tokens (omega arith) b)
+
+-- the byte at which token k begins is one at which the tokens of a source may refuse it
+pub points_at_token : (source : List ℕ) (tokens : List Token) (k byte : ℕ) → IsShort source → IsRead source tokens → byte ≡ start_of tokens k (length (after_mark source)) → IsWithin source byte × IsTokenAt source k byte
+points_at_token source tokens k byte short read at =
+    let w = token_within source tokens k read in
+    (record { short = short; within = omega arith }, record { tokens = tokens; read = read; at = at })

@@ -4,32 +4,39 @@ use Rattle.chord_lexer.specs.Reading.{IsRead, IsRefused, after_mark}
 use Rattle.chord_lexer.specs.declared.token.Token.{Token}
 use Rattle.chord_lists.specs.declared.small.SmallLine.{SmallLine}
 use Rattle.chord_run.specs.Places.{place_of}
-use Rattle.chord_run.specs.SmallForm.{IsSmallForm, kinds_of}
-use Rattle.chord_run.specs.Sources.{IsShort}
+use Rattle.chord_parser.specs.Answers.{IsAnswer}
+use Rattle.chord_parser.specs.declared.parser.ParseFault.{ParseFault}
+use Rattle.chord_parser.specs.declared.parser.ParseFault.TheVariants as parser
+use Rattle.chord_run.specs.SmallForm.{IsSmallForm}
+use Rattle.chord_run.specs.Sources.{IsGrammatical, IsShort}
+use Rattle.chord_tree.specs.Program.{told}
 use Rattle.chord_run.specs.declared.front.FrontFault.{FrontFault}
 use Rattle.chord_run.specs.declared.front.FrontFault.TheVariants.{Memory, Refused}
 use Rattle.chord_run.specs.declared.place.Place.{Place}
 use Rattle.chord_run.specs.declared.refusal.Refusal.{Refusal}
 use Rattle.chord_run.specs.declared.refusal.Refusal.TheVariants.{Long, Bad, Syntax, Tall, Unbuilt}
 
--- a source of at most 1,048,576 bytes reads as tokens of which this holds
-pub record ReadsAs (source : List ℕ) (holds : List Token → Type 0) : Type 0 where
+-- a source of at most 1,048,576 bytes reads as tokens that the parser answers so
+pub record IsAnsweredBy (source : List ℕ) (fault : ParseFault) : Type 0 where
   pub short : IsShort source
   pub tokens : List Token
   pub read : IsRead source tokens
-  pub says : holds tokens
+  pub answer : IsAnswer (told tokens) fault
 
--- the tokens are of no small source
-abbrev pub IsNoSmall : List Token → Type 0
-IsNoSmall tokens = (lines : List SmallLine) → IsSmallForm (kinds_of tokens) lines → ⊥
+-- a source is grammatical, and its tokens are of no small source
+pub record IsUnbuilt (source : List ℕ) : Type 0 where
+  pub tokens : List Token
+  pub grammatical : IsGrammatical source tokens
+  pub other : (lines : List SmallLine) → IsSmallForm (told tokens) lines → ⊥
 
--- the cause of a refusal: too many bytes, a byte at which nothing begins, or a program that is not small
+-- the cause of a refusal: too many bytes; a byte at which nothing begins; a token with which no program goes on; a token that
+-- is too deep; a program that is not small
 abbrev pub IsCause : List ℕ → Refusal → Type 0
 IsCause source Long = 1048576 < length source
 IsCause source (Bad k) = IsShort source × IsRefused source k
-IsCause source (Syntax k) = ⊥
-IsCause source (Tall k) = ⊥
-IsCause source Unbuilt = ReadsAs source IsNoSmall
+IsCause source (Syntax k) = IsAnsweredBy source (parser.At k)
+IsCause source (Tall k) = IsAnsweredBy source (parser.Tall k)
+IsCause source Unbuilt = IsUnbuilt source
 
 -- the byte at which token k begins; where k is the number of tokens, the end of the text
 abbrev pub start_of : List Token → ℕ → ℕ → ℕ

@@ -5,18 +5,29 @@ use Rattle.chord_lexer.specs.Reading.{IsRead}
 use Rattle.chord_lexer.specs.declared.token.Token.{Token}
 use Rattle.chord_lists.specs.Small.{small_program}
 use Rattle.chord_lists.specs.declared.small.SmallLine.{SmallLine}
-use Rattle.chord_run.specs.SmallForm.{IsSmallForm, kinds_of}
+use Rattle.chord_parser.specs.Answers.{IsLow}
+use Rattle.chord_run.specs.SmallForm.{IsSmallForm}
+use Rattle.chord_tree.specs.Program.{IsProgram, spelling, told}
+use Rattle.chord_tree.specs.Tree.{ProgramTree}
 
 -- a source has at most 1,048,576 bytes, a leading mark included
 abbrev pub IsShort : List ℕ → Type 0
 IsShort source = length source ≤ 1048576
 
--- a source is small, with these lines: it reads as tokens of the small form
-pub record IsSmall (source : List ℕ) (lines : List SmallLine) : Type 0 where
+-- a source reads as these tokens, which a program spells that has no token deeper than 200
+pub record IsGrammatical (source : List ℕ) (tokens : List Token) : Type 0 where
   pub short : IsShort source
-  pub tokens : List Token
   pub read : IsRead source tokens
-  pub small : IsSmallForm (kinds_of tokens) lines
+  pub program : ProgramTree
+  pub is_program : IsProgram program
+  pub low : IsLow program
+  pub spelled : spelling program ≡ told tokens
+
+-- a source is small, with these lines: it is grammatical, and its tokens, as kinds, are the small form's
+pub record IsSmall (source : List ℕ) (lines : List SmallLine) : Type 0 where
+  pub tokens : List Token
+  pub grammatical : IsGrammatical source tokens
+  pub small : IsSmallForm (told tokens) lines
 
 -- the join machine of a source: what the program of its lines means
 abbrev pub IsMachine : List ℕ → Program → Type 0

@@ -1,14 +1,17 @@
 //! From the bytes of a source to its lines, or to the cause of its refusal.
 #![tactic(auto)]
 
-ghost use Rattle.std.specs.Prelude.{IfErr, IfOk};
-ghost use Rattle.chord_run.specs.Refusals.{IsFrontFault};
+ghost use Rattle.std.specs.Prelude.{◌≡◌, ◌≤◌, IfErr, IfOk, length};
+ghost use Rattle.chord_lexer.specs.Reading.{IsRead, after_mark};
+ghost use Rattle.chord_run.specs.Refusals.{IsFrontFault, start_of};
 ghost use Rattle.chord_run.specs.Sources.{IsShort, IsSmall};
 
 use crate::refusal::Refusal;
 use crate::small::small_of;
-use chord_lexer::lexer::{LexFault, lex};
+use chord_lexer::lexer::{LexFault, lex, unmarked};
+use chord_lexer::token::Token;
 use chord_lists::small::Small;
+use chord_parser::parser::{ParseFault, parse};
 use std::alloc::Global;
 
 /// Why a source has no lines.
@@ -27,12 +30,43 @@ pub fn small_source(alloc: Global, source: &[u8]) -> Result<Small, FrontFault>
     ensures fault { IfErr result (λ fault. IsFrontFault source.now fault) }
 {
     match lex(alloc, source) {
-        Ok(tokens) => match small_of(alloc, &tokens) {
+        Ok(tokens) => small_program(alloc, source, &tokens),
+        Err(LexFault::Memory) => Err(FrontFault::Memory),
+        Err(LexFault::Bad(k)) => Err(FrontFault::Refused(Refusal::Bad(k), k)),
+    }
+}
+
+/// The lines of a small source that reads as these tokens.
+fn small_program(alloc: Global, source: &[u8], tokens: &[Token]) -> Result<Small, FrontFault>
+    requires short { IsShort source.now }
+    requires read { IsRead source.now tokens.now }
+    requires few { length tokens.now ≤ 1048576 }
+    ensures small { IfOk result (λ small. IsSmall source.now small) }
+    ensures fault { IfErr result (λ fault. IsFrontFault source.now fault) }
+{
+    match parse(alloc, tokens) {
+        Ok(_program) => match small_of(alloc, tokens) {
             Ok(Some(small)) => Ok(small),
             Ok(None) => Err(FrontFault::Refused(Refusal::Unbuilt, 0)),
             Err(_) => Err(FrontFault::Memory),
         },
-        Err(LexFault::Memory) => Err(FrontFault::Memory),
-        Err(LexFault::Bad(k)) => Err(FrontFault::Refused(Refusal::Bad(k), k)),
+        Err(ParseFault::Memory) => Err(FrontFault::Memory),
+        Err(ParseFault::At(k)) => {
+            Err(FrontFault::Refused(Refusal::Syntax(k), start_byte(source, tokens, k)))
+        }
+        Err(ParseFault::Tall(k)) => {
+            Err(FrontFault::Refused(Refusal::Tall(k), start_byte(source, tokens, k)))
+        }
+    }
+}
+
+/// The byte at which token `k` begins, or the end of the text.
+fn start_byte(source: &[u8], tokens: &[Token], k: u32) -> u32
+    requires { IsShort source.now }
+    ensures { result ≡ start_of tokens.now k (length (after_mark source.now)) }
+{
+    match tokens.get(k as usize) {
+        Some(token) => token.start,
+        None => unmarked(source).len() as u32,
     }
 }

@@ -54,9 +54,7 @@ fn pointing_line(
     byte: u32,
 ) -> Result<Vec<u8>, AllocError>
     requires { IsWithin source.now byte }
-    ensures {
-        IfOk result (λ line. line.items ≡ with_place front.now (place_of (after_mark source.now) byte))
-    }
+    ensures { IfOk result (λ line. line.items ≡ with_place front.now (place_of (after_mark source.now) byte)) }
 {
     let place = place_at(unmarked(source), byte as usize);
     placed_line(alloc, front, place)

@@ -208,12 +208,36 @@ struct Refused {
     refusal: Refusal,
 }
 
-const REFUSED: [Refused; 5] = [
+const REFUSED: [Refused; 9] = [
     Refused {
         name: "empty input",
         source: "",
-        written: "refused unbuilt\n",
-        refusal: Refusal::Unbuilt,
+        written: "refused syntax 1:1\n",
+        refusal: Refusal::Syntax(0),
+    },
+    Refused {
+        name: "an open class",
+        source: "class P {",
+        written: "refused syntax 1:10\n",
+        refusal: Refusal::Syntax(3),
+    },
+    Refused {
+        name: "a brace too many",
+        source: "class P { } }",
+        written: "refused syntax 1:13\n",
+        refusal: Refusal::Syntax(4),
+    },
+    Refused {
+        name: "a byte goes before the syntax",
+        source: "class P { } } #",
+        written: "refused byte 1:15\n",
+        refusal: Refusal::Bad(14),
+    },
+    Refused {
+        name: "tall",
+        source: "class P { static void Main() { Console.WriteLine((((((((((((((((((((((((((((((((((((((((((((((((((((((((((((((((((((((((((((((((((((((((((((((((((((1)))))))))))))))))))))))))))))))))))))))))))))))))))))))))))))))))))))))))))))))))))))))))))))))))))); } }",
+        written: "refused tall 1:149\n",
+        refusal: Refusal::Tall(112),
     },
     Refused {
         name: "byte",
