@@ -259,9 +259,10 @@ def samples(g):
 
 
 def classes(g):
-    o = ["//! The numbers of the classes of tokens, and the number that stands for the end of the text. " + MADE, ""]
-    o += [f"pub const {name}: u8 = {i};" for i, name in enumerate(g.classes)]
-    return o + [f"pub const END: u8 = {g.end};"]
+    o = ["//! The numbers of the classes of tokens, and the number that stands for the end of the text. " + MADE]
+    for i, name in enumerate(g.classes + ["END"]):
+        o += ["", f"pub const {name}: u8 = {i};"]
+    return o
 
 
 def main():

@@ -208,7 +208,6 @@ pub opt_all : (xs : List Expr) → 0 < length xs → before_opt (map see_expr xs
 opt_all [] h = absurd (omega arith)
 opt_all (x ∷ xs) h = ap (λ z. Made grammar.Optional_exprs (node_at 6 (see_expr x) ▸ z ▸ End)) (more_all (map see_expr xs))
 
-
 -- the operators of kinds of tokens
 operator_back : (o : Operator) → operator_at (kinds.Mark (mark_of o)) ≡ Some o
 operator_back operators.Or = refl

@@ -94,7 +94,7 @@ not_both ks n m o p =
     let y = kinds_length p.front in
     let front : List Spelled = p.front ++ ((p.kind, p.depth) ∷ []) in
     let q : kinds_of (p.front ++ ((p.kind, p.depth) ∷ p.rest)) ≡ kinds_of front ++ kinds_of p.rest =
-        ap kinds_of (sym (append_assoc p.front ((p.kind, p.depth) ∷ []) p.rest)) ∙ kinds_append front p.rest in
+    ap kinds_of (sym (append_assoc p.front ((p.kind, p.depth) ∷ []) p.rest)) ∙ kinds_append front p.rest in
     let e : ks ≡ kinds_of front ++ p.back = p.cut ∙ sym (append_assoc (kinds_of p.front) (p.kind ∷ []) p.back) ∙ ap (λ z. z ++ p.back) (sym (kinds_append p.front ((p.kind, p.depth) ∷ []))) in
     let z : length (kinds_of front) ≡ length p.front + 1 = ap length (kinds_append p.front ((p.kind, p.depth) ∷ [])) ∙ length-append (kinds_of p.front) (p.kind ∷ []) ∙ ap (λ v. v + 1) y in
     let c : length o.front < length p.front + 1 → ⊥ = λ l. o.refuses (p.front ++ ((p.kind, p.depth) ∷ p.rest)) (no_fewer ks n o front p.rest p.back e (p.front ++ ((p.kind, p.depth) ∷ p.rest)) q (omega arith)) p.opens in

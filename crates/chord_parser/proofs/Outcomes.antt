@@ -28,12 +28,27 @@ refused c d k s fs n f ((j, e) ∷ w) b r = f w b.1 (behind r)
 took : (c d : ℕ) (k : Kind) (s : List Want) (ks : List Kind) (v : Verdict) → class_of k ≡ c → d ≤ 200 → Outcome s ks v → Outcome ((Terminal c, d) ∷ s) (k ∷ ks) v
 took c d k s ks Fine e l o = record { text = (k, d) ∷ o.text; same = ap (λ x. k ∷ x) o.same; low = (l, o.low); derived = word e o.derived }
 took c d k s ks (Wrong n) e l o = record {
-    front = (k, d) ∷ o.front; rest = o.rest; back = o.back;
-    cut = ap (λ x. k ∷ x) o.cut; count = o.count; low = (l, o.low); opens = word e o.opens;
-    refuses = refused c d k s (kinds_of o.front) (next o.back) o.refuses }
+  front = (k, d) ∷ o.front;
+  rest = o.rest;
+  back = o.back;
+  cut = ap (λ x. k ∷ x) o.cut;
+  count = o.count;
+  low = (l, o.low);
+  opens = word e o.opens;
+  refuses = refused c d k s (kinds_of o.front) (next o.back) o.refuses;
+}
 took c d k s ks (High n) e l o = record {
-    front = (k, d) ∷ o.front; kind = o.kind; depth = o.depth; rest = o.rest; back = o.back;
-    cut = ap (λ x. k ∷ x) o.cut; count = o.count; low = (l, o.low); deep = o.deep; opens = word e o.opens }
+  front = (k, d) ∷ o.front;
+  kind = o.kind;
+  depth = o.depth;
+  rest = o.rest;
+  back = o.back;
+  cut = ap (λ x. k ∷ x) o.cut;
+  count = o.count;
+  low = (l, o.low);
+  deep = o.deep;
+  opens = word e o.opens;
+}
 
 -- the want is a symbol, and its rule is the choice
 low_choice : (x c : ℕ) (d : ℕ) (s : List Want) → tame ((Symbol x, d) ∷ s) ≡ true → c < suc class_count → choice x c < rule_count → (head_of (choice x c) ≡ x) × (allowed (choice x c) c ≡ true)
@@ -78,21 +93,42 @@ module _ (x d : ℕ) (s : List Want) (t : tame ((Symbol x, d) ∷ s) ≡ true) (
       let whole = finished ((Symbol x, d) ∷ s) t in
       record { front = []; rest = whole.0; back = back; cut = cut; count = count; low = low; opens = whole.1; refuses = refuses_too ks [] back cut f }
   wrong_too ks n l ((k, g) ∷ front) rest back cut count low opens f =
-      record { front = (k, g) ∷ front; rest = rest; back = back; cut = cut; count = count; low = low;
+      record {
+        front = (k, g) ∷ front;
+        rest = rest;
+        back = back;
+        cut = cut;
+        count = count;
+        low = low;
         opens = reopened x d s t legal (next ks) (next_small ks) l ((k, g) ∷ front) rest (λ e. cc) (sym (ap next cut)) opens;
-        refuses = refuses_too ks (k ∷ kinds_of front) back cut f }
+        refuses = refuses_too ks (k ∷ kinds_of front) back cut f;
+      }
 
   expanded : (ks : List Kind) (v : Verdict) → choice x (next ks) < rule_count → Outcome (placed (inside x d) (parts_of (choice x (next ks))) ++ s) ks v → Outcome ((Symbol x, d) ∷ s) ks v
   expanded ks Fine l o =
       let h = low_choice x (next ks) d s t (next_small ks) l in
-      record { text = o.text; same = o.same; low = o.low;
-        derived = rule (choice x (next ks)) l h.0 (subst (λ y. allowed (choice x (next ks)) y ≡ true) (sym (ap next o.same)) h.1) o.derived }
+      record {
+        text = o.text;
+        same = o.same;
+        low = o.low;
+        derived = rule (choice x (next ks)) l h.0 (subst (λ y. allowed (choice x (next ks)) y ≡ true) (sym (ap next o.same)) h.1) o.derived;
+      }
   expanded ks (Wrong n) l o = wrong_too ks n l o.front o.rest o.back o.cut o.count o.low o.opens o.refuses
   expanded ks (High n) l o =
       let h = low_choice x (next ks) d s t (next_small ks) l in
       let same : next (kinds_of (o.front ++ ((o.kind, o.depth) ∷ o.rest))) ≡ next ks = first_same o.front o.kind o.depth o.rest o.back ∙ sym (ap next o.cut) in
-      record { front = o.front; kind = o.kind; depth = o.depth; rest = o.rest; back = o.back; cut = o.cut; count = o.count; low = o.low; deep = o.deep;
-        opens = rule (choice x (next ks)) l h.0 (subst (λ y. allowed (choice x (next ks)) y ≡ true) (sym same) h.1) o.opens }
+      record {
+        front = o.front;
+        kind = o.kind;
+        depth = o.depth;
+        rest = o.rest;
+        back = o.back;
+        cut = o.cut;
+        count = o.count;
+        low = o.low;
+        deep = o.deep;
+        opens = rule (choice x (next ks)) l h.0 (subst (λ y. allowed (choice x (next ks)) y ≡ true) (sym same) h.1) o.opens;
+      }
 
 word_first : {c d : ℕ} {s : List Want} {w : List Spelled} → Derives ((Terminal c, d) ∷ s) w → next (kinds_of w) ≡ c
 word_first (word e r) = e
@@ -113,5 +149,13 @@ outcome (expand {x} {d} {s} {ks} {v} h r) t l =
     expanded x d s t l ks v h (outcome r (tame_placed (inside x d) (parts_of (choice x (next ks))) s (rule_tame (choice x (next ks)) h) (and_right (nat_lt x symbol_count) _ t)) (legal_rule x d (choice x (next ks)) s l h c.0))
 outcome (stuck {x} {d} {s} {ks} h) t l =
     let f = finished ((Symbol x, d) ∷ s) t in
-    record { front = []; rest = f.0; back = ks; cut = refl; count = refl; low = tt; opens = f.1;
-      refuses = λ w b r. let g = (chose x d s t l w r).0 in let m : choice x (next ks) < rule_count = subst (λ y. choice x y < rule_count) b g in omega arith }
+    record {
+      front = [];
+      rest = f.0;
+      back = ks;
+      cut = refl;
+      count = refl;
+      low = tt;
+      opens = f.1;
+      refuses = λ w b r. let g = (chose x d s t l w r).0 in let m : choice x (next ks) < rule_count = subst (λ y. choice x y < rule_count) b g in omega arith;
+    }

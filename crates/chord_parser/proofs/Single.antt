@@ -25,12 +25,10 @@ told_length [] = refl
 told_length (t ∷ ts) = ap suc (told_length ts)
 
 pub bare_word : (w : Keyword) → sample (number_of (word_part w)) ≡ kinds.Word w
-
 bare_word words.Using = refl
 bare_word _ = refl
 
 pub bare_mark : (m : Mark) → sample (number_of (mark_part m)) ≡ kinds.Mark m
-
 bare_mark marks.Semicolon = refl
 bare_mark _ = refl
 

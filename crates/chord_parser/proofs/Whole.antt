@@ -60,7 +60,8 @@ found all ts rest t e h r =
     record {
       program = record { derived = fits r' refl [] refl; numbered = subst (λ z. IsNumbered (node_program t) z) k (numbered r' l) };
       spelled = spells r' [] refl;
-      low = low r' [] tt }
+      low = low r' [] tt;
+    }
 
 pub at_parts : (ts : List Token) (f : Fault) (n : ℕ) → f ≡ faults.At n → IsStop (told ts) f → (n ≤ length ts) × (x : ℕ) × (length ts - n + x ≡ length (told ts)) × IsWrong start (told ts) x
 at_parts ts f n e h = let s = subst (λ z. IsStop (told ts) z) e h in let y = told_size ts in let l = s.0 in (omega arith, n, omega arith, s.1)

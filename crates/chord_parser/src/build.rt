@@ -42,7 +42,11 @@ pub fn make_primary(start: Start, calls: Vec<Dot>) -> Expr
 pub fn make_link(operator: Operator, at: u32, operand: Expr) -> Link
     ensures { see_link result ≡ MakeLink operator at (see_expr operand) }
 {
-    Link { operator, at, operand }
+    Link {
+        operator,
+        at,
+        operand,
+    }
 }
 
 pub fn make_actuals(at: u32, all: Vec<Expr>) -> Actuals
@@ -121,7 +125,12 @@ pub fn make_block(all: Vec<Item>, end: u32) -> Block
 pub fn make_local(value_type: ValueType, name: Name, assign: u32, value: Expr) -> Item
     ensures { see_item result ≡ Declares value_type name assign (see_expr value) }
 {
-    Item::Local { value_type, name, assign, value }
+    Item::Local {
+        value_type,
+        name,
+        assign,
+        value,
+    }
 }
 
 pub fn make_plain(stmt: Stmt) -> Item
@@ -133,13 +142,21 @@ pub fn make_plain(stmt: Stmt) -> Item
 pub fn make_assign(name: Name, assign: u32, value: Expr) -> Stmt
     ensures { see_stmt result ≡ Assigns name assign (see_expr value) }
 {
-    Stmt::Assign { name, assign, value }
+    Stmt::Assign {
+        name,
+        assign,
+        value,
+    }
 }
 
 pub fn make_call(name: Name, actuals: Actuals, calls: Vec<Dot>) -> Stmt
     ensures { see_stmt result ≡ Calls name (see_actuals actuals) (dots (map see_dot calls.items)) }
 {
-    Stmt::Call { name, actuals, calls }
+    Stmt::Call {
+        name,
+        actuals,
+        calls,
+    }
 }
 
 pub fn make_through(name: Name, first: Dot, calls: Vec<Dot>) -> Stmt
@@ -157,7 +174,12 @@ pub fn make_this_stmt(at: u32, first: Dot, calls: Vec<Dot>) -> Stmt
 pub fn make_new_stmt(at: u32, name: Name, actuals: Actuals, calls: Vec<Dot>) -> Stmt
     ensures { see_stmt result ≡ Makes at name (see_actuals actuals) (dots (map see_dot calls.items)) }
 {
-    Stmt::New { at, name, actuals, calls }
+    Stmt::New {
+        at,
+        name,
+        actuals,
+        calls,
+    }
 }
 
 pub fn make_braces(block: Block) -> Stmt
@@ -172,26 +194,61 @@ pub fn make_empty() -> Stmt
     Stmt::Empty
 }
 
-pub fn make_if(alloc: Global, at: u32, bracket: u32, test: Expr, first: Stmt) -> Result<Stmt, AllocError>
+pub fn make_if(
+    alloc: Global,
+    at: u32,
+    bracket: u32,
+    test: Expr,
+    first: Stmt,
+) -> Result<Stmt, AllocError>
     ensures { IfOk result (λ s. see_stmt s ≡ IfThen at bracket (see_expr test) (see_stmt first)) }
 {
     let first = Box::new(alloc, first)?;
-    Ok(Stmt::If { at, bracket, test, first })
+    Ok(Stmt::If {
+        at,
+        bracket,
+        test,
+        first,
+    })
 }
 
-pub fn make_if_else(alloc: Global, at: u32, bracket: u32, test: Expr, first: Stmt, second: Stmt) -> Result<Stmt, AllocError>
+pub fn make_if_else(
+    alloc: Global,
+    at: u32,
+    bracket: u32,
+    test: Expr,
+    first: Stmt,
+    second: Stmt,
+) -> Result<Stmt, AllocError>
     ensures { IfOk result (λ s. see_stmt s ≡ IfElse at bracket (see_expr test) (see_stmt first) (see_stmt second)) }
 {
     let first = Box::new(alloc, first)?;
     let second = Box::new(alloc, second)?;
-    Ok(Stmt::IfElse { at, bracket, test, first, second })
+    Ok(Stmt::IfElse {
+        at,
+        bracket,
+        test,
+        first,
+        second,
+    })
 }
 
-pub fn make_while(alloc: Global, at: u32, bracket: u32, test: Expr, body: Stmt) -> Result<Stmt, AllocError>
+pub fn make_while(
+    alloc: Global,
+    at: u32,
+    bracket: u32,
+    test: Expr,
+    body: Stmt,
+) -> Result<Stmt, AllocError>
     ensures { IfOk result (λ s. see_stmt s ≡ Repeats at bracket (see_expr test) (see_stmt body)) }
 {
     let body = Box::new(alloc, body)?;
-    Ok(Stmt::While { at, bracket, test, body })
+    Ok(Stmt::While {
+        at,
+        bracket,
+        test,
+        body,
+    })
 }
 
 pub fn make_return(at: u32) -> Stmt

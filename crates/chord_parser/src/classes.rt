@@ -18,11 +18,17 @@ use crate::stmts::block;
 use crate::tokens::{name_of, next, skip, take};
 use crate::words::{modifier, modifier_next, plain, plain_next};
 use chord_lexer::token::Token;
-use chord_tree::classes::{Class, Formal, Formals, Header, Member, Modifier, NamePart, ReturnType, Using};
+use chord_tree::classes::{
+    Class, Formal, Formals, Header, Member, Modifier, NamePart, ReturnType, Using,
+};
 use chord_tree::names::{BasicType, Name, ValueType};
 use std::alloc::Global;
 
-fn modifiers_of(alloc: Global, all: u32, tokens: &[Token]) -> Result<(Vec<Modifier>, &[Token]), Fault>
+fn modifiers_of(
+    alloc: Global,
+    all: u32,
+    tokens: &[Token],
+) -> Result<(Vec<Modifier>, &[Token]), Fault>
     ensures ok { IfOk result (λ r. Reads all grammar.Modifiers 0 (told tokens.now) (told r.1.now) (node_modifiers r.0.items)) }
     ensures err { IfErr result (λ fault. StopsAs grammar.Modifiers 0 (told tokens.now) fault) }
 {
@@ -43,15 +49,33 @@ fn value_type(alloc: Global, all: u32, tokens: &[Token]) -> Result<(ValueType, &
     let c = next(tokens);
     if c == class::INT {
         let (at, rest) = take(all, tokens, class::INT, 0)?;
-        return Ok((ValueType::Basic { basic: BasicType::Int, at }, rest));
+        return Ok((
+            ValueType::Basic {
+                basic: BasicType::Int,
+                at,
+            },
+            rest,
+        ));
     }
     if c == class::BOOL {
         let (at, rest) = take(all, tokens, class::BOOL, 0)?;
-        return Ok((ValueType::Basic { basic: BasicType::Bool, at }, rest));
+        return Ok((
+            ValueType::Basic {
+                basic: BasicType::Bool,
+                at,
+            },
+            rest,
+        ));
     }
     if c == class::STRING {
         let (at, rest) = take(all, tokens, class::STRING, 0)?;
-        return Ok((ValueType::Basic { basic: BasicType::String, at }, rest));
+        return Ok((
+            ValueType::Basic {
+                basic: BasicType::String,
+                at,
+            },
+            rest,
+        ));
     }
     if c == class::NAME {
         let (name, rest) = name_of(alloc, all, tokens, 0)?;
@@ -66,10 +90,20 @@ fn formal(alloc: Global, all: u32, tokens: &[Token]) -> Result<(Formal, &[Token]
 {
     let (kind, rest) = value_type(alloc, all, tokens)?;
     let (name, rest) = name_of(alloc, all, rest, 0)?;
-    Ok((Formal { value_type: kind, name }, rest))
+    Ok((
+        Formal {
+            value_type: kind,
+            name,
+        },
+        rest,
+    ))
 }
 
-fn formals_inside(alloc: Global, all: u32, tokens: &[Token]) -> Result<(Vec<Formal>, &[Token]), Fault>
+fn formals_inside(
+    alloc: Global,
+    all: u32,
+    tokens: &[Token],
+) -> Result<(Vec<Formal>, &[Token]), Fault>
     ensures ok { IfOk result (λ r. Reads all grammar.Optional_formals 0 (told tokens.now) (told r.1.now) (node_formal_list r.0.items)) }
     ensures err { IfErr result (λ fault. StopsAs grammar.Optional_formals 0 (told tokens.now) fault) }
 {
@@ -121,11 +155,24 @@ fn header(alloc: Global, all: u32, tokens: &[Token]) -> Result<(Header, &[Token]
     let (kind, rest) = result_type(alloc, all, rest)?;
     let (name, rest) = name_of(alloc, all, rest, 0)?;
     let (list, rest) = formals(alloc, all, rest)?;
-    Ok((Header { modifiers, result_type: kind, name, formals: list }, rest))
+    Ok((
+        Header {
+            modifiers,
+            result_type: kind,
+            name,
+            formals: list,
+        },
+        rest,
+    ))
 }
 
 /// The headers after the first, which is put before them.
-fn headers_of(alloc: Global, all: u32, tokens: &[Token], first: Header) -> Result<(Vec<Header>, &[Token]), Fault>
+fn headers_of(
+    alloc: Global,
+    all: u32,
+    tokens: &[Token],
+    first: Header,
+) -> Result<(Vec<Header>, &[Token]), Fault>
     ensures ok { IfOk result (λ r. Reads all grammar.Headers 0 (told tokens.now) (told r.1.now) (headers_after (map see_header r.0.items))) }
     ensures err { IfErr result (λ fault. StopsAs grammar.Headers 0 (told tokens.now) fault) }
     ensures first { IfOk result (λ r. IsFirst (see_header first) (map see_header r.0.items)) }
@@ -143,7 +190,12 @@ fn headers_of(alloc: Global, all: u32, tokens: &[Token], first: Header) -> Resul
 }
 
 /// What follows the modifiers of a member and a name.
-fn after_name(alloc: Global, all: u32, tokens: &[Token], modifiers: Vec<Modifier>) -> Result<(Member, &[Token]), Fault>
+fn after_name(
+    alloc: Global,
+    all: u32,
+    tokens: &[Token],
+    modifiers: Vec<Modifier>,
+) -> Result<(Member, &[Token]), Fault>
     requires first { next (told tokens.now) ≡ number_of grammar.NAME }
     ensures ok { IfOk result (λ r. Reads all grammar.Rest 0 (told tokens.now) (told r.1.now) (node_rest_of (see_member r.0))) }
     ensures err { IfErr result (λ fault. StopsAs grammar.Rest 0 (told tokens.now) fault) }
@@ -154,7 +206,15 @@ fn after_name(alloc: Global, all: u32, tokens: &[Token], modifiers: Vec<Modifier
     if c == class::OPEN {
         let (list, rest) = formals(alloc, all, rest)?;
         let (body, rest) = block(alloc, all, rest, 0)?;
-        return Ok((Member::Constructor { modifiers, name: first, formals: list, body }, rest));
+        return Ok((
+            Member::Constructor {
+                modifiers,
+                name: first,
+                formals: list,
+                body,
+            },
+            rest,
+        ));
     }
     if c == class::NAME {
         let (name, rest) = name_of(alloc, all, rest, 0)?;
@@ -173,7 +233,12 @@ fn after_name(alloc: Global, all: u32, tokens: &[Token], modifiers: Vec<Modifier
 }
 
 /// What follows the modifiers of a member.
-fn rest_of(alloc: Global, all: u32, tokens: &[Token], modifiers: Vec<Modifier>) -> Result<(Member, &[Token]), Fault>
+fn rest_of(
+    alloc: Global,
+    all: u32,
+    tokens: &[Token],
+    modifiers: Vec<Modifier>,
+) -> Result<(Member, &[Token]), Fault>
     ensures ok { IfOk result (λ r. Reads all grammar.Rest 0 (told tokens.now) (told r.1.now) (node_rest_of (see_member r.0))) }
     ensures err { IfErr result (λ fault. StopsAs grammar.Rest 0 (told tokens.now) fault) }
     ensures headed { IfOk result (λ r. IsHeaded (see_member r.0) modifiers.items) }
@@ -187,7 +252,12 @@ fn rest_of(alloc: Global, all: u32, tokens: &[Token], modifiers: Vec<Modifier>) 
     let (kind, rest) = plain(all, tokens, word)?;
     let (name, rest) = name_of(alloc, all, rest, 0)?;
     let (list, rest) = formals(alloc, all, rest)?;
-    let one = Header { modifiers, result_type: kind, name, formals: list };
+    let one = Header {
+        modifiers,
+        result_type: kind,
+        name,
+        formals: list,
+    };
     let (headers, rest) = headers_of(alloc, all, rest, one)?;
     let (body, rest) = block(alloc, all, rest, 0)?;
     Ok((Member::Chord { headers, body }, rest))
@@ -250,11 +320,25 @@ fn class_of(alloc: Global, all: u32, tokens: &[Token]) -> Result<(Class, &[Token
     let rest = skip(all, rest, class::OPEN_BRACE, 0)?;
     let (members, rest) = members_of(alloc, all, rest)?;
     let (end, rest) = take(all, rest, class::CLOSE_BRACE, 0)?;
-    Ok((Class { public, name, base, members, end }, rest))
+    Ok((
+        Class {
+            public,
+            name,
+            base,
+            members,
+            end,
+        },
+        rest,
+    ))
 }
 
 /// The classes after the first, which is put before them: all tokens are read.
-fn classes_of(alloc: Global, all: u32, tokens: &[Token], first: Class) -> Result<(Vec<Class>, &[Token]), Fault>
+fn classes_of(
+    alloc: Global,
+    all: u32,
+    tokens: &[Token],
+    first: Class,
+) -> Result<(Vec<Class>, &[Token]), Fault>
     ensures ok { IfOk result (λ r. Reads all grammar.Classes 0 (told tokens.now) (told r.1.now) (classes_after (map see_class r.0.items))) }
     ensures err { IfErr result (λ fault. StopsAs grammar.Classes 0 (told tokens.now) fault) }
     ensures first { IfOk result (λ r. IsFirst (see_class first) (map see_class r.0.items)) }
@@ -312,7 +396,11 @@ fn usings_of(alloc: Global, all: u32, tokens: &[Token]) -> Result<(Vec<Using>, &
 }
 
 /// The lines and the classes of a program: all tokens are read.
-pub fn program(alloc: Global, all: u32, tokens: &[Token]) -> Result<(Vec<Using>, Vec<Class>, &[Token]), Fault>
+pub fn program(
+    alloc: Global,
+    all: u32,
+    tokens: &[Token],
+) -> Result<(Vec<Using>, Vec<Class>, &[Token]), Fault>
     ensures ok { IfOk result (λ r. Reads all grammar.Program 0 (told tokens.now) (told r.2.now) (node_all_classes (map see_using r.0.items) (map see_class r.1.items))) }
     ensures err { IfErr result (λ fault. StopsAs grammar.Program 0 (told tokens.now) fault) }
     ensures end { IfOk result (λ r. told r.2.now ≡ []) }

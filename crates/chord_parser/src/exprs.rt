@@ -14,8 +14,9 @@ ghost use Rattle.chord_parser.specs.Reading.{StopsAs, IsLed, IsOther, operator_a
 ghost use Rattle.chord_parser.specs.Runs.{Reads};
 
 use crate::build::{
-    make_actuals, make_called, make_chain, make_dot, make_false, make_group, make_link, make_literal,
-    make_minus, make_new, make_not, make_number, make_primary, make_this, make_true, make_variable,
+    make_actuals, make_called, make_chain, make_dot, make_false, make_group, make_link,
+    make_literal, make_minus, make_new, make_not, make_number, make_primary, make_this, make_true,
+    make_variable,
 };
 use crate::class;
 use crate::faults::Fault;
@@ -128,7 +129,12 @@ fn joined(alloc: Global, first: Expr, more: Vec<Link>, l: u8) -> Result<Expr, Al
 }
 
 #[cycle(parser)]
-pub fn expr(alloc: Global, all: u32, tokens: &[Token], depth: u32) -> Result<(Expr, &[Token]), Fault>
+pub fn expr(
+    alloc: Global,
+    all: u32,
+    tokens: &[Token],
+    depth: u32,
+) -> Result<(Expr, &[Token]), Fault>
     requires depth { depth ≤ 200 }
     ensures ok { IfOk result (λ r. Reads all grammar.Expr depth (told tokens.now) (told r.1.now) (node_at 6 (see_expr r.0))) }
     ensures err { IfErr result (λ fault. StopsAs grammar.Expr depth (told tokens.now) fault) }
@@ -140,7 +146,13 @@ pub fn expr(alloc: Global, all: u32, tokens: &[Token], depth: u32) -> Result<(Ex
 }
 
 #[cycle(parser)]
-fn chain(alloc: Global, all: u32, tokens: &[Token], depth: u32, l: u8) -> Result<(Expr, &[Token]), Fault>
+fn chain(
+    alloc: Global,
+    all: u32,
+    tokens: &[Token],
+    depth: u32,
+    l: u8,
+) -> Result<(Expr, &[Token]), Fault>
     requires depth { depth ≤ 201 }
     requires level { l ≤ 5 }
     ensures ok { IfOk result (λ r. Reads all (level_symbol l) depth (told tokens.now) (told r.1.now) (node_at l (see_expr r.0))) }
@@ -157,7 +169,13 @@ fn chain(alloc: Global, all: u32, tokens: &[Token], depth: u32, l: u8) -> Result
 }
 
 #[cycle(parser)]
-fn chain_links(alloc: Global, all: u32, tokens: &[Token], depth: u32, l: u8) -> Result<(Vec<Link>, &[Token]), Fault>
+fn chain_links(
+    alloc: Global,
+    all: u32,
+    tokens: &[Token],
+    depth: u32,
+    l: u8,
+) -> Result<(Vec<Link>, &[Token]), Fault>
     requires depth { depth ≤ 201 }
     requires some { 0 < l }
     requires level { l ≤ 6 }
@@ -220,7 +238,12 @@ fn start(alloc: Global, all: u32, tokens: &[Token], depth: u32) -> Result<(Start
 }
 
 #[cycle(parser)]
-fn start_name(alloc: Global, all: u32, tokens: &[Token], depth: u32) -> Result<(Start, &[Token]), Fault>
+fn start_name(
+    alloc: Global,
+    all: u32,
+    tokens: &[Token],
+    depth: u32,
+) -> Result<(Start, &[Token]), Fault>
     requires depth { depth ≤ 202 }
     requires first { next (told tokens.now) ≡ number_of grammar.NAME }
     ensures ok { IfOk result (λ r. Reads all grammar.Start depth (told tokens.now) (told r.1.now) (node_start (see_start r.0))) }
@@ -236,7 +259,12 @@ fn start_name(alloc: Global, all: u32, tokens: &[Token], depth: u32) -> Result<(
 }
 
 #[cycle(parser)]
-fn start_new(alloc: Global, all: u32, tokens: &[Token], depth: u32) -> Result<(Start, &[Token]), Fault>
+fn start_new(
+    alloc: Global,
+    all: u32,
+    tokens: &[Token],
+    depth: u32,
+) -> Result<(Start, &[Token]), Fault>
     requires depth { depth ≤ 202 }
     requires first { next (told tokens.now) ≡ number_of grammar.NEW }
     ensures ok { IfOk result (λ r. Reads all grammar.Start depth (told tokens.now) (told r.1.now) (node_start (see_start r.0))) }
@@ -250,7 +278,12 @@ fn start_new(alloc: Global, all: u32, tokens: &[Token], depth: u32) -> Result<(S
 }
 
 #[cycle(parser)]
-fn start_group(alloc: Global, all: u32, tokens: &[Token], depth: u32) -> Result<(Start, &[Token]), Fault>
+fn start_group(
+    alloc: Global,
+    all: u32,
+    tokens: &[Token],
+    depth: u32,
+) -> Result<(Start, &[Token]), Fault>
     requires depth { depth ≤ 202 }
     requires first { next (told tokens.now) ≡ number_of grammar.OPEN }
     ensures ok { IfOk result (λ r. Reads all grammar.Start depth (told tokens.now) (told r.1.now) (node_start (see_start r.0))) }
@@ -263,7 +296,12 @@ fn start_group(alloc: Global, all: u32, tokens: &[Token], depth: u32) -> Result<
     Ok((make_group(alloc, at, inner)?, rest))
 }
 
-fn start_word(alloc: Global, all: u32, tokens: &[Token], depth: u32) -> Result<(Start, &[Token]), Fault>
+fn start_word(
+    alloc: Global,
+    all: u32,
+    tokens: &[Token],
+    depth: u32,
+) -> Result<(Start, &[Token]), Fault>
     requires depth { depth ≤ 202 }
     requires name { next (told tokens.now) ≢ number_of grammar.NAME }
     requires new { next (told tokens.now) ≢ number_of grammar.NEW }
@@ -297,7 +335,12 @@ fn start_word(alloc: Global, all: u32, tokens: &[Token], depth: u32) -> Result<(
 }
 
 #[cycle(parser)]
-pub fn dots_next(alloc: Global, all: u32, tokens: &[Token], depth: u32) -> Result<(Vec<Dot>, &[Token]), Fault>
+pub fn dots_next(
+    alloc: Global,
+    all: u32,
+    tokens: &[Token],
+    depth: u32,
+) -> Result<(Vec<Dot>, &[Token]), Fault>
     requires depth { depth ≤ 200 }
     ensures ok { IfOk result (λ r. Reads all grammar.Dots depth (told tokens.now) (told r.1.now) (node_dots (dots (map see_dot r.0.items)))) }
     ensures err { IfErr result (λ fault. StopsAs grammar.Dots depth (told tokens.now) fault) }
@@ -325,7 +368,12 @@ pub fn dot(alloc: Global, all: u32, tokens: &[Token], depth: u32) -> Result<(Dot
 }
 
 #[cycle(parser)]
-pub fn actuals(alloc: Global, all: u32, tokens: &[Token], depth: u32) -> Result<(Actuals, &[Token]), Fault>
+pub fn actuals(
+    alloc: Global,
+    all: u32,
+    tokens: &[Token],
+    depth: u32,
+) -> Result<(Actuals, &[Token]), Fault>
     requires depth { depth ≤ 200 }
     ensures ok { IfOk result (λ r. Reads all grammar.Actuals depth (told tokens.now) (told r.1.now) (node_actuals (see_actuals r.0))) }
     ensures err { IfErr result (λ fault. StopsAs grammar.Actuals depth (told tokens.now) fault) }
@@ -337,7 +385,12 @@ pub fn actuals(alloc: Global, all: u32, tokens: &[Token], depth: u32) -> Result<
 }
 
 #[cycle(parser)]
-fn actuals_inside(alloc: Global, all: u32, tokens: &[Token], depth: u32) -> Result<(Vec<Expr>, &[Token]), Fault>
+fn actuals_inside(
+    alloc: Global,
+    all: u32,
+    tokens: &[Token],
+    depth: u32,
+) -> Result<(Vec<Expr>, &[Token]), Fault>
     requires depth { depth ≤ 200 }
     ensures ok { IfOk result (λ r. Reads all grammar.Optional_exprs depth (told tokens.now) (told r.1.now) (node_exprs (exprs (map see_expr r.0.items)))) }
     ensures err { IfErr result (λ fault. StopsAs grammar.Optional_exprs depth (told tokens.now) fault) }

@@ -4,13 +4,15 @@
 //! Not here: what a program is (chord_tree), what it means (chord_types, chord_rules).
 #![tactic(auto)]
 
-mod class;
-mod faults;
-mod tokens;
 mod build;
-mod exprs;
-mod stmts;
-mod plain;
-mod words;
+mod class;
 mod classes;
+mod exprs;
+mod faults;
 pub mod parser;
+mod plain;
+mod stmts;
+#[cfg(test)]
+mod tests;
+mod tokens;
+mod words;

@@ -36,20 +36,12 @@ pub fn parse(alloc: Global, tokens: &[Token]) -> Result<Program, ParseFault>
     ensures low { IfOk result (λ p. IsLow (tree_of p)) }
     ensures fault { IfErr result (λ fault. IsAnswer (told tokens.now) fault) }
     // where the tokens are those of a program, that is the one
-    ensures the_one {
-        (t : ProgramTree) → IsProgram t → spelling t ≡ told tokens.now → IfOk result (λ p. tree_of p ≡ t)
-    }
+    ensures the_one { (t : ProgramTree) → IsProgram t → spelling t ≡ told tokens.now → IfOk result (λ p. tree_of p ≡ t) }
     // and only memory may lack, if none of them is too deep
-    ensures found {
-        (t : ProgramTree) → IsProgram t → IsLow t → spelling t ≡ told tokens.now → IfErr result (λ fault. fault ≡ faults.Memory)
-    }
+    ensures found { (t : ProgramTree) → IsProgram t → IsLow t → spelling t ≡ told tokens.now → IfErr result (λ fault. fault ≡ faults.Memory) }
     // where token k is the first that fits no program, or the first that is too deep, that is told
-    ensures at {
-        (k : ℕ) → IsAnswer (told tokens.now) (faults.At k) → MatchResult result (λ _. ⊥) (λ fault. (fault ≡ faults.Memory) ⊎ (fault ≡ faults.At k))
-    }
-    ensures tall {
-        (k : ℕ) → IsAnswer (told tokens.now) (faults.Tall k) → MatchResult result (λ _. ⊥) (λ fault. (fault ≡ faults.Memory) ⊎ (fault ≡ faults.Tall k))
-    }
+    ensures at { (k : ℕ) → IsAnswer (told tokens.now) (faults.At k) → MatchResult result (λ _. ⊥) (λ fault. (fault ≡ faults.Memory) ⊎ (fault ≡ faults.At k)) }
+    ensures tall { (k : ℕ) → IsAnswer (told tokens.now) (faults.Tall k) → MatchResult result (λ _. ⊥) (λ fault. (fault ≡ faults.Memory) ⊎ (fault ≡ faults.Tall k)) }
 {
     match program(alloc, tokens.len() as u32, tokens) {
         Ok((usings, classes, _)) => Ok(Program::new(usings, classes)),

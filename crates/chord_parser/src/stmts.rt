@@ -15,7 +15,8 @@ ghost use Rattle.chord_parser.specs.Runs.{Reads};
 
 use crate::build::{
     make_assign, make_block, make_braces, make_call, make_empty, make_if, make_if_else, make_local,
-    make_new_stmt, make_plain, make_return, make_return_value, make_this_stmt, make_through, make_while,
+    make_new_stmt, make_plain, make_return, make_return_value, make_this_stmt, make_through,
+    make_while,
 };
 use crate::class;
 use crate::exprs::{actuals, dot, dots_next, expr};
@@ -27,7 +28,12 @@ use chord_tree::stmts::{Block, Item, Stmt};
 use std::alloc::Global;
 
 #[cycle(statements)]
-pub fn block(alloc: Global, all: u32, tokens: &[Token], depth: u32) -> Result<(Block, &[Token]), Fault>
+pub fn block(
+    alloc: Global,
+    all: u32,
+    tokens: &[Token],
+    depth: u32,
+) -> Result<(Block, &[Token]), Fault>
     requires depth { depth ≤ 201 }
     ensures ok { IfOk result (λ r. Reads all grammar.Block depth (told tokens.now) (told r.1.now) (node_block (see_block r.0))) }
     ensures err { IfErr result (λ fault. StopsAs grammar.Block depth (told tokens.now) fault) }
@@ -39,7 +45,12 @@ pub fn block(alloc: Global, all: u32, tokens: &[Token], depth: u32) -> Result<(B
 }
 
 #[cycle(statements)]
-fn items_of(alloc: Global, all: u32, tokens: &[Token], depth: u32) -> Result<(Vec<Item>, &[Token]), Fault>
+fn items_of(
+    alloc: Global,
+    all: u32,
+    tokens: &[Token],
+    depth: u32,
+) -> Result<(Vec<Item>, &[Token]), Fault>
     requires depth { depth ≤ 200 }
     ensures ok { IfOk result (λ r. Reads all grammar.Items depth (told tokens.now) (told r.1.now) (node_items (items (map see_item r.0.items)))) }
     ensures err { IfErr result (λ fault. StopsAs grammar.Items depth (told tokens.now) fault) }
@@ -77,7 +88,14 @@ fn item(alloc: Global, all: u32, tokens: &[Token], depth: u32) -> Result<(Item, 
     Ok((make_plain(form), rest))
 }
 
-fn local(alloc: Global, all: u32, tokens: &[Token], depth: u32, basic: BasicType, c: u8) -> Result<(Item, &[Token]), Fault>
+fn local(
+    alloc: Global,
+    all: u32,
+    tokens: &[Token],
+    depth: u32,
+    basic: BasicType,
+    c: u8,
+) -> Result<(Item, &[Token]), Fault>
     requires depth { depth ≤ 200 }
     requires first { next (told tokens.now) ≡ c }
     requires basic { c ≡ number_of (word_part (basic_word basic)) }
@@ -89,10 +107,18 @@ fn local(alloc: Global, all: u32, tokens: &[Token], depth: u32, basic: BasicType
     let (assign, rest) = take(all, rest, class::ASSIGN, depth + 1)?;
     let (value, rest) = expr(alloc, all, rest, depth + 1)?;
     let rest = skip(all, rest, class::SEMICOLON, depth + 1)?;
-    Ok((make_local(ValueType::Basic { basic, at }, name, assign, value), rest))
+    Ok((
+        make_local(ValueType::Basic { basic, at }, name, assign, value),
+        rest,
+    ))
 }
 
-fn item_name(alloc: Global, all: u32, tokens: &[Token], depth: u32) -> Result<(Item, &[Token]), Fault>
+fn item_name(
+    alloc: Global,
+    all: u32,
+    tokens: &[Token],
+    depth: u32,
+) -> Result<(Item, &[Token]), Fault>
     requires depth { depth ≤ 200 }
     requires first { next (told tokens.now) ≡ number_of grammar.NAME }
     ensures ok { IfOk result (λ r. Reads all grammar.Item depth (told tokens.now) (told r.1.now) (node_item (see_item r.0))) }
@@ -104,14 +130,23 @@ fn item_name(alloc: Global, all: u32, tokens: &[Token], depth: u32) -> Result<(I
         let (assign, rest) = take(all, rest, class::ASSIGN, depth + 1)?;
         let (value, rest) = expr(alloc, all, rest, depth + 1)?;
         let rest = skip(all, rest, class::SEMICOLON, depth + 1)?;
-        return Ok((make_local(ValueType::Class(name), second, assign, value), rest));
+        return Ok((
+            make_local(ValueType::Class(name), second, assign, value),
+            rest,
+        ));
     }
     let (form, rest) = tail(alloc, all, rest, depth + 1, name)?;
     let rest = skip(all, rest, class::SEMICOLON, depth + 1)?;
     Ok((make_plain(form), rest))
 }
 
-fn tail(alloc: Global, all: u32, tokens: &[Token], depth: u32, name: Name) -> Result<(Stmt, &[Token]), Fault>
+fn tail(
+    alloc: Global,
+    all: u32,
+    tokens: &[Token],
+    depth: u32,
+    name: Name,
+) -> Result<(Stmt, &[Token]), Fault>
     requires depth { depth ≤ 200 }
     ensures ok { IfOk result (λ r. Reads all grammar.Tail depth (told tokens.now) (told r.1.now) (node_tail (see_stmt r.0))) }
     ensures err { IfErr result (λ fault. StopsAs grammar.Tail depth (told tokens.now) fault) }
@@ -210,7 +245,12 @@ fn if_stmt(alloc: Global, all: u32, tokens: &[Token], depth: u32) -> Result<(Stm
 }
 
 #[cycle(statements)]
-fn while_stmt(alloc: Global, all: u32, tokens: &[Token], depth: u32) -> Result<(Stmt, &[Token]), Fault>
+fn while_stmt(
+    alloc: Global,
+    all: u32,
+    tokens: &[Token],
+    depth: u32,
+) -> Result<(Stmt, &[Token]), Fault>
     requires depth { depth ≤ 201 }
     requires first { next (told tokens.now) ≡ number_of grammar.WHILE }
     ensures ok { IfOk result (λ r. Reads all grammar.Other depth (told tokens.now) (told r.1.now) (node_other (see_stmt r.0))) }
@@ -226,7 +266,12 @@ fn while_stmt(alloc: Global, all: u32, tokens: &[Token], depth: u32) -> Result<(
     Ok((form, rest))
 }
 
-fn return_stmt(alloc: Global, all: u32, tokens: &[Token], depth: u32) -> Result<(Stmt, &[Token]), Fault>
+fn return_stmt(
+    alloc: Global,
+    all: u32,
+    tokens: &[Token],
+    depth: u32,
+) -> Result<(Stmt, &[Token]), Fault>
     requires depth { depth ≤ 201 }
     requires first { next (told tokens.now) ≡ number_of grammar.RETURN }
     ensures ok { IfOk result (λ r. Reads all grammar.Other depth (told tokens.now) (told r.1.now) (node_other (see_stmt r.0))) }
@@ -243,7 +288,12 @@ fn return_stmt(alloc: Global, all: u32, tokens: &[Token], depth: u32) -> Result<
     Ok((make_return_value(at, value), rest))
 }
 
-fn this_stmt(alloc: Global, all: u32, tokens: &[Token], depth: u32) -> Result<(Stmt, &[Token]), Fault>
+fn this_stmt(
+    alloc: Global,
+    all: u32,
+    tokens: &[Token],
+    depth: u32,
+) -> Result<(Stmt, &[Token]), Fault>
     requires depth { depth ≤ 201 }
     requires first { next (told tokens.now) ≡ number_of grammar.THIS }
     ensures ok { IfOk result (λ r. Reads all grammar.Other depth (told tokens.now) (told r.1.now) (node_other (see_stmt r.0))) }
@@ -257,7 +307,12 @@ fn this_stmt(alloc: Global, all: u32, tokens: &[Token], depth: u32) -> Result<(S
     Ok((make_this_stmt(at, first, calls), rest))
 }
 
-fn new_stmt(alloc: Global, all: u32, tokens: &[Token], depth: u32) -> Result<(Stmt, &[Token]), Fault>
+fn new_stmt(
+    alloc: Global,
+    all: u32,
+    tokens: &[Token],
+    depth: u32,
+) -> Result<(Stmt, &[Token]), Fault>
     requires depth { depth ≤ 201 }
     requires first { next (told tokens.now) ≡ number_of grammar.NEW }
     ensures ok { IfOk result (λ r. Reads all grammar.Other depth (told tokens.now) (told r.1.now) (node_other (see_stmt r.0))) }

@@ -166,7 +166,12 @@ pub fn take(all: u32, tokens: &[Token], c: u8, depth: u32) -> Result<(u32, &[Tok
 }
 
 /// The name that comes next, and the tokens after it.
-pub fn name_of(alloc: Global, all: u32, tokens: &[Token], depth: u32) -> Result<(Name, &[Token]), Fault>
+pub fn name_of(
+    alloc: Global,
+    all: u32,
+    tokens: &[Token],
+    depth: u32,
+) -> Result<(Name, &[Token]), Fault>
     ensures ok { IfOk result (λ r. Reads all grammar.NAME depth (told tokens.now) (told r.1.now) (name r.0)) }
     ensures err { IfErr result (λ fault. StopsAs grammar.NAME depth (told tokens.now) fault) }
     ensures low { IfOk result (λ _. depth ≤ 200) }
@@ -197,7 +202,12 @@ pub fn number_next(all: u32, tokens: &[Token], depth: u32) -> Result<(u32, u32, 
 }
 
 /// The literal that comes next, the number of its token, and the tokens after it.
-pub fn literal_next(alloc: Global, all: u32, tokens: &[Token], depth: u32) -> Result<(Bytes, u32, &[Token]), Fault>
+pub fn literal_next(
+    alloc: Global,
+    all: u32,
+    tokens: &[Token],
+    depth: u32,
+) -> Result<(Bytes, u32, &[Token]), Fault>
     ensures ok { IfOk result (λ r. Reads all grammar.LITERAL depth (told tokens.now) (told r.2.now) (Leaf (kinds.Literal r.0) r.1)) }
     ensures err { IfErr result (λ fault. StopsAs grammar.LITERAL depth (told tokens.now) fault) }
     ensures low { IfOk result (λ _. depth ≤ 200) }

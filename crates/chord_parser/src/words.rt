@@ -59,7 +59,11 @@ pub fn modifier_next(tokens: &[Token]) -> Option<ModifierWord>
 }
 
 /// The modifier, which comes next, and the tokens after it.
-pub fn modifier(all: u32, tokens: &[Token], word: ModifierWord) -> Result<(Modifier, &[Token]), Fault>
+pub fn modifier(
+    all: u32,
+    tokens: &[Token],
+    word: ModifierWord,
+) -> Result<(Modifier, &[Token]), Fault>
     requires first { next (told tokens.now) ≡ modifier_class word }
     ensures ok { IfOk result (λ r. Reads all grammar.Modifier 0 (told tokens.now) (told r.1.now) (node_modifier r.0)) }
     ensures err { IfErr result (λ fault. StopsAs grammar.Modifier 0 (told tokens.now) fault) }
@@ -111,9 +115,18 @@ fn plain_type(word: PlainWord, at: u32) -> ReturnType
     match word {
         PlainWord::Async => ReturnType::Async { at },
         PlainWord::Void => ReturnType::Void { at },
-        PlainWord::Int => ReturnType::Value(ValueType::Basic { basic: BasicType::Int, at }),
-        PlainWord::Bool => ReturnType::Value(ValueType::Basic { basic: BasicType::Bool, at }),
-        PlainWord::String => ReturnType::Value(ValueType::Basic { basic: BasicType::String, at }),
+        PlainWord::Int => ReturnType::Value(ValueType::Basic {
+            basic: BasicType::Int,
+            at,
+        }),
+        PlainWord::Bool => ReturnType::Value(ValueType::Basic {
+            basic: BasicType::Bool,
+            at,
+        }),
+        PlainWord::String => ReturnType::Value(ValueType::Basic {
+            basic: BasicType::String,
+            at,
+        }),
     }
 }
 

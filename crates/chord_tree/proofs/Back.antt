@@ -236,9 +236,29 @@ value_of _ e = e
 
 abbrev combined : Kind → ℕ → List Back → Back
 combined kind at bs = record {
-  kind = kind; at = at; lead = lead_of bs; filled = is_filled bs; three = is_three bs;
-  expr = expr_of bs; value = value_of bs no_expr; primary = primary_of bs; links = links_of bs; start = start_of bs; actuals = actuals_of bs; exprs = exprs_of bs; dot = dot_of bs; dots = dots_of bs;
-  tail = tail_of bs; after = after_of bs; other = other_of bs; stmt = stmt_of bs; second = second_of bs; block = block_of bs; item = item_of bs; items = items_of bs }
+  kind = kind;
+  at = at;
+  lead = lead_of bs;
+  filled = is_filled bs;
+  three = is_three bs;
+  expr = expr_of bs;
+  value = value_of bs no_expr;
+  primary = primary_of bs;
+  links = links_of bs;
+  start = start_of bs;
+  actuals = actuals_of bs;
+  exprs = exprs_of bs;
+  dot = dot_of bs;
+  dots = dots_of bs;
+  tail = tail_of bs;
+  after = after_of bs;
+  other = other_of bs;
+  stmt = stmt_of bs;
+  second = second_of bs;
+  block = block_of bs;
+  item = item_of bs;
+  items = items_of bs;
+}
 
 abbrev mutual
   pub back : Node → Back
@@ -282,8 +302,8 @@ mutual
   pub back_expr : (e : ExprTree) → (back (bare e)).expr ≡ e
   back_expr (Chained first (MakeLink o at t) more) =
       three Chained _ first _ (MakeLink o at t) _ more (back_lifted (level o - 1) (rank first) (bare first) ∙ back_expr first)
-          (two (λ p e. MakeLink p at e) _ o _ t (operator_back o) (back_lifted (level o - 1) (rank t) (bare t) ∙ back_expr t))
-          (back_links (level o) more)
+      (two (λ p e. MakeLink p at e) _ o _ t (operator_back o) (back_lifted (level o - 1) (rank t) (bare t) ∙ back_expr t))
+      (back_links (level o) more)
   back_expr (Negated at e) = pick _ _ _ _ _ (not_three e) (has_parts e) ∙ ap (Negated at) (back_expr e)
   back_expr (Denied at e) = pick _ _ _ _ _ (not_three e) (has_parts e) ∙ ap (Denied at) (back_expr e)
   back_expr (Simple s ds) = two Simple _ s _ ds (back_start s) (back_dots ds)

@@ -40,14 +40,15 @@ legal_parts : (ps : List Part) (d : ℕ) (a : ℕ → Bool) (s : List Want) → 
     → ((c : ℕ) → c < suc class_count → begin_at s c ≡ true → a c ≡ true)
     → ((c : ℕ) → c < suc class_count → legal_under ps (a c) c ≡ true) → Legal (placed d ps ++ s)
 legal_parts [] d a s l f h = l
-legal_parts (p ∷ ps) d a s l f h =
-    (λ c m b. imp_true _ _ (and_left _ _ (h c m)) (grows ps _ _ c (f c m) (sym (under d ps s c) ∙ b)),
-     legal_parts ps d a s l f (λ c m. and_right (imp (begin_under ps (a c) c) (part_follows p c)) _ (h c m)))
+legal_parts (p ∷ ps) d a s l f h = (
+  λ c m b. imp_true _ _ (and_left _ _ (h c m)) (grows ps _ _ c (f c m) (sym (under d ps s c) ∙ b)),
+  legal_parts ps d a s l f (λ c m. and_right (imp (begin_under ps (a c) c) (part_follows p c)) _ (h c m)),
+)
 
 pub legal_rule : (x d i : ℕ) (s : List Want) → Legal ((Symbol x, d) ∷ s) → i < rule_count → head_of i ≡ x → Legal (placed (inside x d) (parts_of i) ++ s)
 legal_rule x d i s l m e =
     legal_parts (parts_of i) (inside x d) (λ c. follows_at x c) s l.1 l.0
-        (λ c n. subst (λ y. legal_under (parts_of i) (follows_at y c) c ≡ true) e (rule_legal i c m n))
+    (λ c n. subst (λ y. legal_under (parts_of i) (follows_at y c) c ≡ true) e (rule_legal i c m n))
 
 -- the one rule that a derivation can begin with
 pub chosen : (x d i c : ℕ) (s : List Want) → Legal ((Symbol x, d) ∷ s) → i < rule_count → head_of i ≡ x → c < suc class_count → allowed i c ≡ true

@@ -54,7 +54,7 @@ pub program_spelled : (a b c : List Token) (usings : List Using) (classes : List
 program_spelled a b c usings classes p e u k h g =
     let t = tree_of p in
     let start : c ≡ tokens (words (node_usings t.usings) ++ words (node_classes t.classes)) =
-        g.grown ∙ ap (λ z. z ++ tokens (words (node_classes (map see_class classes)))) (h.grown ∙ ap (λ z. z ++ tokens (words (node_usings (map see_using usings)))) e)
-        ∙ sym (tokens_append _ _) ∙ ap (λ z. tokens (words (node_usings (map see_using z)) ++ words (node_classes (map see_class classes)))) u
-        ∙ ap (λ z. tokens (words (node_usings t.usings) ++ words (node_classes (map see_class z)))) k in
+    g.grown ∙ ap (λ z. z ++ tokens (words (node_classes (map see_class classes)))) (h.grown ∙ ap (λ z. z ++ tokens (words (node_usings (map see_using usings)))) e)
+    ∙ sym (tokens_append _ _) ∙ ap (λ z. tokens (words (node_usings (map see_using z)) ++ words (node_classes (map see_class classes)))) u
+    ∙ ap (λ z. tokens (words (node_usings t.usings) ++ words (node_classes (map see_class z)))) k in
     start ∙ ap tokens (words_all_classes t.usings t.classes ∙ sym (append-nil _) ∙ sym (spell_words (node_program t) 0 []))

@@ -8,7 +8,6 @@ use Rattle.chord_tree.specs.Classes.{class_of}
 use Rattle.chord_tree.specs.Derivation.{has, Spelled, kinds_of, next, head_of, parts_of, inside, allowed}
 
 infixr 20 ◌▸◌
-
 mutual
   -- a token with its number, or a symbol with what it was replaced by
   pub data Node : Type 0 where

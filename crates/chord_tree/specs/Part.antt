@@ -2,7 +2,6 @@
 use Rattle.std.specs.Prelude.{ℕ, List}
 
 infix 1 ◌⟶◌
-
 -- a token of a class, or what a symbol derives
 pub data Part : Type 0 where
   Terminal : ℕ → Part

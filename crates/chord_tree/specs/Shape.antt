@@ -82,8 +82,8 @@ abbrev mutual
   pub bare : ExprTree → Node
   bare (Chained first (MakeLink operator at operand) more) =
       Made (level_symbol (level operator)) (lifted (level operator - 1) (rank first) (bare first)
-          ▸ Made (level_tail (level operator)) (mark (mark_of operator) at ▸ lifted (level operator - 1) (rank operand) (bare operand) ▸ node_links (level operator) more ▸ End)
-          ▸ End)
+      ▸ Made (level_tail (level operator)) (mark (mark_of operator) at ▸ lifted (level operator - 1) (rank operand) (bare operand) ▸ node_links (level operator) more ▸ End)
+      ▸ End)
   bare (Negated at operand) = Made grammar.Unary (mark marks.Minus at ▸ bare operand ▸ End)
   bare (Denied at operand) = Made grammar.Unary (mark marks.Not at ▸ bare operand ▸ End)
   bare (Simple start calls) = Made grammar.Unary (Made grammar.Primary (node_start start ▸ node_dots calls ▸ End) ▸ End)

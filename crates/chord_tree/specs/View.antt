@@ -17,7 +17,8 @@ see_header header = record {
   modifiers = header.modifiers.items;
   result_type = header.result_type;
   name = header.name;
-  formals = see_formals header.formals }
+  formals = see_formals header.formals;
+}
 
 abbrev pub see_member : Member → MemberTree
 see_member (members.Constructor modifiers name formals body) = AConstructor modifiers.items name (see_formals formals) (see_block body)
@@ -29,7 +30,8 @@ see_class class = record {
   name = class.name;
   base = class.base;
   members = map see_member class.members.items;
-  end = class.end }
+  end = class.end;
+}
 
 abbrev pub see_using : Using → UsingTree
 see_using line = record { first = line.first; parts = line.more.items }

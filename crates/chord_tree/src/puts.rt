@@ -18,7 +18,11 @@ use std::alloc::{AllocError, Global};
 pub fn put(out: &mut Vec<Token>, kind: Kind) -> Result<(), AllocError>
     ensures { OnOk result (Adds out.old.items out.new.items (Leaf kind 0)) }
 {
-    out.push(Token { kind, start: 0, end: 0 })?;
+    out.push(Token {
+        kind,
+        start: 0,
+        end: 0,
+    })?;
     Ok(())
 }
 

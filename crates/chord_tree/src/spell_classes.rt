@@ -8,7 +8,9 @@ ghost use Rattle.chord_tree.specs.Tree.{AConstructor};
 ghost use Rattle.chord_tree.specs.View.{see_formals, see_header, see_member, see_class, see_using};
 ghost use Rattle.chord_tree.specs.ViewStmts.{see_block};
 
-use crate::classes::{Class, Formal, Formals, Header, Member, Modifier, ModifierWord, NamePart, ReturnType, Using};
+use crate::classes::{
+    Class, Formal, Formals, Header, Member, Modifier, ModifierWord, NamePart, ReturnType, Using,
+};
 use crate::names::Name;
 use crate::puts::{put_mark, put_name, put_word};
 use crate::spell_stmts::{put_block, put_type};
@@ -73,7 +75,11 @@ fn put_formals(alloc: Global, out: &mut Vec<Token>, formals: &Formals) -> Result
     put_mark(out, Mark::CloseParenthesis)
 }
 
-fn put_result(alloc: Global, out: &mut Vec<Token>, result_type: &ReturnType) -> Result<(), AllocError>
+fn put_result(
+    alloc: Global,
+    out: &mut Vec<Token>,
+    result_type: &ReturnType,
+) -> Result<(), AllocError>
     ensures { OnOk result (Adds out.old.items out.new.items (node_result result_type.now)) }
 {
     match result_type {
@@ -106,14 +112,26 @@ fn put_headers(alloc: Global, out: &mut Vec<Token>, headers: &[Header]) -> Resul
     Ok(())
 }
 
-fn put_chord(alloc: Global, out: &mut Vec<Token>, headers: &[Header], body: &Block) -> Result<(), AllocError>
+fn put_chord(
+    alloc: Global,
+    out: &mut Vec<Token>,
+    headers: &[Header],
+    body: &Block,
+) -> Result<(), AllocError>
     ensures { OnOk result (Adds out.old.items out.new.items (node_chord (map see_header headers.now) (see_block body.now))) }
 {
     put_headers(alloc, out, headers)?;
     put_block(alloc, out, body)
 }
 
-fn put_constructor(alloc: Global, out: &mut Vec<Token>, modifiers: &[Modifier], name: &Name, formals: &Formals, body: &Block) -> Result<(), AllocError>
+fn put_constructor(
+    alloc: Global,
+    out: &mut Vec<Token>,
+    modifiers: &[Modifier],
+    name: &Name,
+    formals: &Formals,
+    body: &Block,
+) -> Result<(), AllocError>
     ensures { OnOk result (Adds out.old.items out.new.items (node_member (AConstructor modifiers.now name.now (see_formals formals.now) (see_block body.now)))) }
 {
     put_modifiers(out, modifiers)?;
@@ -126,7 +144,12 @@ fn put_member(alloc: Global, out: &mut Vec<Token>, member: &Member) -> Result<()
     ensures { OnOk result (Adds out.old.items out.new.items (node_member (see_member member.now))) }
 {
     match member {
-        Member::Constructor { modifiers, name, formals, body } => put_constructor(alloc, out, modifiers, name, formals, body),
+        Member::Constructor {
+            modifiers,
+            name,
+            formals,
+            body,
+        } => put_constructor(alloc, out, modifiers, name, formals, body),
         Member::Chord { headers, body } => put_chord(alloc, out, headers, body),
     }
 }

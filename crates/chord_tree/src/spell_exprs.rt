@@ -58,7 +58,11 @@ fn put_start(alloc: Global, out: &mut Vec<Token>, start: &Start) -> Result<(), A
             put_actuals(alloc, out, actuals)
         }
         Start::This { at: _ } => put_word(out, Keyword::This),
-        Start::New { at: _, name, actuals } => {
+        Start::New {
+            at: _,
+            name,
+            actuals,
+        } => {
             put_word(out, Keyword::New)?;
             put_name(alloc, out, name)?;
             put_actuals(alloc, out, actuals)

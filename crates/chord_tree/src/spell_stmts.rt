@@ -17,7 +17,11 @@ use crate::stmts::{Block, Item, Stmt};
 use chord_lexer::token::{Keyword, Mark, Token};
 use std::alloc::{AllocError, Global};
 
-pub fn put_type(alloc: Global, out: &mut Vec<Token>, value_type: &ValueType) -> Result<(), AllocError>
+pub fn put_type(
+    alloc: Global,
+    out: &mut Vec<Token>,
+    value_type: &ValueType,
+) -> Result<(), AllocError>
     ensures { OnOk result (Adds out.old.items out.new.items (node_type value_type.now)) }
 {
     match value_type {
@@ -26,7 +30,13 @@ pub fn put_type(alloc: Global, out: &mut Vec<Token>, value_type: &ValueType) -> 
     }
 }
 
-fn put_local(alloc: Global, out: &mut Vec<Token>, value_type: &ValueType, name: &Name, value: &Expr) -> Result<(), AllocError>
+fn put_local(
+    alloc: Global,
+    out: &mut Vec<Token>,
+    value_type: &ValueType,
+    name: &Name,
+    value: &Expr,
+) -> Result<(), AllocError>
     ensures { OnOk result (Adds out.old.items out.new.items (local_item value_type.now name.now 0 (see_expr value.now))) }
 {
     put_type(alloc, out, value_type)?;
@@ -36,7 +46,12 @@ fn put_local(alloc: Global, out: &mut Vec<Token>, value_type: &ValueType, name: 
     put_mark(out, Mark::Semicolon)
 }
 
-fn put_assign(alloc: Global, out: &mut Vec<Token>, name: &Name, value: &Expr) -> Result<(), AllocError>
+fn put_assign(
+    alloc: Global,
+    out: &mut Vec<Token>,
+    name: &Name,
+    value: &Expr,
+) -> Result<(), AllocError>
     ensures { OnOk result (Adds out.old.items out.new.items (node_stmt (Assigns name.now 0 (see_expr value.now)))) }
 {
     put_name(alloc, out, name)?;
@@ -45,7 +60,13 @@ fn put_assign(alloc: Global, out: &mut Vec<Token>, name: &Name, value: &Expr) ->
     put_mark(out, Mark::Semicolon)
 }
 
-fn put_call(alloc: Global, out: &mut Vec<Token>, name: &Name, actuals: &Actuals, calls: &[Dot]) -> Result<(), AllocError>
+fn put_call(
+    alloc: Global,
+    out: &mut Vec<Token>,
+    name: &Name,
+    actuals: &Actuals,
+    calls: &[Dot],
+) -> Result<(), AllocError>
     ensures { OnOk result (Adds out.old.items out.new.items (node_stmt (Calls name.now (see_actuals actuals.now) (dots (map see_dot calls.now))))) }
 {
     put_name(alloc, out, name)?;
@@ -54,7 +75,13 @@ fn put_call(alloc: Global, out: &mut Vec<Token>, name: &Name, actuals: &Actuals,
     put_mark(out, Mark::Semicolon)
 }
 
-fn put_through(alloc: Global, out: &mut Vec<Token>, name: &Name, first: &Dot, calls: &[Dot]) -> Result<(), AllocError>
+fn put_through(
+    alloc: Global,
+    out: &mut Vec<Token>,
+    name: &Name,
+    first: &Dot,
+    calls: &[Dot],
+) -> Result<(), AllocError>
     ensures { OnOk result (Adds out.old.items out.new.items (node_stmt (CallsThrough name.now (see_dot first.now) (dots (map see_dot calls.now))))) }
 {
     put_name(alloc, out, name)?;
@@ -63,7 +90,12 @@ fn put_through(alloc: Global, out: &mut Vec<Token>, name: &Name, first: &Dot, ca
     put_mark(out, Mark::Semicolon)
 }
 
-fn put_this(alloc: Global, out: &mut Vec<Token>, first: &Dot, calls: &[Dot]) -> Result<(), AllocError>
+fn put_this(
+    alloc: Global,
+    out: &mut Vec<Token>,
+    first: &Dot,
+    calls: &[Dot],
+) -> Result<(), AllocError>
     ensures { OnOk result (Adds out.old.items out.new.items (node_stmt (CallsThis 0 (see_dot first.now) (dots (map see_dot calls.now))))) }
 {
     put_word(out, Keyword::This)?;
@@ -72,7 +104,13 @@ fn put_this(alloc: Global, out: &mut Vec<Token>, first: &Dot, calls: &[Dot]) -> 
     put_mark(out, Mark::Semicolon)
 }
 
-fn put_new(alloc: Global, out: &mut Vec<Token>, name: &Name, actuals: &Actuals, calls: &[Dot]) -> Result<(), AllocError>
+fn put_new(
+    alloc: Global,
+    out: &mut Vec<Token>,
+    name: &Name,
+    actuals: &Actuals,
+    calls: &[Dot],
+) -> Result<(), AllocError>
     ensures { OnOk result (Adds out.old.items out.new.items (node_stmt (Makes 0 name.now (see_actuals actuals.now) (dots (map see_dot calls.now))))) }
 {
     put_word(out, Keyword::New)?;
@@ -121,7 +159,12 @@ fn put_item(alloc: Global, out: &mut Vec<Token>, item: &Item) -> Result<(), Allo
     ensures { OnOk result (Adds out.old.items out.new.items (node_item (see_item item.now))) }
 {
     match item {
-        Item::Local { value_type, name, assign: _, value } => put_local(alloc, out, value_type, name, value),
+        Item::Local {
+            value_type,
+            name,
+            assign: _,
+            value,
+        } => put_local(alloc, out, value_type, name, value),
         Item::Plain(stmt) => put_stmt(alloc, out, stmt),
     }
 }
@@ -131,16 +174,49 @@ fn put_stmt(alloc: Global, out: &mut Vec<Token>, stmt: &Stmt) -> Result<(), Allo
     ensures { OnOk result (Adds out.old.items out.new.items (node_stmt (see_stmt stmt.now))) }
 {
     match stmt {
-        Stmt::Assign { name, assign: _, value } => put_assign(alloc, out, name, value),
-        Stmt::Call { name, actuals, calls } => put_call(alloc, out, name, actuals, calls),
+        Stmt::Assign {
+            name,
+            assign: _,
+            value,
+        } => put_assign(alloc, out, name, value),
+        Stmt::Call {
+            name,
+            actuals,
+            calls,
+        } => put_call(alloc, out, name, actuals, calls),
         Stmt::Through { name, first, calls } => put_through(alloc, out, name, first, calls),
-        Stmt::This { at: _, first, calls } => put_this(alloc, out, first, calls),
-        Stmt::New { at: _, name, actuals, calls } => put_new(alloc, out, name, actuals, calls),
+        Stmt::This {
+            at: _,
+            first,
+            calls,
+        } => put_this(alloc, out, first, calls),
+        Stmt::New {
+            at: _,
+            name,
+            actuals,
+            calls,
+        } => put_new(alloc, out, name, actuals, calls),
         Stmt::Block(block) => put_block(alloc, out, block),
         Stmt::Empty => put_mark(out, Mark::Semicolon),
-        Stmt::If { at: _, bracket: _, test, first } => put_if(alloc, out, test, first),
-        Stmt::IfElse { at: _, bracket: _, test, first, second } => put_if_else(alloc, out, test, first, second),
-        Stmt::While { at: _, bracket: _, test, body } => put_while(alloc, out, test, body),
+        Stmt::If {
+            at: _,
+            bracket: _,
+            test,
+            first,
+        } => put_if(alloc, out, test, first),
+        Stmt::IfElse {
+            at: _,
+            bracket: _,
+            test,
+            first,
+            second,
+        } => put_if_else(alloc, out, test, first, second),
+        Stmt::While {
+            at: _,
+            bracket: _,
+            test,
+            body,
+        } => put_while(alloc, out, test, body),
         Stmt::Return { at: _ } => put_return(out),
         Stmt::ReturnValue { at: _, value } => put_return_value(alloc, out, value),
     }
@@ -156,7 +232,13 @@ fn put_if(alloc: Global, out: &mut Vec<Token>, test: &Expr, first: &Stmt) -> Res
 }
 
 #[cycle(spell)]
-fn put_if_else(alloc: Global, out: &mut Vec<Token>, test: &Expr, first: &Stmt, second: &Stmt) -> Result<(), AllocError>
+fn put_if_else(
+    alloc: Global,
+    out: &mut Vec<Token>,
+    test: &Expr,
+    first: &Stmt,
+    second: &Stmt,
+) -> Result<(), AllocError>
     ensures { OnOk result (Adds out.old.items out.new.items (node_stmt (IfElse 0 0 (see_expr test.now) (see_stmt first.now) (see_stmt second.now)))) }
 {
     put_word(out, Keyword::If)?;
@@ -167,7 +249,12 @@ fn put_if_else(alloc: Global, out: &mut Vec<Token>, test: &Expr, first: &Stmt, s
 }
 
 #[cycle(spell)]
-fn put_while(alloc: Global, out: &mut Vec<Token>, test: &Expr, body: &Stmt) -> Result<(), AllocError>
+fn put_while(
+    alloc: Global,
+    out: &mut Vec<Token>,
+    test: &Expr,
+    body: &Stmt,
+) -> Result<(), AllocError>
     ensures { OnOk result (Adds out.old.items out.new.items (node_stmt (Repeats 0 0 (see_expr test.now) (see_stmt body.now)))) }
 {
     put_word(out, Keyword::While)?;

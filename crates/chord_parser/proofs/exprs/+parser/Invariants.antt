@@ -59,4 +59,3 @@ invariant-actuals_inside-each l = Continues l.all grammar.Optional_exprs l.depth
 
 abbrev pub decreases-actuals_inside-each : goal.decreases-actuals_inside-each
 decreases-actuals_inside-each l = length l.left
-

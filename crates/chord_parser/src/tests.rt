@@ -1,0 +1,261 @@
+//! What no clause says: which whole sources are programs, and at which token the others are refused.
+//! The numbers of tokens were counted by another reader of sources.
+use crate::parser::{ParseFault, parse};
+use chord_lexer::lexer::lex;
+use chord_lexer::token::{Kind, Token};
+use chord_tree::spelling::spell;
+use std::alloc::{AllocError, Global};
+use std::test::Fail;
+
+const BUFFER: &[u8] = b"class Buffer {
+  public string Get() & public async Put(string s) { return s; }
+}
+class Program {
+  static void Main() {
+    Buffer b = new Buffer();
+    b.Put(\"hi\");
+    Console.WriteLine(b.Get());
+  }
+}
+";
+
+const READERS_AND_WRITERS: &[u8] = b"class Lock {
+  public Lock() { idle(); }
+  public void Shared() & async idle() { held(1); }
+  public void Shared() & async held(int n) { held(n + 1); }
+  public void ReleaseShared() & async held(int n) {
+    if (n == 1) idle(); else held(n - 1);
+  }
+  public void Exclusive() & async idle() { }
+  public void ReleaseExclusive() { idle(); }
+}
+class Total {
+  public Total(int n) { sum(0, n); }
+  public async Add(int v) & async sum(int s, int n) {
+    if (n == 1) done(s + v); else sum(s + v, n - 1);
+  }
+  public int Wait() & async done(int s) { return s; }
+}
+class Work {
+  public async Reader(Lock k, Total t) { k.Shared(); k.ReleaseShared(); t.Add(1); }
+  public async Writer(Lock k, Total t) { k.Exclusive(); k.ReleaseExclusive(); t.Add(1); }
+}
+class Program {
+  static void Main() {
+    Lock k = new Lock(); Total t = new Total(4); Work w = new Work();
+    w.Reader(k, t); w.Reader(k, t); w.Writer(k, t); w.Reader(k, t);
+    Console.WriteLine(t.Wait());
+  }
+}
+";
+
+const SANTA: &[u8] = b"class Santa {
+  public Santa() { deer(0); elves(0); }
+  public async Back() & async deer(int n) {
+    if (n == 8) { deer(0); sleigh(); } else deer(n + 1);
+  }
+  public async Ask() & async elves(int n) {
+    if (n == 2) { elves(0); group(); } else elves(n + 1);
+  }
+  public void Work() & async sleigh() { Console.WriteLine(\"Santa delivers toys\"); }
+  public void Work() & async group() { Console.WriteLine(\"Santa meets elves\"); }
+}
+class Folk {
+  public async Reindeer(Santa s) { s.Back(); }
+  public async Elf(Santa s) { s.Ask(); }
+}
+class Program {
+  static void Main() {
+    Santa s = new Santa(); Folk f = new Folk();
+    int i = 0;
+    while (i < 10) { if (i < 9) f.Reindeer(s); f.Elf(s); i = i + 1; }
+    s.Work(); s.Work(); s.Work(); s.Work();
+  }
+}
+";
+
+fn same(left: &Kind, right: &Kind) -> bool {
+    match (left, right) {
+        (Kind::Word(a), Kind::Word(b)) => a == b,
+        (Kind::Name(a), Kind::Name(b)) => a.items() == b.items(),
+        (Kind::Number(a), Kind::Number(b)) => a == b,
+        (Kind::Literal(a), Kind::Literal(b)) => a.items() == b.items(),
+        (Kind::Mark(a), Kind::Mark(b)) => a == b,
+        _ => false,
+    }
+}
+
+fn same_kinds(left: &[Token], right: &[Token]) -> bool {
+    if left.len() != right.len() {
+        return false;
+    }
+    for (a, b) in left.iter().zip(right) {
+        if !same(&a.kind, &b.kind) {
+            return false;
+        }
+    }
+    true
+}
+
+/// What `parse` says of the tokens that a program spells.
+fn again(alloc: Global, tokens: &[Token], spelled: &[Token]) -> Result<String, AllocError> {
+    if spelled.len() > 1_048_576 {
+        return String::from_str(alloc, "too long");
+    }
+    if !same_kinds(tokens, spelled) {
+        return String::from_str(alloc, "spelled otherwise");
+    }
+    match parse(alloc, spelled) {
+        Ok(_) => format!(in alloc; "program of {} tokens", spelled.len()),
+        Err(_) => String::from_str(alloc, "not parsed again"),
+    }
+}
+
+fn parsed(alloc: Global, tokens: &[Token]) -> Result<String, AllocError> {
+    if tokens.len() > 1_048_576 {
+        return String::from_str(alloc, "too long");
+    }
+    match parse(alloc, tokens) {
+        Ok(program) => {
+            let spelled = spell(alloc, &program)?;
+            again(alloc, tokens, &spelled)
+        }
+        Err(ParseFault::At(k)) => format!(in alloc; "at {k}"),
+        Err(ParseFault::Tall(k)) => format!(in alloc; "tall {k}"),
+        Err(ParseFault::Memory) => String::from_str(alloc, "no memory"),
+    }
+}
+
+/// What `parse` says of the tokens of a source.
+fn answer(alloc: Global, source: &[u8]) -> Result<String, AllocError> {
+    if source.len() > 1_048_576 {
+        return String::from_str(alloc, "too long");
+    }
+    match lex(alloc, source) {
+        Ok(tokens) => parsed(alloc, &tokens),
+        Err(_) => String::from_str(alloc, "no tokens"),
+    }
+}
+
+/// A local whose value stands in so many brackets.
+fn nested(alloc: Global, brackets: u32) -> Result<String, AllocError> {
+    let mut source = String::from_str(alloc, "class A { A() { int x = ")?;
+    for _ in 0..brackets {
+        source.push('(')?;
+    }
+    source.push('1')?;
+    for _ in 0..brackets {
+        source.push(')')?;
+    }
+    source.push_str("; } }")?;
+    Ok(source)
+}
+
+/// So many pieces between a beginning and an end.
+fn repeated(
+    alloc: Global,
+    first: &str,
+    piece: &str,
+    times: u32,
+    last: &str,
+) -> Result<String, AllocError> {
+    let mut source = String::from_str(alloc, first)?;
+    for _ in 0..times {
+        source.push_str(piece)?;
+    }
+    source.push_str(last)?;
+    Ok(source)
+}
+
+#[test]
+fn sources_are_programs_or_refused_at_a_token(rt: HostRuntime) -> Result<(), Fail> {
+    let cases: &[(&str, &[u8], &str)] = &[
+        ("nothing", b"", "at 0"),
+        ("a word alone", b"int", "at 0"),
+        ("an empty class", b"class A { }", "program of 4 tokens"),
+        ("a class that is cut off", b"class A {", "at 3"),
+        ("a brace too many", b"class A { } }", "at 4"),
+        (
+            "using first",
+            b"using System.Text; class A { }",
+            "program of 9 tokens",
+        ),
+        ("using last", b"class A { } using System;", "at 4"),
+        (
+            "else of the nearest if",
+            b"class A { A() { if (1) if (2) ; else ; } }",
+            "program of 20 tokens",
+        ),
+        (
+            "else without if",
+            b"class A { A() { if (1) ; else ; else ; } }",
+            "at 14",
+        ),
+        ("a name alone", b"class A { A() { x; } }", "at 8"),
+        ("a field", b"class A { A() { a.b; } }", "at 10"),
+        (
+            "a sum as a statement",
+            b"class A { A() { 1 + 2; } }",
+            "at 7",
+        ),
+        (
+            "a header that is missing",
+            b"class A { async f() { } & }",
+            "at 9",
+        ),
+        (
+            "two names of a constructor",
+            b"class A { f() g() { } }",
+            "at 6",
+        ),
+        (
+            "a chord of three",
+            b"class A { int f() & async g(int x) & async h(A a, bool b) { return x; } }",
+            "program of 30 tokens",
+        ),
+        (
+            "marks that no program has",
+            b"class A { A() { x = 1 ++ 2; } }",
+            "at 10",
+        ),
+        (
+            "a number after a literal",
+            b"class A { A() { x = \"a\" 1; } }",
+            "at 10",
+        ),
+        ("buffer", BUFFER, "program of 59 tokens"),
+        (
+            "readers and writers",
+            READERS_AND_WRITERS,
+            "program of 336 tokens",
+        ),
+        ("santa", SANTA, "program of 260 tokens"),
+    ];
+    for (name, source, wanted) in cases {
+        let found = answer(rt.alloc(), source)?;
+        assert_eq!(rt; found.as_str(), *wanted, "{name}");
+    }
+    Ok(())
+}
+
+#[test]
+fn a_token_is_at_most_200_deep(rt: HostRuntime) -> Result<(), Fail> {
+    let source = nested(rt.alloc(), 98)?;
+    let found = answer(rt.alloc(), source.as_bytes())?;
+    assert_eq!(rt; found.as_str(), "program of 210 tokens");
+    let source = nested(rt.alloc(), 99)?;
+    let found = answer(rt.alloc(), source.as_bytes())?;
+    assert_eq!(rt; found.as_str(), "tall 109");
+    Ok(())
+}
+
+#[test]
+fn chains_and_classes_are_read_in_loops(rt: HostRuntime) -> Result<(), Fail> {
+    let source = repeated(rt.alloc(), "class A { A() { x = 1", "+1", 100_000, "; } }")?;
+    let found = answer(rt.alloc(), source.as_bytes())?;
+    assert_eq!(rt; found.as_str(), "program of 200013 tokens");
+    let source = repeated(rt.alloc(), "", "class A{}", 10_000, "")?;
+    let found = answer(rt.alloc(), source.as_bytes())?;
+    assert_eq!(rt; found.as_str(), "program of 40000 tokens");
+    Ok(())
+}
