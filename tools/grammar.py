@@ -158,7 +158,7 @@ def symbols(g):
 def productions(g):
     o = [f"-- The grammar, a production a line. A symbol stands for each repeated or optional part; a capital is a token of a class. {MADE}",
          "use Rattle.std.specs.Prelude.{ℕ, List, [], ◌∷◌}",
-         "use Rattle.chord_tree.specs.Part.{Part, Production, ◌⟶◌}",
+         "use Rattle.chord_tree.specs.Part.{Part, Production, ◌⟶◌, number_of}",
          "use Rattle.chord_tree.specs.Symbols.{" + ", ".join(g.heads + g.classes[:-len(UNUSED)]) + "}", "",
          "unfoldable pub productions : List Production", "productions ="]
     seen = None
@@ -169,10 +169,10 @@ def productions(g):
         o.append(f"    ({head} ⟶ {listed(side)}) ∷")
     o += ["    []", "",
           "-- the depth of a token counts the nodes of these symbols around it",
-          "unfoldable pub counted : List ℕ", "counted = " + listed(g.symbol[x] for x in COUNTED)]
+          "unfoldable pub counted : List ℕ", "counted = " + listed(f"number_of {x}" for x in COUNTED)]
     said = {"rule_count": "how many productions there are", "symbol_count": "how many symbols there are", "class_count": "how many classes of tokens there are",
-            "else_class": "the class of `else`", "no_else": "the production of an `if` without `else`"}
-    for name, value in [("rule_count", len(g.rules)), ("symbol_count", len(g.heads)), ("class_count", g.end), ("else_class", g.number["ELSE"]), ("no_else", g.no_else)]:
+            "else_class": "the class of `else`", "no_else": "the place among the productions of `Optional_else ⟶ []`: an `if` without `else`"}
+    for name, value in [("rule_count", len(g.rules)), ("symbol_count", len(g.heads)), ("class_count", g.end), ("else_class", "number_of ELSE"), ("no_else", g.no_else)]:
         o += ["", f"-- {said[name]}", f"unfoldable pub {name} : ℕ", f"{name} = {value}"]
     return o
 

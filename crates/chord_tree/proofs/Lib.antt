@@ -13,3 +13,4 @@ pub mod WordsStmts
 pub mod WordsClasses
 pub mod Checked
 pub mod Counts
+pub mod Spots

@@ -13,6 +13,7 @@ Spelled = Kind × ℕ
 abbrev pub Want : Type 0
 Want = Part × ℕ
 
+-- the kinds of tokens, without their depths
 abbrev pub kinds_of : List Spelled → List Kind
 kinds_of [] = []
 kinds_of ((kind, depth) ∷ more) = kind ∷ kinds_of more
@@ -22,6 +23,7 @@ abbrev pub next : List Kind → ℕ
 next [] = class_count
 next (kind ∷ more) = class_of kind
 
+-- a number stands in a list
 abbrev pub has : List ℕ → ℕ → Bool
 has [] c = false
 has (x ∷ more) c = nat_eq x c || has more c
@@ -37,6 +39,7 @@ parts_of i = (get_or productions i (Terminal 0, [])).1
 unfoldable pub inside : ℕ → ℕ → ℕ
 inside x depth = cond (has counted x) (depth + 1) depth
 
+-- parts that are still to come, all at one depth
 abbrev pub placed : ℕ → List Part → List Want
 placed depth [] = []
 placed depth (part ∷ more) = (part, depth) ∷ placed depth more

@@ -7,9 +7,11 @@ use Rattle.chord_tree.specs.declared.classes.ModifierWord.TheVariants as modifie
 use Rattle.chord_tree.specs.declared.classes.ReturnType.TheVariants as results
 use Rattle.chord_tree.specs.Tree.{ExprTree, Simple, Variable, New, Literal, MakeActuals, NoExprs, MoreExprs, NoDots, MoreDots, MakeDot, CallsThrough, Gives, MakeBlock, NoItems, MoreItems, Declares, Does, ItemTree, HeaderTree, AChord, ClassTree, ProgramTree}
 
+-- a name, by its bytes and the number of its token
 abbrev named : List ℕ → ℕ → Name
 named bytes at = record { text = bytes; at = at }
 
+-- a variable alone
 abbrev variable : List ℕ → ℕ → ExprTree
 variable bytes at = Simple (Variable (named bytes at)) NoDots
 
@@ -74,5 +76,6 @@ main_class = record {
   end = 58;
 }
 
+-- the whole program
 abbrev pub example : ProgramTree
 example = record { usings = []; classes = buffer_class ∷ main_class ∷ [] }

@@ -13,9 +13,11 @@ use Rattle.chord_tree.specs.Node.{Node, Nodes, End, ◌▸◌, Made}
 use Rattle.chord_tree.specs.Tree.{ExprTree, DotTrees, StmtTree, BlockTree, ItemTrees, ItemTree, Assigns, Calls, CallsThrough, CallsThis, Makes, Braces, Nothing, IfThen, IfElse, Repeats, Returns, Gives, MakeBlock, NoItems, MoreItems, Declares, Does}
 use Rattle.chord_tree.specs.Shape.{word, mark, name, node_expr, node_actuals, node_dots, node_dot}
 
+-- ";"
 abbrev pub semicolon : Node
 semicolon = mark marks.Semicolon 0
 
+-- the word of a basic type
 abbrev pub basic_word : BasicType → Keyword
 basic_word basics.Int = words.Int
 basic_word basics.Bool = words.Bool
@@ -42,6 +44,7 @@ as_item (Calls x actuals calls) other = Made grammar.Item (name x ▸ Made gramm
 as_item (CallsThrough x first calls) other = Made grammar.Item (name x ▸ Made grammar.After_name (node_tail (CallsThrough x first calls) ▸ End) ▸ semicolon ▸ End)
 as_item _ other = Made grammar.Item (other ▸ End)
 
+-- a local with its value: its type is a word, or the name of a class
 abbrev pub local_item : ValueType → Name → ℕ → ExprTree → Node
 local_item (types.Basic basic at) x assign value = Made grammar.Item (word (basic_word basic) at ▸ name x ▸ mark marks.Assign assign ▸ node_expr value ▸ semicolon ▸ End)
 local_item (types.Class class) x assign value = Made grammar.Item (name class ▸ Made grammar.After_name (name x ▸ mark marks.Assign assign ▸ node_expr value ▸ End) ▸ semicolon ▸ End)
@@ -60,17 +63,21 @@ abbrev mutual
   node_other (Makes at x actuals calls) = Made grammar.Other (word words.New at ▸ name x ▸ node_actuals actuals ▸ node_dots calls ▸ semicolon ▸ End)
   node_other _ = Made grammar.Other End
 
+  -- "{" { Item } "}"
   pub node_block : BlockTree → Node
   node_block (MakeBlock items end) = Made grammar.Block (mark marks.OpenBrace 0 ▸ node_items items ▸ mark marks.CloseBrace end ▸ End)
 
+  -- { Item }
   pub node_items : ItemTrees → Node
   node_items NoItems = Made grammar.Items End
   node_items (MoreItems (Declares value_type x assign value) more) = Made grammar.Items (local_item value_type x assign value ▸ node_items more ▸ End)
   node_items (MoreItems (Does stmt) more) = Made grammar.Items (as_item stmt (node_other stmt) ▸ node_items more ▸ End)
 
+-- a statement as a branch or a body of a loop
 abbrev pub node_stmt : StmtTree → Node
 node_stmt stmt = as_stmt stmt (node_other stmt)
 
+-- an item of a block
 abbrev pub node_item : ItemTree → Node
 node_item (Declares value_type x assign value) = local_item value_type x assign value
 node_item (Does stmt) = as_item stmt (node_other stmt)

@@ -19,6 +19,7 @@ use Rattle.chord_tree.specs.Tree.{FormalsTree, HeaderTree, MemberTree, AConstruc
 use Rattle.chord_tree.specs.Shape.{word, mark, name}
 use Rattle.chord_tree.specs.Forms.{semicolon, basic_word, node_block}
 
+-- the word of a modifier
 abbrev pub modifier_word : ModifierWord → Keyword
 modifier_word modifiers.Public = words.Public
 modifier_word modifiers.Private = words.Private
@@ -27,28 +28,35 @@ modifier_word modifiers.Virtual = words.Virtual
 modifier_word modifiers.Override = words.Override
 modifier_word modifiers.Static = words.Static
 
+-- "public" | "private" | "protected" | "virtual" | "override" | "static"
 abbrev pub node_modifier : Modifier → Node
 node_modifier modifier = Made grammar.Modifier (word (modifier_word modifier.word) modifier.at ▸ End)
 
+-- { Modifier }
 abbrev pub node_modifiers : List Modifier → Node
 node_modifiers [] = Made grammar.Modifiers End
 node_modifiers (modifier ∷ more) = Made grammar.Modifiers (node_modifier modifier ▸ node_modifiers more ▸ End)
 
+-- "int" | "bool" | "string" | Name
 abbrev pub node_type : ValueType → Node
 node_type (types.Basic basic at) = Made grammar.Value_type (word (basic_word basic) at ▸ End)
 node_type (types.Class class) = Made grammar.Value_type (name class ▸ End)
 
+-- ValueType Name
 abbrev pub node_formal : Formal → Node
 node_formal formal = Made grammar.Formal (node_type formal.value_type ▸ name formal.name ▸ End)
 
+-- { "," Formal }
 abbrev pub node_more_formals : List Formal → Node
 node_more_formals [] = Made grammar.More_formals End
 node_more_formals (formal ∷ more) = Made grammar.More_formals (mark marks.Comma 0 ▸ node_formal formal ▸ node_more_formals more ▸ End)
 
+-- [ Formal { "," Formal } ]
 abbrev pub node_formal_list : List Formal → Node
 node_formal_list [] = Made grammar.Optional_formals End
 node_formal_list (formal ∷ more) = Made grammar.Optional_formals (node_formal formal ▸ node_more_formals more ▸ End)
 
+-- "(" [ Formal { "," Formal } ] ")"
 abbrev pub node_formals : FormalsTree → Node
 node_formals formals = Made grammar.Formals (mark marks.OpenParenthesis formals.at ▸ node_formal_list formals.all ▸ mark marks.CloseParenthesis 0 ▸ End)
 
@@ -59,13 +67,16 @@ node_plain (results.Void at) = Made grammar.Plain (word words.Void at ▸ End)
 node_plain (results.Value (types.Basic basic at)) = Made grammar.Plain (word (basic_word basic) at ▸ End)
 node_plain (results.Value (types.Class class)) = Made grammar.Plain End
 
+-- Plain | Name
 abbrev pub node_result : ReturnType → Node
 node_result (results.Value (types.Class class)) = Made grammar.Result (name class ▸ End)
 node_result result = Made grammar.Result (node_plain result ▸ End)
 
+-- { Modifier } Result Name Formals
 abbrev pub node_header : HeaderTree → Node
 node_header header = Made grammar.Header (node_modifiers header.modifiers ▸ node_result header.result_type ▸ name header.name ▸ node_formals header.formals ▸ End)
 
+-- { "&" Header }
 abbrev pub node_headers : List HeaderTree → Node
 node_headers [] = Made grammar.Headers End
 node_headers (header ∷ more) = Made grammar.Headers (mark marks.Ampersand 0 ▸ node_header header ▸ node_headers more ▸ End)
@@ -75,40 +86,50 @@ abbrev pub node_rest : ReturnType → Name → FormalsTree → List HeaderTree �
 node_rest (results.Value (types.Class class)) x formals more body = Made grammar.Rest (name class ▸ Made grammar.After (name x ▸ node_formals formals ▸ node_headers more ▸ node_block body ▸ End) ▸ End)
 node_rest result x formals more body = Made grammar.Rest (node_plain result ▸ name x ▸ node_formals formals ▸ node_headers more ▸ node_block body ▸ End)
 
+-- a chord: its first header is no Header, since its modifiers stand before Rest
 abbrev pub node_chord : List HeaderTree → BlockTree → Node
 node_chord [] body = Made grammar.Member (node_block body ▸ End)
 node_chord (header ∷ more) body = Made grammar.Member (node_modifiers header.modifiers ▸ node_rest header.result_type header.name header.formals more body ▸ End)
 
+-- { Modifier } Rest
 abbrev pub node_member : MemberTree → Node
 node_member (AConstructor modifiers x formals body) = Made grammar.Member (node_modifiers modifiers ▸ Made grammar.Rest (name x ▸ Made grammar.After (node_formals formals ▸ node_block body ▸ End) ▸ End) ▸ End)
 node_member (AChord headers body) = node_chord headers body
 
+-- { Member }
 abbrev pub node_members : List MemberTree → Node
 node_members [] = Made grammar.Members End
 node_members (member ∷ more) = Made grammar.Members (node_member member ▸ node_members more ▸ End)
 
+-- [ "public" ]
 abbrev pub node_public : Option ℕ → Node
 node_public None = Made grammar.Optional_public End
 node_public (Some at) = Made grammar.Optional_public (word words.Public at ▸ End)
 
+-- [ ":" Name ]
 abbrev pub node_base : Option Name → Node
 node_base None = Made grammar.Optional_base End
 node_base (Some x) = Made grammar.Optional_base (mark marks.Colon 0 ▸ name x ▸ End)
 
+-- [ "public" ] "class" Name [ ":" Name ] "{" { Member } "}"
 abbrev pub node_class : ClassTree → Node
 node_class class = Made grammar.Class (node_public class.public_at ▸ word words.Class 0 ▸ name class.name ▸ node_base class.base ▸ mark marks.OpenBrace 0 ▸ node_members class.members ▸ mark marks.CloseBrace class.end ▸ End)
 
+-- { Class }
 abbrev pub node_classes : List ClassTree → Node
 node_classes [] = Made grammar.Classes End
 node_classes (class ∷ more) = Made grammar.Classes (node_class class ▸ node_classes more ▸ End)
 
+-- { "." Name }
 abbrev pub node_name_parts : List NamePart → Node
 node_name_parts [] = Made grammar.Name_parts End
 node_name_parts (part ∷ more) = Made grammar.Name_parts (mark marks.Dot part.at ▸ name part.name ▸ node_name_parts more ▸ End)
 
+-- "using" Name { "." Name } ";"
 abbrev pub node_using : UsingTree → Node
 node_using line = Made grammar.Using (word words.Using 0 ▸ name line.first ▸ node_name_parts line.parts ▸ semicolon ▸ End)
 
+-- { Using }
 abbrev pub node_usings : List UsingTree → Node
 node_usings [] = Made grammar.Usings End
 node_usings (line ∷ more) = Made grammar.Usings (node_using line ▸ node_usings more ▸ End)
@@ -118,5 +139,6 @@ abbrev pub node_all_classes : List UsingTree → List ClassTree → Node
 node_all_classes usings [] = Made grammar.Program (node_usings usings ▸ End)
 node_all_classes usings (class ∷ more) = Made grammar.Program (node_usings usings ▸ node_class class ▸ node_classes more ▸ End)
 
+-- { Using } Class { Class }
 abbrev pub node_program : ProgramTree → Node
 node_program program = node_all_classes program.usings program.classes

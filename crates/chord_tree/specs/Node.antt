@@ -14,6 +14,7 @@ mutual
     Leaf : Kind → ℕ → Node
     Made : Part → Nodes → Node
 
+  -- nodes side by side
   pub data Nodes : Type 0 where
     End : Nodes
     ◌▸◌ : Node → Nodes → Nodes
@@ -24,6 +25,7 @@ abbrev mutual
   spell (Leaf kind at) depth w = (kind, depth) ∷ w
   spell (Made part inner) depth w = spell_all inner (inside (number_of part) depth) w
 
+  -- the tokens of nodes side by side
   pub spell_all : Nodes → ℕ → List Spelled → List Spelled
   spell_all End depth w = w
   spell_all (node ▸ rest) depth w = spell node depth (spell_all rest depth w)
@@ -35,6 +37,7 @@ mutual
     made : {x d : ℕ} {ns : Nodes} {w : List Spelled} → (i : ℕ) → i < rule_count → head_of i ≡ x → allowed i (next (kinds_of (spell_all ns (inside x d) w))) ≡ true
         → FitAll (parts_of i) (inside x d) ns w → Fits (Symbol x) d (Made (Symbol x) ns) w
 
+  -- The grammar derives the nodes from the parts, one from each, where w follows them.
   pub data FitAll : List Part → ℕ → Nodes → List Spelled → Type 0 where
     none : {d : ℕ} {w : List Spelled} → FitAll [] d End w
     more : {p : Part} {ps : List Part} {d : ℕ} {n : Node} {ns : Nodes} {w : List Spelled} → Fits p d n (spell_all ns d w) → FitAll ps d ns w → FitAll (p ∷ ps) d (n ▸ ns) w
@@ -57,6 +60,7 @@ abbrev mutual
   size (Leaf kind at) = 1
   size (Made part inner) = size_all inner
 
+  -- how many tokens nodes side by side have
   pub size_all : Nodes → ℕ
   size_all End = 0
   size_all (node ▸ rest) = size node + size_all rest
@@ -67,6 +71,7 @@ abbrev mutual
   IsNumbered (Leaf kind number) at = number ≡ number_at kind at
   IsNumbered (Made part inner) at = AreNumbered inner at
 
+  -- the same of nodes side by side
   pub AreNumbered : Nodes → ℕ → Type 0
   AreNumbered End at = Unit {0}
   AreNumbered (node ▸ rest) at = IsNumbered node at × AreNumbered rest (at + size node)

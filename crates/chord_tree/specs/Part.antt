@@ -11,6 +11,7 @@ pub data Part : Type 0 where
 abbrev pub Production : Type 0
 Production = Part × List Part
 
+-- a production, as it is written: its symbol and its right side
 abbrev pub ◌⟶◌ : Part → List Part → Production
 head ⟶ side = (head, side)
 

@@ -35,6 +35,7 @@ abbrev mutual
   words (Leaf kind at) = kind ∷ []
   words (Made part inner) = words_all inner
 
+  -- the kinds of the tokens of nodes side by side
   pub words_all : Nodes → List Kind
   words_all End = []
   words_all (node ▸ rest) = words node ++ words_all rest

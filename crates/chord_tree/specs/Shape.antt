@@ -30,6 +30,7 @@ level_symbol l = get_or (grammar.Unary ∷ grammar.Product ∷ grammar.Sum ∷ g
 abbrev pub level_tail : ℕ → Part
 level_tail l = get_or (grammar.More_product ∷ grammar.More_product ∷ grammar.More_sum ∷ grammar.More_order ∷ grammar.More_equal ∷ grammar.More_and ∷ grammar.More_or ∷ []) l grammar.More_or
 
+-- the level of an operator
 abbrev pub level : Operator → ℕ
 level operators.Or = 6
 level operators.And = 5
@@ -45,6 +46,7 @@ level operators.Times = 1
 level operators.Divide = 1
 level operators.Remainder = 1
 
+-- how an operator is written
 abbrev pub mark_of : Operator → Mark
 mark_of operators.Or = marks.Or
 mark_of operators.And = marks.And
@@ -60,6 +62,7 @@ mark_of operators.Times = marks.Times
 mark_of operators.Divide = marks.Divide
 mark_of operators.Remainder = marks.Remainder
 
+-- the level of a link is that of its operator
 abbrev pub link_level : LinkTree → ℕ
 link_level (MakeLink operator at operand) = level operator
 
@@ -88,10 +91,12 @@ abbrev mutual
   bare (Denied at operand) = Made grammar.Unary (mark marks.Not at ▸ bare operand ▸ End)
   bare (Simple start calls) = Made grammar.Unary (Made grammar.Primary (node_start start ▸ node_dots calls ▸ End) ▸ End)
 
+  -- further operands of a level, each behind its operator
   pub node_links : ℕ → LinkTrees → Node
   node_links l NoLinks = Made (level_tail l) End
   node_links l (MoreLinks (MakeLink operator at operand) more) = Made (level_tail l) (mark (mark_of operator) at ▸ lifted (l - 1) (rank operand) (bare operand) ▸ node_links l more ▸ End)
 
+  -- Name [ Actuals ] | "this" | "new" Name Actuals | Number | Literal | "true" | "false" | "(" Expr ")"
   pub node_start : StartTree → Node
   node_start (Variable x) = Made grammar.Start (name x ▸ Made grammar.Optional_actuals End ▸ End)
   node_start (Called x actuals) = Made grammar.Start (name x ▸ Made grammar.Optional_actuals (node_actuals actuals ▸ End) ▸ End)
@@ -103,17 +108,21 @@ abbrev mutual
   node_start (No at) = Made grammar.Start (word words.False at ▸ End)
   node_start (Group at inner) = Made grammar.Start (mark marks.OpenParenthesis at ▸ lifted 6 (rank inner) (bare inner) ▸ mark marks.CloseParenthesis 0 ▸ End)
 
+  -- "(" [ Expr { "," Expr } ] ")"
   pub node_actuals : ActualsTree → Node
   node_actuals (MakeActuals at all) = Made grammar.Actuals (mark marks.OpenParenthesis at ▸ node_exprs all ▸ mark marks.CloseParenthesis 0 ▸ End)
 
+  -- [ Expr { "," Expr } ]
   pub node_exprs : ExprTrees → Node
   node_exprs NoExprs = Made grammar.Optional_exprs End
   node_exprs (MoreExprs expr more) = Made grammar.Optional_exprs (lifted 6 (rank expr) (bare expr) ▸ node_more more ▸ End)
 
+  -- { "," Expr }
   pub node_more : ExprTrees → Node
   node_more NoExprs = Made grammar.More_exprs End
   node_more (MoreExprs expr more) = Made grammar.More_exprs (mark marks.Comma 0 ▸ lifted 6 (rank expr) (bare expr) ▸ node_more more ▸ End)
 
+  -- { Dot }
   pub node_dots : DotTrees → Node
   node_dots NoDots = Made grammar.Dots End
   node_dots (MoreDots (MakeDot at x actuals) more) = Made grammar.Dots (Made grammar.Dot (mark marks.Dot at ▸ name x ▸ node_actuals actuals ▸ End) ▸ node_dots more ▸ End)
@@ -126,5 +135,6 @@ node_at l expr = lifted l (rank expr) (bare expr)
 abbrev pub node_expr : ExprTree → Node
 node_expr expr = node_at 6 expr
 
+-- "." Name Actuals
 abbrev pub node_dot : DotTree → Node
 node_dot (MakeDot at x actuals) = Made grammar.Dot (mark marks.Dot at ▸ name x ▸ node_actuals actuals ▸ End)

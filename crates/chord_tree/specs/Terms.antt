@@ -5,6 +5,7 @@ use Rattle.chord_tree.specs.declared.exprs.Operator.{Operator}
 use Rattle.chord_tree.specs.Tree.{ExprTree, LinkTrees, LinkTree, StartTree, ActualsTree, ExprTrees, DotTrees, DotTree, Chained, Negated, Denied, Simple, NoLinks, MoreLinks, MakeLink, Variable, Called, This, New, Numeral, Literal, Yes, No, Group, MakeActuals, NoExprs, MoreExprs, NoDots, MoreDots, MakeDot, StmtTree, Assigns, Calls, CallsThrough, CallsThis, Makes, Braces, Nothing, IfThen, IfElse, Repeats, Returns, Gives}
 
 mutual
+  -- an expression
   pub data Term : Type 0 where
     -- a variable, or the word `Console` before a dot
     Named : (name : Name) → Term
@@ -24,6 +25,7 @@ mutual
     -- a call on a receiver; dot is the number of `.`
     Call : (receiver : Term) (dot : ℕ) (name : Name) (brackets : ℕ) (actuals : Terms) → Term
 
+  -- arguments
   pub data Terms : Type 0 where
     NoTerms : Terms
     MoreTerms : Term → Terms → Terms
@@ -46,6 +48,7 @@ abbrev mutual
   called NoDots receiver = receiver
   called (MoreDots (MakeDot dot name (MakeActuals at all)) more) receiver = called more (Call receiver dot name at (terms all))
 
+  -- what an expression without operators begins with
   pub started : StartTree → Bool → Term
   started (Variable name) minus = Named name
   started (Called name (MakeActuals at all)) minus = OwnCall name at (terms all)
@@ -57,10 +60,12 @@ abbrev mutual
   started (No at) minus = Flag false at
   started (Group at inner) minus = Bracketed at (term_after inner false)
 
+  -- arguments
   pub terms : ExprTrees → Terms
   terms NoExprs = NoTerms
   terms (MoreExprs expr more) = MoreTerms (term_after expr false) (terms more)
 
+-- an expression that does not stand directly after `-`
 abbrev pub term : ExprTree → Term
 term expr = term_after expr false
 

@@ -16,6 +16,7 @@ mutual
     Denied : (at : ℕ) (operand : ExprTree) → ExprTree
     Simple : (start : StartTree) (calls : DotTrees) → ExprTree
 
+  -- further operators of one level, each with its right operand
   pub data LinkTrees : Type 0 where
     NoLinks : LinkTrees
     MoreLinks : LinkTree → LinkTrees → LinkTrees
@@ -24,6 +25,7 @@ mutual
   pub data LinkTree : Type 0 where
     MakeLink : (operator : Operator) (at : ℕ) (operand : ExprTree) → LinkTree
 
+  -- what an expression without operators begins with
   pub data StartTree : Type 0 where
     Variable : (name : Name) → StartTree
     Called : (name : Name) (actuals : ActualsTree) → StartTree
@@ -39,10 +41,12 @@ mutual
   pub data ActualsTree : Type 0 where
     MakeActuals : (at : ℕ) (all : ExprTrees) → ActualsTree
 
+  -- arguments
   pub data ExprTrees : Type 0 where
     NoExprs : ExprTrees
     MoreExprs : ExprTree → ExprTrees → ExprTrees
 
+  -- calls, each on what those before it give
   pub data DotTrees : Type 0 where
     NoDots : DotTrees
     MoreDots : DotTree → DotTrees → DotTrees
@@ -71,10 +75,12 @@ mutual
   pub data BlockTree : Type 0 where
     MakeBlock : (items : ItemTrees) (end : ℕ) → BlockTree
 
+  -- items of a block
   pub data ItemTrees : Type 0 where
     NoItems : ItemTrees
     MoreItems : ItemTree → ItemTrees → ItemTrees
 
+  -- a local with its value, or a statement
   pub data ItemTree : Type 0 where
     Declares : (value_type : ValueType) (name : Name) (assign : ℕ) (value : ExprTree) → ItemTree
     Does : (stmt : StmtTree) → ItemTree
@@ -84,12 +90,14 @@ pub record FormalsTree : Type 0 where
   pub at : ℕ
   pub all : List Formal
 
+-- a method's header
 pub record HeaderTree : Type 0 where
   pub modifiers : List Modifier
   pub result_type : ReturnType
   pub name : Name
   pub formals : FormalsTree
 
+-- a member of a class: a constructor, or a chord of one header or more
 pub data MemberTree : Type 0 where
   AConstructor : (modifiers : List Modifier) (name : Name) (formals : FormalsTree) (body : BlockTree) → MemberTree
   AChord : (headers : List HeaderTree) (body : BlockTree) → MemberTree
@@ -102,14 +110,17 @@ pub record ClassTree : Type 0 where
   pub members : List MemberTree
   pub end : ℕ
 
+-- a `using` line: the first part of its name, and the others with their dots
 pub record UsingTree : Type 0 where
   pub first : Name
   pub parts : List NamePart
 
+-- the lines and the classes of a program, in the order of the text
 pub record ProgramTree : Type 0 where
   pub usings : List UsingTree
   pub classes : List ClassTree
 
+-- links, of a list of them
 abbrev pub links : List LinkTree → LinkTrees
 links [] = NoLinks
 links (link ∷ more) = MoreLinks link (links more)
@@ -119,14 +130,17 @@ abbrev pub chained : ExprTree → List LinkTree → ExprTree
 chained first [] = first
 chained first (link ∷ more) = Chained first link (links more)
 
+-- arguments, of a list of them
 abbrev pub exprs : List ExprTree → ExprTrees
 exprs [] = NoExprs
 exprs (expr ∷ more) = MoreExprs expr (exprs more)
 
+-- calls, of a list of them
 abbrev pub dots : List DotTree → DotTrees
 dots [] = NoDots
 dots (dot ∷ more) = MoreDots dot (dots more)
 
+-- items, of a list of them
 abbrev pub items : List ItemTree → ItemTrees
 items [] = NoItems
 items (item ∷ more) = MoreItems item (items more)

@@ -9,6 +9,7 @@ use Rattle.chord_tree.specs.declared.classes.Using.{Using}
 use Rattle.chord_tree.specs.Tree.{FormalsTree, HeaderTree, MemberTree, AConstructor, AChord, ClassTree, UsingTree, ProgramTree}
 use Rattle.chord_tree.specs.ViewStmts.{see_block}
 
+-- the trees of what lies in memory
 abbrev pub see_formals : Formals → FormalsTree
 see_formals formals = record { at = formals.at; all = formals.all.items }
 
@@ -41,5 +42,6 @@ pub record Parts : Type 0 where
   pub usings : List Using
   pub classes : List Class
 
+-- the tree of a program
 abbrev pub tree_of : Parts → ProgramTree
 tree_of parts = record { usings = map see_using parts.usings; classes = map see_class parts.classes }

@@ -10,6 +10,7 @@ use Rattle.chord_tree.specs.declared.exprs.Expr.TheOpen as parts
 use Rattle.chord_tree.specs.declared.exprs.Expr.TheFolds.{fold-Expr, fold-Link, fold-Start, fold-Actuals, fold-Dot}
 use Rattle.chord_tree.specs.Tree.{ExprTree, LinkTree, StartTree, ActualsTree, DotTree, Negated, Denied, Simple, MakeLink, Variable, Called, This, New, Numeral, Literal, Yes, No, Group, MakeActuals, MakeDot, chained, exprs, dots}
 
+-- each node, where its parts are seen
 abbrev pub expr_step : Expr-F ExprTree StartTree ActualsTree DotTree LinkTree → ExprTree
 expr_step (parts.Chain first more) = chained first.value more.items
 expr_step (parts.Minus at operand) = Negated at operand.value
@@ -36,6 +37,7 @@ dot_step dot = MakeDot dot.at dot.name dot.actuals
 abbrev pub link_step : Link-F ExprTree StartTree ActualsTree DotTree LinkTree → LinkTree
 link_step link = MakeLink link.operator link.at link.operand
 
+-- the trees of what lies in memory
 abbrev pub see_expr : Expr → ExprTree
 see_expr = fold-Expr ExprTree StartTree ActualsTree DotTree LinkTree expr_step start_step actuals_step dot_step link_step
 

@@ -9,6 +9,7 @@ use Rattle.chord_tree.specs.declared.stmts.Item.TheFolds.{fold-Item, fold-Stmt, 
 use Rattle.chord_tree.specs.Tree.{StmtTree, BlockTree, ItemTree, Assigns, Calls, CallsThrough, CallsThis, Makes, Braces, Nothing, IfThen, IfElse, Repeats, Returns, Gives, MakeBlock, Declares, Does, dots, items}
 use Rattle.chord_tree.specs.ViewExprs.{see_expr, see_actuals, see_dot}
 
+-- each node, where its parts are seen
 abbrev pub item_step : Item-F ItemTree StmtTree BlockTree → ItemTree
 item_step (parts.Local value_type name assign value) = Declares value_type name assign (see_expr value)
 item_step (parts.Plain stmt) = Does stmt
@@ -30,6 +31,7 @@ stmt_step (parts.ReturnValue at value) = Gives at (see_expr value)
 abbrev pub block_step : Block-F ItemTree StmtTree BlockTree → BlockTree
 block_step block = MakeBlock (items block.items.items) block.end
 
+-- the trees of what lies in memory
 abbrev pub see_item : Item → ItemTree
 see_item = fold-Item ItemTree StmtTree BlockTree item_step stmt_step block_step
 

@@ -14,10 +14,12 @@ member_headers (AChord headers body) = headers
 abbrev pub headers_of : ClassTree → List HeaderTree
 headers_of class = flat_map member_headers class.members
 
+-- the body of a member
 abbrev pub body_of : MemberTree → BlockTree
 body_of (AConstructor modifiers name formals body) = body
 body_of (AChord headers body) = body
 
+-- the items of a block
 abbrev pub block_items : BlockTree → ItemTrees
 block_items (MakeBlock items end) = items
 
@@ -37,6 +39,7 @@ pub data Role : Type 0 where
 -- What is noted at each expression and at each item, where a surrounding goes along: what is in scope, say. After an item it is the surrounding of the next.
 module _ {Around Note : Type 0} (after : Around → ItemTree → Around) (at_term : Around → Role → Term → List Note) (at_item : Around → ItemTree → List Note) where
   abbrev mutual
+    -- an expression, after its parts
     pub over_term : Around → Role → Term → List Note
     over_term around role (Bracketed at inner) = over_term around Used inner ++ at_term around role (Bracketed at inner)
     over_term around role (Minus at operand) = over_term around Used operand ++ at_term around role (Minus at operand)
@@ -51,6 +54,7 @@ module _ {Around Note : Type 0} (after : Around → ItemTree → Around) (at_ter
     over_term around role (Quoted bytes at) = at_term around role (Quoted bytes at)
     over_term around role (Flag value at) = at_term around role (Flag value at)
 
+    -- arguments
     pub over_terms : Around → Terms → List Note
     over_terms around NoTerms = []
     over_terms around (MoreTerms expr more) = over_term around Used expr ++ over_terms around more
@@ -83,6 +87,7 @@ module _ {Around Note : Type 0} (after : Around → ItemTree → Around) (at_ter
     pub over_block : Around → BlockTree → List Note
     over_block around (MakeBlock items end) = over_items around items
 
+    -- items: each is followed in the surrounding that it leaves
     pub over_items : Around → ItemTrees → List Note
     over_items around NoItems = []
     over_items around (MoreItems (Declares value_type name assign value) more) = over_value around value ++ (at_item around (Declares value_type name assign value) ++ over_items (after around (Declares value_type name assign value)) more)
@@ -90,11 +95,39 @@ module _ {Around Note : Type 0} (after : Around → ItemTree → Around) (at_ter
 
   -- The bodies of all members, each with the surrounding in which it begins, and what is noted of the member after its body.
   module _ (enter : ClassTree → MemberTree → Around) (at_member : ClassTree → MemberTree → List Note) where
+    -- the body of a member, and then the member
     abbrev pub over_member : ClassTree → MemberTree → List Note
     over_member class member = over_block (enter class member) (body_of member) ++ at_member class member
 
+    -- all members of a class
     abbrev pub over_class : ClassTree → List Note
     over_class class = flat_map (over_member class) class.members
 
+    -- all classes
     abbrev pub over_program : ProgramTree → List Note
     over_program program = flat_map over_class program.classes
+
+-- Where a walk comes by: an expression or an item with its surrounding, or a member.
+pub data Spot (Around : Type 0) : Type 0 where
+  AtTerm : Around → Role → Term → Spot Around
+  AtItem : Around → ItemTree → Spot Around
+  AtMember : ClassTree → MemberTree → Spot Around
+
+abbrev pub spot_of_term : {Around : Type 0} → Around → Role → Term → List (Spot Around)
+spot_of_term around role expr = AtTerm around role expr ∷ []
+
+abbrev pub spot_of_item : {Around : Type 0} → Around → ItemTree → List (Spot Around)
+spot_of_item around item = AtItem around item ∷ []
+
+abbrev pub spot_of_member : {Around : Type 0} → ClassTree → MemberTree → List (Spot Around)
+spot_of_member class member = AtMember class member ∷ []
+
+-- all spots of a program, in the order of the walk
+abbrev pub spots : {Around : Type 0} → (Around → ItemTree → Around) → (ClassTree → MemberTree → Around) → ProgramTree → List (Spot Around)
+spots after enter program = over_program after spot_of_term spot_of_item enter spot_of_member program
+
+-- what is noted at a spot
+abbrev pub at_spot : {Around Note : Type 0} → (Around → Role → Term → List Note) → (Around → ItemTree → List Note) → (ClassTree → MemberTree → List Note) → Spot Around → List Note
+at_spot at_term at_item at_member (AtTerm around role expr) = at_term around role expr
+at_spot at_term at_item at_member (AtItem around item) = at_item around item
+at_spot at_term at_item at_member (AtMember class member) = at_member class member
