@@ -3,15 +3,13 @@
 ghost use Rattle.std.specs.Prelude.{IfOk};
 ghost use Rattle.chord_journal.specs.Gathered.{AreOfJournal};
 
+use crate::{JournalFault, gather, read, write_lines, write_text};
+use chord_base::event::{Entry, What};
+use chord_io::{Failed, MemSink};
 use std::alloc::{AllocError, Global};
 use std::fmt::Write;
 use std::process::Abort;
 use std::test::Fail;
-
-use chord_base::event::{Entry, What};
-use chord_io::{Failed, MemSink};
-
-use crate::{JournalFault, gather, read, write_lines, write_text};
 
 /// A buffer: one text is put and got, and printed.
 const BUFFER: &str = "journal 1 8\n\
@@ -188,7 +186,11 @@ fn keeps_the_bounds_of_each_list(rt: HostRuntime) -> Result<(), Fail> {
         }
         let text = one_entry(rt.alloc(), line.as_str())?;
         let expected = if right { None } else { Some(1) };
-        assert_eq!(rt; wrong_line(rt.alloc(), text.as_str()), expected, "{front}, {times} times");
+        assert_eq!(rt;
+            wrong_line(rt.alloc(), text.as_str()),
+            expected,
+            "{front}, {times} times"
+        );
     }
     Ok(())
 }

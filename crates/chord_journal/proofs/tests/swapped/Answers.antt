@@ -12,6 +12,7 @@ two a b in_a in_b first second = record { few = omega arith; within = within; nu
     within zero d less = in_a
     within (suc zero) d less = in_b
     within (suc (suc k)) d less = absurd (omega (arith, less))
+
     numbered : (n : ℕ) → n < length (a ∷ b ∷ []) → Any (λ e. e.number ≡ n) (a ∷ b ∷ [])
     numbered zero less = (1, b, omega arith, refl, second)
     numbered (suc zero) less = (0, a, omega arith, refl, first)
