@@ -2,6 +2,7 @@
 ghost use Rattle.std.specs.Prelude.{◌≡◌, ℕ, ◌≤◌, OnOk, OnErr, ◌<◌, false, decimal};
 ghost use Rattle.std.specs.Fmt.{digit_glyph, signed_decimal};
 ghost use Rattle.std.specs.List.{flat_map};
+ghost use Rattle.chord_base.specs.Bounds.{IsJournal};
 ghost use Rattle.chord_io.specs.Faults.{Rose};
 ghost use Rattle.chord_io.specs.Pieces.{Took, TookFront};
 ghost use Rattle.chord_io.specs.Pen.{Writes};
@@ -26,7 +27,8 @@ pub fn write_text<K: Sink>(journal: &Journal, sink: &mut K) -> Result<(), Failed
     ensures front { OnErr result (TookFront (K.taken sink.old) (text_of journal.now) (K.taken sink.new)) }
     ensures failed { OnErr result (Rose (K.faults sink.old) (K.faults sink.new)) }
     ensures never_falls { K.faults sink.old ≤ K.faults sink.new }
-    // So `read` takes the text back to this journal.
+    // So `read` of the text gives this journal again.
+    ensures within { IsJournal journal.now }
     ensures typed { AreTyped journal.now }
 {
     let mut pen = Pen::new();
@@ -197,6 +199,7 @@ fn put_value<K: Sink>(pen: &mut Pen, sink: &mut K, value: &Value)
 }
 
 /// Writes a number of 32 bits in decimal, with its sign where it is negative.
+/// It takes a reference, since what it reads through it is known to have 32 bits.
 fn put_signed<K: Sink>(pen: &mut Pen, sink: &mut K, number: &i32)
     ensures written { Writes (K.taken sink.old) (K.faults sink.old) pen.old (signed_decimal number.now) (K.taken sink.new) (K.faults sink.new) pen.new }
     ensures typed { IsInt number.now }
