@@ -1,14 +1,11 @@
 -- Decimals: what their digits stand for.
-use Rattle.std.proofs.Common.{◌≡◌, ℕ, ◌<◌, ◌≤◌, ◌+◌, ◌*◌, ◌-◌, false, List, ◌++◌, length, take, drop, get_or, refl, ap, ◌∙◌, arith}
+use Rattle.std.proofs.Common.{◌≡◌, ℕ, ◌<◌, ◌≤◌, ◌+◌, ◌*◌, ◌-◌, false, List, length, take, get_or, refl, arith}
 use Rattle.std.specs.List.{prefix_len}
-use Rattle.std.specs.Char.{is_ascii_digit, digit_value}
+use Rattle.std.specs.Char.{is_ascii_digit}
 use Rattle.std.specs.Str.Parse.{digits_value}
-use Rattle.std.specs.Int.Digits.{number_from_digits}
-use Rattle.std.proofs.lemmas.Int.Digits.{digits_value_more, digits_value_is, number_after_append, number_after_ge}
+use Rattle.std.proofs.lemmas.Int.Digits.{digits_value_more}
 use Rattle.std.proofs.lemmas.Str.{digit_value_digit}
-use Rattle.std.proofs.lemmas.List.{take-append-drop}
-use Rattle.std.proofs.lemmas.List.{map-append}
-use Rattle.std.specs.Prelude.{map, None, nat_lt}
+use Rattle.std.specs.Prelude.{None, nat_lt}
 use Rattle.chord_journal.specs.Reading.{value_if_below}
 use Rattle.std.proofs.lemmas.Bool.Decides.{nat_tests}
 use Rattle.std.proofs.lemmas.List.Folds.{length-prefix_len}
@@ -22,15 +19,6 @@ value_next ds i within digit =
     let more = digits_value_more 10 ds i within in
     let value = digit_value_digit (get_or ds i 0) digit in
     omega (arith, more, value)
-
--- the first digits stand for no more than all
-pub value_front : (ds : List ℕ) (i : ℕ) → digits_value 10 (take i ds) ≤ digits_value 10 ds
-value_front ds i =
-    let whole = ap (λ xs. digits_value 10 xs) (take-append-drop i ds) in
-    let joined = digits_value_is 10 (take i ds ++ drop i ds) ∙ ap (λ xs. number_from_digits 10 xs) (map-append digit_value (take i ds) (drop i ds)) ∙
-    number_after_append 10 0 (map digit_value (take i ds)) (map digit_value (drop i ds)) in
-    let more = number_after_ge 10 (number_from_digits 10 (map digit_value (take i ds))) (map digit_value (drop i ds)) (omega arith) in
-    omega (arith, whole, joined, more, digits_value_is 10 (take i ds))
 
 -- what stands before the first byte that is no digit is digits
 pub front_digits : (bytes : List ℕ) (i : ℕ) → i < length (take (prefix_len is_ascii_digit bytes) bytes) →

@@ -11,3 +11,4 @@ pub mod Hexes
 pub mod ValueTexts
 pub mod LineTexts
 pub mod JournalTexts
+pub mod Types

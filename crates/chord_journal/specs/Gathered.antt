@@ -8,7 +8,7 @@ pub record IsEntryWithin (e : Entry) : Type 0 where
   pub body : e.body < 65536
   pub what : IsWhatWithin e.what
 
--- at most 65,536 entries within their bounds, whose numbers are those from 0 on, each once
+-- at most 65,536 entries within their bounds, whose numbers are those from 0 on: each number below their count is that of an entry, and so of one alone
 pub record AreOfJournal (entries : List Entry) : Type 0 where
   pub few : length entries ≤ 65536
   pub within : All IsEntryWithin entries

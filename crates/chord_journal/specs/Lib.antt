@@ -1,5 +1,5 @@
 pub mod Text
-pub mod Gathered
-pub mod Reading
 pub mod Typed
 pub mod Wrong
+pub mod Gathered
+pub mod Reading

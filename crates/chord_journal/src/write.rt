@@ -2,9 +2,11 @@
 ghost use Rattle.std.specs.Prelude.{◌≡◌, ℕ, ◌≤◌, OnOk, OnErr, ◌<◌, false, decimal};
 ghost use Rattle.std.specs.Fmt.{digit_glyph, signed_decimal};
 ghost use Rattle.std.specs.List.{flat_map};
+ghost use Rattle.chord_base.specs.Bounds.{IsJournal};
 ghost use Rattle.chord_io.specs.Faults.{Rose};
 ghost use Rattle.chord_io.specs.Pieces.{Took, TookFront};
 ghost use Rattle.chord_io.specs.Pen.{Writes};
+ghost use Rattle.chord_journal.specs.Typed.{IsInt, IsText, IsTypedValue, AreTypedValues, IsTypedEnd, IsTypedWhat, AreTyped};
 ghost use Rattle.chord_journal.specs.Text.{bytes_text, byte_text, object_text, value_text, values_text, numbers_text, message_text, firing_text, trap_text, end_text, what_text, entry_text, header_text, text_of};
 
 use chord_base::event::{End, Entry, Trap, What};
@@ -25,6 +27,9 @@ pub fn write_text<K: Sink>(journal: &Journal, sink: &mut K) -> Result<(), Failed
     ensures front { OnErr result (TookFront (K.taken sink.old) (text_of journal.now) (K.taken sink.new)) }
     ensures failed { OnErr result (Rose (K.faults sink.old) (K.faults sink.new)) }
     ensures never_falls { K.faults sink.old ≤ K.faults sink.new }
+    // So `read` of the text gives this journal again.
+    ensures within { IsJournal journal.now }
+    ensures typed { AreTyped journal.now }
 {
     let mut pen = Pen::new();
     let entries = journal.entries();
@@ -44,7 +49,8 @@ fn put_header<K: Sink>(pen: &mut Pen, sink: &mut K, count: u32)
 
 /// Writes the lines of the entries.
 fn put_entries<K: Sink>(pen: &mut Pen, sink: &mut K, entries: &[Entry])
-    ensures { Writes (K.taken sink.old) (K.faults sink.old) pen.old (flat_map entry_text entries.now) (K.taken sink.new) (K.faults sink.new) pen.new }
+    ensures written { Writes (K.taken sink.old) (K.faults sink.old) pen.old (flat_map entry_text entries.now) (K.taken sink.new) (K.faults sink.new) pen.new }
+    ensures typed { AreTyped entries.now }
 {
     for entry in entries {
         put_entry(pen, sink, entry);
@@ -53,7 +59,8 @@ fn put_entries<K: Sink>(pen: &mut Pen, sink: &mut K, entries: &[Entry])
 
 /// Writes the line of an entry.
 fn put_entry<K: Sink>(pen: &mut Pen, sink: &mut K, entry: &Entry)
-    ensures { Writes (K.taken sink.old) (K.faults sink.old) pen.old (entry_text entry.now) (K.taken sink.new) (K.faults sink.new) pen.new }
+    ensures written { Writes (K.taken sink.old) (K.faults sink.old) pen.old (entry_text entry.now) (K.taken sink.new) (K.faults sink.new) pen.new }
+    ensures typed { IsTypedWhat entry.now.what }
 {
     put_number(pen, sink, entry.number);
     pen.put(sink, b" ");
@@ -65,7 +72,8 @@ fn put_entry<K: Sink>(pen: &mut Pen, sink: &mut K, entry: &Entry)
 
 /// Writes what happened.
 fn put_what<K: Sink>(pen: &mut Pen, sink: &mut K, what: &What)
-    ensures { Writes (K.taken sink.old) (K.faults sink.old) pen.old (what_text what.now) (K.taken sink.new) (K.faults sink.new) pen.new }
+    ensures written { Writes (K.taken sink.old) (K.faults sink.old) pen.old (what_text what.now) (K.taken sink.new) (K.faults sink.new) pen.new }
+    ensures typed { IsTypedWhat what.now }
 {
     match what {
         What::Begun => pen.put(sink, b"begun"),
@@ -98,7 +106,8 @@ fn put_what<K: Sink>(pen: &mut Pen, sink: &mut K, what: &What)
 
 /// Writes a message: its object, its method and its values.
 fn put_message<K: Sink>(pen: &mut Pen, sink: &mut K, object: Object, method: u8, values: &Values)
-    ensures { Writes (K.taken sink.old) (K.faults sink.old) pen.old (message_text object method values.now) (K.taken sink.new) (K.faults sink.new) pen.new }
+    ensures written { Writes (K.taken sink.old) (K.faults sink.old) pen.old (message_text object method values.now) (K.taken sink.new) (K.faults sink.new) pen.new }
+    ensures typed { AreTypedValues values.now }
 {
     put_object(pen, sink, object);
     pen.put(sink, b" ");
@@ -115,7 +124,8 @@ fn put_firing<K: Sink>(
     members: &Members,
     values: &Values,
 )
-    ensures { Writes (K.taken sink.old) (K.faults sink.old) pen.old (firing_text chord object members.now values.now) (K.taken sink.new) (K.faults sink.new) pen.new }
+    ensures written { Writes (K.taken sink.old) (K.faults sink.old) pen.old (firing_text chord object members.now values.now) (K.taken sink.new) (K.faults sink.new) pen.new }
+    ensures typed { AreTypedValues values.now }
 {
     put_number(pen, sink, u32::from(chord));
     pen.put(sink, b" ");
@@ -138,7 +148,8 @@ fn put_members<K: Sink>(pen: &mut Pen, sink: &mut K, members: &Members)
 
 /// Writes values, each behind a blank.
 fn put_values<K: Sink>(pen: &mut Pen, sink: &mut K, values: &Values)
-    ensures { Writes (K.taken sink.old) (K.faults sink.old) pen.old (values_text values.now) (K.taken sink.new) (K.faults sink.new) pen.new }
+    ensures written { Writes (K.taken sink.old) (K.faults sink.old) pen.old (values_text values.now) (K.taken sink.new) (K.faults sink.new) pen.new }
+    ensures typed { AreTypedValues values.now }
 {
     for value in values.items() {
         pen.put(sink, b" ");
@@ -148,7 +159,8 @@ fn put_values<K: Sink>(pen: &mut Pen, sink: &mut K, values: &Values)
 
 /// Writes how a body ended.
 fn put_end<K: Sink>(pen: &mut Pen, sink: &mut K, end: &End)
-    ensures { Writes (K.taken sink.old) (K.faults sink.old) pen.old (end_text end.now) (K.taken sink.new) (K.faults sink.new) pen.new }
+    ensures written { Writes (K.taken sink.old) (K.faults sink.old) pen.old (end_text end.now) (K.taken sink.new) (K.faults sink.new) pen.new }
+    ensures typed { IsTypedEnd end.now }
 {
     match end {
         End::Gives(value) => put_value(pen, sink, value),
@@ -170,7 +182,8 @@ fn put_trap<K: Sink>(pen: &mut Pen, sink: &mut K, trap: Trap)
 
 /// Writes a value.
 fn put_value<K: Sink>(pen: &mut Pen, sink: &mut K, value: &Value)
-    ensures { Writes (K.taken sink.old) (K.faults sink.old) pen.old (value_text value.now) (K.taken sink.new) (K.faults sink.new) pen.new }
+    ensures written { Writes (K.taken sink.old) (K.faults sink.old) pen.old (value_text value.now) (K.taken sink.new) (K.faults sink.new) pen.new }
+    ensures typed { IsTypedValue value.now }
 {
     match value {
         Value::Unit => pen.put(sink, b"u"),
@@ -186,8 +199,10 @@ fn put_value<K: Sink>(pen: &mut Pen, sink: &mut K, value: &Value)
 }
 
 /// Writes a number of 32 bits in decimal, with its sign where it is negative.
+/// It takes a reference, since what it reads through it is known to have 32 bits.
 fn put_signed<K: Sink>(pen: &mut Pen, sink: &mut K, number: &i32)
-    ensures { Writes (K.taken sink.old) (K.faults sink.old) pen.old (signed_decimal number.now) (K.taken sink.new) (K.faults sink.new) pen.new }
+    ensures written { Writes (K.taken sink.old) (K.faults sink.old) pen.old (signed_decimal number.now) (K.taken sink.new) (K.faults sink.new) pen.new }
+    ensures typed { IsInt number.now }
 {
     let mut buffer = Buffer::new();
     pen.put(sink, buffer.format(*number).as_bytes());
@@ -205,7 +220,8 @@ fn put_object<K: Sink>(pen: &mut Pen, sink: &mut K, object: Object)
 
 /// Writes the bytes of a text, two hexadecimal digits each.
 fn put_text<K: Sink>(pen: &mut Pen, sink: &mut K, text: &Text)
-    ensures { Writes (K.taken sink.old) (K.faults sink.old) pen.old (bytes_text text.now) (K.taken sink.new) (K.faults sink.new) pen.new }
+    ensures written { Writes (K.taken sink.old) (K.faults sink.old) pen.old (bytes_text text.now) (K.taken sink.new) (K.faults sink.new) pen.new }
+    ensures typed { IsText text.now }
 {
     pen.put(sink, b"x");
     for byte in text.items() {

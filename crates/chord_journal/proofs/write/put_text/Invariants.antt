@@ -2,9 +2,13 @@ use Rattle.std.proofs.Common.{take}
 use Rattle.std.specs.List.{flat_map}
 use Rattle.chord_io.specs.Pen.{Writes}
 use Rattle.chord_journal.specs.Text.{byte_text}
+use Rattle.chord_journal.specs.Typed.{AreBytes}
 use Rattle.chord_journal.proofs.write.put_text.Given as goal
 
 abbrev pub invariant-loop-byte : goal.invariant-loop-byte
-invariant-loop-byte g l =
-    Writes (g.K.Sink.taken l.initial.sink) (g.K.Sink.faults l.initial.sink) l.initial.pen (flat_map (byte_text) (take l.byte-index l.byte-items))
-    (g.K.Sink.taken l.sink) (g.K.Sink.faults l.sink) l.pen
+invariant-loop-byte g l = record {
+  written :
+      Writes (g.K.Sink.taken l.initial.sink) (g.K.Sink.faults l.initial.sink) l.initial.pen (flat_map byte_text (take l.byte-index l.byte-items))
+      (g.K.Sink.taken l.sink) (g.K.Sink.faults l.sink) l.pen;
+  bytes : AreBytes (take l.byte-index l.byte-items);
+}

@@ -5,15 +5,15 @@ use Rattle.chord_journal.proofs.write.write_text.Goals as goal
 
 pub returns-clause-whole : goal.returns-clause-whole
 returns-clause-whole g c =
-    let written = rw (c.new-pen.ensures, c.entries-entries.ensures.entries) at (Writes-join c.put_header.ensures c.put_entries.ensures) in
+    let written = rw (c.new-pen.ensures, c.entries-entries.ensures.entries) at (Writes-join c.put_header.ensures c.put_entries.ensures.written) in
     on_ok_weaker c.finish.result (λ whole. whole _ _ _ written) c.finish.ensures.whole
 
 pub returns-clause-front : goal.returns-clause-front
 returns-clause-front g c =
-    let written = rw (c.new-pen.ensures, c.entries-entries.ensures.entries) at (Writes-join c.put_header.ensures c.put_entries.ensures) in
+    let written = rw (c.new-pen.ensures, c.entries-entries.ensures.entries) at (Writes-join c.put_header.ensures c.put_entries.ensures.written) in
     on_err_weaker c.finish.result (λ front. front _ _ _ written) c.finish.ensures.front
 
 pub returns-clause-failed : goal.returns-clause-failed
 returns-clause-failed g c =
-    let written = rw (c.new-pen.ensures, c.entries-entries.ensures.entries) at (Writes-join c.put_header.ensures c.put_entries.ensures) in
+    let written = rw (c.new-pen.ensures, c.entries-entries.ensures.entries) at (Writes-join c.put_header.ensures c.put_entries.ensures.written) in
     on_err_weaker c.finish.result (λ failed. failed _ _ _ written) c.finish.ensures.failed
