@@ -1,2 +1,5 @@
+pub mod Bags
+pub mod Engines
 pub mod Playing
 pub mod Runs
+pub mod Taking

@@ -1,2 +1,4 @@
+pub mod Bag
 pub mod Small
+pub mod Engine
 pub mod States

@@ -5,6 +5,8 @@
 //! Not here: the reading of sources (chord_run).
 #![tactic(auto)]
 
+pub mod bag;
 pub mod complete;
+pub mod engine;
 pub mod play;
 pub mod small;
