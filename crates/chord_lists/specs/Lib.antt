@@ -2,3 +2,4 @@ pub mod Bag
 pub mod Small
 pub mod Engine
 pub mod States
+pub mod Stages
