@@ -306,3 +306,10 @@ newest_there slots index o j n ns slot s e g =
     let f = for_header o j t.0 t.2 in
     let m : message t.0 ≡ record { object = o; method = j; arguments = t.0.arguments } = ap (λ i. record { object = i; method = t.0.method; arguments = t.0.arguments }) f.object ∙ ap (λ i. record { object = o; method = i; arguments = t.0.arguments }) f.method in
     record { held = t.0; is = g ∙ get_or_from_slice_get slots n (Some t.0) slot t.1; to_it = ap message_in t.1 ∙ ap Some m }
+
+-- and so what was taken out of the slot was found
+pub newest_taken : (slots : List (Option Waiting)) (o : Object) (j n : ℕ) (slot : Option Waiting) (x : Waiting) → IsNewest slots o j n slot → slot ≡ Some x → find n slots ≡ Some (record { object = o; method = j; arguments = x.arguments })
+newest_taken slots o j n slot x s e =
+    let z : Some s.held ≡ Some x = sym s.is ∙ e in
+    let w : s.held ≡ x = cc in
+    s.to_it ∙ ap (λ (i : Waiting). Some (record { object = o; method = j; arguments = i.arguments })) w

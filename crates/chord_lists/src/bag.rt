@@ -51,7 +51,7 @@ pub struct Firing {
     pub arguments: Values,
 }
 
-fn to(object: Object, method: u8) -> Header
+fn header_to(object: Object, method: u8) -> Header
     ensures { result ≡ record { object = object.number; class = object.class; method = method } }
 {
     Header {
@@ -123,7 +123,7 @@ impl Bag {
             Some(sent) => push_number(
                 alloc,
                 &mut self.numbers,
-                to(sent.object, sent.method),
+                header_to(sent.object, sent.method),
                 number,
             )?,
             None => {}
@@ -138,7 +138,7 @@ impl Bag {
         ensures yes { result ≡ true → Has object method self.now.messages.items }
         ensures no { result ≡ false → Lacks object method self.now.messages.items }
     {
-        match self.numbers.get(&to(object, method)) {
+        match self.numbers.get(&header_to(object, method)) {
             Some(stack) => !stack.as_slice().is_empty(),
             None => false,
         }
@@ -166,7 +166,7 @@ impl Bag {
         ensures taken { IfOk result (λ t. find t.number self.old.messages.items ≡ Some (record { object = object; method = method; arguments = t.arguments })) }
         ensures left { IfOk result (λ t. self.new.messages.items ≡ set self.old.messages.items t.number None) }
     {
-        match pop_number(&mut self.numbers, to(object, method))? {
+        match pop_number(&mut self.numbers, header_to(object, method))? {
             None => unreachable!(),
             Some(number) => match self.messages[number as usize].take() {
                 None => unreachable!(),

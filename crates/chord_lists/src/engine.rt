@@ -12,11 +12,10 @@ ghost use Rattle.chord_base.specs.Bounds.{AreWithin};
 ghost use Rattle.chord_lists.specs.Bag.{AreDifferent, HasAll, IsBag, LacksOne};
 ghost use Rattle.chord_lists.specs.Engine.{begun, HaveMethods, MayGoOn, MayBegin, Went, Began, Ends, IsPlayedOut, State, Stepped};
 
-use crate::bag::{Bag, Waiting};
+use crate::bag::{Bag, Firing, Waiting};
 use chord_base::event::Limits;
 use chord_base::journal::Journal;
-use chord_base::members::Members;
-use chord_base::value::{Object, Values};
+use chord_base::value::Object;
 use std::alloc::{AllocError, Global};
 
 /// What a turn of the bodies was.
@@ -57,7 +56,7 @@ pub trait Playable {
         requires may { MayGoOn (program self.now) (stands self.now bodies.old) number }
         ensures { IfOk result (λ turn. Went (program self.now) (stands self.now bodies.old) (stands self.now bodies.new) number turn) };
 
-    /// A chord of the object fires: the bodies make the entry of this number, and one of them begins.
+    /// A chord of the object fires: the bodies make the entry of this number, and the body of the chord begins.
     fn begin(
         &self,
         alloc: Global,
@@ -65,12 +64,11 @@ pub trait Playable {
         number: u32,
         chord: u16,
         object: Object,
-        members: Members,
-        arguments: Values,
+        firing: Firing,
     ) -> Result<(), AllocError>
         requires room { number < 65536 }
-        requires may { MayBegin (program self.now) (stands self.now bodies.old) number chord object members arguments }
-        ensures { IfOk result (λ _. Began (program self.now) (stands self.now bodies.old) (stands self.now bodies.new) number chord object members arguments) };
+        requires may { MayBegin (program self.now) (stands self.now bodies.old) number chord object firing.members firing.arguments }
+        ensures { IfOk result (λ _. Began (program self.now) (stands self.now bodies.old) (stands self.now bodies.new) number chord object firing.members firing.arguments) };
 
     /// How many chords the class has.
     fn count(&self, class: u16) -> u16
@@ -163,15 +161,7 @@ fn fire<P: Playable>(
 {
     let methods = program.methods(object.class, chord);
     let firing = bag.take_all(alloc, object, methods)?;
-    program.begin(
-        alloc,
-        bodies,
-        number,
-        chord,
-        object,
-        firing.members,
-        firing.arguments,
-    )?;
+    program.begin(alloc, bodies, number, chord, object, firing)?;
     bag.note(alloc, None)?;
     Ok(())
 }

@@ -10,12 +10,11 @@ ghost use Rattle.chord_lists.specs.Small.{small_program};
 ghost use Rattle.chord_lists.specs.Stages.{Stands};
 ghost use Rattle.chord_lists.specs.States.{PendingPut, Playing};
 
-use crate::bag::Waiting;
+use crate::bag::{Firing, Waiting};
 use crate::engine::{Playable, Turn, play};
 use crate::small::{Small, SmallLine};
 use chord_base::event::{End, Entry, Limits, What};
 use chord_base::journal::Journal;
-use chord_base::members::Members;
 use chord_base::text::Text;
 use chord_base::value::{Object, Value, Values};
 use std::alloc::{AllocError, Global};
@@ -198,15 +197,14 @@ impl Playable for Small {
         number: u32,
         chord: u16,
         object: Object,
-        members: Members,
-        arguments: Values,
+        firing: Firing,
     ) -> Result<(), AllocError> {
-        let text = the_text(alloc, &arguments)?;
+        let text = the_text(alloc, &firing.arguments)?;
         let next = match &bodies.stage {
             Stage::Waits(next) => *next,
             _ => unreachable!(),
         };
-        let fired = What::Fired(chord, object, members, arguments);
+        let fired = What::Fired(chord, object, firing.members, firing.arguments);
         bodies.make(number, number, fired, Stage::Gives(next, number, text))?;
         Ok(())
     }

@@ -13,7 +13,7 @@ returns-clause-bag c =
     elim c.match-message.branch [
       | in-Some+in_ok-push_number-in-Some w ↦
           (let n : c.len-number.result ≡ length slots = omega arith in
-          let p : IsPushed (header_of w.in-Some.sent) (length slots) index (λ k. numbers_in (hash.get same_header w.push_number.new.numbers k)) = rw (w.to.ensures, n) at w.in_ok-push_number-in-Some.ensures in
+          let p : IsPushed (header_of w.in-Some.sent) (length slots) index (λ k. numbers_in (hash.get same_header w.push_number.new.numbers k)) = rw (w.header_to.ensures, n) at w.in_ok-push_number-in-Some.ensures in
           rw w.self-is (let a = w.in-Some.is in rw a (index_more slots index _ w.in-Some.sent c.requires.bag p)))
       | in-None w ↦ rw w.self-is (let a = w.in-None.is in rw a (index_plain slots index c.requires.bag))
     ]
