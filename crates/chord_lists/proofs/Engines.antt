@@ -10,7 +10,7 @@ use Rattle.chord_base.specs.declared.event.What.TheVariants.{Begun, Made, Sent, 
 use Rattle.chord_base.specs.declared.event.Entry.{Entry}
 use Rattle.chord_base.specs.Meaning.{Program}
 use Rattle.chord_base.specs.Messages.{Message, message_of, members_of, has, pending}
-use Rattle.chord_base.specs.Machine.{Takes, Fires}
+use Rattle.chord_base.specs.Machine.{Takes, Fires, NoneFires, NoneAsks}
 use Rattle.chord_base.specs.Bounds.{AreWithin, IsWhatWithin, IsMessageWithin, IsObjectWithin, AreValuesWithin, AreNumbersWithin}
 use Rattle.chord_base.proofs.Waits.{either}
 use Rattle.chord_base.proofs.Final.{final_when}
@@ -18,7 +18,7 @@ use Rattle.chord_base.proofs.Pending.{none_fires_on, none_fires_with, none_fires
 use Rattle.chord_lists.specs.declared.bag.Waiting.{Waiting}
 use Rattle.chord_lists.specs.Bag.{message, message_in, find, Lacks, LacksOne, AreFew, TakesFrom, TakesRest}
 use Rattle.chord_lists.specs.Engine as engine
-use Rattle.chord_lists.specs.Engine.{IsPlayed, fired, AreDone, IsIdle, IsAfterMessage, IsFresh, State, IsOver, IsPlayedOut, Ends}
+use Rattle.chord_lists.specs.Engine.{IsPlayed, fired, IsAfterMessage, IsFresh, State, IsOver, IsPlayedOut, Ends}
 use Rattle.chord_lists.proofs.Bags.{slot_end, slot_before, found_slot}
 use Rattle.chord_lists.proofs.Taking.{HoldsPending, takes_pending, lacks_fires}
 
@@ -137,7 +137,7 @@ takes_object h o (j ∷ js) (i ∷ ms) vs n s t =
     ]
 
 -- a message after which each chord of its object lacks a message
-idle_message : (p : Program) (h : List Entry) (e : Entry) (m : Message) (slots : List (Option Waiting)) → message_of e.what ≡ Some m → members_of e.what ≡ [] → IsIdle p h → HoldsPending slots (e ∷ h) → ((k : ℕ) (js : List ℕ) → slice_get (p.chords m.object.class) k ≡ Some js → LacksOne m.object js slots) → IsIdle p (e ∷ h)
+idle_message : (p : Program) (h : List Entry) (e : Entry) (m : Message) (slots : List (Option Waiting)) → message_of e.what ≡ Some m → members_of e.what ≡ [] → NoneFires p h → HoldsPending slots (e ∷ h) → ((k : ℕ) (js : List ℕ) → slice_get (p.chords m.object.class) k ≡ Some js → LacksOne m.object js slots) → NoneFires p (e ∷ h)
 idle_message p h e m slots is none idle holds lacks =
     none_fires_with p e h none idle
     (λ k o ms vs s f.
@@ -150,7 +150,7 @@ idle_message p h e m slots is none idle holds lacks =
     lacks_fires slots (e ∷ h) o f.0 ms vs l.0 l.1 holds l.2 (subst (λ z. Lacks z l.1 slots) o' l.3) f.2)
 
 -- a message, and a firing of what is then pending
-idle_fire : (p : Program) (h : List Entry) (e f : Entry) (k : ℕ) (o : Object) (ms : List ℕ) (vs : List value.Value) → f.what ≡ Fired k o ms vs → members_of e.what ≡ [] → IsIdle p h → Fires p (e ∷ h) k o ms vs → IsIdle p (f ∷ e ∷ h)
+idle_fire : (p : Program) (h : List Entry) (e f : Entry) (k : ℕ) (o : Object) (ms : List ℕ) (vs : List value.Value) → f.what ≡ Fired k o ms vs → members_of e.what ≡ [] → NoneFires p h → Fires p (e ∷ h) k o ms vs → NoneFires p (f ∷ e ∷ h)
 idle_fire p h e f k o ms vs w none idle fires =
     elim (either (has e.number ms)) [
       | inl y ↦ none_fires_after p f e h (ap message_of w) none (ap (λ x. has e.number (members_of x)) w ∙ y) idle
@@ -204,7 +204,7 @@ state_message p before after slots n x s e m is =
       is_fresh = record { before = s.history; last = e; sent = message x; is = refl; numbered = m.follows.numbered; idle = s.is_fresh; is_message = is; no_firing = m.no_firing; object = refl };
     }
 
-pub state_over : (p : Program) (before after : List Entry → Type 0) (slots : List (Option Waiting)) (n : ℕ) (s : State p before slots None n) → 0 < n → AreDone p s.history → after s.history → IsOver p after n
+pub state_over : (p : Program) (before after : List Entry → Type 0) (slots : List (Option Waiting)) (n : ℕ) (s : State p before slots None n) → 0 < n → NoneAsks p s.history → after s.history → IsOver p after n
 state_over p before after slots n s some done stands =
     (s.history, s.played, stands, final_when p s.history s.played.past (omega (arith, s.played.so_long, some)) done s.is_fresh)
 
@@ -216,8 +216,8 @@ state_idle p stands slots o n s f =
     subst (λ (d : Object). (k : ℕ) (js : List ℕ) → slice_get (p.chords d.class) k ≡ Some js → LacksOne d js slots) (sym m.object) f
     in
     let holds : HoldsPending slots (m.last ∷ m.before) = subst (HoldsPending slots) m.is s.holds in
-    let idle : IsIdle p (m.last ∷ m.before) = idle_message p m.before m.last m.sent slots m.is_message m.no_firing m.idle holds lacks in
-    record { history = s.history; played = s.played; bodies = s.bodies; holds = s.holds; slotted = s.slotted; is_fresh = subst (IsIdle p) (sym m.is) idle }
+    let idle : NoneFires p (m.last ∷ m.before) = idle_message p m.before m.last m.sent slots m.is_message m.no_firing m.idle holds lacks in
+    record { history = s.history; played = s.played; bodies = s.bodies; holds = s.holds; slotted = s.slotted; is_fresh = subst (NoneFires p) (sym m.is) idle }
 
 -- a firing of what the bag holds may come
 pub state_fires : (p : Program) (stands : List Entry → Type 0) (slots : List (Option Waiting)) (fresh : Option Object) (n k : ℕ) (o : Object) (js ms : List ℕ) (vs : List value.Value) (s : State p stands slots fresh n) → slice_get (p.chords o.class) k ≡ Some js → TakesFrom slots o js ms vs → Fires p s.history k o ms vs
@@ -228,12 +228,12 @@ state_fired p before after slots left n k o js ms vs s c t rest same within stan
     let m = s.is_fresh in
     let fires = state_fires p before slots (Some o) n k o js ms vs s c t in
     let fires' : Fires p (m.last ∷ m.before) k o ms vs = subst (λ h. Fires p h k o ms vs) m.is fires in
-    let idle : IsIdle p (fired n k o ms vs ∷ m.last ∷ m.before) = idle_fire p m.before m.last (fired n k o ms vs) k o ms vs refl m.no_firing m.idle fires' in
+    let idle : NoneFires p (fired n k o ms vs ∷ m.last ∷ m.before) = idle_fire p m.before m.last (fired n k o ms vs) k o ms vs refl m.no_firing m.idle fires' in
     record {
       history = fired n k o ms vs ∷ s.history;
       played = record { past = (s.played.past, record { numbered = sym s.played.so_long; comes = (refl, fires) }); within = within; so_long = omega (arith, s.played.so_long) };
       bodies = stands;
       holds = holds_fired slots left s.history n k o ms vs s.holds (same ∙ s.slotted) rest;
       slotted = omega (arith, length-append left (None ∷ []), same, s.slotted);
-      is_fresh = subst (λ h. IsIdle p (fired n k o ms vs ∷ h)) (sym m.is) idle;
+      is_fresh = subst (λ h. NoneFires p (fired n k o ms vs ∷ h)) (sym m.is) idle;
     }

@@ -18,7 +18,7 @@ use Rattle.chord_base.specs.Machine.{Takes, Fires, IsPast, IsFinal}
 use Rattle.chord_base.specs.Bounds.{IsObjectWithin, IsWhatWithin}
 use Rattle.std.specs.Prelude.{slice_get}
 use Rattle.chord_base.proofs.Final.{final_when}
-use Rattle.chord_base.proofs.Pending.{NoneFires}
+use Rattle.chord_base.specs.Machine.{NoneFires}
 use Rattle.chord_base.proofs.Waits.{either}
 use Rattle.chord_lists.specs.declared.small.SmallLine.{SmallLine}
 use Rattle.chord_lists.specs.declared.small.SmallLine.TheVariants.{Put, Print, PrintGet}

@@ -17,7 +17,7 @@ use Rattle.chord_base.specs.Meaning.{Program, Start, Main, Asked}
 use Rattle.chord_base.specs.Messages.{Message, pending}
 use Rattle.chord_base.specs.Bodies.{Ready, Waits, doing, Asks}
 use Rattle.chord_base.specs.Machine.{Comes, MayFollow, Takes, Fires, IsPast, IsFinal}
-use Rattle.chord_base.proofs.Pending.{NoneFires}
+use Rattle.chord_base.specs.Machine.{NoneFires}
 use Rattle.chord_base.proofs.Waits.{either}
 use Rattle.chord_lists.specs.declared.small.SmallLine.{SmallLine}
 use Rattle.chord_lists.specs.declared.small.SmallLine.TheVariants.{Put, Print, PrintGet}

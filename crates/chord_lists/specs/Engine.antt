@@ -8,8 +8,7 @@ use Rattle.chord_base.specs.declared.event.What.TheVariants.{Begun, Fired}
 use Rattle.chord_base.specs.declared.event.Entry.{Entry}
 use Rattle.chord_base.specs.Meaning.{Program}
 use Rattle.chord_base.specs.Messages.{Message, message_of, members_of, pending}
-use Rattle.chord_base.specs.Bodies.{doing, asked}
-use Rattle.chord_base.specs.Machine.{MayFollow, Fires, IsPast, IsFinal}
+use Rattle.chord_base.specs.Machine.{MayFollow, Fires, NoneFires, NoneAsks, IsPast, IsFinal}
 use Rattle.chord_base.specs.Bounds.{AreWithin}
 use Rattle.chord_lists.specs.declared.bag.Waiting.{Waiting}
 use Rattle.chord_lists.specs.declared.engine.Turn.{Turn}
@@ -40,10 +39,6 @@ fired n k o ms vs = record { number = n; body = n; what = Fired k o ms vs }
 abbrev pub MayGoOn : Program → (List Entry → Type 0) → ℕ → Type 0
 MayGoOn p stands n = (h : List Entry) × IsPlayed p n h × stands h
 
--- no body has a next ask
-abbrev pub AreDone : Program → List Entry → Type 0
-AreDone p h = (b : ℕ) → asked p (doing p h b) ≡ None
-
 -- the bodies have made this entry, which may follow
 pub record Made (p : Program) (stands : List Entry → Type 0) (h : List Entry) (e : Entry) : Type 0 where
   pub follows : MayFollow p h e
@@ -53,7 +48,7 @@ pub record Made (p : Program) (stands : List Entry → Type 0) (h : List Entry) 
 
 -- what a turn of the bodies was, after this history
 abbrev pub WentFrom : Program → (List Entry → Type 0) → List Entry → Turn → Type 0
-WentFrom p stands h a_turn.Over = AreDone p h × stands h
+WentFrom p stands h a_turn.Over = NoneAsks p h × stands h
 WentFrom p stands h a_turn.Plain = (e : Entry) × Made p stands h e × (message_of e.what ≡ None)
 WentFrom p stands h (a_turn.Message x) = (e : Entry) × Made p stands h e × (message_of e.what ≡ Some (message x))
 
@@ -69,10 +64,6 @@ MayBegin p stands n k o ms vs = (h : List Entry) × IsPlayed p n h × stands h �
 abbrev pub Began : Program → (List Entry → Type 0) → (List Entry → Type 0) → ℕ → ℕ → Object → List ℕ → List value.Value → Type 0
 Began p before after n k o ms vs = (h : List Entry) → IsPlayed p n h → before h → Fires p h k o ms vs → after (fired n k o ms vs ∷ h)
 
--- no chord has all its messages
-abbrev pub IsIdle : Program → List Entry → Type 0
-IsIdle p h = (k : ℕ) (o : Object) (ms : List ℕ) (vs : List value.Value) → Fires p h k o ms vs → ⊥
-
 -- the last entry is a message to this object, and before it no chord had all its messages
 pub record IsAfterMessage (p : Program) (h : List Entry) (o : Object) : Type 0 where
   pub before : List Entry
@@ -80,14 +71,14 @@ pub record IsAfterMessage (p : Program) (h : List Entry) (o : Object) : Type 0 w
   pub sent : Message
   pub is : h ≡ last ∷ before
   pub numbered : last.number ≡ length before
-  pub idle : IsIdle p before
+  pub idle : NoneFires p before
   pub is_message : message_of last.what ≡ Some sent
   pub no_firing : members_of last.what ≡ []
   pub object : sent.object ≡ o
 
 -- the one object of which a chord may have all its messages, if there may be one
 abbrev pub IsFresh : Program → List Entry → Option Object → Type 0
-IsFresh p h None = IsIdle p h
+IsFresh p h None = NoneFires p h
 IsFresh p h (Some o) = IsAfterMessage p h o
 
 -- the engine after n entries: the bodies stand there, and the slots of the bag hold exactly the pending messages
