@@ -101,12 +101,8 @@ impl SmallBodies {
     {
         match lines.get(at) {
             None => {
-                self.make(
-                    number,
-                    0,
-                    What::Ended(End::Gives(Value::Unit)),
-                    Stage::Ended,
-                )?;
+                let end = What::Ended(End::Gives(Value::Unit));
+                self.make(number, 0, end, Stage::Ended)?;
                 Ok(Turn::Plain)
             }
             Some(SmallLine::Put(text)) => {
@@ -126,12 +122,8 @@ impl SmallBodies {
             }
             Some(SmallLine::PrintGet) => {
                 let none = Values::of_items(Vec::new(alloc));
-                self.make(
-                    number,
-                    0,
-                    What::Called(FIRST, 0, none),
-                    Stage::Waits(at + 1),
-                )?;
+                let call = What::Called(FIRST, 0, none);
+                self.make(number, 0, call, Stage::Waits(at + 1))?;
                 Ok(Turn::Message(Waiting {
                     object: FIRST,
                     method: 0,
