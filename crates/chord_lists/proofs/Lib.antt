@@ -1,2 +1,6 @@
+pub mod Bags
+pub mod Taking
+pub mod Engines
 pub mod Playing
 pub mod Runs
+pub mod Standing

@@ -1,6 +1,6 @@
 -- What each entry makes of the states of the small engine.
-use Rattle.std.proofs.Common.{◌≡◌, ◌≢◌, ℕ, zero, suc, ◌+◌, ◌<◌, ◌≤◌, Bool, true, false, cond, count_by, ◌==◌, List, [], ◌∷◌, ◌++◌, length, Option, Some, None, refl, sym, ap, ◌∙◌, subst, arith, ◌⊎◌, inl, inr, if◌then◌else◌, append_assoc, reverse, drop, get_or, add-one, drop-cons, lit<, lit≤}
-use Rattle.std.proofs.lemmas.List.{append-nil, length-reverse}
+use Rattle.std.proofs.Common.{◌≡◌, ◌≢◌, ℕ, zero, suc, ◌+◌, ◌<◌, ◌≤◌, Bool, true, false, cond, count_by, ◌==◌, List, [], ◌∷◌, ◌++◌, length, Option, Some, None, refl, sym, ap, ◌∙◌, subst, arith, ◌⊎◌, inl, inr, if◌then◌else◌, append_assoc, lit<, lit≤}
+use Rattle.std.proofs.lemmas.List.{append-nil}
 use Rattle.std.proofs.lemmas.List.Sums.{sum_by-cons}
 use Rattle.std.proofs.lemmas.Bool.{eq-eqb, eqb-true, eqb-false, ne_eqb}
 use Rattle.chord_base.specs.declared.value.Object.{Object}
@@ -9,22 +9,22 @@ use Rattle.chord_base.specs.declared.value.Value.TheVariants as a_value
 use Rattle.chord_base.specs.declared.event.End.{End}
 use Rattle.chord_base.specs.declared.event.End.TheVariants.{Gives}
 use Rattle.chord_base.specs.declared.event.What.{What}
-use Rattle.chord_base.specs.declared.event.What.TheVariants.{Begun, Made, Sent, Called, Printed, Fired, Ended}
+use Rattle.chord_base.specs.declared.event.What.TheVariants.{Made, Sent, Called, Printed, Fired, Ended}
 use Rattle.chord_base.specs.declared.event.Entry.{Entry}
 use Rattle.chord_base.specs.Meaning.{Program}
 use Rattle.chord_base.specs.Messages.{Message, pending, has}
 use Rattle.chord_base.specs.Bodies.{Doing, Absent, Unplaced, Ready, Waits, Over, doing, asked, answered, serves, Asks, place_of}
-use Rattle.chord_base.specs.Machine.{Takes, Fires, IsPast, IsFinal, IsRun, IsComplete}
-use Rattle.chord_base.specs.Bounds.{IsJournal, IsObjectWithin, IsWhatWithin}
-use Rattle.std.specs.Prelude.{slice_get, IfOk, Result, Ok, Err}
+use Rattle.chord_base.specs.Machine.{Takes, Fires, IsPast, IsFinal}
+use Rattle.chord_base.specs.Bounds.{IsObjectWithin, IsWhatWithin}
+use Rattle.std.specs.Prelude.{slice_get}
 use Rattle.chord_base.proofs.Final.{final_when}
-use Rattle.chord_base.proofs.Pending.{NoneFires}
+use Rattle.chord_base.specs.Machine.{NoneFires}
 use Rattle.chord_base.proofs.Waits.{either}
 use Rattle.chord_lists.specs.declared.small.SmallLine.{SmallLine}
 use Rattle.chord_lists.specs.declared.small.SmallLine.TheVariants.{Put, Print, PrintGet}
-use Rattle.chord_lists.specs.declared.play.PendingPut.{PendingPut}
 use Rattle.chord_lists.specs.Small.{small_chords, small_program, small_main, small_lines, at_depth}
-use Rattle.chord_lists.specs.States.{first, put_message, call_message, find_put, IsStack, IsQuiet, Playing, Calling, Serving, Got, Done, Fits, Stops, is_sent, is_fired}
+use Rattle.chord_lists.specs.Engine.{begun}
+use Rattle.chord_lists.specs.States.{PendingPut, first, put_message, call_message, find_put, IsStack, IsQuiet, Playing, Calling, Serving, Got, Done, is_sent, is_fired}
 
 -- the numbers of the stack are below its bound
 find_above : (n m : ℕ) (stack : List PendingPut) → IsStack n stack → n ≤ m → find_put m stack ≡ None
@@ -347,16 +347,13 @@ shown_step ls rest stack t h s =
       begun = omega (arith, s.begun);
       answers = (s.answers ++ Gives (a_value.Text t) ∷ []) ++ Gives a_value.Unit ∷ [];
       main = rw s.main;
-      lines = λ m. rw (append_assoc, append_assoc) (s.lines (Gives (a_value.Text t) ∷ Gives a_value.Unit ∷ m));
+      lines = λ m. rw (append_assoc (s.answers ++ Gives (a_value.Text t) ∷ []) (Gives a_value.Unit ∷ []) m, append_assoc s.answers (Gives (a_value.Text t) ∷ []) (Gives a_value.Unit ∷ m)) (s.lines (Gives (a_value.Text t) ∷ Gives a_value.Unit ∷ m));
       quiet = λ b n. rw (other_main b n) (s.quiet b n);
       waiting = λ n. no_message (length h) n stack (pending n h) s.stacked (s.waiting n);
       stacked = stack_on (length h) stack s.stacked;
       tally = s.tally;
       goes_on = refl;
     }
-
-abbrev pub begun : List Entry
-begun = record { number = 0; body = 0; what = Begun } ∷ []
 
 pub begun_past : (ls : List SmallLine) → IsPast (small_program ls) begun
 begun_past ls = (tt, record { numbered = refl; comes = (refl, refl) })
@@ -376,16 +373,6 @@ begin_step ls =
       goes_on = refl;
     }
 
--- one more entry still fits
-pub fits_more : (b : ℕ) (w : What) (h : List Entry) → length h < 65536 → b < 65536 → IsWhatWithin w → Fits h → Fits (more b w h)
-fits_more b w h room body what f = record { few = omega (arith, room); within = (f.within, refl, body, what) }
-
-pub begun_fits : Fits begun
-begun_fits = record { few = lit≤ tt; within = (tt, refl, lit< tt, tt) }
-
-pub made_fits : Fits (more 0 (Made 0) begun)
-made_fits = fits_more 0 (Made 0) begun (lit< tt) (lit< tt) (lit< tt) begun_fits
-
 first_within : IsObjectWithin first
 first_within = record { number = lit< tt; class = lit< tt }
 
@@ -398,39 +385,3 @@ call_within = record { object = first_within; method = lit< tt; few = lit≤ tt;
 pub fired_within : (q m : ℕ) (t : List ℕ) → q < 65536 → m < 65536 → IsWhatWithin (Fired 0 first (q ∷ m ∷ []) (a_value.Text t ∷ []))
 fired_within q m t call put =
     record { chord = lit< tt; object = first_within; some = lit< tt; few_members = lit≤ tt; members = (call, (put, tt)); few_values = lit≤ tt; values = (tt, tt) }
-
-pub nothing_in : (xs : List PendingPut) → length xs ≡ 0 → xs ≡ []
-nothing_in [] e = refl
-nothing_in (x ∷ xs) e = absurd (omega (arith, e))
-
-pub IfOk_map : {A E : Type 0} (r : Result A E) (P Q : A → Type 0) → IfOk r P → ((x : A) → P x → Q x) → IfOk r Q
-IfOk_map (Ok x) P Q i f = f x i
-IfOk_map (Err e) P Q i f = tt
-
-pub stopped_run : (ls : List SmallLine) (n : ℕ) (es : List Entry) → Stops ls n (reverse es) → IsRun (small_program ls) es
-stopped_run ls n es s = elim s.1 [ inl f ↦ f.past | inr r ↦ r.0 ]
-
-pub stopped_whole : (ls : List SmallLine) (n : ℕ) (es : List Entry) → Stops ls n (reverse es) → IsComplete (small_program ls) es ⊎ (length es ≡ n)
-stopped_whole ls n es s = elim s.1 [ inl f ↦ inl f | inr r ↦ inr (sym (length-reverse es) ∙ r.1) ]
-
-pub stopped_short : (ls : List SmallLine) (n : ℕ) (es : List Entry) → Stops ls n (reverse es) → length es < n → IsComplete (small_program ls) es
-stopped_short ls n es s l = elim (stopped_whole ls n es s) [ inl f ↦ f | inr e ↦ absurd (omega (arith, e, l)) ]
-
-pub stopped_journal : (ls : List SmallLine) (n : ℕ) (es : List Entry) → Stops ls n (reverse es) → IsJournal es
-stopped_journal ls n es s = record { few = omega (arith, s.0.few, length-reverse es); within = s.0.within }
-
-pub playing_full : (ls rest : List SmallLine) (n : ℕ) (stack : List PendingPut) (es : List Entry) → Playing ls rest stack (reverse es) → Fits (reverse es) → length es ≡ n → Stops ls n (reverse es)
-playing_full ls rest n stack es s f e = (f, inr (s.past, length-reverse es ∙ e))
-
-pub over_stops : (ls : List SmallLine) (n : ℕ) (stack : List PendingPut) (h : List Entry) → length h < 65536 → Playing ls [] stack h → Fits h → Stops ls n (more 0 (Ended (Gives a_value.Unit)) h)
-over_stops ls n stack h room s f =
-    (fits_more 0 (Ended (Gives a_value.Unit)) h room (lit< tt) tt f, inl (done_final ls stack _ (end_main ls stack h s)))
-
-pub next_line : (ls : List SmallLine) (i : ℕ) (x y : SmallLine) → i < length ls → x ≡ get_or ls i x → x ≡ y → drop i ls ≡ y ∷ drop (i + 1) ls
-next_line ls i x y l e f = rw (add-one, drop-cons ls i x) (ap (λ z. z ∷ drop (suc i) ls) (sym e ∙ f))
-
-pub no_line : (ls : List SmallLine) (i : ℕ) → length ls ≤ i → drop i ls ≡ []
-no_line [] zero l = refl
-no_line [] (suc i) l = refl
-no_line (x ∷ ls) zero l = absurd (omega (arith, l))
-no_line (x ∷ ls) (suc i) l = no_line ls i (omega (arith, l))

@@ -17,14 +17,14 @@ use Rattle.chord_base.specs.Meaning.{Program, Start, Main, Asked}
 use Rattle.chord_base.specs.Messages.{Message, pending}
 use Rattle.chord_base.specs.Bodies.{Ready, Waits, doing, Asks}
 use Rattle.chord_base.specs.Machine.{Comes, MayFollow, Takes, Fires, IsPast, IsFinal}
-use Rattle.chord_base.proofs.Pending.{NoneFires}
+use Rattle.chord_base.specs.Machine.{NoneFires}
 use Rattle.chord_base.proofs.Waits.{either}
 use Rattle.chord_lists.specs.declared.small.SmallLine.{SmallLine}
 use Rattle.chord_lists.specs.declared.small.SmallLine.TheVariants.{Put, Print, PrintGet}
-use Rattle.chord_lists.specs.declared.play.PendingPut.{PendingPut}
 use Rattle.chord_lists.specs.Small.{small_chords, small_program, small_main, small_lines, at_depth}
-use Rattle.chord_lists.specs.States.{first, put_message, call_message, find_put, IsQuiet, Playing, Calling, Serving, Got, Done, is_sent, is_fired, count_sent, count_fired, is_over, is_over_at}
-use Rattle.chord_lists.proofs.Playing.{begun, begun_past, begin_step, put_step, print_step, call_step, fire_step, fire_top, end_step, shown_step, end_main, done_final, parked, none_fires, without, is_main, quiet_asks, found_put, the_chord, other_main}
+use Rattle.chord_lists.specs.Engine.{begun}
+use Rattle.chord_lists.specs.States.{PendingPut, first, put_message, call_message, find_put, IsQuiet, Playing, Calling, Serving, Got, Done, is_sent, is_fired, count_sent, count_fired, is_over, is_over_at}
+use Rattle.chord_lists.proofs.Playing.{begun_past, begin_step, put_step, print_step, call_step, fire_step, fire_top, end_step, shown_step, end_main, done_final, parked, none_fires, without, is_main, quiet_asks, found_put, the_chord, other_main}
 
 -- a run of a small program: nothing yet, just begun, or one of the states
 pub data State (ls : List SmallLine) (h : List Entry) : Type 0 where
@@ -125,7 +125,7 @@ got_next ls rest stack t h e s m =
     let x = main_entry ls h (s.answers ++ Gives (a_value.Text t) ∷ []) e (Printed t) s.main s.quiet (s.lines (Gives (a_value.Text t) ∷ [])) (omega (arith, s.begun)) (none_fires ls stack h s.waiting) m in
     subst (λ i. State ls (i ∷ h)) (sym x) (Plays rest stack (shown_step ls rest stack t h s))
 
-begun_waiting : (n : ℕ) → pending n begun ≡ find_put n []
+pub begun_waiting : (n : ℕ) → pending n begun ≡ find_put n []
 begun_waiting n = elim (either (0 == n)) [ inl y ↦ rw y refl | inr o ↦ rw o refl ]
 
 begun_next : (ls : List SmallLine) (e : Entry) → MayFollow (small_program ls) begun e → State ls (e ∷ begun)
@@ -224,13 +224,17 @@ takes_put ls rest stack q k h o (i ∷ j ∷ []) vs s z t =
     let all : vs ≡ a_value.Text x.0 ∷ [] = t.3 ∙ ap (λ u. u ++ t.1) none ∙ t.4.3 ∙ ap (λ u. u ++ t.4.1) one ∙ ap (λ r. a_value.Text x.0 ∷ r) t.4.4 in
     record { put = j; text = x.0; found = p ∙ ap Some x.1; is = same_firing k o i q j vs (a_value.Text x.0 ∷ []) z here c.0 all }
 
+-- a firing while `Main` waits takes its call and one of the puts
+pub call_taken : (ls rest : List SmallLine) (stack : List PendingPut) (q k : ℕ) (h : List Entry) (o : Object) (ms : List ℕ) (vs : List value.Value) → Calling ls rest stack q h → Fires (small_program ls) h k o ms vs → IsTaking stack q k o ms vs
+call_taken ls rest stack q k h o ms vs s f =
+    let js = the_chord o.class k f.0 f.1 in
+    takes_put ls rest stack q k h o ms vs s (chord_zero o.class k f.0 f.1) (subst (λ i. Takes h o i ms vs) js f.2)
+
 calling_next : (ls rest : List SmallLine) (stack : List PendingPut) (q : ℕ) (h : List Entry) (e : Entry) → Calling ls rest stack q h → MayFollow (small_program ls) h e → State ls (e ∷ h)
 calling_next ls rest stack q h e s m =
     elim (come (small_program ls) h e.number e.body e.what (omega (arith, s.begun)) m.comes) [
       | inl f ↦
-          (let js = the_chord f.object.class f.chord f.fires.0 f.fires.1 in
-          let t = subst (λ i. Takes h f.object i f.members f.arguments) js f.fires.2 in
-          let x = takes_put ls rest stack q f.chord h f.object f.members f.arguments s (chord_zero f.object.class f.chord f.fires.0 f.fires.1) t in
+          (let x = call_taken ls rest stack q f.chord h f.object f.members f.arguments s f.fires in
           let w : e.what ≡ Fired 0 first (q ∷ x.put ∷ []) (a_value.Text x.text ∷ []) = f.is ∙ x.is in
           let y : e ≡ more_entry (length h) (Fired 0 first (q ∷ x.put ∷ []) (a_value.Text x.text ∷ [])) h = entry_is e (length h) (length h) _ m.numbered (f.own ∙ m.numbered) w in
           subst (λ i. State ls (i ∷ h)) (sym y) (Serves rest (without x.put stack) (length h) x.text (fire_step ls rest stack q x.put x.text h x.found s)))

@@ -1,2 +1,5 @@
 pub mod Small
+pub mod Engine
+pub mod Bag
 pub mod States
+pub mod Stages

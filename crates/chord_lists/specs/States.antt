@@ -2,7 +2,7 @@
 --
 -- `Main` plays its lines. At a get it calls; the call is served by the body of a firing, which gives `Main` the text; `Main` prints
 -- it and plays on. A run is over where `Main` has ended, or has called and no put is pending.
-use Rattle.std.specs.Prelude.{◌≡◌, ◌≢◌, ℕ, ◌+◌, ◌<◌, ◌≤◌, Bool, true, false, ◌==◌, List, [], ◌∷◌, ◌++◌, length, Option, Some, None, ◌⊎◌, if◌then◌else◌}
+use Rattle.std.specs.Prelude.{◌≡◌, ◌≢◌, ℕ, ◌+◌, ◌<◌, Bool, true, false, ◌==◌, List, [], ◌∷◌, ◌++◌, length, Option, Some, None, if◌then◌else◌}
 use Rattle.std.specs.List.{count_by}
 use Rattle.chord_base.specs.declared.value.Object.{Object}
 use Rattle.chord_base.specs.declared.value.Value.TheVariants as a_value
@@ -14,11 +14,9 @@ use Rattle.chord_base.specs.declared.event.Entry.{Entry}
 use Rattle.chord_base.specs.Meaning.{Main, Chord}
 use Rattle.chord_base.specs.Messages.{Message, pending, maker}
 use Rattle.chord_base.specs.Bodies.{Doing, Absent, Unplaced, Ready, Waits, Over, doing, serves}
-use Rattle.chord_base.specs.Machine.{IsPast, IsFinal}
-use Rattle.chord_base.specs.Bounds.{AreWithin}
+use Rattle.chord_base.specs.Machine.{IsPast}
 use Rattle.chord_lists.specs.declared.small.SmallLine.{SmallLine}
 use Rattle.chord_lists.specs.declared.small.SmallLine.TheVariants.{PrintGet}
-use Rattle.chord_lists.specs.declared.play.PendingPut.{PendingPut}
 use Rattle.chord_lists.specs.Small.{small_program, small_main, small_lines}
 
 -- the object that `Main` makes
@@ -32,6 +30,11 @@ put_message t = record { object = first; method = 1; arguments = a_value.Text t 
 -- the message of a get
 abbrev pub call_message : Message
 call_message = record { object = first; method = 0; arguments = [] }
+
+-- a put that no firing has taken
+pub record PendingPut : Type 0 where
+  pub number : ℕ
+  pub text : List ℕ
 
 -- of the pending puts, newest first, the message of this number
 abbrev pub find_put : ℕ → List PendingPut → Option Message
@@ -149,17 +152,3 @@ pub record Done (ls : List SmallLine) (stack : List PendingPut) (h : List Entry)
   pub quiet : (b : ℕ) → IsQuiet (doing (small_program ls) h b)
   pub waiting : (n : ℕ) → pending n h ≡ find_put n stack
   pub over : is_over h ≡ true
-
--- a history that a journal can hold
-pub record Fits (h : List Entry) : Type 0 where
-  pub few : length h ≤ 65536
-  pub within : AreWithin h
-
--- an engine may stop here: nothing may follow, or the run has n entries
-abbrev pub Stops : List SmallLine → ℕ → List Entry → Type 0
-Stops ls n h = Fits h × (IsFinal (small_program ls) h ⊎ IsPast (small_program ls) h × (length h ≡ n))
-
--- the engine goes on with the rest of the lines, or stops
-abbrev pub After : Bool → List SmallLine → List SmallLine → ℕ → List PendingPut → List Entry → Type 0
-After true ls rest n stack h = Playing ls rest stack h × Fits h
-After false ls rest n stack h = Stops ls n h

@@ -1,46 +1,57 @@
-//! Plays a small program on one thread.
+//! Plays a small program: what its bodies are, and the engine over them.
 #![tactic(auto)]
 
-ghost use Rattle.std.specs.Prelude.{◌≡◌, ℕ, ◌+◌, ◌<◌, ◌≤◌, ◌⊎◌, List, [], ◌∷◌, ◌++◌, length, reverse, IfOk, vec_len};
+ghost use Rattle.std.specs.Prelude.{◌≡◌, ℕ, ◌<◌, ◌≤◌, ◌⊎◌, List, [], ◌∷◌, length, reverse, drop, IfOk};
 ghost use Rattle.chord_base.specs.Machine.{IsRun, IsComplete};
-ghost use Rattle.chord_base.specs.Bounds.{IsJournal};
-ghost use Rattle.chord_lists.specs.Small.{small_program};
+ghost use Rattle.chord_base.specs.declared.event.Entry.{Entry};
 ghost use Rattle.chord_base.specs.declared.value.Value.{Value};
-ghost use Rattle.chord_lists.specs.declared.small.SmallLine.{SmallLine};
-ghost use Rattle.chord_lists.specs.declared.play.PendingPut.{PendingPut};
-ghost use Rattle.chord_lists.specs.declared.small.SmallLine.TheVariants.{Put, Print, PrintGet};
-ghost use Rattle.chord_lists.specs.States.{Playing, Calling, Fits, Stops, After};
+ghost use Rattle.chord_lists.specs.Engine.{IsPlayed, WentFrom};
+ghost use Rattle.chord_lists.specs.Small.{small_program};
+ghost use Rattle.chord_lists.specs.Stages.{Stands};
+ghost use Rattle.chord_lists.specs.States.{PendingPut, Playing};
 
+use crate::bag::{Firing, Waiting};
+use crate::engine::{Playable, Turn, play};
 use crate::small::{Small, SmallLine};
 use chord_base::event::{End, Entry, Limits, What};
 use chord_base::journal::Journal;
-use chord_base::members::Members;
 use chord_base::text::Text;
 use chord_base::value::{Object, Value, Values};
 use std::alloc::{AllocError, Global};
+use std::mem;
 
-/// A message to `P` that no firing has taken.
-#[derive(Drop)]
-struct PendingPut {
-    number: u32,
-    text: Text,
-}
-
-/// Adds an entry of this body.
-fn note(entries: &mut Vec<Entry>, body: u32, what: What) -> Result<(), AllocError>
-    requires { vec_len entries.old < 65536 }
-    ensures len { IfOk result (λ _. vec_len entries.new ≡ vec_len entries.old + 1) }
-    ensures entry { IfOk result (λ _. reverse entries.new.items ≡ (record { number = length (reverse entries.old.items); body = body; what = what }) ∷ reverse entries.old.items) }
-{
-    let number = entries.len() as u32;
-    entries.push(Entry { number, body, what })?;
-    Ok(())
-}
-
+/// The object that `Main` makes.
 const FIRST: Object = Object {
     number: 1,
     class: 0,
 };
+
+/// The methods of the one chord.
+const METHODS: [u8; 2] = [0, 1];
+
+/// What is about to be done. A line is meant by its index.
+#[derive(Drop)]
+enum Stage {
+    /// `Main` makes its object.
+    Begins,
+    /// `Main` does this line, or ends after the last.
+    Does(usize),
+    /// `Main` waits for a text, and then goes on with this line.
+    Waits(usize),
+    /// The chord's body of this number gives this text to `Main`, which then goes on with this line.
+    Gives(usize, u32, Text),
+    /// `Main` prints this text that it got, and then goes on with this line.
+    Prints(usize, Text),
+    /// Nothing: `Main` has ended.
+    Ended,
+}
+
+/// The bodies of a run of a small program, with all that they did.
+#[derive(Drop)]
+pub struct SmallBodies {
+    entries: Vec<Entry>,
+    stage: Stage,
+}
 
 /// The one text as the values of a message or a firing.
 fn one_text(alloc: Global, text: &Text) -> Result<Values, AllocError>
@@ -52,144 +63,160 @@ fn one_text(alloc: Global, text: &Text) -> Result<Values, AllocError>
     Ok(Values::of_items(values))
 }
 
-/// Remembers that the message of this number is pending.
-fn remember(puts: &mut Vec<PendingPut>, number: u32, text: Text) -> Result<(), AllocError>
-    ensures { IfOk result (λ _. reverse puts.new.items ≡ (record { number = number; text = text }) ∷ reverse puts.old.items) }
+/// The text that the body of the chord was given.
+fn the_text(alloc: Global, arguments: &Values) -> Result<Text, AllocError>
+    requires { (t : List ℕ) × (arguments.now ≡ Value.Text t ∷ []) }
+    ensures { IfOk result (λ t. arguments.now ≡ Value.Text t ∷ []) }
 {
-    puts.push(PendingPut { number, text })?;
-    Ok(())
-}
-
-/// Sends a text.
-fn put(
-    alloc: Global,
-    entries: &mut Vec<Entry>,
-    puts: &mut Vec<PendingPut>,
-    text: &Text,
-) -> Result<(), AllocError>
-    requires { vec_len entries.old < 65536 }
-    ensures len { IfOk result (λ _. vec_len entries.new ≡ vec_len entries.old + 1) }
-    ensures state { IfOk result (λ _. (ls rest : List SmallLine) → Playing ls (Put text.now ∷ rest) (reverse puts.old.items) (reverse entries.old.items) → Fits (reverse entries.old.items) → Playing ls rest (reverse puts.new.items) (reverse entries.new.items) × Fits (reverse entries.new.items)) }
-{
-    let number = entries.len() as u32;
-    let values = one_text(alloc, text)?;
-    let kept = text.copied(alloc)?;
-    remember(puts, number, kept)?;
-    note(entries, 0, What::Sent(FIRST, 1, values))?;
-    Ok(())
-}
-
-/// Prints a text.
-fn print(alloc: Global, entries: &mut Vec<Entry>, text: &Text) -> Result<(), AllocError>
-    requires { vec_len entries.old < 65536 }
-    ensures len { IfOk result (λ _. vec_len entries.new ≡ vec_len entries.old + 1) }
-    ensures state { IfOk result (λ _. (ls rest : List SmallLine) (stack : List PendingPut) → Playing ls (Print text.now ∷ rest) stack (reverse entries.old.items) → Fits (reverse entries.old.items) → Playing ls rest stack (reverse entries.new.items) × Fits (reverse entries.new.items)) }
-{
-    let printed = text.copied(alloc)?;
-    note(entries, 0, What::Printed(printed))?;
-    Ok(())
-}
-
-/// The call and the put, as members of a firing.
-fn both(call: u32, put: u32) -> Members
-    ensures { result ≡ call ∷ put ∷ [] }
-{
-    let mut members = Members::new();
-    members.push(call);
-    members.push(put);
-    members
-}
-
-/// Fires for a call and a put, plays the body, and prints what the call got; false where the run is full.
-fn serve(
-    alloc: Global,
-    entries: &mut Vec<Entry>,
-    call: u32,
-    taken: PendingPut,
-    events: usize,
-) -> Result<bool, AllocError>
-    requires room { vec_len entries.old < events }
-    requires bound { events ≤ 65536 }
-    ensures state { IfOk result (λ goes. (ls rest : List SmallLine) (stack : List PendingPut) → Calling ls rest (taken ∷ stack) call (reverse entries.old.items) → Fits (reverse entries.old.items) → After goes ls rest events stack (reverse entries.new.items)) }
-    ensures within { IfOk result (λ _. vec_len entries.new ≤ events) }
-{
-    let body = entries.len() as u32;
-    let values = one_text(alloc, &taken.text)?;
-    let members = both(call, taken.number);
-    note(entries, body, What::Fired(0, FIRST, members, values))?;
-    if entries.len() == events {
-        return Ok(false);
-    }
-    let given = taken.text.copied(alloc)?;
-    note(entries, body, What::Ended(End::Gives(Value::Text(given))))?;
-    if entries.len() == events {
-        return Ok(false);
-    }
-    note(entries, 0, What::Printed(taken.text))?;
-    Ok(true)
-}
-
-/// Calls for a text and prints it; false where the run is full, or no text is there.
-fn get(
-    alloc: Global,
-    entries: &mut Vec<Entry>,
-    puts: &mut Vec<PendingPut>,
-    events: usize,
-) -> Result<bool, AllocError>
-    requires room { vec_len entries.old < events }
-    requires bound { events ≤ 65536 }
-    ensures state { IfOk result (λ goes. (ls rest : List SmallLine) → Playing ls (PrintGet ∷ rest) (reverse puts.old.items) (reverse entries.old.items) → Fits (reverse entries.old.items) → After goes ls rest events (reverse puts.new.items) (reverse entries.new.items)) }
-    ensures within { IfOk result (λ _. vec_len entries.new ≤ events) }
-{
-    let call = entries.len() as u32;
-    let values = Values::of_items(Vec::new(alloc));
-    note(entries, 0, What::Called(FIRST, 0, values))?;
-    if entries.len() >= events {
-        return Ok(false);
-    }
-    match puts.pop() {
-        None => Ok(false),
-        Some(taken) => serve(alloc, entries, call, taken, events),
+    match arguments.items().first() {
+        Some(value) => match value {
+            Value::Text(text) => text.copied(alloc),
+            _ => unreachable!(),
+        },
+        None => unreachable!(),
     }
 }
 
-/// The entries of a run: a complete one, or one of exactly `events` entries.
-fn play_lines(alloc: Global, lines: &[SmallLine], events: usize) -> Result<Vec<Entry>, AllocError>
-    requires some { 1 ≤ events }
-    requires bound { events ≤ 65536 }
-    ensures stops { IfOk result (λ entries. Stops lines.now events (reverse entries.items)) }
-    ensures within { IfOk result (λ entries. vec_len entries ≤ events) }
-{
-    let mut entries = Vec::new(alloc);
-    let mut puts = Vec::new(alloc);
-    note(&mut entries, 0, What::Begun)?;
-    if entries.len() == events {
-        return Ok(entries);
+impl SmallBodies {
+    /// Makes an entry, after which this is about to be done.
+    fn make(&mut self, number: u32, body: u32, what: What, stage: Stage) -> Result<(), AllocError>
+        ensures entry { IfOk result (λ _. reverse self.new.entries.items ≡ (record { number = number; body = body; what = what }) ∷ reverse self.old.entries.items) }
+        ensures stage { IfOk result (λ _. self.new.stage ≡ stage) }
+    {
+        self.entries.push(Entry { number, body, what })?;
+        self.stage = stage;
+        Ok(())
     }
-    note(&mut entries, 0, What::Made(0))?;
-    for line in lines {
-        if entries.len() == events {
-            return Ok(entries);
-        }
-        match line {
-            SmallLine::Put(text) => put(alloc, &mut entries, &mut puts, text)?,
-            SmallLine::Print(text) => print(alloc, &mut entries, text)?,
-            SmallLine::PrintGet => {
-                if !get(alloc, &mut entries, &mut puts, events)? {
-                    return Ok(entries);
-                }
+
+    /// `Main` does a line, or ends after the last.
+    fn do_line(
+        &mut self,
+        alloc: Global,
+        lines: &[SmallLine],
+        at: usize,
+        number: u32,
+    ) -> Result<Turn, AllocError>
+        requires room { number < 65536 }
+        ensures { IfOk result (λ turn. (h : List Entry) → IsPlayed (small_program lines.now) number h → reverse self.old.entries.items ≡ h → (stack : List PendingPut) → Playing lines.now (drop at lines.now) stack h → WentFrom (small_program lines.now) (Stands lines.now self.new) h turn) }
+    {
+        match lines.get(at) {
+            None => {
+                let end = What::Ended(End::Gives(Value::Unit));
+                self.make(number, 0, end, Stage::Ended)?;
+                Ok(Turn::Plain)
+            }
+            Some(SmallLine::Put(text)) => {
+                let kept = one_text(alloc, text)?;
+                let sent = one_text(alloc, text)?;
+                self.make(number, 0, What::Sent(FIRST, 1, kept), Stage::Does(at + 1))?;
+                Ok(Turn::Message(Waiting {
+                    object: FIRST,
+                    method: 1,
+                    arguments: sent,
+                }))
+            }
+            Some(SmallLine::Print(text)) => {
+                let printed = text.copied(alloc)?;
+                self.make(number, 0, What::Printed(printed), Stage::Does(at + 1))?;
+                Ok(Turn::Plain)
+            }
+            Some(SmallLine::PrintGet) => {
+                let none = Values::of_items(Vec::new(alloc));
+                let call = What::Called(FIRST, 0, none);
+                self.make(number, 0, call, Stage::Waits(at + 1))?;
+                Ok(Turn::Message(Waiting {
+                    object: FIRST,
+                    method: 0,
+                    arguments: Values::of_items(Vec::new(alloc)),
+                }))
             }
         }
     }
-    if entries.len() < events {
-        note(&mut entries, 0, What::Ended(End::Gives(Value::Unit)))?;
+}
+
+impl Playable for Small {
+    type Bodies = SmallBodies;
+
+    ghost program = { small_program };
+
+    ghost stands = { Stands };
+
+    fn start(&self, alloc: Global) -> Result<SmallBodies, AllocError> {
+        let mut bodies = SmallBodies {
+            entries: Vec::new(alloc),
+            stage: Stage::Ended,
+        };
+        bodies.make(0, 0, What::Begun, Stage::Begins)?;
+        Ok(bodies)
     }
-    Ok(entries)
+
+    fn go_on(
+        &self,
+        alloc: Global,
+        bodies: &mut SmallBodies,
+        number: u32,
+    ) -> Result<Turn, AllocError> {
+        match mem::replace(&mut bodies.stage, Stage::Ended) {
+            Stage::Begins => {
+                bodies.make(number, 0, What::Made(0), Stage::Does(0))?;
+                Ok(Turn::Plain)
+            }
+            Stage::Does(at) => {
+                let turn = bodies.do_line(alloc, self.items(), at, number)?;
+                Ok(turn)
+            }
+            Stage::Waits(next) => {
+                bodies.stage = Stage::Waits(next);
+                Ok(Turn::Over)
+            }
+            Stage::Gives(next, body, text) => {
+                let given = End::Gives(Value::Text(text.copied(alloc)?));
+                bodies.make(number, body, What::Ended(given), Stage::Prints(next, text))?;
+                Ok(Turn::Plain)
+            }
+            Stage::Prints(next, text) => {
+                bodies.make(number, 0, What::Printed(text), Stage::Does(next))?;
+                Ok(Turn::Plain)
+            }
+            Stage::Ended => Ok(Turn::Over),
+        }
+    }
+
+    fn begin(
+        &self,
+        alloc: Global,
+        bodies: &mut SmallBodies,
+        number: u32,
+        chord: u16,
+        object: Object,
+        firing: Firing,
+    ) -> Result<(), AllocError> {
+        let text = the_text(alloc, &firing.arguments)?;
+        let next = match &bodies.stage {
+            Stage::Waits(next) => *next,
+            _ => unreachable!(),
+        };
+        let fired = What::Fired(chord, object, firing.members, firing.arguments);
+        bodies.make(number, number, fired, Stage::Gives(next, number, text))?;
+        Ok(())
+    }
+
+    fn count(&self, class: u16) -> u16 {
+        if class == 0 { 1 } else { 0 }
+    }
+
+    fn methods(&self, _class: u16, _chord: u16) -> &[u8] {
+        &METHODS
+    }
+
+    fn journal(&self, _alloc: Global, bodies: SmallBodies) -> Result<Journal, AllocError> {
+        Ok(Journal::of_entries(bodies.entries))
+    }
 }
 
 /// Plays a small program: the journal of a complete run, or of a run of exactly `limits.events` entries.
 ///
-/// `limits.events` is 1 to 65,536. A journal of fewer entries is complete; `is_complete` tells it of one of exactly as many.
+/// `limits.events` is 1 to 65,536. A journal of fewer entries is complete, and `is_complete` tells it of one of exactly as many.
 pub fn play_small(alloc: Global, small: &Small, limits: &Limits) -> Result<Journal, AllocError>
     requires some { 1 ≤ limits.now.events }
     requires bound { limits.now.events ≤ 65536 }
@@ -198,6 +225,5 @@ pub fn play_small(alloc: Global, small: &Small, limits: &Limits) -> Result<Journ
     ensures few { IfOk result (λ journal. length journal ≤ limits.now.events) }
     ensures short { IfOk result (λ journal. length journal < limits.now.events → IsComplete (small_program small.now) journal) }
 {
-    let entries = play_lines(alloc, small.items(), limits.events as usize)?;
-    Ok(Journal::of_entries(entries))
+    play(alloc, small, limits)
 }

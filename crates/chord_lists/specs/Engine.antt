@@ -1,0 +1,114 @@
+-- The engine of one thread, over any program: what it keeps from entry to entry.
+--
+-- `stands` says what the bodies of the program are after a history. Histories have their newest entry first.
+use Rattle.std.specs.Prelude.{◌≡◌, ℕ, ◌+◌, ◌<◌, ◌≤◌, ◌⊎◌, List, [], ◌∷◌, length, Option, Some, None, slice_get}
+use Rattle.chord_base.specs.declared.value.Object.{Object}
+use Rattle.chord_base.specs.declared.value.Value as value
+use Rattle.chord_base.specs.declared.event.What.TheVariants.{Begun, Fired}
+use Rattle.chord_base.specs.declared.event.Entry.{Entry}
+use Rattle.chord_base.specs.Meaning.{Program}
+use Rattle.chord_base.specs.Messages.{Message, message_of, members_of, pending}
+use Rattle.chord_base.specs.Machine.{MayFollow, Fires, NoneFires, NoneAsks, IsPast, IsFinal}
+use Rattle.chord_base.specs.Bounds.{AreWithin}
+use Rattle.chord_lists.specs.declared.bag.Waiting.{Waiting}
+use Rattle.chord_lists.specs.declared.engine.Turn.{Turn}
+use Rattle.chord_lists.specs.declared.engine.Turn.TheVariants as a_turn
+use Rattle.chord_lists.specs.declared.engine.Step.{Step}
+use Rattle.chord_lists.specs.declared.engine.Step.TheVariants.{Done, Idle, Fresh}
+use Rattle.chord_lists.specs.Bag.{message, find}
+
+-- the history in which `Main` has just begun
+abbrev pub begun : List Entry
+begun = record { number = 0; body = 0; what = Begun } ∷ []
+
+-- each chord has a method
+abbrev pub HaveMethods : Program → Type 0
+HaveMethods p = (c k : ℕ) (js : List ℕ) → slice_get (p.chords c) k ≡ Some js → 0 < length js
+
+-- a run of n entries, each within its bounds
+pub record IsPlayed (p : Program) (n : ℕ) (h : List Entry) : Type 0 where
+  pub past : IsPast p h
+  pub within : AreWithin h
+  pub so_long : length h ≡ n
+
+-- a firing of a chord as an entry
+abbrev pub fired : ℕ → ℕ → Object → List ℕ → List value.Value → Entry
+fired n k o ms vs = record { number = n; body = n; what = Fired k o ms vs }
+
+-- the bodies stand after a run of n entries
+abbrev pub MayGoOn : Program → (List Entry → Type 0) → ℕ → Type 0
+MayGoOn p stands n = (h : List Entry) × IsPlayed p n h × stands h
+
+-- the bodies have made this entry, which may follow
+pub record Made (p : Program) (stands : List Entry → Type 0) (h : List Entry) (e : Entry) : Type 0 where
+  pub follows : MayFollow p h e
+  pub within : AreWithin (e ∷ h)
+  pub after : stands (e ∷ h)
+  pub no_firing : members_of e.what ≡ []
+
+-- what a turn of the bodies was, after this history
+abbrev pub WentFrom : Program → (List Entry → Type 0) → List Entry → Turn → Type 0
+WentFrom p stands h a_turn.Over = NoneAsks p h × stands h
+WentFrom p stands h a_turn.Plain = (e : Entry) × Made p stands h e × (message_of e.what ≡ None)
+WentFrom p stands h (a_turn.Message x) = (e : Entry) × Made p stands h e × (message_of e.what ≡ Some (message x))
+
+-- what a turn of the bodies was, after each run of n entries after which they can have stood
+abbrev pub Went : Program → (List Entry → Type 0) → (List Entry → Type 0) → ℕ → Turn → Type 0
+Went p before after n turn = (h : List Entry) → IsPlayed p n h → before h → WentFrom p after h turn
+
+-- the bodies stand after a run of n entries, and this firing may follow
+abbrev pub MayBegin : Program → (List Entry → Type 0) → ℕ → ℕ → Object → List ℕ → List value.Value → Type 0
+MayBegin p stands n k o ms vs = (h : List Entry) × IsPlayed p n h × stands h × Fires p h k o ms vs × AreWithin (fired n k o ms vs ∷ h)
+
+-- the bodies stand after the firing
+abbrev pub Began : Program → (List Entry → Type 0) → (List Entry → Type 0) → ℕ → ℕ → Object → List ℕ → List value.Value → Type 0
+Began p before after n k o ms vs = (h : List Entry) → IsPlayed p n h → before h → Fires p h k o ms vs → after (fired n k o ms vs ∷ h)
+
+-- the last entry is a message to this object, and before it no chord had all its messages
+pub record IsAfterMessage (p : Program) (h : List Entry) (o : Object) : Type 0 where
+  pub before : List Entry
+  pub last : Entry
+  pub sent : Message
+  pub is : h ≡ last ∷ before
+  pub numbered : last.number ≡ length before
+  pub idle : NoneFires p before
+  pub is_message : message_of last.what ≡ Some sent
+  pub no_firing : members_of last.what ≡ []
+  pub object : sent.object ≡ o
+
+-- the one object of which a chord may have all its messages, if there may be one
+abbrev pub IsFresh : Program → List Entry → Option Object → Type 0
+IsFresh p h None = NoneFires p h
+IsFresh p h (Some o) = IsAfterMessage p h o
+
+-- the engine after n entries: the bodies stand there, and the slots of the bag hold exactly the pending messages
+pub record State (p : Program) (stands : List Entry → Type 0) (slots : List (Option Waiting)) (fresh : Option Object) (n : ℕ) : Type 0 where
+  pub history : List Entry
+  pub played : IsPlayed p n history
+  pub bodies : stands history
+  pub holds : (m : ℕ) → pending m history ≡ find m slots
+  pub slotted : length slots ≡ n
+  pub is_fresh : IsFresh p history fresh
+
+-- nothing may follow the n entries
+abbrev pub IsOver : Program → (List Entry → Type 0) → ℕ → Type 0
+IsOver p stands n = (h : List Entry) × IsPlayed p n h × stands h × IsFinal p h
+
+-- the engine after a step from n entries
+abbrev pub Stepped : Program → (List Entry → Type 0) → List (Option Waiting) → ℕ → Step → Type 0
+Stepped p stands slots n Done = IsOver p stands n
+Stepped p stands slots n Idle = State p stands slots None (n + 1)
+Stepped p stands slots n (Fresh o) = State p stands slots (Some o) (n + 1)
+
+-- the bodies stand after a run that is complete or has n entries, and no more than n
+pub record IsPlayedOut (p : Program) (stands : List Entry → Type 0) (n : ℕ) : Type 0 where
+  pub history : List Entry
+  pub past : IsPast p history
+  pub within : AreWithin history
+  pub bodies : stands history
+  pub few : length history ≤ n
+  pub whole : IsFinal p history ⊎ (length history ≡ n)
+
+-- the bodies stand after a run that a journal can hold
+abbrev pub Ends : Program → (List Entry → Type 0) → Type 0
+Ends p stands = (h : List Entry) × stands h × IsPast p h × AreWithin h × (length h ≤ 65536)

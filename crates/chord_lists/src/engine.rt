@@ -1,0 +1,235 @@
+//! The engine of one thread: which messages are pending, and which chord fires.
+//!
+//! It plays the bodies of any program (`Playable`), one entry a turn. After a message it fires a chord that the message has
+//! completed, if there is one; otherwise some body goes on.
+#![tactic(auto)]
+
+ghost use Rattle.std.specs.Prelude.{◌≡◌, ℕ, ◌+◌, ◌<◌, ◌≤◌, ◌⊎◌, List, [], ◌∷◌, length, reverse, slice_get, Option, Some, None, IfOk, IfSome, IfNone};
+ghost use Rattle.chord_base.specs.declared.event.Entry.{Entry};
+ghost use Rattle.chord_base.specs.Meaning.{Program};
+ghost use Rattle.chord_base.specs.Machine.{IsPast, IsRun, IsComplete};
+ghost use Rattle.chord_base.specs.Bounds.{AreWithin};
+ghost use Rattle.chord_lists.specs.Bag.{AreDifferent, HasAll, IsBag, LacksOne};
+ghost use Rattle.chord_lists.specs.Engine.{begun, HaveMethods, MayGoOn, MayBegin, Went, Began, Ends, IsPlayedOut, State, Stepped};
+
+use crate::bag::{Bag, Firing, Waiting};
+use chord_base::event::Limits;
+use chord_base::journal::Journal;
+use chord_base::value::Object;
+use std::alloc::{AllocError, Global};
+
+/// What a turn of the bodies was.
+#[derive(Drop)]
+pub enum Turn {
+    /// No body has a next ask.
+    Over,
+    /// An entry that is no message.
+    Plain,
+    /// A message.
+    Message(Waiting),
+}
+
+/// A program that the engine can play: its chords, and the bodies of a run.
+pub trait Playable {
+    /// The bodies of a run, with all that they did.
+    type Bodies: Drop;
+
+    /// What the program means.
+    ghost program: { Self → Program };
+
+    /// What the bodies are after a history, newest entry first.
+    ghost stands: { Self → Self.Bodies → List Entry → Type 0 };
+
+    /// The body of `Main`, which has just begun.
+    fn start(&self, alloc: Global) -> Result<Self::Bodies, AllocError>
+        ensures bodies { IfOk result (λ bodies. stands self.now bodies begun) }
+        ensures chords { HaveMethods (program self.now) };
+
+    /// Some body goes on: the bodies make the entry of this number, and give the message that it is.
+    fn go_on(
+        &self,
+        alloc: Global,
+        bodies: &mut Self::Bodies,
+        number: u32,
+    ) -> Result<Turn, AllocError>
+        requires room { number < 65536 }
+        requires may { MayGoOn (program self.now) (stands self.now bodies.old) number }
+        ensures { IfOk result (λ turn. Went (program self.now) (stands self.now bodies.old) (stands self.now bodies.new) number turn) };
+
+    /// A chord of the object fires: the bodies make the entry of this number, and the body of the chord begins.
+    fn begin(
+        &self,
+        alloc: Global,
+        bodies: &mut Self::Bodies,
+        number: u32,
+        chord: u16,
+        object: Object,
+        firing: Firing,
+    ) -> Result<(), AllocError>
+        requires room { number < 65536 }
+        requires may { MayBegin (program self.now) (stands self.now bodies.old) number chord object firing.members firing.arguments }
+        ensures { IfOk result (λ _. Began (program self.now) (stands self.now bodies.old) (stands self.now bodies.new) number chord object firing.members firing.arguments) };
+
+    /// How many chords the class has.
+    fn count(&self, class: u16) -> u16
+        ensures { result ≡ length ((program self.now).chords class) };
+
+    /// The methods of a chord of the class, in header order.
+    fn methods(&self, class: u16, chord: u16) -> &[u8]
+        requires { chord < length ((program self.now).chords class) }
+        ensures value { slice_get ((program self.now).chords class) chord ≡ Some result.now }
+        ensures numbered { chord < 256 }
+        ensures some { 0 < length result.now }
+        ensures few { length result.now ≤ 8 }
+        ensures different { AreDifferent result.now };
+
+    /// The journal of all that the bodies did.
+    fn journal(&self, alloc: Global, bodies: Self::Bodies) -> Result<Journal, AllocError>
+        requires { Ends (program self.now) (stands self.now bodies) }
+        ensures { IfOk result (λ journal. (h : List Entry) → stands self.now bodies h → journal ≡ reverse h) };
+}
+
+/// A chord of the object that has all its messages.
+fn find_chord<P: Playable>(program: &P, bag: &Bag, object: Object) -> Option<u16>
+    requires bag { IsBag bag.now }
+    ensures some { IfSome result (λ k. (js : List ℕ) × (slice_get ((P.program program.now).chords object.class) k ≡ Some js) × HasAll object js bag.now.messages.items) }
+    ensures none { IfNone result ((k : ℕ) (js : List ℕ) → slice_get ((P.program program.now).chords object.class) k ≡ Some js → LacksOne object js bag.now.messages.items) }
+{
+    for chord in 0..program.count(object.class) {
+        if bag.has_all(object, program.methods(object.class, chord)) {
+            return Some(chord);
+        }
+    }
+    None
+}
+
+/// What a step of the engine was.
+enum Step {
+    /// Nothing may follow.
+    Done,
+    /// An entry, after which no chord has all its messages.
+    Idle,
+    /// A message to this object, of which a chord may now have all its messages.
+    Fresh(Object),
+}
+
+/// Lets some body go on.
+fn take_turn<P: Playable>(
+    alloc: Global,
+    program: &P,
+    bodies: &mut P::Bodies,
+    bag: &mut Bag,
+    number: u32,
+) -> Result<Step, AllocError>
+    requires some { 0 < number }
+    requires room { number < 65536 }
+    requires bag { IsBag bag.old }
+    requires state { State (P.program program.now) (P.stands program.now bodies.old) bag.old.messages.items None number }
+    ensures bag { IfOk result (λ _. IsBag bag.new) }
+    ensures state { IfOk result (λ step. Stepped (P.program program.now) (P.stands program.now bodies.new) bag.new.messages.items number step) }
+{
+    match program.go_on(alloc, bodies, number)? {
+        Turn::Over => Ok(Step::Done),
+        Turn::Plain => {
+            bag.note(alloc, None)?;
+            Ok(Step::Idle)
+        }
+        Turn::Message(message) => {
+            let object = message.object;
+            bag.note(alloc, Some(message))?;
+            Ok(Step::Fresh(object))
+        }
+    }
+}
+
+/// Fires a chord of the object, whose messages are all in the bag.
+fn fire<P: Playable>(
+    alloc: Global,
+    program: &P,
+    bodies: &mut P::Bodies,
+    bag: &mut Bag,
+    object: Object,
+    chord: u16,
+    number: u32,
+) -> Result<(), AllocError>
+    requires room { number < 65536 }
+    requires bag { IsBag bag.old }
+    requires state { State (P.program program.now) (P.stands program.now bodies.old) bag.old.messages.items (Some object) number }
+    requires there { (js : List ℕ) × (slice_get ((P.program program.now).chords object.class) chord ≡ Some js) × HasAll object js bag.old.messages.items }
+    ensures bag { IfOk result (λ _. IsBag bag.new) }
+    ensures state { IfOk result (λ _. State (P.program program.now) (P.stands program.now bodies.new) bag.new.messages.items None (number + 1)) }
+{
+    let methods = program.methods(object.class, chord);
+    let firing = bag.take_all(alloc, object, methods)?;
+    program.begin(alloc, bodies, number, chord, object, firing)?;
+    bag.note(alloc, None)?;
+    Ok(())
+}
+
+/// Makes the next entry: a firing where a chord of the fresh object has all its messages, and otherwise what a body asks.
+fn advance<P: Playable>(
+    alloc: Global,
+    program: &P,
+    bodies: &mut P::Bodies,
+    bag: &mut Bag,
+    fresh: Option<Object>,
+    number: u32,
+) -> Result<Step, AllocError>
+    requires some { 0 < number }
+    requires room { number < 65536 }
+    requires bag { IsBag bag.old }
+    requires state { State (P.program program.now) (P.stands program.now bodies.old) bag.old.messages.items fresh number }
+    ensures bag { IfOk result (λ _. IsBag bag.new) }
+    ensures state { IfOk result (λ step. Stepped (P.program program.now) (P.stands program.now bodies.new) bag.new.messages.items number step) }
+{
+    match fresh {
+        None => take_turn(alloc, program, bodies, bag, number),
+        Some(object) => match find_chord(program, bag, object) {
+            None => take_turn(alloc, program, bodies, bag, number),
+            Some(chord) => {
+                fire(alloc, program, bodies, bag, object, chord, number)?;
+                Ok(Step::Idle)
+            }
+        },
+    }
+}
+
+/// The bodies after a complete run, or after a run of exactly `events` entries.
+fn play_bodies<P: Playable>(
+    alloc: Global,
+    program: &P,
+    events: u32,
+) -> Result<P::Bodies, AllocError>
+    requires some { 1 ≤ events }
+    requires bound { events ≤ 65536 }
+    ensures { IfOk result (λ bodies. IsPlayedOut (P.program program.now) (P.stands program.now bodies) events) }
+{
+    let mut bodies = program.start(alloc)?;
+    let mut bag = Bag::new(alloc);
+    bag.note(alloc, None)?;
+    let mut fresh = None;
+    for number in 1..events {
+        match advance(alloc, program, &mut bodies, &mut bag, fresh, number)? {
+            Step::Done => return Ok(bodies),
+            Step::Idle => fresh = None,
+            Step::Fresh(object) => fresh = Some(object),
+        }
+    }
+    Ok(bodies)
+}
+
+/// Plays a program: the journal of a complete run, or of a run of exactly `limits.events` entries.
+///
+/// `limits.events` is 1 to 65,536. A journal of fewer entries is complete.
+pub fn play<P: Playable>(alloc: Global, program: &P, limits: &Limits) -> Result<Journal, AllocError>
+    requires some { 1 ≤ limits.now.events }
+    requires bound { limits.now.events ≤ 65536 }
+    ensures run { IfOk result (λ journal. IsRun (P.program program.now) journal) }
+    ensures whole { IfOk result (λ journal. IsComplete (P.program program.now) journal ⊎ (length journal ≡ limits.now.events)) }
+    ensures few { IfOk result (λ journal. length journal ≤ limits.now.events) }
+    ensures short { IfOk result (λ journal. length journal < limits.now.events → IsComplete (P.program program.now) journal) }
+{
+    let bodies = play_bodies(alloc, program, limits.events)?;
+    let journal = program.journal(alloc, bodies)?;
+    Ok(journal)
+}
