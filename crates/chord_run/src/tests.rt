@@ -208,7 +208,7 @@ struct Refused {
     refusal: Refusal,
 }
 
-const REFUSED: [Refused; 9] = [
+const REFUSED: [Refused; 12] = [
     Refused {
         name: "empty input",
         source: "",
@@ -220,6 +220,24 @@ const REFUSED: [Refused; 9] = [
         source: "class P {",
         written: "refused syntax 1:10\n",
         refusal: Refusal::Syntax(3),
+    },
+    Refused {
+        name: "a comment alone",
+        source: "//",
+        written: "refused syntax 1:3\n",
+        refusal: Refusal::Syntax(0),
+    },
+    Refused {
+        name: "two modifiers before a class",
+        source: "public private do",
+        written: "refused syntax 1:8\n",
+        refusal: Refusal::Syntax(1),
+    },
+    Refused {
+        name: "a number behind a name, a token a line",
+        source: "class\nA\n{\npublic\nint\nF\n(\nint\nn\n)\n{\nif\n(\nn\n<\nF\n2\n)\nreturn\nn\n;\n}\n}\n",
+        written: "refused syntax 17:1\n",
+        refusal: Refusal::Syntax(16),
     },
     Refused {
         name: "a brace too many",
