@@ -60,15 +60,15 @@ Rose-before a b c (inr last) grows = inr (omega arith)
 pub TookFront-first : (a b : Option (List ℕ)) (p q : List ℕ) → TookFront a p b → TookFront a (p ++ q) b
 TookFront-first a b p q front = record {
   count = front.count;
-  within = omega (arith, length-append p q, front.within);
-  took = rw (take-append-le front.count p q front.within) front.took;
+  short = omega (arith, length-append p q, front.short);
+  took = rw (take-append-le front.count p q (omega (arith, front.short))) front.took;
 }
 
 -- a first text was taken, and then a front of a second
 pub TookFront-second : (a b c : Option (List ℕ)) (p q : List ℕ) → Took a p b → TookFront b q c → TookFront a (p ++ q) c
 TookFront-second a b c p q first front = record {
   count = length p + front.count;
-  within = omega (arith, length-append p q, front.within);
+  short = omega (arith, length-append p q, front.short);
   took = rw (take-append-add p q front.count) (Took-join a b c p (take front.count q) first front.took);
 }
 

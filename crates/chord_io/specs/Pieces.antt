@@ -1,5 +1,5 @@
 -- What a source gives and a sink takes, piece by piece. The bytes are None where the source or the sink does not tell them.
-use Rattle.std.specs.Prelude.{◌≡◌, ℕ, ◌≤◌, List, [], ◌++◌, length, take, Option, IfSome}
+use Rattle.std.specs.Prelude.{◌≡◌, ℕ, ◌<◌, List, [], ◌++◌, length, take, Option, IfSome}
 use Rattle.std.specs.Option.{option_map}
 
 -- a source gave a piece: what was left before is the piece, and then what is left after
@@ -14,8 +14,8 @@ IsSpent left = IfSome left (λ bytes. bytes ≡ [])
 abbrev pub Took : Option (List ℕ) → List ℕ → Option (List ℕ) → Type 0
 Took before piece after = after ≡ option_map (λ bytes. bytes ++ piece) before
 
--- a sink took a front of a text, and no more of it
+-- a sink took a front of a text, and not the whole
 pub record TookFront (before : Option (List ℕ)) (text : List ℕ) (after : Option (List ℕ)) : Type 0 where
   pub count : ℕ
-  pub within : count ≤ length text
+  pub short : count < length text
   pub took : Took before (take count text) after

@@ -16,7 +16,7 @@ mod write;
 
 pub use memory::{MemSink, MemSource};
 pub use pen::Pen;
-pub use read::{MAX_TEXT_BYTES, ReadFault, read_all, read_up_to};
+pub use read::{MAX_SOURCE_BYTES, ReadFault, read_all, read_up_to};
 pub use sink::Sink;
 pub use source::Source;
 pub use standard::{StdSink, StdSource};

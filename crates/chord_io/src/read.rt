@@ -7,8 +7,8 @@ ghost use Rattle.chord_io.specs.declared.read.ReadFault.TheVariants.{Failed as r
 use crate::{Failed, Source};
 use std::alloc::{AllocError, Global};
 
-/// The most bytes that a text of a program may have.
-pub const MAX_TEXT_BYTES: u32 = 1_048_576;
+/// The most bytes that the source of a program may have.
+pub const MAX_SOURCE_BYTES: u32 = 1_048_576;
 
 /// The bytes that one read asks for.
 const PIECE_BYTES: usize = 4096;
@@ -40,7 +40,7 @@ impl From<AllocError> for ReadFault {
     }
 }
 
-/// Reads a text of a program: `read_up_to` of `MAX_TEXT_BYTES`.
+/// Reads the source of a program: `read_up_to` of `MAX_SOURCE_BYTES`.
 pub fn read_all<S: Source>(alloc: Global, source: &mut S) -> Result<Vec<u8>, ReadFault>
     ensures all { IfOk result (λ bytes. IfSome (S.left source.old) (λ left. bytes.items ≡ left)) }
     ensures gave { IfOk result (λ bytes. Gave (S.left source.old) bytes.items (S.left source.new)) }
@@ -52,7 +52,7 @@ pub fn read_all<S: Source>(alloc: Global, source: &mut S) -> Result<Vec<u8>, Rea
     ensures part { OnErr result ((given : List ℕ) × Gave (S.left source.old) given (S.left source.new)) }
     ensures never_falls { S.faults source.old ≤ S.faults source.new }
 {
-    read_up_to(alloc, source, MAX_TEXT_BYTES)
+    read_up_to(alloc, source, MAX_SOURCE_BYTES)
 }
 
 /// Reads all bytes to the end of input, of which there may be `most`.

@@ -1,7 +1,7 @@
 //! What no clause says: that calls succeed with memory, that readers and writers of std are passed on, and one fault
 //! in mid-stream of each kind.
 use crate::{
-    Failed, MAX_TEXT_BYTES, MemSink, MemSource, Pen, ReadFault, StdSink, StdSource, read_all,
+    Failed, MAX_SOURCE_BYTES, MemSink, MemSource, Pen, ReadFault, StdSink, StdSource, read_all,
     read_up_to, write_all,
 };
 use std::io;
@@ -30,7 +30,7 @@ fn reads_to_the_end_in_any_pieces(rt: HostRuntime) -> Result<(), Fail> {
 
 #[test]
 fn a_text_has_a_greatest_length(rt: HostRuntime) -> Result<(), Fail> {
-    let most = MAX_TEXT_BYTES as usize;
+    let most = MAX_SOURCE_BYTES as usize;
     for (length, read) in [(most, Ok(most)), (most + 1, Err(ReadFault::TooLong))] {
         let bytes = vec![in rt.alloc(); b'x'; length]?;
         let mut source = MemSource::new(bytes, 70_000, Vec::new(rt.alloc()));

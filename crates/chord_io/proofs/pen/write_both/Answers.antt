@@ -1,11 +1,8 @@
 -- Where the second write fails, the first piece was taken and a front of the second.
-use Rattle.std.proofs.Common.{arith}
 use Rattle.std.proofs.lemmas.Result.{on_err_weaker}
 use Rattle.chord_io.proofs.Joined.{TookFront-second}
 use Rattle.chord_io.proofs.pen.write_both.Goals as goal
 
 pub returns-clause-front : goal.returns-clause-front
 returns-clause-front g c =
-    on_err_weaker c.write_all-2.result
-    (λ part. TookFront-second _ _ _ _ _ c.in_ok-write_all.ensures.whole
-    (record { count = part.0; within = omega (arith, part.1); took = part.2 })) c.write_all-2.ensures.part
+    on_err_weaker c.write_all-2.result (λ front. TookFront-second _ _ _ _ _ c.in_ok-write_all.ensures.whole front) c.write_all-2.ensures.front

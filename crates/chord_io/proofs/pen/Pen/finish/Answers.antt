@@ -7,6 +7,4 @@ use Rattle.chord_io.proofs.pen.Pen.finish.Goals as goal
 pub returns-clause-front : goal.returns-clause-front
 returns-clause-front g c =
     let held : c.args.self ≡ Some c.as_slice.result.now = grind arith in
-    on_err_weaker c.write_all.result
-    (λ part before f text written. TookFront-finished _ _ _ _ _ _ _ _ written held
-    (record { count = part.0; within = omega (arith, part.1); took = part.2 })) c.write_all.ensures.part
+    on_err_weaker c.write_all.result (λ front before f text written. TookFront-finished _ _ _ _ _ _ _ _ written held front) c.write_all.ensures.front
