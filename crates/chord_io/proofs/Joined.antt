@@ -1,7 +1,7 @@
 -- Pieces given or taken one after the other are one piece, and a count that rose in one call rose over several.
 use Rattle.std.proofs.Common.{◌≡◌, ℕ, ◌≤◌, inl, inr, List, [], ◌++◌, Option, None, Some, IfSome, refl, ap, sym, ◌∙◌, append_assoc, append-nil, arith, length, take, drop, ◌<◌, ◌+◌, ◌∷◌, length-append, add-one, suc, get_or}
 use Rattle.std.proofs.Math.Seq.{drop-cons, take-suc, take-append-add}
-use Rattle.std.proofs.lemmas.List.{take-append-le, take-append-drop}
+use Rattle.std.proofs.lemmas.List.{length-take-le, take-append-le, take-append-drop}
 use Rattle.std.proofs.lemmas.Grind.{flat_map-append}
 use Rattle.std.specs.List.{flat_map}
 use Rattle.std.specs.Option.{option_map}
@@ -71,6 +71,13 @@ TookFront-second a b c p q first front = record {
   short = omega (arith, length-append p q, front.short);
   took = rw (take-append-add p q front.count) (Took-join a b c p (take front.count q) first front.took);
 }
+
+-- where a front was taken, the whole was not
+pub not_whole : (bytes : List ℕ) (after : Option (List ℕ)) (text : List ℕ) → Took (Some bytes) text after → TookFront (Some bytes) text after → ⊥
+not_whole bytes after text whole front =
+    let same : bytes ++ text ≡ bytes ++ take front.count text = (let took = front.took in cc) in
+    let shorter : length (take front.count text) ≡ front.count = length-take-le front.count text (omega (arith, front.short)) in
+    omega (arith, ap length same, length-append bytes text, length-append bytes (take front.count text), shorter, front.short)
 
 -- a list is what stands before a place, what stands at it, and what stands behind it
 pub around : {X : Type 0} (xs : List X) (i : ℕ) (x d : X) → i < length xs → x ≡ get_or xs i d → xs ≡ take i xs ++ (x ∷ drop (i + 1) xs)

@@ -17,7 +17,7 @@ const LINE_BYTES: usize = MAX_TEXT_BYTES + 1;
 ///
 /// # Errors
 ///
-/// `Failed` where the sink failed, which its count of faults shows. A front of the lines was taken.
+/// `Failed` where the sink failed, which its count of faults shows. A front of the lines was taken, and not the whole.
 pub fn write_lines<K: Sink>(journal: &Journal, sink: &mut K) -> Result<(), Failed>
     ensures whole { OnOk result (Took (K.taken sink.old) (lines journal.now) (K.taken sink.new)) }
     ensures front { OnErr result (TookFront (K.taken sink.old) (lines journal.now) (K.taken sink.new)) }

@@ -1,6 +1,7 @@
 pub mod Starts
 pub mod Causes
 pub mod Complete
+pub mod Exact
 pub mod Answering
 pub mod Words
 pub mod Breaks

@@ -9,7 +9,7 @@ use Rattle.chord_io.specs.Pieces.{Took, TookFront}
 use Rattle.chord_run.specs.Answers.{IsDue, IsFull}
 use Rattle.chord_run.specs.Refusals.{IsCause, IsLine}
 use Rattle.chord_run.specs.Sources.{IsAccepted, IsMachine}
-use Rattle.chord_run.specs.Written.{Due, IsGiven}
+use Rattle.chord_run.specs.Written.{Due, IsGiven, IsTold}
 use Rattle.chord_run.specs.declared.refusal.Refusal.{Refusal}
 use Rattle.chord_run.specs.declared.report.Report.{Report}
 
@@ -48,13 +48,23 @@ pub record Refuses (left : Option (List ℕ)) (report : Report) (before after : 
   pub is_line : IsLine source refusal line
   pub written : Took before line after
 
--- 5: of the text that is due, a front was taken, and the report says for what it was due
+-- 5: of the text that is due, a front was taken and not the whole, and the report says for what it was due
 pub record CutsShort (left : Option (List ℕ)) (events : ℕ) (report : Report) (before after : Option (List ℕ)) : Type 0 where
   pub source : List ℕ
   pub given : IsGiven left source
   pub due : Due
   pub is_due : IsDue source events report.journal report.refusal due
   pub written : TookFront before due.text after
+
+-- the source tells its bytes, and so does the sink
+abbrev pub AreTold : Option (List ℕ) → Option (List ℕ) → Type 0
+AreTold left before = IsTold left × IsTold before
+
+-- each of the causes above has its status: what is due was taken whole, so the status is the one that is due, and not 5
+pub record IsExact (left : Option (List ℕ)) (events : ℕ) (report : Report) (before after : Option (List ℕ)) : Type 0 where
+  pub finishes : (status : ℕ) → Finishes left report before after status → report.status ≡ status
+  pub fills : Fills left events report before after → report.status ≡ 6
+  pub refuses : Refuses left report before after → report.status ≡ 1
 
 -- the answers to a run: 0, 4, 6 or 8
 abbrev pub IsOfRun : ℕ → Type 0

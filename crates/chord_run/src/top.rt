@@ -9,7 +9,7 @@ ghost use Rattle.chord_lists.specs.declared.small.SmallLine as small;
 ghost use Rattle.chord_run.specs.Answers.{Answers, Gives, IsAnswered, IsRefused, IsRunOf, IsSilence, IsUnanswered};
 ghost use Rattle.chord_run.specs.Command.{AreTaken, texts};
 ghost use Rattle.chord_run.specs.Refusals.{PointsAt};
-ghost use Rattle.chord_run.specs.Rows.{CutsShort, Fills, Finishes, IsOrderly, Refuses, RefusesOthers, RunsAccepted};
+ghost use Rattle.chord_run.specs.Rows.{AreTold, CutsShort, Fills, Finishes, IsExact, IsOrderly, Refuses, RefusesOthers, RunsAccepted};
 ghost use Rattle.chord_run.specs.Sources.{IsShort};
 
 use crate::command::limits_of;
@@ -62,6 +62,11 @@ pub fn chord<R: Threads + Wait + Sync, S: Source, K: Sink, G: Gate + Sync>(
         → CutsShort (S.left source.old) 65536 result (K.taken sink.old) (K.taken sink.new) }
     ensures status_6 { result.status ≡ 6 → Fills (S.left source.old) 65536 result (K.taken sink.old) (K.taken sink.new) }
     ensures status_8 { result.status ≡ 8 → Finishes (S.left source.old) result (K.taken sink.old) (K.taken sink.new) 8 }
+
+    // Each cause has its status, where the source and the sink tell their bytes: what was due and was taken whole is never
+    // followed by 5.
+    ensures exactly { AreTold (S.left source.old) (K.taken sink.old)
+        → IsExact (S.left source.old) 65536 result (K.taken sink.old) (K.taken sink.new) }
 
     // Where the words are taken and no count of faults rises, only want of memory stands between a source and its answer.
     ensures accepted { IsOrderly (AreTaken (texts words.now)) (S.faults source.old) (S.faults source.new)
