@@ -158,7 +158,7 @@ def symbols(g):
 def productions(g):
     o = [f"-- The grammar, a production a line. A symbol stands for each repeated or optional part; a capital is a token of a class. {MADE}",
          "use Rattle.std.specs.Prelude.{ℕ, List, [], ◌∷◌}",
-         "use Rattle.chord_tree.specs.Part.{Part, Production, ◌⟶◌, number_of}",
+         "use Rattle.chord_tree.specs.Part.{Production, ◌⟶◌, number_of}",
          "use Rattle.chord_tree.specs.Symbols.{" + ", ".join(g.heads + g.classes[:-len(UNUSED)]) + "}", "",
          "unfoldable pub productions : List Production", "productions ="]
     seen = None

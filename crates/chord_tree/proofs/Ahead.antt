@@ -1,7 +1,7 @@
 -- What the tables of the grammar have to meet, computed over the whole of them.
-use Rattle.std.proofs.Common.{◌≡◌, ℕ, zero, suc, ◌+◌, ◌<◌, ◌≤◌, ◌≢◌, Bool, true, false, not, ◌&&◌, ◌||◌, List, [], ◌∷◌, ◌++◌, length, get_or, refl, sym, ap, subst, ◌∙◌, arith, inl, inr, eq-eqb, lit<}
+use Rattle.std.proofs.Common.{◌≡◌, ℕ, zero, suc, ◌<◌, ◌≢◌, Bool, true, false, not, ◌&&◌, ◌||◌, List, [], ◌∷◌, get_or, refl, sym, ap, subst, ◌∙◌, arith, inl, inr, lit<}
 use Rattle.std.specs.Prelude.{nat_eq, nat_lt}
-use Rattle.std.proofs.lemmas.Bool.{eqb-true, ltb-true, lt-ltb}
+use Rattle.std.proofs.lemmas.Bool.{eqb-true, lt-ltb}
 use Rattle.std.proofs.lemmas.Bool.Decides.{eqb_tells}
 use Rattle.chord_lexer.specs.declared.token.Kind.TheVariants as kinds
 use Rattle.chord_lexer.specs.declared.token.Mark.TheVariants as marks
@@ -10,10 +10,10 @@ use Rattle.chord_lexer.specs.declared.token.Kind.{Kind}
 use Rattle.chord_lexer.specs.declared.token.Keyword.{Keyword}
 use Rattle.chord_lexer.specs.declared.token.Mark.{Mark}
 use Rattle.chord_tree.specs.Part.{number_of, Part, Terminal, Symbol}
-use Rattle.chord_tree.specs.Grammar.{productions, counted, rule_count, symbol_count, class_count, else_class, no_else}
+use Rattle.chord_tree.specs.Grammar.{productions, rule_count, symbol_count, class_count, else_class, no_else}
 use Rattle.chord_tree.proofs.Table.{firsts, follows, choices, empties}
 use Rattle.chord_tree.specs.Classes.{class_of, word_part, mark_part}
-use Rattle.chord_tree.specs.Derivation.{has, Spelled, Want, kinds_of, next, head_of, parts_of, inside, placed, allowed, Derives, done, word, rule}
+use Rattle.chord_tree.specs.Derivation.{has, Want, next, head_of, parts_of, allowed}
 
 -- the production of symbol x at class c, or the number of productions where none fits
 unfoldable pub choice : ℕ → ℕ → ℕ

@@ -1,11 +1,9 @@
 -- A tree is given back by the tree of the grammar that it stands for: expressions and statements.
-use Rattle.std.proofs.Common.{◌≡◌, ℕ, zero, suc, ◌+◌, ◌-◌, Bool, true, false, cond, List, [], ◌∷◌, refl, sym, ap, ◌∙◌, inl, inr}
+use Rattle.std.proofs.Common.{◌≡◌, ℕ, zero, suc, ◌-◌, Bool, true, false, cond, List, [], ◌∷◌, refl, ap, ◌∙◌}
 use Rattle.std.specs.Prelude.{nat_lt}
 use Rattle.chord_lexer.specs.declared.token.Kind.{Kind}
 use Rattle.chord_lexer.specs.declared.token.Kind.TheVariants as kinds
-use Rattle.chord_lexer.specs.declared.token.Keyword.{Keyword}
 use Rattle.chord_lexer.specs.declared.token.Keyword.TheVariants as words
-use Rattle.chord_lexer.specs.declared.token.Mark.{Mark}
 use Rattle.chord_lexer.specs.declared.token.Mark.TheVariants as marks
 use Rattle.chord_tree.specs.declared.names.Name.{Name}
 use Rattle.chord_tree.specs.declared.names.BasicType.{BasicType}
@@ -15,9 +13,9 @@ use Rattle.chord_tree.specs.declared.names.ValueType.TheVariants as types
 use Rattle.chord_tree.specs.declared.exprs.Operator.{Operator}
 use Rattle.chord_tree.specs.declared.exprs.Operator.TheVariants as operators
 use Rattle.chord_tree.specs.Node.{Node, Nodes, End, ◌▸◌, Leaf, Made}
-use Rattle.chord_tree.specs.Tree.{ExprTree, LinkTrees, LinkTree, StartTree, ActualsTree, ExprTrees, DotTrees, DotTree, Chained, Negated, Denied, Simple, NoLinks, MoreLinks, MakeLink, Variable, Called, This, New, Numeral, Literal, Yes, No, Group, MakeActuals, NoExprs, MoreExprs, NoDots, MoreDots, MakeDot, StmtTree, BlockTree, ItemTrees, ItemTree, Assigns, Calls, CallsThrough, CallsThis, Makes, Braces, Nothing, IfThen, IfElse, Repeats, Returns, Gives, MakeBlock, NoItems, MoreItems, Declares, Does}
-use Rattle.chord_tree.specs.Shape.{mark_of, level, bare, lifted, alone, rank, node_links, node_start, node_actuals, node_exprs, node_more, node_dots, node_dot, node_expr, node_at}
-use Rattle.chord_tree.specs.Forms.{basic_word, node_tail, node_other, node_block, node_items, node_stmt, node_item, local_item, as_stmt, as_item}
+use Rattle.chord_tree.specs.Tree.{ExprTree, LinkTrees, StartTree, ActualsTree, ExprTrees, DotTrees, DotTree, Chained, Negated, Denied, Simple, NoLinks, MoreLinks, MakeLink, Variable, Called, This, New, Numeral, Literal, Yes, No, Group, MakeActuals, NoExprs, MoreExprs, NoDots, MoreDots, MakeDot, StmtTree, BlockTree, ItemTrees, ItemTree, Assigns, Calls, CallsThrough, CallsThis, Makes, Braces, Nothing, IfThen, IfElse, Repeats, Returns, Gives, MakeBlock, NoItems, MoreItems, Declares, Does}
+use Rattle.chord_tree.specs.Shape.{mark_of, level, bare, lifted, alone, rank, node_links, node_start, node_actuals, node_exprs, node_more, node_dots, node_dot, node_expr}
+use Rattle.chord_tree.specs.Forms.{basic_word, node_other, node_block, node_items, node_stmt, local_item, as_item}
 
 -- what a node stands for, where it stands for a thing of that sort
 pub record Back : Type 0 where

@@ -15,10 +15,10 @@ use Rattle.chord_tree.specs.declared.classes.ReturnType.{ReturnType}
 use Rattle.chord_tree.specs.declared.classes.ReturnType.TheVariants as results
 use Rattle.chord_tree.specs.declared.classes.Formal.{Formal}
 use Rattle.chord_tree.specs.declared.classes.NamePart.{NamePart}
-use Rattle.chord_tree.specs.Node.{Node, Nodes, End, ◌▸◌, Leaf, Made}
+use Rattle.chord_tree.specs.Node.{Node, End, ◌▸◌, Leaf, Made}
 use Rattle.chord_tree.specs.Tree.{FormalsTree, HeaderTree, MemberTree, AConstructor, AChord, ClassTree, UsingTree, ProgramTree, BlockTree}
 use Rattle.chord_tree.specs.Forms.{node_block, basic_word}
-use Rattle.chord_tree.specs.Members.{modifier_word, node_modifier, node_modifiers, node_type, node_formal, node_more_formals, node_formal_list, node_formals, node_plain, node_result, node_header, node_headers, node_rest, node_chord, node_member, node_members, node_public, node_base, node_class, node_classes, node_name_parts, node_using, node_usings, node_all_classes, node_program}
+use Rattle.chord_tree.specs.Members.{modifier_word, node_modifier, node_modifiers, node_type, node_formal, node_more_formals, node_formal_list, node_formals, node_result, node_header, node_headers, node_rest, node_member, node_members, node_public, node_base, node_class, node_classes, node_name_parts, node_using, node_usings, node_all_classes, node_program}
 use Rattle.chord_tree.specs.Program.{spelling, IsProgram}
 use Rattle.chord_tree.proofs.OneTree.{one_node}
 use Rattle.chord_tree.proofs.Back.{back, back_block, basic_of, basic_back, bytes_of, two, three}

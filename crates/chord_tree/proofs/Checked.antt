@@ -1,10 +1,9 @@
 -- Whether the grammar derives a tree, by computation.
-use Rattle.std.proofs.Common.{◌≡◌, ℕ, zero, suc, ◌+◌, ◌<◌, Bool, true, false, ◌&&◌, ◌||◌, List, [], ◌∷◌, refl, sym, ap, subst, ◌∙◌, arith, inl, inr}
+use Rattle.std.proofs.Common.{◌≡◌, ℕ, zero, suc, ◌+◌, ◌<◌, Bool, true, false, ◌&&◌, ◌||◌, List, [], ◌∷◌, refl, sym, ap, subst, ◌∙◌, arith}
 use Rattle.std.specs.Prelude.{nat_eq}
 use Rattle.std.proofs.lemmas.Bool.{eqb-true}
-use Rattle.chord_lexer.specs.declared.token.Kind.{Kind}
 use Rattle.chord_tree.specs.Part.{Part, Terminal, Symbol, number_of}
-use Rattle.chord_tree.specs.Grammar.{productions, rule_count, counted, class_count, no_else, else_class}
+use Rattle.chord_tree.specs.Grammar.{rule_count, class_count}
 use Rattle.chord_tree.specs.Classes.{class_of}
 use Rattle.chord_tree.specs.Derivation.{Spelled, kinds_of, next, head_of, parts_of, inside, allowed}
 use Rattle.chord_tree.specs.Node.{Node, Nodes, End, ◌▸◌, Leaf, Made, spell, spell_all, Fits, FitAll, leaf, made, none, more, IsDerived, size, number_at, IsNumbered, AreNumbered}

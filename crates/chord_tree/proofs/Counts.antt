@@ -1,19 +1,19 @@
 -- How many tokens a program has, and which token an expression begins with.
-use Rattle.std.proofs.Common.{◌≡◌, ℕ, zero, suc, ◌+◌, ◌-◌, ◌<◌, Bool, true, false, ◌&&◌, ◌||◌, List, [], ◌∷◌, length, get_or, map, refl, sym, ap, subst, ◌∙◌, arith}
+use Rattle.std.proofs.Common.{◌≡◌, ℕ, suc, ◌+◌, ◌-◌, ◌<◌, true, List, [], ◌∷◌, length, get_or, map, refl, sym, ap, subst, ◌∙◌, arith}
 use Rattle.std.specs.Prelude.{nat_eq}
 use Rattle.std.proofs.lemmas.Bool.{eqb-true}
 use Rattle.chord_tree.specs.declared.classes.Class.{Class}
 use Rattle.chord_tree.specs.declared.classes.Using.{Using}
-use Rattle.chord_tree.specs.Part.{Part, Symbol, number_of}
+use Rattle.chord_tree.specs.Part.{Part, number_of}
 use Rattle.chord_tree.specs.Symbols.{Program}
 use Rattle.chord_tree.specs.Grammar.{productions, rule_count}
-use Rattle.chord_tree.specs.Derivation.{Spelled, kinds_of, head_of, parts_of, inside}
-use Rattle.chord_tree.specs.Node.{Node, Nodes, End, ◌▸◌, Leaf, Made, spell, spell_all, size, size_all, Fits, FitAll, leaf, made, none, more, IsDerived, IsNumbered}
-use Rattle.chord_tree.specs.Tree.{ExprTree, LinkTrees, LinkTree, StartTree, DotTrees, NoLinks, MoreLinks, MakeLink, NoDots, MoreDots, MakeDot, MakeActuals, Chained, links, chained, UsingTree, ClassTree, Variable, Called, This, New, Numeral, Literal, Yes, No, Group}
-use Rattle.chord_tree.specs.Members.{node_class, node_classes, node_usings, node_all_classes, node_program}
+use Rattle.chord_tree.specs.Derivation.{Spelled, kinds_of, head_of, parts_of}
+use Rattle.chord_tree.specs.Node.{Node, Nodes, End, ◌▸◌, Leaf, Made, spell, spell_all, size, size_all, Fits, FitAll, leaf, made, none, more, IsNumbered}
+use Rattle.chord_tree.specs.Tree.{ExprTree, LinkTrees, LinkTree, DotTrees, NoLinks, MoreLinks, MakeLink, NoDots, MoreDots, MakeDot, MakeActuals, links, chained, ClassTree}
+use Rattle.chord_tree.specs.Members.{node_class, node_classes, node_usings, node_program}
 use Rattle.chord_tree.specs.View.{see_class, see_using}
 use Rattle.chord_tree.specs.Program.{spelling, IsProgram}
-use Rattle.chord_tree.specs.Terms.{Term, Operation, Call, term, term_after, operated, called, started, terms, first_token}
+use Rattle.chord_tree.specs.Terms.{Term, term, operated, called, first_token}
 use Rattle.chord_tree.proofs.Ahead.{below, imp, imp_true}
 
 mutual

@@ -14,3 +14,4 @@ pub mod WordsClasses
 pub mod Checked
 pub mod Counts
 pub mod Spots
+pub mod Walks

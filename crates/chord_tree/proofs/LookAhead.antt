@@ -1,14 +1,10 @@
 -- One token ahead is enough: what a derivation of a want must begin with, and with which rule.
-use Rattle.std.proofs.Common.{◌≡◌, ℕ, zero, suc, ◌+◌, ◌<◌, ◌≤◌, ◌≢◌, Bool, true, false, not, ◌&&◌, ◌||◌, List, [], ◌∷◌, ◌++◌, length, get_or, refl, sym, ap, subst, ◌∙◌, arith, inl, inr, eq-eqb, lit<}
-use Rattle.std.specs.Prelude.{nat_eq, nat_lt}
-use Rattle.std.proofs.lemmas.Bool.{eqb-true, ltb-true}
-use Rattle.std.proofs.lemmas.Bool.Decides.{eqb_tells}
-use Rattle.chord_lexer.specs.declared.token.Kind.{Kind}
-use Rattle.chord_tree.specs.Part.{Part, Terminal, Symbol}
-use Rattle.chord_tree.specs.Grammar.{rule_count, symbol_count, class_count}
+use Rattle.std.proofs.Common.{◌≡◌, ℕ, suc, ◌<◌, Bool, true, false, ◌&&◌, ◌||◌, List, [], ◌∷◌, ◌++◌, refl, sym, ap, subst, ◌∙◌, eq-eqb}
+use Rattle.chord_tree.specs.Part.{Part, Symbol}
+use Rattle.chord_tree.specs.Grammar.{rule_count, class_count}
 use Rattle.chord_tree.specs.Classes.{class_of}
 use Rattle.chord_tree.specs.Derivation.{Spelled, Want, kinds_of, next, head_of, parts_of, inside, placed, allowed, Derives, done, word, rule}
-use Rattle.chord_tree.proofs.Ahead.{choice, imp, imp_true, and_left, and_right, and_both, or_left, begins, may_be_empty, follows_at, part_begins, part_empty, part_follows, begin_under, begin_at, legal_under, rule_begins, rule_legal, rule_chosen, small, next_small}
+use Rattle.chord_tree.proofs.Ahead.{choice, imp, imp_true, and_left, and_right, or_left, begins, may_be_empty, follows_at, part_begins, part_empty, part_follows, begin_under, begin_at, legal_under, rule_begins, rule_legal, rule_chosen, next_small}
 
 pub under : (d : ℕ) (ps : List Part) (s : List Want) (c : ℕ) → begin_at (placed d ps ++ s) c ≡ begin_under ps (begin_at s c) c
 under d [] s c = refl

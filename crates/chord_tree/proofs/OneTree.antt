@@ -1,12 +1,10 @@
 -- A list of kinds has one tree at most.
-use Rattle.std.proofs.Common.{◌≡◌, ℕ, suc, ◌+◌, ◌-◌, ◌<◌, ◌≤◌, Bool, true, false, ◌&&◌, List, [], ◌∷◌, ◌++◌, length, refl, sym, ap, subst, ◌∙◌, arith}
+use Rattle.std.proofs.Common.{◌≡◌, ℕ, ◌+◌, true, List, [], ◌∷◌, ◌++◌, refl, sym, ap, subst, ◌∙◌, arith}
 use Rattle.std.proofs.lemmas.Bool.{eqb-true}
-use Rattle.chord_lexer.specs.declared.token.Kind.{Kind}
 use Rattle.chord_tree.specs.Part.{Part, Terminal, Symbol}
 use Rattle.chord_tree.specs.Symbols.{Program}
-use Rattle.chord_tree.specs.Grammar.{rule_count, symbol_count, class_count}
-use Rattle.chord_tree.specs.Classes.{class_of}
-use Rattle.chord_tree.specs.Derivation.{Spelled, Want, kinds_of, next, head_of, parts_of, inside, placed, allowed, Derives, done, word, rule, Low}
+use Rattle.chord_tree.specs.Grammar.{class_count}
+use Rattle.chord_tree.specs.Derivation.{Spelled, Want, kinds_of, next, parts_of, inside, placed, Derives, done, word, rule}
 use Rattle.chord_tree.specs.Node.{Node, Nodes, End, ◌▸◌, Leaf, Made, spell, spell_all, Fits, FitAll, IsDerived, leaf, made, none, more, size, size_all, IsNumbered, AreNumbered, number_at}
 use Rattle.chord_tree.proofs.Ahead.{choice, next_small, follows_at}
 use Rattle.chord_tree.proofs.Table.{follows}

@@ -1,5 +1,5 @@
 -- The trees of what lies in memory, node by node: statements.
-use Rattle.std.proofs.Common.{◌≡◌, ℕ, List, map, sym, ap, ◌∙◌}
+use Rattle.std.proofs.Common.{◌≡◌, ℕ, map, sym, ap, ◌∙◌}
 use Rattle.std.specs.Prelude.{Vec, Box}
 use Rattle.std.specs.Global.{Global}
 use Rattle.chord_tree.specs.declared.names.Name.{Name}
@@ -7,7 +7,6 @@ use Rattle.chord_tree.specs.declared.names.ValueType.{ValueType}
 use Rattle.chord_tree.specs.declared.exprs.Expr.{Expr}
 use Rattle.chord_tree.specs.declared.exprs.Actuals.{Actuals}
 use Rattle.chord_tree.specs.declared.exprs.Dot.{Dot}
-use Rattle.chord_tree.specs.declared.stmts.Item.{Item}
 use Rattle.chord_tree.specs.declared.stmts.Stmt.{Stmt}
 use Rattle.chord_tree.specs.declared.stmts.Block.{Block, out-Block}
 use Rattle.chord_tree.specs.declared.stmts.Stmt.TheVariants as stmt

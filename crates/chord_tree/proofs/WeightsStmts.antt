@@ -1,6 +1,6 @@
 -- Measures by which the walks over statements end.
-use Rattle.std.proofs.Common.{◌≡◌, ℕ, ◌+◌, List, map, sym, ap, ◌∙◌}
-use Rattle.std.specs.Prelude.{Vec, Box}
+use Rattle.std.proofs.Common.{◌≡◌, ℕ, ◌+◌, map, sym, ap, ◌∙◌}
+use Rattle.std.specs.Prelude.{Box}
 use Rattle.std.specs.Global.{Global}
 use Rattle.chord_tree.specs.declared.exprs.Expr.{Expr}
 use Rattle.chord_tree.specs.declared.stmts.Item.{Item}

@@ -1,16 +1,15 @@
 -- The kinds that a node spells do not turn on its depth, and the tokens of a list grow by one thing after another.
-use Rattle.std.proofs.Common.{◌≡◌, ℕ, zero, suc, ◌+◌, ◌-◌, ◌<◌, ◌≤◌, Bool, true, false, cond, List, [], ◌∷◌, ◌++◌, length, drop, get_or, map, refl, sym, ap, subst, ◌∙◌, arith, add-one, append_assoc, append-nil, Result, Ok, Err, OnOk}
+use Rattle.std.proofs.Common.{◌≡◌, ℕ, zero, suc, ◌+◌, ◌-◌, ◌<◌, ◌≤◌, true, false, cond, List, [], ◌∷◌, ◌++◌, length, drop, get_or, map, refl, sym, ap, subst, ◌∙◌, arith, add-one, append_assoc, append-nil, Result, Ok, Err, OnOk}
 use Rattle.std.proofs.lemmas.List.{map-append}
 use Rattle.std.specs.Prelude.{nat_lt}
 use Rattle.chord_lexer.specs.declared.token.Kind.{Kind}
 use Rattle.chord_lexer.specs.declared.token.Kind.TheVariants as kinds
 use Rattle.chord_lexer.specs.declared.token.Token.{Token}
 use Rattle.chord_tree.specs.Part.{Part}
-use Rattle.chord_tree.specs.Symbols as grammar
-use Rattle.chord_tree.specs.Derivation.{Spelled, kinds_of, inside}
+use Rattle.chord_tree.specs.Derivation.{Spelled, kinds_of}
 use Rattle.chord_tree.specs.Node.{Node, Nodes, End, ◌▸◌, Leaf, Made, spell, spell_all}
 use Rattle.chord_tree.specs.Tree.{ExprTree, LinkTrees, LinkTree, DotTrees, DotTree, MoreDots, MakeDot, NoLinks, MoreLinks, MakeLink, links, chained}
-use Rattle.chord_tree.specs.Shape.{mark, level, mark_of, level_tail, bare, lifted, alone, rank, node_links, node_dots, node_dot, node_expr}
+use Rattle.chord_tree.specs.Shape.{mark, level, mark_of, bare, lifted, alone, rank, node_links, node_dots, node_dot, node_expr}
 use Rattle.chord_tree.specs.declared.exprs.Link.{Link, out-Link}
 use Rattle.chord_tree.specs.ViewExprs.{see_expr, see_link}
 use Rattle.chord_tree.proofs.SeenExprs.{seen_link}

@@ -1,22 +1,21 @@
 -- The kinds that classes spell.
-use Rattle.std.proofs.Common.{◌≡◌, ℕ, List, [], ◌∷◌, ◌++◌, map, refl, sym, ap, ◌∙◌, append_assoc, append-nil}
+use Rattle.std.proofs.Common.{◌≡◌, List, [], ◌∷◌, ◌++◌, map, refl, sym, ap, ◌∙◌, append_assoc, append-nil}
 use Rattle.chord_lexer.specs.declared.token.Token.{Token}
 use Rattle.chord_tree.specs.declared.names.Name.{Name}
 use Rattle.chord_tree.specs.declared.names.ValueType.{ValueType}
 use Rattle.chord_tree.specs.declared.names.ValueType.TheVariants as types
 use Rattle.chord_tree.specs.declared.classes.ReturnType.{ReturnType}
 use Rattle.chord_tree.specs.declared.classes.ReturnType.TheVariants as results
-use Rattle.chord_tree.specs.Node.{Node, Nodes, End, ◌▸◌, Made, spell}
-use Rattle.chord_tree.specs.Derivation.{kinds_of}
+use Rattle.chord_tree.specs.Node.{End, ◌▸◌}
 use Rattle.chord_tree.specs.Tree.{FormalsTree, HeaderTree, BlockTree, UsingTree, ClassTree}
 use Rattle.chord_tree.specs.Shape.{name}
 use Rattle.chord_tree.specs.Forms.{node_block}
-use Rattle.chord_tree.specs.Members.{node_type, node_formals, node_modifiers, node_result, node_header, node_headers, node_rest, node_chord, node_usings, node_class, node_classes, node_all_classes, node_program}
+use Rattle.chord_tree.specs.Members.{node_type, node_formals, node_modifiers, node_result, node_headers, node_rest, node_chord, node_usings, node_classes, node_all_classes, node_program}
 use Rattle.chord_tree.specs.declared.classes.Using.{Using}
 use Rattle.chord_tree.specs.declared.classes.Class.{Class}
 use Rattle.chord_tree.specs.View.{Parts, see_using, see_class, tree_of}
 use Rattle.chord_tree.specs.Program.{words, words_all, Adds, node_header_list, unplaced, spelling}
-use Rattle.chord_tree.proofs.Words.{AddsAll, made, cons, nil, same_words, tokens, tokens_append, spell_words}
+use Rattle.chord_tree.proofs.Words.{cons, nil, same_words, tokens, tokens_append, spell_words}
 
 pub result_added : {a b : List Token} (t : ValueType) → Adds a b (node_type t) → Adds a b (node_result (results.Value t))
 result_added (types.Basic basic at) h = same_words h refl

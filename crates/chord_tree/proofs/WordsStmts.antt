@@ -6,9 +6,9 @@ use Rattle.chord_lexer.specs.declared.token.Mark.TheVariants as marks
 use Rattle.chord_tree.specs.declared.names.Name.{Name}
 use Rattle.chord_tree.specs.declared.names.ValueType.{ValueType}
 use Rattle.chord_tree.specs.declared.names.ValueType.TheVariants as types
-use Rattle.chord_tree.specs.Node.{Node, Nodes, End, ◌▸◌, Made}
+use Rattle.chord_tree.specs.Node.{Nodes, End, ◌▸◌}
 use Rattle.chord_tree.specs.Tree.{ExprTree, StmtTree, ItemTrees, ItemTree, Assigns, Calls, CallsThrough, CallsThis, Makes, Braces, Nothing, IfThen, IfElse, Repeats, Returns, Gives, MoreItems, Declares, Does}
-use Rattle.chord_tree.specs.Shape.{mark, name, node_expr, node_actuals, node_dots, node_dot}
+use Rattle.chord_tree.specs.Shape.{mark, name, node_expr}
 use Rattle.chord_tree.specs.Forms.{semicolon, node_tail, node_other, node_stmt, node_item, node_items, as_item, local_item}
 use Rattle.chord_tree.specs.Members.{node_type}
 use Rattle.chord_tree.specs.Program.{words, words_all, Adds, node_test}

@@ -1,7 +1,7 @@
 -- What the grammar derives, and how deep each token stands in it.
 use Rattle.std.specs.Prelude.{◌≡◌, ℕ, ◌+◌, ◌<◌, ◌≤◌, Bool, true, false, not, ◌&&◌, ◌||◌, cond, List, [], ◌∷◌, ◌++◌, nat_eq, get_or}
 use Rattle.chord_lexer.specs.declared.token.Kind.{Kind}
-use Rattle.chord_tree.specs.Part.{Part, Terminal, Symbol, Production, number_of}
+use Rattle.chord_tree.specs.Part.{Part, Terminal, Symbol, number_of}
 use Rattle.chord_tree.specs.Grammar.{productions, counted, rule_count, class_count, else_class, no_else}
 use Rattle.chord_tree.specs.Classes.{class_of}
 

@@ -1,14 +1,14 @@
 -- An example: the tree of a buffer, whose `Get` waits for a `Put`, and of a program that uses it.
-use Rattle.std.specs.Prelude.{ℕ, List, [], ◌∷◌, Option, Some, None, codes}
+use Rattle.std.specs.Prelude.{ℕ, List, [], ◌∷◌, None, codes}
 use Rattle.chord_tree.specs.declared.names.Name.{Name}
 use Rattle.chord_tree.specs.declared.names.BasicType.TheVariants as basics
 use Rattle.chord_tree.specs.declared.names.ValueType.TheVariants as types
 use Rattle.chord_tree.specs.declared.classes.ModifierWord.TheVariants as modifiers
 use Rattle.chord_tree.specs.declared.classes.ReturnType.TheVariants as results
-use Rattle.chord_tree.specs.Tree.{ExprTree, Simple, Variable, New, Literal, MakeActuals, NoExprs, MoreExprs, NoDots, MoreDots, MakeDot, CallsThrough, Gives, MakeBlock, NoItems, MoreItems, Declares, Does, ItemTree, HeaderTree, AChord, ClassTree, ProgramTree}
+use Rattle.chord_tree.specs.Tree.{ExprTree, Simple, Variable, New, Literal, MakeActuals, NoExprs, MoreExprs, NoDots, MoreDots, MakeDot, CallsThrough, Gives, MakeBlock, NoItems, MoreItems, Declares, Does, ItemTree, HeaderTree, MemberTree, AChord, ClassTree, ProgramTree}
 
 -- a name, by its bytes and the number of its token
-abbrev named : List ℕ → ℕ → Name
+abbrev pub named : List ℕ → ℕ → Name
 named bytes at = record { text = bytes; at = at }
 
 -- a variable alone
@@ -33,13 +33,21 @@ put_header = record {
   formals = record { at = 12; all = record { value_type = types.Basic basics.String 13; name = named (codes "s") 14 } ∷ [] };
 }
 
+-- return s;
+abbrev pub give_item : ItemTree
+give_item = Does (Gives 17 (variable (codes "s") 18))
+
+-- public string Get() & public async Put(string s) { return s; }
+abbrev pub buffer_chord : MemberTree
+buffer_chord = AChord (get_header ∷ put_header ∷ []) (MakeBlock (MoreItems give_item NoItems) 20)
+
 -- class Buffer { public string Get() & public async Put(string s) { return s; } }
 abbrev pub buffer_class : ClassTree
 buffer_class = record {
   public_at = None;
   name = named (codes "Buffer") 1;
   base = None;
-  members = AChord (get_header ∷ put_header ∷ []) (MakeBlock (MoreItems (Does (Gives 17 (variable (codes "s") 18))) NoItems) 20) ∷ [];
+  members = buffer_chord ∷ [];
   end = 21;
 }
 
@@ -51,6 +59,10 @@ main_header = record {
   name = named (codes "Main") 27;
   formals = record { at = 28; all = [] };
 }
+
+-- Buffer b = new Buffer();
+abbrev pub local_item : ItemTree
+local_item = Declares (types.Class (named (codes "Buffer") 31)) (named (codes "b") 32) 33 (Simple (New 34 (named (codes "Buffer") 35) (MakeActuals 36 NoExprs)) NoDots)
 
 -- b.Get()
 abbrev got : ExprTree
@@ -64,15 +76,17 @@ put_item = Does (CallsThrough (named (codes "b") 39) (MakeDot 40 (named (codes "
 abbrev pub print_item : ItemTree
 print_item = Does (CallsThrough (named (codes "Console") 46) (MakeDot 47 (named (codes "WriteLine") 48) (MakeActuals 49 (MoreExprs got NoExprs))) NoDots)
 
+-- static void Main() { Buffer b = new Buffer(); b.Put("hi"); Console.WriteLine(b.Get()); }
+abbrev pub main_chord : MemberTree
+main_chord = AChord (main_header ∷ []) (MakeBlock (MoreItems local_item (MoreItems put_item (MoreItems print_item NoItems))) 57)
+
 -- class Program { static void Main() { Buffer b = new Buffer(); b.Put("hi"); Console.WriteLine(b.Get()); } }
 abbrev pub main_class : ClassTree
 main_class = record {
   public_at = None;
   name = named (codes "Program") 23;
   base = None;
-  members = AChord (main_header ∷ []) (MakeBlock
-      (MoreItems (Declares (types.Class (named (codes "Buffer") 31)) (named (codes "b") 32) 33 (Simple (New 34 (named (codes "Buffer") 35) (MakeActuals 36 NoExprs)) NoDots))
-      (MoreItems put_item (MoreItems print_item NoItems))) 57) ∷ [];
+  members = main_chord ∷ [];
   end = 58;
 }
 

@@ -1,5 +1,5 @@
 -- The tree of the grammar that a statement stands for.
-use Rattle.std.specs.Prelude.{◌≡◌, ℕ, List, [], ◌∷◌}
+use Rattle.std.specs.Prelude.{ℕ}
 use Rattle.chord_lexer.specs.declared.token.Keyword.{Keyword}
 use Rattle.chord_lexer.specs.declared.token.Keyword.TheVariants as words
 use Rattle.chord_lexer.specs.declared.token.Mark.TheVariants as marks
@@ -9,8 +9,8 @@ use Rattle.chord_tree.specs.declared.names.BasicType.TheVariants as basics
 use Rattle.chord_tree.specs.declared.names.ValueType.{ValueType}
 use Rattle.chord_tree.specs.declared.names.ValueType.TheVariants as types
 use Rattle.chord_tree.specs.Symbols as grammar
-use Rattle.chord_tree.specs.Node.{Node, Nodes, End, ◌▸◌, Made}
-use Rattle.chord_tree.specs.Tree.{ExprTree, DotTrees, StmtTree, BlockTree, ItemTrees, ItemTree, Assigns, Calls, CallsThrough, CallsThis, Makes, Braces, Nothing, IfThen, IfElse, Repeats, Returns, Gives, MakeBlock, NoItems, MoreItems, Declares, Does}
+use Rattle.chord_tree.specs.Node.{Node, End, ◌▸◌, Made}
+use Rattle.chord_tree.specs.Tree.{ExprTree, StmtTree, BlockTree, ItemTrees, ItemTree, Assigns, Calls, CallsThrough, CallsThis, Makes, Braces, Nothing, IfThen, IfElse, Repeats, Returns, Gives, MakeBlock, NoItems, MoreItems, Declares, Does}
 use Rattle.chord_tree.specs.Shape.{word, mark, name, node_expr, node_actuals, node_dots, node_dot}
 
 -- ";"

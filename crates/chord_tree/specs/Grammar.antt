@@ -1,6 +1,6 @@
 -- The grammar, a production a line. A symbol stands for each repeated or optional part; a capital is a token of a class. Made by tools/grammar.py.
 use Rattle.std.specs.Prelude.{ℕ, List, [], ◌∷◌}
-use Rattle.chord_tree.specs.Part.{Part, Production, ◌⟶◌, number_of}
+use Rattle.chord_tree.specs.Part.{Production, ◌⟶◌, number_of}
 use Rattle.chord_tree.specs.Symbols.{Program, Usings, Classes, Using, Name_parts, Class, Optional_public, Optional_base, Members, Member, Modifiers, Modifier, Rest, After, Headers, Header, Result, Plain, Formals, Optional_formals, More_formals, Formal, Value_type, Block, Items, Item, After_name, Stmt, Tail, Other, Optional_else, Optional_expr, Dot, Dots, Actuals, Optional_exprs, More_exprs, Expr, More_or, And, More_and, Equal, More_equal, Order, More_order, Sum, More_sum, Product, More_product, Unary, Primary, Start, Optional_actuals, USING, NAME, SEMICOLON, DOT, CLASS, OPEN_BRACE, CLOSE_BRACE, PUBLIC, COLON, PRIVATE, PROTECTED, VIRTUAL, OVERRIDE, STATIC, AMPERSAND, ASYNC, VOID, INT, BOOL, STRING, OPEN, CLOSE, COMMA, ASSIGN, IF, WHILE, RETURN, THIS, NEW, ELSE, OR, AND, EQUAL, NOT_EQUAL, LESS, GREATER, LESS_OR_EQUAL, GREATER_OR_EQUAL, PLUS, MINUS, TIMES, DIVIDE, REMAINDER, NOT, NUMBER, LITERAL, TRUE, FALSE}
 
 unfoldable pub productions : List Production

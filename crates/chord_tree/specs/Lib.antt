@@ -16,3 +16,5 @@ pub mod Program
 pub mod Example
 pub mod Terms
 pub mod Walk
+pub mod Laws
+pub mod Walked

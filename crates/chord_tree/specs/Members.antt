@@ -1,5 +1,5 @@
 -- The tree of the grammar that a class stands for, and a program.
-use Rattle.std.specs.Prelude.{◌≡◌, ℕ, List, [], ◌∷◌, Option, Some, None}
+use Rattle.std.specs.Prelude.{ℕ, List, [], ◌∷◌, Option, Some, None}
 use Rattle.chord_lexer.specs.declared.token.Keyword.{Keyword}
 use Rattle.chord_lexer.specs.declared.token.Keyword.TheVariants as words
 use Rattle.chord_lexer.specs.declared.token.Mark.TheVariants as marks
@@ -14,7 +14,7 @@ use Rattle.chord_tree.specs.declared.classes.ReturnType.TheVariants as results
 use Rattle.chord_tree.specs.declared.classes.Formal.{Formal}
 use Rattle.chord_tree.specs.declared.classes.NamePart.{NamePart}
 use Rattle.chord_tree.specs.Symbols as grammar
-use Rattle.chord_tree.specs.Node.{Node, Nodes, End, ◌▸◌, Made}
+use Rattle.chord_tree.specs.Node.{Node, End, ◌▸◌, Made}
 use Rattle.chord_tree.specs.Tree.{FormalsTree, HeaderTree, MemberTree, AConstructor, AChord, ClassTree, UsingTree, ProgramTree, BlockTree}
 use Rattle.chord_tree.specs.Shape.{word, mark, name}
 use Rattle.chord_tree.specs.Forms.{semicolon, basic_word, node_block}

@@ -1,5 +1,5 @@
 -- The tree of the grammar that an expression stands for.
-use Rattle.std.specs.Prelude.{◌≡◌, ℕ, zero, suc, ◌+◌, ◌-◌, cond, List, [], ◌∷◌, get_or, nat_lt}
+use Rattle.std.specs.Prelude.{ℕ, zero, suc, ◌-◌, cond, [], ◌∷◌, get_or, nat_lt}
 use Rattle.chord_lexer.specs.declared.token.Kind.TheVariants as kinds
 use Rattle.chord_lexer.specs.declared.token.Keyword.{Keyword}
 use Rattle.chord_lexer.specs.declared.token.Keyword.TheVariants as words
@@ -10,7 +10,7 @@ use Rattle.chord_tree.specs.declared.exprs.Operator.{Operator}
 use Rattle.chord_tree.specs.declared.exprs.Operator.TheVariants as operators
 use Rattle.chord_tree.specs.Part.{Part}
 use Rattle.chord_tree.specs.Symbols as grammar
-use Rattle.chord_tree.specs.Node.{Node, Nodes, End, ◌▸◌, Leaf, Made}
+use Rattle.chord_tree.specs.Node.{Node, End, ◌▸◌, Leaf, Made}
 use Rattle.chord_tree.specs.Tree.{ExprTree, LinkTrees, LinkTree, StartTree, ActualsTree, ExprTrees, DotTrees, DotTree, Chained, Negated, Denied, Simple, NoLinks, MoreLinks, MakeLink, Variable, Called, This, New, Numeral, Literal, Yes, No, Group, MakeActuals, NoExprs, MoreExprs, NoDots, MoreDots, MakeDot}
 
 -- tokens

@@ -2,7 +2,7 @@
 use Rattle.std.specs.Prelude.{ℕ, List, Bool, true, false}
 use Rattle.chord_tree.specs.declared.names.Name.{Name}
 use Rattle.chord_tree.specs.declared.exprs.Operator.{Operator}
-use Rattle.chord_tree.specs.Tree.{ExprTree, LinkTrees, LinkTree, StartTree, ActualsTree, ExprTrees, DotTrees, DotTree, Chained, Negated, Denied, Simple, NoLinks, MoreLinks, MakeLink, Variable, Called, This, New, Numeral, Literal, Yes, No, Group, MakeActuals, NoExprs, MoreExprs, NoDots, MoreDots, MakeDot, StmtTree, Assigns, Calls, CallsThrough, CallsThis, Makes, Braces, Nothing, IfThen, IfElse, Repeats, Returns, Gives}
+use Rattle.chord_tree.specs.Tree.{ExprTree, LinkTrees, StartTree, ExprTrees, DotTrees, Chained, Negated, Denied, Simple, NoLinks, MoreLinks, MakeLink, Variable, Called, This, New, Numeral, Literal, Yes, No, Group, MakeActuals, NoExprs, MoreExprs, NoDots, MoreDots, MakeDot, StmtTree, Calls, CallsThrough, CallsThis, Makes}
 
 mutual
   -- an expression

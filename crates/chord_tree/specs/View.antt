@@ -1,5 +1,5 @@
 -- The tree that the classes of a program in memory stand for.
-use Rattle.std.specs.Prelude.{◌≡◌, ℕ, List, [], ◌∷◌, map}
+use Rattle.std.specs.Prelude.{List, map}
 use Rattle.chord_tree.specs.declared.classes.Formals.{Formals}
 use Rattle.chord_tree.specs.declared.classes.Header.{Header}
 use Rattle.chord_tree.specs.declared.classes.Member.{Member}

@@ -1,5 +1,4 @@
 -- The tree that an expression in memory stands for.
-use Rattle.std.specs.Prelude.{◌≡◌, ℕ, List, [], ◌∷◌, map}
 use Rattle.chord_tree.specs.declared.exprs.Expr.{Expr}
 use Rattle.chord_tree.specs.declared.exprs.Link.{Link}
 use Rattle.chord_tree.specs.declared.exprs.Start.{Start}

@@ -1,5 +1,5 @@
 -- The tree that a statement in memory stands for.
-use Rattle.std.specs.Prelude.{◌≡◌, ℕ, List, [], ◌∷◌, map}
+use Rattle.std.specs.Prelude.{map}
 use Rattle.chord_tree.specs.declared.stmts.Item.{Item}
 use Rattle.chord_tree.specs.declared.stmts.Stmt.{Stmt}
 use Rattle.chord_tree.specs.declared.stmts.Block.{Block}

@@ -1,6 +1,6 @@
 -- A walk over a program: each expression and each statement once, after its parts and in the order of the text.
 use Rattle.std.specs.Prelude.{ℕ, List, [], ◌∷◌, ◌++◌, flat_map}
-use Rattle.chord_tree.specs.Tree.{StmtTree, BlockTree, ItemTrees, ItemTree, Assigns, Calls, CallsThrough, CallsThis, Makes, Braces, Nothing, IfThen, IfElse, Repeats, Returns, Gives, MakeBlock, NoItems, MoreItems, Declares, Does, DotTrees, ActualsTree, DotTree, HeaderTree, MemberTree, AConstructor, AChord, FormalsTree, ClassTree, ProgramTree, ExprTree}
+use Rattle.chord_tree.specs.Tree.{StmtTree, BlockTree, ItemTrees, ItemTree, Assigns, Calls, CallsThrough, CallsThis, Makes, Braces, Nothing, IfThen, IfElse, Repeats, Returns, Gives, MakeBlock, NoItems, MoreItems, Declares, Does, HeaderTree, MemberTree, AConstructor, AChord, ClassTree, ProgramTree, ExprTree}
 use Rattle.chord_tree.specs.Terms.{Term, Terms, Named, Self, Digits, Quoted, Flag, Bracketed, Minus, Not, Operation, Creation, OwnCall, Call, NoTerms, MoreTerms, term, stands_as}
 
 -- The parts of a program that most rules begin with.

@@ -4,9 +4,12 @@ ghost use Rattle.std.specs.Prelude.{◌≡◌, [], ◌∷◌, IfOk};
 ghost use Rattle.chord_tree.specs.Example.{buffer_class, main_class, put_item, print_item, example};
 ghost use Rattle.chord_tree.specs.View.{see_class, tree_of};
 ghost use Rattle.chord_tree.specs.ViewStmts.{see_item};
+ghost use Rattle.chord_tree.specs.Walk.{spots};
+ghost use Rattle.chord_tree.specs.Walked.{no_locals, with_local, example_spots};
 
 use crate::classes::{Class, Formal, Formals, Header, Member, Modifier, ModifierWord, ReturnType};
 use crate::exprs::{Actuals, Dot, Expr, Link, Operator, Start};
+use crate::laws::walks;
 use crate::names::{BasicType, Name, ValueType};
 use crate::program::Program;
 use crate::spell_exprs::put_expr;
@@ -149,6 +152,11 @@ fn first_program(alloc: Global) -> Result<Program, AllocError>
     Ok(Program::new(Vec::new(alloc), classes))
 }
 
+// The walk comes by each expression, item and member of the program once, after its parts.
+fn walk_of_first_program()
+    ensures { spots with_local no_locals example ≡ example_spots }
+{}
+
 // A word, a mark or a name as it is written.
 fn kind(alloc: Global, text: &[u8]) -> Result<Kind, AllocError> {
     let found = match text {
@@ -247,6 +255,12 @@ fn a_program_spells_its_tokens(rt: HostRuntime) -> Result<(), Fail> {
     )?;
     assert_eq!(rt; program.token_count(), 59);
     Ok(())
+}
+
+#[test]
+fn a_program_is_walked_in_its_order() {
+    walk_of_first_program();
+    walks::<u32, u32>();
 }
 
 #[test]

@@ -1,4 +1,4 @@
-use Rattle.std.proofs.Common.{◌≡◌, sym}
+use Rattle.std.proofs.Common.{sym}
 use Rattle.chord_lexer.specs.declared.token.Keyword.{Keyword}
 use Rattle.chord_tree.specs.Shape.{word}
 use Rattle.chord_tree.proofs.Words.{nil, cons, made, leaf, seen_as, on_ok}

@@ -1,4 +1,4 @@
-use Rattle.std.proofs.Common.{List, map, drop}
+use Rattle.std.proofs.Common.{List, drop}
 use Rattle.chord_lexer.specs.declared.token.Token.{Token}
 use Rattle.chord_tree.specs.Program.{Adds}
 use Rattle.chord_tree.specs.Members.{node_name_parts}

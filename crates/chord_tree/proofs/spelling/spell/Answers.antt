@@ -1,6 +1,3 @@
-use Rattle.std.proofs.Common.{◌≡◌, [], map, sym, ap, subst, ◌∙◌}
-use Rattle.chord_tree.specs.View.{tree_of}
-use Rattle.chord_tree.proofs.Words.{seen_as}
 use Rattle.chord_tree.proofs.WordsClasses.{program_spelled}
 use Rattle.chord_tree.proofs.spelling.spell.Goals as goal
 

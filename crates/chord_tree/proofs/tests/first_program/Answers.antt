@@ -1,5 +1,4 @@
-use Rattle.std.proofs.Common.{◌≡◌, refl, ap}
-use Rattle.chord_tree.specs.Tree.{FormalsTree, HeaderTree}
+use Rattle.std.proofs.Common.{refl}
 use Rattle.chord_tree.specs.Example.{example}
 use Rattle.chord_tree.specs.Members.{node_program}
 use Rattle.chord_tree.specs.Grammar.{productions, rule_count, class_count, no_else, else_class}

@@ -1,7 +1,5 @@
-use Rattle.std.proofs.Common.{◌≡◌, refl, ap}
+use Rattle.std.proofs.Common.{refl, ap}
 use Rattle.chord_tree.specs.Tree.{FormalsTree, HeaderTree}
-use Rattle.chord_tree.specs.Example.{example}
-use Rattle.chord_tree.specs.Members.{node_program}
 use Rattle.chord_tree.specs.Grammar.{productions, rule_count, class_count, no_else, else_class}
 use Rattle.chord_tree.specs.Derivation.{head_of, parts_of, allowed}
 use Rattle.chord_tree.proofs.Checked.{derived}

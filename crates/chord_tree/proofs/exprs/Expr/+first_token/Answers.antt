@@ -1,4 +1,4 @@
-use Rattle.std.proofs.Common.{◌≡◌, map, sym, ap, ◌∙◌}
+use Rattle.std.proofs.Common.{map, sym, ap, ◌∙◌}
 use Rattle.chord_tree.specs.Tree.{dots}
 use Rattle.chord_tree.specs.Terms.{term, first_token}
 use Rattle.chord_tree.specs.ViewExprs.{see_expr, see_link, see_dot}

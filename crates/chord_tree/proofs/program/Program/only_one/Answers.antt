@@ -1,4 +1,4 @@
-use Rattle.std.proofs.Common.{◌≡◌, subst}
+use Rattle.std.proofs.Common.{subst}
 use Rattle.chord_tree.specs.View.{tree_of}
 use Rattle.chord_tree.specs.Program.{IsProgram}
 use Rattle.chord_tree.proofs.BackClasses.{only_one}

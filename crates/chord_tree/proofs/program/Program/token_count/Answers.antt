@@ -1,4 +1,4 @@
-use Rattle.std.proofs.Common.{◌≡◌, ◌+◌, ◌-◌, ◌<◌, ◌^◌, length, get_or, sym, ap, subst, ◌∙◌, arith, Fits, w32}
+use Rattle.std.proofs.Common.{◌-◌, length, get_or, ap, ◌∙◌, arith}
 use Rattle.chord_tree.specs.View.{tree_of}
 use Rattle.chord_tree.specs.Program.{spelling}
 use Rattle.chord_tree.proofs.Counts.{some_class, count_of}
