@@ -18,7 +18,7 @@ use Rattle.chord_base.proofs.Pending.{none_fires_on, none_fires_with, none_fires
 use Rattle.chord_lists.specs.declared.bag.Waiting.{Waiting}
 use Rattle.chord_lists.specs.Bag.{message, message_in, find, Lacks, LacksOne, AreFew, TakesFrom, TakesRest}
 use Rattle.chord_lists.specs.Engine as engine
-use Rattle.chord_lists.specs.Engine.{IsPlayed, fired, IsAfterMessage, IsFresh, State, IsOver, IsPlayedOut, Ends}
+use Rattle.chord_lists.specs.Engine.{fired, State, IsOver}
 use Rattle.chord_lists.proofs.Bags.{slot_end, slot_before, found_slot}
 use Rattle.chord_lists.proofs.Taking.{HoldsPending, takes_pending, lacks_fires}
 

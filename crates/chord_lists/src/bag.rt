@@ -1,16 +1,13 @@
 //! The bag: the messages that no firing has taken.
 #![tactic(auto)]
 
-ghost use Rattle.std.specs.Prelude.{◌≡◌, ℕ, ◌+◌, ◌<◌, ◌≤◌, List, [], ◌∷◌, ◌++◌, length, set, reverse, slice_get, Option, Some, None, IfOk, IfSome, IfNone, true, false, if◌then◌else◌, vec_len};
+ghost use Rattle.std.specs.Prelude.{◌≡◌, ◌<◌, ◌≤◌, [], ◌∷◌, ◌++◌, length, set, Option, Some, None, IfOk, IfSome, IfNone, true, false, if◌then◌else◌};
 ghost use Rattle.std.specs.HashMap as hash;
-ghost use Rattle.chord_base.specs.declared.value.Object.{Object};
-ghost use Rattle.chord_base.specs.declared.value.Value.{Value};
-ghost use Rattle.chord_lists.specs.Bag.{AreDifferent, AreFew, find, Has, HasAll, IsBag, Lacks, LacksOne, numbers_in, numbers_of, same_header, TakesFrom, TakesRest};
+ghost use Rattle.chord_lists.specs.Bag.{AreDifferent, AreFew, find, Has, HasAll, IsBag, Lacks, LacksOne, numbers_in, same_header, TakesFrom, TakesRest};
 ghost use Rattle.chord_lists.specs.declared.bag.Header.{Header as H};
-ghost use Rattle.chord_lists.specs.declared.bag.Waiting.{Waiting as W};
 
 use chord_base::members::Members;
-use chord_base::value::{Object, Value, Values};
+use chord_base::value::{Object, Values};
 use std::alloc::{AllocError, Global};
 use std::collections::HashMap;
 
@@ -177,6 +174,7 @@ impl Bag {
             },
         }
     }
+
     /// Takes the newest message to each of these methods of this object, and lays their arguments together.
     pub fn take_all(
         &mut self,

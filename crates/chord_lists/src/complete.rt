@@ -1,7 +1,7 @@
 //! Whether a run of a small program is complete.
 #![tactic(auto)]
 
-ghost use Rattle.std.specs.Prelude.{◌≡◌, ℕ, List, reverse, true, false, ◌↔◌};
+ghost use Rattle.std.specs.Prelude.{◌≡◌, List, reverse, true, false, ◌↔◌};
 ghost use Rattle.chord_base.specs.Machine.{IsRun, IsComplete, MayFollow};
 ghost use Rattle.chord_base.specs.declared.event.Entry.{Entry};
 ghost use Rattle.chord_lists.specs.declared.small.SmallLine.{SmallLine};

@@ -4,11 +4,10 @@
 //! completed, if there is one; otherwise some body goes on.
 #![tactic(auto)]
 
-ghost use Rattle.std.specs.Prelude.{◌≡◌, ℕ, ◌+◌, ◌<◌, ◌≤◌, ◌⊎◌, List, [], ◌∷◌, length, reverse, slice_get, Option, Some, None, IfOk, IfSome, IfNone};
+ghost use Rattle.std.specs.Prelude.{◌≡◌, ℕ, ◌+◌, ◌<◌, ◌≤◌, ◌⊎◌, List, length, reverse, slice_get, Option, Some, None, IfOk, IfSome, IfNone};
 ghost use Rattle.chord_base.specs.declared.event.Entry.{Entry};
 ghost use Rattle.chord_base.specs.Meaning.{Program};
-ghost use Rattle.chord_base.specs.Machine.{IsPast, IsRun, IsComplete};
-ghost use Rattle.chord_base.specs.Bounds.{AreWithin};
+ghost use Rattle.chord_base.specs.Machine.{IsRun, IsComplete};
 ghost use Rattle.chord_lists.specs.Bag.{AreDifferent, HasAll, IsBag, LacksOne};
 ghost use Rattle.chord_lists.specs.Engine.{begun, HaveMethods, MayGoOn, MayBegin, Went, Began, Ends, IsPlayedOut, State, Stepped};
 
