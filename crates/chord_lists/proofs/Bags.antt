@@ -1,56 +1,12 @@
--- The index of the bag.
-use Rattle.std.proofs.Common.{◌≡◌, ◌≢◌, ℕ, zero, suc, ◌<◌, ◌≤◌, Bool, true, false, ◌==◌, ◌&&◌, List, [], ◌∷◌, ◌++◌, length, set, Option, Some, None, refl, sym, ap, ◌⊎◌, ◌∙◌, subst, arith, inl, inr, if◌then◌else◌, length-append, reverse, not, get_or}
+-- The lists of the bag, as messages come and go.
+use Rattle.std.proofs.Common.{◌≡◌, ◌≢◌, ℕ, suc, ◌<◌, ◌≤◌, Bool, true, false, ◌==◌, ◌&&◌, List, [], ◌∷◌, ◌++◌, length, reverse, not, Option, Some, None, refl, sym, ap, ◌∙◌, subst, arith, inl, inr, if◌then◌else◌}
 use Rattle.std.proofs.lemmas.List.{length-reverse}
-use Rattle.std.specs.Prelude.{slice_get}
 use Rattle.std.proofs.lemmas.Bool.{eq-eqb, eqb-true, eqb-false, ne_eqb}
-use Rattle.std.proofs.lemmas.Option.{get_or_from_slice_get}
 use Rattle.chord_base.specs.declared.value.Object.{Object}
 use Rattle.chord_base.specs.Messages.{Message, has}
 use Rattle.chord_base.proofs.Waits.{either}
 use Rattle.chord_lists.specs.declared.bag.Header.{Header}
-use Rattle.chord_lists.specs.declared.bag.Waiting.{Waiting}
-use Rattle.chord_lists.specs.Bag.{message, message_in, find, IsFor, Has, Lacks, header_of, same_header, Falls, IsIndex}
-
--- ---- slots
-
--- the last slot
-pub slot_end : {A : Type 0} (xs : List A) (x : A) → slice_get (xs ++ x ∷ []) (length xs) ≡ Some x
-slot_end [] x = refl
-slot_end (y ∷ ys) x = slot_end ys x
-
--- and the others
-pub slot_before : {A : Type 0} (xs : List A) (x : A) (n : ℕ) → length xs ≢ n → slice_get (xs ++ x ∷ []) n ≡ slice_get xs n
-slot_before [] x zero d = absurd (d refl)
-slot_before [] x (suc n) d = refl
-slot_before (y ∷ ys) x zero d = refl
-slot_before (y ∷ ys) x (suc n) d = slot_before ys x n (λ e. d (ap suc e))
-
--- a slot that was set
-pub slot_set : {A : Type 0} (xs : List A) (i : ℕ) (x y : A) → slice_get xs i ≡ Some y → slice_get (set xs i x) i ≡ Some x
-slot_set {A = A} [] i x y e = let z : ◌≡◌ {A = Option A} None (Some y) = e in cc
-slot_set (z ∷ zs) zero x y e = refl
-slot_set (z ∷ zs) (suc i) x y e = slot_set zs i x y e
-
-pub slot_kept : {A : Type 0} (xs : List A) (i n : ℕ) (x : A) → i ≢ n → slice_get (set xs i x) n ≡ slice_get xs n
-slot_kept [] i n x d = refl
-slot_kept (z ∷ zs) zero zero x d = absurd (d refl)
-slot_kept (z ∷ zs) zero (suc n) x d = refl
-slot_kept (z ∷ zs) (suc i) zero x d = refl
-slot_kept (z ∷ zs) (suc i) (suc n) x d = slot_kept zs i n x (λ e. d (ap suc e))
-
-pub length_set : {A : Type 0} (xs : List A) (i : ℕ) (x : A) → length (set xs i x) ≡ length xs
-length_set [] i x = refl
-length_set (z ∷ zs) zero x = refl
-length_set (z ∷ zs) (suc i) x = ap suc (length_set zs i x)
-
-slot_of : (s : Option (Option Waiting)) (m : Message) → message_in s ≡ Some m → (x : Waiting) × (s ≡ Some (Some x)) × (message x ≡ m)
-slot_of None m e = let z : ◌≡◌ {A = Option Message} None (Some m) = e in cc
-slot_of (Some None) m e = let z : ◌≡◌ {A = Option Message} None (Some m) = e in cc
-slot_of (Some (Some x)) m e = let z : message x ≡ m = cc in (x, refl, z)
-
--- a message that is found stands in its slot
-pub found_slot : (slots : List (Option Waiting)) (n : ℕ) (m : Message) → find n slots ≡ Some m → (x : Waiting) × (slice_get slots n ≡ Some (Some x)) × (message x ≡ m)
-found_slot slots n m e = slot_of (slice_get slots n) m e
+use Rattle.chord_lists.specs.Bag.{header_to, header_of, same_header, HasAll, Lacks, IsPushed, IsPopped, AreTaken, IsNoneOf, Falls, Lists}
 
 -- ---- headers
 
@@ -63,9 +19,12 @@ and_right true b e = e
 and_right false b e = cc
 
 header_is : (a b : Header) → a.object ≡ b.object → a.class ≡ b.class → a.method ≡ b.method → a ≡ b
-header_is a b o c m = ap (λ n. record { object = n; class = a.class; method = a.method }) o ∙ ap (λ n. record { object = b.object; class = n; method = a.method }) c ∙ ap (λ n. record { object = b.object; class = b.class; method = n }) m
+header_is a b o c m =
+    ap (λ n. record { object = n; class = a.class; method = a.method }) o
+    ∙ ap (λ n. record { object = b.object; class = n; method = a.method }) c
+    ∙ ap (λ n. record { object = b.object; class = b.class; method = n }) m
 
-pub same_is : (a b : Header) → same_header a b ≡ true → a ≡ b
+same_is : (a b : Header) → same_header a b ≡ true → a ≡ b
 same_is a b e =
     let o = eqb-true a.object b.object (and_left (a.object == b.object) _ e) in
     let r = and_right (a.object == b.object) _ e in
@@ -73,24 +32,25 @@ same_is a b e =
     let m = eqb-true a.method b.method (and_right (a.class == b.class) _ r) in
     header_is a b o c m
 
-pub same_self : (a : Header) → same_header a a ≡ true
+same_self : (a : Header) → same_header a a ≡ true
 same_self a = rw (eq-eqb a.object a.object refl, eq-eqb a.class a.class refl, eq-eqb a.method a.method refl) refl
 
--- the header of a method of an object
-abbrev pub header_to : Object → ℕ → Header
-header_to o j = record { object = o.number; class = o.class; method = j }
+-- other methods of an object have other headers
+other_method : (o : Object) (j i : ℕ) → (j ≡ i → ⊥) → same_header (header_to o j) (header_to o i) ≡ false
+other_method o j i d = rw (eq-eqb o.number o.number refl, eq-eqb o.class o.class refl, ne_eqb j i d) refl
 
 object_is : (a b : Object) → a.number ≡ b.number → a.class ≡ b.class → a ≡ b
 object_is a b n c = ap (λ i. record { number = i; class = a.class }) n ∙ ap (λ i. record { number = b.number; class = i }) c
 
-for_header : (o : Object) (j : ℕ) (x : Waiting) → header_of x ≡ header_to o j → IsFor o j (message x)
-for_header o j x e =
-    record { object = object_is x.object o (ap (λ k. k.object) e) (ap (λ k. k.class) e); method = ap (λ k. k.method) e }
+-- a message under the header of a method is to that method
+pub message_to : (m : Message) (o : Object) (j : ℕ) → header_of m ≡ header_to o j → m ≡ record { object = o; method = j; arguments = m.arguments }
+message_to m o j e =
+    let object : m.object ≡ o = object_is m.object o (ap (λ k. k.object) e) (ap (λ k. k.class) e) in
+    let method : m.method ≡ j = ap (λ k. k.method) e in
+    ap (λ i. record { object = i; method = m.method; arguments = m.arguments }) object
+    ∙ ap (λ i. record { object = o; method = i; arguments = m.arguments }) method
 
-header_for : (o : Object) (j : ℕ) (x : Waiting) → IsFor o j (message x) → header_of x ≡ header_to o j
-header_for o j x f = header_is (header_of x) (header_to o j) (ap (λ (i : Object). i.number) f.object) (ap (λ (i : Object). i.class) f.object) f.method
-
--- ---- the index
+-- ---- numbers in a list
 
 has_here : (n : ℕ) (ns : List ℕ) → has n (n ∷ ns) ≡ true
 has_here n ns = rw (eq-eqb n n refl) refl
@@ -113,203 +73,252 @@ falls_to : (n m : ℕ) (ns : List ℕ) → Falls n ns → n ≤ m → Falls m ns
 falls_to n m [] f l = tt
 falls_to n m (i ∷ ns) f l = (omega (arith, f.0, l), f.1)
 
-pub index_has : (slots : List (Option Waiting)) (index : Header → List ℕ) (o : Object) (j n : ℕ) (ns : List ℕ) → IsIndex slots index → index (header_to o j) ≡ n ∷ ns → Has o j slots
-index_has slots index o j n ns s e =
-    let t = s.there (header_to o j) n (ap (has n) e ∙ has_here n ns) in
-    (n, message t.0, ap message_in t.1, for_header o j t.0 t.2)
+-- ---- what the lists say
 
-pub index_lacks : (slots : List (Option Waiting)) (index : Header → List ℕ) (o : Object) (j : ℕ) → IsIndex slots index → index (header_to o j) ≡ [] → Lacks o j slots
-index_lacks slots index o j s e = λ n m f g.
-    let x = found_slot slots n m f in
-    let g' : IsFor o j (message x.0) = subst (λ i. IsFor o j i) (sym x.2) g in
-    let l = s.listed n x.0 x.1 in
-    let z : false ≡ true = sym (ap (has n) e) ∙ sym (ap (λ k. has n (index k)) (header_for o j x.0 g')) ∙ l in
-    cc
-
-plain_slot : (slots : List (Option Waiting)) (n : ℕ) (x : Waiting) → slice_get (slots ++ None ∷ []) n ≡ Some (Some x) → slice_get slots n ≡ Some (Some x)
-plain_slot slots n x e =
-    elim (either (length slots == n)) [
-      | inl y ↦
-          (let z : Some None ≡ Some (Some x) = sym (slot_end slots None) ∙ ap (slice_get (slots ++ None ∷ [])) (eqb-true (length slots) n y) ∙ e in
-          let w : ◌≡◌ {A = Option Waiting} None (Some x) = cc in cc)
-      | inr o ↦ sym (slot_before slots None n (eqb-false (length slots) n o)) ∙ e
-    ]
-
-pub index_plain : (slots : List (Option Waiting)) (index : Header → List ℕ) → IsIndex slots index → IsIndex (slots ++ None ∷ []) index
-index_plain slots index s =
-    record {
-      falls = λ k. falls_to (length slots) (length (slots ++ None ∷ [])) (index k) (s.falls k) (omega (arith, length-append slots (None ∷ [])));
-      there =
-          λ k n e.
-          let t = s.there k n e in
-          let l = falls_below (length slots) n (index k) (s.falls k) e in
-          (t.0, slot_before slots None n (λ d. omega (arith, d, l)) ∙ t.1, t.2);
-      listed = λ n x e. s.listed n x (plain_slot slots n x e);
-    }
-
--- the index of a bag with one more message
-abbrev pub IsPushed : Header → ℕ → (Header → List ℕ) → (Header → List ℕ) → Type 0
-IsPushed k n old new = (i : Header) → new i ≡ (if same_header k i then n ∷ old i else old i)
-
-more_slot : (slots : List (Option Waiting)) (x : Waiting) (n : ℕ) (y : Waiting) → slice_get (slots ++ Some x ∷ []) n ≡ Some (Some y) → ((n ≡ length slots) × (y ≡ x)) ⊎ (slice_get slots n ≡ Some (Some y))
-more_slot slots x n y e =
-    elim (either (length slots == n)) [
-      | inl s ↦
-          (let z : Some (Some x) ≡ Some (Some y) = sym (slot_end slots (Some x)) ∙ ap (slice_get (slots ++ Some x ∷ [])) (eqb-true (length slots) n s) ∙ e in
-          let w : ◌≡◌ {A = Option Waiting} (Some x) (Some y) = cc in
-          let v : y ≡ x = cc in
-          inl (sym (eqb-true (length slots) n s), v))
-      | inr o ↦ inr (sym (slot_before slots (Some x) n (eqb-false (length slots) n o)) ∙ e)
-    ]
-
-old_there : (slots : List (Option Waiting)) (index : Header → List ℕ) (x : Waiting) → IsIndex slots index → (i : Header) (m : ℕ) → has m (index i) ≡ true → (y : Waiting) × (slice_get (slots ++ Some x ∷ []) m ≡ Some (Some y)) × (header_of y ≡ i)
-old_there slots index x s i m e =
-    let t = s.there i m e in
-    let l = falls_below (length slots) m (index i) (s.falls i) e in
-    (t.0, slot_before slots (Some x) m (λ d. omega (arith, d, l)) ∙ t.1, t.2)
-
-pub index_more : (slots : List (Option Waiting)) (index index' : Header → List ℕ) (x : Waiting) → IsIndex slots index → IsPushed (header_of x) (length slots) index index' → IsIndex (slots ++ Some x ∷ []) index'
-index_more slots index index' x s p =
-    let k = header_of x in
-    let n = length slots in
-    let more : length (slots ++ Some x ∷ []) ≡ suc n = omega (arith, length-append slots (Some x ∷ [])) in
-    record {
-      falls =
-          λ i.
-          elim (either (same_header k i)) [
-            | inl y ↦ (let e : index' i ≡ n ∷ index i = p i ∙ rw y refl in subst (λ l. Falls (length (slots ++ Some x ∷ [])) l) (sym e) (omega (arith, more), s.falls i))
-            | inr o ↦ (let e : index' i ≡ index i = p i ∙ rw o refl in subst (λ l. Falls (length (slots ++ Some x ∷ [])) l) (sym e) (falls_to n (length (slots ++ Some x ∷ [])) (index i) (s.falls i) (omega (arith, more))))
-          ];
-      there =
-          λ i m e.
-          elim (either (same_header k i)) [
-            | inl y ↦
-                (let q : index' i ≡ n ∷ index i = p i ∙ rw y refl in
-                let e' : has m (n ∷ index i) ≡ true = ap (has m) (sym q) ∙ e in
-                elim (either (m == n)) [
-                  | inl z ↦ (x, ap (slice_get (slots ++ Some x ∷ [])) (eqb-true m n z) ∙ slot_end slots (Some x), same_is k i y)
-                  | inr o ↦ old_there slots index x s i m (has_tail m n (index i) (eqb-false m n o) e')
-                ])
-            | inr o ↦ (let q : index' i ≡ index i = p i ∙ rw o refl in
-                let e' : has m (index i) ≡ true = ap (has m) (sym q) ∙ e in old_there slots index x s i m e')
-          ];
-      listed =
-          λ m y e.
-          elim (more_slot slots x m y e) [
-            | inl z ↦
-                (let h : header_of y ≡ k = ap header_of z.1 in
-                let f : index' k ≡ n ∷ index k = p k ∙ rw (same_self k) refl in
-                ap (λ i. has m (index' i)) h ∙ ap (has m) f ∙ ap (λ i. has i (n ∷ index k)) z.0 ∙ has_here n (index k))
-            | inr old ↦
-                (let l = s.listed m y old in
-                elim (either (same_header k (header_of y))) [
-                  | inl z ↦ (let q : index' (header_of y) ≡ n ∷ index (header_of y) = p (header_of y) ∙ rw z refl in ap (has m) q ∙ has_there m n (index (header_of y)) l)
-                  | inr o ↦ (let q : index' (header_of y) ≡ index (header_of y) = p (header_of y) ∙ rw o refl in ap (has m) q ∙ l)
-                ])
-          ];
-    }
-
--- the index of a bag with the newest message of a header taken
-pub record IsPopped (k : Header) (n : ℕ) (old new : Header → List ℕ) : Type 0 where
-  pub here : old k ≡ n ∷ new k
-  pub others : (i : Header) → same_header k i ≡ false → new i ≡ old i
-
--- what is left of the index was there
-still_there : (slots : List (Option Waiting)) (index index' : Header → List ℕ) (k : Header) (n : ℕ) → IsIndex slots index → IsPopped k n index index' → (i : Header) (m : ℕ) → has m (index' i) ≡ true → (has m (index i) ≡ true) × (m ≢ n)
-still_there slots index index' k n s p i m e =
-    elim (either (same_header k i)) [
-      | inl y ↦
-          (let same : k ≡ i = same_is k i y in
-          let e' : has m (index' k) ≡ true = ap (λ j. has m (index' j)) same ∙ e in
-          let old : has m (index k) ≡ true = ap (has m) p.here ∙ has_there m n (index' k) e' in
-          let f : Falls (length slots) (n ∷ index' k) = subst (λ l. Falls (length slots) l) p.here (s.falls k) in
-          let l = falls_below n m (index' k) f.1 e' in
-          (ap (λ j. has m (index j)) (sym same) ∙ old, λ d. omega (arith, d, l)))
-      | inr o ↦
-          (let e' : has m (index i) ≡ true = ap (has m) (sym (p.others i o)) ∙ e in (
-            e',
-            λ d.
-                let t = s.there i m e' in
-                let u = s.there k n (ap (has n) p.here ∙ has_here n (index' k)) in
-                let z : Some (Some t.0) ≡ Some (Some u.0) = sym t.1 ∙ ap (slice_get slots) d ∙ u.1 in
-                let w : ◌≡◌ {A = Option Waiting} (Some t.0) (Some u.0) = cc in
-                let v : t.0 ≡ u.0 = cc in
-                let same : k ≡ i = sym u.2 ∙ ap header_of (sym v) ∙ t.2 in
-                let y : true ≡ false = sym (same_self k) ∙ ap (same_header k) same ∙ o in
-                cc,
-          ))
-    ]
-
-pub index_less : (slots : List (Option Waiting)) (index index' : Header → List ℕ) (k : Header) (n : ℕ) → IsIndex slots index → IsPopped k n index index' → IsIndex (set slots n None) index'
-index_less slots index index' k n s p =
-    let u = s.there k n (ap (has n) p.here ∙ has_here n (index' k)) in
-    record {
-      falls =
-          λ i.
-          rw (length_set slots n None)
-          (elim (either (same_header k i)) [
-            | inl y ↦
-                (let same : k ≡ i = same_is k i y in
-                let f : Falls (length slots) (n ∷ index' k) = subst (λ l. Falls (length slots) l) p.here (s.falls k) in
-                subst (λ j. Falls (length slots) (index' j)) same (falls_to n (length slots) (index' k) f.1 (omega (arith, f.0))))
-            | inr o ↦ subst (λ l. Falls (length slots) l) (sym (p.others i o)) (s.falls i)
-          ]);
-      there =
-          λ i m e.
-          let o = still_there slots index index' k n s p i m e in
-          let t = s.there i m o.0 in
-          (t.0, slot_kept slots n m None (λ d. o.1 (sym d)) ∙ t.1, t.2);
-      listed =
-          λ m y e.
-          elim (either (n == m)) [
-            | inl z ↦
-                (let a : Some None ≡ Some (Some y) = sym (slot_set slots n None (Some u.0) u.1) ∙ ap (slice_get (set slots n None)) (eqb-true n m z) ∙ e in
-                let b : ◌≡◌ {A = Option Waiting} None (Some y) = cc in cc)
-            | inr o ↦
-                (let old : slice_get slots m ≡ Some (Some y) = sym (slot_kept slots n m None (eqb-false n m o)) ∙ e in
-                let l = s.listed m y old in
-                elim (either (same_header k (header_of y))) [
-                  | inl z ↦
-                      (let same : k ≡ header_of y = same_is k (header_of y) z in
-                      let l' : has m (n ∷ index' k) ≡ true = ap (has m) (sym p.here) ∙ ap (λ j. has m (index j)) same ∙ l in
-                      ap (λ j. has m (index' j)) (sym same) ∙ has_tail m n (index' k) (λ d. eqb-false n m o (sym d)) l')
-                  | inr a ↦ ap (has m) (p.others (header_of y) a) ∙ l
-                ])
-          ];
-    }
-
--- ---- a stack of the index, as it is held
-
-filled : (slots : List (Option Waiting)) (index : Header → List ℕ) (o : Object) (j : ℕ) (ns : List ℕ) → IsIndex slots index → index (header_to o j) ≡ ns → (ns ≡ [] → ⊥) → Has o j slots
-filled slots index o j [] s e some = absurd (some refl)
-filled slots index o j (n ∷ ns) s e some = index_has slots index o j n ns s e
-
-pub stack_has : (slots : List (Option Waiting)) (index : Header → List ℕ) (o : Object) (j : ℕ) (stack : List ℕ) → IsIndex slots index → index (header_to o j) ≡ reverse stack → not (length stack == 0) ≡ true → Has o j slots
-stack_has slots index o j stack s e some = filled slots index o j (reverse stack) s e (λ d. let z : length stack ≡ 0 = sym (length-reverse stack) ∙ ap length d in let y : not (length stack == 0) ≡ false = rw (eq-eqb (length stack) 0 z) refl in let x : false ≡ true = sym y ∙ some in cc)
+none_some : {A : Type 0} (x : A) → ◌≡◌ {A = Option A} None (Some x) → ⊥
+none_some x e = cc
 
 true_false : true ≡ false → ⊥
 true_false e = cc
 
-pub stack_lacks : (slots : List (Option Waiting)) (index : Header → List ℕ) (o : Object) (j : ℕ) (stack : List ℕ) → IsIndex slots index → index (header_to o j) ≡ reverse stack → not (length stack == 0) ≡ false → Lacks o j slots
-stack_lacks slots index o j [] s e none = index_lacks slots index o j s e
-stack_lacks slots index o j (n ∷ ns) s e none = (let a : (suc (length ns) == 0) ≡ false = ne_eqb (suc (length ns)) 0 (λ d. omega (arith, d)) in let b : not (suc (length ns) == 0) ≡ true = rw a refl in let z : true ≡ false = sym b ∙ none in absurd (true_false z))
+-- the messages without one
+abbrev pub without : ℕ → (ℕ → Option Message) → ℕ → Option Message
+without i held n = if n == i then None else held n
 
--- the newest message of a header, as it stands in its slot
-pub record IsNewest (slots : List (Option Waiting)) (o : Object) (j n : ℕ) (slot : Option Waiting) : Type 0 where
-  pub held : Waiting
-  pub is : slot ≡ Some held
-  pub to_it : find n slots ≡ Some (record { object = o; method = j; arguments = held.arguments })
+-- the messages without these
+abbrev pub without_all : List ℕ → (ℕ → Option Message) → ℕ → Option Message
+without_all ms held n = if has n ms then None else held n
 
-pub newest_there : (slots : List (Option Waiting)) (index : Header → List ℕ) (o : Object) (j n : ℕ) (ns : List ℕ) (slot : Option Waiting) → IsIndex slots index → index (header_to o j) ≡ n ∷ ns → slot ≡ get_or slots n slot → IsNewest slots o j n slot
-newest_there slots index o j n ns slot s e g =
-    let t = s.there (header_to o j) n (ap (has n) e ∙ has_here n ns) in
-    let f = for_header o j t.0 t.2 in
-    let m : message t.0 ≡ record { object = o; method = j; arguments = t.0.arguments } = ap (λ i. record { object = i; method = t.0.method; arguments = t.0.arguments }) f.object ∙ ap (λ i. record { object = o; method = i; arguments = t.0.arguments }) f.method in
-    record { held = t.0; is = g ∙ get_or_from_slice_get slots n (Some t.0) slot t.1; to_it = ap message_in t.1 ∙ ap Some m }
+pub held_before : (held : ℕ → Option Message) (i n : ℕ) (m : Message) → without i held n ≡ Some m → (n ≢ i) × (held n ≡ Some m)
+held_before held i n m e =
+    elim (either (n == i)) [
+      | inl y ↦ absurd (none_some m (rw y at e))
+      | inr o ↦ (eqb-false n i o, rw o at e)
+    ]
 
--- and so what was taken out of the slot was found
-pub newest_taken : (slots : List (Option Waiting)) (o : Object) (j n : ℕ) (slot : Option Waiting) (x : Waiting) → IsNewest slots o j n slot → slot ≡ Some x → find n slots ≡ Some (record { object = o; method = j; arguments = x.arguments })
-newest_taken slots o j n slot x s e =
-    let z : Some s.held ≡ Some x = sym s.is ∙ e in
-    let w : s.held ≡ x = cc in
-    s.to_it ∙ ap (λ (i : Waiting). Some (record { object = o; method = j; arguments = i.arguments })) w
+-- a method with no number in its list has no message
+pub lists_lack : (held : ℕ → Option Message) (n : ℕ) (index : Header → List ℕ) (o : Object) (j i : ℕ) (m : Message) → Lists held n index
+    → Lacks o j index → held i ≡ Some m → header_of m ≡ header_to o j → ⊥
+lists_lack held n index o j i m s l e h =
+    let listed : has i (index (header_of m)) ≡ true = s.listed i m e in
+    let empty : has i (index (header_of m)) ≡ false = ap (λ k. has i (index k)) h ∙ ap (has i) l in
+    true_false (sym listed ∙ empty)
+
+-- nothing is listed where nothing is
+pub lists_none : (held : ℕ → Option Message) (n : ℕ) (index : Header → List ℕ) → ((i : ℕ) → held i ≡ None) → ((k : Header) → index k ≡ [])
+    → Lists held n index
+lists_none held n index none empty =
+    record {
+      falls = λ k. rw (empty k) tt;
+      there = λ k i e. (let z : false ≡ true = sym (ap (has i) (empty k)) ∙ e in cc);
+      listed = λ i m e. absurd (none_some m (sym (none i) ∙ e));
+    }
+
+-- ---- an entry that is no message
+
+pub lists_on : (held : ℕ → Option Message) (n : ℕ) (index : Header → List ℕ) → Lists held n index
+    → Lists (λ i. if n == i then None else held i) (suc n) index
+lists_on held n index s =
+    record {
+      falls = λ k. falls_to n (suc n) (index k) (s.falls k) (omega arith);
+      there =
+          λ k i e.
+          let t = s.there k i e in
+          let l = falls_below n i (index k) (s.falls k) e in
+          (t.0, rw (ne_eqb n i (λ d. omega (arith, d, l))) t.1, t.2);
+      listed =
+          λ i m e.
+          elim (either (n == i)) [
+            | inl y ↦ absurd (none_some m (rw y at e))
+            | inr o ↦ s.listed i m (rw o at e)
+          ];
+    }
+
+-- ---- a message comes
+
+-- a number that was listed stays so
+stays_listed : (k h : Header) (n i : ℕ) (old new : Header → List ℕ) → IsPushed k n old new → has i (old h) ≡ true → has i (new h) ≡ true
+stays_listed k h n i old new p e =
+    elim (either (same_header k h)) [
+      | inl y ↦ (let q : new h ≡ n ∷ old h = p h ∙ rw y refl in ap (has i) q ∙ has_there i n (old h) e)
+      | inr o ↦ (let q : new h ≡ old h = p h ∙ rw o refl in ap (has i) q ∙ e)
+    ]
+
+-- the new message stands on top of its list
+listed_first : (k : Header) (n : ℕ) (old new : Header → List ℕ) → IsPushed k n old new → has n (new k) ≡ true
+listed_first k n old new p = let q : new k ≡ n ∷ old k = p k ∙ rw (same_self k) refl in ap (has n) q ∙ has_here n (old k)
+
+falls_pushed : (k h : Header) (n : ℕ) (old new : Header → List ℕ) → IsPushed k n old new → Falls n (old h) → Falls (suc n) (new h)
+falls_pushed k h n old new p f =
+    elim (either (same_header k h)) [
+      | inl y ↦ (let e : new h ≡ n ∷ old h = p h ∙ rw y refl in subst (Falls (suc n)) (sym e) (omega arith, f))
+      | inr o ↦ (let e : new h ≡ old h = p h ∙ rw o refl in subst (Falls (suc n)) (sym e) (falls_to n (suc n) (old h) f (omega arith)))
+    ]
+
+-- what is listed is the new message, or was listed
+is_new : (k h : Header) (n i : ℕ) (old new : Header → List ℕ) → IsPushed k n old new → n ≢ i → has i (new h) ≡ true → has i (old h) ≡ true
+is_new k h n i old new p d e =
+    elim (either (same_header k h)) [
+      | inl y ↦ (let q : new h ≡ n ∷ old h = p h ∙ rw y refl in has_tail i n (old h) (λ z. d (sym z)) (sym (ap (has i) q) ∙ e))
+      | inr o ↦ (let q : new h ≡ old h = p h ∙ rw o refl in sym (ap (has i) q) ∙ e)
+    ]
+
+-- the new number stands under its own header alone
+own_header : (held : ℕ → Option Message) (k h : Header) (n : ℕ) (old new : Header → List ℕ) → Lists held n old → IsPushed k n old new
+    → has n (new h) ≡ true → k ≡ h
+own_header held k h n old new s p e =
+    elim (either (same_header k h)) [
+      | inl y ↦ same_is k h y
+      | inr o ↦
+          (let q : new h ≡ old h = p h ∙ rw o refl in
+          let l = falls_below n n (old h) (s.falls h) (sym (ap (has n) q) ∙ e) in
+          absurd (omega (arith, l)))
+    ]
+
+pub lists_more : (held : ℕ → Option Message) (n : ℕ) (old new : Header → List ℕ) (x : Message) → Lists held n old → IsPushed (header_of x) n old new
+    → Lists (λ i. if n == i then Some x else held i) (suc n) new
+lists_more held n old new x s p =
+    record {
+      falls = λ h. falls_pushed (header_of x) h n old new p (s.falls h);
+      there =
+          λ h i e.
+          elim (either (n == i)) [
+            | inl y ↦ (let q : n ≡ i = eqb-true n i y in (x, rw y refl, own_header held (header_of x) h n old new s p (subst (λ z. has z (new h) ≡ true) (sym q) e)))
+            | inr o ↦ (let t = s.there h i (is_new (header_of x) h n i old new p (eqb-false n i o) e) in (t.0, rw o t.1, t.2))
+          ];
+      listed =
+          λ i m e.
+          elim (either (n == i)) [
+            | inl y ↦
+                (let f : Some x ≡ Some m = rw y at e in
+                let g : x ≡ m = cc in
+                let q : n ≡ i = eqb-true n i y in
+                subst (λ z. has z (new (header_of m)) ≡ true) q (subst (λ z. has n (new (header_of z)) ≡ true) g (listed_first (header_of x) n old new p)))
+            | inr o ↦ stays_listed (header_of x) (header_of m) n i old new p (s.listed i m (rw o at e))
+          ];
+    }
+
+-- ---- a message goes
+
+-- it was there
+pub popped_there : (held : ℕ → Option Message) (n i : ℕ) (k : Header) (old new : Header → List ℕ) → Lists held n old → IsPopped k i old new
+    → (m : Message) × (held i ≡ Some m) × (header_of m ≡ k)
+popped_there held n i k old new s p = s.there k i (ap (has i) p.here ∙ has_here i (new k))
+
+-- the rest of its list was there, below it
+rest_there : (held : ℕ → Option Message) (n i m : ℕ) (k : Header) (old new : Header → List ℕ) → Lists held n old → IsPopped k i old new
+    → has m (new k) ≡ true → (has m (old k) ≡ true) × (m ≢ i)
+rest_there held n i m k old new s p e =
+    let f : Falls n (i ∷ new k) = subst (Falls n) p.here (s.falls k) in
+    let l = falls_below i m (new k) f.1 e in
+    (ap (has m) p.here ∙ has_there m i (new k) e, λ d. omega (arith, d, l))
+
+-- and so were the other lists, which do not have it
+other_there : (held : ℕ → Option Message) (n i m : ℕ) (k h : Header) (old new : Header → List ℕ) → Lists held n old → IsPopped k i old new
+    → same_header k h ≡ false → has m (new h) ≡ true → (has m (old h) ≡ true) × (m ≢ i)
+other_there held n i m k h old new s p o e =
+    let e' : has m (old h) ≡ true = sym (ap (has m) (p.others h o)) ∙ e in (
+      e',
+      λ d.
+          let t = s.there h m e' in
+          let u = popped_there held n i k old new s p in
+          let z : Some t.0 ≡ Some u.0 = sym t.1 ∙ ap held d ∙ u.1 in
+          let v : t.0 ≡ u.0 = cc in
+          let same : k ≡ h = sym u.2 ∙ ap header_of (sym v) ∙ t.2 in
+          true_false (sym (same_self k) ∙ ap (same_header k) same ∙ o),
+    )
+
+still_there : (held : ℕ → Option Message) (n i m : ℕ) (k h : Header) (old new : Header → List ℕ) → Lists held n old → IsPopped k i old new
+    → has m (new h) ≡ true → (has m (old h) ≡ true) × (m ≢ i)
+still_there held n i m k h old new s p e =
+    elim (either (same_header k h)) [
+      | inl y ↦
+          (let q : k ≡ h = same_is k h y in
+          subst (λ z. (has m (old z) ≡ true) × (m ≢ i)) q (rest_there held n i m k old new s p (subst (λ z. has m (new z) ≡ true) (sym q) e)))
+      | inr o ↦ other_there held n i m k h old new s p o e
+    ]
+
+falls_popped : (n i : ℕ) (k h : Header) (old new : Header → List ℕ) → IsPopped k i old new → ((z : Header) → Falls n (old z)) → Falls n (new h)
+falls_popped n i k h old new p f =
+    elim (either (same_header k h)) [
+      | inl y ↦
+          (let g : Falls n (i ∷ new k) = subst (Falls n) p.here (f k) in
+          subst (λ z. Falls n (new z)) (same_is k h y) (falls_to i n (new k) g.1 (omega (arith, g.0))))
+      | inr o ↦ subst (Falls n) (sym (p.others h o)) (f h)
+    ]
+
+-- every other number stays in its list
+stays_there : (i m : ℕ) (k h : Header) (old new : Header → List ℕ) → IsPopped k i old new → m ≢ i → has m (old h) ≡ true → has m (new h) ≡ true
+stays_there i m k h old new p d e =
+    elim (either (same_header k h)) [
+      | inl y ↦
+          (let q : k ≡ h = same_is k h y in
+          let e' : has m (i ∷ new k) ≡ true = sym (ap (has m) p.here) ∙ subst (λ z. has m (old z) ≡ true) (sym q) e in
+          subst (λ z. has m (new z) ≡ true) q (has_tail m i (new k) d e'))
+      | inr o ↦ ap (has m) (p.others h o) ∙ e
+    ]
+
+pub lists_less : (held : ℕ → Option Message) (n i : ℕ) (k : Header) (old new : Header → List ℕ) → Lists held n old → IsPopped k i old new
+    → Lists (without i held) n new
+lists_less held n i k old new s p =
+    record {
+      falls = λ h. falls_popped n i k h old new p s.falls;
+      there =
+          λ h m e.
+          let o = still_there held n i m k h old new s p e in
+          let t = s.there h m o.0 in
+          (t.0, rw (ne_eqb m i o.1) t.1, t.2);
+      listed =
+          λ m x e.
+          let b = held_before held i m x e in
+          stays_there i m k (header_of x) old new p b.0 (s.listed m x b.1);
+    }
+
+-- ---- messages go, one after another
+
+without_more : (i : ℕ) (ms : List ℕ) (held : ℕ → Option Message) (n : ℕ) → without_all ms (without i held) n ≡ without_all (i ∷ ms) held n
+without_more i ms held n =
+    elim (either (n == i)) [
+      | inl y ↦ elim (either (has n ms)) [ inl z ↦ rw (y, z) refl | inr z ↦ rw (y, z) refl ]
+      | inr o ↦ elim (either (has n ms)) [ inl z ↦ rw (o, z) refl | inr z ↦ rw (o, z) refl ]
+    ]
+
+pub lists_taken : (held : ℕ → Option Message) (n : ℕ) (o : Object) (js ms : List ℕ) (old new : Header → List ℕ) → Lists held n old
+    → AreTaken o js ms old new → Lists (without_all ms held) n new
+lists_taken held n o [] [] old new s t = subst (λ index. Lists held n index) (λ z k. sym (t k) z) s
+lists_taken held n o [] (i ∷ ms) old new s t = absurd t
+lists_taken held n o (j ∷ js) [] old new s t = absurd t
+lists_taken held n o (j ∷ js) (i ∷ ms) old new s t =
+    let one = lists_less held n i (header_to o j) old t.0 s t.1 in
+    let all = lists_taken (without i held) n o js ms t.0 new one t.2 in
+    subst (λ f. Lists f n new) (λ z m. without_more i ms held m z) all
+
+-- one more goes
+pub taken_more : (o : Object) (js ms : List ℕ) (j n : ℕ) (old between new : Header → List ℕ) → AreTaken o js ms old between
+    → IsPopped (header_to o j) n between new → AreTaken o (js ++ j ∷ []) (ms ++ n ∷ []) old new
+taken_more o [] [] j n old between new t p =
+    (new, record { here = sym (t (header_to o j)) ∙ p.here; others = λ h d. p.others h d ∙ t h }, λ k. refl)
+taken_more o [] (i ∷ ms) j n old between new t p = absurd t
+taken_more o (j' ∷ js) [] j n old between new t p = absurd t
+taken_more o (j' ∷ js) (i ∷ ms) j n old between new t p = (t.0, t.1, taken_more o js ms j n t.0 between new t.2 p)
+
+-- the messages to other methods stay
+pub has_all_kept : (o : Object) (j n : ℕ) (js : List ℕ) (old new : Header → List ℕ) → IsNoneOf j js → IsPopped (header_to o j) n old new
+    → HasAll o js old → HasAll o js new
+has_all_kept o j n [] old new d p a = tt
+has_all_kept o j n (i ∷ js) old new d p a =
+    ((a.0.0, a.0.1, p.others (header_to o i) (other_method o j i d.0) ∙ a.0.2), has_all_kept o j n js old new d.1 p a.1)
+
+-- ---- a stack, as it is kept
+
+parts_of : (xs : List ℕ) → (xs ≡ [] → ⊥) → (n : ℕ) × (ns : List ℕ) × (xs ≡ n ∷ ns)
+parts_of [] some = absurd (some refl)
+parts_of (n ∷ ns) some = (n, ns, refl)
+
+pub stack_has : (stack : List ℕ) → not (length stack == 0) ≡ true → (n : ℕ) × (ns : List ℕ) × (reverse stack ≡ n ∷ ns)
+stack_has stack some =
+    parts_of (reverse stack)
+    (λ d.
+    let z : length stack ≡ 0 = sym (length-reverse stack) ∙ ap length d in
+    let y : not (length stack == 0) ≡ false = rw (eq-eqb (length stack) 0 z) refl in
+    true_false (sym some ∙ y))

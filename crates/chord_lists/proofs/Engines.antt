@@ -1,8 +1,7 @@
 -- What each entry makes of the state of the engine.
-use Rattle.std.proofs.Common.{◌≡◌, ℕ, zero, suc, ◌+◌, ◌*◌, ◌<◌, ◌≤◌, true, false, ◌==◌, List, [], ◌∷◌, ◌++◌, length, Option, Some, None, refl, sym, ap, lit<, lit≤, ◌∙◌, subst, arith, inl, inr, if◌then◌else◌, length-append}
+use Rattle.std.proofs.Common.{◌≡◌, ℕ, suc, ◌+◌, ◌*◌, ◌<◌, ◌≤◌, true, false, ◌==◌, List, [], ◌∷◌, ◌++◌, length, Option, Some, None, refl, sym, ap, lit<, lit≤, ◌∙◌, subst, arith, inl, inr, if◌then◌else◌, length-append}
 use Rattle.std.specs.Prelude.{slice_get}
-use Rattle.std.proofs.lemmas.Bool.{eq-eqb, eqb-true, eqb-false}
-use Rattle.std.proofs.lemmas.Option.{slice_get_within}
+use Rattle.std.proofs.lemmas.Bool.{eq-eqb, eqb-true}
 use Rattle.chord_base.specs.declared.value.Object.{Object}
 use Rattle.chord_base.specs.declared.value.Value as value
 use Rattle.chord_base.specs.declared.event.What.{What}
@@ -15,12 +14,12 @@ use Rattle.chord_base.specs.Bounds.{AreWithin, IsWhatWithin, IsMessageWithin, Is
 use Rattle.chord_base.proofs.Waits.{either}
 use Rattle.chord_base.proofs.Final.{final_when}
 use Rattle.chord_base.proofs.Pending.{none_fires_on, none_fires_with, none_fires_after, fires_without, pending_other}
-use Rattle.chord_lists.specs.declared.bag.Waiting.{Waiting}
-use Rattle.chord_lists.specs.Bag.{message, message_in, find, Lacks, LacksOne, AreFew, TakesFrom, TakesRest}
+use Rattle.chord_lists.specs.declared.bag.Header.{Header}
+use Rattle.chord_lists.specs.Bag.{header_to, Lacks, LacksOne, IsPushed, AreTaken, Lists}
 use Rattle.chord_lists.specs.Engine as engine
 use Rattle.chord_lists.specs.Engine.{fired, State, IsOver}
-use Rattle.chord_lists.proofs.Bags.{slot_end, slot_before, found_slot}
-use Rattle.chord_lists.proofs.Taking.{HoldsPending, takes_pending, lacks_fires}
+use Rattle.chord_lists.proofs.Bags.{without_all, lists_none, lists_on, lists_more, lists_taken}
+use Rattle.chord_lists.proofs.Taking.{takes_pending, lacks_fires}
 
 -- ---- bounds
 
@@ -46,9 +45,18 @@ pending_within (x ∷ h) n m w e =
           ]
     ]
 
--- so each message of the bag has few arguments
-pub bag_few : (slots : List (Option Waiting)) (h : List Entry) → AreWithin h → HoldsPending slots h → AreFew slots
-bag_few slots h w holds n m f = IsMessageWithin.few (pending_within h n m w (holds n ∙ f))
+-- and its number is below that of the next entry
+pending_below : (h : List Entry) (n : ℕ) (m : Message) → AreWithin h → pending n h ≡ Some m → n < length h
+pending_below [] n m w e = let z : ◌≡◌ {A = Option Message} None (Some m) = e in cc
+pending_below (x ∷ h) n m w e =
+    elim (either (x.number == n)) [
+      | inl y ↦ omega (arith, eqb-true x.number n y, w.1)
+      | inr o ↦
+          elim (either (has n (members_of x.what))) [
+            | inl y ↦ (let z : ◌≡◌ {A = Option Message} None (Some m) = rw (o, y) at e in cc)
+            | inr a ↦ (let l = pending_below h n m w.0 (rw (o, a) at e) in omega (arith, l))
+          ]
+    ]
 
 values_append : (us vs : List value.Value) → AreValuesWithin us → AreValuesWithin vs → AreValuesWithin (us ++ vs)
 values_append [] vs a b = b
@@ -61,16 +69,16 @@ pub record IsTakenWithin (ms : List ℕ) (vs : List value.Value) (js : List ℕ)
   pub same : length ms ≡ length js
   pub few : length vs ≤ 8 * length js
 
-taken_within : (slots : List (Option Waiting)) (h : List Entry) (o : Object) (js ms : List ℕ) (vs : List value.Value) → AreWithin h → HoldsPending slots h → length slots ≤ 65536 → TakesFrom slots o js ms vs → IsTakenWithin ms vs js
-taken_within slots h o [] [] vs w holds few t = record { members = tt; values = rw t tt; same = refl; few = rw t (lit≤ tt) }
-taken_within slots h o [] (i ∷ ms) vs w holds few t = absurd t
-taken_within slots h o (j ∷ js) [] vs w holds few t = absurd t
-taken_within slots h o (j ∷ js) (i ∷ ms) vs w holds few t =
+taken_within : (h : List Entry) (o : Object) (js ms : List ℕ) (vs : List value.Value) → AreWithin h → length h ≤ 65536 → Takes h o js ms vs
+    → IsTakenWithin ms vs js
+taken_within h o [] [] vs w few t = record { members = tt; values = rw t tt; same = refl; few = rw t (lit≤ tt) }
+taken_within h o [] (i ∷ ms) vs w few t = absurd t
+taken_within h o (j ∷ js) [] vs w few t = absurd t
+taken_within h o (j ∷ js) (i ∷ ms) vs w few t =
     let m : Message = record { object = o; method = j; arguments = t.0 } in
-    let s = found_slot slots i m t.2 in
-    let lt = slice_get_within slots i (Some s.0) s.1 in
-    let a : IsMessageWithin o j t.0 = pending_within h i m w (holds i ∙ t.2) in
-    let r = taken_within slots h o js ms t.1 w holds few t.4 in
+    let lt = pending_below h i m w t.2 in
+    let a : IsMessageWithin o j t.0 = pending_within h i m w t.2 in
+    let r = taken_within h o js ms t.1 w few t.4 in
     record {
       members = (omega (arith, lt, few), r.members);
       values = subst AreValuesWithin (sym t.3) (values_append t.0 t.1 a.values r.values);
@@ -78,23 +86,25 @@ taken_within slots h o (j ∷ js) (i ∷ ms) vs w holds few t =
       few = (let e = ap length t.3 in omega (arith, e, length-append t.0 t.1, a.few, r.few));
     }
 
-taken_object : (slots : List (Option Waiting)) (h : List Entry) (o : Object) (js ms : List ℕ) (vs : List value.Value) → AreWithin h → HoldsPending slots h → 0 < length js → TakesFrom slots o js ms vs → IsObjectWithin o
-taken_object slots h o [] ms vs w holds some t = absurd (omega (arith, some))
-taken_object slots h o (j ∷ js) [] vs w holds some t = absurd t
-taken_object slots h o (j ∷ js) (i ∷ ms) vs w holds some t =
-    let a : IsMessageWithin o j t.0 = pending_within h i (record { object = o; method = j; arguments = t.0 }) w (holds i ∙ t.2) in
+taken_object : (h : List Entry) (o : Object) (js ms : List ℕ) (vs : List value.Value) → AreWithin h → 0 < length js → Takes h o js ms vs
+    → IsObjectWithin o
+taken_object h o [] ms vs w some t = absurd (omega (arith, some))
+taken_object h o (j ∷ js) [] vs w some t = absurd t
+taken_object h o (j ∷ js) (i ∷ ms) vs w some t =
+    let a : IsMessageWithin o j t.0 = pending_within h i (record { object = o; method = j; arguments = t.0 }) w t.2 in
     a.object
 
 -- so the firing is within its bounds
-pub fired_within : (slots : List (Option Waiting)) (h : List Entry) (n k : ℕ) (o : Object) (js ms : List ℕ) (vs : List value.Value) → AreWithin h → HoldsPending slots h → length slots ≡ n → length h ≡ n → n < 65536 → k < 256 → 0 < length js → length js ≤ 8 → TakesFrom slots o js ms vs → AreWithin (fired n k o ms vs ∷ h)
-fired_within slots h n k o js ms vs w holds slotted so_long room chord some few t =
-    let i = taken_within slots h o js ms vs w holds (omega (arith, slotted, room)) t in (
+pub fired_within : (h : List Entry) (n k : ℕ) (o : Object) (js ms : List ℕ) (vs : List value.Value) → AreWithin h → length h ≡ n → n < 65536
+    → k < 256 → 0 < length js → length js ≤ 8 → Takes h o js ms vs → AreWithin (fired n k o ms vs ∷ h)
+fired_within h n k o js ms vs w so_long room chord some few t =
+    let i = taken_within h o js ms vs w (omega (arith, so_long, room)) t in (
       w,
       sym so_long,
       room,
       record {
         chord = chord;
-        object = taken_object slots h o js ms vs w holds some t;
+        object = taken_object h o js ms vs w some t;
         some = omega (arith, some, i.same);
         few_members = omega (arith, few, i.same);
         members = i.members;
@@ -105,28 +115,26 @@ fired_within slots h n k o js ms vs w holds slotted so_long room chord some few 
 
 -- ---- pending messages
 
--- the bag with the slot of one more entry
-holds_more : (slots : List (Option Waiting)) (h : List Entry) (e : Entry) (o : Option Waiting) → HoldsPending slots h → e.number ≡ length slots → members_of e.what ≡ [] → message_of e.what ≡ message_in (Some o) → HoldsPending (slots ++ o ∷ []) (e ∷ h)
-holds_more slots h e o holds n none m i =
+-- after an entry that takes nothing, its message is pending beside the others
+pending_more : (h : List Entry) (e : Entry) (n i : ℕ) → e.number ≡ n → members_of e.what ≡ []
+    → (if n == i then message_of e.what else pending i h) ≡ pending i (e ∷ h)
+pending_more h e n i number none =
     elim (either (e.number == i)) [
-      | inl y ↦ (let s : slice_get (slots ++ o ∷ []) i ≡ Some o = ap (slice_get (slots ++ o ∷ [])) (sym (eqb-true e.number i y) ∙ n) ∙ slot_end slots o in rw y (m ∙ ap message_in (sym s)))
-      | inr a ↦ pending_other e h i none a ∙ holds i ∙ ap message_in (sym (slot_before slots o i (λ d. eqb-false e.number i a (n ∙ d))))
+      | inl y ↦ (let y' : (n == i) ≡ true = ap (λ z. z == i) (sym number) ∙ y in rw (y', y) refl)
+      | inr o ↦ (let o' : (n == i) ≡ false = ap (λ z. z == i) (sym number) ∙ o in rw o' (sym (pending_other e h i none o)))
     ]
 
--- and after a firing, whose members left their slots
-holds_fired : (slots left : List (Option Waiting)) (h : List Entry) (n k : ℕ) (o : Object) (ms : List ℕ) (vs : List value.Value) → HoldsPending slots h → length left ≡ n → TakesRest slots ms left → HoldsPending (left ++ None ∷ []) (fired n k o ms vs ∷ h)
-holds_fired slots left h n k o ms vs holds l rest i =
-    elim (either (n == i)) [
-      | inl y ↦ (let s : slice_get (left ++ None ∷ []) i ≡ Some None = ap (slice_get (left ++ None ∷ [])) (sym (eqb-true n i y) ∙ sym l) ∙ slot_end left None in rw y (ap message_in (sym s)))
-      | inr a ↦
-          (let same : find i (left ++ None ∷ []) ≡ find i left = ap message_in (slot_before left None i (λ d. eqb-false n i a (sym l ∙ d))) in
-          rw a (ap (λ x. if has i ms then None else x) (holds i) ∙ sym (rest i) ∙ sym same))
-    ]
+lists_entry : (h : List Entry) (e : Entry) (n : ℕ) (index : Header → List ℕ) → e.number ≡ n → members_of e.what ≡ []
+    → Lists (λ i. if n == i then message_of e.what else pending i h) (suc n) index → Lists (λ i. pending i (e ∷ h)) (n + 1) index
+lists_entry h e n index number none s =
+    let more : suc n ≡ n + 1 = omega arith in
+    subst (λ k. Lists (λ i. pending i (e ∷ h)) k index) more (subst (λ f. Lists f (suc n) index) (λ z i. pending_more h e n i number none z) s)
 
 -- ---- enabled chords
 
 -- a pending member of a firing is a message to its object
-takes_object : (h : List Entry) (o : Object) (js ms : List ℕ) (vs : List value.Value) (n : ℕ) → has n ms ≡ true → Takes h o js ms vs → (m : Message) × (pending n h ≡ Some m) × (m.object ≡ o)
+takes_object : (h : List Entry) (o : Object) (js ms : List ℕ) (vs : List value.Value) (n : ℕ) → has n ms ≡ true → Takes h o js ms vs
+    → (m : Message) × (pending n h ≡ Some m) × (m.object ≡ o)
 takes_object h o [] [] vs n s t = let z : false ≡ true = s in cc
 takes_object h o [] (i ∷ ms) vs n s t = absurd t
 takes_object h o (j ∷ js) [] vs n s t = absurd t
@@ -137,8 +145,10 @@ takes_object h o (j ∷ js) (i ∷ ms) vs n s t =
     ]
 
 -- a message after which each chord of its object lacks a message
-idle_message : (p : Program) (h : List Entry) (e : Entry) (m : Message) (slots : List (Option Waiting)) → message_of e.what ≡ Some m → members_of e.what ≡ [] → NoneFires p h → HoldsPending slots (e ∷ h) → ((k : ℕ) (js : List ℕ) → slice_get (p.chords m.object.class) k ≡ Some js → LacksOne m.object js slots) → NoneFires p (e ∷ h)
-idle_message p h e m slots is none idle holds lacks =
+idle_message : (p : Program) (h : List Entry) (e : Entry) (m : Message) (n : ℕ) (index : Header → List ℕ) → message_of e.what ≡ Some m
+    → members_of e.what ≡ [] → NoneFires p h → Lists (λ i. pending i (e ∷ h)) n index
+    → ((k : ℕ) (js : List ℕ) → slice_get (p.chords m.object.class) k ≡ Some js → LacksOne m.object js index) → NoneFires p (e ∷ h)
+idle_message p h e m n index is none idle lists lacks =
     none_fires_with p e h none idle
     (λ k o ms vs s f.
     let r = takes_object (e ∷ h) o f.0 ms vs e.number s f.2 in
@@ -147,10 +157,11 @@ idle_message p h e m slots is none idle holds lacks =
     let q : r.0 ≡ m = cc in
     let o' : m.object ≡ o = sym (ap (λ z. z.object) q) ∙ r.2 in
     let l = lacks k f.0 (subst (λ z. slice_get (p.chords z.class) k ≡ Some f.0) (sym o') f.1) in
-    lacks_fires slots (e ∷ h) o f.0 ms vs l.0 l.1 holds l.2 (subst (λ z. Lacks z l.1 slots) o' l.3) f.2)
+    lacks_fires (e ∷ h) n index o f.0 ms vs l.0 l.1 lists l.2 (subst (λ z. Lacks z l.1 index) o' l.3) f.2)
 
 -- a message, and a firing of what is then pending
-idle_fire : (p : Program) (h : List Entry) (e f : Entry) (k : ℕ) (o : Object) (ms : List ℕ) (vs : List value.Value) → f.what ≡ Fired k o ms vs → members_of e.what ≡ [] → NoneFires p h → Fires p (e ∷ h) k o ms vs → NoneFires p (f ∷ e ∷ h)
+idle_fire : (p : Program) (h : List Entry) (e f : Entry) (k : ℕ) (o : Object) (ms : List ℕ) (vs : List value.Value) → f.what ≡ Fired k o ms vs
+    → members_of e.what ≡ [] → NoneFires p h → Fires p (e ∷ h) k o ms vs → NoneFires p (f ∷ e ∷ h)
 idle_fire p h e f k o ms vs w none idle fires =
     elim (either (has e.number ms)) [
       | inl y ↦ none_fires_after p f e h (ap message_of w) none (ap (λ x. has e.number (members_of x)) w ∙ y) idle
@@ -162,78 +173,95 @@ idle_fire p h e f k o ms vs w none idle fires =
 begun_pending : (n : ℕ) → pending n engine.begun ≡ None
 begun_pending n = elim (either (0 == n)) [ inl y ↦ rw y refl | inr o ↦ rw o refl ]
 
-begun_find : (n : ℕ) → find n (None ∷ []) ≡ None
-begun_find zero = refl
-begun_find (suc n) = refl
-
 none_taken : (o : Object) (js ms : List ℕ) (vs : List value.Value) → 0 < length js → Takes engine.begun o js ms vs → ⊥
 none_taken o [] ms vs l t = omega (arith, l)
 none_taken o (j ∷ js) [] vs l t = t
 none_taken o (j ∷ js) (i ∷ ms) vs l t = let z : ◌≡◌ {A = Option Message} None (Some (record { object = o; method = j; arguments = t.0 })) = sym (begun_pending i) ∙ t.2 in cc
 
-pub state_begun : (p : Program) (stands : List Entry → Type 0) → engine.HaveMethods p → stands engine.begun → State p stands (None ∷ []) None 1
-state_begun p stands some s =
+pub state_begun : (p : Program) (stands : List Entry → Type 0) (index : Header → List ℕ) → engine.HaveMethods p → stands engine.begun
+    → ((k : Header) → index k ≡ []) → State p stands index None 1
+state_begun p stands index some s empty =
     record {
       history = engine.begun;
       played = record { past = (tt, record { numbered = refl; comes = (refl, refl) }); within = (tt, refl, lit< tt, tt); so_long = refl };
       bodies = s;
-      holds = λ m. begun_pending m ∙ sym (begun_find m);
-      slotted = refl;
+      lists = lists_none (λ i. pending i engine.begun) 1 index begun_pending empty;
       is_fresh = λ k o ms vs f. none_taken o f.0 ms vs (some o.class k f.0 f.1) f.2;
     }
 
-pub state_plain : (p : Program) (before after : List Entry → Type 0) (slots : List (Option Waiting)) (n : ℕ) (s : State p before slots None n) (e : Entry) → engine.Made p after s.history e → message_of e.what ≡ None → State p after (slots ++ None ∷ []) None (n + 1)
-state_plain p before after slots n s e m none =
+pub state_plain : (p : Program) (before after : List Entry → Type 0) (index : Header → List ℕ) (n : ℕ) (s : State p before index None n) (e : Entry)
+    → engine.Made p after s.history e → message_of e.what ≡ None → State p after index None (n + 1)
+state_plain p before after index n s e m none =
+    let number : e.number ≡ n = m.follows.numbered ∙ s.played.so_long in
+    let on = lists_on (λ i. pending i s.history) n index s.lists in
     record {
       history = e ∷ s.history;
       played = record { past = (s.played.past, m.follows); within = m.within; so_long = omega (arith, s.played.so_long) };
       bodies = m.after;
-      holds = holds_more slots s.history e None s.holds (m.follows.numbered ∙ s.played.so_long ∙ sym s.slotted) m.no_firing none;
-      slotted = omega (arith, length-append slots (None ∷ []), s.slotted);
+      lists = lists_entry s.history e n index number m.no_firing (subst (λ x. Lists (λ i. if n == i then x else pending i s.history) (suc n) index) (sym none) on);
       is_fresh = none_fires_on p e s.history none s.is_fresh;
     }
 
-pub state_message : (p : Program) (before after : List Entry → Type 0) (slots : List (Option Waiting)) (n : ℕ) (x : Waiting) (s : State p before slots None n) (e : Entry) → engine.Made p after s.history e → message_of e.what ≡ Some (message x) → State p after (slots ++ Some x ∷ []) (Some x.object) (n + 1)
-state_message p before after slots n x s e m is =
+pub state_message : (p : Program) (before after : List Entry → Type 0) (old new : Header → List ℕ) (n : ℕ) (o : Object) (j : ℕ)
+    (s : State p before old None n) (e : Entry) → engine.Made p after s.history e → engine.IsMessageTo o j e.what
+    → IsPushed (header_to o j) n old new → State p after new (Some o) (n + 1)
+state_message p before after old new n o j s e m is pushed =
+    let number : e.number ≡ n = m.follows.numbered ∙ s.played.so_long in
+    let sent : Message = record { object = o; method = j; arguments = is.0 } in
+    let more = lists_more (λ i. pending i s.history) n old new sent s.lists pushed in
     record {
       history = e ∷ s.history;
       played = record { past = (s.played.past, m.follows); within = m.within; so_long = omega (arith, s.played.so_long) };
       bodies = m.after;
-      holds = holds_more slots s.history e (Some x) s.holds (m.follows.numbered ∙ s.played.so_long ∙ sym s.slotted) m.no_firing is;
-      slotted = omega (arith, length-append slots (Some x ∷ []), s.slotted);
-      is_fresh = record { before = s.history; last = e; sent = message x; is = refl; numbered = m.follows.numbered; idle = s.is_fresh; is_message = is; no_firing = m.no_firing; object = refl };
+      lists = lists_entry s.history e n new number m.no_firing (subst (λ x. Lists (λ i. if n == i then x else pending i s.history) (suc n) new) (sym is.1) more);
+      is_fresh = record { before = s.history; last = e; sent = sent; is = refl; numbered = m.follows.numbered; idle = s.is_fresh; is_message = is.1; no_firing = m.no_firing; object = refl };
     }
 
-pub state_over : (p : Program) (before after : List Entry → Type 0) (slots : List (Option Waiting)) (n : ℕ) (s : State p before slots None n) → 0 < n → NoneAsks p s.history → after s.history → IsOver p after n
-state_over p before after slots n s some done stands =
+pub state_over : (p : Program) (before after : List Entry → Type 0) (index : Header → List ℕ) (n : ℕ) (s : State p before index None n) → 0 < n
+    → NoneAsks p s.history → after s.history → IsOver p after n
+state_over p before after index n s some done stands =
     (s.history, s.played, stands, final_when p s.history s.played.past (omega (arith, s.played.so_long, some)) done s.is_fresh)
 
 -- the fresh object has no chord with all its messages
-pub state_idle : (p : Program) (stands : List Entry → Type 0) (slots : List (Option Waiting)) (o : Object) (n : ℕ) → State p stands slots (Some o) n → ((k : ℕ) (js : List ℕ) → slice_get (p.chords o.class) k ≡ Some js → LacksOne o js slots) → State p stands slots None n
-state_idle p stands slots o n s f =
+pub state_idle : (p : Program) (stands : List Entry → Type 0) (index : Header → List ℕ) (o : Object) (n : ℕ) → State p stands index (Some o) n
+    → ((k : ℕ) (js : List ℕ) → slice_get (p.chords o.class) k ≡ Some js → LacksOne o js index) → State p stands index None n
+state_idle p stands index o n s f =
     let m = s.is_fresh in
-    let lacks : (k : ℕ) (js : List ℕ) → slice_get (p.chords m.sent.object.class) k ≡ Some js → LacksOne m.sent.object js slots =
-    subst (λ (d : Object). (k : ℕ) (js : List ℕ) → slice_get (p.chords d.class) k ≡ Some js → LacksOne d js slots) (sym m.object) f
+    let lacks : (k : ℕ) (js : List ℕ) → slice_get (p.chords m.sent.object.class) k ≡ Some js → LacksOne m.sent.object js index =
+    subst (λ (d : Object). (k : ℕ) (js : List ℕ) → slice_get (p.chords d.class) k ≡ Some js → LacksOne d js index) (sym m.object) f
     in
-    let holds : HoldsPending slots (m.last ∷ m.before) = subst (HoldsPending slots) m.is s.holds in
-    let idle : NoneFires p (m.last ∷ m.before) = idle_message p m.before m.last m.sent slots m.is_message m.no_firing m.idle holds lacks in
-    record { history = s.history; played = s.played; bodies = s.bodies; holds = s.holds; slotted = s.slotted; is_fresh = subst (NoneFires p) (sym m.is) idle }
+    let lists : Lists (λ i. pending i (m.last ∷ m.before)) n index = subst (λ h. Lists (λ i. pending i h) n index) m.is s.lists in
+    let idle : NoneFires p (m.last ∷ m.before) = idle_message p m.before m.last m.sent n index m.is_message m.no_firing m.idle lists lacks in
+    record { history = s.history; played = s.played; bodies = s.bodies; lists = s.lists; is_fresh = subst (NoneFires p) (sym m.is) idle }
 
--- a firing of what the bag holds may come
-pub state_fires : (p : Program) (stands : List Entry → Type 0) (slots : List (Option Waiting)) (fresh : Option Object) (n k : ℕ) (o : Object) (js ms : List ℕ) (vs : List value.Value) (s : State p stands slots fresh n) → slice_get (p.chords o.class) k ≡ Some js → TakesFrom slots o js ms vs → Fires p s.history k o ms vs
-state_fires p stands slots fresh n k o js ms vs s c t = (js, c, takes_pending slots s.history o js ms vs s.holds t)
+-- a firing of what went from the bag may come
+pub state_may_begin : (p : Program) (stands : List Entry → Type 0) (old new : Header → List ℕ) (fresh : Option Object) (n k : ℕ) (o : Object)
+    (js ms : List ℕ) → State p stands old fresh n → n < 65536 → slice_get (p.chords o.class) k ≡ Some js → k < 256 → 0 < length js → length js ≤ 8
+    → AreTaken o js ms old new → engine.MayBegin p stands n k o ms
+state_may_begin p stands old new fresh n k o js ms s room c chord some few t =
+    let taken = takes_pending s.history n o js ms old new s.lists t in
+    (s.history, taken.0, s.played, s.bodies, (js, c, taken.1), fired_within s.history n k o js ms taken.0 s.played.within s.played.so_long room chord some few taken.1)
 
-pub state_fired : (p : Program) (before after : List Entry → Type 0) (slots left : List (Option Waiting)) (n k : ℕ) (o : Object) (js ms : List ℕ) (vs : List value.Value) (s : State p before slots (Some o) n) → slice_get (p.chords o.class) k ≡ Some js → TakesFrom slots o js ms vs → TakesRest slots ms left → length left ≡ length slots → AreWithin (fired n k o ms vs ∷ s.history) → after (fired n k o ms vs ∷ s.history) → State p after (left ++ None ∷ []) None (n + 1)
-state_fired p before after slots left n k o js ms vs s c t rest same within stands =
+pub state_fired : (p : Program) (before after : List Entry → Type 0) (old new : Header → List ℕ) (n k : ℕ) (o : Object) (js ms : List ℕ)
+    → State p before old (Some o) n → n < 65536 → slice_get (p.chords o.class) k ≡ Some js → k < 256 → 0 < length js → length js ≤ 8
+    → AreTaken o js ms old new → engine.Began p before after n k o ms → State p after new None (n + 1)
+state_fired p before after old new n k o js ms s room c chord some few t began =
+    let taken = takes_pending s.history n o js ms old new s.lists t in
+    let vs = taken.0 in
+    let fires : Fires p s.history k o ms vs = (js, c, taken.1) in
     let m = s.is_fresh in
-    let fires = state_fires p before slots (Some o) n k o js ms vs s c t in
     let fires' : Fires p (m.last ∷ m.before) k o ms vs = subst (λ h. Fires p h k o ms vs) m.is fires in
     let idle : NoneFires p (fired n k o ms vs ∷ m.last ∷ m.before) = idle_fire p m.before m.last (fired n k o ms vs) k o ms vs refl m.no_firing m.idle fires' in
+    let left = lists_on (without_all ms (λ i. pending i s.history)) n new (lists_taken (λ i. pending i s.history) n o js ms old new s.lists t) in
+    let more : suc n ≡ n + 1 = omega arith in
     record {
       history = fired n k o ms vs ∷ s.history;
-      played = record { past = (s.played.past, record { numbered = sym s.played.so_long; comes = (refl, fires) }); within = within; so_long = omega (arith, s.played.so_long) };
-      bodies = stands;
-      holds = holds_fired slots left s.history n k o ms vs s.holds (same ∙ s.slotted) rest;
-      slotted = omega (arith, length-append left (None ∷ []), same, s.slotted);
+      played = record {
+        past = (s.played.past, record { numbered = sym s.played.so_long; comes = (refl, fires) });
+        within = fired_within s.history n k o js ms vs s.played.within s.played.so_long room chord some few taken.1;
+        so_long = omega (arith, s.played.so_long);
+      };
+      bodies = began s.history vs s.played s.bodies fires;
+      lists = subst (λ z. Lists (λ i. pending i (fired n k o ms vs ∷ s.history)) z new) more left;
       is_fresh = subst (λ h. NoneFires p (fired n k o ms vs ∷ h)) (sym m.is) idle;
     }

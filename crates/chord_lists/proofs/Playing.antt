@@ -27,7 +27,7 @@ use Rattle.chord_lists.specs.Engine.{begun}
 use Rattle.chord_lists.specs.States.{PendingPut, first, put_message, call_message, find_put, IsStack, IsQuiet, Playing, Calling, Serving, Got, Done, is_sent, is_fired}
 
 -- the numbers of the stack are below its bound
-find_above : (n m : ℕ) (stack : List PendingPut) → IsStack n stack → n ≤ m → find_put m stack ≡ None
+pub find_above : (n m : ℕ) (stack : List PendingPut) → IsStack n stack → n ≤ m → find_put m stack ≡ None
 find_above n m [] s l = refl
 find_above n m (x ∷ xs) s l =
     let o : (x.number == m) ≡ false = ne_eqb x.number m (λ e. omega (arith, e, s.0, l)) in
@@ -381,7 +381,3 @@ put_within t = record { object = first_within; method = lit< tt; few = lit≤ tt
 
 pub call_within : IsWhatWithin (Called first 0 [])
 call_within = record { object = first_within; method = lit< tt; few = lit≤ tt; values = tt }
-
-pub fired_within : (q m : ℕ) (t : List ℕ) → q < 65536 → m < 65536 → IsWhatWithin (Fired 0 first (q ∷ m ∷ []) (a_value.Text t ∷ []))
-fired_within q m t call put =
-    record { chord = lit< tt; object = first_within; some = lit< tt; few_members = lit≤ tt; members = (call, (put, tt)); few_values = lit≤ tt; values = (tt, tt) }

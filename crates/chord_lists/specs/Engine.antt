@@ -4,18 +4,19 @@
 use Rattle.std.specs.Prelude.{◌≡◌, ℕ, ◌+◌, ◌<◌, ◌≤◌, ◌⊎◌, List, [], ◌∷◌, length, Option, Some, None, slice_get}
 use Rattle.chord_base.specs.declared.value.Object.{Object}
 use Rattle.chord_base.specs.declared.value.Value as value
+use Rattle.chord_base.specs.declared.event.What.{What}
 use Rattle.chord_base.specs.declared.event.What.TheVariants.{Begun, Fired}
 use Rattle.chord_base.specs.declared.event.Entry.{Entry}
 use Rattle.chord_base.specs.Meaning.{Program}
 use Rattle.chord_base.specs.Messages.{Message, message_of, members_of, pending}
 use Rattle.chord_base.specs.Machine.{MayFollow, Fires, NoneFires, NoneAsks, IsPast, IsFinal}
 use Rattle.chord_base.specs.Bounds.{AreWithin}
-use Rattle.chord_lists.specs.declared.bag.Waiting.{Waiting}
+use Rattle.chord_lists.specs.declared.bag.Header.{Header}
 use Rattle.chord_lists.specs.declared.engine.Turn.{Turn}
 use Rattle.chord_lists.specs.declared.engine.Turn.TheVariants as a_turn
 use Rattle.chord_lists.specs.declared.engine.Step.{Step}
 use Rattle.chord_lists.specs.declared.engine.Step.TheVariants.{Done, Idle, Fresh}
-use Rattle.chord_lists.specs.Bag.{message, find}
+use Rattle.chord_lists.specs.Bag.{Lists}
 
 -- the history in which `Main` has just begun
 abbrev pub begun : List Entry
@@ -46,23 +47,29 @@ pub record Made (p : Program) (stands : List Entry → Type 0) (h : List Entry) 
   pub after : stands (e ∷ h)
   pub no_firing : members_of e.what ≡ []
 
+-- an entry is a message to this method of this object
+abbrev pub IsMessageTo : Object → ℕ → What → Type 0
+IsMessageTo o j w = (vs : List value.Value) × (message_of w ≡ Some (record { object = o; method = j; arguments = vs }))
+
 -- what a turn of the bodies was, after this history
 abbrev pub WentFrom : Program → (List Entry → Type 0) → List Entry → Turn → Type 0
 WentFrom p stands h a_turn.Over = NoneAsks p h × stands h
 WentFrom p stands h a_turn.Plain = (e : Entry) × Made p stands h e × (message_of e.what ≡ None)
-WentFrom p stands h (a_turn.Message x) = (e : Entry) × Made p stands h e × (message_of e.what ≡ Some (message x))
+WentFrom p stands h (a_turn.Message o j) = (e : Entry) × Made p stands h e × IsMessageTo o j e.what
 
 -- what a turn of the bodies was, after each run of n entries after which they can have stood
 abbrev pub Went : Program → (List Entry → Type 0) → (List Entry → Type 0) → ℕ → Turn → Type 0
 Went p before after n turn = (h : List Entry) → IsPlayed p n h → before h → WentFrom p after h turn
 
--- the bodies stand after a run of n entries, and this firing may follow
-abbrev pub MayBegin : Program → (List Entry → Type 0) → ℕ → ℕ → Object → List ℕ → List value.Value → Type 0
-MayBegin p stands n k o ms vs = (h : List Entry) × IsPlayed p n h × stands h × Fires p h k o ms vs × AreWithin (fired n k o ms vs ∷ h)
+-- the bodies stand after a run of n entries, and a firing that takes these messages may follow
+abbrev pub MayBegin : Program → (List Entry → Type 0) → ℕ → ℕ → Object → List ℕ → Type 0
+MayBegin p stands n k o ms =
+    (h : List Entry) × (vs : List value.Value) × IsPlayed p n h × stands h × Fires p h k o ms vs × AreWithin (fired n k o ms vs ∷ h)
 
--- the bodies stand after the firing
-abbrev pub Began : Program → (List Entry → Type 0) → (List Entry → Type 0) → ℕ → ℕ → Object → List ℕ → List value.Value → Type 0
-Began p before after n k o ms vs = (h : List Entry) → IsPlayed p n h → before h → Fires p h k o ms vs → after (fired n k o ms vs ∷ h)
+-- the bodies stand after the firing, with the arguments of the messages
+abbrev pub Began : Program → (List Entry → Type 0) → (List Entry → Type 0) → ℕ → ℕ → Object → List ℕ → Type 0
+Began p before after n k o ms =
+    (h : List Entry) (vs : List value.Value) → IsPlayed p n h → before h → Fires p h k o ms vs → after (fired n k o ms vs ∷ h)
 
 -- the last entry is a message to this object, and before it no chord had all its messages
 pub record IsAfterMessage (p : Program) (h : List Entry) (o : Object) : Type 0 where
@@ -81,13 +88,12 @@ abbrev pub IsFresh : Program → List Entry → Option Object → Type 0
 IsFresh p h None = NoneFires p h
 IsFresh p h (Some o) = IsAfterMessage p h o
 
--- the engine after n entries: the bodies stand there, and the slots of the bag hold exactly the pending messages
-pub record State (p : Program) (stands : List Entry → Type 0) (slots : List (Option Waiting)) (fresh : Option Object) (n : ℕ) : Type 0 where
+-- the engine after n entries: the bodies stand there, and the bag lists exactly the pending messages
+pub record State (p : Program) (stands : List Entry → Type 0) (index : Header → List ℕ) (fresh : Option Object) (n : ℕ) : Type 0 where
   pub history : List Entry
   pub played : IsPlayed p n history
   pub bodies : stands history
-  pub holds : (m : ℕ) → pending m history ≡ find m slots
-  pub slotted : length slots ≡ n
+  pub lists : Lists (λ i. pending i history) n index
   pub is_fresh : IsFresh p history fresh
 
 -- nothing may follow the n entries
@@ -95,10 +101,10 @@ abbrev pub IsOver : Program → (List Entry → Type 0) → ℕ → Type 0
 IsOver p stands n = (h : List Entry) × IsPlayed p n h × stands h × IsFinal p h
 
 -- the engine after a step from n entries
-abbrev pub Stepped : Program → (List Entry → Type 0) → List (Option Waiting) → ℕ → Step → Type 0
-Stepped p stands slots n Done = IsOver p stands n
-Stepped p stands slots n Idle = State p stands slots None (n + 1)
-Stepped p stands slots n (Fresh o) = State p stands slots (Some o) (n + 1)
+abbrev pub Stepped : Program → (List Entry → Type 0) → (Header → List ℕ) → ℕ → Step → Type 0
+Stepped p stands index n Done = IsOver p stands n
+Stepped p stands index n Idle = State p stands index None (n + 1)
+Stepped p stands index n (Fresh o) = State p stands index (Some o) (n + 1)
 
 -- the bodies stand after a run that is complete or has n entries, and no more than n
 pub record IsPlayedOut (p : Program) (stands : List Entry → Type 0) (n : ℕ) : Type 0 where

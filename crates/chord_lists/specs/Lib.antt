@@ -1,5 +1,11 @@
+-- The engine of one thread and what it plays today, in the order in which it is to be read.
+-- what a small program means
 pub mod Small
-pub mod Engine
+-- the bag of pending messages
 pub mod Bag
+-- what the engine keeps from entry to entry, over any program
+pub mod Engine
+-- what a run of a small program is about to do
 pub mod States
+-- what the bodies of a small program keep
 pub mod Stages

@@ -8,12 +8,13 @@ ghost use Rattle.std.specs.Prelude.{◌≡◌, ℕ, ◌+◌, ◌<◌, ◌≤◌,
 ghost use Rattle.chord_base.specs.declared.event.Entry.{Entry};
 ghost use Rattle.chord_base.specs.Meaning.{Program};
 ghost use Rattle.chord_base.specs.Machine.{IsRun, IsComplete};
-ghost use Rattle.chord_lists.specs.Bag.{AreDifferent, HasAll, IsBag, LacksOne};
+ghost use Rattle.chord_lists.specs.Bag.{AreDifferent, HasAll, LacksOne, numbers_of};
 ghost use Rattle.chord_lists.specs.Engine.{begun, HaveMethods, MayGoOn, MayBegin, Went, Began, Ends, IsPlayedOut, State, Stepped};
 
-use crate::bag::{Bag, Firing, Waiting};
+use crate::bag::Bag;
 use chord_base::event::Limits;
 use chord_base::journal::Journal;
+use chord_base::members::Members;
 use chord_base::value::Object;
 use std::alloc::{AllocError, Global};
 
@@ -24,8 +25,8 @@ pub enum Turn {
     Over,
     /// An entry that is no message.
     Plain,
-    /// A message.
-    Message(Waiting),
+    /// A message to this method of this object.
+    Message(Object, u8),
 }
 
 /// A program that the engine can play: its chords, and the bodies of a run.
@@ -44,7 +45,7 @@ pub trait Playable {
         ensures bodies { IfOk result (λ bodies. stands self.now bodies begun) }
         ensures chords { HaveMethods (program self.now) };
 
-    /// Some body goes on: the bodies make the entry of this number, and give the message that it is.
+    /// Some body goes on: the bodies make the entry of this number, and say what it was. They keep what a message carries.
     fn go_on(
         &self,
         alloc: Global,
@@ -55,7 +56,8 @@ pub trait Playable {
         requires may { MayGoOn (program self.now) (stands self.now bodies.old) number }
         ensures { IfOk result (λ turn. Went (program self.now) (stands self.now bodies.old) (stands self.now bodies.new) number turn) };
 
-    /// A chord of the object fires: the bodies make the entry of this number, and the body of the chord begins.
+    /// A chord of the object fires and takes these messages: the bodies make the entry of this number, and the body of the
+    /// chord begins with what the messages carry.
     fn begin(
         &self,
         alloc: Global,
@@ -63,11 +65,11 @@ pub trait Playable {
         number: u32,
         chord: u16,
         object: Object,
-        firing: Firing,
+        members: Members,
     ) -> Result<(), AllocError>
         requires room { number < 65536 }
-        requires may { MayBegin (program self.now) (stands self.now bodies.old) number chord object firing.members firing.arguments }
-        ensures { IfOk result (λ _. Began (program self.now) (stands self.now bodies.old) (stands self.now bodies.new) number chord object firing.members firing.arguments) };
+        requires may { MayBegin (program self.now) (stands self.now bodies.old) number chord object members }
+        ensures { IfOk result (λ _. Began (program self.now) (stands self.now bodies.old) (stands self.now bodies.new) number chord object members) };
 
     /// How many chords the class has.
     fn count(&self, class: u16) -> u16
@@ -90,9 +92,8 @@ pub trait Playable {
 
 /// A chord of the object that has all its messages.
 fn find_chord<P: Playable>(program: &P, bag: &Bag, object: Object) -> Option<u16>
-    requires bag { IsBag bag.now }
-    ensures some { IfSome result (λ k. (js : List ℕ) × (slice_get ((P.program program.now).chords object.class) k ≡ Some js) × HasAll object js bag.now.messages.items) }
-    ensures none { IfNone result ((k : ℕ) (js : List ℕ) → slice_get ((P.program program.now).chords object.class) k ≡ Some js → LacksOne object js bag.now.messages.items) }
+    ensures some { IfSome result (λ k. (js : List ℕ) × (slice_get ((P.program program.now).chords object.class) k ≡ Some js) × HasAll object js (numbers_of bag.now)) }
+    ensures none { IfNone result ((k : ℕ) (js : List ℕ) → slice_get ((P.program program.now).chords object.class) k ≡ Some js → LacksOne object js (numbers_of bag.now)) }
 {
     for chord in 0..program.count(object.class) {
         if bag.has_all(object, program.methods(object.class, chord)) {
@@ -122,20 +123,14 @@ fn take_turn<P: Playable>(
 ) -> Result<Step, AllocError>
     requires some { 0 < number }
     requires room { number < 65536 }
-    requires bag { IsBag bag.old }
-    requires state { State (P.program program.now) (P.stands program.now bodies.old) bag.old.messages.items None number }
-    ensures bag { IfOk result (λ _. IsBag bag.new) }
-    ensures state { IfOk result (λ step. Stepped (P.program program.now) (P.stands program.now bodies.new) bag.new.messages.items number step) }
+    requires state { State (P.program program.now) (P.stands program.now bodies.old) (numbers_of bag.old) None number }
+    ensures { IfOk result (λ step. Stepped (P.program program.now) (P.stands program.now bodies.new) (numbers_of bag.new) number step) }
 {
     match program.go_on(alloc, bodies, number)? {
         Turn::Over => Ok(Step::Done),
-        Turn::Plain => {
-            bag.note(alloc, None)?;
-            Ok(Step::Idle)
-        }
-        Turn::Message(message) => {
-            let object = message.object;
-            bag.note(alloc, Some(message))?;
+        Turn::Plain => Ok(Step::Idle),
+        Turn::Message(object, method) => {
+            bag.note(alloc, object, method, number)?;
             Ok(Step::Fresh(object))
         }
     }
@@ -152,16 +147,13 @@ fn fire<P: Playable>(
     number: u32,
 ) -> Result<(), AllocError>
     requires room { number < 65536 }
-    requires bag { IsBag bag.old }
-    requires state { State (P.program program.now) (P.stands program.now bodies.old) bag.old.messages.items (Some object) number }
-    requires there { (js : List ℕ) × (slice_get ((P.program program.now).chords object.class) chord ≡ Some js) × HasAll object js bag.old.messages.items }
-    ensures bag { IfOk result (λ _. IsBag bag.new) }
-    ensures state { IfOk result (λ _. State (P.program program.now) (P.stands program.now bodies.new) bag.new.messages.items None (number + 1)) }
+    requires state { State (P.program program.now) (P.stands program.now bodies.old) (numbers_of bag.old) (Some object) number }
+    requires there { (js : List ℕ) × (slice_get ((P.program program.now).chords object.class) chord ≡ Some js) × HasAll object js (numbers_of bag.old) }
+    ensures { IfOk result (λ _. State (P.program program.now) (P.stands program.now bodies.new) (numbers_of bag.new) None (number + 1)) }
 {
     let methods = program.methods(object.class, chord);
-    let firing = bag.take_all(alloc, object, methods)?;
-    program.begin(alloc, bodies, number, chord, object, firing)?;
-    bag.note(alloc, None)?;
+    let members = bag.take_all(object, methods)?;
+    program.begin(alloc, bodies, number, chord, object, members)?;
     Ok(())
 }
 
@@ -176,10 +168,8 @@ fn advance<P: Playable>(
 ) -> Result<Step, AllocError>
     requires some { 0 < number }
     requires room { number < 65536 }
-    requires bag { IsBag bag.old }
-    requires state { State (P.program program.now) (P.stands program.now bodies.old) bag.old.messages.items fresh number }
-    ensures bag { IfOk result (λ _. IsBag bag.new) }
-    ensures state { IfOk result (λ step. Stepped (P.program program.now) (P.stands program.now bodies.new) bag.new.messages.items number step) }
+    requires state { State (P.program program.now) (P.stands program.now bodies.old) (numbers_of bag.old) fresh number }
+    ensures { IfOk result (λ step. Stepped (P.program program.now) (P.stands program.now bodies.new) (numbers_of bag.new) number step) }
 {
     match fresh {
         None => take_turn(alloc, program, bodies, bag, number),
@@ -205,7 +195,6 @@ fn play_bodies<P: Playable>(
 {
     let mut bodies = program.start(alloc)?;
     let mut bag = Bag::new(alloc);
-    bag.note(alloc, None)?;
     let mut fresh = None;
     for number in 1..events {
         match advance(alloc, program, &mut bodies, &mut bag, fresh, number)? {
@@ -229,6 +218,5 @@ pub fn play<P: Playable>(alloc: Global, program: &P, limits: &Limits) -> Result<
     ensures short { IfOk result (λ journal. length journal < limits.now.events → IsComplete (P.program program.now) journal) }
 {
     let bodies = play_bodies(alloc, program, limits.events)?;
-    let journal = program.journal(alloc, bodies)?;
-    Ok(journal)
+    program.journal(alloc, bodies)
 }

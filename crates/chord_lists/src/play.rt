@@ -7,14 +7,14 @@ ghost use Rattle.chord_base.specs.declared.event.Entry.{Entry};
 ghost use Rattle.chord_base.specs.declared.value.Value.{Value};
 ghost use Rattle.chord_lists.specs.Engine.{IsPlayed, WentFrom};
 ghost use Rattle.chord_lists.specs.Small.{small_program};
-ghost use Rattle.chord_lists.specs.Stages.{Stands};
+ghost use Rattle.chord_lists.specs.Stages.{Carries, Stands};
 ghost use Rattle.chord_lists.specs.States.{PendingPut, Playing};
 
-use crate::bag::{Firing, Waiting};
 use crate::engine::{Playable, Turn, play};
 use crate::small::{Small, SmallLine};
 use chord_base::event::{End, Entry, Limits, What};
 use chord_base::journal::Journal;
+use chord_base::members::Members;
 use chord_base::text::Text;
 use chord_base::value::{Object, Value, Values};
 use std::alloc::{AllocError, Global};
@@ -63,7 +63,7 @@ fn one_text(alloc: Global, text: &Text) -> Result<Values, AllocError>
     Ok(Values::of_items(values))
 }
 
-/// The text that the body of the chord was given.
+/// The one text of these values.
 fn the_text(alloc: Global, arguments: &Values) -> Result<Text, AllocError>
     requires { (t : List ℕ) × (arguments.now ≡ Value.Text t ∷ []) }
     ensures { IfOk result (λ t. arguments.now ≡ Value.Text t ∷ []) }
@@ -88,6 +88,21 @@ impl SmallBodies {
         Ok(())
     }
 
+    /// The text that the message of this number carries.
+    fn text_of(&self, alloc: Global, number: u32) -> Result<Text, AllocError>
+        requires { (t : List ℕ) × Carries self.now.entries.items number t }
+        ensures { IfOk result (λ t. Carries self.now.entries.items number t) }
+    {
+        match self.entries.get(number as usize) {
+            None => unreachable!(),
+            Some(entry) => match &entry.what {
+                What::Sent(_, _, arguments) => the_text(alloc, arguments),
+                What::Called(_, _, arguments) => the_text(alloc, arguments),
+                _ => unreachable!(),
+            },
+        }
+    }
+
     /// `Main` does a line, or ends after the last.
     fn do_line(
         &mut self,
@@ -106,14 +121,9 @@ impl SmallBodies {
                 Ok(Turn::Plain)
             }
             Some(SmallLine::Put(text)) => {
-                let kept = one_text(alloc, text)?;
-                let sent = one_text(alloc, text)?;
-                self.make(number, 0, What::Sent(FIRST, 1, kept), Stage::Does(at + 1))?;
-                Ok(Turn::Message(Waiting {
-                    object: FIRST,
-                    method: 1,
-                    arguments: sent,
-                }))
+                let sent = What::Sent(FIRST, 1, one_text(alloc, text)?);
+                self.make(number, 0, sent, Stage::Does(at + 1))?;
+                Ok(Turn::Message(FIRST, 1))
             }
             Some(SmallLine::Print(text)) => {
                 let printed = text.copied(alloc)?;
@@ -124,11 +134,7 @@ impl SmallBodies {
                 let none = Values::of_items(Vec::new(alloc));
                 let call = What::Called(FIRST, 0, none);
                 self.make(number, 0, call, Stage::Waits(at + 1))?;
-                Ok(Turn::Message(Waiting {
-                    object: FIRST,
-                    method: 0,
-                    arguments: Values::of_items(Vec::new(alloc)),
-                }))
+                Ok(Turn::Message(FIRST, 0))
             }
         }
     }
@@ -189,14 +195,18 @@ impl Playable for Small {
         number: u32,
         chord: u16,
         object: Object,
-        firing: Firing,
+        members: Members,
     ) -> Result<(), AllocError> {
-        let text = the_text(alloc, &firing.arguments)?;
         let next = match &bodies.stage {
             Stage::Waits(next) => *next,
             _ => unreachable!(),
         };
-        let fired = What::Fired(chord, object, firing.members, firing.arguments);
+        let put = match members.items().last() {
+            Some(put) => *put,
+            None => unreachable!(),
+        };
+        let text = bodies.text_of(alloc, put)?;
+        let fired = What::Fired(chord, object, members, one_text(alloc, &text)?);
         bodies.make(number, number, fired, Stage::Gives(next, number, text))?;
         Ok(())
     }

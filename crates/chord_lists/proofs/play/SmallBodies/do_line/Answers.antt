@@ -14,11 +14,9 @@ returns-in_ok-make-in-Some-Print c =
 pub returns-in_ok-make-in-Some-Put : goal.returns-in_ok-make-in-Some-Put
 returns-in_ok-make-in-Some-Put c =
     λ h played holds stack s.
-    rw c.in_ok-sent-in-Some-Put.ensures
-    (put c.args.lines.now c.make-in-Some-Put.new.self c.args.number c.args.at c.in-Some-Put.text stack h played c.requires.room (let l = c.in-Some-Put.ensures.lookup in lines_at c.args.lines.now c.args.at c.in-Some-Put.field-0.now _ l.3.0 l.1 c.in-Some-Put.field-0-is) s (rw (holds, c.in_ok-kept-in-Some-Put.ensures) at c.in_ok-make-in-Some-Put.ensures.entry) c.in_ok-make-in-Some-Put.ensures.stage)
+    put c.args.lines.now c.make-in-Some-Put.new.self c.args.number c.args.at c.in-Some-Put.text stack h played c.requires.room (let l = c.in-Some-Put.ensures.lookup in lines_at c.args.lines.now c.args.at c.in-Some-Put.field-0.now _ l.3.0 l.1 c.in-Some-Put.field-0-is) s (rw (holds, c.in_ok-one_text-in-Some-Put.ensures) at c.in_ok-make-in-Some-Put.ensures.entry) c.in_ok-make-in-Some-Put.ensures.stage
 
 pub returns-in_ok-make-in-Some-PrintGet : goal.returns-in_ok-make-in-Some-PrintGet
 returns-in_ok-make-in-Some-PrintGet c =
     λ h played holds stack s.
-    rw (c.of_items.ensures, c.new-in-Some-PrintGet.ensures.items)
-    (called c.args.lines.now c.make-in-Some-PrintGet.new.self c.args.number c.args.at stack h played c.requires.room (let l = c.in-Some-PrintGet.ensures.lookup in lines_at c.args.lines.now c.args.at c.in-Some-PrintGet.field-0.now _ l.3.0 l.1 c.in-Some-PrintGet.field-0-is) s (rw (holds, c.of_items-none.ensures, c.new.ensures.items) at c.in_ok-make-in-Some-PrintGet.ensures.entry) c.in_ok-make-in-Some-PrintGet.ensures.stage)
+    called c.args.lines.now c.make-in-Some-PrintGet.new.self c.args.number c.args.at stack h played c.requires.room (let l = c.in-Some-PrintGet.ensures.lookup in lines_at c.args.lines.now c.args.at c.in-Some-PrintGet.field-0.now _ l.3.0 l.1 c.in-Some-PrintGet.field-0-is) s (rw (holds, c.of_items-none.ensures, c.new.ensures.items) at c.in_ok-make-in-Some-PrintGet.ensures.entry) c.in_ok-make-in-Some-PrintGet.ensures.stage
