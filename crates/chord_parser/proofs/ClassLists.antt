@@ -37,7 +37,7 @@ use Rattle.chord_parser.specs.Samples.{sample}
 use Rattle.chord_parser.proofs.Single.{bare_word}
 use Rattle.chord_parser.proofs.Reading.{step, ends, measured}
 use Rattle.chord_parser.proofs.Chains.{told_size}
-use Rattle.chord_parser.proofs.Steps.{modifiers_modifier, modifiers_modifier_at_public, modifiers_modifier_at_private, modifiers_modifier_at_protected, modifiers_modifier_at_virtual, modifiers_modifier_at_override, modifiers_modifier_at_static, modifier_public, modifier_public_at, modifier_private, modifier_private_at, modifier_protected, modifier_protected_at, modifier_virtual, modifier_virtual_at, modifier_override, modifier_override_at, modifier_static, modifier_static_at, plain_async, plain_async_at, plain_void, plain_void_at, plain_int, plain_int_at, plain_bool, plain_bool_at, plain_string, plain_string_at, result_plain, result_plain_at_async, result_plain_at_void, result_plain_at_int, result_plain_at_bool, result_plain_at_string, rest_plain, rest_plain_at_async, rest_plain_at_void, rest_plain_at_int, rest_plain_at_bool, rest_plain_at_string}
+use Rattle.chord_parser.proofs.MemberSteps.{modifiers_modifier, modifiers_modifier_at_public, modifiers_modifier_at_private, modifiers_modifier_at_protected, modifiers_modifier_at_virtual, modifiers_modifier_at_override, modifiers_modifier_at_static, modifier_public, modifier_public_at, modifier_private, modifier_private_at, modifier_protected, modifier_protected_at, modifier_virtual, modifier_virtual_at, modifier_override, modifier_override_at, modifier_static, modifier_static_at, plain_async, plain_async_at, plain_void, plain_void_at, plain_int, plain_int_at, plain_bool, plain_bool_at, plain_string, plain_string_at, result_plain, result_plain_at_async, result_plain_at_void, result_plain_at_int, result_plain_at_bool, result_plain_at_string, rest_plain, rest_plain_at_async, rest_plain_at_void, rest_plain_at_int, rest_plain_at_bool, rest_plain_at_string}
 
 -- a list that grows at its end
 module _ {A : Type 0} (f : A → Node → Node) where

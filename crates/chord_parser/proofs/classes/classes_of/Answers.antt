@@ -19,7 +19,7 @@ use Rattle.chord_parser.specs.Runs.{Reads}
 use Rattle.chord_parser.proofs.Reading.{step, ends, opened}
 use Rattle.chord_parser.proofs.Chains.{stops, stops_in, exits, begins, enters, then, renamed, as_node, shorter, stuck_at, pushed}
 use Rattle.chord_parser.proofs.ClassLists.{push, push_seen, push_seen_after, first_seen, one_seen, one_after, modifier_way, part_way, formal_way, header_way, member_way, class_way, using_way, all_modifiers, all_parts, formal_list, formals_first, formals_push, headers_all, all_members, classes_all, all_usings, modifiers_begun, modifier_begun, modifier_read, no_modifier, plain_begun, result_begun, rest_begun, plain_read, no_plain, plain_result, plain_chord, class_chord, chord_headed, member_of, program_of, shorter_by, sized_member, sized_class, sized_using, classes_end, at_end_of}
-use Rattle.chord_parser.proofs.Steps.{classes_class, classes_class_at, classes_none}
+use Rattle.chord_parser.proofs.ClassSteps.{classes_class, classes_class_at, classes_none}
 use Rattle.chord_parser.proofs.classes.classes_of.Goals as goal
 
 pub each-init : goal.each-init

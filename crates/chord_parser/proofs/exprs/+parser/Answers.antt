@@ -12,7 +12,8 @@ use Rattle.chord_parser.specs.Reading.{StopsAs, IsLed, IsOther, one_link, before
 use Rattle.chord_parser.specs.Runs.{Reads}
 use Rattle.chord_parser.proofs.Reading.{step, ends, opened}
 use Rattle.chord_parser.proofs.Chains.{stops, stops_in, exits, begins, enters, then, renamed, as_node, ok_map, level_begun, no_link, begun_link, links_all, links_push, links_led, dots_all, dots_push, opt_push, opt_first, opt_all, shorter, shorter_dot, stuck_at, operator_read, pushed, joined, joined_rank, operator_read_at, none_at, other_at, end_other, other_told}
-use Rattle.chord_parser.proofs.Steps.{actuals_open, actuals_open_at, dot_dot, dot_dot_at, dots_dot, dots_dot_at, dots_none, dots_none_at, expr_and, expr_and_at, more_exprs_comma, more_exprs_comma_at, more_exprs_none, more_exprs_none_at, optional_actuals_actuals, optional_actuals_actuals_at, optional_actuals_none, optional_actuals_none_at, optional_exprs_expr, optional_exprs_expr_at, optional_exprs_none, optional_exprs_none_at, primary_start, primary_start_at, start_name, start_name_at, start_new, start_new_at, start_open, start_open_at, unary_minus, unary_minus_at, unary_not, unary_not_at, unary_primary, unary_primary_at}
+use Rattle.chord_parser.proofs.ChainSteps.{expr_and, expr_and_at}
+use Rattle.chord_parser.proofs.ExprSteps.{actuals_open, actuals_open_at, dot_dot, dot_dot_at, dots_dot, dots_dot_at, dots_none, dots_none_at, more_exprs_comma, more_exprs_comma_at, more_exprs_none, more_exprs_none_at, optional_actuals_actuals, optional_actuals_actuals_at, optional_actuals_none, optional_actuals_none_at, optional_exprs_expr, optional_exprs_expr_at, optional_exprs_none, optional_exprs_none_at, primary_start, primary_start_at, start_name, start_name_at, start_new, start_new_at, start_open, start_open_at, unary_minus, unary_minus_at, unary_not, unary_not_at, unary_primary, unary_primary_at}
 use Rattle.chord_parser.proofs.exprs.+parser.Goals as goal
 
 pub actuals-returns-in_err-at-clause-err : goal.actuals-returns-in_err-at-clause-err

@@ -12,7 +12,7 @@ use Rattle.chord_parser.specs.Reading.{StopsAs, IsLed, IsOther, one_link, before
 use Rattle.chord_parser.specs.Runs.{Reads}
 use Rattle.chord_parser.proofs.Reading.{step, ends, opened}
 use Rattle.chord_parser.proofs.Chains.{stops, stops_in, exits, begins, enters, then, renamed, as_node, ok_map, level_begun, no_link, begun_link, links_all, links_push, links_led, dots_all, dots_push, opt_push, opt_first, opt_all, shorter, shorter_dot, stuck_at, operator_read, pushed, joined, joined_rank, operator_read_at, none_at, other_at, end_other, other_told}
-use Rattle.chord_parser.proofs.Steps.{start_false, start_false_at, start_literal, start_literal_at, start_number, start_number_at, start_stuck, start_this, start_this_at, start_true, start_true_at}
+use Rattle.chord_parser.proofs.ExprSteps.{start_false, start_false_at, start_literal, start_literal_at, start_number, start_number_at, start_stuck, start_this, start_this_at, start_true, start_true_at}
 use Rattle.chord_parser.proofs.exprs.start_word.Goals as goal
 
 pub returns-in_err-at-clause-err : goal.returns-in_err-at-clause-err

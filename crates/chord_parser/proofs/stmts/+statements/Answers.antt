@@ -12,7 +12,7 @@ use Rattle.chord_parser.specs.Reading.{StopsAs, IsLed, IsOther, one_link, before
 use Rattle.chord_parser.specs.Runs.{Reads}
 use Rattle.chord_parser.proofs.Reading.{step, ends, opened}
 use Rattle.chord_parser.proofs.Chains.{stops, stops_in, exits, begins, enters, then, renamed, as_node, ok_map, level_begun, no_link, begun_link, links_all, links_push, links_led, dots_all, dots_push, opt_push, opt_first, opt_all, shorter, shorter_dot, stuck_at, operator_read, pushed, joined, joined_rank, operator_read_at, none_at, other_at, end_other, other_told}
-use Rattle.chord_parser.proofs.Steps.{block_open_brace, block_open_brace_at, item_other, item_other_at, items_item, items_item_at, items_none, items_none_at, optional_else_else, optional_else_else_at, optional_else_none, optional_else_none_at, other_block, other_block_at, other_if, other_if_at, other_semicolon, other_semicolon_at, other_stuck, other_while, other_while_at, stmt_name, stmt_name_at, stmt_other, stmt_other_at}
+use Rattle.chord_parser.proofs.StmtSteps.{block_open_brace, block_open_brace_at, item_other, item_other_at, items_item, items_item_at, items_none, items_none_at, optional_else_else, optional_else_else_at, optional_else_none, optional_else_none_at, other_block, other_block_at, other_if, other_if_at, other_semicolon, other_semicolon_at, other_stuck, other_while, other_while_at, stmt_name, stmt_name_at, stmt_other, stmt_other_at}
 use Rattle.chord_tree.specs.Tree.{items}
 use Rattle.chord_tree.specs.Forms.{node_tail, node_other, node_stmt, node_block, node_items, node_item}
 use Rattle.chord_tree.specs.ViewStmts.{see_item, see_stmt, see_block}

@@ -12,7 +12,7 @@ use Rattle.chord_parser.specs.Reading.{StopsAs, IsLed, IsOther, one_link, before
 use Rattle.chord_parser.specs.Runs.{Reads}
 use Rattle.chord_parser.proofs.Reading.{step, ends, opened}
 use Rattle.chord_parser.proofs.Chains.{stops, stops_in, exits, begins, enters, then, renamed, as_node, ok_map, level_begun, no_link, begun_link, links_all, links_push, links_led, dots_all, dots_push, opt_push, opt_first, opt_all, shorter, shorter_dot, stuck_at, operator_read, pushed, joined, joined_rank, operator_read_at, none_at, other_at, end_other, other_told}
-use Rattle.chord_parser.proofs.Steps.{other_this, other_this_at}
+use Rattle.chord_parser.proofs.StmtSteps.{other_this, other_this_at}
 use Rattle.chord_tree.specs.Tree.{items}
 use Rattle.chord_tree.specs.Forms.{node_tail, node_other, node_stmt, node_block, node_items, node_item}
 use Rattle.chord_tree.specs.ViewStmts.{see_item, see_stmt, see_block}
