@@ -1,8 +1,8 @@
 -- Tokens are refused at one place, or found too deep at one, and not both.
-use Rattle.std.proofs.Common.{◌≡◌, ℕ, zero, suc, ◌+◌, ◌<◌, ◌≤◌, List, [], ◌∷◌, ◌++◌, length, refl, sym, ap, subst, ◌∙◌, arith, append_assoc, ◌⊎◌, inl, inr}
+use Rattle.std.proofs.Common.{◌≡◌, ℕ, suc, ◌+◌, ◌<◌, ◌≤◌, List, [], ◌∷◌, ◌++◌, length, refl, sym, ap, subst, ◌∙◌, arith, append_assoc, ◌⊎◌, inl, inr}
 use Rattle.std.proofs.lemmas.List.{length-append}
 use Rattle.chord_lexer.specs.declared.token.Kind.{Kind}
-use Rattle.chord_tree.specs.Derivation.{Spelled, kinds_of, next, Low, Derives}
+use Rattle.chord_tree.specs.Derivation.{Spelled, kinds_of, Low, Derives}
 use Rattle.chord_tree.proofs.OneTree.{start_legal}
 use Rattle.chord_tree.specs.Tree.{ProgramTree}
 use Rattle.chord_parser.specs.declared.parser.ParseFault.{ParseFault}

@@ -1,9 +1,9 @@
 -- The verdict of a run is exact.
-use Rattle.std.proofs.Common.{◌≡◌, ℕ, zero, suc, ◌+◌, ◌<◌, ◌≤◌, ◌≢◌, Bool, true, false, not, ◌&&◌, ◌||◌, List, [], ◌∷◌, ◌++◌, length, get_or, refl, sym, ap, subst, ◌∙◌, arith, inl, inr, eq-eqb, lit<, append-nil}
-use Rattle.std.specs.Prelude.{nat_eq, nat_lt}
-use Rattle.std.proofs.lemmas.Bool.{eqb-true, ltb-true}
+use Rattle.std.proofs.Common.{◌≡◌, ℕ, suc, ◌<◌, ◌≤◌, true, List, [], ◌∷◌, ◌++◌, length, refl, sym, ap, subst, ◌∙◌, arith, append-nil}
+use Rattle.std.specs.Prelude.{nat_lt}
+use Rattle.std.proofs.lemmas.Bool.{ltb-true}
 use Rattle.chord_lexer.specs.declared.token.Kind.{Kind}
-use Rattle.chord_tree.specs.Part.{Part, Terminal, Symbol}
+use Rattle.chord_tree.specs.Part.{Terminal, Symbol}
 use Rattle.chord_tree.specs.Grammar.{rule_count, symbol_count, class_count}
 use Rattle.chord_tree.specs.Classes.{class_of}
 use Rattle.chord_tree.specs.Derivation.{Spelled, Want, kinds_of, next, head_of, parts_of, inside, placed, allowed, Derives, done, word, rule, Low}
@@ -11,7 +11,7 @@ use Rattle.chord_parser.specs.Runs.{Verdict, Fine, Wrong, High, Runs, fine, extr
 use Rattle.chord_parser.specs.Exact.{Begins, IsWrong, IsHigh}
 use Rattle.chord_tree.proofs.Ahead.{choice, and_left, and_right, small, next_small, choice_fits}
 use Rattle.chord_tree.proofs.LookAhead.{starts, Legal, legal_rule, chosen}
-use Rattle.chord_parser.proofs.Finish.{tame, known, all_calm, calm_tame, tame_placed, rule_tame, finished}
+use Rattle.chord_parser.proofs.Finish.{tame, known, calm_tame, tame_placed, rule_tame, finished}
 
 -- the tokens begin with those of front, and then stands one of class c, or nothing where c is class_count
 abbrev pub BeginsBefore : List Kind → List Kind → ℕ → Type 0

@@ -1,5 +1,5 @@
 -- Lists of items, and the kinds of statements.
-use Rattle.std.proofs.Common.{◌≡◌, ℕ, zero, suc, ◌+◌, ◌-◌, ◌<◌, ◌≤◌, List, [], ◌∷◌, ◌++◌, length, map, refl, sym, ap, subst, ◌∙◌, arith}
+use Rattle.std.proofs.Common.{◌≡◌, ℕ, ◌+◌, ◌<◌, List, [], ◌∷◌, ◌++◌, length, map, refl, sym, ap, subst, ◌∙◌, arith}
 use Rattle.std.proofs.lemmas.List.{map-append}
 use Rattle.chord_lexer.specs.declared.token.Kind.{Kind}
 use Rattle.chord_lexer.specs.declared.token.Kind.TheVariants as kinds
@@ -9,14 +9,14 @@ use Rattle.chord_tree.specs.declared.names.BasicType.{BasicType}
 use Rattle.chord_tree.specs.declared.names.BasicType.TheVariants as basics
 use Rattle.chord_tree.specs.declared.names.ValueType.TheVariants as types
 use Rattle.chord_tree.specs.declared.stmts.Item.{Item}
-use Rattle.chord_tree.specs.Part.{Part, Terminal, Symbol, number_of}
+use Rattle.chord_tree.specs.Part.{Part, Terminal, number_of}
 use Rattle.chord_tree.specs.Symbols as grammar
 use Rattle.chord_tree.specs.Classes.{word_part}
 use Rattle.chord_tree.specs.Derivation.{next}
-use Rattle.chord_tree.specs.Node.{Node, Nodes, End, ◌▸◌, Leaf, Made, size}
+use Rattle.chord_tree.specs.Node.{Node, End, ◌▸◌, Leaf, Made, size}
 use Rattle.chord_tree.specs.Program.{told}
 use Rattle.chord_tree.specs.Shape.{name}
-use Rattle.chord_tree.specs.Tree.{StmtTree, ItemTree, ItemTrees, Braces, MakeBlock, Nothing, IfThen, IfElse, Repeats, Returns, Gives, CallsThis, Makes, Assigns, Calls, CallsThrough, Declares, Does, NoItems, MoreItems, items}
+use Rattle.chord_tree.specs.Tree.{StmtTree, ItemTree, ItemTrees, Braces, MakeBlock, Nothing, IfThen, IfElse, Repeats, Returns, Gives, CallsThis, Makes, Assigns, Calls, CallsThrough, Declares, Does, MoreItems, items}
 use Rattle.chord_tree.specs.Forms.{node_tail, node_other, node_items, node_item, as_stmt, as_item, basic_word, semicolon}
 use Rattle.chord_tree.specs.ViewStmts.{see_item}
 use Rattle.chord_parser.specs.Runs.{Reads, Onward}

@@ -1,12 +1,12 @@
 -- The answer over a whole list of tokens.
-use Rattle.std.proofs.Common.{◌≡◌, ℕ, zero, suc, ◌+◌, ◌-◌, ◌<◌, ◌≤◌, List, [], ◌∷◌, ◌++◌, length, refl, sym, ap, subst, ◌∙◌, arith, Bool, true, Result, Ok, Err, IfOk, IfErr, append-nil}
+use Rattle.std.proofs.Common.{◌≡◌, ℕ, ◌+◌, ◌-◌, ◌≤◌, List, [], ◌∷◌, ◌++◌, length, refl, sym, ap, subst, ◌∙◌, arith, true, append-nil}
 use Rattle.std.proofs.lemmas.List.{length-append}
 use Rattle.chord_lexer.specs.declared.token.Kind.{Kind}
 use Rattle.chord_lexer.specs.declared.token.Token.{Token}
 use Rattle.chord_tree.specs.Symbols.{Program}
 use Rattle.chord_tree.specs.Grammar.{symbol_count}
-use Rattle.chord_tree.specs.Derivation.{kinds_of, next, Low, Derives, done}
-use Rattle.chord_tree.specs.Node.{Node, spell, IsNumbered}
+use Rattle.chord_tree.specs.Derivation.{kinds_of, done}
+use Rattle.chord_tree.specs.Node.{spell, IsNumbered}
 use Rattle.chord_tree.specs.Tree.{ProgramTree}
 use Rattle.chord_tree.specs.Members.{node_program}
 use Rattle.chord_tree.specs.Program.{IsProgram, spelling, told}
@@ -19,7 +19,7 @@ use Rattle.chord_parser.specs.declared.parser.ParseFault.TheVariants as answers
 use Rattle.chord_parser.specs.Answers.{start, IsLow, IsAnswer, IsStop}
 use Rattle.chord_parser.specs.Exact.{Begins, IsWrong, IsHigh}
 use Rattle.chord_parser.specs.Reading.{StopsAs}
-use Rattle.chord_parser.specs.Runs.{Runs, Reads, Verdict, Wrong, High}
+use Rattle.chord_parser.specs.Runs.{Runs, Reads, Verdict}
 use Rattle.chord_parser.proofs.Finish.{tame}
 use Rattle.chord_parser.proofs.Outcomes.{Outcome, outcome, by_kinds}
 use Rattle.chord_parser.proofs.Reading.{spells, low, numbered}
