@@ -5,6 +5,7 @@
     tools/grammar.py -v         prints the numbers of symbols, classes and productions
 """
 import os
+import re
 import sys
 
 HERE = os.path.dirname(os.path.abspath(__file__))
@@ -14,6 +15,28 @@ COUNTED = ["Item", "Stmt", "Expr", "Unary"]
 UNUSED = ["DO", "UNUSED", "INCREMENT", "DECREMENT"]
 # symbols that take their last right side at each class at which no right side fits, so that the error comes where that one stops; so does each symbol of one right side
 EAGER = "Classes Members Optional_formals Items Item After_name Stmt Optional_expr Optional_exprs Unary".split()
+
+# the files of the parser's first steps: their symbols, and what these are
+STEPS = {
+    "ClassSteps": ("using lines and classes", "Program Usings Using Name_parts Classes Class Optional_public Optional_base Members"),
+    "MemberSteps": ("members, headers and parameters", "Member Modifiers Modifier Rest After Headers Header Result Plain Formals Optional_formals More_formals Formal Value_type"),
+    "StmtSteps": ("blocks and statements", "Block Items Item After_name Stmt Tail Other Optional_else Optional_expr"),
+    "ChainSteps": ("chains of operators", "Expr More_or And More_and Equal More_equal Order More_order Sum More_sum Product More_product"),
+    "ExprSteps": ("operands and calls", "Unary Primary Start Optional_actuals Dot Dots Actuals Optional_exprs More_exprs"),
+}
+STEP_IMPORTS = [
+    ("Rattle.std.proofs.Common", "◌≡◌ ℕ suc ◌+◌ ◌<◌ ◌≢◌ List [] ◌∷◌ ◌||◌ refl ap lit< eqb-true"),
+    ("Rattle.std.specs.Prelude", "nat_eq"),
+    ("Rattle.chord_lexer.specs.declared.token.Kind", "Kind"),
+    ("Rattle.chord_tree.specs.Part", "Terminal Symbol"),
+    ("Rattle.chord_tree.specs.Grammar", "productions counted rule_count class_count"),
+    ("Rattle.chord_tree.specs.Derivation", "next parts_of inside"),
+    ("Rattle.chord_tree.specs.Node", "Made"),
+    ("Rattle.chord_tree.proofs.Table", "choices"),
+    ("Rattle.chord_tree.proofs.Ahead", "choice below else_rule"),
+    ("Rattle.chord_parser.specs.Runs", "Onward"),
+    ("Rattle.chord_parser.proofs.Reading", "begun"),
+]
 
 
 class Grammar:
@@ -112,9 +135,9 @@ class Grammar:
             if not side:
                 self.default.setdefault(head, i)
         for head in self.heads:
-            own = [i for i, (h, _) in enumerate(self.rules) if h == head]
+            own = self.sides(head)
             if head in EAGER or len(own) == 1:
-                self.default[head] = own[-1]
+                self.default[head] = own[-1][0]
         for head, i in self.default.items():
             for c in range(self.end + 1):
                 if self.choice[head][c] == none and not (i == self.no_else and c == otherwise):
@@ -128,6 +151,10 @@ class Grammar:
                 if head not in self.weight and all(self.is_class(p) or p in self.weight for p in side):
                     self.weight[head] = 1 + sum(1 if self.is_class(p) else self.weight[p] for p in side)
                     self.finish[head] = i
+
+    def sides(self, head):
+        """The right sides of a symbol, each with its number."""
+        return [(i, side) for i, (other, side) in enumerate(self.rules) if other == head]
 
     def rule_name(self, i):
         head, side = self.rules[i]
@@ -196,51 +223,63 @@ def tables(g):
     return o
 
 
-def steps(g):
-    heads, end, total = g.heads, g.end, len(g.rules)
-    o = [f"""-- How each symbol begins, by each of its productions, and which production it has at a class. {MADE}
-use Rattle.std.proofs.Common.{{◌≡◌, ℕ, suc, ◌+◌, ◌<◌, ◌≢◌, List, [], ◌∷◌, Bool, true, ◌||◌, refl, sym, ap, subst, ◌∙◌, lit<, inl, inr, eqb-true}}
-use Rattle.std.specs.Prelude.{{nat_eq}}
-use Rattle.chord_lexer.specs.declared.token.Kind.{{Kind}}
-use Rattle.chord_tree.specs.Part.{{Part, Terminal, Symbol}}
-use Rattle.chord_tree.specs.Grammar.{{productions, counted, rule_count, class_count}}
-use Rattle.chord_tree.specs.Derivation.{{next, parts_of, inside}}
-use Rattle.chord_tree.specs.Node.{{Node, Made}}
-use Rattle.chord_tree.proofs.Table.{{choices}}
-use Rattle.chord_tree.proofs.Ahead.{{choice, below, next_small, all_below, else_rule}}
-use Rattle.chord_parser.specs.Runs.{{Onward}}
-use Rattle.chord_parser.proofs.Reading.{{begun}}
-"""]
-    part = lambda p: f"Terminal {g.number[p]}" if g.is_class(p) else f"Symbol {g.symbol[p]}"
+def used(text, module, names):
+    """The import of those names that the text uses, as a line, or none."""
+    words = set(re.findall(r"[^\s(){},]+", text))
+    names = [name for name in names if name.replace("◌", "") in words]
+    return [f"use {module}.{{{', '.join(names)}}}"] if names else []
 
-    def by_table(name, x, excluded, value):
-        """At each class but the excluded ones the choice of symbol x is the value, by one computation."""
-        tests = "".join(f"nat_eq x {b} || (" for b in excluded) + f"nat_eq (choice {x} x) {value}" + ")" * len(excluded)
-        proof = f"below {end + 1} (λ x. {tests}) refl c l"
-        for b in excluded:
-            proof = f"else_rule c {b} _ n{b} ({proof})"
-        o.extend([f"pub {name} : (c : ℕ) → c < suc class_count" + "".join(f" → c ≢ {b}" for b in excluded) + f" → choice {x} c ≡ {value}",
-                  "unfolding choice choices class_count rule_count",
-                  f"{name} c l" + "".join(f" n{b}" for b in excluded) + f" = eqb-true _ _ ({proof})", ""])
-    for i, (head, side) in enumerate(g.rules):
-        x = g.symbol[head]
-        depth = "d + 1" if head in COUNTED else "d"
-        o += [f"pub {g.rule_name(i)} : {{all d : ℕ}} {{ks : List Kind}} → choice {x} (next ks) ≡ {i} → Onward all (Symbol {x}) d ks ({''.join(part(p) + ' ∷ ' for p in side)}[]) ({depth}) ks (Made (Symbol {x}))",
+
+def begins(g, head):
+    """How a symbol begins by each of its productions."""
+    o = []
+    x = g.symbol[head]
+    depth = "d + 1" if head in COUNTED else "d"
+    part = lambda p: f"Terminal {g.number[p]}" if g.is_class(p) else f"Symbol {g.symbol[p]}"
+    for i, side in g.sides(head):
+        parts = "".join(part(p) + " ∷ " for p in side) + "[]"
+        o += [f"pub {g.rule_name(i)} : {{all d : ℕ}} {{ks : List Kind}} → choice {x} (next ks) ≡ {i} → Onward all (Symbol {x}) d ks ({parts}) ({depth}) ks (Made (Symbol {x}))",
               "unfolding parts_of inside productions counted rule_count", f"{g.rule_name(i)} e = begun {x} {i} e (lit< tt)", ""]
-    for i, (head, side) in enumerate(g.rules):
-        x = g.symbol[head]
-        good = [c for c in range(end + 1) if g.choice[head][c] == i]
+    return o
+
+
+def by_table(g, name, x, excluded, value):
+    """At each class but the excluded ones the choice of symbol x is the value, by one computation."""
+    tests = "".join(f"nat_eq x {b} || (" for b in excluded) + f"nat_eq (choice {x} x) {value}" + ")" * len(excluded)
+    proof = f"below {g.end + 1} (λ x. {tests}) refl c l"
+    for b in excluded:
+        proof = f"else_rule c {b} _ n{b} ({proof})"
+    return [f"pub {name} : (c : ℕ) → c < suc class_count" + "".join(f" → c ≢ {b}" for b in excluded) + f" → choice {x} c ≡ {value}",
+            "unfolding choice choices class_count rule_count",
+            f"{name} c l" + "".join(f" n{b}" for b in excluded) + f" = eqb-true _ _ ({proof})", ""]
+
+
+def chosen(g, head):
+    """Which production a symbol has at a class, or that it has none."""
+    o = []
+    x = g.symbol[head]
+    others = lambda value: [c for c in range(g.end + 1) if g.choice[head][c] != value]
+    for i, _ in g.sides(head):
         if g.default.get(head) == i:
-            by_table(g.rule_name(i) + "_at", x, [c for c in range(end + 1) if g.choice[head][c] != i], i)
+            o += by_table(g, g.rule_name(i) + "_at", x, others(i), i)
             continue
-        good = [c for c in good if c != end]
+        good = [c for c in range(g.end) if g.choice[head][c] == i]
         for c in good:
             name = g.rule_name(i) + ("_at" if len(good) == 1 else f"_at_{g.classes[c].lower()}")
             o += [f"pub {name} : (c : ℕ) → c ≡ {c} → choice {x} c ≡ {i}", "unfolding choice choices", f"{name} c e = ap (choice {x}) e", ""]
-    for head in heads:
-        if head not in g.default:
-            by_table(f"{head.lower()}_stuck", g.symbol[head], [c for c in range(end + 1) if g.choice[head][c] != total], "rule_count")
-    return o[:-1]
+    if head not in g.default:
+        o += by_table(g, f"{head.lower()}_stuck", x, others(len(g.rules)), "rule_count")
+    return o
+
+
+def steps(g, meaning, heads):
+    """The lemmas by which the parser's functions for these symbols begin."""
+    body = [line for lemmas in (begins, chosen) for head in heads for line in lemmas(g, head)][:-1]
+    text = "\n".join(body)
+    o = [f"-- How {meaning} begin, by each production, and which production each of these symbols has at a class. {MADE}"]
+    for module, names in STEP_IMPORTS:
+        o += used(text, module, names.split())
+    return o + [""] + body
 
 
 def samples(g):
@@ -275,12 +314,15 @@ def main():
             print(i, head, "default", g.default.get(head))
         print("; ".join(f"{i} {name}" for i, name in enumerate(g.classes)))
         return
+    if sorted(g.heads) != sorted(head for _, heads in STEPS.values() for head in heads.split()):
+        sys.exit("each symbol of the grammar stands in one file of STEPS")
     root = sys.argv[1] if len(sys.argv) > 1 else os.path.dirname(HERE)
     write(root, "crates/chord_tree/specs/Symbols.antt", symbols(g))
     write(root, "crates/chord_tree/specs/Grammar.antt", productions(g))
     write(root, "crates/chord_tree/proofs/Table.antt", tables(g))
     write(root, "crates/chord_parser/specs/Samples.antt", samples(g))
-    write(root, "crates/chord_parser/proofs/Steps.antt", steps(g))
+    for name, (meaning, heads) in STEPS.items():
+        write(root, f"crates/chord_parser/proofs/{name}.antt", steps(g, meaning, heads.split()))
     write(root, "crates/chord_parser/src/class.rt", classes(g))
 
 

@@ -1,6 +1,6 @@
 -- Levels of operators, and lists that are read in a loop.
-use Rattle.std.proofs.Common.{◌≡◌, ℕ, zero, suc, ◌+◌, ◌-◌, ◌<◌, ◌≤◌, ◌≢◌, List, [], ◌∷◌, ◌++◌, length, map, refl, sym, ap, subst, ◌∙◌, arith, lit<, Bool, true, false, cond, inl, inr, ◌⊎◌, Result, Ok, Err, IsErrAnd, IfErr, IfOk, length-append}
-use Rattle.std.specs.Prelude.{nat_lt, get_or}
+use Rattle.std.proofs.Common.{◌≡◌, ℕ, zero, suc, ◌-◌, ◌<◌, ◌≤◌, ◌≢◌, List, [], ◌∷◌, ◌++◌, length, map, refl, sym, ap, subst, ◌∙◌, arith, lit<, false, cond, Result, Ok, Err, IsErrAnd, IfErr, IfOk, length-append}
+use Rattle.std.specs.Prelude.{nat_lt}
 use Rattle.std.proofs.lemmas.Bool.{le-ltb}
 use Rattle.std.proofs.lemmas.List.{map-append}
 use Rattle.chord_lexer.specs.declared.token.Kind.TheVariants as kinds
@@ -13,26 +13,26 @@ use Rattle.chord_tree.specs.declared.exprs.Operator.{Operator}
 use Rattle.chord_tree.specs.declared.exprs.Link.{Link}
 use Rattle.chord_tree.specs.declared.exprs.Dot.{Dot}
 use Rattle.chord_tree.specs.declared.exprs.Expr.{Expr}
-use Rattle.chord_tree.specs.Part.{Part, Terminal, Symbol, number_of}
+use Rattle.chord_tree.specs.Part.{Part, Terminal, Symbol}
 use Rattle.chord_tree.specs.Grammar.{class_count, rule_count}
-use Rattle.chord_tree.specs.Derivation.{has, next, Want, placed}
-use Rattle.chord_parser.specs.Runs.{Verdict, Wrong, High, Runs, stuck, Reads, ReadAll, none, more, Onward}
+use Rattle.chord_tree.specs.Derivation.{has, next, placed}
+use Rattle.chord_parser.specs.Runs.{Wrong, High, Runs, stuck, Reads, none, more, Onward}
 use Rattle.chord_parser.specs.Samples.{sample}
 use Rattle.chord_tree.specs.Node.{Node, Nodes, End, ◌▸◌, Leaf, Made, size}
 use Rattle.chord_tree.proofs.Ahead.{choice, next_small}
 use Rattle.chord_parser.specs.Reading.{said, StopsAs, Continues, IsLed, IsOther, operator_at, operator_class, one_link, before_links, before_dots, before_more, before_opt}
 use Rattle.chord_tree.specs.Program.{told}
-use Rattle.chord_tree.specs.Tree.{ExprTree, LinkTrees, LinkTree, DotTree, DotTrees, ExprTrees, Chained, NoLinks, MoreLinks, MakeLink, MoreDots, MakeDot, links, dots, exprs, chained}
+use Rattle.chord_tree.specs.Tree.{ExprTree, LinkTrees, LinkTree, DotTree, DotTrees, Chained, MoreLinks, MakeLink, MoreDots, MakeDot, links, dots, exprs, chained}
 use Rattle.chord_tree.specs.ViewExprs.{see_link, see_dot, see_expr}
 use Rattle.chord_tree.specs.Shape.{link_level, level, level_symbol, level_tail, mark_of, mark, rank, lifted, alone, bare, node_at, node_links, node_dot, node_dots, node_more, node_exprs}
 use Rattle.chord_parser.proofs.Single.{bare_mark, of_class}
-use Rattle.chord_parser.proofs.Reading.{goes_on, step, ends, begun, measured}
-use Rattle.chord_parser.proofs.Steps.{product_unary, product_unary_at, sum_product, sum_product_at, order_sum, order_sum_at, equal_order, equal_order_at, and_equal, and_equal_at, more_product_none, more_product_none_at, more_product_times, more_product_times_at, more_product_divide, more_product_divide_at, more_product_remainder, more_product_remainder_at, more_sum_none, more_sum_none_at, more_sum_plus, more_sum_plus_at, more_sum_minus, more_sum_minus_at, more_order_none, more_order_none_at, more_order_less, more_order_less_at, more_order_greater, more_order_greater_at, more_order_less_or_equal, more_order_less_or_equal_at, more_order_greater_or_equal, more_order_greater_or_equal_at, more_equal_none, more_equal_none_at, more_equal_equal, more_equal_equal_at, more_equal_not_equal, more_equal_not_equal_at, more_and_none, more_and_none_at, more_and_and, more_and_and_at, more_or_none, more_or_none_at, more_or_or, more_or_or_at}
+use Rattle.chord_parser.proofs.Reading.{ends, measured}
+use Rattle.chord_parser.proofs.ChainSteps.{product_unary, product_unary_at, sum_product, sum_product_at, order_sum, order_sum_at, equal_order, equal_order_at, and_equal, and_equal_at, more_product_none, more_product_none_at, more_product_times, more_product_times_at, more_product_divide, more_product_divide_at, more_product_remainder, more_product_remainder_at, more_sum_none, more_sum_none_at, more_sum_plus, more_sum_plus_at, more_sum_minus, more_sum_minus_at, more_order_none, more_order_none_at, more_order_less, more_order_less_at, more_order_greater, more_order_greater_at, more_order_less_or_equal, more_order_less_or_equal_at, more_order_greater_or_equal, more_order_greater_or_equal_at, more_equal_none, more_equal_none_at, more_equal_equal, more_equal_equal_at, more_equal_not_equal, more_equal_not_equal_at, more_and_none, more_and_none_at, more_and_and, more_and_and_at, more_or_none, more_or_none_at, more_or_or, more_or_or_at}
 use Rattle.chord_tree.specs.declared.exprs.Operator.TheVariants as operators
 use Rattle.chord_lexer.specs.declared.token.Mark.{Mark}
 use Rattle.chord_tree.specs.Symbols as grammar
 use Rattle.chord_tree.specs.Classes.{class_of}
-use Rattle.std.specs.Prelude.{Option, Some, None}
+use Rattle.std.specs.Prelude.{Some, None}
 
 -- Where the next of the parts that are wanted stops, the whole stops.
 pub stops : {all d e : ℕ} {p q : Part} {ps : List Part} {ks mid : List Kind} {f : Nodes → Node} → Onward all p d ks (q ∷ ps) e mid f → (fault : Fault) → StopsAs q e mid fault → StopsAs p d ks fault

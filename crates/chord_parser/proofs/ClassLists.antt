@@ -1,8 +1,7 @@
 -- Lists of classes, members, headers and formals, as the parser's loops read them.
-use Rattle.std.proofs.Common.{◌≡◌, ℕ, zero, suc, ◌+◌, ◌-◌, ◌<◌, ◌≤◌, ◌≢◌, List, [], ◌∷◌, ◌++◌, length, map, refl, sym, ap, subst, ◌∙◌, arith}
-use Rattle.std.proofs.lemmas.List.{map-append, length-append}
+use Rattle.std.proofs.Common.{◌≡◌, ℕ, ◌<◌, ◌≢◌, List, [], ◌∷◌, ◌++◌, length, map, refl, sym, ap, subst, ◌∙◌, arith}
+use Rattle.std.proofs.lemmas.List.{map-append}
 use Rattle.chord_lexer.specs.declared.token.Kind.{Kind}
-use Rattle.chord_lexer.specs.declared.token.Kind.TheVariants as kinds
 use Rattle.chord_lexer.specs.declared.token.Token.{Token}
 use Rattle.chord_lexer.specs.declared.token.Mark.TheVariants as marks
 use Rattle.chord_tree.specs.declared.names.Name.{Name}
@@ -14,30 +13,27 @@ use Rattle.chord_tree.specs.declared.classes.ReturnType.{ReturnType}
 use Rattle.chord_tree.specs.declared.classes.ReturnType.TheVariants as results
 use Rattle.chord_tree.specs.declared.classes.Formal.{Formal}
 use Rattle.chord_tree.specs.declared.classes.NamePart.{NamePart}
-use Rattle.chord_tree.specs.declared.classes.Header.{Header}
-use Rattle.chord_tree.specs.declared.classes.Class.{Class}
-use Rattle.chord_tree.specs.Part.{Part, Terminal, Symbol, number_of}
+use Rattle.chord_tree.specs.Part.{Part, Terminal, number_of}
 use Rattle.chord_tree.specs.Grammar.{class_count}
 use Rattle.chord_tree.specs.Symbols as grammar
-use Rattle.chord_tree.specs.Classes.{class_of, word_part}
 use Rattle.chord_tree.specs.Derivation.{next}
-use Rattle.chord_tree.specs.Node.{Node, Nodes, End, ◌▸◌, Leaf, Made, size, size_all}
+use Rattle.chord_tree.specs.Node.{Node, End, ◌▸◌, Leaf, Made, size}
 use Rattle.chord_tree.specs.Program.{told}
 use Rattle.chord_tree.specs.Shape.{word, mark, name}
 use Rattle.chord_tree.specs.Forms.{node_block}
 use Rattle.chord_tree.specs.Tree.{FormalsTree, HeaderTree, MemberTree, AConstructor, AChord, ClassTree, UsingTree, BlockTree, MakeBlock}
-use Rattle.chord_tree.specs.Members.{modifier_word, node_modifier, node_modifiers, node_type, node_formal, node_more_formals, node_formal_list, node_formals, node_plain, node_result, node_header, node_headers, node_rest, node_chord, node_member, node_members, node_public, node_class, node_classes, node_name_parts, node_using, node_usings, node_all_classes}
+use Rattle.chord_tree.specs.Members.{modifier_word, node_modifier, node_modifiers, node_formal, node_more_formals, node_formal_list, node_formals, node_plain, node_result, node_header, node_headers, node_rest, node_member, node_members, node_class, node_classes, node_name_parts, node_using, node_usings, node_all_classes}
 use Rattle.chord_tree.proofs.Table.{choices}
-use Rattle.chord_tree.proofs.Ahead.{choice, next_small, small}
+use Rattle.chord_tree.proofs.Ahead.{choice, small}
 use Rattle.chord_parser.specs.declared.plain.PlainWord.{PlainWord}
 use Rattle.chord_parser.specs.declared.plain.PlainWord.TheVariants as plains
-use Rattle.chord_parser.specs.Lists.{modifier_class, plain_class, plain_word, plain_node, IsPlain, node_rest_of, IsHeaded, IsFirst, headers_after, classes_after, wrapped, wrapped_after, before_formals}
+use Rattle.chord_parser.specs.Lists.{modifier_class, plain_class, plain_word, IsPlain, node_rest_of, IsHeaded, IsFirst, headers_after, classes_after, wrapped, wrapped_after, before_formals}
 use Rattle.chord_parser.specs.Runs.{Reads, Onward}
 use Rattle.chord_parser.specs.Samples.{sample}
 use Rattle.chord_parser.proofs.Single.{bare_word}
-use Rattle.chord_parser.proofs.Reading.{step, ends, measured}
+use Rattle.chord_parser.proofs.Reading.{measured}
 use Rattle.chord_parser.proofs.Chains.{told_size}
-use Rattle.chord_parser.proofs.Steps.{modifiers_modifier, modifiers_modifier_at_public, modifiers_modifier_at_private, modifiers_modifier_at_protected, modifiers_modifier_at_virtual, modifiers_modifier_at_override, modifiers_modifier_at_static, modifier_public, modifier_public_at, modifier_private, modifier_private_at, modifier_protected, modifier_protected_at, modifier_virtual, modifier_virtual_at, modifier_override, modifier_override_at, modifier_static, modifier_static_at, plain_async, plain_async_at, plain_void, plain_void_at, plain_int, plain_int_at, plain_bool, plain_bool_at, plain_string, plain_string_at, result_plain, result_plain_at_async, result_plain_at_void, result_plain_at_int, result_plain_at_bool, result_plain_at_string, rest_plain, rest_plain_at_async, rest_plain_at_void, rest_plain_at_int, rest_plain_at_bool, rest_plain_at_string}
+use Rattle.chord_parser.proofs.MemberSteps.{modifiers_modifier, modifiers_modifier_at_public, modifiers_modifier_at_private, modifiers_modifier_at_protected, modifiers_modifier_at_virtual, modifiers_modifier_at_override, modifiers_modifier_at_static, modifier_public, modifier_public_at, modifier_private, modifier_private_at, modifier_protected, modifier_protected_at, modifier_virtual, modifier_virtual_at, modifier_override, modifier_override_at, modifier_static, modifier_static_at, plain_async, plain_async_at, plain_void, plain_void_at, plain_int, plain_int_at, plain_bool, plain_bool_at, plain_string, plain_string_at, result_plain, result_plain_at_async, result_plain_at_void, result_plain_at_int, result_plain_at_bool, result_plain_at_string, rest_plain, rest_plain_at_async, rest_plain_at_void, rest_plain_at_int, rest_plain_at_bool, rest_plain_at_string}
 
 -- a list that grows at its end
 module _ {A : Type 0} (f : A → Node → Node) where

@@ -1,16 +1,15 @@
 -- Whatever is wanted can be derived.
-use Rattle.std.proofs.Common.{◌≡◌, ℕ, zero, suc, ◌+◌, ◌<◌, ◌≤◌, ◌≢◌, Bool, true, false, not, ◌&&◌, ◌||◌, List, [], ◌∷◌, ◌++◌, length, get_or, refl, sym, ap, subst, ◌∙◌, arith, inl, inr, eq-eqb, lit<}
+use Rattle.std.proofs.Common.{◌≡◌, ℕ, zero, suc, ◌+◌, ◌<◌, ◌≤◌, ◌≢◌, Bool, true, not, ◌&&◌, List, [], ◌∷◌, ◌++◌, get_or, refl, sym, ap, ◌∙◌, arith, inl, inr, eq-eqb}
 use Rattle.std.specs.Prelude.{nat_eq, nat_lt}
 use Rattle.std.proofs.lemmas.Bool.{eqb-true, ltb-true}
 use Rattle.std.proofs.lemmas.Bool.Decides.{eqb_tells}
-use Rattle.chord_lexer.specs.declared.token.Kind.{Kind}
-use Rattle.chord_tree.specs.Part.{number_of, Part, Terminal, Symbol}
-use Rattle.chord_tree.specs.Grammar.{productions, counted, rule_count, symbol_count, class_count, else_class, no_else}
+use Rattle.chord_tree.specs.Part.{Part, Terminal, Symbol}
+use Rattle.chord_tree.specs.Grammar.{productions, rule_count, symbol_count, class_count, else_class, no_else}
 use Rattle.chord_tree.proofs.Table.{finishes, weights}
-use Rattle.chord_parser.specs.Samples.{sample, samples}
+use Rattle.chord_parser.specs.Samples.{sample}
 use Rattle.chord_tree.specs.Classes.{class_of}
 use Rattle.chord_tree.specs.Derivation.{Spelled, Want, kinds_of, next, head_of, parts_of, inside, placed, allowed, Derives, done, word, rule}
-use Rattle.chord_tree.proofs.Ahead.{imp, imp_true, and_left, and_right, and_both, all_below, below, small, next_small}
+use Rattle.chord_tree.proofs.Ahead.{imp, imp_true, and_left, and_right, and_both, all_below, below, next_small}
 
 -- a token of the class there is, or the symbol is one
 abbrev pub known : Part → Bool

@@ -1,18 +1,16 @@
 -- What is read is derived.
-use Rattle.std.proofs.Common.{◌≡◌, ℕ, suc, ◌+◌, ◌-◌, ◌<◌, ◌≤◌, Bool, true, false, ◌&&◌, List, [], ◌∷◌, ◌++◌, length, refl, sym, ap, subst, ◌∙◌, arith}
+use Rattle.std.proofs.Common.{◌≡◌, ℕ, ◌<◌, true, List, [], ◌∷◌, sym, ap, subst, ◌∙◌}
 use Rattle.std.proofs.lemmas.Bool.{ltb-true}
 use Rattle.chord_parser.specs.Runs as runs
 use Rattle.chord_lexer.specs.declared.token.Kind.{Kind}
-use Rattle.chord_tree.specs.Part.{Part, Terminal, Symbol}
-use Rattle.chord_tree.specs.Grammar.{rule_count, symbol_count, class_count}
-use Rattle.chord_tree.specs.Classes.{class_of}
-use Rattle.chord_tree.specs.Derivation.{Spelled, Want, kinds_of, next, head_of, parts_of, inside, placed, allowed, Derives, done, word, rule, Low}
-use Rattle.chord_tree.specs.Node.{Node, Nodes, End, ◌▸◌, Leaf, Made, spell, spell_all, Fits, FitAll, leaf, made, none, more, size, size_all, IsNumbered, AreNumbered, number_at}
+use Rattle.chord_tree.specs.Part.{Part}
+use Rattle.chord_tree.specs.Grammar.{rule_count}
+use Rattle.chord_tree.specs.Derivation.{Spelled, kinds_of, next, head_of, allowed}
+use Rattle.chord_tree.specs.Node.{Node, Nodes, Fits, FitAll, leaf, made, none, more}
 use Rattle.chord_tree.proofs.Ahead.{choice, and_left, and_right, next_small, choice_fits}
 use Rattle.chord_parser.specs.Runs.{Reads, ReadAll}
-use Rattle.chord_tree.proofs.LookAhead.{starts, Legal, legal_rule, chosen}
 use Rattle.chord_parser.proofs.Finish.{known, calm, calm_parts, tame_parts, calm_known, rule_tame}
-use Rattle.chord_parser.proofs.Reading.{spells, spells_all}
+use Rattle.chord_parser.proofs.Reading.{spells_all}
 
 abbrev pub all_known : List Part → Type 0
 all_known [] = Unit {0}

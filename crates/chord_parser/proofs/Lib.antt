@@ -3,7 +3,11 @@ pub mod Finish
 pub mod Fit
 pub mod Outcomes
 pub mod Prefix
-pub mod Steps
+pub mod ClassSteps
+pub mod MemberSteps
+pub mod StmtSteps
+pub mod ChainSteps
+pub mod ExprSteps
 pub mod Single
 pub mod Chains
 pub mod StmtLists

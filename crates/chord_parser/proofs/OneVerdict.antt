@@ -1,8 +1,8 @@
 -- Tokens are refused at one place, or found too deep at one, and not both.
-use Rattle.std.proofs.Common.{◌≡◌, ℕ, zero, suc, ◌+◌, ◌<◌, ◌≤◌, List, [], ◌∷◌, ◌++◌, length, refl, sym, ap, subst, ◌∙◌, arith, append_assoc, ◌⊎◌, inl, inr}
+use Rattle.std.proofs.Common.{◌≡◌, ℕ, suc, ◌+◌, ◌<◌, ◌≤◌, List, [], ◌∷◌, ◌++◌, length, refl, sym, ap, subst, ◌∙◌, arith, append_assoc, ◌⊎◌, inl, inr}
 use Rattle.std.proofs.lemmas.List.{length-append}
 use Rattle.chord_lexer.specs.declared.token.Kind.{Kind}
-use Rattle.chord_tree.specs.Derivation.{Spelled, kinds_of, next, Low, Derives}
+use Rattle.chord_tree.specs.Derivation.{Spelled, kinds_of, Low, Derives}
 use Rattle.chord_tree.proofs.OneTree.{start_legal}
 use Rattle.chord_tree.specs.Tree.{ProgramTree}
 use Rattle.chord_parser.specs.declared.parser.ParseFault.{ParseFault}
@@ -20,15 +20,6 @@ kinds_length : (a : List Spelled) → length (kinds_of a) ≡ length a
 kinds_length [] = refl
 kinds_length ((k, d) ∷ a) = ap suc (kinds_length a)
 
--- what begins with more of the tokens begins with fewer of them and the next
-begins_more : (fs gs back after w : List Kind) → fs ++ back ≡ gs ++ after → length fs < length gs → Begins (gs ++ w) fs (next back)
-begins_more fs [] back after w e l = absurd (omega arith)
-begins_more [] (g ∷ gs) back after w e l = ap next (sym e)
-begins_more (f ∷ fs) (g ∷ gs) back after w e l =
-    let a : g ≡ f = cc in
-    let b : fs ++ back ≡ gs ++ after = cc in
-    (a, begins_more fs gs back after w b (omega arith))
-
 -- what is longer than a part of the same list goes on with what follows the part
 longer : (fs gs back : List Kind) (k : Kind) (after : List Kind) → fs ++ back ≡ gs ++ (k ∷ after) → length gs < length fs → (more : List Kind) × (fs ≡ gs ++ (k ∷ more))
 longer [] gs back k after e l = absurd (omega arith)
@@ -39,14 +30,21 @@ longer (f ∷ fs) (g ∷ gs) back k after e l =
     let h = longer fs gs back k after b (omega arith) in
     (h.0, ap (λ z. z ∷ fs) a ∙ ap (λ z. g ∷ z) h.1)
 
+-- what begins with more of the tokens begins with fewer of them and the next
+begins_more : (fs gs back after w : List Kind) → fs ++ back ≡ gs ++ after → length fs < length gs → Begins (gs ++ w) fs back
+begins_more fs gs [] after w e l = let n : length fs + 0 ≡ length gs + length after = sym (length-append fs []) ∙ ap length e ∙ length-append gs after in absurd (omega arith)
+begins_more fs gs (k ∷ back) after w e l =
+    let h = longer gs fs after k back (sym e) l in
+    (h.0 ++ w, ap (λ z. z ++ w) h.1 ∙ append_assoc fs (k ∷ h.0) w)
+
 low_front : (fs y rest : List Spelled) (g : ℕ) → Low y → length fs < length y → DepthAt fs (y ++ rest) g → g ≤ 200
 low_front fs [] rest g l m h = absurd (omega arith)
 low_front [] ((j, d) ∷ y) rest g l m h = let a = l.0 in omega (arith, h)
 low_front (f ∷ fs) ((j, d) ∷ y) rest g l m h = low_front fs y rest g l.1 (omega arith) h
 
 -- the tokens of a refusal are no fewer than those that begin a program
-no_fewer : (ks : List Kind) (n : ℕ) (o : IsWrong start ks n) (front rest : List Spelled) (after : List Kind) → ks ≡ kinds_of front ++ after → (w : List Spelled) → kinds_of w ≡ kinds_of front ++ kinds_of rest → length (kinds_of o.front) < length (kinds_of front) → Begins (kinds_of w) (kinds_of o.front) (next o.back)
-no_fewer ks n o front rest after e w q l = subst (λ z. Begins z (kinds_of o.front) (next o.back)) (sym q) (begins_more (kinds_of o.front) (kinds_of front) o.back after (kinds_of rest) (sym o.cut ∙ e) l)
+no_fewer : (ks : List Kind) (n : ℕ) (o : IsWrong start ks n) (front rest : List Spelled) (after : List Kind) → ks ≡ kinds_of front ++ after → (w : List Spelled) → kinds_of w ≡ kinds_of front ++ kinds_of rest → length (kinds_of o.front) < length (kinds_of front) → Begins (kinds_of w) (kinds_of o.front) o.back
+no_fewer ks n o front rest after e w q l = subst (λ z. Begins z (kinds_of o.front) o.back) (sym q) (begins_more (kinds_of o.front) (kinds_of front) o.back after (kinds_of rest) (sym o.cut ∙ e) l)
 
 wrong_less : (ks : List Kind) (n m : ℕ) → (o : IsWrong start ks n) (p : IsWrong start ks m) → length o.front < length p.front → ⊥
 wrong_less ks n m o p l =

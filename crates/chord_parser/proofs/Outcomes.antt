@@ -1,17 +1,67 @@
 -- The verdict of a run is exact.
-use Rattle.std.proofs.Common.{◌≡◌, ℕ, zero, suc, ◌+◌, ◌<◌, ◌≤◌, ◌≢◌, Bool, true, false, not, ◌&&◌, ◌||◌, List, [], ◌∷◌, ◌++◌, length, get_or, refl, sym, ap, subst, ◌∙◌, arith, inl, inr, eq-eqb, lit<}
-use Rattle.std.specs.Prelude.{nat_eq, nat_lt}
-use Rattle.std.proofs.lemmas.Bool.{eqb-true, ltb-true}
+use Rattle.std.proofs.Common.{◌≡◌, ℕ, suc, ◌<◌, ◌≤◌, true, List, [], ◌∷◌, ◌++◌, length, refl, sym, ap, subst, ◌∙◌, arith, append-nil}
+use Rattle.std.specs.Prelude.{nat_lt}
+use Rattle.std.proofs.lemmas.Bool.{ltb-true}
 use Rattle.chord_lexer.specs.declared.token.Kind.{Kind}
-use Rattle.chord_tree.specs.Part.{Part, Terminal, Symbol}
+use Rattle.chord_tree.specs.Part.{Terminal, Symbol}
 use Rattle.chord_tree.specs.Grammar.{rule_count, symbol_count, class_count}
 use Rattle.chord_tree.specs.Classes.{class_of}
 use Rattle.chord_tree.specs.Derivation.{Spelled, Want, kinds_of, next, head_of, parts_of, inside, placed, allowed, Derives, done, word, rule, Low}
 use Rattle.chord_parser.specs.Runs.{Verdict, Fine, Wrong, High, Runs, fine, extra, take, high, other, expand, stuck}
-use Rattle.chord_parser.specs.Exact.{Begins, IsDerivedList, IsWrong, IsHigh, Outcome}
+use Rattle.chord_parser.specs.Exact.{Begins, IsWrong, IsHigh}
 use Rattle.chord_tree.proofs.Ahead.{choice, and_left, and_right, small, next_small, choice_fits}
 use Rattle.chord_tree.proofs.LookAhead.{starts, Legal, legal_rule, chosen}
-use Rattle.chord_parser.proofs.Finish.{tame, known, all_calm, calm_tame, tame_placed, rule_tame, finished}
+use Rattle.chord_parser.proofs.Finish.{tame, known, calm_tame, tame_placed, rule_tame, finished}
+
+-- the tokens begin with those of front, and then stands one of class c, or nothing where c is class_count
+abbrev pub BeginsBefore : List Kind → List Kind → ℕ → Type 0
+BeginsBefore ks [] c = next ks ≡ c
+BeginsBefore [] (f ∷ fs) c = ⊥
+BeginsBefore (k ∷ ks) (f ∷ fs) c = (k ≡ f) × BeginsBefore ks fs c
+
+-- the tokens are derived, none of them too deep
+pub record IsDerivedList (s : List Want) (ks : List Kind) : Type 0 where
+  pub text : List Spelled
+  pub same : kinds_of text ≡ ks
+  pub low : Low text
+  pub derived : Derives s text
+
+-- the first token that does not fit, and no token of its class does
+pub record IsRefused (s : List Want) (ks : List Kind) (left : ℕ) : Type 0 where
+  pub front : List Spelled
+  pub rest : List Spelled
+  pub back : List Kind
+  pub cut : ks ≡ kinds_of front ++ back
+  pub count : length back ≡ left
+  pub low : Low front
+  pub opens : Derives s (front ++ rest)
+  pub refuses : (w : List Spelled) → BeginsBefore (kinds_of w) (kinds_of front) (next back) → Derives s w → ⊥
+
+abbrev pub Outcome : List Want → List Kind → Verdict → Type 0
+Outcome s ks Fine = IsDerivedList s ks
+Outcome s ks (Wrong n) = IsRefused s ks n
+Outcome s ks (High n) = IsHigh s ks n
+
+begins_before : (fs back : List Kind) → BeginsBefore (fs ++ back) fs (next back)
+begins_before [] back = refl
+begins_before (f ∷ fs) back = (refl, begins_before fs back)
+
+same_class : (ks fs back : List Kind) → Begins ks fs back → BeginsBefore ks fs (next back)
+same_class ks fs [] e = subst (λ z. BeginsBefore z fs (next [])) (append-nil fs ∙ sym e) (begins_before fs [])
+same_class ks fs (k ∷ back) (rest, e) = subst (λ z. BeginsBefore z fs (class_of k)) (sym e) (begins_before fs (k ∷ rest))
+
+-- no token of the class fits, so that one does not
+pub by_kinds : (s : List Want) (ks : List Kind) (n : ℕ) → IsRefused s ks n → IsWrong s ks n
+by_kinds s ks n o = record {
+  front = o.front;
+  rest = o.rest;
+  back = o.back;
+  cut = o.cut;
+  count = o.count;
+  low = o.low;
+  opens = o.opens;
+  refuses = λ w b r. o.refuses w (same_class (kinds_of w) (kinds_of o.front) o.back b) r;
+}
 
 at_end : (k : Kind) {w : List Spelled} → Derives [] w → next (kinds_of w) ≡ class_of k → ⊥
 at_end k done e = let h = small k in omega arith
@@ -19,8 +69,8 @@ at_end k done e = let h = small k in omega arith
 behind : {c d e : ℕ} {j : Kind} {s : List Want} {w : List Spelled} → Derives ((Terminal c, d) ∷ s) ((j, e) ∷ w) → Derives s w
 behind (word q r) = r
 
-refused : (c d : ℕ) (k : Kind) (s : List Want) (fs : List Kind) (n : ℕ) → ((w : List Spelled) → Begins (kinds_of w) fs n → Derives s w → ⊥)
-    → (w : List Spelled) → Begins (kinds_of w) (k ∷ fs) n → Derives ((Terminal c, d) ∷ s) w → ⊥
+refused : (c d : ℕ) (k : Kind) (s : List Want) (fs : List Kind) (n : ℕ) → ((w : List Spelled) → BeginsBefore (kinds_of w) fs n → Derives s w → ⊥)
+    → (w : List Spelled) → BeginsBefore (kinds_of w) (k ∷ fs) n → Derives ((Terminal c, d) ∷ s) w → ⊥
 refused c d k s fs n f [] b r = elim b [ ]
 refused c d k s fs n f ((j, e) ∷ w) b r = f w b.1 (behind r)
 
@@ -68,7 +118,7 @@ module _ (x d : ℕ) (s : List Want) (t : tame ((Symbol x, d) ∷ s) ≡ true) (
       let h = low_choice x c d s t n l in
       rule (choice x c) l h.0 (subst (λ y. allowed (choice x c) y ≡ true) (sym e) h.1) r
 
-next_same : (w fs back : List Kind) → Begins w fs (next back) → next w ≡ next (fs ++ back)
+next_same : (w fs back : List Kind) → BeginsBefore w fs (next back) → next w ≡ next (fs ++ back)
 next_same w [] back b = b
 next_same [] (f ∷ fs) back b = elim b [ ]
 next_same (k ∷ w) (f ∷ fs) back b = ap class_of b.0
@@ -79,16 +129,16 @@ first_same ((j, e) ∷ front) k d rest back = refl
 
 module _ (x d : ℕ) (s : List Want) (t : tame ((Symbol x, d) ∷ s) ≡ true) (legal : Legal ((Symbol x, d) ∷ s)) where
   refuses_too : (ks fs back : List Kind) → ks ≡ fs ++ back
-      → ((w : List Spelled) → Begins (kinds_of w) fs (next back) → Derives (placed (inside x d) (parts_of (choice x (next ks))) ++ s) w → ⊥)
-      → (w : List Spelled) → Begins (kinds_of w) fs (next back) → Derives ((Symbol x, d) ∷ s) w → ⊥
+      → ((w : List Spelled) → BeginsBefore (kinds_of w) fs (next back) → Derives (placed (inside x d) (parts_of (choice x (next ks))) ++ s) w → ⊥)
+      → (w : List Spelled) → BeginsBefore (kinds_of w) fs (next back) → Derives ((Symbol x, d) ∷ s) w → ⊥
   refuses_too ks fs back cut f w b r =
       let same : next (kinds_of w) ≡ next ks = next_same (kinds_of w) fs back b ∙ sym (ap next cut) in
       f w b (subst (λ c. Derives (placed (inside x d) (parts_of (choice x c)) ++ s) w) same (chose x d s t legal w r).1)
 
   wrong_too : (ks : List Kind) (n : ℕ) → choice x (next ks) < rule_count → (front rest : List Spelled) (back : List Kind)
       → ks ≡ kinds_of front ++ back → length back ≡ n → Low front → Derives (placed (inside x d) (parts_of (choice x (next ks))) ++ s) (front ++ rest)
-      → ((w : List Spelled) → Begins (kinds_of w) (kinds_of front) (next back) → Derives (placed (inside x d) (parts_of (choice x (next ks))) ++ s) w → ⊥)
-      → IsWrong ((Symbol x, d) ∷ s) ks n
+      → ((w : List Spelled) → BeginsBefore (kinds_of w) (kinds_of front) (next back) → Derives (placed (inside x d) (parts_of (choice x (next ks))) ++ s) w → ⊥)
+      → IsRefused ((Symbol x, d) ∷ s) ks n
   wrong_too ks n l [] rest back cut count low opens f =
       let whole = finished ((Symbol x, d) ∷ s) t in
       record { front = []; rest = whole.0; back = back; cut = cut; count = count; low = low; opens = whole.1; refuses = refuses_too ks [] back cut f }

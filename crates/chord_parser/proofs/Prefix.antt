@@ -1,10 +1,9 @@
 -- Two derivations that begin with the same kinds give them the same depths.
-use Rattle.std.proofs.Common.{◌≡◌, ℕ, suc, ◌+◌, ◌<◌, ◌≤◌, Bool, true, List, [], ◌∷◌, ◌++◌, refl, sym, ap, subst, ◌∙◌, arith}
+use Rattle.std.proofs.Common.{◌≡◌, ℕ, ◌≤◌, List, [], ◌∷◌, ◌++◌, refl, sym, ap, subst, ◌∙◌, arith}
 use Rattle.chord_lexer.specs.declared.token.Kind.{Kind}
-use Rattle.chord_tree.specs.Part.{Part, Terminal, Symbol}
-use Rattle.chord_tree.specs.Grammar.{rule_count}
+use Rattle.chord_tree.specs.Part.{Terminal, Symbol}
 use Rattle.chord_tree.specs.Classes.{class_of}
-use Rattle.chord_tree.specs.Derivation.{Spelled, Want, kinds_of, next, head_of, parts_of, inside, placed, allowed, Derives, done, word, rule, Low}
+use Rattle.chord_tree.specs.Derivation.{Spelled, Want, kinds_of, next, parts_of, inside, placed, Derives, done, word, rule, Low}
 use Rattle.chord_tree.proofs.Ahead.{choice, next_small}
 use Rattle.chord_tree.proofs.LookAhead.{starts, Legal, legal_rule, chosen}
 

@@ -1,12 +1,11 @@
 -- How what is read goes on.
-use Rattle.std.proofs.Common.{◌≡◌, ℕ, suc, ◌+◌, ◌-◌, ◌<◌, ◌≤◌, List, [], ◌∷◌, ◌++◌, length, refl, sym, ap, subst, ◌∙◌, arith, Bool, true, false, cond, not, Result, Ok, Err, IsErrAnd, IfErr, IfOk, append_assoc}
+use Rattle.std.proofs.Common.{◌≡◌, ℕ, ◌+◌, ◌-◌, ◌<◌, ◌≤◌, List, [], ◌∷◌, ◌++◌, length, refl, sym, ap, subst, arith}
 use Rattle.chord_lexer.specs.declared.token.Kind.{Kind}
-use Rattle.chord_tree.specs.Part.{Part, Terminal, Symbol}
+use Rattle.chord_tree.specs.Part.{Part, Symbol}
 use Rattle.chord_tree.specs.Grammar.{rule_count}
-use Rattle.chord_tree.specs.Classes.{class_of}
 use Rattle.chord_tree.specs.Derivation.{next, Want, parts_of, placed, inside, Spelled, kinds_of, Low, word}
-use Rattle.chord_parser.specs.Runs.{Verdict, Fine, Wrong, High, Runs, fine, extra, take, high, other, expand, stuck, Reads, ReadAll, word, tree, none, more, Onward}
-use Rattle.chord_tree.specs.Node.{Node, Nodes, End, ◌▸◌, Leaf, Made, spell, spell_all, size, size_all, number_at, IsNumbered, AreNumbered}
+use Rattle.chord_parser.specs.Runs.{Verdict, Runs, take, expand, Reads, ReadAll, word, tree, none, more, Onward}
+use Rattle.chord_tree.specs.Node.{Node, Nodes, End, ◌▸◌, Made, spell, spell_all, size, size_all, IsNumbered, AreNumbered}
 use Rattle.chord_tree.proofs.Ahead.{choice}
 
 pub placed_append : (d : ℕ) (ps qs : List Part) → placed d (ps ++ qs) ≡ placed d ps ++ placed d qs

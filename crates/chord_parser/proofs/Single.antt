@@ -1,5 +1,5 @@
 -- Single tokens.
-use Rattle.std.proofs.Common.{◌≡◌, ℕ, suc, ◌+◌, ◌-◌, ◌<◌, ◌≤◌, ◌≢◌, List, [], ◌∷◌, ◌++◌, length, get_or, refl, sym, ap, subst, ◌∙◌, arith, lit<, Bool, true, false, cond, Result, Ok, Err, IsErrAnd, IfErr, IfOk}
+use Rattle.std.proofs.Common.{◌≡◌, ℕ, suc, ◌-◌, ◌<◌, ◌≤◌, ◌≢◌, List, [], ◌∷◌, length, refl, sym, ap, subst, ◌∙◌, arith, true, false, cond}
 use Rattle.chord_lexer.specs.declared.token.Kind.TheVariants as kinds
 use Rattle.chord_lexer.specs.declared.token.Keyword.TheVariants as words
 use Rattle.chord_lexer.specs.declared.token.Mark.TheVariants as marks
@@ -8,17 +8,15 @@ use Rattle.chord_lexer.specs.declared.token.Kind.{Kind}
 use Rattle.chord_lexer.specs.declared.token.Keyword.{Keyword}
 use Rattle.chord_lexer.specs.declared.token.Mark.{Mark}
 use Rattle.chord_lexer.specs.declared.token.Token.{Token}
-use Rattle.chord_parser.specs.declared.faults.Fault.{Fault}
-use Rattle.chord_tree.specs.Part.{Part, Terminal, Symbol, number_of}
+use Rattle.chord_tree.specs.Part.{Terminal, number_of}
 use Rattle.chord_tree.specs.Grammar.{class_count}
 use Rattle.chord_tree.specs.Classes.{class_of, word_part, mark_part}
-use Rattle.chord_tree.specs.Derivation.{has, next, Want}
-use Rattle.chord_parser.specs.Samples.{sample, samples}
-use Rattle.chord_parser.specs.Runs.{Verdict, Wrong, High, Runs, other, high, Reads, word}
+use Rattle.chord_tree.specs.Derivation.{has, next}
+use Rattle.chord_parser.specs.Samples.{sample}
+use Rattle.chord_parser.specs.Runs.{Wrong, High, Runs, other, high, Reads, word}
 use Rattle.chord_tree.specs.Node.{Leaf, plain, number_at}
 use Rattle.chord_parser.specs.Reading.{Heads, StopsAs, said}
 use Rattle.chord_tree.specs.Program.{told}
-use Rattle.chord_tree.proofs.Ahead.{small}
 
 pub told_length : (ts : List Token) → length (told ts) ≡ length ts
 told_length [] = refl

@@ -1,5 +1,5 @@
 -- Lists of items, and the kinds of statements.
-use Rattle.std.proofs.Common.{◌≡◌, ℕ, zero, suc, ◌+◌, ◌-◌, ◌<◌, ◌≤◌, List, [], ◌∷◌, ◌++◌, length, map, refl, sym, ap, subst, ◌∙◌, arith}
+use Rattle.std.proofs.Common.{◌≡◌, ℕ, ◌+◌, ◌<◌, List, [], ◌∷◌, ◌++◌, length, map, refl, sym, ap, subst, ◌∙◌, arith}
 use Rattle.std.proofs.lemmas.List.{map-append}
 use Rattle.chord_lexer.specs.declared.token.Kind.{Kind}
 use Rattle.chord_lexer.specs.declared.token.Kind.TheVariants as kinds
@@ -9,14 +9,14 @@ use Rattle.chord_tree.specs.declared.names.BasicType.{BasicType}
 use Rattle.chord_tree.specs.declared.names.BasicType.TheVariants as basics
 use Rattle.chord_tree.specs.declared.names.ValueType.TheVariants as types
 use Rattle.chord_tree.specs.declared.stmts.Item.{Item}
-use Rattle.chord_tree.specs.Part.{Part, Terminal, Symbol, number_of}
+use Rattle.chord_tree.specs.Part.{Part, Terminal, number_of}
 use Rattle.chord_tree.specs.Symbols as grammar
 use Rattle.chord_tree.specs.Classes.{word_part}
 use Rattle.chord_tree.specs.Derivation.{next}
-use Rattle.chord_tree.specs.Node.{Node, Nodes, End, ◌▸◌, Leaf, Made, size}
+use Rattle.chord_tree.specs.Node.{Node, End, ◌▸◌, Leaf, Made, size}
 use Rattle.chord_tree.specs.Program.{told}
 use Rattle.chord_tree.specs.Shape.{name}
-use Rattle.chord_tree.specs.Tree.{StmtTree, ItemTree, ItemTrees, Braces, MakeBlock, Nothing, IfThen, IfElse, Repeats, Returns, Gives, CallsThis, Makes, Assigns, Calls, CallsThrough, Declares, Does, NoItems, MoreItems, items}
+use Rattle.chord_tree.specs.Tree.{StmtTree, ItemTree, ItemTrees, Braces, MakeBlock, Nothing, IfThen, IfElse, Repeats, Returns, Gives, CallsThis, Makes, Assigns, Calls, CallsThrough, Declares, Does, MoreItems, items}
 use Rattle.chord_tree.specs.Forms.{node_tail, node_other, node_items, node_item, as_stmt, as_item, basic_word, semicolon}
 use Rattle.chord_tree.specs.ViewStmts.{see_item}
 use Rattle.chord_parser.specs.Runs.{Reads, Onward}
@@ -25,7 +25,7 @@ use Rattle.chord_parser.specs.Samples.{sample}
 use Rattle.chord_parser.proofs.Single.{bare_word}
 use Rattle.chord_parser.proofs.Reading.{measured}
 use Rattle.chord_parser.proofs.Chains.{told_size}
-use Rattle.chord_parser.proofs.Steps.{item_int, item_int_at, item_bool, item_bool_at, item_string, item_string_at}
+use Rattle.chord_parser.proofs.StmtSteps.{item_int, item_int_at, item_bool, item_bool_at, item_string, item_string_at}
 
 items_grown : (xs : List ItemTree) (x : ItemTree) (n : Node) → before_items (xs ++ (x ∷ [])) n ≡ before_items xs (before_items (x ∷ []) n)
 items_grown [] x n = refl

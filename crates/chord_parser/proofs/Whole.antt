@@ -1,12 +1,12 @@
 -- The answer over a whole list of tokens.
-use Rattle.std.proofs.Common.{◌≡◌, ℕ, zero, suc, ◌+◌, ◌-◌, ◌<◌, ◌≤◌, List, [], ◌∷◌, ◌++◌, length, refl, sym, ap, subst, ◌∙◌, arith, Bool, true, Result, Ok, Err, IfOk, IfErr}
+use Rattle.std.proofs.Common.{◌≡◌, ℕ, ◌+◌, ◌-◌, ◌≤◌, List, [], ◌∷◌, ◌++◌, length, refl, sym, ap, subst, ◌∙◌, arith, true, append-nil}
 use Rattle.std.proofs.lemmas.List.{length-append}
 use Rattle.chord_lexer.specs.declared.token.Kind.{Kind}
 use Rattle.chord_lexer.specs.declared.token.Token.{Token}
 use Rattle.chord_tree.specs.Symbols.{Program}
 use Rattle.chord_tree.specs.Grammar.{symbol_count}
-use Rattle.chord_tree.specs.Derivation.{kinds_of, next, Low, Derives, done}
-use Rattle.chord_tree.specs.Node.{Node, spell, IsNumbered}
+use Rattle.chord_tree.specs.Derivation.{kinds_of, done}
+use Rattle.chord_tree.specs.Node.{spell, IsNumbered}
 use Rattle.chord_tree.specs.Tree.{ProgramTree}
 use Rattle.chord_tree.specs.Members.{node_program}
 use Rattle.chord_tree.specs.Program.{IsProgram, spelling, told}
@@ -17,11 +17,11 @@ use Rattle.chord_parser.specs.declared.faults.Fault.TheVariants as faults
 use Rattle.chord_parser.specs.declared.parser.ParseFault.{ParseFault}
 use Rattle.chord_parser.specs.declared.parser.ParseFault.TheVariants as answers
 use Rattle.chord_parser.specs.Answers.{start, IsLow, IsAnswer, IsStop}
-use Rattle.chord_parser.specs.Exact.{Begins, IsWrong, IsHigh, Outcome}
+use Rattle.chord_parser.specs.Exact.{Begins, IsWrong, IsHigh}
 use Rattle.chord_parser.specs.Reading.{StopsAs}
-use Rattle.chord_parser.specs.Runs.{Runs, Reads, Verdict, Wrong, High}
+use Rattle.chord_parser.specs.Runs.{Runs, Reads, Verdict}
 use Rattle.chord_parser.proofs.Finish.{tame}
-use Rattle.chord_parser.proofs.Outcomes.{outcome}
+use Rattle.chord_parser.proofs.Outcomes.{Outcome, outcome, by_kinds}
 use Rattle.chord_parser.proofs.Reading.{spells, low, numbered}
 use Rattle.chord_parser.proofs.Fit.{fits}
 use Rattle.chord_parser.proofs.Chains.{told_size}
@@ -42,7 +42,7 @@ high_within ks n o = let e = ap length o.cut ∙ length-append (kinds_of o.front
 
 pub stopped : (ks : List Kind) (fault : Fault) → StopsAs Program 0 ks fault → IsStop ks fault
 stopped ks faults.Memory h = tt
-stopped ks (faults.At n) h = let o = exact (h []) in (wrong_within ks n o, o)
+stopped ks (faults.At n) h = let o = by_kinds start ks n (exact (h [])) in (wrong_within ks n o, o)
 stopped ks (faults.Tall n) h = let o = exact (h []) in (high_within ks n o, o)
 
 -- the tokens are those of the program, none of them too deep
@@ -69,13 +69,13 @@ at_parts ts f n e h = let s = subst (λ z. IsStop (told ts) z) e h in let y = to
 pub tall_parts : (ts : List Token) (f : Fault) (n : ℕ) → f ≡ faults.Tall n → IsStop (told ts) f → (n ≤ length ts) × (x : ℕ) × (length ts - n + x ≡ length (told ts)) × IsHigh start (told ts) x
 tall_parts ts f n e h = let s = subst (λ z. IsStop (told ts) z) e h in let y = told_size ts in let l = s.0 in (omega arith, n, omega arith, s.1)
 
-begins_append : (fs back : List Kind) → Begins (fs ++ back) fs (next back)
-begins_append [] back = refl
-begins_append (f ∷ fs) back = (refl, begins_append fs back)
+begins_append : (fs back : List Kind) → Begins (fs ++ back) fs back
+begins_append fs [] = append-nil fs
+begins_append fs (k ∷ back) = (back, refl)
 
 -- tokens of a program are not refused
 pub not_wrong : (ks : List Kind) (t : ProgramTree) (left : ℕ) → IsProgram t → spelling t ≡ ks → IsWrong start ks left → ⊥
-not_wrong ks t left a e o = o.refuses (spell (node_program t) 0 []) (subst (λ z. Begins z (kinds_of o.front) (next o.back)) (sym (e ∙ o.cut)) (begins_append (kinds_of o.front) o.back)) (derives a.derived done)
+not_wrong ks t left a e o = o.refuses (spell (node_program t) 0 []) (subst (λ z. Begins z (kinds_of o.front) o.back) (sym (e ∙ o.cut)) (begins_append (kinds_of o.front) o.back)) (derives a.derived done)
 
 -- nor found too deep where none is
 pub not_high : (ks : List Kind) (t : ProgramTree) (left : ℕ) → IsProgram t → IsLow t → spelling t ≡ ks → IsHigh start ks left → ⊥

@@ -11,8 +11,8 @@ use Rattle.chord_tree.specs.declared.classes.ReturnType.TheVariants as results
 use Rattle.chord_tree.specs.declared.classes.Formal.{Formal}
 use Rattle.chord_tree.specs.Classes.{word_part}
 use Rattle.chord_tree.specs.Forms.{node_block}
-use Rattle.chord_tree.specs.Members.{modifier_word, node_formal, node_formals, node_header, node_headers, node_rest, node_class, node_classes}
-use Rattle.chord_tree.specs.Node.{Node, Nodes, End, ◌▸◌, Made}
+use Rattle.chord_tree.specs.Members.{modifier_word, node_formal, node_formals, node_headers, node_rest, node_classes}
+use Rattle.chord_tree.specs.Node.{Node, End, ◌▸◌, Made}
 use Rattle.chord_tree.specs.Part.{number_of}
 use Rattle.chord_tree.specs.Shape.{word, mark, name}
 use Rattle.chord_tree.specs.Symbols as grammar

@@ -1,5 +1,5 @@
 -- What each function of the parser promises.
-use Rattle.std.specs.Prelude.{◌≡◌, ℕ, ◌+◌, ◌-◌, ◌<◌, ◌≤◌, ◌≢◌, List, [], ◌∷◌, ◌++◌, length, map, Option, Some, None}
+use Rattle.std.specs.Prelude.{◌≡◌, ℕ, ◌-◌, ◌≢◌, List, [], ◌∷◌, Option, Some, None}
 use Rattle.chord_parser.specs.declared.faults.Fault.TheVariants as faults
 use Rattle.chord_lexer.specs.declared.token.Mark.TheVariants as marks
 use Rattle.chord_lexer.specs.declared.token.Kind.TheVariants as kinds
@@ -8,11 +8,11 @@ use Rattle.chord_tree.specs.declared.exprs.Operator.TheVariants as operators
 use Rattle.chord_tree.specs.Symbols as grammar
 use Rattle.chord_lexer.specs.declared.token.Kind.{Kind}
 use Rattle.chord_parser.specs.declared.faults.Fault.{Fault}
-use Rattle.chord_tree.specs.Part.{Part, Terminal, Symbol, number_of}
+use Rattle.chord_tree.specs.Part.{Part, number_of}
 use Rattle.chord_tree.specs.Classes.{class_of, mark_part}
 use Rattle.chord_tree.specs.Derivation.{next, Want}
-use Rattle.chord_parser.specs.Runs.{Verdict, Fine, Wrong, High, Runs, Reads}
-use Rattle.chord_tree.specs.Node.{Node, Nodes, End, ◌▸◌, Leaf, Made}
+use Rattle.chord_parser.specs.Runs.{Verdict, Wrong, High, Runs, Reads}
+use Rattle.chord_tree.specs.Node.{Node, End, ◌▸◌, Made}
 use Rattle.chord_tree.specs.Tree.{ExprTree, LinkTree, MakeLink, DotTree, StmtTree, ItemTree, Assigns, Calls, CallsThrough}
 use Rattle.chord_tree.specs.declared.names.Name.{Name}
 use Rattle.chord_tree.specs.Forms.{node_item}

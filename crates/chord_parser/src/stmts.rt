@@ -124,18 +124,18 @@ fn item_name(
     ensures ok { IfOk result (λ r. Reads all grammar.Item depth (told tokens.now) (told r.1.now) (node_item (see_item r.0))) }
     ensures err { IfErr result (λ fault. StopsAs grammar.Item depth (told tokens.now) fault) }
 {
-    let (name, rest) = name_of(alloc, all, tokens, depth + 1)?;
+    let (first, rest) = name_of(alloc, all, tokens, depth + 1)?;
     if next(rest) == class::NAME {
         let (second, rest) = name_of(alloc, all, rest, depth + 1)?;
         let (assign, rest) = take(all, rest, class::ASSIGN, depth + 1)?;
         let (value, rest) = expr(alloc, all, rest, depth + 1)?;
         let rest = skip(all, rest, class::SEMICOLON, depth + 1)?;
         return Ok((
-            make_local(ValueType::Class(name), second, assign, value),
+            make_local(ValueType::Class(first), second, assign, value),
             rest,
         ));
     }
-    let (form, rest) = tail(alloc, all, rest, depth + 1, name)?;
+    let (form, rest) = tail(alloc, all, rest, depth + 1, first)?;
     let rest = skip(all, rest, class::SEMICOLON, depth + 1)?;
     Ok((make_plain(form), rest))
 }

@@ -1,25 +1,8 @@
-use Rattle.std.proofs.Common.{◌≡◌, ◌≢◌, ◌<◌, ◌∷◌, [], length, map, ℕ, ◌+◌, List, ◌++◌, refl, sym, ap, subst, ◌∙◌, arith}
-use Rattle.chord_tree.specs.Derivation.{next}
-use Rattle.chord_tree.specs.Node.{Node, Made, End, ◌▸◌, Leaf}
-use Rattle.chord_tree.specs.Part.{Terminal, Symbol}
-use Rattle.chord_tree.specs.Symbols as grammar
 use Rattle.chord_tree.specs.Program.{told}
-use Rattle.chord_tree.specs.Tree.{HeaderTree}
-use Rattle.chord_tree.specs.View.{see_formals, see_header, see_member, see_class, see_using}
-use Rattle.chord_tree.specs.ViewStmts.{see_block}
-use Rattle.chord_tree.specs.declared.names.ValueType.TheVariants as types
-use Rattle.chord_tree.specs.declared.classes.ReturnType.TheVariants as results
-use Rattle.chord_tree.specs.declared.classes.ModifierWord.TheVariants as modifiers
 use Rattle.chord_tree.proofs.Ahead.{next_small}
-use Rattle.chord_parser.specs.declared.plain.PlainWord.TheVariants as plains
-use Rattle.chord_parser.specs.declared.faults.Fault.TheVariants as faults
-use Rattle.chord_parser.specs.Reading.{StopsAs, Continues}
-use Rattle.chord_parser.specs.Lists.{wrapped, wrapped_after, before_formals, IsFirst}
-use Rattle.chord_parser.specs.Runs.{Reads}
-use Rattle.chord_parser.proofs.Reading.{step, ends, opened}
-use Rattle.chord_parser.proofs.Chains.{stops, stops_in, exits, begins, enters, then, renamed, as_node, shorter, stuck_at, pushed}
-use Rattle.chord_parser.proofs.ClassLists.{push, push_seen, push_seen_after, first_seen, one_seen, one_after, modifier_way, part_way, formal_way, header_way, member_way, class_way, using_way, all_modifiers, all_parts, formal_list, formals_first, formals_push, headers_all, all_members, classes_all, all_usings, modifiers_begun, modifier_begun, modifier_read, no_modifier, plain_begun, result_begun, rest_begun, plain_read, no_plain, plain_result, plain_chord, class_chord, chord_headed, member_of, program_of, shorter_by, sized_member, sized_class, sized_using, classes_end, at_end_of}
-use Rattle.chord_parser.proofs.Steps.{formals_open, formals_open_at}
+use Rattle.chord_parser.proofs.Reading.{step, ends}
+use Rattle.chord_parser.proofs.Chains.{stops, exits}
+use Rattle.chord_parser.proofs.MemberSteps.{formals_open, formals_open_at}
 use Rattle.chord_parser.proofs.classes.formals.Goals as goal
 
 pub returns-in_err-at-clause-err : goal.returns-in_err-at-clause-err

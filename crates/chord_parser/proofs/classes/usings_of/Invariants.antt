@@ -1,10 +1,10 @@
-use Rattle.std.proofs.Common.{length, ◌<◌, List, map}
+use Rattle.std.proofs.Common.{length, map}
 use Rattle.chord_tree.specs.Symbols as grammar
 use Rattle.chord_tree.specs.Program.{told}
-use Rattle.chord_tree.specs.View.{see_header, see_member, see_class, see_using}
+use Rattle.chord_tree.specs.View.{see_using}
 use Rattle.chord_parser.specs.Reading.{Continues}
-use Rattle.chord_parser.specs.Lists.{wrapped, wrapped_after, before_formals, IsFirst}
-use Rattle.chord_parser.proofs.ClassLists.{modifier_way, part_way, header_way, member_way, class_way, using_way}
+use Rattle.chord_parser.specs.Lists.{wrapped}
+use Rattle.chord_parser.proofs.ClassLists.{using_way}
 use Rattle.chord_parser.proofs.classes.usings_of.Given as goal
 
 abbrev pub invariant-each : goal.invariant-each

@@ -1,18 +1,15 @@
-use Rattle.std.proofs.Common.{rules, ◌≡◌, ◌≢◌, ◌<◌, ◌≤◌, ◌-◌, ◌∷◌, [], length, map, suc, zero, IfOk, IfErr, IfSome, IfNone, ℕ, ◌+◌, ◌*◌, Bool, true, false, List, ◌++◌, refl, sym, ap, subst, ◌∙◌, arith}
-use Rattle.chord_tree.specs.Derivation.{next}
-use Rattle.chord_tree.specs.Node.{Node, Made, End, ◌▸◌, Leaf}
-use Rattle.chord_tree.specs.Part.{Terminal, Symbol}
-use Rattle.chord_tree.specs.Symbols as grammar
+use Rattle.std.proofs.Common.{◌∷◌, [], map, ◌++◌, sym, ap, subst, ◌∙◌, arith}
+use Rattle.chord_tree.specs.Part.{Terminal}
 use Rattle.chord_tree.specs.Program.{told}
-use Rattle.chord_tree.specs.Shape.{node_at, node_start, node_actuals, node_dot, node_dots, node_exprs, node_links, level, level_tail}
-use Rattle.chord_tree.specs.Tree.{links, dots, exprs, MakeLink}
-use Rattle.chord_tree.specs.ViewExprs.{see_expr, see_link, see_dot, see_start, see_actuals}
+use Rattle.chord_tree.specs.Shape.{node_at, node_start, node_actuals, node_dot, node_exprs}
+use Rattle.chord_tree.specs.Tree.{exprs, MakeLink}
+use Rattle.chord_tree.specs.ViewExprs.{see_expr, see_link, see_dot}
 use Rattle.chord_tree.proofs.Ahead.{next_small}
-use Rattle.chord_parser.specs.Reading.{StopsAs, IsLed, IsOther, one_link, before_links, before_dots, before_more, before_opt}
-use Rattle.chord_parser.specs.Runs.{Reads}
+use Rattle.chord_parser.specs.Reading.{StopsAs}
 use Rattle.chord_parser.proofs.Reading.{step, ends, opened}
-use Rattle.chord_parser.proofs.Chains.{stops, stops_in, exits, begins, enters, then, renamed, as_node, ok_map, level_begun, no_link, begun_link, links_all, links_push, links_led, dots_all, dots_push, opt_push, opt_first, opt_all, shorter, shorter_dot, stuck_at, operator_read, pushed, joined, joined_rank, operator_read_at, none_at, other_at, end_other, other_told}
-use Rattle.chord_parser.proofs.Steps.{actuals_open, actuals_open_at, dot_dot, dot_dot_at, dots_dot, dots_dot_at, dots_none, dots_none_at, expr_and, expr_and_at, more_exprs_comma, more_exprs_comma_at, more_exprs_none, more_exprs_none_at, optional_actuals_actuals, optional_actuals_actuals_at, optional_actuals_none, optional_actuals_none_at, optional_exprs_expr, optional_exprs_expr_at, optional_exprs_none, optional_exprs_none_at, primary_start, primary_start_at, start_name, start_name_at, start_new, start_new_at, start_open, start_open_at, unary_minus, unary_minus_at, unary_not, unary_not_at, unary_primary, unary_primary_at}
+use Rattle.chord_parser.proofs.Chains.{stops, stops_in, exits, enters, then, renamed, as_node, level_begun, no_link, begun_link, links_all, links_push, links_led, dots_all, dots_push, opt_push, opt_first, opt_all, shorter, shorter_dot, operator_read, pushed}
+use Rattle.chord_parser.proofs.ChainSteps.{expr_and, expr_and_at}
+use Rattle.chord_parser.proofs.ExprSteps.{actuals_open, actuals_open_at, dot_dot, dot_dot_at, dots_dot, dots_dot_at, dots_none, dots_none_at, more_exprs_comma, more_exprs_comma_at, more_exprs_none, more_exprs_none_at, optional_actuals_actuals, optional_actuals_actuals_at, optional_actuals_none, optional_actuals_none_at, optional_exprs_expr, optional_exprs_expr_at, optional_exprs_none, optional_exprs_none_at, primary_start, primary_start_at, start_name, start_name_at, start_new, start_new_at, start_open, start_open_at, unary_minus, unary_minus_at, unary_not, unary_not_at, unary_primary, unary_primary_at}
 use Rattle.chord_parser.proofs.exprs.+parser.Goals as goal
 
 pub actuals-returns-in_err-at-clause-err : goal.actuals-returns-in_err-at-clause-err

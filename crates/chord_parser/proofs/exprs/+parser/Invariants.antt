@@ -1,4 +1,4 @@
-use Rattle.std.proofs.Common.{◌≡◌, ◌≢◌, ◌<◌, ◌≤◌, ◌∷◌, [], length, ℕ, ◌+◌, ◌-◌, ◌*◌, List, map}
+use Rattle.std.proofs.Common.{◌<◌, length, ◌+◌, ◌-◌, ◌*◌, map}
 use Rattle.chord_tree.specs.Symbols as grammar
 use Rattle.chord_tree.specs.Program.{told}
 use Rattle.chord_tree.specs.Shape.{level_tail}

@@ -1,4 +1,4 @@
-use Rattle.std.proofs.Common.{◌≡◌, ◌≢◌, List, [], length, sym, ap, subst, ◌∙◌, IfNone}
+use Rattle.std.proofs.Common.{sym, ap, subst, ◌∙◌, IfNone}
 use Rattle.chord_tree.specs.Derivation.{next}
 use Rattle.chord_tree.specs.Program.{told}
 use Rattle.chord_parser.specs.Reading.{IsOther}

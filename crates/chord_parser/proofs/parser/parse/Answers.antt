@@ -1,9 +1,8 @@
-use Rattle.std.proofs.Common.{◌≡◌, map, refl, sym, subst}
-use Rattle.chord_tree.specs.Tree.{ProgramTree}
+use Rattle.std.proofs.Common.{◌≡◌, refl, sym, subst}
 use Rattle.chord_tree.specs.Program.{IsProgram, spelling, told}
 use Rattle.chord_tree.specs.View.{tree_of}
 use Rattle.chord_parser.specs.Answers.{IsLow}
-use Rattle.chord_parser.proofs.Whole.{IsFound, found, stopped, only_memory, the_one}
+use Rattle.chord_parser.proofs.Whole.{found, stopped, only_memory, the_one}
 use Rattle.chord_parser.proofs.OneVerdict.{at_only, tall_only, found_not_at, found_not_tall}
 use Rattle.chord_parser.proofs.parser.parse.Goals as goal
 

@@ -1,4 +1,3 @@
-use Rattle.std.proofs.Common.{◌≡◌, ℕ, ◌+◌, ◌-◌, ◌≤◌, length, arith}
 use Rattle.chord_parser.proofs.Whole.{at_parts, tall_parts}
 use Rattle.chord_parser.proofs.parser.placed.Goals as goal
 

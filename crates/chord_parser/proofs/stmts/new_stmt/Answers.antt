@@ -1,22 +1,8 @@
-use Rattle.std.proofs.Common.{rules, ◌≡◌, ◌≢◌, ◌<◌, ◌≤◌, ◌-◌, ◌∷◌, [], length, map, suc, zero, IfOk, IfErr, IfSome, IfNone, ℕ, ◌+◌, ◌*◌, Bool, true, false, List, ◌++◌, refl, sym, ap, subst, ◌∙◌, arith}
-use Rattle.chord_tree.specs.Derivation.{next}
-use Rattle.chord_tree.specs.Node.{Node, Made, End, ◌▸◌, Leaf}
-use Rattle.chord_tree.specs.Part.{Terminal, Symbol}
-use Rattle.chord_tree.specs.Symbols as grammar
-use Rattle.chord_tree.specs.Program.{told}
-use Rattle.chord_tree.specs.Shape.{node_at, node_start, node_actuals, node_dot, node_dots, node_exprs, node_links, level, level_tail}
-use Rattle.chord_tree.specs.Tree.{links, dots, exprs, MakeLink}
-use Rattle.chord_tree.specs.ViewExprs.{see_expr, see_link, see_dot, see_start, see_actuals}
-use Rattle.chord_tree.proofs.Ahead.{next_small}
-use Rattle.chord_parser.specs.Reading.{StopsAs, IsLed, IsOther, one_link, before_links, before_dots, before_more, before_opt}
-use Rattle.chord_parser.specs.Runs.{Reads}
-use Rattle.chord_parser.proofs.Reading.{step, ends, opened}
-use Rattle.chord_parser.proofs.Chains.{stops, stops_in, exits, begins, enters, then, renamed, as_node, ok_map, level_begun, no_link, begun_link, links_all, links_push, links_led, dots_all, dots_push, opt_push, opt_first, opt_all, shorter, shorter_dot, stuck_at, operator_read, pushed, joined, joined_rank, operator_read_at, none_at, other_at, end_other, other_told}
-use Rattle.chord_parser.proofs.Steps.{other_new, other_new_at}
-use Rattle.chord_tree.specs.Tree.{items}
-use Rattle.chord_tree.specs.Forms.{node_tail, node_other, node_stmt, node_block, node_items, node_item}
-use Rattle.chord_tree.specs.ViewStmts.{see_item, see_stmt, see_block}
-use Rattle.chord_parser.proofs.StmtLists.{items_push, items_all, named_stmt, unnamed_stmt, named_item, unnamed_item, shorter_item, basic_read, basic_begun}
+use Rattle.std.proofs.Common.{sym, ap}
+use Rattle.chord_parser.proofs.Reading.{step, ends}
+use Rattle.chord_parser.proofs.Chains.{stops, exits, as_node}
+use Rattle.chord_parser.proofs.StmtSteps.{other_new, other_new_at}
+use Rattle.chord_tree.specs.Forms.{node_other}
 use Rattle.chord_parser.proofs.stmts.new_stmt.Goals as goal
 
 pub returns-in_err-at-clause-err : goal.returns-in_err-at-clause-err

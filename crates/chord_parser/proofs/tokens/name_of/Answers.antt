@@ -1,8 +1,6 @@
-use Rattle.std.proofs.Common.{rules, ◌≡◌, ◌≢◌, ◌<◌, ◌≤◌, ◌-◌, ◌∷◌, [], length, ℕ, ◌+◌, List, refl, sym, ap, subst, ◌∙◌, arith}
+use Rattle.std.proofs.Common.{refl, sym, ap, ◌∙◌}
 use Rattle.chord_lexer.specs.declared.token.Kind.TheVariants as kinds
-use Rattle.chord_tree.specs.Derivation.{next}
-use Rattle.chord_tree.specs.Program.{told}
-use Rattle.chord_parser.proofs.Single.{told_length, skipped, taken, read, read_as, stops_other, stops_high, end_next, none_left}
+use Rattle.chord_parser.proofs.Single.{read_as}
 use Rattle.chord_parser.proofs.tokens.name_of.Goals as goal
 
 pub returns-in_ok-text-in-Name-clause-ok : goal.returns-in_ok-text-in-Name-clause-ok
