@@ -1,5 +1,5 @@
 -- The answer over a whole list of tokens.
-use Rattle.std.proofs.Common.{◌≡◌, ℕ, ◌+◌, ◌-◌, ◌≤◌, List, [], ◌∷◌, ◌++◌, length, refl, sym, ap, subst, ◌∙◌, arith, true, append-nil}
+use Rattle.std.proofs.Common.{◌≡◌, ℕ, ◌+◌, ◌-◌, ◌≤◌, List, [], ◌∷◌, ◌++◌, length, map, refl, sym, ap, subst, ◌∙◌, arith, true, append-nil}
 use Rattle.std.proofs.lemmas.List.{length-append}
 use Rattle.chord_lexer.specs.declared.token.Kind.{Kind}
 use Rattle.chord_lexer.specs.declared.token.Token.{Token}
@@ -9,7 +9,7 @@ use Rattle.chord_tree.specs.Derivation.{kinds_of, done}
 use Rattle.chord_tree.specs.Node.{spell, IsNumbered}
 use Rattle.chord_tree.specs.Tree.{ProgramTree}
 use Rattle.chord_tree.specs.Members.{node_program}
-use Rattle.chord_tree.specs.Program.{IsProgram, spelling, told}
+use Rattle.chord_tree.specs.Program.{IsProgram, spelling, told, unplaced}
 use Rattle.chord_tree.proofs.OneTree.{derives, start_legal}
 use Rattle.chord_tree.proofs.BackClasses.{only_one}
 use Rattle.chord_parser.specs.declared.faults.Fault.{Fault}
@@ -93,3 +93,11 @@ only_memory ks (answers.Tall k) h t a l e = absurd (not_high ks t h.0 a l e h.2)
 
 pub the_one : (ks : List Kind) (u : ProgramTree) → IsFound ks u → (t : ProgramTree) → IsProgram t → spelling t ≡ ks → u ≡ t
 the_one ks u f t a e = only_one u t f.program a (f.spelled ∙ sym e)
+
+-- the kinds of a program's tokens are those that it spells
+pub told_unplaced : (ks : List Kind) → told (map unplaced ks) ≡ ks
+told_unplaced [] = refl
+told_unplaced (k ∷ ks) = ap (λ z. k ∷ z) (told_unplaced ks)
+
+pub spelled_again : (t u : ProgramTree) (ts : List Token) → ts ≡ map unplaced (spelling t) → spelling u ≡ told ts → spelling t ≡ spelling u
+spelled_again t u ts e f = sym (f ∙ ap told e ∙ told_unplaced (spelling t))

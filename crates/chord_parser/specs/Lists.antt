@@ -20,9 +20,11 @@ use Rattle.chord_tree.specs.Tree.{HeaderTree, MemberTree, AConstructor, AChord, 
 use Rattle.chord_parser.specs.declared.plain.PlainWord.{PlainWord}
 use Rattle.chord_parser.specs.declared.plain.PlainWord.TheVariants as plains
 
+-- the class of a modifier's token
 abbrev pub modifier_class : ModifierWord → ℕ
 modifier_class w = number_of (word_part (modifier_word w))
 
+-- the keyword that a word of a result is
 abbrev pub plain_word : PlainWord → Keyword
 plain_word plains.Async = words.Async
 plain_word plains.Void = words.Void
@@ -30,9 +32,11 @@ plain_word plains.Int = words.Int
 plain_word plains.Bool = words.Bool
 plain_word plains.String = words.String
 
+-- the class of a result's word
 abbrev pub plain_class : PlainWord → ℕ
 plain_class w = number_of (word_part (plain_word w))
 
+-- the node of a result's word, with the number of its token
 abbrev pub plain_node : PlainWord → ℕ → Node
 plain_node w at = Made grammar.Plain (word (plain_word w) at ▸ End)
 
@@ -53,15 +57,17 @@ IsHeaded (AConstructor modifiers x formals body) ms = modifiers ≡ ms
 IsHeaded (AChord [] body) ms = ⊥
 IsHeaded (AChord (header ∷ more) body) ms = header.modifiers ≡ ms
 
+-- the list begins with the thing
 abbrev pub IsFirst : {A : Type 0} → A → List A → Type 0
 IsFirst x [] = ⊥
 IsFirst x (y ∷ ys) = y ≡ x
 
--- those after the first
+-- the headers after the first
 abbrev pub headers_after : List HeaderTree → Node
 headers_after [] = Made grammar.Headers End
 headers_after (header ∷ more) = node_headers more
 
+-- the classes after the first
 abbrev pub classes_after : List ClassTree → Node
 classes_after [] = Made grammar.Classes End
 classes_after (class ∷ more) = node_classes more
@@ -76,6 +82,7 @@ abbrev pub wrapped_after : {A : Type 0} → (A → Node → Node) → List A →
 wrapped_after f [] n = n
 wrapped_after f (x ∷ xs) n = wrapped f xs n
 
+-- parameters before another node: the first, and each further one after a comma
 abbrev pub before_formals : List Formal → Node → Node
 before_formals [] n = n
 before_formals (x ∷ xs) n = Made grammar.Optional_formals (node_formal x ▸ wrapped (λ y m. Made grammar.More_formals (mark marks.Comma 0 ▸ node_formal y ▸ m ▸ End)) xs n ▸ End)

@@ -55,6 +55,7 @@ operator_at (kinds.Mark marks.Divide) = Some operators.Divide
 operator_at (kinds.Mark marks.Remainder) = Some operators.Remainder
 operator_at _ = None
 
+-- the class of an operator's token
 abbrev pub operator_class : Operator → ℕ
 operator_class operator = number_of (mark_part (mark_of operator))
 
@@ -67,22 +68,26 @@ abbrev pub IsLed : ℕ → List LinkTree → Type 0
 IsLed l [] = Unit {0}
 IsLed l (x ∷ xs) = link_level x ≡ l
 
--- links before another node
+-- one link before another node
 abbrev pub one_link : ℕ → LinkTree → Node → Node
 one_link l (MakeLink o at t) n = Made (level_tail l) (mark (mark_of o) at ▸ lifted (l - 1) (rank t) (bare t) ▸ n ▸ End)
 
+-- links before another node
 abbrev pub before_links : ℕ → List LinkTree → Node → Node
 before_links l [] n = n
 before_links l (x ∷ xs) n = one_link l x (before_links l xs n)
 
+-- calls on what stands before, and then another node
 abbrev pub before_dots : List DotTree → Node → Node
 before_dots [] n = n
 before_dots (x ∷ xs) n = Made grammar.Dots (node_dot x ▸ before_dots xs n ▸ End)
 
+-- further arguments, a comma before each, and then another node
 abbrev pub before_more : List ExprTree → Node → Node
 before_more [] n = n
 before_more (x ∷ xs) n = Made grammar.More_exprs (mark marks.Comma 0 ▸ lifted 6 (rank x) (bare x) ▸ before_more xs n ▸ End)
 
+-- arguments before another node: the first, and the further ones
 abbrev pub before_opt : List ExprTree → Node → Node
 before_opt [] n = n
 before_opt (x ∷ xs) n = Made grammar.Optional_exprs (lifted 6 (rank x) (bare x) ▸ before_more xs n ▸ End)
@@ -101,6 +106,7 @@ IsUnnamed (Calls x actuals calls) = ⊥
 IsUnnamed (CallsThrough x first calls) = ⊥
 IsUnnamed _ = Unit {0}
 
+-- items before another node
 abbrev pub before_items : List ItemTree → Node → Node
 before_items [] n = n
 before_items (x ∷ xs) n = Made grammar.Items (node_item x ▸ before_items xs n ▸ End)

@@ -30,11 +30,12 @@ mutual
     word : {all c d : ℕ} {k : Kind} {ks : List Kind} → class_of k ≡ c → d ≤ 200 → Reads all (Terminal c) d (k ∷ ks) ks (Leaf k (number_at k (all - length (k ∷ ks))))
     tree : {all x d i : ℕ} {ks rest : List Kind} {ns : Nodes} → choice x (next ks) ≡ i → i < rule_count → ReadAll all (parts_of i) (inside x d) ks rest ns → Reads all (Symbol x) d ks rest (Made (Symbol x) ns)
 
+  -- Parts side by side are read as nodes side by side.
   pub data ReadAll : ℕ → List Part → ℕ → List Kind → List Kind → Nodes → Type 0 where
     none : {all d : ℕ} {ks : List Kind} → ReadAll all [] d ks ks End
     more : {all d : ℕ} {p : Part} {ps : List Part} {ks mid rest : List Kind} {n : Node} {ns : Nodes} → Reads all p d ks mid n → ReadAll all ps d mid rest ns → ReadAll all (p ∷ ps) d ks rest (n ▸ ns)
 
--- The part is read as far as mid. Where the parts ps are read next, as some counted, it is read, and f gives its node.
+-- The part at depth d is read as far as mid. Where the parts ps at depth e are read next, all of it is read, and f gives its node.
 pub record Onward (all : ℕ) (p : Part) (d : ℕ) (ks : List Kind) (ps : List Part) (e : ℕ) (mid : List Kind) (f : Nodes → Node) : Type 0 where
   pub reads : (rest : List Kind) (ns : Nodes) → ReadAll all ps e mid rest ns → Reads all p d ks rest (f ns)
   pub runs : (s : List Want) (v : Verdict) → Runs (placed e ps ++ s) mid v → Runs ((p, d) ∷ s) ks v

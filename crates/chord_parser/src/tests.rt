@@ -3,6 +3,7 @@
 use crate::parser::{ParseFault, parse};
 use chord_lexer::lexer::lex;
 use chord_lexer::token::{Kind, Token};
+use chord_tree::program::Program;
 use chord_tree::spelling::spell;
 use std::alloc::{AllocError, Global};
 use std::test::Fail;
@@ -97,16 +98,20 @@ fn same_kinds(left: &[Token], right: &[Token]) -> bool {
     true
 }
 
-/// What `parse` says of the tokens that a program spells.
-fn again(alloc: Global, tokens: &[Token], spelled: &[Token]) -> Result<String, AllocError> {
+/// What `parse` says of the tokens that a program spells. Where that is a program, `only_one` takes the two: their tree is the same.
+fn again(alloc: Global, first: &Program, tokens: &[Token]) -> Result<String, AllocError> {
+    let spelled = spell(alloc, first)?;
     if spelled.len() > 1_048_576 {
         return String::from_str(alloc, "too long");
     }
-    if !same_kinds(tokens, spelled) {
+    if !same_kinds(tokens, &spelled) {
         return String::from_str(alloc, "spelled otherwise");
     }
-    match parse(alloc, spelled) {
-        Ok(_) => format!(in alloc; "program of {} tokens", spelled.len()),
+    match parse(alloc, &spelled) {
+        Ok(second) => {
+            first.only_one(&second);
+            format!(in alloc; "program of {} tokens", spelled.len())
+        }
         Err(_) => String::from_str(alloc, "not parsed again"),
     }
 }
@@ -116,10 +121,7 @@ fn parsed(alloc: Global, tokens: &[Token]) -> Result<String, AllocError> {
         return String::from_str(alloc, "too long");
     }
     match parse(alloc, tokens) {
-        Ok(program) => {
-            let spelled = spell(alloc, &program)?;
-            again(alloc, tokens, &spelled)
-        }
+        Ok(program) => again(alloc, &program, tokens),
         Err(ParseFault::At(k)) => format!(in alloc; "at {k}"),
         Err(ParseFault::Tall(k)) => format!(in alloc; "tall {k}"),
         Err(ParseFault::Memory) => String::from_str(alloc, "no memory"),
@@ -251,9 +253,9 @@ fn a_token_is_at_most_200_deep(rt: HostRuntime) -> Result<(), Fail> {
 
 #[test]
 fn chains_and_classes_are_read_in_loops(rt: HostRuntime) -> Result<(), Fail> {
-    let source = repeated(rt.alloc(), "class A { A() { x = 1", "+1", 100_000, "; } }")?;
+    let source = repeated(rt.alloc(), "class A { A() { x = 1", "+1", 99_999, "; } }")?;
     let found = answer(rt.alloc(), source.as_bytes())?;
-    assert_eq!(rt; found.as_str(), "program of 200013 tokens");
+    assert_eq!(rt; found.as_str(), "program of 200011 tokens");
     let source = repeated(rt.alloc(), "", "class A{}", 10_000, "")?;
     let found = answer(rt.alloc(), source.as_bytes())?;
     assert_eq!(rt; found.as_str(), "program of 40000 tokens");
