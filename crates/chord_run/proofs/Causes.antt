@@ -5,32 +5,42 @@ use Rattle.chord_base.specs.Meaning.{Program}
 use Rattle.chord_base.specs.Printed.{has_failed, main_ended, status_of}
 use Rattle.chord_base.specs.declared.event.Entry.{Entry}
 use Rattle.chord_lexer.proofs.Chains.{not_both, one_list}
+use Rattle.chord_lexer.specs.declared.token.Token.{Token}
 use Rattle.chord_parser.proofs.Whole.{not_high, not_wrong}
+use Rattle.chord_parser.specs.declared.parser.ParseFault.TheVariants as parser
 use Rattle.chord_tree.specs.Program.{told}
 use Rattle.chord_run.specs.Answers.{Answers, Gives, IsDue, IsPlayed, IsRefusal}
-use Rattle.chord_run.specs.Refusals.{IsCause}
+use Rattle.chord_run.specs.Refusals.{IsAnsweredBy, IsCause}
 use Rattle.chord_run.specs.Rows.{CutsShort, Fills, Finishes, Refuses}
-use Rattle.chord_run.specs.Sources.{IsAccepted}
+use Rattle.chord_run.specs.Sources.{IsAccepted, IsGrammatical}
 use Rattle.chord_run.specs.Written.{Due}
 use Rattle.chord_run.specs.declared.refusal.Refusal.{Refusal}
 use Rattle.chord_run.specs.declared.refusal.Refusal.TheVariants.{Long, Bad, Syntax, Tall, Unbuilt}
 use Rattle.chord_run.specs.declared.report.Report.{Report}
 
--- a source with a cause of refusal is not accepted
+-- a program spells the tokens of a source, so none of them fits no program
+pub not_syntax :
+    (source : List ℕ) (tokens : List Token) (k : ℕ) → IsAnsweredBy source (parser.At k) → IsGrammatical source tokens → ⊥
+not_syntax source tokens k a g =
+    let same = one_list source a.tokens tokens a.read g.read in
+    not_wrong (told a.tokens) g.program a.answer.0 g.is_program (rw same g.spelled) a.answer.2
+
+-- nor is one of them too deep
+pub not_tall :
+    (source : List ℕ) (tokens : List Token) (k : ℕ) → IsAnsweredBy source (parser.Tall k) → IsGrammatical source tokens → ⊥
+not_tall source tokens k a g =
+    let same = one_list source a.tokens tokens a.read g.read in
+    not_high (told a.tokens) g.program a.answer.0 g.is_program g.low (rw same g.spelled) a.answer.2
+
+-- a source with a cause of a refusal is not accepted
 pub cause_refuses : (source : List ℕ) (refusal : Refusal) → IsCause source refusal → IsAccepted source → ⊥
 cause_refuses source Long long a = let s = a.1.1.grammatical.short in omega arith
 cause_refuses source (Bad k) bad a = not_both source a.1.1.tokens k a.1.1.grammatical.read bad.1
-cause_refuses source (Syntax k) c a =
-    let g = a.1.1.grammatical in
-    let e = one_list source c.tokens a.1.1.tokens c.read g.read in
-    not_wrong (told c.tokens) g.program c.answer.0 g.is_program (rw e g.spelled) c.answer.2
-cause_refuses source (Tall k) c a =
-    let g = a.1.1.grammatical in
-    let e = one_list source c.tokens a.1.1.tokens c.read g.read in
-    not_high (told c.tokens) g.program c.answer.0 g.is_program g.low (rw e g.spelled) c.answer.2
+cause_refuses source (Syntax k) c a = not_syntax source a.1.1.tokens k c a.1.1.grammatical
+cause_refuses source (Tall k) c a = not_tall source a.1.1.tokens k c a.1.1.grammatical
 cause_refuses source Unbuilt other a =
-    let e = one_list source other.tokens a.1.1.tokens other.grammatical.read a.1.1.grammatical.read in
-    other.other a.1.0 (rw e a.1.1.small)
+    let same = one_list source other.tokens a.1.1.tokens other.grammatical.read a.1.1.grammatical.read in
+    other.other a.1.0 (rw same a.1.1.small)
 
 abbrev status_by : Bool → Bool → ℕ
 status_by failed ended = if failed then 8 else if ended then 0 else 4

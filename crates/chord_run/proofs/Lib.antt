@@ -2,6 +2,7 @@ pub mod Starts
 pub mod Causes
 pub mod Complete
 pub mod Exact
+pub mod OneCause
 pub mod Answering
 pub mod Words
 pub mod Breaks

@@ -7,3 +7,4 @@ pub mod Refusals
 pub mod Written
 pub mod Answers
 pub mod Rows
+pub mod Laws

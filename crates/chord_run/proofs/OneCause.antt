@@ -1,0 +1,70 @@
+-- A source has at most one cause of a refusal.
+use Rattle.std.proofs.Common.{◌≡◌, ℕ, List, refl, sym, ap, inl, inr, arith}
+use Rattle.chord_lexer.proofs.Chains.{not_both, one_list, one_place}
+use Rattle.chord_lexer.specs.declared.token.Token.{Token}
+use Rattle.chord_parser.proofs.OneVerdict.{at_only, tall_only}
+use Rattle.chord_parser.specs.declared.parser.ParseFault.TheVariants as parser
+use Rattle.chord_tree.specs.Program.{told}
+use Rattle.chord_run.specs.Refusals.{IsAnsweredBy, IsCause}
+use Rattle.chord_run.specs.Sources.{IsShort}
+use Rattle.chord_run.specs.declared.refusal.Refusal.{Refusal}
+use Rattle.chord_run.specs.declared.refusal.Refusal.TheVariants.{Long, Bad, Syntax, Tall, Unbuilt}
+use Rattle.chord_run.proofs.Causes.{not_syntax, not_tall}
+
+-- a source has not too many bytes where it is short
+not_long : (source : List ℕ) (refusal : Refusal) → IsCause source Long → IsShort source → Long ≡ refusal
+not_long source refusal long short = absurd (omega arith)
+
+-- a source that the parser answers by a token has the refusal at that token alone
+one_syntax : (source : List ℕ) (j k : ℕ) → IsAnsweredBy source (parser.At j) → IsAnsweredBy source (parser.At k) → j ≡ k
+one_syntax source j k a b =
+    let same = one_list source a.tokens b.tokens a.read b.read in
+    elim (at_only (told a.tokens) (parser.At j) a.answer k (rw same b.answer)) [
+      | inl memory ↦ absurd (cc)
+      | inr at ↦ cc
+    ]
+
+-- likewise a source that has a token too deep
+one_tall : (source : List ℕ) (j k : ℕ) → IsAnsweredBy source (parser.Tall j) → IsAnsweredBy source (parser.Tall k) → j ≡ k
+one_tall source j k a b =
+    let same = one_list source a.tokens b.tokens a.read b.read in
+    elim (tall_only (told a.tokens) (parser.Tall j) a.answer k (rw same b.answer)) [
+      | inl memory ↦ absurd (cc)
+      | inr tall ↦ cc
+    ]
+
+-- no source has both
+not_syntax_and_tall : (source : List ℕ) (j k : ℕ) → IsAnsweredBy source (parser.At j) → IsAnsweredBy source (parser.Tall k) → ⊥
+not_syntax_and_tall source j k a b =
+    let same = one_list source a.tokens b.tokens a.read b.read in
+    elim (tall_only (told a.tokens) (parser.At j) a.answer k (rw same b.answer)) [
+      | inl memory ↦ cc
+      | inr tall ↦ cc
+    ]
+
+pub one_cause : (source : List ℕ) (r s : Refusal) → IsCause source r → IsCause source s → r ≡ s
+one_cause source Long Long a b = refl
+one_cause source Long (Bad k) a b = not_long source (Bad k) a b.0
+one_cause source Long (Syntax k) a b = not_long source (Syntax k) a b.short
+one_cause source Long (Tall k) a b = not_long source (Tall k) a b.short
+one_cause source Long Unbuilt a b = not_long source Unbuilt a b.grammatical.short
+one_cause source (Bad j) Long a b = sym (not_long source (Bad j) b a.0)
+one_cause source (Bad j) (Bad k) a b = ap Bad (one_place source j k a.1 b.1)
+one_cause source (Bad j) (Syntax k) a b = absurd (not_both source b.tokens j b.read a.1)
+one_cause source (Bad j) (Tall k) a b = absurd (not_both source b.tokens j b.read a.1)
+one_cause source (Bad j) Unbuilt a b = absurd (not_both source b.tokens j b.grammatical.read a.1)
+one_cause source (Syntax j) Long a b = sym (not_long source (Syntax j) b a.short)
+one_cause source (Syntax j) (Bad k) a b = absurd (not_both source a.tokens k a.read b.1)
+one_cause source (Syntax j) (Syntax k) a b = ap Syntax (one_syntax source j k a b)
+one_cause source (Syntax j) (Tall k) a b = absurd (not_syntax_and_tall source j k a b)
+one_cause source (Syntax j) Unbuilt a b = absurd (not_syntax source b.tokens j a b.grammatical)
+one_cause source (Tall j) Long a b = sym (not_long source (Tall j) b a.short)
+one_cause source (Tall j) (Bad k) a b = absurd (not_both source a.tokens k a.read b.1)
+one_cause source (Tall j) (Syntax k) a b = absurd (not_syntax_and_tall source k j b a)
+one_cause source (Tall j) (Tall k) a b = ap Tall (one_tall source j k a b)
+one_cause source (Tall j) Unbuilt a b = absurd (not_tall source b.tokens j a b.grammatical)
+one_cause source Unbuilt Long a b = sym (not_long source Unbuilt b a.grammatical.short)
+one_cause source Unbuilt (Bad k) a b = absurd (not_both source a.tokens k a.grammatical.read b.1)
+one_cause source Unbuilt (Syntax k) a b = absurd (not_syntax source a.tokens k b a.grammatical)
+one_cause source Unbuilt (Tall k) a b = absurd (not_tall source a.tokens k b a.grammatical)
+one_cause source Unbuilt Unbuilt a b = refl
