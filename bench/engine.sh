@@ -19,14 +19,16 @@ python3 - "$top/crates/chord_prog/out/chord_prog" "$work" <<'PYTHON'
 import resource, subprocess, sys
 program, work = sys.argv[1:]
 
+RUNS = 40
+
+
 def user(count):
-    times = []
-    for _ in range(15):
+    # the mean of many runs: the system counts user time in ticks, of which one run has few
+    before = resource.getrusage(resource.RUSAGE_CHILDREN).ru_utime
+    for _ in range(RUNS):
         with open(f'{work}/{count}.cs', 'rb') as stdin:
-            before = resource.getrusage(resource.RUSAGE_CHILDREN).ru_utime
             subprocess.run([program, 'run', '--one'], stdin=stdin, stdout=subprocess.DEVNULL, check=True)
-            times.append(resource.getrusage(resource.RUSAGE_CHILDREN).ru_utime - before)
-    return min(times)
+    return (resource.getrusage(resource.RUSAGE_CHILDREN).ru_utime - before) / RUNS
 
 once, twice = user(5000), user(10000)
 print(f'engine: {twice * 1e3:.1f} ms / {once * 1e3:.1f} ms = {twice / once:.1f}')
