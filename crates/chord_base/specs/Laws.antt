@@ -102,7 +102,7 @@ PlacesGather =
 
 -- ## Complete runs
 
--- nothing may follow a run in which `Main` has begun, no body has a next ask, and no chord has all its messages
+-- nothing may follow a run in which `Main` has begun, no body has a next ask, and no chord is enabled
 abbrev pub CompleteWhenQuiet : Type 0
 CompleteWhenQuiet = (p : Program) (h : List Entry) → IsPast p h → (h ≡ [] → ⊥) → NoneAsks p h → NoneFires p h → IsFinal p h
 
@@ -112,7 +112,7 @@ QuietWhenComplete =
     (p : Program) (h : List Entry) → IsFinal p h → (h ≡ [] → ⊥) × ((b : ℕ) (w : What) → IsOwn w → Asks p h b w → ⊥) × NoneFires p h
 
 -- a run in places is complete where each body has no next ask in its place, none lacks there the call that it serves,
--- and no chord has all its messages
+-- and no chord is enabled
 abbrev pub CompleteInPlaces : Type 0
 CompleteInPlaces =
     (p : Program) (view : ℕ → List Entry) (h : List Entry) → IsMerged p view h → (h ≡ [] → ⊥) → ((i b : ℕ) → (asked p (doing p (view i) b) ≡ None) × (doing p (view i) b ≡ Unplaced → ⊥)) → NoneFires p h → IsFinal p h
