@@ -40,14 +40,14 @@ IsSaid p ws Unplaced = Unit {0}
 IsSaid p ws (Over x) = Unit {0}
 
 -- the body has an entry
-abbrev HasEntry : Doing → Type 0
+abbrev pub HasEntry : Doing → Type 0
 HasEntry Absent = ⊥
 HasEntry Unplaced = Unit {0}
 HasEntry (Ready s d rs) = Unit {0}
 HasEntry (Waits s d rs q l) = Unit {0}
 HasEntry (Over x) = Unit {0}
 
-asks_entry : (p : Program) (d : Doing) (a : Asked) → asked p d ≡ Some a → HasEntry d
+pub asks_entry : (p : Program) (d : Doing) (a : Asked) → asked p d ≡ Some a → HasEntry d
 asks_entry p (Ready s d rs) a e = tt
 asks_entry p Unplaced a e = tt
 asks_entry p (Waits s d rs q l) a e = tt
@@ -72,7 +72,7 @@ heard_entry w c (Over x) e = tt
 heard_entry w c Absent e = subst HasEntry (heard_absent w c) e
 
 -- the body of the next entry has an earlier one, or is new
-body_below : (p : Program) (h : List Entry) (n b : ℕ) (w : What) → n ≡ length h → Comes p h n b w → ((c : ℕ) → HasEntry (doing p h c) → c < length h) → b ≤ length h
+pub body_below : (p : Program) (h : List Entry) (n b : ℕ) (w : What) → n ≡ length h → Comes p h n b w → ((c : ℕ) → HasEntry (doing p h c) → c < length h) → b ≤ length h
 body_below p h n b Begun e c f = omega (arith, c.1)
 body_below p h n b (Fired k o ms vs) e c f = omega (arith, c.0, e)
 body_below p h n b (Made k) e c f = (let l = f b (asks_entry p (doing p h b) _ c.1) in omega (arith, l))
@@ -82,7 +82,7 @@ body_below p h n b (Printed t) e c f = (let l = f b (asks_entry p (doing p h b) 
 body_below p h n b (Ended x) e c f = (let l = f b (asks_entry p (doing p h b) _ c.1) in omega (arith, l))
 
 -- in a run, bodies with an entry have smaller numbers than the next one
-entry_within : (p : Program) (h : List Entry) (b : ℕ) → IsPast p h → HasEntry (doing p h b) → b < length h
+pub entry_within : (p : Program) (h : List Entry) (b : ℕ) → IsPast p h → HasEntry (doing p h b) → b < length h
 entry_within p [] b r e = absurd e
 entry_within p (x ∷ h) b r e =
     elim (either (x.body == b)) [

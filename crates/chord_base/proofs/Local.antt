@@ -76,7 +76,7 @@ others_change_nothing p e h b other unless =
 pub end_answers_caller : EndAnswersCaller
 end_answers_caller p e h b q d l x s rs other is serving waits = call_answered p e h b x s d rs q l (ne_eqb e.body b other) is waits serving
 
-waits_on_it : (P : ℕ → Type 0) (q : ℕ) (d : Doing) → WaitsOn P d → WaitsFor q d → P q
+pub waits_on_it : (P : ℕ → Type 0) (q : ℕ) (d : Doing) → WaitsOn P d → WaitsFor q d → P q
 waits_on_it P q (Waits s d rs c l) w e = subst P (sym e) w
 waits_on_it P q (Ready s d rs) w e = absurd e
 waits_on_it P q Absent w e = absurd e

@@ -138,7 +138,7 @@ merged_quiet p view h m q b =
     (λ e. u.1 (sym here ∙ e))
     (ap (asked p) here ∙ u.0)
 
--- the end: no body asks in its place, and no chord has all its messages
+-- the end: no body asks in its place, and no chord is enabled
 pub merged_final : (p : Program) (view : ℕ → List Entry) (h : List Entry) → IsMerged p view h → 0 < length h → ((i b : ℕ) → (asked p (doing p (view i) b) ≡ None) × (doing p (view i) b ≡ Unplaced → ⊥)) → NoneFires p h → IsFinal p h
 merged_final p view h m s q f = final_when p h m.past s (merged_quiet p view h m q) f
 

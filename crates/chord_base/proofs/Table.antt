@@ -12,7 +12,7 @@ use Rattle.chord_base.specs.Meaning.{Program, Asked}
 use Rattle.chord_base.specs.Messages.{maker}
 use Rattle.chord_base.specs.Bodies.{Doing, Absent, own, heard, doing, serves, asked, Asks}
 use Rattle.chord_base.specs.Machine.{Comes, MayFollow}
-use Rattle.chord_base.specs.Prefix.{doing_of, doing_at, IsTable}
+use Rattle.chord_base.specs.BodyTable.{doing_of, doing_at, IsTable}
 use Rattle.chord_base.proofs.Waits.{either}
 
 -- past the end of a table bodies are absent
