@@ -1,0 +1,5 @@
+mod TypesShow
+pub mod Seen
+mod Lasts
+mod ChainTypes
+mod Slots
