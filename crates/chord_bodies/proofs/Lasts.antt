@@ -3,8 +3,8 @@ use Rattle.std.proofs.Common.{◌≡◌, ℕ, suc, ◌-◌, List, [], ◌∷◌,
 use Rattle.chord_bodies.specs.declared.expr.BinaryOperator.{BinaryOperator}
 use Rattle.chord_bodies.specs.declared.expr.Link.{Link}
 use Rattle.chord_bodies.specs.declared.expr.Call.{Call}
-use Rattle.chord_bodies.specs.declared.static_type.StaticType.{StaticType}
-use Rattle.chord_bodies.specs.View.{see_link, see_call}
+use Rattle.chord_base.specs.declared.static_type.StaticType.{StaticType}
+use Rattle.chord_bodies.specs.View.{view_link, view_call}
 use Rattle.chord_bodies.specs.Chains.{last_link, last_call}
 
 module _ {A B : Type 0} (f : A → B) where
@@ -37,28 +37,28 @@ module _ {A B : Type 0} (f : A → B) where
 
 -- the operator of a link
 abbrev operator_of : Link → BinaryOperator
-operator_of link = (see_link link).operator
+operator_of link = (view_link link).operator
 
 -- the result of a call
 abbrev result_of : Call → Option StaticType
-result_of call = (see_call call).result
+result_of call = (view_call call).result
 
-links_last : (operator : BinaryOperator) (links : List Link) → last_link operator (map see_link links) ≡ last_by operator_of operator links
+links_last : (operator : BinaryOperator) (links : List Link) → last_link operator (map view_link links) ≡ last_by operator_of operator links
 links_last operator [] = refl
 links_last operator (link ∷ more) = links_last (operator_of link) more
 
-calls_last : (result : Option StaticType) (calls : List Call) → last_call result (map see_call calls) ≡ last_by result_of result calls
+calls_last : (result : Option StaticType) (calls : List Call) → last_call result (map view_call calls) ≡ last_by result_of result calls
 calls_last result [] = refl
 calls_last result (call ∷ more) = calls_last (result_of call) more
 
-pub last_link_there : (operator : BinaryOperator) (links : List Link) (link : Link) → slice_get links (length links - 1) ≡ Some link → last_link operator (map see_link links) ≡ operator_of link
+pub last_link_there : (operator : BinaryOperator) (links : List Link) (link : Link) → slice_get links (length links - 1) ≡ Some link → last_link operator (map view_link links) ≡ operator_of link
 last_link_there operator links link h = links_last operator links ∙ last_there operator_of operator links link h
 
-pub last_link_absent : (operator : BinaryOperator) (links : List Link) → slice_get links (length links - 1) ≡ None → last_link operator (map see_link links) ≡ operator
+pub last_link_absent : (operator : BinaryOperator) (links : List Link) → slice_get links (length links - 1) ≡ None → last_link operator (map view_link links) ≡ operator
 last_link_absent operator links h = links_last operator links ∙ last_absent operator_of operator links h
 
-pub last_call_there : (result : Option StaticType) (calls : List Call) (call : Call) → slice_get calls (length calls - 1) ≡ Some call → last_call result (map see_call calls) ≡ result_of call
+pub last_call_there : (result : Option StaticType) (calls : List Call) (call : Call) → slice_get calls (length calls - 1) ≡ Some call → last_call result (map view_call calls) ≡ result_of call
 last_call_there result calls call h = calls_last result calls ∙ last_there result_of result calls call h
 
-pub last_call_absent : (result : Option StaticType) (calls : List Call) → slice_get calls (length calls - 1) ≡ None → last_call result (map see_call calls) ≡ result
+pub last_call_absent : (result : Option StaticType) (calls : List Call) → slice_get calls (length calls - 1) ≡ None → last_call result (map view_call calls) ≡ result
 last_call_absent result calls h = calls_last result calls ∙ last_absent result_of result calls h

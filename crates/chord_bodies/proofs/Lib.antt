@@ -1,5 +1,5 @@
 mod TypesShow
-pub mod Seen
+pub mod Viewed
 mod Lasts
 mod ChainTypes
 mod Slots

@@ -2,8 +2,8 @@
 use Rattle.std.specs.Prelude.{List, [], ◌∷◌, Option}
 use Rattle.chord_bodies.specs.declared.expr.BinaryOperator.{BinaryOperator}
 use Rattle.chord_bodies.specs.declared.expr.BinaryOperator.TheVariants.{And, Or, By}
-use Rattle.chord_bodies.specs.declared.static_type.StaticType.{StaticType}
-use Rattle.chord_bodies.specs.declared.static_type.StaticType.TheVariants as ty
+use Rattle.chord_base.specs.declared.static_type.StaticType.{StaticType}
+use Rattle.chord_base.specs.declared.static_type.StaticType.TheVariants as ty
 use Rattle.chord_bodies.specs.View.{LinkOf, CallOf}
 use Rattle.chord_bodies.specs.Types.{operation_type}
 

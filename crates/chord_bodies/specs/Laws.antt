@@ -1,6 +1,6 @@
 -- What holds of expressions that keep to their types.
 use Rattle.std.specs.Prelude.{◌≡◌, ℕ, Option, Some, slice_get}
-use Rattle.chord_bodies.specs.declared.static_type.StaticType.{StaticType}
+use Rattle.chord_base.specs.declared.static_type.StaticType.{StaticType}
 use Rattle.chord_bodies.specs.Resolved.{ExprOf, BodyOf}
 use Rattle.chord_bodies.specs.Types.{Signatures, Scope, ExprIs, slot_type, type_of}
 

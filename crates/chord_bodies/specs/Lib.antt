@@ -1,6 +1,4 @@
 -- ## What callers read
--- The static types of values, and the signatures of methods.
-pub mod Signatures
 -- Resolved programs as values: expressions, statements, bodies, and the plan.
 pub mod Resolved
 -- What expressions, statements and plans in memory stand for.

@@ -2,7 +2,7 @@
 use Rattle.std.specs.Prelude.{◌≡◌, ◌<◌, ◌≤◌, ℕ, List, [], ◌∷◌, ◌++◌, length, Bool, true, false, Option, Some, None, slice_get}
 use Rattle.chord_base.specs.Meaning.{OneSync}
 use Rattle.chord_base.specs.Messages.{AreDifferent, has}
-use Rattle.chord_bodies.specs.declared.static_type.StaticType.{StaticType}
+use Rattle.chord_base.specs.declared.static_type.StaticType.{StaticType}
 use Rattle.chord_bodies.specs.Resolved.{BodyOf, ClassOf, ChordOf, MethodOf, Resolved}
 use Rattle.chord_bodies.specs.Types.{Signature, Signatures}
 
@@ -21,9 +21,9 @@ gives sig c [] r = r ≡ None
 gives sig c (j ∷ js) r = (m : Signature) × (sig.methods c j ≡ Some m) × if_sync m.is_sync (r ≡ m.result) (gives sig c js r)
 
 -- whether callers of a method wait
-abbrev pub waits_in : Option Signature → Bool
-waits_in None = false
-waits_in (Some m) = m.is_sync
+abbrev pub is_sync_in : Option Signature → Bool
+is_sync_in None = false
+is_sync_in (Some m) = m.is_sync
 
 pub record ChordIs (sig : Signatures) (p : Resolved) (c : ℕ) (k : ChordOf) : Type 0 where
   pub body : BodyOf
@@ -33,7 +33,7 @@ pub record ChordIs (sig : Signatures) (p : Resolved) (c : ℕ) (k : ChordOf) : T
   pub some : 0 < length k.methods
   pub few : length k.methods ≤ 8
   pub different : AreDifferent k.methods
-  pub one_sync : OneSync (λ j. waits_in (sig.methods c j)) k.methods
+  pub one_sync : OneSync (λ j. is_sync_in (sig.methods c j)) k.methods
   pub parameters : laid sig c k.methods body.parameters
   pub result : gives sig c k.methods body.result
 

@@ -1,7 +1,7 @@
 -- Programs whose names are resolved, without where their parts lie in memory: operators and calls one by one, from the left.
 use Rattle.std.specs.Prelude.{ℕ, ◌+◌, List, length, Bool, Option, ℤ}
-use Rattle.chord_bodies.specs.declared.operation.Operation.{Operation}
-use Rattle.chord_bodies.specs.declared.static_type.StaticType.{StaticType}
+use Rattle.chord_base.specs.declared.operation.Operation.{Operation}
+use Rattle.chord_base.specs.declared.static_type.StaticType.{StaticType}
 
 mutual
   -- an expression, which a body evaluates to a value

@@ -1,10 +1,10 @@
 -- When resolved expressions, statements and bodies keep to their static types.
 use Rattle.std.specs.Prelude.{◌≡◌, ℕ, zero, suc, List, [], ◌∷◌, ◌++◌, map, Bool, true, false, ◌&&◌, ◌||◌, Option, Some, None, slice_get}
-use Rattle.chord_bodies.specs.declared.operation.Operation.{Operation}
-use Rattle.chord_bodies.specs.declared.operation.Operation.TheVariants.{Add, Subtract, Multiply, Divide, Remainder, Join, Equal, NotEqual, Less, Greater, LessOrEqual, GreaterOrEqual}
-use Rattle.chord_bodies.specs.declared.static_type.StaticType.{StaticType}
-use Rattle.chord_bodies.specs.declared.static_type.StaticType.TheVariants as ty
-pub use Rattle.chord_bodies.specs.Signatures.{Signature, Signatures, Has, HaveAll}
+use Rattle.chord_base.specs.declared.operation.Operation.{Operation}
+use Rattle.chord_base.specs.declared.operation.Operation.TheVariants.{Add, Subtract, Multiply, Divide, Remainder, Join, Equal, NotEqual, Less, Greater, LessOrEqual, GreaterOrEqual}
+use Rattle.chord_base.specs.declared.static_type.StaticType.{StaticType}
+use Rattle.chord_base.specs.declared.static_type.StaticType.TheVariants as ty
+pub use Rattle.chord_base.specs.Types.{Signature, Signatures, Has, HaveAll}
 use Rattle.chord_bodies.specs.Resolved.{ExprOf, ExprsOf, StmtOf, StmtsOf, BodyOf, IntOf, FlagOf, TextOf, Load, This, Negate, Deny, Operate, Both, Either, New, Call, NoExprs, MoreExprs, Store, Do, Send, Print, IfThen, IfElse, While, Return, Give, Block, NoStmts, MoreStmts}
 
 -- a value of the first type may stand where the second is wanted: a class fits its base classes
@@ -95,12 +95,12 @@ declared zero t (x ∷ xs) = Some t ∷ xs
 declared (suc i) t (x ∷ xs) = x ∷ declared i t xs
 
 -- the type of the value that `return` is to give: none in a constructor and where no value is due
-abbrev pub Due : Type 0
-Due = Option StaticType
+abbrev pub ValueDue : Type 0
+ValueDue = Option StaticType
 
 abbrev mutual
   -- a statement keeps to its types, from one scope to the next
-  pub StmtIs : Signatures → Due → StmtOf → Scope → Scope → Type 0
+  pub StmtIs : Signatures → ValueDue → StmtOf → Scope → Scope → Type 0
   StmtIs sig due (Store i e) g d = (a t : StaticType) × (old : Option StaticType) × ExprIs sig g e (Some a) × (fits sig a t ≡ true) × (slice_get g i ≡ Some old) × Keeps (Some t) old × (d ≡ declared i t g)
   StmtIs sig due (Do e) g d = (t : Option StaticType) × ExprIs sig g e t × (d ≡ g)
   StmtIs sig due (Send r c j args) g d = (m : Signature) × ExprIs sig g r (Some (ty.Class c)) × (sig.methods c j ≡ Some m) × (m.is_sync ≡ false) × ExprsAre sig g args m.parameters × (d ≡ g)
@@ -113,7 +113,7 @@ abbrev mutual
   StmtIs sig due (Block ss) g d = (a : Scope) × StmtsAre sig due ss g a × Extends a g × (d ≡ g)
 
   -- the statements of a block keep to their types, each in the scope that the one before it leaves
-  pub StmtsAre : Signatures → Due → StmtsOf → Scope → Scope → Type 0
+  pub StmtsAre : Signatures → ValueDue → StmtsOf → Scope → Scope → Type 0
   StmtsAre sig due NoStmts g d = d ≡ g
   StmtsAre sig due (MoreStmts s ss) g d = (a : Scope) × StmtIs sig due s g a × StmtsAre sig due ss a d
 

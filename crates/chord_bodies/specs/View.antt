@@ -12,7 +12,7 @@ use Rattle.chord_bodies.specs.declared.stmt.Stmt.{Stmt}
 use Rattle.chord_bodies.specs.declared.stmt.Stmt.TheOpen.{Stmt-F}
 use Rattle.chord_bodies.specs.declared.stmt.Stmt.TheOpen as stmt_parts
 use Rattle.chord_bodies.specs.declared.stmt.Stmt.TheFolds.{fold-Stmt}
-use Rattle.chord_bodies.specs.declared.static_type.StaticType.{StaticType}
+use Rattle.chord_base.specs.declared.static_type.StaticType.{StaticType}
 use Rattle.chord_bodies.specs.declared.plan.MethodPlan.{MethodPlan}
 use Rattle.chord_bodies.specs.declared.plan.ChordPlan.{ChordPlan}
 use Rattle.chord_bodies.specs.declared.plan.ClassPlan.{ClassPlan}
@@ -58,70 +58,70 @@ calls_on first [] = first
 calls_on first (call ∷ more) = calls_on (to.Call first call.class call.method call.result call.arguments) more
 
 -- an expression, of what its parts stand for
-abbrev pub expr_step : Expr-F ExprOf CallOf LinkOf → ExprOf
-expr_step (parts.Int value) = to.IntOf value
-expr_step (parts.Flag value) = to.FlagOf value
-expr_step (parts.Text bytes) = to.TextOf bytes
-expr_step (parts.Load slot) = to.Load slot
-expr_step parts.This = to.This
-expr_step (parts.Negate operand) = to.Negate operand.value
-expr_step (parts.Deny operand) = to.Deny operand.value
-expr_step (parts.Chain first link more) = links_on first.value (link.value ∷ more.items)
-expr_step (parts.New class arguments) = to.New class (expr_list arguments.items)
-expr_step (parts.Calls first call more) = calls_on first.value (call.value ∷ more.items)
+abbrev pub expr_view_step : Expr-F ExprOf CallOf LinkOf → ExprOf
+expr_view_step (parts.Int value) = to.IntOf value
+expr_view_step (parts.Flag value) = to.FlagOf value
+expr_view_step (parts.Text bytes) = to.TextOf bytes
+expr_view_step (parts.Load slot) = to.Load slot
+expr_view_step parts.This = to.This
+expr_view_step (parts.Negate operand) = to.Negate operand.value
+expr_view_step (parts.Deny operand) = to.Deny operand.value
+expr_view_step (parts.Chain first link more) = links_on first.value (link.value ∷ more.items)
+expr_view_step (parts.New class arguments) = to.New class (expr_list arguments.items)
+expr_view_step (parts.Calls first call more) = calls_on first.value (call.value ∷ more.items)
 
 -- an operator and its right operand, of what the operand stands for
-abbrev pub link_step : Link-F ExprOf CallOf LinkOf → LinkOf
-link_step link = record { operator = link.operator; operand = link.operand }
+abbrev pub link_view_step : Link-F ExprOf CallOf LinkOf → LinkOf
+link_view_step link = record { operator = link.operator; operand = link.operand }
 
 -- a call, of what its arguments stand for
-abbrev pub call_step : Call-F ExprOf CallOf LinkOf → CallOf
-call_step call = record { class = call.class; method = call.method; result = call.result; arguments = expr_list call.arguments.items }
+abbrev pub call_view_step : Call-F ExprOf CallOf LinkOf → CallOf
+call_view_step call = record { class = call.class; method = call.method; result = call.result; arguments = expr_list call.arguments.items }
 
 -- the expression that one in memory stands for
-abbrev pub see_expr : Expr → ExprOf
-see_expr = fold-Expr ExprOf CallOf LinkOf expr_step call_step link_step
+abbrev pub view_expr : Expr → ExprOf
+view_expr = fold-Expr ExprOf CallOf LinkOf expr_view_step call_view_step link_view_step
 
 -- the call that one in memory stands for
-abbrev pub see_call : Call → CallOf
-see_call = fold-Call ExprOf CallOf LinkOf expr_step call_step link_step
+abbrev pub view_call : Call → CallOf
+view_call = fold-Call ExprOf CallOf LinkOf expr_view_step call_view_step link_view_step
 
 -- the operator and operand that a link in memory stands for
-abbrev pub see_link : Link → LinkOf
-see_link = fold-Link ExprOf CallOf LinkOf expr_step call_step link_step
+abbrev pub view_link : Link → LinkOf
+view_link = fold-Link ExprOf CallOf LinkOf expr_view_step call_view_step link_view_step
 
 -- a statement, of what its parts stand for
-abbrev pub stmt_step : Stmt-F StmtOf → StmtOf
-stmt_step (stmt_parts.Store slot value) = to.Store slot (see_expr value)
-stmt_step (stmt_parts.Do value) = to.Do (see_expr value)
-stmt_step (stmt_parts.Send receiver class method arguments) = to.Send (see_expr receiver) class method (expr_list (map see_expr arguments.items))
-stmt_step (stmt_parts.Print value) = to.Print (see_expr value)
-stmt_step (stmt_parts.If test first) = to.IfThen (see_expr test) first.value
-stmt_step (stmt_parts.IfElse test first second) = to.IfElse (see_expr test) first.value second.value
-stmt_step (stmt_parts.While test body) = to.While (see_expr test) body.value
-stmt_step stmt_parts.Return = to.Return
-stmt_step (stmt_parts.Give value) = to.Give (see_expr value)
-stmt_step (stmt_parts.Block stmts) = to.Block (stmt_list stmts.items)
+abbrev pub stmt_view_step : Stmt-F StmtOf → StmtOf
+stmt_view_step (stmt_parts.Store slot value) = to.Store slot (view_expr value)
+stmt_view_step (stmt_parts.Do value) = to.Do (view_expr value)
+stmt_view_step (stmt_parts.Send receiver class method arguments) = to.Send (view_expr receiver) class method (expr_list (map view_expr arguments.items))
+stmt_view_step (stmt_parts.Print value) = to.Print (view_expr value)
+stmt_view_step (stmt_parts.If test first) = to.IfThen (view_expr test) first.value
+stmt_view_step (stmt_parts.IfElse test first second) = to.IfElse (view_expr test) first.value second.value
+stmt_view_step (stmt_parts.While test body) = to.While (view_expr test) body.value
+stmt_view_step stmt_parts.Return = to.Return
+stmt_view_step (stmt_parts.Give value) = to.Give (view_expr value)
+stmt_view_step (stmt_parts.Block stmts) = to.Block (stmt_list stmts.items)
 
 -- the statement that one in memory stands for
-abbrev pub see_stmt : Stmt → StmtOf
-see_stmt = fold-Stmt StmtOf stmt_step
+abbrev pub view_stmt : Stmt → StmtOf
+view_stmt = fold-Stmt StmtOf stmt_view_step
 
 -- the method of a plan that one in memory stands for
-abbrev pub see_method_plan : MethodPlan → MethodOf
-see_method_plan method = record { name = method.name; is_sync = method.is_sync; parameters = method.parameters }
+abbrev pub view_method_plan : MethodPlan → MethodOf
+view_method_plan method = record { name = method.name; is_sync = method.is_sync; parameters = method.parameters }
 
 -- the effective chord that one in memory stands for
-abbrev pub see_chord_plan : ChordPlan → ChordOf
-see_chord_plan chord = record { body = chord.body; methods = chord.methods.items }
+abbrev pub view_chord_plan : ChordPlan → ChordOf
+view_chord_plan chord = record { body = chord.body; methods = chord.methods.items }
 
 -- the class of a plan that one in memory stands for
-abbrev pub see_class_plan : ClassPlan → ClassOf
-see_class_plan class = record {
+abbrev pub view_class_plan : ClassPlan → ClassOf
+view_class_plan class = record {
   name = class.name;
   base = class.base;
-  methods = map see_method_plan class.methods.items;
-  chords = map see_chord_plan class.chords.items;
+  methods = map view_method_plan class.methods.items;
+  chords = map view_chord_plan class.chords.items;
   own = class.own.items;
   constructor_body = class.constructor_body;
 }

@@ -5,7 +5,7 @@ ghost use Rattle.std.specs.Prelude.{◌+◌, ◌<◌, ◌^◌, vec_len};
 
 use crate::chain::{last_operator, last_result, operator_type, type_at};
 use crate::expr::Expr;
-use crate::static_type::StaticType;
+use chord_base::static_type::StaticType;
 use crate::stmt::Stmt;
 
 /// The body of a member: the class of its text, the types of its slots, and the type of its value, if one is due.
@@ -26,20 +26,20 @@ pub struct Body {
 impl Body {
     ghost use Rattle.std.specs.Prelude.{◌≡◌};
     ghost use Rattle.chord_bodies.specs.Resolved.{slots_of};
-    ghost use Rattle.chord_bodies.specs.View.{see_expr};
-    ghost use Rattle.chord_bodies.specs.BodyView.{see_body};
+    ghost use Rattle.chord_bodies.specs.View.{view_expr};
+    ghost use Rattle.chord_bodies.specs.BodyView.{view_body};
     ghost use Rattle.chord_bodies.specs.Types.{type_of, slot_type};
 
     /// How many slots it has.
     pub fn slots(&self) -> u32
-        ensures { result ≡ slots_of (see_body self.now) }
+        ensures { result ≡ slots_of (view_body self.now) }
     {
         (1 + self.parameters.len() + self.locals.len()) as u32
     }
 
     /// The type of `this`, which `Main` has not.
     fn this_type(&self) -> Option<StaticType>
-        ensures { result ≡ slot_type (see_body self.now) 0 }
+        ensures { result ≡ slot_type (view_body self.now) 0 }
     {
         if self.is_main {
             None
@@ -50,7 +50,7 @@ impl Body {
 
     /// The type of the variable in this slot; None for `this` in `Main`, and where there is no such slot.
     pub fn slot_type(&self, slot: u32) -> Option<StaticType>
-        ensures { result ≡ slot_type (see_body self.now) slot }
+        ensures { result ≡ slot_type (view_body self.now) slot }
     {
         if slot == 0 {
             return self.this_type();
@@ -66,7 +66,7 @@ impl Body {
 
     /// The static type of one of its expressions, which its outermost form shows; None where it has no value.
     pub fn type_of(&self, expr: &Expr) -> Option<StaticType>
-        ensures { result ≡ type_of (see_body self.now) (see_expr expr.now) }
+        ensures { result ≡ type_of (view_body self.now) (view_expr expr.now) }
     {
         match expr {
             Expr::Int(_) => Some(StaticType::Int),

@@ -2,17 +2,17 @@
 #![tactic(auto)]
 
 ghost use Rattle.std.specs.Prelude.{◌≡◌, map, slice_get};
-ghost use Rattle.chord_bodies.specs.View.{see_link, see_call};
+ghost use Rattle.chord_bodies.specs.View.{view_link, view_call};
 ghost use Rattle.chord_bodies.specs.Types.{operation_type};
 ghost use Rattle.chord_bodies.specs.Chains.{binary_type, last_link, last_call};
 
 use crate::expr::{BinaryOperator, Call, Link};
-use crate::operation::Operation;
-use crate::static_type::StaticType;
+use chord_base::operation::Operation;
+use chord_base::static_type::StaticType;
 
 /// The operator of the last link.
 pub fn last_operator(link: &Link, more: &[Link]) -> BinaryOperator
-    ensures { result ≡ last_link (see_link link.now).operator (map see_link more.now) }
+    ensures { result ≡ last_link (view_link link.now).operator (map view_link more.now) }
 {
     match more.last() {
         Some(last) => last.operator,
@@ -22,7 +22,7 @@ pub fn last_operator(link: &Link, more: &[Link]) -> BinaryOperator
 
 /// The result of the last call.
 pub fn last_result(call: &Call, more: &[Call]) -> Option<StaticType>
-    ensures { result ≡ last_call (see_call call.now).result (map see_call more.now) }
+    ensures { result ≡ last_call (view_call call.now).result (map view_call more.now) }
 {
     match more.last() {
         Some(last) => last.result,

@@ -2,8 +2,8 @@
 #![tactic(auto)]
 
 use chord_base::text::Text;
-use crate::operation::Operation;
-use crate::static_type::StaticType;
+use chord_base::operation::Operation;
+use chord_base::static_type::StaticType;
 
 /// An operator with two operands. `&&` and `||` look at their right operand only where needed, all others at both.
 #[derive(Clone, Copy, Debug, PartialEq, Eq)]

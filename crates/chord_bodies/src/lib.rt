@@ -8,7 +8,5 @@ pub mod body;
 mod chain;
 pub mod expr;
 pub mod laws;
-pub mod operation;
 pub mod plan;
-pub mod static_type;
 pub mod stmt;

@@ -40,27 +40,27 @@ pub struct Layout {
 impl Model for Layout {
     ghost use Rattle.std.specs.Prelude.{map};
     ghost use Rattle.chord_bodies.specs.Resolved.{LayoutOf};
-    ghost use Rattle.chord_bodies.specs.View.{see_class_plan};
+    ghost use Rattle.chord_bodies.specs.View.{view_class_plan};
 
     ghost Value = { LayoutOf };
 
-    ghost view = { λ l. record { classes = map see_class_plan l.classes.items; main = l.main } };
+    ghost view = { λ l. record { classes = map view_class_plan l.classes.items; main = l.main } };
 }
 
 impl Layout {
     ghost use Rattle.std.specs.Prelude.{◌≡◌, map};
-    ghost use Rattle.chord_bodies.specs.View.{see_class_plan};
+    ghost use Rattle.chord_bodies.specs.View.{view_class_plan};
 
     /// The plan of these classes, where `main` is the member that is `Main`.
     pub fn new(classes: Vec<ClassPlan>, main: u32) -> Layout
-        ensures { result ≡ record { classes = map see_class_plan classes.items; main = main } }
+        ensures { result ≡ record { classes = map view_class_plan classes.items; main = main } }
     {
         Layout { classes, main }
     }
 
     /// The classes, by number.
     pub fn classes(&self) -> &[ClassPlan]
-        ensures { map see_class_plan result.now ≡ self.now.classes }
+        ensures { map view_class_plan result.now ≡ self.now.classes }
     {
         self.classes.as_slice()
     }
