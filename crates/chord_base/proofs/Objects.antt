@@ -9,14 +9,14 @@ use Rattle.chord_base.specs.declared.event.End.TheVariants.{Gives, Traps}
 use Rattle.chord_base.specs.declared.event.What.{What}
 use Rattle.chord_base.specs.declared.event.What.TheVariants.{Begun, Made, Sent, Called, Printed, Fired, Ended}
 use Rattle.chord_base.specs.declared.event.Entry.{Entry}
-use Rattle.chord_base.specs.Meaning.{Start, Main, Chord, Asked, Program}
+use Rattle.chord_base.specs.Meaning.{HaveMethods, Start, Main, Chord, Asked, Program}
 use Rattle.chord_base.specs.Messages.{Message, message_of, members_of, has, pending, maker}
 use Rattle.chord_base.specs.Bodies.{Doing, Absent, Unplaced, Ready, Waits, Over, replied, waiting, served, placed, begun_by, begun, own, answered, heard, doing, serves, asked}
 use Rattle.chord_base.specs.Machine.{IsPast, Comes, Takes}
 use Rattle.chord_base.specs.Story.{AllBelow}
 use Rattle.chord_base.proofs.Waits.{either}
 use Rattle.chord_base.proofs.Merged.{past_below}
-use Rattle.chord_base.specs.Objects.{ValueAmong, ValuesAmong, EndAmong, EndsAmong, StartAmong, WhatAmong, IsTame, HaveMethods, was_made, ObjectsWereMade}
+use Rattle.chord_base.specs.Objects.{ValueAmong, ValuesAmong, EndAmong, EndsAmong, StartAmong, WhatAmong, IsTame, was_made, ObjectsWereMade}
 
 -- what a body began with and was answered
 abbrev pub DoingAmong : (Object → Bool) → Doing → Type 0

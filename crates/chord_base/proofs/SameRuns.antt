@@ -6,7 +6,7 @@ use Rattle.chord_base.specs.declared.event.What.TheVariants.{Begun, Made, Sent, 
 use Rattle.chord_base.specs.declared.event.Entry.{Entry}
 use Rattle.chord_base.specs.Meaning.{Program, Start, Chord, Asked}
 use Rattle.chord_base.specs.Messages.{maker}
-use Rattle.chord_base.specs.Bodies.{Doing, Absent, Unplaced, Ready, Waits, Over, place_of, waiting, served, begun, own, heard, doing, serves, asked}
+use Rattle.chord_base.specs.Bodies.{Doing, Absent, Unplaced, Ready, Waits, Over, ask_depth, waiting, served, begun, own, heard, doing, serves, asked}
 use Rattle.chord_base.specs.Machine.{IsPast, Comes}
 use Rattle.chord_base.specs.Agreement.{AgreeInRuns, SameRuns}
 
@@ -28,7 +28,7 @@ serves_same p q a b [] = refl
 serves_same p q a b (e ∷ h) = if_same (e.number == b) (served p e.what) (serves p b h) (served q e.what) (serves q b h) (served_same p q a e.what) (serves_same p q a b h)
 
 waiting_same : (p q : Program) (n : ℕ) (d : Doing) → ((s : Start) (k : ℕ) (rs : List End) → d ≡ Ready s k rs → p.next s k rs ≡ q.next s k rs) → waiting p n d ≡ waiting q n d
-waiting_same p q n (Ready s k rs) f = ap (λ (z : Option Asked). Waits s k rs n (place_of z)) (f s k rs refl)
+waiting_same p q n (Ready s k rs) f = ap (λ (z : Option Asked). Waits s k rs n (ask_depth z)) (f s k rs refl)
 waiting_same p q n (Waits s k rs c l) f = refl
 waiting_same p q n Absent f = refl
 waiting_same p q n Unplaced f = refl
