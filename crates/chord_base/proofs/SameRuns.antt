@@ -82,6 +82,7 @@ comes_back p q a h past n b (Called o j vs) c = (c.0, rw (asks_same p q a h past
 comes_back p q a h past n b (Printed t) c = (c.0, rw (asks_same p q a h past b) c.1)
 comes_back p q a h past n b (Ended x) c = (c.0, rw (asks_same p q a h past b) c.1)
 
+-- of two programs that agree in runs each past of the one is a past of the other
 pub past_same : (p q : Program) → AgreeInRuns p q → (h : List Entry) → IsPast p h → IsPast q h
 past_same p q a [] past = tt
 past_same p q a (e ∷ h) past = (past_same p q a h past.0, record { numbered = past.1.numbered; comes = comes_on p q a h past.0 e.number e.body e.what past.1.comes })
