@@ -25,7 +25,8 @@ kind_in p (x ∷ h) e s r i =
       | inr y ↦ kind_in p h e s r.0 y
     ]
 
-number_within : (p : Program) (h : List Entry) (e : Entry) → IsPast p h → IsIn e h → e.number < length h
+-- in a past each entry's number is below the number of entries
+pub number_within : (p : Program) (h : List Entry) (e : Entry) → IsPast p h → IsIn e h → e.number < length h
 number_within p [] e r i = absurd i
 number_within p (x ∷ h) e r i =
     elim i [
@@ -49,7 +50,7 @@ pending_entry p (x ∷ h) e m r i s =
     ]
 
 -- a pending message has its entry
-entry_pending : (h : List Entry) (n : ℕ) (m : Message) → pending n h ≡ Some m → (e : Entry) × IsIn e h × (e.number ≡ n) × (message_of e.what ≡ Some m)
+pub entry_pending : (h : List Entry) (n : ℕ) (m : Message) → pending n h ≡ Some m → (e : Entry) × IsIn e h × (e.number ≡ n) × (message_of e.what ≡ Some m)
 entry_pending [] n m s = (let z : ◌≡◌ {A = Option Message} None (Some m) = s in cc)
 entry_pending (x ∷ h) n m s =
     elim (either (x.number == n)) [

@@ -33,11 +33,12 @@ own_comes p h n b (Called o' j vs) o a = a
 own_comes p h n b (Printed t) o a = a
 own_comes p h n b (Ended x) o a = a
 
--- a past in which no body has a next ask and no chord has all its messages
+-- a past in which no body has a next ask and no chord is enabled
 pub final_when : (p : Program) (h : List Entry) → IsPast p h → 0 < length h → ((b : ℕ) → asked p (doing p h b) ≡ None) → ((k : ℕ) (o : Object) (ms : List ℕ) (vs : List value.Value) → Fires p h k o ms vs → ⊥) → IsFinal p h
 final_when p h r s q f =
     record { past = r; nothing = λ e m. nothing_comes p h e.number e.body e.what s q f m.comes }
 
+-- a history that is not empty has an entry
 pub some_length : (h : List Entry) → (h ≡ [] → ⊥) → 0 < length h
 some_length [] n = absurd (n refl)
 some_length (e ∷ h) n = omega arith

@@ -9,14 +9,14 @@ use Rattle.chord_base.specs.declared.event.End.TheVariants.{Gives, Traps}
 use Rattle.chord_base.specs.declared.event.What.{What}
 use Rattle.chord_base.specs.declared.event.What.TheVariants.{Begun, Made, Sent, Called, Printed, Fired, Ended}
 use Rattle.chord_base.specs.declared.event.Entry.{Entry}
-use Rattle.chord_base.specs.Meaning.{Start, Main, Chord, Asked, Program}
+use Rattle.chord_base.specs.Meaning.{HaveMethods, Start, Main, Chord, Asked, Program}
 use Rattle.chord_base.specs.Messages.{Message, message_of, members_of, has, pending, maker}
 use Rattle.chord_base.specs.Bodies.{Doing, Absent, Unplaced, Ready, Waits, Over, replied, waiting, served, placed, begun_by, begun, own, answered, heard, doing, serves, asked}
 use Rattle.chord_base.specs.Machine.{IsPast, Comes, Takes}
 use Rattle.chord_base.specs.Story.{AllBelow}
 use Rattle.chord_base.proofs.Waits.{either}
 use Rattle.chord_base.proofs.Merged.{past_below}
-use Rattle.chord_base.specs.Objects.{ValueAmong, ValuesAmong, EndAmong, EndsAmong, StartAmong, WhatAmong, IsTame, HaveMethods, was_made, ObjectsWereMade}
+use Rattle.chord_base.specs.Objects.{ValueAmong, ValuesAmong, EndAmong, EndsAmong, StartAmong, WhatAmong, IsTame, was_made, ObjectsWereMade}
 
 -- what a body began with and was answered
 abbrev pub DoingAmong : (Object → Bool) → Doing → Type 0
@@ -127,6 +127,7 @@ own_among f p n (Printed t) m g d e k a = replied_among f (Gives a_value.Unit) d
 own_among f p n (Called o j vs) m g d e k a = waiting_among f p n d a
 own_among f p n (Ended x) m g d e k a = tt
 
+-- the objects of a message are all among these
 abbrev pub MessageAmong : (Object → Bool) → Message → Type 0
 MessageAmong f m = (f m.object ≡ true) × ValuesAmong f m.arguments
 
@@ -203,6 +204,7 @@ comes_among p tame some h all n b (Ended x) c = asked_among p tame (was_made h) 
 gets_made : (e : Entry) (h : List Entry) → Gets (was_made (e ∷ h)) e.number e.what
 gets_made e h = λ c is. rw (eq-eqb e.number e.number refl, is, eq-eqb c c refl) refl
 
+-- in a run every object of an entry was made before it
 pub all_made : (p : Program) → IsTame p → HaveMethods p → (h : List Entry) → IsPast p h → AllMade p h
 all_made p tame some [] past = record { messages = λ n m e. absurd (none_is m e); bodies = λ b. tt }
 all_made p tame some (e ∷ h) past =

@@ -12,7 +12,8 @@ use Rattle.chord_base.specs.declared.body.Body as body
 use Rattle.chord_base.specs.Meaning.{Program}
 use Rattle.chord_base.specs.Bodies.{asked, Asks}
 use Rattle.chord_base.specs.Machine.{Comes, MayFollow, IsPast}
-use Rattle.chord_base.specs.Prefix.{doing_at, IsTable, IsRunLength}
+use Rattle.chord_base.specs.BodyTable.{doing_at, IsTable}
+use Rattle.chord_base.specs.Prefix.{IsRunLength}
 
 -- the entries before the next one, newest first
 pub reverse_more : (xs : List Entry) (i : ℕ) (x : Entry) → i < length xs → x ≡ get_or xs i x → reverse (take (i + 1) xs) ≡ x ∷ reverse (take i xs)

@@ -6,7 +6,7 @@ use Rattle.chord_base.specs.declared.event.What.TheVariants.{Begun, Made, Sent, 
 use Rattle.chord_base.specs.declared.event.Entry.{Entry}
 use Rattle.chord_base.specs.Meaning.{Program, Start, Chord, Asked}
 use Rattle.chord_base.specs.Messages.{maker}
-use Rattle.chord_base.specs.Bodies.{Doing, Absent, Unplaced, Ready, Waits, Over, place_of, waiting, served, begun, own, heard, doing, serves, asked}
+use Rattle.chord_base.specs.Bodies.{Doing, Absent, Unplaced, Ready, Waits, Over, ask_depth, waiting, served, begun, own, heard, doing, serves, asked}
 use Rattle.chord_base.specs.Machine.{IsPast, Comes}
 use Rattle.chord_base.specs.Agreement.{AgreeInRuns, SameRuns}
 
@@ -28,7 +28,7 @@ serves_same p q a b [] = refl
 serves_same p q a b (e ∷ h) = if_same (e.number == b) (served p e.what) (serves p b h) (served q e.what) (serves q b h) (served_same p q a e.what) (serves_same p q a b h)
 
 waiting_same : (p q : Program) (n : ℕ) (d : Doing) → ((s : Start) (k : ℕ) (rs : List End) → d ≡ Ready s k rs → p.next s k rs ≡ q.next s k rs) → waiting p n d ≡ waiting q n d
-waiting_same p q n (Ready s k rs) f = ap (λ (z : Option Asked). Waits s k rs n (place_of z)) (f s k rs refl)
+waiting_same p q n (Ready s k rs) f = ap (λ (z : Option Asked). Waits s k rs n (ask_depth z)) (f s k rs refl)
 waiting_same p q n (Waits s k rs c l) f = refl
 waiting_same p q n Absent f = refl
 waiting_same p q n Unplaced f = refl
@@ -82,6 +82,7 @@ comes_back p q a h past n b (Called o j vs) c = (c.0, rw (asks_same p q a h past
 comes_back p q a h past n b (Printed t) c = (c.0, rw (asks_same p q a h past b) c.1)
 comes_back p q a h past n b (Ended x) c = (c.0, rw (asks_same p q a h past b) c.1)
 
+-- of two programs that agree in runs each past of the one is a past of the other
 pub past_same : (p q : Program) → AgreeInRuns p q → (h : List Entry) → IsPast p h → IsPast q h
 past_same p q a [] past = tt
 past_same p q a (e ∷ h) past = (past_same p q a h past.0, record { numbered = past.1.numbered; comes = comes_on p q a h past.0 e.number e.body e.what past.1.comes })

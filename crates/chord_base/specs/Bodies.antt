@@ -44,13 +44,13 @@ replied a Unplaced = Unplaced
 replied a (Over x) = Over x
 
 -- the depth of the place of an ask
-abbrev pub place_of : Option Asked → ℕ
-place_of None = 0
-place_of (Some a) = a.depth
+abbrev pub ask_depth : Option Asked → ℕ
+ask_depth None = 0
+ask_depth (Some a) = a.depth
 
 -- the body waits for a call that it has made now
 abbrev pub waiting : Program → ℕ → Doing → Doing
-waiting p q (Ready s d rs) = Waits s d rs q (place_of (p.next s d rs))
+waiting p q (Ready s d rs) = Waits s d rs q (ask_depth (p.next s d rs))
 waiting p q (Waits s d rs q' l) = Waits s d rs q' l
 waiting p q Absent = Absent
 waiting p q Unplaced = Unplaced

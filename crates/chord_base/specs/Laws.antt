@@ -1,5 +1,5 @@
 -- The laws of the join machine: what is true of every program, every history and every run.
-use Rattle.std.specs.Prelude.{◌≡◌, ◌⊎◌, ℕ, Bool, true, false, not, ◌==◌, List, [], ◌∷◌, ◌++◌, length, reverse, Some, None, slice_get, option_map}
+use Rattle.std.specs.Prelude.{◌≡◌, ◌⊎◌, ◌↔◌, ℕ, Bool, true, false, not, ◌==◌, ◌||◌, List, [], ◌∷◌, ◌++◌, length, reverse, Some, None, slice_get, option_map}
 use Rattle.chord_base.specs.declared.value.Object.{Object}
 use Rattle.chord_base.specs.declared.value.Value as value
 use Rattle.chord_base.specs.declared.event.End.{End}
@@ -10,7 +10,8 @@ use Rattle.chord_base.specs.Meaning.{Program, Start, HasOneSync}
 use Rattle.chord_base.specs.Messages.{Message, IsCall, AreDifferent, has, maker, members_of, pending}
 use Rattle.chord_base.specs.Bodies.{Unplaced, Ready, Waits, WaitsFor, serves, served, doing, asked, Asks}
 use Rattle.chord_base.specs.Machine.{Fires, MayFollow, IsPast, IsFinal, NoneFires, NoneAsks}
-use Rattle.chord_base.specs.Story.{IsIn, AreNumbered, kept, IsTold, IsStory, IsMerged, IsOwn, IsSound, grown, parted}
+use Rattle.chord_base.specs.Story.{IsIn, AreNumbered, kept, IsTold, IsStory, IsMerged, IsOwn, IsSound, grown, moved_into, parted, together}
+use Rattle.chord_base.specs.Served.{AreAnswered, IsSent, IsServed, IsTaken, later}
 use Rattle.chord_base.specs.Asks.{said, asks_of, all_some}
 
 -- the entry is the end of the body that serves the call for which this body waits
@@ -55,6 +56,11 @@ abbrev pub MembersDiffer : Type 0
 MembersDiffer =
     (p : Program) (h : List Entry) (k : ℕ) (o : Object) (js ms : List ℕ) (vs : List value.Value) → slice_get (p.chords o.class) k ≡ Some js → AreDifferent js → Fires p h k o ms vs → AreDifferent ms
 
+-- in a run a message is pending exactly where an entry of its number sends it, and no entry takes it
+abbrev pub PendingIsSentNotTaken : Type 0
+PendingIsSentNotTaken =
+    (p : Program) (h : List Entry) (n : ℕ) (m : Message) → IsPast p h → (pending n h ≡ Some m) ↔ (IsSent n m h × (IsTaken n h → ⊥))
+
 -- ## Places
 
 -- what a body does in the place that keeps it is what it does in the whole run, unless it lacks there the call that it serves
@@ -82,6 +88,16 @@ abbrev pub UnionKeepsPlaces : Type 0
 UnionKeepsPlaces =
     (p : Program) (view view' : ℕ → List Entry) (h : List Entry) (f : ℕ → ℕ) (m : IsMerged p view h) → ((i : ℕ) → kept (λ n. f (m.at n) == i) h ≡ view' i) → IsMerged p view' h
 
+-- it stays one where a place takes over what another keeps
+abbrev pub MovingKeepsPlaces : Type 0
+MovingKeepsPlaces =
+    (p : Program) (view : ℕ → List Entry) (h : List Entry) (i j : ℕ) → (i ≡ j → ⊥) → IsMerged p view h → IsMerged p (moved_into i j view) h
+
+-- the entries of two parts of a run, in the order of their numbers, are those of both
+abbrev pub PartsTogether : Type 0
+PartsTogether =
+    (p : Program) (h : List Entry) (f g : ℕ → Bool) → IsPast p h → ((n : ℕ) → f n ≡ true → g n ≡ false) → together (kept f h) (kept g h) ≡ kept (λ n. f n || g n) h
+
 -- it stays one where entries leave a place for an empty one, if what goes and what stays are told
 abbrev pub PartingKeepsPlaces : Type 0
 PartingKeepsPlaces =
@@ -102,7 +118,7 @@ PlacesGather =
 
 -- ## Complete runs
 
--- nothing may follow a run in which `Main` has begun, no body has a next ask, and no chord has all its messages
+-- nothing may follow a run in which `Main` has begun, no body has a next ask, and no chord is enabled
 abbrev pub CompleteWhenQuiet : Type 0
 CompleteWhenQuiet = (p : Program) (h : List Entry) → IsPast p h → (h ≡ [] → ⊥) → NoneAsks p h → NoneFires p h → IsFinal p h
 
@@ -112,7 +128,7 @@ QuietWhenComplete =
     (p : Program) (h : List Entry) → IsFinal p h → (h ≡ [] → ⊥) × ((b : ℕ) (w : What) → IsOwn w → Asks p h b w → ⊥) × NoneFires p h
 
 -- a run in places is complete where each body has no next ask in its place, none lacks there the call that it serves,
--- and no chord has all its messages
+-- and no chord is enabled
 abbrev pub CompleteInPlaces : Type 0
 CompleteInPlaces =
     (p : Program) (view : ℕ → List Entry) (h : List Entry) → IsMerged p view h → (h ≡ [] → ⊥) → ((i b : ℕ) → (asked p (doing p (view i) b) ≡ None) × (doing p (view i) b ≡ Unplaced → ⊥)) → NoneFires p h → IsFinal p h
@@ -129,6 +145,39 @@ ServesItsMember =
 abbrev pub ServesOnlyCalls : Type 0
 ServesOnlyCalls =
     (p : Program) (h : List Entry) (f : Entry) (q : ℕ) → IsSound p → IsPast p h → IsIn f h → served p f.what ≡ Some q → (has q (members_of f.what) ≡ true) × ((c : Entry) × IsIn c h × IsCall q c)
+
+-- ## Callers
+
+-- where a call is served, the caller had waited for it until then, and goes on with the end of the body that served it
+abbrev pub ServedGoesOn : Type 0
+ServedGoesOn =
+    (p : Program) (h : List Entry) (c f e : Entry) (q : ℕ) (x : End) → IsSound p → HasOneSync p → IsPast p (e ∷ h) → IsIn c h → IsCall q c → IsIn f h → has q (members_of f.what) ≡ true → e.body ≡ f.number → e.what ≡ Ended x → (s : Start) × (d l : ℕ) × (rs : List End) × (doing p h c.body ≡ Waits s d rs q l) × (doing p (e ∷ h) c.body ≡ Ready s d (rs ++ x ∷ []))
+
+-- a call is served by one end
+abbrev pub ServedOnce : Type 0
+ServedOnce = (p : Program) (h : List Entry) (q : ℕ) (x y : End) → IsPast p h → IsServed q x h → IsServed q y h → x ≡ y
+
+-- no body waits for a call that is served
+abbrev pub ServedWaitsNoMore : Type 0
+ServedWaitsNoMore =
+    (p : Program) (h : List Entry) (c : Entry) (b q : ℕ) (x : End) → IsSound p → HasOneSync p → IsPast p h → IsIn c h → IsCall q c → IsServed q x h → WaitsFor q (doing p h b) → ⊥
+
+-- every other caller waits, and has no answer
+abbrev pub OthersWait : Type 0
+OthersWait =
+    (p : Program) (h : List Entry) (c : Entry) (q : ℕ) → IsPast p h → IsIn c h → IsCall q c → ((x : End) → IsServed q x h → ⊥) → WaitsFor q (doing p h c.body)
+
+-- ## Answers
+
+-- the answers of a body that may go on are those of its entries after its first
+abbrev pub AnswersOfEntries : Type 0
+AnswersOfEntries =
+    (p : Program) (h : List Entry) (b d : ℕ) (s : Start) (rs : List End) → IsPast p h → doing p h b ≡ Ready s d rs → AreAnswered h (later b h) (reverse rs)
+
+-- of a body that waits the call is the newest entry, and its answers are those of the entries before
+abbrev pub AnswersBeforeCall : Type 0
+AnswersBeforeCall =
+    (p : Program) (h : List Entry) (b d q l : ℕ) (s : Start) (rs : List End) → IsPast p h → doing p h b ≡ Waits s d rs q l → (c : Entry) × (es : List Entry) × (later b h ≡ c ∷ es) × IsCall q c × AreAnswered h es (reverse rs)
 
 -- ## Asks
 

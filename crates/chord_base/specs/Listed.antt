@@ -19,41 +19,41 @@ use Rattle.chord_base.specs.declared.listed.Class.{Class}
 use Rattle.chord_base.specs.declared.listed.Listed.{Listed}
 
 -- whether two objects are one
-abbrev pub is_object : Object → Object → Bool
-is_object o q = (o.number == q.number) && (o.class == q.class)
+abbrev pub equal_objects : Object → Object → Bool
+equal_objects o q = (o.number == q.number) && (o.class == q.class)
 
 -- whether two values are equal
-abbrev pub is_value : value.Value → value.Value → Bool
-is_value a_value.Unit a_value.Unit = true
-is_value (a_value.Int m) (a_value.Int n) = int_eq m n
-is_value (a_value.Flag a) (a_value.Flag b) = beq a b
-is_value (a_value.Text s) (a_value.Text t) = pointwise nat_eq s t
-is_value (a_value.Ref o) (a_value.Ref q) = is_object o q
-is_value _ _ = false
+abbrev pub equal_values : value.Value → value.Value → Bool
+equal_values a_value.Unit a_value.Unit = true
+equal_values (a_value.Int m) (a_value.Int n) = int_eq m n
+equal_values (a_value.Flag a) (a_value.Flag b) = beq a b
+equal_values (a_value.Text s) (a_value.Text t) = pointwise nat_eq s t
+equal_values (a_value.Ref o) (a_value.Ref q) = equal_objects o q
+equal_values _ _ = false
 
 -- whether two traps are one
-abbrev pub is_trap_too : Trap → Trap → Bool
-is_trap_too DivideByZero DivideByZero = true
-is_trap_too OutOfTurns OutOfTurns = true
-is_trap_too TooDeep TooDeep = true
-is_trap_too TextTooLong TextTooLong = true
-is_trap_too _ _ = false
+abbrev pub equal_traps : Trap → Trap → Bool
+equal_traps DivideByZero DivideByZero = true
+equal_traps OutOfTurns OutOfTurns = true
+equal_traps TooDeep TooDeep = true
+equal_traps TextTooLong TextTooLong = true
+equal_traps _ _ = false
 
 -- whether two ends are equal
-abbrev pub is_end_too : End → End → Bool
-is_end_too (Gives v) (Gives w) = is_value v w
-is_end_too (Traps t) (Traps u) = is_trap_too t u
-is_end_too _ _ = false
+abbrev pub equal_ends : End → End → Bool
+equal_ends (Gives v) (Gives w) = equal_values v w
+equal_ends (Traps t) (Traps u) = equal_traps t u
+equal_ends _ _ = false
 
 -- whether two bodies begin in the same way
-abbrev pub is_start : meaning.Start → meaning.Start → Bool
-is_start Main Main = true
-is_start (Chord k o vs) (Chord l q ws) = (k == l) && is_object o q && pointwise is_value vs ws
-is_start _ _ = false
+abbrev pub equal_starts : meaning.Start → meaning.Start → Bool
+equal_starts Main Main = true
+equal_starts (Chord k o vs) (Chord l q ws) = (k == l) && equal_objects o q && pointwise equal_values vs ws
+equal_starts _ _ = false
 
 -- the tale is of a body that began so at this depth, and that got these answers first
-abbrev pub tells_of : meaning.Start → ℕ → List End → Tale → Bool
-tells_of s d rs tale = is_start (start_of tale.start) s && (tale.depth == d) && pointwise is_end_too (take (length rs) tale.answers.items) rs
+abbrev pub is_tale_of : meaning.Start → ℕ → List End → Tale → Bool
+is_tale_of s d rs tale = equal_starts (start_of tale.start) s && (tale.depth == d) && pointwise equal_ends (take (length rs) tale.answers.items) rs
 
 -- the ask of the tale after so many answers
 abbrev pub ask_after : ℕ → Tale → Option Asked
@@ -72,7 +72,7 @@ waits_in j (Some class) = unwrap_or (slice_get class.waits.items j) false
 -- the meaning that is listed so: the first tale that tells of the body says what it asks
 abbrev pub listed : Listed → Program
 listed it = record {
-  next = λ s d rs. option_and_then (ask_after (length rs)) (find (tells_of s d rs) it.tales.items);
+  next = λ s d rs. option_and_then (ask_after (length rs)) (find (is_tale_of s d rs) it.tales.items);
   chords = λ c. chords_of (slice_get it.classes.items c);
   is_sync = λ c j. waits_in j (slice_get it.classes.items c);
 }

@@ -9,7 +9,7 @@ use Rattle.chord_base.specs.declared.event.What.{What}
 use Rattle.chord_base.specs.declared.event.What.TheVariants.{Begun, Made, Sent, Called, Printed, Fired, Ended}
 use Rattle.chord_base.specs.declared.event.Entry.{Entry}
 
--- the members are pending messages to the object, one for each method in order, and these are their arguments laid together
+-- the members are pending messages to the object, one for each method in order, and these are their arguments concatenated
 abbrev pub Takes : List Entry → Object → List ℕ → List ℕ → List value.Value → Type 0
 Takes h o [] [] vs = vs ≡ []
 Takes h o [] (i ∷ ms) vs = ⊥
@@ -56,7 +56,7 @@ IsRun p entries = IsPast p (reverse entries)
 abbrev pub IsComplete : Program → List Entry → Type 0
 IsComplete p entries = IsFinal p (reverse entries)
 
--- no chord has all its messages
+-- no chord is enabled
 abbrev pub NoneFires : Program → List Entry → Type 0
 NoneFires p h = (k : ℕ) (o : Object) (ms : List ℕ) (vs : List value.Value) → Fires p h k o ms vs → ⊥
 

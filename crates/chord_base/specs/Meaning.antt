@@ -1,5 +1,5 @@
 -- What a program means to the join machine: how its bodies go on, and which methods its chords have.
-use Rattle.std.specs.Prelude.{◌≡◌, ℕ, Bool, true, false, List, [], ◌∷◌, Option, Some, slice_get}
+use Rattle.std.specs.Prelude.{◌≡◌, ℕ, ◌<◌, Bool, true, false, List, [], ◌∷◌, length, Option, Some, slice_get}
 use Rattle.chord_base.specs.declared.value.Object.{Object}
 use Rattle.chord_base.specs.declared.value.Value as value
 use Rattle.chord_base.specs.declared.event.End.{End}
@@ -38,3 +38,7 @@ OneSync sync (j ∷ js) = (sync j ≡ true → NoneSync sync js) × OneSync sync
 -- each chord has at most one method with callers that wait
 abbrev pub HasOneSync : Program → Type 0
 HasOneSync p = (class k : ℕ) (js : List ℕ) → slice_get (p.chords class) k ≡ Some js → OneSync (p.is_sync class) js
+
+-- each chord has a method
+abbrev pub HaveMethods : Program → Type 0
+HaveMethods p = (class k : ℕ) (js : List ℕ) → slice_get (p.chords class) k ≡ Some js → 0 < length js

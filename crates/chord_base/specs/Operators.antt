@@ -10,7 +10,7 @@ use Rattle.chord_base.specs.declared.event.Trap.{Trap}
 use Rattle.chord_base.specs.declared.event.Trap.TheVariants.{DivideByZero, TextTooLong}
 use Rattle.chord_base.specs.declared.operation.Operation.{Operation}
 use Rattle.chord_base.specs.declared.operation.Operation.TheVariants.{Add, Subtract, Multiply, Divide, Remainder, Join, Equal, NotEqual, Less, Greater, LessOrEqual, GreaterOrEqual}
-use Rattle.chord_base.specs.Listed.{is_value}
+use Rattle.chord_base.specs.Listed.{equal_values}
 
 -- what an operator comes to: a value, a trap, or neither, where an operand is of another kind
 pub data Computed : Type 0 where
@@ -44,10 +44,10 @@ joined _ _ = Mistyped
 
 -- two ints, two bools, two texts or two objects are equal or not
 abbrev pub compared : (Bool → Bool) → value.Value → value.Value → Computed
-compared f (a_value.Int m) (a_value.Int n) = Is (a_value.Flag (f (is_value (a_value.Int m) (a_value.Int n))))
-compared f (a_value.Flag a) (a_value.Flag b) = Is (a_value.Flag (f (is_value (a_value.Flag a) (a_value.Flag b))))
-compared f (a_value.Text s) (a_value.Text t) = Is (a_value.Flag (f (is_value (a_value.Text s) (a_value.Text t))))
-compared f (a_value.Ref o) (a_value.Ref q) = Is (a_value.Flag (f (is_value (a_value.Ref o) (a_value.Ref q))))
+compared f (a_value.Int m) (a_value.Int n) = Is (a_value.Flag (f (equal_values (a_value.Int m) (a_value.Int n))))
+compared f (a_value.Flag a) (a_value.Flag b) = Is (a_value.Flag (f (equal_values (a_value.Flag a) (a_value.Flag b))))
+compared f (a_value.Text s) (a_value.Text t) = Is (a_value.Flag (f (equal_values (a_value.Text s) (a_value.Text t))))
+compared f (a_value.Ref o) (a_value.Ref q) = Is (a_value.Flag (f (equal_values (a_value.Ref o) (a_value.Ref q))))
 compared f _ _ = Mistyped
 
 -- an operator on two ints

@@ -1,7 +1,7 @@
 -- Stories: what one place keeps of a run, as a task, a desk or a parcel does.
 --
 -- A place has a number, and keeps the entries of some numbers of the run. Moving entries changes where a number stands.
-use Rattle.std.specs.Prelude.{◌≡◌, ◌⊎◌, ℕ, ◌<◌, Bool, true, false, not, ◌==◌, List, [], ◌∷◌, length, IsSome, if◌then◌else◌}
+use Rattle.std.specs.Prelude.{◌≡◌, ◌⊎◌, ℕ, ◌<◌, ltb, Bool, true, false, not, ◌==◌, List, [], ◌∷◌, length, IsSome, if◌then◌else◌}
 use Rattle.chord_base.specs.Meaning.{Program}
 use Rattle.chord_base.specs.Bodies.{Doing, Absent, Unplaced, Ready, Waits, Over, doing, Asks}
 use Rattle.chord_base.specs.Machine.{IsPast}
@@ -106,6 +106,20 @@ AreNumbered (e ∷ h) = (e.number ≡ length h) × AreNumbered h
 -- the places, where place i keeps one more entry
 abbrev pub grown : (ℕ → List Entry) → ℕ → Entry → ℕ → List Entry
 grown view i e j = if i == j then e ∷ view j else view j
+
+-- an entry among those of a history, where its number has it
+abbrev pub insert : Entry → List Entry → List Entry
+insert e [] = e ∷ []
+insert e (x ∷ h) = if ltb x.number e.number then e ∷ x ∷ h else x ∷ insert e h
+
+-- two histories as one, in the order of the numbers
+abbrev pub together : List Entry → List Entry → List Entry
+together h [] = h
+together h (e ∷ g) = together (insert e h) g
+
+-- the places, where place j has taken over what place i kept
+abbrev pub moved_into : ℕ → ℕ → (ℕ → List Entry) → ℕ → List Entry
+moved_into i j view c = if c == j then together (view j) (view i) else if c == i then [] else view c
 
 -- the places, where of the entries of place i those of these numbers have gone to place j
 abbrev pub parted : (ℕ → List Entry) → ℕ → ℕ → (ℕ → Bool) → ℕ → List Entry

@@ -4,7 +4,7 @@
 ghost use Rattle.std.specs.Prelude.{◌≡◌, ◌++◌, [], ◌∷◌, ◌+◌, map, Some, IfOk};
 ghost use Rattle.chord_base.specs.Bodies.{replied, placed, answered, Over};
 ghost use Rattle.chord_base.specs.Called.{start_of};
-ghost use Rattle.chord_base.specs.Prefix.{doing_of};
+ghost use Rattle.chord_base.specs.BodyTable.{doing_of};
 
 use crate::event::End;
 use crate::meaning::Start;

@@ -44,7 +44,7 @@ pub enum What {
     /// A line is printed.
     Printed(Text),
     /// A chord of the object takes these messages, one for each method in header order, and begins a body
-    /// with their arguments laid together.
+    /// with their arguments concatenated.
     Fired(u16, Object, Members, Values),
     /// The body has ended.
     Ended(End),

@@ -33,7 +33,7 @@ fn begins_with(values: &[Value], first: &[Value]) -> bool
 }
 
 /// Whether the members are pending messages to the object, one for each method in order, and the values are their
-/// arguments laid together.
+/// arguments concatenated.
 pub(crate) fn are_taken(
     past: &[Entry],
     object: Object,

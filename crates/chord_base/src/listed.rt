@@ -4,7 +4,7 @@
 ghost use Rattle.std.specs.Prelude.{◌≡◌, find, take, IsTrue, ◌↔◌, option_copied};
 ghost use Rattle.std.specs.Cmp.Lexicographic.{pointwise};
 ghost use Rattle.chord_base.specs.Called.{start_of};
-ghost use Rattle.chord_base.specs.Listed.{is_start, is_end_too, tells_of};
+ghost use Rattle.chord_base.specs.Listed.{equal_starts, equal_ends, is_tale_of};
 
 use crate::equal::{same_ends, same_object, same_values};
 use crate::event::End;
@@ -49,14 +49,14 @@ fn same_start(left: &Start, right: &Start) -> bool
 
 /// The same, as the meaning tests it.
 fn starts_so(left: &Start, right: &Start) -> bool
-    ensures { result ≡ is_start (start_of left.now) (start_of right.now) }
+    ensures { result ≡ equal_starts (start_of left.now) (start_of right.now) }
 {
     same_start(left, right)
 }
 
 /// Whether two lists of ends are equal, as the meaning tests it.
 fn ends_so(left: &[End], right: &[End]) -> bool
-    ensures { result ≡ pointwise is_end_too left.now right.now }
+    ensures { result ≡ pointwise equal_ends left.now right.now }
 {
     same_ends(left, right)
 }
@@ -70,8 +70,8 @@ fn first_of(ends: &[End], n: usize) -> &[End]
 
 impl Tale {
     /// Whether it is of a body that began so at this depth, and that got these answers first.
-    fn tells_of(&self, start: &Start, depth: u64, answers: &[End]) -> bool
-        ensures { result ≡ tells_of (start_of start.now) depth answers.now self.now }
+    fn is_tale_of(&self, start: &Start, depth: u64, answers: &[End]) -> bool
+        ensures { result ≡ is_tale_of (start_of start.now) depth answers.now self.now }
     {
         starts_so(&self.start, start)
             && self.depth == depth
@@ -82,11 +82,11 @@ impl Tale {
 impl Listed {
     /// The first tale of such a body.
     fn tale_of(&self, start: &Start, depth: u64, answers: &[End]) -> Option<&Tale>
-        ensures { option_copied result ≡ find (tells_of (start_of start.now) depth answers.now) self.now.tales.items }
+        ensures { option_copied result ≡ find (is_tale_of (start_of start.now) depth answers.now) self.now.tales.items }
     {
         self.tales
             .iter()
-            .find(|tale| tale.tells_of(start, depth, answers))
+            .find(|tale| tale.is_tale_of(start, depth, answers))
     }
 }
 

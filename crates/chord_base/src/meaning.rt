@@ -14,7 +14,7 @@ use std::alloc::{AllocError, Global};
 pub enum Start {
     /// As `Main`.
     Main,
-    /// As the body of this chord of the object, with the arguments of the messages taken laid together.
+    /// As the body of this chord of the object, with the arguments of the messages taken concatenated.
     Chord(u16, Object, Values),
 }
 

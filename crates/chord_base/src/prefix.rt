@@ -10,7 +10,8 @@ ghost use Rattle.chord_base.specs.Messages.{maker};
 ghost use Rattle.chord_base.specs.Bodies.{served, served_among, serves, begun, own, waiting, answered, heard, asked};
 ghost use Rattle.chord_base.specs.Machine.{MayFollow};
 ghost use Rattle.chord_base.specs.Called.{start_of, asked_by};
-ghost use Rattle.chord_base.specs.Prefix.{doing_of, doing_at, IsTable, IsFiring, IsRunLength};
+ghost use Rattle.chord_base.specs.BodyTable.{doing_of, doing_at, IsTable, IsFiring};
+ghost use Rattle.chord_base.specs.Prefix.{IsRunLength};
 
 use crate::body::{Begun, Body};
 use crate::equal::same_what;

@@ -6,7 +6,7 @@ use Rattle.std.proofs.lemmas.Grind.{flat_map-append}
 use Rattle.std.specs.List.{flat_map}
 use Rattle.std.specs.Option.{option_map}
 use Rattle.chord_io.specs.Faults.{Rose}
-use Rattle.chord_io.specs.Pieces.{Gave, IsSpent, Took, TookFront}
+use Rattle.chord_io.specs.Pieces.{Gave, IsSpent, Took, TookProperPrefix}
 
 -- nothing was taken
 pub Took-nothing : (a : Option (List ℕ)) → Took a [] a
@@ -57,23 +57,23 @@ Rose-before a b c (inl higher) grows = inl (omega arith)
 Rose-before a b c (inr last) grows = inr (omega arith)
 
 -- a front of a first text is a front of the two together
-pub TookFront-first : (a b : Option (List ℕ)) (p q : List ℕ) → TookFront a p b → TookFront a (p ++ q) b
-TookFront-first a b p q front = record {
+pub TookProperPrefix-first : (a b : Option (List ℕ)) (p q : List ℕ) → TookProperPrefix a p b → TookProperPrefix a (p ++ q) b
+TookProperPrefix-first a b p q front = record {
   count = front.count;
   short = omega (arith, length-append p q, front.short);
   took = rw (take-append-le front.count p q (omega (arith, front.short))) front.took;
 }
 
 -- a first text was taken, and then a front of a second
-pub TookFront-second : (a b c : Option (List ℕ)) (p q : List ℕ) → Took a p b → TookFront b q c → TookFront a (p ++ q) c
-TookFront-second a b c p q first front = record {
+pub TookProperPrefix-second : (a b c : Option (List ℕ)) (p q : List ℕ) → Took a p b → TookProperPrefix b q c → TookProperPrefix a (p ++ q) c
+TookProperPrefix-second a b c p q first front = record {
   count = length p + front.count;
   short = omega (arith, length-append p q, front.short);
   took = rw (take-append-add p q front.count) (Took-join a b c p (take front.count q) first front.took);
 }
 
 -- where a front was taken, the whole was not
-pub not_whole : (bytes : List ℕ) (after : Option (List ℕ)) (text : List ℕ) → Took (Some bytes) text after → TookFront (Some bytes) text after → ⊥
+pub not_whole : (bytes : List ℕ) (after : Option (List ℕ)) (text : List ℕ) → Took (Some bytes) text after → TookProperPrefix (Some bytes) text after → ⊥
 not_whole bytes after text whole front =
     let same : bytes ++ text ≡ bytes ++ take front.count text = (let took = front.took in cc) in
     let shorter : length (take front.count text) ≡ front.count = length-take-le front.count text (omega (arith, front.short)) in
@@ -97,10 +97,10 @@ Took-next text xs i x d a b c within at first second =
     rw (before_next xs i x d within at, flat_map-append text (take i xs) (x ∷ []), append-nil (text x)) (Took-join a b c _ _ first second)
 
 -- of texts that are written one by one: a front of all was taken, where a front of the next was
-pub TookFront-next :
+pub TookProperPrefix-next :
     {X : Type 0} (text : X → List ℕ) (xs : List X) (i : ℕ) (x d : X) (a b c : Option (List ℕ)) → i < length xs → x ≡ get_or xs i d →
-    Took a (flat_map text (take i xs)) b → TookFront b (text x) c → TookFront a (flat_map text xs) c
-TookFront-next text xs i x d a b c within at first second =
+    Took a (flat_map text (take i xs)) b → TookProperPrefix b (text x) c → TookProperPrefix a (flat_map text xs) c
+TookProperPrefix-next text xs i x d a b c within at first second =
     let whole : flat_map text xs ≡ flat_map text (take i xs) ++ (text x ++ flat_map text (drop (i + 1) xs)) =
     ap (λ ys. flat_map text ys) (around xs i x d within at) ∙ flat_map-append text (take i xs) (x ∷ drop (i + 1) xs) in
-    rw whole (TookFront-second a b c _ _ first (TookFront-first b c (text x) _ second))
+    rw whole (TookProperPrefix-second a b c _ _ first (TookProperPrefix-first b c (text x) _ second))

@@ -2,9 +2,9 @@
 use Rattle.std.proofs.Common.{◌≡◌, ℕ, ◌≤◌, ◌<◌, ◌+◌, List, [], ◌∷◌, ◌++◌, length, take, get_or, Option, Some, None, refl, ap, sym, ◌∙◌, append_assoc, append-nil, arith}
 use Rattle.std.specs.List.{flat_map}
 use Rattle.std.proofs.lemmas.Grind.{flat_map-append}
-use Rattle.chord_io.specs.Pieces.{TookFront}
+use Rattle.chord_io.specs.Pieces.{TookProperPrefix}
 use Rattle.chord_io.specs.Pen.{HasWritten, Writes}
-use Rattle.chord_io.proofs.Joined.{Took-nothing, Took-join, TookFront-first, TookFront-second, Rose-after, Rose-before, before_next}
+use Rattle.chord_io.proofs.Joined.{Took-nothing, Took-join, TookProperPrefix-first, TookProperPrefix-second, Rose-after, Rose-before, before_next}
 
 -- an empty text is written by doing nothing
 pub Writes-nothing : (a : Option (List ℕ)) (f : ℕ) (p : Option (List ℕ)) → Writes a f p [] a f p
@@ -23,12 +23,12 @@ HasWritten-join a f None t b g q u c h r up on first second =
     ] refl second
 HasWritten-join a f (Some held) t b g None u c h r up on first second =
     elim r as (λ x. r ≡ x → HasWritten a f (Some held) (t ++ u) c h x) [
-      | None ↦ λ none. (rw (second.0, ← append_assoc held t u) (TookFront-first a b (held ++ t) u first.0), Rose-before f g h first.1 on)
+      | None ↦ λ none. (rw (second.0, ← append_assoc held t u) (TookProperPrefix-first a b (held ++ t) u first.0), Rose-before f g h first.1 on)
       | Some left ↦ λ some. absurd (let broken = second.1 in cc)
     ] refl
 HasWritten-join a f (Some held) t b g (Some left) u c h None up on (out, took, same) second =
     let whole : held ++ (t ++ u) ≡ out ++ (left ++ u) = sym (append_assoc held t u) ∙ ap (λ x. x ++ u) (sym same) ∙ append_assoc out left u in
-    (rw whole (TookFront-second a b c out (left ++ u) took second.0), Rose-after f g h up second.1)
+    (rw whole (TookProperPrefix-second a b c out (left ++ u) took second.0), Rose-after f g h up second.1)
 HasWritten-join a f (Some held) t b g (Some left) u c h (Some last) up on (out, took, same) (more, took_more, same_more) = (
   out ++ more,
   Took-join a b c out more took took_more,
@@ -54,12 +54,12 @@ Writes-next text xs i x d within at first second =
     rw (before_next xs i x d within at, flat_map-append text (take i xs) (x ∷ []), append-nil (text x)) (Writes-join first second)
 
 -- a front of a text was taken, where a pen wrote the text from the start and then a front of what it held was taken
-pub TookFront-finished :
+pub TookProperPrefix-finished :
     (a : Option (List ℕ)) (f : ℕ) (text : List ℕ) (b : Option (List ℕ)) (g : ℕ) (q : Option (List ℕ)) (held : List ℕ) (c : Option (List ℕ)) →
-    Writes a f (Some []) text b g q → q ≡ Some held → TookFront b held c → TookFront a text c
-TookFront-finished a f text b g None held c first some rest = absurd (cc)
-TookFront-finished a f text b g (Some left) held c first some rest =
+    Writes a f (Some []) text b g q → q ≡ Some held → TookProperPrefix b held c → TookProperPrefix a text c
+TookProperPrefix-finished a f text b g None held c first some rest = absurd (cc)
+TookProperPrefix-finished a f text b g (Some left) held c first some rest =
     let same : left ≡ held = cc in
     let (out, took, whole) = first.written in
     let all : out ++ held ≡ text = ap (λ x. out ++ x) (sym same) ∙ whole in
-    rw (← all) (TookFront-second a b c out held took rest)
+    rw (← all) (TookProperPrefix-second a b c out held took rest)

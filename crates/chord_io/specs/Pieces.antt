@@ -15,7 +15,7 @@ abbrev pub Took : Option (List ℕ) → List ℕ → Option (List ℕ) → Type 
 Took before piece after = after ≡ option_map (λ bytes. bytes ++ piece) before
 
 -- a sink took a front of a text, and not the whole
-pub record TookFront (before : Option (List ℕ)) (text : List ℕ) (after : Option (List ℕ)) : Type 0 where
+pub record TookProperPrefix (before : Option (List ℕ)) (text : List ℕ) (after : Option (List ℕ)) : Type 0 where
   pub count : ℕ
   pub short : count < length text
   pub took : Took before (take count text) after

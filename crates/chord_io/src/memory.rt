@@ -59,7 +59,7 @@ impl Source for MemSource {
     fn read(&mut self, buf: &mut [u8]) -> Result<usize, Failed>
         ensures exact { IsErr result ↔ ReadFails self.old }
         ensures count { IfOk result (λ n. n ≡ min (length buf.old) (min self.old.piece (length self.old.left))) }
-        ensures front { IfOk result (λ n. take n buf.new ≡ take n self.old.left) }
+        ensures prefix { IfOk result (λ n. take n buf.new ≡ take n self.old.left) }
         ensures rest { IfOk result (λ n. self.new ≡ record self.old { left = drop n self.old.left; calls = one_more self.old.calls }) }
         ensures end { IfOk result (λ n. n ≡ 0 → 0 < length buf.old → self.new.left ≡ []) }
         ensures err { OnErr result (self.new ≡ record self.old { calls = one_more self.old.calls; faults = one_more self.old.faults }) }

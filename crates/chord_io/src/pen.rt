@@ -1,7 +1,7 @@
 //! Writing a text of many small pieces in few writes.
 ghost use Rattle.std.specs.Prelude.{◌≡◌, ℕ, ◌≤◌, List, [], ◌++◌, Option, Some, None, OnOk, OnErr, if◌then◌else◌};
 ghost use Rattle.chord_io.specs.Faults.{Rose};
-ghost use Rattle.chord_io.specs.Pieces.{Took, TookFront};
+ghost use Rattle.chord_io.specs.Pieces.{Took, TookProperPrefix};
 ghost use Rattle.chord_io.specs.Pen.{Writes};
 
 use crate::{Failed, Sink, write_all};
@@ -58,8 +58,8 @@ impl Pen {
     pub fn finish<K: Sink>(self, sink: &mut K) -> Result<(), Failed>
         ensures whole { OnOk result ((before : Option (List ℕ)) (f : ℕ) (text : List ℕ) →
             Writes before f (Some []) text (K.taken sink.old) (K.faults sink.old) self → Took before text (K.taken sink.new)) }
-        ensures front { OnErr result ((before : Option (List ℕ)) (f : ℕ) (text : List ℕ) →
-            Writes before f (Some []) text (K.taken sink.old) (K.faults sink.old) self → TookFront before text (K.taken sink.new)) }
+        ensures prefix { OnErr result ((before : Option (List ℕ)) (f : ℕ) (text : List ℕ) →
+            Writes before f (Some []) text (K.taken sink.old) (K.faults sink.old) self → TookProperPrefix before text (K.taken sink.new)) }
         ensures failed { OnErr result ((before : Option (List ℕ)) (f : ℕ) (text : List ℕ) →
             Writes before f (Some []) text (K.taken sink.old) (K.faults sink.old) self → Rose f (K.faults sink.new)) }
         ensures never_falls { K.faults sink.old ≤ K.faults sink.new }
@@ -74,7 +74,7 @@ impl Pen {
 /// Writes two pieces one after the other.
 fn write_both<K: Sink>(sink: &mut K, first: &[u8], second: &[u8]) -> Result<(), Failed>
     ensures whole { OnOk result (Took (K.taken sink.old) (first.now ++ second.now) (K.taken sink.new)) }
-    ensures front { OnErr result (TookFront (K.taken sink.old) (first.now ++ second.now) (K.taken sink.new)) }
+    ensures prefix { OnErr result (TookProperPrefix (K.taken sink.old) (first.now ++ second.now) (K.taken sink.new)) }
     ensures failed { OnErr result (Rose (K.faults sink.old) (K.faults sink.new)) }
     ensures never_falls { K.faults sink.old ≤ K.faults sink.new }
 {

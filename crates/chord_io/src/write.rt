@@ -1,7 +1,7 @@
 //! Writing a whole piece.
 ghost use Rattle.std.specs.Prelude.{◌≤◌, OnOk, OnErr};
 ghost use Rattle.chord_io.specs.Faults.{Rose};
-ghost use Rattle.chord_io.specs.Pieces.{Took, TookFront};
+ghost use Rattle.chord_io.specs.Pieces.{Took, TookProperPrefix};
 
 use crate::{Failed, Sink};
 
@@ -13,7 +13,7 @@ use crate::{Failed, Sink};
 /// A front of the piece was taken, and not the whole.
 pub fn write_all<K: Sink>(sink: &mut K, piece: &[u8]) -> Result<(), Failed>
     ensures whole { OnOk result (Took (K.taken sink.old) piece.now (K.taken sink.new)) }
-    ensures front { OnErr result (TookFront (K.taken sink.old) piece.now (K.taken sink.new)) }
+    ensures prefix { OnErr result (TookProperPrefix (K.taken sink.old) piece.now (K.taken sink.new)) }
     ensures failed { OnErr result (Rose (K.faults sink.old) (K.faults sink.new)) }
     ensures never_falls { K.faults sink.old ≤ K.faults sink.new }
 {

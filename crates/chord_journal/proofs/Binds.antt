@@ -25,6 +25,6 @@ same_read {A} x y rest more is =
     (ap part is, ap left is)
 
 -- what a choice gave, one of the two gave, whose way the test went
-pub chosen : {A R : Type 0} (b : Bool) (x y : Option A) (z : A) → cond b x y ≡ Some z → (b ≡ true → x ≡ Some z → R) → (b ≡ false → y ≡ Some z → R) → R
-chosen true x y z read then_x then_y = then_x refl read
-chosen false x y z read then_x then_y = then_y refl read
+pub by_branch : {A R : Type 0} (b : Bool) (x y : Option A) (z : A) → cond b x y ≡ Some z → (b ≡ true → x ≡ Some z → R) → (b ≡ false → y ≡ Some z → R) → R
+by_branch true x y z read then_x then_y = then_x refl read
+by_branch false x y z read then_x then_y = then_y refl read

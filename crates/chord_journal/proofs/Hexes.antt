@@ -32,8 +32,8 @@ digit_takes a d read =
     ] refl read
 
 -- a byte from its digits
-abbrev joined : ℕ → ℕ → List ℕ → Read ℕ
-joined high low rest = Some (16 * high + low, rest)
+abbrev byte_of_digits : ℕ → ℕ → List ℕ → Read ℕ
+byte_of_digits high low rest = Some (16 * high + low, rest)
 
 -- two digits are read as a byte, whatever follows
 byte_again : (b : ℕ) (rest : List ℕ) → b < 256 → byte_at (byte_text b ++ rest) ≡ Some (b, rest)
@@ -50,8 +50,8 @@ unfolding byte_at
 byte_takes [] b rest read = absurd (cc)
 byte_takes (x ∷ []) b rest read = absurd (cc)
 byte_takes (x ∷ y ∷ bytes) b rest read =
-    let (high, first, second) = bound (digit_of x) (λ high. digit_of y >>= (λ low. joined high low bytes)) (b, rest) read in
-    let (low, third, is) = bound (digit_of y) (λ low. joined high low bytes) (b, rest) second in
+    let (high, first, second) = bound (digit_of x) (λ high. digit_of y >>= (λ low. byte_of_digits high low bytes)) (b, rest) read in
+    let (low, third, is) = bound (digit_of y) (λ low. byte_of_digits high low bytes) (b, rest) second in
     let (same, left) = same_read (16 * high + low) b bytes rest is in
     let (small, glyph) = digit_takes x high first in
     let (little, mark) = digit_takes y low third in

@@ -8,7 +8,7 @@ use Rattle.chord_base.specs.Bounds.{AreWithin, IsJournal}
 use Rattle.chord_base.specs.declared.event.Entry.{Entry}
 use Rattle.chord_journal.specs.Text.{entry_text, header_text, text_of}
 use Rattle.chord_journal.specs.Typed.{AreTyped}
-use Rattle.chord_journal.specs.Wrong.{IsEntryAt, AreEntriesFrom, Begins, HasNoHeader, HasNoEntry, IsWrongBehind, IsWrongAt}
+use Rattle.chord_journal.specs.Wrong.{IsEntryAt, AreEntriesFrom, BeginsWithLines, HasNoHeader, HasNoEntry, IsWrongBehind, IsWrongAt}
 use Rattle.chord_journal.specs.Reading.{entry_at, header_at}
 use Rattle.chord_journal.proofs.Binds.{same_read}
 use Rattle.chord_journal.proofs.LineTexts.{entry_again, entry_takes, header_again}
@@ -35,8 +35,8 @@ entries_push place (x ∷ es) e (first, all) here =
     (first, entries_push (place + 1) es e all (subst (λ p. IsEntryAt p e) at here))
 
 -- a line that is read is right behind right ones
-pub begins_next : (bytes : List ℕ) (count : ℕ) (es : List Entry) (rest more : List ℕ) (e : Entry) → Begins bytes count es rest → length es < count →
-    entry_at (length es) rest ≡ Some (e, more) → Begins bytes count (es ++ (e ∷ [])) more
+pub begins_next : (bytes : List ℕ) (count : ℕ) (es : List Entry) (rest more : List ℕ) (e : Entry) → BeginsWithLines bytes count es rest → length es < count →
+    entry_at (length es) rest ≡ Some (e, more) → BeginsWithLines bytes count (es ++ (e ∷ [])) more
 begins_next bytes count es rest more e begun less read =
     let (text, right) = entry_takes (length es) rest e more read in
     let at : length es ≡ 0 + length es = omega arith in
@@ -86,14 +86,14 @@ entries_typed place [] all = tt
 entries_typed place (e ∷ es) (here, all) = (here.typed, entries_typed (place + 1) es all)
 
 -- of two ways to read lines, the longer goes on where the shorter ends
-record GoesOn (place : ℕ) (es fs : List Entry) (rest more : List ℕ) : Type 0 where
+record LinesGoOn (place : ℕ) (es fs : List Entry) (rest more : List ℕ) : Type 0 where
   others : List Entry
   entries : fs ≡ es ++ others
   lines : rest ≡ flat_map entry_text others ++ more
   right : AreEntriesFrom (place + length es) others
 
 goes_on : (place : ℕ) (es fs : List Entry) (rest more : List ℕ) → AreEntriesFrom place es → AreEntriesFrom place fs → place + length fs ≤ 65536 →
-    length es ≤ length fs → flat_map entry_text es ++ rest ≡ flat_map entry_text fs ++ more → GoesOn place es fs rest more
+    length es ≤ length fs → flat_map entry_text es ++ rest ≡ flat_map entry_text fs ++ more → LinesGoOn place es fs rest more
 goes_on place [] fs rest more all these low few same =
     let at : place ≡ place + 0 = omega arith in
     record { others = fs; entries = refl; lines = same; right = subst (λ p. AreEntriesFrom p fs) at these }
@@ -134,7 +134,7 @@ same_journal es fs journal typed other types same =
     sym (on.entries ∙ ap (λ xs. es ++ xs) none ∙ append-nil es)
 
 -- bytes that begin right in two ways have one count
-same_count : (bytes : List ℕ) (n m : ℕ) (es fs : List Entry) (rest more : List ℕ) → Begins bytes n es rest → Begins bytes m fs more →
+same_count : (bytes : List ℕ) (n m : ℕ) (es fs : List Entry) (rest more : List ℕ) → BeginsWithLines bytes n es rest → BeginsWithLines bytes m fs more →
     (n ≡ m) × (flat_map entry_text es ++ rest ≡ flat_map entry_text fs ++ more)
 same_count bytes n m es fs rest more begun also =
     same_header n m (flat_map entry_text es ++ rest) (flat_map entry_text fs ++ more) begun.counted also.counted (sym begun.text ∙ also.text)
@@ -152,11 +152,11 @@ wrong_stops count place rest (e ∷ others) more (inl (less, none)) few (here, a
 wrong_stops count place rest (e ∷ others) more (inr (last, some)) few all lines ended due = omega (arith, few, last)
 
 -- no line of a journal's text is wrong
-pub not_wrong : (es : List Entry) (bytes : List ℕ) (k : ℕ) → IsJournal es → AreTyped es → bytes ≡ text_of es → IsWrongAt bytes k → ⊥
-not_wrong es bytes zero journal typed text none = none (length es) (flat_map entry_text es) journal.few text
-not_wrong es bytes (suc place) journal typed text (count, front, rest, begun, long, wrong) =
+pub text_not_wrong : (es : List Entry) (bytes : List ℕ) (k : ℕ) → IsJournal es → AreTyped es → bytes ≡ text_of es → IsWrongAt bytes k → ⊥
+text_not_wrong es bytes zero journal typed text none = none (length es) (flat_map entry_text es) journal.few text
+text_not_wrong es bytes (suc place) journal typed text (count, front, rest, begun, long, wrong) =
     let all = journal_entries es journal typed in
-    let whole : Begins bytes (length es) es [] =
+    let whole : BeginsWithLines bytes (length es) es [] =
     record {
       counted = journal.few;
       few = omega arith;
@@ -197,13 +197,13 @@ wrong_once bytes j k wrong other =
     ]
 
 -- the line behind right ones is the least that is wrong, where it is due and not read
-pub wrong_line : (bytes : List ℕ) (count : ℕ) (es : List Entry) (rest : List ℕ) (place : ℕ) → Begins bytes count es rest → length es ≡ place → place < count →
+pub wrong_line : (bytes : List ℕ) (count : ℕ) (es : List Entry) (rest : List ℕ) (place : ℕ) → BeginsWithLines bytes count es rest → length es ≡ place → place < count →
     entry_at place rest ≡ None → IsWrongAt bytes (place + 1)
 wrong_line bytes count es rest place begun long less none =
     rw (add-one place) (count, es, rest, begun, long, inl (less, no_entry place rest (omega (arith, less, begun.counted)) none))
 
 -- right lines with nothing behind them are the text, where they are all
-pub whole_text : (bytes : List ℕ) (count : ℕ) (es : List Entry) (rest : List ℕ) → Begins bytes count es rest → length es ≡ count → rest ≡ [] →
+pub whole_text : (bytes : List ℕ) (count : ℕ) (es : List Entry) (rest : List ℕ) → BeginsWithLines bytes count es rest → length es ≡ count → rest ≡ [] →
     bytes ≡ text_of es
 whole_text bytes count es rest begun all none =
     begun.text ∙ ap (λ n. header_text n ++ (flat_map entry_text es ++ rest)) (sym all) ∙

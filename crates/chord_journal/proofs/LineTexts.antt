@@ -17,7 +17,7 @@ use Rattle.chord_base.specs.declared.event.Entry.{Entry}
 use Rattle.chord_journal.specs.Text.{byte_text, object_text, value_text, values_text, numbers_text, message_text, firing_text, trap_text, end_text, what_text, entry_text, header_text}
 use Rattle.chord_journal.specs.Typed.{AreTypedValues, IsTypedEnd, IsTypedWhat}
 use Rattle.chord_journal.specs.Wrong.{IsEntryAt}
-use Rattle.chord_journal.specs.Reading.{Read, ◌>>=◌, on, after, number_at, text_at, object_at, value_at, values_at, numbers_at, sending_at, calling_at, made_at, printed_at, ended_at, firing_at, end_at, what_at, entry_at, header_at}
+use Rattle.chord_journal.specs.Reading.{Read, ◌>>=◌, on, after, decimal_at, text_at, object_at, value_at, values_at, numbers_at, sending_at, calling_at, made_at, printed_at, ended_at, firing_at, end_at, what_at, entry_at, header_at}
 use Rattle.chord_journal.proofs.Binds.{bound, same_read, passed, guarded}
 use Rattle.chord_journal.proofs.Fronts.{after_takes}
 use Rattle.chord_journal.proofs.Numbers.{number_again, number_takes}
@@ -124,7 +124,7 @@ abbrev IsMessageRead : List ℕ → Object → ℕ → List value.Value → List
 IsMessageRead bytes o j vs rest = (bytes ≡ message_text o j vs ++ rest) × IsMessageWithin o j vs × AreTypedValues vs
 
 message_takes : (bytes : List ℕ) (o : Object × List ℕ) (blank : List ℕ) (j : ℕ × List ℕ) (vs : List value.Value × List ℕ) →
-    object_at bytes ≡ Some o → after (codes " ") o.1 ≡ Some blank → number_at 16 blank ≡ Some j → values_at 8 j.1 ≡ Some vs → IsMessageRead bytes o.0 j.0 vs.0 vs.1
+    object_at bytes ≡ Some o → after (codes " ") o.1 ≡ Some blank → decimal_at 16 blank ≡ Some j → values_at 8 j.1 ≡ Some vs → IsMessageRead bytes o.0 j.0 vs.0 vs.1
 message_takes bytes o blank j vs first second third fourth =
     let (text₁, object) = object_takes bytes o.0 o.1 first in
     let text₂ = after_takes (codes " ") o.1 blank second in
@@ -142,7 +142,7 @@ abbrev with_method : (Object → ℕ → List value.Value → What) → Object �
 with_method made o j = values_at 8 j.1 >>= as_message made o j.0
 
 abbrev with_blank : (Object → ℕ → List value.Value → What) → Object → List ℕ → Read What
-with_blank made o blank = number_at 16 blank >>= with_method made o
+with_blank made o blank = decimal_at 16 blank >>= with_method made o
 
 abbrev with_object : (Object → ℕ → List value.Value → What) → Object × List ℕ → Read What
 with_object made o = after (codes " ") o.1 >>= with_blank made o.0
@@ -152,7 +152,7 @@ unfolding sending_at
 sending_takes bytes w rest read =
     let (o, first, read₁) = bound (object_at bytes) (with_object Sent) (w, rest) read in
     let (blank, second, read₂) = bound (after (codes " ") o.1) (with_blank Sent o.0) (w, rest) read₁ in
-    let (j, third, read₃) = bound (number_at 16 blank) (with_method Sent o.0) (w, rest) read₂ in
+    let (j, third, read₃) = bound (decimal_at 16 blank) (with_method Sent o.0) (w, rest) read₂ in
     let (vs, fourth, is) = bound (values_at 8 j.1) (as_message Sent o.0 j.0) (w, rest) read₃ in
     let (same, left) = same_read (Sent o.0 j.0 vs.0) w vs.1 rest is in
     let (text, within, typed) = message_takes bytes o blank j vs first second third fourth in
@@ -164,7 +164,7 @@ unfolding calling_at
 calling_takes bytes w rest read =
     let (o, first, read₁) = bound (object_at bytes) (with_object Called) (w, rest) read in
     let (blank, second, read₂) = bound (after (codes " ") o.1) (with_blank Called o.0) (w, rest) read₁ in
-    let (j, third, read₃) = bound (number_at 16 blank) (with_method Called o.0) (w, rest) read₂ in
+    let (j, third, read₃) = bound (decimal_at 16 blank) (with_method Called o.0) (w, rest) read₂ in
     let (vs, fourth, is) = bound (values_at 8 j.1) (as_message Called o.0 j.0) (w, rest) read₃ in
     let (same, left) = same_read (Called o.0 j.0 vs.0) w vs.1 rest is in
     let (text, within, typed) = message_takes bytes o blank j vs first second third fourth in
@@ -174,7 +174,7 @@ calling_takes bytes w rest read =
 made_takes : (bytes : List ℕ) (w : What) (rest : List ℕ) → made_at bytes ≡ Some (w, rest) → IsWhatRead (codes "made " ++ bytes) w rest
 unfolding made_at
 made_takes bytes w rest read =
-    let (c, number, is) = bound (number_at 1024 bytes) as_made (w, rest) read in
+    let (c, number, is) = bound (decimal_at 1024 bytes) as_made (w, rest) read in
     let (same, left) = same_read (Made c.0) w c.1 rest is in
     let (text, less) = number_takes 1024 bytes c.0 c.1 (omega arith) number in
     subst (λ x. IsWhatRead (codes "made " ++ bytes) x rest) same (ap (λ b. codes "made " ++ b) (text ∙ ap (λ r. decimal c.0 ++ r) left), less, tt)
@@ -205,7 +205,7 @@ abbrev with_count : ℕ → Object → ℕ × List ℕ → Read What
 with_count k o count = (if count.0 == 0 then None else numbers_at count.0 count.1) >>= with_members k o
 
 abbrev with_next : ℕ → Object → List ℕ → Read What
-with_next k o next = number_at 9 next >>= with_count k o
+with_next k o next = decimal_at 9 next >>= with_count k o
 
 abbrev with_target : ℕ → Object × List ℕ → Read What
 with_target k o = after (codes " ") o.1 >>= with_next k o.0
@@ -219,11 +219,11 @@ with_chord k = after (codes " ") k.1 >>= with_space k.0
 firing_takes : (bytes : List ℕ) (w : What) (rest : List ℕ) → firing_at bytes ≡ Some (w, rest) → IsWhatRead (codes "fired " ++ bytes) w rest
 unfolding firing_at
 firing_takes bytes w rest read =
-    let (k, first, read₁) = bound (number_at 256 bytes) with_chord (w, rest) read in
+    let (k, first, read₁) = bound (decimal_at 256 bytes) with_chord (w, rest) read in
     let (blank, second, read₂) = bound (after (codes " ") k.1) (with_space k.0) (w, rest) read₁ in
     let (o, third, read₃) = bound (object_at blank) (with_target k.0) (w, rest) read₂ in
     let (next, fourth, read₄) = bound (after (codes " ") o.1) (with_next k.0 o.0) (w, rest) read₃ in
-    let (count, fifth, read₅) = bound (number_at 9 next) (with_count k.0 o.0) (w, rest) read₄ in
+    let (count, fifth, read₅) = bound (decimal_at 9 next) (with_count k.0 o.0) (w, rest) read₄ in
     let (ms, tested, read₆) = bound (if count.0 == 0 then None else numbers_at count.0 count.1) (with_members k.0 o.0) (w, rest) read₅ in
     let (some, sixth) = passed (count.0 == 0) (numbers_at count.0 count.1) ms tested in
     let (vs, seventh, is) = bound (values_at 64 ms.1) (as_firing k.0 o.0 ms.0) (w, rest) read₆ in
@@ -354,7 +354,7 @@ abbrev with_body : ℕ → ℕ × List ℕ → Read Entry
 with_body number body = after (codes " ") body.1 >>= with_gap number body.0
 
 abbrev behind_number : ℕ → List ℕ → Read Entry
-behind_number number blank = number_at 65536 blank >>= with_body number
+behind_number number blank = decimal_at 65536 blank >>= with_body number
 
 abbrev with_number : ℕ → ℕ × List ℕ → Read Entry
 with_number place number = (if number.0 == place then after (codes " ") number.1 else None) >>= behind_number number.0
@@ -364,10 +364,10 @@ pub entry_takes : (place : ℕ) (bytes : List ℕ) (e : Entry) (rest : List ℕ)
     (bytes ≡ entry_text e ++ rest) × IsEntryAt place e
 unfolding entry_at
 entry_takes place bytes e rest read =
-    let (number, first, read₁) = bound (number_at 65536 bytes) (with_number place) (e, rest) read in
+    let (number, first, read₁) = bound (decimal_at 65536 bytes) (with_number place) (e, rest) read in
     let (blank, tested, read₂) = bound (if number.0 == place then after (codes " ") number.1 else None) (behind_number number.0) (e, rest) read₁ in
     let (here, second) = guarded (number.0 == place) (after (codes " ") number.1) blank tested in
-    let (body, third, read₃) = bound (number_at 65536 blank) (with_body number.0) (e, rest) read₂ in
+    let (body, third, read₃) = bound (decimal_at 65536 blank) (with_body number.0) (e, rest) read₂ in
     let (next, fourth, read₄) = bound (after (codes " ") body.1) (with_gap number.0 body.0) (e, rest) read₃ in
     let (what, fifth, read₅) = bound (what_at next) (with_what number.0 body.0) (e, rest) read₄ in
     let (behind, sixth, is) = bound (after (codes "\n") what.1) (as_entry number.0 body.0 what.0) (e, rest) read₅ in
@@ -401,7 +401,7 @@ pub header_takes : (bytes : List ℕ) (count : ℕ) (rest : List ℕ) → header
 unfolding header_at
 header_takes bytes count rest read =
     let (front, first, read₁) = bound (after (codes "journal 1 ") bytes) after_word (count, rest) read in
-    let (number, second, read₂) = bound (number_at 65537 front) after_count (count, rest) read₁ in
+    let (number, second, read₂) = bound (decimal_at 65537 front) after_count (count, rest) read₁ in
     let (behind, third, is) = bound (after (codes "\n") number.1) (as_header number.0) (count, rest) read₂ in
     let (same, left) = same_read number.0 count behind rest is in
     let text₁ = after_takes (codes "journal 1 ") bytes front first in
@@ -418,4 +418,4 @@ header_takes bytes count rest read =
     after_count count = after (codes "\n") count.1 >>= as_header count.0
 
     after_word : List ℕ → Read ℕ
-    after_word front = number_at 65537 front >>= after_count
+    after_word front = decimal_at 65537 front >>= after_count

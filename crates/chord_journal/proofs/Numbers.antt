@@ -13,7 +13,7 @@ use Rattle.std.proofs.lemmas.Bool.Decides.{nat_tests}
 use Rattle.std.specs.Prelude.{ℤ, pos, negsuc}
 use Rattle.std.specs.Fmt.{signed_decimal}
 use Rattle.chord_journal.specs.Typed.{IsInt}
-use Rattle.chord_journal.specs.Reading.{Read, ◌>>=◌, number_at, int_at, negative_at, is_plain, value_if_below}
+use Rattle.chord_journal.specs.Reading.{Read, ◌>>=◌, decimal_at, int_at, negative_at, is_decimal, value_if_below}
 use Rattle.chord_journal.proofs.Binds.{bound, guarded, passed, same_read}
 
 own : IsNumeralModel (AllDigits 10) (digits_value 10)
@@ -48,18 +48,18 @@ digits_front (d ∷ ds) rest (here, all) none =
     rw is (omega (arith, more))
 
 -- digits are a decimal where they are not led by a zero
-plain_digits : (ds : List ℕ) → 0 < length ds → (48 < get_or ds 0 0) ⊎ (length ds ≡ 1) → is_plain ds ≡ true
+plain_digits : (ds : List ℕ) → 0 < length ds → (48 < get_or ds 0 0) ⊎ (length ds ≡ 1) → is_decimal ds ≡ true
 plain_digits [] some first = absurd (omega (arith, some))
 plain_digits (d ∷ []) some first = refl
 plain_digits (d ∷ e ∷ ds) some (inl big) = grind (arith, nat_tests, big)
 plain_digits (d ∷ e ∷ ds) some (inr one) = absurd (omega (arith, one))
 
-digits_plain : (ds : List ℕ) → is_plain ds ≡ true → (0 < length ds) × (get_or ds 0 0 ≡ 48 → length ds ≡ 1)
+digits_plain : (ds : List ℕ) → is_decimal ds ≡ true → (0 < length ds) × (get_or ds 0 0 ≡ 48 → length ds ≡ 1)
 digits_plain [] plain = absurd (cc)
 digits_plain (d ∷ []) plain = (omega arith, λ zero. refl)
 digits_plain (d ∷ e ∷ ds) plain = (omega arith, λ zero. absurd (grind (arith, nat_tests, plain, zero)))
 
-decimal_plain : (n : ℕ) → n < 2 ^ 64 → is_plain (decimal n) ≡ true
+decimal_plain : (n : ℕ) → n < 2 ^ 64 → is_decimal (decimal n) ≡ true
 decimal_plain zero fits = rw (decimal_digit 0 (omega arith)) refl
 decimal_plain (suc n) fits = plain_digits (decimal (suc n)) (decimal_nonempty (suc n) fits) (inl (first_decimal (suc n) (omega arith) fits))
 
@@ -75,20 +75,20 @@ below_value limit ds n read =
     (same, grind (arith, nat_tests))
 
 -- a decimal below the limit is read, where no digit follows
-pub number_again : (limit n : ℕ) (rest : List ℕ) → n < limit → limit ≤ 2 ^ 64 → prefix_len is_ascii_digit rest ≡ 0 → number_at limit (decimal n ++ rest) ≡ Some (n, rest)
-unfolding number_at
+pub number_again : (limit n : ℕ) (rest : List ℕ) → n < limit → limit ≤ 2 ^ 64 → prefix_len is_ascii_digit rest ≡ 0 → decimal_at limit (decimal n ++ rest) ≡ Some (n, rest)
+unfolding decimal_at
 number_again limit n rest less fits none =
     let small : n < 2 ^ 64 = omega (arith, less, fits) in
     let count = digits_front (decimal n) rest (digits_decimal own n small) none in
     rw (count, take-append_seam (decimal n) rest, decimal_plain n small, value_below limit (decimal n) n (digits_value-decimal own n small) less, drop-append_seam (decimal n) rest) refl
 
 -- what is read is a decimal below the limit
-pub number_takes : (limit : ℕ) (bytes : List ℕ) (n : ℕ) (rest : List ℕ) → limit ≤ 2 ^ 64 → number_at limit bytes ≡ Some (n, rest) → (bytes ≡ decimal n ++ rest) × (n < limit)
-unfolding number_at
+pub number_takes : (limit : ℕ) (bytes : List ℕ) (n : ℕ) (rest : List ℕ) → limit ≤ 2 ^ 64 → decimal_at limit bytes ≡ Some (n, rest) → (bytes ≡ decimal n ++ rest) × (n < limit)
+unfolding decimal_at
 number_takes limit bytes n rest fits read =
     let digits = take (prefix_len is_ascii_digit bytes) bytes in
     let behind = drop (prefix_len is_ascii_digit bytes) bytes in
-    let (plain, valued) = guarded (is_plain digits) (value_if_below limit digits >>= (λ m. Some (m, behind))) (n, rest) read in
+    let (plain, valued) = guarded (is_decimal digits) (value_if_below limit digits >>= (λ m. Some (m, behind))) (n, rest) read in
     let (m, value, is) = bound (value_if_below limit digits) (λ m. Some (m, behind)) (n, rest) valued in
     let (same, less) = below_value limit digits m value in
     let (some, led) = digits_plain digits plain in
@@ -105,10 +105,10 @@ begins_plain (d ∷ ds) some (here, all) =
     (d, ds, refl, grind (arith, nat_tests, range))
 
 -- a number that was read, as an int
-abbrev as_int : ℕ × List ℕ → Read ℤ
-as_int n = Some (pos n.0, n.1)
+abbrev as_positive : ℕ × List ℕ → Read ℤ
+as_positive n = Some (pos n.0, n.1)
 
-unsigned : (bytes : List ℕ) (b : ℕ) (more : List ℕ) → bytes ≡ b ∷ more → (b == 45) ≡ false → int_at bytes ≡ (number_at 2147483648 bytes >>= as_int)
+unsigned : (bytes : List ℕ) (b : ℕ) (more : List ℕ) → bytes ≡ b ∷ more → (b == 45) ≡ false → int_at bytes ≡ (decimal_at 2147483648 bytes >>= as_positive)
 unfolding int_at
 unsigned bytes b more is plain = rw (is, plain) refl
 
@@ -128,10 +128,10 @@ int_again (negsuc n) rest fits none =
     rw (read, some, less) refl
 
 -- what is read without a sign is a number of 32 bits
-unsigned_takes : (bytes : List ℕ) (z : ℤ) (rest : List ℕ) → (number_at 2147483648 bytes >>= as_int) ≡ Some (z, rest) →
+unsigned_takes : (bytes : List ℕ) (z : ℤ) (rest : List ℕ) → (decimal_at 2147483648 bytes >>= as_positive) ≡ Some (z, rest) →
     (bytes ≡ signed_decimal z ++ rest) × IsInt z
 unsigned_takes bytes z rest read =
-    let (n, number, is) = bound (number_at 2147483648 bytes) as_int (z, rest) read in
+    let (n, number, is) = bound (decimal_at 2147483648 bytes) as_positive (z, rest) read in
     let (same, left) = same_read (pos n.0) z n.1 rest is in
     let (text, less) = number_takes 2147483648 bytes n.0 n.1 (omega arith) number in
     (text ∙ ap (λ y. signed_decimal y ++ n.1) same ∙ ap (λ r. signed_decimal z ++ r) left, subst IsInt same less)
@@ -144,7 +144,7 @@ as_negative n = if n.0 == 0 then None else Some (negsuc (n.0 - 1), n.1)
 negative_takes : (bytes : List ℕ) (z : ℤ) (rest : List ℕ) → negative_at bytes ≡ Some (z, rest) → (45 ∷ bytes ≡ signed_decimal z ++ rest) × IsInt z
 unfolding negative_at
 negative_takes bytes z rest read =
-    let (n, number, tested) = bound (number_at 2147483649 bytes) as_negative (z, rest) read in
+    let (n, number, tested) = bound (decimal_at 2147483649 bytes) as_negative (z, rest) read in
     let (some, is) = passed (n.0 == 0) (Some (negsuc (n.0 - 1), n.1)) (z, rest) tested in
     let (same, left) = same_read (negsuc (n.0 - 1)) z n.1 rest is in
     let (text, less) = number_takes 2147483649 bytes n.0 n.1 (omega arith) number in
@@ -161,7 +161,7 @@ unfolding int_at
 int_takes [] z rest read = absurd (cc)
 int_takes (b ∷ bytes) z rest read =
     elim (b == 45) as
-    (λ t. (b == 45) ≡ t → cond t (negative_at bytes) (number_at 2147483648 (b ∷ bytes) >>= as_int) ≡ Some (z, rest) →
+    (λ t. (b == 45) ≡ t → cond t (negative_at bytes) (decimal_at 2147483648 (b ∷ bytes) >>= as_positive) ≡ Some (z, rest) →
     (b ∷ bytes ≡ signed_decimal z ++ rest) × IsInt z) [
       | true ↦ λ is found. (let sign : b ≡ 45 = grind (arith, nat_tests, is) in rw sign (negative_takes bytes z rest found))
       | false ↦ λ is found. unsigned_takes (b ∷ bytes) z rest found

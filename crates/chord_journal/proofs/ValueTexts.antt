@@ -11,8 +11,8 @@ use Rattle.chord_base.specs.declared.value.Value as value
 use Rattle.chord_base.specs.declared.value.Value.TheVariants as a_value
 use Rattle.chord_journal.specs.Text.{byte_text, object_text, value_text, values_text, numbers_text}
 use Rattle.chord_journal.specs.Typed.{IsTypedValue, AreTypedValues}
-use Rattle.chord_journal.specs.Reading.{Read, ◌>>=◌, after, number_at, int_at, text_at, object_at, value_at, begins_digit, begins_blank, next_value_at, values_at, next_number_at, numbers_at}
-use Rattle.chord_journal.proofs.Binds.{bound, same_read, chosen}
+use Rattle.chord_journal.specs.Reading.{Read, ◌>>=◌, after, decimal_at, int_at, text_at, object_at, value_at, begins_digit, begins_blank, next_value_at, values_at, next_number_at, numbers_at}
+use Rattle.chord_journal.proofs.Binds.{bound, same_read, by_branch}
 use Rattle.chord_journal.proofs.Fronts.{after_takes}
 use Rattle.chord_journal.proofs.Numbers.{number_again, number_takes, int_again, int_takes}
 use Rattle.chord_journal.proofs.Hexes.{text_again, text_takes}
@@ -37,9 +37,9 @@ pub object_takes : (bytes : List ℕ) (o : Object) (rest : List ℕ) → object_
 unfolding object_at
 object_takes bytes o rest read =
     let (front, first, read₁) = bound (after (codes "o") bytes) after_o (o, rest) read in
-    let (number, second, read₂) = bound (number_at 65536 front) after_number (o, rest) read₁ in
+    let (number, second, read₂) = bound (decimal_at 65536 front) after_number (o, rest) read₁ in
     let (dot, third, read₃) = bound (after (codes ".") number.1) (after_dot number.0) (o, rest) read₂ in
-    let (class, fourth, is) = bound (number_at 1024 dot) (made number.0) (o, rest) read₃ in
+    let (class, fourth, is) = bound (decimal_at 1024 dot) (made number.0) (o, rest) read₃ in
     let (same, left) = same_read (record { number = number.0; class = class.0 }) o class.1 rest is in
     let whole₁ = after_takes (codes "o") bytes front first in
     let (whole₂, few) = number_takes 65536 front number.0 number.1 (omega arith) second in
@@ -53,13 +53,13 @@ object_takes bytes o rest read =
     made number class = Some (record { number = number; class = class.0 }, class.1)
 
     after_dot : ℕ → List ℕ → Read Object
-    after_dot number dot = number_at 1024 dot >>= made number
+    after_dot number dot = decimal_at 1024 dot >>= made number
 
     after_number : ℕ × List ℕ → Read Object
     after_number number = after (codes ".") number.1 >>= after_dot number.0
 
     after_o : List ℕ → Read Object
-    after_o front = number_at 65536 front >>= after_number
+    after_o front = decimal_at 65536 front >>= after_number
 
 -- a value is read, where no digit follows
 pub value_again : (v : value.Value) (rest : List ℕ) → IsValueWithin v → IsTypedValue v → Stops rest → value_at (value_text v ++ rest) ≡ Some (v, rest)
@@ -83,8 +83,8 @@ letter_takes b bytes w v rest text within typed read =
     subst (λ x. IsValueRead (b ∷ bytes) x rest) same (rw text (ap (λ r. b ∷ r) left), within, typed)
 
 -- parts that were read, as values
-abbrev as_int : ℤ × List ℕ → Read value.Value
-as_int n = Some (a_value.Int n.0, n.1)
+abbrev as_int_value : ℤ × List ℕ → Read value.Value
+as_int_value n = Some (a_value.Int n.0, n.1)
 
 abbrev as_text : List ℕ × List ℕ → Read value.Value
 as_text t = Some (a_value.Text t.0, t.1)
@@ -93,9 +93,9 @@ abbrev as_object : Object × List ℕ → Read value.Value
 as_object o = Some (a_value.Ref o.0, o.1)
 
 -- a number behind its letter
-int_value_takes : (bytes : List ℕ) (v : value.Value) (rest : List ℕ) → (int_at bytes >>= as_int) ≡ Some (v, rest) → IsValueRead (105 ∷ bytes) v rest
+int_value_takes : (bytes : List ℕ) (v : value.Value) (rest : List ℕ) → (int_at bytes >>= as_int_value) ≡ Some (v, rest) → IsValueRead (105 ∷ bytes) v rest
 int_value_takes bytes v rest read =
-    let (n, number, is) = bound (int_at bytes) as_int (v, rest) read in
+    let (n, number, is) = bound (int_at bytes) as_int_value (v, rest) read in
     let (same, left) = same_read (a_value.Int n.0) v n.1 rest is in
     let (text, fits) = int_takes bytes n.0 n.1 number in
     subst (λ x. IsValueRead (105 ∷ bytes) x rest) same (ap (λ b. 105 ∷ b) (text ∙ ap (λ r. signed_decimal n.0 ++ r) left), tt, fits)
@@ -121,11 +121,11 @@ pub value_takes : (bytes : List ℕ) (v : value.Value) (rest : List ℕ) → val
 unfolding value_at
 value_takes [] v rest read = absurd (cc)
 value_takes (b ∷ bytes) v rest read =
-    chosen (b == 117) _ _ _ read (λ is found. rw (letter b 117 is) (letter_takes 117 bytes a_value.Unit v rest refl tt tt found))
-    (λ no₁ read₁. chosen (b == 105) _ _ _ read₁ (λ is found. rw (letter b 105 is) (int_value_takes bytes v rest found))
-    (λ no₂ read₂. chosen (b == 116) _ _ _ read₂ (λ is found. rw (letter b 116 is) (letter_takes 116 bytes (a_value.Flag true) v rest refl tt tt found))
-    (λ no₃ read₃. chosen (b == 102) _ _ _ read₃ (λ is found. rw (letter b 102 is) (letter_takes 102 bytes (a_value.Flag false) v rest refl tt tt found))
-    (λ no₄ read₄. chosen (b == 120) _ _ _ read₄ (λ is found. rw (letter b 120 is) (text_value_takes bytes v rest found))
+    by_branch (b == 117) _ _ _ read (λ is found. rw (letter b 117 is) (letter_takes 117 bytes a_value.Unit v rest refl tt tt found))
+    (λ no₁ read₁. by_branch (b == 105) _ _ _ read₁ (λ is found. rw (letter b 105 is) (int_value_takes bytes v rest found))
+    (λ no₂ read₂. by_branch (b == 116) _ _ _ read₂ (λ is found. rw (letter b 116 is) (letter_takes 116 bytes (a_value.Flag true) v rest refl tt tt found))
+    (λ no₃ read₃. by_branch (b == 102) _ _ _ read₃ (λ is found. rw (letter b 102 is) (letter_takes 102 bytes (a_value.Flag false) v rest refl tt tt found))
+    (λ no₄ read₄. by_branch (b == 120) _ _ _ read₄ (λ is found. rw (letter b 120 is) (text_value_takes bytes v rest found))
     (λ no₅ read₅. object_value_takes (b ∷ bytes) v rest read₅)))))
   where
     letter : (b k : ℕ) → (b == k) ≡ true → b ≡ k
@@ -198,7 +198,7 @@ numbers_takes (suc count) bytes ns rest read =
     let (n, first, second) = bound (next_number_at bytes) then_numbers (ns, rest) read in
     let (ms, third, is) = bound (numbers_at count n.1) (put_number n.0) (ns, rest) second in
     let (all, left) = same_read (n.0 ∷ ms.0) ns ms.1 rest is in
-    let (front, blank, number) = bound (after (codes " ") bytes) (number_at 65536) n first in
+    let (front, blank, number) = bound (after (codes " ") bytes) (decimal_at 65536) n first in
     let (text, less) = number_takes 65536 front n.0 n.1 (omega arith) number in
     let (others, counted, within) = numbers_takes count n.1 ms.0 ms.1 third in
     let whole : bytes ≡ numbers_text (n.0 ∷ ms.0) ++ rest =

@@ -8,7 +8,7 @@ use Rattle.chord_base.specs.declared.value.Value as value
 use Rattle.chord_base.specs.declared.value.Value.TheVariants as a_value
 use Rattle.chord_base.specs.declared.event.Trap.TheVariants.{DivideByZero, OutOfTurns, TooDeep, TextTooLong}
 use Rattle.chord_base.specs.declared.event.End.{End}
-use Rattle.chord_base.specs.declared.event.End.TheVariants.{Gives as gives, Traps}
+use Rattle.chord_base.specs.declared.event.End.TheVariants.{Gives, Traps}
 use Rattle.chord_base.specs.declared.event.What.{What}
 use Rattle.chord_base.specs.declared.event.What.TheVariants.{Begun, Made, Sent, Called, Printed, Fired, Ended}
 use Rattle.chord_base.specs.declared.event.Entry.{Entry}
@@ -29,9 +29,9 @@ Fails Memory read = Unit {0}
 Fails Wrong read = read ≡ None
 
 -- what a call gave, seen by view, is what reading gives, unless memory ran out
-abbrev pub Gives : {X Y : Type 0} → (X → Y) → Result X LineFault → Option Y → Type 0
-Gives view (Ok x) read = read ≡ Some (view x)
-Gives view (Err e) read = Fails e read
+abbrev pub ReadsAs : {X Y : Type 0} → (X → Y) → Result X LineFault → Option Y → Type 0
+ReadsAs view (Ok x) read = read ≡ Some (view x)
+ReadsAs view (Err e) read = Fails e read
 
 -- the bytes behind this text, if it stands at the front
 abbrev pub after : List ℕ → List ℕ → Option (List ℕ)
@@ -40,37 +40,37 @@ after (c ∷ cs) [] = None
 after (c ∷ cs) (b ∷ bytes) = if b == c then after cs bytes else None
 
 -- digits that are a decimal: at least one, and no zero before another
-abbrev pub is_plain : List ℕ → Bool
-is_plain [] = false
-is_plain (d ∷ []) = true
-is_plain (d ∷ e ∷ ds) = not (d == 48)
+abbrev pub is_decimal : List ℕ → Bool
+is_decimal [] = false
+is_decimal (d ∷ []) = true
+is_decimal (d ∷ e ∷ ds) = not (d == 48)
 
 -- the value of digits, if it is below the bound
 abbrev pub value_if_below : ℕ → List ℕ → Option ℕ
 value_if_below bound digits = if nat_lt (digits_value 10 digits) bound then Some (digits_value 10 digits) else None
 
 -- a number below the bound, with all digits that stand at the front
-unfoldable pub number_at : ℕ → List ℕ → Read ℕ
-number_at bound bytes =
+unfoldable pub decimal_at : ℕ → List ℕ → Read ℕ
+decimal_at bound bytes =
     let count = prefix_len is_ascii_digit bytes in
-    if is_plain (take count bytes) then value_if_below bound (take count bytes) >>= (λ n. Some (n, drop count bytes)) else None
+    if is_decimal (take count bytes) then value_if_below bound (take count bytes) >>= (λ n. Some (n, drop count bytes)) else None
 
 -- the number of 32 bits that stands behind a sign
 unfoldable pub negative_at : List ℕ → Read ℤ
-negative_at bytes = number_at 2147483649 bytes >>= (λ n. if n.0 == 0 then None else Some (negsuc (n.0 - 1), n.1))
+negative_at bytes = decimal_at 2147483649 bytes >>= (λ n. if n.0 == 0 then None else Some (negsuc (n.0 - 1), n.1))
 
 -- a number of 32 bits, with a sign where it is negative
 unfoldable pub int_at : List ℕ → Read ℤ
 int_at [] = None
-int_at (b ∷ bytes) = if b == 45 then negative_at bytes else number_at 2147483648 (b ∷ bytes) >>= (λ n. Some (pos n.0, n.1))
+int_at (b ∷ bytes) = if b == 45 then negative_at bytes else decimal_at 2147483648 (b ∷ bytes) >>= (λ n. Some (pos n.0, n.1))
 
 -- an object
 unfoldable pub object_at : List ℕ → Read Object
 object_at bytes = do
   front ← after (codes "o") bytes
-  number ← number_at 65536 front
+  number ← decimal_at 65536 front
   dot ← after (codes ".") number.1
-  class ← number_at 1024 dot
+  class ← decimal_at 1024 dot
   Some (record { number = number.0; class = class.0 }, class.1)
 
 -- the number that a hexadecimal digit in lower case stands for
@@ -101,8 +101,8 @@ many begins part (suc room) bytes =
     else Some ([], bytes)
 
 -- what was read so far, and then what is read
-abbrev pub with_front : {A : Type 0} → List A → Read (List A) → Read (List A)
-with_front front read = read >>= (λ xs. Some (front ++ xs.0, xs.1))
+abbrev pub with_prefix : {A : Type 0} → List A → Read (List A) → Read (List A)
+with_prefix front read = read >>= (λ xs. Some (front ++ xs.0, xs.1))
 
 -- the bytes of a text
 abbrev pub text_at : List ℕ → Read (List ℕ)
@@ -139,7 +139,7 @@ values_at most bytes = many begins_blank next_value_at most bytes
 
 -- a number below 65,536 behind a blank
 abbrev pub next_number_at : List ℕ → Read ℕ
-next_number_at bytes = after (codes " ") bytes >>= number_at 65536
+next_number_at bytes = after (codes " ") bytes >>= decimal_at 65536
 
 -- so many numbers, each behind a blank
 unfoldable pub numbers_at : ℕ → List ℕ → Read (List ℕ)
@@ -151,7 +151,7 @@ unfoldable pub sending_at : List ℕ → Read What
 sending_at bytes = do
   object ← object_at bytes
   blank ← after (codes " ") object.1
-  method ← number_at 16 blank
+  method ← decimal_at 16 blank
   values ← values_at 8 method.1
   Some (Sent object.0 method.0 values.0, values.1)
 
@@ -160,18 +160,18 @@ unfoldable pub calling_at : List ℕ → Read What
 calling_at bytes = do
   object ← object_at bytes
   blank ← after (codes " ") object.1
-  method ← number_at 16 blank
+  method ← decimal_at 16 blank
   values ← values_at 8 method.1
   Some (Called object.0 method.0 values.0, values.1)
 
 -- a firing: its chord, its object, how many members it has, its members and its values
 unfoldable pub firing_at : List ℕ → Read What
 firing_at bytes = do
-  chord ← number_at 256 bytes
+  chord ← decimal_at 256 bytes
   blank ← after (codes " ") chord.1
   object ← object_at blank
   next ← after (codes " ") object.1
-  count ← number_at 9 next
+  count ← decimal_at 9 next
   members ← (if count.0 == 0 then None else numbers_at count.0 count.1)
   values ← values_at 64 members.1
   Some (Fired chord.0 object.0 members.0 values.0, values.1)
@@ -187,11 +187,11 @@ end_at bytes =
     (on (codes "!turns") bytes (λ rest. Some (Traps OutOfTurns, rest))
     (on (codes "!deep") bytes (λ rest. Some (Traps TooDeep, rest))
     (on (codes "!long") bytes (λ rest. Some (Traps TextTooLong, rest))
-    (value_at bytes >>= (λ v. Some (gives v.0, v.1))))))
+    (value_at bytes >>= (λ v. Some (Gives v.0, v.1))))))
 
 -- the class of an object that is made
 unfoldable pub made_at : List ℕ → Read What
-made_at bytes = number_at 1024 bytes >>= (λ class. Some (Made class.0, class.1))
+made_at bytes = decimal_at 1024 bytes >>= (λ class. Some (Made class.0, class.1))
 
 -- the text of a printed line
 unfoldable pub printed_at : List ℕ → Read What
@@ -216,9 +216,9 @@ what_at bytes =
 -- the line of the entry with this number
 unfoldable pub entry_at : ℕ → List ℕ → Read Entry
 entry_at place bytes = do
-  number ← number_at 65536 bytes
+  number ← decimal_at 65536 bytes
   blank ← (if number.0 == place then after (codes " ") number.1 else None)
-  body ← number_at 65536 blank
+  body ← decimal_at 65536 blank
   next ← after (codes " ") body.1
   what ← what_at next
   rest ← after (codes "\n") what.1
@@ -228,6 +228,6 @@ entry_at place bytes = do
 unfoldable pub header_at : List ℕ → Read ℕ
 header_at bytes = do
   front ← after (codes "journal 1 ") bytes
-  count ← number_at 65537 front
+  count ← decimal_at 65537 front
   rest ← after (codes "\n") count.1
   Some (count.0, rest)

@@ -23,6 +23,7 @@ pub record IsText (text : List ℕ) : Type 0 where
   pub few : length text ≤ 1024
   pub bytes : AreBytes text
 
+-- an int of a value has 32 bits, and a text of it at most 1,024 bytes
 abbrev pub IsTypedValue : value.Value → Type 0
 IsTypedValue (a_value.Int n) = IsInt n
 IsTypedValue (a_value.Text t) = IsText t
@@ -30,14 +31,17 @@ IsTypedValue a_value.Unit = Unit {0}
 IsTypedValue (a_value.Flag b) = Unit {0}
 IsTypedValue (a_value.Ref o) = Unit {0}
 
+-- each of the values is so
 abbrev pub AreTypedValues : List value.Value → Type 0
 AreTypedValues [] = Unit {0}
 AreTypedValues (v ∷ vs) = IsTypedValue v × AreTypedValues vs
 
+-- the value of an end is so
 abbrev pub IsTypedEnd : End → Type 0
 IsTypedEnd (Gives v) = IsTypedValue v
 IsTypedEnd (Traps t) = Unit {0}
 
+-- what an entry says is so
 abbrev pub IsTypedWhat : What → Type 0
 IsTypedWhat (Sent o method values) = AreTypedValues values
 IsTypedWhat (Called o method values) = AreTypedValues values

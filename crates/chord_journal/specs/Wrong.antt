@@ -21,7 +21,7 @@ AreEntriesFrom place [] = Unit {0}
 AreEntriesFrom place (e ∷ es) = IsEntryAt place e × AreEntriesFrom (place + 1) es
 
 -- the bytes begin with a header and the lines of entries, and the rest stands behind them
-pub record Begins (bytes : List ℕ) (count : ℕ) (entries : List Entry) (rest : List ℕ) : Type 0 where
+pub record BeginsWithLines (bytes : List ℕ) (count : ℕ) (entries : List Entry) (rest : List ℕ) : Type 0 where
   pub counted : count ≤ 65536
   pub few : length entries ≤ count
   pub right : AreEntriesFrom 0 entries
@@ -43,7 +43,7 @@ IsWrongBehind count place rest = ((place < count) × HasNoEntry place rest) ⊎ 
 abbrev pub IsWrongAt : List ℕ → ℕ → Type 0
 IsWrongAt bytes zero = HasNoHeader bytes
 IsWrongAt bytes (suc place) =
-    (count : ℕ) × (entries : List Entry) × (rest : List ℕ) × Begins bytes count entries rest × (length entries ≡ place) × IsWrongBehind count place rest
+    (count : ℕ) × (entries : List Entry) × (rest : List ℕ) × BeginsWithLines bytes count entries rest × (length entries ≡ place) × IsWrongBehind count place rest
 
 -- an answer is this one, unless memory ran out
 abbrev pub UnlessMemory : Result (List Entry) JournalFault → Result (List Entry) JournalFault → Type 0

@@ -1,7 +1,7 @@
 //! Reading the line of an entry.
 ghost use Rattle.std.specs.Prelude.{◌≡◌, ℕ, ◌<◌};
 ghost use Rattle.chord_base.specs.declared.event.What.TheVariants.{Sent, Called};
-ghost use Rattle.chord_journal.specs.Reading.{Gives, sending_at, calling_at, made_at, printed_at, ended_at, firing_at, end_at, what_at, entry_at};
+ghost use Rattle.chord_journal.specs.Reading.{ReadsAs, sending_at, calling_at, made_at, printed_at, ended_at, firing_at, end_at, what_at, entry_at};
 
 use crate::parts::{LineFault, after, read_number, read_object, read_text};
 use crate::values::{read_members, read_value, read_values};
@@ -11,7 +11,7 @@ use std::alloc::Global;
 /// The line of the entry with this number.
 #[tactic(auto, unfolding(crate::specs::Reading::entry_at))]
 pub fn read_entry(alloc: Global, place: u32, bytes: &[u8]) -> Result<(Entry, &[u8]), LineFault>
-    ensures { Gives (λ x. (x.0, x.1.now)) result (entry_at place bytes.now) }
+    ensures { ReadsAs (λ x. (x.0, x.1.now)) result (entry_at place bytes.now) }
 {
     let (number, rest) = read_number(bytes, 65_536)?;
     if number != place {
@@ -28,7 +28,7 @@ pub fn read_entry(alloc: Global, place: u32, bytes: &[u8]) -> Result<(Entry, &[u
 /// What happened, by its word.
 #[tactic(auto, unfolding(crate::specs::Reading::what_at))]
 fn read_what(alloc: Global, bytes: &[u8]) -> Result<(What, &[u8]), LineFault>
-    ensures { Gives (λ x. (x.0, x.1.now)) result (what_at bytes.now) }
+    ensures { ReadsAs (λ x. (x.0, x.1.now)) result (what_at bytes.now) }
 {
     if let Ok(rest) = after(bytes, b"begun") {
         return Ok((What::Begun, rest));
@@ -57,7 +57,7 @@ fn read_what(alloc: Global, bytes: &[u8]) -> Result<(What, &[u8]), LineFault>
 /// The class of an object that is made.
 #[tactic(auto, unfolding(crate::specs::Reading::made_at))]
 fn read_made(bytes: &[u8]) -> Result<(What, &[u8]), LineFault>
-    ensures { Gives (λ x. (x.0, x.1.now)) result (made_at bytes.now) }
+    ensures { ReadsAs (λ x. (x.0, x.1.now)) result (made_at bytes.now) }
 {
     let (class, rest) = read_number(bytes, 1024)?;
     Ok((What::Made(class as u16), rest))
@@ -66,7 +66,7 @@ fn read_made(bytes: &[u8]) -> Result<(What, &[u8]), LineFault>
 /// An asynchronous call: its object, its method and its values.
 #[tactic(auto, unfolding(crate::specs::Reading::sending_at))]
 fn read_sending(alloc: Global, bytes: &[u8]) -> Result<(What, &[u8]), LineFault>
-    ensures { Gives (λ x. (x.0, x.1.now)) result (sending_at bytes.now) }
+    ensures { ReadsAs (λ x. (x.0, x.1.now)) result (sending_at bytes.now) }
 {
     let (object, rest) = read_object(bytes)?;
     let rest = after(rest, b" ")?;
@@ -78,7 +78,7 @@ fn read_sending(alloc: Global, bytes: &[u8]) -> Result<(What, &[u8]), LineFault>
 /// A synchronous call: its object, its method and its values.
 #[tactic(auto, unfolding(crate::specs::Reading::calling_at))]
 fn read_calling(alloc: Global, bytes: &[u8]) -> Result<(What, &[u8]), LineFault>
-    ensures { Gives (λ x. (x.0, x.1.now)) result (calling_at bytes.now) }
+    ensures { ReadsAs (λ x. (x.0, x.1.now)) result (calling_at bytes.now) }
 {
     let (object, rest) = read_object(bytes)?;
     let rest = after(rest, b" ")?;
@@ -90,7 +90,7 @@ fn read_calling(alloc: Global, bytes: &[u8]) -> Result<(What, &[u8]), LineFault>
 /// The text of a printed line.
 #[tactic(auto, unfolding(crate::specs::Reading::printed_at))]
 fn read_printed(alloc: Global, bytes: &[u8]) -> Result<(What, &[u8]), LineFault>
-    ensures { Gives (λ x. (x.0, x.1.now)) result (printed_at bytes.now) }
+    ensures { ReadsAs (λ x. (x.0, x.1.now)) result (printed_at bytes.now) }
 {
     let (text, rest) = read_text(alloc, bytes)?;
     Ok((What::Printed(text), rest))
@@ -99,7 +99,7 @@ fn read_printed(alloc: Global, bytes: &[u8]) -> Result<(What, &[u8]), LineFault>
 /// A firing: its chord, its object, how many members it has, its members and its values.
 #[tactic(auto, unfolding(crate::specs::Reading::firing_at))]
 fn read_firing(alloc: Global, bytes: &[u8]) -> Result<(What, &[u8]), LineFault>
-    ensures { Gives (λ x. (x.0, x.1.now)) result (firing_at bytes.now) }
+    ensures { ReadsAs (λ x. (x.0, x.1.now)) result (firing_at bytes.now) }
 {
     let (chord, rest) = read_number(bytes, 256)?;
     let rest = after(rest, b" ")?;
@@ -117,7 +117,7 @@ fn read_firing(alloc: Global, bytes: &[u8]) -> Result<(What, &[u8]), LineFault>
 /// How a body ended.
 #[tactic(auto, unfolding(crate::specs::Reading::ended_at))]
 fn read_ended(alloc: Global, bytes: &[u8]) -> Result<(What, &[u8]), LineFault>
-    ensures { Gives (λ x. (x.0, x.1.now)) result (ended_at bytes.now) }
+    ensures { ReadsAs (λ x. (x.0, x.1.now)) result (ended_at bytes.now) }
 {
     let (end, rest) = read_end(alloc, bytes)?;
     Ok((What::Ended(end), rest))
@@ -126,7 +126,7 @@ fn read_ended(alloc: Global, bytes: &[u8]) -> Result<(What, &[u8]), LineFault>
 /// An end: a trap, or a value.
 #[tactic(auto, unfolding(crate::specs::Reading::end_at))]
 fn read_end(alloc: Global, bytes: &[u8]) -> Result<(End, &[u8]), LineFault>
-    ensures { Gives (λ x. (x.0, x.1.now)) result (end_at bytes.now) }
+    ensures { ReadsAs (λ x. (x.0, x.1.now)) result (end_at bytes.now) }
 {
     if let Ok(rest) = after(bytes, b"!divide") {
         return Ok((End::Traps(Trap::DivideByZero), rest));

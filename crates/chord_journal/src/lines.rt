@@ -2,7 +2,7 @@
 ghost use Rattle.std.specs.Prelude.{◌≡◌, ℕ, ◌≤◌, OnOk, OnErr};
 ghost use Rattle.chord_base.specs.Printed.{lines, line_of};
 ghost use Rattle.chord_io.specs.Faults.{Rose};
-ghost use Rattle.chord_io.specs.Pieces.{Took, TookFront};
+ghost use Rattle.chord_io.specs.Pieces.{Took, TookProperPrefix};
 
 use arrayvec::ArrayVec;
 use chord_base::event::{Entry, What};
@@ -20,7 +20,7 @@ const LINE_BYTES: usize = MAX_TEXT_BYTES + 1;
 /// `Failed` where the sink failed, which its count of faults shows. A front of the lines was taken, and not the whole.
 pub fn write_lines<K: Sink>(journal: &Journal, sink: &mut K) -> Result<(), Failed>
     ensures whole { OnOk result (Took (K.taken sink.old) (lines journal.now) (K.taken sink.new)) }
-    ensures front { OnErr result (TookFront (K.taken sink.old) (lines journal.now) (K.taken sink.new)) }
+    ensures prefix { OnErr result (TookProperPrefix (K.taken sink.old) (lines journal.now) (K.taken sink.new)) }
     ensures failed { OnErr result (Rose (K.faults sink.old) (K.faults sink.new)) }
     ensures never_falls { K.faults sink.old ≤ K.faults sink.new }
 {
@@ -33,7 +33,7 @@ pub fn write_lines<K: Sink>(journal: &Journal, sink: &mut K) -> Result<(), Faile
 /// Writes the line of an entry, if it has one.
 fn write_line<K: Sink>(entry: &Entry, sink: &mut K) -> Result<(), Failed>
     ensures whole { OnOk result (Took (K.taken sink.old) (line_of entry.now.what) (K.taken sink.new)) }
-    ensures front { OnErr result (TookFront (K.taken sink.old) (line_of entry.now.what) (K.taken sink.new)) }
+    ensures prefix { OnErr result (TookProperPrefix (K.taken sink.old) (line_of entry.now.what) (K.taken sink.new)) }
     ensures failed { OnErr result (Rose (K.faults sink.old) (K.faults sink.new)) }
     ensures never_falls { K.faults sink.old ≤ K.faults sink.new }
 {

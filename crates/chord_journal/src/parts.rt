@@ -2,8 +2,8 @@
 ghost use Rattle.std.specs.Prelude.{◌≡◌, ℕ, ◌<◌, ◌≤◌, None, IfOk, OnErr, IfSome, EachIndex, length, slice_index};
 ghost use Rattle.std.specs.List.{prefix_len};
 ghost use Rattle.std.specs.Char.{is_ascii_digit};
-ghost use Rattle.chord_journal.specs.Reading.{Gives, number_at, negative_at, value_if_below, int_at, byte_at, text_at, object_at};
-ghost use Rattle.chord_journal.specs.Reading.{after as after_lem, is_plain as is_plain_lem, begins_digit as begins_digit_lem, digit_of as digit_of_lem};
+ghost use Rattle.chord_journal.specs.Reading.{ReadsAs, decimal_at, negative_at, value_if_below, int_at, byte_at, text_at, object_at};
+ghost use Rattle.chord_journal.specs.Reading.{after as after_lem, is_decimal as is_plain_lem, begins_digit as begins_digit_lem, digit_of as digit_of_lem};
 ghost use Rattle.chord_journal.specs.declared.parts.LineFault.TheVariants.{Memory as no_memory};
 
 use arrayvec::ArrayVec;
@@ -30,7 +30,7 @@ impl<T: Drop> From<AllocFailed<T>> for LineFault {
 
 /// The bytes behind a text.
 pub fn after<'a>(bytes: &'a [u8], text: &[u8]) -> Result<&'a [u8], LineFault>
-    ensures read { Gives (λ rest. rest.now) result (after_lem text.now bytes.now) }
+    ensures read { ReadsAs (λ rest. rest.now) result (after_lem text.now bytes.now) }
     ensures wrong { OnErr result (after_lem text.now bytes.now ≡ None) }
 {
     match bytes.strip_prefix(text) {
@@ -40,14 +40,14 @@ pub fn after<'a>(bytes: &'a [u8], text: &[u8]) -> Result<&'a [u8], LineFault>
 }
 
 /// A number below the bound, with all digits that stand at the front.
-#[tactic(auto, unfolding(crate::specs::Reading::number_at))]
+#[tactic(auto, unfolding(crate::specs::Reading::decimal_at))]
 pub fn read_number(bytes: &[u8], bound: u32) -> Result<(u32, &[u8]), LineFault>
     requires { 0 < bound }
-    ensures read { Gives (λ x. (x.0, x.1.now)) result (number_at bound bytes.now) }
+    ensures read { ReadsAs (λ x. (x.0, x.1.now)) result (decimal_at bound bytes.now) }
     ensures below { IfOk result (λ x. x.0 < bound) }
 {
     let (digits, rest) = bytes.split_at(count_digits(bytes));
-    if !is_plain(digits) {
+    if !is_decimal(digits) {
         return Err(LineFault::Wrong);
     }
     let value = value_below(digits, bound)?;
@@ -55,7 +55,7 @@ pub fn read_number(bytes: &[u8], bound: u32) -> Result<(u32, &[u8]), LineFault>
 }
 
 /// Whether digits are a decimal: at least one, and no zero before another.
-fn is_plain(digits: &[u8]) -> bool
+fn is_decimal(digits: &[u8]) -> bool
     ensures { result ≡ is_plain_lem digits.now }
 {
     match digits {
@@ -80,7 +80,7 @@ fn count_digits(bytes: &[u8]) -> usize
 fn value_below(digits: &[u8], bound: u32) -> Result<u32, LineFault>
     requires some { 0 < bound }
     requires digits { EachIndex digits.now (λ i. (48 ≤ slice_index digits.now i) × (slice_index digits.now i ≤ 57)) }
-    ensures read { Gives (λ x. x) result (value_if_below bound digits.now) }
+    ensures read { ReadsAs (λ x. x) result (value_if_below bound digits.now) }
     ensures below { IfOk result (λ x. x < bound) }
 {
     let bound = u64::from(bound);
@@ -95,9 +95,9 @@ fn value_below(digits: &[u8], bound: u32) -> Result<u32, LineFault>
 }
 
 /// A number of 32 bits, with a sign where it is negative.
-#[tactic(auto, unfolding(crate::specs::Reading::int_at, crate::specs::Reading::number_at))]
+#[tactic(auto, unfolding(crate::specs::Reading::int_at, crate::specs::Reading::decimal_at))]
 pub fn read_int(bytes: &[u8]) -> Result<(i32, &[u8]), LineFault>
-    ensures { Gives (λ x. (x.0, x.1.now)) result (int_at bytes.now) }
+    ensures { ReadsAs (λ x. (x.0, x.1.now)) result (int_at bytes.now) }
 {
     match bytes {
         [b'-', rest @ ..] => read_negative(rest),
@@ -111,7 +111,7 @@ pub fn read_int(bytes: &[u8]) -> Result<(i32, &[u8]), LineFault>
 /// The number of 32 bits that stands behind a sign.
 #[tactic(auto, unfolding(crate::specs::Reading::negative_at))]
 fn read_negative(bytes: &[u8]) -> Result<(i32, &[u8]), LineFault>
-    ensures { Gives (λ x. (x.0, x.1.now)) result (negative_at bytes.now) }
+    ensures { ReadsAs (λ x. (x.0, x.1.now)) result (negative_at bytes.now) }
 {
     let (number, rest) = read_number(bytes, 2_147_483_649)?;
     if number == 0 {
@@ -124,7 +124,7 @@ fn read_negative(bytes: &[u8]) -> Result<(i32, &[u8]), LineFault>
 /// An object.
 #[tactic(auto, unfolding(crate::specs::Reading::object_at))]
 pub fn read_object(bytes: &[u8]) -> Result<(Object, &[u8]), LineFault>
-    ensures { Gives (λ x. (x.0, x.1.now)) result (object_at bytes.now) }
+    ensures { ReadsAs (λ x. (x.0, x.1.now)) result (object_at bytes.now) }
 {
     let rest = after(bytes, b"o")?;
     let (number, rest) = read_number(rest, 65_536)?;
@@ -136,7 +136,7 @@ pub fn read_object(bytes: &[u8]) -> Result<(Object, &[u8]), LineFault>
 
 /// The bytes of a text, two hexadecimal digits each.
 pub fn read_text(alloc: Global, bytes: &[u8]) -> Result<(Text, &[u8]), LineFault>
-    ensures { Gives (λ x. (x.0, x.1.now)) result (text_at bytes.now) }
+    ensures { ReadsAs (λ x. (x.0, x.1.now)) result (text_at bytes.now) }
 {
     let mut text = ArrayVec::<u8, MAX_TEXT_BYTES>::new();
     let mut rest = bytes;
@@ -167,7 +167,7 @@ fn begins_digit(bytes: &[u8]) -> bool
 /// A byte: two hexadecimal digits.
 #[tactic(auto, unfolding(crate::specs::Reading::byte_at))]
 fn read_byte(bytes: &[u8]) -> Result<(u8, &[u8]), LineFault>
-    ensures { Gives (λ x. (x.0, x.1.now)) result (byte_at bytes.now) }
+    ensures { ReadsAs (λ x. (x.0, x.1.now)) result (byte_at bytes.now) }
 {
     match bytes {
         [high, low, rest @ ..] => match (digit_of(*high), digit_of(*low)) {

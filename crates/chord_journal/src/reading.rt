@@ -5,7 +5,7 @@ ghost use Rattle.chord_base.specs.declared.event.Entry.{Entry as AnEntry};
 ghost use Rattle.chord_journal.specs.Text.{text_of};
 ghost use Rattle.chord_journal.specs.Typed.{AreTyped};
 ghost use Rattle.chord_journal.specs.Wrong.{IsWrongAt, UnlessMemory};
-ghost use Rattle.chord_journal.specs.Reading.{Gives, header_at};
+ghost use Rattle.chord_journal.specs.Reading.{ReadsAs, header_at};
 ghost use Rattle.chord_journal.specs.declared.reading.JournalFault.TheVariants.{Memory as no_memory};
 
 use crate::line::read_entry;
@@ -82,7 +82,7 @@ fn read_lines(alloc: Global, bytes: &[u8]) -> Result<Journal, JournalFault>
 /// The header: how many entries there are.
 #[tactic(auto, unfolding(crate::specs::Reading::header_at))]
 fn read_header(bytes: &[u8]) -> Result<(u32, &[u8]), LineFault>
-    ensures read { Gives (λ x. (x.0, x.1.now)) result (header_at bytes.now) }
+    ensures read { ReadsAs (λ x. (x.0, x.1.now)) result (header_at bytes.now) }
     ensures few { IfOk result (λ x. x.0 ≤ 65536) }
 {
     let rest = after(bytes, b"journal 1 ")?;

@@ -1,6 +1,6 @@
 //! Reading values and numbers that stand behind blanks.
 ghost use Rattle.std.specs.Prelude.{◌≡◌, ℕ, ◌≤◌};
-ghost use Rattle.chord_journal.specs.Reading.{Gives, value_at, next_value_at, values_at, next_number_at, numbers_at, begins_blank as begins_blank_lem};
+ghost use Rattle.chord_journal.specs.Reading.{ReadsAs, value_at, next_value_at, values_at, next_number_at, numbers_at, begins_blank as begins_blank_lem};
 
 use crate::parts::{LineFault, after, read_int, read_number, read_object, read_text};
 use chord_base::members::Members;
@@ -10,7 +10,7 @@ use std::alloc::Global;
 /// A value, by its first byte.
 #[tactic(auto, unfolding(crate::specs::Reading::value_at))]
 pub fn read_value(alloc: Global, bytes: &[u8]) -> Result<(Value, &[u8]), LineFault>
-    ensures { Gives (λ x. (x.0, x.1.now)) result (value_at bytes.now) }
+    ensures { ReadsAs (λ x. (x.0, x.1.now)) result (value_at bytes.now) }
 {
     match bytes {
         [b'u', rest @ ..] => Ok((Value::Unit, rest)),
@@ -44,7 +44,7 @@ fn begins_blank(bytes: &[u8]) -> bool
 
 /// A value behind a blank.
 fn read_next_value(alloc: Global, bytes: &[u8]) -> Result<(Value, &[u8]), LineFault>
-    ensures { Gives (λ x. (x.0, x.1.now)) result (next_value_at bytes.now) }
+    ensures { ReadsAs (λ x. (x.0, x.1.now)) result (next_value_at bytes.now) }
 {
     let rest = after(bytes, b" ")?;
     read_value(alloc, rest)
@@ -53,7 +53,7 @@ fn read_next_value(alloc: Global, bytes: &[u8]) -> Result<(Value, &[u8]), LineFa
 /// The values that stand there, each behind a blank, and no more than `most`.
 pub fn read_values(alloc: Global, most: usize, bytes: &[u8]) -> Result<(Values, &[u8]), LineFault>
     requires { most ≤ 64 }
-    ensures { Gives (λ x. (x.0, x.1.now)) result (values_at most bytes.now) }
+    ensures { ReadsAs (λ x. (x.0, x.1.now)) result (values_at most bytes.now) }
 {
     let mut values = Vec::new(alloc);
     let mut rest = bytes;
@@ -70,7 +70,7 @@ pub fn read_values(alloc: Global, most: usize, bytes: &[u8]) -> Result<(Values, 
 
 /// A number below 65,536 behind a blank.
 fn read_next_number(bytes: &[u8]) -> Result<(u32, &[u8]), LineFault>
-    ensures { Gives (λ x. (x.0, x.1.now)) result (next_number_at bytes.now) }
+    ensures { ReadsAs (λ x. (x.0, x.1.now)) result (next_number_at bytes.now) }
 {
     let rest = after(bytes, b" ")?;
     read_number(rest, 65_536)
@@ -79,7 +79,7 @@ fn read_next_number(bytes: &[u8]) -> Result<(u32, &[u8]), LineFault>
 /// So many numbers of members, each behind a blank.
 pub fn read_members(count: u32, bytes: &[u8]) -> Result<(Members, &[u8]), LineFault>
     requires { count ≤ 8 }
-    ensures { Gives (λ x. (x.0, x.1.now)) result (numbers_at count bytes.now) }
+    ensures { ReadsAs (λ x. (x.0, x.1.now)) result (numbers_at count bytes.now) }
 {
     let mut members = Members::new();
     let mut rest = bytes;

@@ -4,7 +4,7 @@ ghost use Rattle.std.specs.Fmt.{digit_glyph, signed_decimal};
 ghost use Rattle.std.specs.List.{flat_map};
 ghost use Rattle.chord_base.specs.Bounds.{IsJournal};
 ghost use Rattle.chord_io.specs.Faults.{Rose};
-ghost use Rattle.chord_io.specs.Pieces.{Took, TookFront};
+ghost use Rattle.chord_io.specs.Pieces.{Took, TookProperPrefix};
 ghost use Rattle.chord_io.specs.Pen.{Writes};
 ghost use Rattle.chord_journal.specs.Typed.{IsInt, IsText, IsTypedValue, AreTypedValues, IsTypedEnd, IsTypedWhat, AreTyped};
 ghost use Rattle.chord_journal.specs.Text.{bytes_text, byte_text, object_text, value_text, values_text, numbers_text, message_text, firing_text, trap_text, end_text, what_text, entry_text, header_text, text_of};
@@ -24,7 +24,7 @@ use itoa::Buffer;
 /// `Failed` where the sink failed, which its count of faults shows. A front of the text was taken, and not the whole.
 pub fn write_text<K: Sink>(journal: &Journal, sink: &mut K) -> Result<(), Failed>
     ensures whole { OnOk result (Took (K.taken sink.old) (text_of journal.now) (K.taken sink.new)) }
-    ensures front { OnErr result (TookFront (K.taken sink.old) (text_of journal.now) (K.taken sink.new)) }
+    ensures prefix { OnErr result (TookProperPrefix (K.taken sink.old) (text_of journal.now) (K.taken sink.new)) }
     ensures failed { OnErr result (Rose (K.faults sink.old) (K.faults sink.new)) }
     ensures never_falls { K.faults sink.old ≤ K.faults sink.new }
     // So `read` of the text gives this journal again.

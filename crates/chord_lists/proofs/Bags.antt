@@ -6,7 +6,7 @@ use Rattle.chord_base.specs.declared.value.Object.{Object}
 use Rattle.chord_base.specs.Messages.{Message, has}
 use Rattle.chord_base.proofs.Waits.{either}
 use Rattle.chord_lists.specs.declared.bag.Header.{Header}
-use Rattle.chord_lists.specs.Bag.{header_to, header_of, same_header, HasAll, Lacks, IsPushed, IsPopped, AreTaken, IsNoneOf, Falls, Lists}
+use Rattle.chord_lists.specs.Bag.{header_to, header_of, same_header, HasMessages, LacksMessage, IsPushed, IsPopped, ArePopped, Falls, Lists}
 
 -- ---- headers
 
@@ -98,7 +98,7 @@ held_before held i n m e =
 
 -- a method with no number in its list has no message
 pub lists_lack : (held : ℕ → Option Message) (n : ℕ) (index : Header → List ℕ) (o : Object) (j i : ℕ) (m : Message) → Lists held n index
-    → Lacks o j index → held i ≡ Some m → header_of m ≡ header_to o j → ⊥
+    → LacksMessage o j index → held i ≡ Some m → header_of m ≡ header_to o j → ⊥
 lists_lack held n index o j i m s l e h =
     let listed : has i (index (header_of m)) ≡ true = s.listed i m e in
     let empty : has i (index (header_of m)) ≡ false = ap (λ k. has i (index k)) h ∙ ap (has i) l in
@@ -284,7 +284,7 @@ without_more i ms held n =
     ]
 
 pub lists_taken : (held : ℕ → Option Message) (n : ℕ) (o : Object) (js ms : List ℕ) (old new : Header → List ℕ) → Lists held n old
-    → AreTaken o js ms old new → Lists (without_all ms held) n new
+    → ArePopped o js ms old new → Lists (without_all ms held) n new
 lists_taken held n o [] [] old new s t = subst (λ index. Lists held n index) (λ z k. sym (t k) z) s
 lists_taken held n o [] (i ∷ ms) old new s t = absurd t
 lists_taken held n o (j ∷ js) [] old new s t = absurd t
@@ -294,20 +294,29 @@ lists_taken held n o (j ∷ js) (i ∷ ms) old new s t =
     subst (λ f. Lists f n new) (λ z m. without_more i ms held m z) all
 
 -- one more goes
-pub taken_more : (o : Object) (js ms : List ℕ) (j n : ℕ) (old between new : Header → List ℕ) → AreTaken o js ms old between
-    → IsPopped (header_to o j) n between new → AreTaken o (js ++ j ∷ []) (ms ++ n ∷ []) old new
+pub taken_more : (o : Object) (js ms : List ℕ) (j n : ℕ) (old between new : Header → List ℕ) → ArePopped o js ms old between
+    → IsPopped (header_to o j) n between new → ArePopped o (js ++ j ∷ []) (ms ++ n ∷ []) old new
 taken_more o [] [] j n old between new t p =
     (new, record { here = sym (t (header_to o j)) ∙ p.here; others = λ h d. p.others h d ∙ t h }, λ k. refl)
 taken_more o [] (i ∷ ms) j n old between new t p = absurd t
 taken_more o (j' ∷ js) [] j n old between new t p = absurd t
 taken_more o (j' ∷ js) (i ∷ ms) j n old between new t p = (t.0, t.1, taken_more o js ms j n t.0 between new t.2 p)
 
+-- a number that is none of these is not the first, and none of the rest
+differs : (j i : ℕ) (js : List ℕ) → has j (i ∷ js) ≡ false → (j ≢ i) × (has j js ≡ false)
+differs j i js e =
+    elim (either (j == i)) [
+      | inl y ↦ absurd (true_false (rw y at e))
+      | inr o ↦ (eqb-false j i o, rw o at e)
+    ]
+
 -- the messages to other methods stay
-pub has_all_kept : (o : Object) (j n : ℕ) (js : List ℕ) (old new : Header → List ℕ) → IsNoneOf j js → IsPopped (header_to o j) n old new
-    → HasAll o js old → HasAll o js new
+pub has_all_kept : (o : Object) (j n : ℕ) (js : List ℕ) (old new : Header → List ℕ) → has j js ≡ false → IsPopped (header_to o j) n old new
+    → HasMessages o js old → HasMessages o js new
 has_all_kept o j n [] old new d p a = tt
 has_all_kept o j n (i ∷ js) old new d p a =
-    ((a.0.0, a.0.1, p.others (header_to o i) (other_method o j i d.0) ∙ a.0.2), has_all_kept o j n js old new d.1 p a.1)
+    let e = differs j i js d in
+    ((a.0.0, a.0.1, p.others (header_to o i) (other_method o j i e.0) ∙ a.0.2), has_all_kept o j n js old new e.1 p a.1)
 
 -- ---- a stack, as it is kept
 

@@ -7,7 +7,7 @@ use Rattle.chord_base.specs.declared.value.Value as value
 use Rattle.chord_base.specs.declared.event.What.{What}
 use Rattle.chord_base.specs.declared.event.What.TheVariants.{Begun, Made, Sent, Called, Printed, Fired, Ended}
 use Rattle.chord_base.specs.declared.event.Entry.{Entry}
-use Rattle.chord_base.specs.Meaning.{Program}
+use Rattle.chord_base.specs.Meaning.{HaveMethods, Program}
 use Rattle.chord_base.specs.Messages.{Message, message_of, members_of, has, pending}
 use Rattle.chord_base.specs.Machine.{Takes, Fires, NoneFires, NoneAsks}
 use Rattle.chord_base.specs.Bounds.{AreWithin, IsWhatWithin, IsMessageWithin, IsObjectWithin, AreValuesWithin, AreNumbersWithin}
@@ -15,11 +15,11 @@ use Rattle.chord_base.proofs.Waits.{either}
 use Rattle.chord_base.proofs.Final.{final_when}
 use Rattle.chord_base.proofs.Pending.{none_fires_on, none_fires_with, none_fires_after, fires_without, pending_other}
 use Rattle.chord_lists.specs.declared.bag.Header.{Header}
-use Rattle.chord_lists.specs.Bag.{header_to, Lacks, LacksOne, IsPushed, AreTaken, Lists}
+use Rattle.chord_lists.specs.Bag.{header_to, LacksMessage, LacksAMessage, IsPushed, ArePopped, Lists}
 use Rattle.chord_lists.specs.Engine as engine
 use Rattle.chord_lists.specs.Engine.{fired, State, IsOver}
 use Rattle.chord_lists.proofs.Bags.{without_all, lists_none, lists_on, lists_more, lists_taken}
-use Rattle.chord_lists.proofs.Taking.{takes_pending, lacks_fires}
+use Rattle.chord_lists.proofs.Taking.{pops_pending, lacks_fires}
 
 -- ---- bounds
 
@@ -147,7 +147,7 @@ takes_object h o (j ∷ js) (i ∷ ms) vs n s t =
 -- a message after which each chord of its object lacks a message
 idle_message : (p : Program) (h : List Entry) (e : Entry) (m : Message) (n : ℕ) (index : Header → List ℕ) → message_of e.what ≡ Some m
     → members_of e.what ≡ [] → NoneFires p h → Lists (λ i. pending i (e ∷ h)) n index
-    → ((k : ℕ) (js : List ℕ) → slice_get (p.chords m.object.class) k ≡ Some js → LacksOne m.object js index) → NoneFires p (e ∷ h)
+    → ((k : ℕ) (js : List ℕ) → slice_get (p.chords m.object.class) k ≡ Some js → LacksAMessage m.object js index) → NoneFires p (e ∷ h)
 idle_message p h e m n index is none idle lists lacks =
     none_fires_with p e h none idle
     (λ k o ms vs s f.
@@ -157,7 +157,7 @@ idle_message p h e m n index is none idle lists lacks =
     let q : r.0 ≡ m = cc in
     let o' : m.object ≡ o = sym (ap (λ z. z.object) q) ∙ r.2 in
     let l = lacks k f.0 (subst (λ z. slice_get (p.chords z.class) k ≡ Some f.0) (sym o') f.1) in
-    lacks_fires (e ∷ h) n index o f.0 ms vs l.0 l.1 lists l.2 (subst (λ z. Lacks z l.1 index) o' l.3) f.2)
+    lacks_fires (e ∷ h) n index o f.0 ms vs l.0 l.1 lists l.2 (subst (λ z. LacksMessage z l.1 index) o' l.3) f.2)
 
 -- a message, and a firing of what is then pending
 idle_fire : (p : Program) (h : List Entry) (e f : Entry) (k : ℕ) (o : Object) (ms : List ℕ) (vs : List value.Value) → f.what ≡ Fired k o ms vs
@@ -170,22 +170,22 @@ idle_fire p h e f k o ms vs w none idle fires =
 
 -- ---- states
 
-begun_pending : (n : ℕ) → pending n engine.begun ≡ None
+begun_pending : (n : ℕ) → pending n engine.main_begun ≡ None
 begun_pending n = elim (either (0 == n)) [ inl y ↦ rw y refl | inr o ↦ rw o refl ]
 
-none_taken : (o : Object) (js ms : List ℕ) (vs : List value.Value) → 0 < length js → Takes engine.begun o js ms vs → ⊥
+none_taken : (o : Object) (js ms : List ℕ) (vs : List value.Value) → 0 < length js → Takes engine.main_begun o js ms vs → ⊥
 none_taken o [] ms vs l t = omega (arith, l)
 none_taken o (j ∷ js) [] vs l t = t
 none_taken o (j ∷ js) (i ∷ ms) vs l t = let z : ◌≡◌ {A = Option Message} None (Some (record { object = o; method = j; arguments = t.0 })) = sym (begun_pending i) ∙ t.2 in cc
 
-pub state_begun : (p : Program) (stands : List Entry → Type 0) (index : Header → List ℕ) → engine.HaveMethods p → stands engine.begun
+pub state_begun : (p : Program) (stands : List Entry → Type 0) (index : Header → List ℕ) → HaveMethods p → stands engine.main_begun
     → ((k : Header) → index k ≡ []) → State p stands index None 1
 state_begun p stands index some s empty =
     record {
-      history = engine.begun;
+      history = engine.main_begun;
       played = record { past = (tt, record { numbered = refl; comes = (refl, refl) }); within = (tt, refl, lit< tt, tt); so_long = refl };
       bodies = s;
-      lists = lists_none (λ i. pending i engine.begun) 1 index begun_pending empty;
+      lists = lists_none (λ i. pending i engine.main_begun) 1 index begun_pending empty;
       is_fresh = λ k o ms vs f. none_taken o f.0 ms vs (some o.class k f.0 f.1) f.2;
     }
 
@@ -222,13 +222,13 @@ pub state_over : (p : Program) (before after : List Entry → Type 0) (index : H
 state_over p before after index n s some done stands =
     (s.history, s.played, stands, final_when p s.history s.played.past (omega (arith, s.played.so_long, some)) done s.is_fresh)
 
--- the fresh object has no chord with all its messages
+-- no chord of the fresh object is enabled
 pub state_idle : (p : Program) (stands : List Entry → Type 0) (index : Header → List ℕ) (o : Object) (n : ℕ) → State p stands index (Some o) n
-    → ((k : ℕ) (js : List ℕ) → slice_get (p.chords o.class) k ≡ Some js → LacksOne o js index) → State p stands index None n
+    → ((k : ℕ) (js : List ℕ) → slice_get (p.chords o.class) k ≡ Some js → LacksAMessage o js index) → State p stands index None n
 state_idle p stands index o n s f =
     let m = s.is_fresh in
-    let lacks : (k : ℕ) (js : List ℕ) → slice_get (p.chords m.sent.object.class) k ≡ Some js → LacksOne m.sent.object js index =
-    subst (λ (d : Object). (k : ℕ) (js : List ℕ) → slice_get (p.chords d.class) k ≡ Some js → LacksOne d js index) (sym m.object) f
+    let lacks : (k : ℕ) (js : List ℕ) → slice_get (p.chords m.sent.object.class) k ≡ Some js → LacksAMessage m.sent.object js index =
+    subst (λ (d : Object). (k : ℕ) (js : List ℕ) → slice_get (p.chords d.class) k ≡ Some js → LacksAMessage d js index) (sym m.object) f
     in
     let lists : Lists (λ i. pending i (m.last ∷ m.before)) n index = subst (λ h. Lists (λ i. pending i h) n index) m.is s.lists in
     let idle : NoneFires p (m.last ∷ m.before) = idle_message p m.before m.last m.sent n index m.is_message m.no_firing m.idle lists lacks in
@@ -237,16 +237,16 @@ state_idle p stands index o n s f =
 -- a firing of what went from the bag may come
 pub state_may_begin : (p : Program) (stands : List Entry → Type 0) (old new : Header → List ℕ) (fresh : Option Object) (n k : ℕ) (o : Object)
     (js ms : List ℕ) → State p stands old fresh n → n < 65536 → slice_get (p.chords o.class) k ≡ Some js → k < 256 → 0 < length js → length js ≤ 8
-    → AreTaken o js ms old new → engine.MayBegin p stands n k o ms
+    → ArePopped o js ms old new → engine.MayBegin p stands n k o ms
 state_may_begin p stands old new fresh n k o js ms s room c chord some few t =
-    let taken = takes_pending s.history n o js ms old new s.lists t in
+    let taken = pops_pending s.history n o js ms old new s.lists t in
     (s.history, taken.0, s.played, s.bodies, (js, c, taken.1), fired_within s.history n k o js ms taken.0 s.played.within s.played.so_long room chord some few taken.1)
 
 pub state_fired : (p : Program) (before after : List Entry → Type 0) (old new : Header → List ℕ) (n k : ℕ) (o : Object) (js ms : List ℕ)
     → State p before old (Some o) n → n < 65536 → slice_get (p.chords o.class) k ≡ Some js → k < 256 → 0 < length js → length js ≤ 8
-    → AreTaken o js ms old new → engine.Began p before after n k o ms → State p after new None (n + 1)
+    → ArePopped o js ms old new → engine.Began p before after n k o ms → State p after new None (n + 1)
 state_fired p before after old new n k o js ms s room c chord some few t began =
-    let taken = takes_pending s.history n o js ms old new s.lists t in
+    let taken = pops_pending s.history n o js ms old new s.lists t in
     let vs = taken.0 in
     let fires : Fires p s.history k o ms vs = (js, c, taken.1) in
     let m = s.is_fresh in

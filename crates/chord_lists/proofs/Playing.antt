@@ -13,7 +13,7 @@ use Rattle.chord_base.specs.declared.event.What.TheVariants.{Made, Sent, Called,
 use Rattle.chord_base.specs.declared.event.Entry.{Entry}
 use Rattle.chord_base.specs.Meaning.{Program}
 use Rattle.chord_base.specs.Messages.{Message, pending, has}
-use Rattle.chord_base.specs.Bodies.{Doing, Absent, Unplaced, Ready, Waits, Over, doing, asked, answered, serves, Asks, place_of}
+use Rattle.chord_base.specs.Bodies.{Doing, Absent, Unplaced, Ready, Waits, Over, doing, asked, answered, serves, Asks, ask_depth}
 use Rattle.chord_base.specs.Machine.{Takes, Fires, IsPast, IsFinal}
 use Rattle.chord_base.specs.Bounds.{IsObjectWithin, IsWhatWithin}
 use Rattle.std.specs.Prelude.{slice_get}
@@ -23,7 +23,7 @@ use Rattle.chord_base.proofs.Waits.{either}
 use Rattle.chord_lists.specs.declared.small.SmallLine.{SmallLine}
 use Rattle.chord_lists.specs.declared.small.SmallLine.TheVariants.{Put, Print, PrintGet}
 use Rattle.chord_lists.specs.Small.{small_chords, small_program, small_main, small_lines, at_depth}
-use Rattle.chord_lists.specs.Engine.{begun}
+use Rattle.chord_lists.specs.Engine.{main_begun}
 use Rattle.chord_lists.specs.States.{PendingPut, first, put_message, call_message, find_put, IsStack, IsQuiet, Playing, Calling, Serving, Got, Done, is_sent, is_fired}
 
 -- the numbers of the stack are below its bound
@@ -41,12 +41,12 @@ stack_to : (n m : ℕ) (stack : List PendingPut) → IsStack n stack → n ≤ m
 stack_to n m [] s l = tt
 stack_to n m (x ∷ xs) s l = (omega (arith, s.0, l), s.1)
 
--- the stack without the put of this number
-abbrev pub without : ℕ → List PendingPut → List PendingPut
-without n [] = []
-without n (x ∷ xs) = if x.number == n then xs else x ∷ without n xs
+-- the stack without_put the put of this number
+abbrev pub without_put : ℕ → List PendingPut → List PendingPut
+without_put n [] = []
+without_put n (x ∷ xs) = if x.number == n then xs else x ∷ without_put n xs
 
-stack_without : (n m : ℕ) (stack : List PendingPut) → IsStack n stack → IsStack n (without m stack)
+stack_without : (n m : ℕ) (stack : List PendingPut) → IsStack n stack → IsStack n (without_put m stack)
 stack_without n m [] s = tt
 stack_without n m (x ∷ xs) s =
     elim (either (x.number == m)) [
@@ -54,7 +54,7 @@ stack_without n m (x ∷ xs) s =
       | inr o ↦ rw o (s.0, stack_without x.number m xs s.1)
     ]
 
-find_without : (n m i : ℕ) (stack : List PendingPut) → IsStack n stack → find_put i (without m stack) ≡ (if i == m then None else find_put i stack)
+find_without : (n m i : ℕ) (stack : List PendingPut) → IsStack n stack → find_put i (without_put m stack) ≡ (if i == m then None else find_put i stack)
 find_without n m i [] s = elim (either (i == m)) [ inl y ↦ rw y refl | inr o ↦ rw o refl ]
 find_without n m i (x ∷ xs) s =
     elim (either (x.number == m)) [
@@ -74,7 +74,7 @@ find_without n m i (x ∷ xs) s =
           ]
     ]
 
-length_without : (m : ℕ) (stack : List PendingPut) (x : Message) → find_put m stack ≡ Some x → length stack ≡ suc (length (without m stack))
+length_without : (m : ℕ) (stack : List PendingPut) (x : Message) → find_put m stack ≡ Some x → length stack ≡ suc (length (without_put m stack))
 length_without m [] x e = cc
 length_without m (y ∷ ys) x e =
     elim (either (y.number == m)) [
@@ -141,7 +141,7 @@ call_step ls rest stack h s =
       past = (s.past, record { numbered = refl; comes = main_asks ls (PrintGet ∷ rest) stack h (Called first 0 []) s refl });
       begun = omega (arith, s.begun);
       answers = s.answers;
-      place = place_of (at_depth 1 (small_main ls s.answers));
+      place = ask_depth (at_depth 1 (small_main ls s.answers));
       main = rw s.main;
       lines = s.lines;
       quiet = λ b n. rw (other_main b n) (s.quiet b n);
@@ -258,21 +258,21 @@ done_final ls stack h s =
     final_when (small_program ls) h s.past (omega (arith, s.begun)) (λ b. quiet_asks (small_program ls) (doing (small_program ls) h b) (s.quiet b)) (none_fires ls stack h s.waiting)
 
 -- taking the call and one of the puts
-fired_pending : (n q m : ℕ) (stack : List PendingPut) (h : List Entry) → q < n → IsStack q stack → ((i : ℕ) → pending i h ≡ (if q == i then Some call_message else find_put i stack)) → (i : ℕ) → (if n == i then None else if has i (q ∷ m ∷ []) then None else pending i h) ≡ find_put i (without m stack)
+fired_pending : (n q m : ℕ) (stack : List PendingPut) (h : List Entry) → q < n → IsStack q stack → ((i : ℕ) → pending i h ≡ (if q == i then Some call_message else find_put i stack)) → (i : ℕ) → (if n == i then None else if has i (q ∷ m ∷ []) then None else pending i h) ≡ find_put i (without_put m stack)
 fired_pending n q m stack h l s w i =
     let f = find_without q m i stack s in
     elim (either (n == i)) [
-      | inl y ↦ rw (y, find_above q i (without m stack) (stack_without q m stack s) (omega (arith, eqb-true n i y, l)))
+      | inl y ↦ rw (y, find_above q i (without_put m stack) (stack_without q m stack s) (omega (arith, eqb-true n i y, l)))
       | inr a ↦
           elim (either (i == q)) [
-            | inl y ↦ rw (a, y, find_above q i (without m stack) (stack_without q m stack s) (omega (arith, eqb-true i q y)))
+            | inl y ↦ rw (a, y, find_above q i (without_put m stack) (stack_without q m stack s) (omega (arith, eqb-true i q y)))
             | inr b ↦
                 (let b' : (q == i) ≡ false = ne_eqb q i (λ e. eqb-false i q b (sym e)) in
                 elim (either (i == m)) [ inl y ↦ rw (a, b, y) (sym (rw y at f)) | inr c ↦ rw (a, b, c, w i, b') (sym (rw c at f)) ])
           ]
     ]
 
-pub fire_step : (ls rest : List SmallLine) (stack : List PendingPut) (q m : ℕ) (t : List ℕ) (h : List Entry) → find_put m stack ≡ Some (put_message t) → Calling ls rest stack q h → Serving ls rest (without m stack) (length h) t (more (length h) (Fired 0 first (q ∷ m ∷ []) (a_value.Text t ∷ [])) h)
+pub fire_step : (ls rest : List SmallLine) (stack : List PendingPut) (q m : ℕ) (t : List ℕ) (h : List Entry) → find_put m stack ≡ Some (put_message t) → Calling ls rest stack q h → Serving ls rest (without_put m stack) (length h) t (more (length h) (Fired 0 first (q ∷ m ∷ []) (a_value.Text t ∷ [])) h)
 fire_step ls rest stack q m t h found s =
     let n = length h in
     let same : (n == n) ≡ true = eq-eqb n n refl in
@@ -302,7 +302,7 @@ fire_step ls rest stack q m t h found s =
       before = omega arith;
       quiet = λ b x k. rw (ne_eqb n b (λ e. k (sym e))) (s.quiet b x);
       waiting = fired_pending n q m stack h s.before s.stacked s.waiting;
-      stacked = stack_to q (suc n) (without m stack) (stack_without q m stack s.stacked) (omega (arith, s.before));
+      stacked = stack_to q (suc n) (without_put m stack) (stack_without q m stack s.stacked) (omega (arith, s.before));
       tally = omega (arith, s.tally, count_more is_fired (record { number = n; body = n; what = Fired 0 first (q ∷ m ∷ []) (a_value.Text t ∷ []) }) h, length_without m stack (put_message t) found);
       goes_on = refl;
     }
@@ -312,7 +312,7 @@ pub fire_top : (ls rest : List SmallLine) (x : PendingPut) (stack : List Pending
 fire_top ls rest x stack q h s =
     let here : (x.number == x.number) ≡ true = eq-eqb x.number x.number refl in
     let found : find_put x.number (x ∷ stack) ≡ Some (put_message x.text) = rw here refl in
-    let rest_is : without x.number (x ∷ stack) ≡ stack = rw here refl in
+    let rest_is : without_put x.number (x ∷ stack) ≡ stack = rw here refl in
     rw rest_is at (fire_step ls rest (x ∷ stack) q x.number x.text h found s)
 
 pub end_step : (ls rest : List SmallLine) (stack : List PendingPut) (n : ℕ) (t : List ℕ) (h : List Entry) → Serving ls rest stack n t h → Got ls rest stack t (more n (Ended (Gives (a_value.Text t))) h)
@@ -355,10 +355,10 @@ shown_step ls rest stack t h s =
       goes_on = refl;
     }
 
-pub begun_past : (ls : List SmallLine) → IsPast (small_program ls) begun
+pub begun_past : (ls : List SmallLine) → IsPast (small_program ls) main_begun
 begun_past ls = (tt, record { numbered = refl; comes = (refl, refl) })
 
-pub begin_step : (ls : List SmallLine) → Playing ls ls [] (more 0 (Made 0) begun)
+pub begin_step : (ls : List SmallLine) → Playing ls ls [] (more 0 (Made 0) main_begun)
 begin_step ls =
     record {
       past = (begun_past ls, record { numbered = refl; comes = (1, refl) });

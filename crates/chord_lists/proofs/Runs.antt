@@ -22,14 +22,14 @@ use Rattle.chord_base.proofs.Waits.{either}
 use Rattle.chord_lists.specs.declared.small.SmallLine.{SmallLine}
 use Rattle.chord_lists.specs.declared.small.SmallLine.TheVariants.{Put, Print, PrintGet}
 use Rattle.chord_lists.specs.Small.{small_chords, small_program, small_main, small_lines, at_depth}
-use Rattle.chord_lists.specs.Engine.{begun}
+use Rattle.chord_lists.specs.Engine.{main_begun}
 use Rattle.chord_lists.specs.States.{PendingPut, first, put_message, call_message, find_put, IsQuiet, Playing, Calling, Serving, Got, Done, is_sent, is_fired, count_sent, count_fired, is_over, is_over_at}
-use Rattle.chord_lists.proofs.Playing.{begun_past, begin_step, put_step, print_step, call_step, fire_step, fire_top, end_step, shown_step, end_main, done_final, parked, none_fires, without, is_main, quiet_asks, found_put, the_chord, other_main}
+use Rattle.chord_lists.proofs.Playing.{begun_past, begin_step, put_step, print_step, call_step, fire_step, fire_top, end_step, shown_step, end_main, done_final, parked, none_fires, without_put, is_main, quiet_asks, found_put, the_chord, other_main}
 
 -- a run of a small program: nothing yet, just begun, or one of the states
 pub data State (ls : List SmallLine) (h : List Entry) : Type 0 where
   Fresh : h ≡ [] → State ls h
-  Started : h ≡ begun → State ls h
+  Started : h ≡ main_begun → State ls h
   Plays : (rest : List SmallLine) (stack : List PendingPut) → Playing ls rest stack h → State ls h
   Calls : (rest : List SmallLine) (stack : List PendingPut) (q : ℕ) → Calling ls rest stack q h → State ls h
   Serves : (rest : List SmallLine) (stack : List PendingPut) (n : ℕ) (t : List ℕ) → Serving ls rest stack n t h → State ls h
@@ -125,13 +125,13 @@ got_next ls rest stack t h e s m =
     let x = main_entry ls h (s.answers ++ Gives (a_value.Text t) ∷ []) e (Printed t) s.main s.quiet (s.lines (Gives (a_value.Text t) ∷ [])) (omega (arith, s.begun)) (none_fires ls stack h s.waiting) m in
     subst (λ i. State ls (i ∷ h)) (sym x) (Plays rest stack (shown_step ls rest stack t h s))
 
-pub begun_waiting : (n : ℕ) → pending n begun ≡ find_put n []
+pub begun_waiting : (n : ℕ) → pending n main_begun ≡ find_put n []
 begun_waiting n = elim (either (0 == n)) [ inl y ↦ rw y refl | inr o ↦ rw o refl ]
 
-begun_next : (ls : List SmallLine) (e : Entry) → MayFollow (small_program ls) begun e → State ls (e ∷ begun)
+begun_next : (ls : List SmallLine) (e : Entry) → MayFollow (small_program ls) main_begun e → State ls (e ∷ main_begun)
 begun_next ls e m =
-    let x = main_entry ls begun [] e (Made 0) refl (λ b n. rw (other_main b n) tt) refl (lit< tt) (none_fires ls [] begun begun_waiting) m in
-    subst (λ i. State ls (i ∷ begun)) (sym x) (Plays ls [] (begin_step ls))
+    let x = main_entry ls main_begun [] e (Made 0) refl (λ b n. rw (other_main b n) tt) refl (lit< tt) (none_fires ls [] main_begun begun_waiting) m in
+    subst (λ i. State ls (i ∷ main_begun)) (sym x) (Plays ls [] (begin_step ls))
 
 nothing_waits : (n : ℕ) → pending n [] ≡ find_put n []
 nothing_waits n = refl
@@ -237,7 +237,7 @@ calling_next ls rest stack q h e s m =
           (let x = call_taken ls rest stack q f.chord h f.object f.members f.arguments s f.fires in
           let w : e.what ≡ Fired 0 first (q ∷ x.put ∷ []) (a_value.Text x.text ∷ []) = f.is ∙ x.is in
           let y : e ≡ more_entry (length h) (Fired 0 first (q ∷ x.put ∷ []) (a_value.Text x.text ∷ [])) h = entry_is e (length h) (length h) _ m.numbered (f.own ∙ m.numbered) w in
-          subst (λ i. State ls (i ∷ h)) (sym y) (Serves rest (without x.put stack) (length h) x.text (fire_step ls rest stack q x.put x.text h x.found s)))
+          subst (λ i. State ls (i ∷ h)) (sym y) (Serves rest (without_put x.put stack) (length h) x.text (fire_step ls rest stack q x.put x.text h x.found s)))
       | inr a ↦
           elim (is_main e.body) [
             | inl y ↦ (let a0 = rw y at a in absurd (waiting_silent (small_program ls) h 0 e.what Main 1 s.answers q s.place s.main a0))
@@ -260,10 +260,10 @@ state_of ls [] r = Fresh refl
 state_of ls (e ∷ h) r = state_next ls h e (state_of ls h r.0) r.1
 
 -- some entry may follow
-abbrev pub GoesOn : List SmallLine → List Entry → Type 0
-GoesOn ls h = (e : Entry) × MayFollow (small_program ls) h e
+abbrev pub MayContinue : List SmallLine → List Entry → Type 0
+MayContinue ls h = (e : Entry) × MayFollow (small_program ls) h e
 
-playing_goes_on : (ls rest : List SmallLine) (stack : List PendingPut) (h : List Entry) → Playing ls rest stack h → GoesOn ls h
+playing_goes_on : (ls rest : List SmallLine) (stack : List PendingPut) (h : List Entry) → Playing ls rest stack h → MayContinue ls h
 playing_goes_on ls [] stack h s = let x = end_main ls stack h s in (more_entry 0 (Ended (Gives a_value.Unit)) h, x.past.1)
 playing_goes_on ls (Put t ∷ rest) stack h s = let x = put_step ls rest stack h t s in (more_entry 0 (Sent first 1 (a_value.Text t ∷ [])) h, x.past.1)
 playing_goes_on ls (Print t ∷ rest) stack h s = let x = print_step ls rest stack h t s in (more_entry 0 (Printed t) h, x.past.1)
@@ -276,7 +276,7 @@ calling_over ls rest (x ∷ xs) q h s o =
     let e : count_sent h ≡ count_fired h = eqb-true (count_sent h) (count_fired h) (sym s.called ∙ o) in
     absurd (omega (arith, e, s.tally))
 
-calling_goes_on : (ls rest : List SmallLine) (stack : List PendingPut) (q : ℕ) (h : List Entry) → Calling ls rest stack q h → is_over h ≡ false → GoesOn ls h
+calling_goes_on : (ls rest : List SmallLine) (stack : List PendingPut) (q : ℕ) (h : List Entry) → Calling ls rest stack q h → is_over h ≡ false → MayContinue ls h
 calling_goes_on ls rest [] q h s o =
     let e : count_sent h ≡ count_fired h = omega (arith, s.tally) in
     absurd (eqb-false (count_sent h) (count_fired h) (sym s.called ∙ o) e)
@@ -298,9 +298,9 @@ state_over ls h (Serves rest stack n t s) o = absurd (apart (is_over h) s.goes_o
 state_over ls h (Gets rest stack t s) o = absurd (apart (is_over h) s.goes_on o)
 state_over ls h (Ends stack s) o = done_final ls stack h s
 
-state_goes_on : (ls : List SmallLine) (h : List Entry) → State ls h → is_over h ≡ false → GoesOn ls h
-state_goes_on ls h (Fresh i) o = let x : IsPast (small_program ls) begun = begun_past ls in rw i (more_entry 0 Begun [], x.1)
-state_goes_on ls h (Started i) o = let x = begin_step ls in rw i (more_entry 0 (Made 0) begun, x.past.1)
+state_goes_on : (ls : List SmallLine) (h : List Entry) → State ls h → is_over h ≡ false → MayContinue ls h
+state_goes_on ls h (Fresh i) o = let x : IsPast (small_program ls) main_begun = begun_past ls in rw i (more_entry 0 Begun [], x.1)
+state_goes_on ls h (Started i) o = let x = begin_step ls in rw i (more_entry 0 (Made 0) main_begun, x.past.1)
 state_goes_on ls h (Plays rest stack s) o = playing_goes_on ls rest stack h s
 state_goes_on ls h (Calls rest stack q s) o = calling_goes_on ls rest stack q h s o
 state_goes_on ls h (Serves rest stack n t s) o = let x = end_step ls rest stack n t h s in (more_entry n (Ended (Gives (a_value.Text t))) h, x.past.1)
@@ -312,7 +312,7 @@ pub over_final : (ls : List SmallLine) (h : List Entry) → IsPast (small_progra
 over_final ls h r o = state_over ls h (state_of ls h r) o
 
 -- and an entry may follow every other
-pub not_over_goes_on : (ls : List SmallLine) (h : List Entry) → IsPast (small_program ls) h → is_over h ≡ false → GoesOn ls h
+pub not_over_goes_on : (ls : List SmallLine) (h : List Entry) → IsPast (small_program ls) h → is_over h ≡ false → MayContinue ls h
 not_over_goes_on ls h r o = state_goes_on ls h (state_of ls h r) o
 
 pub final_over : (ls : List SmallLine) (h : List Entry) → IsPast (small_program ls) h → IsFinal (small_program ls) h → is_over h ≡ true

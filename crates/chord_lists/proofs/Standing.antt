@@ -21,10 +21,10 @@ use Rattle.chord_lists.specs.declared.play.Stage.{Stage}
 use Rattle.chord_lists.specs.declared.play.Stage.TheVariants as a_stage
 use Rattle.chord_lists.specs.declared.play.SmallBodies.{SmallBodies}
 use Rattle.chord_lists.specs.Small.{small_program}
-use Rattle.chord_lists.specs.Engine.{begun, fired, IsPlayed, IsMessageTo, Made, MayBegin}
+use Rattle.chord_lists.specs.Engine.{main_begun, fired, IsRunOfLength, IsMessageTo, Made, MayBegin}
 use Rattle.chord_lists.specs.States.{PendingPut, first, put_message, find_put, Playing, Calling, Serving, Got}
 use Rattle.chord_lists.specs.Stages.{Carries, IsAt, Stands}
-use Rattle.chord_lists.proofs.Playing.{more, find_above, fire_step, none_fires, without, begin_step, put_step, print_step, call_step, end_step, shown_step, end_main, put_within, call_within}
+use Rattle.chord_lists.proofs.Playing.{more, find_above, fire_step, none_fires, without_put, begin_step, put_step, print_step, call_step, end_step, shown_step, end_main, put_within, call_within}
 use Rattle.chord_lists.proofs.Runs.{IsTaking, begun_waiting, call_taken}
 
 -- the line of this index, and those after it
@@ -42,7 +42,7 @@ abbrev pub entry : ℕ → ℕ → What → Entry
 entry n b w = record { number = n; body = b; what = w }
 
 -- the bodies after one more entry
-made : (ls : List SmallLine) (bodies : SmallBodies) (n b : ℕ) (w : What) (stage : Stage) (h : List Entry) → IsPlayed (small_program ls) n h
+made : (ls : List SmallLine) (bodies : SmallBodies) (n b : ℕ) (w : What) (stage : Stage) (h : List Entry) → IsRunOfLength (small_program ls) n h
     → n < 65536 → b < 65536 → IsWhatWithin w → members_of w ≡ [] → MayFollow (small_program ls) h (entry (length h) b w)
     → reverse bodies.entries.items ≡ entry n b w ∷ h → bodies.stage ≡ stage → IsAt ls stage (more b w h)
     → Made (small_program ls) (Stands ls bodies) h (entry (length h) b w)
@@ -58,7 +58,7 @@ made ls bodies n b w stage h played room body within none follows e s at =
 abbrev pub WentPlain : List SmallLine → SmallBodies → List Entry → Type 0
 WentPlain ls bodies h = (e : Entry) × Made (small_program ls) (Stands ls bodies) h e × (message_of e.what ≡ None)
 
-pub made_object : (ls : List SmallLine) (bodies : SmallBodies) (n : ℕ) (h : List Entry) → IsPlayed (small_program ls) n h → n < 65536 → h ≡ begun
+pub made_object : (ls : List SmallLine) (bodies : SmallBodies) (n : ℕ) (h : List Entry) → IsRunOfLength (small_program ls) n h → n < 65536 → h ≡ main_begun
     → reverse bodies.entries.items ≡ entry n 0 (a_what.Made 0) ∷ h → bodies.stage ≡ a_stage.Does 0 → WentPlain ls bodies h
 made_object ls bodies n h played room at e s =
     let x = begin_step ls in
@@ -66,7 +66,7 @@ made_object ls bodies n h played room at e s =
     let after : IsAt ls (a_stage.Does 0) (more 0 (a_what.Made 0) h) = subst (λ i. IsAt ls (a_stage.Does 0) (more 0 (a_what.Made 0) i)) (sym at) ([], x) in
     (entry (length h) 0 (a_what.Made 0), made ls bodies n 0 (a_what.Made 0) (a_stage.Does 0) h played room (lit< tt) (lit< tt) refl follows e s after, refl)
 
-pub ended : (ls : List SmallLine) (bodies : SmallBodies) (n i : ℕ) (stack : List PendingPut) (h : List Entry) → IsPlayed (small_program ls) n h
+pub ended : (ls : List SmallLine) (bodies : SmallBodies) (n i : ℕ) (stack : List PendingPut) (h : List Entry) → IsRunOfLength (small_program ls) n h
     → n < 65536 → length ls ≤ i → Playing ls (drop i ls) stack h → reverse bodies.entries.items ≡ entry n 0 (a_what.Ended (Gives a_value.Unit)) ∷ h
     → bodies.stage ≡ a_stage.Ended → WentPlain ls bodies h
 ended ls bodies n i stack h played room past state e s =
@@ -74,35 +74,35 @@ ended ls bodies n i stack h played room past state e s =
     (entry (length h) 0 (a_what.Ended (Gives a_value.Unit)), made ls bodies n 0 (a_what.Ended (Gives a_value.Unit)) a_stage.Ended h played room (lit< tt) tt refl d.past.1 e s (stack, d), refl)
 
 pub printed : (ls : List SmallLine) (bodies : SmallBodies) (n i : ℕ) (t : List ℕ) (stack : List PendingPut) (h : List Entry)
-    → IsPlayed (small_program ls) n h → n < 65536 → drop i ls ≡ Print t ∷ drop (i + 1) ls → Playing ls (drop i ls) stack h
+    → IsRunOfLength (small_program ls) n h → n < 65536 → drop i ls ≡ Print t ∷ drop (i + 1) ls → Playing ls (drop i ls) stack h
     → reverse bodies.entries.items ≡ entry n 0 (a_what.Printed t) ∷ h → bodies.stage ≡ a_stage.Does (i + 1) → WentPlain ls bodies h
 printed ls bodies n i t stack h played room line state e s =
     let x = print_step ls (drop (i + 1) ls) stack h t (subst (λ l. Playing ls l stack h) line state) in
     (entry (length h) 0 (a_what.Printed t), made ls bodies n 0 (a_what.Printed t) (a_stage.Does (i + 1)) h played room (lit< tt) tt refl x.past.1 e s (stack, x), refl)
 
 pub gave : (ls : List SmallLine) (bodies : SmallBodies) (n i b : ℕ) (t : List ℕ) (stack : List PendingPut) (h : List Entry)
-    → IsPlayed (small_program ls) n h → n < 65536 → Serving ls (drop i ls) stack b t h
+    → IsRunOfLength (small_program ls) n h → n < 65536 → Serving ls (drop i ls) stack b t h
     → reverse bodies.entries.items ≡ entry n b (a_what.Ended (Gives (a_value.Text t))) ∷ h → bodies.stage ≡ a_stage.Prints i t → WentPlain ls bodies h
 gave ls bodies n i b t stack h played room state e s =
     let x = end_step ls (drop i ls) stack b t h state in
     (entry (length h) b (a_what.Ended (Gives (a_value.Text t))), made ls bodies n b (a_what.Ended (Gives (a_value.Text t))) (a_stage.Prints i t) h played room (omega (arith, state.before, played.so_long, room)) tt refl x.past.1 e s (stack, x), refl)
 
 pub showed : (ls : List SmallLine) (bodies : SmallBodies) (n i : ℕ) (t : List ℕ) (stack : List PendingPut) (h : List Entry)
-    → IsPlayed (small_program ls) n h → n < 65536 → Got ls (drop i ls) stack t h → reverse bodies.entries.items ≡ entry n 0 (a_what.Printed t) ∷ h
+    → IsRunOfLength (small_program ls) n h → n < 65536 → Got ls (drop i ls) stack t h → reverse bodies.entries.items ≡ entry n 0 (a_what.Printed t) ∷ h
     → bodies.stage ≡ a_stage.Does i → WentPlain ls bodies h
 showed ls bodies n i t stack h played room state e s =
     let x = shown_step ls (drop i ls) stack t h state in
     (entry (length h) 0 (a_what.Printed t), made ls bodies n 0 (a_what.Printed t) (a_stage.Does i) h played room (lit< tt) tt refl x.past.1 e s (stack, x), refl)
 
 pub put : (ls : List SmallLine) (bodies : SmallBodies) (n i : ℕ) (t : List ℕ) (stack : List PendingPut) (h : List Entry)
-    → IsPlayed (small_program ls) n h → n < 65536 → drop i ls ≡ Put t ∷ drop (i + 1) ls → Playing ls (drop i ls) stack h
+    → IsRunOfLength (small_program ls) n h → n < 65536 → drop i ls ≡ Put t ∷ drop (i + 1) ls → Playing ls (drop i ls) stack h
     → reverse bodies.entries.items ≡ entry n 0 (a_what.Sent first 1 (a_value.Text t ∷ [])) ∷ h → bodies.stage ≡ a_stage.Does (i + 1)
     → (e : Entry) × Made (small_program ls) (Stands ls bodies) h e × IsMessageTo first 1 e.what
 put ls bodies n i t stack h played room line state e s =
     let x = put_step ls (drop (i + 1) ls) stack h t (subst (λ l. Playing ls l stack h) line state) in
     (entry (length h) 0 (a_what.Sent first 1 (a_value.Text t ∷ [])), made ls bodies n 0 (a_what.Sent first 1 (a_value.Text t ∷ [])) (a_stage.Does (i + 1)) h played room (lit< tt) (put_within t) refl x.past.1 e s (record { number = length h; text = t } ∷ stack, x), (a_value.Text t ∷ [], refl))
 
-pub called : (ls : List SmallLine) (bodies : SmallBodies) (n i : ℕ) (stack : List PendingPut) (h : List Entry) → IsPlayed (small_program ls) n h
+pub called : (ls : List SmallLine) (bodies : SmallBodies) (n i : ℕ) (stack : List PendingPut) (h : List Entry) → IsRunOfLength (small_program ls) n h
     → n < 65536 → drop i ls ≡ PrintGet ∷ drop (i + 1) ls → Playing ls (drop i ls) stack h
     → reverse bodies.entries.items ≡ entry n 0 (a_what.Called first 0 []) ∷ h → bodies.stage ≡ a_stage.Waits (i + 1)
     → (e : Entry) × Made (small_program ls) (Stands ls bodies) h e × IsMessageTo first 0 e.what
@@ -162,7 +162,7 @@ arguments_of_firing k k' o o' ms ms' vs vs' e = cc
 
 stage_waits : (ls : List SmallLine) (stage : Stage) (h : List Entry) (k : ℕ) (o : Object) (ms : List ℕ) (vs : List value.Value) → IsAt ls stage h
     → Fires (small_program ls) h k o ms vs → (i : ℕ) × (stage ≡ a_stage.Waits i) × IsAt ls (a_stage.Waits i) h
-stage_waits ls a_stage.Begins h k o ms vs s f = absurd (none_fires ls [] begun begun_waiting k o ms vs (subst (λ i. Fires (small_program ls) i k o ms vs) s f))
+stage_waits ls a_stage.Begins h k o ms vs s f = absurd (none_fires ls [] main_begun begun_waiting k o ms vs (subst (λ i. Fires (small_program ls) i k o ms vs) s f))
 stage_waits ls (a_stage.Does i) h k o ms vs s f = absurd (none_fires ls s.0 h s.1.waiting k o ms vs f)
 stage_waits ls (a_stage.Gives i n t) h k o ms vs s f = absurd (none_fires ls s.0 h s.1.waiting k o ms vs f)
 stage_waits ls (a_stage.Prints i t) h k o ms vs s f = absurd (none_fires ls s.0 h s.1.waiting k o ms vs f)
@@ -217,7 +217,7 @@ may_take ls bodies n k o ms m =
       put = x.put;
       members = members_of_firing k 0 o first ms (w.2.1 ∷ x.put ∷ []) m.1 (a_value.Text x.text ∷ []) x.is;
       text = x.text;
-      carries = put_carries ls (drop w.0 ls) bodies w.2.0 w.2.1 x.put x.text m.0 s.holds (IsPlayed.within m.2) w.2.2 x.found;
+      carries = put_carries ls (drop w.0 ls) bodies w.2.0 w.2.1 x.put x.text m.0 s.holds (IsRunOfLength.within m.2) w.2.2 x.found;
     }
 
 -- the last of two members
@@ -236,14 +236,14 @@ stage_begun : (ls : List SmallLine) (stack : List PendingPut) (n k i q : ℕ) (o
 stage_begun ls stack n k i q o ms vs t h so_long c x same =
     let serving = fire_step ls (drop i ls) stack q x.put x.text h x.found c in
     let taken : IsBegun ls i h (a_what.Fired k o ms vs) (length h) x.text =
-    subst (λ w. IsBegun ls i h w (length h) x.text) (sym x.is) (without x.put stack, serving)
+    subst (λ w. IsBegun ls i h w (length h) x.text) (sym x.is) (without_put x.put stack, serving)
     in
     let numbered = subst (λ m. IsBegun ls i h (a_what.Fired k o ms vs) m x.text) so_long taken in
     subst (λ u. IsBegun ls i h (a_what.Fired k o ms vs) n u) same numbered
 
 -- the bodies after the firing
 pub began : (ls : List SmallLine) (before after : SmallBodies) (n k i q m : ℕ) (o : Object) (ms : List ℕ) (t : List ℕ) (h : List Entry)
-    (vs : List value.Value) → IsPlayed (small_program ls) n h → Stands ls before h → Fires (small_program ls) h k o ms vs
+    (vs : List value.Value) → IsRunOfLength (small_program ls) n h → Stands ls before h → Fires (small_program ls) h k o ms vs
     → before.stage ≡ a_stage.Waits i → ms ≡ q ∷ m ∷ [] → Carries before.entries.items m t
     → reverse after.entries.items ≡ entry n n (a_what.Fired k o ms (a_value.Text t ∷ [])) ∷ reverse before.entries.items
     → after.stage ≡ a_stage.Gives i n t → Stands ls after (fired n k o ms vs ∷ h)

@@ -4,15 +4,15 @@ use Rattle.std.specs.Prelude.{slice_get}
 use Rattle.chord_base.specs.declared.value.Object.{Object}
 use Rattle.chord_base.specs.declared.value.Value as value
 use Rattle.chord_base.specs.declared.event.Entry.{Entry}
-use Rattle.chord_base.specs.Messages.{Message, pending}
+use Rattle.chord_base.specs.Messages.{AreDifferent, Message, pending}
 use Rattle.chord_base.specs.Machine.{Takes}
 use Rattle.chord_lists.specs.declared.bag.Header.{Header}
-use Rattle.chord_lists.specs.Bag.{header_to, Has, HasAll, Lacks, IsPopped, AreTaken, AreDifferent, Lists}
+use Rattle.chord_lists.specs.Bag.{header_to, HasMessage, HasMessages, LacksMessage, IsPopped, ArePopped, Lists}
 use Rattle.chord_lists.proofs.Bags.{message_to, lists_lack, lists_less, popped_there, held_before, without, taken_more, has_all_kept}
 
 -- of these messages, what goes from the bag is taken, with some arguments
 takes_held : (h : List Entry) (held : ℕ → Option Message) (n : ℕ) (o : Object) (js ms : List ℕ) (old new : Header → List ℕ)
-    → ((i : ℕ) (m : Message) → held i ≡ Some m → pending i h ≡ Some m) → Lists held n old → AreTaken o js ms old new
+    → ((i : ℕ) (m : Message) → held i ≡ Some m → pending i h ≡ Some m) → Lists held n old → ArePopped o js ms old new
     → (vs : List value.Value) × Takes h o js ms vs
 takes_held h held n o [] [] old new f s t = ([], refl)
 takes_held h held n o [] (i ∷ ms) old new f s t = absurd t
@@ -24,13 +24,13 @@ takes_held h held n o (j ∷ js) (i ∷ ms) old new f s t =
     (m.0.arguments ++ rest.0, (m.0.arguments, rest.0, f i m.0 m.1 ∙ ap Some (message_to m.0 o j m.2), refl, rest.1))
 
 -- what goes from a bag of the pending messages is taken
-pub takes_pending : (h : List Entry) (n : ℕ) (o : Object) (js ms : List ℕ) (old new : Header → List ℕ) → Lists (λ i. pending i h) n old
-    → AreTaken o js ms old new → (vs : List value.Value) × Takes h o js ms vs
-takes_pending h n o js ms old new s t = takes_held h (λ i. pending i h) n o js ms old new (λ i m e. e) s t
+pub pops_pending : (h : List Entry) (n : ℕ) (o : Object) (js ms : List ℕ) (old new : Header → List ℕ) → Lists (λ i. pending i h) n old
+    → ArePopped o js ms old new → (vs : List value.Value) × Takes h o js ms vs
+pops_pending h n o js ms old new s t = takes_held h (λ i. pending i h) n o js ms old new (λ i m e. e) s t
 
 -- a method that has no message in the bag fires no chord
 pub lacks_fires : (h : List Entry) (n : ℕ) (index : Header → List ℕ) (o : Object) (js ms : List ℕ) (vs : List value.Value) (k j : ℕ)
-    → Lists (λ i. pending i h) n index → slice_get js k ≡ Some j → Lacks o j index → Takes h o js ms vs → ⊥
+    → Lists (λ i. pending i h) n index → slice_get js k ≡ Some j → LacksMessage o j index → Takes h o js ms vs → ⊥
 lacks_fires h n index o [] ms vs k j s g l t = let z : ◌≡◌ {A = Option ℕ} None (Some j) = g in cc
 lacks_fires h n index o (j' ∷ js) [] vs k j s g l t = t
 lacks_fires h n index o (j' ∷ js) (i ∷ ms) vs zero j s g l t =
@@ -40,8 +40,8 @@ lacks_fires h n index o (j' ∷ js) (i ∷ ms) vs (suc k) j s g l t = lacks_fire
 
 -- what the loop has taken so far, of the first methods, and what it still needs, of the rest
 pub record Taking (old : Header → List ℕ) (o : Object) (js rest ms : List ℕ) (index : Header → List ℕ) : Type 0 where
-  pub taken : AreTaken o js ms old index
-  pub all : HasAll o rest index
+  pub taken : ArePopped o js ms old index
+  pub all : HasMessages o rest index
   pub different : AreDifferent rest
   pub as_many : length ms ≡ length js
 
@@ -55,6 +55,6 @@ taking_turn old between new o js rest ms j i t p =
       as_many = omega (arith, length-append ms (i ∷ []), length-append js (j ∷ []), t.as_many);
     }
 
-pub has_all_more : (o : Object) (js : List ℕ) (index : Header → List ℕ) (j : ℕ) → HasAll o js index → Has o j index → HasAll o (js ++ j ∷ []) index
+pub has_all_more : (o : Object) (js : List ℕ) (index : Header → List ℕ) (j : ℕ) → HasMessages o js index → HasMessage o j index → HasMessages o (js ++ j ∷ []) index
 has_all_more o [] index j a i = (i, tt)
 has_all_more o (j' ∷ js) index j a i = (a.0, has_all_more o js index j a.1 i)

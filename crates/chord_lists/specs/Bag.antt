@@ -35,21 +35,21 @@ numbers_of b k = numbers_in (hash.get same_header b.numbers k)
 -- ## What is in the bag
 
 -- a message to this method of this object is
-abbrev pub Has : Object → ℕ → (Header → List ℕ) → Type 0
-Has o j index = (n : ℕ) × (ns : List ℕ) × (index (header_to o j) ≡ n ∷ ns)
+abbrev pub HasMessage : Object → ℕ → (Header → List ℕ) → Type 0
+HasMessage o j index = (n : ℕ) × (ns : List ℕ) × (index (header_to o j) ≡ n ∷ ns)
 
 -- none is
-abbrev pub Lacks : Object → ℕ → (Header → List ℕ) → Type 0
-Lacks o j index = index (header_to o j) ≡ []
+abbrev pub LacksMessage : Object → ℕ → (Header → List ℕ) → Type 0
+LacksMessage o j index = index (header_to o j) ≡ []
 
 -- to each of these methods one is
-abbrev pub HasAll : Object → List ℕ → (Header → List ℕ) → Type 0
-HasAll o [] index = Unit {0}
-HasAll o (j ∷ js) index = Has o j index × HasAll o js index
+abbrev pub HasMessages : Object → List ℕ → (Header → List ℕ) → Type 0
+HasMessages o [] index = Unit {0}
+HasMessages o (j ∷ js) index = HasMessage o j index × HasMessages o js index
 
 -- to one of these methods none is
-abbrev pub LacksOne : Object → List ℕ → (Header → List ℕ) → Type 0
-LacksOne o js index = (k j : ℕ) × (slice_get js k ≡ Some j) × Lacks o j index
+abbrev pub LacksAMessage : Object → List ℕ → (Header → List ℕ) → Type 0
+LacksAMessage o js index = (k j : ℕ) × (slice_get js k ≡ Some j) × LacksMessage o j index
 
 -- ## What comes and goes
 
@@ -63,21 +63,11 @@ pub record IsPopped (k : Header) (n : ℕ) (old new : Header → List ℕ) : Typ
   pub others : (i : Header) → same_header k i ≡ false → new i ≡ old i
 
 -- the newest message to each of these methods went, one after another, and they had these numbers
-abbrev pub AreTaken : Object → List ℕ → List ℕ → (Header → List ℕ) → (Header → List ℕ) → Type 0
-AreTaken o [] [] old new = (k : Header) → new k ≡ old k
-AreTaken o [] (i ∷ ms) old new = ⊥
-AreTaken o (j ∷ js) [] old new = ⊥
-AreTaken o (j ∷ js) (i ∷ ms) old new = (between : Header → List ℕ) × IsPopped (header_to o j) i old between × AreTaken o js ms between new
-
--- the method is none of these
-abbrev pub IsNoneOf : ℕ → List ℕ → Type 0
-IsNoneOf j [] = Unit {0}
-IsNoneOf j (i ∷ js) = (j ≡ i → ⊥) × IsNoneOf j js
-
--- no method stands twice
-abbrev pub AreDifferent : List ℕ → Type 0
-AreDifferent [] = Unit {0}
-AreDifferent (j ∷ js) = IsNoneOf j js × AreDifferent js
+abbrev pub ArePopped : Object → List ℕ → List ℕ → (Header → List ℕ) → (Header → List ℕ) → Type 0
+ArePopped o [] [] old new = (k : Header) → new k ≡ old k
+ArePopped o [] (i ∷ ms) old new = ⊥
+ArePopped o (j ∷ js) [] old new = ⊥
+ArePopped o (j ∷ js) (i ∷ ms) old new = (between : Header → List ℕ) × IsPopped (header_to o j) i old between × ArePopped o js ms between new
 
 -- ## What a bag stands for
 

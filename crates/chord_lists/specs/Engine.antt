@@ -19,15 +19,11 @@ use Rattle.chord_lists.specs.declared.engine.Step.TheVariants.{Done, Idle, Fresh
 use Rattle.chord_lists.specs.Bag.{Lists}
 
 -- the history in which `Main` has just begun
-abbrev pub begun : List Entry
-begun = record { number = 0; body = 0; what = Begun } ∷ []
-
--- each chord has a method
-abbrev pub HaveMethods : Program → Type 0
-HaveMethods p = (c k : ℕ) (js : List ℕ) → slice_get (p.chords c) k ≡ Some js → 0 < length js
+abbrev pub main_begun : List Entry
+main_begun = record { number = 0; body = 0; what = Begun } ∷ []
 
 -- a run of n entries, each within its bounds
-pub record IsPlayed (p : Program) (n : ℕ) (h : List Entry) : Type 0 where
+pub record IsRunOfLength (p : Program) (n : ℕ) (h : List Entry) : Type 0 where
   pub past : IsPast p h
   pub within : AreWithin h
   pub so_long : length h ≡ n
@@ -38,7 +34,7 @@ fired n k o ms vs = record { number = n; body = n; what = Fired k o ms vs }
 
 -- the bodies stand after a run of n entries
 abbrev pub MayGoOn : Program → (List Entry → Type 0) → ℕ → Type 0
-MayGoOn p stands n = (h : List Entry) × IsPlayed p n h × stands h
+MayGoOn p stands n = (h : List Entry) × IsRunOfLength p n h × stands h
 
 -- the bodies have made this entry, which may follow
 pub record Made (p : Program) (stands : List Entry → Type 0) (h : List Entry) (e : Entry) : Type 0 where
@@ -59,19 +55,19 @@ WentFrom p stands h (a_turn.Message o j) = (e : Entry) × Made p stands h e × I
 
 -- what a turn of the bodies was, after each run of n entries after which they can have stood
 abbrev pub Went : Program → (List Entry → Type 0) → (List Entry → Type 0) → ℕ → Turn → Type 0
-Went p before after n turn = (h : List Entry) → IsPlayed p n h → before h → WentFrom p after h turn
+Went p before after n turn = (h : List Entry) → IsRunOfLength p n h → before h → WentFrom p after h turn
 
 -- the bodies stand after a run of n entries, and a firing that takes these messages may follow
 abbrev pub MayBegin : Program → (List Entry → Type 0) → ℕ → ℕ → Object → List ℕ → Type 0
 MayBegin p stands n k o ms =
-    (h : List Entry) × (vs : List value.Value) × IsPlayed p n h × stands h × Fires p h k o ms vs × AreWithin (fired n k o ms vs ∷ h)
+    (h : List Entry) × (vs : List value.Value) × IsRunOfLength p n h × stands h × Fires p h k o ms vs × AreWithin (fired n k o ms vs ∷ h)
 
 -- the bodies stand after the firing, with the arguments of the messages
 abbrev pub Began : Program → (List Entry → Type 0) → (List Entry → Type 0) → ℕ → ℕ → Object → List ℕ → Type 0
 Began p before after n k o ms =
-    (h : List Entry) (vs : List value.Value) → IsPlayed p n h → before h → Fires p h k o ms vs → after (fired n k o ms vs ∷ h)
+    (h : List Entry) (vs : List value.Value) → IsRunOfLength p n h → before h → Fires p h k o ms vs → after (fired n k o ms vs ∷ h)
 
--- the last entry is a message to this object, and before it no chord had all its messages
+-- the last entry is a message to this object, and before it no chord was enabled
 pub record IsAfterMessage (p : Program) (h : List Entry) (o : Object) : Type 0 where
   pub before : List Entry
   pub last : Entry
@@ -83,7 +79,7 @@ pub record IsAfterMessage (p : Program) (h : List Entry) (o : Object) : Type 0 w
   pub no_firing : members_of last.what ≡ []
   pub object : sent.object ≡ o
 
--- the one object of which a chord may have all its messages, if there may be one
+-- the one object of which a chord may be enabled, if there may be one
 abbrev pub IsFresh : Program → List Entry → Option Object → Type 0
 IsFresh p h None = NoneFires p h
 IsFresh p h (Some o) = IsAfterMessage p h o
@@ -91,14 +87,14 @@ IsFresh p h (Some o) = IsAfterMessage p h o
 -- the engine after n entries: the bodies stand there, and the bag lists exactly the pending messages
 pub record State (p : Program) (stands : List Entry → Type 0) (index : Header → List ℕ) (fresh : Option Object) (n : ℕ) : Type 0 where
   pub history : List Entry
-  pub played : IsPlayed p n history
+  pub played : IsRunOfLength p n history
   pub bodies : stands history
   pub lists : Lists (λ i. pending i history) n index
   pub is_fresh : IsFresh p history fresh
 
 -- nothing may follow the n entries
 abbrev pub IsOver : Program → (List Entry → Type 0) → ℕ → Type 0
-IsOver p stands n = (h : List Entry) × IsPlayed p n h × stands h × IsFinal p h
+IsOver p stands n = (h : List Entry) × IsRunOfLength p n h × stands h × IsFinal p h
 
 -- the engine after a step from n entries
 abbrev pub Stepped : Program → (List Entry → Type 0) → (Header → List ℕ) → ℕ → Step → Type 0

@@ -1,6 +1,12 @@
 -- The engine of one thread and what it plays today, in the order in which it is to be read.
+
+-- ## What callers read
+
 -- what a small program means
 pub mod Small
+
+-- ## What only the code's own contracts use
+
 -- the bag of pending messages
 pub mod Bag
 -- what the engine keeps from entry to entry, over any program

@@ -8,7 +8,7 @@ use Rattle.chord_lists.specs.declared.small.SmallLine.{SmallLine}
 use Rattle.chord_lists.specs.declared.play.Stage.{Stage}
 use Rattle.chord_lists.specs.declared.play.Stage.TheVariants.{Begins, Does, Waits, Gives, Prints, Ended}
 use Rattle.chord_lists.specs.declared.play.SmallBodies.{SmallBodies}
-use Rattle.chord_lists.specs.Engine.{begun}
+use Rattle.chord_lists.specs.Engine.{main_begun}
 use Rattle.chord_lists.specs.States.{PendingPut, Playing, Calling, Serving, Got, Done}
 
 -- of the entries, oldest first, the one of this number is a message that carries this text alone
@@ -19,7 +19,7 @@ Carries entries n t =
 
 -- the stage is that of this history
 abbrev pub IsAt : List SmallLine → Stage → List Entry → Type 0
-IsAt ls Begins h = h ≡ begun
+IsAt ls Begins h = h ≡ main_begun
 IsAt ls (Does i) h = (stack : List PendingPut) × Playing ls (drop i ls) stack h
 IsAt ls (Waits i) h = (stack : List PendingPut) × (q : ℕ) × Calling ls (drop i ls) stack q h
 IsAt ls (Gives i n t) h = (stack : List PendingPut) × Serving ls (drop i ls) stack n t h

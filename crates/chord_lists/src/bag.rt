@@ -2,7 +2,8 @@
 #![tactic(auto)]
 
 ghost use Rattle.std.specs.Prelude.{◌≡◌, ◌≤◌, [], length, IfOk, true, false};
-ghost use Rattle.chord_lists.specs.Bag.{AreDifferent, AreTaken, Has, HasAll, header_to, IsPopped, IsPushed, Lacks, LacksOne, numbers_of};
+ghost use Rattle.chord_base.specs.Messages.{AreDifferent};
+ghost use Rattle.chord_lists.specs.Bag.{ArePopped, HasMessage, HasMessages, header_to, IsPopped, IsPushed, LacksMessage, LacksAMessage, numbers_of};
 ghost use Rattle.chord_lists.specs.declared.bag.Header.{Header as H};
 
 use chord_base::members::Members;
@@ -69,8 +70,8 @@ impl Bag {
 
     /// Whether a message to this method of this object is pending.
     fn has(&self, object: Object, method: u8) -> bool
-        ensures yes { result ≡ true → Has object method (numbers_of self.now) }
-        ensures no { result ≡ false → Lacks object method (numbers_of self.now) }
+        ensures yes { result ≡ true → HasMessage object method (numbers_of self.now) }
+        ensures no { result ≡ false → LacksMessage object method (numbers_of self.now) }
     {
         match self.numbers.get(&Header::new(object, method)) {
             Some(stack) => !stack.as_slice().is_empty(),
@@ -80,8 +81,8 @@ impl Bag {
 
     /// Whether to each of these methods of this object a message is pending.
     pub fn has_all(&self, object: Object, methods: &[u8]) -> bool
-        ensures yes { result ≡ true → HasAll object methods.now (numbers_of self.now) }
-        ensures no { result ≡ false → LacksOne object methods.now (numbers_of self.now) }
+        ensures yes { result ≡ true → HasMessages object methods.now (numbers_of self.now) }
+        ensures no { result ≡ false → LacksAMessage object methods.now (numbers_of self.now) }
     {
         for method in methods {
             if !self.has(object, *method) {
@@ -93,7 +94,7 @@ impl Bag {
 
     /// Takes the newest message to this method of this object.
     fn take(&mut self, object: Object, method: u8) -> Result<u32, AllocError>
-        requires { Has object method (numbers_of self.old) }
+        requires { HasMessage object method (numbers_of self.old) }
         ensures { IfOk result (λ n. IsPopped (header_to object method) n (numbers_of self.old) (numbers_of self.new)) }
     {
         let header = Header::new(object, method);
@@ -114,10 +115,10 @@ impl Bag {
 
     /// Takes the newest message to each of these methods of this object.
     pub fn take_all(&mut self, object: Object, methods: &[u8]) -> Result<Members, AllocError>
-        requires there { HasAll object methods.now (numbers_of self.old) }
+        requires there { HasMessages object methods.now (numbers_of self.old) }
         requires different { AreDifferent methods.now }
         requires few { length methods.now ≤ 8 }
-        ensures { IfOk result (λ members. AreTaken object methods.now members (numbers_of self.old) (numbers_of self.new)) }
+        ensures { IfOk result (λ members. ArePopped object methods.now members (numbers_of self.old) (numbers_of self.new)) }
     {
         let mut members = Members::new();
         for method in methods {

@@ -6,10 +6,11 @@
 
 ghost use Rattle.std.specs.Prelude.{◌≡◌, ℕ, ◌+◌, ◌<◌, ◌≤◌, ◌⊎◌, List, length, reverse, slice_get, Option, Some, None, IfOk, IfSome, IfNone};
 ghost use Rattle.chord_base.specs.declared.event.Entry.{Entry};
-ghost use Rattle.chord_base.specs.Meaning.{Program};
+ghost use Rattle.chord_base.specs.Meaning.{HaveMethods, Program};
+ghost use Rattle.chord_base.specs.Messages.{AreDifferent};
 ghost use Rattle.chord_base.specs.Machine.{IsRun, IsComplete};
-ghost use Rattle.chord_lists.specs.Bag.{AreDifferent, HasAll, LacksOne, numbers_of};
-ghost use Rattle.chord_lists.specs.Engine.{begun, HaveMethods, MayGoOn, MayBegin, Went, Began, Ends, IsPlayedOut, State, Stepped};
+ghost use Rattle.chord_lists.specs.Bag.{HasMessages, LacksAMessage, numbers_of};
+ghost use Rattle.chord_lists.specs.Engine.{main_begun, MayGoOn, MayBegin, Went, Began, Ends, IsPlayedOut, State, Stepped};
 
 use crate::bag::Bag;
 use chord_base::event::Limits;
@@ -42,7 +43,7 @@ pub trait Playable {
 
     /// The body of `Main`, which has just begun.
     fn start(&self, alloc: Global) -> Result<Self::Bodies, AllocError>
-        ensures bodies { IfOk result (λ bodies. stands self.now bodies begun) }
+        ensures bodies { IfOk result (λ bodies. stands self.now bodies main_begun) }
         ensures chords { HaveMethods (program self.now) };
 
     /// Some body goes on: the bodies make the entry of this number, and say what it was. They keep what a message carries.
@@ -90,10 +91,10 @@ pub trait Playable {
         ensures { IfOk result (λ journal. (h : List Entry) → stands self.now bodies h → journal ≡ reverse h) };
 }
 
-/// A chord of the object that has all its messages.
+/// A chord of the object that is enabled.
 fn find_chord<P: Playable>(program: &P, bag: &Bag, object: Object) -> Option<u16>
-    ensures some { IfSome result (λ k. (js : List ℕ) × (slice_get ((P.program program.now).chords object.class) k ≡ Some js) × HasAll object js (numbers_of bag.now)) }
-    ensures none { IfNone result ((k : ℕ) (js : List ℕ) → slice_get ((P.program program.now).chords object.class) k ≡ Some js → LacksOne object js (numbers_of bag.now)) }
+    ensures some { IfSome result (λ k. (js : List ℕ) × (slice_get ((P.program program.now).chords object.class) k ≡ Some js) × HasMessages object js (numbers_of bag.now)) }
+    ensures none { IfNone result ((k : ℕ) (js : List ℕ) → slice_get ((P.program program.now).chords object.class) k ≡ Some js → LacksAMessage object js (numbers_of bag.now)) }
 {
     for chord in 0..program.count(object.class) {
         if bag.has_all(object, program.methods(object.class, chord)) {
@@ -107,9 +108,9 @@ fn find_chord<P: Playable>(program: &P, bag: &Bag, object: Object) -> Option<u16
 enum Step {
     /// Nothing may follow.
     Done,
-    /// An entry, after which no chord has all its messages.
+    /// An entry, after which no chord is enabled.
     Idle,
-    /// A message to this object, of which a chord may now have all its messages.
+    /// A message to this object, of which a chord may now be enabled.
     Fresh(Object),
 }
 
@@ -148,7 +149,7 @@ fn fire<P: Playable>(
 ) -> Result<(), AllocError>
     requires room { number < 65536 }
     requires state { State (P.program program.now) (P.stands program.now bodies.old) (numbers_of bag.old) (Some object) number }
-    requires there { (js : List ℕ) × (slice_get ((P.program program.now).chords object.class) chord ≡ Some js) × HasAll object js (numbers_of bag.old) }
+    requires there { (js : List ℕ) × (slice_get ((P.program program.now).chords object.class) chord ≡ Some js) × HasMessages object js (numbers_of bag.old) }
     ensures { IfOk result (λ _. State (P.program program.now) (P.stands program.now bodies.new) (numbers_of bag.new) None (number + 1)) }
 {
     let methods = program.methods(object.class, chord);
@@ -157,7 +158,7 @@ fn fire<P: Playable>(
     Ok(())
 }
 
-/// Makes the next entry: a firing where a chord of the fresh object has all its messages, and otherwise what a body asks.
+/// Makes the next entry: a firing where a chord of the fresh object is enabled, and otherwise what a body asks.
 fn advance<P: Playable>(
     alloc: Global,
     program: &P,

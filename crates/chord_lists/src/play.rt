@@ -5,7 +5,7 @@ ghost use Rattle.std.specs.Prelude.{◌≡◌, ℕ, ◌<◌, ◌≤◌, ◌⊎�
 ghost use Rattle.chord_base.specs.Machine.{IsRun, IsComplete};
 ghost use Rattle.chord_base.specs.declared.event.Entry.{Entry};
 ghost use Rattle.chord_base.specs.declared.value.Value.{Value};
-ghost use Rattle.chord_lists.specs.Engine.{IsPlayed, WentFrom};
+ghost use Rattle.chord_lists.specs.Engine.{IsRunOfLength, WentFrom};
 ghost use Rattle.chord_lists.specs.Small.{small_program};
 ghost use Rattle.chord_lists.specs.Stages.{Carries, Stands};
 ghost use Rattle.chord_lists.specs.States.{PendingPut, Playing};
@@ -112,7 +112,7 @@ impl SmallBodies {
         number: u32,
     ) -> Result<Turn, AllocError>
         requires room { number < 65536 }
-        ensures { IfOk result (λ turn. (h : List Entry) → IsPlayed (small_program lines.now) number h → reverse self.old.entries.items ≡ h → (stack : List PendingPut) → Playing lines.now (drop at lines.now) stack h → WentFrom (small_program lines.now) (Stands lines.now self.new) h turn) }
+        ensures { IfOk result (λ turn. (h : List Entry) → IsRunOfLength (small_program lines.now) number h → reverse self.old.entries.items ≡ h → (stack : List PendingPut) → Playing lines.now (drop at lines.now) stack h → WentFrom (small_program lines.now) (Stands lines.now self.new) h turn) }
     {
         match lines.get(at) {
             None => {

@@ -5,7 +5,7 @@ use Rattle.chord_base.specs.Meaning.{Program}
 use Rattle.chord_base.specs.Printed.{lines, status_of}
 use Rattle.chord_base.specs.declared.event.Entry.{Entry}
 use Rattle.chord_io.specs.Faults.{Rose}
-use Rattle.chord_io.specs.Pieces.{Took, TookFront}
+use Rattle.chord_io.specs.Pieces.{Took, TookProperPrefix}
 use Rattle.chord_run.specs.Answers.{IsDue, IsFull}
 use Rattle.chord_run.specs.Refusals.{IsCause, IsLine}
 use Rattle.chord_run.specs.Sources.{IsAccepted, IsMachine}
@@ -54,7 +54,7 @@ pub record CutsShort (left : Option (List ℕ)) (events : ℕ) (report : Report)
   pub given : IsGiven left source
   pub due : Due
   pub is_due : IsDue source events report.journal report.refusal due
-  pub written : TookFront before due.text after
+  pub written : TookProperPrefix before due.text after
 
 -- the source tells its bytes, and so does the sink
 abbrev pub AreTold : Option (List ℕ) → Option (List ℕ) → Type 0

@@ -8,8 +8,8 @@ abbrev pub PlaceFits : Object → ℕ → Type 0
 PlaceFits object method = (object.number < 2 ^ 20) × (object.class < 2 ^ 10) × (method < 2 ^ 5)
 
 -- the word of a method of an object, a number below 2 ^ 36
-abbrev pub place_of : Object → ℕ → ℕ
-place_of object method = 1 + 2 ^ 1 * object.number + 2 ^ 21 * object.class + 2 ^ 31 * method
+abbrev pub place_word : Object → ℕ → ℕ
+place_word object method = 1 + 2 ^ 1 * object.number + 2 ^ 21 * object.class + 2 ^ 31 * method
 
 -- the word shows the place: each part is read off its own bits, and no other bit is set
 pub record ShowsPlace (word : ℕ) (object : Object) (method : ℕ) : Type 0 where

@@ -1,7 +1,7 @@
 //! The words of places: of which object and method a message is.
 ghost use Rattle.std.specs.Prelude.{◌≡◌, ◌≢◌, ◌⊎◌, ◌↔◌, ℕ, ◌+◌, ◌*◌, ◌/◌, ◌%◌, ◌^◌, ◌<◌, ◌≤◌, Some, None, IsNone, IfSome};
 ghost use Rattle.chord_base.specs.declared.value.Object.{Object};
-ghost use Rattle.chord_word.specs.Places.{PlaceFits, place_of, ShowsPlace, IsNoPlace};
+ghost use Rattle.chord_word.specs.Places.{PlaceFits, place_word, ShowsPlace, IsNoPlace};
 
 use crate::parts::part;
 use chord_base::value::Object;
@@ -34,11 +34,11 @@ const PLACE_BITS: u32 = METHOD_FROM + METHOD_BITS;
 #[inline]
 pub fn pack_place(object: Object, method: u8) -> u64
     requires fits { PlaceFits object method }
-    ensures value { result ≡ place_of object method }
+    ensures value { result ≡ place_word object method }
     ensures parts { ShowsPlace result object method }
     ensures place { ¬ IsNoPlace result }
     ensures alone { (other : Object) (at : ℕ) → PlaceFits other at
-        → place_of other at ≡ result → (other ≡ object) × (at ≡ method) }
+        → place_word other at ≡ result → (other ≡ object) × (at ≡ method) }
 {
     ((object.number as u64) << NUMBER_FROM)
         | PLACED
@@ -50,10 +50,10 @@ pub fn pack_place(object: Object, method: u8) -> u64
 #[inline]
 pub fn unpack_place(word: u64) -> Option<(Object, u8)>
     ensures none { IsNone result ↔ IsNoPlace word }
-    ensures some { IfSome result (λ p. PlaceFits p.0 p.1 × (place_of p.0 p.1 ≡ word)) }
+    ensures some { IfSome result (λ p. PlaceFits p.0 p.1 × (place_word p.0 p.1 ≡ word)) }
     ensures parts { IfSome result (λ p. ShowsPlace word p.0 p.1) }
     ensures back { (object : Object) (method : ℕ) → PlaceFits object method
-        → place_of object method ≡ word → result ≡ Some (object, method) }
+        → place_word object method ≡ word → result ≡ Some (object, method) }
 {
     if word & PLACED == 0 || word >> PLACE_BITS != 0 {
         return None;

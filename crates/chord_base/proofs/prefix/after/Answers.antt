@@ -2,7 +2,7 @@ use Rattle.std.proofs.Common.{◌≡◌, List, [], ◌∷◌, ◌++◌, reverse,
 use Rattle.chord_base.specs.declared.body.Body as body
 use Rattle.chord_base.specs.declared.body.Body.TheVariants as a_body
 use Rattle.chord_base.specs.Bodies.{heard, serves}
-use Rattle.chord_base.specs.Prefix.{doing_of, IsTable}
+use Rattle.chord_base.specs.BodyTable.{doing_of, IsTable}
 use Rattle.chord_base.proofs.Table.{table_more, body_within, same_length}
 use Rattle.chord_base.proofs.prefix.after.Goals as goal
 

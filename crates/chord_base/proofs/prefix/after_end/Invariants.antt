@@ -1,6 +1,6 @@
 use Rattle.std.proofs.Common.{◌≡◌, Some, map, take}
 use Rattle.chord_base.specs.Bodies.{answered}
-use Rattle.chord_base.specs.Prefix.{doing_of}
+use Rattle.chord_base.specs.BodyTable.{doing_of}
 use Rattle.chord_base.proofs.prefix.after_end.Given as goal
 
 abbrev pub invariant-loop-body : goal.invariant-loop-body

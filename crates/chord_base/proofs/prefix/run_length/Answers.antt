@@ -1,7 +1,7 @@
 use Rattle.std.proofs.Common.{List, sym, subst}
 use Rattle.chord_base.specs.declared.event.Entry.{Entry}
 use Rattle.chord_base.specs.Machine.{IsPast}
-use Rattle.chord_base.specs.Prefix.{IsTable}
+use Rattle.chord_base.specs.BodyTable.{IsTable}
 use Rattle.chord_base.proofs.Prefixes.{reverse_more, run_stops, run_whole}
 use Rattle.chord_base.proofs.prefix.run_length.Goals as goal
 

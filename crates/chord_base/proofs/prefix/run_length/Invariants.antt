@@ -1,6 +1,6 @@
 use Rattle.std.proofs.Common.{reverse, take}
 use Rattle.chord_base.specs.Machine.{IsPast}
-use Rattle.chord_base.specs.Prefix.{IsTable}
+use Rattle.chord_base.specs.BodyTable.{IsTable}
 use Rattle.chord_base.proofs.prefix.run_length.Given as goal
 
 abbrev pub invariant-loop-i : goal.invariant-loop-i

@@ -1,5 +1,5 @@
 use Rattle.std.proofs.Common.{◌≡◌, map, take}
-use Rattle.chord_base.specs.Prefix.{doing_of}
+use Rattle.chord_base.specs.BodyTable.{doing_of}
 use Rattle.chord_base.proofs.prefix.table_copied.Given as goal
 
 abbrev pub invariant-loop-body : goal.invariant-loop-body

@@ -2,12 +2,12 @@
 use Rattle.std.proofs.Common.{◌∙◌, sym, ap, arith, List, ℕ, Some}
 use Rattle.std.proofs.lemmas.Result.{err_from_is_err_and}
 use Rattle.chord_journal.specs.Reading.{begins_digit, byte_at, text_at}
-use Rattle.chord_journal.proofs.Many.{with_front_nothing, many_next, many_wrong, many_full, many_end}
+use Rattle.chord_journal.proofs.Many.{with_prefix_nothing, many_next, many_wrong, many_full, many_end}
 use Rattle.chord_journal.proofs.Faults.{Fails-whole}
 use Rattle.chord_journal.proofs.parts.read_text.Goals as goal
 
 pub loop-text-init : goal.loop-text-init
-loop-text-init c = rw c.new-text.ensures (with_front_nothing _)
+loop-text-init c = rw c.new-text.ensures (with_prefix_nothing _)
 
 pub returns-in_err-byte : goal.returns-in_err-byte
 returns-in_err-byte c =

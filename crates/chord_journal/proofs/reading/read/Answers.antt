@@ -7,7 +7,7 @@ use Rattle.chord_journal.specs.Typed.{AreTyped}
 use Rattle.chord_journal.specs.Wrong.{IsWrongAt, UnlessMemory}
 use Rattle.chord_journal.specs.declared.reading.JournalFault.{JournalFault}
 use Rattle.chord_journal.specs.declared.reading.JournalFault.TheVariants.{Memory, At}
-use Rattle.chord_journal.proofs.JournalTexts.{same_journal, not_wrong, wrong_once}
+use Rattle.chord_journal.proofs.JournalTexts.{same_journal, text_not_wrong, wrong_once}
 use Rattle.chord_journal.proofs.reading.read.Goals as goal
 
 -- what was read has these bytes as its text
@@ -23,11 +23,11 @@ only : (bytes : List ℕ) (answer : Result (List Entry) JournalFault) → IfOk a
 only bytes (Ok other) found named journal is typed text =
     inr (ap (λ (es : List Entry). Ok es) (same_journal other journal found.2 found.1 is typed (sym found.0 ∙ text)))
 only bytes (Err Memory) found named journal is typed text = inl refl
-only bytes (Err (At k)) found named journal is typed text = absurd (not_wrong journal bytes k is typed text (named k refl))
+only bytes (Err (At k)) found named journal is typed text = absurd (text_not_wrong journal bytes k is typed text (named k refl))
 
 only_wrong : (bytes : List ℕ) (answer : Result (List Entry) JournalFault) → IfOk answer (Found bytes) → Named bytes answer → (k : ℕ) → IsWrongAt bytes k →
     UnlessMemory answer (Err (At k))
-only_wrong bytes (Ok journal) found named k wrong = absurd (not_wrong journal bytes k found.2 found.1 found.0 wrong)
+only_wrong bytes (Ok journal) found named k wrong = absurd (text_not_wrong journal bytes k found.2 found.1 found.0 wrong)
 only_wrong bytes (Err Memory) found named k wrong = inl refl
 only_wrong bytes (Err (At j)) found named k wrong = inr (ap (λ (i : ℕ). Err (At i)) (wrong_once bytes j k (named j refl) wrong))
 

@@ -1,9 +1,9 @@
 use Rattle.std.proofs.Common.{◌≡◌, length}
-use Rattle.chord_journal.specs.Wrong.{Begins}
+use Rattle.chord_journal.specs.Wrong.{BeginsWithLines}
 use Rattle.chord_journal.proofs.reading.read_lines.Given as goal
 
 abbrev pub invariant-loop-place : goal.invariant-loop-place
 invariant-loop-place l = record {
   long : length l.entries.items ≡ l.place;
-  begun : Begins l.fn.bytes l.count l.entries.items l.rest;
+  begun : BeginsWithLines l.fn.bytes l.count l.entries.items l.rest;
 }

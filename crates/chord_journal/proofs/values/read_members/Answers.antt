@@ -2,14 +2,14 @@
 use Rattle.std.proofs.Common.{◌≡◌, ◌∙◌, sym, arith, length-append, ◌∷◌, [], ◌-◌}
 use Rattle.std.proofs.lemmas.Result.{err_from_is_err_and}
 use Rattle.chord_journal.specs.Reading.{next_number_at, numbers_at}
-use Rattle.chord_journal.proofs.Many.{with_front_nothing, numbers_next, numbers_wrong, numbers_end}
+use Rattle.chord_journal.proofs.Many.{with_prefix_nothing, numbers_next, numbers_wrong, numbers_end}
 use Rattle.chord_journal.proofs.Faults.{Fails-whole}
 use Rattle.chord_journal.proofs.values.read_members.Goals as goal
 
 pub loop-init : goal.loop-init
 loop-init c =
     let all : c.args.count - 0 ≡ c.args.count = omega arith in
-    rw (c.new-members.ensures, all) (record { counted = omega arith; read = with_front_nothing _ })
+    rw (c.new-members.ensures, all) (record { counted = omega arith; read = with_prefix_nothing _ })
 
 pub returns-in_err-number : goal.returns-in_err-number
 returns-in_err-number c =

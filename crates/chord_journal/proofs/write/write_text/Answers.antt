@@ -8,10 +8,10 @@ returns-clause-whole g c =
     let written = rw (c.new-pen.ensures, c.entries-entries.ensures.entries) at (Writes-join c.put_header.ensures c.put_entries.ensures.written) in
     on_ok_weaker c.finish.result (λ whole. whole _ _ _ written) c.finish.ensures.whole
 
-pub returns-clause-front : goal.returns-clause-front
-returns-clause-front g c =
+pub returns-clause-prefix : goal.returns-clause-prefix
+returns-clause-prefix g c =
     let written = rw (c.new-pen.ensures, c.entries-entries.ensures.entries) at (Writes-join c.put_header.ensures c.put_entries.ensures.written) in
-    on_err_weaker c.finish.result (λ front. front _ _ _ written) c.finish.ensures.front
+    on_err_weaker c.finish.result (λ front. front _ _ _ written) c.finish.ensures.prefix
 
 pub returns-clause-failed : goal.returns-clause-failed
 returns-clause-failed g c =

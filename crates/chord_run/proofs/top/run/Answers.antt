@@ -24,5 +24,5 @@ returns-in-Err-write_lines-clause-answered g c =
       refusal = ap (λ r. r.refusal) c.played-in-Err-write_lines.ensures;
       status = c.due_status-due.result;
       gives = c.due_status-due.ensures.gives c.args.small.now c.args.limits.now.events c.in-Ok.ensures.run c.in-Ok.ensures.whole;
-      written = inr (ap (λ r. r.status) c.played-in-Err-write_lines.ensures, c.in-Err-write_lines.ensures.front);
+      written = inr (ap (λ r. r.status) c.played-in-Err-write_lines.ensures, c.in-Err-write_lines.ensures.prefix);
     })

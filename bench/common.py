@@ -1,0 +1,112 @@
+"""What the benches share: the built program, times and instructions of a command, and programs in Rattle over copies of the crates."""
+
+import os
+import re
+import resource
+import shutil
+import subprocess
+import sys
+import tempfile
+
+TOP = os.path.dirname(os.path.dirname(os.path.realpath(__file__)))
+PROGRAM = f'{TOP}/crates/chord_prog/out/chord_prog'
+RUNS = 40
+COUNTED = re.compile(rb'Collected : (\d+)')
+
+
+def program():
+    """The path of the proved program, which is built first."""
+    subprocess.run([f'{TOP}/build'], check=True)
+    return PROGRAM
+
+
+def user_seconds(command, source, wanted=None, runs=RUNS):
+    """The mean user time of a command on this standard input; the system counts it in ticks of 4 ms, so one run says little.  The last run's output is
+    compared with what is wanted, if anything is."""
+    before = resource.getrusage(resource.RUSAGE_CHILDREN).ru_utime
+    for _ in range(runs):
+        ran = subprocess.run(command, input=source, stdout=subprocess.PIPE, stderr=subprocess.STDOUT, check=False)
+    seconds = (resource.getrusage(resource.RUSAGE_CHILDREN).ru_utime - before) / runs
+    if wanted is not None:
+        assert ran.stdout == wanted, f'{command} wrote {ran.stdout[:200]!r}, not {wanted[:200]!r}'
+    return seconds
+
+
+def instructions(command, source, wanted=None):
+    """How many instructions a command takes on this standard input, by valgrind: the same in each run."""
+    with tempfile.TemporaryDirectory() as work:
+        ran = subprocess.run(['valgrind', '--tool=callgrind', f'--callgrind-out-file={work}/out', *command], input=source, stdout=subprocess.PIPE,
+                             stderr=subprocess.PIPE, check=False)
+    if wanted is not None:
+        assert ran.stdout == wanted, f'{command} wrote {ran.stdout[:200]!r}, not {wanted[:200]!r}'
+    return int(COUNTED.search(ran.stderr)[1])
+
+
+def tell(name, ours, theirs, unit, aside=''):
+    """Prints one ratio."""
+    print(f'{name}: {ours:.2f} {unit} / {theirs:.2f} {unit} = {ours / theirs:.1f}{aside and "   (" + aside + ")"}')
+
+
+# What each program in Rattle begins with: the clock of its thread, and a plain loop over bytes as the other side of a ratio.
+PRELUDE = '''
+use std::io;
+use std::time::{CpuClock, Duration};
+
+fn plain(text: &[u8]) -> u8 {
+    let mut all = 0u8;
+    for byte in text {
+        all = all.rotate_left(1) ^ *byte;
+    }
+    all
+}
+
+fn micros(rt: &HostRuntime, start: Duration) -> io::Result<u64> {
+    let took = rt.thread_cpu_time()?.saturating_sub(start).as_micros();
+    Ok(u64::try_from(took).unwrap_or(0))
+}
+
+// The time of going over a text so often, byte by byte, and what that gave.
+fn plain_micros(rt: &HostRuntime, text: &[u8], runs: u64) -> io::Result<(u64, u8)> {
+    let start = rt.thread_cpu_time()?;
+    let mut all = 0u8;
+    for _ in 0..runs {
+        all = all.rotate_left(1) ^ plain(text);
+    }
+    Ok((micros(rt, start)?, all))
+}
+'''
+
+
+def below(crates):
+    """These crates and those of the repository that they stand on."""
+    stands_on = {}
+    with open(f'{TOP}/crates.txt', encoding='utf-8') as lines:
+        for line in lines:
+            name, colon, libraries = line.split('#')[0].partition(':')
+            if colon:
+                stands_on[name.strip()] = libraries.split()
+    found = {}
+    waiting = list(crates)
+    while waiting:
+        name = waiting.pop()
+        if name in stands_on and name not in found:
+            found[name] = stands_on[name]
+            waiting += stands_on[name]
+    return found
+
+
+def rows_of(name, crates, source):
+    """Proves, builds and runs a program in Rattle over copies of these crates, in a folder of its own; gives the words of each line that it prints."""
+    with tempfile.TemporaryDirectory() as work:
+        os.makedirs(f'{work}/crates/{name}/src')
+        with open(f'{work}/crates.txt', 'w', encoding='utf-8') as file:
+            for crate, libraries in below(crates).items():
+                shutil.copytree(f'{TOP}/crates/{crate}', f'{work}/crates/{crate}', ignore=shutil.ignore_patterns('out'))
+                file.write(f'{crate}: {" ".join(libraries)}\n')
+            file.write(f'{name}: {" ".join(crates)}\n')
+        with open(f'{work}/crates/{name}/src/main.rt', 'w', encoding='utf-8') as file:
+            file.write(f'// {name}: a bench.\n#![tactic(auto)]\n{PRELUDE}{source}')
+        ran = subprocess.run(['rt', 'run'], cwd=f'{work}/crates/{name}', stdout=subprocess.PIPE, stderr=subprocess.PIPE, text=True, check=False)
+        if ran.returncode:
+            sys.exit(f'{name}: {ran.stdout[-2000:]}{ran.stderr[-2000:]}')
+    return [line.split() for line in ran.stdout.splitlines()]

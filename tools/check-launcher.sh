@@ -1,0 +1,66 @@
+#!/bin/sh
+# Does ./chord start the proved program where it is fresh, else the sources through the toolchain's runner, and does ./build say how it ended?
+# A stand-in for the toolchain takes the place of rt, so that this costs nothing.
+set -u
+root=$(cd "$(dirname "$0")/.." && pwd)
+work=$(mktemp -d)
+trap 'rm -rf "$work"' EXIT
+failed=0
+
+mkdir -p "$work/top/crates/chord_prog/src" "$work/top/examples" "$work/bin"
+cp "$root/chord" "$root/build" "$work/top/"
+echo 'a source' > "$work/top/examples/buffer.cs"
+echo 'chord_prog:' > "$work/top/crates.txt"
+echo '// the program' > "$work/top/crates/chord_prog/src/main.rt"
+
+# rt try: tells its words and its input, and ends with the status in the file `ends`. rt run: makes a program that does so, or fails.
+cat > "$work/bin/rt" <<'RT'
+#!/bin/sh
+ends=$(cat "$STAND_IN/ends")
+case "$1" in
+    try) shift 2
+        echo "tried with $*: $(cat)"
+        if [ "$ends" = never ]; then echo "run=hung" >&2; exit 1; fi
+        echo "run=ended status=$ends runners=1 proved=no" >&2
+        exit "$ends" ;;
+    run) [ "$ends" = never ] && { echo "an open goal"; exit 1; }
+        echo "so far: 1 of 2 functions checked"
+        mkdir -p out
+        printf '#!/bin/sh\necho "built with $*: $(cat)"\nexit %s\n' "$ends" > out/chord_prog
+        chmod +x out/chord_prog ;;
+esac
+RT
+chmod +x "$work/bin/rt"
+export STAND_IN="$work"
+PATH="$work/bin:$PATH"
+
+# name, wanted status and wanted output of a call whose standard input is the word `input`
+expect() {
+    name=$1 status=$2 written=$3
+    shift 3
+    out=$(echo input | "$work/top/$@" 2>"$work/said")
+    ended=$?
+    if [ "$ended" -ne "$status" ] || [ "$out" != "$written" ]; then
+        echo "launcher: $name: status $ended and \`$out\`, not status $status and \`$written\`" >&2
+        failed=1
+    fi
+}
+said() {
+    grep -q "$1" "$work/said" || { echo "launcher: standard error does not say \`$1\`" >&2; failed=1; }
+}
+
+echo 4 > "$work/ends"
+expect 'not built' 4 'tried with run --one: input' chord run --one
+said './build'
+echo never > "$work/ends"
+expect 'no end' 70 'tried with run: input' chord run
+expect 'a build that fails' 70 '' build
+said 'an open goal'
+echo 6 > "$work/ends"
+expect 'a build' 0 '' build
+said '1 of 2 functions'
+expect 'built and fresh' 6 'built with run --one: input' chord run --one
+[ -s "$work/said" ] && { echo "launcher: a built program is started with words of its own" >&2; failed=1; }
+touch -d '+1 minute' "$work/top/crates/chord_prog/src/main.rt"
+expect 'older than the sources' 6 'tried with rules: input' chord rules
+exit $failed
