@@ -39,11 +39,11 @@ pub fit_more : (ls : List line.SmallLine) (l : line.SmallLine) → AreFit ls →
 fit_more [] l f g = (g, tt)
 fit_more (m ∷ ls) l f g = (f.0, fit_more ls l f.1 g)
 
-pub front_splits : (front whole : List Kind) → take (length front) whole ≡ front → whole ≡ front ++ drop (length front) whole
-front_splits front whole e = sym (take-append-drop (length front) whole) ∙ ap (λ x. x ++ drop (length front) whole) e
+pub prefix_splits : (front whole : List Kind) → take (length front) whole ≡ front → whole ≡ front ++ drop (length front) whole
+prefix_splits front whole e = sym (take-append-drop (length front) whole) ∙ ap (λ x. x ++ drop (length front) whole) e
 
-pub front_fits : (front whole : List Kind) → take (length front) whole ≡ front → length front ≤ length whole
-front_fits front whole e =
+pub prefix_fits : (front whole : List Kind) → take (length front) whole ≡ front → length front ≤ length whole
+prefix_fits front whole e =
     let m = length-take (length front) whole in
     let n = ap length e in
     omega arith
@@ -57,7 +57,7 @@ line_forth n apart lines ls l rest rest' s (m ∷ ms, e, f, g) =
 -- one more line was read
 pub reads_line : (n : Chosen) (whole rest : List Kind) (lines : List line.SmallLine) (l : line.SmallLine) → AreApart n → ReadsOn n whole rest lines → IsFit l → take (length (line_kinds n l)) rest ≡ line_kinds n l → ReadsOn n whole (drop (length (line_kinds n l)) rest) (lines ++ l ∷ [])
 reads_line n whole rest lines l apart r f e =
-    let s = front_splits (line_kinds n l) rest e in
+    let s = prefix_splits (line_kinds n l) rest e in
     let rest' = drop (length (line_kinds n l)) rest in
     record {
       fit = fit_more lines l r.fit f;
@@ -101,5 +101,5 @@ form_of n kinds ls apart fit a b = record {
   chosen = n;
   apart = apart;
   fit = fit;
-  is = front_splits (spelled n head) kinds a ∙ ap (λ x. spelled n head ++ x) b;
+  is = prefix_splits (spelled n head) kinds a ∙ ap (λ x. spelled n head ++ x) b;
 }

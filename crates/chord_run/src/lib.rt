@@ -1,4 +1,4 @@
-//! The top call: from the words of the command line and the bytes of a source to what is written, and the status.
+//! The top call: from the arguments of the command line and the bytes of a source to what is written, and the status.
 //! Stands on: chord_io, chord_lexer, chord_lists, chord_journal, chord_base. Used by: chord_prog.
 //! Promise: `chord` writes the lines of the journal it keeps, which is a complete run of the source's join machine, or a run
 //! of as many entries as are allowed; every other answer has its cause (specs/Answers.antt, after Command, Sources, Refusals).
@@ -9,7 +9,7 @@
 mod command;
 mod front;
 pub mod laws;
-mod place;
+mod position;
 mod refusal;
 mod report;
 mod small;

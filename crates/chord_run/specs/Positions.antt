@@ -1,7 +1,7 @@
 -- The place of a byte in a text. A line ends at CR LF, at LF or at CR. Lines and columns count from 1, and columns count bytes.
 use Rattle.std.specs.Prelude.{ℕ, ◌+◌, Bool, false, ◌==◌, ◌||◌, ◌&&◌, not, List, [], ◌∷◌, take, count_by}
 use Rattle.std.specs.List.{suffix_len}
-use Rattle.chord_run.specs.declared.place.Place.{Place}
+use Rattle.chord_run.specs.declared.position.Position.{Position}
 
 -- whether a text begins with LF
 abbrev pub begins_with_feed : List ℕ → Bool
@@ -9,13 +9,13 @@ begins_with_feed [] = false
 begins_with_feed (byte ∷ text) = byte == 10
 
 -- whether a line ends after this byte, with this text behind it
-abbrev pub ends_line : ℕ → List ℕ → Bool
-ends_line byte text = (byte == 10) || ((byte == 13) && not (begins_with_feed text))
+abbrev pub breaks_after : ℕ → List ℕ → Bool
+breaks_after byte text = (byte == 10) || ((byte == 13) && not (begins_with_feed text))
 
 -- for each byte of a text, whether a line ends after it
 abbrev pub breaks : List ℕ → List Bool
 breaks [] = []
-breaks (byte ∷ text) = ends_line byte text ∷ breaks text
+breaks (byte ∷ text) = breaks_after byte text ∷ breaks text
 
 -- the line is one more than the number of lines that end before
 abbrev pub line_after : List Bool → ℕ
@@ -26,5 +26,5 @@ abbrev pub column_after : List Bool → ℕ
 column_after before = 1 + suffix_len not before
 
 -- the place of byte k; where k is the length of the text, the place of its end
-abbrev pub place_of : List ℕ → ℕ → Place
-place_of text k = record { line = line_after (take k (breaks text)); column = column_after (take k (breaks text)) }
+abbrev pub position_of : List ℕ → ℕ → Position
+position_of text k = record { line = line_after (take k (breaks text)); column = column_after (take k (breaks text)) }

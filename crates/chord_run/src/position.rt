@@ -2,18 +2,18 @@
 #![tactic(auto)]
 
 ghost use Rattle.std.specs.Prelude.{◌≡◌, ◌+◌, ◌≤◌, ◌<◌, length, drop};
-ghost use Rattle.chord_run.specs.Places.{ends_line, place_of};
+ghost use Rattle.chord_run.specs.Positions.{breaks_after, position_of};
 
 /// A place in a text. Both parts count from 1, and the column counts bytes.
 #[derive(Clone, Copy, Debug, PartialEq, Eq)]
-pub struct Place {
+pub struct Position {
     pub line: u32,
     pub column: u32,
 }
 
 /// Whether a line ends after this byte: LF ends one, and CR where no LF follows.
 fn ends_after(byte: u8, behind: &[u8]) -> bool
-    ensures { result ≡ ends_line byte behind.now }
+    ensures { result ≡ breaks_after byte behind.now }
 {
     match byte {
         b'\n' => true,
@@ -26,12 +26,12 @@ fn ends_after(byte: u8, behind: &[u8]) -> bool
 }
 
 /// The place of byte `k`, or of the text's end.
-pub fn place_at(text: &[u8], k: usize) -> Place
+pub fn position_at(text: &[u8], k: usize) -> Position
     requires within { k ≤ length text.now }
     requires short { length text.now ≤ 1048576 }
-    ensures { result ≡ place_of text.now k }
+    ensures { result ≡ position_of text.now k }
 {
-    let mut place = Place { line: 1, column: 1 };
+    let mut place = Position { line: 1, column: 1 };
     for i in 0..k {
         let (_, behind) = text.split_at(i + 1);
         if ends_after(text[i], behind) {
