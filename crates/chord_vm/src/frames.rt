@@ -120,7 +120,7 @@ pub(crate) fn fill(slots: &mut Vec<Value>, n: usize, this: Value, from: &mut Vec
 }
 
 /// Adds the values of one message.
-fn lay_one(slots: &mut Vec<Value>, values: Values)
+pub fn lay_one(slots: &mut Vec<Value>, values: Values)
     requires { vec_len slots.old + length values ≤ vec_capacity slots.old }
     ensures items { slots.new.items ≡ slots.old.items ++ values }
     ensures capacity { vec_capacity slots.new ≡ vec_capacity slots.old }
