@@ -8,14 +8,17 @@ TOP = os.path.dirname(os.path.dirname(os.path.realpath(__file__)))
 MADE = re.compile(r'^--.*\bMade by tools/')
 # `abbrev pub name :`, `pub data Name`, `pub record Name (..) :`, `pub name :`, `name :`; a signature names its type, a clause does not
 DEFINES = re.compile(r"^\s*(?:(?:abbrev|unfoldable|opaque|private)\s+)*(pub\s+)?(?:(?:abbrev|unfoldable)\s+)*(?:(?:data|record)\s+(?:pub\s+)?([^\s(){}:]+)|([^\s(){}:.,;=|λ]+)\s+:)(?:\s|$)")
+NAMED_LAW = re.compile(r'^pub \S+ : [A-Z]\w+$')
 WORDS = {'where', 'use', 'pub', 'mod', 'mutual', 'module', 'let', 'in', 'if', 'then', 'else', 'record', 'data', 'syntax', 'infix', 'infixl', 'infixr'}
 
 
 class Definition:
     """A definition or a lemma of a module."""
 
-    def __init__(self, name, path, line, is_public, sentence):
-        self.name, self.path, self.line, self.is_public, self.sentence = name, path, line, is_public, sentence
+    def __init__(self, name, path, line, is_public, sentence, is_named_law):
+        self.name, self.path, self.line, self.is_public = name, path, line, is_public
+        # whether a sentence stands above it, and whether its statement is a definition's name alone
+        self.sentence, self.is_named_law = sentence, is_named_law
 
     @property
     def place(self):
@@ -70,5 +73,5 @@ def definitions(path):
             continue
         above = lines[number - 1].strip() if number else ''
         is_sentence = above.startswith('-- ') and not above.startswith('-- ##')
-        found.append(Definition(name, path, number + 1, bool(match[1]) or 'pub ' in line.split(':')[0], is_sentence))
+        found.append(Definition(name, path, number + 1, bool(match[1]) or 'pub ' in line.split(':')[0], is_sentence, bool(NAMED_LAW.search(line))))
     return found

@@ -1,16 +1,22 @@
 #!/usr/bin/env python3
-"""Does the built program answer each case of cases/*.tsv as its row says?  With a path, that program is asked in place of the built one."""
+"""Does the built program answer each case of cases/*.tsv as its row says?
+
+    tools/check-cases.py          asks the program that ./build or the gate made
+    tools/check-cases.py --try    asks the toolchain's runner, which needs no proof
+"""
 
 import glob
 import os
 import re
 import subprocess
 import sys
+import tempfile
 
 TOP = os.path.dirname(os.path.dirname(os.path.realpath(__file__)))
 PROGRAM = f'{TOP}/crates/chord_prog/out/chord_prog'
 SECONDS = 60
 MOST_SHOWN = 20
+TRIED = re.compile(rb'^case=(\d+) run=ended status=(\d+) .*output=(\w+)', re.MULTILINE)
 ESCAPE = re.compile(rb'\\(?:x([0-9A-Fa-f]{2})|\*(\d+)\{([^}]*)\}|(.))', re.DOTALL)
 NAMED = {b'n': b'\n', b'r': b'\r', b't': b'\t', b'\\': b'\\'}
 
@@ -47,24 +53,41 @@ def answer(program, words, source):
     return ran.returncode, ran.stdout + ran.stderr
 
 
+def built_answers(cases):
+    """What the built program answers to each case."""
+    for place, words, _, _, source in cases:
+        yield place, answer(PROGRAM, words, source)
+
+
+def tried_answers(cases):
+    """What the toolchain's runner answers to each case; of an output it tells only where it differs from what is wanted."""
+    with tempfile.TemporaryDirectory() as folder:
+        for number, (_, words, _, written, source) in enumerate(cases):
+            for ending, content in (('', source), ('.args', ''.join(f'{word}\n' for word in words).encode()), ('.stdout', written)):
+                with open(f'{folder}/{number}{ending}', 'wb') as file:
+                    file.write(content)
+        ran = subprocess.run(['rt', 'try', '--cases', folder], cwd=f'{TOP}/crates/chord_prog', stdout=subprocess.PIPE, stderr=subprocess.STDOUT, check=False)
+    told = {int(number): (int(status), output) for number, status, output in TRIED.findall(ran.stdout)}
+    for number, (place, _, _, written, _) in enumerate(cases):
+        status, output = told.get(number, (None, b''))
+        yield place, (status, written if output == b'expected' else b'something else')
+
+
 def main():
-    program = os.path.abspath(sys.argv[1]) if len(sys.argv) > 1 else PROGRAM
-    if not os.access(program, os.X_OK):
-        print(f'cases: {program} is not there: ./build makes it', file=sys.stderr)
+    is_tried = sys.argv[1:] == ['--try']
+    if not is_tried and not os.access(PROGRAM, os.X_OK):
+        print(f'cases: {PROGRAM} is not there: ./build makes it', file=sys.stderr)
         return 1
-    passed, failed = 0, 0
-    for path in sorted(glob.glob(f'{TOP}/cases/*.tsv')):
-        for number, words, status, written, source in rows(path):
-            got = answer(program, words, source)
-            if got == (status, written):
-                passed += 1
-                continue
+    cases = [(f'{os.path.relpath(path, TOP)}:{row[0]}', *row[1:]) for path in sorted(glob.glob(f'{TOP}/cases/*.tsv')) for row in rows(path)]
+    answers = tried_answers(cases) if is_tried else built_answers(cases)
+    failed = 0
+    for (_, _, status, written, _), (place, got) in zip(cases, answers):
+        if got != (status, written):
             failed += 1
             if failed <= MOST_SHOWN:
-                place = f'{os.path.relpath(path, TOP)}:{number}'
                 print(f'{place}: status {got[0]} and {got[1][:200]!r}, not status {status} and {written[:200]!r}', file=sys.stderr)
-    print(f'cases: {passed} passed, {failed} failed')
-    return 1 if failed or not passed else 0
+    print(f'cases: {len(cases) - failed} passed, {failed} failed')
+    return 1 if failed or not cases else 0
 
 
 if __name__ == '__main__':

@@ -31,7 +31,8 @@ def clashes(below, part):
 
 
 def unsaid(below):
-    """Definitions and lemmas that have no sentence above them, made files apart; a lemma that its module keeps for itself needs none."""
+    """Definitions and lemmas that have no sentence above them, made files apart.  A lemma that its module keeps for itself needs none, nor one whose
+    statement is a definition's name alone, which has the sentence there."""
     for crate in below:
         for part in ('specs', 'proofs'):
             for path in antt.modules(crate, part):
@@ -39,7 +40,7 @@ def unsaid(below):
                     if antt.is_made(file.read()):
                         continue
                 for it in antt.definitions(path):
-                    if not it.sentence and (part == 'specs' or it.is_public):
+                    if not it.sentence and not it.is_named_law and (part == 'specs' or it.is_public):
                         yield f'{it.place}: {it.name} has no sentence above it'
 
 

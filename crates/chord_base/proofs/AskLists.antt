@@ -2,6 +2,7 @@
 use Rattle.std.proofs.Common.{◌≡◌, ℕ, ◌<◌, ◌≤◌, true, false, ◌==◌, List, [], ◌∷◌, ◌++◌, length, reverse, Option, Some, None, option_map, refl, sym, ap, ◌∙◌, subst, arith, inl, inr, append_assoc}
 use Rattle.std.proofs.lemmas.Bool.{eq-eqb, eqb-true, ne_eqb}
 use Rattle.std.proofs.lemmas.List.{reverse-append, map-append}
+use Rattle.chord_base.proofs.Merge.{IsSeen}
 use Rattle.chord_base.specs.declared.event.End.{End}
 use Rattle.chord_base.specs.declared.event.What.{What}
 use Rattle.chord_base.specs.declared.event.What.TheVariants.{Begun, Made, Sent, Called, Printed, Fired, Ended}
@@ -39,15 +40,8 @@ IsSaid p ws Absent = Unit {0}
 IsSaid p ws Unplaced = Unit {0}
 IsSaid p ws (Over x) = Unit {0}
 
--- the body has an entry
-abbrev pub HasEntry : Doing → Type 0
-HasEntry Absent = ⊥
-HasEntry Unplaced = Unit {0}
-HasEntry (Ready s d rs) = Unit {0}
-HasEntry (Waits s d rs q l) = Unit {0}
-HasEntry (Over x) = Unit {0}
-
-pub asks_entry : (p : Program) (d : Doing) (a : Asked) → asked p d ≡ Some a → HasEntry d
+-- a body that asks has an entry
+pub asks_entry : (p : Program) (d : Doing) (a : Asked) → asked p d ≡ Some a → IsSeen d
 asks_entry p (Ready s d rs) a e = tt
 asks_entry p Unplaced a e = tt
 asks_entry p (Waits s d rs q l) a e = tt
@@ -64,15 +58,15 @@ heard_absent (Called o j vs) c = refl
 heard_absent (Printed t) c = refl
 heard_absent (Fired k o ms vs) c = refl
 
-heard_entry : (w : What) (c : Option ℕ) (d : Doing) → HasEntry (heard w c d) → HasEntry d
+heard_entry : (w : What) (c : Option ℕ) (d : Doing) → IsSeen (heard w c d) → IsSeen d
 heard_entry w c (Ready s d rs) e = tt
 heard_entry w c Unplaced e = tt
 heard_entry w c (Waits s d rs q l) e = tt
 heard_entry w c (Over x) e = tt
-heard_entry w c Absent e = subst HasEntry (heard_absent w c) e
+heard_entry w c Absent e = subst IsSeen (heard_absent w c) e
 
 -- the body of the next entry has an earlier one, or is new
-pub body_below : (p : Program) (h : List Entry) (n b : ℕ) (w : What) → n ≡ length h → Comes p h n b w → ((c : ℕ) → HasEntry (doing p h c) → c < length h) → b ≤ length h
+pub body_below : (p : Program) (h : List Entry) (n b : ℕ) (w : What) → n ≡ length h → Comes p h n b w → ((c : ℕ) → IsSeen (doing p h c) → c < length h) → b ≤ length h
 body_below p h n b Begun e c f = omega (arith, c.1)
 body_below p h n b (Fired k o ms vs) e c f = omega (arith, c.0, e)
 body_below p h n b (Made k) e c f = (let l = f b (asks_entry p (doing p h b) _ c.1) in omega (arith, l))
@@ -82,7 +76,7 @@ body_below p h n b (Printed t) e c f = (let l = f b (asks_entry p (doing p h b) 
 body_below p h n b (Ended x) e c f = (let l = f b (asks_entry p (doing p h b) _ c.1) in omega (arith, l))
 
 -- in a run, bodies with an entry have smaller numbers than the next one
-pub entry_within : (p : Program) (h : List Entry) (b : ℕ) → IsPast p h → HasEntry (doing p h b) → b < length h
+pub entry_within : (p : Program) (h : List Entry) (b : ℕ) → IsPast p h → IsSeen (doing p h b) → b < length h
 entry_within p [] b r e = absurd e
 entry_within p (x ∷ h) b r e =
     elim (either (x.body == b)) [

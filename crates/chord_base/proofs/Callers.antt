@@ -12,7 +12,7 @@ use Rattle.chord_base.specs.Machine.{Comes, IsPast, MayFollow}
 use Rattle.chord_base.specs.Served.{HasEnded, IsServed}
 use Rattle.chord_base.specs.Story.{IsIn, IsSound}
 use Rattle.chord_base.specs.Laws.{OthersWait, ServedGoesOn, ServedOnce, ServedWaitsNoMore}
-use Rattle.chord_base.proofs.AskLists.{HasEntry, body_below, entry_within}
+use Rattle.chord_base.proofs.AskLists.{body_below, entry_within}
 use Rattle.chord_base.proofs.Calls.{number_within, serves_its_member}
 use Rattle.chord_base.proofs.Firings.{member_within, taken_once}
 use Rattle.chord_base.proofs.Local.{call_answered, waits_on_it}

@@ -25,6 +25,7 @@ kind_in p (x ∷ h) e s r i =
       | inr y ↦ kind_in p h e s r.0 y
     ]
 
+-- in a past each entry's number is below the number of entries
 pub number_within : (p : Program) (h : List Entry) (e : Entry) → IsPast p h → IsIn e h → e.number < length h
 number_within p [] e r i = absurd i
 number_within p (x ∷ h) e r i =

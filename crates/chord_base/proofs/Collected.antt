@@ -7,6 +7,7 @@ use Rattle.chord_base.specs.Story.{kept}
 pub use Rattle.chord_base.specs.Story.{IsIn, AreNumbered}
 use Rattle.chord_base.proofs.Waits.{either}
 
+-- in a past each entry has the number of its place
 pub past_numbered : (p : Program) (h : List Entry) → IsPast p h → AreNumbered h
 past_numbered p [] r = tt
 past_numbered p (e ∷ h) r = (r.1.numbered, past_numbered p h r.0)

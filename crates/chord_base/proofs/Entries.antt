@@ -26,5 +26,6 @@ serves_found p b (e ∷ h) = elim (either (e.number == b)) [ inl y ↦ rw y refl
 pub serves_by : (p : Program) (b : ℕ) (h : List Entry) (found : Option Entry) → found ≡ find (λ e. e.number == b) h → serves p b h ≡ option_and_then (λ e. served p e.what) found
 serves_by p b h found e = serves_found p b h ∙ ap (λ o. option_and_then (λ e. served p e.what) o) (sym e)
 
+-- the maker of an entry is the body of the entry of that number, where a search finds one
 pub maker_by : (n : ℕ) (h : List Entry) (found : Option Entry) → found ≡ find (λ e. e.number == n) h → maker n h ≡ option_map (λ e. e.body) found
 maker_by n h found e = maker_found n h ∙ ap (λ o. option_map (λ e. e.body) o) (sym e)

@@ -38,6 +38,7 @@ pub final_when : (p : Program) (h : List Entry) → IsPast p h → 0 < length h 
 final_when p h r s q f =
     record { past = r; nothing = λ e m. nothing_comes p h e.number e.body e.what s q f m.comes }
 
+-- a history that is not empty has an entry
 pub some_length : (h : List Entry) → (h ≡ [] → ⊥) → 0 < length h
 some_length [] n = absurd (n refl)
 some_length (e ∷ h) n = omega arith

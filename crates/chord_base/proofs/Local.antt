@@ -21,6 +21,7 @@ waits_for (Some c) Absent = false
 waits_for (Some c) Unplaced = false
 waits_for (Some c) (Over x) = false
 
+-- an end changes nothing of a body that does not wait for the call that it answers
 pub answered_same : (x : End) (c : Option ℕ) (d : Doing) → waits_for c d ≡ false → answered x c d ≡ d
 answered_same x None d n = refl
 answered_same x (Some c) (Waits s d rs q l) n = rw n
@@ -29,6 +30,7 @@ answered_same x (Some c) Absent n = refl
 answered_same x (Some c) Unplaced n = refl
 answered_same x (Some c) (Over y) n = refl
 
+-- an entry of another body changes nothing, unless it is an end and the body waits for the call that it answers
 pub heard_same : (w : What) (c : Option ℕ) (d : Doing) → (is_end w ≡ true → waits_for c d ≡ false) → heard w c d ≡ d
 heard_same (Ended x) c d n = answered_same x c d (n refl)
 heard_same Begun c d n = refl
@@ -76,6 +78,7 @@ others_change_nothing p e h b other unless =
 pub end_answers_caller : EndAnswersCaller
 end_answers_caller p e h b q d l x s rs other is serving waits = call_answered p e h b x s d rs q l (ne_eqb e.body b other) is waits serving
 
+-- where each call that a body waits for has a property, the one that it waits for has it
 pub waits_on_it : (P : ℕ → Type 0) (q : ℕ) (d : Doing) → WaitsOn P d → WaitsFor q d → P q
 waits_on_it P q (Waits s d rs c l) w e = subst P (sym e) w
 waits_on_it P q (Ready s d rs) w e = absurd e

@@ -141,6 +141,7 @@ module _ (p : Program) (keep : ℕ → Bool) (h : List Entry) (w : IsWhole p kee
   away_agrees : (e : Entry) (b : ℕ) → keep b ≡ true → keep e.body ≡ false → (is_end e.what ≡ true → (q : ℕ) → serves p e.body h ≡ Some q → keep q ≡ keep e.body) → Agrees (doing p (kept keep h) b) (heard e.what (serves p e.body h) (doing p h b))
   away_agrees e b y out ends = rw (heard_same e.what (serves p e.body h) (doing p h b) (λ is. not_waiting keep b e.body (serves p e.body h) (doing p h b) (doing_waits p keep h b w) y out (ends is))) (ih b y)
 
+-- what a place keeps whole of a body agrees with what the body does in the whole history
 pub agrees : (p : Program) (keep : ℕ → Bool) (h : List Entry) → IsWhole p keep h → (b : ℕ) → keep b ≡ true → Agrees (doing p (kept keep h) b) (doing p h b)
 agrees p keep [] w b y = refl
 agrees p keep (e ∷ h) w b y =
@@ -157,6 +158,7 @@ agrees p keep (e ∷ h) w b y =
 known_more : (n : ℕ) (e : Entry) (h : List Entry) → Known n h → Known n (e ∷ h)
 known_more n e h k = elim (either (e.number == n)) [ inl y ↦ (e.body, rw y refl) | inr o ↦ (k.0, rw o k.1) ]
 
+-- what is known of what is kept was kept
 pub known_kept : (keep : ℕ → Bool) (n : ℕ) (h : List Entry) → Known n (kept keep h) → keep n ≡ true
 known_kept keep n h k =
     elim (either (keep n)) [ inl y ↦ y | inr o ↦ (let c : ◌≡◌ {A = Option ℕ} None (Some k.0) = sym (kept_no_maker keep n h o) ∙ k.1 in cc) ]
@@ -169,6 +171,7 @@ IsPlaced (Ready s k rs) = Unit {0}
 IsPlaced (Waits s k rs q l) = Unit {0}
 IsPlaced (Over x) = Unit {0}
 
+-- the body has an entry
 abbrev pub IsSeen : Doing → Type 0
 IsSeen Absent = ⊥
 IsSeen Unplaced = Unit {0}
@@ -176,6 +179,7 @@ IsSeen (Ready s k rs) = Unit {0}
 IsSeen (Waits s k rs q l) = Unit {0}
 IsSeen (Over x) = Unit {0}
 
+-- a body that asks is placed
 pub asked_placed : (p : Program) (d : Doing) (a : Asked) → asked p d ≡ Some a → IsPlaced d
 asked_placed p (Ready s k rs) a e = tt
 asked_placed p (Waits s k rs q l) a e = tt
@@ -183,6 +187,7 @@ asked_placed p (Over x) a e = tt
 asked_placed p Absent a e = cc
 asked_placed p Unplaced a e = cc
 
+-- a placed body is seen
 pub placed_seen : (d : Doing) → IsPlaced d → IsSeen d
 placed_seen (Ready s k rs) e = tt
 placed_seen (Waits s k rs q l) e = tt
@@ -224,6 +229,7 @@ heard_placed (Called o j vs) c d s = s
 heard_placed (Printed t) c d s = s
 heard_placed (Fired k o ms vs) c d s = s
 
+-- what is told of a body is its first entry or its next ask
 pub first_or_next : (p : Program) (h : List Entry) (n b : ℕ) (w : What) → Tells p h n b w → (b ≡ n) ⊎ Asks p h b w
 first_or_next p h n b Begun t = inl t
 first_or_next p h n b (Fired k o ms vs) t = inl t
@@ -349,6 +355,7 @@ module _ (p : Program) (at : ℕ → ℕ) (e : Entry) (h : List Entry) (told : A
       (call_known p (kept (λ n. at n == at e.number) h) e.body q here_told.0 (asked_placed p (doing p (kept (λ n. at n == at e.number) h) e.body) _ a.1) c'))
       ∙ with_body
 
+-- each place that tells what it keeps keeps it whole
 pub whole_of_told : (p : Program) (at : ℕ → ℕ) (h : List Entry) → AreTold p at h → (c : ℕ) → IsWhole p (λ n. at n == c) h
 whole_of_told p at [] t c = tt
 whole_of_told p at (e ∷ h) t c = (

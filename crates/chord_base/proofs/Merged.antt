@@ -24,6 +24,7 @@ pub past_below : (p : Program) (h : List Entry) (n : ℕ) → IsPast p h → len
 past_below p [] n r l = tt
 past_below p (e ∷ h) n r l = let i = r.1.numbered in (omega (arith, i, l), past_below p h n r.0 (omega (arith, l)))
 
+-- the numbers of a past rise
 pub past_rises : (p : Program) (h : List Entry) → IsPast p h → IsRising h
 past_rises p [] r = tt
 past_rises p (e ∷ h) r = (past_below p h e.number r.0 (omega (arith, r.1.numbered)), past_rises p h r.0)
@@ -44,6 +45,7 @@ placed_at at n i m = if m == n then i else at m
 placed_old : (at : ℕ → ℕ) (n i m : ℕ) → m < n → placed_at at n i m ≡ at m
 placed_old at n i m l = rw (ne_eqb m n (λ e. omega (arith, e, l)))
 
+-- an entry that may follow and that one place may tell keeps the places merged, with the entry in that place
 pub merged_more : (p : Program) (view : ℕ → List Entry) (h : List Entry) (i : ℕ) (e : Entry) → IsMerged p view h → MayFollow p h e → Tells p (view i) e.number e.body e.what → IsMerged p (grown view i e) (e ∷ h)
 merged_more p view h i e m f t =
     let n = e.number in
@@ -75,6 +77,7 @@ merged_told p view h m j = rw (m.keeps j) (m.told j)
 pub merged_asks : (p : Program) (view : ℕ → List Entry) (h : List Entry) (i b : ℕ) (w : What) → IsMerged p view h → Asks p (view i) b w → Asks p h b w
 merged_asks p view h i b w m a = next_in_story p m.at h i b w (merged_told p view h m) (rw (m.keeps i) a)
 
+-- a place may tell a body's own next ask
 pub own_tells : (p : Program) (h : List Entry) (n b : ℕ) (w : What) → IsOwn w → Asks p h b w → Tells p h n b w
 own_tells p h n b Begun o a = absurd o
 own_tells p h n b (Fired k o' ms vs) o a = absurd o

@@ -37,6 +37,7 @@ taken_after e h n m no_message t s =
 pub pending_other : (e : Entry) (h : List Entry) (n : ℕ) → members_of e.what ≡ [] → (e.number == n) ≡ false → pending n (e ∷ h) ≡ pending n h
 pending_other e h n none o = rw (o, none)
 
+-- what is among some numbers is among one more
 pub has_more : (n i : ℕ) (ms : List ℕ) → has n ms ≡ true → has n (i ∷ ms) ≡ true
 has_more n i ms s = elim (either (n == i)) [ inl y ↦ rw y refl | inr o ↦ rw (o, s) refl ]
 

@@ -16,11 +16,13 @@ all_below_trans : (m n : ℕ) (h : List Entry) → m < n → AllBelow m h → Al
 all_below_trans m n [] l a = tt
 all_below_trans m n (e ∷ h) l a = (omega (arith, a.0), all_below_trans m n h l a.1)
 
+-- what is kept of a history below a number is below it
 pub kept_below : (n : ℕ) (keep : ℕ → Bool) (h : List Entry) → AllBelow n h → AllBelow n (kept keep h)
 kept_below n keep [] a = tt
 kept_below n keep (e ∷ h) a =
     elim (either (keep e.number)) [ inl y ↦ rw y (a.0, kept_below n keep h a.1) | inr o ↦ rw o (kept_below n keep h a.1) ]
 
+-- a number rises above a history that is below it
 pub below_rises : (n : ℕ) (h : List Entry) → AllBelow n h → Rises n h
 below_rises n [] a = tt
 below_rises n (e ∷ h) a = a.0
@@ -109,6 +111,7 @@ draw_told p at e h r t s c =
 pub draw_follows : (p : Program) (at : ℕ → ℕ) (h : List Entry) (c b : ℕ) (w : What) → AreTold p at h → Asks p (kept (λ n. at n == c) h) b w → (Asks p h b w → Comes p h (length h) b w) → MayFollow p h (record { number = length h; body = b; what = w })
 draw_follows p at h c b w t a f = record { numbered = refl; comes = f (next_in_story p at h c b w t a) }
 
+-- a number that is known in a history below another is below that
 pub known_under : (n q : ℕ) (h : List Entry) → AllBelow n h → Known q h → q < n
 known_under n q [] a k = (let z : ◌≡◌ {A = Option ℕ} None (Some k.0) = k.1 in cc)
 known_under n q (e ∷ h) a k =

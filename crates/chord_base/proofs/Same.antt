@@ -21,11 +21,13 @@ use Rattle.chord_base.specs.Listed.{equal_objects, equal_values, equal_traps, eq
 same_parts : (o q : Object) → o.number ≡ q.number → o.class ≡ q.class → o ≡ q
 same_parts o q n c = (λ k. record { number = n k; class = c k })
 
+-- whether two objects are equal is decided by their numbers and classes
 pub object_decided : (o q : Object) → Decides (equal_objects o q) (o ≡ q)
 object_decided o q =
     Decides-like (equal_objects o q) (λ (e : (o.number ≡ q.number) × (o.class ≡ q.class)). same_parts o q e.0 e.1) (λ (e : o ≡ q). (ap (λ (z : Object). z.number) e, ap (λ (z : Object). z.class) e))
     (Decides-and (o.number == q.number) (o.class == q.class) (Decides-eqb o.number q.number) (Decides-eqb o.class q.class))
 
+-- whether two values are equal is decided
 pub value_decided : (v w : value.Value) → Decides (equal_values v w) (v ≡ w)
 value_decided a_value.Unit a_value.Unit = (λ e. refl, λ e. refl)
 value_decided (a_value.Int m) (a_value.Int n) = Decides-like (int_eq m n) (λ e. ap a_value.Int e) (λ e. cc) (Decides-int_eq m n)
@@ -34,9 +36,11 @@ value_decided (a_value.Text s) (a_value.Text t) = Decides-like (pointwise nat_eq
 value_decided (a_value.Ref o) (a_value.Ref q) = Decides-like (equal_objects o q) (λ e. ap a_value.Ref e) (λ e. cc) (object_decided o q)
 value_decided _ _ = (λ e. cc, λ e. cc)
 
+-- whether two lists of values are equal is decided value by value
 pub values_decided : (vs ws : List value.Value) → Decides (pointwise equal_values vs ws) (vs ≡ ws)
 values_decided vs ws = slice_eq-Decides value_decided vs ws (pointwise equal_values vs ws) refl
 
+-- whether two traps are equal is decided
 pub trap_decided : (t u : Trap) → Decides (equal_traps t u) (t ≡ u)
 trap_decided DivideByZero DivideByZero = (λ e. refl, λ e. refl)
 trap_decided OutOfTurns OutOfTurns = (λ e. refl, λ e. refl)
@@ -44,14 +48,17 @@ trap_decided TooDeep TooDeep = (λ e. refl, λ e. refl)
 trap_decided TextTooLong TextTooLong = (λ e. refl, λ e. refl)
 trap_decided _ _ = (λ e. cc, λ e. cc)
 
+-- whether two ends are equal is decided
 pub end_decided : (x y : End) → Decides (equal_ends x y) (x ≡ y)
 end_decided (Gives v) (Gives w) = Decides-like (equal_values v w) (λ e. ap Gives e) (λ e. cc) (value_decided v w)
 end_decided (Traps t) (Traps u) = Decides-like (equal_traps t u) (λ e. ap Traps e) (λ e. cc) (trap_decided t u)
 end_decided _ _ = (λ e. cc, λ e. cc)
 
+-- whether two lists of ends are equal is decided end by end
 pub ends_decided : (xs ys : List End) → Decides (pointwise equal_ends xs ys) (xs ≡ ys)
 ends_decided xs ys = slice_eq-Decides end_decided xs ys (pointwise equal_ends xs ys) refl
 
+-- whether two starts of bodies are equal is decided
 pub start_decided : (s t : meaning.Start) → Decides (equal_starts s t) (s ≡ t)
 start_decided Main Main = (λ e. refl, λ e. refl)
 start_decided (Chord k o vs) (Chord l q ws) =

@@ -22,6 +22,7 @@ doing_at_or [] (suc b) = refl
 doing_at_or (x ∷ xs) zero = refl
 doing_at_or (x ∷ xs) (suc b) = doing_at_or xs b
 
+-- past the end of the table each body is absent
 pub absent_at_end : (bodies : List body.Body) (b : ℕ) → length bodies ≤ b → doing_at bodies b ≡ Absent
 absent_at_end [] zero l = refl
 absent_at_end [] (suc b) l = refl
@@ -56,6 +57,7 @@ changed_at f a (x ∷ xs) [] e b = cc
 changed_at f a (x ∷ xs) (y ∷ ys) e zero = cc
 changed_at f a (x ∷ xs) (y ∷ ys) e (suc b) = changed_at f a xs ys (cc) b
 
+-- tables that look the same have the same length
 pub same_length : (f : body.Body → Doing) (g : body.Body → Doing) (xs ys : List body.Body) → map f xs ≡ map g ys → length xs ≡ length ys
 same_length f g [] [] e = refl
 same_length f g [] (y ∷ ys) e = cc

@@ -10,6 +10,7 @@ use Rattle.chord_base.specs.Messages.{maker}
 use Rattle.chord_base.specs.Bodies.{Doing, Absent, Unplaced, Ready, Waits, Over, replied, waiting, served, placed, begun, begun_by, own, answered, heard, doing, serves}
 use Rattle.chord_base.specs.Machine.{IsPast}
 
+-- a Bool is true or false
 pub either : (b : Bool) → (b ≡ true) ⊎ (b ≡ false)
 either true = inl refl
 either false = inr refl
@@ -22,6 +23,7 @@ WaitsOn P Absent = Unit {0}
 WaitsOn P Unplaced = Unit {0}
 WaitsOn P (Over x) = Unit {0}
 
+-- a body that got an answer waits for nothing
 pub replied_waits : (P : ℕ → Type 0) (a : End) (d : Doing) → WaitsOn P (replied a d)
 replied_waits P a (Waits s k rs q l) = tt
 replied_waits P a (Ready s k rs) = tt
@@ -29,6 +31,7 @@ replied_waits P a Absent = tt
 replied_waits P a Unplaced = tt
 replied_waits P a (Over x) = tt
 
+-- a body that makes a call with a property waits for calls with it alone
 pub waiting_waits : (p : Program) (P : ℕ → Type 0) (n : ℕ) (d : Doing) → P n → WaitsOn P d → WaitsOn P (waiting p n d)
 waiting_waits p P n (Waits s k rs q l) e w = w
 waiting_waits p P n (Ready s k rs) e w = e
@@ -36,6 +39,7 @@ waiting_waits p P n Absent e w = tt
 waiting_waits p P n Unplaced e w = tt
 waiting_waits p P n (Over x) e w = tt
 
+-- after an end a body waits for no call for which it did not wait before
 pub answered_waits : (P : ℕ → Type 0) (x : End) (c : Option ℕ) (d : Doing) → WaitsOn P d → WaitsOn P (answered x c d)
 answered_waits P x None d w = w
 answered_waits P x (Some c) (Waits s k rs q l) w = elim (either (c == q)) [ inl y ↦ rw y tt | inr o ↦ rw o w ]
@@ -44,6 +48,7 @@ answered_waits P x (Some c) Absent w = tt
 answered_waits P x (Some c) Unplaced w = tt
 answered_waits P x (Some c) (Over y) w = tt
 
+-- after an entry of another body a body waits for no call for which it did not wait before
 pub heard_waits : (P : ℕ → Type 0) (w : What) (c : Option ℕ) (d : Doing) → WaitsOn P d → WaitsOn P (heard w c d)
 heard_waits P (Ended x) c d w = answered_waits P x c d w
 heard_waits P Begun c d w = w
@@ -53,6 +58,7 @@ heard_waits P (Called o j vs) c d w = w
 heard_waits P (Printed t) c d w = w
 heard_waits P (Fired k o ms vs) c d w = w
 
+-- a body that has just begun, one deeper than its caller, waits for nothing
 pub placed_waits : (P : ℕ → Type 0) (s : Start) (q : ℕ) (d : Doing) → WaitsOn P (placed s q d)
 placed_waits P s q (Waits s' k rs q' l) = elim (either (q == q')) [ inl y ↦ rw y tt | inr o ↦ rw o tt ]
 placed_waits P s q (Ready s' k rs) = tt
@@ -60,14 +66,17 @@ placed_waits P s q Absent = tt
 placed_waits P s q Unplaced = tt
 placed_waits P s q (Over x) = tt
 
+-- a body that has just begun to serve a call waits for nothing
 pub begun_by_waits : (P : ℕ → Type 0) (s : Start) (q : ℕ) (o : Option ℕ) (f : ℕ → Doing) → WaitsOn P (begun_by s q o f)
 begun_by_waits P s q None f = tt
 begun_by_waits P s q (Some b') f = placed_waits P s q (f b')
 
+-- a body that has just begun waits for nothing
 pub begun_waits : (P : ℕ → Type 0) (s : Start) (o : Option ℕ) (m : ℕ → Option ℕ) (f : ℕ → Doing) → WaitsOn P (begun s o m f)
 begun_waits P s None m f = tt
 begun_waits P s (Some q) m f = begun_by_waits P s q (m q) f
 
+-- after an entry of its own a body waits for that entry's number or for what it waited for before
 pub own_waits : (p : Program) (P : ℕ → Type 0) (n : ℕ) (w : What) (m : ℕ → Option ℕ) (f : ℕ → Doing) (d : Doing) → P n → WaitsOn P d → WaitsOn P (own p n w m f d)
 own_waits p P n Begun m f d e w = tt
 own_waits p P n (Fired k o ms vs) m f d e w = begun_waits P (Chord k o vs) (served p (Fired k o ms vs)) m f

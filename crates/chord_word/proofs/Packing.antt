@@ -20,6 +20,7 @@ state_low (Woken m) = omega arith
 state_low Ready = omega arith
 state_low Started = omega arith
 
+-- a packed cell is below 2 to the 36
 pub word_low : (w : Word) → WordFits w → word_of w < 2 ^ 36
 word_low w f = let s = state_low w.cell in let l = link_low w.cell w.next f.1 in let k = f.0 in omega arith
 
@@ -27,6 +28,7 @@ word_low w f = let s = state_low w.cell in let l = link_low w.cell w.next f.1 in
 parts : (s l k : ℕ) → s < 8 → l < 131072 → k < 65536 → let word : ℕ = s + 2 ^ 3 * l + 2 ^ 20 * k in (bits word 0 2 ≡ s) × (bits word 3 19 ≡ l) × (bits word 20 35 ≡ k) × (bits word 36 63 ≡ 0)
 parts s l k a b c = (omega arith, omega arith, omega arith, omega arith)
 
+-- a packed cell shows the cell
 pub shows_cell : (w : Word) → WordFits w → ShowsCell (word_of w) w
 shows_cell w f = let s = state_low w.cell in let l = link_low w.cell w.next f.1 in
     let p = parts (state_of w.cell) (link_of w.next) (waker_of w.cell) (omega arith) (omega arith) f.0 in
@@ -68,6 +70,7 @@ same_parts word v w p q =
     let next : v.next ≡ w.next = same_link v.next w.next (sym p.next ∙ q.next) in
     λ i. record { cell = cell i; next = next i }
 
+-- two cells that are packed to one word are equal
 pub same_word : (v w : Word) → WordFits v → WordFits w → word_of v ≡ word_of w → v ≡ w
 same_word v w f g e = same_parts (word_of w) v w (subst (λ (n : ℕ). ShowsCell n v) e (shows_cell v f)) (shows_cell w g)
 

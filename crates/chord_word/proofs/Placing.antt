@@ -4,6 +4,7 @@ use Rattle.chord_base.specs.declared.value.Object.{Object}
 use Rattle.chord_word.specs.Bits.{bits}
 use Rattle.chord_word.specs.Places.{PlaceFits, place_word, ShowsPlace, IsNoPlace}
 
+-- a packed place is below 2 to the 36
 pub place_low : (o : Object) (m : ℕ) → PlaceFits o m → place_word o m < 2 ^ 36
 place_low o m f = let a = f.0 in let b = f.1 in let c = f.2 in omega arith
 
@@ -11,6 +12,7 @@ place_low o m f = let a = f.0 in let b = f.1 in let c = f.2 in omega arith
 place_parts : (n c m : ℕ) → n < 2 ^ 20 → c < 2 ^ 10 → m < 2 ^ 5 → let word : ℕ = 1 + 2 ^ 1 * n + 2 ^ 21 * c + 2 ^ 31 * m in (bits word 0 0 ≡ 1) × (bits word 1 20 ≡ n) × (bits word 21 30 ≡ c) × (bits word 31 35 ≡ m) × (bits word 36 63 ≡ 0)
 place_parts n c m f g h = (omega arith, omega arith, omega arith, omega arith, omega arith)
 
+-- a packed place shows the object and the method
 pub shows_place : (o : Object) (m : ℕ) → PlaceFits o m → ShowsPlace (place_word o m) o m
 shows_place o m f = let p = place_parts o.number o.class m f.0 f.1 f.2 in record { placed = p.0; object_number = p.1; object_class = p.2; method_number = p.3; rest = p.4 }
 
@@ -21,6 +23,7 @@ same_place_parts word o p m k a b =
     let class : o.class ≡ p.class = sym a.object_class ∙ b.object_class in
     ((λ i. record { number = number i; class = class i }), sym a.method_number ∙ b.method_number)
 
+-- two places that are packed to one word are equal
 pub same_place : (o p : Object) (m k : ℕ) → PlaceFits o m → PlaceFits p k → place_word o m ≡ place_word p k → (o ≡ p) × (m ≡ k)
 same_place o p m k f g e = same_place_parts (place_word p k) o p m k (subst (λ (n : ℕ). ShowsPlace n o m) e (shows_place o m f)) (shows_place p k g)
 

@@ -1,0 +1,5 @@
+mod TypesShow
+pub mod Viewed
+mod Lasts
+mod ChainTypes
+mod Slots

@@ -1,0 +1,12 @@
+//! Resolved programs: bodies in which each name is a slot, a class or a method by its number, and the plan of each class.
+//! Stands on: chord_base (texts, operators, static types). Used by: chord_classes.
+//! Promise: specs/Resolved.antt is what a body and a plan in memory stand for (specs/View.antt), and specs/Types.antt says when a body keeps to its static types. `laws::types`: an expression that keeps to its types has the type that its outermost form shows.
+//! Not here: how a program is resolved (chord_classes), what a resolved body does when it runs.
+#![tactic(auto)]
+
+pub mod body;
+mod chain;
+pub mod expr;
+pub mod laws;
+pub mod plan;
+pub mod stmt;
