@@ -13,13 +13,16 @@ use crate::parts::{LineFault, after, read_number};
 use chord_base::event::Entry;
 use chord_base::journal::Journal;
 use std::alloc::{AllocFailed, Global};
+use thiserror::Error;
 
 /// Why bytes were not read as a journal.
-#[derive(Clone, Copy, Debug, PartialEq, Eq)]
+#[derive(Clone, Copy, Debug, PartialEq, Eq, Error)]
 pub enum JournalFault {
-    /// There was no memory for the journal.
+    /// The call ran out of memory.
+    #[error("out of memory")]
     Memory,
     /// The least line that is wrong, from 0 for the header.
+    #[error("line {0} is no line of a journal")]
     At(u32),
 }
 
@@ -37,7 +40,7 @@ impl<T: Drop> From<AllocFailed<T>> for JournalFault {
 ///
 /// `At` exactly where the bytes are no text of a journal, with the least line that is wrong: line 0 is no header,
 /// line i + 1 is missing or is not the line of an entry with number i, or a byte follows the last line.
-/// `Memory` where there was none.
+/// `Memory` where the call ran out of memory.
 pub fn read(alloc: Global, bytes: &[u8]) -> Result<Journal, JournalFault>
     // What is read has these bytes as its text.
     ensures found { IfOk result (λ journal. (bytes.now ≡ text_of journal) × AreTyped journal) }

@@ -21,7 +21,7 @@ use itoa::Buffer;
 ///
 /// # Errors
 ///
-/// `Failed` where the sink failed, which its count of faults shows. A front of the text was taken, and not the whole.
+/// `Failed` where the sink failed, which its count of faults shows. A proper prefix of the text was written.
 pub fn write_text<K: Sink>(journal: &Journal, sink: &mut K) -> Result<(), Failed>
     ensures whole { OnOk result (Took (K.taken sink.old) (text_of journal.now) (K.taken sink.new)) }
     ensures prefix { OnErr result (TookProperPrefix (K.taken sink.old) (text_of journal.now) (K.taken sink.new)) }

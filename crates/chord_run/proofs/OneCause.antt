@@ -42,6 +42,7 @@ not_syntax_and_tall source j k a b =
       | inr tall ↦ cc
     ]
 
+-- a source has at most one cause of a refusal
 pub one_cause : (source : List ℕ) (r s : Refusal) → IsCause source r → IsCause source s → r ≡ s
 one_cause source Long Long a b = refl
 one_cause source Long (Bad k) a b = not_long source (Bad k) a b.0
