@@ -24,16 +24,16 @@ use Rattle.chord_run.specs.declared.refusal.Refusal.TheVariants.{Long, Bad, Synt
 use Rattle.chord_run.specs.declared.report.Report.{Report}
 
 -- a program spells the tokens of a source, so none of them fits no program
-pub not_syntax :
+pub syntax_not_grammatical :
     (source : List ℕ) (tokens : List Token) (k : ℕ) → IsAnsweredBy source (parser.At k) → IsGrammatical source tokens → ⊥
-not_syntax source tokens k a g =
+syntax_not_grammatical source tokens k a g =
     let same = one_list source a.tokens tokens a.read g.read in
     not_wrong (told a.tokens) g.program a.answer.0 g.is_program (rw same g.spelled) a.answer.2
 
 -- nor is one of them too deep
-pub not_tall :
+pub tall_not_grammatical :
     (source : List ℕ) (tokens : List Token) (k : ℕ) → IsAnsweredBy source (parser.Tall k) → IsGrammatical source tokens → ⊥
-not_tall source tokens k a g =
+tall_not_grammatical source tokens k a g =
     let same = one_list source a.tokens tokens a.read g.read in
     never_tall (told a.tokens) g.program a.answer.0 g.is_program g.low (rw same g.spelled) a.answer.2
 
@@ -41,8 +41,8 @@ not_tall source tokens k a g =
 pub cause_refuses : (source : List ℕ) (refusal : Refusal) → IsCause source refusal → IsAccepted source → ⊥
 cause_refuses source Long long a = let s = a.1.grammatical.short in omega arith
 cause_refuses source (Bad k) bad a = not_both source a.1.tokens k a.1.grammatical.read bad.1
-cause_refuses source (Syntax k) c a = not_syntax source a.1.tokens k c a.1.grammatical
-cause_refuses source (Tall k) c a = not_tall source a.1.tokens k c a.1.grammatical
+cause_refuses source (Syntax k) c a = syntax_not_grammatical source a.1.tokens k c a.1.grammatical
+cause_refuses source (Tall k) c a = tall_not_grammatical source a.1.tokens k c a.1.grammatical
 cause_refuses source Unbuilt other a =
     let same = one_list source other.tokens a.1.tokens other.grammatical.read a.1.grammatical.read in
     other.other a.0 (rw same a.1.small)
