@@ -28,6 +28,7 @@ line_after-append xs b = rw (sum_by-append (λ ends. if ends then 1 else 0) xs (
 pub column_after-ended : (xs : List Bool) → column_after (xs ++ true ∷ []) ≡ 1
 column_after-ended xs = rw reverse-append refl
 
+-- it goes on where none did
 pub column_after-goes_on : (xs : List Bool) → column_after (xs ++ false ∷ []) ≡ column_after xs + 1
 column_after-goes_on xs = rw reverse-append (add_comm 1 (column_after xs))
 

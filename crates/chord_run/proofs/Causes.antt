@@ -24,16 +24,16 @@ use Rattle.chord_run.specs.declared.refusal.Refusal.TheVariants.{Long, Bad, Synt
 use Rattle.chord_run.specs.declared.report.Report.{Report}
 
 -- a program spells the tokens of a source, so none of them fits no program
-pub not_syntax :
+pub syntax_not_grammatical :
     (source : List ℕ) (tokens : List Token) (k : ℕ) → IsAnsweredBy source (parser.At k) → IsGrammatical source tokens → ⊥
-not_syntax source tokens k a g =
+syntax_not_grammatical source tokens k a g =
     let same = one_list source a.tokens tokens a.read g.read in
     not_wrong (told a.tokens) g.program a.answer.0 g.is_program (rw same g.spelled) a.answer.2
 
 -- nor is one of them too deep
-pub not_tall :
+pub tall_not_grammatical :
     (source : List ℕ) (tokens : List Token) (k : ℕ) → IsAnsweredBy source (parser.Tall k) → IsGrammatical source tokens → ⊥
-not_tall source tokens k a g =
+tall_not_grammatical source tokens k a g =
     let same = one_list source a.tokens tokens a.read g.read in
     never_tall (told a.tokens) g.program a.answer.0 g.is_program g.low (rw same g.spelled) a.answer.2
 
@@ -41,8 +41,8 @@ not_tall source tokens k a g =
 pub cause_refuses : (source : List ℕ) (refusal : Refusal) → IsCause source refusal → IsAccepted source → ⊥
 cause_refuses source Long long a = let s = a.1.grammatical.short in omega arith
 cause_refuses source (Bad k) bad a = not_both source a.1.tokens k a.1.grammatical.read bad.1
-cause_refuses source (Syntax k) c a = not_syntax source a.1.tokens k c a.1.grammatical
-cause_refuses source (Tall k) c a = not_tall source a.1.tokens k c a.1.grammatical
+cause_refuses source (Syntax k) c a = syntax_not_grammatical source a.1.tokens k c a.1.grammatical
+cause_refuses source (Tall k) c a = tall_not_grammatical source a.1.tokens k c a.1.grammatical
 cause_refuses source Unbuilt other a =
     let same = one_list source other.tokens a.1.tokens other.grammatical.read a.1.grammatical.read in
     other.other a.0 (rw same a.1.small)
@@ -202,50 +202,56 @@ finishes_with arguments left report before after status no0 no1 no5 no6 a e = (a
 
 -- 6
 pub fills : (arguments : List (List ℕ)) (left : Option (List ℕ)) (report : Report) (before after : Option (List ℕ)) → Answers arguments left report before after → report.status ≡ 6 → Requested arguments (λ request. Fills request left report before after)
-fills arguments left report before after a e = (a.request, a.requested, elim a.answered.written [
-  | inl w ↦ elim (due_cases a.request a.source report.journal report.refusal a.answered.due a.answered.is_due) [
-    | inl p ↦ elim p.2.has_status [
-      | inl complete ↦ absurd (status_not_six p.0 (sym complete.status_is ∙ sym w.0 ∙ e))
-      | inr full ↦ record {
-        source = a.source;
-        given = a.given;
-        program = p.2.program;
-        machine = p.2.machine;
-        journal = p.0;
-        reported = p.1;
-        full = full.0;
-        written = rw p.2.text at w.1;
-      }
-    ]
-    | inr (inl q) ↦ (let x : 6 ≡ 1 = sym e ∙ w.0 ∙ q.2.status_is in absurd (omega arith))
-    | inr (inr t) ↦ (let x : 6 ≡ 0 = sym e ∙ w.0 ∙ t.2.status_is in absurd (omega arith))
-  ]
-  | inr w ↦ (let x : 6 ≡ 5 = sym e ∙ w.0 in absurd (omega arith))
-])
+fills arguments left report before after a e = filled (λ x. omega (arith, x)) (λ x. omega (arith, x)) (λ x. omega (arith, x))
+  where
+    filled : (◌≡◌ {A = ℕ} 6 1 → ⊥) → (◌≡◌ {A = ℕ} 6 0 → ⊥) → (◌≡◌ {A = ℕ} 6 5 → ⊥) → Requested arguments (λ request. Fills request left report before after)
+    filled no1 no0 no5 = (a.request, a.requested, elim a.answered.written [
+      | inl w ↦ elim (due_cases a.request a.source report.journal report.refusal a.answered.due a.answered.is_due) [
+        | inl p ↦ elim p.2.has_status [
+          | inl complete ↦ absurd (status_not_six p.0 (sym complete.status_is ∙ sym w.0 ∙ e))
+          | inr full ↦ record {
+            source = a.source;
+            given = a.given;
+            program = p.2.program;
+            machine = p.2.machine;
+            journal = p.0;
+            reported = p.1;
+            full = full.0;
+            written = rw p.2.text at w.1;
+          }
+        ]
+        | inr (inl q) ↦ absurd (no1 (sym e ∙ w.0 ∙ q.2.status_is))
+        | inr (inr t) ↦ absurd (no0 (sym e ∙ w.0 ∙ t.2.status_is))
+      ]
+      | inr w ↦ absurd (no5 (sym e ∙ w.0))
+    ])
 
 -- 1
 pub refuses : (arguments : List (List ℕ)) (left : Option (List ℕ)) (report : Report) (before after : Option (List ℕ)) → Answers arguments left report before after → report.status ≡ 1 → Requested arguments (λ request. Refuses request left report before after)
-refuses arguments left report before after a e = (a.request, a.requested, elim a.answered.written [
-  | inl w ↦ elim (due_cases a.request a.source report.journal report.refusal a.answered.due a.answered.is_due) [
-    | inl p ↦ elim p.2.has_status [
-      | inl complete ↦ absurd (status_not_one p.0 (sym complete.status_is ∙ sym w.0 ∙ e))
-      | inr full ↦ (let x : 1 ≡ 6 = sym e ∙ w.0 ∙ full.1 in absurd (omega arith))
-    ]
-    | inr (inl q) ↦ record {
-      source = a.source;
-      given = a.given;
-      refusal = q.0;
-      reported = q.1;
-      cause = q.2.cause;
-      not_accepted = cause_refuses a.source q.0 q.2.cause;
-      line = a.answered.due.text;
-      is_line = q.2.text;
-      written = w.1;
-    }
-    | inr (inr t) ↦ (let x : 1 ≡ 0 = sym e ∙ w.0 ∙ t.2.status_is in absurd (omega arith))
-  ]
-  | inr w ↦ (let x : 1 ≡ 5 = sym e ∙ w.0 in absurd (omega arith))
-])
+refuses arguments left report before after a e = refused (λ x. omega (arith, x)) (λ x. omega (arith, x)) (λ x. omega (arith, x))
+  where
+    refused : (◌≡◌ {A = ℕ} 1 6 → ⊥) → (◌≡◌ {A = ℕ} 1 0 → ⊥) → (◌≡◌ {A = ℕ} 1 5 → ⊥) → Requested arguments (λ request. Refuses request left report before after)
+    refused no6 no0 no5 = (a.request, a.requested, elim a.answered.written [
+      | inl w ↦ elim (due_cases a.request a.source report.journal report.refusal a.answered.due a.answered.is_due) [
+        | inl p ↦ elim p.2.has_status [
+          | inl complete ↦ absurd (status_not_one p.0 (sym complete.status_is ∙ sym w.0 ∙ e))
+          | inr full ↦ absurd (no6 (sym e ∙ w.0 ∙ full.1))
+        ]
+        | inr (inl q) ↦ record {
+          source = a.source;
+          given = a.given;
+          refusal = q.0;
+          reported = q.1;
+          cause = q.2.cause;
+          not_accepted = cause_refuses a.source q.0 q.2.cause;
+          line = a.answered.due.text;
+          is_line = q.2.text;
+          written = w.1;
+        }
+        | inr (inr t) ↦ absurd (no0 (sym e ∙ w.0 ∙ t.2.status_is))
+      ]
+      | inr w ↦ absurd (no5 (sym e ∙ w.0))
+    ])
 
 -- 5
 pub cuts_short : (arguments : List (List ℕ)) (left : Option (List ℕ)) (report : Report) (before after : Option (List ℕ)) → Answers arguments left report before after → report.status ≡ 5 → Requested arguments (λ request. CutsShort request left report before after)

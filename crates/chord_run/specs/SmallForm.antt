@@ -13,9 +13,9 @@ use Rattle.chord_run.specs.declared.small.Role.TheVariants.{Buffer, Get, Put, Pa
 use Rattle.chord_run.specs.declared.small.Piece.{Piece}
 use Rattle.chord_run.specs.declared.small.Piece.TheVariants.{Word, Mark, Name}
 
--- the kinds of these tokens
-abbrev pub token_kinds : List Token → List Kind
-token_kinds tokens = map (λ t. t.kind) tokens
+-- the kinds of these tokens, as a map over them
+abbrev pub mapped_kinds : List Token → List Kind
+mapped_kinds tokens = map (λ t. t.kind) tokens
 
 -- the name of a role
 abbrev pub name_of : Chosen → Role → List ℕ
