@@ -1,7 +1,7 @@
 //! Comments.
 #![tactic(auto)]
 
-ghost use Rattle.std.specs.Prelude.{◌≡◌, ◌↔◌, IsTrue, ◌<◌, ◌≤◌, ◌+◌, length, take, drop, IfSome, IfNone};
+ghost use Rattle.std.specs.Prelude.{◌≡◌, ◌↔◌, IsTrue, ◌<◌, ◌≤◌, ◌+◌, length, IfSome, IfNone};
 ghost use Rattle.chord_lexer.specs.Comments.{IsUnclosed};
 ghost use Rattle.chord_lexer.specs.Pieces.{IsNone};
 ghost use Rattle.chord_lexer.specs.Scanning.{lead_of, Begins, IsClosedAt, IsExtent, IsUndelimited};

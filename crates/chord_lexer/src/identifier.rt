@@ -1,7 +1,7 @@
 //! Identifiers: reserved words and names.
 #![tactic(auto)]
 
-ghost use Rattle.std.specs.Prelude.{◌≡◌, ◌<◌, ◌≤◌, length, map, IfOk, IfErr};
+ghost use Rattle.std.specs.Prelude.{◌≡◌, ◌<◌, length, map, IfOk, IfErr};
 ghost use Rattle.chord_lexer.specs.Identifiers.{find_reserved, keyword_of};
 ghost use Rattle.chord_lexer.specs.Scanning.{lead_of, reserved_with, Begins, IsStop};
 ghost use Rattle.chord_lexer.specs.declared.scan.Lead.TheVariants as leads;

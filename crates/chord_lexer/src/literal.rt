@@ -1,7 +1,7 @@
 //! Text literals.
 #![tactic(auto)]
 
-ghost use Rattle.std.specs.Prelude.{◌≡◌, ◌<◌, ◌≤◌, ◌∷◌, length, slice_index, take, drop, IfSome, IfNone, IfOk, IfErr};
+ghost use Rattle.std.specs.Prelude.{◌≡◌, ◌<◌, length, slice_index, IfSome, IfNone, IfOk, IfErr};
 ghost use Rattle.chord_lexer.specs.Literals.{is_plain, escaped};
 ghost use Rattle.chord_lexer.specs.Scanning.{lead_of, Begins, IsStop, Bytewise, IsBody, IsQuoted, IsUnquoted};
 ghost use Rattle.chord_lexer.specs.declared.scan.Lead.TheVariants as leads;

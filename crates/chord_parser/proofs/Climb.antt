@@ -1,6 +1,6 @@
 -- Precedence climbing: levels without an operator end, and the chain of the next operator's level goes on with the operand before it.
-use Rattle.std.proofs.Common.{◌≡◌, ℕ, zero, suc, ◌-◌, ◌<◌, ◌≤◌, ◌≢◌, List, [], ◌∷◌, ◌++◌, map, refl, sym, ap, subst, ◌∙◌, arith, inl, inr, lit<, lit≤, cond, true, length}
-use Rattle.std.specs.Prelude.{nat_lt, Some}
+use Rattle.std.proofs.Common.{◌≡◌, ℕ, zero, suc, ◌-◌, ◌<◌, ◌≤◌, ◌≢◌, List, [], ◌∷◌, ◌++◌, map, refl, sym, ap, subst, ◌∙◌, arith, inl, inr, lit<, lit≤, cond, length}
+use Rattle.std.specs.Prelude.{Some}
 use Rattle.std.proofs.lemmas.Bool.{lt-ltb}
 use Rattle.std.proofs.lemmas.Bool.Decides.{leb_tells}
 use Rattle.chord_lexer.specs.declared.token.Kind.{Kind}
@@ -17,12 +17,12 @@ use Rattle.chord_tree.specs.Node.{Node, End, ◌▸◌, Leaf, Made, size}
 use Rattle.chord_tree.specs.ExprNodes.{operator_level, link_level, level_symbol, level_tail, precedence, lifted, alone, bare, node_at, node_links}
 use Rattle.chord_tree.specs.Tree.{ExprTree, LinkTree, LinkTrees, ChainExpr, MakeLink, MoreLinks, links}
 use Rattle.chord_tree.specs.ViewExprs.{see_link}
-use Rattle.chord_parser.specs.Runs.{Reads, Onward}
+use Rattle.chord_parser.specs.Runs.{Reads}
 use Rattle.chord_parser.specs.Samples.{sample}
 use Rattle.chord_parser.specs.Reading.{StopsAs, Continues, IsOther, operator_at, operator_terminal, one_link, before_links}
 use Rattle.chord_parser.specs.Climbing.{NoneUpTo, Chains, IsLinkRead, Climbed}
 use Rattle.chord_parser.proofs.Reading.{step, ends, measured}
-use Rattle.chord_parser.proofs.Chains.{stops, as_node, then, renamed, lifted_same, joined_node, level_begun, no_link, links_all, links_push, level_told, told_size}
+use Rattle.chord_parser.proofs.Chains.{stops, as_node, renamed, lifted_same, joined_node, level_begun, no_link, links_all, links_push, level_told, told_size}
 
 -- one operator has a terminal
 sample_operator : (o : Operator) → operator_at (sample (operator_terminal o)) ≡ Some o

@@ -1,9 +1,9 @@
 //! The parser of classes and programs. No node here counts for the depth, and all lists are loops.
 #![tactic(auto)]
 
-ghost use Rattle.std.specs.Prelude.{◌≡◌, ◌≢◌, ◌∷◌, [], length, map, IfOk, IfErr, Option};
+ghost use Rattle.std.specs.Prelude.{◌≡◌, [], map, IfOk, IfErr, Option};
 ghost use Rattle.chord_tree.specs.Derivation.{next};
-ghost use Rattle.chord_tree.specs.ClassNodes.{node_modifiers, node_type, node_formal, node_formal_list, node_formals, node_result, node_header, node_headers, node_member, node_members, node_public, node_base, node_class, node_classes, node_name_parts, node_using, node_usings, node_all_classes};
+ghost use Rattle.chord_tree.specs.ClassNodes.{node_modifiers, node_type, node_formal, node_formal_list, node_formals, node_result, node_header, node_member, node_members, node_public, node_base, node_class, node_name_parts, node_using, node_usings, node_all_classes};
 ghost use Rattle.chord_tree.specs.Symbol.{number_of};
 ghost use Rattle.chord_tree.specs.Program.{token_kinds};
 ghost use Rattle.chord_tree.specs.Symbols as grammar;

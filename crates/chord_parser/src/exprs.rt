@@ -1,7 +1,7 @@
 //! The parser of expressions. It looks one token ahead.
 #![tactic(auto)]
 
-ghost use Rattle.std.specs.Prelude.{◌≡◌, ◌≢◌, ◌<◌, ◌≤◌, ◌-◌, ◌∷◌, [], length, map, suc, zero, IfOk, IfErr, IfSome, IfNone};
+ghost use Rattle.std.specs.Prelude.{◌≡◌, ◌≢◌, ◌<◌, ◌≤◌, ◌-◌, map, IfOk, IfErr, IfSome, IfNone};
 ghost use Rattle.chord_tree.specs.Derivation.{next};
 ghost use Rattle.chord_tree.specs.Symbol.{number_of};
 ghost use Rattle.chord_tree.specs.Program.{token_kinds};

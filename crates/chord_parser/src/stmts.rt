@@ -1,7 +1,7 @@
 //! The parser of statements and blocks. It looks one token ahead.
 #![tactic(auto)]
 
-ghost use Rattle.std.specs.Prelude.{◌≡◌, ◌≢◌, ◌<◌, ◌≤◌, ◌-◌, ◌∷◌, [], length, map, IfOk, IfErr, IfSome, IfNone};
+ghost use Rattle.std.specs.Prelude.{◌≡◌, ◌<◌, ◌≤◌, ◌-◌, map, IfOk, IfErr};
 ghost use Rattle.chord_tree.specs.Derivation.{next};
 ghost use Rattle.chord_tree.specs.StmtNodes.{node_tail, node_other, node_stmt, node_block, node_items, node_item, basic_keyword};
 ghost use Rattle.chord_tree.specs.Symbol.{number_of};

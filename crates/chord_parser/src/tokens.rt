@@ -5,7 +5,6 @@ ghost use Rattle.std.specs.Prelude.{◌≡◌, ◌<◌, ◌≤◌, ◌-◌, leng
 ghost use Rattle.chord_lexer.specs.declared.token.Kind.TheVariants as kinds;
 ghost use Rattle.chord_tree.specs.Terminals.{terminal_of, keyword_symbol, mark_symbol};
 ghost use Rattle.chord_tree.specs.Derivation.{next, includes};
-ghost use Rattle.chord_tree.specs.Grammar.{terminal_count};
 ghost use Rattle.chord_tree.specs.Node.{Leaf, unnumbered};
 ghost use Rattle.chord_tree.specs.Symbol.{Terminal, number_of};
 ghost use Rattle.chord_tree.specs.Program.{token_kinds};

@@ -1,5 +1,5 @@
 -- Lists of calls and of links that grow at the end, as a pass takes them: the term of what was read so far is the receiver, or the left operand, of what comes next.
-use Rattle.std.proofs.Common.{◌≡◌, ℕ, suc, ◌+◌, List, [], ◌∷◌, ◌++◌, length, refl, sym, ap, ◌∙◌, arith, append_assoc, false}
+use Rattle.std.proofs.Common.{◌≡◌, ℕ, ◌+◌, List, [], ◌∷◌, ◌++◌, length, refl, sym, ap, ◌∙◌, arith, append_assoc, false}
 use Rattle.chord_tree.specs.Tree.{ItemTree, MemberTree, ClassTree, LinkTree, DotTree, MakeLink, MakeDot, MakeActuals, links, dots}
 use Rattle.chord_tree.specs.Terms.{Term, Terms, OperationTerm, CallTerm, term_after, operated, called, terms}
 use Rattle.chord_tree.specs.Walk.{Role, Used, Receiver, over_term, over_terms, over_class, over_classes}

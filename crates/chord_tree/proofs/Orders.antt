@@ -1,12 +1,12 @@
 -- The numbers in a program say where its tokens stand.
-use Rattle.std.proofs.Common.{◌≡◌, ℕ, ◌+◌, ◌<◌, ◌≤◌, Bool, true, false, List, [], ◌∷◌, length, cond, refl, subst, sym, arith}
+use Rattle.std.proofs.Common.{ℕ, ◌+◌, ◌<◌, ◌≤◌, true, false, List, [], ◌∷◌, length, cond, arith}
 use Rattle.chord_lexer.specs.declared.token.Kind.{Kind}
 use Rattle.chord_tree.specs.Terminals.{terminal_of}
 use Rattle.chord_tree.specs.Derivation.{includes}
 use Rattle.chord_tree.specs.Node.{Node, Nodes, End, ◌▸◌, Leaf, Made, size, size_all, unnumbered, number_at, IsNumbered, AllNumbered}
 use Rattle.chord_tree.specs.Tree.{UsingTree, ClassTree, ProgramTree}
 use Rattle.chord_tree.specs.ClassNodes.{node_class, node_classes, node_usings, node_program, node_all_classes}
-use Rattle.chord_tree.specs.Program.{spelling, IsProgram}
+use Rattle.chord_tree.specs.Program.{spelling}
 use Rattle.chord_tree.specs.Positions.{AreInOrder, IsBelow, AreBelow}
 use Rattle.chord_tree.proofs.Counts.{class_end, spelled_count}
 

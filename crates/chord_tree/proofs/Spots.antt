@@ -4,7 +4,7 @@ use Rattle.std.specs.Prelude.{flat_map}
 use Rattle.std.proofs.lemmas.Grind.{flat_map-append}
 use Rattle.chord_tree.specs.Tree.{StmtTree, BlockTree, ItemTrees, ItemTree, AssignStmt, CallStmt, MethodCallStmt, ThisCallStmt, NewStmt, BlockStmt, EmptyStmt, IfStmt, IfElseStmt, WhileStmt, ReturnStmt, ReturnValueStmt, MakeBlock, NoItems, MoreItems, LocalItem, StmtItem, MemberTree, ClassTree, ProgramTree}
 use Rattle.chord_tree.specs.Terms.{Term, Terms, VariableTerm, ThisTerm, NumberTerm, LiteralTerm, BoolTerm, GroupTerm, MinusTerm, NotTerm, OperationTerm, NewTerm, OwnCallTerm, CallTerm, NoTerms, MoreTerms, term, stands_as}
-use Rattle.chord_tree.specs.Walk.{Role, Used, Alone, Receiver, over_term, over_terms, over_stmt, over_block, over_items, over_member, over_class, over_classes, over_program, body_of, Spot, spot_of_term, spot_of_item, spot_of_member, spots, at_spot}
+use Rattle.chord_tree.specs.Walk.{Role, Used, Alone, Receiver, over_term, over_terms, over_stmt, over_block, over_items, over_member, over_classes, over_program, body_of, Spot, spot_of_term, spot_of_item, spot_of_member, spots, at_spot}
 
 -- two parts of a list, each what f gives of a part of another
 pub beside : {X Y : Type 0} (f : X → List Y) (a b : List Y) (s t : List X) → a ≡ flat_map f s → b ≡ flat_map f t → a ++ b ≡ flat_map f (s ++ t)

@@ -8,7 +8,7 @@ use Rattle.chord_lexer.specs.declared.token.Token.{Token}
 use Rattle.chord_tree.specs.Symbol.{Symbol}
 use Rattle.chord_tree.specs.Derivation.{Spelled, kinds_of}
 use Rattle.chord_tree.specs.Node.{Node, Nodes, End, ◌▸◌, Leaf, Made, spell, spell_all}
-use Rattle.chord_tree.specs.Tree.{ExprTree, LinkTrees, LinkTree, DotTrees, DotTree, MoreDots, MakeDot, NoLinks, MoreLinks, MakeLink, links, ChainExpr}
+use Rattle.chord_tree.specs.Tree.{ExprTree, LinkTrees, LinkTree, DotTrees, DotTree, MoreDots, MakeDot, NoLinks, MoreLinks, MakeLink, ChainExpr}
 use Rattle.chord_tree.specs.ExprNodes.{mark_leaf, operator_level, mark_of, bare, lifted, alone, precedence, node_links, node_dots, node_dot, node_expr}
 use Rattle.chord_tree.specs.declared.exprs.Link.{Link, out-Link}
 use Rattle.chord_tree.specs.ViewExprs.{see_expr, see_link}

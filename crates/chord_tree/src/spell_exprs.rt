@@ -1,7 +1,7 @@
 //! The tokens that an expression spells.
 #![tactic(auto)]
 
-ghost use Rattle.std.specs.Prelude.{◌≡◌, map, OnOk};
+ghost use Rattle.std.specs.Prelude.{map, OnOk};
 ghost use Rattle.chord_tree.specs.Program.{Adds};
 ghost use Rattle.chord_tree.specs.ExprNodes.{bare, node_links, node_start, node_actuals, node_dot, node_dots, node_exprs};
 ghost use Rattle.chord_tree.specs.Tree.{links, dots, exprs, MoreLinks, NoLinks};

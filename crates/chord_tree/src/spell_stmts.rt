@@ -1,7 +1,7 @@
 //! The tokens that a statement spells.
 #![tactic(auto)]
 
-ghost use Rattle.std.specs.Prelude.{◌≡◌, map, OnOk};
+ghost use Rattle.std.specs.Prelude.{map, OnOk};
 ghost use Rattle.chord_tree.specs.StmtNodes.{node_block, node_items, node_stmt, node_item, node_local};
 ghost use Rattle.chord_tree.specs.ClassNodes.{node_type};
 ghost use Rattle.chord_tree.specs.Program.{Adds, node_test};

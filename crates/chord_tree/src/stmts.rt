@@ -1,7 +1,7 @@
 //! Statements, blocks and their items.
 #![tactic(auto)]
 
-ghost use Rattle.std.specs.Prelude.{◌≡◌, IfOk, map};
+ghost use Rattle.std.specs.Prelude.{◌≡◌, map};
 ghost use Rattle.chord_tree.specs.Tree.{dots, items, AssignStmt, CallStmt, MethodCallStmt, ThisCallStmt, NewStmt, BlockStmt, EmptyStmt, IfStmt, IfElseStmt, WhileStmt, ReturnStmt, ReturnValueStmt, MakeBlock, LocalItem, StmtItem};
 ghost use Rattle.chord_tree.specs.ViewExprs.{see_expr, see_actuals, see_dot};
 ghost use Rattle.chord_tree.specs.ViewStmts.{see_item, see_stmt, see_block};
