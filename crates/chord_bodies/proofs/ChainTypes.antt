@@ -1,5 +1,5 @@
 -- A chain has the type of what its last operator or its last call gives.
-use Rattle.std.proofs.Common.{◌≡◌, ℕ, List, [], ◌∷◌, refl, sym, ap, ◌∙◌, Option, Some, None, slice_get, map, length, ◌-◌}
+use Rattle.std.proofs.Common.{◌≡◌, List, [], ◌∷◌, refl, ap, ◌∙◌, Some, map}
 use Rattle.std.specs.Prelude.{Vec, Box}
 use Rattle.std.specs.Global.{Global}
 use Rattle.chord_bodies.specs.declared.expr.Expr.{Expr}
@@ -8,7 +8,6 @@ use Rattle.chord_bodies.specs.declared.expr.Call.{Call}
 use Rattle.chord_bodies.specs.declared.expr.Expr.TheVariants as expr
 use Rattle.chord_bodies.specs.declared.expr.BinaryOperator.{BinaryOperator}
 use Rattle.chord_bodies.specs.declared.expr.BinaryOperator.TheVariants.{And, Or, By}
-use Rattle.chord_base.specs.declared.static_type.StaticType.{StaticType}
 use Rattle.chord_bodies.specs.Resolved.{ExprOf, BodyOf}
 use Rattle.chord_bodies.specs.Resolved as to
 use Rattle.chord_bodies.specs.View.{LinkOf, CallOf, binary, links_on, calls_on, view_expr, view_link, view_call}

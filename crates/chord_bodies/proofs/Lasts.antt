@@ -1,5 +1,5 @@
 -- The last operator and the last call of a chain, by the place of the last element.
-use Rattle.std.proofs.Common.{◌≡◌, ℕ, suc, ◌-◌, List, [], ◌∷◌, length, map, refl, sym, ap, ◌∙◌, subst, Option, Some, None, slice_get, arith}
+use Rattle.std.proofs.Common.{◌≡◌, suc, ◌-◌, List, [], ◌∷◌, length, map, refl, sym, ap, ◌∙◌, Option, Some, None, slice_get, arith}
 use Rattle.chord_bodies.specs.declared.expr.BinaryOperator.{BinaryOperator}
 use Rattle.chord_bodies.specs.declared.expr.Link.{Link}
 use Rattle.chord_bodies.specs.declared.expr.Call.{Call}

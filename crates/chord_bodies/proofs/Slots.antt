@@ -1,5 +1,5 @@
 -- The type of a slot is that of a parameter or of a local.
-use Rattle.std.proofs.Common.{◌≡◌, ℕ, zero, suc, ◌+◌, ◌-◌, ◌<◌, ◌≤◌, List, [], ◌∷◌, ◌++◌, length, map, refl, sym, ap, ◌∙◌, Option, Some, None, slice_get, arith}
+use Rattle.std.proofs.Common.{◌≡◌, ℕ, zero, suc, ◌-◌, ◌<◌, ◌≤◌, List, [], ◌∷◌, ◌++◌, length, map, refl, ap, ◌∙◌, Option, Some, slice_get, arith}
 use Rattle.chord_base.specs.declared.static_type.StaticType.{StaticType}
 use Rattle.chord_bodies.specs.Types.{typed_slot}
 

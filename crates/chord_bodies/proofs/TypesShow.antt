@@ -1,12 +1,12 @@
 -- An expression that has a type shows it by its outermost form.
-use Rattle.std.proofs.Common.{◌≡◌, refl, sym, ap, ◌∙◌, Option, Some, None}
+use Rattle.std.proofs.Common.{◌≡◌, sym, ap, ◌∙◌, Some}
 use Rattle.chord_base.specs.declared.operation.Operation.{Operation}
 use Rattle.chord_base.specs.declared.operation.Operation.TheVariants.{Add, Subtract, Multiply, Divide, Remainder, Join, Equal, NotEqual, Less, Greater, LessOrEqual, GreaterOrEqual}
 use Rattle.chord_base.specs.declared.static_type.StaticType.{StaticType}
 use Rattle.chord_base.specs.declared.static_type.StaticType.TheVariants as ty
-use Rattle.chord_bodies.specs.Resolved.{ExprOf, BodyOf, IntOf, FlagOf, TextOf, Load, This, Negate, Deny, Operate, Both, Either, New, Call}
-use Rattle.chord_bodies.specs.Types.{Signatures, Scope, ExprIs, operated, operation_type, type_of}
-use Rattle.chord_bodies.specs.Laws.{IsScopeOf, TypesShown}
+use Rattle.chord_bodies.specs.Resolved.{IntOf, FlagOf, TextOf, Load, This, Negate, Deny, Operate, Both, Either, New, Call}
+use Rattle.chord_bodies.specs.Types.{Signatures, operated, operation_type}
+use Rattle.chord_bodies.specs.Laws.{TypesShown}
 
 -- where operands fit an operator, what it gives depends on the operator alone
 operated_type : (sig : Signatures) (op : Operation) (a b c : StaticType) → operated sig op a b ≡ Some c → operation_type op ≡ c

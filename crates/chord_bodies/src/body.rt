@@ -5,8 +5,8 @@ ghost use Rattle.std.specs.Prelude.{◌+◌, ◌<◌, ◌^◌, vec_len};
 
 use crate::chain::{last_operator, last_result, operator_type, type_at};
 use crate::expr::Expr;
-use chord_base::static_type::StaticType;
 use crate::stmt::Stmt;
+use chord_base::static_type::StaticType;
 
 /// The body of a member: the class of its text, the types of its slots, and the type of its value, if one is due.
 ///
@@ -76,9 +76,20 @@ impl Body {
             Expr::This => self.this_type(),
             Expr::Negate(_) => Some(StaticType::Int),
             Expr::Deny(_) => Some(StaticType::Bool),
-            Expr::Chain { first: _, link, more } => Some(operator_type(last_operator(link, more))),
-            Expr::New { class, arguments: _ } => Some(StaticType::Class(*class)),
-            Expr::Calls { first: _, call, more } => last_result(call, more),
+            Expr::Chain {
+                first: _,
+                link,
+                more,
+            } => Some(operator_type(last_operator(link, more))),
+            Expr::New {
+                class,
+                arguments: _,
+            } => Some(StaticType::Class(*class)),
+            Expr::Calls {
+                first: _,
+                call,
+                more,
+            } => last_result(call, more),
         }
     }
 }

@@ -1,9 +1,9 @@
 //! Resolved expressions. Chains of operators and of calls are lists that are never empty; brackets are gone.
 #![tactic(auto)]
 
-use chord_base::text::Text;
 use chord_base::operation::Operation;
 use chord_base::static_type::StaticType;
+use chord_base::text::Text;
 
 /// An operator with two operands. `&&` and `||` look at their right operand only where needed, all others at both.
 #[derive(Clone, Copy, Debug, PartialEq, Eq)]

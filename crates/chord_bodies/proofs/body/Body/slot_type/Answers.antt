@@ -1,4 +1,4 @@
-use Rattle.std.proofs.Common.{◌≡◌, ◌<◌, ◌≤◌, ◌-◌, length, refl, sym, ap, ◌∙◌, slice_get, arith}
+use Rattle.std.proofs.Common.{◌≡◌, length, sym, ap, ◌∙◌, arith}
 use Rattle.chord_bodies.specs.Types.{this_in}
 use Rattle.chord_bodies.proofs.Slots.{parameter_slot, local_slot}
 use Rattle.chord_bodies.proofs.body.Body.slot_type.Goals as goal

@@ -1,4 +1,4 @@
-use Rattle.std.proofs.Common.{◌≡◌, refl, sym, ap, ◌∙◌, Option, Some}
+use Rattle.std.proofs.Common.{refl, ap, ◌∙◌, Some}
 use Rattle.chord_base.specs.declared.static_type.StaticType.{StaticType}
 use Rattle.chord_bodies.specs.BodyView.{view_body}
 use Rattle.chord_bodies.proofs.ChainTypes.{chain_type, chain_result}

@@ -1,0 +1,26 @@
+mod Every
+pub mod Facts
+mod Breaks
+pub mod Leasts
+mod LeastBreak
+mod Free
+mod Terms
+mod Scopes
+mod Stmts
+mod Returns
+mod Declared
+mod Bodies
+pub mod Kept
+pub mod Inherits
+pub mod Headers
+pub mod Planned
+pub mod Heads
+pub mod Limits
+pub mod Mains
+pub mod Whole
+pub mod Plans
+mod NamePlaces
+mod NamedMethods
+mod TableLookups
+mod Search
+mod Adding

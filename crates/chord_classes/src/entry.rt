@@ -1,0 +1,16 @@
+//! A class of the table.
+#![tactic(auto)]
+
+use crate::method::Builder;
+use crate::methods::Methods;
+use chord_tree::classes::Class;
+
+/// A class: its base, how many methods it inherits, the methods that are new in it, and its constructor.
+#[derive(Drop)]
+pub struct Entry<'a> {
+    pub class: &'a Class,
+    pub base: Option<u32>,
+    pub first: usize,
+    pub own: Methods<'a>,
+    pub builder: Option<Builder<'a>>,
+}
