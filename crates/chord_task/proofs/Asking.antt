@@ -24,7 +24,7 @@ use Rattle.chord_task.specs.declared.body.Next.TheVariants as N
 use Rattle.chord_task.specs.declared.body.Body.{Body}
 use Rattle.chord_task.specs.declared.task.Task.{Task}
 use Rattle.chord_task.specs.Stacks.{IsTask, IsNext, CanAsk, AsksNothing, TopWaitsFor}
-use Rattle.chord_task.specs.Standing.{body_number, view_of, NextIs, IsUp, IsParked, IsTop, AreParked, IsTaskOf, IsRunnable, GivenBy, AskedBy, AskedBody, given_of, given_by, goes, body_goes, is_ready_of, waits_on, body_waits, waits_of, HasGiven}
+use Rattle.chord_task.specs.Standing.{body_number, view_of, NextIs, IsUp, IsParked, IsTop, AreParked, IsTaskOf, IsRunnable, GivenBy, AskedBy, AskedBody, given_of, given_by, may_go, body_may_go, is_ready_of, waits_on, body_waits, waits_of, HasGiven}
 use Rattle.chord_task.proofs.Standing.{gave_next, ends_next}
 use Rattle.chord_task.proofs.Notes.{stack_view, gave_up, ends_up}
 use Rattle.chord_task.proofs.Tasks.{stack_at, task_at}
@@ -35,6 +35,7 @@ some_did limits (Asking a w) s = (a, w, refl)
 some_did limits (Goes m) s = cc
 some_did limits Bad s = cc
 
+-- a body that may make its next entry has a next ask
 pub up_defined : (code : Parts) (limits : Limits) (h : List Entry) (b : Body) (u : IsUp code limits h b) → ((c : ℕ) → StaysDefinedAt (code_program code limits) (doing (code_program code limits) h c)) → IsSome (asked_of code limits (stands code limits u.start u.depth u.answers))
 up_defined code limits h b u d = subst (λ (x : Doing). StaysDefinedAt (code_program code limits) x) u.is (d b.number)
 
@@ -48,7 +49,7 @@ may_run code limits t b k top ready = (
       let d : IsSome (asked_at limits (comes_to code (machine_of b.frames))) = subst (λ z. IsSome (asked_of code limits z)) i (up_defined code limits (view_of t).past b u k.is_defined) in
       let f = some_did limits (comes_to code (machine_of b.frames)) d in
       record { ask = f.0; waiting = f.1; comes = found_comes code (machine_of b.frames) f.0 f.1 f.2 },
-  λ q e. let z : false ≡ true = sym (ap body_goes top ∙ ap goes e) ∙ ready in cc,
+  λ q e. let z : false ≡ true = sym (ap body_may_go top ∙ ap may_go e) ∙ ready in cc,
 )
 
 up_again : (code : Parts) (limits : Limits) (h : List Entry) (b b' : Body) (n : Next) (u : IsUp code limits h b) → b'.number ≡ b.number → b'.next ≡ n → NextIs code limits n b'.frames (stands code limits u.start u.depth u.answers) → IsUp code limits h b'
@@ -152,24 +153,26 @@ parked_waits code limits t b q top k =
     record { body = b.number; on_top = ap body_number top; start = k.start; depth = k.depth; answers = k.answers; place = limits.depth - b.frames.top.room; is = k.is }
 
 -- the body on top is up, or it is parked
-top_is : (code : Parts) (limits : Limits) (h : List Entry) (b : Body) (n : Next) → b.next ≡ n → IsTop code limits h n b → (IsUp code limits h b × (goes n ≡ true)) ⊎ ((q : ℕ) × IsParked code limits h b q × (n ≡ N.Waits q))
+top_is : (code : Parts) (limits : Limits) (h : List Entry) (b : Body) (n : Next) → b.next ≡ n → IsTop code limits h n b → (IsUp code limits h b × (may_go n ≡ true)) ⊎ ((q : ℕ) × IsParked code limits h b q × (n ≡ N.Waits q))
 top_is code limits h b N.Runs e u = inl (u, refl)
 top_is code limits h b (N.Gave w) e u = inl (u, refl)
 top_is code limits h b (N.Ends x y) e u = inl (u, refl)
 top_is code limits h b (N.Fails t) e u = inl (u, refl)
 top_is code limits h b (N.Waits q) e k = inr (q, k, refl)
 
+-- a task that may go on has a next ask
 pub ready_can : (code : Parts) (limits : Limits) (t : Task) → IsTaskOf code limits t → is_ready_of t ≡ true → CanAsk (code_program code limits) (view_of t)
 ready_can code limits t k r = by_top t.top refl
   where
     by_top : (o : Option Body) → t.top ≡ o → CanAsk (code_program code limits) (view_of t)
-    by_top None e = (let z : false ≡ true = sym (ap body_goes e) ∙ r in cc)
+    by_top None e = (let z : false ≡ true = sym (ap body_may_go e) ∙ r in cc)
     by_top (Some b) e =
         elim (top_is code limits (view_of t).past b b.next refl (stack_at code limits t b k e).0) [
           | inl u ↦ up_can code limits t b k e u.0
-          | inr w ↦ (let z : false ≡ true = sym (ap body_goes e ∙ ap goes w.2) ∙ r in cc)
+          | inr w ↦ (let z : false ≡ true = sym (ap body_may_go e ∙ ap may_go w.2) ∙ r in cc)
         ]
 
+-- a task that may not go on asks nothing
 pub not_ready_nothing : (code : Parts) (limits : Limits) (t : Task) → IsTaskOf code limits t → is_ready_of t ≡ false → AsksNothing (code_program code limits) (view_of t)
 not_ready_nothing code limits t k r = by_top t.top refl
   where
@@ -178,17 +181,18 @@ not_ready_nothing code limits t k r = by_top t.top refl
     by_top (Some b) e =
         λ c i.
         elim (top_is code limits (view_of t).past b b.next refl (stack_at code limits t b k e).0) [
-          | inl u ↦ (let z : true ≡ false = sym (ap body_goes e ∙ u.1) ∙ r in cc)
+          | inl u ↦ (let z : true ≡ false = sym (ap body_may_go e ∙ u.1) ∙ r in cc)
           | inr w ↦
               (let y : Some b.number ≡ Some c = sym (ap body_number e) ∙ i in
               let j : b.number ≡ c = cc in
               ap (λ m. asks_of (code_program code limits) (doing (code_program code limits) (view_of t).past m)) (sym j) ∙ ap (asks_of (code_program code limits)) w.1.is)
         ]
 
+-- a task that says that it waits does
 pub waits_yes : (code : Parts) (limits : Limits) (t : Task) (q : ℕ) → IsTaskOf code limits t → waits_of q t ≡ true → TopWaitsFor (code_program code limits) (view_of t) q
 waits_yes code limits t q k r = by_top t.top refl
   where
-    goes_waits : (n : Next) (q : ℕ) → goes n ≡ true → waits_on q n ≡ true → ⊥
+    goes_waits : (n : Next) (q : ℕ) → may_go n ≡ true → waits_on q n ≡ true → ⊥
     goes_waits N.Runs q g w = (let z : false ≡ true = w in cc)
     goes_waits (N.Gave x) q g w = (let z : false ≡ true = w in cc)
     goes_waits (N.Ends x y) q g w = (let z : false ≡ true = w in cc)
@@ -205,6 +209,7 @@ waits_yes code limits t q k r = by_top t.top refl
               subst (λ m. TopWaitsFor (code_program code limits) (view_of t) m) (eqb-true w.0 q z) (parked_waits code limits t b w.0 e w.1))
         ]
 
+-- a task that says that it does not wait does not
 pub waits_no : (code : Parts) (limits : Limits) (t : Task) (q : ℕ) → IsTaskOf code limits t → waits_of q t ≡ false → TopWaitsFor (code_program code limits) (view_of t) q → ⊥
 waits_no code limits t q k r w = by_top t.top refl
   where

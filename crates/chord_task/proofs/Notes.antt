@@ -29,6 +29,7 @@ use Rattle.chord_task.specs.Standing.{IsUp, IsParked, IsTop, AreParked, IsBodySt
 use Rattle.chord_task.proofs.Stacks.{task_note, task_end}
 use Rattle.chord_task.proofs.Standing.{entry, gave_by, gave_next, ends_next, up_more, parks, called_back, all_parked, up_under, parked_maker}
 
+-- a stack of this past, with this body on top
 abbrev pub stack_view : List Entry → Option ℕ → TaskView
 stack_view h top = record { past = h; top = top }
 
@@ -44,9 +45,11 @@ up_top code limits h b (N.Ends x y) e f t = subst (λ n. IsTop code limits h n b
 up_top code limits h b (N.Fails x) e f t = subst (λ n. IsTop code limits h n b) e t
 up_top code limits h b (N.Waits q) e f t = absurd (f q refl)
 
+-- a body that gave an ask may make its next entry
 pub gave_up : (code : Parts) (limits : Limits) (h : List Entry) (b : Body) (w : What) → b.next ≡ N.Gave w → IsTop code limits h b.next b → IsUp code limits h b
 gave_up code limits h b w e t = subst (λ n. IsTop code limits h n b) e t
 
+-- a body that gave its end may make its next entry
 pub ends_up : (code : Parts) (limits : Limits) (h : List Entry) (b : Body) (x y : End) → b.next ≡ N.Ends x y → IsTop code limits h b.next b → IsUp code limits h b
 ends_up code limits h b x y e t = subst (λ n. IsTop code limits h n b) e t
 

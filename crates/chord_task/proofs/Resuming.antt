@@ -30,7 +30,7 @@ use Rattle.chord_task.specs.Stacks.{IsTask, TopWaitsFor, FitsCall}
 use Rattle.chord_vm.specs.Frames.{laid}
 use Rattle.chord_task.specs.declared.args.Args.{Args}
 use Rattle.chord_task.specs.Arguments.{MayBeList, firsts, seconds, AreTwice}
-use Rattle.chord_task.specs.Standing.{body_number, view_of, NextIs, IsUp, IsParked, IsTop, AreParked, IsBodyStack, HasRoomFor, IsTaskOf, MayResume, room_of, goes, body_goes, is_ready_of, IsRoomier, IsRoomierTop}
+use Rattle.chord_task.specs.Standing.{body_number, view_of, NextIs, IsUp, IsParked, IsTop, AreParked, IsBodyStack, HasRoomFor, IsTaskOf, MayResume, room_of, may_go, body_may_go, is_ready_of, IsRoomier, IsRoomierTop}
 use Rattle.chord_task.proofs.Stacks.{task_resume, task_spare, begun_ready}
 use Rattle.chord_task.proofs.Standing.{entry, parked_more, all_parked, parked_under}
 use Rattle.chord_task.proofs.Notes.{stack_view}
@@ -41,6 +41,7 @@ abbrev pub with_top : Option Body → List Body → List Body
 with_top None bs = bs
 with_top (Some b) bs = b ∷ bs
 
+-- what is known of a body that a firing begins
 pub record Beginning (code : Parts) (limits : Limits) (h : List Entry) (top : Option Body) (bs : List Body) (n k : ℕ) (o : Object) (ms : List ℕ) (vs : List Value) : Type 0 where
   pub depth : ℕ
   pub ready : doing (code_program code limits) (entry n n (Fired k o ms vs) ∷ h) n ≡ Ready (Chord k o vs) depth []
@@ -123,6 +124,7 @@ begins_by : (code : Parts) (limits : Limits) (t : Task) (n k : ℕ) (o : Object)
 begins_by code limits t n k o ms vs None s f task may = begins_spare code limits t n k o ms vs t.top refl s f task may task.stack
 begins_by code limits t n k o ms vs (Some q) s f task may = begins_called code limits t n k o ms vs q t.top refl s f task may task.stack
 
+-- what a firing that fits a task begins
 pub beginning : (code : Parts) (limits : Limits) (t : Task) (n k : ℕ) (o : Object) (ms : List ℕ) (vs : List Value) → IsTaskOf code limits t → MayResume code limits t n k o ms vs → Beginning code limits (view_of t).past t.top (reverse t.below.items) n k o ms vs
 beginning code limits t n k o ms vs task may = begins_by code limits t n k o ms vs (served (code_program code limits) (Fired k o ms vs)) refl may.may task may
 
@@ -141,6 +143,7 @@ opens_in code limits k o vs d (Some line) e s = by_start (body_in_block code lin
     by_start None i z = cc
     by_start (Some m) i z = record { line = line; found = e; machine = m; starts = i }
 
+-- the line of the chord and the machine that begins, for a firing that fits a task
 pub opening : (code : Parts) (limits : Limits) (t : Task) (n k : ℕ) (o : Object) (ms : List ℕ) (vs : List Value) → IsTaskOf code limits t → MayResume code limits t n k o ms vs → Opening code limits k o vs (room_of limits t.top)
 opening code limits t n k o ms vs task may =
     let b = beginning code limits t n k o ms vs task may in
@@ -158,6 +161,7 @@ begun_up code limits h top bs n k o ms vs f line b l s =
       next = ap (λ x. point_of (start_line code limits o vs b.depth x)) l ∙ ap (λ r. point_of (body_in_block code line.block r (a_value.Ref o ∷ vs) limits.turns)) b.room ∙ ap point_of s;
     }
 
+-- the task with the new body on top
 pub task_resumed : (code : Parts) (limits : Limits) (t : Task) (past : Vec Entry Global) (below : Vec Body Global) (n k : ℕ) (o : Object) (ms : List ℕ) (vs : List Value) (f : Frames) (line : ChordLine) → IsTaskOf code limits t → MayResume code limits t n k o ms vs → slice_get (chord_lines code o.class) k ≡ Some line → body_in_block code line.block (room_of limits t.top) (a_value.Ref o ∷ vs) limits.turns ≡ Some (machine_of f) → past.items ≡ t.past.items ++ entry n n (Fired k o ms vs) ∷ [] → reverse below.items ≡ with_top t.top (reverse t.below.items) → IsTaskOf code limits (record { past = past; top = Some (record { number = n; frames = f; next = N.Runs }); below = below; spare = None; values = None; limits = t.limits })
 task_resumed code limits t past below n k o ms vs f line task may l s items bodies =
     let p = code_program code limits in
@@ -215,23 +219,24 @@ up_roomier code limits h b b' r u =
       next = subst (λ z. NextIs code limits z b'.frames (stands code limits u.start u.depth u.answers)) (sym r.1) (next_roomier code limits b.next b.frames b'.frames _ r.2 r.3 u.next);
     }
 
-top_roomier : (code : Parts) (limits : Limits) (h : List Entry) (b b' : Body) (n : Next) → goes n ≡ true → IsRoomier b b' → IsTop code limits h n b → IsTop code limits h n b'
+top_roomier : (code : Parts) (limits : Limits) (h : List Entry) (b b' : Body) (n : Next) → may_go n ≡ true → IsRoomier b b' → IsTop code limits h n b → IsTop code limits h n b'
 top_roomier code limits h b b' N.Runs g r u = up_roomier code limits h b b' r u
 top_roomier code limits h b b' (N.Gave w) g r u = up_roomier code limits h b b' r u
 top_roomier code limits h b b' (N.Ends x y) g r u = up_roomier code limits h b b' r u
 top_roomier code limits h b b' (N.Fails t) g r u = up_roomier code limits h b b' r u
 top_roomier code limits h b b' (N.Waits q) g r u = (let z : false ≡ true = g in cc)
 
-waits_goes : (n : Next) (q : ℕ) → n ≡ N.Waits q → goes n ≡ true → ⊥
-waits_goes n q e g = (let z : false ≡ true = sym (ap goes e) ∙ g in cc)
+waits_goes : (n : Next) (q : ℕ) → n ≡ N.Waits q → may_go n ≡ true → ⊥
+waits_goes n q e g = (let z : false ≡ true = sym (ap may_go e) ∙ g in cc)
 
+-- the task with more room
 pub task_roomier : (code : Parts) (limits : Limits) (t : Task) (past : Vec Entry Global) (below : Vec Body Global) (top top' : Option Body) (spare : Option Frames) (values : Option (Vec Value Global)) → t.top ≡ top → IsTaskOf code limits t → is_ready_of t ≡ true → past.items ≡ t.past.items → below.items ≡ t.below.items → IsRoomierTop top top' → HasRoomFor code t.limits spare → MayBeList values → IsTaskOf code limits (record { past = past; top = top'; below = below; spare = spare; values = values; limits = t.limits })
-task_roomier code limits t past below None top' spare values i k g p q r s v = (let z : false ≡ true = sym (ap body_goes i) ∙ g in cc)
+task_roomier code limits t past below None top' spare values i k g p q r s v = (let z : false ≡ true = sym (ap body_may_go i) ∙ g in cc)
 task_roomier code limits t past below (Some b) None spare values i k g p q r s v = absurd r
 task_roomier code limits t past below (Some b) (Some b') spare values i k g p q r s v =
     let m = code_program code limits in
     let h = (view_of t).past in
-    let up : goes b.next ≡ true = sym (ap body_goes i) ∙ g in
+    let up : may_go b.next ≡ true = sym (ap body_may_go i) ∙ g in
     let same : reverse past.items ≡ h = ap reverse p in
     let st = stack_at code limits t b k i in
     let top : IsTop code limits h b'.next b' = subst (λ z. IsTop code limits h z b') (sym r.1) (top_roomier code limits h b b' b.next up r st.0) in

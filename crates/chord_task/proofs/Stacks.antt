@@ -18,6 +18,7 @@ use Rattle.chord_base.proofs.Places.{below_rises, told_waits}
 use Rattle.chord_base.proofs.Merged.{own_tells}
 use Rattle.chord_task.specs.Stacks.{TaskView, IsTask, IsNext, TopWaitsFor}
 
+-- a stack after one more entry, with this body on top
 abbrev pub after : TaskView → ℕ → ℕ → What → Option ℕ → TaskView
 after t n b w top = record { past = record { number = n; body = b; what = w } ∷ t.past; top = top }
 

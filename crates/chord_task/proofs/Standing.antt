@@ -33,6 +33,7 @@ use Rattle.chord_task.specs.Stacks.{IsNext}
 use Rattle.chord_task.specs.Standing.{GaveAt, NextIs, IsUp, IsParked, AreParked, CalledBack, answer_of}
 use Rattle.chord_task.proofs.Stacks.{caller_ready}
 
+-- an entry of this number and body
 abbrev pub entry : ℕ → ℕ → What → Entry
 entry n b w = record { number = n; body = b; what = w }
 
@@ -46,9 +47,11 @@ gave_at code limits (Sent o j vs) f p x = (tt, refl, x)
 gave_at code limits (Called o j vs) f p x = (tt, refl, x)
 gave_at code limits (Printed t) f p x = (tt, refl, x)
 
+-- what is known of an ask that a body gave
 pub gave_by : (code : Parts) (limits : Limits) (h : List Entry) (b : Body) (w : What) (u : IsUp code limits h b) → b.next ≡ N.Gave w → IsOwn w × (is_end w ≡ false) × GaveAt code w b.frames (stands code limits u.start u.depth u.answers)
 gave_by code limits h b w u e = gave_at code limits w b.frames _ (subst (λ n. NextIs code limits n b.frames (stands code limits u.start u.depth u.answers)) e u.next)
 
+-- the next ask of a point whose ask was given
 pub gave_asks : (code : Parts) (limits : Limits) (w : What) (f : Frames) (p : Point) → GaveAt code w f p → asked_of code limits p ≡ Some (record { what = w; depth = place w (limits.depth - f.top.room) })
 gave_asks code limits w f p g = ap (asked_of code limits) g.1 ∙ ap (asked_at limits) g.2
 
@@ -63,9 +66,11 @@ gave_next code limits h b w u e =
       asks = (place w (limits.depth - b.frames.top.room), ap (asked (code_program code limits)) u.is ∙ gave_asks code limits w b.frames (stands code limits u.start u.depth u.answers) g.2);
     }
 
+-- what is known of an end that a body gave
 pub ends_by : (code : Parts) (limits : Limits) (h : List Entry) (b : Body) (e e' : End) (u : IsUp code limits h b) → b.next ≡ N.Ends e e' → (l : ℕ) × (asked_of code limits (stands code limits u.start u.depth u.answers) ≡ Some (record { what = Ended e; depth = l })) × (e' ≡ e)
 ends_by code limits h b e e' u i = subst (λ n. NextIs code limits n b.frames (stands code limits u.start u.depth u.answers)) i u.next
 
+-- the end that a body gave is its next ask
 abbrev pub ends_next : (code : Parts) (limits : Limits) (h : List Entry) (b : Body) (e e' : End) → IsUp code limits h b → b.next ≡ N.Ends e e' → IsNext (code_program code limits) (record { past = h; top = Some b.number }) (Ended e)
 ends_next code limits h b e e' u i =
     let g = ends_by code limits h b e e' u i in
@@ -75,6 +80,7 @@ ends_next code limits h b e e' u i =
 pub stands_more : (code : Parts) (limits : Limits) (s : Start) (d : ℕ) (rs : List End) (r : End) → stands code limits s d (rs ++ r ∷ []) ≡ point_replied code (stands code limits s d rs) r
 stands_more code limits s d rs r = points_more code (point_of (begins code limits s d)) rs r
 
+-- where a body stands once the ask that it gave is answered
 pub replied_at : (code : Parts) (w : What) (f : Frames) (p : Point) (r : End) → GaveAt code w f p → point_replied code p r ≡ reply (waiting_of f) r
 replied_at code w f p r g = ap (λ z. point_replied code z r) g.1 ∙ ap (λ z. reply_to z r) g.2
 
@@ -95,6 +101,7 @@ own_ready code limits h b n w v u a =
     let s : doing p (entry n b.number w ∷ h) b.number ≡ own p n w (λ q. maker q h) (doing p h) (doing p h b.number) = rw i refl in
     s ∙ own_answered p n w (λ q. maker q h) (doing p h) (doing p h b.number) v a ∙ ap (and_then (Gives v)) u.is
 
+-- a body whose ask became an entry that answers it may make its next entry
 pub up_more : (code : Parts) (limits : Limits) (h : List Entry) (b b' : Body) (n : ℕ) (w : What) (v : Value) (u : IsUp code limits h b) → b.next ≡ N.Gave w → answer_of n w ≡ Some v → b'.number ≡ b.number → b'.next ≡ N.Runs → with_answer (machine_of b.frames) b.frames.awaited v ≡ Some (machine_of b'.frames) → IsUp code limits (entry n b.number w ∷ h) b'
 up_more code limits h b b' n w v u e a i r f =
     let g = gave_by code limits h b w u e in
@@ -116,8 +123,8 @@ some_none None s e = cc
 some_none (Some x) s e = cc
 
 -- where the trace stays defined, the machine takes the answer
-pub answer_fits : (code : Parts) (limits : Limits) (h : List Entry) (b : Body) (n : ℕ) (w : What) (v : Value) (u : IsUp code limits h b) → b.next ≡ N.Gave w → answer_of n w ≡ Some v → IsDefined (code_program code limits) (doing (code_program code limits) (entry n b.number w ∷ h) b.number) → with_answer (machine_of b.frames) b.frames.awaited v ≡ None → ⊥
-answer_fits code limits h b n w v u e a d none =
+pub noted_answer_fits : (code : Parts) (limits : Limits) (h : List Entry) (b : Body) (n : ℕ) (w : What) (v : Value) (u : IsUp code limits h b) → b.next ≡ N.Gave w → answer_of n w ≡ Some v → IsDefined (code_program code limits) (doing (code_program code limits) (entry n b.number w ∷ h) b.number) → with_answer (machine_of b.frames) b.frames.awaited v ≡ None → ⊥
+noted_answer_fits code limits h b n w v u e a d none =
     let g = gave_by code limits h b w u e in
     let s = subst (λ (x : Doing). IsDefined (code_program code limits) x) (own_ready code limits h b n w v u a) d in
     some_none (asked_of code limits (stands code limits u.start u.depth (u.answers ++ Gives v ∷ []))) s
@@ -213,9 +220,11 @@ waits_seen s d rs q l x e = subst (λ (y : Doing). IsSeen y) (sym e) tt
 pub seen_under : (p : Program) (n b : ℕ) (h : List Entry) → IsTold p h → AllBelow n h → IsSeen (doing p h b) → b < n
 seen_under p n b h t a s = known_under n b h a (body_known p h b t s)
 
+-- a body that may make its next entry is older than a new number
 pub up_under : (code : Parts) (limits : Limits) (n : ℕ) (h : List Entry) (b : Body) → IsTold (code_program code limits) h → AllBelow n h → IsUp code limits h b → b.number < n
 up_under code limits n h b t a u = seen_under (code_program code limits) n b.number h t a (ready_seen u.start u.depth u.answers _ u.is)
 
+-- a body that waits is older than a new number
 pub parked_under : (code : Parts) (limits : Limits) (n q : ℕ) (h : List Entry) (b : Body) → IsTold (code_program code limits) h → AllBelow n h → IsParked code limits h b q → b.number < n
 parked_under code limits n q h b t a k = seen_under (code_program code limits) n b.number h t a (waits_seen k.start k.depth k.answers q _ _ k.is)
 

@@ -21,12 +21,14 @@ use Rattle.chord_task.specs.declared.task.Task.{Task}
 use Rattle.chord_task.specs.Stacks.{IsTask, task_noted}
 use Rattle.chord_task.specs.Arguments.{MayBeList}
 use Rattle.chord_task.specs.Standing.{body_number, view_of, NextIs, IsTop, IsBodyStack, IsResumable, HasRoomIf, HasRoomFor, IsTaskOf, given_of, given_by, answer_of, MayAnswer, AnsweredWith, CalledBack, IsReadyFor, MayNote}
-use Rattle.chord_task.proofs.Standing.{entry, answer_fits}
+use Rattle.chord_task.proofs.Standing.{entry, noted_answer_fits}
 use Rattle.chord_task.proofs.Notes.{stack_view, gave_up, note_gave, note_last, note_end, back_top}
 
+-- one more entry at the end stands first, the newest first
 pub one_more : (xs ys : List Entry) (e : Entry) → ys ≡ xs ++ e ∷ [] → reverse ys ≡ e ∷ reverse xs
 one_more xs ys e i = ap reverse i ∙ reverse-append xs (e ∷ [])
 
+-- a task gave one ask
 pub same_what : (t : Task) (b : Body) (v w : What) → t.top ≡ Some b → given_of b.next ≡ Some w → given_by t.top ≡ Some v → v ≡ w
 same_what t b v w top e g = (let z : Some v ≡ Some w = sym g ∙ ap given_by top ∙ e in cc)
 
@@ -34,6 +36,7 @@ same_what t b v w top e g = (let z : Some v ≡ Some w = sym g ∙ ap given_by t
 pub stack_at : (code : Parts) (limits : Limits) (t : Task) (b : Body) → IsTaskOf code limits t → t.top ≡ Some b → IsBodyStack code limits (view_of t).past (Some b) (reverse t.below.items)
 stack_at code limits t b k top = subst (λ z. IsBodyStack code limits (view_of t).past z (reverse t.below.items)) top k.stack
 
+-- the stack of a task whose body on top is this one
 pub task_at : (code : Parts) (limits : Limits) (t : Task) (b : Body) → IsTaskOf code limits t → t.top ≡ Some b → IsTask (code_program code limits) (stack_view (view_of t).past (Some b.number))
 task_at code limits t b k top = subst (λ z. IsTask (code_program code limits) (stack_view (view_of t).past z)) (ap body_number top) k.task
 
@@ -44,6 +47,7 @@ stays_at code limits t b n w may top e c =
 given_gave : (b : Body) (w : What) → b.next ≡ N.Gave w → given_of b.next ≡ Some w
 given_gave b w e = ap given_of e
 
+-- a body that holds its end gave it
 pub given_ends : (b : Body) (x y : End) → b.next ≡ N.Ends x y → given_of b.next ≡ Some (Ended x)
 given_ends b x y e = ap given_of e
 
@@ -58,9 +62,10 @@ may_answer code limits t b n w k may top e = by_value (answer_of n w) refl
         let u = gave_up code limits (view_of t).past b w e s.0 in
         let i = same_what t b may.what w top (given_gave b w e) may.gave in (
           subst IsReadyFor top may.reserved.top,
-          answer_fits code limits (view_of t).past b n w v u e a (stays_at code limits t b n w may top i b.number),
+          noted_answer_fits code limits (view_of t).past b n w v u e a (stays_at code limits t b n w may top i b.number),
         )
 
+-- the task after its ask became an entry
 pub task_gave : (code : Parts) (limits : Limits) (t : Task) (past : Vec Entry Global) (b b' : Body) (n : ℕ) (w : What) → IsTaskOf code limits t → (may : MayNote code limits t n) → t.top ≡ Some b → b.next ≡ N.Gave w → b'.number ≡ b.number → AnsweredWith (answer_of n w) n b.frames b' → past.items ≡ t.past.items ++ entry n b.number w ∷ [] → vec_len past ≡ vec_len t.past + 1 → vec_capacity past ≡ vec_capacity t.past → IsTaskOf code limits (record { past = past; top = Some b'; below = t.below; spare = t.spare; values = t.values; limits = t.limits }) × task_noted (view_of t) n may.what (view_of (record { past = past; top = Some b'; below = t.below; spare = t.spare; values = t.values; limits = t.limits })) × (is_end may.what ≡ false → (view_of (record { past = past; top = Some b'; below = t.below; spare = t.spare; values = t.values; limits = t.limits })).top ≡ (view_of t).top)
 task_gave code limits t past b b' n w k may top e i r items len capacity =
     let p = code_program code limits in
@@ -133,6 +138,7 @@ back_next (Traps t) c c' q r e = (let z : N.Fails t ≡ N.Waits q = sym r.1 ∙ 
 last_of : (below rest : List Body) (c : Body) → below ≡ rest ++ c ∷ [] → reverse below ≡ c ∷ reverse rest
 last_of below rest c e = ap reverse e ∙ reverse-append rest (c ∷ [])
 
+-- the last of the bodies below is the caller
 pub caller_at : (code : Parts) (limits : Limits) (t : Task) (rest : List Body) (b c : Body) → IsTaskOf code limits t → t.top ≡ Some b → t.below.items ≡ rest ++ c ∷ [] → IsBodyStack code limits (view_of t).past (Some b) (c ∷ reverse rest)
 caller_at code limits t rest b c k top e = subst (λ z. IsBodyStack code limits (view_of t).past (Some b) z) (last_of t.below.items rest c e) (stack_at code limits t b k top)
 
@@ -166,10 +172,12 @@ task_back code limits t past below b c c' n x y k may top e parts back items =
         let u = subst (λ n. IsTop code limits h n b) e t in
         let i = subst (λ n. NextIs code limits n b.frames (stands code limits u.start u.depth u.answers)) e u.next in i.2
 
+-- a list of no length is empty
 pub no_length : {A : Type 0} (xs : List A) → length xs ≡ 0 → xs ≡ []
 no_length [] e = refl
 no_length (x ∷ xs) e = absurd (omega (arith, e))
 
+-- what follows from an answer that is there
 pub on_ok : {A B : Type 0} (P Q : Type 0) (r : Result A B) → (P → Q) → OnOk r P → OnOk r Q
 on_ok P Q (Ok x) f p = f p
 on_ok P Q (Err e) f p = tt

@@ -8,16 +8,20 @@ use Rattle.chord_task.specs.declared.task.Task.{Task}
 use Rattle.chord_task.specs.declared.parcel.Parcel.{Parcel}
 use Rattle.chord_task.specs.Standing.{view_of, IsTaskOf}
 
+-- the past of a task, if there is one
 abbrev pub past_in : Option Task → List Entry
 past_in None = []
 past_in (Some t) = (view_of t).past
 
+-- the entries that a parcel keeps: its task's past
 abbrev pub entries_of : Parcel → List Entry
 entries_of p = past_in p.task
 
+-- the arguments that a parcel holds
 abbrev pub arguments_of : Parcel → List Value
 arguments_of p = p.arguments.first
 
+-- a task, if there is one, is of this code under these limits
 abbrev pub TaskIn : Parts → Limits → Option Task → Type 0
 TaskIn code limits None = Unit {0}
 TaskIn code limits (Some t) = IsTaskOf code limits t

@@ -32,9 +32,11 @@ pub record IsNext (p : Program) (t : TaskView) (w : What) : Type 0 where
 abbrev pub task_noted : TaskView → ℕ → What → TaskView → Type 0
 task_noted t n w t' = (b : ℕ) × (t.top ≡ Some b) × (t'.past ≡ record { number = n; body = b; what = w } ∷ t.past)
 
+-- the body on top has a next ask
 abbrev pub CanAsk : Program → TaskView → Type 0
 CanAsk p t = (w : What) × IsNext p t w
 
+-- the body on top has no next ask
 abbrev pub AsksNothing : Program → TaskView → Type 0
 AsksNothing p t = (b : ℕ) → t.top ≡ Some b → asked p (doing p t.past b) ≡ None
 
@@ -48,6 +50,7 @@ pub record TopWaitsFor (p : Program) (t : TaskView) (q : ℕ) : Type 0 where
   pub place : ℕ
   pub is : doing p t.past body ≡ Waits start depth answers q place
 
+-- the task fits the call that a firing serves: it is over where none is served, and else its top body waits for the call
 abbrev pub FitsCall : Program → TaskView → Option ℕ → Type 0
 FitsCall p t None = t.top ≡ None
 FitsCall p t (Some q) = TopWaitsFor p t q
@@ -56,6 +59,7 @@ FitsCall p t (Some q) = TopWaitsFor p t q
 abbrev pub MayBeginBody : Program → TaskView → ℕ → Object → List ℕ → List value.Value → Type 0
 MayBeginBody p t k o ms vs = FitsCall p t (served p (Fired k o ms vs))
 
+-- the task after a firing began a body in it
 abbrev pub task_begun : TaskView → ℕ → ℕ → Object → List ℕ → List value.Value → TaskView → Type 0
 task_begun t n k o ms vs t' = t'.past ≡ record { number = n; body = n; what = Fired k o ms vs } ∷ t.past
 
@@ -63,5 +67,6 @@ task_begun t n k o ms vs t' = t'.past ≡ record { number = n; body = n; what = 
 abbrev pub StaysDefined : Program → TaskView → ℕ → What → Type 0
 StaysDefined p t n w = (c : ℕ) → t.top ≡ Some c → (b : ℕ) → IsDefined p (doing p (record { number = n; body = c; what = w } ∷ t.past) b)
 
+-- every trace is still defined after this firing
 abbrev pub BeginsDefined : Program → TaskView → ℕ → ℕ → Object → List ℕ → List value.Value → Type 0
 BeginsDefined p t n k o ms vs = (b : ℕ) → IsDefined p (doing p (record { number = n; body = n; what = Fired k o ms vs } ∷ t.past) b)

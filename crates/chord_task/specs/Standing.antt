@@ -28,6 +28,7 @@ use Rattle.chord_task.specs.declared.body.Body.{Body}
 use Rattle.chord_task.specs.declared.task.Task.{Task}
 use Rattle.chord_task.specs.Stacks.{TaskView, IsTask, StaysDefined, BeginsDefined, MayBeginBody}
 
+-- the number of a body, if there is one
 abbrev pub body_number : Option Body → Option ℕ
 body_number None = None
 body_number (Some b) = Some b.number
@@ -76,6 +77,7 @@ pub record IsParked (code : Parts) (limits : Limits) (h : List Entry) (b : Body)
   pub awaited : b.frames.awaited ≡ ForValue
   pub ready : IsReady ForValue b.frames
 
+-- what is known of the body on top: it waits for a call, or may make its next entry
 abbrev pub IsTop : Parts → Limits → List Entry → Next → Body → Type 0
 IsTop code limits h (N.Waits q) b = IsParked code limits h b q
 IsTop code limits h N.Runs b = IsUp code limits h b
@@ -90,6 +92,7 @@ AreParked code limits h call above (b ∷ bs) =
     ((q : ℕ) × (call ≡ Some q) × IsParked code limits h b q) × (b.number < above)
     × AreParked code limits h (serves (code_program code limits) b.number h) b.number bs
 
+-- what is known of a stack of bodies
 abbrev pub IsBodyStack : Parts → Limits → List Entry → Option Body → List Body → Type 0
 IsBodyStack code limits h None bs = bs ≡ []
 IsBodyStack code limits h (Some b) bs =
@@ -134,6 +137,7 @@ pub record IsTaskOf (code : Parts) (limits : Limits) (t : Task) : Type 0 where
 abbrev pub IsRunnable : Parts → Body → Type 0
 IsRunnable code b = (b.next ≡ N.Runs → ComesToAsk code (machine_of b.frames)) × ((q : ℕ) → b.next ≡ N.Waits q → ⊥)
 
+-- what a body does next once it came to this ask
 abbrev pub GivenBy : What → Next → Type 0
 GivenBy (Ended e) n = n ≡ N.Ends e e
 GivenBy Begun n = n ≡ N.Gave Begun
@@ -176,6 +180,7 @@ given_of (N.Ends e e') = Some (Ended e)
 given_of (N.Fails t) = None
 given_of (N.Waits q) = None
 
+-- the ask that a body gave, if there is a body
 abbrev pub given_by : Option Body → Option What
 given_by None = None
 given_by (Some b) = given_of b.next
@@ -184,21 +189,24 @@ given_by (Some b) = given_of b.next
 abbrev pub HasGiven : Task → What → Type 0
 HasGiven t w = given_by t.top ≡ Some w
 
-abbrev pub goes : Next → Bool
-goes N.Runs = true
-goes (N.Gave w) = true
-goes (N.Ends e e') = true
-goes (N.Fails t) = true
-goes (N.Waits q) = false
+-- a body may go on: it does not wait for a call
+abbrev pub may_go : Next → Bool
+may_go N.Runs = true
+may_go (N.Gave w) = true
+may_go (N.Ends e e') = true
+may_go (N.Fails t) = true
+may_go (N.Waits q) = false
 
-abbrev pub body_goes : Option Body → Bool
-body_goes None = false
-body_goes (Some b) = goes b.next
+-- there is a body, and it may go on
+abbrev pub body_may_go : Option Body → Bool
+body_may_go None = false
+body_may_go (Some b) = may_go b.next
 
 -- a body is left, and the top one does not wait
 abbrev pub is_ready_of : Task → Bool
-is_ready_of t = body_goes t.top
+is_ready_of t = body_may_go t.top
 
+-- a body waits for this call
 abbrev pub waits_on : ℕ → Next → Bool
 waits_on q N.Runs = false
 waits_on q (N.Gave w) = false
@@ -206,10 +214,12 @@ waits_on q (N.Ends e e') = false
 waits_on q (N.Fails t) = false
 waits_on q (N.Waits c) = c == q
 
+-- there is a body, and it waits for this call
 abbrev pub body_waits : ℕ → Option Body → Bool
 body_waits q None = false
 body_waits q (Some b) = waits_on q b.next
 
+-- the body on top of a task waits for this call
 abbrev pub waits_of : ℕ → Task → Bool
 waits_of q t = body_waits q t.top
 
@@ -223,10 +233,12 @@ answer_of n Begun = None
 answer_of n (Fired k o ms vs) = None
 answer_of n (Ended e) = None
 
+-- frames can be answered by this value, if there is one
 abbrev pub MayAnswer : Option Value → Frames → Type 0
 MayAnswer None f = Unit {0}
 MayAnswer (Some v) f = IsReady f.awaited f × (with_answer (machine_of f) f.awaited v ≢ None)
 
+-- the body that was answered by this value runs on; one that was not waits for the call of this number
 abbrev pub AnsweredWith : Option Value → ℕ → Frames → Body → Type 0
 AnsweredWith None n f b = (b.next ≡ N.Waits n) × (b.frames ≡ f)
 AnsweredWith (Some v) n f b = (b.next ≡ N.Runs) × (with_answer (machine_of f) f.awaited v ≡ Some (machine_of b.frames))
@@ -236,6 +248,7 @@ abbrev pub CalledBack : End → Body → Body → Type 0
 CalledBack (Gives v) b b' = (b'.number ≡ b.number) × AnsweredWith (Some v) 0 b.frames b'
 CalledBack (Traps t) b b' = (b'.number ≡ b.number) × (b'.next ≡ N.Fails t)
 
+-- there is room for the answer of a body, if there is a body
 abbrev pub IsReadyFor : Option Body → Type 0
 IsReadyFor None = Unit {0}
 IsReadyFor (Some b) = IsReady b.frames.awaited b.frames
@@ -275,6 +288,7 @@ IsAnsweredByNote Begun = ⊥
 IsAnsweredByNote (Fired k o ms vs) = ⊥
 IsAnsweredByNote (Ended e) = ⊥
 
+-- the ask that a task gave may become the entry of this number, for some code and limits of the task
 abbrev pub CanNote : Task → ℕ → Type 0
 CanNote t n = (code : Parts) × (limits : Limits) × IsTaskOf code limits t × MayNote code limits t n
 
@@ -287,6 +301,7 @@ room_of limits (Some b) = limits.depth - ((limits.depth - b.frames.top.room) + 1
 abbrev pub IsRoomier : Body → Body → Type 0
 IsRoomier b b' = (b'.number ≡ b.number) × (b'.next ≡ b.next) × (machine_of b'.frames ≡ machine_of b.frames) × (b'.frames.awaited ≡ b.frames.awaited)
 
+-- the body on top, if there is one, with more room
 abbrev pub IsRoomierTop : Option Body → Option Body → Type 0
 IsRoomierTop None None = Unit {0}
 IsRoomierTop (Some b) (Some b') = IsRoomier b b'

@@ -223,12 +223,7 @@ impl Task {
     }
 
     /// The body on top comes to its next ask, and keeps it until it is noted. As `ask`, but copies nothing.
-    pub fn prepare(
-        &mut self,
-        alloc: Global,
-        code: &Code,
-        limits: &Limits,
-    ) -> Result<(), AllocError>
+    pub fn prepare(&mut self, alloc: Global, code: &Code, limits: &Limits) -> Result<(), AllocError>
         requires task { IsTaskOf code.now limits.now self.old }
         requires left { is_ready_of self.old ≡ true }
         ensures past { self.new.past ≡ self.old.past }
