@@ -25,6 +25,7 @@ within code fwd a w (suc n) (suc k) m e l = after_step code fwd a w n k (within 
 pub comes_found : (code : Parts) → IsForward code → (m : Machine) (a : What) (w : Waiting) → ComesTo code m a w → comes_to code m ≡ Asking a w
 comes_found code fwd m a w c = within code fwd a w c.count (suc (weight code m)) m c.by (omega arith)
 
+-- and the other way round
 pub found_comes : (code : Parts) (m : Machine) (a : What) (w : Waiting) → comes_to code m ≡ Asking a w → ComesTo code m a w
 found_comes code m a w e = record { count = suc (weight code m); by = e }
 

@@ -219,7 +219,14 @@ fn are_right(parts: &Parts, number: usize, block: &Block) -> bool
 {
     let count = block.instructions.items().len();
     for (place, instruction) in block.instructions.items().iter().enumerate() {
-        if !is_right(parts, number, block.slots as usize, count, place, instruction) {
+        if !is_right(
+            parts,
+            number,
+            block.slots as usize,
+            count,
+            place,
+            instruction,
+        ) {
             return false;
         }
     }
