@@ -164,8 +164,10 @@ all_answered p (e ∷ h) b r =
       | inr o ↦ rw o (heard_state h (later b h) e e.what (serves p e.body h) (doing p h b) (λ q x i s. end_serves p h e q x i s) (all_answered p h b r.0))
     ]
 
+-- the answers of a body that may go on are those of its entries
 pub answers_of_entries : AnswersOfEntries
 answers_of_entries p h b d s rs r e = subst (λ (z : Doing). IsAnsweredSoFar h (later b h) z) e (all_answered p h b r)
 
+-- the answers of a body that waits are those of its entries before its call
 pub answers_before_call : AnswersBeforeCall
 answers_before_call p h b d q l s rs r e = subst (λ (z : Doing). IsAnsweredSoFar h (later b h) z) e (all_answered p h b r)

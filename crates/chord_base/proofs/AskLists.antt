@@ -184,8 +184,10 @@ all_said p (e ∷ h) b r =
       | inr o ↦ rw o (heard_said p e.what (serves p e.body h) (said b h) (doing p h b) (all_said p h b r.0))
     ]
 
+-- what a body that may go on said, and its next ask, is the list of its asks
 pub entries_are_asks : EntriesAreAsks
 entries_are_asks p h b d s rs r e = subst (λ (z : Doing). IsSaid p (said b h) z) e (all_said p h b r)
 
+-- what a body that waits said is the list of its asks
 pub call_is_last_ask : CallIsLastAsk
 call_is_last_ask p h b d q l s rs r e = subst (λ (z : Doing). IsSaid p (said b h) z) e (all_said p h b r)

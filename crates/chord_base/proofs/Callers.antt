@@ -269,9 +269,11 @@ served_no_wait p (e ∷ h) b q x r s w =
 
 -- ---- the laws
 
+-- no body waits for a call that is served
 pub served_waits_no_more : ServedWaitsNoMore
 served_waits_no_more p h c b q x sound one r i call s w = served_no_wait p h b q x r (served_by_body p h c q x sound one r i call s) w
 
+-- a caller that is not served waits
 pub others_wait : OthersWait
 others_wait p h c q r i call none =
     elim (call_state p h c q r i call) [
@@ -279,6 +281,7 @@ others_wait p h c q r i call none =
       | inr s ↦ absurd (none s.0 (served_by_firing p h q s.0 s.1))
     ]
 
+-- a call is served by one end
 pub served_once : ServedOnce
 served_once p h q x y r s t =
     let same = taken_once p h s.firing t.firing q r s.there t.there s.took t.took in
@@ -293,6 +296,7 @@ waits_form q Absent w = absurd w
 waits_form q Unplaced w = absurd w
 waits_form q (Over x) w = absurd w
 
+-- a caller goes on with the end of the body that served it
 pub served_goes_on : ServedGoesOn
 served_goes_on p h c f e q x sound one r i call j took body is =
     let serving : serves p e.body h ≡ Some q = ap (λ b. serves p b h) body ∙ entry_serves p h f r.0 j ∙ serves_its_member p h c f q sound one r.0 i call j took in

@@ -89,6 +89,7 @@ call_has_message p c q m kind i s =
 no_members : (c : Entry) (q n : ℕ) → IsCall q c → has n (members_of c.what) ≡ true → ⊥
 no_members c q n i t = let z : false ≡ true = ap (λ (w : What). has n (members_of w)) (sym i.1.3) ∙ t in cc
 
+-- a firing that has a call among its members serves it
 pub serves_its_member : ServesItsMember
 serves_its_member p [] c f q s one r i call j t = absurd j
 serves_its_member p (x ∷ h) c f q s one r i call j t =
@@ -161,6 +162,7 @@ only_calls p h n b (Called o j vs) q s r c t = cc
 only_calls p h n b (Printed x) q s r c t = cc
 only_calls p h n b (Ended x) q s r c t = cc
 
+-- a firing serves only a call that is a member of it
 pub serves_only_calls : ServesOnlyCalls
 serves_only_calls p [] f q s r j t = absurd j
 serves_only_calls p (x ∷ h) f q s r j t =

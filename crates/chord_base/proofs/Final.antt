@@ -43,9 +43,11 @@ pub some_length : (h : List Entry) → (h ≡ [] → ⊥) → 0 < length h
 some_length [] n = absurd (n refl)
 some_length (e ∷ h) n = omega arith
 
+-- nothing may follow a run in which no body asks and no chord is enabled
 pub complete_when_quiet : CompleteWhenQuiet
 complete_when_quiet p h r n q f = final_when p h r (some_length h n) q f
 
+-- where nothing may follow, no body asks and no chord is enabled
 pub quiet_when_complete : QuietWhenComplete
 quiet_when_complete p h f = (
   λ e. f.nothing (record { number = 0; body = 0; what = Begun }) (record { numbered = sym (ap length e); comes = (e, refl) }),

@@ -30,6 +30,7 @@ pending_within p (e ∷ h) n m r s =
 next_is_other : (p : Program) (h : List Entry) (e : Entry) (n : ℕ) → n < length h → MayFollow p h e → (e.number == n) ≡ false
 next_is_other p h e n l f = ne_eqb e.number n (λ i. let j = f.numbered in omega (arith, i, j, l))
 
+-- a pending message stays so until an entry takes it
 pub pending_until_taken : PendingUntilTaken
 pending_until_taken p h e n m r f s t = rw (next_is_other p h e n (pending_within p h n m r s) f, t) s
 

@@ -75,6 +75,7 @@ others_change_nothing p e h b other unless =
       | inr n ↦ n
     ])
 
+-- the end of the body that serves a call is the answer of the caller
 pub end_answers_caller : EndAnswersCaller
 end_answers_caller p e h b q d l x s rs other is serving waits = call_answered p e h b x s d rs q l (ne_eqb e.body b other) is waits serving
 

@@ -180,5 +180,6 @@ merged_story p view h s m i =
           ]);
     }
 
+-- a run in places is complete where each place is quiet and no chord is enabled
 pub complete_in_places : CompleteInPlaces
 complete_in_places p view h m n q f = merged_final p view h m (some_length h n) q f

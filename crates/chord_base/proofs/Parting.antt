@@ -76,6 +76,7 @@ module _ (at : ℕ → ℕ) (i j : ℕ) (goes : ℕ → Bool) (apart : i ≡ j �
         | inr o ↦ rw o refl
       ]
 
+-- entries leave a place for an empty one
 pub parting_keeps_places : PartingKeepsPlaces
 parting_keeps_places p view h i j goes m apart empty going staying =
     record {
@@ -117,10 +118,12 @@ past_rises_once : (p : Program) (n : ℕ) (h : List Entry) → IsPast p h → n 
 past_rises_once p n [] r e = tt
 past_rises_once p n (x ∷ h) r e = omega (arith, e, r.1.numbered)
 
+-- a run is told
 pub run_is_told : RunIsTold
 run_is_told p [] r = tt
 run_is_told p (e ∷ h) r = (run_is_told p h r.0, past_rises_once p e.number h r.0 r.1.numbered, comes_tells p h e.number e.body e.what r.1.numbered r.1.comes)
 
+-- the entries of all places, in their order, are the run
 pub places_gather : PlacesGather
 places_gather p view h h' m n l f =
     collected h' h n (past_numbered p h m.past) l

@@ -126,3 +126,48 @@ impl Entry {
         })
     }
 }
+
+#[cfg(test)]
+mod tests {
+    use super::*;
+    use crate::equal::same_what;
+    use std::test::Fail;
+
+    /// A firing that takes two messages, with a text and an object as their arguments, and a trap.
+    fn entries(alloc: Global) -> Result<Vec<Entry>, Fail> {
+        let object = Object {
+            number: 1,
+            class: 2,
+        };
+        let text = Text::of_bytes(alloc, b"hi").ok().ok_or("no text")?;
+        let mut values = Vec::new(alloc);
+        values.push(Value::Text(text))?;
+        values.push(Value::Ref(object))?;
+        let mut members = Members::new();
+        members.push(3);
+        members.push(2);
+        let mut entries = Vec::new(alloc);
+        entries.push(Entry {
+            number: 4,
+            body: 4,
+            what: What::Fired(5, object, members, Values::of_items(values)),
+        })?;
+        entries.push(Entry {
+            number: 6,
+            body: 4,
+            what: What::Ended(End::Traps(Trap::TooDeep)),
+        })?;
+        Ok(entries)
+    }
+
+    #[test]
+    fn a_copied_entry_is_equal(rt: HostRuntime) -> Result<(), Fail> {
+        for entry in &entries(rt.alloc())? {
+            let copy = entry.copied(rt.alloc())?;
+            assert_eq!(rt; copy.number, entry.number);
+            assert_eq!(rt; copy.body, entry.body);
+            assert!(rt; same_what(&copy.what, &entry.what), "entry {}", entry.number);
+        }
+        Ok(())
+    }
+}

@@ -1,7 +1,7 @@
 //! Up to eight items, handed over one by one and without memory.
 #![tactic(auto)]
 
-ghost use Rattle.std.specs.Prelude.{◌≡◌, ℕ, ◌<◌, ◌≤◌, List, [], ◌∷◌, ◌++◌, length, MatchOption};
+ghost use Rattle.std.specs.Prelude.{◌≡◌, ℕ, ◌<◌, ◌≤◌, List, [], ◌∷◌, ◌++◌, length, IsTrue, ◌↔◌, MatchOption};
 ghost use Rattle.chord_base.specs.Hands.{items_in, HasNoGap, settled, left_over};
 
 use std::marker::Model;
@@ -72,6 +72,14 @@ impl<T: Drop> Hand<T> {
         let item = settle(&mut self.sixth, item);
         let item = settle(&mut self.seventh, item);
         let _ = settle(&mut self.eighth, item);
+    }
+
+    /// Whether there are eight items.
+    pub fn is_full(&self) -> bool
+        ensures full { IsTrue result ↔ (length self.now ≡ 8) }
+        ensures few { length self.now ≤ 8 }
+    {
+        self.eighth.is_some()
     }
 
     /// Takes the first item out. None exactly where there is none.

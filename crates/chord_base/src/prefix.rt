@@ -300,7 +300,7 @@ fn may_follow<M: Meaning>(
 
 /// How many of the entries are a run: each of these may follow those before it, and the next one, if there is one, may not.
 ///
-/// `AllocError` is want of memory.
+/// `AllocError`: the call ran out of memory.
 pub fn run_length<M: Meaning>(
     alloc: Global,
     meaning: &M,

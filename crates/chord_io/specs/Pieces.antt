@@ -1,4 +1,4 @@
--- What a source gives and a sink takes, piece by piece. The bytes are None where the source or the sink does not tell them.
+-- What a source gives and a sink takes, piece by piece. The bytes are None where the contents of the source or the sink are not specified.
 use Rattle.std.specs.Prelude.{◌≡◌, ℕ, ◌<◌, List, [], ◌++◌, length, take, Option, IfSome}
 use Rattle.std.specs.Option.{option_map}
 
@@ -14,7 +14,7 @@ IsSpent left = IfSome left (λ bytes. bytes ≡ [])
 abbrev pub Took : Option (List ℕ) → List ℕ → Option (List ℕ) → Type 0
 Took before piece after = after ≡ option_map (λ bytes. bytes ++ piece) before
 
--- a sink took a front of a text, and not the whole
+-- a sink took a proper prefix of a text
 pub record TookProperPrefix (before : Option (List ℕ)) (text : List ℕ) (after : Option (List ℕ)) : Type 0 where
   pub count : ℕ
   pub short : count < length text

@@ -53,8 +53,8 @@ impl Pen {
     ///
     /// # Errors
     ///
-    /// `Failed` where a write failed, which the sink's count of faults shows. A front of what the pen was given was taken,
-    /// and not the whole.
+    /// `Failed` where a write failed, which the sink's count of faults shows. A proper prefix of what the pen was given was
+    /// written.
     pub fn finish<K: Sink>(self, sink: &mut K) -> Result<(), Failed>
         ensures whole { OnOk result ((before : Option (List ℕ)) (f : ℕ) (text : List ℕ) →
             Writes before f (Some []) text (K.taken sink.old) (K.faults sink.old) self → Took before text (K.taken sink.new)) }

@@ -16,11 +16,11 @@ const PIECE_BYTES: usize = 4096;
 /// Why the bytes of a source were not had.
 #[derive(Clone, Copy, Debug, PartialEq, Eq)]
 pub enum ReadFault {
-    /// The source failed.
+    /// A read failed.
     Failed,
     /// The source gave more bytes than are allowed.
     TooLong,
-    /// There was no memory for the bytes.
+    /// The call ran out of memory.
     Memory,
 }
 
@@ -49,6 +49,8 @@ pub fn read_all<S: Source>(alloc: Global, source: &mut S) -> Result<Vec<u8>, Rea
     ensures too_long { IsErrOf result ReadFault.TooLong → (given : List ℕ) × (length given ≡ 1048577)
         × Gave (S.left source.old) given (S.left source.new) }
     ensures failed { IsErrOf result ReadFault.Failed → Rose (S.faults source.old) (S.faults source.new) }
+    ensures failed_within { IsErrOf result ReadFault.Failed → (given : List ℕ) × (length given ≤ 1048576)
+        × Gave (S.left source.old) given (S.left source.new) }
     ensures part { OnErr result ((given : List ℕ) × Gave (S.left source.old) given (S.left source.new)) }
     ensures never_falls { S.faults source.old ≤ S.faults source.new }
 {
@@ -59,9 +61,9 @@ pub fn read_all<S: Source>(alloc: Global, source: &mut S) -> Result<Vec<u8>, Rea
 ///
 /// # Errors
 ///
-/// `Failed` where a read failed, which the source's count of faults shows. `TooLong` exactly where the source
-/// gave more than `most` bytes, which ends the reading at `most + 1`. `Memory` where there was none.
-/// What was read then is lost.
+/// `Failed` where a read failed before the source had given more than `most` bytes; the source's count of faults shows it.
+/// `TooLong` exactly where the source gave more than `most` bytes, which ends the reading at `most + 1`. `Memory` where
+/// the call ran out of memory. What was read then is lost.
 pub fn read_up_to<S: Source>(alloc: Global, source: &mut S, most: u32) -> Result<Vec<u8>, ReadFault>
     ensures all { IfOk result (λ bytes. IfSome (S.left source.old) (λ left. bytes.items ≡ left)) }
     ensures gave { IfOk result (λ bytes. Gave (S.left source.old) bytes.items (S.left source.new)) }
@@ -70,6 +72,8 @@ pub fn read_up_to<S: Source>(alloc: Global, source: &mut S, most: u32) -> Result
     ensures too_long { IsErrOf result ReadFault.TooLong → (given : List ℕ) × (length given ≡ most + 1)
         × Gave (S.left source.old) given (S.left source.new) }
     ensures failed { IsErrOf result ReadFault.Failed → Rose (S.faults source.old) (S.faults source.new) }
+    ensures failed_within { IsErrOf result ReadFault.Failed → (given : List ℕ) × (length given ≤ most)
+        × Gave (S.left source.old) given (S.left source.new) }
     ensures part { OnErr result ((given : List ℕ) × Gave (S.left source.old) given (S.left source.new)) }
     ensures never_falls { S.faults source.old ≤ S.faults source.new }
 {

@@ -7,13 +7,13 @@ use crate::Failed;
 
 /// Where bytes go, in pieces of the sink's choice.
 pub trait Sink {
-    // The bytes that were taken, where the sink tells them.
+    // The bytes that were taken, where they are specified.
     ghost taken: { Self → Option (List ℕ) };
 
     // How many writes have failed.
     ghost faults: { Self → ℕ };
 
-    /// Takes a front of the piece, and says how many bytes it has.
+    /// Takes a prefix of the piece, and says how many bytes it has.
     /// To take none of a piece that has some is a fault.
     ///
     /// # Errors

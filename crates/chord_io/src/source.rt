@@ -7,13 +7,13 @@ use crate::Failed;
 
 /// Where bytes come from, in pieces of the source's choice.
 pub trait Source {
-    // The bytes that are left to read, where the source tells them.
+    // The bytes that are left to read, where they are specified.
     ghost left: { Self → Option (List ℕ) };
 
     // How many reads have failed.
     ghost faults: { Self → ℕ };
 
-    /// Reads a piece into the front of the buffer, and says how many bytes it has.
+    /// Reads a piece into the beginning of the buffer, and says how many bytes it has.
     /// 0 into a buffer that has room is the end of input.
     ///
     /// # Errors

@@ -10,7 +10,7 @@ use crate::{Failed, Sink};
 /// # Errors
 ///
 /// `Failed` where a write failed or took nothing, which the sink's count of faults shows.
-/// A front of the piece was taken, and not the whole.
+/// A proper prefix of the piece was written.
 pub fn write_all<K: Sink>(sink: &mut K, piece: &[u8]) -> Result<(), Failed>
     ensures whole { OnOk result (Took (K.taken sink.old) piece.now (K.taken sink.new)) }
     ensures prefix { OnErr result (TookProperPrefix (K.taken sink.old) piece.now (K.taken sink.new)) }

@@ -1,4 +1,4 @@
--- A part that is wrong makes the whole wrong, and want of memory makes it nothing.
+-- A part that is wrong makes the whole wrong, and where memory runs out it is nothing.
 use Rattle.std.proofs.Common.{◌≡◌, Option, None}
 use Rattle.chord_journal.specs.declared.parts.LineFault.{LineFault}
 use Rattle.chord_journal.specs.declared.parts.LineFault.TheVariants.{Memory, Wrong}

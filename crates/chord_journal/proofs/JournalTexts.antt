@@ -6,7 +6,7 @@ use Rattle.std.proofs.lemmas.List.{reverse-append}
 use Rattle.std.proofs.lemmas.Bool.{cases_lt}
 use Rattle.chord_base.specs.Bounds.{AreWithin, IsJournal}
 use Rattle.chord_base.specs.declared.event.Entry.{Entry}
-use Rattle.chord_journal.specs.Text.{entry_text, header_text, text_of}
+use Rattle.chord_journal.specs.Text.{entry_text, header_text, journal_text}
 use Rattle.chord_journal.specs.Typed.{AreTyped}
 use Rattle.chord_journal.specs.Wrong.{IsEntryAt, AreEntriesFrom, BeginsWithLines, HasNoHeader, HasNoEntry, IsWrongBehind, IsWrongAt}
 use Rattle.chord_journal.specs.Reading.{entry_at, header_at}
@@ -128,7 +128,7 @@ none_left [] none = refl
 none_left (e ∷ others) none = absurd (omega (arith, none))
 
 -- two journals with one text are one
-pub same_journal : (es fs : List Entry) → IsJournal es → AreTyped es → IsJournal fs → AreTyped fs → text_of es ≡ text_of fs → es ≡ fs
+pub same_journal : (es fs : List Entry) → IsJournal es → AreTyped es → IsJournal fs → AreTyped fs → journal_text es ≡ journal_text fs → es ≡ fs
 same_journal es fs journal typed other types same =
     let (long, lines) = same_header (length es) (length fs) (flat_map entry_text es) (flat_map entry_text fs) journal.few other.few same in
     let ended = append-nil (flat_map entry_text es) ∙ lines ∙ sym (append-nil (flat_map entry_text fs)) in
@@ -155,7 +155,7 @@ wrong_stops count place rest (e ∷ others) more (inl (less, none)) few (here, a
 wrong_stops count place rest (e ∷ others) more (inr (last, some)) few all lines ended due = omega (arith, few, last)
 
 -- no line of a journal's text is wrong
-pub text_not_wrong : (es : List Entry) (bytes : List ℕ) (k : ℕ) → IsJournal es → AreTyped es → bytes ≡ text_of es → IsWrongAt bytes k → ⊥
+pub text_not_wrong : (es : List Entry) (bytes : List ℕ) (k : ℕ) → IsJournal es → AreTyped es → bytes ≡ journal_text es → IsWrongAt bytes k → ⊥
 text_not_wrong es bytes zero journal typed text none = none (length es) (flat_map entry_text es) journal.few text
 text_not_wrong es bytes (suc place) journal typed text (count, front, rest, begun, long, wrong) =
     let all = journal_entries es journal typed in
@@ -207,7 +207,7 @@ wrong_line bytes count es rest place begun long less none =
 
 -- right lines with nothing behind them are the text, where they are all
 pub whole_text : (bytes : List ℕ) (count : ℕ) (es : List Entry) (rest : List ℕ) → BeginsWithLines bytes count es rest → length es ≡ count → rest ≡ [] →
-    bytes ≡ text_of es
+    bytes ≡ journal_text es
 whole_text bytes count es rest begun all none =
     begun.text ∙ ap (λ n. header_text n ++ (flat_map entry_text es ++ rest)) (sym all) ∙
     ap (λ b. header_text (length es) ++ b) (ap (λ r. flat_map entry_text es ++ r) none ∙ append-nil (flat_map entry_text es))

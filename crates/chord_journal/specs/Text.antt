@@ -83,5 +83,5 @@ abbrev pub header_text : ℕ → List ℕ
 header_text count = codes "journal 1 " ++ (decimal count ++ codes "\n")
 
 -- a journal: its header, and the lines of its entries in order
-abbrev pub text_of : List Entry → List ℕ
-text_of entries = header_text (length entries) ++ flat_map entry_text entries
+abbrev pub journal_text : List Entry → List ℕ
+journal_text entries = header_text (length entries) ++ flat_map entry_text entries

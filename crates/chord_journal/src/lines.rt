@@ -17,7 +17,7 @@ const LINE_BYTES: usize = MAX_TEXT_BYTES + 1;
 ///
 /// # Errors
 ///
-/// `Failed` where the sink failed, which its count of faults shows. A front of the lines was taken, and not the whole.
+/// `Failed` where the sink failed, which its count of faults shows. A proper prefix of the lines was written.
 pub fn write_lines<K: Sink>(journal: &Journal, sink: &mut K) -> Result<(), Failed>
     ensures whole { OnOk result (Took (K.taken sink.old) (lines journal.now) (K.taken sink.new)) }
     ensures prefix { OnErr result (TookProperPrefix (K.taken sink.old) (lines journal.now) (K.taken sink.new)) }

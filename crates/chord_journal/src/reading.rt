@@ -2,7 +2,7 @@
 ghost use Rattle.std.specs.Prelude.{◌≡◌, ℕ, ◌≤◌, List, Ok, Err, IfOk};
 ghost use Rattle.chord_base.specs.Bounds.{IsJournal};
 ghost use Rattle.chord_base.specs.declared.event.Entry.{Entry as AnEntry};
-ghost use Rattle.chord_journal.specs.Text.{text_of};
+ghost use Rattle.chord_journal.specs.Text.{journal_text};
 ghost use Rattle.chord_journal.specs.Typed.{AreTyped};
 ghost use Rattle.chord_journal.specs.Wrong.{IsWrongAt, UnlessMemory};
 ghost use Rattle.chord_journal.specs.Reading.{ReadsAs, header_at};
@@ -13,13 +13,16 @@ use crate::parts::{LineFault, after, read_number};
 use chord_base::event::Entry;
 use chord_base::journal::Journal;
 use std::alloc::{AllocFailed, Global};
+use thiserror::Error;
 
 /// Why bytes were not read as a journal.
-#[derive(Clone, Copy, Debug, PartialEq, Eq)]
+#[derive(Clone, Copy, Debug, PartialEq, Eq, Error)]
 pub enum JournalFault {
-    /// There was no memory for the journal.
+    /// The call ran out of memory.
+    #[error("out of memory")]
     Memory,
     /// The least line that is wrong, from 0 for the header.
+    #[error("line {0} is no line of a journal")]
     At(u32),
 }
 
@@ -37,12 +40,12 @@ impl<T: Drop> From<AllocFailed<T>> for JournalFault {
 ///
 /// `At` exactly where the bytes are no text of a journal, with the least line that is wrong: line 0 is no header,
 /// line i + 1 is missing or is not the line of an entry with number i, or a byte follows the last line.
-/// `Memory` where there was none.
+/// `Memory` where the call ran out of memory.
 pub fn read(alloc: Global, bytes: &[u8]) -> Result<Journal, JournalFault>
     // What is read has these bytes as its text.
-    ensures found { IfOk result (λ journal. (bytes.now ≡ text_of journal) × AreTyped journal) }
+    ensures found { IfOk result (λ journal. (bytes.now ≡ journal_text journal) × AreTyped journal) }
     // The text of a journal is read as that journal, unless memory runs out.
-    ensures only { (journal : List AnEntry) → IsJournal journal → AreTyped journal → bytes.now ≡ text_of journal → UnlessMemory result (Ok journal) }
+    ensures only { (journal : List AnEntry) → IsJournal journal → AreTyped journal → bytes.now ≡ journal_text journal → UnlessMemory result (Ok journal) }
     // The line that is named is the least that is wrong.
     ensures wrong { (k : ℕ) → result ≡ Err (JournalFault.At k) → IsWrongAt bytes.now k }
     // Where a line is the least that is wrong, it is named, unless memory runs out.
@@ -53,7 +56,7 @@ pub fn read(alloc: Global, bytes: &[u8]) -> Result<Journal, JournalFault>
 
 /// The journal that has these bytes as its text, and no more than `read` promises of each answer.
 fn read_lines(alloc: Global, bytes: &[u8]) -> Result<Journal, JournalFault>
-    ensures found { IfOk result (λ journal. (bytes.now ≡ text_of journal) × AreTyped journal × IsJournal journal) }
+    ensures found { IfOk result (λ journal. (bytes.now ≡ journal_text journal) × AreTyped journal × IsJournal journal) }
     ensures wrong { (k : ℕ) → result ≡ Err (JournalFault.At k) → IsWrongAt bytes.now k }
 {
     let (count, rest) = match read_header(bytes) {

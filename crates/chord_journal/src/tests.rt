@@ -196,6 +196,18 @@ fn keeps_the_bounds_of_each_list(rt: HostRuntime) -> Result<(), Fail> {
 }
 
 #[test]
+fn faults_say_what_is_wrong(rt: HostRuntime) -> Result<(), Fail> {
+    for (fault, expected) in [
+        (JournalFault::Memory, "out of memory"),
+        (JournalFault::At(0), "line 0 is no line of a journal"),
+        (JournalFault::At(65_537), "line 65537 is no line of a journal"),
+    ] {
+        assert_eq!(rt; format!(in rt.alloc(); "{fault}")?.as_str(), expected);
+    }
+    Ok(())
+}
+
+#[test]
 fn reads_the_most_entries(rt: HostRuntime) -> Result<(), Fail> {
     let mut text = String::from_str(rt.alloc(), "journal 1 65536\n")?;
     for number in 0..65_536u32 {

@@ -7,7 +7,7 @@ ghost use Rattle.chord_io.specs.Faults.{Rose};
 ghost use Rattle.chord_io.specs.Pieces.{Took, TookProperPrefix};
 ghost use Rattle.chord_io.specs.Pen.{Writes};
 ghost use Rattle.chord_journal.specs.Typed.{IsInt, IsText, IsTypedValue, AreTypedValues, IsTypedEnd, IsTypedWhat, AreTyped};
-ghost use Rattle.chord_journal.specs.Text.{bytes_text, byte_text, object_text, value_text, values_text, numbers_text, message_text, firing_text, trap_text, end_text, what_text, entry_text, header_text, text_of};
+ghost use Rattle.chord_journal.specs.Text.{bytes_text, byte_text, object_text, value_text, values_text, numbers_text, message_text, firing_text, trap_text, end_text, what_text, entry_text, header_text, journal_text};
 
 use chord_base::event::{End, Entry, Trap, What};
 use chord_base::journal::Journal;
@@ -21,10 +21,10 @@ use itoa::Buffer;
 ///
 /// # Errors
 ///
-/// `Failed` where the sink failed, which its count of faults shows. A front of the text was taken, and not the whole.
+/// `Failed` where the sink failed, which its count of faults shows. A proper prefix of the text was written.
 pub fn write_text<K: Sink>(journal: &Journal, sink: &mut K) -> Result<(), Failed>
-    ensures whole { OnOk result (Took (K.taken sink.old) (text_of journal.now) (K.taken sink.new)) }
-    ensures prefix { OnErr result (TookProperPrefix (K.taken sink.old) (text_of journal.now) (K.taken sink.new)) }
+    ensures whole { OnOk result (Took (K.taken sink.old) (journal_text journal.now) (K.taken sink.new)) }
+    ensures prefix { OnErr result (TookProperPrefix (K.taken sink.old) (journal_text journal.now) (K.taken sink.new)) }
     ensures failed { OnErr result (Rose (K.faults sink.old) (K.faults sink.new)) }
     ensures never_falls { K.faults sink.old ≤ K.faults sink.new }
     // So `read` of the text gives this journal again.

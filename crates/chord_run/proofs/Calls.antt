@@ -13,6 +13,7 @@ pub record HasParts (n : Chosen) (front : List Piece) (kinds : List Kind) (text 
   pub literal : slice_get kinds 4 ≡ Some (a_kind.Literal text)
   pub ends : take 2 (drop 5 kinds) ≡ spelled n call_end
 
+-- a call of one literal has these parts
 pub parts_of_call : (n : Chosen) (front : List Piece) (kinds : List Kind) (text : List ℕ) → length front ≡ 4 → take 7 kinds ≡ with_literal n front text → HasParts n front kinds text
 parts_of_call n (a ∷ b ∷ c ∷ d ∷ []) (k0 ∷ k1 ∷ k2 ∷ k3 ∷ k4 ∷ k5 ∷ k6 ∷ ks) text l e = record { begins = cc; long = omega arith; literal = cc; ends = cc }
 parts_of_call n [] ks text l e = absurd (omega arith)

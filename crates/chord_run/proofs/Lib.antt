@@ -3,9 +3,10 @@ pub mod Causes
 pub mod Complete
 pub mod Exact
 pub mod OneCause
+pub mod Lines
 pub mod Answering
-pub mod Words
+pub mod Arguments
 pub mod Breaks
-pub mod Fronts
+pub mod Prefixes
 pub mod Calls
 pub mod LineByLine

@@ -32,18 +32,22 @@ pub record ReadsOn (n : Chosen) (whole rest : List Kind) (lines : List line.Smal
   pub back : (ls : List line.SmallLine) → rest ≡ body n ls → whole ≡ body n (lines ++ ls)
   pub forth : (ls : List line.SmallLine) → AreFit ls → whole ≡ body n ls → (ms : List line.SmallLine) × (ls ≡ lines ++ ms) × AreFit ms × (rest ≡ body n ms)
 
+-- at first nothing is read
 pub reads_nothing : (n : Chosen) (whole : List Kind) → ReadsOn n whole whole []
 reads_nothing n whole = record { fit = tt; back = λ ls e. e; forth = λ ls f e. (ls, refl, f, e) }
 
+-- one more line fits
 pub fit_more : (ls : List line.SmallLine) (l : line.SmallLine) → AreFit ls → IsFit l → AreFit (ls ++ l ∷ [])
 fit_more [] l f g = (g, tt)
 fit_more (m ∷ ls) l f g = (f.0, fit_more ls l f.1 g)
 
-pub front_splits : (front whole : List Kind) → take (length front) whole ≡ front → whole ≡ front ++ drop (length front) whole
-front_splits front whole e = sym (take-append-drop (length front) whole) ∙ ap (λ x. x ++ drop (length front) whole) e
+-- a list that begins with another is that one and the rest
+pub prefix_splits : (front whole : List Kind) → take (length front) whole ≡ front → whole ≡ front ++ drop (length front) whole
+prefix_splits front whole e = sym (take-append-drop (length front) whole) ∙ ap (λ x. x ++ drop (length front) whole) e
 
-pub front_fits : (front whole : List Kind) → take (length front) whole ≡ front → length front ≤ length whole
-front_fits front whole e =
+-- and it is no shorter
+pub prefix_fits : (front whole : List Kind) → take (length front) whole ≡ front → length front ≤ length whole
+prefix_fits front whole e =
     let m = length-take (length front) whole in
     let n = ap length e in
     omega arith
@@ -57,7 +61,7 @@ line_forth n apart lines ls l rest rest' s (m ∷ ms, e, f, g) =
 -- one more line was read
 pub reads_line : (n : Chosen) (whole rest : List Kind) (lines : List line.SmallLine) (l : line.SmallLine) → AreApart n → ReadsOn n whole rest lines → IsFit l → take (length (line_kinds n l)) rest ≡ line_kinds n l → ReadsOn n whole (drop (length (line_kinds n l)) rest) (lines ++ l ∷ [])
 reads_line n whole rest lines l apart r f e =
-    let s = front_splits (line_kinds n l) rest e in
+    let s = prefix_splits (line_kinds n l) rest e in
     let rest' = drop (length (line_kinds n l)) rest in
     record {
       fit = fit_more lines l r.fit f;
@@ -81,6 +85,7 @@ reads_none n whole rest lines r none other ls f e = none_left n rest none other 
 pub form_head : (n : Chosen) (kinds rest : List Kind) → kinds ≡ spelled n head ++ rest → take 39 kinds ≡ spelled n head
 form_head n kinds rest e = ap (λ x. take 39 x) e
 
+-- behind the head stand the lines
 pub form_lines : (n : Chosen) (kinds rest : List Kind) → kinds ≡ spelled n head ++ rest → drop 39 kinds ≡ rest
 form_lines n kinds rest e = ap (λ x. drop 39 x) e
 
@@ -101,5 +106,5 @@ form_of n kinds ls apart fit a b = record {
   chosen = n;
   apart = apart;
   fit = fit;
-  is = front_splits (spelled n head) kinds a ∙ ap (λ x. spelled n head ++ x) b;
+  is = prefix_splits (spelled n head) kinds a ∙ ap (λ x. spelled n head ++ x) b;
 }

@@ -9,7 +9,7 @@ use Rattle.chord_run.specs.Refusals.{IsAnsweredBy, IsCause}
 use Rattle.chord_run.specs.Sources.{IsShort}
 use Rattle.chord_run.specs.declared.refusal.Refusal.{Refusal}
 use Rattle.chord_run.specs.declared.refusal.Refusal.TheVariants.{Long, Bad, Syntax, Tall, Unbuilt}
-use Rattle.chord_run.proofs.Causes.{not_syntax, not_tall}
+use Rattle.chord_run.proofs.Causes.{syntax_not_grammatical, tall_not_grammatical}
 
 -- a source has not too many bytes where it is short
 not_long : (source : List ℕ) (refusal : Refusal) → IsCause source Long → IsShort source → Long ≡ refusal
@@ -34,14 +34,15 @@ one_tall source j k a b =
     ]
 
 -- no source has both
-not_syntax_and_tall : (source : List ℕ) (j k : ℕ) → IsAnsweredBy source (parser.At j) → IsAnsweredBy source (parser.Tall k) → ⊥
-not_syntax_and_tall source j k a b =
+syntax_is_not_tall : (source : List ℕ) (j k : ℕ) → IsAnsweredBy source (parser.At j) → IsAnsweredBy source (parser.Tall k) → ⊥
+syntax_is_not_tall source j k a b =
     let same = one_list source a.tokens b.tokens a.read b.read in
     elim (tall_only (told a.tokens) (parser.At j) a.answer k (rw same b.answer)) [
       | inl memory ↦ cc
       | inr tall ↦ cc
     ]
 
+-- a source has at most one cause of a refusal
 pub one_cause : (source : List ℕ) (r s : Refusal) → IsCause source r → IsCause source s → r ≡ s
 one_cause source Long Long a b = refl
 one_cause source Long (Bad k) a b = not_long source (Bad k) a b.0
@@ -56,15 +57,15 @@ one_cause source (Bad j) Unbuilt a b = absurd (not_both source b.tokens j b.gram
 one_cause source (Syntax j) Long a b = sym (not_long source (Syntax j) b a.short)
 one_cause source (Syntax j) (Bad k) a b = absurd (not_both source a.tokens k a.read b.1)
 one_cause source (Syntax j) (Syntax k) a b = ap Syntax (one_syntax source j k a b)
-one_cause source (Syntax j) (Tall k) a b = absurd (not_syntax_and_tall source j k a b)
-one_cause source (Syntax j) Unbuilt a b = absurd (not_syntax source b.tokens j a b.grammatical)
+one_cause source (Syntax j) (Tall k) a b = absurd (syntax_is_not_tall source j k a b)
+one_cause source (Syntax j) Unbuilt a b = absurd (syntax_not_grammatical source b.tokens j a b.grammatical)
 one_cause source (Tall j) Long a b = sym (not_long source (Tall j) b a.short)
 one_cause source (Tall j) (Bad k) a b = absurd (not_both source a.tokens k a.read b.1)
-one_cause source (Tall j) (Syntax k) a b = absurd (not_syntax_and_tall source k j b a)
+one_cause source (Tall j) (Syntax k) a b = absurd (syntax_is_not_tall source k j b a)
 one_cause source (Tall j) (Tall k) a b = ap Tall (one_tall source j k a b)
-one_cause source (Tall j) Unbuilt a b = absurd (not_tall source b.tokens j a b.grammatical)
+one_cause source (Tall j) Unbuilt a b = absurd (tall_not_grammatical source b.tokens j a b.grammatical)
 one_cause source Unbuilt Long a b = sym (not_long source Unbuilt b a.grammatical.short)
 one_cause source Unbuilt (Bad k) a b = absurd (not_both source a.tokens k a.grammatical.read b.1)
-one_cause source Unbuilt (Syntax k) a b = absurd (not_syntax source a.tokens k b a.grammatical)
-one_cause source Unbuilt (Tall k) a b = absurd (not_tall source a.tokens k b a.grammatical)
+one_cause source Unbuilt (Syntax k) a b = absurd (syntax_not_grammatical source a.tokens k b a.grammatical)
+one_cause source Unbuilt (Tall k) a b = absurd (tall_not_grammatical source a.tokens k b a.grammatical)
 one_cause source Unbuilt Unbuilt a b = refl

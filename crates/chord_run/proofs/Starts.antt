@@ -4,7 +4,7 @@ use Rattle.chord_lexer.specs.Reading.{Chain, IsRead, after_mark, more, none, tok
 use Rattle.chord_lexer.specs.declared.piece.Piece.{Piece}
 use Rattle.chord_lexer.specs.declared.piece.Piece.TheVariants as pieces
 use Rattle.chord_lexer.specs.declared.token.Token.{Token}
-use Rattle.chord_run.specs.Refusals.{IsTokenAt, IsWithin, start_of}
+use Rattle.chord_run.specs.Refusals.{IsTokenAt, IsWithin, token_start}
 use Rattle.chord_run.specs.Sources.{IsShort}
 
 -- each token begins at this byte or before it
@@ -31,19 +31,19 @@ chain_within (more {at = at} {p} {piece} {text} {tokens} longest chain) =
     let l = length-append piece text in
     both_within (at + length (piece ++ text)) (tokens_of p at (at + length piece)) tokens (piece_within p at (at + length piece) (at + length (piece ++ text)) (omega arith)) (further_within (at + length piece + length text) (at + length (piece ++ text)) tokens (omega arith) (chain_within chain))
 
-start_within : (end : ℕ) (tokens : List Token) (k : ℕ) → BeginWithin end tokens → start_of tokens k end ≤ end
+start_within : (end : ℕ) (tokens : List Token) (k : ℕ) → BeginWithin end tokens → token_start tokens k end ≤ end
 start_within end [] k b = omega arith
 start_within end (token ∷ later) zero b = b.0
 start_within end (token ∷ later) (suc k) b = start_within end later k b.1
 
 -- the byte at which a token of a source begins is within the text
-pub token_within : (source : List ℕ) (tokens : List Token) (k : ℕ) → IsRead source tokens → start_of tokens k (length (after_mark source)) ≤ length (after_mark source)
+pub token_within : (source : List ℕ) (tokens : List Token) (k : ℕ) → IsRead source tokens → token_start tokens k (length (after_mark source)) ≤ length (after_mark source)
 token_within source tokens k read =
     let b : BeginWithin (0 + length (after_mark source)) tokens = chain_within read in
     start_within (length (after_mark source)) tokens k (further_within (0 + length (after_mark source)) (length (after_mark source)) tokens (omega arith) b)
 
 -- the byte at which token k begins is one at which the tokens of a source may refuse it
-pub points_at_token : (source : List ℕ) (tokens : List Token) (k byte : ℕ) → IsShort source → IsRead source tokens → byte ≡ start_of tokens k (length (after_mark source)) → IsWithin source byte × IsTokenAt source k byte
+pub points_at_token : (source : List ℕ) (tokens : List Token) (k byte : ℕ) → IsShort source → IsRead source tokens → byte ≡ token_start tokens k (length (after_mark source)) → IsWithin source byte × IsTokenAt source k byte
 points_at_token source tokens k byte short read at =
     let w = token_within source tokens k read in
     (record { short = short; within = omega arith }, record { tokens = tokens; read = read; at = at })

@@ -1,20 +1,27 @@
--- What the words of the command line ask for.
+-- What the arguments of the command line request.
 use Rattle.std.specs.Prelude.{◌≡◌, ℕ, List, [], ◌∷◌, map, codes, String, string_bytes}
 use Rattle.std.specs.declared.alloc.Global.{Global}
 use Rattle.chord_base.specs.declared.event.Limits.{Limits}
+use Rattle.chord_run.specs.declared.command.Mode.TheVariants.{Run}
+use Rattle.chord_run.specs.declared.command.Request.{Request}
 
--- the bytes of each word
-abbrev pub texts : List (String Global) → List (List ℕ)
-texts words = map string_bytes words
+-- the bytes of each argument
+abbrev pub argument_bytes : List (String Global) → List (List ℕ)
+argument_bytes arguments = map string_bytes arguments
 
--- the limits of a run where the words name no others: 65,536 events, 1,000,000 turns of a body, and the depth 256
+-- the limits of a run where the arguments name no others: 65,536 events, 1,000,000 turns of a body, and the depth 256
 abbrev pub default_limits : Limits
 default_limits = record { events = 65536; turns = 1000000; depth = 256 }
 
--- the words ask for a run within these limits: they are `run` and `--one`
-abbrev pub Asks : List (List ℕ) → Limits → Type 0
-Asks words limits = (words ≡ codes "run" ∷ codes "--one" ∷ []) × (limits ≡ default_limits)
+-- the arguments request this: `run` and `--one` request a run within these limits
+abbrev pub Requests : List (List ℕ) → Request → Type 0
+Requests arguments request =
+    (arguments ≡ codes "run" ∷ codes "--one" ∷ []) × (request ≡ record { mode = Run; limits = default_limits })
 
--- the words are taken
-abbrev pub AreTaken : List (List ℕ) → Type 0
-AreTaken words = (limits : Limits) × Asks words limits
+-- the arguments are accepted: they request something
+abbrev pub AreAccepted : List (List ℕ) → Type 0
+AreAccepted arguments = (request : Request) × Requests arguments request
+
+-- of what the arguments request this is true
+abbrev pub Requested : List (List ℕ) → (Request → Type 0) → Type 0
+Requested arguments is = (request : Request) × Requests arguments request × is request

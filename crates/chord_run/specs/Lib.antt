@@ -1,10 +1,31 @@
-pub mod Command
-pub mod Chosen
-pub mod SmallForm
-pub mod Sources
-pub mod Places
-pub mod Refusals
-pub mod Written
-pub mod Answers
+-- The top call, in the order in which it is to be read: first what each status says, then the words that it is said in.
+
+-- ## What callers read
+
+-- the statuses one by one
 pub mod Rows
+-- the headline
+pub mod Answers
+-- what is due for a source: a status and a text
+pub mod Due
+-- what one call reads and writes
+pub mod Written
+-- what the arguments of the command line request
+pub mod Command
+-- which sources are accepted, and what the join machine of each is
+pub mod Sources
+-- small sources: the programs that are run today
+pub mod SmallForm
+-- the names that a small source chooses
+pub mod Chosen
+-- why a source is refused, and the line that says so
+pub mod Refusals
+-- the line and the column of a byte
+pub mod Positions
+-- what holds of each source
 pub mod Laws
+
+-- ## What only the code's own contracts use
+
+-- what the private functions of the top call report
+pub mod Reports

@@ -3,7 +3,7 @@ use Rattle.std.specs.Prelude.{◌≡◌, ℕ, ◌<◌, ◌≤◌, ◌++◌, List
 use Rattle.chord_lexer.specs.Reading.{IsRead, IsRefused, after_mark}
 use Rattle.chord_lexer.specs.declared.token.Token.{Token}
 use Rattle.chord_lists.specs.declared.small.SmallLine.{SmallLine}
-use Rattle.chord_run.specs.Places.{place_of}
+use Rattle.chord_run.specs.Positions.{position_of}
 use Rattle.chord_parser.specs.Answers.{IsAnswer}
 use Rattle.chord_parser.specs.declared.parser.ParseFault.{ParseFault}
 use Rattle.chord_parser.specs.declared.parser.ParseFault.TheVariants as parser
@@ -12,7 +12,7 @@ use Rattle.chord_run.specs.Sources.{IsGrammatical, IsShort}
 use Rattle.chord_tree.specs.Program.{told}
 use Rattle.chord_run.specs.declared.front.FrontFault.{FrontFault}
 use Rattle.chord_run.specs.declared.front.FrontFault.TheVariants.{Memory, Refused}
-use Rattle.chord_run.specs.declared.place.Place.{Place}
+use Rattle.chord_run.specs.declared.position.Position.{Position}
 use Rattle.chord_run.specs.declared.refusal.Refusal.{Refusal}
 use Rattle.chord_run.specs.declared.refusal.Refusal.TheVariants.{Long, Bad, Syntax, Tall, Unbuilt}
 
@@ -39,8 +39,8 @@ IsCause source (Tall k) = IsAnsweredBy source (parser.Tall k)
 IsCause source Unbuilt = IsUnbuilt source
 
 -- the byte at which token k begins; where k is the number of tokens, the end of the text
-abbrev pub start_of : List Token → ℕ → ℕ → ℕ
-start_of tokens k end = unwrap_or (option_map (λ token. token.start) (slice_get tokens k)) end
+abbrev pub token_start : List Token → ℕ → ℕ → ℕ
+token_start tokens k end = unwrap_or (option_map (λ token. token.start) (slice_get tokens k)) end
 
 -- the byte is in the text of a source, or at its end
 pub record IsWithin (source : List ℕ) (byte : ℕ) : Type 0 where
@@ -51,7 +51,7 @@ pub record IsWithin (source : List ℕ) (byte : ℕ) : Type 0 where
 pub record IsTokenAt (source : List ℕ) (k byte : ℕ) : Type 0 where
   pub tokens : List Token
   pub read : IsRead source tokens
-  pub at : byte ≡ start_of tokens k (length (after_mark source))
+  pub at : byte ≡ token_start tokens k (length (after_mark source))
 
 -- the byte at which a refusal points, where it points at one
 abbrev pub PointsAt : List ℕ → Refusal → ℕ → Type 0
@@ -62,12 +62,12 @@ PointsAt source (Tall k) byte = IsWithin source byte × IsTokenAt source k byte
 PointsAt source Unbuilt byte = Unit {0}
 
 -- a line that ends with a place: its line, `:` and its column
-abbrev pub with_place : List ℕ → Place → List ℕ
-with_place front place = front ++ decimal place.line ++ codes ":" ++ decimal place.column ++ codes "\n"
+abbrev pub with_position : List ℕ → Position → List ℕ
+with_position front place = front ++ decimal place.line ++ codes ":" ++ decimal place.column ++ codes "\n"
 
 -- a line that ends with the place of a byte at which the refusal points
 abbrev pub PointsIn : List ℕ → Refusal → List ℕ → List ℕ → Type 0
-PointsIn source refusal front line = (byte : ℕ) × PointsAt source refusal byte × (line ≡ with_place front (place_of (after_mark source) byte))
+PointsIn source refusal front line = (byte : ℕ) × PointsAt source refusal byte × (line ≡ with_position front (position_of (after_mark source) byte))
 
 -- the line of a refusal
 abbrev pub IsLine : List ℕ → Refusal → List ℕ → Type 0

@@ -13,9 +13,9 @@ use Rattle.chord_run.specs.declared.small.Role.TheVariants.{Buffer, Get, Put, Pa
 use Rattle.chord_run.specs.declared.small.Piece.{Piece}
 use Rattle.chord_run.specs.declared.small.Piece.TheVariants.{Word, Mark, Name}
 
--- the kinds of these tokens
-abbrev pub kinds_of : List Token → List Kind
-kinds_of tokens = map (λ t. t.kind) tokens
+-- the kinds of these tokens, as a map over them
+abbrev pub mapped_kinds : List Token → List Kind
+mapped_kinds tokens = map (λ t. t.kind) tokens
 
 -- the name of a role
 abbrev pub name_of : Chosen → Role → List ℕ
@@ -67,12 +67,12 @@ pub record StandInHead (n : Chosen) (kinds : List Kind) : Type 0 where
   pub variable : slice_get kinds 32 ≡ Some (a_kind.Name n.variable)
 
 -- `b.P(`
-abbrev pub put : List Piece
-put = Name Variable ∷ Mark a_mark.Dot ∷ Name Put ∷ Mark a_mark.OpenParenthesis ∷ []
+abbrev pub put_pieces : List Piece
+put_pieces = Name Variable ∷ Mark a_mark.Dot ∷ Name Put ∷ Mark a_mark.OpenParenthesis ∷ []
 
 -- `Console.WriteLine(`
-abbrev pub print : List Piece
-print = Name Console ∷ Mark a_mark.Dot ∷ Name WriteLine ∷ Mark a_mark.OpenParenthesis ∷ []
+abbrev pub print_pieces : List Piece
+print_pieces = Name Console ∷ Mark a_mark.Dot ∷ Name WriteLine ∷ Mark a_mark.OpenParenthesis ∷ []
 
 -- `);`
 abbrev pub call_end : List Piece
@@ -95,8 +95,8 @@ with_literal n front t = spelled n front ++ a_kind.Literal t ∷ spelled n call_
 
 -- a line: `b.P("..");`, `Console.WriteLine("..");` or `Console.WriteLine(b.G());`
 abbrev pub line_kinds : Chosen → line.SmallLine → List Kind
-line_kinds n (a_line.Put t) = with_literal n put t
-line_kinds n (a_line.Print t) = with_literal n print t
+line_kinds n (a_line.Put t) = with_literal n put_pieces t
+line_kinds n (a_line.Print t) = with_literal n print_pieces t
 line_kinds n a_line.PrintGet = spelled n print_get
 
 -- the lines of `Main`, and the two braces that close it and its class

@@ -1,6 +1,7 @@
 -- Which sources are accepted, and what the join machine of each is.
 use Rattle.std.specs.Prelude.{◌≡◌, ℕ, ◌≤◌, List, length}
 use Rattle.chord_base.specs.Meaning.{Program}
+use Rattle.chord_base.specs.declared.event.Limits.{Limits}
 use Rattle.chord_lexer.specs.Reading.{IsRead}
 use Rattle.chord_lexer.specs.declared.token.Token.{Token}
 use Rattle.chord_lists.specs.Small.{small_program}
@@ -29,10 +30,11 @@ pub record IsSmall (source : List ℕ) (lines : List SmallLine) : Type 0 where
   pub grammatical : IsGrammatical source tokens
   pub small : IsSmallForm (told tokens) lines
 
--- the join machine of a source: what the program of its lines means
-abbrev pub IsMachine : List ℕ → Program → Type 0
-IsMachine source program = (lines : List SmallLine) × IsSmall source lines × (program ≡ small_program lines)
-
--- a source is accepted: it has a join machine
+-- a source is accepted: it is small
 abbrev pub IsAccepted : List ℕ → Type 0
-IsAccepted source = (program : Program) × IsMachine source program
+IsAccepted source = (lines : List SmallLine) × IsSmall source lines
+
+-- the join machine of a source within these limits on turns and depth: what the program of its lines means, which meets
+-- neither limit
+abbrev pub IsMachine : List ℕ → Limits → Program → Type 0
+IsMachine source limits program = (lines : List SmallLine) × IsSmall source lines × (program ≡ small_program lines)

@@ -3,7 +3,7 @@
 
 ghost use Rattle.std.specs.Prelude.{◌≡◌, ◌≤◌, IfErr, IfOk, length};
 ghost use Rattle.chord_lexer.specs.Reading.{IsRead, after_mark};
-ghost use Rattle.chord_run.specs.Refusals.{IsFrontFault, start_of};
+ghost use Rattle.chord_run.specs.Refusals.{IsFrontFault, token_start};
 ghost use Rattle.chord_run.specs.Sources.{IsShort, IsSmall};
 
 use crate::refusal::Refusal;
@@ -17,7 +17,7 @@ use std::alloc::Global;
 /// Why a source has no lines.
 #[derive(Clone, Copy, Debug, PartialEq, Eq)]
 pub enum FrontFault {
-    /// For want of memory.
+    /// The call ran out of memory.
     Memory,
     /// It is refused, and the refusal points at this byte, where it points at one.
     Refused(Refusal, u32),
@@ -63,7 +63,7 @@ fn small_program(alloc: Global, source: &[u8], tokens: &[Token]) -> Result<Small
 /// The byte at which token `k` begins, or the end of the text.
 fn start_byte(source: &[u8], tokens: &[Token], k: u32) -> u32
     requires { IsShort source.now }
-    ensures { result ≡ start_of tokens.now k (length (after_mark source.now)) }
+    ensures { result ≡ token_start tokens.now k (length (after_mark source.now)) }
 {
     match tokens.get(k as usize) {
         Some(token) => token.start,

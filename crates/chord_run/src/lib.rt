@@ -1,7 +1,7 @@
-//! The top call: from the words of the command line and the bytes of a source to what is written, and the status.
-//! Stands on: chord_io, chord_lexer, chord_lists, chord_journal, chord_base. Used by: chord_prog.
+//! The top call: from the arguments of the command line and the bytes of a source to what is written, and the status.
+//! Stands on: chord_base, chord_io, chord_journal, chord_lexer, chord_lists, chord_parser, chord_tree, itoa. Used by: chord_prog.
 //! Promise: `chord` writes the lines of the journal it keeps, which is a complete run of the source's join machine, or a run
-//! of as many entries as are allowed; every other answer has its cause (specs/Answers.antt, after Command, Sources, Refusals).
+//! of as many entries as are allowed; every other answer has its cause (specs/Rows.antt, specs/Answers.antt).
 //! A source has one machine, or one cause of a refusal (`laws`).
 //! Not here: what a program means (chord_base, chord_lists), and what a terminal or a file gives (chord_prog).
 #![tactic(auto)]
@@ -9,7 +9,7 @@
 mod command;
 mod front;
 pub mod laws;
-mod place;
+mod position;
 mod refusal;
 mod report;
 mod small;

@@ -3,10 +3,10 @@
 
 ghost use Rattle.std.specs.Prelude.{◌≡◌, IfOk};
 ghost use Rattle.chord_lexer.specs.Reading.{after_mark};
-ghost use Rattle.chord_run.specs.Places.{place_of};
-ghost use Rattle.chord_run.specs.Refusals.{IsLine, IsWithin, PointsAt, with_place};
+ghost use Rattle.chord_run.specs.Positions.{position_of};
+ghost use Rattle.chord_run.specs.Refusals.{IsLine, IsWithin, PointsAt, with_position};
 
-use crate::place::{Place, place_at};
+use crate::position::{Position, position_at};
 use chord_lexer::lexer::unmarked;
 use itoa::Buffer;
 use std::alloc::{AllocError, Global};
@@ -54,15 +54,15 @@ fn pointing_line(
     byte: u32,
 ) -> Result<Vec<u8>, AllocError>
     requires { IsWithin source.now byte }
-    ensures { IfOk result (λ line. line.items ≡ with_place front.now (place_of (after_mark source.now) byte)) }
+    ensures { IfOk result (λ line. line.items ≡ with_position front.now (position_of (after_mark source.now) byte)) }
 {
-    let place = place_at(unmarked(source), byte as usize);
-    placed_line(alloc, front, place)
+    let place = position_at(unmarked(source), byte as usize);
+    positioned_line(alloc, front, place)
 }
 
 /// A line that ends with a place.
-fn placed_line(alloc: Global, front: &[u8], place: Place) -> Result<Vec<u8>, AllocError>
-    ensures { IfOk result (λ line. line.items ≡ with_place front.now place) }
+fn positioned_line(alloc: Global, front: &[u8], place: Position) -> Result<Vec<u8>, AllocError>
+    ensures { IfOk result (λ line. line.items ≡ with_position front.now place) }
 {
     let mut buffer = Buffer::new();
     let mut line = Vec::from_slice(alloc, front)?;

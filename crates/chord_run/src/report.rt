@@ -9,19 +9,19 @@ use chord_base::journal::Journal;
 /// The source is refused, and the refusal's line was written.
 pub const REFUSED: u8 = 1;
 
-/// The words are not taken, and nothing was read or written.
-pub const OTHER_WORDS: u8 = 2;
+/// The arguments are not accepted, and nothing was read or written.
+pub const OTHER_ARGUMENTS: u8 = 2;
 
-/// The source failed, and nothing was written.
+/// A read failed, and nothing was written.
 pub const READ_FAULT: u8 = 3;
 
-/// The sink failed, and a front of what was due was written.
+/// A write failed, and a proper prefix of what was due was written.
 pub const WRITE_FAULT: u8 = 5;
 
 /// The journal has as many entries as are allowed, and some entry may follow it.
 pub const AT_LIMIT: u8 = 6;
 
-/// No memory was found, and nothing was written.
+/// The call ran out of memory, and nothing was written.
 pub const NO_MEMORY: u8 = 7;
 
 /// The answer of the top call.

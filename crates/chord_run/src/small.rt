@@ -6,7 +6,7 @@ ghost use Rattle.chord_lexer.specs.declared.token.Kind.TheVariants as a_kind;
 ghost use Rattle.chord_lists.specs.declared.small.SmallLine as line;
 ghost use Rattle.chord_tree.specs.Program.{told};
 ghost use Rattle.chord_run.specs.Chosen.{AreApart, Chosen};
-ghost use Rattle.chord_run.specs.SmallForm.{AreFit, IsFit, IsSmallForm, StandInHead, body, kind_of_piece, kinds_of, line_kinds, name_of, spelled, tail, with_literal};
+ghost use Rattle.chord_run.specs.SmallForm.{AreFit, IsFit, IsSmallForm, StandInHead, body, kind_of_piece, mapped_kinds, line_kinds, name_of, spelled, tail, with_literal};
 
 use chord_base::text::{Text, TextFault};
 use chord_lexer::token::{Keyword, Kind, Mark, Token};
@@ -186,7 +186,7 @@ fn is_piece(kind: &Kind, names: &Names, piece: Piece) -> bool
 
 /// Whether the tokens begin with these pieces.
 fn begins_with(tokens: &[Token], names: &Names, pieces: &[Piece]) -> bool
-    ensures begins { IsTrue result ↔ (take (length pieces.now) (kinds_of tokens.now) ≡ spelled names.now pieces.now) }
+    ensures begins { IsTrue result ↔ (take (length pieces.now) (mapped_kinds tokens.now) ≡ spelled names.now pieces.now) }
     ensures enough { IsTrue result → length pieces.now ≤ length tokens.now }
 {
     if tokens.len() < pieces.len() {
@@ -202,7 +202,7 @@ fn begins_with(tokens: &[Token], names: &Names, pieces: &[Piece]) -> bool
 
 /// The name at this place.
 fn name_at(tokens: &[Token], place: usize) -> Option<&[u8]>
-    ensures { (name : List ℕ) → slice_get (kinds_of tokens.now) place ≡ Some (a_kind.Name name)
+    ensures { (name : List ℕ) → slice_get (mapped_kinds tokens.now) place ≡ Some (a_kind.Name name)
         → IsSomeAnd result (λ found. found.now ≡ name) }
 {
     match tokens.get(place) {
@@ -223,9 +223,9 @@ fn literal_call(
 ) -> Result<Option<Text>, AllocError>
     requires { length front.now ≡ 4 }
     ensures some { IfOk result (λ found. IfSome found (λ text.
-        take 7 (kinds_of tokens.now) ≡ with_literal names.now front.now text × length text ≤ 1024)) }
+        take 7 (mapped_kinds tokens.now) ≡ with_literal names.now front.now text × length text ≤ 1024)) }
     ensures none { IfOk result (λ found. IfNone found ((text : List ℕ) → length text ≤ 1024
-        → take 7 (kinds_of tokens.now) ≡ with_literal names.now front.now text → ⊥)) }
+        → take 7 (mapped_kinds tokens.now) ≡ with_literal names.now front.now text → ⊥)) }
 {
     if !begins_with(tokens, names, front) || tokens.len() < 7 {
         return Ok(None);
@@ -246,9 +246,9 @@ fn literal_call(
 /// The line at the front of the tokens.
 fn line_at(alloc: Global, tokens: &[Token], names: &Names) -> Result<Option<SmallLine>, AllocError>
     ensures some { IfOk result (λ found. IfSome found (λ line.
-        take (length (line_kinds names.now line)) (kinds_of tokens.now) ≡ line_kinds names.now line × IsFit line)) }
+        take (length (line_kinds names.now line)) (mapped_kinds tokens.now) ≡ line_kinds names.now line × IsFit line)) }
     ensures none { IfOk result (λ found. IfNone found ((line : line.SmallLine) → IsFit line
-        → take (length (line_kinds names.now line)) (kinds_of tokens.now) ≡ line_kinds names.now line → ⊥)) }
+        → take (length (line_kinds names.now line)) (mapped_kinds tokens.now) ≡ line_kinds names.now line → ⊥)) }
 {
     if let Some(text) = literal_call(alloc, tokens, names, &PUT)? {
         return Ok(Some(SmallLine::Put(text)));
@@ -275,7 +275,7 @@ fn length_of(line: &SmallLine) -> usize
 
 /// The name at each place where `HEAD` has a chosen name for the first time.
 fn names_of(tokens: &[Token]) -> Option<Names<'_>>
-    ensures { (chosen : Chosen) → StandInHead chosen (kinds_of tokens.now) → result ≡ Some chosen }
+    ensures { (chosen : Chosen) → StandInHead chosen (mapped_kinds tokens.now) → result ≡ Some chosen }
 {
     Some(Names {
         buffer: name_at(tokens, 1)?,
@@ -304,7 +304,7 @@ fn are_apart(names: &Names) -> bool
 
 /// Whether the tokens are those that close `Main` and its class.
 fn is_tail(tokens: &[Token], names: &Names) -> bool
-    ensures { IsTrue result ↔ (kinds_of tokens.now ≡ spelled names.now tail) }
+    ensures { IsTrue result ↔ (mapped_kinds tokens.now ≡ spelled names.now tail) }
 {
     tokens.len() == TAIL.len() && begins_with(tokens, names, &TAIL)
 }
@@ -317,9 +317,9 @@ fn lines_of(
 ) -> Result<Option<Vec<SmallLine>>, AllocError>
     requires { AreApart names.now }
     ensures some { IfOk result (λ found. IfSome found (λ lines.
-        kinds_of tokens.now ≡ body names.now lines.items × AreFit lines.items)) }
+        mapped_kinds tokens.now ≡ body names.now lines.items × AreFit lines.items)) }
     ensures none { IfOk result (λ found. IfNone found ((lines : List line.SmallLine) → AreFit lines
-        → kinds_of tokens.now ≡ body names.now lines → ⊥)) }
+        → mapped_kinds tokens.now ≡ body names.now lines → ⊥)) }
 {
     let mut rest = tokens;
     let mut lines = Vec::new(alloc);

@@ -113,7 +113,7 @@ const CASES: [Case; 9] = [
         entries: None,
     },
     Case {
-        name: "other words",
+        name: "other arguments",
         words: "walk",
         puts: 1,
         gets: 1,

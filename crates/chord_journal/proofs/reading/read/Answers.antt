@@ -2,7 +2,7 @@
 use Rattle.std.proofs.Common.{◌≡◌, List, ℕ, Ok, Err, Result, ap, sym, ◌∙◌, refl, inl, inr, IfOk}
 use Rattle.chord_base.specs.Bounds.{IsJournal}
 use Rattle.chord_base.specs.declared.event.Entry.{Entry}
-use Rattle.chord_journal.specs.Text.{text_of}
+use Rattle.chord_journal.specs.Text.{journal_text}
 use Rattle.chord_journal.specs.Typed.{AreTyped}
 use Rattle.chord_journal.specs.Wrong.{IsWrongAt, UnlessMemory}
 use Rattle.chord_journal.specs.declared.reading.JournalFault.{JournalFault}
@@ -12,14 +12,14 @@ use Rattle.chord_journal.proofs.reading.read.Goals as goal
 
 -- what was read has these bytes as its text
 abbrev Found : List ℕ → List Entry → Type 0
-Found bytes journal = (bytes ≡ text_of journal) × AreTyped journal × IsJournal journal
+Found bytes journal = (bytes ≡ journal_text journal) × AreTyped journal × IsJournal journal
 
 -- a line that is named is the least that is wrong
 abbrev Named : List ℕ → Result (List Entry) JournalFault → Type 0
 Named bytes answer = (k : ℕ) → answer ≡ Err (At k) → IsWrongAt bytes k
 
 only : (bytes : List ℕ) (answer : Result (List Entry) JournalFault) → IfOk answer (Found bytes) → Named bytes answer → (journal : List Entry) →
-    IsJournal journal → AreTyped journal → bytes ≡ text_of journal → UnlessMemory answer (Ok journal)
+    IsJournal journal → AreTyped journal → bytes ≡ journal_text journal → UnlessMemory answer (Ok journal)
 only bytes (Ok other) found named journal is typed text =
     inr (ap (λ (es : List Entry). Ok es) (same_journal other journal found.2 found.1 is typed (sym found.0 ∙ text)))
 only bytes (Err Memory) found named journal is typed text = inl refl

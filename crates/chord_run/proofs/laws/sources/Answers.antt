@@ -1,13 +1,23 @@
 use Rattle.chord_run.proofs.Causes.{cause_refuses}
 use Rattle.chord_run.proofs.Exact.{one_line, one_machine}
+use Rattle.chord_run.proofs.Lines.{accepted_has_machine, cause_has_line, machine_is_of_accepted}
 use Rattle.chord_run.proofs.OneCause.{one_cause}
 use Rattle.chord_run.proofs.laws.sources.Goals as goal
 
 pub returns-clause-machine : goal.returns-clause-machine
 returns-clause-machine c = one_machine
 
+pub returns-clause-accepted : goal.returns-clause-accepted
+returns-clause-accepted c = accepted_has_machine
+
+pub returns-clause-of_accepted : goal.returns-clause-of_accepted
+returns-clause-of_accepted c = machine_is_of_accepted
+
 pub returns-clause-cause : goal.returns-clause-cause
 returns-clause-cause c = one_cause
+
+pub returns-clause-some_line : goal.returns-clause-some_line
+returns-clause-some_line c = cause_has_line
 
 pub returns-clause-line : goal.returns-clause-line
 returns-clause-line c = one_line

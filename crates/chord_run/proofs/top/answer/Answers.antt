@@ -7,12 +7,12 @@ returns-in-Err-TooLong-clause-headline g c =
     let t = c.in-Err-TooLong.ensures.too_long (rw c.in-Err-TooLong.field-0-is refl) in
     let s = source_of (g.S.Source.left c.args.source.now) _ t.0 t.2 in
     elim c.refuse.ensures.answered [
-      | inl u ↦ inl (record { silent = inr (inr u.status_is); journal = u.journal; refusal = u.refusal; written = u.written })
+      | inl u ↦ inl (record { silent = inr (inr u.status_is); nothing = u.nothing })
       | inr r ↦ inr (record {
-        limits = c.in-Some.limits;
-        asked = c.in-Some.ensures.some;
+        request = c.in-Some.request;
+        requested = c.in-Some.ensures.some;
         source = s.0;
         given = s.1;
-        answered = long_answers _ s.0 c.in-Some.limits.events c.refuse.result _ _ (s.2 (omega (arith, t.1))) r;
+        answered = long_answers c.in-Some.request _ s.0 c.refuse.result _ _ (s.2 (omega (arith, t.1))) r;
       })
     ]

@@ -8,7 +8,7 @@ returns-in-Ok-write_lines-clause-answered g c =
       reported = ap (λ r. r.journal) c.played.ensures;
       refusal = ap (λ r. r.refusal) c.played.ensures;
       status = c.due_status-due.result;
-      gives = c.due_status-due.ensures.gives c.args.small.now c.args.limits.now.events c.in-Ok.ensures.run c.in-Ok.ensures.whole;
+      has_status = c.due_status-due.ensures.gives c.args.small.now c.args.request.now.limits.events c.in-Ok.ensures.run c.in-Ok.ensures.whole c.in-Ok.ensures.few;
       written = inl (ap (λ r. r.status) c.played.ensures, c.in-Ok-write_lines.ensures.whole);
     })
 
@@ -23,6 +23,6 @@ returns-in-Err-write_lines-clause-answered g c =
       reported = ap (λ r. r.journal) c.played-in-Err-write_lines.ensures;
       refusal = ap (λ r. r.refusal) c.played-in-Err-write_lines.ensures;
       status = c.due_status-due.result;
-      gives = c.due_status-due.ensures.gives c.args.small.now c.args.limits.now.events c.in-Ok.ensures.run c.in-Ok.ensures.whole;
+      has_status = c.due_status-due.ensures.gives c.args.small.now c.args.request.now.limits.events c.in-Ok.ensures.run c.in-Ok.ensures.whole c.in-Ok.ensures.few;
       written = inr (ap (λ r. r.status) c.played-in-Err-write_lines.ensures, c.in-Err-write_lines.ensures.prefix);
     })

@@ -1,5 +1,0 @@
-use Rattle.chord_run.proofs.Breaks.{HasCome}
-use Rattle.chord_run.proofs.place.place_at.Given as goal
-
-abbrev pub invariant-loop-i : goal.invariant-loop-i
-invariant-loop-i l = HasCome l.text l.i l.place

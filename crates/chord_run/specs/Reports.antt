@@ -1,0 +1,33 @@
+-- What the private functions of the top call report: a run, a refusal, or that memory ran out.
+use Rattle.std.specs.Prelude.{◌≡◌, ℕ, List, Option, None, Some}
+use Rattle.chord_base.specs.Meaning.{Program}
+use Rattle.chord_base.specs.declared.event.Entry.{Entry}
+use Rattle.chord_run.specs.Answers.{WritesNothing}
+use Rattle.chord_run.specs.Due.{HasStatus, text_due}
+use Rattle.chord_run.specs.Refusals.{IsLine}
+use Rattle.chord_run.specs.Written.{IsWritten}
+use Rattle.chord_run.specs.declared.command.Request.{Request}
+use Rattle.chord_run.specs.declared.refusal.Refusal.{Refusal}
+use Rattle.chord_run.specs.declared.report.Report.{Report}
+
+-- the call ran out of memory, and nothing is written
+pub record ReportsNoMemory (report : Report) (before after : Option (List ℕ)) : Type 0 where
+  pub status_is : report.status ≡ 7
+  pub nothing : WritesNothing report before after
+
+-- the report has a journal of this program, and what is due for it was written
+pub record ReportsRun (request : Request) (program : Program) (report : Report) (before after : Option (List ℕ)) : Type 0 where
+  pub journal : List Entry
+  pub reported : report.journal ≡ Some journal
+  pub refusal : report.refusal ≡ None
+  pub status : ℕ
+  pub has_status : HasStatus program request.limits.events journal status
+  pub written : IsWritten (record { status = status; text = text_due request journal }) report.status before after
+
+-- the report has a refusal, and what is due for it was written
+pub record ReportsRefusal (source : List ℕ) (refusal : Refusal) (report : Report) (before after : Option (List ℕ)) : Type 0 where
+  pub journal : report.journal ≡ None
+  pub reported : report.refusal ≡ Some refusal
+  pub line : List ℕ
+  pub is_line : IsLine source refusal line
+  pub written : IsWritten (record { status = 1; text = line }) report.status before after

@@ -1,0 +1,99 @@
+-- From one instruction to the next ask.
+use Rattle.std.proofs.Common.{◌≡◌, ℕ, zero, suc, ◌<◌, List, [], ◌∷◌, Option, Some, None, length, get_or, refl, sym, ◌∙◌, ap, arith, ⊎_elim}
+use Rattle.std.specs.Prelude.{slice_get}
+use Rattle.std.proofs.lemmas.Option.{slice_get_past}
+use Rattle.std.proofs.lemmas.Bool.{cases_lt}
+use Rattle.chord_base.specs.declared.event.What.{What}
+use Rattle.chord_base.specs.declared.event.What.TheVariants.{Made, Sent, Called, Printed, Ended}
+use Rattle.chord_vm.specs.declared.ask.Ask.{Ask}
+use Rattle.chord_vm.specs.declared.ask.Ask.TheVariants as ask
+use Rattle.chord_code.specs.declared.instruction.Instruction.{Instruction}
+use Rattle.chord_code.specs.declared.parts.Block.{Block}
+use Rattle.chord_code.specs.declared.parts.Parts.{Parts}
+use Rattle.chord_vm.specs.declared.frames.Frames.{Frames}
+use Rattle.chord_code.specs.Machine.{Machine, Waiting, Did, Goes, Asking, Bad, instr_in, fetch, act, step, goes_on, run, ComesTo, ComesToAsk}
+use Rattle.chord_vm.specs.Frames.{machine_of, waiting_of, SteppedTo, Advanced}
+
+comes_good : (code : Parts) (m : Machine) (a : What) (w : Waiting) (n : ℕ) → run code n m ≡ Asking a w → step code m ≡ Bad → ⊥
+comes_good code m a w zero e b = elim (no e) [ ]
+  where
+    no : Goes m ≡ Asking a w → ⊥
+    no e = cc
+comes_good code m a w (suc n) e b = elim (no (ap (goes_on (run code n)) (sym b) ∙ e)) [ ]
+  where
+    no : Bad ≡ Asking a w → ⊥
+    no e = cc
+
+pub not_bad : (code : Parts) (m : Machine) → ComesToAsk code m → step code m ≡ Bad → ⊥
+not_bad code m d b = comes_good code m d.ask d.waiting d.comes.count d.comes.by b
+
+pub comes_on : (code : Parts) (m m' : Machine) (a : What) (w : Waiting) → step code m ≡ Goes m' → ComesTo code m' a w → ComesTo code m a w
+comes_on code m m' a w e c = record { count = suc c.count; by = ap (goes_on (run code c.count)) e ∙ c.by }
+
+rest_of : (code : Parts) (m m' : Machine) (a : What) (w : Waiting) (n : ℕ) → step code m ≡ Goes m' → run code n m ≡ Asking a w → ComesTo code m' a w
+rest_of code m m' a w zero e r = elim (no r) [ ]
+  where
+    no : Goes m ≡ Asking a w → ⊥
+    no e = cc
+rest_of code m m' a w (suc n) e r = record { count = n; by = ap (goes_on (run code n)) (sym e) ∙ r }
+
+pub defined_on : (code : Parts) (m m' : Machine) → step code m ≡ Goes m' → ComesToAsk code m → ComesToAsk code m'
+defined_on code m m' e d = record { ask = d.ask; waiting = d.waiting; comes = rest_of code m m' d.ask d.waiting d.comes.count e d.comes.by }
+
+now : (code : Parts) (m : Machine) (a : What) (w : Waiting) → step code m ≡ Asking a w → ComesTo code m a w
+now code m a w e = record { count = 1; by = ap (goes_on (run code 0)) e }
+
+-- what one instruction comes to is what the machine comes to
+pub stepped_advanced : (code : Parts) (m : Machine) (a : Ask) (f : Frames) → SteppedTo (step code m) (Some a) f → Advanced code m a f
+stepped_advanced code m (ask.End e) f h = (h.0, now code m (Ended e) h.0 h.1)
+stepped_advanced code m (ask.Make c) f h = now code m (Made c) (waiting_of f) h
+stepped_advanced code m (ask.Send o j xs) f h = now code m (Sent o j xs) (waiting_of f) h
+stepped_advanced code m (ask.Call o j xs) f h = now code m (Called o j xs) (waiting_of f) h
+stepped_advanced code m (ask.Print v) f h = now code m (Printed v) (waiting_of f) h
+
+-- after an instruction that goes on, what the machine comes to is what it came to before
+pub advanced_on : (code : Parts) (m m' : Machine) (a : Ask) (f : Frames) → step code m ≡ Goes m' → Advanced code m' a f → Advanced code m a f
+advanced_on code m m' (ask.End e) f s h = (h.0, comes_on code m m' (Ended e) h.0 s h.1)
+advanced_on code m m' (ask.Make c) f s h = comes_on code m m' (Made c) (waiting_of f) s h
+advanced_on code m m' (ask.Send o j xs) f s h = comes_on code m m' (Sent o j xs) (waiting_of f) s h
+advanced_on code m m' (ask.Call o j xs) f s h = comes_on code m m' (Called o j xs) (waiting_of f) s h
+advanced_on code m m' (ask.Print v) f s h = comes_on code m m' (Printed v) (waiting_of f) s h
+
+-- the place is in the code
+pub fetch_some : (code : Parts) (m : Machine) → ComesToAsk code m → fetch code m.top.block m.top.place ≡ None → ⊥
+fetch_some code m d e = not_bad code m d (ap (λ o. act code o m) e)
+
+pub block_in : (code : Parts) (m : Machine) → ComesToAsk code m → m.top.block < length code.blocks
+block_in code m d =
+    ⊎_elim (λ lt. lt)
+    (λ le. absurd (fetch_some code m d (ap (λ o. instr_in o m.top.place) (slice_get_past code.blocks m.top.block le))))
+    (cases_lt m.top.block (length code.blocks))
+
+pub place_in : (code : Parts) (m : Machine) (b : Block) → slice_get code.blocks m.top.block ≡ Some b → ComesToAsk code m → m.top.place < length b.instructions
+place_in code m b e d =
+    ⊎_elim (λ lt. lt)
+    (λ le. absurd (fetch_some code m d (ap (λ o. instr_in o m.top.place) e ∙ slice_get_past b.instructions m.top.place le)))
+    (cases_lt m.top.place (length b.instructions))
+
+pub stepped_none : (d : Did) (o : Option Ask) (f : Frames) → ((a : Ask) → o ≡ Some a → ⊥) → SteppedTo d o f → d ≡ Goes (machine_of f)
+stepped_none d None f n h = h
+stepped_none d (Some a) f n h = absurd (n a refl)
+
+-- what stands at a place of a list is one item
+get_at : {A : Type 0} (xs : List A) (n : ℕ) (x : A) → n < length xs → x ≡ get_or xs n x → slice_get xs n ≡ Some x
+get_at [] n x l e = absurd (omega (arith, l))
+get_at (y ∷ ys) zero x l e = ap Some (sym e)
+get_at (y ∷ ys) (suc n) x l e = get_at ys n x (omega (arith, l)) e
+
+-- the block of the machine's top frame
+block_at : (code : Parts) (m : Machine) (b : Block) → ComesToAsk code m → b ≡ get_or code.blocks m.top.block b → slice_get code.blocks m.top.block ≡ Some b
+block_at code m b d e = get_at code.blocks m.top.block b (block_in code m d) e
+
+-- its place is one of the block's
+pub place_at : (code : Parts) (m : Machine) (b : Block) → ComesToAsk code m → b ≡ get_or code.blocks m.top.block b → m.top.place < length b.instructions
+place_at code m b d e = place_in code m b (block_at code m b d e) d
+
+-- its instruction
+pub fetched : (code : Parts) (m : Machine) (b : Block) (x : Instruction) → ComesToAsk code m → b ≡ get_or code.blocks m.top.block b → x ≡ get_or b.instructions m.top.place x → fetch code m.top.block m.top.place ≡ Some x
+fetched code m b x d e f =
+    ap (λ o. instr_in o m.top.place) (block_at code m b d e) ∙ get_at b.instructions m.top.place x (place_at code m b d e) f

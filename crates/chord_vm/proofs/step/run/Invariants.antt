@@ -1,0 +1,15 @@
+use Rattle.chord_vm.specs.Frames.{machine_of, Advanced}
+use Rattle.chord_code.specs.Machine.{ComesToAsk}
+use Rattle.chord_vm.specs.declared.ask.Ask.{Ask}
+use Rattle.chord_vm.specs.declared.frames.Frames.{Frames}
+use Rattle.chord_code.specs.Fuel.{weight}
+use Rattle.chord_vm.proofs.step.run.Given as goal
+
+abbrev pub invariant-loop-ask : goal.invariant-loop-ask
+invariant-loop-ask l = record {
+  defined : ComesToAsk l.parts (machine_of l.frames);
+  goes_on : (a : Ask) (f : Frames) → Advanced l.parts (machine_of l.frames) a f → Advanced l.parts (machine_of l.initial.frames) a f;
+}
+
+abbrev pub decreases-loop-ask : goal.decreases-loop-ask
+decreases-loop-ask l = weight l.parts (machine_of l.frames)

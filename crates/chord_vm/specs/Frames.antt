@@ -1,0 +1,87 @@
+-- What the frames of a body stand for.
+use Rattle.std.specs.Prelude.{◌≡◌, ◌<◌, ◌≤◌, vec_len, vec_capacity, ℕ, List, [], ◌∷◌, ◌++◌, Option, Some, None, map, reverse, slice_get}
+use Rattle.chord_vm.specs.declared.frames.Frame as F
+use Rattle.chord_vm.specs.declared.frames.Frames.{Frames}
+use Rattle.chord_vm.specs.declared.ask.Ask.{Ask}
+use Rattle.chord_vm.specs.declared.ask.Ask.TheVariants as ask
+use Rattle.chord_base.specs.declared.value.Value.{Value}
+use Rattle.chord_base.specs.declared.event.What.{What}
+use Rattle.chord_base.specs.declared.event.What.TheVariants.{Made, Sent, Called, Printed, Ended}
+use Rattle.chord_code.specs.declared.awaited.Awaited.{Awaited}
+use Rattle.chord_code.specs.declared.awaited.Awaited.TheVariants.{ForNothing, ForValue, ForObject}
+use Rattle.chord_code.specs.declared.parts.Parts.{Parts}
+use Rattle.chord_code.specs.declared.parts.Block.{Block}
+use Rattle.chord_code.specs.Machine.{Frame, Machine, Waiting, Did, Goes, Asking, pops, ComesTo}
+
+-- a frame's stack grows at its end
+abbrev pub shown_frame : F.Frame → Frame
+shown_frame f = record { block = f.block; place = f.place; room = f.room; stack = reverse f.stack.items; slots = f.slots.items }
+
+-- the machine of the frames
+abbrev pub machine_of : Frames → Machine
+machine_of f = record { top = shown_frame f.top; below = reverse (map shown_frame f.below.items); turns = f.turns }
+
+-- the machine that waits for the answer of its ask
+abbrev pub waiting_of : Frames → Waiting
+waiting_of f = record { machine = machine_of f; awaited = f.awaited }
+
+-- what an ask says, as the entry that it becomes
+abbrev pub what_of_ask : Ask → What
+what_of_ask (ask.Make c) = Made c
+what_of_ask (ask.Send o j xs) = Sent o j xs
+what_of_ask (ask.Call o j xs) = Called o j xs
+what_of_ask (ask.Print t) = Printed t
+what_of_ask (ask.End e) = Ended e
+
+-- what one instruction came to; nothing is said of the frames of a body that has ended
+abbrev pub SteppedTo : Did → Option Ask → Frames → Type 0
+SteppedTo d None f = d ≡ Goes (machine_of f)
+SteppedTo d (Some (ask.End e)) f = (w : Waiting) × (d ≡ Asking (Ended e) w)
+SteppedTo d (Some (ask.Make c)) f = d ≡ Asking (Made c) (waiting_of f)
+SteppedTo d (Some (ask.Send o j xs)) f = d ≡ Asking (Sent o j xs) (waiting_of f)
+SteppedTo d (Some (ask.Call o j xs)) f = d ≡ Asking (Called o j xs) (waiting_of f)
+SteppedTo d (Some (ask.Print t)) f = d ≡ Asking (Printed t) (waiting_of f)
+
+-- the frame at another place, with another stack and other slots
+abbrev pub frame_with : Frame → ℕ → List Value → List Value → Frame
+frame_with f p s vs = record { block = f.block; place = p; room = f.room; stack = s; slots = vs }
+
+-- the ask to which a machine comes, and the frames that wait for its answer
+abbrev pub Advanced : Parts → Machine → Ask → Frames → Type 0
+Advanced code m (ask.End e) f = (w : Waiting) × ComesTo code m (Ended e) w
+Advanced code m (ask.Make c) f = ComesTo code m (Made c) (waiting_of f)
+Advanced code m (ask.Send o j xs) f = ComesTo code m (Sent o j xs) (waiting_of f)
+Advanced code m (ask.Call o j xs) f = ComesTo code m (Called o j xs) (waiting_of f)
+Advanced code m (ask.Print t) f = ComesTo code m (Printed t) (waiting_of f)
+
+-- the arguments of several messages, concatenated
+abbrev pub laid : List (List Value) → List Value
+laid [] = []
+laid (xs ∷ rest) = xs ++ laid rest
+
+-- the slots have room for this block's
+abbrev pub IsSpacious : Frames → Option Block → Type 0
+IsSpacious f None = ⊥
+IsSpacious f (Some b) = b.slots ≤ vec_capacity f.top.slots
+
+-- the frames have room for each block of the code
+abbrev pub IsRoomFor : Parts → Frames → Type 0
+IsRoomFor code f = (i : ℕ) (b : Block) → slice_get code.blocks i ≡ Some b → b.slots ≤ vec_capacity f.top.slots
+
+-- the frame is there, and its slots have room for so many values
+abbrev pub HasRoom : Option F.Frame → ℕ → Type 0
+HasRoom None n = ⊥
+HasRoom (Some f) n = n ≤ vec_capacity f.slots
+
+-- there is room for the answer that is waited for
+abbrev pub IsReady : Awaited → Frames → Type 0
+IsReady ForNothing f = Unit {0}
+IsReady ForValue f = vec_len f.top.stack < vec_capacity f.top.stack
+IsReady (ForObject None n) f = vec_len f.top.stack < vec_capacity f.top.stack
+IsReady (ForObject (Some b) n) f =
+    (vec_len f.top.stack < vec_capacity f.top.stack) × (vec_len f.below < vec_capacity f.below) × HasRoom f.spare b.1
+
+-- the n last values of one list went to the end of another
+abbrev pub IsMoved : ℕ → List Value → List Value → List Value → List Value → Type 0
+IsMoved n from from' to to' =
+    (xs : List Value) × (to' ≡ to ++ xs) × ((acc : List Value) → pops n acc (reverse from) ≡ Some (xs ++ acc, reverse from'))

@@ -1,0 +1,255 @@
+//! The frames of one body: its blocks at work, and how they begin and are answered without memory.
+#![tactic(auto)]
+
+ghost use Rattle.std.specs.Prelude.{◌≡◌, ◌≢◌, ℕ, ◌+◌, ◌-◌, ◌<◌, ◌≤◌, List, [], ◌∷◌, ◌++◌, IfOk, OnOk, Some, None, length, slice_get, vec_len, vec_capacity, reverse, replicate};
+ghost use Rattle.chord_code.specs.Slots.{slots_of};
+ghost use Rattle.chord_code.specs.Machine.{body_in_block, with_answer, with_object, pops};
+ghost use Rattle.chord_vm.specs.Frames.{machine_of, IsSpacious, IsReady, IsMoved, IsRoomFor, laid};
+
+use chord_base::event::Limits;
+use chord_base::hand::Hand;
+use chord_base::value::{Object, Value, Values};
+use chord_code::awaited::Awaited;
+use chord_code::code::Code;
+use std::alloc::{AllocError, Global};
+use std::mem;
+
+/// A block at work.
+#[derive(Drop)]
+pub struct Frame {
+    /// The block's number.
+    pub block: usize,
+    /// The number of its next instruction.
+    pub place: usize,
+    /// How much deeper than this a `new` or a call may go.
+    pub room: usize,
+    /// Its operands, the last one on top.
+    pub stack: Vec<Value>,
+    /// Its slots.
+    pub slots: Vec<Value>,
+}
+
+/// The frames of one body, or of none.
+#[derive(Drop)]
+pub struct Frames {
+    /// The block at work.
+    pub top: Frame,
+    /// The blocks that wait for it, the last one directly below it.
+    pub below: Vec<Frame>,
+    /// How many `while` conditions may still come out true.
+    pub turns: u32,
+    /// What an ask waits for.
+    pub awaited: Awaited,
+    /// Room for a builder's frame.
+    pub spare: Option<Frame>,
+    /// The limits for which the frames were made.
+    pub limits: Limits,
+}
+
+/// Frames of no body, with room to begin any block of the code.
+pub fn spare(alloc: Global, code: &Code, limits: &Limits) -> Result<Frames, AllocError>
+    ensures room { IfOk result (λ frames. IsRoomFor code.now frames) }
+    ensures limits { IfOk result (λ frames. frames.limits ≡ limits.now) }
+{
+    let mut most = 0;
+    for block in code.parts().blocks.items() {
+        if most < block.slots as usize {
+            most = block.slots as usize;
+        }
+    }
+    let top = Frame {
+        block: 0,
+        place: 0,
+        room: 0,
+        stack: Vec::new(alloc),
+        slots: Vec::with_capacity(alloc, most)?,
+    };
+    Ok(Frames {
+        top,
+        below: Vec::new(alloc),
+        turns: 0,
+        awaited: Awaited::ForNothing,
+        spare: None,
+        limits: *limits,
+    })
+}
+
+/// Moves the last values, so many, to the end of another list, in their order.
+pub(crate) fn move_last(from: &mut Vec<Value>, to: &mut Vec<Value>, n: usize)
+    requires some { n ≤ vec_len from.old }
+    requires room { vec_len to.old + n ≤ vec_capacity to.old }
+    ensures moved { IsMoved n from.old.items from.new.items to.old.items to.new.items }
+    ensures len { vec_len to.new ≡ vec_len to.old + n }
+    ensures capacity { vec_capacity to.new ≡ vec_capacity to.old }
+    ensures from_capacity { vec_capacity from.new ≡ vec_capacity from.old }
+    ensures from_len { vec_len from.new + n ≡ vec_len from.old }
+{
+    if n == 0 {
+        return;
+    }
+    let value = from.take_last();
+    move_last(from, to, n - 1);
+    to.push_reserved(value);
+}
+
+/// Adds unit values, so many.
+fn pad(slots: &mut Vec<Value>, n: usize)
+    requires { vec_len slots.old + n ≤ vec_capacity slots.old }
+    ensures items { slots.new.items ≡ slots.old.items ++ replicate n Value.Unit }
+    ensures capacity { vec_capacity slots.new ≡ vec_capacity slots.old }
+{
+    for _ in 0..n {
+        slots.push_reserved(Value::Unit);
+    }
+}
+
+/// Fills the slots of a block with `this` and the last values of a list, so many.
+pub(crate) fn fill(slots: &mut Vec<Value>, n: usize, this: Value, from: &mut Vec<Value>, k: usize)
+    requires some { k ≤ vec_len from.old }
+    requires fits { k < n }
+    requires room { n ≤ vec_capacity slots.old }
+    ensures moved { (xs : List Value) × (slots_of n (this ∷ xs) ≡ Some slots.new.items) × (pops k [] (reverse from.old.items) ≡ Some (xs, reverse from.new.items)) }
+    ensures capacity { vec_capacity slots.new ≡ vec_capacity slots.old }
+    ensures from_capacity { vec_capacity from.new ≡ vec_capacity from.old }
+    ensures from_len { vec_len from.new + k ≡ vec_len from.old }
+{
+    slots.truncate(0);
+    slots.push_reserved(this);
+    move_last(from, slots, k);
+    pad(slots, n - 1 - k);
+}
+
+/// Adds the values of one message.
+pub fn lay_one(slots: &mut Vec<Value>, values: Values)
+    requires { vec_len slots.old + length values ≤ vec_capacity slots.old }
+    ensures items { slots.new.items ≡ slots.old.items ++ values }
+    ensures capacity { vec_capacity slots.new ≡ vec_capacity slots.old }
+{
+    let mut values = values.into_items();
+    let count = values.len();
+    move_last(&mut values, slots, count);
+}
+
+/// Adds the values of each message, one message after the other.
+fn lay(slots: &mut Vec<Value>, arguments: &mut Hand<Values>)
+    requires { vec_len slots.old + length (laid arguments.old) ≤ vec_capacity slots.old }
+    ensures items { slots.new.items ≡ slots.old.items ++ laid arguments.old }
+    ensures capacity { vec_capacity slots.new ≡ vec_capacity slots.old }
+{
+    match arguments.take_first() {
+        None => {}
+        Some(values) => {
+            lay_one(slots, values);
+            lay(slots, arguments);
+        }
+    }
+}
+
+/// Fills the slots of a block with `this` and the values of the messages, and the rest with the unit value.
+fn fill_from(slots: &mut Vec<Value>, n: usize, this: Value, arguments: Hand<Values>)
+    requires fits { slots_of n (this ∷ laid arguments) ≢ None }
+    requires room { n ≤ vec_capacity slots.old }
+    ensures filled { slots_of n (this ∷ laid arguments) ≡ Some slots.new.items }
+{
+    let mut arguments = arguments;
+    slots.truncate(0);
+    slots.push_reserved(this);
+    lay(slots, &mut arguments);
+    let rest = n - slots.len();
+    pad(slots, rest);
+}
+
+/// Begins a body in a block. Takes no memory.
+pub fn begin(
+    code: &Code,
+    frames: &mut Frames,
+    block: u32,
+    this: Value,
+    arguments: Hand<Values>,
+    depth: u32,
+)
+    requires fits { body_in_block code.now block (frames.old.limits.depth - depth) (this ∷ laid arguments) frames.old.limits.turns ≢ None }
+    requires space { IsSpacious frames.old (slice_get code.now.blocks block) }
+    ensures { body_in_block code.now block (frames.old.limits.depth - depth) (this ∷ laid arguments) frames.old.limits.turns ≡ Some (machine_of frames.new) }
+{
+    let block = block as usize;
+    let slots = code.parts().blocks.items()[block].slots as usize;
+    fill_from(&mut frames.top.slots, slots, this, arguments);
+    frames.top.stack.truncate(0);
+    frames.below.truncate(0);
+    frames.top.block = block;
+    frames.top.place = 0;
+    frames.top.room = frames.limits.depth.saturating_sub(depth) as usize;
+    frames.turns = frames.limits.turns;
+    frames.awaited = Awaited::ForNothing;
+}
+
+/// Takes the room that the next answer needs. Where there is none the body is as it was.
+pub fn reserve(alloc: Global, frames: &mut Frames) -> Result<(), AllocError>
+    ensures same { (machine_of frames.new ≡ machine_of frames.old) × (frames.new.awaited ≡ frames.old.awaited) }
+    ensures ready { OnOk result (IsReady frames.new.awaited frames.new) }
+{
+    frames.top.stack.reserve(1)?;
+    frames.below.reserve(1)?;
+    if let Awaited::ForObject(Some((_, slots)), _) = frames.awaited {
+        frames.spare = Some(Frame {
+            block: 0,
+            place: 0,
+            room: 0,
+            stack: Vec::new(alloc),
+            slots: Vec::with_capacity(alloc, slots as usize)?,
+        });
+    }
+    Ok(())
+}
+
+/// Goes on with an answer. Takes no memory.
+pub fn answer(frames: &mut Frames, value: Value)
+    requires ready { IsReady frames.old.awaited frames.old }
+    requires fits { with_answer (machine_of frames.old) frames.old.awaited value ≢ None }
+    ensures { with_answer (machine_of frames.old) frames.old.awaited value ≡ Some (machine_of frames.new) }
+{
+    match (frames.awaited, value) {
+        (Awaited::ForNothing, _) => {}
+        (Awaited::ForValue, given) => frames.top.stack.push_reserved(given),
+        (Awaited::ForObject(None, n), Value::Ref(object)) => place(frames, n, object),
+        (Awaited::ForObject(Some((block, slots)), n), Value::Ref(object)) => {
+            build(frames, block, slots, n, object)
+        }
+        _ => unreachable!(),
+    }
+}
+
+/// The new object takes the place of its arguments. It has no builder.
+fn place(frames: &mut Frames, n: u32, object: Object)
+    requires ready { vec_len frames.old.top.stack < vec_capacity frames.old.top.stack }
+    requires fits { with_object (machine_of frames.old) None object (pops n [] (machine_of frames.old).top.stack) ≢ None }
+    ensures { with_object (machine_of frames.old) None object (pops n [] (machine_of frames.old).top.stack) ≡ Some (machine_of frames.new) }
+{
+    let at = frames.top.stack.len() - n as usize;
+    frames.top.stack.truncate(at);
+    frames.top.stack.push_reserved(Value::Ref(object));
+}
+
+/// The new object's builder begins with its arguments.
+fn build(frames: &mut Frames, block: u32, slots: u32, n: u32, object: Object)
+    requires ready { IsReady (Awaited.ForObject (Some (block, slots)) n) frames.old }
+    requires fits { with_object (machine_of frames.old) (Some (block, slots)) object (pops n [] (machine_of frames.old).top.stack) ≢ None }
+    ensures { with_object (machine_of frames.old) (Some (block, slots)) object (pops n [] (machine_of frames.old).top.stack) ≡ Some (machine_of frames.new) }
+{
+    match frames.spare.take() {
+        None => unreachable!(),
+        Some(mut fresh) => {
+            let this = Value::Ref(object);
+            let arguments = n as usize;
+            fill(&mut fresh.slots, slots as usize, this, &mut frames.top.stack, arguments);
+            frames.top.stack.push_reserved(Value::Ref(object));
+            fresh.stack.truncate(0);
+            fresh.block = block as usize;
+            fresh.place = 0;
+            fresh.room = frames.top.room.saturating_sub(1);
+            let old = mem::replace(&mut frames.top, fresh);
+            frames.below.push_reserved(old);
+        }
+    }
+}
