@@ -8,7 +8,7 @@ use Rattle.chord_lexer.proofs.Chains.{not_both, one_list}
 use Rattle.chord_lexer.specs.declared.token.Token.{Token}
 use Rattle.chord_parser.proofs.Whole.{never_tall, not_wrong}
 use Rattle.chord_parser.specs.declared.parser.ParseFault.TheVariants as parser
-use Rattle.chord_tree.specs.Program.{told}
+use Rattle.chord_tree.specs.Program.{token_kinds}
 use Rattle.chord_run.specs.Answers.{Answers, AnswersSource, IsSilence, IsSilent}
 use Rattle.chord_run.specs.Command.{Requested}
 use Rattle.chord_run.specs.Due.{HasStatus, IsDue, IsRefusalDue, IsRunDue, IsTextDue, IsTextOf}
@@ -28,14 +28,14 @@ pub syntax_not_grammatical :
     (source : List ℕ) (tokens : List Token) (k : ℕ) → IsAnsweredBy source (parser.At k) → IsGrammatical source tokens → ⊥
 syntax_not_grammatical source tokens k a g =
     let same = one_list source a.tokens tokens a.read g.read in
-    not_wrong (told a.tokens) g.program a.answer.0 g.is_program (rw same g.spelled) a.answer.2
+    not_wrong (token_kinds a.tokens) g.program a.answer.0 g.is_program (rw same g.spelled) a.answer.2
 
 -- nor is one of them too deep
 pub tall_not_grammatical :
     (source : List ℕ) (tokens : List Token) (k : ℕ) → IsAnsweredBy source (parser.Tall k) → IsGrammatical source tokens → ⊥
 tall_not_grammatical source tokens k a g =
     let same = one_list source a.tokens tokens a.read g.read in
-    never_tall (told a.tokens) g.program a.answer.0 g.is_program g.low (rw same g.spelled) a.answer.2
+    never_tall (token_kinds a.tokens) g.program a.answer.0 g.is_program g.not_tall (rw same g.spelled) a.answer.2
 
 -- a source with a cause of a refusal is not accepted
 pub cause_refuses : (source : List ℕ) (refusal : Refusal) → IsCause source refusal → IsAccepted source → ⊥
