@@ -20,30 +20,30 @@ abbrev pub Scope : Type 0
 Scope = List (Option StaticType)
 
 -- the type of what an operator gives, where its operands fit it
-abbrev pub operated : Signatures → Operation → StaticType → StaticType → Option StaticType
-operated sig Add ty.Int ty.Int = Some ty.Int
-operated sig Subtract ty.Int ty.Int = Some ty.Int
-operated sig Multiply ty.Int ty.Int = Some ty.Int
-operated sig Divide ty.Int ty.Int = Some ty.Int
-operated sig Remainder ty.Int ty.Int = Some ty.Int
-operated sig Less ty.Int ty.Int = Some ty.Bool
-operated sig Greater ty.Int ty.Int = Some ty.Bool
-operated sig LessOrEqual ty.Int ty.Int = Some ty.Bool
-operated sig GreaterOrEqual ty.Int ty.Int = Some ty.Bool
-operated sig Join ty.Text ty.Int = Some ty.Text
-operated sig Join ty.Text ty.Bool = Some ty.Text
-operated sig Join ty.Text ty.Text = Some ty.Text
-operated sig Join ty.Int ty.Text = Some ty.Text
-operated sig Join ty.Bool ty.Text = Some ty.Text
-operated sig Equal ty.Int ty.Int = Some ty.Bool
-operated sig Equal ty.Bool ty.Bool = Some ty.Bool
-operated sig Equal ty.Text ty.Text = Some ty.Bool
-operated sig Equal (ty.Class c) (ty.Class d) = Some ty.Bool
-operated sig NotEqual ty.Int ty.Int = Some ty.Bool
-operated sig NotEqual ty.Bool ty.Bool = Some ty.Bool
-operated sig NotEqual ty.Text ty.Text = Some ty.Bool
-operated sig NotEqual (ty.Class c) (ty.Class d) = Some ty.Bool
-operated sig _ _ _ = None
+abbrev pub operation_result : Signatures → Operation → StaticType → StaticType → Option StaticType
+operation_result sig Add ty.Int ty.Int = Some ty.Int
+operation_result sig Subtract ty.Int ty.Int = Some ty.Int
+operation_result sig Multiply ty.Int ty.Int = Some ty.Int
+operation_result sig Divide ty.Int ty.Int = Some ty.Int
+operation_result sig Remainder ty.Int ty.Int = Some ty.Int
+operation_result sig Less ty.Int ty.Int = Some ty.Bool
+operation_result sig Greater ty.Int ty.Int = Some ty.Bool
+operation_result sig LessOrEqual ty.Int ty.Int = Some ty.Bool
+operation_result sig GreaterOrEqual ty.Int ty.Int = Some ty.Bool
+operation_result sig Join ty.Text ty.Int = Some ty.Text
+operation_result sig Join ty.Text ty.Bool = Some ty.Text
+operation_result sig Join ty.Text ty.Text = Some ty.Text
+operation_result sig Join ty.Int ty.Text = Some ty.Text
+operation_result sig Join ty.Bool ty.Text = Some ty.Text
+operation_result sig Equal ty.Int ty.Int = Some ty.Bool
+operation_result sig Equal ty.Bool ty.Bool = Some ty.Bool
+operation_result sig Equal ty.Text ty.Text = Some ty.Bool
+operation_result sig Equal (ty.Class c) (ty.Class d) = Some ty.Bool
+operation_result sig NotEqual ty.Int ty.Int = Some ty.Bool
+operation_result sig NotEqual ty.Bool ty.Bool = Some ty.Bool
+operation_result sig NotEqual ty.Text ty.Text = Some ty.Bool
+operation_result sig NotEqual (ty.Class c) (ty.Class d) = Some ty.Bool
+operation_result sig _ _ _ = None
 
 abbrev mutual
   -- an expression has this type in a scope; None is that of a call without a value
@@ -55,7 +55,7 @@ abbrev mutual
   ExprIs sig g This t = (a : StaticType) × (slice_get g 0 ≡ Some (Some a)) × (t ≡ Some a)
   ExprIs sig g (Negate e) t = ExprIs sig g e (Some ty.Int) × (t ≡ Some ty.Int)
   ExprIs sig g (Deny e) t = ExprIs sig g e (Some ty.Bool) × (t ≡ Some ty.Bool)
-  ExprIs sig g (Operate op l r) t = (a b c : StaticType) × ExprIs sig g l (Some a) × ExprIs sig g r (Some b) × (operated sig op a b ≡ Some c) × (t ≡ Some c)
+  ExprIs sig g (Operate op l r) t = (a b c : StaticType) × ExprIs sig g l (Some a) × ExprIs sig g r (Some b) × (operation_result sig op a b ≡ Some c) × (t ≡ Some c)
   ExprIs sig g (Both l r) t = ExprIs sig g l (Some ty.Bool) × ExprIs sig g r (Some ty.Bool) × (t ≡ Some ty.Bool)
   ExprIs sig g (Either l r) t = ExprIs sig g l (Some ty.Bool) × ExprIs sig g r (Some ty.Bool) × (t ≡ Some ty.Bool)
   ExprIs sig g (New c args) t = (ps : List StaticType) × (sig.builders c ≡ Some ps) × ExprsAre sig g args ps × (t ≡ Some (ty.Class c))

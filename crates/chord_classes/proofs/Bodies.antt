@@ -123,6 +123,7 @@ members_are table number class (m ∷ ms) declared h =
     let rest = flat_map (over_member after spot_of_term spot_of_item (enter table) spot_of_member number class) ms in
     (member_is table number class m declared (every_left (Free table) here rest h), members_are table number class ms declared (every_right (Free table) here rest h))
 
+-- the bodies of classes keep to their types
 pub classes_are : (table : List Shape) (number : ℕ) (classes : List ClassTree) → DeclaredTable table → Every (Free table) (over_classes after spot_of_term spot_of_item (enter table) spot_of_member number classes) → Every (BodyIs (signatures table)) (resolved_classes table number classes)
 classes_are table number [] declared h = tt
 classes_are table number (c ∷ cs) declared h =
@@ -140,6 +141,7 @@ members_free table number class (m ∷ ms) h =
     let rest = flat_map (over_member after spot_of_term spot_of_item (enter table) spot_of_member number class) ms in
     ((every_right (Free table) (in_block (enter table number class m) (body_of m)) (AtMember class m ∷ []) (every_left (Free table) here rest h)).0, members_free table number class ms (every_right (Free table) here rest h))
 
+-- nothing is broken at the members of classes
 pub classes_free : (table : List Shape) (number : ℕ) (classes : List ClassTree) → Every (Free table) (over_classes after spot_of_term spot_of_item (enter table) spot_of_member number classes) → Every (FreeMembers table) classes
 classes_free table number [] h = tt
 classes_free table number (c ∷ cs) h =

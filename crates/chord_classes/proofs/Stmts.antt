@@ -122,15 +122,19 @@ called_is_call (MoreDots (MakeDot dot name (MakeActuals at all)) more) receiver 
 pub record DueDeclared (site : Site) : Type 0 where
   pub declared : (written : ValueType) → site.due ≡ Some written → Declared site.table written
 
+-- the static type of the value that is due
 abbrev pub due_of : Site → ValueDue
 due_of site = option_map (type_known site.table) site.due
 
+-- the spots of a statement
 abbrev pub in_stmt : Site → StmtTree → List (Spot Site)
 in_stmt site stmt = over_stmt after spot_of_term spot_of_item site stmt
 
+-- the spots of a block
 abbrev pub in_block : Site → BlockTree → List (Spot Site)
 in_block site block = over_block after spot_of_term spot_of_item site block
 
+-- the spots of items
 abbrev pub in_items : Site → ItemTrees → List (Spot Site)
 in_items site items = over_items after spot_of_term spot_of_item site items
 
@@ -262,6 +266,7 @@ mutual
   pub block_is : (site : Site) (scope : Scope) (block : BlockTree) → Holds site scope → DueDeclared site → HasRoom scope site.next (length (block_locals block)) → Every (Free site.table) (in_block site block) → ItemsAre site scope (resolved_block site block)
   block_is site scope (MakeBlock items end) holds due room h = items_are site scope items holds due room h
 
+  -- items in which no rule is broken keep to their types
   pub items_are : (site : Site) (scope : Scope) (items : ItemTrees) → Holds site scope → DueDeclared site → HasRoom scope site.next (length (items_locals items)) → Every (Free site.table) (in_items site items) → ItemsAre site scope (resolved_items site items)
   items_are site scope NoItems holds due room h = record { last = scope; are = refl; extends = extends_itself scope }
   items_are site scope (MoreItems (LocalItem written name assign value) more) holds due room h =

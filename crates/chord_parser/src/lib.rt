@@ -4,7 +4,6 @@
 //! Not here: what a program is (chord_tree), what it means (chord_types, chord_rules).
 #![tactic(auto)]
 
-mod build;
 mod classes;
 mod exprs;
 mod faults;

@@ -26,10 +26,12 @@ mutual
   spelled_counts End d w = omega arith
   spelled_counts (n ▸ ns) d w = let a = spelled_count n d (spell_all ns d w) in let b = spelled_counts ns d w in omega arith
 
+-- the last of a list after a first
 pub last_of : {X : Type 0} → X → List X → X
 last_of x [] = x
 last_of x (y ∷ ys) = last_of y ys
 
+-- the last of a list by its place
 pub last_at : {X : Type 0} (x : X) (xs : List X) (d : X) → get_or (x ∷ xs) (length xs) d ≡ last_of x xs
 unfolding last_of
 last_at x [] d = refl
@@ -73,6 +75,7 @@ no_class us (made {x} {ns = ns} i l h a f) e g =
     let n = three_parts i l (h ∙ ap number_of e) in
     absurd (omega arith)
 
+-- a program has a class
 pub some_class : (us : List Using) (cs : List Class) → IsProgram (record { usings = map see_using us; classes = map see_class cs }) → 0 < length cs
 some_class us [] h = absurd (no_class _ h.derived refl refl)
 some_class us (c ∷ cs) h = omega arith
@@ -94,9 +97,11 @@ first_operated : (ls : LinkTrees) (t : Term) → first_token (operated ls t) ≡
 first_operated NoLinks t = refl
 first_operated (MoreLinks (MakeLink operator at operand) ls) t = first_operated ls _
 
+-- calls change nothing of the first token
 pub first_called : (ds : DotTrees) (t : Term) → first_token (called ds t) ≡ first_token t
 first_called NoDots t = refl
 first_called (MoreDots (MakeDot dot name (MakeActuals at arguments)) ds) t = first_called ds _
 
+-- nor do operators
 pub first_chained : (e : ExprTree) (l : LinkTree) (ls : LinkTrees) → first_token (term (ChainExpr e l ls)) ≡ first_token (term e)
 first_chained e (MakeLink operator at operand) ls = first_operated ls _

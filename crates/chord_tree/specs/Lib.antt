@@ -34,7 +34,6 @@ pub mod Terms
 pub mod Walk
 -- what holds of each walk
 pub mod Laws
-
 -- ## What only the code's own contracts use
 
 -- a program of two classes, built by hand
