@@ -61,6 +61,7 @@ within_from (e ∷ es) h before (here, all) =
     let at : length h + 1 ≡ length (e ∷ h) = omega arith in
     rw (turned e es h) (within_from es (e ∷ h) (before, here.number, here.body, here.what) (subst (λ p. AreEntriesFrom p es) at all))
 
+-- at most 65,536 entries that are read one after another from number 0 are a journal
 pub is_journal : (es : List Entry) → length es ≤ 65536 → AreEntriesFrom 0 es → IsJournal es
 is_journal es few all = record { few = few; within = rw (append-nil (reverse es)) at (within_from es [] tt all) }
 
@@ -78,9 +79,11 @@ from_within (e ∷ es) h within (of_e, typed) =
     let at : length (e ∷ h) ≡ length h + 1 = omega arith in
     (record { number = number; body = body; what = what; typed = of_e }, subst (λ p. AreEntriesFrom p es) at (from_within es (e ∷ h) all typed))
 
+-- the entries of a journal whose parts have their types are such ones
 pub journal_entries : (es : List Entry) → IsJournal es → AreTyped es → AreEntriesFrom 0 es
 journal_entries es journal typed = from_within es [] (rw (append-nil (reverse es)) journal.within) typed
 
+-- entries that were read have parts of their types
 pub entries_typed : (place : ℕ) (es : List Entry) → AreEntriesFrom place es → AreTyped es
 entries_typed place [] all = tt
 entries_typed place (e ∷ es) (here, all) = (here.typed, entries_typed (place + 1) es all)

@@ -28,6 +28,7 @@ pub values_next : (vs : List value.Value) (i : ℕ) (v d : value.Value) → i < 
     AreTypedValues (take (i + 1) vs)
 values_next vs i v d within at all here = rw (before_next vs i v d within at) (values_push (take i vs) v all here)
 
+-- one more entry whose parts have their types
 pub entries_next : (es : List Entry) (i : ℕ) (e d : Entry) → i < length es → e ≡ get_or es i d → AreTyped (take i es) → IsTypedWhat e.what →
     AreTyped (take (i + 1) es)
 entries_next es i e d within at all here = rw (before_next es i e d within at) (entries_push (take i es) e all here)

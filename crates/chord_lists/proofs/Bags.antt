@@ -89,6 +89,7 @@ without i held n = if n == i then None else held n
 abbrev pub without_all : List ℕ → (ℕ → Option Message) → ℕ → Option Message
 without_all ms held n = if has n ms then None else held n
 
+-- a message that is left after another was taken was there, and is not that one
 pub held_before : (held : ℕ → Option Message) (i n : ℕ) (m : Message) → without i held n ≡ Some m → (n ≢ i) × (held n ≡ Some m)
 held_before held i n m e =
     elim (either (n == i)) [
@@ -116,6 +117,7 @@ lists_none held n index none empty =
 
 -- ---- an entry that is no message
 
+-- a bag that lists the pending messages lists them after an entry that sends none
 pub lists_on : (held : ℕ → Option Message) (n : ℕ) (index : Header → List ℕ) → Lists held n index
     → Lists (λ i. if n == i then None else held i) (suc n) index
 lists_on held n index s =
@@ -175,6 +177,7 @@ own_header held k h n old new s p e =
           absurd (omega (arith, l)))
     ]
 
+-- a bag in which a new message was noted lists the messages with it
 pub lists_more : (held : ℕ → Option Message) (n : ℕ) (old new : Header → List ℕ) (x : Message) → Lists held n old → IsPushed (header_of x) n old new
     → Lists (λ i. if n == i then Some x else held i) (suc n) new
 lists_more held n old new x s p =
@@ -258,6 +261,7 @@ stays_there i m k h old new p d e =
       | inr o ↦ ap (has m) (p.others h o) ∙ e
     ]
 
+-- a bag from which a message was popped lists the messages without it
 pub lists_less : (held : ℕ → Option Message) (n i : ℕ) (k : Header) (old new : Header → List ℕ) → Lists held n old → IsPopped k i old new
     → Lists (without i held) n new
 lists_less held n i k old new s p =
@@ -283,6 +287,7 @@ without_more i ms held n =
       | inr o ↦ elim (either (has n ms)) [ inl z ↦ rw (o, z) refl | inr z ↦ rw (o, z) refl ]
     ]
 
+-- a bag from which the members of a firing were popped lists the messages without them
 pub lists_taken : (held : ℕ → Option Message) (n : ℕ) (o : Object) (js ms : List ℕ) (old new : Header → List ℕ) → Lists held n old
     → ArePopped o js ms old new → Lists (without_all ms held) n new
 lists_taken held n o [] [] old new s t = subst (λ index. Lists held n index) (λ z k. sym (t k) z) s
@@ -324,6 +329,7 @@ parts_of : (xs : List ℕ) → (xs ≡ [] → ⊥) → (n : ℕ) × (ns : List �
 parts_of [] some = absurd (some refl)
 parts_of (n ∷ ns) some = (n, ns, refl)
 
+-- a stack that is not empty has a top
 pub stack_has : (stack : List ℕ) → not (length stack == 0) ≡ true → (n : ℕ) × (ns : List ℕ) × (reverse stack ≡ n ∷ ns)
 stack_has stack some =
     parts_of (reverse stack)

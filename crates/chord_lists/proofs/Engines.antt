@@ -178,6 +178,7 @@ none_taken o [] ms vs l t = omega (arith, l)
 none_taken o (j ∷ js) [] vs l t = t
 none_taken o (j ∷ js) (i ∷ ms) vs l t = let z : ◌≡◌ {A = Option Message} None (Some (record { object = o; method = j; arguments = t.0 })) = sym (begun_pending i) ∙ t.2 in cc
 
+-- after `Main` has begun, with an empty bag, the engine stands at the first entry
 pub state_begun : (p : Program) (stands : List Entry → Type 0) (index : Header → List ℕ) → HaveMethods p → stands engine.main_begun
     → ((k : Header) → index k ≡ []) → State p stands index None 1
 state_begun p stands index some s empty =
@@ -189,6 +190,7 @@ state_begun p stands index some s empty =
       is_fresh = λ k o ms vs f. none_taken o f.0 ms vs (some o.class k f.0 f.1) f.2;
     }
 
+-- an entry that sends nothing keeps the engine's state
 pub state_plain : (p : Program) (before after : List Entry → Type 0) (index : Header → List ℕ) (n : ℕ) (s : State p before index None n) (e : Entry)
     → engine.Made p after s.history e → message_of e.what ≡ None → State p after index None (n + 1)
 state_plain p before after index n s e m none =
@@ -202,6 +204,7 @@ state_plain p before after index n s e m none =
       is_fresh = none_fires_on p e s.history none s.is_fresh;
     }
 
+-- a message whose number the bag notes keeps the engine's state, with its object to look at
 pub state_message : (p : Program) (before after : List Entry → Type 0) (old new : Header → List ℕ) (n : ℕ) (o : Object) (j : ℕ)
     (s : State p before old None n) (e : Entry) → engine.Made p after s.history e → engine.IsMessageTo o j e.what
     → IsPushed (header_to o j) n old new → State p after new (Some o) (n + 1)
@@ -217,6 +220,7 @@ state_message p before after old new n o j s e m is pushed =
       is_fresh = record { before = s.history; last = e; sent = sent; is = refl; numbered = m.follows.numbered; idle = s.is_fresh; is_message = is.1; no_firing = m.no_firing; object = refl };
     }
 
+-- where no body has a next ask the run is over
 pub state_over : (p : Program) (before after : List Entry → Type 0) (index : Header → List ℕ) (n : ℕ) (s : State p before index None n) → 0 < n
     → NoneAsks p s.history → after s.history → IsOver p after n
 state_over p before after index n s some done stands =
@@ -242,6 +246,7 @@ state_may_begin p stands old new fresh n k o js ms s room c chord some few t =
     let taken = pops_pending s.history n o js ms old new s.lists t in
     (s.history, taken.0, s.played, s.bodies, (js, c, taken.1), fired_within s.history n k o js ms taken.0 s.played.within s.played.so_long room chord some few taken.1)
 
+-- a firing of popped members keeps the engine's state
 pub state_fired : (p : Program) (before after : List Entry → Type 0) (old new : Header → List ℕ) (n k : ℕ) (o : Object) (js ms : List ℕ)
     → State p before old (Some o) n → n < 65536 → slice_get (p.chords o.class) k ≡ Some js → k < 256 → 0 < length js → length js ≤ 8
     → ArePopped o js ms old new → engine.Began p before after n k o ms → State p after new None (n + 1)

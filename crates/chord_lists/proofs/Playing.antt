@@ -102,9 +102,11 @@ main_asks : (ls rest : List SmallLine) (stack : List PendingPut) (h : List Entry
 main_asks ls rest stack h w s e =
     (1, rw s.main (ap (at_depth 1) (ap (small_main ls) (sym (append-nil s.answers)) ∙ s.lines [] ∙ e)))
 
+-- another body than `Main` is not body 0
 pub other_main : (b : ℕ) → b ≢ 0 → (0 == b) ≡ false
 other_main b n = ne_eqb 0 b (λ e. n (sym e))
 
+-- a line that prints a text moves `Main` to the next line
 pub print_step : (ls rest : List SmallLine) (stack : List PendingPut) (h : List Entry) (t : List ℕ) → Playing ls (Print t ∷ rest) stack h → Playing ls rest stack (more 0 (Printed t) h)
 print_step ls rest stack h t s =
     record {
@@ -120,6 +122,7 @@ print_step ls rest stack h t s =
       goes_on = refl;
     }
 
+-- a put moves `Main` to the next line, and its message is pending
 pub put_step : (ls rest : List SmallLine) (stack : List PendingPut) (h : List Entry) (t : List ℕ) → Playing ls (Put t ∷ rest) stack h → Playing ls rest (record { number = length h; text = t } ∷ stack) (more 0 (Sent first 1 (a_value.Text t ∷ [])) h)
 put_step ls rest stack h t s =
     record {
@@ -135,6 +138,7 @@ put_step ls rest stack h t s =
       goes_on = refl;
     }
 
+-- a get makes `Main` wait
 pub call_step : (ls rest : List SmallLine) (stack : List PendingPut) (h : List Entry) → Playing ls (PrintGet ∷ rest) stack h → Calling ls rest stack (length h) (more 0 (Called first 0 []) h)
 call_step ls rest stack h s =
     record {
@@ -159,6 +163,7 @@ the_chord zero zero js e = cc
 the_chord zero (suc k) js e = cc
 the_chord (suc c) k js e = cc
 
+-- a quiet body has no next ask
 pub quiet_asks : (p : Program) (d : Doing) → IsQuiet d → asked p d ≡ None
 quiet_asks p Absent q = refl
 quiet_asks p Unplaced q = refl
@@ -174,6 +179,7 @@ quiet_answered x (Some c) (Over y) q = refl
 quiet_answered x (Some c) (Ready s d rs) q = absurd q
 quiet_answered x (Some c) (Waits s d rs i l) q = absurd q
 
+-- a body is `Main` or another
 pub is_main : (b : ℕ) → (b ≡ 0) ⊎ (b ≢ 0)
 is_main zero = inl refl
 is_main (suc b) = inr (λ e. omega (arith, e))
@@ -189,6 +195,7 @@ pub record Both (h : List Entry) : Type 0 where
   pub zero_method : call_is.method ≡ 0
   pub one_method : put_is.method ≡ 1
 
+-- what takes a message for each of the two methods finds one to each
 pub takes_both : (h : List Entry) (o : Object) (ms : List ℕ) (vs : List value.Value) → Takes h o (0 ∷ 1 ∷ []) ms vs → Both h
 takes_both h o [] vs t = absurd t
 takes_both h o (i ∷ []) vs t = absurd t.4
@@ -204,9 +211,11 @@ takes_both h o (i ∷ i' ∷ ms) vs t =
       one_method = refl;
     }
 
+-- a small program fires only where there is a message to each of its two methods
 pub fires_both : (ls : List SmallLine) (h : List Entry) (k : ℕ) (o : Object) (ms : List ℕ) (vs : List value.Value) → Fires (small_program ls) h k o ms vs → Both h
 fires_both ls h k o ms vs f = takes_both h o ms vs (subst (λ js. Takes h o js ms vs) (the_chord o.class k f.0 f.1) f.2)
 
+-- what is among the pending puts is a message to the second method
 pub found_put : (n : ℕ) (stack : List PendingPut) (m : Message) → find_put n stack ≡ Some m → m.method ≡ 1
 found_put n [] m e = cc
 found_put n (x ∷ xs) m e =
@@ -215,6 +224,7 @@ found_put n (x ∷ xs) m e =
       | inr o ↦ found_put n xs m (rw o at e)
     ]
 
+-- the pending call is no message to the second method
 pub only_call : (q n : ℕ) (m : Message) → (if q == n then Some call_message else None) ≡ Some m → m.method ≡ 1 → ⊥
 only_call q n m e i =
     elim (either (q == n)) [
@@ -229,6 +239,7 @@ parked ls rest q h s =
     (λ b. elim (is_main b) [ inl y ↦ rw (y, s.main) refl | inr n ↦ quiet_asks (small_program ls) (doing (small_program ls) h b) (s.quiet b n) ])
     (λ k o ms vs f. let x = fires_both ls h k o ms vs f in only_call q x.put x.put_is (sym (s.waiting x.put) ∙ x.sent) x.one_method)
 
+-- after its last line `Main` ends
 pub end_main : (ls : List SmallLine) (stack : List PendingPut) (h : List Entry) → Playing ls [] stack h → Done ls stack (more 0 (Ended (Gives a_value.Unit)) h)
 end_main ls stack h s =
     record {
@@ -272,6 +283,7 @@ fired_pending n q m stack h l s w i =
           ]
     ]
 
+-- a firing of a get and a put begins the body that serves the get
 pub fire_step : (ls rest : List SmallLine) (stack : List PendingPut) (q m : ℕ) (t : List ℕ) (h : List Entry) → find_put m stack ≡ Some (put_message t) → Calling ls rest stack q h → Serving ls rest (without_put m stack) (length h) t (more (length h) (Fired 0 first (q ∷ m ∷ []) (a_value.Text t ∷ [])) h)
 fire_step ls rest stack q m t h found s =
     let n = length h in
@@ -315,6 +327,7 @@ fire_top ls rest x stack q h s =
     let rest_is : without_put x.number (x ∷ stack) ≡ stack = rw here refl in
     rw rest_is at (fire_step ls rest (x ∷ stack) q x.number x.text h found s)
 
+-- that body ends with the text of the put, which the get is given
 pub end_step : (ls rest : List SmallLine) (stack : List PendingPut) (n : ℕ) (t : List ℕ) (h : List Entry) → Serving ls rest stack n t h → Got ls rest stack t (more n (Ended (Gives (a_value.Text t))) h)
 end_step ls rest stack n t h s =
     let not_main : (n == 0) ≡ false = ne_eqb n 0 s.is_body in
@@ -340,6 +353,7 @@ end_step ls rest stack n t h s =
       goes_on = not_main;
     }
 
+-- what a get gave is printed, and `Main` goes on
 pub shown_step : (ls rest : List SmallLine) (stack : List PendingPut) (t : List ℕ) (h : List Entry) → Got ls rest stack t h → Playing ls rest stack (more 0 (Printed t) h)
 shown_step ls rest stack t h s =
     record {
@@ -355,9 +369,11 @@ shown_step ls rest stack t h s =
       goes_on = refl;
     }
 
+-- the beginning of `Main` is a past
 pub begun_past : (ls : List SmallLine) → IsPast (small_program ls) main_begun
 begun_past ls = (tt, record { numbered = refl; comes = (refl, refl) })
 
+-- after its object was made `Main` stands at its first line
 pub begin_step : (ls : List SmallLine) → Playing ls ls [] (more 0 (Made 0) main_begun)
 begin_step ls =
     record {
@@ -376,8 +392,10 @@ begin_step ls =
 first_within : IsObjectWithin first
 first_within = record { number = lit< tt; class = lit< tt }
 
+-- a put is within the bounds of entries
 pub put_within : (t : List ℕ) → IsWhatWithin (Sent first 1 (a_value.Text t ∷ []))
 put_within t = record { object = first_within; method = lit< tt; few = lit≤ tt; values = (tt, tt) }
 
+-- a get is within the bounds of entries
 pub call_within : IsWhatWithin (Called first 0 [])
 call_within = record { object = first_within; method = lit< tt; few = lit≤ tt; values = tt }

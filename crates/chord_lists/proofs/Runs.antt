@@ -125,6 +125,7 @@ got_next ls rest stack t h e s m =
     let x = main_entry ls h (s.answers ++ Gives (a_value.Text t) ∷ []) e (Printed t) s.main s.quiet (s.lines (Gives (a_value.Text t) ∷ [])) (omega (arith, s.begun)) (none_fires ls stack h s.waiting) m in
     subst (λ i. State ls (i ∷ h)) (sym x) (Plays rest stack (shown_step ls rest stack t h s))
 
+-- nothing is pending at the beginning
 pub begun_waiting : (n : ℕ) → pending n main_begun ≡ find_put n []
 begun_waiting n = elim (either (0 == n)) [ inl y ↦ rw y refl | inr o ↦ rw o refl ]
 
@@ -315,6 +316,7 @@ over_final ls h r o = state_over ls h (state_of ls h r) o
 pub not_over_goes_on : (ls : List SmallLine) (h : List Entry) → IsPast (small_program ls) h → is_over h ≡ false → MayContinue ls h
 not_over_goes_on ls h r o = state_goes_on ls h (state_of ls h r) o
 
+-- a final past of a small program is over
 pub final_over : (ls : List SmallLine) (h : List Entry) → IsPast (small_program ls) h → IsFinal (small_program ls) h → is_over h ≡ true
 final_over ls h r f = elim (either (is_over h)) [ inl y ↦ y | inr n ↦ (let x = not_over_goes_on ls h r n in absurd (f.nothing x.0 x.1)) ]
 

@@ -31,6 +31,7 @@ use Rattle.chord_lists.proofs.Runs.{IsTaking, begun_waiting, call_taken}
 pub lines_at : (ls : List SmallLine) (i : ℕ) (x y : SmallLine) → i < length ls → x ≡ get_or ls i x → x ≡ y → drop i ls ≡ y ∷ drop (i + 1) ls
 lines_at ls i x y l e f = rw (add-one, drop-cons ls i x) (ap (λ z. z ∷ drop (suc i) ls) (sym e ∙ f))
 
+-- past the last line there is none
 pub lines_past : (ls : List SmallLine) (i : ℕ) → length ls ≤ i → drop i ls ≡ []
 lines_past [] zero l = refl
 lines_past [] (suc i) l = refl
@@ -58,6 +59,7 @@ made ls bodies n b w stage h played room body within none follows e s at =
 abbrev pub WentPlain : List SmallLine → SmallBodies → List Entry → Type 0
 WentPlain ls bodies h = (e : Entry) × Made (small_program ls) (Stands ls bodies) h e × (message_of e.what ≡ None)
 
+-- the bodies stand after `Main` has made its object
 pub made_object : (ls : List SmallLine) (bodies : SmallBodies) (n : ℕ) (h : List Entry) → IsRunOfLength (small_program ls) n h → n < 65536 → h ≡ main_begun
     → reverse bodies.entries.items ≡ entry n 0 (a_what.Made 0) ∷ h → bodies.stage ≡ a_stage.Does 0 → WentPlain ls bodies h
 made_object ls bodies n h played room at e s =
@@ -66,6 +68,7 @@ made_object ls bodies n h played room at e s =
     let after : IsAt ls (a_stage.Does 0) (more 0 (a_what.Made 0) h) = subst (λ i. IsAt ls (a_stage.Does 0) (more 0 (a_what.Made 0) i)) (sym at) ([], x) in
     (entry (length h) 0 (a_what.Made 0), made ls bodies n 0 (a_what.Made 0) (a_stage.Does 0) h played room (lit< tt) (lit< tt) refl follows e s after, refl)
 
+-- the bodies stand after `Main` has ended
 pub ended : (ls : List SmallLine) (bodies : SmallBodies) (n i : ℕ) (stack : List PendingPut) (h : List Entry) → IsRunOfLength (small_program ls) n h
     → n < 65536 → length ls ≤ i → Playing ls (drop i ls) stack h → reverse bodies.entries.items ≡ entry n 0 (a_what.Ended (Gives a_value.Unit)) ∷ h
     → bodies.stage ≡ a_stage.Ended → WentPlain ls bodies h
@@ -73,6 +76,7 @@ ended ls bodies n i stack h played room past state e s =
     let d = end_main ls stack h (subst (λ l. Playing ls l stack h) (lines_past ls i past) state) in
     (entry (length h) 0 (a_what.Ended (Gives a_value.Unit)), made ls bodies n 0 (a_what.Ended (Gives a_value.Unit)) a_stage.Ended h played room (lit< tt) tt refl d.past.1 e s (stack, d), refl)
 
+-- the bodies stand after `Main` has printed a text
 pub printed : (ls : List SmallLine) (bodies : SmallBodies) (n i : ℕ) (t : List ℕ) (stack : List PendingPut) (h : List Entry)
     → IsRunOfLength (small_program ls) n h → n < 65536 → drop i ls ≡ Print t ∷ drop (i + 1) ls → Playing ls (drop i ls) stack h
     → reverse bodies.entries.items ≡ entry n 0 (a_what.Printed t) ∷ h → bodies.stage ≡ a_stage.Does (i + 1) → WentPlain ls bodies h
@@ -80,6 +84,7 @@ printed ls bodies n i t stack h played room line state e s =
     let x = print_step ls (drop (i + 1) ls) stack h t (subst (λ l. Playing ls l stack h) line state) in
     (entry (length h) 0 (a_what.Printed t), made ls bodies n 0 (a_what.Printed t) (a_stage.Does (i + 1)) h played room (lit< tt) tt refl x.past.1 e s (stack, x), refl)
 
+-- the bodies stand after a body has ended with a text
 pub gave : (ls : List SmallLine) (bodies : SmallBodies) (n i b : ℕ) (t : List ℕ) (stack : List PendingPut) (h : List Entry)
     → IsRunOfLength (small_program ls) n h → n < 65536 → Serving ls (drop i ls) stack b t h
     → reverse bodies.entries.items ≡ entry n b (a_what.Ended (Gives (a_value.Text t))) ∷ h → bodies.stage ≡ a_stage.Prints i t → WentPlain ls bodies h
@@ -87,6 +92,7 @@ gave ls bodies n i b t stack h played room state e s =
     let x = end_step ls (drop i ls) stack b t h state in
     (entry (length h) b (a_what.Ended (Gives (a_value.Text t))), made ls bodies n b (a_what.Ended (Gives (a_value.Text t))) (a_stage.Prints i t) h played room (omega (arith, state.before, played.so_long, room)) tt refl x.past.1 e s (stack, x), refl)
 
+-- the bodies stand after `Main` has printed what a get gave
 pub showed : (ls : List SmallLine) (bodies : SmallBodies) (n i : ℕ) (t : List ℕ) (stack : List PendingPut) (h : List Entry)
     → IsRunOfLength (small_program ls) n h → n < 65536 → Got ls (drop i ls) stack t h → reverse bodies.entries.items ≡ entry n 0 (a_what.Printed t) ∷ h
     → bodies.stage ≡ a_stage.Does i → WentPlain ls bodies h
@@ -94,6 +100,7 @@ showed ls bodies n i t stack h played room state e s =
     let x = shown_step ls (drop i ls) stack t h state in
     (entry (length h) 0 (a_what.Printed t), made ls bodies n 0 (a_what.Printed t) (a_stage.Does i) h played room (lit< tt) tt refl x.past.1 e s (stack, x), refl)
 
+-- the bodies stand after a put, which is a message to the second method
 pub put : (ls : List SmallLine) (bodies : SmallBodies) (n i : ℕ) (t : List ℕ) (stack : List PendingPut) (h : List Entry)
     → IsRunOfLength (small_program ls) n h → n < 65536 → drop i ls ≡ Put t ∷ drop (i + 1) ls → Playing ls (drop i ls) stack h
     → reverse bodies.entries.items ≡ entry n 0 (a_what.Sent first 1 (a_value.Text t ∷ [])) ∷ h → bodies.stage ≡ a_stage.Does (i + 1)
@@ -102,6 +109,7 @@ put ls bodies n i t stack h played room line state e s =
     let x = put_step ls (drop (i + 1) ls) stack h t (subst (λ l. Playing ls l stack h) line state) in
     (entry (length h) 0 (a_what.Sent first 1 (a_value.Text t ∷ [])), made ls bodies n 0 (a_what.Sent first 1 (a_value.Text t ∷ [])) (a_stage.Does (i + 1)) h played room (lit< tt) (put_within t) refl x.past.1 e s (record { number = length h; text = t } ∷ stack, x), (a_value.Text t ∷ [], refl))
 
+-- the bodies stand after a get, which is a message to the first method
 pub called : (ls : List SmallLine) (bodies : SmallBodies) (n i : ℕ) (stack : List PendingPut) (h : List Entry) → IsRunOfLength (small_program ls) n h
     → n < 65536 → drop i ls ≡ PrintGet ∷ drop (i + 1) ls → Playing ls (drop i ls) stack h
     → reverse bodies.entries.items ≡ entry n 0 (a_what.Called first 0 []) ∷ h → bodies.stage ≡ a_stage.Waits (i + 1)
@@ -204,6 +212,7 @@ carries_one entries n t u a b =
     let texts : ◌≡◌ {A = List value.Value} (a_value.Text t ∷ []) (a_value.Text u ∷ []) = ap (λ m. m.arguments) one in
     cc
 
+-- members that may be taken are the get that waits and a pending put
 pub may_take : (ls : List SmallLine) (bodies : SmallBodies) (n k : ℕ) (o : Object) (ms : List ℕ)
     → MayBegin (small_program ls) (Stands ls bodies) n k o ms → IsTaken bodies ms
 may_take ls bodies n k o ms m =

@@ -45,6 +45,7 @@ pub record Taking (old : Header → List ℕ) (o : Object) (js rest ms : List �
   pub different : AreDifferent rest
   pub as_many : length ms ≡ length js
 
+-- one more member is popped from the bag of its method
 pub taking_turn : (old between new : Header → List ℕ) (o : Object) (js rest ms : List ℕ) (j i : ℕ) → Taking old o js (j ∷ rest) ms between
     → IsPopped (header_to o j) i between new → Taking old o (js ++ j ∷ []) rest (ms ++ i ∷ []) new
 taking_turn old between new o js rest ms j i t p =
@@ -55,6 +56,7 @@ taking_turn old between new o js rest ms j i t p =
       as_many = omega (arith, length-append ms (i ∷ []), length-append js (j ∷ []), t.as_many);
     }
 
+-- a bag that has messages to some methods, and one to a further method, has messages to all of these
 pub has_all_more : (o : Object) (js : List ℕ) (index : Header → List ℕ) (j : ℕ) → HasMessages o js index → HasMessage o j index → HasMessages o (js ++ j ∷ []) index
 has_all_more o [] index j a i = (i, tt)
 has_all_more o (j' ∷ js) index j a i = (a.0, has_all_more o js index j a.1 i)
