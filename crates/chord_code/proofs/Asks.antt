@@ -1,0 +1,45 @@
+-- The next ask of a machine: one, and found within its weight.
+use Rattle.std.proofs.Common.{◌≡◌, ℕ, zero, suc, ◌<◌, List, [], ◌∷◌, ◌++◌, Option, Some, None, refl, ◌∙◌, ap, arith}
+use Rattle.chord_base.specs.declared.event.End.{End}
+use Rattle.chord_base.specs.declared.event.What.{What}
+use Rattle.chord_code.specs.declared.instruction.Instruction.{Instruction}
+use Rattle.chord_code.specs.declared.parts.Parts.{Parts}
+use Rattle.chord_code.specs.Machine.{Machine, Waiting, Did, Goes, Asking, Bad, fetch, act, step, goes_on, run, ComesTo, IsForward}
+use Rattle.chord_code.specs.Fuel.{weight, comes_to}
+use Rattle.chord_code.specs.Meaning.{IsAsked, Point, point_replied, points}
+use Rattle.chord_code.proofs.Weight.{lighter, act_asked}
+
+after_step : (code : Parts) → IsForward code → (a : What) (w : Waiting) → (n k : ℕ) → ((m' : Machine) → run code n m' ≡ Asking a w → weight code m' < k → run code k m' ≡ Asking a w) → (m : Machine) (o : Option Instruction) → fetch code m.top.block m.top.place ≡ o → (d : Did) → act code o m ≡ d → goes_on (run code n) d ≡ Asking a w → weight code m < suc k → goes_on (run code k) d ≡ Asking a w
+after_step code fwd a w n k more m o f (Asking b v) e r l = r
+after_step code fwd a w n k more m o f Bad e r l = r
+after_step code fwd a w n k more m None f (Goes m') e r l = (let z : Bad ≡ Goes m' = e in cc)
+after_step code fwd a w n k more m (Some i) f (Goes m') e r l = let less = lighter code m m' i fwd f e in more m' r (omega (arith, less, l))
+
+-- with enough fuel the machine comes to its ask
+within : (code : Parts) → IsForward code → (a : What) (w : Waiting) → (n k : ℕ) (m : Machine) → run code n m ≡ Asking a w → weight code m < k → run code k m ≡ Asking a w
+within code fwd a w zero k m e l = (let z : Goes m ≡ Asking a w = e in cc)
+within code fwd a w (suc n) zero m e l = absurd (omega (arith, l))
+within code fwd a w (suc n) (suc k) m e l = after_step code fwd a w n k (within code fwd a w n k) m (fetch code m.top.block m.top.place) refl (step code m) refl e l
+
+-- what the machine comes to, as a relation and as a function
+pub comes_found : (code : Parts) → IsForward code → (m : Machine) (a : What) (w : Waiting) → ComesTo code m a w → comes_to code m ≡ Asking a w
+comes_found code fwd m a w c = within code fwd a w c.count (suc (weight code m)) m c.by (omega arith)
+
+pub found_comes : (code : Parts) (m : Machine) (a : What) (w : Waiting) → comes_to code m ≡ Asking a w → ComesTo code m a w
+found_comes code m a w e = record { count = suc (weight code m); by = e }
+
+-- one more answer
+pub points_more : (code : Parts) (p : Point) (rs : List End) (r : End) → points code p (rs ++ r ∷ []) ≡ point_replied code (points code p rs) r
+points_more code p [] r = refl
+points_more code p (x ∷ rs) r = points_more code (point_replied code p x) rs r
+
+asked_step : (code : Parts) → IsForward code → (a : What) (w : Waiting) → (n : ℕ) → ((m' : Machine) → run code n m' ≡ Asking a w → IsAsked a w.awaited) → (m : Machine) (o : Option Instruction) → fetch code m.top.block m.top.place ≡ o → (d : Did) → act code o m ≡ d → goes_on (run code n) d ≡ Asking a w → IsAsked a w.awaited
+asked_step code fwd a w n more m None f d e r = (let z : Bad ≡ Asking a w = ap (goes_on (run code n)) e ∙ r in cc)
+asked_step code fwd a w n more m (Some i) f (Asking b v) e r = act_asked code m i a w fwd f (e ∙ r)
+asked_step code fwd a w n more m (Some i) f Bad e r = (let z : Bad ≡ Asking a w = r in cc)
+asked_step code fwd a w n more m (Some i) f (Goes m') e r = more m' r
+
+-- a machine that comes to an ask waits for its answer
+pub run_asked : (code : Parts) → IsForward code → (a : What) (w : Waiting) → (n : ℕ) (m : Machine) → run code n m ≡ Asking a w → IsAsked a w.awaited
+run_asked code fwd a w zero m e = (let z : Goes m ≡ Asking a w = e in cc)
+run_asked code fwd a w (suc n) m e = asked_step code fwd a w n (run_asked code fwd a w n) m (fetch code m.top.block m.top.place) refl (step code m) refl e

@@ -1,0 +1,10 @@
+pub mod Weight
+pub mod Asks
+pub mod Plays
+pub mod Runs
+pub mod AllGood
+pub mod Sound
+pub mod SoundProp
+pub mod Tame
+pub mod Each
+pub mod Validity

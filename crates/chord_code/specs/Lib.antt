@@ -1,0 +1,9 @@
+-- ## What callers read
+pub mod Valid
+pub mod Slots
+pub mod Machine
+pub mod Fuel
+pub mod Meaning
+pub mod Plays
+pub mod Runs
+pub mod Within

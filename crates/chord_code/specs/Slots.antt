@@ -1,0 +1,22 @@
+-- The slots of a block.
+use Rattle.std.specs.Prelude.{ℕ, zero, suc, List, [], ◌∷◌, Option, Some, None}
+use Rattle.chord_base.specs.declared.value.Value.{Value}
+use Rattle.chord_base.specs.declared.value.Value.TheVariants as a_value
+
+-- a value before others, if these are there
+abbrev pub with_first : Value → Option (List Value) → Option (List Value)
+with_first x None = None
+with_first x (Some xs) = Some (x ∷ xs)
+
+-- the slots with which a block begins, where there are enough for these values: the unit value where nothing was given
+abbrev pub slots_of : ℕ → List Value → Option (List Value)
+slots_of zero [] = Some []
+slots_of zero (x ∷ xs) = None
+slots_of (suc n) [] = with_first a_value.Unit (slots_of n [])
+slots_of (suc n) (x ∷ xs) = with_first x (slots_of n xs)
+
+-- the slots with slot i set to a value, where there is one
+abbrev pub set_slot : ℕ → Value → List Value → Option (List Value)
+set_slot i v [] = None
+set_slot zero v (x ∷ xs) = Some (v ∷ xs)
+set_slot (suc i) v (x ∷ xs) = with_first x (set_slot i v xs)

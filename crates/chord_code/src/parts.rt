@@ -1,0 +1,110 @@
+//! The parts of a code: its classes, with their methods and chords, and its blocks.
+#![tactic(auto)]
+
+ghost use Rattle.std.specs.Prelude.{◌≡◌, ℕ, ◌<◌, ◌≤◌, List, [], ◌∷◌, ◌++◌, length, OnOk, IfOk};
+
+use crate::instruction::Instructions;
+use crate::lines::Lines;
+use chord_base::text::Text;
+use std::alloc::{AllocError, Global};
+use std::marker::Model;
+
+/// The most methods of a chord.
+pub const MAX_HEADERS: usize = 8;
+
+/// The methods of a chord in header order, at most eight. Contracts see the list of their numbers.
+#[derive(Drop)]
+pub struct MethodNumbers {
+    numbers: Vec<u8>,
+}
+
+impl Model for MethodNumbers {
+    ghost use Rattle.std.specs.Prelude.{ℕ, ◌≤◌, List, length};
+
+    ghost Value = { List ℕ };
+
+    ghost view = { λ m. m.numbers.items };
+
+    ghost invariant = { λ m. length m.numbers.items ≤ 8 };
+}
+
+impl MethodNumbers {
+    /// No methods.
+    pub fn new(alloc: Global) -> MethodNumbers
+        ensures { result ≡ [] }
+    {
+        MethodNumbers {
+            numbers: Vec::new(alloc),
+        }
+    }
+
+    /// Adds a method at the end. Where no memory is found the list is as it was.
+    pub fn push(&mut self, number: u8) -> Result<(), AllocError>
+        requires { length self.old < 8 }
+        ensures added { OnOk result (self.new ≡ self.old ++ number ∷ []) }
+    {
+        self.numbers.push(number)?;
+        Ok(())
+    }
+
+    /// The methods.
+    pub fn items(&self) -> &[u8]
+        ensures numbers { result.now ≡ self.now }
+        ensures few { length self.now ≤ 8 }
+    {
+        self.numbers.as_slice()
+    }
+}
+
+/// An effective chord: the block of its body, and its methods in header order.
+#[derive(Drop)]
+pub struct ChordLine {
+    pub block: u32,
+    pub methods: MethodNumbers,
+}
+
+/// The effective chords of a class, from number 0.
+pub type Chords = Lines<ChordLine>;
+
+/// A method: its name, whether its callers wait, and its number of parameters.
+#[derive(Drop)]
+pub struct MethodLine {
+    pub name: Text,
+    pub sync: bool,
+    pub parameters: u8,
+}
+
+/// The methods of a class, from number 0.
+pub type Methods = Lines<MethodLine>;
+
+/// A class: its name, the block of its builder, if it has one, its methods, and its effective chords.
+#[derive(Drop)]
+pub struct ClassLine {
+    pub name: Text,
+    pub builder: Option<u32>,
+    pub methods: Methods,
+    pub chords: Chords,
+}
+
+/// The classes of a program, from number 0.
+pub type Classes = Lines<ClassLine>;
+
+/// A block: its number of slots, and its instructions.
+///
+/// Slot 0 is `this`, and the unit value in `Main`. The arguments follow, and then the body's own slots. A slot that was
+/// given nothing holds the unit value.
+#[derive(Drop)]
+pub struct Block {
+    pub slots: u32,
+    pub instructions: Instructions,
+}
+
+/// The blocks of a program, from number 0, which is that of `Main`.
+pub type Blocks = Lines<Block>;
+
+/// The classes and the blocks of a program.
+#[derive(Drop)]
+pub struct Parts {
+    pub classes: Classes,
+    pub blocks: Blocks,
+}
