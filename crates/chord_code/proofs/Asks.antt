@@ -1,5 +1,5 @@
 -- The next ask of a machine: one, and found within its weight.
-use Rattle.std.proofs.Common.{◌≡◌, ℕ, zero, suc, ◌<◌, List, [], ◌∷◌, ◌++◌, Option, Some, None, refl, ◌∙◌, ap, arith}
+use Rattle.std.proofs.Common.{◌≡◌, ℕ, zero, suc, ◌<◌, ◌+◌, ◌≤◌, List, [], ◌∷◌, ◌++◌, Option, Some, None, refl, sym, subst, ◌∙◌, ap, arith}
 use Rattle.chord_base.specs.declared.event.End.{End}
 use Rattle.chord_base.specs.declared.event.What.{What}
 use Rattle.chord_code.specs.declared.instruction.Instruction.{Instruction}
@@ -43,3 +43,23 @@ asked_step code fwd a w n more m (Some i) f (Goes m') e r = more m' r
 pub run_asked : (code : Parts) → IsForward code → (a : What) (w : Waiting) → (n : ℕ) (m : Machine) → run code n m ≡ Asking a w → IsAsked a w.awaited
 run_asked code fwd a w zero m e = (let z : Goes m ≡ Asking a w = e in cc)
 run_asked code fwd a w (suc n) m e = asked_step code fwd a w n (run_asked code fwd a w n) m (fetch code m.top.block m.top.place) refl (step code m) refl e
+
+weight_step : (code : Parts) → IsForward code → (n : ℕ) (m' : Machine) → ((m : Machine) → run code n m ≡ Goes m' → weight code m' + n ≤ weight code m) → (m : Machine) (o : Option Instruction) → fetch code m.top.block m.top.place ≡ o → (d : Did) → act code o m ≡ d → goes_on (run code n) d ≡ Goes m' → weight code m' + suc n ≤ weight code m
+weight_step code fwd n m' more m o f (Asking a w) e r = (let z : Asking a w ≡ Goes m' = r in cc)
+weight_step code fwd n m' more m o f Bad e r = (let z : Bad ≡ Goes m' = r in cc)
+weight_step code fwd n m' more m None f (Goes k) e r = (let z : Bad ≡ Goes k = e in cc)
+weight_step code fwd n m' more m (Some i) f (Goes k) e r = let less = lighter code m k i fwd f e in let rest = more k r in omega (arith, less, rest)
+
+-- each instruction takes from the weight
+run_weight : (code : Parts) → IsForward code → (n : ℕ) (m' m : Machine) → run code n m ≡ Goes m' → weight code m' + n ≤ weight code m
+run_weight code fwd zero m' m e = (let z : m ≡ m' = cc in subst (λ y. weight code y + 0 ≤ weight code m) z (omega arith))
+run_weight code fwd (suc n) m' m e = weight_step code fwd n m' (run_weight code fwd n m') m (fetch code m.top.block m.top.place) refl (step code m) refl e
+
+-- no machine of a code whose jumps go forward runs for ever
+pub comes_to_an_end : (code : Parts) → IsForward code → (m m' : Machine) → comes_to code m ≡ Goes m' → ⊥
+comes_to_an_end code fwd m m' e = (let w = run_weight code fwd (suc (weight code m)) m' m e in absurd (omega (arith, w)))
+
+-- a machine comes to one ask
+pub asks_are_one : (code : Parts) → IsForward code → (m : Machine) (a b : What) (w v : Waiting) → ComesTo code m a w → ComesTo code m b v → (a ≡ b) × (w ≡ v)
+asks_are_one code fwd m a b w v c d =
+    (let e : Asking a w ≡ Asking b v = sym (comes_found code fwd m a w c) ∙ comes_found code fwd m b v d in (cc, cc))

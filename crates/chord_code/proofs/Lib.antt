@@ -8,3 +8,4 @@ pub mod SoundProp
 pub mod Tame
 pub mod Each
 pub mod Validity
+pub mod Failing

@@ -1,5 +1,5 @@
 -- A code asks only of objects that its bodies were given, and within the bounds of its instructions.
-use Rattle.std.proofs.Common.{◌≡◌, ℕ, zero, suc, ◌+◌, ◌-◌, ◌<◌, ◌≤◌, List, [], ◌∷◌, ◌++◌, Bool, true, false, Option, Some, None, length, refl, sym, ◌∙◌, ap, subst, arith, ℤ, pos, negsuc}
+use Rattle.std.proofs.Common.{◌≡◌, ℕ, zero, suc, ◌+◌, ◌-◌, ◌<◌, ◌≤◌, List, [], ◌∷◌, ◌++◌, Bool, true, false, Option, Some, None, length, refl, subst, arith, ℤ, pos, negsuc}
 use Rattle.std.specs.Prelude.{slice_get, nat_lt, cond, not}
 use Rattle.chord_base.specs.declared.event.Trap.TheVariants.{TextTooLong}
 use Rattle.chord_base.specs.declared.value.Object.{Object}
@@ -9,7 +9,6 @@ use Rattle.chord_base.specs.declared.event.Trap.{Trap}
 use Rattle.chord_base.specs.declared.event.End.{End}
 use Rattle.chord_base.specs.declared.event.End.TheVariants.{Gives, Traps}
 use Rattle.chord_base.specs.declared.event.What.{What}
-use Rattle.chord_base.specs.declared.event.What.TheVariants.{Begun, Made, Sent, Called, Printed, Fired, Ended}
 use Rattle.chord_base.specs.declared.event.Limits.{Limits}
 use Rattle.chord_base.specs.Meaning.{Start, Main, Chord, Asked}
 use Rattle.chord_base.specs.Objects.{ValueAmong, ValuesAmong, EndAmong, EndsAmong, StartAmong, WhatAmong, IsTame}

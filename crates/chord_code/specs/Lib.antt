@@ -4,6 +4,8 @@ pub mod Slots
 pub mod Machine
 pub mod Fuel
 pub mod Meaning
+pub mod Sound
+pub mod Laws
+pub mod Within
 pub mod Plays
 pub mod Runs
-pub mod Within

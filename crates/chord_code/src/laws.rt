@@ -1,33 +1,55 @@
 //! What is true of every valid code: functions whose contracts are the laws.
 #![tactic(auto)]
 
-ghost use Rattle.std.specs.Prelude.{◌≡◌, ℕ, Some, List};
+ghost use Rattle.std.specs.Prelude.{◌≡◌, ℕ, ◌<◌, Some, List, [], ◌∷◌, ◌++◌};
+ghost use Rattle.chord_base.specs.declared.value.Object.{Object};
+ghost use Rattle.chord_base.specs.declared.value.Value.{Value as V};
+ghost use Rattle.chord_base.specs.declared.event.Trap.{Trap};
 ghost use Rattle.chord_base.specs.declared.event.End.{End};
+ghost use Rattle.chord_base.specs.declared.event.End.TheVariants as an_end;
 ghost use Rattle.chord_base.specs.declared.event.Limits.{Limits};
 ghost use Rattle.chord_base.specs.declared.event.What.{What};
-ghost use Rattle.chord_base.specs.Meaning.{Start, Asked};
+ghost use Rattle.chord_base.specs.declared.event.What.TheVariants as what;
+ghost use Rattle.chord_base.specs.Meaning.{Start, Asked, HasOneSync, HaveMethods};
+ghost use Rattle.chord_base.specs.Messages.{AreDifferent, has};
 ghost use Rattle.chord_base.specs.Objects.{IsTame};
-ghost use Rattle.chord_code.specs.Machine.{Machine, Waiting, Asking, ComesTo, IsForward};
+ghost use Rattle.chord_code.specs.Machine.{Machine, Waiting, Asking, Goes, ComesTo};
 ghost use Rattle.chord_code.specs.Fuel.{comes_to};
 ghost use Rattle.chord_code.specs.Meaning.{code_program};
-ghost use Rattle.chord_code.specs.Within.{IsCodeWithin, IsAskWithin};
+ghost use Rattle.chord_code.specs.Within.{IsAskWithin};
+ghost use Rattle.chord_code.specs.Laws.{ChordsAreRight};
 
-use crate::parts::Parts;
+use crate::code::Code;
 
-/// The bound of the definitions is never met: what a machine comes to is found by them, and nothing else is.
-pub fn asks_are_found(code: &Parts)
-    requires { IsForward code.now }
+/// Asks are found: what a machine comes to is what the bounded run of it comes to; it is one ask, and no machine of a
+/// valid code runs for ever.
+pub fn asks_are_found(code: &Code)
     ensures found { (m : Machine) (a : What) (w : Waiting) → ComesTo code.now m a w → comes_to code.now m ≡ Asking a w }
     ensures only { (m : Machine) (a : What) (w : Waiting) → comes_to code.now m ≡ Asking a w → ComesTo code.now m a w }
+    ensures one { (m : Machine) (a b : What) (w v : Waiting) → ComesTo code.now m a w → ComesTo code.now m b v → (a ≡ b) × (w ≡ v) }
+    ensures ends { (m n : Machine) → comes_to code.now m ≡ Goes n → ⊥ }
 {
-    let _ = code;
+    let _parts = code.parts();
 }
 
-/// A code within its bounds asks only of objects that its bodies were given, and within these bounds.
-pub fn asks_are_tame(code: &Parts)
-    requires { IsCodeWithin code.now }
+/// A call that is answered by a trap: the body next asks its own end by that trap.
+pub fn traps_are_handed_on(code: &Code)
+    ensures { (limits : Limits) (s : Start) (d : ℕ) (rs : List End) (t : Trap) (l : ℕ) (o : Object) (j : ℕ) (vs : List V) → (code_program code.now limits).next s d rs ≡ Some (record { what = what.Called o j vs; depth = l }) → (code_program code.now limits).next s d (rs ++ an_end.Traps t ∷ []) ≡ Some (record { what = what.Ended (an_end.Traps t); depth = 0 }) }
+{
+    let _parts = code.parts();
+}
+
+/// A body asks only of objects that it was given, and within the bounds of a journal.
+pub fn asks_are_tame(code: &Code)
     ensures tame { (limits : Limits) → IsTame (code_program code.now limits) }
     ensures within { (limits : Limits) (s : Start) (d : ℕ) (rs : List End) (a : Asked) → (code_program code.now limits).next s d rs ≡ Some a → IsAskWithin a.what }
 {
-    let _ = code;
+    let _parts = code.parts();
+}
+
+/// The chords of a class have methods, all different and at most one of them synchronous.
+pub fn chords_are_right(code: &Code)
+    ensures { (limits : Limits) → ChordsAreRight (code_program code.now limits) }
+{
+    let _parts = code.parts();
 }
