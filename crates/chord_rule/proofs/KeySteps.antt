@@ -45,6 +45,10 @@ message_names (Ended t) x e = absurd (let z : Path (Option Message) None (Some x
 pub made_low : (p : Program) (h : List Entry) (o : Object) → IsPast p h → IsMade h o → o.number < length h
 made_low p h o r t = let l = (what_is p h t.0 r t.1).1 in let q = t.2 in omega arith
 
+-- the objects that the newest entry of a past names have numbers below its own
+pub names_low : (p : Program) (e : Entry) (h : List Entry) → IsTabled p → IsPast p (e ∷ h) → (o : Object) → Names e.what o → o.number < length h
+names_low p e h tabled past o names = made_low p h o past.0 ((tabled.made (e ∷ h) past).1 o names)
+
 -- the object of a firing was made
 pub fires_low : (p : Program) (h : List Entry) → IsTabled p → IsPast p h → (k : ℕ) (o : Object) (ms : List ℕ) (vs : List value.Value) → Fires p h k o ms vs → o.number < length h
 fires_low p h tabled past k o ms vs f = first f.0 ms vs (tabled.some_method o.class k f.0 f.1) f.2

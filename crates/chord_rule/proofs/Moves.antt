@@ -20,13 +20,13 @@ use Rattle.chord_rule.specs.Stages.{Fresh, Placing, Vacant}
 use Rattle.chord_base.specs.Messages.{AreDifferent}
 use Rattle.chord_rule.specs.Claims.{numbers}
 use Rattle.chord_rule.specs.Hands.{hand, Holds, IsUnlinked}
-use Rattle.chord_rule.specs.Made.{IsChord}
+use Rattle.chord_rule.specs.Made.{IsChord, IsTabled}
 use Rattle.chord_rule.specs.Looks.{HasSeen}
 use Rattle.chord_rule.specs.Numbers.{HasNumber}
 use Rattle.chord_rule.specs.Duties.{HasDuty, Chosen, IsNamed, IsCarried}
 use Rattle.chord_rule.specs.Bags.{Order}
 use Rattle.chord_rule.proofs.HandMoves.{newcomer_none}
-use Rattle.chord_rule.proofs.Wholes.{whole_draw, whole_told}
+use Rattle.chord_rule.proofs.Wholes.{whole_draw, whole_told, drawn_above}
 use Rattle.chord_rule.proofs.Bridge.{Can, after, counter_step}
 use Rattle.chord_rule.proofs.Counting.{count_fits}
 
@@ -56,7 +56,13 @@ module _ {P : Type 0} (entries : P → List Entry) (arguments : P → List value
         tt,
         subst (λ (x : ℕ). Whole entries arguments keeps_to p n (record m { count = x; views = set m.views id w }) u') (sym (count_fits n m.count m.views small whole.counting))
             (whole_draw entries arguments keeps_to p n small m u whole id me.0 at body what l own next),
-        (refl, (λ k. refl), λ k. absurd (omega arith)),
+        (
+          refl,
+          (λ k.
+              let after = whole_draw entries arguments keeps_to p n small m u whole id me.0 at body what l own next in
+              let above = drawn_above entries arguments keeps_to p n small m u whole id me.0 at body what l u.journal after.stands.keeping.merged.past (let long = whole.stands.keeping.long in omega arith) in (refl, above.0, above.1)),
+          λ k. absurd (omega arith),
+        ),
       )
 
 all_vacant : {A : Type 0} (n i : ℕ) (a : A) → i < n → get_elem? (map some (replicate n a)) i ≡ some (some a)
@@ -87,8 +93,8 @@ module _ {P : Type 0} (entries : P → List Entry) (arguments : P → List value
       cases true = alone (c / 2)
       cases false = refl
 
-  pub opens : (n words_count : ℕ) → words_count ≡ 1 + 18 * n → Held entries arguments keeps_to p n (opening (replicate words_count 0) (replicate n None) newcomer_first)
-  opens n words_count wide = record {
+  pub opens : IsTabled p → (n words_count : ℕ) → words_count ≡ 1 + 18 * n → Held entries arguments keeps_to p n (opening (replicate words_count 0) (replicate n None) newcomer_first)
+  opens tabled n words_count wide = record {
     moment = first_moment;
     ghosts = record { journal = []; stage = λ i. Vacant; order = nothing_linked };
     shows = record {
@@ -102,6 +108,7 @@ module _ {P : Type 0} (entries : P → List Entry) (arguments : P → List value
       views = refl;
     };
     rule = record {
+      tabled = tabled;
       counting = record {
         bound = omega arith;
         first = λ v e. let s : newcomer_first.splits ≡ v.splits = ap (λ (u : View). u.splits) (some-injective newcomer_first v e) in (omega arith, omega arith);

@@ -48,6 +48,22 @@ link_low : (c : Cell) (next : Option ℕ) → NextFits c next → NextFits a_cel
 link_low c None k = (tt, tt, tt)
 link_low c (Some x) k = ((tt, k.1), (tt, k.1), (tt, k.1))
 
+-- what a desk has out is one number and one parcel
+same_out : {P : Type 0} (i j : ℕ) (q r : P) → ◌≡◌ {A = List (ℕ × Option P)} ((i, Some q) ∷ []) ((j, Some r) ∷ []) → (i ≡ j) × (q ≡ r)
+same_out {P} i j q r e = (ap (λ (xs : List (ℕ × Option P)). number_out xs) e, ap (λ (xs : List (ℕ × Option P)). parcel_out xs) e)
+  where
+    number_out : List (ℕ × Option P) → ℕ
+    number_out [] = i
+    number_out (x ∷ xs) = x.0
+
+    parcel_of : Option P → P
+    parcel_of None = q
+    parcel_of (Some s) = s
+
+    parcel_out : List (ℕ × Option P) → P
+    parcel_out [] = q
+    parcel_out (x ∷ xs) = parcel_of x.1
+
 module _ {P : Type 0} (entries : P → List Entry) (arguments : P → List value.Value) (keeps_to : P → Type 0) (p : Program) (n : ℕ) (any : 0 < n) (small : n ≤ 65536) where
   abbrev W : Moment P → Unseen → Type 0
   W = Whole entries arguments keeps_to p n
@@ -86,7 +102,7 @@ module _ {P : Type 0} (entries : P → List Entry) (arguments : P → List value
             tt,
             subst (λ (x : ℕ). W (record m { count = x; views = set m.views id w }) u') (sym (count_fits n m.count m.views small whole.counting))
                 (wholes.whole_draw_firing entries arguments keeps_to p n small m u whole id me.0 at k object js ms vs l chord members),
-            (refl, (λ k. refl), λ k. absurd (omega arith)),
+            (refl, (λ k. (refl, standing.desk_below entries arguments keeps_to p n m u whole.stands l id me.0 at)), λ k. absurd (omega arith)),
           )
 
   pub place_step : (id : ℕ) (me : Me (Option P) View) (i : ℕ) (e : Entry) (x : Message) → PlaceFits x.object x.method → i < n → IsIn e me.0.kept → e.number ≡ i → message_of e.what ≡ Some x → HasNumber i me.0.fresh → me.0.placing ≡ None
@@ -101,19 +117,19 @@ module _ {P : Type 0} (entries : P → List Entry) (arguments : P → List value
         (λ j q. let same : i ≡ j = omega arith in (ap (kinds.placed me.0) same, ap (λ (k : ℕ). (k, None) ∷ me.1) same)),
       ))
 
-  pub link_step : IsTabled p → (id : ℕ) (v : View) (i : ℕ) (q : P) (e : Entry) (x : Message) → x.object.number < n → IsIn e v.kept → e.number ≡ i → i < 65536 → message_of e.what ≡ Some x → x.method < 16 → v.placing ≡ Some i → v.flight ≡ None
+  pub link_step : (id : ℕ) (v : View) (i : ℕ) (q : P) (e : Entry) (x : Message) → x.object.number < n → IsIn e v.kept → e.number ≡ i → i < 65536 → message_of e.what ≡ Some x → x.method < 16 → v.placing ≡ Some i → v.flight ≡ None
       → MayGo p v.kept (entries q) → ((e : Entry) (x : Message) → IsIn e (entries q) → message_of e.what ≡ Some x → (e.number ≡ i) ⊎ (IsUnlinked (hand v) e.number → ⊥)) → x.arguments ≡ arguments q → ((e : Entry) → IsIn e v.kept → IsCall i e → IsIn e (entries q))
       → ((b : ℕ) → Begins b (entries q) → IsParked p (entries q) (Some i) (doing p (entries q) b)) → keeps_to q
-      → Allows H n id (v, (i, Some q) ∷ []) (1 + n + head_of (key x.object x.method)) (λ _. link_of (Some i)) (links entries x.object x.method i q (step n (1 + n + head_of (key x.object x.method)) (link_of (Some i)) 0 none) (v, (i, Some q) ∷ []))
-  link_step tabled id v i q e x object is num small_i says method placing free may others args call parked task =
-      swap_head Unseen W n id (v, (i, Some q) ∷ []) (head_of (key x.object x.method)) (Some i) (links entries x.object x.method i q (step n (1 + n + head_of (key x.object x.method)) (link_of (Some i)) 0 none) (v, (i, Some q) ∷ [])) (omega arith) small_i
+      → Allows H n id (v, (i, Some q) ∷ []) (1 + n + head_of (key x.object x.method)) (λ _. link_of (Some i)) (links entries x.object x.method (step n (1 + n + head_of (key x.object x.method)) (link_of (Some i)) 0 none) (v, (i, Some q) ∷ []))
+  link_step id v i q e x object is num small_i says method placing free may others args call parked task =
+      swap_head Unseen W n id (v, (i, Some q) ∷ []) (head_of (key x.object x.method)) (Some i) (links entries x.object x.method (step n (1 + n + head_of (key x.object x.method)) (link_of (Some i)) 0 none) (v, (i, Some q) ∷ [])) (omega arith) small_i
       (λ m u whole at fits. let k = key x.object x.method in let above = m.heads (head_of k) in (
         kinds.flown v i k above (entries q),
         gives,
         record u { stage = put u.stage i (InHand id (Flying k above)); order = linked_order u.order i k above },
         tt,
-        wholes.whole_link entries arguments keeps_to p n small m u whole id v at tabled i q e x is num says method placing free may others args call parked task,
-        (refl, (above, refl, refl)),
+        wholes.whole_link entries arguments keeps_to p n small m u whole id v at whole.tabled i q e x is num says method placing free may others args call parked task,
+        (λ j r e. let same = same_out i j q r e in (refl, (above, refl, λ z. kinds.flown v (same.0 z) k above (entries (same.1 z))))),
       ))
 
   pub arm_step : (id : ℕ) (me : Me (Option P) View) (i : ℕ) → i < n → me.0.flight ≡ Some i
@@ -223,11 +239,11 @@ module _ {P : Type 0} (entries : P → List Entry) (arguments : P → List value
 
   pub post_step : (id : ℕ) (v : View) (f : ℕ) (q : P) → f < n → v.posting ≡ Some f → MayGo p v.kept (entries q) → ((e : Entry) (x : Message) → IsIn e (entries q) → message_of e.what ≡ Some x → IsUnlinked (hand v) e.number → ⊥)
       → Begins f (entries q) → ((e : Entry) → IsIn e (entries q) → e.body ≡ f → e.number ≡ f) → ((b : ℕ) → (b ≡ f → ⊥) → Begins b (entries q) → IsParked p (entries q) None (doing p (entries q) b)) → keeps_to q
-      → Allows H n id (v, (f, Some q) ∷ []) (1 + f) (λ _. word a_cell.Ready None) (λ _. posts entries q (step n (1 + f) (word a_cell.Ready None) 0 none) (v, (f, Some q) ∷ []) (word a_cell.Ready None))
-  post_step id v f q low posting may others begins only parked task = store_cell Unseen W n id (v, (f, Some q) ∷ []) f (record { cell = a_cell.Ready; next = None }) (posts entries q (step n (1 + f) (word a_cell.Ready None) 0 none) (v, (f, Some q) ∷ []) (word a_cell.Ready None)) low
+      → Allows H n id (v, (f, Some q) ∷ []) (1 + f) (λ _. word a_cell.Ready None) (λ _. posts entries (step n (1 + f) (word a_cell.Ready None) 0 none) (v, (f, Some q) ∷ []) (word a_cell.Ready None))
+  post_step id v f q low posting may others begins only parked task = store_cell Unseen W n id (v, (f, Some q) ∷ []) f (record { cell = a_cell.Ready; next = None }) (posts entries (step n (1 + f) (word a_cell.Ready None) 0 none) (v, (f, Some q) ∷ []) (word a_cell.Ready None)) low
       (λ m u whole at good. (
         (omega arith, tt),
-        (kinds.posted v (entries q), gives, record u { stage = put u.stage f Posted }, tt, wholes.whole_post entries arguments keeps_to p n small m u whole id v at f q posting may others begins only parked task, (refl, refl)),
+        (kinds.posted v (entries q), gives, record u { stage = put u.stage f Posted }, tt, wholes.whole_post entries arguments keeps_to p n small m u whole id v at f q posting may others begins only parked task, (λ g r e. let same = same_out f g q r e in (λ z. kinds.posted v (entries (same.1 z)), refl))),
       ))
 
   pub start_step : (id : ℕ) (me : Me (Option P) View) (f : ℕ) → f < n → me.0.starting ≡ None
@@ -290,5 +306,12 @@ module _ {P : Type 0} (entries : P → List Entry) (arguments : P → List value
         tt,
         subst (λ (x : ℕ). W (record m { count = x; views = set m.views id w }) u') (sym (count_fits n m.count m.views small whole.counting))
             (wholes.whole_begun entries arguments keeps_to p n small m u whole id me.0 at any is_first not_drawn not_split),
-        (refl, (λ k. refl), λ k. absurd (omega (arith, none_drawn, any, k))),
+        (
+          refl,
+          (λ k.
+              let after = wholes.whole_begun entries arguments keeps_to p n small m u whole id me.0 at any is_first not_drawn not_split in
+              let above = wholes.drawn_above entries arguments keeps_to p n small m u whole id me.0 at 0 Begun (omega (arith, none_drawn, any)) u.journal after.stands.keeping.merged.past (let long = whole.stands.keeping.long in omega arith) in
+              (refl, above.0, above.1)),
+          λ k. absurd (omega (arith, none_drawn, any, k)),
+        ),
       ))

@@ -114,6 +114,12 @@ module _ {P : Type 0} (entries : P → List Entry) (arguments : P → List value
       subst (AllBelow m.count) (law.keeping.merged.keeps (parcel i) ∙ parcel_keeps entries m.views m.homes i ∙ ap (at_home entries) home)
       (kept_below m.count (λ x. eqb (law.keeping.merged.at x) (parcel i)) u.journal (past_below p u.journal m.count past (omega arith)))
 
+  -- what a desk keeps was drawn
+  pub desk_below : m.count < n → (id : ℕ) (v : View) → get_elem? m.views id ≡ some v → AllBelow m.count v.kept
+  desk_below room id v at = let long : length u.journal ≡ m.count = (let l = law.keeping.long in omega arith) in
+      subst (AllBelow m.count) (law.keeping.merged.keeps (desk id) ∙ desk_keeps entries m.views m.homes id ∙ ap at_desk at)
+      (kept_below m.count (λ x. eqb (law.keeping.merged.at x) (desk id)) u.journal (past_below p u.journal m.count past (omega arith)))
+
   -- a desk more
   pub stands_split : (id : ℕ) (v : View) → get_elem? m.views id ≡ some v → StandsFor entries arguments keeps_to p n (record m { views = set m.views id (kinds.lent_one v) ++ newcomer ∷ [] }) u
   stands_split id v at = let w : View = kinds.lent_one v in let vs : List View = set m.views id w in record {

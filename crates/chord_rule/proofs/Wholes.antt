@@ -1,5 +1,5 @@
 -- Each kind of step keeps the whole rule: the lemmas on its laws, put together.
-use Rattle.std.proofs.Common.{◌≡◌, ◌≢◌, ◌⊎◌, inl, inr, ⊎_elim, ℕ, ◌+◌, ◌<◌, ◌≤◌, eqb, not, if◌then◌else◌, Bool, true, false, List, [], ◌∷◌, ◌++◌, map, set, slice_get, refl, sym, ap, ◌∙◌, subst, arith, Option, Some, None}
+use Rattle.std.proofs.Common.{length, ◌≡◌, ◌≢◌, ◌⊎◌, inl, inr, ⊎_elim, ℕ, ◌+◌, ◌<◌, ◌≤◌, eqb, not, if◌then◌else◌, Bool, true, false, List, [], ◌∷◌, ◌++◌, map, set, slice_get, refl, sym, ap, ◌∙◌, subst, arith, Option, Some, None}
 use Rattle.std.proofs.lemmas.Bool.{eqb-true}
 use mathlib.Core.Path.{Path}
 use mathlib.Core.Logic.{dite}
@@ -10,7 +10,10 @@ use lib.ListN.{get_elem?}
 use Rattle.chord_base.specs.Meaning.{Program}
 use Rattle.chord_base.specs.Bodies.{Asks, doing}
 use Rattle.chord_base.specs.Messages.{Message, message_of, has, IsCall}
-use Rattle.chord_base.specs.Story.{IsOwn, IsIn}
+use Rattle.chord_base.specs.Story.{IsOwn, IsIn, AllBelow}
+use Rattle.chord_base.specs.Machine.{IsPast}
+use Rattle.chord_rule.specs.Made.{Names}
+use Rattle.chord_rule.proofs.KeySteps.{names_low}
 use Rattle.chord_base.specs.declared.value.Object.{Object}
 use Rattle.chord_base.specs.declared.value.Value as value
 use Rattle.chord_base.specs.declared.event.What.{What}
@@ -121,6 +124,7 @@ module _ {P : Type 0} (entries : P → List Entry) (arguments : P → List value
 
   pub whole_still : (w : View) → hand w ≡ hand v → w.kept ≡ v.kept → w.duties ≡ v.duties → w.spent ≡ v.spent → w.splits ≡ v.splits → w.first ≡ v.first → w.drawn ≡ v.drawn → w.looked.seen ≡ v.looked.seen → Whole entries arguments keeps_to p n (record m { views = set m.views id w }) u
   whole_still w same kept duties spent splits first drawn looked = record {
+    tabled = whole.tabled;
     counting = counting_stays w spent splits;
     firsts = firsts_stay n m.count m.views whole.counting whole.firsts id v at w first drawn splits;
     stands = standing.stands_still entries arguments keeps_to p n m u whole.stands id v at w same kept;
@@ -133,6 +137,7 @@ module _ {P : Type 0} (entries : P → List Entry) (arguments : P → List value
 
   pub whole_told : 0 < n → n ≤ m.count → v.spent ≡ false → Whole entries arguments keeps_to p n (record m { count = m.count + 1; views = set m.views id (was_told v) }) u
   whole_told any full untold = let b = whole.counting.bound in let t = told_set m.views id v (was_told v) at in let f : flag v.spent ≡ 0 = ap flag untold in record {
+    tabled = whole.tabled;
     counting = counts n m.count (m.count + 1) m.views id v (was_told v) whole.counting at (omega arith) (λ _. refl);
     firsts = firsts_told n m.count m.views whole.counting whole.firsts id v at (m.count + 1) (was_told v) (omega (arith, any, full)) refl refl refl;
     stands = standing.stands_told entries arguments keeps_to p n m u whole.stands id v at full;
@@ -146,6 +151,7 @@ module _ {P : Type 0} (entries : P → List Entry) (arguments : P → List value
   pub whole_draw : (b : ℕ) (what : What) → m.count < n → IsOwn what → Asks p v.kept b what
       → Whole entries arguments keeps_to p n (record m { count = m.count + 1; views = set m.views id (drew v m.count b what) }) (record u { journal = entry m.count b what ∷ u.journal; stage = kinds.drawn_stage id m.count what u.stage })
   whole_draw b what room own asks = let keys = bagging.bag_draw entries arguments keeps_to p n small m u whole.stands whole.heads whole.bags b what room in record {
+    tabled = whole.tabled;
     counting = counts n m.count (m.count + 1) m.views id v (drew v m.count b what) whole.counting at (omega arith) (λ _. refl);
     firsts = firsts_draw n m.count m.views whole.counting whole.firsts id v at (m.count + 1) (drew v m.count b what) refl refl;
     stands = standing.stands_draw entries arguments keeps_to p n m u whole.stands id v at b what room own asks;
@@ -156,12 +162,17 @@ module _ {P : Type 0} (entries : P → List Entry) (arguments : P → List value
     duties = duties_stay (drew v m.count b what) m.cells refl (λ x s. s) (λ q x e. e);
   }
 
+  -- what the draw of such a number tells: it is above all that the desk kept, and above each object that the new entry names
+  pub drawn_above : (b : ℕ) (what : What) → m.count < n → (h : List Entry) → IsPast p (entry m.count b what ∷ h) → length h ≡ m.count → AllBelow m.count v.kept × ((o : Object) → Names what o → o.number < m.count)
+  drawn_above b what room h past long = (standing.desk_below entries arguments keeps_to p n m u whole.stands room id v at, λ o names. let l = names_low p (entry m.count b what) h whole.tabled past o names in omega arith)
+
   -- the first desk begins Main: it has neither drawn nor been split
   pub whole_begun : 0 < n → v.first ≡ true → v.drawn ≡ false → v.splits ≡ 0
       → Whole entries arguments keeps_to p n (record m { count = m.count + 1; views = set m.views id (drew v m.count 0 Begun) }) (record u { journal = entry m.count 0 Begun ∷ u.journal; stage = u.stage })
   whole_begun any is_first not_drawn not_split =
       let none_drawn = whole.firsts.untouched v (ap (get_elem? m.views) (sym (whole.firsts.leads id v at is_first)) ∙ at) not_drawn not_split in
       let keys = bagging.bag_draw entries arguments keeps_to p n small m u whole.stands whole.heads whole.bags 0 Begun (omega (arith, none_drawn, any)) in record {
+        tabled = whole.tabled;
         counting = counts n m.count (m.count + 1) m.views id v (drew v m.count 0 Begun) whole.counting at (omega (arith, none_drawn, any)) (λ _. refl);
         firsts = firsts_draw n m.count m.views whole.counting whole.firsts id v at (m.count + 1) (drew v m.count 0 Begun) refl refl;
         stands = standing.stands_begun entries arguments keeps_to p n m u whole.stands id v at none_drawn any;
@@ -176,6 +187,7 @@ module _ {P : Type 0} (entries : P → List Entry) (arguments : P → List value
       → Whole entries arguments keeps_to p n (record m { count = m.count + 1; views = set m.views id (kinds.fired v m.count k object ms vs) })
       (record u { journal = entry m.count m.count (Fired k object ms vs) ∷ u.journal; stage = kinds.fired_stage id m.count ms u.stage })
   whole_draw_firing k object js ms vs room chord members = let w : View = kinds.fired v m.count k object ms vs in let keys = bagging.bag_draw entries arguments keeps_to p n small m u whole.stands whole.heads whole.bags m.count (Fired k object ms vs) room in record {
+    tabled = whole.tabled;
     counting = counts n m.count (m.count + 1) m.views id v w whole.counting at (omega arith) (λ _. refl);
     firsts = firsts_draw n m.count m.views whole.counting whole.firsts id v at (m.count + 1) w refl refl;
     stands = standing.stands_draw_firing entries arguments keeps_to p n m u whole.stands id v at k object js ms vs room chord members;
@@ -189,6 +201,7 @@ module _ {P : Type 0} (entries : P → List Entry) (arguments : P → List value
   pub whole_place : (i : ℕ) (e : Entry) (x : Message) → IsIn e v.kept → e.number ≡ i → message_of e.what ≡ Some x → HasNumber i v.fresh → v.placing ≡ None
       → Whole entries arguments keeps_to p n (record m { places = put m.places i (Some (x.object, x.method)); homes = put m.homes i none; views = set m.views id (kinds.placed v i) }) (record u { stage = put u.stage i (InHand id Placing) })
   whole_place i e x is num says has free = record {
+    tabled = whole.tabled;
     counting = counting_stays (kinds.placed v i) refl refl;
     firsts = firsts_stay n m.count m.views whole.counting whole.firsts id v at (kinds.placed v i) refl refl refl;
     stands = standing.stands_place entries arguments keeps_to p n m u whole.stands id v at i e x is num says has free;
@@ -210,6 +223,7 @@ module _ {P : Type 0} (entries : P → List Entry) (arguments : P → List value
       let there = standing.entry_says entries arguments keeps_to p n m u whole.stands id v at e x i is num says in
       let linked = bagging.bag_link entries arguments keeps_to p n small m u whole.stands whole.heads whole.bags tabled id i x there method was in
       let near : (j l : ℕ) → u.order.bag j ≡ Some l → put u.order.bag i (Some k) j ≡ Some l = (λ j l b. put_else u.order.bag i (Some k) j (λ q. let z : Path (Option ℕ) None (Some l) = sym t.5 ∙ sym (ap u.order.bag q) ∙ b in absurd (cc)) ∙ b) in record {
+        tabled = whole.tabled;
         counting = counting_stays w refl refl;
         firsts = firsts_stay n m.count m.views whole.counting whole.firsts id v at w refl refl refl;
         stands = standing.stands_link entries arguments keeps_to p n m u whole.stands id v at i k above q e x is num says refl method placing free may others args call parked task (put m.heads (head_of k) (Some i));
@@ -223,6 +237,7 @@ module _ {P : Type 0} (entries : P → List Entry) (arguments : P → List value
   pub whole_arm : (i : ℕ) → v.flight ≡ Some i
       → Whole entries arguments keeps_to p n (record m { cells = put m.cells i (record { cell = a_cell.Pending; next = v.above }); views = set m.views id (kinds.armed v i) }) (record u { stage = put u.stage i Armed })
   whole_arm i flying = let was = whole.stands.hands.holds id v at i (Flying v.bag v.above) (flying, refl, refl) in let t = it i (InHand id (Flying v.bag v.above)) was in record {
+    tabled = whole.tabled;
     counting = counting_stays (kinds.armed v i) refl refl;
     firsts = firsts_stay n m.count m.views whole.counting whole.firsts id v at (kinds.armed v i) refl refl refl;
     stands = standing.stands_arm entries arguments keeps_to p n m u whole.stands id v at i flying;
@@ -236,6 +251,7 @@ module _ {P : Type 0} (entries : P → List Entry) (arguments : P → List value
   pub whole_claim : (i : ℕ) (next : Option ℕ) (x : Message) → m.cells i ≡ record { cell = a_cell.Pending; next = next } → message_in (what_at i u.journal) ≡ Some x
       → Whole entries arguments keeps_to p n (record m { cells = put m.cells i (record { cell = a_cell.Claimed; next = next }); views = set m.views id (claimed v (claim_on i next x)) }) (record u { stage = put u.stage i (InHand id (Claiming (claim_on i next x))) })
   whole_claim i next x is says = let w : View = claimed v (claim_on i next x) in let y : Word = record { cell = a_cell.Claimed; next = next } in record {
+    tabled = whole.tabled;
     counting = counting_stays w refl refl;
     firsts = firsts_stay n m.count m.views whole.counting whole.firsts id v at w refl refl refl;
     stands = standing.stands_claim entries arguments keeps_to p n m u whole.stands id v at i next x is says;
@@ -250,6 +266,7 @@ module _ {P : Type 0} (entries : P → List Entry) (arguments : P → List value
   pub whole_give_back : (c : Claim) → HasThe c v.claims → c.firing ≡ None
       → Whole entries arguments keeps_to p n (record m { cells = put m.cells c.number (record { cell = a_cell.Pending; next = c.next }); views = set m.views id (kinds.unclaimed v c.number) }) (record u { stage = put u.stage c.number Armed })
   whole_give_back c has free = let w : View = kinds.unclaimed v c.number in let y : Word = record { cell = a_cell.Pending; next = c.next } in let is = standing.claim_word entries arguments keeps_to p n m u whole.stands id v at c has in record {
+    tabled = whole.tabled;
     counting = counting_stays w refl refl;
     firsts = firsts_stay n m.count m.views whole.counting whole.firsts id v at w refl refl refl;
     stands = standing.stands_give_back entries arguments keeps_to p n m u whole.stands id v at c.number c has refl free;
@@ -265,6 +282,7 @@ module _ {P : Type 0} (entries : P → List Entry) (arguments : P → List value
       → Whole entries arguments keeps_to p n (record m { cells = put m.cells c.number (record { cell = a_cell.Consumed; next = c.next }); homes = put m.homes c.number none; views = set m.views id (kinds.consumed v c.number (entries q)) })
       (record u { stage = put u.stage c.number (InHand id Emptying) })
   whole_consume c f q has for free home = let w : View = kinds.consumed v c.number (entries q) in let y : Word = record { cell = a_cell.Consumed; next = c.next } in let is = standing.claim_word entries arguments keeps_to p n m u whole.stands id v at c has in record {
+    tabled = whole.tabled;
     counting = counting_stays w refl refl;
     firsts = firsts_stay n m.count m.views whole.counting whole.firsts id v at w refl refl refl;
     stands = standing.stands_consume entries arguments keeps_to p n m u whole.stands id v at c.number c f q has refl for free home;
@@ -277,6 +295,7 @@ module _ {P : Type 0} (entries : P → List Entry) (arguments : P → List value
 
   pub whole_empty : (i : ℕ) → v.emptying ≡ Some i → Whole entries arguments keeps_to p n (record m { homes = put m.homes i (some None); views = set m.views id (kinds.emptied v) }) (record u { stage = put u.stage i Spent })
   whole_empty i emptying = record {
+    tabled = whole.tabled;
     counting = counting_stays (kinds.emptied v) refl refl;
     firsts = firsts_stay n m.count m.views whole.counting whole.firsts id v at (kinds.emptied v) refl refl refl;
     stands = standing.stands_empty entries arguments keeps_to p n m u whole.stands id v at i emptying;
@@ -289,6 +308,7 @@ module _ {P : Type 0} (entries : P → List Entry) (arguments : P → List value
 
   pub whole_posting : (f : ℕ) → HasNumber f v.unposted → v.posting ≡ None → Whole entries arguments keeps_to p n (record m { homes = put m.homes f none; views = set m.views id (kinds.posting v f) }) (record u { stage = put u.stage f (InHand id Posting) })
   whole_posting f has free = record {
+    tabled = whole.tabled;
     counting = counting_stays (kinds.posting v f) refl refl;
     firsts = firsts_stay n m.count m.views whole.counting whole.firsts id v at (kinds.posting v f) refl refl refl;
     stands = standing.stands_posting entries arguments keeps_to p n m u whole.stands id v at f has free;
@@ -303,6 +323,7 @@ module _ {P : Type 0} (entries : P → List Entry) (arguments : P → List value
       → Begins f (entries q) → ((e : Entry) → IsIn e (entries q) → e.body ≡ f → e.number ≡ f) → ((b : ℕ) → (b ≡ f → ⊥) → Begins b (entries q) → IsParked p (entries q) None (doing p (entries q) b)) → keeps_to q
       → Whole entries arguments keeps_to p n (record m { cells = put m.cells f (record { cell = a_cell.Ready; next = None }); homes = put m.homes f (some (Some q)); views = set m.views id (kinds.posted v (entries q)) }) (record u { stage = put u.stage f Posted })
   whole_post f q posting may others begins only parked task = let w : View = kinds.posted v (entries q) in let y : Word = record { cell = a_cell.Ready; next = None } in let t = it f (InHand id Posting) (whole.stands.hands.holds id v at f Posting posting) in record {
+    tabled = whole.tabled;
     counting = counting_stays w refl refl;
     firsts = firsts_stay n m.count m.views whole.counting whole.firsts id v at w refl refl refl;
     stands = standing.stands_post entries arguments keeps_to p n m u whole.stands id v at f q posting may others begins only parked task;
@@ -316,6 +337,7 @@ module _ {P : Type 0} (entries : P → List Entry) (arguments : P → List value
   pub whole_start : (f : ℕ) (q : P) → (m.cells f).cell ≡ a_cell.Ready → v.starting ≡ None → m.homes f ≡ some (Some q)
       → Whole entries arguments keeps_to p n (record m { cells = put m.cells f (record { cell = a_cell.Started; next = None }); homes = put m.homes f none; views = set m.views id (kinds.started v f (entries q)) }) (record u { stage = put u.stage f (InHand id Starting) })
   whole_start f q is free home = let w : View = kinds.started v f (entries q) in let y : Word = record { cell = a_cell.Started; next = None } in record {
+    tabled = whole.tabled;
     counting = counting_stays w refl refl;
     firsts = firsts_stay n m.count m.views whole.counting whole.firsts id v at w refl refl refl;
     stands = standing.stands_start entries arguments keeps_to p n m u whole.stands id v at f q is free home;
@@ -328,6 +350,7 @@ module _ {P : Type 0} (entries : P → List Entry) (arguments : P → List value
 
   pub whole_play : (f : ℕ) → v.starting ≡ Some f → Whole entries arguments keeps_to p n (record m { homes = put m.homes f (some None); views = set m.views id (kinds.played v) }) (record u { stage = put u.stage f Played })
   whole_play f starting = record {
+    tabled = whole.tabled;
     counting = counting_stays (kinds.played v) refl refl;
     firsts = firsts_stay n m.count m.views whole.counting whole.firsts id v at (kinds.played v) refl refl refl;
     stands = standing.stands_play entries arguments keeps_to p n m u whole.stands id v at f starting;
@@ -341,6 +364,7 @@ module _ {P : Type 0} (entries : P → List Entry) (arguments : P → List value
   -- a desk is lent
   pub whole_split : v.first ≡ true → v.splits < 65535 → Whole entries arguments keeps_to p n (record m { views = set m.views id (kinds.lent_one v) ++ newcomer ∷ [] }) u
   whole_split is_first few = let vs : List View = set m.views id (kinds.lent_one v) in record {
+    tabled = whole.tabled;
     counting = counting_split n m.count m.views whole.counting whole.firsts id v at is_first few;
     firsts = firsts_split n m.count m.views whole.counting whole.firsts id v at is_first;
     stands = standing.stands_split entries arguments keeps_to p n m u whole.stands id v at;
@@ -355,6 +379,7 @@ module _ {P : Type 0} (entries : P → List Entry) (arguments : P → List value
   pub whole_join : (other : ℕ) (w : View) → v.first ≡ true → other ≢ id → get_elem? m.views other ≡ some w → w.placing ≡ None → w.flight ≡ None → w.claims ≡ [] → w.emptying ≡ None → w.posting ≡ None → w.starting ≡ None
       → Whole entries arguments keeps_to p n (record m { views = set (set m.views id (kinds.united v w)) other gone }) (record u { stage = λ i. kinds.heir id other (u.stage i) })
   whole_join other w is_first apart there placing flight claims emptying posting starting = let b : View = kinds.united v w in let vs : List View = set (set m.views id b) other gone in record {
+    tabled = whole.tabled;
     counting = counting_join n m.count m.views whole.counting whole.firsts id v at other w apart there is_first;
     firsts = firsts_join n m.count m.views whole.counting whole.firsts id v at other w apart there is_first;
     stands = standing.stands_join entries arguments keeps_to p n m u whole.stands id other v w at apart there placing flight claims emptying posting starting;
@@ -384,6 +409,7 @@ module _ {P : Type 0} (entries : P → List Entry) (arguments : P → List value
   pub whole_view : (w : View) → hand w ≡ hand v → w.kept ≡ v.kept → w.spent ≡ v.spent → w.splits ≡ v.splits → w.first ≡ v.first → w.drawn ≡ v.drawn
       → ((d : Duty) → HasDuty d w.duties → u.order.bag d.message ≡ Some d.bag) → DutyLaw (IsChord p) m.cells (set m.views id w) u.order → Looks m.cells u.order (set m.views id w) → Whole entries arguments keeps_to p n (record m { views = set m.views id w }) u
   whole_view w same kept spent splits first drawn tied duties looks = record {
+    tabled = whole.tabled;
     counting = counting_stays w spent splits;
     firsts = firsts_stay n m.count m.views whole.counting whole.firsts id v at w first drawn splits;
     stands = standing.stands_still entries arguments keeps_to p n m u whole.stands id v at w same kept;
@@ -416,6 +442,7 @@ module _ {P : Type 0} (entries : P → List Entry) (arguments : P → List value
   pub whole_wake : (i : ℕ) (x : Word) (w : View) → u.stage i ≡ Armed → IsOpen x.cell → x.next ≡ (m.cells i).next → hand w ≡ hand v → w.kept ≡ v.kept → w.spent ≡ v.spent → w.splits ≡ v.splits → w.first ≡ v.first → w.drawn ≡ v.drawn
       → ((d : Duty) → HasDuty d w.duties → u.order.bag d.message ≡ Some d.bag) → DutyLaw (IsChord p) (put m.cells i x) (set m.views id w) u.order → w.looked.seen ≡ v.looked.seen → Whole entries arguments keeps_to p n (record m { cells = put m.cells i x; views = set m.views id w }) u
   whole_wake i x w was open_ next same kept spent splits first drawn tied duties looked = let t = it i Armed was in let armed = whole.bags.armed i (open_armed (cell_of m.cells i) t.3) in record {
+    tabled = whole.tabled;
     counting = counting_stays w spent splits;
     firsts = firsts_stay n m.count m.views whole.counting whole.firsts id v at w first drawn splits;
     stands = standing.stands_wake entries arguments keeps_to p n m u whole.stands id v at i x w open_ was same kept;

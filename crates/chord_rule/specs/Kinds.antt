@@ -19,7 +19,8 @@ use Rattle.chord_rule.specs.Stages.{Fresh, Claiming, Unposted, Stage, InHand}
 use Rattle.atomic_table.specs.Table.{Me, Step}
 use Rattle.chord_base.specs.Meaning.{Program}
 use Rattle.chord_rule.specs.declared.view.Looked.{Looked}
-use Rattle.chord_base.specs.Story.{kept, together, IsTold}
+use Rattle.chord_base.specs.Story.{kept, together, IsTold, AllBelow}
+use Rattle.chord_rule.specs.Made.{Names}
 
 -- ## Views
 
@@ -63,8 +64,9 @@ abbrev pub newcomer_first : View
 newcomer_first = record newcomer { first = true }
 
 module _ {S : Type 0} where
+  -- below the limit the desk has the entry, whose number is above all that it kept and above each object that the entry names; else it is told
   abbrev pub draws : ℕ → What → Step S → Me S View → ℕ → Me S View → Type 0
-  draws body what s m x w = (w.1 ≡ m.1) × (x < s.slots → w.0 ≡ drew m.0 x body what) × (s.slots ≤ x → w.0 ≡ was_told m.0)
+  draws body what s m x w = (w.1 ≡ m.1) × (x < s.slots → (w.0 ≡ drew m.0 x body what) × AllBelow x m.0.kept × ((o : Object) → Names what o → o.number < x)) × (s.slots ≤ x → w.0 ≡ was_told m.0)
 
 -- these numbers without x
 abbrev pub without : ℕ → List ℕ → List ℕ

@@ -22,15 +22,15 @@ word c next = word_of (record { cell = c; next = next })
 module _ {S : Type 0} where
   -- below the limit the desk has the firing, else it is told
   abbrev pub draws_firing : ℕ → Object → List ℕ → List value.Value → Step S → Me S View → ℕ → Me S View → Type 0
-  draws_firing k o ms vs s m x w = (w.1 ≡ m.1) × (x < s.slots → w.0 ≡ fired m.0 x k o ms vs) × (s.slots ≤ x → w.0 ≡ was_told m.0)
+  draws_firing k o ms vs s m x w = (w.1 ≡ m.1) × (x < s.slots → (w.0 ≡ fired m.0 x k o ms vs) × AllBelow x m.0.kept) × (s.slots ≤ x → w.0 ≡ was_told m.0)
 
   -- the place word is set, and the empty slot is out
   abbrev pub places : Step (Option S) → Me (Option S) View → ℕ → Me (Option S) View → Type 0
   places s m x w = (i : ℕ) → s.word ≡ 1 + 17 * s.slots + i → (w.0 ≡ placed m.0 i) × (w.1 ≡ (i, None) ∷ m.1)
 
   -- the message of the slot that is out is linked in the bag of its object and method, and the parcel goes with its entries
-  abbrev pub links : (S → List Entry) → Object → ℕ → ℕ → S → Step (Option S) → Me (Option S) View → ℕ → Me (Option S) View → Type 0
-  links entries o j i q s m x w = (w.1 ≡ []) × ((above : Option ℕ) × (x ≡ link_of above) × (w.0 ≡ flown m.0 i (key o j) above (entries q)))
+  abbrev pub links : (S → List Entry) → Object → ℕ → Step (Option S) → Me (Option S) View → ℕ → Me (Option S) View → Type 0
+  links entries o j s m x w = (i : ℕ) (q : S) → m.1 ≡ (i, Some q) ∷ [] → (w.1 ≡ []) × ((above : Option ℕ) × (x ≡ link_of above) × (w.0 ≡ flown m.0 i (key o j) above (entries q)))
 
   abbrev pub arms : Step (Option S) → Me (Option S) View → ℕ → Me (Option S) View → Type 0
   arms s m x w = (i : ℕ) → m.0.flight ≡ Some i → w ≡ (armed m.0 i, m.1)
@@ -57,8 +57,8 @@ module _ {S : Type 0} where
   posts_out s m x w = (f : ℕ) → s.word ≡ 1 + f → (w.0 ≡ posting m.0 f) × (w.1 ≡ (f, None) ∷ m.1)
 
   -- the firing is ready, and its parcel goes with its entries
-  abbrev pub posts : (S → List Entry) → S → Step (Option S) → Me (Option S) View → ℕ → Me (Option S) View → Type 0
-  posts entries q s m x w = (w.0 ≡ posted m.0 (entries q)) × (w.1 ≡ [])
+  abbrev pub posts : (S → List Entry) → Step (Option S) → Me (Option S) View → ℕ → Me (Option S) View → Type 0
+  posts entries s m x w = (f : ℕ) (q : S) → m.1 ≡ (f, Some q) ∷ [] → (w.0 ≡ posted m.0 (entries q)) × (w.1 ≡ [])
 
   -- where the word was that of a ready firing, it is started, and its parcel comes out
   abbrev pub starts : (S → List Entry) → (S → Type 0) → Step (Option S) → Me (Option S) View → ℕ → Me (Option S) View → Type 0

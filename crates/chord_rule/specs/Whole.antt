@@ -14,7 +14,7 @@ use Rattle.chord_rule.specs.Firsts.{Firsts}
 use Rattle.chord_rule.specs.Bags.{BagLaw}
 use Rattle.chord_rule.specs.Heads.{HeadLaw}
 use Rattle.chord_rule.specs.Duties.{HasDuty, DutyLaw}
-use Rattle.chord_rule.specs.Made.{IsKey, IsChord}
+use Rattle.chord_rule.specs.Made.{IsKey, IsChord, IsTabled}
 use Rattle.chord_rule.specs.Held.{HeldBy}
 use Rattle.chord_rule.specs.Looks.{Looks}
 use Rattle.chord_rule.specs.StandsFor.{Unseen, StandsFor}
@@ -25,6 +25,7 @@ pub record Tied (views : List View) (bag : ℕ → Option ℕ) : Type 0 where
 
 -- the rule of the table, which holds between any two steps, one field a law
 pub record Whole {P : Type 0} (entries : P → List Entry) (arguments : P → List value.Value) (keeps_to : P → Type 0) (p : Program) (n : ℕ) (m : Moment P) (u : Unseen) : Type 0 where
+  pub tabled : IsTabled p
   pub counting : Counting n m.count m.views
   pub firsts : Firsts m.count m.views
   pub stands : StandsFor entries arguments keeps_to p n m u
