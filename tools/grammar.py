@@ -18,18 +18,18 @@ EAGER = "Classes Members Optional_formals Items Item After_name Stmt Optional_ex
 
 # the files of the parser's first steps: their symbols, and what these are
 STEPS = {
-    "ClassSteps": ("using lines and classes", "Program Usings Using Name_parts Classes Class Optional_public Optional_base Members"),
+    "ClassSteps": ("using lines and classes", "Whole_program Usings Using Name_parts Classes Class Optional_public Optional_base Members"),
     "MemberSteps": ("members, headers and parameters", "Member Modifiers Modifier Rest After Headers Header Result Plain Formals Optional_formals More_formals Formal Value_type"),
     "StmtSteps": ("blocks and statements", "Block Items Item After_name Stmt Tail Other Optional_else Optional_expr"),
     "ChainSteps": ("chains of operators", "Expr More_or And More_and Equal More_equal Order More_order Sum More_sum Product More_product"),
-    "ExprSteps": ("operands and calls", "Unary Primary Start Optional_actuals Dot Dots Actuals Optional_exprs More_exprs"),
+    "ExprSteps": ("operands and calls", "Unary Primary Operand_start Optional_actuals Dot Dots Actuals Optional_exprs More_exprs"),
 }
 STEP_IMPORTS = [
     ("Rattle.std.proofs.Common", "◌≡◌ ℕ suc ◌+◌ ◌<◌ ◌≢◌ List [] ◌∷◌ ◌||◌ refl ap lit< eqb-true"),
     ("Rattle.std.specs.Prelude", "nat_eq"),
     ("Rattle.chord_lexer.specs.declared.token.Kind", "Kind"),
-    ("Rattle.chord_tree.specs.Part", "Terminal Symbol"),
-    ("Rattle.chord_tree.specs.Grammar", "productions counted rule_count class_count"),
+    ("Rattle.chord_tree.specs.Symbol", "Terminal Nonterminal"),
+    ("Rattle.chord_tree.specs.Grammar", "productions counted rule_count terminal_count"),
     ("Rattle.chord_tree.specs.Derivation", "next parts_of inside"),
     ("Rattle.chord_tree.specs.Node", "Made"),
     ("Rattle.chord_tree.proofs.Table", "choices"),
@@ -173,19 +173,19 @@ def write(root, path, lines):
 
 
 def symbols(g):
-    o = [f"-- The symbols of the grammar and the classes of its tokens, by name. {MADE}",
-         "use Rattle.chord_tree.specs.Part.{Part, Terminal, Symbol}", ""]
+    o = [f"-- The nonterminals and the terminals of the grammar, by name. {MADE}",
+         "use Rattle.chord_tree.specs.Symbol.{Symbol, Terminal, Nonterminal}", ""]
     for i, head in enumerate(g.heads):
-        o += [f"abbrev pub {head} : Part", f"{head} = Symbol {i}", ""]
+        o += [f"abbrev pub {head} : Symbol", f"{head} = Nonterminal {i}", ""]
     for i, name in enumerate(g.classes):
-        o += [f"abbrev pub {name} : Part", f"{name} = Terminal {i}", ""]
+        o += [f"abbrev pub {name} : Symbol", f"{name} = Terminal {i}", ""]
     return o[:-1]
 
 
 def productions(g):
-    o = [f"-- The grammar, a production a line. A symbol stands for each repeated or optional part; a capital is a token of a class. {MADE}",
+    o = [f"-- The grammar, a production a line. A nonterminal stands for each repeated or optional part; a capital is a terminal. {MADE}",
          "use Rattle.std.specs.Prelude.{ℕ, List, [], ◌∷◌}",
-         "use Rattle.chord_tree.specs.Part.{Production, ◌⟶◌, number_of}",
+         "use Rattle.chord_tree.specs.Symbol.{Production, ◌⟶◌, number_of}",
          "use Rattle.chord_tree.specs.Symbols.{" + ", ".join(g.heads + g.classes[:-len(UNUSED)]) + "}", "",
          "unfoldable pub productions : List Production", "productions ="]
     seen = None
@@ -195,11 +195,11 @@ def productions(g):
         seen = head
         o.append(f"    ({head} ⟶ {listed(side)}) ∷")
     o += ["    []", "",
-          "-- the depth of a token counts the nodes of these symbols around it",
+          "-- the depth of a token counts the nodes of these nonterminals around it",
           "unfoldable pub counted : List ℕ", "counted = " + listed(f"number_of {x}" for x in COUNTED)]
-    said = {"rule_count": "how many productions there are", "symbol_count": "how many symbols there are", "class_count": "how many classes of tokens there are",
-            "else_class": "the class of `else`", "no_else": "the place among the productions of `Optional_else ⟶ []`: an `if` without `else`"}
-    for name, value in [("rule_count", len(g.rules)), ("symbol_count", len(g.heads)), ("class_count", g.end), ("else_class", "number_of ELSE"), ("no_else", g.no_else)]:
+    said = {"rule_count": "how many productions there are", "nonterminal_count": "how many nonterminals there are", "terminal_count": "how many terminals there are",
+            "else_terminal": "the terminal of `else`", "no_else": "the place among the productions of `Optional_else ⟶ []`: an `if` without `else`"}
+    for name, value in [("rule_count", len(g.rules)), ("nonterminal_count", len(g.heads)), ("terminal_count", g.end), ("else_terminal", "number_of ELSE"), ("no_else", g.no_else)]:
         o += ["", f"-- {said[name]}", f"unfoldable pub {name} : ℕ", f"{name} = {value}"]
     return o
 
@@ -214,12 +214,12 @@ def tables(g):
 
     def row(name, values, meaning):
         o.extend(["", f"-- {meaning}", f"unfoldable pub {name} : List ℕ", f"{name} = {listed(values)}"])
-    table("firsts", [g.first[h] for h in g.heads], "the classes that may begin each symbol")
-    table("follows", [g.follow[h] for h in g.heads], "the classes that may follow each symbol")
-    table("choices", [g.choice[h] for h in g.heads], "the production of each symbol at each class, or the number of productions")
-    row("empties", [i for i, h in enumerate(g.heads) if g.empty[h]], "the symbols that may derive nothing")
-    row("finishes", [g.finish[h] for h in g.heads], "a production of each symbol by which it ends soonest")
-    row("weights", [g.weight[h] for h in g.heads], "a bound on the parts until each symbol has ended")
+    table("firsts", [g.first[h] for h in g.heads], "the terminals that may begin each nonterminal")
+    table("follows", [g.follow[h] for h in g.heads], "the terminals that may follow each nonterminal")
+    table("choices", [g.choice[h] for h in g.heads], "the production of each nonterminal at each terminal, or the number of productions")
+    row("empties", [i for i, h in enumerate(g.heads) if g.empty[h]], "the nonterminals that may derive nothing")
+    row("finishes", [g.finish[h] for h in g.heads], "a production of each nonterminal by which it ends soonest")
+    row("weights", [g.weight[h] for h in g.heads], "a bound on the symbols until each nonterminal has ended")
     return o
 
 
@@ -235,10 +235,10 @@ def begins(g, head):
     o = []
     x = g.symbol[head]
     depth = "d + 1" if head in COUNTED else "d"
-    part = lambda p: f"Terminal {g.number[p]}" if g.is_class(p) else f"Symbol {g.symbol[p]}"
+    part = lambda p: f"Terminal {g.number[p]}" if g.is_class(p) else f"Nonterminal {g.symbol[p]}"
     for i, side in g.sides(head):
         parts = "".join(part(p) + " ∷ " for p in side) + "[]"
-        o += [f"pub {g.rule_name(i)} : {{all d : ℕ}} {{ks : List Kind}} → choice {x} (next ks) ≡ {i} → Onward all (Symbol {x}) d ks ({parts}) ({depth}) ks (Made (Symbol {x}))",
+        o += [f"pub {g.rule_name(i)} : {{count d : ℕ}} {{ks : List Kind}} → choice {x} (next ks) ≡ {i} → Onward count (Nonterminal {x}) d ks ({parts}) ({depth}) ks (Made (Nonterminal {x}))",
               "unfolding parts_of inside productions counted rule_count", f"{g.rule_name(i)} e = begun {x} {i} e (lit< tt)", ""]
     return o
 
@@ -249,8 +249,8 @@ def by_table(g, name, x, excluded, value):
     proof = f"below {g.end + 1} (λ x. {tests}) refl c l"
     for b in excluded:
         proof = f"else_rule c {b} _ n{b} ({proof})"
-    return [f"pub {name} : (c : ℕ) → c < suc class_count" + "".join(f" → c ≢ {b}" for b in excluded) + f" → choice {x} c ≡ {value}",
-            "unfolding choice choices class_count rule_count",
+    return [f"pub {name} : (c : ℕ) → c < suc terminal_count" + "".join(f" → c ≢ {b}" for b in excluded) + f" → choice {x} c ≡ {value}",
+            "unfolding choice choices terminal_count rule_count",
             f"{name} c l" + "".join(f" n{b}" for b in excluded) + f" = eqb-true _ _ ({proof})", ""]
 
 
@@ -276,7 +276,7 @@ def steps(g, meaning, heads):
     """The lemmas by which the parser's functions for these symbols begin."""
     body = [line for lemmas in (begins, chosen) for head in heads for line in lemmas(g, head)][:-1]
     text = "\n".join(body)
-    o = [f"-- How {meaning} begin, by each production, and which production each of these symbols has at a class. {MADE}"]
+    o = [f"-- How {meaning} begin, by each production, and which production each of these nonterminals has at a terminal. {MADE}"]
     for module, names in STEP_IMPORTS:
         o += used(text, module, names.split())
     return o + [""] + body
@@ -287,18 +287,18 @@ def samples(g):
     words = {name: name.capitalize() for name in "USING CLASS PUBLIC PRIVATE PROTECTED VIRTUAL OVERRIDE STATIC ASYNC VOID INT BOOL STRING IF WHILE RETURN THIS NEW ELSE TRUE FALSE DO UNUSED".split()}
     marks = {"OPEN": "OpenParenthesis", "CLOSE": "CloseParenthesis"}
     special = {"NAME": "kinds.Name []", "NUMBER": "kinds.Number 0", "LITERAL": "kinds.Literal []"}
-    o = [f"-- A kind of token of each class. {MADE}", "use Rattle.std.specs.Prelude.{ℕ, List, [], ◌∷◌, get_or}",
+    o = [f"-- A kind of token of each terminal. {MADE}", "use Rattle.std.specs.Prelude.{ℕ, List, [], ◌∷◌, get_or}",
          "use Rattle.chord_lexer.specs.declared.token.Kind.{Kind}", "use Rattle.chord_lexer.specs.declared.token.Kind.TheVariants as kinds",
-         "use Rattle.chord_lexer.specs.declared.token.Keyword.TheVariants as words", "use Rattle.chord_lexer.specs.declared.token.Mark.TheVariants as marks", "",
+         "use Rattle.chord_lexer.specs.declared.token.Keyword.TheVariants as keywords", "use Rattle.chord_lexer.specs.declared.token.Mark.TheVariants as marks", "",
          "abbrev pub samples : List Kind", "samples ="]
     for name in g.classes:
-        kind = special.get(name) or (f"kinds.Word words.{words[name]}" if name in words else "kinds.Mark marks." + marks.get(name, name.title().replace("_", "")))
+        kind = special.get(name) or (f"kinds.Word keywords.{words[name]}" if name in words else "kinds.Mark marks." + marks.get(name, name.title().replace("_", "")))
         o.append(f"    {kind} ∷")
     return o + ["    []", "", "abbrev pub sample : ℕ → Kind", "sample c = get_or samples c (kinds.Number 0)"]
 
 
 def classes(g):
-    o = ["//! The numbers of the classes of tokens, and the number that stands for the end of the text. " + MADE]
+    o = ["//! The numbers of the terminals, and the number that stands for the end of the text. " + MADE]
     for i, name in enumerate(g.classes + ["END"]):
         o += ["", f"pub const {name}: u8 = {i};"]
     return o
@@ -323,7 +323,7 @@ def main():
     write(root, "crates/chord_parser/specs/Samples.antt", samples(g))
     for name, (meaning, heads) in STEPS.items():
         write(root, f"crates/chord_parser/proofs/{name}.antt", steps(g, meaning, heads.split()))
-    write(root, "crates/chord_parser/src/class.rt", classes(g))
+    write(root, "crates/chord_parser/src/terminal.rt", classes(g))
 
 
 if __name__ == "__main__":

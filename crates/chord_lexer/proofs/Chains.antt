@@ -9,11 +9,11 @@ use Rattle.chord_lexer.specs.declared.piece.Piece.{Piece}
 use Rattle.chord_lexer.specs.declared.piece.Piece.TheVariants as pieces
 use Rattle.chord_lexer.specs.declared.lexer.LexFault.{LexFault}
 use Rattle.chord_lexer.specs.declared.lexer.LexFault.TheVariants as faults
-use Rattle.chord_lexer.specs.Marks.{spelling}
+use Rattle.chord_lexer.specs.Marks.{mark_bytes}
 use Rattle.chord_lexer.specs.Pieces.{IsPiece, IsLongest, IsNone}
-use Rattle.chord_lexer.specs.Reading.{byte_order_mark, after_mark, tokens_of, Chain, none, more, IsRead, IsRefused, IsFault}
+use Rattle.chord_lexer.specs.Reading.{byte_order_mark, after_byte_order_mark, tokens_of, Chain, none, more, IsRead, IsRefused, IsFault}
 use Rattle.chord_lexer.specs.Scanning.{single_mark, pair_mark, Begins}
-use Rattle.chord_lexer.proofs.Leads.{lead_for, led}
+use Rattle.chord_lexer.proofs.Leads.{lead_for, lead_is}
 use Rattle.chord_lexer.proofs.Marking.{sized, one, two}
 use Rattle.chord_lexer.proofs.Quoting.{body_same, bytewise_of, one_meaning}
 
@@ -33,7 +33,7 @@ pub nothing_left : IsNone []
 nothing_left q [] after e h = some_piece q [] after h refl
 nothing_left q (b ∷ v) after e h = cc
 
-mark_same : (m n : Mark) → spelling m ≡ spelling n → m ≡ n
+mark_same : (m n : Mark) → mark_bytes m ≡ mark_bytes n → m ≡ n
 mark_same m n e = elim (sized m) [
   | one a s t ↦ elim (sized n) [
     | one b r u ↦ let i : a ≡ b = let f = sym s ∙ e ∙ r in cc in let g : Some m ≡ Some n = sym t ∙ ap single_mark i ∙ u in cc
@@ -118,7 +118,7 @@ longest_same p u x q v y h k e =
     let b = k.most p u x e h.is in
     let s = front_same u x v y (omega arith) e in
     let k2 : IsPiece q u x = subst (λ z. IsPiece q u z) (sym s.1) (subst (λ z. IsPiece q z y) (sym s.0) k.is) in
-    (piece_same p q (sym (led p u x h.is) ∙ led q u x k2) u x h.is k2, s.0, s.1)
+    (piece_same p q (sym (lead_is p u x h.is) ∙ lead_is q u x k2) u x h.is k2, s.0, s.1)
 
 -- One text has one chain that ends where nothing begins.
 pub chain_same : {a : ℕ} {w : List ℕ} {ts : List Token} {rest : List ℕ} → Chain a w ts rest → IsNone rest
@@ -162,7 +162,7 @@ spanned (more {at = a} {p} {piece = u} {text = x} {tokens = ts} h c) =
     omega arith
 
 -- the mark takes no byte that is counted
-pub after_mark_short : (source : List ℕ) → length (after_mark source) ≤ length source
+pub after_mark_short : (source : List ℕ) → length (after_byte_order_mark source) ≤ length source
 after_mark_short source = elim (bytes_eq byte_order_mark (take 3 source)) as (λ t. length (cond t (drop 3 source) source) ≤ length source) [
   | true ↦ let e = length-drop 3 source in omega arith
   | false ↦ omega arith
@@ -182,7 +182,7 @@ grown_by text ts new left p n c b e =
     subst (λ z. Chain 0 text z (drop n left)) (ap (λ z. ts ++ tokens_of p s (s + z)) m ∙ sym e) g
 
 -- where nothing begins the text is refused
-pub refused_at : (source text : List ℕ) (ts : List Token) (left : List ℕ) → text ≡ after_mark source → Chain 0 text ts left → 0 < length left → IsNone left → IsRefused source (length text - length left)
+pub refused_at : (source text : List ℕ) (ts : List Token) (left : List ℕ) → text ≡ after_byte_order_mark source → Chain 0 text ts left → 0 < length left → IsNone left → IsRefused source (length text - length left)
 refused_at source text ts left e c l n =
     let s = spanned c in
     record {
@@ -220,7 +220,7 @@ no_more source (Ok found) h = let s = spanned h in let m = after_mark_short sour
 no_more source (Err fault) h = tt
 
 -- places are within the limit on a source
-pub text_short : (source text : List ℕ) → length source ≤ 1048576 → text ≡ after_mark source → length text ≤ 1048576
+pub text_short : (source text : List ℕ) → length source ≤ 1048576 → text ≡ after_byte_order_mark source → length text ≤ 1048576
 text_short source text l e = let s = after_mark_short source in let f = ap length e in omega arith
 
 pub left_short : (text : List ℕ) (ts : List Token) (left : List ℕ) → Chain 0 text ts left → length left ≤ length text

@@ -6,7 +6,7 @@ use Rattle.std.specs.Prelude.{IsUtf8}
 use Rattle.chord_lexer.specs.declared.piece.Piece.{Piece}
 use Rattle.chord_lexer.specs.declared.piece.Piece.TheVariants as pieces
 use Rattle.chord_lexer.specs.declared.scan.Lead.TheVariants as leads
-use Rattle.chord_lexer.specs.Letters.{IsRun}
+use Rattle.chord_lexer.specs.Letters.{IsMaximalRun}
 use Rattle.chord_lexer.specs.Comments.{begins_comment, is_in_line, IsUnclosed, IsDelimited}
 use Rattle.chord_lexer.specs.Pieces.{IsPiece, IsNone}
 use Rattle.chord_lexer.specs.Scanning.{lead_of, Begins, IsClosedAt, IsExtent, IsUndelimited}
@@ -93,7 +93,7 @@ opened [] h = cc
 opened (b ∷ bs) h = opened_by (b ∷ bs) (told leads.Comment b bs h)
 
 -- the extents of the two kinds
-line_of : (text : List ℕ) (n : ℕ) → lead_of text ≡ leads.Comment → get_or text 1 0 ≡ 47 → n ≤ length (drop 2 text) → IsRun is_in_line (take n (drop 2 text)) (drop n (drop 2 text)) → IsExtent text (n + 2)
+line_of : (text : List ℕ) (n : ℕ) → lead_of text ≡ leads.Comment → get_or text 1 0 ≡ 47 → n ≤ length (drop 2 text) → IsMaximalRun is_in_line (take n (drop 2 text)) (drop n (drop 2 text)) → IsExtent text (n + 2)
 line_of [] n h i l r = cc
 line_of (a ∷ []) n h i l r = absurd (omega arith)
 line_of (a ∷ b ∷ body) n h i l r =
@@ -105,8 +105,8 @@ line_of (a ∷ b ∷ body) n h i l r =
       is = inl (record { body = take n body; begins = let g : a ∷ b ∷ take n body ≡ 47 ∷ 47 ∷ take n body = cc in g; line = r });
     })
 
-pub line_extent : (text body : List ℕ) (n : ℕ) → lead_of text ≡ leads.Comment → get_or text 1 0 ≡ 47 → body ≡ drop 2 text → n ≤ length body → IsRun is_in_line (take n body) (drop n body) → IsExtent text (n + 2)
-line_extent text body n h i e l r = line_of text n h i (subst (λ z. n ≤ length z) e l) (subst (λ z. IsRun is_in_line (take n z) (drop n z)) e r)
+pub line_extent : (text body : List ℕ) (n : ℕ) → lead_of text ≡ leads.Comment → get_or text 1 0 ≡ 47 → body ≡ drop 2 text → n ≤ length body → IsMaximalRun is_in_line (take n body) (drop n body) → IsExtent text (n + 2)
+line_extent text body n h i e l r = line_of text n h i (subst (λ z. n ≤ length z) e l) (subst (λ z. IsMaximalRun is_in_line (take n z) (drop n z)) e r)
 
 block_of : (text : List ℕ) (n : ℕ) → lead_of text ≡ leads.Comment → (get_or text 1 0 ≡ 47 → ⊥) → n + 2 ≤ length (drop 2 text) → IsClosedAt (drop 2 text) n → IsExtent text (n + 4)
 block_of [] n h i l c = cc

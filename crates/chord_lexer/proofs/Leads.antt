@@ -10,11 +10,11 @@ use Rattle.chord_lexer.specs.declared.piece.Piece.TheVariants as pieces
 use Rattle.chord_lexer.specs.declared.scan.Lead.{Lead}
 use Rattle.chord_lexer.specs.declared.scan.Lead.TheVariants as leads
 use Rattle.chord_lexer.specs.Letters.{is_blank, is_digit, is_letter, all_pass}
-use Rattle.chord_lexer.specs.Words.{IsWord}
+use Rattle.chord_lexer.specs.Identifiers.{IsIdentifier}
 use Rattle.chord_lexer.specs.Numbers.{IsNumber}
 use Rattle.chord_lexer.specs.Literals.{IsLiteral}
 use Rattle.chord_lexer.specs.Comments.{IsComment, begins_comment}
-use Rattle.chord_lexer.specs.Marks.{spelling}
+use Rattle.chord_lexer.specs.Marks.{mark_bytes}
 use Rattle.chord_lexer.specs.Pieces.{IsPiece}
 use Rattle.chord_lexer.specs.Scanning.{lead_of, Begins}
 use Rattle.chord_lexer.proofs.Runs.{and_left, or_cases}
@@ -51,7 +51,7 @@ number_led : (v more : List ℕ) → 0 < length v → all_pass is_digit v ≡ tr
 number_led [] more l h = absurd (omega arith)
 number_led (b ∷ v) more l h = rw (and_left (is_digit b) _ h) refl
 
-mark_led : (mark : Mark) (more : List ℕ) → begins_comment (spelling mark ++ more) ≡ false → lead_of (spelling mark ++ more) ≡ leads.Mark
+mark_led : (mark : Mark) (more : List ℕ) → begins_comment (mark_bytes mark ++ more) ≡ false → lead_of (mark_bytes mark ++ more) ≡ leads.Mark
 mark_led marks.OpenBrace more h = rw h refl
 mark_led marks.CloseBrace more h = rw h refl
 mark_led marks.OpenParenthesis more h = rw h refl
@@ -83,18 +83,18 @@ comment_led : (v more : List ℕ) → IsComment v more → lead_of (v ++ more) �
 comment_led v more h = elim h.0 [ inl line ↦ rw line.begins refl | inr block ↦ rw block.begins refl ]
 
 -- A text begins with what its first bytes tell.
-pub led : (q : Piece) (v more : List ℕ) → IsPiece q v more → lead_of (v ++ more) ≡ lead_for q
-led pieces.Blank v more h = rw h.1 (blank_led h.0 more h.2)
-led pieces.Comment v more h = comment_led v more h
-led (pieces.Token (kinds.Word keyword)) v more h = rw h.0.begins (word_led h.0.first (h.0.others ++ more) h.0.letter)
-led (pieces.Token (kinds.Name name)) v more h = rw h.0.begins (word_led h.0.first (h.0.others ++ more) h.0.letter)
-led (pieces.Token (kinds.Number n)) v more h = number_led v more h.some h.all
-led (pieces.Token (kinds.Literal bytes)) v more h = rw h.quoted refl
-led (pieces.Token (kinds.Mark mark)) v more h = subst (λ z. lead_of (z ++ more) ≡ leads.Mark) (sym h.0) (mark_led mark more (subst (λ z. begins_comment (z ++ more) ≡ false) h.0 h.1))
+pub lead_is : (q : Piece) (v more : List ℕ) → IsPiece q v more → lead_of (v ++ more) ≡ lead_for q
+lead_is pieces.Blank v more h = rw h.1 (blank_led h.0 more h.2)
+lead_is pieces.Comment v more h = comment_led v more h
+lead_is (pieces.Token (kinds.Word keyword)) v more h = rw h.0.begins (word_led h.0.first (h.0.others ++ more) h.0.letter)
+lead_is (pieces.Token (kinds.Name name)) v more h = rw h.0.begins (word_led h.0.first (h.0.others ++ more) h.0.letter)
+lead_is (pieces.Token (kinds.Number n)) v more h = number_led v more h.some h.all
+lead_is (pieces.Token (kinds.Literal bytes)) v more h = rw h.quoted refl
+lead_is (pieces.Token (kinds.Mark mark)) v more h = subst (λ z. lead_of (z ++ more) ≡ leads.Mark) (sym h.0) (mark_led mark more (subst (λ z. begins_comment (z ++ more) ≡ false) h.0 h.1))
 
 -- what the text begins with, by its own first bytes
 pub leads_to : (text : List ℕ) (lead : Lead) → lead_of text ≡ lead → (q : Piece) (v more : List ℕ) → v ++ more ≡ text → IsPiece q v more → lead_for q ≡ lead
-leads_to text lead h q v more e k = sym (led q v more k) ∙ ap lead_of e ∙ h
+leads_to text lead h q v more e k = sym (lead_is q v more k) ∙ ap lead_of e ∙ h
 
 pub only_blank : (q : Piece) (v more : List ℕ) → lead_for q ≡ leads.Blank → IsPiece q v more → (b : ℕ) × (v ≡ b ∷ [])
 only_blank pieces.Blank v more e h = (h.0, h.1)
@@ -114,7 +114,7 @@ only_comment (pieces.Token (kinds.Number n)) v more e h = cc
 only_comment (pieces.Token (kinds.Literal bytes)) v more e h = cc
 only_comment (pieces.Token (kinds.Mark mark)) v more e h = cc
 
-pub only_word : (q : Piece) (v more : List ℕ) → lead_for q ≡ leads.Letter → IsPiece q v more → IsWord v more
+pub only_word : (q : Piece) (v more : List ℕ) → lead_for q ≡ leads.Letter → IsPiece q v more → IsIdentifier v more
 only_word (pieces.Token (kinds.Word keyword)) v more e h = h.0
 only_word (pieces.Token (kinds.Name name)) v more e h = h.0
 only_word _ v more e h = cc
@@ -127,7 +127,7 @@ pub only_literal : (q : Piece) (v more : List ℕ) → lead_for q ≡ leads.Quot
 only_literal (pieces.Token (kinds.Literal bytes)) v more e h = (bytes, h)
 only_literal _ v more e h = cc
 
-pub only_mark : (q : Piece) (v more : List ℕ) → lead_for q ≡ leads.Mark → IsPiece q v more → (mark : Mark) × (v ≡ spelling mark)
+pub only_mark : (q : Piece) (v more : List ℕ) → lead_for q ≡ leads.Mark → IsPiece q v more → (mark : Mark) × (v ≡ mark_bytes mark)
 only_mark (pieces.Token (kinds.Mark mark)) v more e h = (mark, h.0)
 only_mark _ v more e h = cc
 

@@ -1,7 +1,7 @@
 pub mod Runs
 pub mod Leads
 pub mod Reserved
-pub mod Wording
+pub mod Identifying
 pub mod Numbering
 pub mod Quoting
 pub mod Commenting

@@ -8,15 +8,15 @@ use Rattle.chord_lexer.specs.declared.piece.Piece.{Piece}
 use Rattle.chord_lexer.specs.declared.piece.Piece.TheVariants as pieces
 use Rattle.chord_lexer.specs.declared.scan.Lead.TheVariants as leads
 use Rattle.chord_lexer.specs.Comments.{begins_comment}
-use Rattle.chord_lexer.specs.Marks.{spelling}
+use Rattle.chord_lexer.specs.Marks.{mark_bytes}
 use Rattle.chord_lexer.specs.Pieces.{IsPiece, IsNone}
 use Rattle.chord_lexer.specs.Scanning.{lead_of, single_mark, pair_mark, pair_mark_of, Begins}
 use Rattle.chord_lexer.proofs.Leads.{leads_to, only_mark, mark_told}
 
 -- A mark has one byte or two, and the tables know it.
 pub data Sized (mark : Mark) : Type 0 where
-  one : (a : ℕ) → spelling mark ≡ a ∷ [] → single_mark a ≡ Some mark → Sized mark
-  two : (a b : ℕ) → spelling mark ≡ a ∷ b ∷ [] → pair_mark a b ≡ Some mark → Sized mark
+  one : (a : ℕ) → mark_bytes mark ≡ a ∷ [] → single_mark a ≡ Some mark → Sized mark
+  two : (a b : ℕ) → mark_bytes mark ≡ a ∷ b ∷ [] → pair_mark a b ≡ Some mark → Sized mark
 
 pub sized : (mark : Mark) → Sized mark
 sized marks.OpenBrace = one 123 refl refl
@@ -63,7 +63,7 @@ most_one : (text : List ℕ) → lead_of text ≡ leads.Mark → pair_mark_of te
 most_one text h n q v more e k = elim (at_front text h q v more e k) [ inl m ↦ let l : length v ≡ 1 = m.5 in omega arith | inr m ↦ let f = sym n ∙ m.1 in cc ]
 
 -- a mark that is spelled by the first n bytes, where nothing is longer
-begins : (text : List ℕ) (mark : Mark) (n : ℕ) → lead_of text ≡ leads.Mark → n ≤ length text → take n text ≡ spelling mark → ((q : Piece) (v more : List ℕ) → v ++ more ≡ text → IsPiece q v more → length v ≤ n) → Begins text (pieces.Token (kinds.Mark mark)) n
+begins : (text : List ℕ) (mark : Mark) (n : ℕ) → lead_of text ≡ leads.Mark → n ≤ length text → take n text ≡ mark_bytes mark → ((q : Piece) (v more : List ℕ) → v ++ more ≡ text → IsPiece q v more → length v ≤ n) → Begins text (pieces.Token (kinds.Mark mark)) n
 begins text mark n h l s most =
     let whole = take-append-drop n text in
     let long = length-take-le n text l in
@@ -75,12 +75,12 @@ begins text mark n h l s most =
       };
     }
 
-pub pair_begins : (text : List ℕ) (mark : Mark) → lead_of text ≡ leads.Mark → pair_mark_of text ≡ Some mark → spelling mark ≡ take 2 text → Begins text (pieces.Token (kinds.Mark mark)) 2
+pub pair_begins : (text : List ℕ) (mark : Mark) → lead_of text ≡ leads.Mark → pair_mark_of text ≡ Some mark → mark_bytes mark ≡ take 2 text → Begins text (pieces.Token (kinds.Mark mark)) 2
 pair_begins [] mark h p s = cc
 pair_begins (a ∷ []) mark h p s = cc
 pair_begins (a ∷ b ∷ text) mark h p s = begins (a ∷ b ∷ text) mark 2 h (omega arith) (sym s) (most_two (a ∷ b ∷ text) h)
 
-pub single_begins : (text : List ℕ) (mark : Mark) (b : ℕ) → 0 < length text → lead_of text ≡ leads.Mark → pair_mark_of text ≡ None → b ≡ get_or text 0 0 → spelling mark ≡ b ∷ [] → Begins text (pieces.Token (kinds.Mark mark)) 1
+pub single_begins : (text : List ℕ) (mark : Mark) (b : ℕ) → 0 < length text → lead_of text ≡ leads.Mark → pair_mark_of text ≡ None → b ≡ get_or text 0 0 → mark_bytes mark ≡ b ∷ [] → Begins text (pieces.Token (kinds.Mark mark)) 1
 single_begins [] mark b l h n i s = absurd (omega arith)
 single_begins (a ∷ text) mark b l h n i s = begins (a ∷ text) mark 1 h (omega arith) (ap (λ z. z ∷ []) (sym i) ∙ sym s) (most_one (a ∷ text) h n)
 

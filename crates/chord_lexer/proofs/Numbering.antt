@@ -7,7 +7,7 @@ use Rattle.chord_lexer.specs.declared.token.Kind.TheVariants as kinds
 use Rattle.chord_lexer.specs.declared.piece.Piece.{Piece}
 use Rattle.chord_lexer.specs.declared.piece.Piece.TheVariants as pieces
 use Rattle.chord_lexer.specs.declared.scan.Lead.TheVariants as leads
-use Rattle.chord_lexer.specs.Letters.{is_letter, is_digit, is_word_byte, first_passes, IsRun}
+use Rattle.chord_lexer.specs.Letters.{is_letter, is_digit, is_identifier_byte, first_passes, IsMaximalRun}
 use Rattle.chord_lexer.specs.Numbers.{IsNumber, value_after}
 use Rattle.chord_lexer.specs.Pieces.{IsPiece, IsNone}
 use Rattle.chord_lexer.specs.Scanning.{lead_of, Begins}
@@ -19,24 +19,24 @@ digit_goes_on true b h = cc
 digit_goes_on false b h = h
 
 -- where no letter, `_` or digit follows, no digit does
-pub no_digit : (rest : List ℕ) → first_passes is_word_byte rest ≡ false → first_passes is_digit rest ≡ false
+pub no_digit : (rest : List ℕ) → first_passes is_identifier_byte rest ≡ false → first_passes is_digit rest ≡ false
 no_digit [] h = refl
 no_digit (b ∷ rest) h = digit_goes_on (is_letter b) (is_digit b) h
 
 -- a number at the front is the whole run of digits
-number_at_front : (text : List ℕ) (n : ℕ) → lead_of text ≡ leads.Digit → IsRun is_digit (take n text) (drop n text) → (q : Piece) (v more : List ℕ) → v ++ more ≡ text → IsPiece q v more
+number_at_front : (text : List ℕ) (n : ℕ) → lead_of text ≡ leads.Digit → IsMaximalRun is_digit (take n text) (drop n text) → (q : Piece) (v more : List ℕ) → v ++ more ≡ text → IsPiece q v more
     → (x : ℕ) × IsNumber x v more × (v ≡ take n text) × (more ≡ drop n text)
 number_at_front text n h r q v more e k =
     let w = only_number q v more (leads_to text leads.Digit h q v more e k) k in
     let s = run_same is_digit (take n text) (drop n text) v more r (w.1.all, no_digit more w.1.end) (e ∙ sym (take-append-drop n text)) in
     (w.0, w.1, s.0, s.1)
 
-some_digit : (text : List ℕ) (n : ℕ) → lead_of text ≡ leads.Digit → IsRun is_digit (take n text) (drop n text) → 0 < length (take n text)
+some_digit : (text : List ℕ) (n : ℕ) → lead_of text ≡ leads.Digit → IsMaximalRun is_digit (take n text) (drop n text) → 0 < length (take n text)
 some_digit [] n h r = cc
 some_digit (b ∷ bs) zero h r = let f = sym r.1 ∙ told leads.Digit b bs h in cc
 some_digit (b ∷ bs) (suc n) h r = omega arith
 
-pub number_begins : (text : List ℕ) (n x : ℕ) → lead_of text ≡ leads.Digit → n ≤ length text → IsRun is_digit (take n text) (drop n text) → first_passes is_word_byte (drop n text) ≡ false → x ≡ value_after 0 (take n text) → x ≤ 2147483648
+pub number_begins : (text : List ℕ) (n x : ℕ) → lead_of text ≡ leads.Digit → n ≤ length text → IsMaximalRun is_digit (take n text) (drop n text) → first_passes is_identifier_byte (drop n text) ≡ false → x ≡ value_after 0 (take n text) → x ≤ 2147483648
     → Begins text (pieces.Token (kinds.Number x)) n
 number_begins text n x h l r f i m = record {
   within = l;
@@ -46,12 +46,12 @@ number_begins text n x h l r f i m = record {
   };
 }
 
-pub followed : (text : List ℕ) (n : ℕ) → lead_of text ≡ leads.Digit → IsRun is_digit (take n text) (drop n text) → first_passes is_word_byte (drop n text) ≡ true → IsNone text
+pub followed : (text : List ℕ) (n : ℕ) → lead_of text ≡ leads.Digit → IsMaximalRun is_digit (take n text) (drop n text) → first_passes is_identifier_byte (drop n text) ≡ true → IsNone text
 followed text n h r f q v more e k =
     let s = number_at_front text n h r q v more e k in
-    let g = sym (subst (λ z. first_passes is_word_byte z ≡ false) s.3 s.1.end) ∙ f in cc
+    let g = sym (subst (λ z. first_passes is_identifier_byte z ≡ false) s.3 s.1.end) ∙ f in cc
 
-pub too_large : (text : List ℕ) (n : ℕ) → lead_of text ≡ leads.Digit → IsRun is_digit (take n text) (drop n text) → 2147483648 < value_after 0 (take n text) → IsNone text
+pub too_large : (text : List ℕ) (n : ℕ) → lead_of text ≡ leads.Digit → IsMaximalRun is_digit (take n text) (drop n text) → 2147483648 < value_after 0 (take n text) → IsNone text
 too_large text n h r f q v more e k =
     let s = number_at_front text n h r q v more e k in
     let g : value_after 0 (take n text) ≡ s.0 = ap (value_after 0) (sym s.2) ∙ s.1.value in

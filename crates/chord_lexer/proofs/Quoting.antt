@@ -241,11 +241,11 @@ utf8_of (plain c {body} s p h) = IsUtf8-append (encode_utf8 c) body (IsUtf8-enco
 utf8_of (escape {b} {byte = m} {body} e h) = IsUtf8-append (92 ∷ b ∷ []) body (two_ascii 92 b (omega arith) (escaped_low b m e)) (utf8_of h)
 
 -- bytes that stand for themselves, taken off the front
-peel : (u w v bs : List ℕ) → w ≡ u ++ v → all_pass is_plain u ≡ true → Bytewise w bs → IsBody v
-peel [] w v bs e p h = (bs, subst (λ z. Bytewise z bs) e h)
-peel (b ∷ u) w v bs e p end = cc
-peel (b ∷ u) w v bs e p (byte {body = x} {bytes = cs} q h) = let t : x ≡ u ++ v = cc in peel u x v cs t (and_right (is_plain b) _ p) h
-peel (b ∷ u) w v bs e p (pair f h) = let i : b ≡ 92 = cc in absurd ((not_plain b (and_left _ _ p)).1 i)
+strip_plain : (u w v bs : List ℕ) → w ≡ u ++ v → all_pass is_plain u ≡ true → Bytewise w bs → IsBody v
+strip_plain [] w v bs e p h = (bs, subst (λ z. Bytewise z bs) e h)
+strip_plain (b ∷ u) w v bs e p end = cc
+strip_plain (b ∷ u) w v bs e p (byte {body = x} {bytes = cs} q h) = let t : x ≡ u ++ v = cc in strip_plain u x v cs t (and_right (is_plain b) _ p) h
+strip_plain (b ∷ u) w v bs e p (pair f h) = let i : b ≡ 92 = cc in absurd ((not_plain b (and_left _ _ p)).1 i)
 
 first_plain : (c : ℕ) (w rest bs : List ℕ) → w ≡ c ∷ rest → (c ≡ 92 → ⊥) → Bytewise w bs → is_plain c ≡ true
 first_plain c w rest bs e n h = (plain_in w c rest bs e n h).0
@@ -259,7 +259,7 @@ plain_character c rest bs n h = elim (cases_lt c 128) [
 plain_front : (c : ℕ) (rest : List ℕ) → IsScalar c → (c ≡ 92 → ⊥) → IsBody (encode_utf8 c ++ rest) → (IsBody rest → (bs : List ℕ) × StandsFor rest bs) → (bs : List ℕ) × StandsFor (encode_utf8 c ++ rest) bs
 plain_front c rest s n h rec =
     let p = plain_character c rest h.0 n h.1 in
-    let r = rec (peel (encode_utf8 c) (encode_utf8 c ++ rest) rest h.0 refl (encode_plain c p) h.1) in
+    let r = rec (strip_plain (encode_utf8 c) (encode_utf8 c ++ rest) rest h.0 refl (encode_plain c p) h.1) in
     (encode_utf8 c ++ r.0, plain c s p r.1)
 
 some_bytes : (c : ℕ) (rest : List ℕ) → 0 < length (encode_utf8 c ++ rest)

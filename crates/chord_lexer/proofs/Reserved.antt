@@ -3,10 +3,10 @@ use Rattle.std.proofs.Common.{◌≡◌, ℕ, zero, suc, ◌+◌, ◌<◌, true,
 use Rattle.std.proofs.lemmas.Bool.Decides.{eqb_tells}
 use Rattle.std.specs.Prelude.{bytes_eq}
 use Rattle.chord_lexer.specs.declared.token.Keyword.{Keyword}
-use Rattle.chord_lexer.specs.Words.{find_word, keyword_of}
-use Rattle.chord_lexer.specs.Scanning.{words_with}
+use Rattle.chord_lexer.specs.Identifiers.{find_reserved, keyword_of}
+use Rattle.chord_lexer.specs.Scanning.{reserved_with}
 
-by_letter : (b : ℕ) (bs : List ℕ) → find_word (words_with b) (b ∷ bs) ≡ keyword_of (b ∷ bs)
+by_letter : (b : ℕ) (bs : List ℕ) → find_reserved (reserved_with b) (b ∷ bs) ≡ keyword_of (b ∷ bs)
 unfolding keyword_of
 by_letter b bs =
     elim (eqb_tells b 97) [
@@ -83,20 +83,20 @@ by_letter b bs =
           ]
     ]
 
-pub by_first : (word : List ℕ) → 0 < length word → find_word (words_with (get_or word 0 0)) word ≡ keyword_of word
+pub by_first : (identifier : List ℕ) → 0 < length identifier → find_reserved (reserved_with (get_or identifier 0 0)) identifier ≡ keyword_of identifier
 by_first [] l = absurd (omega arith)
 by_first (b ∷ bs) l = by_letter b bs
 
--- the words of a table from one of its places on: the word is the one there, or it is looked for after it
-pub entry_here : {X : Type 0} (entry : X → List ℕ × Keyword) (table : List X) (word : List ℕ) (i : ℕ) (d : X) → i < length table → bytes_eq word (entry (get_or table i d)).0 ≡ true → find_word (drop i (map entry table)) word ≡ Some (entry (get_or table i d)).1
-entry_here entry [] word i d l e = absurd (omega arith)
-entry_here entry (x ∷ table) word zero d l e = rw e refl
-entry_here entry (x ∷ table) word (suc i) d l e = entry_here entry table word i d (omega arith) e
+-- the identifiers of a table from one of its places on: the identifier is the one there, or it is looked for after it
+pub entry_here : {X : Type 0} (entry : X → List ℕ × Keyword) (table : List X) (identifier : List ℕ) (i : ℕ) (d : X) → i < length table → bytes_eq identifier (entry (get_or table i d)).0 ≡ true → find_reserved (drop i (map entry table)) identifier ≡ Some (entry (get_or table i d)).1
+entry_here entry [] identifier i d l e = absurd (omega arith)
+entry_here entry (x ∷ table) identifier zero d l e = rw e refl
+entry_here entry (x ∷ table) identifier (suc i) d l e = entry_here entry table identifier i d (omega arith) e
 
-not_here : {X : Type 0} (entry : X → List ℕ × Keyword) (table : List X) (word : List ℕ) (i : ℕ) (d : X) → i < length table → bytes_eq word (entry (get_or table i d)).0 ≡ false → find_word (drop i (map entry table)) word ≡ find_word (drop (suc i) (map entry table)) word
-not_here entry [] word i d l e = absurd (omega arith)
-not_here entry (x ∷ table) word zero d l e = rw e refl
-not_here entry (x ∷ table) word (suc i) d l e = not_here entry table word i d (omega arith) e
+not_here : {X : Type 0} (entry : X → List ℕ × Keyword) (table : List X) (identifier : List ℕ) (i : ℕ) (d : X) → i < length table → bytes_eq identifier (entry (get_or table i d)).0 ≡ false → find_reserved (drop i (map entry table)) identifier ≡ find_reserved (drop (suc i) (map entry table)) identifier
+not_here entry [] identifier i d l e = absurd (omega arith)
+not_here entry (x ∷ table) identifier zero d l e = rw e refl
+not_here entry (x ∷ table) identifier (suc i) d l e = not_here entry table identifier i d (omega arith) e
 
-pub entry_not_here : {X : Type 0} (entry : X → List ℕ × Keyword) (table : List X) (word : List ℕ) (i : ℕ) (d : X) → i < length table → bytes_eq word (entry (get_or table i d)).0 ≡ false → find_word (drop i (map entry table)) word ≡ find_word (drop (i + 1) (map entry table)) word
-entry_not_here entry table word i d l e = rw add-one (not_here entry table word i d l e)
+pub entry_not_here : {X : Type 0} (entry : X → List ℕ × Keyword) (table : List X) (identifier : List ℕ) (i : ℕ) (d : X) → i < length table → bytes_eq identifier (entry (get_or table i d)).0 ≡ false → find_reserved (drop i (map entry table)) identifier ≡ find_reserved (drop (i + 1) (map entry table)) identifier
+entry_not_here entry table identifier i d l e = rw add-one (not_here entry table identifier i d l e)

@@ -1,6 +1,6 @@
 -- Tests of bytes, and runs of bytes that pass one.
 use Rattle.std.proofs.Common.{◌≡◌, ℕ, zero, suc, ◌+◌, ◌<◌, ◌≤◌, Bool, true, false, ◌&&◌, ◌||◌, List, [], ◌∷◌, ◌++◌, length, take, drop, get_or, refl, sym, ap, subst, ◌∙◌, arith, add-one, ◌⊎◌, inl, inr, Option, Some, None, IfNone}
-use Rattle.chord_lexer.specs.Letters.{all_pass, first_passes, IsRun}
+use Rattle.chord_lexer.specs.Letters.{all_pass, first_passes, IsMaximalRun}
 
 pub and_left : (a b : Bool) → (a && b) ≡ true → a ≡ true
 and_left true b h = refl
@@ -55,7 +55,7 @@ first_passes_past test (b ∷ text) zero l = absurd (omega arith)
 first_passes_past test (b ∷ text) (suc n) l = first_passes_past test text n (omega arith)
 
 -- Two whole runs at the front of one text are the same run.
-pub run_same : (test : ℕ → Bool) (u x v y : List ℕ) → IsRun test u x → IsRun test v y → v ++ y ≡ u ++ x → (v ≡ u) × (y ≡ x)
+pub run_same : (test : ℕ → Bool) (u x v y : List ℕ) → IsMaximalRun test u x → IsMaximalRun test v y → v ++ y ≡ u ++ x → (v ≡ u) × (y ≡ x)
 run_same test [] x [] y h k e = (refl, e)
 run_same test (a ∷ u) x [] y h k e = let f : first_passes test y ≡ true = subst (λ z. first_passes test z ≡ true) (sym e) (and_left _ _ h.0) in absurd (let g = sym f ∙ k.1 in cc)
 run_same test [] x (b ∷ v) y h k e = let f : first_passes test x ≡ true = subst (λ z. first_passes test z ≡ true) e (and_left _ _ k.0) in absurd (let g = sym f ∙ h.1 in cc)

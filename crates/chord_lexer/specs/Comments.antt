@@ -1,6 +1,6 @@
 -- Comments.
 use Rattle.std.specs.Prelude.{◌≡◌, ℕ, Bool, false, not, ◌&&◌, ◌||◌, ◌≢◌, ◌⊎◌, List, [], ◌∷◌, ◌++◌, nat_eq, IsUtf8}
-use Rattle.chord_lexer.specs.Letters.{ends_line, IsRun}
+use Rattle.chord_lexer.specs.Letters.{ends_line, IsMaximalRun}
 
 -- `//` and `/*` always begin a comment where a token may begin.
 abbrev pub begins_comment : List ℕ → Bool
@@ -15,7 +15,7 @@ is_in_line b = not (ends_line b)
 pub record IsLineComment (comment rest : List ℕ) : Type 0 where
   pub body : List ℕ
   pub begins : comment ≡ 0x2F ∷ 0x2F ∷ body
-  pub line : IsRun is_in_line body rest
+  pub line : IsMaximalRun is_in_line body rest
 
 -- `*/` does not stand in these bytes
 abbrev pub IsUnclosed : List ℕ → Type 0

@@ -10,13 +10,13 @@ is_blank b = nat_eq b 0x20 || nat_eq b 0x09 || nat_eq b 0x0D || nat_eq b 0x0A
 abbrev pub is_digit : ℕ → Bool
 is_digit b = is_ascii_digit b
 
--- A word begins with an ASCII letter or `_`.
+-- An identifier begins with an ASCII letter or `_`.
 abbrev pub is_letter : ℕ → Bool
 is_letter b = is_ascii_alphabetic b || nat_eq b 0x5F
 
--- A word goes on with letters, `_` and digits.
-abbrev pub is_word_byte : ℕ → Bool
-is_word_byte b = is_letter b || is_digit b
+-- An identifier goes on with letters, `_` and digits.
+abbrev pub is_identifier_byte : ℕ → Bool
+is_identifier_byte b = is_letter b || is_digit b
 
 -- A line ends before 0D or 0A.
 abbrev pub ends_line : ℕ → Bool
@@ -33,5 +33,5 @@ first_passes test [] = false
 first_passes test (b ∷ bs) = test b
 
 -- A whole run: each byte passes the test, and the byte that follows, if there is one, does not.
-abbrev pub IsRun : (ℕ → Bool) → List ℕ → List ℕ → Type 0
-IsRun test run rest = (all_pass test run ≡ true) × (first_passes test rest ≡ false)
+abbrev pub IsMaximalRun : (ℕ → Bool) → List ℕ → List ℕ → Type 0
+IsMaximalRun test run rest = (all_pass test run ≡ true) × (first_passes test rest ≡ false)

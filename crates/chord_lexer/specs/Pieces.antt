@@ -5,19 +5,19 @@ use Rattle.chord_lexer.specs.declared.token.Kind.TheVariants as kinds
 use Rattle.chord_lexer.specs.declared.piece.Piece.{Piece}
 use Rattle.chord_lexer.specs.declared.piece.Piece.TheVariants as pieces
 use Rattle.chord_lexer.specs.Letters.{is_blank}
-use Rattle.chord_lexer.specs.Words.{IsWord, keyword_of}
+use Rattle.chord_lexer.specs.Identifiers.{IsIdentifier, keyword_of}
 use Rattle.chord_lexer.specs.Numbers.{IsNumber}
 use Rattle.chord_lexer.specs.Literals.{IsLiteral}
 use Rattle.chord_lexer.specs.Comments.{IsComment, begins_comment}
-use Rattle.chord_lexer.specs.Marks.{spelling}
+use Rattle.chord_lexer.specs.Marks.{mark_bytes}
 
--- The bytes are a token of the kind, where the rest follows them. A name is a word that is not reserved.
+-- The bytes are a token of the kind, where the rest follows them. A name is an identifier that is not reserved.
 abbrev pub IsKind : Kind → List ℕ → List ℕ → Type 0
-IsKind (kinds.Word keyword) token rest = IsWord token rest × (keyword_of token ≡ Some keyword)
-IsKind (kinds.Name name) token rest = IsWord token rest × (keyword_of token ≡ None) × (name ≡ token)
+IsKind (kinds.Word keyword) token rest = IsIdentifier token rest × (keyword_of token ≡ Some keyword)
+IsKind (kinds.Name name) token rest = IsIdentifier token rest × (keyword_of token ≡ None) × (name ≡ token)
 IsKind (kinds.Number n) token rest = IsNumber n token rest
 IsKind (kinds.Literal bytes) token rest = IsLiteral bytes token
-IsKind (kinds.Mark mark) token rest = (token ≡ spelling mark) × (begins_comment (token ++ rest) ≡ false)
+IsKind (kinds.Mark mark) token rest = (token ≡ mark_bytes mark) × (begins_comment (token ++ rest) ≡ false)
 
 -- The bytes are a blank, a comment or a token, where the rest follows them.
 abbrev pub IsPiece : Piece → List ℕ → List ℕ → Type 0

@@ -11,8 +11,8 @@ use Rattle.chord_lexer.specs.Pieces.{IsLongest, IsNone}
 abbrev pub byte_order_mark : List ℕ
 byte_order_mark = 0xEF ∷ 0xBB ∷ 0xBF ∷ []
 
-abbrev pub after_mark : List ℕ → List ℕ
-after_mark source = cond (bytes_eq byte_order_mark (take 3 source)) (drop 3 source) source
+abbrev pub after_byte_order_mark : List ℕ → List ℕ
+after_byte_order_mark source = cond (bytes_eq byte_order_mark (take 3 source)) (drop 3 source) source
 
 -- The token that a piece is, if it is one, with its place.
 abbrev pub tokens_of : Piece → ℕ → ℕ → List Token
@@ -28,14 +28,14 @@ pub data Chain : ℕ → List ℕ → List Token → List ℕ → Type 0 where
 
 -- A source reads as these tokens where it is such a chain as a whole.
 abbrev pub IsRead : List ℕ → List Token → Type 0
-IsRead source tokens = Chain 0 (after_mark source) tokens []
+IsRead source tokens = Chain 0 (after_byte_order_mark source) tokens []
 
 -- A source is refused at byte k where the bytes before it are such a chain, and nothing begins at it.
 pub record IsRefused (source : List ℕ) (k : ℕ) : Type 0 where
   pub tokens : List Token
   pub rest : List ℕ
-  pub chain : Chain 0 (after_mark source) tokens rest
-  pub place : k + length rest ≡ length (after_mark source)
+  pub chain : Chain 0 (after_byte_order_mark source) tokens rest
+  pub place : k + length rest ≡ length (after_byte_order_mark source)
   pub there : 0 < length rest
   pub nothing : IsNone rest
 

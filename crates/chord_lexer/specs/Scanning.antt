@@ -4,23 +4,23 @@ use Rattle.chord_lexer.specs.declared.token.Keyword.{Keyword}
 use Rattle.chord_lexer.specs.declared.token.Mark.{Mark}
 use Rattle.chord_lexer.specs.declared.token.Mark.TheVariants as marks
 use Rattle.chord_lexer.specs.declared.piece.Piece.{Piece}
-use Rattle.chord_lexer.specs.declared.scan.Class.{Class}
-use Rattle.chord_lexer.specs.declared.scan.Class.TheVariants as classes
+use Rattle.chord_lexer.specs.declared.scan.ByteKind.{ByteKind}
+use Rattle.chord_lexer.specs.declared.scan.ByteKind.TheVariants as byte_kinds
 use Rattle.chord_lexer.specs.declared.scan.Lead.{Lead}
 use Rattle.chord_lexer.specs.declared.scan.Lead.TheVariants as leads
 use Rattle.chord_lexer.specs.declared.scan.Stop.{Stop}
 use Rattle.chord_lexer.specs.declared.scan.Stop.TheVariants as stops
-use Rattle.chord_lexer.specs.Words.{reserved_words}
-use Rattle.chord_lexer.specs.Letters.{is_blank, is_digit, is_letter, is_word_byte}
+use Rattle.chord_lexer.specs.Identifiers.{reserved_words}
+use Rattle.chord_lexer.specs.Letters.{is_blank, is_digit, is_letter, is_identifier_byte}
 use Rattle.chord_lexer.specs.Comments.{begins_comment, is_in_line, IsDelimited, IsUnclosed}
 use Rattle.chord_lexer.specs.Literals.{is_plain, escaped}
 use Rattle.chord_lexer.specs.Pieces.{IsLongest, IsNone}
 
--- the test of a class of bytes
-abbrev pub test_of : Class → ℕ → Bool
-test_of classes.Digit b = is_digit b
-test_of classes.Word b = is_word_byte b
-test_of classes.Line b = is_in_line b
+-- the test of a kind of bytes
+abbrev pub test_of : ByteKind → ℕ → Bool
+test_of byte_kinds.Digit b = is_digit b
+test_of byte_kinds.Identifier b = is_identifier_byte b
+test_of byte_kinds.Line b = is_in_line b
 
 -- what may begin a text, by its first bytes
 abbrev pub lead_of : List ℕ → Lead
@@ -108,8 +108,8 @@ pair_mark_of text = None
 abbrev pub begins_with : ℕ → List ℕ × Keyword → Bool
 begins_with letter entry = nat_eq letter (slice_index entry.0 0)
 
-abbrev pub words_with : ℕ → List (List ℕ × Keyword)
-words_with letter =
+abbrev pub reserved_with : ℕ → List (List ℕ × Keyword)
+reserved_with letter =
     cond (nat_eq letter 0x61) (filter (begins_with 0x61) reserved_words) (
     cond (nat_eq letter 0x62) (filter (begins_with 0x62) reserved_words) (
     cond (nat_eq letter 0x63) (filter (begins_with 0x63) reserved_words) (

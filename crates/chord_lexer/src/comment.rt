@@ -8,7 +8,7 @@ ghost use Rattle.chord_lexer.specs.Scanning.{lead_of, Begins, IsClosedAt, IsExte
 ghost use Rattle.chord_lexer.specs.declared.scan.Lead.TheVariants as leads;
 
 use crate::piece::Piece;
-use crate::scan::{Class, after, run};
+use crate::scan::{ByteKind, after, run};
 
 /// Whether the two bytes are `*/`.
 fn is_close(first: u8, second: u8) -> bool
@@ -39,7 +39,7 @@ fn extent(text: &[u8]) -> Option<usize>
 {
     let body = after(text, 2);
     if text[1] == b'/' {
-        return Some(run(body, Class::Line) + 2);
+        return Some(run(body, ByteKind::Line) + 2);
     }
     match close(body) {
         Some(length) => Some(length + 4),

@@ -2,7 +2,7 @@
 #![tactic(auto)]
 
 ghost use Rattle.std.specs.Prelude.{◌≡◌, ℕ, ◌≤◌, ◌⊎◌, ◌++◌, List, length, IfOk, IfErr, OnOk, MatchResult};
-ghost use Rattle.chord_lexer.specs.Reading.{after_mark, tokens_of, IsRead, IsRefused, IsFault};
+ghost use Rattle.chord_lexer.specs.Reading.{after_byte_order_mark, tokens_of, IsRead, IsRefused, IsFault};
 ghost use Rattle.chord_lexer.specs.declared.token.Token.{Token};
 
 use crate::piece::Piece;
@@ -22,7 +22,7 @@ pub enum LexFault {
 
 /// The text after a leading mark EF BB BF.
 pub fn unmarked(source: &[u8]) -> &[u8]
-    ensures { result.now ≡ after_mark source.now }
+    ensures { result.now ≡ after_byte_order_mark source.now }
 {
     match source {
         [0xEF, 0xBB, 0xBF, text @ ..] => text,
@@ -48,7 +48,7 @@ fn note(tokens: &mut Vec<Token>, piece: Piece, start: u32, end: u32) -> Result<(
 /// The tokens of the text after the mark.
 fn read(alloc: Global, source: &[u8], text: &[u8]) -> Result<Vec<Token>, LexFault>
     requires few { length source.now ≤ 1048576 }
-    requires unmarked { text.now ≡ after_mark source.now }
+    requires unmarked { text.now ≡ after_byte_order_mark source.now }
     ensures read { IfOk result (λ tokens. IsRead source.now tokens.items) }
     ensures fault { IfErr result (IsFault source.now) }
 {

@@ -7,6 +7,7 @@
 
 pub mod bytes;
 mod comment;
+mod identifier;
 pub mod laws;
 pub mod lexer;
 mod literal;
@@ -17,4 +18,3 @@ mod scan;
 #[cfg(test)]
 mod tests;
 pub mod token;
-mod word;

@@ -2,7 +2,7 @@
 #![tactic(auto)]
 
 ghost use Rattle.std.specs.Prelude.{◌≡◌, ◌<◌, ◌∷◌, [], length, take, IfSome, IfNone};
-ghost use Rattle.chord_lexer.specs.Marks.{spelling};
+ghost use Rattle.chord_lexer.specs.Marks.{mark_bytes};
 ghost use Rattle.chord_lexer.specs.Pieces.{IsNone};
 ghost use Rattle.chord_lexer.specs.Scanning.{lead_of, single_mark, pair_mark, pair_mark_of, Begins};
 ghost use Rattle.chord_lexer.specs.declared.scan.Lead.TheVariants as leads;
@@ -13,7 +13,7 @@ use crate::token::{Kind, Mark};
 /// The mark of one byte.
 fn single(byte: u8) -> Option<Mark>
     ensures value { result ≡ single_mark byte }
-    ensures spelled { IfSome result (λ mark. spelling mark ≡ byte ∷ []) }
+    ensures spelled { IfSome result (λ mark. mark_bytes mark ≡ byte ∷ []) }
 {
     match byte {
         b'{' => Some(Mark::OpenBrace),
@@ -41,7 +41,7 @@ fn single(byte: u8) -> Option<Mark>
 /// The mark of two bytes.
 fn pair(first: u8, second: u8) -> Option<Mark>
     ensures value { result ≡ pair_mark first second }
-    ensures spelled { IfSome result (λ mark. spelling mark ≡ first ∷ second ∷ []) }
+    ensures spelled { IfSome result (λ mark. mark_bytes mark ≡ first ∷ second ∷ []) }
 {
     match (first, second) {
         (b'=', b'=') => Some(Mark::Equal),
@@ -59,7 +59,7 @@ fn pair(first: u8, second: u8) -> Option<Mark>
 /// The mark of the first two bytes.
 fn pair_at(text: &[u8]) -> Option<Mark>
     ensures value { result ≡ pair_mark_of text.now }
-    ensures spelled { IfSome result (λ mark. spelling mark ≡ take 2 text.now) }
+    ensures spelled { IfSome result (λ mark. mark_bytes mark ≡ take 2 text.now) }
 {
     match text {
         [first, second, ..] => pair(*first, *second),
@@ -70,7 +70,7 @@ fn pair_at(text: &[u8]) -> Option<Mark>
 /// The mark at the front, of two bytes if it can be.
 pub fn mark(text: &[u8]) -> Option<(Piece, usize)>
     requires some { 0 < length text.now }
-    requires led { lead_of text.now ≡ leads.Mark }
+    requires lead { lead_of text.now ≡ leads.Mark }
     ensures found { IfSome result (λ r. Begins text.now r.0 r.1) }
     ensures none { IfNone result (IsNone text.now) }
 {

@@ -9,7 +9,7 @@ ghost use Rattle.chord_lexer.specs.Scanning.{lead_of, Begins};
 ghost use Rattle.chord_lexer.specs.declared.scan.Lead.TheVariants as leads;
 
 use crate::piece::Piece;
-use crate::scan::{Class, follows, run};
+use crate::scan::{ByteKind, follows, run};
 use crate::token::Kind;
 
 /// The largest number that a token has. It stands only after a unary `-`, which is a rule on programs.
@@ -37,8 +37,8 @@ pub fn number(text: &[u8]) -> Option<(Piece, usize)>
     ensures found { IfSome result (λ r. Begins text.now r.0 r.1) }
     ensures none { IfNone result (IsNone text.now) }
 {
-    let length = run(text, Class::Digit);
-    if follows(text, length, Class::Word) {
+    let length = run(text, ByteKind::Digit);
+    if follows(text, length, ByteKind::Identifier) {
         return None;
     }
     let n = decimal(&text[..length])?;

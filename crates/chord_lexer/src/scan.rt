@@ -2,16 +2,16 @@
 #![tactic(auto)]
 
 ghost use Rattle.std.specs.Prelude.{◌≡◌, ◌<◌, ◌≤◌, length, take, drop, IfOk, IfErr};
-ghost use Rattle.chord_lexer.specs.Letters.{IsRun, first_passes};
+ghost use Rattle.chord_lexer.specs.Letters.{IsMaximalRun, first_passes};
 ghost use Rattle.chord_lexer.specs.Comments.{begins_comment};
 ghost use Rattle.chord_lexer.specs.Scanning.{test_of, lead_of, Begins, IsStop};
 
 use crate::comment::comment;
+use crate::identifier::identifier;
 use crate::literal::literal;
 use crate::mark::mark;
 use crate::number::number;
 use crate::piece::Piece;
-use crate::word::word;
 use std::alloc::Global;
 
 /// Why no piece was found.
@@ -25,10 +25,10 @@ pub enum Stop {
 
 /// Bytes that runs are made of.
 #[derive(Clone, Copy, Debug, PartialEq, Eq)]
-pub enum Class {
+pub enum ByteKind {
     Digit,
-    /// What a word goes on with.
-    Word,
+    /// What an identifier goes on with.
+    Identifier,
     /// All but the ends of lines.
     Line,
 }
@@ -45,24 +45,24 @@ pub enum Lead {
 }
 
 #[inline]
-fn fits(class: Class, byte: u8) -> bool
-    ensures { result ≡ test_of class byte }
+fn fits(kind: ByteKind, byte: u8) -> bool
+    ensures { result ≡ test_of kind byte }
 {
-    match class {
-        Class::Digit => byte.is_ascii_digit(),
-        Class::Word => byte.is_ascii_alphabetic() || byte == b'_' || byte.is_ascii_digit(),
-        Class::Line => byte != b'\r' && byte != b'\n',
+    match kind {
+        ByteKind::Digit => byte.is_ascii_digit(),
+        ByteKind::Identifier => byte.is_ascii_alphabetic() || byte == b'_' || byte.is_ascii_digit(),
+        ByteKind::Line => byte != b'\r' && byte != b'\n',
     }
 }
 
-/// How many bytes at the front are of the class.
+/// How many bytes at the front are of the kind.
 #[inline]
-pub fn run(bytes: &[u8], class: Class) -> usize
+pub fn run(bytes: &[u8], kind: ByteKind) -> usize
     ensures within { result ≤ length bytes.now }
-    ensures is { IsRun (test_of class) (take result bytes.now) (drop result bytes.now) }
+    ensures is { IsMaximalRun (test_of kind) (take result bytes.now) (drop result bytes.now) }
 {
     let mut at = 0;
-    while at < bytes.len() && fits(class, bytes[at]) {
+    while at < bytes.len() && fits(kind, bytes[at]) {
         at += 1;
     }
     at
@@ -76,11 +76,11 @@ pub fn after(bytes: &[u8], n: usize) -> &[u8]
     &bytes[n..]
 }
 
-/// Whether a byte of the class stands there.
-pub fn follows(bytes: &[u8], at: usize, class: Class) -> bool
-    ensures { result ≡ first_passes (test_of class) (drop at bytes.now) }
+/// Whether a byte of the kind stands there.
+pub fn follows(bytes: &[u8], at: usize, kind: ByteKind) -> bool
+    ensures { result ≡ first_passes (test_of kind) (drop at bytes.now) }
 {
-    at < bytes.len() && fits(class, bytes[at])
+    at < bytes.len() && fits(kind, bytes[at])
 }
 
 /// Whether a comment is the only thing that may begin here.
@@ -123,7 +123,7 @@ pub fn longest(alloc: Global, text: &[u8]) -> Result<(Piece, usize), Stop>
 {
     match leading(text) {
         Lead::Digit => number(text).ok_or(Stop::Nothing),
-        Lead::Letter => word(alloc, text),
+        Lead::Letter => identifier(alloc, text),
         Lead::Blank => Ok((Piece::Blank, 1)),
         Lead::Quote => literal(alloc, text),
         Lead::Comment => comment(text).ok_or(Stop::Nothing),

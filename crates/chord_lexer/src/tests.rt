@@ -16,7 +16,7 @@ fn shown(alloc: Global, tokens: &[Token], places: bool) -> Result<String, AllocE
             out.push(' ')?;
         }
         match &token.kind {
-            Kind::Word(word) => write!(out, "{word:?}")?,
+            Kind::Word(keyword) => write!(out, "{keyword:?}")?,
             Kind::Name(name) => write!(out, "name({})", text_of(name.items()))?,
             Kind::Number(number) => write!(out, "number({number})")?,
             Kind::Literal(bytes) => write!(out, "literal({})", text_of(bytes.items()))?,

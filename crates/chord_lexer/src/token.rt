@@ -126,7 +126,7 @@ impl Kind {
         ensures { IfOk result (λ kind. kind ≡ self.now) }
     {
         match self {
-            Kind::Word(word) => Ok(Kind::Word(*word)),
+            Kind::Word(keyword) => Ok(Kind::Word(*keyword)),
             Kind::Name(name) => Ok(Kind::Name(name.copied(alloc)?)),
             Kind::Number(number) => Ok(Kind::Number(*number)),
             Kind::Literal(bytes) => Ok(Kind::Literal(bytes.copied(alloc)?)),

@@ -3,31 +3,31 @@ use Rattle.std.proofs.Common.{◌≡◌, ℕ, ◌<◌, ◌≢◌, List, [], ◌�
 use Rattle.std.proofs.lemmas.List.{map-append}
 use Rattle.chord_lexer.specs.declared.token.Kind.{Kind}
 use Rattle.chord_lexer.specs.declared.token.Token.{Token}
-use Rattle.chord_lexer.specs.declared.token.Mark.TheVariants as marks
+use Rattle.chord_lexer.specs.declared.token.Punctuator.TheVariants as punctuators
 use Rattle.chord_tree.specs.declared.names.Name.{Name}
 use Rattle.chord_tree.specs.declared.names.ValueType.TheVariants as types
-use Rattle.chord_tree.specs.declared.classes.ModifierWord.{ModifierWord}
-use Rattle.chord_tree.specs.declared.classes.ModifierWord.TheVariants as modifiers
+use Rattle.chord_tree.specs.declared.classes.ModifierKeyword.{ModifierKeyword}
+use Rattle.chord_tree.specs.declared.classes.ModifierKeyword.TheVariants as modifiers
 use Rattle.chord_tree.specs.declared.classes.Modifier.{Modifier}
 use Rattle.chord_tree.specs.declared.classes.ReturnType.{ReturnType}
 use Rattle.chord_tree.specs.declared.classes.ReturnType.TheVariants as results
 use Rattle.chord_tree.specs.declared.classes.Formal.{Formal}
 use Rattle.chord_tree.specs.declared.classes.NamePart.{NamePart}
-use Rattle.chord_tree.specs.Part.{Part, Terminal, number_of}
-use Rattle.chord_tree.specs.Grammar.{class_count}
+use Rattle.chord_tree.specs.Symbol.{Symbol, Terminal, number_of}
+use Rattle.chord_tree.specs.Grammar.{terminal_count}
 use Rattle.chord_tree.specs.Symbols as grammar
 use Rattle.chord_tree.specs.Derivation.{next}
 use Rattle.chord_tree.specs.Node.{Node, End, ◌▸◌, Leaf, Made, size}
-use Rattle.chord_tree.specs.Program.{told}
-use Rattle.chord_tree.specs.Shape.{word, mark, name}
-use Rattle.chord_tree.specs.Forms.{node_block}
-use Rattle.chord_tree.specs.Tree.{FormalsTree, HeaderTree, MemberTree, AConstructor, AChord, ClassTree, UsingTree, BlockTree, MakeBlock}
-use Rattle.chord_tree.specs.Members.{modifier_word, node_modifier, node_modifiers, node_formal, node_more_formals, node_formal_list, node_formals, node_plain, node_result, node_header, node_headers, node_rest, node_member, node_members, node_class, node_classes, node_name_parts, node_using, node_usings, node_all_classes}
+use Rattle.chord_tree.specs.Program.{token_kinds}
+use Rattle.chord_tree.specs.ExprNodes.{keyword_leaf, punctuator_leaf, name}
+use Rattle.chord_tree.specs.StmtNodes.{node_block}
+use Rattle.chord_tree.specs.Tree.{FormalsTree, HeaderTree, MemberTree, ConstructorMember, ChordMember, ClassTree, UsingTree, BlockTree, MakeBlock}
+use Rattle.chord_tree.specs.ClassNodes.{modifier_keyword, node_modifier, node_modifiers, node_formal, node_more_formals, node_formal_list, node_formals, node_plain, node_result, node_header, node_headers, node_rest, node_member, node_members, node_class, node_classes, node_name_parts, node_using, node_usings, node_all_classes}
 use Rattle.chord_tree.proofs.Table.{choices}
 use Rattle.chord_tree.proofs.Ahead.{choice, small}
-use Rattle.chord_parser.specs.declared.plain.PlainWord.{PlainWord}
-use Rattle.chord_parser.specs.declared.plain.PlainWord.TheVariants as plains
-use Rattle.chord_parser.specs.Lists.{modifier_class, plain_class, plain_word, IsPlain, node_rest_of, IsHeaded, IsFirst, headers_after, classes_after, wrapped, wrapped_after, before_formals}
+use Rattle.chord_parser.specs.declared.plain.ResultKeyword.{ResultKeyword}
+use Rattle.chord_parser.specs.declared.plain.ResultKeyword.TheVariants as plains
+use Rattle.chord_parser.specs.Lists.{modifier_terminal, plain_terminal, plain_keyword, IsPlain, node_rest_of, IsHeaded, IsFirst, headers_after, classes_after, wrapped, wrapped_after, before_formals}
 use Rattle.chord_parser.specs.Runs.{Reads, Onward}
 use Rattle.chord_parser.specs.Samples.{sample}
 use Rattle.chord_parser.proofs.Single.{bare_word}
@@ -77,13 +77,13 @@ abbrev pub modifier_way : Modifier → Node → Node
 modifier_way x n = Made grammar.Modifiers (node_modifier x ▸ n ▸ End)
 
 abbrev pub part_way : NamePart → Node → Node
-part_way x n = Made grammar.Name_parts (mark marks.Dot x.at ▸ name x.name ▸ n ▸ End)
+part_way x n = Made grammar.Name_parts (punctuator_leaf punctuators.Dot x.at ▸ name x.name ▸ n ▸ End)
 
 abbrev pub formal_way : Formal → Node → Node
-formal_way y m = Made grammar.More_formals (mark marks.Comma 0 ▸ node_formal y ▸ m ▸ End)
+formal_way y m = Made grammar.More_formals (punctuator_leaf punctuators.Comma 0 ▸ node_formal y ▸ m ▸ End)
 
 abbrev pub header_way : HeaderTree → Node → Node
-header_way x n = Made grammar.Headers (mark marks.Ampersand 0 ▸ node_header x ▸ n ▸ End)
+header_way x n = Made grammar.Headers (punctuator_leaf punctuators.Ampersand 0 ▸ node_header x ▸ n ▸ End)
 
 abbrev pub member_way : MemberTree → Node → Node
 member_way x n = Made grammar.Members (node_member x ▸ n ▸ End)
@@ -142,7 +142,7 @@ all_usings [] = refl
 all_usings (x ∷ xs) = ap (using_way x) (all_usings xs)
 
 -- modifiers
-pub modifiers_begun : {all d : ℕ} {ks : List Kind} (w : ModifierWord) → next ks ≡ modifier_class w → Onward all grammar.Modifiers d ks (grammar.Modifier ∷ grammar.Modifiers ∷ []) d ks (Made grammar.Modifiers)
+pub modifiers_begun : {count d : ℕ} {ks : List Kind} (w : ModifierKeyword) → next ks ≡ modifier_terminal w → Onward count grammar.Modifiers d ks (grammar.Modifier ∷ grammar.Modifiers ∷ []) d ks (Made grammar.Modifiers)
 modifiers_begun modifiers.Public e = modifiers_modifier (modifiers_modifier_at_public _ e)
 modifiers_begun modifiers.Private e = modifiers_modifier (modifiers_modifier_at_private _ e)
 modifiers_begun modifiers.Protected e = modifiers_modifier (modifiers_modifier_at_protected _ e)
@@ -150,7 +150,7 @@ modifiers_begun modifiers.Virtual e = modifiers_modifier (modifiers_modifier_at_
 modifiers_begun modifiers.Override e = modifiers_modifier (modifiers_modifier_at_override _ e)
 modifiers_begun modifiers.Static e = modifiers_modifier (modifiers_modifier_at_static _ e)
 
-pub modifier_begun : {all d : ℕ} {ks : List Kind} (w : ModifierWord) → next ks ≡ modifier_class w → Onward all grammar.Modifier d ks (Terminal (modifier_class w) ∷ []) d ks (Made grammar.Modifier)
+pub modifier_begun : {count d : ℕ} {ks : List Kind} (w : ModifierKeyword) → next ks ≡ modifier_terminal w → Onward count grammar.Modifier d ks (Terminal (modifier_terminal w) ∷ []) d ks (Made grammar.Modifier)
 modifier_begun modifiers.Public e = modifier_public (modifier_public_at _ e)
 modifier_begun modifiers.Private e = modifier_private (modifier_private_at _ e)
 modifier_begun modifiers.Protected e = modifier_protected (modifier_protected_at _ e)
@@ -158,10 +158,10 @@ modifier_begun modifiers.Virtual e = modifier_virtual (modifier_virtual_at _ e)
 modifier_begun modifiers.Override e = modifier_override (modifier_override_at _ e)
 modifier_begun modifiers.Static e = modifier_static (modifier_static_at _ e)
 
-pub modifier_read : {all d at : ℕ} {ks rest : List Kind} (c : ℕ) (w : ModifierWord) → c ≡ modifier_class w → Reads all (Terminal c) d ks rest (Leaf (sample c) at) → Reads all (Terminal (modifier_class w)) d ks rest (word (modifier_word w) at)
-modifier_read {all} {d} {at} {ks} {rest} c w e r = subst (λ z. Reads all (Terminal (modifier_class w)) d ks rest (Leaf z at)) (bare_word (modifier_word w)) (subst (λ z. Reads all (Terminal z) d ks rest (Leaf (sample z) at)) e r)
+pub modifier_read : {count d at : ℕ} {ks rest : List Kind} (c : ℕ) (w : ModifierKeyword) → c ≡ modifier_terminal w → Reads count (Terminal c) d ks rest (Leaf (sample c) at) → Reads count (Terminal (modifier_terminal w)) d ks rest (keyword_leaf (modifier_keyword w) at)
+modifier_read {count} {d} {at} {ks} {rest} c w e r = subst (λ z. Reads count (Terminal (modifier_terminal w)) d ks rest (Leaf z at)) (bare_word (modifier_keyword w)) (subst (λ z. Reads count (Terminal z) d ks rest (Leaf (sample z) at)) e r)
 
-pub no_modifier : (c : ℕ) → c ≢ modifier_class modifiers.Public → c ≢ modifier_class modifiers.Private → c ≢ modifier_class modifiers.Protected → c ≢ modifier_class modifiers.Virtual → c ≢ modifier_class modifiers.Override → c ≢ modifier_class modifiers.Static → (w : ModifierWord) → c ≢ modifier_class w
+pub no_modifier : (c : ℕ) → c ≢ modifier_terminal modifiers.Public → c ≢ modifier_terminal modifiers.Private → c ≢ modifier_terminal modifiers.Protected → c ≢ modifier_terminal modifiers.Virtual → c ≢ modifier_terminal modifiers.Override → c ≢ modifier_terminal modifiers.Static → (w : ModifierKeyword) → c ≢ modifier_terminal w
 no_modifier c h1 h2 h3 h4 h5 h6 modifiers.Public = h1
 no_modifier c h1 h2 h3 h4 h5 h6 modifiers.Private = h2
 no_modifier c h1 h2 h3 h4 h5 h6 modifiers.Protected = h3
@@ -170,31 +170,31 @@ no_modifier c h1 h2 h3 h4 h5 h6 modifiers.Override = h5
 no_modifier c h1 h2 h3 h4 h5 h6 modifiers.Static = h6
 
 -- words of results
-pub plain_begun : {all d : ℕ} {ks : List Kind} (w : PlainWord) → next ks ≡ plain_class w → Onward all grammar.Plain d ks (Terminal (plain_class w) ∷ []) d ks (Made grammar.Plain)
+pub plain_begun : {count d : ℕ} {ks : List Kind} (w : ResultKeyword) → next ks ≡ plain_terminal w → Onward count grammar.Plain d ks (Terminal (plain_terminal w) ∷ []) d ks (Made grammar.Plain)
 plain_begun plains.Async e = plain_async (plain_async_at _ e)
 plain_begun plains.Void e = plain_void (plain_void_at _ e)
 plain_begun plains.Int e = plain_int (plain_int_at _ e)
 plain_begun plains.Bool e = plain_bool (plain_bool_at _ e)
 plain_begun plains.String e = plain_string (plain_string_at _ e)
 
-pub result_begun : {all d : ℕ} {ks : List Kind} (w : PlainWord) → next ks ≡ plain_class w → Onward all grammar.Result d ks (grammar.Plain ∷ []) d ks (Made grammar.Result)
+pub result_begun : {count d : ℕ} {ks : List Kind} (w : ResultKeyword) → next ks ≡ plain_terminal w → Onward count grammar.Result d ks (grammar.Plain ∷ []) d ks (Made grammar.Result)
 result_begun plains.Async e = result_plain (result_plain_at_async _ e)
 result_begun plains.Void e = result_plain (result_plain_at_void _ e)
 result_begun plains.Int e = result_plain (result_plain_at_int _ e)
 result_begun plains.Bool e = result_plain (result_plain_at_bool _ e)
 result_begun plains.String e = result_plain (result_plain_at_string _ e)
 
-pub rest_begun : {all d : ℕ} {ks : List Kind} (w : PlainWord) → next ks ≡ plain_class w → Onward all grammar.Rest d ks (grammar.Plain ∷ grammar.NAME ∷ grammar.Formals ∷ grammar.Headers ∷ grammar.Block ∷ []) d ks (Made grammar.Rest)
+pub rest_begun : {count d : ℕ} {ks : List Kind} (w : ResultKeyword) → next ks ≡ plain_terminal w → Onward count grammar.Rest d ks (grammar.Plain ∷ grammar.NAME ∷ grammar.Formals ∷ grammar.Headers ∷ grammar.Block ∷ []) d ks (Made grammar.Rest)
 rest_begun plains.Async e = rest_plain (rest_plain_at_async _ e)
 rest_begun plains.Void e = rest_plain (rest_plain_at_void _ e)
 rest_begun plains.Int e = rest_plain (rest_plain_at_int _ e)
 rest_begun plains.Bool e = rest_plain (rest_plain_at_bool _ e)
 rest_begun plains.String e = rest_plain (rest_plain_at_string _ e)
 
-pub plain_read : {all d at : ℕ} {ks rest : List Kind} (c : ℕ) (w : PlainWord) → c ≡ plain_class w → Reads all (Terminal c) d ks rest (Leaf (sample c) at) → Reads all (Terminal (plain_class w)) d ks rest (word (plain_word w) at)
-plain_read {all} {d} {at} {ks} {rest} c w e r = subst (λ z. Reads all (Terminal (plain_class w)) d ks rest (Leaf z at)) (bare_word (plain_word w)) (subst (λ z. Reads all (Terminal z) d ks rest (Leaf (sample z) at)) e r)
+pub plain_read : {count d at : ℕ} {ks rest : List Kind} (c : ℕ) (w : ResultKeyword) → c ≡ plain_terminal w → Reads count (Terminal c) d ks rest (Leaf (sample c) at) → Reads count (Terminal (plain_terminal w)) d ks rest (keyword_leaf (plain_keyword w) at)
+plain_read {count} {d} {at} {ks} {rest} c w e r = subst (λ z. Reads count (Terminal (plain_terminal w)) d ks rest (Leaf z at)) (bare_word (plain_keyword w)) (subst (λ z. Reads count (Terminal z) d ks rest (Leaf (sample z) at)) e r)
 
-pub no_plain : (c : ℕ) → c ≢ plain_class plains.Async → c ≢ plain_class plains.Void → c ≢ plain_class plains.Int → c ≢ plain_class plains.Bool → c ≢ plain_class plains.String → (w : PlainWord) → c ≢ plain_class w
+pub no_plain : (c : ℕ) → c ≢ plain_terminal plains.Async → c ≢ plain_terminal plains.Void → c ≢ plain_terminal plains.Int → c ≢ plain_terminal plains.Bool → c ≢ plain_terminal plains.String → (w : ResultKeyword) → c ≢ plain_terminal w
 no_plain c h1 h2 h3 h4 h5 plains.Async = h1
 no_plain c h1 h2 h3 h4 h5 plains.Void = h2
 no_plain c h1 h2 h3 h4 h5 plains.Int = h3
@@ -214,31 +214,31 @@ plain_rest (results.Value (types.Basic basic at)) x f hs b h = refl
 plain_rest (results.Value (types.Class class)) x f hs b h = elim h [ ]
 
 -- a chord whose first header has a word as its result
-pub plain_chord : (first : HeaderTree) (hs : List HeaderTree) (b : BlockTree) → IsPlain first.result_type → IsFirst first hs → Made grammar.Rest (node_plain first.result_type ▸ name first.name ▸ node_formals first.formals ▸ headers_after hs ▸ node_block b ▸ End) ≡ node_rest_of (AChord hs b)
+pub plain_chord : (first : HeaderTree) (hs : List HeaderTree) (b : BlockTree) → IsPlain first.result_type → IsFirst first hs → Made grammar.Rest (node_plain first.result_type ▸ name first.name ▸ node_formals first.formals ▸ headers_after hs ▸ node_block b ▸ End) ≡ node_rest_of (ChordMember hs b)
 plain_chord first [] b p h = elim h [ ]
 plain_chord first (x ∷ hs) b p h = plain_rest first.result_type first.name first.formals hs b p ∙ ap (λ z. node_rest z.result_type z.name z.formals hs b) (sym h)
 
 -- and one whose first header has a class
-pub class_chord : (first : HeaderTree) (class : Name) (hs : List HeaderTree) (b : BlockTree) → first.result_type ≡ results.Value (types.Class class) → IsFirst first hs → Made grammar.Rest (name class ▸ Made grammar.After (name first.name ▸ node_formals first.formals ▸ headers_after hs ▸ node_block b ▸ End) ▸ End) ≡ node_rest_of (AChord hs b)
+pub class_chord : (first : HeaderTree) (class : Name) (hs : List HeaderTree) (b : BlockTree) → first.result_type ≡ results.Value (types.Class class) → IsFirst first hs → Made grammar.Rest (name class ▸ Made grammar.After (name first.name ▸ node_formals first.formals ▸ headers_after hs ▸ node_block b ▸ End) ▸ End) ≡ node_rest_of (ChordMember hs b)
 class_chord first class [] b p h = elim h [ ]
 class_chord first class (x ∷ hs) b p h = ap (λ r. node_rest r first.name first.formals hs b) (sym p) ∙ ap (λ z. node_rest z.result_type z.name z.formals hs b) (sym h)
 
-pub chord_headed : (first : HeaderTree) (hs : List HeaderTree) (b : BlockTree) (ms : List Modifier) → first.modifiers ≡ ms → IsFirst first hs → IsHeaded (AChord hs b) ms
+pub chord_headed : (first : HeaderTree) (hs : List HeaderTree) (b : BlockTree) (ms : List Modifier) → first.modifiers ≡ ms → IsFirst first hs → IsHeaded (ChordMember hs b) ms
 chord_headed first [] b ms e h = elim h [ ]
 chord_headed first (x ∷ hs) b ms e h = ap (λ z. z.modifiers) h ∙ e
 
 pub member_of : (m : MemberTree) (ms : List Modifier) → IsHeaded m ms → Made grammar.Member (node_modifiers ms ▸ node_rest_of m ▸ End) ≡ node_member m
-member_of (AConstructor k x f b) ms h = ap (λ z. Made grammar.Member (node_modifiers z ▸ node_rest_of (AConstructor k x f b) ▸ End)) (sym h)
-member_of (AChord [] b) ms h = elim h [ ]
-member_of (AChord (x ∷ hs) b) ms h = ap (λ z. Made grammar.Member (node_modifiers z ▸ node_rest_of (AChord (x ∷ hs) b) ▸ End)) (sym h)
+member_of (ConstructorMember k x f b) ms h = ap (λ z. Made grammar.Member (node_modifiers z ▸ node_rest_of (ConstructorMember k x f b) ▸ End)) (sym h)
+member_of (ChordMember [] b) ms h = elim h [ ]
+member_of (ChordMember (x ∷ hs) b) ms h = ap (λ z. Made grammar.Member (node_modifiers z ▸ node_rest_of (ChordMember (x ∷ hs) b) ▸ End)) (sym h)
 
 -- a program
-pub program_of : (us : List UsingTree) (first : ClassTree) (cs : List ClassTree) → IsFirst first cs → Made grammar.Program (node_usings us ▸ node_class first ▸ classes_after cs ▸ End) ≡ node_all_classes us cs
+pub program_of : (us : List UsingTree) (first : ClassTree) (cs : List ClassTree) → IsFirst first cs → Made grammar.Whole_program (node_usings us ▸ node_class first ▸ classes_after cs ▸ End) ≡ node_all_classes us cs
 program_of us first [] h = elim h [ ]
-program_of us first (c ∷ cs) h = ap (λ z. Made grammar.Program (node_usings us ▸ node_class z ▸ node_classes cs ▸ End)) (sym h)
+program_of us first (c ∷ cs) h = ap (λ z. Made grammar.Whole_program (node_usings us ▸ node_class z ▸ node_classes cs ▸ End)) (sym h)
 
 -- each of these has a token
-pub shorter_by : {all d : ℕ} {q : Part} {n : Node} (left rest : List Token) → Reads all q d (told left) (told rest) n → 0 < size n → length rest < length left
+pub shorter_by : {count d : ℕ} {q : Symbol} {n : Node} (left rest : List Token) → Reads count q d (token_kinds left) (token_kinds rest) n → 0 < size n → length rest < length left
 shorter_by left rest h l = let a = measured h in let y = told_size left in let z = told_size rest in omega arith
 
 sized_rest : (r : ReturnType) (x : Name) (f : FormalsTree) (hs : List HeaderTree) (b : BlockTree) → 0 < size (node_rest r x f hs b)
@@ -248,9 +248,9 @@ sized_rest (results.Value (types.Basic basic at)) x f hs b = omega arith
 sized_rest (results.Value (types.Class class)) x f hs b = omega arith
 
 pub sized_member : (m : MemberTree) → 0 < size (node_member m)
-sized_member (AConstructor ms x f b) = omega arith
-sized_member (AChord [] (MakeBlock is end)) = omega arith
-sized_member (AChord (h ∷ hs) b) = let k = sized_rest h.result_type h.name h.formals hs b in omega arith
+sized_member (ConstructorMember ms x f b) = omega arith
+sized_member (ChordMember [] (MakeBlock is end)) = omega arith
+sized_member (ChordMember (h ∷ hs) b) = let k = sized_rest h.result_type h.name h.formals hs b in omega arith
 
 pub sized_class : (c : ClassTree) → 0 < size (node_class c)
 sized_class c = omega arith
@@ -264,6 +264,6 @@ unfolding choice choices
 classes_end c e = ap (choice (number_of grammar.Classes)) e
 
 pub at_end_of : (ks : List Kind) → next ks ≡ 52 → ks ≡ []
-unfolding class_count
+unfolding terminal_count
 at_end_of [] e = refl
 at_end_of (k ∷ ks) e = let h = small k in absurd (omega arith)

@@ -3,50 +3,50 @@ use Rattle.std.proofs.Common.{◌≡◌, ℕ, zero, suc, ◌+◌, ◌<◌, ◌�
 use Rattle.std.specs.Prelude.{nat_eq, nat_lt}
 use Rattle.std.proofs.lemmas.Bool.{eqb-true, ltb-true}
 use Rattle.std.proofs.lemmas.Bool.Decides.{eqb_tells}
-use Rattle.chord_tree.specs.Part.{Part, Terminal, Symbol}
-use Rattle.chord_tree.specs.Grammar.{productions, rule_count, symbol_count, class_count, else_class, no_else}
+use Rattle.chord_tree.specs.Symbol.{Symbol, Terminal, Nonterminal}
+use Rattle.chord_tree.specs.Grammar.{productions, rule_count, nonterminal_count, terminal_count, else_terminal, no_else}
 use Rattle.chord_tree.proofs.Table.{finishes, weights}
 use Rattle.chord_parser.specs.Samples.{sample}
-use Rattle.chord_tree.specs.Classes.{class_of}
-use Rattle.chord_tree.specs.Derivation.{Spelled, Want, kinds_of, next, head_of, parts_of, inside, placed, allowed, Derives, done, word, rule}
-use Rattle.chord_tree.proofs.Ahead.{imp, imp_true, and_left, and_right, and_both, all_below, below, next_small}
+use Rattle.chord_tree.specs.Terminals.{terminal_of}
+use Rattle.chord_tree.specs.Derivation.{Spelled, Want, kinds_of, next, head_of, parts_of, inside, at_depth, allowed, Derives, done, token, rule}
+use Rattle.chord_tree.proofs.Ahead.{imp, imp_true, both_left, both_right, both_true, all_below, below, next_small}
 
 -- a token of the class there is, or the symbol is one
-abbrev pub known : Part → Bool
-known (Terminal c) = nat_eq (class_of (sample c)) c
-known (Symbol x) = nat_lt x symbol_count
+abbrev pub listed : Symbol → Bool
+listed (Terminal c) = nat_eq (terminal_of (sample c)) c
+listed (Nonterminal x) = nat_lt x nonterminal_count
 
 -- and it is not `else`
-abbrev pub calm : Part → Bool
-calm (Terminal c) = nat_eq (class_of (sample c)) c && not (nat_eq c else_class)
-calm (Symbol x) = nat_lt x symbol_count
+abbrev pub not_else : Symbol → Bool
+not_else (Terminal c) = nat_eq (terminal_of (sample c)) c && not (nat_eq c else_terminal)
+not_else (Nonterminal x) = nat_lt x nonterminal_count
 
-abbrev pub all_calm : List Want → Bool
-all_calm [] = true
-all_calm ((p, d) ∷ s) = calm p && all_calm s
+abbrev pub all_not_else : List Want → Bool
+all_not_else [] = true
+all_not_else ((p, d) ∷ s) = not_else p && all_not_else s
 
-abbrev pub calm_parts : List Part → Bool
-calm_parts [] = true
-calm_parts (p ∷ ps) = calm p && calm_parts ps
+abbrev pub not_else_parts : List Symbol → Bool
+not_else_parts [] = true
+not_else_parts (p ∷ ps) = not_else p && not_else_parts ps
 
 -- only the first may be `else`
-abbrev pub tame : List Want → Bool
-tame [] = true
-tame ((p, d) ∷ s) = known p && all_calm s
+abbrev pub else_first : List Want → Bool
+else_first [] = true
+else_first ((p, d) ∷ s) = listed p && all_not_else s
 
-abbrev pub tame_parts : List Part → Bool
-tame_parts [] = true
-tame_parts (p ∷ ps) = known p && calm_parts ps
+abbrev pub else_first_parts : List Symbol → Bool
+else_first_parts [] = true
+else_first_parts (p ∷ ps) = listed p && not_else_parts ps
 
-abbrev pub weight : Part → ℕ
+abbrev pub weight : Symbol → ℕ
 weight (Terminal c) = 1
-weight (Symbol x) = get_or weights x 0
+weight (Nonterminal x) = get_or weights x 0
 
 abbrev pub total : List Want → ℕ
 total [] = 0
 total ((p, d) ∷ s) = weight p + total s
 
-abbrev pub total_parts : List Part → ℕ
+abbrev pub total_parts : List Symbol → ℕ
 total_parts [] = 0
 total_parts (p ∷ ps) = weight p + total_parts ps
 
@@ -54,37 +54,37 @@ pub finish : ℕ → ℕ
 finish x = get_or finishes x 0
 
 check_finish : ℕ → Bool
-check_finish x = nat_lt (total_parts (parts_of (finish x))) (get_or weights x 0) && (nat_eq (head_of (finish x)) x && (nat_lt (finish x) rule_count && calm_parts (parts_of (finish x))))
+check_finish x = nat_lt (total_parts (parts_of (finish x))) (get_or weights x 0) && (nat_eq (head_of (finish x)) x && (nat_lt (finish x) rule_count && not_else_parts (parts_of (finish x))))
 
 check_open : ℕ → ℕ → Bool
-check_open x c = imp (not (nat_eq c else_class)) (allowed (finish x) c)
+check_open x c = imp (not (nat_eq c else_terminal)) (allowed (finish x) c)
 
-check_tame : ℕ → Bool
-check_tame i = tame_parts (parts_of i)
+check_else_first : ℕ → Bool
+check_else_first i = else_first_parts (parts_of i)
 
-table_finish : all_below symbol_count check_finish ≡ true
-unfolding check_finish finish head_of parts_of productions finishes weights rule_count symbol_count else_class
+table_finish : all_below nonterminal_count check_finish ≡ true
+unfolding check_finish finish head_of parts_of productions finishes weights rule_count nonterminal_count else_terminal
 table_finish = refl
 
-table_open : all_below symbol_count (λ x. all_below (suc class_count) (λ c. check_open x c)) ≡ true
-unfolding check_open finish allowed finishes no_else symbol_count class_count else_class
+table_open : all_below nonterminal_count (λ x. all_below (suc terminal_count) (λ c. check_open x c)) ≡ true
+unfolding check_open finish allowed finishes no_else nonterminal_count terminal_count else_terminal
 table_open = refl
 
-table_tame : all_below rule_count check_tame ≡ true
-unfolding check_tame head_of parts_of productions rule_count symbol_count else_class
-table_tame = refl
+table_else_first : all_below rule_count check_else_first ≡ true
+unfolding check_else_first head_of parts_of productions rule_count nonterminal_count else_terminal
+table_else_first = refl
 
-pub rule_tame : (i : ℕ) → i < rule_count → tame_parts (parts_of i) ≡ true
-unfolding check_tame
-rule_tame i l = below rule_count check_tame table_tame i l
+pub rule_else_first : (i : ℕ) → i < rule_count → else_first_parts (parts_of i) ≡ true
+unfolding check_else_first
+rule_else_first i l = below rule_count check_else_first table_else_first i l
 
-finish_fits : (x : ℕ) → x < symbol_count → (total_parts (parts_of (finish x)) < get_or weights x 0) × (head_of (finish x) ≡ x) × (finish x < rule_count) × (calm_parts (parts_of (finish x)) ≡ true)
+finish_fits : (x : ℕ) → x < nonterminal_count → (total_parts (parts_of (finish x)) < get_or weights x 0) × (head_of (finish x) ≡ x) × (finish x < rule_count) × (not_else_parts (parts_of (finish x)) ≡ true)
 unfolding check_finish
 finish_fits x l =
-    let h = below symbol_count check_finish table_finish x l in
-    let t = and_right (nat_lt (total_parts (parts_of (finish x))) (get_or weights x 0)) _ h in
-    let u = and_right (nat_eq (head_of (finish x)) x) _ t in
-    (ltb-true _ _ (and_left _ _ h), eqb-true _ _ (and_left _ _ t), ltb-true _ _ (and_left _ _ u), and_right (nat_lt (finish x) rule_count) _ u)
+    let h = below nonterminal_count check_finish table_finish x l in
+    let t = both_right (nat_lt (total_parts (parts_of (finish x))) (get_or weights x 0)) _ h in
+    let u = both_right (nat_eq (head_of (finish x)) x) _ t in
+    (ltb-true _ _ (both_left _ _ h), eqb-true _ _ (both_left _ _ t), ltb-true _ _ (both_left _ _ u), both_right (nat_lt (finish x) rule_count) _ u)
 
 not_eq : (a b : ℕ) → a ≢ b → not (nat_eq a b) ≡ true
 not_eq a b h = elim (eqb_tells a b) [ inl (t, e) ↦ absurd (h e) | inr (t, e) ↦ ap not t ]
@@ -92,63 +92,63 @@ not_eq a b h = elim (eqb_tells a b) [ inl (t, e) ↦ absurd (h e) | inr (t, e) �
 eq_not : (a b : ℕ) → not (nat_eq a b) ≡ true → a ≢ b
 eq_not a b h e = let t = eq-eqb a b e in let u = sym (ap not t) ∙ h in cc
 
-finish_open : (x c : ℕ) → x < symbol_count → c < suc class_count → c ≢ else_class → allowed (finish x) c ≡ true
+finish_open : (x c : ℕ) → x < nonterminal_count → c < suc terminal_count → c ≢ else_terminal → allowed (finish x) c ≡ true
 unfolding check_open
-finish_open x c l m h = imp_true _ _ (below (suc class_count) (λ c. check_open x c) (below symbol_count _ table_open x l) c m) (not_eq c else_class h)
+finish_open x c l m h = imp_true _ _ (below (suc terminal_count) (λ c. check_open x c) (below nonterminal_count _ table_open x l) c m) (not_eq c else_terminal h)
 
-pub calm_placed : (d : ℕ) (ps : List Part) (s : List Want) → calm_parts ps ≡ true → all_calm s ≡ true → all_calm (placed d ps ++ s) ≡ true
-calm_placed d [] s h k = k
-calm_placed d (p ∷ ps) s h k = and_both _ _ (and_left _ _ h) (calm_placed d ps s (and_right (calm p) _ h) k)
+pub not_else_at_depth : (d : ℕ) (ps : List Symbol) (s : List Want) → not_else_parts ps ≡ true → all_not_else s ≡ true → all_not_else (at_depth d ps ++ s) ≡ true
+not_else_at_depth d [] s h k = k
+not_else_at_depth d (p ∷ ps) s h k = both_true _ _ (both_left _ _ h) (not_else_at_depth d ps s (both_right (not_else p) _ h) k)
 
-total_placed : (d : ℕ) (ps : List Part) (s : List Want) → total (placed d ps ++ s) ≡ total_parts ps + total s
-total_placed d [] s = omega arith
-total_placed d (p ∷ ps) s = let h = total_placed d ps s in omega arith
+total_at_depth : (d : ℕ) (ps : List Symbol) (s : List Want) → total (at_depth d ps ++ s) ≡ total_parts ps + total s
+total_at_depth d [] s = omega arith
+total_at_depth d (p ∷ ps) s = let h = total_at_depth d ps s in omega arith
 
-pub calm_known : (p : Part) → calm p ≡ true → known p ≡ true
-calm_known (Terminal c) h = and_left _ _ h
-calm_known (Symbol x) h = h
+pub not_else_listed : (p : Symbol) → not_else p ≡ true → listed p ≡ true
+not_else_listed (Terminal c) h = both_left _ _ h
+not_else_listed (Nonterminal x) h = h
 
-pub calm_tame : (s : List Want) → all_calm s ≡ true → tame s ≡ true
-calm_tame [] h = refl
-calm_tame ((p, d) ∷ s) h = and_both _ _ (calm_known p (and_left _ _ h)) (and_right (calm p) _ h)
+pub not_else_else_first : (s : List Want) → all_not_else s ≡ true → else_first s ≡ true
+not_else_else_first [] h = refl
+not_else_else_first ((p, d) ∷ s) h = both_true _ _ (not_else_listed p (both_left _ _ h)) (both_right (not_else p) _ h)
 
-pub tame_placed : (d : ℕ) (ps : List Part) (s : List Want) → tame_parts ps ≡ true → all_calm s ≡ true → tame (placed d ps ++ s) ≡ true
-tame_placed d [] s h k = calm_tame s k
-tame_placed d (p ∷ ps) s h k = and_both _ _ (and_left _ _ h) (calm_placed d ps s (and_right (known p) _ h) k)
+pub else_first_at_depth : (d : ℕ) (ps : List Symbol) (s : List Want) → else_first_parts ps ≡ true → all_not_else s ≡ true → else_first (at_depth d ps ++ s) ≡ true
+else_first_at_depth d [] s h k = not_else_else_first s k
+else_first_at_depth d (p ∷ ps) s h k = both_true _ _ (both_left _ _ h) (not_else_at_depth d ps s (both_right (listed p) _ h) k)
 
 abbrev pub Finished : List Want → Type 0
-Finished s = (w : List Spelled) × Derives s w × (next (kinds_of w) ≢ else_class)
+Finished s = (w : List Spelled) × Derives s w × (next (kinds_of w) ≢ else_terminal)
 
-end_not_else : class_count ≢ else_class
-unfolding class_count else_class
+end_not_else : terminal_count ≢ else_terminal
+unfolding terminal_count else_terminal
 end_not_else e = omega arith
 
-finish_word : (c d : ℕ) (s : List Want) → calm (Terminal c) ≡ true → Finished s → Finished ((Terminal c, d) ∷ s)
+finish_word : (c d : ℕ) (s : List Want) → not_else (Terminal c) ≡ true → Finished s → Finished ((Terminal c, d) ∷ s)
 finish_word c d s h (w, r, n) =
-    let e = eqb-true _ _ (and_left _ _ h) in
-    let m = eq_not _ _ (and_right (nat_eq (class_of (sample c)) c) _ h) in
-    ((sample c, d) ∷ w, word e r, λ q. m (sym e ∙ q))
+    let e = eqb-true _ _ (both_left _ _ h) in
+    let m = eq_not _ _ (both_right (nat_eq (terminal_of (sample c)) c) _ h) in
+    ((sample c, d) ∷ w, token e r, λ q. m (sym e ∙ q))
 
-finish_tree : (x d : ℕ) (s : List Want) → x < symbol_count → Finished (placed (inside x d) (parts_of (finish x)) ++ s) → Finished ((Symbol x, d) ∷ s)
+finish_tree : (x d : ℕ) (s : List Want) → x < nonterminal_count → Finished (at_depth (inside x d) (parts_of (finish x)) ++ s) → Finished ((Nonterminal x, d) ∷ s)
 finish_tree x d s l (w, r, n) =
     let f = finish_fits x l in
     (w, rule (finish x) f.2 f.1 (finish_open x (next (kinds_of w)) l (next_small (kinds_of w)) n) r, n)
 
-finished_in : (n : ℕ) (s : List Want) → all_calm s ≡ true → total s ≤ n → Finished s
+finished_in : (n : ℕ) (s : List Want) → all_not_else s ≡ true → total s ≤ n → Finished s
 finished_in n [] h l = ([], done, end_not_else)
 finished_in zero ((Terminal c, d) ∷ s) h l = absurd (omega arith)
-finished_in (suc n) ((Terminal c, d) ∷ s) h l = finish_word c d s (and_left _ _ h) (finished_in n s (and_right (calm (Terminal c)) _ h) (omega arith))
-finished_in zero ((Symbol x, d) ∷ s) h l = let f = finish_fits x (ltb-true _ _ (and_left _ _ h)) in absurd (omega arith)
-finished_in (suc n) ((Symbol x, d) ∷ s) h l =
-    let m = ltb-true _ _ (and_left _ _ h) in
+finished_in (suc n) ((Terminal c, d) ∷ s) h l = finish_word c d s (both_left _ _ h) (finished_in n s (both_right (not_else (Terminal c)) _ h) (omega arith))
+finished_in zero ((Nonterminal x, d) ∷ s) h l = let f = finish_fits x (ltb-true _ _ (both_left _ _ h)) in absurd (omega arith)
+finished_in (suc n) ((Nonterminal x, d) ∷ s) h l =
+    let m = ltb-true _ _ (both_left _ _ h) in
     let f = finish_fits x m in
-    let t = total_placed (inside x d) (parts_of (finish x)) s in
-    finish_tree x d s m (finished_in n (placed (inside x d) (parts_of (finish x)) ++ s) (calm_placed (inside x d) (parts_of (finish x)) s f.3 (and_right (calm (Symbol x)) _ h)) (omega arith))
+    let t = total_at_depth (inside x d) (parts_of (finish x)) s in
+    finish_tree x d s m (finished_in n (at_depth (inside x d) (parts_of (finish x)) ++ s) (not_else_at_depth (inside x d) (parts_of (finish x)) s f.3 (both_right (not_else (Nonterminal x)) _ h)) (omega arith))
 
 -- what is wanted, `else` at most first, derives some list
-pub finished : (s : List Want) → tame s ≡ true → (w : List Spelled) × Derives s w
+pub finished : (s : List Want) → else_first s ≡ true → (w : List Spelled) × Derives s w
 finished [] h = ([], done)
 finished ((Terminal c, d) ∷ s) h =
-    let f = finished_in (total s) s (and_right (known (Terminal c)) _ h) (omega arith) in
-    ((sample c, d) ∷ f.0, word (eqb-true _ _ (and_left _ _ h)) f.1)
-finished ((Symbol x, d) ∷ s) h = let f = finished_in (total ((Symbol x, d) ∷ s)) ((Symbol x, d) ∷ s) h (omega arith) in (f.0, f.1)
+    let f = finished_in (total s) s (both_right (listed (Terminal c)) _ h) (omega arith) in
+    ((sample c, d) ∷ f.0, token (eqb-true _ _ (both_left _ _ h)) f.1)
+finished ((Nonterminal x, d) ∷ s) h = let f = finished_in (total ((Nonterminal x, d) ∷ s)) ((Nonterminal x, d) ∷ s) h (omega arith) in (f.0, f.1)

@@ -1,83 +1,83 @@
 -- How what is read goes on.
 use Rattle.std.proofs.Common.{◌≡◌, ℕ, ◌+◌, ◌-◌, ◌<◌, ◌≤◌, List, [], ◌∷◌, ◌++◌, length, refl, sym, ap, subst, arith}
 use Rattle.chord_lexer.specs.declared.token.Kind.{Kind}
-use Rattle.chord_tree.specs.Part.{Part, Symbol}
+use Rattle.chord_tree.specs.Symbol.{Symbol, Nonterminal}
 use Rattle.chord_tree.specs.Grammar.{rule_count}
-use Rattle.chord_tree.specs.Derivation.{next, Want, parts_of, placed, inside, Spelled, kinds_of, Low, word}
-use Rattle.chord_parser.specs.Runs.{Verdict, Runs, take, expand, Reads, ReadAll, word, tree, none, more, Onward}
+use Rattle.chord_tree.specs.Derivation.{next, Want, parts_of, at_depth, inside, Spelled, kinds_of, NotTall, token}
+use Rattle.chord_parser.specs.Runs.{Verdict, Runs, take, expand, Reads, ReadAll, token, tree, none, more, Onward}
 use Rattle.chord_tree.specs.Node.{Node, Nodes, End, ◌▸◌, Made, spell, spell_all, size, size_all, IsNumbered, AreNumbered}
 use Rattle.chord_tree.proofs.Ahead.{choice}
 
-pub placed_append : (d : ℕ) (ps qs : List Part) → placed d (ps ++ qs) ≡ placed d ps ++ placed d qs
-placed_append d [] qs = refl
-placed_append d (p ∷ ps) qs = ap (λ s. (p, d) ∷ s) (placed_append d ps qs)
+pub at_depth_append : (d : ℕ) (ps qs : List Symbol) → at_depth d (ps ++ qs) ≡ at_depth d ps ++ at_depth d qs
+at_depth_append d [] qs = refl
+at_depth_append d (p ∷ ps) qs = ap (λ s. (p, d) ∷ s) (at_depth_append d ps qs)
 
-by_rule : {x d : ℕ} {s : List Want} {ks : List Kind} {v : Verdict} (i : ℕ) → choice x (next ks) ≡ i → i < rule_count → Runs (placed (inside x d) (parts_of i) ++ s) ks v → Runs ((Symbol x, d) ∷ s) ks v
-by_rule {x} {d} {s} {ks} {v} i e l r = expand (subst (λ j. j < rule_count) (sym e) l) (subst (λ j. Runs (placed (inside x d) (parts_of j) ++ s) ks v) (sym e) r)
+by_rule : {x d : ℕ} {s : List Want} {ks : List Kind} {v : Verdict} (i : ℕ) → choice x (next ks) ≡ i → i < rule_count → Runs (at_depth (inside x d) (parts_of i) ++ s) ks v → Runs ((Nonterminal x, d) ∷ s) ks v
+by_rule {x} {d} {s} {ks} {v} i e l r = expand (subst (λ j. j < rule_count) (sym e) l) (subst (λ j. Runs (at_depth (inside x d) (parts_of j) ++ s) ks v) (sym e) r)
 
 -- What is read, whatever else is wanted.
 mutual
-  pub goes_on : {all : ℕ} {p : Part} {d : ℕ} {ks rest : List Kind} {n : Node} → Reads all p d ks rest n → (s : List Want) (v : Verdict) → Runs s rest v → Runs ((p, d) ∷ s) ks v
-  goes_on (word e l) s v r = take e l r
+  pub goes_on : {count : ℕ} {p : Symbol} {d : ℕ} {ks rest : List Kind} {n : Node} → Reads count p d ks rest n → (s : List Want) (v : Verdict) → Runs s rest v → Runs ((p, d) ∷ s) ks v
+  goes_on (token e l) s v r = take e l r
   goes_on (tree {i} e l h) s v r = by_rule i e l (goes_all h s v r)
 
-  pub goes_all : {all : ℕ} {ps : List Part} {d : ℕ} {ks rest : List Kind} {ns : Nodes} → ReadAll all ps d ks rest ns → (s : List Want) (v : Verdict) → Runs s rest v → Runs (placed d ps ++ s) ks v
+  pub goes_all : {count : ℕ} {ps : List Symbol} {d : ℕ} {ks rest : List Kind} {ns : Nodes} → ReadAll count ps d ks rest ns → (s : List Want) (v : Verdict) → Runs s rest v → Runs (at_depth d ps ++ s) ks v
   goes_all none s v r = r
   goes_all (more h k) s v r = goes_on h _ v (goes_all k s v r)
 
 -- a symbol begins
-pub begun : {all d : ℕ} {ks : List Kind} (x i : ℕ) → choice x (next ks) ≡ i → i < rule_count → Onward all (Symbol x) d ks (parts_of i) (inside x d) ks (Made (Symbol x))
+pub begun : {count d : ℕ} {ks : List Kind} (x i : ℕ) → choice x (next ks) ≡ i → i < rule_count → Onward count (Nonterminal x) d ks (parts_of i) (inside x d) ks (Made (Nonterminal x))
 begun x i e l = record { reads = λ rest ns h. tree e l h; runs = λ s v r. by_rule i e l r }
 
 -- one more part is read
-pub step : {all d e : ℕ} {p q : Part} {ps : List Part} {ks mid end : List Kind} {f : Nodes → Node} {n : Node} → Onward all p d ks (q ∷ ps) e mid f → Reads all q e mid end n → Onward all p d ks ps e end (λ ns. f (n ▸ ns))
+pub step : {count d e : ℕ} {p q : Symbol} {ps : List Symbol} {ks mid end : List Kind} {f : Nodes → Node} {n : Node} → Onward count p d ks (q ∷ ps) e mid f → Reads count q e mid end n → Onward count p d ks ps e end (λ ns. f (n ▸ ns))
 step o h = record { reads = λ rest ns g. o.reads rest (_ ▸ ns) (more h g); runs = λ s v r. o.runs s v (goes_on h _ v r) }
 
 -- all is read
-pub ends : {all d e : ℕ} {p : Part} {ks mid : List Kind} {f : Nodes → Node} → Onward all p d ks [] e mid f → Reads all p d ks mid (f End)
+pub ends : {count d e : ℕ} {p : Symbol} {ks mid : List Kind} {f : Nodes → Node} → Onward count p d ks [] e mid f → Reads count p d ks mid (f End)
 ends o = o.reads _ End none
 
 -- the last part is a symbol whose own parts come next, within as many counted
-pub opened : {all d e g : ℕ} {p q : Part} {ps : List Part} {ks mid end : List Kind} {f f' : Nodes → Node} → Onward all p d ks (q ∷ []) e mid f → Onward all q e mid ps g end f' → Onward all p d ks ps g end (λ ns. f (f' ns ▸ End))
-opened o h = record { reads = λ rest ns g. o.reads rest _ (more (h.reads rest ns g) none); runs = λ s v r. o.runs s v (h.runs s v r) }
+pub goes_into : {count d e g : ℕ} {p q : Symbol} {ps : List Symbol} {ks mid end : List Kind} {f f' : Nodes → Node} → Onward count p d ks (q ∷ []) e mid f → Onward count q e mid ps g end f' → Onward count p d ks ps g end (λ ns. f (f' ns ▸ End))
+goes_into o h = record { reads = λ rest ns g. o.reads rest _ (more (h.reads rest ns g) none); runs = λ s v r. o.runs s v (h.runs s v r) }
 
 mutual
   -- what is read is what the node spells
-  pub spells : {all : ℕ} {p : Part} {d : ℕ} {ks rest : List Kind} {n : Node} → Reads all p d ks rest n → (w : List Spelled) → kinds_of w ≡ rest → kinds_of (spell n d w) ≡ ks
-  spells (word {k} e l) w q = ap (λ z. k ∷ z) q
+  pub spells : {count : ℕ} {p : Symbol} {d : ℕ} {ks rest : List Kind} {n : Node} → Reads count p d ks rest n → (w : List Spelled) → kinds_of w ≡ rest → kinds_of (spell n d w) ≡ ks
+  spells (token {k} e l) w q = ap (λ z. k ∷ z) q
   spells (tree e l h) w q = spells_all h w q
 
-  pub spells_all : {all : ℕ} {ps : List Part} {d : ℕ} {ks rest : List Kind} {ns : Nodes} → ReadAll all ps d ks rest ns → (w : List Spelled) → kinds_of w ≡ rest → kinds_of (spell_all ns d w) ≡ ks
+  pub spells_all : {count : ℕ} {ps : List Symbol} {d : ℕ} {ks rest : List Kind} {ns : Nodes} → ReadAll count ps d ks rest ns → (w : List Spelled) → kinds_of w ≡ rest → kinds_of (spell_all ns d w) ≡ ks
   spells_all none w q = q
   spells_all (more h k) w q = spells h _ (spells_all k w q)
 
 mutual
-  pub low : {all : ℕ} {p : Part} {d : ℕ} {ks rest : List Kind} {n : Node} → Reads all p d ks rest n → (w : List Spelled) → Low w → Low (spell n d w)
-  low (word e l) w q = (l, q)
-  low (tree e l h) w q = low_all h w q
+  pub not_tall : {count : ℕ} {p : Symbol} {d : ℕ} {ks rest : List Kind} {n : Node} → Reads count p d ks rest n → (w : List Spelled) → NotTall w → NotTall (spell n d w)
+  not_tall (token e l) w q = (l, q)
+  not_tall (tree e l h) w q = not_tall_all h w q
 
-  pub low_all : {all : ℕ} {ps : List Part} {d : ℕ} {ks rest : List Kind} {ns : Nodes} → ReadAll all ps d ks rest ns → (w : List Spelled) → Low w → Low (spell_all ns d w)
-  low_all none w q = q
-  low_all (more h k) w q = low h _ (low_all k w q)
+  pub not_tall_all : {count : ℕ} {ps : List Symbol} {d : ℕ} {ks rest : List Kind} {ns : Nodes} → ReadAll count ps d ks rest ns → (w : List Spelled) → NotTall w → NotTall (spell_all ns d w)
+  not_tall_all none w q = q
+  not_tall_all (more h k) w q = not_tall h _ (not_tall_all k w q)
 
 mutual
-  pub measured : {all : ℕ} {p : Part} {d : ℕ} {ks rest : List Kind} {n : Node} → Reads all p d ks rest n → length ks ≡ size n + length rest
-  measured (word e l) = omega arith
+  pub measured : {count : ℕ} {p : Symbol} {d : ℕ} {ks rest : List Kind} {n : Node} → Reads count p d ks rest n → length ks ≡ size n + length rest
+  measured (token e l) = omega arith
   measured (tree e l h) = measured_all h
 
-  pub measured_all : {all : ℕ} {ps : List Part} {d : ℕ} {ks rest : List Kind} {ns : Nodes} → ReadAll all ps d ks rest ns → length ks ≡ size_all ns + length rest
+  pub measured_all : {count : ℕ} {ps : List Symbol} {d : ℕ} {ks rest : List Kind} {ns : Nodes} → ReadAll count ps d ks rest ns → length ks ≡ size_all ns + length rest
   measured_all none = omega arith
   measured_all (more h k) = let a = measured h in let b = measured_all k in omega arith
 
 mutual
   -- the numbers are places
-  pub numbered : {all : ℕ} {p : Part} {d : ℕ} {ks rest : List Kind} {n : Node} → Reads all p d ks rest n → length ks ≤ all → IsNumbered n (all - length ks)
-  numbered (word e l) q = refl
+  pub numbered : {count : ℕ} {p : Symbol} {d : ℕ} {ks rest : List Kind} {n : Node} → Reads count p d ks rest n → length ks ≤ count → IsNumbered n (count - length ks)
+  numbered (token e l) q = refl
   numbered (tree e l h) q = numbered_all h q
 
-  pub numbered_all : {all : ℕ} {ps : List Part} {d : ℕ} {ks rest : List Kind} {ns : Nodes} → ReadAll all ps d ks rest ns → length ks ≤ all → AreNumbered ns (all - length ks)
+  pub numbered_all : {count : ℕ} {ps : List Symbol} {d : ℕ} {ks rest : List Kind} {ns : Nodes} → ReadAll count ps d ks rest ns → length ks ≤ count → AreNumbered ns (count - length ks)
   numbered_all none q = tt
-  numbered_all {all} (more {ks} {mid} {n} {ns} h k) q =
+  numbered_all {count} (more {ks} {mid} {n} {ns} h k) q =
       let a = measured h in
-      let e : all - length mid ≡ (all - length ks) + size n = omega arith in
+      let e : count - length mid ≡ (count - length ks) + size n = omega arith in
       (numbered h q, subst (λ z. AreNumbered ns z) e (numbered_all k (omega arith)))

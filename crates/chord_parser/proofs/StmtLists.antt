@@ -9,15 +9,15 @@ use Rattle.chord_tree.specs.declared.names.BasicType.{BasicType}
 use Rattle.chord_tree.specs.declared.names.BasicType.TheVariants as basics
 use Rattle.chord_tree.specs.declared.names.ValueType.TheVariants as types
 use Rattle.chord_tree.specs.declared.stmts.Item.{Item}
-use Rattle.chord_tree.specs.Part.{Part, Terminal, number_of}
+use Rattle.chord_tree.specs.Symbol.{Symbol, Terminal, number_of}
 use Rattle.chord_tree.specs.Symbols as grammar
-use Rattle.chord_tree.specs.Classes.{word_part}
+use Rattle.chord_tree.specs.Terminals.{keyword_symbol}
 use Rattle.chord_tree.specs.Derivation.{next}
 use Rattle.chord_tree.specs.Node.{Node, End, ◌▸◌, Leaf, Made, size}
-use Rattle.chord_tree.specs.Program.{told}
-use Rattle.chord_tree.specs.Shape.{name}
-use Rattle.chord_tree.specs.Tree.{StmtTree, ItemTree, ItemTrees, Braces, MakeBlock, Nothing, IfThen, IfElse, Repeats, Returns, Gives, CallsThis, Makes, Assigns, Calls, CallsThrough, Declares, Does, MoreItems, items}
-use Rattle.chord_tree.specs.Forms.{node_tail, node_other, node_items, node_item, as_stmt, as_item, basic_word, semicolon}
+use Rattle.chord_tree.specs.Program.{token_kinds}
+use Rattle.chord_tree.specs.ExprNodes.{name}
+use Rattle.chord_tree.specs.Tree.{StmtTree, ItemTree, ItemTrees, BlockStmt, MakeBlock, EmptyStmt, IfStmt, IfElseStmt, WhileStmt, ReturnStmt, ReturnValueStmt, ThisCallStmt, NewStmt, AssignStmt, CallStmt, MethodCallStmt, LocalItem, StmtItem, MoreItems, items}
+use Rattle.chord_tree.specs.StmtNodes.{node_tail, node_other, node_items, node_item, as_stmt, as_item, basic_keyword, semicolon}
 use Rattle.chord_tree.specs.ViewStmts.{see_item}
 use Rattle.chord_parser.specs.Runs.{Reads, Onward}
 use Rattle.chord_parser.specs.Reading.{IsNamed, IsUnnamed, before_items}
@@ -35,60 +35,60 @@ pub items_push : (xs ys : List Item) (x : Item) (n : Node) → ys ≡ xs ++ (x �
 items_push xs ys x n e = sym (items_grown (map see_item xs) (see_item x) n) ∙ ap (λ z. before_items z n) (sym (map-append see_item xs (x ∷ []))) ∙ ap (λ z. before_items (map see_item z) n) (sym e)
 
 one_item : (x : ItemTree) (is : ItemTrees) → Made grammar.Items (node_item x ▸ node_items is ▸ End) ≡ node_items (MoreItems x is)
-one_item (Declares t x q e) is = refl
-one_item (Does s) is = refl
+one_item (LocalItem t x q e) is = refl
+one_item (StmtItem s) is = refl
 
 pub items_all : (xs : List ItemTree) → before_items xs (Made grammar.Items End) ≡ node_items (items xs)
 items_all [] = refl
 items_all (x ∷ xs) = ap (λ z. Made grammar.Items (node_item x ▸ z ▸ End)) (items_all xs) ∙ one_item x (items xs)
 
 pub named_stmt : (s : StmtTree) (x : Name) → IsNamed s x → Made grammar.Stmt (name x ▸ node_tail s ▸ semicolon ▸ End) ≡ as_stmt s (node_other s)
-named_stmt (Assigns y at e) x h = ap (λ z. Made grammar.Stmt (name z ▸ node_tail (Assigns y at e) ▸ semicolon ▸ End)) (sym h)
-named_stmt (Calls y a ds) x h = ap (λ z. Made grammar.Stmt (name z ▸ node_tail (Calls y a ds) ▸ semicolon ▸ End)) (sym h)
-named_stmt (CallsThrough y d ds) x h = ap (λ z. Made grammar.Stmt (name z ▸ node_tail (CallsThrough y d ds) ▸ semicolon ▸ End)) (sym h)
+named_stmt (AssignStmt y at e) x h = ap (λ z. Made grammar.Stmt (name z ▸ node_tail (AssignStmt y at e) ▸ semicolon ▸ End)) (sym h)
+named_stmt (CallStmt y a ds) x h = ap (λ z. Made grammar.Stmt (name z ▸ node_tail (CallStmt y a ds) ▸ semicolon ▸ End)) (sym h)
+named_stmt (MethodCallStmt y d ds) x h = ap (λ z. Made grammar.Stmt (name z ▸ node_tail (MethodCallStmt y d ds) ▸ semicolon ▸ End)) (sym h)
 named_stmt _ x h = elim h [ ]
 
 pub named_item : (s : StmtTree) (x : Name) → IsNamed s x → Made grammar.Item (name x ▸ Made grammar.After_name (node_tail s ▸ End) ▸ semicolon ▸ End) ≡ as_item s (node_other s)
-named_item (Assigns y at e) x h = ap (λ z. Made grammar.Item (name z ▸ Made grammar.After_name (node_tail (Assigns y at e) ▸ End) ▸ semicolon ▸ End)) (sym h)
-named_item (Calls y a ds) x h = ap (λ z. Made grammar.Item (name z ▸ Made grammar.After_name (node_tail (Calls y a ds) ▸ End) ▸ semicolon ▸ End)) (sym h)
-named_item (CallsThrough y d ds) x h = ap (λ z. Made grammar.Item (name z ▸ Made grammar.After_name (node_tail (CallsThrough y d ds) ▸ End) ▸ semicolon ▸ End)) (sym h)
+named_item (AssignStmt y at e) x h = ap (λ z. Made grammar.Item (name z ▸ Made grammar.After_name (node_tail (AssignStmt y at e) ▸ End) ▸ semicolon ▸ End)) (sym h)
+named_item (CallStmt y a ds) x h = ap (λ z. Made grammar.Item (name z ▸ Made grammar.After_name (node_tail (CallStmt y a ds) ▸ End) ▸ semicolon ▸ End)) (sym h)
+named_item (MethodCallStmt y d ds) x h = ap (λ z. Made grammar.Item (name z ▸ Made grammar.After_name (node_tail (MethodCallStmt y d ds) ▸ End) ▸ semicolon ▸ End)) (sym h)
 named_item _ x h = elim h [ ]
 
 pub unnamed_stmt : (s : StmtTree) (n : Node) → IsUnnamed s → Made grammar.Stmt (n ▸ End) ≡ as_stmt s n
-unnamed_stmt (Assigns y at e) n h = elim h [ ]
-unnamed_stmt (Calls y a ds) n h = elim h [ ]
-unnamed_stmt (CallsThrough y d ds) n h = elim h [ ]
+unnamed_stmt (AssignStmt y at e) n h = elim h [ ]
+unnamed_stmt (CallStmt y a ds) n h = elim h [ ]
+unnamed_stmt (MethodCallStmt y d ds) n h = elim h [ ]
 unnamed_stmt _ n h = refl
 
 pub unnamed_item : (s : StmtTree) (n : Node) → IsUnnamed s → Made grammar.Item (n ▸ End) ≡ as_item s n
-unnamed_item (Assigns y at e) n h = elim h [ ]
-unnamed_item (Calls y a ds) n h = elim h [ ]
-unnamed_item (CallsThrough y d ds) n h = elim h [ ]
+unnamed_item (AssignStmt y at e) n h = elim h [ ]
+unnamed_item (CallStmt y a ds) n h = elim h [ ]
+unnamed_item (MethodCallStmt y d ds) n h = elim h [ ]
 unnamed_item _ n h = refl
 
-pub basic_begun : {all d : ℕ} {ks : List Kind} (k : BasicType) → next ks ≡ number_of (word_part (basic_word k)) → Onward all grammar.Item d ks (Terminal (number_of (word_part (basic_word k))) ∷ grammar.NAME ∷ grammar.ASSIGN ∷ grammar.Expr ∷ grammar.SEMICOLON ∷ []) (d + 1) ks (Made grammar.Item)
+pub basic_begun : {count d : ℕ} {ks : List Kind} (k : BasicType) → next ks ≡ number_of (keyword_symbol (basic_keyword k)) → Onward count grammar.Item d ks (Terminal (number_of (keyword_symbol (basic_keyword k))) ∷ grammar.NAME ∷ grammar.ASSIGN ∷ grammar.Expr ∷ grammar.SEMICOLON ∷ []) (d + 1) ks (Made grammar.Item)
 basic_begun basics.Int e = item_int (item_int_at _ e)
 basic_begun basics.Bool e = item_bool (item_bool_at _ e)
 basic_begun basics.String e = item_string (item_string_at _ e)
 
-pub basic_read : {all d at : ℕ} {ks rest : List Kind} (c : ℕ) (k : BasicType) → c ≡ number_of (word_part (basic_word k)) → Reads all (Terminal c) d ks rest (Leaf (sample c) at) → Reads all (Terminal (number_of (word_part (basic_word k)))) d ks rest (Leaf (kinds.Word (basic_word k)) at)
-basic_read {all} {d} {at} {ks} {rest} c k e r = subst (λ z. Reads all (Terminal (number_of (word_part (basic_word k)))) d ks rest (Leaf z at)) (bare_word (basic_word k)) (subst (λ z. Reads all (Terminal z) d ks rest (Leaf (sample z) at)) e r)
+pub basic_read : {count d at : ℕ} {ks rest : List Kind} (c : ℕ) (k : BasicType) → c ≡ number_of (keyword_symbol (basic_keyword k)) → Reads count (Terminal c) d ks rest (Leaf (sample c) at) → Reads count (Terminal (number_of (keyword_symbol (basic_keyword k)))) d ks rest (Leaf (kinds.Keyword (basic_keyword k)) at)
+basic_read {count} {d} {at} {ks} {rest} c k e r = subst (λ z. Reads count (Terminal (number_of (keyword_symbol (basic_keyword k)))) d ks rest (Leaf z at)) (bare_word (basic_keyword k)) (subst (λ z. Reads count (Terminal z) d ks rest (Leaf (sample z) at)) e r)
 
 item_size : (x : ItemTree) → 0 < size (node_item x)
-item_size (Declares (types.Basic k at) x q e) = omega arith
-item_size (Declares (types.Class c) x q e) = omega arith
-item_size (Does (Assigns x at e)) = omega arith
-item_size (Does (Calls x a ds)) = omega arith
-item_size (Does (CallsThrough x d ds)) = omega arith
-item_size (Does (Braces (MakeBlock is at))) = omega arith
-item_size (Does Nothing) = omega arith
-item_size (Does (IfThen at o e s)) = omega arith
-item_size (Does (IfElse at o e s u)) = omega arith
-item_size (Does (Repeats at o e s)) = omega arith
-item_size (Does (Returns at)) = omega arith
-item_size (Does (Gives at e)) = omega arith
-item_size (Does (CallsThis at d ds)) = omega arith
-item_size (Does (Makes at x a ds)) = omega arith
+item_size (LocalItem (types.Basic k at) x q e) = omega arith
+item_size (LocalItem (types.Class c) x q e) = omega arith
+item_size (StmtItem (AssignStmt x at e)) = omega arith
+item_size (StmtItem (CallStmt x a ds)) = omega arith
+item_size (StmtItem (MethodCallStmt x d ds)) = omega arith
+item_size (StmtItem (BlockStmt (MakeBlock is at))) = omega arith
+item_size (StmtItem EmptyStmt) = omega arith
+item_size (StmtItem (IfStmt at o e s)) = omega arith
+item_size (StmtItem (IfElseStmt at o e s u)) = omega arith
+item_size (StmtItem (WhileStmt at o e s)) = omega arith
+item_size (StmtItem (ReturnStmt at)) = omega arith
+item_size (StmtItem (ReturnValueStmt at e)) = omega arith
+item_size (StmtItem (ThisCallStmt at d ds)) = omega arith
+item_size (StmtItem (NewStmt at x a ds)) = omega arith
 
-pub shorter_item : {all d : ℕ} {q : Part} (x : ItemTree) (left rest : List Token) → Reads all q d (told left) (told rest) (node_item x) → length rest < length left
+pub shorter_item : {count d : ℕ} {q : Symbol} (x : ItemTree) (left rest : List Token) → Reads count q d (token_kinds left) (token_kinds rest) (node_item x) → length rest < length left
 shorter_item x left rest h = let a = measured h in let b = item_size x in let y = told_size left in let z = told_size rest in omega arith

@@ -1,76 +1,76 @@
 -- What each function of the parser promises.
 use Rattle.std.specs.Prelude.{◌≡◌, ℕ, ◌-◌, ◌≢◌, List, [], ◌∷◌, Option, Some, None}
 use Rattle.chord_parser.specs.declared.faults.Fault.TheVariants as faults
-use Rattle.chord_lexer.specs.declared.token.Mark.TheVariants as marks
+use Rattle.chord_lexer.specs.declared.token.Punctuator.TheVariants as punctuators
 use Rattle.chord_lexer.specs.declared.token.Kind.TheVariants as kinds
 use Rattle.chord_tree.specs.declared.exprs.Operator.{Operator}
 use Rattle.chord_tree.specs.declared.exprs.Operator.TheVariants as operators
 use Rattle.chord_tree.specs.Symbols as grammar
 use Rattle.chord_lexer.specs.declared.token.Kind.{Kind}
 use Rattle.chord_parser.specs.declared.faults.Fault.{Fault}
-use Rattle.chord_tree.specs.Part.{Part, number_of}
-use Rattle.chord_tree.specs.Classes.{class_of, mark_part}
+use Rattle.chord_tree.specs.Symbol.{Symbol, number_of}
+use Rattle.chord_tree.specs.Terminals.{terminal_of, punctuator_symbol}
 use Rattle.chord_tree.specs.Derivation.{next, Want}
-use Rattle.chord_parser.specs.Runs.{Verdict, Wrong, High, Runs, Reads}
+use Rattle.chord_parser.specs.Runs.{Verdict, Wrong, Tall, Runs, Reads}
 use Rattle.chord_tree.specs.Node.{Node, End, ◌▸◌, Made}
-use Rattle.chord_tree.specs.Tree.{ExprTree, LinkTree, MakeLink, DotTree, StmtTree, ItemTree, Assigns, Calls, CallsThrough}
+use Rattle.chord_tree.specs.Tree.{ExprTree, LinkTree, MakeLink, DotTree, StmtTree, ItemTree, AssignStmt, CallStmt, MethodCallStmt}
 use Rattle.chord_tree.specs.declared.names.Name.{Name}
-use Rattle.chord_tree.specs.Forms.{node_item}
-use Rattle.chord_tree.specs.Shape.{level, link_level, level_tail, mark, mark_of, rank, bare, lifted, node_dot}
+use Rattle.chord_tree.specs.StmtNodes.{node_item}
+use Rattle.chord_tree.specs.ExprNodes.{operator_level, link_level, level_tail, punctuator_leaf, punctuator_of, precedence, bare, lifted, node_dot}
 
 -- the classes whose tokens say more
-abbrev pub said : List ℕ
-said = number_of grammar.NAME ∷ number_of grammar.NUMBER ∷ number_of grammar.LITERAL ∷ []
+abbrev pub valued : List ℕ
+valued = number_of grammar.NAME ∷ number_of grammar.NUMBER ∷ number_of grammar.LITERAL ∷ []
 
 -- The first token is of class c, and then come those of rest.
 pub record Heads (c : ℕ) (ks rest : List Kind) (k : Kind) : Type 0 where
-  pub class : class_of k ≡ c
+  pub terminal : terminal_of k ≡ c
   pub same : ks ≡ k ∷ rest
 
 -- The reader stops there, whatever else is wanted.
-abbrev pub StopsAs : Part → ℕ → List Kind → Fault → Type 0
+abbrev pub StopsAs : Symbol → ℕ → List Kind → Fault → Type 0
 StopsAs p d ks faults.Memory = Unit {0}
 StopsAs p d ks (faults.At n) = (s : List Want) → Runs ((p, d) ∷ s) ks (Wrong n)
-StopsAs p d ks (faults.Tall n) = (s : List Want) → Runs ((p, d) ∷ s) ks (High n)
+StopsAs p d ks (faults.Tall n) = (s : List Want) → Runs ((p, d) ∷ s) ks (Tall n)
 
 -- Where mid is read as part q, all of ks is read as p, with g of its node.
-pub record Continues (all : ℕ) (p : Part) (d : ℕ) (ks : List Kind) (q : Part) (e : ℕ) (mid : List Kind) (g : Node → Node) : Type 0 where
-  pub reads : (rest : List Kind) (n : Node) → Reads all q e mid rest n → Reads all p d ks rest (g n)
+pub record Continues (count : ℕ) (p : Symbol) (d : ℕ) (ks : List Kind) (q : Symbol) (e : ℕ) (mid : List Kind) (g : Node → Node) : Type 0 where
+  pub reads : (rest : List Kind) (n : Node) → Reads count q e mid rest n → Reads count p d ks rest (g n)
   pub runs : (s : List Want) (v : Verdict) → Runs ((q, e) ∷ s) mid v → Runs ((p, d) ∷ s) ks v
 
 -- the operator that a kind of token is
 abbrev pub operator_at : Kind → Option Operator
-operator_at (kinds.Mark marks.Or) = Some operators.Or
-operator_at (kinds.Mark marks.And) = Some operators.And
-operator_at (kinds.Mark marks.Equal) = Some operators.Equal
-operator_at (kinds.Mark marks.NotEqual) = Some operators.NotEqual
-operator_at (kinds.Mark marks.Less) = Some operators.Less
-operator_at (kinds.Mark marks.Greater) = Some operators.Greater
-operator_at (kinds.Mark marks.LessOrEqual) = Some operators.LessOrEqual
-operator_at (kinds.Mark marks.GreaterOrEqual) = Some operators.GreaterOrEqual
-operator_at (kinds.Mark marks.Plus) = Some operators.Plus
-operator_at (kinds.Mark marks.Minus) = Some operators.Minus
-operator_at (kinds.Mark marks.Times) = Some operators.Times
-operator_at (kinds.Mark marks.Divide) = Some operators.Divide
-operator_at (kinds.Mark marks.Remainder) = Some operators.Remainder
+operator_at (kinds.Punctuator punctuators.Or) = Some operators.Or
+operator_at (kinds.Punctuator punctuators.And) = Some operators.And
+operator_at (kinds.Punctuator punctuators.Equal) = Some operators.Equal
+operator_at (kinds.Punctuator punctuators.NotEqual) = Some operators.NotEqual
+operator_at (kinds.Punctuator punctuators.Less) = Some operators.Less
+operator_at (kinds.Punctuator punctuators.Greater) = Some operators.Greater
+operator_at (kinds.Punctuator punctuators.LessOrEqual) = Some operators.LessOrEqual
+operator_at (kinds.Punctuator punctuators.GreaterOrEqual) = Some operators.GreaterOrEqual
+operator_at (kinds.Punctuator punctuators.Plus) = Some operators.Plus
+operator_at (kinds.Punctuator punctuators.Minus) = Some operators.Minus
+operator_at (kinds.Punctuator punctuators.Times) = Some operators.Times
+operator_at (kinds.Punctuator punctuators.Divide) = Some operators.Divide
+operator_at (kinds.Punctuator punctuators.Remainder) = Some operators.Remainder
 operator_at _ = None
 
 -- the class of an operator's token
-abbrev pub operator_class : Operator → ℕ
-operator_class operator = number_of (mark_part (mark_of operator))
+abbrev pub operator_terminal : Operator → ℕ
+operator_terminal operator = number_of (punctuator_symbol (punctuator_of operator))
 
 -- no operator of the level comes next
 abbrev pub IsOther : ℕ → List Kind → Type 0
-IsOther l ks = (o : Operator) → next ks ≡ operator_class o → level o ≢ l
+IsOther l ks = (o : Operator) → next ks ≡ operator_terminal o → operator_level o ≢ l
 
 -- the first link is of the level
-abbrev pub IsLed : ℕ → List LinkTree → Type 0
-IsLed l [] = Unit {0}
-IsLed l (x ∷ xs) = link_level x ≡ l
+abbrev pub IsAtLevel : ℕ → List LinkTree → Type 0
+IsAtLevel l [] = Unit {0}
+IsAtLevel l (x ∷ xs) = link_level x ≡ l
 
 -- one link before another node
 abbrev pub one_link : ℕ → LinkTree → Node → Node
-one_link l (MakeLink o at t) n = Made (level_tail l) (mark (mark_of o) at ▸ lifted (l - 1) (rank t) (bare t) ▸ n ▸ End)
+one_link l (MakeLink o at t) n = Made (level_tail l) (punctuator_leaf (punctuator_of o) at ▸ lifted (l - 1) (precedence t) (bare t) ▸ n ▸ End)
 
 -- links before another node
 abbrev pub before_links : ℕ → List LinkTree → Node → Node
@@ -85,25 +85,25 @@ before_dots (x ∷ xs) n = Made grammar.Dots (node_dot x ▸ before_dots xs n �
 -- further arguments, a comma before each, and then another node
 abbrev pub before_more : List ExprTree → Node → Node
 before_more [] n = n
-before_more (x ∷ xs) n = Made grammar.More_exprs (mark marks.Comma 0 ▸ lifted 6 (rank x) (bare x) ▸ before_more xs n ▸ End)
+before_more (x ∷ xs) n = Made grammar.More_exprs (punctuator_leaf punctuators.Comma 0 ▸ lifted 6 (precedence x) (bare x) ▸ before_more xs n ▸ End)
 
 -- arguments before another node: the first, and the further ones
 abbrev pub before_opt : List ExprTree → Node → Node
 before_opt [] n = n
-before_opt (x ∷ xs) n = Made grammar.Optional_exprs (lifted 6 (rank x) (bare x) ▸ before_more xs n ▸ End)
+before_opt (x ∷ xs) n = Made grammar.Optional_exprs (lifted 6 (precedence x) (bare x) ▸ before_more xs n ▸ End)
 
 -- the statement begins with the name
 abbrev pub IsNamed : StmtTree → Name → Type 0
-IsNamed (Assigns x assign value) y = x ≡ y
-IsNamed (Calls x actuals calls) y = x ≡ y
-IsNamed (CallsThrough x first calls) y = x ≡ y
+IsNamed (AssignStmt x assign value) y = x ≡ y
+IsNamed (CallStmt x actuals calls) y = x ≡ y
+IsNamed (MethodCallStmt x first calls) y = x ≡ y
 IsNamed _ y = ⊥
 
 -- no name begins the statement
 abbrev pub IsUnnamed : StmtTree → Type 0
-IsUnnamed (Assigns x assign value) = ⊥
-IsUnnamed (Calls x actuals calls) = ⊥
-IsUnnamed (CallsThrough x first calls) = ⊥
+IsUnnamed (AssignStmt x assign value) = ⊥
+IsUnnamed (CallStmt x actuals calls) = ⊥
+IsUnnamed (MethodCallStmt x first calls) = ⊥
 IsUnnamed _ = Unit {0}
 
 -- items before another node

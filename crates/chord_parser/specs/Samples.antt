@@ -1,64 +1,64 @@
--- A kind of token of each class. Made by tools/grammar.py.
+-- A kind of token of each terminal. Made by tools/grammar.py.
 use Rattle.std.specs.Prelude.{ℕ, List, [], ◌∷◌, get_or}
 use Rattle.chord_lexer.specs.declared.token.Kind.{Kind}
 use Rattle.chord_lexer.specs.declared.token.Kind.TheVariants as kinds
-use Rattle.chord_lexer.specs.declared.token.Keyword.TheVariants as words
-use Rattle.chord_lexer.specs.declared.token.Mark.TheVariants as marks
+use Rattle.chord_lexer.specs.declared.token.Keyword.TheVariants as keywords
+use Rattle.chord_lexer.specs.declared.token.Punctuator.TheVariants as punctuators
 
 abbrev pub samples : List Kind
 samples =
-    kinds.Word words.Using ∷
+    kinds.Keyword keywords.Using ∷
     kinds.Name [] ∷
-    kinds.Mark marks.Semicolon ∷
-    kinds.Mark marks.Dot ∷
-    kinds.Word words.Class ∷
-    kinds.Mark marks.OpenBrace ∷
-    kinds.Mark marks.CloseBrace ∷
-    kinds.Word words.Public ∷
-    kinds.Mark marks.Colon ∷
-    kinds.Word words.Private ∷
-    kinds.Word words.Protected ∷
-    kinds.Word words.Virtual ∷
-    kinds.Word words.Override ∷
-    kinds.Word words.Static ∷
-    kinds.Mark marks.Ampersand ∷
-    kinds.Word words.Async ∷
-    kinds.Word words.Void ∷
-    kinds.Word words.Int ∷
-    kinds.Word words.Bool ∷
-    kinds.Word words.String ∷
-    kinds.Mark marks.OpenParenthesis ∷
-    kinds.Mark marks.CloseParenthesis ∷
-    kinds.Mark marks.Comma ∷
-    kinds.Mark marks.Assign ∷
-    kinds.Word words.If ∷
-    kinds.Word words.While ∷
-    kinds.Word words.Return ∷
-    kinds.Word words.This ∷
-    kinds.Word words.New ∷
-    kinds.Word words.Else ∷
-    kinds.Mark marks.Or ∷
-    kinds.Mark marks.And ∷
-    kinds.Mark marks.Equal ∷
-    kinds.Mark marks.NotEqual ∷
-    kinds.Mark marks.Less ∷
-    kinds.Mark marks.Greater ∷
-    kinds.Mark marks.LessOrEqual ∷
-    kinds.Mark marks.GreaterOrEqual ∷
-    kinds.Mark marks.Plus ∷
-    kinds.Mark marks.Minus ∷
-    kinds.Mark marks.Times ∷
-    kinds.Mark marks.Divide ∷
-    kinds.Mark marks.Remainder ∷
-    kinds.Mark marks.Not ∷
+    kinds.Punctuator punctuators.Semicolon ∷
+    kinds.Punctuator punctuators.Dot ∷
+    kinds.Keyword keywords.Class ∷
+    kinds.Punctuator punctuators.OpenBrace ∷
+    kinds.Punctuator punctuators.CloseBrace ∷
+    kinds.Keyword keywords.Public ∷
+    kinds.Punctuator punctuators.Colon ∷
+    kinds.Keyword keywords.Private ∷
+    kinds.Keyword keywords.Protected ∷
+    kinds.Keyword keywords.Virtual ∷
+    kinds.Keyword keywords.Override ∷
+    kinds.Keyword keywords.Static ∷
+    kinds.Punctuator punctuators.Ampersand ∷
+    kinds.Keyword keywords.Async ∷
+    kinds.Keyword keywords.Void ∷
+    kinds.Keyword keywords.Int ∷
+    kinds.Keyword keywords.Bool ∷
+    kinds.Keyword keywords.String ∷
+    kinds.Punctuator punctuators.OpenParenthesis ∷
+    kinds.Punctuator punctuators.CloseParenthesis ∷
+    kinds.Punctuator punctuators.Comma ∷
+    kinds.Punctuator punctuators.Assign ∷
+    kinds.Keyword keywords.If ∷
+    kinds.Keyword keywords.While ∷
+    kinds.Keyword keywords.Return ∷
+    kinds.Keyword keywords.This ∷
+    kinds.Keyword keywords.New ∷
+    kinds.Keyword keywords.Else ∷
+    kinds.Punctuator punctuators.Or ∷
+    kinds.Punctuator punctuators.And ∷
+    kinds.Punctuator punctuators.Equal ∷
+    kinds.Punctuator punctuators.NotEqual ∷
+    kinds.Punctuator punctuators.Less ∷
+    kinds.Punctuator punctuators.Greater ∷
+    kinds.Punctuator punctuators.LessOrEqual ∷
+    kinds.Punctuator punctuators.GreaterOrEqual ∷
+    kinds.Punctuator punctuators.Plus ∷
+    kinds.Punctuator punctuators.Minus ∷
+    kinds.Punctuator punctuators.Times ∷
+    kinds.Punctuator punctuators.Divide ∷
+    kinds.Punctuator punctuators.Remainder ∷
+    kinds.Punctuator punctuators.Not ∷
     kinds.Number 0 ∷
     kinds.Literal [] ∷
-    kinds.Word words.True ∷
-    kinds.Word words.False ∷
-    kinds.Word words.Do ∷
-    kinds.Word words.Unused ∷
-    kinds.Mark marks.Increment ∷
-    kinds.Mark marks.Decrement ∷
+    kinds.Keyword keywords.True ∷
+    kinds.Keyword keywords.False ∷
+    kinds.Keyword keywords.Do ∷
+    kinds.Keyword keywords.Unused ∷
+    kinds.Punctuator punctuators.Increment ∷
+    kinds.Punctuator punctuators.Decrement ∷
     []
 
 abbrev pub sample : ℕ → Kind

@@ -3,16 +3,16 @@
 
 ghost use Rattle.std.specs.Prelude.{◌≡◌, ◌≢◌, ◌∷◌, [], length, map, IfOk, IfErr, Option};
 ghost use Rattle.chord_tree.specs.Derivation.{next};
-ghost use Rattle.chord_tree.specs.Members.{node_modifiers, node_type, node_formal, node_formal_list, node_formals, node_result, node_header, node_headers, node_member, node_members, node_public, node_base, node_class, node_classes, node_name_parts, node_using, node_usings, node_all_classes};
-ghost use Rattle.chord_tree.specs.Part.{number_of};
-ghost use Rattle.chord_tree.specs.Program.{told};
+ghost use Rattle.chord_tree.specs.ClassNodes.{node_modifiers, node_type, node_formal, node_formal_list, node_formals, node_result, node_header, node_headers, node_member, node_members, node_public, node_base, node_class, node_classes, node_name_parts, node_using, node_usings, node_all_classes};
+ghost use Rattle.chord_tree.specs.Symbol.{number_of};
+ghost use Rattle.chord_tree.specs.Program.{token_kinds};
 ghost use Rattle.chord_tree.specs.Symbols as grammar;
 ghost use Rattle.chord_tree.specs.View.{see_formals, see_header, see_member, see_class, see_using};
 ghost use Rattle.chord_parser.specs.Reading.{StopsAs};
 ghost use Rattle.chord_parser.specs.Lists.{node_rest_of, IsHeaded, headers_after, classes_after, IsFirst};
 ghost use Rattle.chord_parser.specs.Runs.{Reads};
 
-use crate::class;
+use crate::terminal;
 use crate::faults::Fault;
 use crate::stmts::block;
 use crate::tokens::{name_of, next, skip, take};
@@ -26,29 +26,29 @@ use std::alloc::Global;
 
 fn modifiers_of(
     alloc: Global,
-    all: u32,
+    count: u32,
     tokens: &[Token],
 ) -> Result<(Vec<Modifier>, &[Token]), Fault>
-    ensures ok { IfOk result (λ r. Reads all grammar.Modifiers 0 (told tokens.now) (told r.1.now) (node_modifiers r.0.items)) }
-    ensures err { IfErr result (λ fault. StopsAs grammar.Modifiers 0 (told tokens.now) fault) }
+    ensures ok { IfOk result (λ r. Reads count grammar.Modifiers 0 (token_kinds tokens.now) (token_kinds r.1.now) (node_modifiers r.0.items)) }
+    ensures err { IfErr result (λ fault. StopsAs grammar.Modifiers 0 (token_kinds tokens.now) fault) }
 {
     let mut list = Vec::new(alloc);
     let mut left = tokens;
     'each: while let Some(word) = modifier_next(left) {
-        let (one, rest) = modifier(all, left, word)?;
+        let (one, rest) = modifier(count, left, word)?;
         list.push(one)?;
         left = rest;
     }
     Ok((list, left))
 }
 
-fn value_type(alloc: Global, all: u32, tokens: &[Token]) -> Result<(ValueType, &[Token]), Fault>
-    ensures ok { IfOk result (λ r. Reads all grammar.Value_type 0 (told tokens.now) (told r.1.now) (node_type r.0)) }
-    ensures err { IfErr result (λ fault. StopsAs grammar.Value_type 0 (told tokens.now) fault) }
+fn value_type(alloc: Global, count: u32, tokens: &[Token]) -> Result<(ValueType, &[Token]), Fault>
+    ensures ok { IfOk result (λ r. Reads count grammar.Value_type 0 (token_kinds tokens.now) (token_kinds r.1.now) (node_type r.0)) }
+    ensures err { IfErr result (λ fault. StopsAs grammar.Value_type 0 (token_kinds tokens.now) fault) }
 {
-    let c = next(tokens);
-    if c == class::INT {
-        let (at, rest) = take(all, tokens, class::INT, 0)?;
+    let ahead = next(tokens);
+    if ahead == terminal::INT {
+        let (at, rest) = take(count, tokens, terminal::INT, 0)?;
         return Ok((
             ValueType::Basic {
                 basic: BasicType::Int,
@@ -57,8 +57,8 @@ fn value_type(alloc: Global, all: u32, tokens: &[Token]) -> Result<(ValueType, &
             rest,
         ));
     }
-    if c == class::BOOL {
-        let (at, rest) = take(all, tokens, class::BOOL, 0)?;
+    if ahead == terminal::BOOL {
+        let (at, rest) = take(count, tokens, terminal::BOOL, 0)?;
         return Ok((
             ValueType::Basic {
                 basic: BasicType::Bool,
@@ -67,8 +67,8 @@ fn value_type(alloc: Global, all: u32, tokens: &[Token]) -> Result<(ValueType, &
             rest,
         ));
     }
-    if c == class::STRING {
-        let (at, rest) = take(all, tokens, class::STRING, 0)?;
+    if ahead == terminal::STRING {
+        let (at, rest) = take(count, tokens, terminal::STRING, 0)?;
         return Ok((
             ValueType::Basic {
                 basic: BasicType::String,
@@ -77,19 +77,19 @@ fn value_type(alloc: Global, all: u32, tokens: &[Token]) -> Result<(ValueType, &
             rest,
         ));
     }
-    if c == class::NAME {
-        let (name, rest) = name_of(alloc, all, tokens, 0)?;
+    if ahead == terminal::NAME {
+        let (name, rest) = name_of(alloc, count, tokens, 0)?;
         return Ok((ValueType::Class(name), rest));
     }
     Err(Fault::At(tokens.len()))
 }
 
-fn formal(alloc: Global, all: u32, tokens: &[Token]) -> Result<(Formal, &[Token]), Fault>
-    ensures ok { IfOk result (λ r. Reads all grammar.Formal 0 (told tokens.now) (told r.1.now) (node_formal r.0)) }
-    ensures err { IfErr result (λ fault. StopsAs grammar.Formal 0 (told tokens.now) fault) }
+fn formal(alloc: Global, count: u32, tokens: &[Token]) -> Result<(Formal, &[Token]), Fault>
+    ensures ok { IfOk result (λ r. Reads count grammar.Formal 0 (token_kinds tokens.now) (token_kinds r.1.now) (node_formal r.0)) }
+    ensures err { IfErr result (λ fault. StopsAs grammar.Formal 0 (token_kinds tokens.now) fault) }
 {
-    let (kind, rest) = value_type(alloc, all, tokens)?;
-    let (name, rest) = name_of(alloc, all, rest, 0)?;
+    let (kind, rest) = value_type(alloc, count, tokens)?;
+    let (name, rest) = name_of(alloc, count, rest, 0)?;
     Ok((
         Formal {
             value_type: kind,
@@ -101,60 +101,60 @@ fn formal(alloc: Global, all: u32, tokens: &[Token]) -> Result<(Formal, &[Token]
 
 fn formals_inside(
     alloc: Global,
-    all: u32,
+    count: u32,
     tokens: &[Token],
 ) -> Result<(Vec<Formal>, &[Token]), Fault>
-    ensures ok { IfOk result (λ r. Reads all grammar.Optional_formals 0 (told tokens.now) (told r.1.now) (node_formal_list r.0.items)) }
-    ensures err { IfErr result (λ fault. StopsAs grammar.Optional_formals 0 (told tokens.now) fault) }
+    ensures ok { IfOk result (λ r. Reads count grammar.Optional_formals 0 (token_kinds tokens.now) (token_kinds r.1.now) (node_formal_list r.0.items)) }
+    ensures err { IfErr result (λ fault. StopsAs grammar.Optional_formals 0 (token_kinds tokens.now) fault) }
 {
     let mut list = Vec::new(alloc);
-    if next(tokens) == class::CLOSE {
+    if next(tokens) == terminal::CLOSE {
         return Ok((list, tokens));
     }
-    let (first, mut left) = formal(alloc, all, tokens)?;
+    let (first, mut left) = formal(alloc, count, tokens)?;
     list.push(first)?;
-    'each: while next(left) == class::COMMA {
-        let rest = skip(all, left, class::COMMA, 0)?;
-        let (one, rest) = formal(alloc, all, rest)?;
+    'each: while next(left) == terminal::COMMA {
+        let rest = skip(count, left, terminal::COMMA, 0)?;
+        let (one, rest) = formal(alloc, count, rest)?;
         list.push(one)?;
         left = rest;
     }
     Ok((list, left))
 }
 
-fn formals(alloc: Global, all: u32, tokens: &[Token]) -> Result<(Formals, &[Token]), Fault>
-    ensures ok { IfOk result (λ r. Reads all grammar.Formals 0 (told tokens.now) (told r.1.now) (node_formals (see_formals r.0))) }
-    ensures err { IfErr result (λ fault. StopsAs grammar.Formals 0 (told tokens.now) fault) }
+fn formals(alloc: Global, count: u32, tokens: &[Token]) -> Result<(Formals, &[Token]), Fault>
+    ensures ok { IfOk result (λ r. Reads count grammar.Formals 0 (token_kinds tokens.now) (token_kinds r.1.now) (node_formals (see_formals r.0))) }
+    ensures err { IfErr result (λ fault. StopsAs grammar.Formals 0 (token_kinds tokens.now) fault) }
 {
-    let (at, rest) = take(all, tokens, class::OPEN, 0)?;
-    let (list, rest) = formals_inside(alloc, all, rest)?;
-    let rest = skip(all, rest, class::CLOSE, 0)?;
-    Ok((Formals { at, all: list }, rest))
+    let (at, rest) = take(count, tokens, terminal::OPEN, 0)?;
+    let (list, rest) = formals_inside(alloc, count, rest)?;
+    let rest = skip(count, rest, terminal::CLOSE, 0)?;
+    Ok((Formals { at, parameters: list }, rest))
 }
 
-fn result_type(alloc: Global, all: u32, tokens: &[Token]) -> Result<(ReturnType, &[Token]), Fault>
-    ensures ok { IfOk result (λ r. Reads all grammar.Result 0 (told tokens.now) (told r.1.now) (node_result r.0)) }
-    ensures err { IfErr result (λ fault. StopsAs grammar.Result 0 (told tokens.now) fault) }
+fn result_type(alloc: Global, count: u32, tokens: &[Token]) -> Result<(ReturnType, &[Token]), Fault>
+    ensures ok { IfOk result (λ r. Reads count grammar.Result 0 (token_kinds tokens.now) (token_kinds r.1.now) (node_result r.0)) }
+    ensures err { IfErr result (λ fault. StopsAs grammar.Result 0 (token_kinds tokens.now) fault) }
 {
-    if next(tokens) == class::NAME {
-        let (name, rest) = name_of(alloc, all, tokens, 0)?;
+    if next(tokens) == terminal::NAME {
+        let (name, rest) = name_of(alloc, count, tokens, 0)?;
         return Ok((ReturnType::Value(ValueType::Class(name)), rest));
     }
     let Some(word) = plain_next(tokens) else {
         return Err(Fault::At(tokens.len()));
     };
-    let (kind, rest) = plain(all, tokens, word)?;
+    let (kind, rest) = plain(count, tokens, word)?;
     Ok((kind, rest))
 }
 
-fn header(alloc: Global, all: u32, tokens: &[Token]) -> Result<(Header, &[Token]), Fault>
-    ensures ok { IfOk result (λ r. Reads all grammar.Header 0 (told tokens.now) (told r.1.now) (node_header (see_header r.0))) }
-    ensures err { IfErr result (λ fault. StopsAs grammar.Header 0 (told tokens.now) fault) }
+fn header(alloc: Global, count: u32, tokens: &[Token]) -> Result<(Header, &[Token]), Fault>
+    ensures ok { IfOk result (λ r. Reads count grammar.Header 0 (token_kinds tokens.now) (token_kinds r.1.now) (node_header (see_header r.0))) }
+    ensures err { IfErr result (λ fault. StopsAs grammar.Header 0 (token_kinds tokens.now) fault) }
 {
-    let (modifiers, rest) = modifiers_of(alloc, all, tokens)?;
-    let (kind, rest) = result_type(alloc, all, rest)?;
-    let (name, rest) = name_of(alloc, all, rest, 0)?;
-    let (list, rest) = formals(alloc, all, rest)?;
+    let (modifiers, rest) = modifiers_of(alloc, count, tokens)?;
+    let (kind, rest) = result_type(alloc, count, rest)?;
+    let (name, rest) = name_of(alloc, count, rest, 0)?;
+    let (list, rest) = formals(alloc, count, rest)?;
     Ok((
         Header {
             modifiers,
@@ -169,20 +169,20 @@ fn header(alloc: Global, all: u32, tokens: &[Token]) -> Result<(Header, &[Token]
 /// The headers after the first, which is put before them.
 fn headers_of(
     alloc: Global,
-    all: u32,
+    count: u32,
     tokens: &[Token],
     first: Header,
 ) -> Result<(Vec<Header>, &[Token]), Fault>
-    ensures ok { IfOk result (λ r. Reads all grammar.Headers 0 (told tokens.now) (told r.1.now) (headers_after (map see_header r.0.items))) }
-    ensures err { IfErr result (λ fault. StopsAs grammar.Headers 0 (told tokens.now) fault) }
+    ensures ok { IfOk result (λ r. Reads count grammar.Headers 0 (token_kinds tokens.now) (token_kinds r.1.now) (headers_after (map see_header r.0.items))) }
+    ensures err { IfErr result (λ fault. StopsAs grammar.Headers 0 (token_kinds tokens.now) fault) }
     ensures first { IfOk result (λ r. IsFirst (see_header first) (map see_header r.0.items)) }
 {
     let mut list = Vec::new(alloc);
     list.push(first)?;
     let mut left = tokens;
-    'each: while next(left) == class::AMPERSAND {
-        let rest = skip(all, left, class::AMPERSAND, 0)?;
-        let (one, rest) = header(alloc, all, rest)?;
+    'each: while next(left) == terminal::AMPERSAND {
+        let rest = skip(count, left, terminal::AMPERSAND, 0)?;
+        let (one, rest) = header(alloc, count, rest)?;
         list.push(one)?;
         left = rest;
     }
@@ -192,20 +192,20 @@ fn headers_of(
 /// What follows the modifiers of a member and a name.
 fn after_name(
     alloc: Global,
-    all: u32,
+    count: u32,
     tokens: &[Token],
     modifiers: Vec<Modifier>,
 ) -> Result<(Member, &[Token]), Fault>
-    requires first { next (told tokens.now) ≡ number_of grammar.NAME }
-    ensures ok { IfOk result (λ r. Reads all grammar.Rest 0 (told tokens.now) (told r.1.now) (node_rest_of (see_member r.0))) }
-    ensures err { IfErr result (λ fault. StopsAs grammar.Rest 0 (told tokens.now) fault) }
+    requires first { next (token_kinds tokens.now) ≡ number_of grammar.NAME }
+    ensures ok { IfOk result (λ r. Reads count grammar.Rest 0 (token_kinds tokens.now) (token_kinds r.1.now) (node_rest_of (see_member r.0))) }
+    ensures err { IfErr result (λ fault. StopsAs grammar.Rest 0 (token_kinds tokens.now) fault) }
     ensures headed { IfOk result (λ r. IsHeaded (see_member r.0) modifiers.items) }
 {
-    let (first, rest) = name_of(alloc, all, tokens, 0)?;
-    let c = next(rest);
-    if c == class::OPEN {
-        let (list, rest) = formals(alloc, all, rest)?;
-        let (body, rest) = block(alloc, all, rest, 0)?;
+    let (first, rest) = name_of(alloc, count, tokens, 0)?;
+    let ahead = next(rest);
+    if ahead == terminal::OPEN {
+        let (list, rest) = formals(alloc, count, rest)?;
+        let (body, rest) = block(alloc, count, rest, 0)?;
         return Ok((
             Member::Constructor {
                 modifiers,
@@ -216,17 +216,17 @@ fn after_name(
             rest,
         ));
     }
-    if c == class::NAME {
-        let (name, rest) = name_of(alloc, all, rest, 0)?;
-        let (list, rest) = formals(alloc, all, rest)?;
+    if ahead == terminal::NAME {
+        let (name, rest) = name_of(alloc, count, rest, 0)?;
+        let (list, rest) = formals(alloc, count, rest)?;
         let one = Header {
             modifiers,
             result_type: ReturnType::Value(ValueType::Class(first)),
             name,
             formals: list,
         };
-        let (headers, rest) = headers_of(alloc, all, rest, one)?;
-        let (body, rest) = block(alloc, all, rest, 0)?;
+        let (headers, rest) = headers_of(alloc, count, rest, one)?;
+        let (body, rest) = block(alloc, count, rest, 0)?;
         return Ok((Member::Chord { headers, body }, rest));
     }
     Err(Fault::At(rest.len()))
@@ -235,91 +235,91 @@ fn after_name(
 /// What follows the modifiers of a member.
 fn rest_of(
     alloc: Global,
-    all: u32,
+    count: u32,
     tokens: &[Token],
     modifiers: Vec<Modifier>,
 ) -> Result<(Member, &[Token]), Fault>
-    ensures ok { IfOk result (λ r. Reads all grammar.Rest 0 (told tokens.now) (told r.1.now) (node_rest_of (see_member r.0))) }
-    ensures err { IfErr result (λ fault. StopsAs grammar.Rest 0 (told tokens.now) fault) }
+    ensures ok { IfOk result (λ r. Reads count grammar.Rest 0 (token_kinds tokens.now) (token_kinds r.1.now) (node_rest_of (see_member r.0))) }
+    ensures err { IfErr result (λ fault. StopsAs grammar.Rest 0 (token_kinds tokens.now) fault) }
     ensures headed { IfOk result (λ r. IsHeaded (see_member r.0) modifiers.items) }
 {
-    if next(tokens) == class::NAME {
-        return after_name(alloc, all, tokens, modifiers);
+    if next(tokens) == terminal::NAME {
+        return after_name(alloc, count, tokens, modifiers);
     }
     let Some(word) = plain_next(tokens) else {
         return Err(Fault::At(tokens.len()));
     };
-    let (kind, rest) = plain(all, tokens, word)?;
-    let (name, rest) = name_of(alloc, all, rest, 0)?;
-    let (list, rest) = formals(alloc, all, rest)?;
+    let (kind, rest) = plain(count, tokens, word)?;
+    let (name, rest) = name_of(alloc, count, rest, 0)?;
+    let (list, rest) = formals(alloc, count, rest)?;
     let one = Header {
         modifiers,
         result_type: kind,
         name,
         formals: list,
     };
-    let (headers, rest) = headers_of(alloc, all, rest, one)?;
-    let (body, rest) = block(alloc, all, rest, 0)?;
+    let (headers, rest) = headers_of(alloc, count, rest, one)?;
+    let (body, rest) = block(alloc, count, rest, 0)?;
     Ok((Member::Chord { headers, body }, rest))
 }
 
-fn member(alloc: Global, all: u32, tokens: &[Token]) -> Result<(Member, &[Token]), Fault>
-    ensures ok { IfOk result (λ r. Reads all grammar.Member 0 (told tokens.now) (told r.1.now) (node_member (see_member r.0))) }
-    ensures err { IfErr result (λ fault. StopsAs grammar.Member 0 (told tokens.now) fault) }
+fn member(alloc: Global, count: u32, tokens: &[Token]) -> Result<(Member, &[Token]), Fault>
+    ensures ok { IfOk result (λ r. Reads count grammar.Member 0 (token_kinds tokens.now) (token_kinds r.1.now) (node_member (see_member r.0))) }
+    ensures err { IfErr result (λ fault. StopsAs grammar.Member 0 (token_kinds tokens.now) fault) }
 {
-    let (modifiers, rest) = modifiers_of(alloc, all, tokens)?;
-    let (one, rest) = rest_of(alloc, all, rest, modifiers)?;
+    let (modifiers, rest) = modifiers_of(alloc, count, tokens)?;
+    let (one, rest) = rest_of(alloc, count, rest, modifiers)?;
     Ok((one, rest))
 }
 
-fn members_of(alloc: Global, all: u32, tokens: &[Token]) -> Result<(Vec<Member>, &[Token]), Fault>
-    ensures ok { IfOk result (λ r. Reads all grammar.Members 0 (told tokens.now) (told r.1.now) (node_members (map see_member r.0.items))) }
-    ensures err { IfErr result (λ fault. StopsAs grammar.Members 0 (told tokens.now) fault) }
+fn members_of(alloc: Global, count: u32, tokens: &[Token]) -> Result<(Vec<Member>, &[Token]), Fault>
+    ensures ok { IfOk result (λ r. Reads count grammar.Members 0 (token_kinds tokens.now) (token_kinds r.1.now) (node_members (map see_member r.0.items))) }
+    ensures err { IfErr result (λ fault. StopsAs grammar.Members 0 (token_kinds tokens.now) fault) }
 {
     let mut list = Vec::new(alloc);
     let mut left = tokens;
-    'each: while next(left) != class::CLOSE_BRACE {
-        let (one, rest) = member(alloc, all, left)?;
+    'each: while next(left) != terminal::CLOSE_BRACE {
+        let (one, rest) = member(alloc, count, left)?;
         list.push(one)?;
         left = rest;
     }
     Ok((list, left))
 }
 
-fn public_of(all: u32, tokens: &[Token]) -> Result<(Option<u32>, &[Token]), Fault>
-    ensures ok { IfOk result (λ r. Reads all grammar.Optional_public 0 (told tokens.now) (told r.1.now) (node_public r.0)) }
-    ensures err { IfErr result (λ fault. StopsAs grammar.Optional_public 0 (told tokens.now) fault) }
+fn public_of(count: u32, tokens: &[Token]) -> Result<(Option<u32>, &[Token]), Fault>
+    ensures ok { IfOk result (λ r. Reads count grammar.Optional_public 0 (token_kinds tokens.now) (token_kinds r.1.now) (node_public r.0)) }
+    ensures err { IfErr result (λ fault. StopsAs grammar.Optional_public 0 (token_kinds tokens.now) fault) }
 {
-    if next(tokens) == class::PUBLIC {
-        let (at, rest) = take(all, tokens, class::PUBLIC, 0)?;
+    if next(tokens) == terminal::PUBLIC {
+        let (at, rest) = take(count, tokens, terminal::PUBLIC, 0)?;
         return Ok((Some(at), rest));
     }
     Ok((None, tokens))
 }
 
-fn base_of(alloc: Global, all: u32, tokens: &[Token]) -> Result<(Option<Name>, &[Token]), Fault>
-    ensures ok { IfOk result (λ r. Reads all grammar.Optional_base 0 (told tokens.now) (told r.1.now) (node_base r.0)) }
-    ensures err { IfErr result (λ fault. StopsAs grammar.Optional_base 0 (told tokens.now) fault) }
+fn base_of(alloc: Global, count: u32, tokens: &[Token]) -> Result<(Option<Name>, &[Token]), Fault>
+    ensures ok { IfOk result (λ r. Reads count grammar.Optional_base 0 (token_kinds tokens.now) (token_kinds r.1.now) (node_base r.0)) }
+    ensures err { IfErr result (λ fault. StopsAs grammar.Optional_base 0 (token_kinds tokens.now) fault) }
 {
-    if next(tokens) == class::COLON {
-        let rest = skip(all, tokens, class::COLON, 0)?;
-        let (name, rest) = name_of(alloc, all, rest, 0)?;
+    if next(tokens) == terminal::COLON {
+        let rest = skip(count, tokens, terminal::COLON, 0)?;
+        let (name, rest) = name_of(alloc, count, rest, 0)?;
         return Ok((Some(name), rest));
     }
     Ok((None, tokens))
 }
 
-fn class_of(alloc: Global, all: u32, tokens: &[Token]) -> Result<(Class, &[Token]), Fault>
-    ensures ok { IfOk result (λ r. Reads all grammar.Class 0 (told tokens.now) (told r.1.now) (node_class (see_class r.0))) }
-    ensures err { IfErr result (λ fault. StopsAs grammar.Class 0 (told tokens.now) fault) }
+fn class_of(alloc: Global, count: u32, tokens: &[Token]) -> Result<(Class, &[Token]), Fault>
+    ensures ok { IfOk result (λ r. Reads count grammar.Class 0 (token_kinds tokens.now) (token_kinds r.1.now) (node_class (see_class r.0))) }
+    ensures err { IfErr result (λ fault. StopsAs grammar.Class 0 (token_kinds tokens.now) fault) }
 {
-    let (public, rest) = public_of(all, tokens)?;
-    let rest = skip(all, rest, class::CLASS, 0)?;
-    let (name, rest) = name_of(alloc, all, rest, 0)?;
-    let (base, rest) = base_of(alloc, all, rest)?;
-    let rest = skip(all, rest, class::OPEN_BRACE, 0)?;
-    let (members, rest) = members_of(alloc, all, rest)?;
-    let (end, rest) = take(all, rest, class::CLOSE_BRACE, 0)?;
+    let (public, rest) = public_of(count, tokens)?;
+    let rest = skip(count, rest, terminal::CLASS, 0)?;
+    let (name, rest) = name_of(alloc, count, rest, 0)?;
+    let (base, rest) = base_of(alloc, count, rest)?;
+    let rest = skip(count, rest, terminal::OPEN_BRACE, 0)?;
+    let (members, rest) = members_of(alloc, count, rest)?;
+    let (end, rest) = take(count, rest, terminal::CLOSE_BRACE, 0)?;
     Ok((
         Class {
             public,
@@ -335,60 +335,60 @@ fn class_of(alloc: Global, all: u32, tokens: &[Token]) -> Result<(Class, &[Token
 /// The classes after the first, which is put before them: all tokens are read.
 fn classes_of(
     alloc: Global,
-    all: u32,
+    count: u32,
     tokens: &[Token],
     first: Class,
 ) -> Result<(Vec<Class>, &[Token]), Fault>
-    ensures ok { IfOk result (λ r. Reads all grammar.Classes 0 (told tokens.now) (told r.1.now) (classes_after (map see_class r.0.items))) }
-    ensures err { IfErr result (λ fault. StopsAs grammar.Classes 0 (told tokens.now) fault) }
+    ensures ok { IfOk result (λ r. Reads count grammar.Classes 0 (token_kinds tokens.now) (token_kinds r.1.now) (classes_after (map see_class r.0.items))) }
+    ensures err { IfErr result (λ fault. StopsAs grammar.Classes 0 (token_kinds tokens.now) fault) }
     ensures first { IfOk result (λ r. IsFirst (see_class first) (map see_class r.0.items)) }
-    ensures end { IfOk result (λ r. told r.1.now ≡ []) }
+    ensures end { IfOk result (λ r. token_kinds r.1.now ≡ []) }
 {
     let mut list = Vec::new(alloc);
     list.push(first)?;
     let mut left = tokens;
-    'each: while next(left) != class::END {
-        let (one, rest) = class_of(alloc, all, left)?;
+    'each: while next(left) != terminal::END {
+        let (one, rest) = class_of(alloc, count, left)?;
         list.push(one)?;
         left = rest;
     }
     Ok((list, left))
 }
 
-fn parts_of(alloc: Global, all: u32, tokens: &[Token]) -> Result<(Vec<NamePart>, &[Token]), Fault>
-    ensures ok { IfOk result (λ r. Reads all grammar.Name_parts 0 (told tokens.now) (told r.1.now) (node_name_parts r.0.items)) }
-    ensures err { IfErr result (λ fault. StopsAs grammar.Name_parts 0 (told tokens.now) fault) }
+fn parts_of(alloc: Global, count: u32, tokens: &[Token]) -> Result<(Vec<NamePart>, &[Token]), Fault>
+    ensures ok { IfOk result (λ r. Reads count grammar.Name_parts 0 (token_kinds tokens.now) (token_kinds r.1.now) (node_name_parts r.0.items)) }
+    ensures err { IfErr result (λ fault. StopsAs grammar.Name_parts 0 (token_kinds tokens.now) fault) }
 {
     let mut list = Vec::new(alloc);
     let mut left = tokens;
-    'each: while next(left) == class::DOT {
-        let (at, rest) = take(all, left, class::DOT, 0)?;
-        let (name, rest) = name_of(alloc, all, rest, 0)?;
+    'each: while next(left) == terminal::DOT {
+        let (at, rest) = take(count, left, terminal::DOT, 0)?;
+        let (name, rest) = name_of(alloc, count, rest, 0)?;
         list.push(NamePart { at, name })?;
         left = rest;
     }
     Ok((list, left))
 }
 
-fn using(alloc: Global, all: u32, tokens: &[Token]) -> Result<(Using, &[Token]), Fault>
-    ensures ok { IfOk result (λ r. Reads all grammar.Using 0 (told tokens.now) (told r.1.now) (node_using (see_using r.0))) }
-    ensures err { IfErr result (λ fault. StopsAs grammar.Using 0 (told tokens.now) fault) }
+fn using(alloc: Global, count: u32, tokens: &[Token]) -> Result<(Using, &[Token]), Fault>
+    ensures ok { IfOk result (λ r. Reads count grammar.Using 0 (token_kinds tokens.now) (token_kinds r.1.now) (node_using (see_using r.0))) }
+    ensures err { IfErr result (λ fault. StopsAs grammar.Using 0 (token_kinds tokens.now) fault) }
 {
-    let rest = skip(all, tokens, class::USING, 0)?;
-    let (first, rest) = name_of(alloc, all, rest, 0)?;
-    let (more, rest) = parts_of(alloc, all, rest)?;
-    let rest = skip(all, rest, class::SEMICOLON, 0)?;
+    let rest = skip(count, tokens, terminal::USING, 0)?;
+    let (first, rest) = name_of(alloc, count, rest, 0)?;
+    let (more, rest) = parts_of(alloc, count, rest)?;
+    let rest = skip(count, rest, terminal::SEMICOLON, 0)?;
     Ok((Using { first, more }, rest))
 }
 
-fn usings_of(alloc: Global, all: u32, tokens: &[Token]) -> Result<(Vec<Using>, &[Token]), Fault>
-    ensures ok { IfOk result (λ r. Reads all grammar.Usings 0 (told tokens.now) (told r.1.now) (node_usings (map see_using r.0.items))) }
-    ensures err { IfErr result (λ fault. StopsAs grammar.Usings 0 (told tokens.now) fault) }
+fn usings_of(alloc: Global, count: u32, tokens: &[Token]) -> Result<(Vec<Using>, &[Token]), Fault>
+    ensures ok { IfOk result (λ r. Reads count grammar.Usings 0 (token_kinds tokens.now) (token_kinds r.1.now) (node_usings (map see_using r.0.items))) }
+    ensures err { IfErr result (λ fault. StopsAs grammar.Usings 0 (token_kinds tokens.now) fault) }
 {
     let mut list = Vec::new(alloc);
     let mut left = tokens;
-    'each: while next(left) == class::USING {
-        let (one, rest) = using(alloc, all, left)?;
+    'each: while next(left) == terminal::USING {
+        let (one, rest) = using(alloc, count, left)?;
         list.push(one)?;
         left = rest;
     }
@@ -398,15 +398,15 @@ fn usings_of(alloc: Global, all: u32, tokens: &[Token]) -> Result<(Vec<Using>, &
 /// The lines and the classes of a program: all tokens are read.
 pub fn program(
     alloc: Global,
-    all: u32,
+    count: u32,
     tokens: &[Token],
 ) -> Result<(Vec<Using>, Vec<Class>, &[Token]), Fault>
-    ensures ok { IfOk result (λ r. Reads all grammar.Program 0 (told tokens.now) (told r.2.now) (node_all_classes (map see_using r.0.items) (map see_class r.1.items))) }
-    ensures err { IfErr result (λ fault. StopsAs grammar.Program 0 (told tokens.now) fault) }
-    ensures end { IfOk result (λ r. told r.2.now ≡ []) }
+    ensures ok { IfOk result (λ r. Reads count grammar.Whole_program 0 (token_kinds tokens.now) (token_kinds r.2.now) (node_all_classes (map see_using r.0.items) (map see_class r.1.items))) }
+    ensures err { IfErr result (λ fault. StopsAs grammar.Whole_program 0 (token_kinds tokens.now) fault) }
+    ensures end { IfOk result (λ r. token_kinds r.2.now ≡ []) }
 {
-    let (usings, rest) = usings_of(alloc, all, tokens)?;
-    let (first, rest) = class_of(alloc, all, rest)?;
-    let (classes, rest) = classes_of(alloc, all, rest, first)?;
+    let (usings, rest) = usings_of(alloc, count, tokens)?;
+    let (first, rest) = class_of(alloc, count, rest)?;
+    let (classes, rest) = classes_of(alloc, count, rest, first)?;
     Ok((usings, classes, rest))
 }

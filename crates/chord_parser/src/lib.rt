@@ -5,13 +5,13 @@
 #![tactic(auto)]
 
 mod build;
-mod class;
 mod classes;
 mod exprs;
 mod faults;
 pub mod parser;
 mod plain;
 mod stmts;
+mod terminal;
 #[cfg(test)]
 mod tests;
 mod tokens;

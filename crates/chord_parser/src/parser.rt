@@ -2,10 +2,10 @@
 #![tactic(auto)]
 
 ghost use Rattle.std.specs.Prelude.{◌<◌, ◌^◌, ◌≡◌, ◌⊎◌, ℕ, IfOk, IfErr, MatchResult, length};
-ghost use Rattle.chord_tree.specs.Program.{IsProgram, spelling, told};
+ghost use Rattle.chord_tree.specs.Program.{IsProgram, spelling, token_kinds};
 ghost use Rattle.chord_tree.specs.Tree.{ProgramTree};
 ghost use Rattle.chord_tree.specs.View.{tree_of};
-ghost use Rattle.chord_parser.specs.Answers.{IsAnswer, IsLow, IsStop};
+ghost use Rattle.chord_parser.specs.Answers.{IsAnswer, IsNotTall, IsStopped};
 ghost use Rattle.chord_parser.specs.declared.parser.ParseFault.TheVariants as faults;
 
 use crate::classes::program;
@@ -31,29 +31,29 @@ pub enum ParseFault {
 /// `Tall(k)`: some program begins with the tokens up to k, and k is the first that is too deep.
 pub fn parse(alloc: Global, tokens: &[Token]) -> Result<Program, ParseFault>
     requires { length tokens.now < 2 ^ 32 }
-    ensures spelled { IfOk result (λ p. spelling (tree_of p) ≡ told tokens.now) }
+    ensures spelled { IfOk result (λ p. spelling (tree_of p) ≡ token_kinds tokens.now) }
     ensures program { IfOk result (λ p. IsProgram (tree_of p)) }
-    ensures low { IfOk result (λ p. IsLow (tree_of p)) }
-    ensures fault { IfErr result (λ fault. IsAnswer (told tokens.now) fault) }
+    ensures not_tall { IfOk result (λ p. IsNotTall (tree_of p)) }
+    ensures fault { IfErr result (λ fault. IsAnswer (token_kinds tokens.now) fault) }
     // where the tokens are those of a program, that is the one
-    ensures the_one { (t : ProgramTree) → IsProgram t → spelling t ≡ told tokens.now → IfOk result (λ p. tree_of p ≡ t) }
+    ensures the_one { (t : ProgramTree) → IsProgram t → spelling t ≡ token_kinds tokens.now → IfOk result (λ p. tree_of p ≡ t) }
     // and only memory may lack, if none of them is too deep
-    ensures found { (t : ProgramTree) → IsProgram t → IsLow t → spelling t ≡ told tokens.now → IfErr result (λ fault. fault ≡ faults.Memory) }
-    // where token k is the first that fits no program, or the first that is too deep, that is told
-    ensures at { (k : ℕ) → IsAnswer (told tokens.now) (faults.At k) → MatchResult result (λ _. ⊥) (λ fault. (fault ≡ faults.Memory) ⊎ (fault ≡ faults.At k)) }
-    ensures tall { (k : ℕ) → IsAnswer (told tokens.now) (faults.Tall k) → MatchResult result (λ _. ⊥) (λ fault. (fault ≡ faults.Memory) ⊎ (fault ≡ faults.Tall k)) }
+    ensures found { (t : ProgramTree) → IsProgram t → IsNotTall t → spelling t ≡ token_kinds tokens.now → IfErr result (λ fault. fault ≡ faults.Memory) }
+    // where token k is the first that fits no program, or the first that is too deep, that is token_kinds
+    ensures at { (k : ℕ) → IsAnswer (token_kinds tokens.now) (faults.At k) → MatchResult result (λ _. ⊥) (λ fault. (fault ≡ faults.Memory) ⊎ (fault ≡ faults.At k)) }
+    ensures tall { (k : ℕ) → IsAnswer (token_kinds tokens.now) (faults.Tall k) → MatchResult result (λ _. ⊥) (λ fault. (fault ≡ faults.Memory) ⊎ (fault ≡ faults.Tall k)) }
 {
     match program(alloc, tokens.len() as u32, tokens) {
         Ok((usings, classes, _)) => Ok(Program::new(usings, classes)),
-        Err(fault) => Err(placed(tokens, fault)),
+        Err(fault) => Err(numbered(tokens, fault)),
     }
 }
 
 /// The fault by the number of its token.
-fn placed(tokens: &[Token], fault: Fault) -> ParseFault
+fn numbered(tokens: &[Token], fault: Fault) -> ParseFault
     requires short { length tokens.now < 2 ^ 32 }
-    requires stopped { IsStop (told tokens.now) fault }
-    ensures { IsAnswer (told tokens.now) result }
+    requires stopped { IsStopped (token_kinds tokens.now) fault }
+    ensures { IsAnswer (token_kinds tokens.now) result }
 {
     match fault {
         Fault::Memory => ParseFault::Memory,

@@ -3,7 +3,7 @@
 
 /// A word that stands in the place of a result.
 #[derive(Clone, Copy, Debug, PartialEq, Eq)]
-pub enum PlainWord {
+pub enum ResultKeyword {
     /// `async`
     Async,
     /// `void`

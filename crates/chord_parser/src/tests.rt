@@ -77,11 +77,11 @@ class Program {
 
 fn same(left: &Kind, right: &Kind) -> bool {
     match (left, right) {
-        (Kind::Word(a), Kind::Word(b)) => a == b,
+        (Kind::Keyword(a), Kind::Keyword(b)) => a == b,
         (Kind::Name(a), Kind::Name(b)) => a.items() == b.items(),
         (Kind::Number(a), Kind::Number(b)) => a == b,
         (Kind::Literal(a), Kind::Literal(b)) => a.items() == b.items(),
-        (Kind::Mark(a), Kind::Mark(b)) => a == b,
+        (Kind::Punctuator(a), Kind::Punctuator(b)) => a == b,
         _ => false,
     }
 }
@@ -216,7 +216,7 @@ fn sources_are_programs_or_refused_at_a_token(rt: HostRuntime) -> Result<(), Fai
             "program of 30 tokens",
         ),
         (
-            "marks that no program has",
+            "punctuators that no program has",
             b"class A { A() { x = 1 ++ 2; } }",
             "at 10",
         ),

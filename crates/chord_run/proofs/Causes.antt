@@ -6,7 +6,7 @@ use Rattle.chord_base.specs.Printed.{has_failed, main_ended, status_of}
 use Rattle.chord_base.specs.declared.event.Entry.{Entry}
 use Rattle.chord_lexer.proofs.Chains.{not_both, one_list}
 use Rattle.chord_lexer.specs.declared.token.Token.{Token}
-use Rattle.chord_parser.proofs.Whole.{not_high, not_wrong}
+use Rattle.chord_parser.proofs.Whole.{never_tall, not_wrong}
 use Rattle.chord_parser.specs.declared.parser.ParseFault.TheVariants as parser
 use Rattle.chord_tree.specs.Program.{told}
 use Rattle.chord_run.specs.Answers.{Answers, Gives, IsDue, IsPlayed, IsRefusal}
@@ -30,7 +30,7 @@ pub not_tall :
     (source : List ℕ) (tokens : List Token) (k : ℕ) → IsAnsweredBy source (parser.Tall k) → IsGrammatical source tokens → ⊥
 not_tall source tokens k a g =
     let same = one_list source a.tokens tokens a.read g.read in
-    not_high (told a.tokens) g.program a.answer.0 g.is_program g.low (rw same g.spelled) a.answer.2
+    never_tall (told a.tokens) g.program a.answer.0 g.is_program g.low (rw same g.spelled) a.answer.2
 
 -- a source with a cause of a refusal is not accepted
 pub cause_refuses : (source : List ℕ) (refusal : Refusal) → IsCause source refusal → IsAccepted source → ⊥

@@ -5,17 +5,17 @@ use Rattle.std.proofs.lemmas.Bool.{eqb-true, lt-ltb}
 use Rattle.std.proofs.lemmas.Bool.Decides.{eqb_tells}
 use Rattle.chord_lexer.specs.declared.token.Kind.TheVariants as kinds
 use Rattle.chord_lexer.specs.declared.token.Mark.TheVariants as marks
-use Rattle.chord_lexer.specs.declared.token.Keyword.TheVariants as words
+use Rattle.chord_lexer.specs.declared.token.Keyword.TheVariants as keywords
 use Rattle.chord_lexer.specs.declared.token.Kind.{Kind}
 use Rattle.chord_lexer.specs.declared.token.Keyword.{Keyword}
 use Rattle.chord_lexer.specs.declared.token.Mark.{Mark}
-use Rattle.chord_tree.specs.Part.{number_of, Part, Terminal, Symbol}
-use Rattle.chord_tree.specs.Grammar.{productions, rule_count, symbol_count, class_count, else_class, no_else}
+use Rattle.chord_tree.specs.Symbol.{number_of, Symbol, Terminal, Nonterminal}
+use Rattle.chord_tree.specs.Grammar.{productions, rule_count, nonterminal_count, terminal_count, else_terminal, no_else}
 use Rattle.chord_tree.proofs.Table.{firsts, follows, choices, empties}
-use Rattle.chord_tree.specs.Classes.{class_of, word_part, mark_part}
-use Rattle.chord_tree.specs.Derivation.{has, Want, next, head_of, parts_of, allowed}
+use Rattle.chord_tree.specs.Terminals.{terminal_of, keyword_symbol, mark_symbol}
+use Rattle.chord_tree.specs.Derivation.{includes, Want, next, head_of, parts_of, allowed}
 
--- the production of symbol x at class c, or the number of productions where none fits
+-- the production of nonterminal x at terminal c, or the number of productions where none fits
 unfoldable pub choice : ℕ → ℕ → ℕ
 choice x c = get_or (get_or choices x []) c rule_count
 
@@ -26,21 +26,21 @@ pub imp_true : (a b : Bool) → imp a b ≡ true → a ≡ true → b ≡ true
 imp_true true b h e = h
 imp_true false b h e = cc
 
-pub and_left : (a b : Bool) → (a && b) ≡ true → a ≡ true
-and_left true b h = refl
-and_left false b h = cc
+pub both_left : (a b : Bool) → (a && b) ≡ true → a ≡ true
+both_left true b h = refl
+both_left false b h = cc
 
-pub and_right : (a b : Bool) → (a && b) ≡ true → b ≡ true
-and_right true b h = h
-and_right false b h = cc
+pub both_right : (a b : Bool) → (a && b) ≡ true → b ≡ true
+both_right true b h = h
+both_right false b h = cc
 
-pub and_both : (a b : Bool) → a ≡ true → b ≡ true → (a && b) ≡ true
-and_both true b h k = k
-and_both false b h k = cc
+pub both_true : (a b : Bool) → a ≡ true → b ≡ true → (a && b) ≡ true
+both_true true b h k = k
+both_true false b h k = cc
 
-pub or_left : (a b : Bool) → a ≡ true → (a || b) ≡ true
-or_left true b h = refl
-or_left false b h = cc
+pub either_left : (a b : Bool) → a ≡ true → (a || b) ≡ true
+either_left true b h = refl
+either_left false b h = cc
 
 abbrev pub all_below : ℕ → (ℕ → Bool) → Bool
 all_below zero f = true
@@ -48,41 +48,41 @@ all_below (suc n) f = f n && all_below n f
 
 pub below : (n : ℕ) (f : ℕ → Bool) → all_below n f ≡ true → (i : ℕ) → i < n → f i ≡ true
 below zero f h i l = absurd (omega arith)
-below (suc n) f h i l = elim (eqb_tells i n) [ inl (t, e) ↦ subst (λ j. f j ≡ true) (sym e) (and_left (f n) _ h) | inr (t, e) ↦ below n f (and_right (f n) _ h) i (omega arith) ]
+below (suc n) f h i l = elim (eqb_tells i n) [ inl (t, e) ↦ subst (λ j. f j ≡ true) (sym e) (both_left (f n) _ h) | inr (t, e) ↦ below n f (both_right (f n) _ h) i (omega arith) ]
 
--- the classes at which a part may begin
+-- nonterminal x may begin at terminal c
 unfoldable pub begins : ℕ → ℕ → Bool
-begins x c = has (get_or firsts x []) c
+begins x c = includes (get_or firsts x []) c
 
 unfoldable pub may_be_empty : ℕ → Bool
-may_be_empty x = has empties x
+may_be_empty x = includes empties x
 
 unfoldable pub follows_at : ℕ → ℕ → Bool
-follows_at x c = has (get_or follows x []) c
+follows_at x c = includes (get_or follows x []) c
 
-abbrev pub part_begins : Part → ℕ → Bool
+abbrev pub part_begins : Symbol → ℕ → Bool
 part_begins (Terminal a) c = nat_eq a c
-part_begins (Symbol x) c = begins x c
+part_begins (Nonterminal x) c = begins x c
 
-abbrev pub part_empty : Part → Bool
+abbrev pub part_empty : Symbol → Bool
 part_empty (Terminal a) = false
-part_empty (Symbol x) = may_be_empty x
+part_empty (Nonterminal x) = may_be_empty x
 
-abbrev pub part_follows : Part → ℕ → Bool
+abbrev pub part_follows : Symbol → ℕ → Bool
 part_follows (Terminal a) c = true
-part_follows (Symbol x) c = follows_at x c
+part_follows (Nonterminal x) c = follows_at x c
 
--- parts may begin at class c, where after says whether what follows them may
-abbrev pub begin_under : List Part → Bool → ℕ → Bool
+-- symbols may begin at terminal c, where after says whether what follows them may
+abbrev pub begin_under : List Symbol → Bool → ℕ → Bool
 begin_under [] after c = after
 begin_under (p ∷ ps) after c = part_begins p c || (part_empty p && begin_under ps after c)
 
--- the wants may begin at class c; nothing more is class_count
+-- the wants may begin at terminal c; nothing more is terminal_count
 abbrev pub begin_at : List Want → ℕ → Bool
-begin_at [] c = nat_eq c class_count
+begin_at [] c = nat_eq c terminal_count
 begin_at ((p, d) ∷ s) c = part_begins p c || (part_empty p && begin_at s c)
 
-abbrev pub legal_under : List Part → Bool → ℕ → Bool
+abbrev pub legal_under : List Symbol → Bool → ℕ → Bool
 legal_under [] after c = true
 legal_under (p ∷ ps) after c = imp (begin_under ps after c) (part_follows p c) && legal_under ps after c
 
@@ -99,65 +99,65 @@ check_taken : ℕ → ℕ → Bool
 check_taken x c = imp (nat_lt (choice x c) rule_count) (nat_eq (head_of (choice x c)) x && allowed (choice x c) c)
 
 over_rules : (ℕ → ℕ → Bool) → Bool
-over_rules f = all_below rule_count (λ i. all_below (suc class_count) (λ c. f i c))
+over_rules f = all_below rule_count (λ i. all_below (suc terminal_count) (λ c. f i c))
 
 over_symbols : (ℕ → ℕ → Bool) → Bool
-over_symbols f = all_below symbol_count (λ i. all_below (suc class_count) (λ c. f i c))
+over_symbols f = all_below nonterminal_count (λ i. all_below (suc terminal_count) (λ c. f i c))
 
 table_begin : over_rules check_begin ≡ true
-unfolding over_rules check_begin begins may_be_empty head_of parts_of productions firsts empties rule_count class_count
+unfolding over_rules check_begin begins may_be_empty head_of parts_of productions firsts empties rule_count terminal_count
 table_begin = refl
 
 table_legal : over_rules check_legal ≡ true
-unfolding over_rules check_legal begins may_be_empty head_of parts_of productions firsts empties rule_count class_count follows_at follows
+unfolding over_rules check_legal begins may_be_empty head_of parts_of productions firsts empties rule_count terminal_count follows_at follows
 table_legal = refl
 
 table_choice : over_rules check_choice ≡ true
-unfolding over_rules check_choice begins may_be_empty head_of parts_of productions firsts empties rule_count class_count follows_at follows choice choices allowed no_else else_class
+unfolding over_rules check_choice begins may_be_empty head_of parts_of productions firsts empties rule_count terminal_count follows_at follows choice choices allowed no_else else_terminal
 table_choice = refl
 
 table_taken : over_symbols check_taken ≡ true
-unfolding over_symbols check_taken head_of productions rule_count class_count symbol_count choice choices allowed no_else else_class
+unfolding over_symbols check_taken head_of productions rule_count terminal_count nonterminal_count choice choices allowed no_else else_terminal
 table_taken = refl
 
-pub rule_begins : (i c : ℕ) (after : Bool) → i < rule_count → c < suc class_count → begin_under (parts_of i) after c ≡ true → (begins (head_of i) c || (may_be_empty (head_of i) && after)) ≡ true
+pub rule_begins : (i c : ℕ) (after : Bool) → i < rule_count → c < suc terminal_count → begin_under (parts_of i) after c ≡ true → (begins (head_of i) c || (may_be_empty (head_of i) && after)) ≡ true
 unfolding over_rules check_begin
-rule_begins i c true l m h = imp_true _ _ (and_left _ _ (below (suc class_count) (λ c. check_begin i c) (below rule_count _ table_begin i l) c m)) h
-rule_begins i c false l m h = imp_true _ _ (and_right (imp (begin_under (parts_of i) true c) (begins (head_of i) c || (may_be_empty (head_of i) && true))) _ (below (suc class_count) (λ c. check_begin i c) (below rule_count _ table_begin i l) c m)) h
+rule_begins i c true l m h = imp_true _ _ (both_left _ _ (below (suc terminal_count) (λ c. check_begin i c) (below rule_count _ table_begin i l) c m)) h
+rule_begins i c false l m h = imp_true _ _ (both_right (imp (begin_under (parts_of i) true c) (begins (head_of i) c || (may_be_empty (head_of i) && true))) _ (below (suc terminal_count) (λ c. check_begin i c) (below rule_count _ table_begin i l) c m)) h
 
-pub rule_legal : (i c : ℕ) → i < rule_count → c < suc class_count → legal_under (parts_of i) (follows_at (head_of i) c) c ≡ true
+pub rule_legal : (i c : ℕ) → i < rule_count → c < suc terminal_count → legal_under (parts_of i) (follows_at (head_of i) c) c ≡ true
 unfolding over_rules check_legal
-rule_legal i c l m = below (suc class_count) (λ c. check_legal i c) (below rule_count _ table_legal i l) c m
+rule_legal i c l m = below (suc terminal_count) (λ c. check_legal i c) (below rule_count _ table_legal i l) c m
 
-pub rule_chosen : (i c : ℕ) → i < rule_count → c < suc class_count → begin_under (parts_of i) (follows_at (head_of i) c) c ≡ true → allowed i c ≡ true → choice (head_of i) c ≡ i
+pub rule_chosen : (i c : ℕ) → i < rule_count → c < suc terminal_count → begin_under (parts_of i) (follows_at (head_of i) c) c ≡ true → allowed i c ≡ true → choice (head_of i) c ≡ i
 unfolding over_rules check_choice
-rule_chosen i c l m h a = eqb-true _ _ (imp_true _ _ (below (suc class_count) (λ c. check_choice i c) (below rule_count _ table_choice i l) c m) (and_both _ _ h a))
+rule_chosen i c l m h a = eqb-true _ _ (imp_true _ _ (below (suc terminal_count) (λ c. check_choice i c) (below rule_count _ table_choice i l) c m) (both_true _ _ h a))
 
-pub choice_fits : (x c : ℕ) → x < symbol_count → c < suc class_count → choice x c < rule_count → (head_of (choice x c) ≡ x) × (allowed (choice x c) c ≡ true)
+pub choice_fits : (x c : ℕ) → x < nonterminal_count → c < suc terminal_count → choice x c < rule_count → (head_of (choice x c) ≡ x) × (allowed (choice x c) c ≡ true)
 unfolding over_symbols check_taken
 choice_fits x c l m h =
-    let k : (nat_eq (head_of (choice x c)) x && allowed (choice x c) c) ≡ true = imp_true _ _ (below (suc class_count) (λ c. check_taken x c) (below symbol_count _ table_taken x l) c m) (lt-ltb _ _ h) in
-    (eqb-true _ _ (and_left _ _ k), and_right (nat_eq (head_of (choice x c)) x) _ k)
+    let k : (nat_eq (head_of (choice x c)) x && allowed (choice x c) c) ≡ true = imp_true _ _ (below (suc terminal_count) (λ c. check_taken x c) (below nonterminal_count _ table_taken x l) c m) (lt-ltb _ _ h) in
+    (eqb-true _ _ (both_left _ _ k), both_right (nat_eq (head_of (choice x c)) x) _ k)
 
-word_small : (k : Keyword) → number_of (word_part k) < class_count
-unfolding class_count
-word_small words.Using = lit< tt
+word_small : (k : Keyword) → number_of (keyword_symbol k) < terminal_count
+unfolding terminal_count
+word_small keywords.Using = lit< tt
 word_small _ = lit< tt
 
-mark_small : (k : Mark) → number_of (mark_part k) < class_count
-unfolding class_count
+mark_small : (k : Mark) → number_of (mark_symbol k) < terminal_count
+unfolding terminal_count
 mark_small marks.Semicolon = lit< tt
 mark_small _ = lit< tt
 
-pub small : (k : Kind) → class_of k < class_count
-unfolding class_count
+pub small : (k : Kind) → terminal_of k < terminal_count
+unfolding terminal_count
 small (kinds.Word k) = word_small k
 small (kinds.Name x) = lit< tt
 small (kinds.Number x) = lit< tt
 small (kinds.Literal x) = lit< tt
 small (kinds.Mark k) = mark_small k
 
-pub next_small : (ks : List Kind) → next ks < suc class_count
+pub next_small : (ks : List Kind) → next ks < suc terminal_count
 next_small [] = omega arith
 next_small (k ∷ ks) = let h = small k in omega arith
 

@@ -3,7 +3,7 @@ use Rattle.std.proofs.Common.{◌≡◌, ℕ, zero, suc, ◌-◌, Bool, true, fa
 use Rattle.std.specs.Prelude.{nat_lt}
 use Rattle.chord_lexer.specs.declared.token.Kind.{Kind}
 use Rattle.chord_lexer.specs.declared.token.Kind.TheVariants as kinds
-use Rattle.chord_lexer.specs.declared.token.Keyword.TheVariants as words
+use Rattle.chord_lexer.specs.declared.token.Keyword.TheVariants as keywords
 use Rattle.chord_lexer.specs.declared.token.Mark.TheVariants as marks
 use Rattle.chord_tree.specs.declared.names.Name.{Name}
 use Rattle.chord_tree.specs.declared.names.BasicType.{BasicType}
@@ -13,9 +13,9 @@ use Rattle.chord_tree.specs.declared.names.ValueType.TheVariants as types
 use Rattle.chord_tree.specs.declared.exprs.Operator.{Operator}
 use Rattle.chord_tree.specs.declared.exprs.Operator.TheVariants as operators
 use Rattle.chord_tree.specs.Node.{Node, Nodes, End, ◌▸◌, Leaf, Made}
-use Rattle.chord_tree.specs.Tree.{ExprTree, LinkTrees, StartTree, ActualsTree, ExprTrees, DotTrees, DotTree, Chained, Negated, Denied, Simple, NoLinks, MoreLinks, MakeLink, Variable, Called, This, New, Numeral, Literal, Yes, No, Group, MakeActuals, NoExprs, MoreExprs, NoDots, MoreDots, MakeDot, StmtTree, BlockTree, ItemTrees, ItemTree, Assigns, Calls, CallsThrough, CallsThis, Makes, Braces, Nothing, IfThen, IfElse, Repeats, Returns, Gives, MakeBlock, NoItems, MoreItems, Declares, Does}
-use Rattle.chord_tree.specs.Shape.{mark_of, level, bare, lifted, alone, rank, node_links, node_start, node_actuals, node_exprs, node_more, node_dots, node_dot, node_expr}
-use Rattle.chord_tree.specs.Forms.{basic_word, node_other, node_block, node_items, node_stmt, local_item, as_item}
+use Rattle.chord_tree.specs.Tree.{ExprTree, LinkTrees, StartTree, ActualsTree, ExprTrees, DotTrees, DotTree, ChainExpr, MinusExpr, NotExpr, PrimaryExpr, NoLinks, MoreLinks, MakeLink, VariableStart, CallStart, ThisStart, NewStart, NumberStart, LiteralStart, TrueStart, FalseStart, GroupStart, MakeActuals, NoExprs, MoreExprs, NoDots, MoreDots, MakeDot, StmtTree, BlockTree, ItemTrees, ItemTree, AssignStmt, CallStmt, MethodCallStmt, ThisCallStmt, NewStmt, BlockStmt, EmptyStmt, IfStmt, IfElseStmt, WhileStmt, ReturnStmt, ReturnValueStmt, MakeBlock, NoItems, MoreItems, LocalItem, StmtItem}
+use Rattle.chord_tree.specs.ExprNodes.{mark_of, operator_level, bare, lifted, alone, precedence, node_links, node_start, node_actuals, node_exprs, node_more, node_dots, node_dot, node_expr}
+use Rattle.chord_tree.specs.StmtNodes.{basic_keyword, node_other, node_block, node_items, node_stmt, node_local, as_item}
 
 -- what a node stands for, where it stands for a thing of that sort
 pub record Back : Type 0 where
@@ -52,10 +52,10 @@ abbrev no_name : Name
 no_name = record { text = []; at = 0 }
 
 abbrev no_start : StartTree
-no_start = This 0
+no_start = ThisStart 0
 
 abbrev no_expr : ExprTree
-no_expr = Simple no_start NoDots
+no_expr = PrimaryExpr no_start NoDots
 
 abbrev no_actuals : ActualsTree
 no_actuals = MakeActuals 0 NoExprs
@@ -86,11 +86,11 @@ operator_back operators.Or = refl
 operator_back _ = refl
 
 abbrev pub basic_of : Kind → BasicType
-basic_of (kinds.Word words.Int) = basics.Int
-basic_of (kinds.Word words.Bool) = basics.Bool
+basic_of (kinds.Word keywords.Int) = basics.Int
+basic_of (kinds.Word keywords.Bool) = basics.Bool
 basic_of _ = basics.String
 
-pub basic_back : (b : BasicType) → basic_of (kinds.Word (basic_word b)) ≡ b
+pub basic_back : (b : BasicType) → basic_of (kinds.Word (basic_keyword b)) ≡ b
 basic_back basics.Int = refl
 basic_back _ = refl
 
@@ -102,19 +102,19 @@ abbrev name_of : Back → Name
 name_of b = record { text = bytes_of b.kind; at = b.at }
 
 abbrev signed : Kind → ℕ → ExprTree → ExprTree
-signed (kinds.Mark marks.Minus) at e = Negated at e
-signed _ at e = Denied at e
+signed (kinds.Mark marks.Minus) at e = MinusExpr at e
+signed _ at e = NotExpr at e
 
 abbrev word_start : Kind → ℕ → StartTree
-word_start (kinds.Word words.This) at = This at
-word_start (kinds.Word words.True) at = Yes at
-word_start (kinds.Word words.False) at = No at
-word_start (kinds.Number value) at = Numeral value at
-word_start (kinds.Literal bytes) at = Literal bytes at
+word_start (kinds.Word keywords.This) at = ThisStart at
+word_start (kinds.Word keywords.True) at = TrueStart at
+word_start (kinds.Word keywords.False) at = FalseStart at
+word_start (kinds.Number value) at = NumberStart value at
+word_start (kinds.Literal bytes) at = LiteralStart bytes at
 word_start _ at = no_start
 
 abbrev is_new : Kind → Bool
-is_new (kinds.Word words.New) = true
+is_new (kinds.Word keywords.New) = true
 is_new _ = false
 
 abbrev is_leaf : Kind → Bool
@@ -123,7 +123,7 @@ is_leaf _ = false
 
 abbrev chain_of : ExprTree → LinkTrees → ExprTree
 chain_of first NoLinks = first
-chain_of first (MoreLinks link more) = Chained first link more
+chain_of first (MoreLinks link more) = ChainExpr first link more
 
 abbrev expr_of : List Back → ExprTree
 expr_of (a ∷ []) = a.primary
@@ -131,7 +131,7 @@ expr_of (a ∷ b ∷ []) = cond b.three (chain_of a.expr b.links) (cond b.filled
 expr_of _ = no_expr
 
 abbrev primary_of : List Back → ExprTree
-primary_of (s ∷ ds ∷ []) = Simple s.start ds.dots
+primary_of (s ∷ ds ∷ []) = PrimaryExpr s.start ds.dots
 primary_of _ = no_expr
 
 abbrev links_of : List Back → LinkTrees
@@ -140,8 +140,8 @@ links_of _ = NoLinks
 
 abbrev start_of : List Back → StartTree
 start_of (k ∷ []) = word_start k.kind k.at
-start_of (x ∷ a ∷ []) = cond a.filled (Called (name_of x) a.actuals) (Variable (name_of x))
-start_of (k ∷ x ∷ a ∷ []) = cond (is_new k.kind) (New k.at (name_of x) a.actuals) (Group k.at x.expr)
+start_of (x ∷ a ∷ []) = cond a.filled (CallStart (name_of x) a.actuals) (VariableStart (name_of x))
+start_of (k ∷ x ∷ a ∷ []) = cond (is_new k.kind) (NewStart k.at (name_of x) a.actuals) (GroupStart k.at x.expr)
 start_of _ = no_start
 
 -- the brackets and what they hold, or one that holds these
@@ -172,44 +172,44 @@ is_dot (kinds.Mark marks.Dot) = true
 is_dot _ = false
 
 abbrev is_while : Kind → Bool
-is_while (kinds.Word words.While) = true
+is_while (kinds.Word keywords.While) = true
 is_while _ = false
 
 abbrev tail_of : List Back → Name → StmtTree
-tail_of (a ∷ b ∷ []) x = cond (is_assign a.kind) (Assigns x a.at b.expr) (cond (is_dot a.lead) (CallsThrough x a.dot b.dots) (Calls x a.actuals b.dots))
-tail_of _ x = Nothing
+tail_of (a ∷ b ∷ []) x = cond (is_assign a.kind) (AssignStmt x a.at b.expr) (cond (is_dot a.lead) (MethodCallStmt x a.dot b.dots) (CallStmt x a.actuals b.dots))
+tail_of _ x = EmptyStmt
 
 abbrev after_of : List Back → Name → ItemTree
-after_of (t ∷ []) c = Does (t.tail c)
-after_of (x ∷ q ∷ e ∷ []) c = Declares (types.Class c) (name_of x) q.at e.expr
-after_of _ c = Does Nothing
+after_of (t ∷ []) c = StmtItem (t.tail c)
+after_of (x ∷ q ∷ e ∷ []) c = LocalItem (types.Class c) (name_of x) q.at e.expr
+after_of _ c = StmtItem EmptyStmt
 
 abbrev other_of : List Back → StmtTree
-other_of (b ∷ []) = cond b.filled (Braces b.block) Nothing
-other_of (r ∷ o ∷ s ∷ []) = cond o.filled (Gives r.at o.value) (Returns r.at)
-other_of (t ∷ d ∷ ds ∷ s ∷ []) = CallsThis t.at d.dot ds.dots
-other_of (k ∷ a ∷ b ∷ c ∷ d ∷ []) = cond (is_while k.kind) (Repeats k.at a.at b.expr d.stmt) (Makes k.at (name_of a) b.actuals c.dots)
-other_of (k ∷ o ∷ e ∷ c ∷ s ∷ l ∷ []) = cond l.filled (IfElse k.at o.at e.expr s.stmt l.second) (IfThen k.at o.at e.expr s.stmt)
-other_of _ = Nothing
+other_of (b ∷ []) = cond b.filled (BlockStmt b.block) EmptyStmt
+other_of (r ∷ o ∷ s ∷ []) = cond o.filled (ReturnValueStmt r.at o.value) (ReturnStmt r.at)
+other_of (t ∷ d ∷ ds ∷ s ∷ []) = ThisCallStmt t.at d.dot ds.dots
+other_of (k ∷ a ∷ b ∷ c ∷ d ∷ []) = cond (is_while k.kind) (WhileStmt k.at a.at b.expr d.stmt) (NewStmt k.at (name_of a) b.actuals c.dots)
+other_of (k ∷ o ∷ e ∷ c ∷ s ∷ l ∷ []) = cond l.filled (IfElseStmt k.at o.at e.expr s.stmt l.second) (IfStmt k.at o.at e.expr s.stmt)
+other_of _ = EmptyStmt
 
 abbrev stmt_of : List Back → StmtTree
 stmt_of (o ∷ []) = o.other
 stmt_of (x ∷ t ∷ s ∷ []) = t.tail (name_of x)
-stmt_of _ = Nothing
+stmt_of _ = EmptyStmt
 
 abbrev second_of : List Back → StmtTree
 second_of (e ∷ s ∷ []) = s.stmt
-second_of _ = Nothing
+second_of _ = EmptyStmt
 
 abbrev block_of : List Back → BlockTree
 block_of (o ∷ is ∷ c ∷ []) = MakeBlock is.items c.at
 block_of _ = no_block
 
 abbrev item_of : List Back → ItemTree
-item_of (o ∷ []) = Does o.other
+item_of (o ∷ []) = StmtItem o.other
 item_of (x ∷ a ∷ s ∷ []) = a.after (name_of x)
-item_of (w ∷ x ∷ q ∷ e ∷ s ∷ []) = Declares (types.Basic (basic_of w.kind) w.at) (name_of x) q.at e.expr
-item_of _ = Does Nothing
+item_of (w ∷ x ∷ q ∷ e ∷ s ∷ []) = LocalItem (types.Basic (basic_of w.kind) w.at) (name_of x) q.at e.expr
+item_of _ = StmtItem EmptyStmt
 
 abbrev items_of : List Back → ItemTrees
 items_of (i ∷ is ∷ []) = MoreItems i.item is.items
@@ -285,53 +285,53 @@ three f a a' b b' c c' h g k = ap (λ z. f z b c) h ∙ two (f a') b b' c c' g k
 
 -- an expression is no link, and has parts
 not_three : (e : ExprTree) → (back (bare e)).three ≡ false
-not_three (Chained first (MakeLink o at t) more) = refl
-not_three (Negated at e) = refl
-not_three (Denied at e) = refl
-not_three (Simple s ds) = refl
+not_three (ChainExpr first (MakeLink o at t) more) = refl
+not_three (MinusExpr at e) = refl
+not_three (NotExpr at e) = refl
+not_three (PrimaryExpr s ds) = refl
 
 has_parts : (e : ExprTree) → (back (bare e)).filled ≡ true
-has_parts (Chained first (MakeLink o at t) more) = refl
-has_parts (Negated at e) = refl
-has_parts (Denied at e) = refl
-has_parts (Simple s ds) = refl
+has_parts (ChainExpr first (MakeLink o at t) more) = refl
+has_parts (MinusExpr at e) = refl
+has_parts (NotExpr at e) = refl
+has_parts (PrimaryExpr s ds) = refl
 
 mutual
   pub back_expr : (e : ExprTree) → (back (bare e)).expr ≡ e
-  back_expr (Chained first (MakeLink o at t) more) =
-      three Chained _ first _ (MakeLink o at t) _ more (back_lifted (level o - 1) (rank first) (bare first) ∙ back_expr first)
-      (two (λ p e. MakeLink p at e) _ o _ t (operator_back o) (back_lifted (level o - 1) (rank t) (bare t) ∙ back_expr t))
-      (back_links (level o) more)
-  back_expr (Negated at e) = pick _ _ _ _ _ (not_three e) (has_parts e) ∙ ap (Negated at) (back_expr e)
-  back_expr (Denied at e) = pick _ _ _ _ _ (not_three e) (has_parts e) ∙ ap (Denied at) (back_expr e)
-  back_expr (Simple s ds) = two Simple _ s _ ds (back_start s) (back_dots ds)
+  back_expr (ChainExpr first (MakeLink o at t) more) =
+      three ChainExpr _ first _ (MakeLink o at t) _ more (back_lifted (operator_level o - 1) (precedence first) (bare first) ∙ back_expr first)
+      (two (λ p e. MakeLink p at e) _ o _ t (operator_back o) (back_lifted (operator_level o - 1) (precedence t) (bare t) ∙ back_expr t))
+      (back_links (operator_level o) more)
+  back_expr (MinusExpr at e) = pick _ _ _ _ _ (not_three e) (has_parts e) ∙ ap (MinusExpr at) (back_expr e)
+  back_expr (NotExpr at e) = pick _ _ _ _ _ (not_three e) (has_parts e) ∙ ap (NotExpr at) (back_expr e)
+  back_expr (PrimaryExpr s ds) = two PrimaryExpr _ s _ ds (back_start s) (back_dots ds)
 
   pub back_links : (l : ℕ) (ls : LinkTrees) → (back (node_links l ls)).links ≡ ls
   back_links l NoLinks = refl
   back_links l (MoreLinks (MakeLink o at t) more) =
-      two MoreLinks _ (MakeLink o at t) _ more (two (λ p e. MakeLink p at e) _ o _ t (operator_back o) (back_lifted (l - 1) (rank t) (bare t) ∙ back_expr t)) (back_links l more)
+      two MoreLinks _ (MakeLink o at t) _ more (two (λ p e. MakeLink p at e) _ o _ t (operator_back o) (back_lifted (l - 1) (precedence t) (bare t) ∙ back_expr t)) (back_links l more)
 
   pub back_start : (s : StartTree) → (back (node_start s)).start ≡ s
-  back_start (Variable x) = refl
-  back_start (Called x a) = ap (Called x) (back_actuals a)
-  back_start (This at) = refl
-  back_start (New at x a) = ap (New at x) (back_actuals a)
-  back_start (Numeral value at) = refl
-  back_start (Literal bytes at) = refl
-  back_start (Yes at) = refl
-  back_start (No at) = refl
-  back_start (Group at e) = ap (Group at) (back_lifted 6 (rank e) (bare e) ∙ back_expr e)
+  back_start (VariableStart x) = refl
+  back_start (CallStart x a) = ap (CallStart x) (back_actuals a)
+  back_start (ThisStart at) = refl
+  back_start (NewStart at x a) = ap (NewStart at x) (back_actuals a)
+  back_start (NumberStart value at) = refl
+  back_start (LiteralStart bytes at) = refl
+  back_start (TrueStart at) = refl
+  back_start (FalseStart at) = refl
+  back_start (GroupStart at e) = ap (GroupStart at) (back_lifted 6 (precedence e) (bare e) ∙ back_expr e)
 
   pub back_actuals : (a : ActualsTree) → (back (node_actuals a)).actuals ≡ a
   back_actuals (MakeActuals at es) = ap (MakeActuals at) (back_exprs es)
 
   pub back_exprs : (es : ExprTrees) → (back (node_exprs es)).exprs ≡ es
   back_exprs NoExprs = refl
-  back_exprs (MoreExprs e es) = two MoreExprs _ e _ es (back_lifted 6 (rank e) (bare e) ∙ back_expr e) (back_more es)
+  back_exprs (MoreExprs e es) = two MoreExprs _ e _ es (back_lifted 6 (precedence e) (bare e) ∙ back_expr e) (back_more es)
 
   pub back_more : (es : ExprTrees) → (back (node_more es)).exprs ≡ es
   back_more NoExprs = refl
-  back_more (MoreExprs e es) = two MoreExprs _ e _ es (back_lifted 6 (rank e) (bare e) ∙ back_expr e) (back_more es)
+  back_more (MoreExprs e es) = two MoreExprs _ e _ es (back_lifted 6 (precedence e) (bare e) ∙ back_expr e) (back_more es)
 
   pub back_dots : (ds : DotTrees) → (back (node_dots ds)).dots ≡ ds
   back_dots NoDots = refl
@@ -341,7 +341,7 @@ pub back_dot : (d : DotTree) → (back (node_dot d)).dot ≡ d
 back_dot (MakeDot at x a) = ap (MakeDot at x) (back_actuals a)
 
 pub back_node : (e : ExprTree) → (back (node_expr e)).expr ≡ e
-back_node e = back_lifted 6 (rank e) (bare e) ∙ back_expr e
+back_node e = back_lifted 6 (precedence e) (bare e) ∙ back_expr e
 
 unassigned : (a : ActualsTree) (t u v : StmtTree) → cond (is_assign (back (node_actuals a)).kind) t (cond (is_dot (back (node_actuals a)).lead) u v) ≡ v
 unassigned (MakeActuals at es) t u v = refl
@@ -349,39 +349,39 @@ unassigned (MakeActuals at es) t u v = refl
 undotted : (d : DotTree) (t u v : StmtTree) → cond (is_assign (back (node_dot d)).kind) t (cond (is_dot (back (node_dot d)).lead) u v) ≡ u
 undotted (MakeDot at x a) t u v = refl
 
-filled_block : (b : BlockTree) (t : StmtTree) → cond (back (node_block b)).filled (Braces (back (node_block b)).block) t ≡ Braces (back (node_block b)).block
+filled_block : (b : BlockTree) (t : StmtTree) → cond (back (node_block b)).filled (BlockStmt (back (node_block b)).block) t ≡ BlockStmt (back (node_block b)).block
 filled_block (MakeBlock is end) t = refl
 
-back_local : (t : ValueType) (x : Name) (q : ℕ) (e : ExprTree) → (back (local_item t x q e)).item ≡ Declares t x q e
-back_local (types.Basic basic at) x q e = two (λ b v. Declares (types.Basic b at) x q v) _ basic _ e (basic_back basic) (back_node e)
-back_local (types.Class c) x q e = ap (Declares (types.Class c) x q) (back_node e)
+back_local : (t : ValueType) (x : Name) (q : ℕ) (e : ExprTree) → (back (node_local t x q e)).item ≡ LocalItem t x q e
+back_local (types.Basic basic at) x q e = two (λ b v. LocalItem (types.Basic b at) x q v) _ basic _ e (basic_back basic) (back_node e)
+back_local (types.Class c) x q e = ap (LocalItem (types.Class c) x q) (back_node e)
 
 -- the same statement, as a Stmt and as an Item
 abbrev Same : StmtTree → Type 0
-Same s = ((back (node_stmt s)).stmt ≡ s) × ((back (as_item s (node_other s))).item ≡ Does s)
+Same s = ((back (node_stmt s)).stmt ≡ s) × ((back (as_item s (node_other s))).item ≡ StmtItem s)
 
-both : (s : StmtTree) (t u : StmtTree) → t ≡ s → u ≡ s → (t ≡ s) × (Does u ≡ Does s)
-both s t u h g = (h, ap Does g)
+both : (s : StmtTree) (t u : StmtTree) → t ≡ s → u ≡ s → (t ≡ s) × (StmtItem u ≡ StmtItem s)
+both s t u h g = (h, ap StmtItem g)
 
 mutual
   back_stmt : (s : StmtTree) → Same s
-  back_stmt (Assigns x q e) = let h = ap (Assigns x q) (back_node e) in both _ _ _ h h
-  back_stmt (Calls x a ds) = let h = two (Calls x) _ a _ ds (back_actuals a) (back_dots ds) in both _ _ _ (unassigned a _ _ _ ∙ h) (unassigned a _ _ _ ∙ h)
-  back_stmt (CallsThrough x d ds) = let h = two (CallsThrough x) _ d _ ds (back_dot d) (back_dots ds) in both _ _ _ (undotted d _ _ _ ∙ h) (undotted d _ _ _ ∙ h)
-  back_stmt (CallsThis at d ds) = let h = two (CallsThis at) _ d _ ds (back_dot d) (back_dots ds) in both _ _ _ h h
-  back_stmt (Makes at x a ds) = let h = two (Makes at x) _ a _ ds (back_actuals a) (back_dots ds) in both _ _ _ h h
-  back_stmt (Braces b) = let h = filled_block b _ ∙ ap Braces (back_block b) in both _ _ _ h h
-  back_stmt Nothing = (refl, refl)
-  back_stmt (IfThen at o e s) = let h = two (IfThen at o) _ e _ s (back_node e) (back_stmt s).0 in both _ _ _ h h
-  back_stmt (IfElse at o e s u) = let h = three (IfElse at o) _ e _ s _ u (back_node e) (back_stmt s).0 (back_stmt u).0 in both _ _ _ h h
-  back_stmt (Repeats at o e s) = let h = two (Repeats at o) _ e _ s (back_node e) (back_stmt s).0 in both _ _ _ h h
-  back_stmt (Returns at) = (refl, refl)
-  back_stmt (Gives at e) = let h = ap (Gives at) (back_node e) in both _ _ _ h h
+  back_stmt (AssignStmt x q e) = let h = ap (AssignStmt x q) (back_node e) in both _ _ _ h h
+  back_stmt (CallStmt x a ds) = let h = two (CallStmt x) _ a _ ds (back_actuals a) (back_dots ds) in both _ _ _ (unassigned a _ _ _ ∙ h) (unassigned a _ _ _ ∙ h)
+  back_stmt (MethodCallStmt x d ds) = let h = two (MethodCallStmt x) _ d _ ds (back_dot d) (back_dots ds) in both _ _ _ (undotted d _ _ _ ∙ h) (undotted d _ _ _ ∙ h)
+  back_stmt (ThisCallStmt at d ds) = let h = two (ThisCallStmt at) _ d _ ds (back_dot d) (back_dots ds) in both _ _ _ h h
+  back_stmt (NewStmt at x a ds) = let h = two (NewStmt at x) _ a _ ds (back_actuals a) (back_dots ds) in both _ _ _ h h
+  back_stmt (BlockStmt b) = let h = filled_block b _ ∙ ap BlockStmt (back_block b) in both _ _ _ h h
+  back_stmt EmptyStmt = (refl, refl)
+  back_stmt (IfStmt at o e s) = let h = two (IfStmt at o) _ e _ s (back_node e) (back_stmt s).0 in both _ _ _ h h
+  back_stmt (IfElseStmt at o e s u) = let h = three (IfElseStmt at o) _ e _ s _ u (back_node e) (back_stmt s).0 (back_stmt u).0 in both _ _ _ h h
+  back_stmt (WhileStmt at o e s) = let h = two (WhileStmt at o) _ e _ s (back_node e) (back_stmt s).0 in both _ _ _ h h
+  back_stmt (ReturnStmt at) = (refl, refl)
+  back_stmt (ReturnValueStmt at e) = let h = ap (ReturnValueStmt at) (back_node e) in both _ _ _ h h
 
   pub back_block : (b : BlockTree) → (back (node_block b)).block ≡ b
   back_block (MakeBlock is end) = ap (λ z. MakeBlock z end) (back_items is)
 
   back_items : (is : ItemTrees) → (back (node_items is)).items ≡ is
   back_items NoItems = refl
-  back_items (MoreItems (Declares t x q e) is) = two MoreItems _ (Declares t x q e) _ is (back_local t x q e) (back_items is)
-  back_items (MoreItems (Does s) is) = two MoreItems _ (Does s) _ is (back_stmt s).1 (back_items is)
+  back_items (MoreItems (LocalItem t x q e) is) = two MoreItems _ (LocalItem t x q e) _ is (back_local t x q e) (back_items is)
+  back_items (MoreItems (StmtItem s) is) = two MoreItems _ (StmtItem s) _ is (back_stmt s).1 (back_items is)

@@ -2,23 +2,23 @@
 use Rattle.std.proofs.Common.{◌≡◌, ℕ, List, [], ◌∷◌, refl, sym, ap, ◌∙◌, Option, Some, None}
 use Rattle.chord_lexer.specs.declared.token.Kind.{Kind}
 use Rattle.chord_lexer.specs.declared.token.Kind.TheVariants as kinds
-use Rattle.chord_lexer.specs.declared.token.Keyword.TheVariants as words
+use Rattle.chord_lexer.specs.declared.token.Keyword.TheVariants as keywords
 use Rattle.chord_tree.specs.declared.names.Name.{Name}
 use Rattle.chord_tree.specs.declared.names.BasicType.{BasicType}
 use Rattle.chord_tree.specs.declared.names.BasicType.TheVariants as basics
 use Rattle.chord_tree.specs.declared.names.ValueType.{ValueType}
 use Rattle.chord_tree.specs.declared.names.ValueType.TheVariants as types
-use Rattle.chord_tree.specs.declared.classes.ModifierWord.{ModifierWord}
-use Rattle.chord_tree.specs.declared.classes.ModifierWord.TheVariants as modifiers
+use Rattle.chord_tree.specs.declared.classes.ModifierKeyword.{ModifierKeyword}
+use Rattle.chord_tree.specs.declared.classes.ModifierKeyword.TheVariants as modifiers
 use Rattle.chord_tree.specs.declared.classes.Modifier.{Modifier}
 use Rattle.chord_tree.specs.declared.classes.ReturnType.{ReturnType}
 use Rattle.chord_tree.specs.declared.classes.ReturnType.TheVariants as results
 use Rattle.chord_tree.specs.declared.classes.Formal.{Formal}
 use Rattle.chord_tree.specs.declared.classes.NamePart.{NamePart}
 use Rattle.chord_tree.specs.Node.{Node, End, ◌▸◌, Leaf, Made}
-use Rattle.chord_tree.specs.Tree.{FormalsTree, HeaderTree, MemberTree, AConstructor, AChord, ClassTree, UsingTree, ProgramTree, BlockTree}
-use Rattle.chord_tree.specs.Forms.{node_block, basic_word}
-use Rattle.chord_tree.specs.Members.{modifier_word, node_modifier, node_modifiers, node_type, node_formal, node_more_formals, node_formal_list, node_formals, node_result, node_header, node_headers, node_rest, node_member, node_members, node_public, node_base, node_class, node_classes, node_name_parts, node_using, node_usings, node_all_classes, node_program}
+use Rattle.chord_tree.specs.Tree.{FormalsTree, HeaderTree, MemberTree, ConstructorMember, ChordMember, ClassTree, UsingTree, ProgramTree, BlockTree}
+use Rattle.chord_tree.specs.StmtNodes.{node_block, basic_keyword}
+use Rattle.chord_tree.specs.ClassNodes.{modifier_keyword, node_modifier, node_modifiers, node_type, node_formal, node_more_formals, node_formal_list, node_formals, node_result, node_header, node_headers, node_rest, node_member, node_members, node_public, node_base, node_class, node_classes, node_name_parts, node_using, node_usings, node_all_classes, node_program}
 use Rattle.chord_tree.specs.Program.{spelling, IsProgram}
 use Rattle.chord_tree.proofs.OneTree.{one_node}
 use Rattle.chord_tree.proofs.Back.{back, back_block, basic_of, basic_back, bytes_of, two, three}
@@ -34,21 +34,21 @@ at_of _ = 0
 abbrev name_of : Node → Name
 name_of n = record { text = bytes_of (token_of n); at = at_of n }
 
-abbrev modifier_of : Kind → ModifierWord
-modifier_of (kinds.Word words.Public) = modifiers.Public
-modifier_of (kinds.Word words.Private) = modifiers.Private
-modifier_of (kinds.Word words.Protected) = modifiers.Protected
-modifier_of (kinds.Word words.Virtual) = modifiers.Virtual
-modifier_of (kinds.Word words.Override) = modifiers.Override
+abbrev modifier_of : Kind → ModifierKeyword
+modifier_of (kinds.Word keywords.Public) = modifiers.Public
+modifier_of (kinds.Word keywords.Private) = modifiers.Private
+modifier_of (kinds.Word keywords.Protected) = modifiers.Protected
+modifier_of (kinds.Word keywords.Virtual) = modifiers.Virtual
+modifier_of (kinds.Word keywords.Override) = modifiers.Override
 modifier_of _ = modifiers.Static
 
-word_back : (w : ModifierWord) → modifier_of (kinds.Word (modifier_word w)) ≡ w
+word_back : (w : ModifierKeyword) → modifier_of (kinds.Word (modifier_keyword w)) ≡ w
 word_back modifiers.Public = refl
 word_back _ = refl
 
 abbrev to_modifier : Node → Modifier
-to_modifier (Made p (w ▸ End)) = record { word = modifier_of (token_of w); at = at_of w }
-to_modifier _ = record { word = modifiers.Static; at = 0 }
+to_modifier (Made p (w ▸ End)) = record { keyword = modifier_of (token_of w); at = at_of w }
+to_modifier _ = record { keyword = modifiers.Static; at = 0 }
 
 abbrev to_modifiers : Node → List Modifier
 to_modifiers (Made p (m ▸ ms ▸ End)) = to_modifier m ∷ to_modifiers ms
@@ -76,12 +76,12 @@ to_list (Made p (f ▸ fs ▸ End)) = to_formal f ∷ to_more fs
 to_list _ = []
 
 abbrev to_formals : Node → FormalsTree
-to_formals (Made p (o ▸ fs ▸ c ▸ End)) = record { at = at_of o; all = to_list fs }
-to_formals n = record { at = 0; all = [] }
+to_formals (Made p (o ▸ fs ▸ c ▸ End)) = record { at = at_of o; parameters = to_list fs }
+to_formals n = record { at = 0; parameters = [] }
 
 abbrev plain_of : Kind → ℕ → ReturnType
-plain_of (kinds.Word words.Async) at = results.Async at
-plain_of (kinds.Word words.Void) at = results.Void at
+plain_of (kinds.Word keywords.Async) at = results.Async at
+plain_of (kinds.Word keywords.Void) at = results.Void at
 plain_of kind at = results.Value (types.Basic (basic_of kind) at)
 
 abbrev to_plain : Node → ReturnType
@@ -103,15 +103,15 @@ to_headers _ = []
 
 -- a member by its modifiers and what follows them
 abbrev rest_of : List Modifier → Node → MemberTree
-rest_of ms (Made p (x ▸ Made q (f ▸ b ▸ End) ▸ End)) = AConstructor ms (name_of x) (to_formals f) (back b).block
-rest_of ms (Made p (c ▸ Made q (x ▸ f ▸ hs ▸ b ▸ End) ▸ End)) = AChord (record { modifiers = ms; result_type = results.Value (types.Class (name_of c)); name = name_of x; formals = to_formals f } ∷ to_headers hs) (back b).block
-rest_of ms (Made p (r ▸ x ▸ f ▸ hs ▸ b ▸ End)) = AChord (record { modifiers = ms; result_type = to_plain r; name = name_of x; formals = to_formals f } ∷ to_headers hs) (back b).block
-rest_of ms n = AChord [] (back n).block
+rest_of ms (Made p (x ▸ Made q (f ▸ b ▸ End) ▸ End)) = ConstructorMember ms (name_of x) (to_formals f) (back b).block
+rest_of ms (Made p (c ▸ Made q (x ▸ f ▸ hs ▸ b ▸ End) ▸ End)) = ChordMember (record { modifiers = ms; result_type = results.Value (types.Class (name_of c)); name = name_of x; formals = to_formals f } ∷ to_headers hs) (back b).block
+rest_of ms (Made p (r ▸ x ▸ f ▸ hs ▸ b ▸ End)) = ChordMember (record { modifiers = ms; result_type = to_plain r; name = name_of x; formals = to_formals f } ∷ to_headers hs) (back b).block
+rest_of ms n = ChordMember [] (back n).block
 
 abbrev to_member : Node → MemberTree
-to_member (Made p (b ▸ End)) = AChord [] (back b).block
+to_member (Made p (b ▸ End)) = ChordMember [] (back b).block
 to_member (Made p (ms ▸ r ▸ End)) = rest_of (to_modifiers ms) r
-to_member n = AChord [] (back n).block
+to_member n = ChordMember [] (back n).block
 
 abbrev to_members : Node → List MemberTree
 to_members (Made p (m ▸ ms ▸ End)) = to_member m ∷ to_members ms
@@ -151,7 +151,7 @@ to_program (Made p (us ▸ End)) = record { usings = to_usings us; classes = [] 
 to_program _ = record { usings = []; classes = [] }
 
 modifier_back : (m : Modifier) → to_modifier (node_modifier m) ≡ m
-modifier_back m = ap (λ w. record { word = w; at = m.at }) (word_back m.word)
+modifier_back m = ap (λ w. record { keyword = w; at = m.at }) (word_back m.keyword)
 
 modifiers_back : (ms : List Modifier) → to_modifiers (node_modifiers ms) ≡ ms
 modifiers_back [] = refl
@@ -173,9 +173,9 @@ list_back [] = refl
 list_back (f ∷ fs) = two (λ x xs. x ∷ xs) _ f _ fs (formal_back f) (more_back fs)
 
 formals_back : (f : FormalsTree) → to_formals (node_formals f) ≡ f
-formals_back f = ap (λ fs. record { at = f.at; all = fs }) (list_back f.all)
+formals_back f = ap (λ fs. record { at = f.at; parameters = fs }) (list_back f.parameters)
 
-plain_basic : (basic : BasicType) (at : ℕ) → plain_of (kinds.Word (basic_word basic)) at ≡ results.Value (types.Basic basic at)
+plain_basic : (basic : BasicType) (at : ℕ) → plain_of (kinds.Word (basic_keyword basic)) at ≡ results.Value (types.Basic basic at)
 plain_basic basics.Int at = refl
 plain_basic _ at = refl
 
@@ -195,20 +195,20 @@ headers_back : (hs : List HeaderTree) → to_headers (node_headers hs) ≡ hs
 headers_back [] = refl
 headers_back (h ∷ hs) = two (λ x xs. x ∷ xs) _ h _ hs (header_back h) (headers_back hs)
 
-rest_back : (ms : List Modifier) (r : ReturnType) (x : Name) (f : FormalsTree) (hs : List HeaderTree) (b : BlockTree) → rest_of ms (node_rest r x f hs b) ≡ AChord (header_by ms x r f ∷ hs) b
-rest_back ms (results.Async at) x f hs b = three (λ g k c. AChord (header_by ms x (results.Async at) g ∷ k) c) _ f _ hs _ b (formals_back f) (headers_back hs) (back_block b)
-rest_back ms (results.Void at) x f hs b = three (λ g k c. AChord (header_by ms x (results.Void at) g ∷ k) c) _ f _ hs _ b (formals_back f) (headers_back hs) (back_block b)
+rest_back : (ms : List Modifier) (r : ReturnType) (x : Name) (f : FormalsTree) (hs : List HeaderTree) (b : BlockTree) → rest_of ms (node_rest r x f hs b) ≡ ChordMember (header_by ms x r f ∷ hs) b
+rest_back ms (results.Async at) x f hs b = three (λ g k c. ChordMember (header_by ms x (results.Async at) g ∷ k) c) _ f _ hs _ b (formals_back f) (headers_back hs) (back_block b)
+rest_back ms (results.Void at) x f hs b = three (λ g k c. ChordMember (header_by ms x (results.Void at) g ∷ k) c) _ f _ hs _ b (formals_back f) (headers_back hs) (back_block b)
 rest_back ms (results.Value (types.Basic basic at)) x f hs b =
-    ap (λ r. AChord (header_by ms x r (to_formals (node_formals f)) ∷ to_headers (node_headers hs)) (back (node_block b)).block) (plain_basic basic at)
-    ∙ three (λ g k c. AChord (header_by ms x (results.Value (types.Basic basic at)) g ∷ k) c) _ f _ hs _ b (formals_back f) (headers_back hs) (back_block b)
-rest_back ms (results.Value (types.Class class)) x f hs b = three (λ g k c. AChord (header_by ms x (results.Value (types.Class class)) g ∷ k) c) _ f _ hs _ b (formals_back f) (headers_back hs) (back_block b)
+    ap (λ r. ChordMember (header_by ms x r (to_formals (node_formals f)) ∷ to_headers (node_headers hs)) (back (node_block b)).block) (plain_basic basic at)
+    ∙ three (λ g k c. ChordMember (header_by ms x (results.Value (types.Basic basic at)) g ∷ k) c) _ f _ hs _ b (formals_back f) (headers_back hs) (back_block b)
+rest_back ms (results.Value (types.Class class)) x f hs b = three (λ g k c. ChordMember (header_by ms x (results.Value (types.Class class)) g ∷ k) c) _ f _ hs _ b (formals_back f) (headers_back hs) (back_block b)
 
 member_back : (m : MemberTree) → to_member (node_member m) ≡ m
-member_back (AConstructor ms x f b) = three (λ k g c. AConstructor k x g c) _ ms _ f _ b (modifiers_back ms) (formals_back f) (back_block b)
-member_back (AChord [] b) = ap (AChord []) (back_block b)
-member_back (AChord (h ∷ hs) b) =
+member_back (ConstructorMember ms x f b) = three (λ k g c. ConstructorMember k x g c) _ ms _ f _ b (modifiers_back ms) (formals_back f) (back_block b)
+member_back (ChordMember [] b) = ap (ChordMember []) (back_block b)
+member_back (ChordMember (h ∷ hs) b) =
     rest_back (to_modifiers (node_modifiers h.modifiers)) h.result_type h.name h.formals hs b
-    ∙ ap (λ ms. AChord (header_by ms h.name h.result_type h.formals ∷ hs) b) (modifiers_back h.modifiers)
+    ∙ ap (λ ms. ChordMember (header_by ms h.name h.result_type h.formals ∷ hs) b) (modifiers_back h.modifiers)
 
 members_back : (ms : List MemberTree) → to_members (node_members ms) ≡ ms
 members_back [] = refl

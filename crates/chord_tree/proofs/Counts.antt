@@ -4,13 +4,13 @@ use Rattle.std.specs.Prelude.{nat_eq}
 use Rattle.std.proofs.lemmas.Bool.{eqb-true}
 use Rattle.chord_tree.specs.declared.classes.Class.{Class}
 use Rattle.chord_tree.specs.declared.classes.Using.{Using}
-use Rattle.chord_tree.specs.Part.{Part, number_of}
-use Rattle.chord_tree.specs.Symbols.{Program}
+use Rattle.chord_tree.specs.Symbol.{Symbol, number_of}
+use Rattle.chord_tree.specs.Symbols.{Whole_program}
 use Rattle.chord_tree.specs.Grammar.{productions, rule_count}
 use Rattle.chord_tree.specs.Derivation.{Spelled, kinds_of, head_of, parts_of}
 use Rattle.chord_tree.specs.Node.{Node, Nodes, End, ◌▸◌, Leaf, Made, spell, spell_all, size, size_all, Fits, FitAll, leaf, made, none, more, IsNumbered}
-use Rattle.chord_tree.specs.Tree.{ExprTree, LinkTrees, LinkTree, DotTrees, NoLinks, MoreLinks, MakeLink, NoDots, MoreDots, MakeDot, MakeActuals, links, chained, ClassTree}
-use Rattle.chord_tree.specs.Members.{node_class, node_classes, node_usings, node_program}
+use Rattle.chord_tree.specs.Tree.{ExprTree, LinkTrees, LinkTree, DotTrees, NoLinks, MoreLinks, MakeLink, NoDots, MoreDots, MakeDot, MakeActuals, ChainExpr, ClassTree}
+use Rattle.chord_tree.specs.ClassNodes.{node_class, node_classes, node_usings, node_program}
 use Rattle.chord_tree.specs.View.{see_class, see_using}
 use Rattle.chord_tree.specs.Program.{spelling, IsProgram}
 use Rattle.chord_tree.specs.Terms.{Term, term, operated, called, first_token}
@@ -53,7 +53,7 @@ abbrev how_many : Nodes → ℕ
 how_many End = 0
 how_many (n ▸ ns) = suc (how_many ns)
 
-as_many : {ps : List Part} {d : ℕ} {ns : Nodes} {w : List Spelled} → FitAll ps d ns w → length ps ≡ how_many ns
+as_many : {ps : List Symbol} {d : ℕ} {ns : Nodes} {w : List Spelled} → FitAll ps d ns w → length ps ≡ how_many ns
 as_many none = refl
 as_many (more f g) = ap suc (as_many g)
 
@@ -66,7 +66,7 @@ abbrev inner_nodes : Node → Nodes
 inner_nodes (Leaf kind at) = End
 inner_nodes (Made p ns) = ns
 
-no_class : {p : Part} {n : Node} {d : ℕ} {w : List Spelled} (us : Node) → Fits p d n w → p ≡ Program → n ≡ Made Program (us ▸ End) → ⊥
+no_class : {p : Symbol} {n : Node} {d : ℕ} {w : List Spelled} (us : Node) → Fits p d n w → p ≡ Whole_program → n ≡ Made Whole_program (us ▸ End) → ⊥
 no_class us (leaf a) e g = cc
 no_class us (made {x} {ns = ns} i l h a f) e g =
     let m : length (parts_of i) ≡ 1 = as_many f ∙ ap (λ z. how_many (inner_nodes z)) g in
@@ -96,8 +96,7 @@ first_operated (MoreLinks (MakeLink operator at operand) ls) t = first_operated 
 
 pub first_called : (ds : DotTrees) (t : Term) → first_token (called ds t) ≡ first_token t
 first_called NoDots t = refl
-first_called (MoreDots (MakeDot dot name (MakeActuals at all)) ds) t = first_called ds _
+first_called (MoreDots (MakeDot dot name (MakeActuals at arguments)) ds) t = first_called ds _
 
-pub first_chained : (e : ExprTree) (ls : List LinkTree) → first_token (term (chained e ls)) ≡ first_token (term e)
-first_chained e [] = refl
-first_chained e (MakeLink operator at operand ∷ ls) = first_operated (links ls) _
+pub first_chained : (e : ExprTree) (l : LinkTree) (ls : LinkTrees) → first_token (term (ChainExpr e l ls)) ≡ first_token (term e)
+first_chained e (MakeLink operator at operand) ls = first_operated ls _

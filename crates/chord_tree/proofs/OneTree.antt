@@ -1,21 +1,21 @@
 -- A list of kinds has one tree at most.
 use Rattle.std.proofs.Common.{◌≡◌, ℕ, ◌+◌, true, List, [], ◌∷◌, ◌++◌, refl, sym, ap, subst, ◌∙◌, arith}
 use Rattle.std.proofs.lemmas.Bool.{eqb-true}
-use Rattle.chord_tree.specs.Part.{Part, Terminal, Symbol}
-use Rattle.chord_tree.specs.Symbols.{Program}
-use Rattle.chord_tree.specs.Grammar.{class_count}
-use Rattle.chord_tree.specs.Derivation.{Spelled, Want, kinds_of, next, parts_of, inside, placed, Derives, done, word, rule}
+use Rattle.chord_tree.specs.Symbol.{Symbol, Terminal, Nonterminal}
+use Rattle.chord_tree.specs.Symbols.{Whole_program}
+use Rattle.chord_tree.specs.Grammar.{terminal_count}
+use Rattle.chord_tree.specs.Derivation.{Spelled, Want, kinds_of, next, parts_of, inside, at_depth, Derives, done, token, rule}
 use Rattle.chord_tree.specs.Node.{Node, Nodes, End, ◌▸◌, Leaf, Made, spell, spell_all, Fits, FitAll, IsDerived, leaf, made, none, more, size, size_all, IsNumbered, AreNumbered, number_at}
 use Rattle.chord_tree.proofs.Ahead.{choice, next_small, follows_at}
 use Rattle.chord_tree.proofs.Table.{follows}
 use Rattle.chord_tree.proofs.LookAhead.{starts, Legal, legal_rule, chosen}
 
 mutual
-  pub derives : {p : Part} {d : ℕ} {n : Node} {w : List Spelled} {s : List Want} → Fits p d n w → Derives s w → Derives ((p, d) ∷ s) (spell n d w)
-  derives (leaf e) r = word e r
+  pub derives : {p : Symbol} {d : ℕ} {n : Node} {w : List Spelled} {s : List Want} → Fits p d n w → Derives s w → Derives ((p, d) ∷ s) (spell n d w)
+  derives (leaf e) r = token e r
   derives (made i l h a f) r = rule i l h a (derives_all f r)
 
-  pub derives_all : {ps : List Part} {d : ℕ} {ns : Nodes} {w : List Spelled} {s : List Want} → FitAll ps d ns w → Derives s w → Derives (placed d ps ++ s) (spell_all ns d w)
+  pub derives_all : {ps : List Symbol} {d : ℕ} {ns : Nodes} {w : List Spelled} {s : List Want} → FitAll ps d ns w → Derives s w → Derives (at_depth d ps ++ s) (spell_all ns d w)
   derives_all none r = r
   derives_all (more f g) r = derives f (derives_all g r)
 
@@ -31,7 +31,7 @@ abbrev mutual
 
 mutual
   -- Two counted of one part that spell the same kinds are the same but for numbers, and the same kinds follow.
-  pub same : {p q : Part} {d e : ℕ} {n m : Node} {w y : List Spelled} {s t : List Want} → Fits p d n w → Fits q e m y → p ≡ q → d ≡ e → s ≡ t → Derives s w → Derives t y → Legal ((p, d) ∷ s)
+  pub same : {p q : Symbol} {d e : ℕ} {n m : Node} {w y : List Spelled} {s t : List Want} → Fits p d n w → Fits q e m y → p ≡ q → d ≡ e → s ≡ t → Derives s w → Derives t y → Legal ((p, d) ∷ s)
       → kinds_of (spell n d w) ≡ kinds_of (spell m e y) → (unmarked n ≡ unmarked m) × (kinds_of w ≡ kinds_of y)
   same (leaf {k} a) (leaf {k = j} b) h g z r u l q = let first : k ≡ j = cc in (ap (λ x. Leaf x 0) first, cc)
   same (leaf a) (made j n o b g) h i z r u l q = cc
@@ -40,13 +40,13 @@ mutual
       let xs : x ≡ x' = cc in
       let nk : next (kinds_of (spell_all ns (inside x d) w)) ≡ next (kinds_of (spell_all ms (inside x' d') y)) = ap next q in
       let one : choice x (next (kinds_of (spell_all ns (inside x d) w))) ≡ i = chosen x d i _ s l m h (next_small (kinds_of (spell_all ns (inside x d) w))) a (starts (derives_all f r)) in
-      let lt : Legal ((Symbol x', d') ∷ t) = subst (λ (v : List Want). Legal v) (ap (λ v. (Symbol v, d) ∷ s) xs ∙ ap (λ v. (Symbol x', v) ∷ s) de ∙ ap (λ v. (Symbol x', d') ∷ v) z) l in
+      let lt : Legal ((Nonterminal x', d') ∷ t) = subst (λ (v : List Want). Legal v) (ap (λ v. (Nonterminal v, d) ∷ s) xs ∙ ap (λ v. (Nonterminal x', v) ∷ s) de ∙ ap (λ v. (Nonterminal x', d') ∷ v) z) l in
       let two : choice x' (next (kinds_of (spell_all ms (inside x' d') y))) ≡ j = chosen x' d' j _ t lt n o (next_small (kinds_of (spell_all ms (inside x' d') y))) b (starts (derives_all g u)) in
       let ij : i ≡ j = sym one ∙ ap (choice x) nk ∙ ap (λ v. choice v (next (kinds_of (spell_all ms (inside x' d') y)))) xs ∙ two in
       let k = same_all f g (ap parts_of ij) (ap (λ v. inside v d) xs ∙ ap (inside x') de) z r u (legal_rule x d i s l m h) q in
-      (ap (λ v. Made (Symbol v) (unmarked_all ns)) xs ∙ ap (Made (Symbol x')) k.0, k.1)
+      (ap (λ v. Made (Nonterminal v) (unmarked_all ns)) xs ∙ ap (Made (Nonterminal x')) k.0, k.1)
 
-  pub same_all : {ps qs : List Part} {d e : ℕ} {ns ms : Nodes} {w y : List Spelled} {s t : List Want} → FitAll ps d ns w → FitAll qs e ms y → ps ≡ qs → d ≡ e → s ≡ t → Derives s w → Derives t y → Legal (placed d ps ++ s)
+  pub same_all : {ps qs : List Symbol} {d e : ℕ} {ns ms : Nodes} {w y : List Spelled} {s t : List Want} → FitAll ps d ns w → FitAll qs e ms y → ps ≡ qs → d ≡ e → s ≡ t → Derives s w → Derives t y → Legal (at_depth d ps ++ s)
       → kinds_of (spell_all ns d w) ≡ kinds_of (spell_all ms e y) → (unmarked_all ns ≡ unmarked_all ms) × (kinds_of w ≡ kinds_of y)
   same_all none none h g z r u l q = (refl, q)
   same_all none (more f g) h e z r u l q = cc
@@ -54,7 +54,7 @@ mutual
   same_all {e = e} {s = s} {t = t} (more {p} {ps} {d} {n} {ns} f g) (more {p = p'} {ps = ps'} {n = m} {ns = ms} f' g') h de z r u l q =
       let pe : p ≡ p' = cc in
       let pse : ps ≡ ps' = cc in
-      let rest : placed d ps ++ s ≡ placed e ps' ++ t = ap (λ v. placed d v ++ s) pse ∙ ap (λ v. placed v ps' ++ s) de ∙ ap (λ v. placed e ps' ++ v) z in
+      let rest : at_depth d ps ++ s ≡ at_depth e ps' ++ t = ap (λ v. at_depth d v ++ s) pse ∙ ap (λ v. at_depth v ps' ++ s) de ∙ ap (λ v. at_depth e ps' ++ v) z in
       let a = same f f' pe de rest (derives_all g r) (derives_all g' u) l q in
       let b = same_all g g' pse de z r u l.1 a.1 in
       (ap (λ v. v ▸ unmarked_all ns) a.0 ∙ ap (λ v. unmarked m ▸ v) b.0, b.1)
@@ -101,10 +101,10 @@ mutual
       let s = unmarked_size n m nm in
       ap (λ z. z ▸ ns) (equal n m at nm h.0 g.0) ∙ ap (λ z. m ▸ z) (equal_all ns ms (at + size n) (ap after_first e) h.1 (subst (λ z. AreNumbered ms (at + z)) (sym s) g.1))
 
-pub start_legal : Legal ((Program, 0) ∷ [])
-unfolding follows_at follows class_count
-start_legal = (λ c l h. let e : c ≡ class_count = eqb-true _ _ h in subst (λ x. follows_at 0 x ≡ true) (sym e) refl, tt)
+pub start_legal : Legal ((Whole_program, 0) ∷ [])
+unfolding follows_at follows terminal_count
+start_legal = (λ c l h. let e : c ≡ terminal_count = eqb-true _ _ h in subst (λ x. follows_at 0 x ≡ true) (sym e) refl, tt)
 
 -- Two derived nodes whose numbers are places and which spell the same kinds are the same.
-pub one_node : {n m : Node} → IsDerived Program n → IsDerived Program m → kinds_of (spell n 0 []) ≡ kinds_of (spell m 0 []) → IsNumbered n 0 → IsNumbered m 0 → n ≡ m
+pub one_node : {n m : Node} → IsDerived Whole_program n → IsDerived Whole_program m → kinds_of (spell n 0 []) ≡ kinds_of (spell m 0 []) → IsNumbered n 0 → IsNumbered m 0 → n ≡ m
 one_node {n} {m} a b e h g = equal n m 0 (same a b refl refl refl done done start_legal e).0 h g

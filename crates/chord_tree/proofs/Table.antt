@@ -1,7 +1,7 @@
 -- The tables of one token ahead. Made by tools/grammar.py.
 use Rattle.std.specs.Prelude.{ℕ, List, [], ◌∷◌}
 
--- the classes that may begin each symbol
+-- the terminals that may begin each nonterminal
 unfoldable pub firsts : List (List ℕ)
 firsts =
     (0 ∷ 4 ∷ 7 ∷ []) ∷
@@ -59,7 +59,7 @@ firsts =
     (20 ∷ []) ∷
     []
 
--- the classes that may follow each symbol
+-- the terminals that may follow each nonterminal
 unfoldable pub follows : List (List ℕ)
 follows =
     (52 ∷ []) ∷
@@ -117,7 +117,7 @@ follows =
     (2 ∷ 3 ∷ 21 ∷ 22 ∷ 30 ∷ 31 ∷ 32 ∷ 33 ∷ 34 ∷ 35 ∷ 36 ∷ 37 ∷ 38 ∷ 39 ∷ 40 ∷ 41 ∷ 42 ∷ []) ∷
     []
 
--- the production of each symbol at each class, or the number of productions
+-- the production of each nonterminal at each terminal, or the number of productions
 unfoldable pub choices : List (List ℕ)
 choices =
     (0 ∷ 0 ∷ 0 ∷ 0 ∷ 0 ∷ 0 ∷ 0 ∷ 0 ∷ 0 ∷ 0 ∷ 0 ∷ 0 ∷ 0 ∷ 0 ∷ 0 ∷ 0 ∷ 0 ∷ 0 ∷ 0 ∷ 0 ∷ 0 ∷ 0 ∷ 0 ∷ 0 ∷ 0 ∷ 0 ∷ 0 ∷ 0 ∷ 0 ∷ 0 ∷ 0 ∷ 0 ∷ 0 ∷ 0 ∷ 0 ∷ 0 ∷ 0 ∷ 0 ∷ 0 ∷ 0 ∷ 0 ∷ 0 ∷ 0 ∷ 0 ∷ 0 ∷ 0 ∷ 0 ∷ 0 ∷ 0 ∷ 0 ∷ 0 ∷ 0 ∷ 0 ∷ []) ∷
@@ -175,14 +175,14 @@ choices =
     (119 ∷ 119 ∷ 119 ∷ 119 ∷ 119 ∷ 119 ∷ 119 ∷ 119 ∷ 119 ∷ 119 ∷ 119 ∷ 119 ∷ 119 ∷ 119 ∷ 119 ∷ 119 ∷ 119 ∷ 119 ∷ 119 ∷ 119 ∷ 120 ∷ 119 ∷ 119 ∷ 119 ∷ 119 ∷ 119 ∷ 119 ∷ 119 ∷ 119 ∷ 119 ∷ 119 ∷ 119 ∷ 119 ∷ 119 ∷ 119 ∷ 119 ∷ 119 ∷ 119 ∷ 119 ∷ 119 ∷ 119 ∷ 119 ∷ 119 ∷ 119 ∷ 119 ∷ 119 ∷ 119 ∷ 119 ∷ 119 ∷ 119 ∷ 119 ∷ 119 ∷ 119 ∷ []) ∷
     []
 
--- the symbols that may derive nothing
+-- the nonterminals that may derive nothing
 unfoldable pub empties : List ℕ
 empties = 1 ∷ 2 ∷ 4 ∷ 6 ∷ 7 ∷ 8 ∷ 10 ∷ 14 ∷ 19 ∷ 20 ∷ 24 ∷ 30 ∷ 31 ∷ 33 ∷ 35 ∷ 36 ∷ 38 ∷ 40 ∷ 42 ∷ 44 ∷ 46 ∷ 48 ∷ 52 ∷ []
 
--- a production of each symbol by which it ends soonest
+-- a production of each nonterminal by which it ends soonest
 unfoldable pub finishes : List ℕ
 finishes = 0 ∷ 1 ∷ 3 ∷ 5 ∷ 6 ∷ 8 ∷ 9 ∷ 11 ∷ 13 ∷ 15 ∷ 16 ∷ 18 ∷ 25 ∷ 26 ∷ 28 ∷ 30 ∷ 32 ∷ 33 ∷ 38 ∷ 39 ∷ 41 ∷ 43 ∷ 44 ∷ 48 ∷ 49 ∷ 55 ∷ 57 ∷ 59 ∷ 61 ∷ 64 ∷ 70 ∷ 72 ∷ 74 ∷ 75 ∷ 77 ∷ 78 ∷ 80 ∷ 82 ∷ 83 ∷ 85 ∷ 86 ∷ 88 ∷ 89 ∷ 92 ∷ 93 ∷ 98 ∷ 99 ∷ 102 ∷ 103 ∷ 109 ∷ 110 ∷ 112 ∷ 119 ∷ []
 
--- a bound on the parts until each symbol has ended
+-- a bound on the symbols until each nonterminal has ended
 unfoldable pub weights : List ℕ
 weights = 11 ∷ 1 ∷ 1 ∷ 5 ∷ 1 ∷ 8 ∷ 1 ∷ 1 ∷ 1 ∷ 15 ∷ 1 ∷ 2 ∷ 13 ∷ 9 ∷ 1 ∷ 9 ∷ 2 ∷ 2 ∷ 4 ∷ 1 ∷ 1 ∷ 4 ∷ 2 ∷ 4 ∷ 1 ∷ 3 ∷ 7 ∷ 3 ∷ 6 ∷ 2 ∷ 1 ∷ 1 ∷ 7 ∷ 1 ∷ 4 ∷ 1 ∷ 1 ∷ 17 ∷ 1 ∷ 15 ∷ 1 ∷ 13 ∷ 1 ∷ 11 ∷ 1 ∷ 9 ∷ 1 ∷ 7 ∷ 1 ∷ 5 ∷ 4 ∷ 2 ∷ 1 ∷ []

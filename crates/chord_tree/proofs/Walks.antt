@@ -12,9 +12,9 @@ module _ {Note : Type 0} (kind : Note → Bool) where
   joined : (a b : List Note) → counted (a ++ b) ≡ counted a + counted b
   joined a b = sum_by-append (λ x. cond (kind x) 1 0) a b
 
-  -- a and b at one spot, and then the spots behind it
+  -- a and b at one spot, and then the spots others it
   two_at_a_spot : (a b all one other : List Note) → counted all ≡ counted one + counted other → counted ((a ++ b) ++ all) ≡ counted (a ++ one) + counted (b ++ other)
-  two_at_a_spot a b all one other behind = omega (arith, joined (a ++ b) all, joined a b, joined a one, joined b other, behind)
+  two_at_a_spot a b all one other others = omega (arith, joined (a ++ b) all, joined a b, joined a one, joined b other, others)
 
   module _ {Around : Type 0} (first second : Notes Around Note) where
     abbrev at : Notes Around Note → Spot Around → List Note

@@ -14,7 +14,7 @@ use Rattle.chord_tree.specs.declared.stmts.Item.TheFolds.{fold-Item, fold-Stmt, 
 use Rattle.chord_tree.proofs.Weights.{total}
 
 abbrev pub item_weight : Item-F ℕ ℕ ℕ → ℕ
-item_weight (open_nodes.Plain stmt) = stmt + 1
+item_weight (open_nodes.Stmt stmt) = stmt + 1
 item_weight _ = 1
 
 abbrev pub stmt_weight : Stmt-F ℕ ℕ ℕ → ℕ
@@ -48,8 +48,8 @@ of_if_else at bracket test first second = ap weigh_stmt (sym (stmt.rolls-IfElse 
 pub of_while : (at bracket : ℕ) (test : Expr) (body : Box Stmt Global) → weigh_stmt (stmt.While at bracket test body) ≡ weigh_stmt body.value + 2
 of_while at bracket test body = ap weigh_stmt (sym (stmt.rolls-While at bracket test body)) ∙ fold-roll-Stmt ℕ ℕ ℕ item_weight stmt_weight block_weight (open_nodes.While at bracket test body)
 
-pub of_plain : (s : Stmt) → weigh_item (item.Plain s) ≡ weigh_stmt s + 1
-of_plain s = ap weigh_item (sym (item.rolls-Plain s)) ∙ fold-roll-Item ℕ ℕ ℕ item_weight stmt_weight block_weight (open_nodes.Plain s)
+pub of_plain : (s : Stmt) → weigh_item (item.Stmt s) ≡ weigh_stmt s + 1
+of_plain s = ap weigh_item (sym (item.rolls-Stmt s)) ∙ fold-roll-Item ℕ ℕ ℕ item_weight stmt_weight block_weight (open_nodes.Stmt s)
 
 pub of_braces : (block : Block) → weigh_block block ≡ total (map weigh_item (out-Block block).items.items) + 2
 of_braces block = fold_out-Block ℕ ℕ ℕ item_weight stmt_weight block_weight block

@@ -5,56 +5,58 @@ use Rattle.std.specs.Prelude.{nat_lt}
 use Rattle.chord_lexer.specs.declared.token.Kind.{Kind}
 use Rattle.chord_lexer.specs.declared.token.Kind.TheVariants as kinds
 use Rattle.chord_lexer.specs.declared.token.Token.{Token}
-use Rattle.chord_tree.specs.Part.{Part}
+use Rattle.chord_tree.specs.Symbol.{Symbol}
 use Rattle.chord_tree.specs.Derivation.{Spelled, kinds_of}
 use Rattle.chord_tree.specs.Node.{Node, Nodes, End, ◌▸◌, Leaf, Made, spell, spell_all}
-use Rattle.chord_tree.specs.Tree.{ExprTree, LinkTrees, LinkTree, DotTrees, DotTree, MoreDots, MakeDot, NoLinks, MoreLinks, MakeLink, links, chained}
-use Rattle.chord_tree.specs.Shape.{mark, level, mark_of, bare, lifted, alone, rank, node_links, node_dots, node_dot, node_expr}
+use Rattle.chord_tree.specs.Tree.{ExprTree, LinkTrees, LinkTree, DotTrees, DotTree, MoreDots, MakeDot, NoLinks, MoreLinks, MakeLink, links, ChainExpr}
+use Rattle.chord_tree.specs.ExprNodes.{mark_leaf, operator_level, mark_of, bare, lifted, alone, precedence, node_links, node_dots, node_dot, node_expr}
 use Rattle.chord_tree.specs.declared.exprs.Link.{Link, out-Link}
 use Rattle.chord_tree.specs.ViewExprs.{see_expr, see_link}
 use Rattle.chord_tree.proofs.SeenExprs.{seen_link}
-use Rattle.chord_tree.specs.Program.{words, words_all, unplaced, Adds}
+use Rattle.chord_tree.specs.Program.{node_kinds, nodes_kinds, without_span, Adds}
 
 mutual
   -- what a node spells are its words, whatever the depth
-  pub spell_words : (n : Node) (d : ℕ) (w : List Spelled) → kinds_of (spell n d w) ≡ words n ++ kinds_of w
+  pub spell_words : (n : Node) (d : ℕ) (w : List Spelled) → kinds_of (spell n d w) ≡ node_kinds n ++ kinds_of w
   spell_words (Leaf kind at) d w = refl
   spell_words (Made p ns) d w = spell_all_words ns _ w
 
-  spell_all_words : (ns : Nodes) (d : ℕ) (w : List Spelled) → kinds_of (spell_all ns d w) ≡ words_all ns ++ kinds_of w
+  spell_all_words : (ns : Nodes) (d : ℕ) (w : List Spelled) → kinds_of (spell_all ns d w) ≡ nodes_kinds ns ++ kinds_of w
   spell_all_words End d w = refl
-  spell_all_words (n ▸ ns) d w = spell_words n d _ ∙ ap (λ z. words n ++ z) (spell_all_words ns d w) ∙ sym (append_assoc (words n) (words_all ns) (kinds_of w))
+  spell_all_words (n ▸ ns) d w = spell_words n d _ ∙ ap (λ z. node_kinds n ++ z) (spell_all_words ns d w) ∙ sym (append_assoc (node_kinds n) (nodes_kinds ns) (kinds_of w))
 
-pub words_lifted : (l m : ℕ) (n : Node) → words (lifted l m n) ≡ words n
+pub words_lifted : (l m : ℕ) (n : Node) → node_kinds (lifted l m n) ≡ node_kinds n
 words_lifted zero m n = refl
-words_lifted (suc l) m n = elim (nat_lt m (suc l)) as (λ b. words (cond b (alone (suc l) (lifted l m n)) n) ≡ words n) [ true ↦ append-nil (words (lifted l m n)) ∙ words_lifted l m n | false ↦ refl ]
+words_lifted (suc l) m n = elim (nat_lt m (suc l)) as (λ b. node_kinds (cond b (alone (suc l) (lifted l m n)) n) ≡ node_kinds n) [ true ↦ append-nil (node_kinds (lifted l m n)) ∙ words_lifted l m n | false ↦ refl ]
 
 -- nor on the level
-words_links : (l : ℕ) (ls : LinkTrees) → words (node_links l ls) ≡ words (node_links 0 ls)
+words_links : (l : ℕ) (ls : LinkTrees) → node_kinds (node_links l ls) ≡ node_kinds (node_links 0 ls)
 words_links l NoLinks = refl
 words_links l (MoreLinks (MakeLink o at t) more) =
-    ap (λ z. kinds.Mark (mark_of o) ∷ (z ++ (words (node_links l more) ++ []))) (words_lifted (l - 1) (rank t) (bare t) ∙ sym (words_lifted 0 (rank t) (bare t)))
-    ∙ ap (λ z. kinds.Mark (mark_of o) ∷ (words (lifted 0 (rank t) (bare t)) ++ (z ++ []))) (words_links l more)
+    ap (λ z. kinds.Mark (mark_of o) ∷ (z ++ (node_kinds (node_links l more) ++ []))) (words_lifted (l - 1) (precedence t) (bare t) ∙ sym (words_lifted 0 (precedence t) (bare t)))
+    ∙ ap (λ z. kinds.Mark (mark_of o) ∷ (node_kinds (lifted 0 (precedence t) (bare t)) ++ (z ++ []))) (words_links l more)
 
-pub words_chained : (first : ExprTree) (ls : List LinkTree) → words (bare (chained first ls)) ≡ words (bare first) ++ words (node_links 0 (links ls))
-words_chained first [] = sym (append-nil (words (bare first)))
-words_chained first (MakeLink o at t ∷ more) =
-    ap (λ z. z ++ (words (node_links (level o) (MoreLinks (MakeLink o at t) (links more))) ++ [])) (words_lifted (level o - 1) (rank first) (bare first))
-    ∙ ap (λ z. words (bare first) ++ z) (append-nil (words (node_links (level o) (MoreLinks (MakeLink o at t) (links more)))) ∙ words_links (level o) (MoreLinks (MakeLink o at t) (links more)))
+pub words_chained : (first : ExprTree) (l : LinkTree) (ls : LinkTrees) → node_kinds (bare (ChainExpr first l ls)) ≡ node_kinds (bare first) ++ (node_kinds (node_links 0 (MoreLinks l NoLinks)) ++ node_kinds (node_links 0 ls))
+words_chained first (MakeLink o at t) more =
+    let operand = node_kinds (lifted 0 (precedence t) (bare t)) in
+    let others = node_kinds (node_links 0 more) in
+    ap (λ z. z ++ (node_kinds (node_links (operator_level o) (MoreLinks (MakeLink o at t) more)) ++ [])) (words_lifted (operator_level o - 1) (precedence first) (bare first))
+    ∙ ap (λ z. node_kinds (bare first) ++ z) (append-nil (node_kinds (node_links (operator_level o) (MoreLinks (MakeLink o at t) more))) ∙ words_links (operator_level o) (MoreLinks (MakeLink o at t) more))
+    ∙ ap (λ z. node_kinds (bare first) ++ (kinds.Mark (mark_of o) ∷ z)) (ap (λ z. operand ++ z) (append-nil others) ∙ sym (ap (λ z. z ++ others) (append-nil operand)))
 
-pub words_expr : (e : ExprTree) → words (node_expr e) ≡ words (bare e)
-words_expr e = words_lifted 6 (rank e) (bare e)
+pub words_expr : (e : ExprTree) → node_kinds (node_expr e) ≡ node_kinds (bare e)
+words_expr e = words_lifted 6 (precedence e) (bare e)
 
 -- the tokens of kinds
 abbrev pub tokens : List Kind → List Token
-tokens ks = map unplaced ks
+tokens ks = map without_span ks
 
 pub tokens_append : (xs ys : List Kind) → tokens (xs ++ ys) ≡ tokens xs ++ tokens ys
-tokens_append xs ys = map-append unplaced xs ys
+tokens_append xs ys = map-append without_span xs ys
 
 -- The tokens grow by those of nodes, one after another.
 pub record AddsAll (old new : List Token) (nodes : Nodes) : Type 0 where
-  pub grown : new ≡ old ++ tokens (words_all nodes)
+  pub grown : new ≡ old ++ tokens (nodes_kinds nodes)
 
 grown_on : (a b c : List Token) (xs ys : List Kind) → b ≡ a ++ tokens xs → c ≡ b ++ tokens ys → c ≡ a ++ tokens (xs ++ ys)
 grown_on a b c xs ys h g = g ∙ ap (λ z. z ++ tokens ys) h ∙ append_assoc a (tokens xs) (tokens ys) ∙ ap (λ z. a ++ z) (sym (tokens_append xs ys))
@@ -63,29 +65,42 @@ pub nil : {a : List Token} → AddsAll a a End
 nil {a} = record { grown = sym (append-nil a) }
 
 pub cons : {a b c : List Token} {n : Node} {ns : Nodes} → Adds a b n → AddsAll b c ns → AddsAll a c (n ▸ ns)
-cons {a} {b} {c} {n} {ns} h g = record { grown = grown_on a b c (words n) (words_all ns) h.grown g.grown }
+cons {a} {b} {c} {n} {ns} h g = record { grown = grown_on a b c (node_kinds n) (nodes_kinds ns) h.grown g.grown }
 
-pub made : {p : Part} {a c : List Token} {ns : Nodes} → AddsAll a c ns → Adds a c (Made p ns)
+pub made : {p : Symbol} {a c : List Token} {ns : Nodes} → AddsAll a c ns → Adds a c (Made p ns)
 made h = record { grown = h.grown }
 
 pub leaf : {a b : List Token} {k : Kind} {x y : ℕ} → Adds a b (Leaf k x) → Adds a b (Leaf k y)
 leaf h = record { grown = h.grown }
 
-pub same_words : {a b : List Token} {n m : Node} → Adds a b n → words n ≡ words m → Adds a b m
+pub same_words : {a b : List Token} {n m : Node} → Adds a b n → node_kinds n ≡ node_kinds m → Adds a b m
 same_words {a} {b} h e = record { grown = h.grown ∙ ap (λ z. a ++ tokens z) e }
 
-pub as_level : {a b : List Token} (l : ℕ) (e : ExprTree) → Adds a b (bare e) → Adds a b (lifted l (rank e) (bare e))
-as_level l e h = same_words h (sym (words_lifted l (rank e) (bare e)))
+pub as_level : {a b : List Token} (l : ℕ) (e : ExprTree) → Adds a b (bare e) → Adds a b (lifted l (precedence e) (bare e))
+as_level l e h = same_words h (sym (words_lifted l (precedence e) (bare e)))
 
 -- an operand and the links after it
-pub chain_added : {a b c : List Token} (first : ExprTree) (ls : List LinkTree) → Adds a b (bare first) → Adds b c (node_links 0 (links ls)) → Adds a c (bare (chained first ls))
-chain_added {a} {b} {c} first ls h g = record { grown = grown_on a b c (words (bare first)) (words (node_links 0 (links ls))) h.grown g.grown ∙ ap (λ z. a ++ tokens z) (sym (words_chained first ls)) }
+pub chain_added : {a b c d : List Token} (first : ExprTree) (l : LinkTree) (ls : LinkTrees) → Adds a b (bare first) → Adds b c (node_links 0 (MoreLinks l NoLinks)) → Adds c d (node_links 0 ls) → Adds a d (bare (ChainExpr first l ls))
+chain_added {a} {b} {c} {d} first l ls h g k = record {
+  grown =
+      grown_on a b d (node_kinds (bare first)) (node_kinds (node_links 0 (MoreLinks l NoLinks)) ++ node_kinds (node_links 0 ls)) h.grown (grown_on b c d (node_kinds (node_links 0 (MoreLinks l NoLinks))) (node_kinds (node_links 0 ls)) g.grown k.grown)
+      ∙ ap (λ z. a ++ tokens z) (sym (words_chained first l ls));
+}
 
 pub dots_added : {a b c : List Token} (d : DotTree) (ds : DotTrees) → Adds a b (node_dot d) → Adds b c (node_dots ds) → Adds a c (node_dots (MoreDots d ds))
 dots_added (MakeDot at x actuals) ds h g = made (cons h (cons g nil))
 
-pub links_added : {a b c d : List Token} {n : ℕ} (l : Link) (ls : LinkTrees) → Adds a b (mark (mark_of (out-Link l).operator) n) → Adds b c (bare (see_expr (out-Link l).operand)) → Adds c d (node_links 0 ls) → Adds a d (node_links 0 (MoreLinks (see_link l) ls))
+pub links_added : {a b c d : List Token} {n : ℕ} (l : Link) (ls : LinkTrees) → Adds a b (mark_leaf (mark_of (out-Link l).operator) n) → Adds b c (bare (see_expr (out-Link l).operand)) → Adds c d (node_links 0 ls) → Adds a d (node_links 0 (MoreLinks (see_link l) ls))
 links_added {a} {b} {c} {d} l ls h g k = subst (λ z. Adds a d (node_links 0 (MoreLinks z ls))) (sym (seen_link l)) (made (cons (leaf h) (cons (as_level 0 (see_expr (out-Link l).operand) g) (cons k nil))))
+
+pub more_links_added : {a b c : List Token} (l : LinkTree) (ls : LinkTrees) → Adds a b (node_links 0 (MoreLinks l NoLinks)) → Adds b c (node_links 0 ls) → Adds a c (node_links 0 (MoreLinks l ls))
+more_links_added {a} {b} {c} (MakeLink o at t) ls h g =
+    let operand = node_kinds (lifted 0 (precedence t) (bare t)) in
+    let others = node_kinds (node_links 0 ls) in
+    record {
+      grown = grown_on a b c (node_kinds (node_links 0 (MoreLinks (MakeLink o at t) NoLinks))) others h.grown g.grown
+          ∙ ap (λ z. a ++ tokens (kinds.Mark (mark_of o) ∷ z)) (ap (λ z. z ++ others) (append-nil operand) ∙ sym (ap (λ z. operand ++ z) (append-nil others)));
+    }
 
 -- what a value is seen as
 pub seen_as : {V : Type 0} (f : V → Node) {a c : List Token} (v w : V) → v ≡ w → Adds a c (f w) → Adds a c (f v)

@@ -1,12 +1,12 @@
--- The grammar, a production a line. A symbol stands for each repeated or optional part; a capital is a token of a class. Made by tools/grammar.py.
+-- The grammar, a production a line. A nonterminal stands for each repeated or optional part; a capital is a terminal. Made by tools/grammar.py.
 use Rattle.std.specs.Prelude.{ℕ, List, [], ◌∷◌}
-use Rattle.chord_tree.specs.Part.{Production, ◌⟶◌, number_of}
-use Rattle.chord_tree.specs.Symbols.{Program, Usings, Classes, Using, Name_parts, Class, Optional_public, Optional_base, Members, Member, Modifiers, Modifier, Rest, After, Headers, Header, Result, Plain, Formals, Optional_formals, More_formals, Formal, Value_type, Block, Items, Item, After_name, Stmt, Tail, Other, Optional_else, Optional_expr, Dot, Dots, Actuals, Optional_exprs, More_exprs, Expr, More_or, And, More_and, Equal, More_equal, Order, More_order, Sum, More_sum, Product, More_product, Unary, Primary, Start, Optional_actuals, USING, NAME, SEMICOLON, DOT, CLASS, OPEN_BRACE, CLOSE_BRACE, PUBLIC, COLON, PRIVATE, PROTECTED, VIRTUAL, OVERRIDE, STATIC, AMPERSAND, ASYNC, VOID, INT, BOOL, STRING, OPEN, CLOSE, COMMA, ASSIGN, IF, WHILE, RETURN, THIS, NEW, ELSE, OR, AND, EQUAL, NOT_EQUAL, LESS, GREATER, LESS_OR_EQUAL, GREATER_OR_EQUAL, PLUS, MINUS, TIMES, DIVIDE, REMAINDER, NOT, NUMBER, LITERAL, TRUE, FALSE}
+use Rattle.chord_tree.specs.Symbol.{Production, ◌⟶◌, number_of}
+use Rattle.chord_tree.specs.Symbols.{Whole_program, Usings, Classes, Using, Name_parts, Class, Optional_public, Optional_base, Members, Member, Modifiers, Modifier, Rest, After, Headers, Header, Result, Plain, Formals, Optional_formals, More_formals, Formal, Value_type, Block, Items, Item, After_name, Stmt, Tail, Other, Optional_else, Optional_expr, Dot, Dots, Actuals, Optional_exprs, More_exprs, Expr, More_or, And, More_and, Equal, More_equal, Order, More_order, Sum, More_sum, Product, More_product, Unary, Primary, Operand_start, Optional_actuals, USING, NAME, SEMICOLON, DOT, CLASS, OPEN_BRACE, CLOSE_BRACE, PUBLIC, COLON, PRIVATE, PROTECTED, VIRTUAL, OVERRIDE, STATIC, AMPERSAND, ASYNC, VOID, INT, BOOL, STRING, OPEN, CLOSE, COMMA, ASSIGN, IF, WHILE, RETURN, THIS, NEW, ELSE, OR, AND, EQUAL, NOT_EQUAL, LESS, GREATER, LESS_OR_EQUAL, GREATER_OR_EQUAL, PLUS, MINUS, TIMES, DIVIDE, REMAINDER, NOT, NUMBER, LITERAL, TRUE, FALSE}
 
 unfoldable pub productions : List Production
 productions =
     -- Program = { Using } Class { Class }
-    (Program ⟶ Usings ∷ Class ∷ Classes ∷ []) ∷
+    (Whole_program ⟶ Usings ∷ Class ∷ Classes ∷ []) ∷
     (Usings ⟶ []) ∷
     (Usings ⟶ Using ∷ Usings ∷ []) ∷
     (Classes ⟶ []) ∷
@@ -143,21 +143,21 @@ productions =
     (Unary ⟶ NOT ∷ Unary ∷ []) ∷
     (Unary ⟶ Primary ∷ []) ∷
     -- Primary = Start { Dot }
-    (Primary ⟶ Start ∷ Dots ∷ []) ∷
+    (Primary ⟶ Operand_start ∷ Dots ∷ []) ∷
     -- Start = Name [ Actuals ] | "this" | "new" Name Actuals | Number | Literal | "true" | "false" | "(" Expr ")"
-    (Start ⟶ NAME ∷ Optional_actuals ∷ []) ∷
-    (Start ⟶ THIS ∷ []) ∷
-    (Start ⟶ NEW ∷ NAME ∷ Actuals ∷ []) ∷
-    (Start ⟶ NUMBER ∷ []) ∷
-    (Start ⟶ LITERAL ∷ []) ∷
-    (Start ⟶ TRUE ∷ []) ∷
-    (Start ⟶ FALSE ∷ []) ∷
-    (Start ⟶ OPEN ∷ Expr ∷ CLOSE ∷ []) ∷
+    (Operand_start ⟶ NAME ∷ Optional_actuals ∷ []) ∷
+    (Operand_start ⟶ THIS ∷ []) ∷
+    (Operand_start ⟶ NEW ∷ NAME ∷ Actuals ∷ []) ∷
+    (Operand_start ⟶ NUMBER ∷ []) ∷
+    (Operand_start ⟶ LITERAL ∷ []) ∷
+    (Operand_start ⟶ TRUE ∷ []) ∷
+    (Operand_start ⟶ FALSE ∷ []) ∷
+    (Operand_start ⟶ OPEN ∷ Expr ∷ CLOSE ∷ []) ∷
     (Optional_actuals ⟶ []) ∷
     (Optional_actuals ⟶ Actuals ∷ []) ∷
     []
 
--- the depth of a token counts the nodes of these symbols around it
+-- the depth of a token counts the nodes of these nonterminals around it
 unfoldable pub counted : List ℕ
 counted = number_of Item ∷ number_of Stmt ∷ number_of Expr ∷ number_of Unary ∷ []
 
@@ -165,17 +165,17 @@ counted = number_of Item ∷ number_of Stmt ∷ number_of Expr ∷ number_of Una
 unfoldable pub rule_count : ℕ
 rule_count = 121
 
--- how many symbols there are
-unfoldable pub symbol_count : ℕ
-symbol_count = 53
+-- how many nonterminals there are
+unfoldable pub nonterminal_count : ℕ
+nonterminal_count = 53
 
--- how many classes of tokens there are
-unfoldable pub class_count : ℕ
-class_count = 52
+-- how many terminals there are
+unfoldable pub terminal_count : ℕ
+terminal_count = 52
 
--- the class of `else`
-unfoldable pub else_class : ℕ
-else_class = number_of ELSE
+-- the terminal of `else`
+unfoldable pub else_terminal : ℕ
+else_terminal = number_of ELSE
 
 -- the place among the productions of `Optional_else ⟶ []`: an `if` without `else`
 unfoldable pub no_else : ℕ

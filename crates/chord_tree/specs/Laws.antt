@@ -1,5 +1,5 @@
 -- What holds of each walk over a program.
-use Rattle.std.specs.Prelude.{◌≡◌, ◌+◌, Bool, List, ◌++◌, flat_map}
+use Rattle.std.specs.Prelude.{◌≡◌, ℕ, ◌+◌, Bool, List, ◌++◌, flat_map}
 use Rattle.std.specs.List.{count_by}
 use Rattle.chord_tree.specs.Tree.{ItemTree, MemberTree, ClassTree, ProgramTree}
 use Rattle.chord_tree.specs.Terms.{Term}
@@ -12,7 +12,7 @@ pub record Notes (Around Note : Type 0) : Type 0 where
   pub at_member : ClassTree → MemberTree → List Note
 
 -- what a walk over a program notes
-abbrev pub noted : {Around Note : Type 0} → (Around → ItemTree → Around) → (ClassTree → MemberTree → Around) → Notes Around Note → ProgramTree → List Note
+abbrev pub noted : {Around Note : Type 0} → (Around → ItemTree → Around) → (ℕ → ClassTree → MemberTree → Around) → Notes Around Note → ProgramTree → List Note
 noted after enter notes program = over_program after notes.at_term notes.at_item enter notes.at_member program
 
 -- what the first notes at a place, and then what the second notes there
@@ -26,11 +26,11 @@ both first second = record {
 -- A walk notes what is noted at each of its spots, in the order of the spots.
 abbrev pub NotesAtSpots : Type 0 → Type 0 → Type 0
 NotesAtSpots Around Note =
-    (after : Around → ItemTree → Around) (enter : ClassTree → MemberTree → Around) (notes : Notes Around Note) (program : ProgramTree)
+    (after : Around → ItemTree → Around) (enter : ℕ → ClassTree → MemberTree → Around) (notes : Notes Around Note) (program : ProgramTree)
     → noted after enter notes program ≡ flat_map (at_spot notes.at_term notes.at_item notes.at_member) (spots after enter program)
 
 -- One walk for two rules notes of each kind as many as a walk for each.
 abbrev pub NotesTogether : Type 0 → Type 0 → Type 0
 NotesTogether Around Note =
-    (after : Around → ItemTree → Around) (enter : ClassTree → MemberTree → Around) (first second : Notes Around Note) (program : ProgramTree) (kind : Note → Bool)
+    (after : Around → ItemTree → Around) (enter : ℕ → ClassTree → MemberTree → Around) (first second : Notes Around Note) (program : ProgramTree) (kind : Note → Bool)
     → count_by kind (noted after enter (both first second) program) ≡ count_by kind (noted after enter first program) + count_by kind (noted after enter second program)

@@ -1,20 +1,43 @@
-pub mod Part
+-- ## What callers read
+
+-- terminals, nonterminals and productions
+pub mod Symbol
+-- the symbols of the grammar by name
 pub mod Symbols
+-- the grammar, a production a line
 pub mod Grammar
-pub mod Classes
+-- the terminal of each kind of token
+pub mod Terminals
+-- what the grammar derives, and how deep each token stands in it
 pub mod Derivation
+-- trees of the grammar, and what they spell
 pub mod Node
+-- programs as trees, without where their parts lie in memory
 pub mod Tree
+-- the tree of an expression in memory
 pub mod ViewExprs
+-- the tree of a statement in memory
 pub mod ViewStmts
+-- the tree of a class and of a program in memory
 pub mod View
-pub mod Shape
-pub mod Forms
-pub mod Members
-pub mod Derived
+-- the nodes of the grammar that an expression stands for
+pub mod ExprNodes
+-- the nodes that a statement stands for
+pub mod StmtNodes
+-- the nodes that a class and a program stand for
+pub mod ClassNodes
+-- what a program spells, and what holds of every program
 pub mod Program
-pub mod Example
+-- expressions as rules and meanings take them: operators and calls one by one, grouped from the left
 pub mod Terms
+-- a walk over a program
 pub mod Walk
+-- what holds of each walk
 pub mod Laws
+
+-- ## What only the code's own contracts use
+
+-- a program of two classes, built by hand
+pub mod Example
+-- the walk over it
 pub mod Walked

@@ -11,10 +11,10 @@ use Rattle.chord_tree.specs.declared.classes.NamePart.{NamePart}
 mutual
   -- an expression: operators of one level with their operands, `-`, `!`, or a start with the calls on it
   pub data ExprTree : Type 0 where
-    Chained : (first : ExprTree) (link : LinkTree) (more : LinkTrees) → ExprTree
-    Negated : (at : ℕ) (operand : ExprTree) → ExprTree
-    Denied : (at : ℕ) (operand : ExprTree) → ExprTree
-    Simple : (start : StartTree) (calls : DotTrees) → ExprTree
+    ChainExpr : (first : ExprTree) (link : LinkTree) (more : LinkTrees) → ExprTree
+    MinusExpr : (at : ℕ) (operand : ExprTree) → ExprTree
+    NotExpr : (at : ℕ) (operand : ExprTree) → ExprTree
+    PrimaryExpr : (start : StartTree) (calls : DotTrees) → ExprTree
 
   -- further operators of one level, each with its right operand
   pub data LinkTrees : Type 0 where
@@ -27,19 +27,19 @@ mutual
 
   -- what an expression without operators begins with
   pub data StartTree : Type 0 where
-    Variable : (name : Name) → StartTree
-    Called : (name : Name) (actuals : ActualsTree) → StartTree
-    This : (at : ℕ) → StartTree
-    New : (at : ℕ) (name : Name) (actuals : ActualsTree) → StartTree
-    Numeral : (value at : ℕ) → StartTree
-    Literal : (bytes : List ℕ) (at : ℕ) → StartTree
-    Yes : (at : ℕ) → StartTree
-    No : (at : ℕ) → StartTree
-    Group : (at : ℕ) (inner : ExprTree) → StartTree
+    VariableStart : (name : Name) → StartTree
+    CallStart : (name : Name) (actuals : ActualsTree) → StartTree
+    ThisStart : (at : ℕ) → StartTree
+    NewStart : (at : ℕ) (name : Name) (actuals : ActualsTree) → StartTree
+    NumberStart : (value at : ℕ) → StartTree
+    LiteralStart : (bytes : List ℕ) (at : ℕ) → StartTree
+    TrueStart : (at : ℕ) → StartTree
+    FalseStart : (at : ℕ) → StartTree
+    GroupStart : (at : ℕ) (inner : ExprTree) → StartTree
 
   -- the number of `(`, and the arguments
   pub data ActualsTree : Type 0 where
-    MakeActuals : (at : ℕ) (all : ExprTrees) → ActualsTree
+    MakeActuals : (at : ℕ) (arguments : ExprTrees) → ActualsTree
 
   -- arguments
   pub data ExprTrees : Type 0 where
@@ -58,18 +58,18 @@ mutual
 mutual
   -- a statement; the numbers are those of its word, of `(`, and of `=`
   pub data StmtTree : Type 0 where
-    Assigns : (name : Name) (assign : ℕ) (value : ExprTree) → StmtTree
-    Calls : (name : Name) (actuals : ActualsTree) (calls : DotTrees) → StmtTree
-    CallsThrough : (name : Name) (first : DotTree) (calls : DotTrees) → StmtTree
-    CallsThis : (at : ℕ) (first : DotTree) (calls : DotTrees) → StmtTree
-    Makes : (at : ℕ) (name : Name) (actuals : ActualsTree) (calls : DotTrees) → StmtTree
-    Braces : (block : BlockTree) → StmtTree
-    Nothing : StmtTree
-    IfThen : (at bracket : ℕ) (test : ExprTree) (first : StmtTree) → StmtTree
-    IfElse : (at bracket : ℕ) (test : ExprTree) (first second : StmtTree) → StmtTree
-    Repeats : (at bracket : ℕ) (test : ExprTree) (body : StmtTree) → StmtTree
-    Returns : (at : ℕ) → StmtTree
-    Gives : (at : ℕ) (value : ExprTree) → StmtTree
+    AssignStmt : (name : Name) (assign : ℕ) (value : ExprTree) → StmtTree
+    CallStmt : (name : Name) (actuals : ActualsTree) (calls : DotTrees) → StmtTree
+    MethodCallStmt : (name : Name) (first : DotTree) (calls : DotTrees) → StmtTree
+    ThisCallStmt : (at : ℕ) (first : DotTree) (calls : DotTrees) → StmtTree
+    NewStmt : (at : ℕ) (name : Name) (actuals : ActualsTree) (calls : DotTrees) → StmtTree
+    BlockStmt : (block : BlockTree) → StmtTree
+    EmptyStmt : StmtTree
+    IfStmt : (at bracket : ℕ) (test : ExprTree) (first : StmtTree) → StmtTree
+    IfElseStmt : (at bracket : ℕ) (test : ExprTree) (first second : StmtTree) → StmtTree
+    WhileStmt : (at bracket : ℕ) (test : ExprTree) (body : StmtTree) → StmtTree
+    ReturnStmt : (at : ℕ) → StmtTree
+    ReturnValueStmt : (at : ℕ) (value : ExprTree) → StmtTree
 
   -- the items, and the number of `}`
   pub data BlockTree : Type 0 where
@@ -82,13 +82,13 @@ mutual
 
   -- a local with its value, or a statement
   pub data ItemTree : Type 0 where
-    Declares : (value_type : ValueType) (name : Name) (assign : ℕ) (value : ExprTree) → ItemTree
-    Does : (stmt : StmtTree) → ItemTree
+    LocalItem : (value_type : ValueType) (name : Name) (assign : ℕ) (value : ExprTree) → ItemTree
+    StmtItem : (stmt : StmtTree) → ItemTree
 
 -- parameters, and the number of `(`
 pub record FormalsTree : Type 0 where
   pub at : ℕ
-  pub all : List Formal
+  pub parameters : List Formal
 
 -- a method's header
 pub record HeaderTree : Type 0 where
@@ -99,8 +99,8 @@ pub record HeaderTree : Type 0 where
 
 -- a member of a class: a constructor, or a chord of one header or more
 pub data MemberTree : Type 0 where
-  AConstructor : (modifiers : List Modifier) (name : Name) (formals : FormalsTree) (body : BlockTree) → MemberTree
-  AChord : (headers : List HeaderTree) (body : BlockTree) → MemberTree
+  ConstructorMember : (modifiers : List Modifier) (name : Name) (formals : FormalsTree) (body : BlockTree) → MemberTree
+  ChordMember : (headers : List HeaderTree) (body : BlockTree) → MemberTree
 
 -- a class: the number of `public` if it is there, and that of `}`
 pub record ClassTree : Type 0 where
@@ -124,11 +124,6 @@ pub record ProgramTree : Type 0 where
 abbrev pub links : List LinkTree → LinkTrees
 links [] = NoLinks
 links (link ∷ more) = MoreLinks link (links more)
-
--- a chain; without links it is its operand
-abbrev pub chained : ExprTree → List LinkTree → ExprTree
-chained first [] = first
-chained first (link ∷ more) = Chained first link (links more)
 
 -- arguments, of a list of them
 abbrev pub exprs : List ExprTree → ExprTrees

@@ -6,13 +6,14 @@ use Rattle.chord_tree.specs.declared.classes.Member.{Member}
 use Rattle.chord_tree.specs.declared.classes.Member.TheVariants as members
 use Rattle.chord_tree.specs.declared.classes.Class.{Class}
 use Rattle.chord_tree.specs.declared.classes.Using.{Using}
-use Rattle.chord_tree.specs.Tree.{FormalsTree, HeaderTree, MemberTree, AConstructor, AChord, ClassTree, UsingTree, ProgramTree}
+use Rattle.chord_tree.specs.Tree.{FormalsTree, HeaderTree, MemberTree, ConstructorMember, ChordMember, ClassTree, UsingTree, ProgramTree}
 use Rattle.chord_tree.specs.ViewStmts.{see_block}
 
--- the trees of what lies in memory
+-- the tree of parameters in memory
 abbrev pub see_formals : Formals → FormalsTree
-see_formals formals = record { at = formals.at; all = formals.all.items }
+see_formals formals = record { at = formals.at; parameters = formals.parameters.items }
 
+-- the tree of a header in memory
 abbrev pub see_header : Header → HeaderTree
 see_header header = record {
   modifiers = header.modifiers.items;
@@ -21,10 +22,12 @@ see_header header = record {
   formals = see_formals header.formals;
 }
 
+-- the tree of a member in memory
 abbrev pub see_member : Member → MemberTree
-see_member (members.Constructor modifiers name formals body) = AConstructor modifiers.items name (see_formals formals) (see_block body)
-see_member (members.Chord headers body) = AChord (map see_header headers.items) (see_block body)
+see_member (members.Constructor modifiers name formals body) = ConstructorMember modifiers.items name (see_formals formals) (see_block body)
+see_member (members.Chord headers body) = ChordMember (map see_header headers.items) (see_block body)
 
+-- the tree of a class in memory
 abbrev pub see_class : Class → ClassTree
 see_class class = record {
   public_at = class.public;
@@ -34,6 +37,7 @@ see_class class = record {
   end = class.end;
 }
 
+-- the tree of a `using` line in memory
 abbrev pub see_using : Using → UsingTree
 see_using line = record { first = line.first; parts = line.more.items }
 

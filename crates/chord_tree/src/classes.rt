@@ -2,8 +2,7 @@
 #![tactic(auto)]
 
 ghost use Rattle.std.specs.Prelude.{◌≡◌, map};
-ghost use Rattle.chord_tree.specs.Derived.{IsFormals, IsHeader, IsMember, IsClass, IsUsing};
-ghost use Rattle.chord_tree.specs.Tree.{AConstructor, AChord};
+ghost use Rattle.chord_tree.specs.Tree.{ConstructorMember, ChordMember};
 ghost use Rattle.chord_tree.specs.View.{see_formals, see_header, see_member, see_class, see_using};
 ghost use Rattle.chord_tree.specs.ViewStmts.{see_block};
 
@@ -12,7 +11,7 @@ use crate::stmts::Block;
 
 /// What a modifier says.
 #[derive(Clone, Copy, Debug, PartialEq, Eq)]
-pub enum ModifierWord {
+pub enum ModifierKeyword {
     /// `public`
     Public,
     /// `private`
@@ -31,7 +30,7 @@ pub enum ModifierWord {
 #[derive(Drop)]
 pub struct Modifier {
     /// What it says.
-    pub word: ModifierWord,
+    pub keyword: ModifierKeyword,
     /// The number of its token.
     pub at: u32,
 }
@@ -62,7 +61,7 @@ pub struct Formals {
     /// The number of `(`.
     pub at: u32,
     /// The parameters.
-    pub all: Vec<Formal>,
+    pub parameters: Vec<Formal>,
 }
 
 /// A method's header.
@@ -128,13 +127,12 @@ pub struct Using {
     pub more: Vec<NamePart>,
 }
 
-// What has no parts but tokens is always derived, so its constructor has no condition.
 impl Modifier {
     /// A modifier, and the number of its token.
-    pub fn new(word: ModifierWord, at: u32) -> Modifier
-        ensures { result ≡ record { word = word; at = at } }
+    pub fn new(keyword: ModifierKeyword, at: u32) -> Modifier
+        ensures { result ≡ record { keyword = keyword; at = at } }
     {
-        Modifier { word, at }
+        Modifier { keyword, at }
     }
 }
 
@@ -172,11 +170,10 @@ impl Formal {
 
 impl Formals {
     /// Parameters in brackets; the number is that of `(`.
-    pub fn new(at: u32, all: Vec<Formal>) -> Formals
-        requires { IsFormals (record { at = at; all = all.items }) }
-        ensures { see_formals result ≡ record { at = at; all = all.items } }
+    pub fn new(at: u32, parameters: Vec<Formal>) -> Formals
+        ensures { see_formals result ≡ record { at = at; parameters = parameters.items } }
     {
-        Formals { at, all }
+        Formals { at, parameters }
     }
 }
 
@@ -188,7 +185,6 @@ impl Header {
         name: Name,
         formals: Formals,
     ) -> Header
-        requires { IsHeader (record { modifiers = modifiers.items; result_type = result_type; name = name; formals = see_formals formals }) }
         ensures { see_header result ≡ record { modifiers = modifiers.items; result_type = result_type; name = name; formals = see_formals formals } }
     {
         Header {
@@ -208,8 +204,7 @@ impl Member {
         formals: Formals,
         body: Block,
     ) -> Member
-        requires { IsMember (AConstructor modifiers.items name (see_formals formals) (see_block body)) }
-        ensures { see_member result ≡ AConstructor modifiers.items name (see_formals formals) (see_block body) }
+        ensures { see_member result ≡ ConstructorMember modifiers.items name (see_formals formals) (see_block body) }
     {
         Member::Constructor {
             modifiers,
@@ -221,8 +216,7 @@ impl Member {
 
     /// A chord.
     pub fn chord(headers: Vec<Header>, body: Block) -> Member
-        requires { IsMember (AChord (map see_header headers.items) (see_block body)) }
-        ensures { see_member result ≡ AChord (map see_header headers.items) (see_block body) }
+        ensures { see_member result ≡ ChordMember (map see_header headers.items) (see_block body) }
     {
         Member::Chord { headers, body }
     }
@@ -237,7 +231,6 @@ impl Class {
         members: Vec<Member>,
         end: u32,
     ) -> Class
-        requires { IsClass (record { public_at = public; name = name; base = base; members = map see_member members.items; end = end }) }
         ensures { see_class result ≡ record { public_at = public; name = name; base = base; members = map see_member members.items; end = end } }
     {
         Class {
@@ -262,7 +255,6 @@ impl NamePart {
 impl Using {
     /// A `using` line.
     pub fn new(first: Name, more: Vec<NamePart>) -> Using
-        requires { IsUsing (record { first = first; parts = more.items }) }
         ensures { see_using result ≡ record { first = first; parts = more.items } }
     {
         Using { first, more }

@@ -2,8 +2,7 @@
 #![tactic(auto)]
 
 ghost use Rattle.std.specs.Prelude.{◌≡◌, false, IfOk, map};
-ghost use Rattle.chord_tree.specs.Derived.{IsExpr, IsLink, IsStart, IsActuals, IsDot};
-ghost use Rattle.chord_tree.specs.Tree.{chained, exprs, dots, Negated, Denied, Simple, MakeLink, Variable, Called, This, New, Numeral, Literal, Yes, No, Group, MakeActuals, MakeDot};
+ghost use Rattle.chord_tree.specs.Tree.{links, exprs, dots, ChainExpr, MinusExpr, NotExpr, PrimaryExpr, MakeLink, VariableStart, CallStart, ThisStart, NewStart, NumberStart, LiteralStart, TrueStart, FalseStart, GroupStart, MakeActuals, MakeDot};
 ghost use Rattle.chord_tree.specs.Terms.{term, started, first_token};
 ghost use Rattle.chord_tree.specs.ViewExprs.{see_expr, see_link, see_start, see_actuals, see_dot};
 
@@ -46,14 +45,26 @@ pub enum Operator {
 #[cycle(exprs)]
 #[derive(Drop)]
 pub enum Expr {
-    /// Operands joined by operators of one level, which group from the left. There is one link at least.
-    Chain { first: Box<Expr>, links: Vec<Link> },
+    /// Operands joined by operators of one level.
+    Chain(Box<Chain>),
     /// `-` and its operand.
     Minus { at: u32, operand: Box<Expr> },
     /// `!` and its operand.
     Not { at: u32, operand: Box<Expr> },
     /// A start and the calls on it, each on what those before it give.
     Primary { start: Start, calls: Vec<Dot> },
+}
+
+/// Operands joined by operators of one level, which group from the left. There is one operator at least.
+#[cycle(exprs)]
+#[derive(Drop)]
+pub struct Chain {
+    /// The first operand.
+    pub first: Expr,
+    /// The first operator, and its right operand.
+    pub link: Link,
+    /// The other operators, each with its right operand.
+    pub more: Vec<Link>,
 }
 
 /// An operator of a chain and its right operand.
@@ -121,7 +132,7 @@ pub struct Actuals {
     /// The number of `(`.
     pub at: u32,
     /// The arguments.
-    pub all: Vec<Expr>,
+    pub arguments: Vec<Expr>,
 }
 
 /// A dot, a method and its arguments.
@@ -137,21 +148,22 @@ pub struct Dot {
 }
 
 impl Expr {
-    /// Operands joined by operators of one level.
-    pub fn chain(alloc: Global, first: Expr, links: Vec<Link>) -> Result<Expr, AllocError>
-        requires { IsExpr (chained (see_expr first) (map see_link links.items)) }
-        ensures { IfOk result (λ e. see_expr e ≡ chained (see_expr first) (map see_link links.items)) }
+    /// Operands joined by operators of one level: the first, an operator with its right operand, and the others.
+    pub fn chain(
+        alloc: Global,
+        first: Expr,
+        link: Link,
+        more: Vec<Link>,
+    ) -> Result<Expr, AllocError>
+        ensures { IfOk result (λ e. see_expr e ≡ ChainExpr (see_expr first) (see_link link) (links (map see_link more.items))) }
     {
-        Ok(Expr::Chain {
-            first: Box::new(alloc, first)?,
-            links,
-        })
+        let chain = Box::new(alloc, Chain { first, link, more })?;
+        Ok(Expr::Chain(chain))
     }
 
     /// `-` and its operand.
     pub fn minus(alloc: Global, at: u32, operand: Expr) -> Result<Expr, AllocError>
-        requires { IsExpr (Negated at (see_expr operand)) }
-        ensures { IfOk result (λ e. see_expr e ≡ Negated at (see_expr operand)) }
+        ensures { IfOk result (λ e. see_expr e ≡ MinusExpr at (see_expr operand)) }
     {
         Ok(Expr::Minus {
             at,
@@ -161,8 +173,7 @@ impl Expr {
 
     /// `!` and its operand.
     pub fn not(alloc: Global, at: u32, operand: Expr) -> Result<Expr, AllocError>
-        requires { IsExpr (Denied at (see_expr operand)) }
-        ensures { IfOk result (λ e. see_expr e ≡ Denied at (see_expr operand)) }
+        ensures { IfOk result (λ e. see_expr e ≡ NotExpr at (see_expr operand)) }
     {
         Ok(Expr::Not {
             at,
@@ -172,8 +183,7 @@ impl Expr {
 
     /// A start and the calls on it.
     pub fn primary(start: Start, calls: Vec<Dot>) -> Expr
-        requires { IsExpr (Simple (see_start start) (dots (map see_dot calls.items))) }
-        ensures { see_expr result ≡ Simple (see_start start) (dots (map see_dot calls.items)) }
+        ensures { see_expr result ≡ PrimaryExpr (see_start start) (dots (map see_dot calls.items)) }
     {
         Expr::Primary { start, calls }
     }
@@ -183,7 +193,7 @@ impl Expr {
         ensures { result ≡ first_token (term (see_expr self.now)) }
     {
         match self {
-            Expr::Chain { first, links: _ } => first.first_token(),
+            Expr::Chain(chain) => chain.first.first_token(),
             Expr::Minus { at, operand: _ } => *at,
             Expr::Not { at, operand: _ } => *at,
             Expr::Primary { start, calls: _ } => start.first_token(),
@@ -194,7 +204,6 @@ impl Expr {
 impl Link {
     /// An operator and its right operand.
     pub fn new(operator: Operator, at: u32, operand: Expr) -> Link
-        requires { IsLink (MakeLink operator at (see_expr operand)) }
         ensures { see_link result ≡ MakeLink operator at (see_expr operand) }
     {
         Link {
@@ -205,70 +214,66 @@ impl Link {
     }
 }
 
-// What is one token is always derived, so its constructors have no condition.
 impl Start {
     /// A variable, or the word `Console` before a dot.
     pub fn variable(name: Name) -> Start
-        ensures { see_start result ≡ Variable name }
+        ensures { see_start result ≡ VariableStart name }
     {
         Start::Variable(name)
     }
 
     /// A call without receiver.
     pub fn call(name: Name, actuals: Actuals) -> Start
-        requires { IsStart (Called name (see_actuals actuals)) }
-        ensures { see_start result ≡ Called name (see_actuals actuals) }
+        ensures { see_start result ≡ CallStart name (see_actuals actuals) }
     {
         Start::Call { name, actuals }
     }
 
     /// `this`
     pub fn this(at: u32) -> Start
-        ensures { see_start result ≡ This at }
+        ensures { see_start result ≡ ThisStart at }
     {
         Start::This { at }
     }
 
     /// `new`, a class and the arguments of its constructor.
-    pub fn made(at: u32, name: Name, actuals: Actuals) -> Start
-        requires { IsStart (New at name (see_actuals actuals)) }
-        ensures { see_start result ≡ New at name (see_actuals actuals) }
+    pub fn new_object(at: u32, name: Name, actuals: Actuals) -> Start
+        ensures { see_start result ≡ NewStart at name (see_actuals actuals) }
     {
         Start::New { at, name, actuals }
     }
 
     /// A number.
     pub fn number(value: u32, at: u32) -> Start
-        ensures { see_start result ≡ Numeral value at }
+        ensures { see_start result ≡ NumberStart value at }
     {
         Start::Number { value, at }
     }
 
     /// A text literal.
     pub fn literal(bytes: Bytes, at: u32) -> Start
-        ensures { see_start result ≡ Literal bytes at }
+        ensures { see_start result ≡ LiteralStart bytes at }
     {
         Start::Literal { bytes, at }
     }
 
     /// `true`
-    pub fn yes(at: u32) -> Start
-        ensures { see_start result ≡ Yes at }
+    pub fn true_word(at: u32) -> Start
+        ensures { see_start result ≡ TrueStart at }
     {
         Start::True { at }
     }
 
     /// `false`
-    pub fn no(at: u32) -> Start
-        ensures { see_start result ≡ No at }
+    pub fn false_word(at: u32) -> Start
+        ensures { see_start result ≡ FalseStart at }
     {
         Start::False { at }
     }
 
     /// An expression in brackets; the number is that of `(`.
     pub fn group(alloc: Global, at: u32, inner: Expr) -> Result<Start, AllocError>
-        requires { IsStart (Group at (see_expr inner)) }
-        ensures { IfOk result (λ s. see_start s ≡ Group at (see_expr inner)) }
+        ensures { IfOk result (λ s. see_start s ≡ GroupStart at (see_expr inner)) }
     {
         Ok(Start::Group {
             at,
@@ -300,18 +305,16 @@ impl Start {
 
 impl Actuals {
     /// Arguments in brackets; the number is that of `(`.
-    pub fn new(at: u32, all: Vec<Expr>) -> Actuals
-        requires { IsActuals (MakeActuals at (exprs (map see_expr all.items))) }
-        ensures { see_actuals result ≡ MakeActuals at (exprs (map see_expr all.items)) }
+    pub fn new(at: u32, arguments: Vec<Expr>) -> Actuals
+        ensures { see_actuals result ≡ MakeActuals at (exprs (map see_expr arguments.items)) }
     {
-        Actuals { at, all }
+        Actuals { at, arguments }
     }
 }
 
 impl Dot {
     /// A dot, a method and its arguments.
     pub fn new(at: u32, name: Name, actuals: Actuals) -> Dot
-        requires { IsDot (MakeDot at name (see_actuals actuals)) }
         ensures { see_dot result ≡ MakeDot at name (see_actuals actuals) }
     {
         Dot { at, name, actuals }

@@ -34,7 +34,6 @@ pub enum ValueType {
     Class(Name),
 }
 
-// What is one token is always derived, so these constructors have no condition.
 impl Name {
     /// A name, and the number of its token.
     pub fn new(text: Text, at: u32) -> Name

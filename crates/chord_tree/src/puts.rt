@@ -5,8 +5,8 @@ ghost use Rattle.std.specs.Prelude.{◌≡◌, OnOk};
 ghost use Rattle.chord_lexer.specs.declared.token.Kind.TheVariants as kinds;
 ghost use Rattle.chord_tree.specs.Node.{Leaf};
 ghost use Rattle.chord_tree.specs.Program.{Adds};
-ghost use Rattle.chord_tree.specs.Shape.{mark, word, name, mark_of};
-ghost use Rattle.chord_tree.specs.Forms.{basic_word};
+ghost use Rattle.chord_tree.specs.ExprNodes.{mark_leaf, keyword_leaf, name, mark_of};
+ghost use Rattle.chord_tree.specs.StmtNodes.{basic_keyword};
 
 use crate::exprs::Operator;
 use crate::names::{BasicType, Name};
@@ -27,13 +27,13 @@ pub fn put(out: &mut Vec<Token>, kind: Kind) -> Result<(), AllocError>
 }
 
 pub fn put_mark(out: &mut Vec<Token>, sign: Mark) -> Result<(), AllocError>
-    ensures { OnOk result (Adds out.old.items out.new.items (mark sign 0)) }
+    ensures { OnOk result (Adds out.old.items out.new.items (mark_leaf sign 0)) }
 {
     put(out, Kind::Mark(sign))
 }
 
-pub fn put_word(out: &mut Vec<Token>, keyword: Keyword) -> Result<(), AllocError>
-    ensures { OnOk result (Adds out.old.items out.new.items (word keyword 0)) }
+pub fn put_keyword(out: &mut Vec<Token>, keyword: Keyword) -> Result<(), AllocError>
+    ensures { OnOk result (Adds out.old.items out.new.items (keyword_leaf keyword 0)) }
 {
     put(out, Kind::Word(keyword))
 }
@@ -75,11 +75,11 @@ pub fn put_literal(alloc: Global, out: &mut Vec<Token>, bytes: &Bytes) -> Result
 
 /// The word of a basic type.
 pub fn put_basic(out: &mut Vec<Token>, basic: BasicType) -> Result<(), AllocError>
-    ensures { OnOk result (Adds out.old.items out.new.items (word (basic_word basic) 0)) }
+    ensures { OnOk result (Adds out.old.items out.new.items (keyword_leaf (basic_keyword basic) 0)) }
 {
     match basic {
-        BasicType::Int => put_word(out, Keyword::Int),
-        BasicType::Bool => put_word(out, Keyword::Bool),
-        BasicType::String => put_word(out, Keyword::String),
+        BasicType::Int => put_keyword(out, Keyword::Int),
+        BasicType::Bool => put_keyword(out, Keyword::Bool),
+        BasicType::String => put_keyword(out, Keyword::String),
     }
 }

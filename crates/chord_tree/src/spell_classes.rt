@@ -2,39 +2,39 @@
 #![tactic(auto)]
 
 ghost use Rattle.std.specs.Prelude.{◌≡◌, map, OnOk};
-ghost use Rattle.chord_tree.specs.Members.{modifier_word, node_modifier, node_modifiers, node_formal, node_formal_list, node_formals, node_result, node_header, node_member, node_members, node_chord, node_public, node_base, node_class, node_classes, node_name_parts, node_using, node_usings};
+ghost use Rattle.chord_tree.specs.ClassNodes.{modifier_keyword, node_modifier, node_modifiers, node_formal, node_formal_list, node_formals, node_result, node_header, node_member, node_members, node_chord, node_public, node_base, node_class, node_classes, node_name_parts, node_using, node_usings};
 ghost use Rattle.chord_tree.specs.Program.{Adds, node_header_list};
-ghost use Rattle.chord_tree.specs.Tree.{AConstructor};
+ghost use Rattle.chord_tree.specs.Tree.{ConstructorMember};
 ghost use Rattle.chord_tree.specs.View.{see_formals, see_header, see_member, see_class, see_using};
 ghost use Rattle.chord_tree.specs.ViewStmts.{see_block};
 
 use crate::classes::{
-    Class, Formal, Formals, Header, Member, Modifier, ModifierWord, NamePart, ReturnType, Using,
+    Class, Formal, Formals, Header, Member, Modifier, ModifierKeyword, NamePart, ReturnType, Using,
 };
 use crate::names::Name;
-use crate::puts::{put_mark, put_name, put_word};
+use crate::puts::{put_keyword, put_mark, put_name};
 use crate::spell_stmts::{put_block, put_type};
 use crate::stmts::Block;
 use chord_lexer::token::{Keyword, Mark, Token};
 use std::alloc::{AllocError, Global};
 
-fn modifier_keyword(modifier: ModifierWord) -> Keyword
-    ensures { result ≡ modifier_word modifier }
+fn modifier_keyword(modifier: ModifierKeyword) -> Keyword
+    ensures { result ≡ modifier_keyword modifier }
 {
     match modifier {
-        ModifierWord::Public => Keyword::Public,
-        ModifierWord::Private => Keyword::Private,
-        ModifierWord::Protected => Keyword::Protected,
-        ModifierWord::Virtual => Keyword::Virtual,
-        ModifierWord::Override => Keyword::Override,
-        ModifierWord::Static => Keyword::Static,
+        ModifierKeyword::Public => Keyword::Public,
+        ModifierKeyword::Private => Keyword::Private,
+        ModifierKeyword::Protected => Keyword::Protected,
+        ModifierKeyword::Virtual => Keyword::Virtual,
+        ModifierKeyword::Override => Keyword::Override,
+        ModifierKeyword::Static => Keyword::Static,
     }
 }
 
 fn put_modifier(out: &mut Vec<Token>, modifier: &Modifier) -> Result<(), AllocError>
     ensures { OnOk result (Adds out.old.items out.new.items (node_modifier modifier.now)) }
 {
-    put_word(out, modifier_keyword(modifier.word))
+    put_keyword(out, modifier_keyword(modifier.keyword))
 }
 
 fn put_modifiers(out: &mut Vec<Token>, modifiers: &[Modifier]) -> Result<(), AllocError>
@@ -53,10 +53,14 @@ fn put_formal(alloc: Global, out: &mut Vec<Token>, formal: &Formal) -> Result<()
     put_name(alloc, out, &formal.name)
 }
 
-fn put_formal_list(alloc: Global, out: &mut Vec<Token>, all: &[Formal]) -> Result<(), AllocError>
-    ensures { OnOk result (Adds out.old.items out.new.items (node_formal_list all.now)) }
+fn put_formal_list(
+    alloc: Global,
+    out: &mut Vec<Token>,
+    parameters: &[Formal],
+) -> Result<(), AllocError>
+    ensures { OnOk result (Adds out.old.items out.new.items (node_formal_list parameters.now)) }
 {
-    let Some((first, more)) = all.split_first() else {
+    let Some((first, more)) = parameters.split_first() else {
         return Ok(());
     };
     put_formal(alloc, out, first)?;
@@ -71,7 +75,7 @@ fn put_formals(alloc: Global, out: &mut Vec<Token>, formals: &Formals) -> Result
     ensures { OnOk result (Adds out.old.items out.new.items (node_formals (see_formals formals.now))) }
 {
     put_mark(out, Mark::OpenParenthesis)?;
-    put_formal_list(alloc, out, &formals.all)?;
+    put_formal_list(alloc, out, &formals.parameters)?;
     put_mark(out, Mark::CloseParenthesis)
 }
 
@@ -83,8 +87,8 @@ fn put_result(
     ensures { OnOk result (Adds out.old.items out.new.items (node_result result_type.now)) }
 {
     match result_type {
-        ReturnType::Async { at: _ } => put_word(out, Keyword::Async),
-        ReturnType::Void { at: _ } => put_word(out, Keyword::Void),
+        ReturnType::Async { at: _ } => put_keyword(out, Keyword::Async),
+        ReturnType::Void { at: _ } => put_keyword(out, Keyword::Void),
         ReturnType::Value(value_type) => put_type(alloc, out, value_type),
     }
 }
@@ -132,7 +136,7 @@ fn put_constructor(
     formals: &Formals,
     body: &Block,
 ) -> Result<(), AllocError>
-    ensures { OnOk result (Adds out.old.items out.new.items (node_member (AConstructor modifiers.now name.now (see_formals formals.now) (see_block body.now)))) }
+    ensures { OnOk result (Adds out.old.items out.new.items (node_member (ConstructorMember modifiers.now name.now (see_formals formals.now) (see_block body.now)))) }
 {
     put_modifiers(out, modifiers)?;
     put_name(alloc, out, name)?;
@@ -168,7 +172,7 @@ fn put_public(out: &mut Vec<Token>, public: Option<u32>) -> Result<(), AllocErro
 {
     match public {
         None => Ok(()),
-        Some(_) => put_word(out, Keyword::Public),
+        Some(_) => put_keyword(out, Keyword::Public),
     }
 }
 
@@ -188,7 +192,7 @@ pub fn put_class(alloc: Global, out: &mut Vec<Token>, class: &Class) -> Result<(
     ensures { OnOk result (Adds out.old.items out.new.items (node_class (see_class class.now))) }
 {
     put_public(out, class.public)?;
-    put_word(out, Keyword::Class)?;
+    put_keyword(out, Keyword::Class)?;
     put_name(alloc, out, &class.name)?;
     put_base(alloc, out, &class.base)?;
     put_mark(out, Mark::OpenBrace)?;
@@ -218,7 +222,7 @@ fn put_parts(alloc: Global, out: &mut Vec<Token>, parts: &[NamePart]) -> Result<
 fn put_using(alloc: Global, out: &mut Vec<Token>, line: &Using) -> Result<(), AllocError>
     ensures { OnOk result (Adds out.old.items out.new.items (node_using (see_using line.now))) }
 {
-    put_word(out, Keyword::Using)?;
+    put_keyword(out, Keyword::Using)?;
     put_name(alloc, out, &line.first)?;
     put_parts(alloc, out, &line.more)?;
     put_mark(out, Mark::Semicolon)

@@ -3,12 +3,12 @@
 
 ghost use Rattle.std.specs.Prelude.{◌≡◌, map, OnOk};
 ghost use Rattle.chord_tree.specs.Program.{Adds};
-ghost use Rattle.chord_tree.specs.Shape.{bare, node_links, node_start, node_actuals, node_dot, node_dots, node_exprs};
-ghost use Rattle.chord_tree.specs.Tree.{links, dots, exprs};
-ghost use Rattle.chord_tree.specs.ViewExprs.{see_expr, see_link, see_start, see_actuals, see_dot};
+ghost use Rattle.chord_tree.specs.ExprNodes.{bare, node_links, node_start, node_actuals, node_dot, node_dots, node_exprs};
+ghost use Rattle.chord_tree.specs.Tree.{links, dots, exprs, MoreLinks, NoLinks};
+ghost use Rattle.chord_tree.specs.ViewExprs.{see_expr, see_chain, see_link, see_start, see_actuals, see_dot};
 
-use crate::exprs::{Actuals, Dot, Expr, Link, Start};
-use crate::puts::{operator_mark, put, put_literal, put_mark, put_name, put_word};
+use crate::exprs::{Actuals, Chain, Dot, Expr, Link, Start};
+use crate::puts::{operator_mark, put, put_keyword, put_literal, put_mark, put_name};
 use chord_lexer::token::{Keyword, Kind, Mark, Token};
 use std::alloc::{AllocError, Global};
 
@@ -17,10 +17,7 @@ pub fn put_expr(alloc: Global, out: &mut Vec<Token>, expr: &Expr) -> Result<(), 
     ensures { OnOk result (Adds out.old.items out.new.items (bare (see_expr expr.now))) }
 {
     match expr {
-        Expr::Chain { first, links } => {
-            put_expr(alloc, out, first)?;
-            put_links(alloc, out, links)
-        }
+        Expr::Chain(chain) => put_chain(alloc, out, chain),
         Expr::Minus { at: _, operand } => {
             put_mark(out, Mark::Minus)?;
             put_expr(alloc, out, operand)
@@ -37,12 +34,28 @@ pub fn put_expr(alloc: Global, out: &mut Vec<Token>, expr: &Expr) -> Result<(), 
 }
 
 #[cycle(spell)]
+fn put_chain(alloc: Global, out: &mut Vec<Token>, chain: &Chain) -> Result<(), AllocError>
+    ensures { OnOk result (Adds out.old.items out.new.items (bare (see_chain chain.now))) }
+{
+    put_expr(alloc, out, &chain.first)?;
+    put_link(alloc, out, &chain.link)?;
+    put_links(alloc, out, &chain.more)
+}
+
+#[cycle(spell)]
+fn put_link(alloc: Global, out: &mut Vec<Token>, link: &Link) -> Result<(), AllocError>
+    ensures { OnOk result (Adds out.old.items out.new.items (node_links 0 (MoreLinks (see_link link.now) NoLinks))) }
+{
+    put_mark(out, operator_mark(link.operator))?;
+    put_expr(alloc, out, &link.operand)
+}
+
+#[cycle(spell)]
 fn put_links(alloc: Global, out: &mut Vec<Token>, more: &[Link]) -> Result<(), AllocError>
     ensures { OnOk result (Adds out.old.items out.new.items (node_links 0 (links (map see_link more.now)))) }
 {
     'each: for link in more {
-        put_mark(out, operator_mark(link.operator))?;
-        put_expr(alloc, out, &link.operand)?;
+        put_link(alloc, out, link)?;
     }
     Ok(())
 }
@@ -57,20 +70,20 @@ fn put_start(alloc: Global, out: &mut Vec<Token>, start: &Start) -> Result<(), A
             put_name(alloc, out, name)?;
             put_actuals(alloc, out, actuals)
         }
-        Start::This { at: _ } => put_word(out, Keyword::This),
+        Start::This { at: _ } => put_keyword(out, Keyword::This),
         Start::New {
             at: _,
             name,
             actuals,
         } => {
-            put_word(out, Keyword::New)?;
+            put_keyword(out, Keyword::New)?;
             put_name(alloc, out, name)?;
             put_actuals(alloc, out, actuals)
         }
         Start::Number { value, at: _ } => put(out, Kind::Number(*value)),
         Start::Literal { bytes, at: _ } => put_literal(alloc, out, bytes),
-        Start::True { at: _ } => put_word(out, Keyword::True),
-        Start::False { at: _ } => put_word(out, Keyword::False),
+        Start::True { at: _ } => put_keyword(out, Keyword::True),
+        Start::False { at: _ } => put_keyword(out, Keyword::False),
         Start::Group { at: _, inner } => {
             put_mark(out, Mark::OpenParenthesis)?;
             put_expr(alloc, out, inner)?;
@@ -84,15 +97,15 @@ pub fn put_actuals(alloc: Global, out: &mut Vec<Token>, actuals: &Actuals) -> Re
     ensures { OnOk result (Adds out.old.items out.new.items (node_actuals (see_actuals actuals.now))) }
 {
     put_mark(out, Mark::OpenParenthesis)?;
-    put_exprs(alloc, out, &actuals.all)?;
+    put_exprs(alloc, out, &actuals.arguments)?;
     put_mark(out, Mark::CloseParenthesis)
 }
 
 #[cycle(spell)]
-fn put_exprs(alloc: Global, out: &mut Vec<Token>, all: &[Expr]) -> Result<(), AllocError>
-    ensures { OnOk result (Adds out.old.items out.new.items (node_exprs (exprs (map see_expr all.now)))) }
+fn put_exprs(alloc: Global, out: &mut Vec<Token>, arguments: &[Expr]) -> Result<(), AllocError>
+    ensures { OnOk result (Adds out.old.items out.new.items (node_exprs (exprs (map see_expr arguments.now)))) }
 {
-    let Some((first, more)) = all.split_first() else {
+    let Some((first, more)) = arguments.split_first() else {
         return Ok(());
     };
     put_expr(alloc, out, first)?;

@@ -2,16 +2,16 @@
 #![tactic(auto)]
 
 ghost use Rattle.std.specs.Prelude.{◌≡◌, map, OnOk};
-ghost use Rattle.chord_tree.specs.Forms.{node_block, node_items, node_stmt, node_item, local_item};
-ghost use Rattle.chord_tree.specs.Members.{node_type};
+ghost use Rattle.chord_tree.specs.StmtNodes.{node_block, node_items, node_stmt, node_item, node_local};
+ghost use Rattle.chord_tree.specs.ClassNodes.{node_type};
 ghost use Rattle.chord_tree.specs.Program.{Adds, node_test};
-ghost use Rattle.chord_tree.specs.Tree.{dots, items, Assigns, Calls, CallsThrough, CallsThis, Makes, IfThen, IfElse, Repeats, Returns, Gives};
+ghost use Rattle.chord_tree.specs.Tree.{dots, items, AssignStmt, CallStmt, MethodCallStmt, ThisCallStmt, NewStmt, IfStmt, IfElseStmt, WhileStmt, ReturnStmt, ReturnValueStmt};
 ghost use Rattle.chord_tree.specs.ViewExprs.{see_expr, see_actuals, see_dot};
 ghost use Rattle.chord_tree.specs.ViewStmts.{see_block, see_item, see_stmt};
 
 use crate::exprs::{Actuals, Dot, Expr};
 use crate::names::{Name, ValueType};
-use crate::puts::{put_basic, put_mark, put_name, put_word};
+use crate::puts::{put_basic, put_keyword, put_mark, put_name};
 use crate::spell_exprs::{put_actuals, put_dot, put_dots, put_expr};
 use crate::stmts::{Block, Item, Stmt};
 use chord_lexer::token::{Keyword, Mark, Token};
@@ -37,7 +37,7 @@ fn put_local(
     name: &Name,
     value: &Expr,
 ) -> Result<(), AllocError>
-    ensures { OnOk result (Adds out.old.items out.new.items (local_item value_type.now name.now 0 (see_expr value.now))) }
+    ensures { OnOk result (Adds out.old.items out.new.items (node_local value_type.now name.now 0 (see_expr value.now))) }
 {
     put_type(alloc, out, value_type)?;
     put_name(alloc, out, name)?;
@@ -52,7 +52,7 @@ fn put_assign(
     name: &Name,
     value: &Expr,
 ) -> Result<(), AllocError>
-    ensures { OnOk result (Adds out.old.items out.new.items (node_stmt (Assigns name.now 0 (see_expr value.now)))) }
+    ensures { OnOk result (Adds out.old.items out.new.items (node_stmt (AssignStmt name.now 0 (see_expr value.now)))) }
 {
     put_name(alloc, out, name)?;
     put_mark(out, Mark::Assign)?;
@@ -67,7 +67,7 @@ fn put_call(
     actuals: &Actuals,
     calls: &[Dot],
 ) -> Result<(), AllocError>
-    ensures { OnOk result (Adds out.old.items out.new.items (node_stmt (Calls name.now (see_actuals actuals.now) (dots (map see_dot calls.now))))) }
+    ensures { OnOk result (Adds out.old.items out.new.items (node_stmt (CallStmt name.now (see_actuals actuals.now) (dots (map see_dot calls.now))))) }
 {
     put_name(alloc, out, name)?;
     put_actuals(alloc, out, actuals)?;
@@ -82,7 +82,7 @@ fn put_through(
     first: &Dot,
     calls: &[Dot],
 ) -> Result<(), AllocError>
-    ensures { OnOk result (Adds out.old.items out.new.items (node_stmt (CallsThrough name.now (see_dot first.now) (dots (map see_dot calls.now))))) }
+    ensures { OnOk result (Adds out.old.items out.new.items (node_stmt (MethodCallStmt name.now (see_dot first.now) (dots (map see_dot calls.now))))) }
 {
     put_name(alloc, out, name)?;
     put_dot(alloc, out, first)?;
@@ -96,9 +96,9 @@ fn put_this(
     first: &Dot,
     calls: &[Dot],
 ) -> Result<(), AllocError>
-    ensures { OnOk result (Adds out.old.items out.new.items (node_stmt (CallsThis 0 (see_dot first.now) (dots (map see_dot calls.now))))) }
+    ensures { OnOk result (Adds out.old.items out.new.items (node_stmt (ThisCallStmt 0 (see_dot first.now) (dots (map see_dot calls.now))))) }
 {
-    put_word(out, Keyword::This)?;
+    put_keyword(out, Keyword::This)?;
     put_dot(alloc, out, first)?;
     put_dots(alloc, out, calls)?;
     put_mark(out, Mark::Semicolon)
@@ -111,9 +111,9 @@ fn put_new(
     actuals: &Actuals,
     calls: &[Dot],
 ) -> Result<(), AllocError>
-    ensures { OnOk result (Adds out.old.items out.new.items (node_stmt (Makes 0 name.now (see_actuals actuals.now) (dots (map see_dot calls.now))))) }
+    ensures { OnOk result (Adds out.old.items out.new.items (node_stmt (NewStmt 0 name.now (see_actuals actuals.now) (dots (map see_dot calls.now))))) }
 {
-    put_word(out, Keyword::New)?;
+    put_keyword(out, Keyword::New)?;
     put_name(alloc, out, name)?;
     put_actuals(alloc, out, actuals)?;
     put_dots(alloc, out, calls)?;
@@ -121,16 +121,16 @@ fn put_new(
 }
 
 fn put_return(out: &mut Vec<Token>) -> Result<(), AllocError>
-    ensures { OnOk result (Adds out.old.items out.new.items (node_stmt (Returns 0))) }
+    ensures { OnOk result (Adds out.old.items out.new.items (node_stmt (ReturnStmt 0))) }
 {
-    put_word(out, Keyword::Return)?;
+    put_keyword(out, Keyword::Return)?;
     put_mark(out, Mark::Semicolon)
 }
 
 fn put_return_value(alloc: Global, out: &mut Vec<Token>, value: &Expr) -> Result<(), AllocError>
-    ensures { OnOk result (Adds out.old.items out.new.items (node_stmt (Gives 0 (see_expr value.now)))) }
+    ensures { OnOk result (Adds out.old.items out.new.items (node_stmt (ReturnValueStmt 0 (see_expr value.now)))) }
 {
-    put_word(out, Keyword::Return)?;
+    put_keyword(out, Keyword::Return)?;
     put_expr(alloc, out, value)?;
     put_mark(out, Mark::Semicolon)
 }
@@ -145,10 +145,10 @@ pub fn put_block(alloc: Global, out: &mut Vec<Token>, block: &Block) -> Result<(
 }
 
 #[cycle(spell)]
-fn put_items(alloc: Global, out: &mut Vec<Token>, all: &[Item]) -> Result<(), AllocError>
-    ensures { OnOk result (Adds out.old.items out.new.items (node_items (items (map see_item all.now)))) }
+fn put_items(alloc: Global, out: &mut Vec<Token>, list: &[Item]) -> Result<(), AllocError>
+    ensures { OnOk result (Adds out.old.items out.new.items (node_items (items (map see_item list.now)))) }
 {
-    'each: for item in all {
+    'each: for item in list {
         put_item(alloc, out, item)?;
     }
     Ok(())
@@ -165,7 +165,7 @@ fn put_item(alloc: Global, out: &mut Vec<Token>, item: &Item) -> Result<(), Allo
             assign: _,
             value,
         } => put_local(alloc, out, value_type, name, value),
-        Item::Plain(stmt) => put_stmt(alloc, out, stmt),
+        Item::Stmt(stmt) => put_stmt(alloc, out, stmt),
     }
 }
 
@@ -184,8 +184,8 @@ fn put_stmt(alloc: Global, out: &mut Vec<Token>, stmt: &Stmt) -> Result<(), Allo
             actuals,
             calls,
         } => put_call(alloc, out, name, actuals, calls),
-        Stmt::Through { name, first, calls } => put_through(alloc, out, name, first, calls),
-        Stmt::This {
+        Stmt::MethodCall { name, first, calls } => put_through(alloc, out, name, first, calls),
+        Stmt::ThisCall {
             at: _,
             first,
             calls,
@@ -224,9 +224,9 @@ fn put_stmt(alloc: Global, out: &mut Vec<Token>, stmt: &Stmt) -> Result<(), Allo
 
 #[cycle(spell)]
 fn put_if(alloc: Global, out: &mut Vec<Token>, test: &Expr, first: &Stmt) -> Result<(), AllocError>
-    ensures { OnOk result (Adds out.old.items out.new.items (node_stmt (IfThen 0 0 (see_expr test.now) (see_stmt first.now)))) }
+    ensures { OnOk result (Adds out.old.items out.new.items (node_stmt (IfStmt 0 0 (see_expr test.now) (see_stmt first.now)))) }
 {
-    put_word(out, Keyword::If)?;
+    put_keyword(out, Keyword::If)?;
     put_test(alloc, out, test)?;
     put_stmt(alloc, out, first)
 }
@@ -239,12 +239,12 @@ fn put_if_else(
     first: &Stmt,
     second: &Stmt,
 ) -> Result<(), AllocError>
-    ensures { OnOk result (Adds out.old.items out.new.items (node_stmt (IfElse 0 0 (see_expr test.now) (see_stmt first.now) (see_stmt second.now)))) }
+    ensures { OnOk result (Adds out.old.items out.new.items (node_stmt (IfElseStmt 0 0 (see_expr test.now) (see_stmt first.now) (see_stmt second.now)))) }
 {
-    put_word(out, Keyword::If)?;
+    put_keyword(out, Keyword::If)?;
     put_test(alloc, out, test)?;
     put_stmt(alloc, out, first)?;
-    put_word(out, Keyword::Else)?;
+    put_keyword(out, Keyword::Else)?;
     put_stmt(alloc, out, second)
 }
 
@@ -255,9 +255,9 @@ fn put_while(
     test: &Expr,
     body: &Stmt,
 ) -> Result<(), AllocError>
-    ensures { OnOk result (Adds out.old.items out.new.items (node_stmt (Repeats 0 0 (see_expr test.now) (see_stmt body.now)))) }
+    ensures { OnOk result (Adds out.old.items out.new.items (node_stmt (WhileStmt 0 0 (see_expr test.now) (see_stmt body.now)))) }
 {
-    put_word(out, Keyword::While)?;
+    put_keyword(out, Keyword::While)?;
     put_test(alloc, out, test)?;
     put_stmt(alloc, out, body)
 }

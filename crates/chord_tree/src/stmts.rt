@@ -2,8 +2,7 @@
 #![tactic(auto)]
 
 ghost use Rattle.std.specs.Prelude.{◌≡◌, IfOk, map};
-ghost use Rattle.chord_tree.specs.Derived.{IsStmt, IsBlock, IsItem};
-ghost use Rattle.chord_tree.specs.Tree.{dots, items, Assigns, Calls, CallsThrough, CallsThis, Makes, Braces, Nothing, IfThen, IfElse, Repeats, Returns, Gives, MakeBlock, Declares, Does};
+ghost use Rattle.chord_tree.specs.Tree.{dots, items, AssignStmt, CallStmt, MethodCallStmt, ThisCallStmt, NewStmt, BlockStmt, EmptyStmt, IfStmt, IfElseStmt, WhileStmt, ReturnStmt, ReturnValueStmt, MakeBlock, LocalItem, StmtItem};
 ghost use Rattle.chord_tree.specs.ViewExprs.{see_expr, see_actuals, see_dot};
 ghost use Rattle.chord_tree.specs.ViewStmts.{see_item, see_stmt, see_block};
 
@@ -33,7 +32,7 @@ pub enum Item {
         value: Expr,
     },
     /// A statement.
-    Plain(Stmt),
+    Stmt(Stmt),
 }
 
 /// A statement.
@@ -53,13 +52,13 @@ pub enum Stmt {
         calls: Vec<Dot>,
     },
     /// Calls on a variable, or on the word `Console`.
-    Through {
+    MethodCall {
         name: Name,
         first: Dot,
         calls: Vec<Dot>,
     },
     /// Calls on `this`.
-    This {
+    ThisCall {
         at: u32,
         first: Dot,
         calls: Vec<Dot>,
@@ -110,19 +109,17 @@ pub enum Stmt {
 
 impl Block {
     /// Items in braces; the number is that of `}`.
-    pub fn new(all: Vec<Item>, end: u32) -> Block
-        requires { IsBlock (MakeBlock (items (map see_item all.items)) end) }
-        ensures { see_block result ≡ MakeBlock (items (map see_item all.items)) end }
+    pub fn new(list: Vec<Item>, end: u32) -> Block
+        ensures { see_block result ≡ MakeBlock (items (map see_item list.items)) end }
     {
-        Block { items: all, end }
+        Block { items: list, end }
     }
 }
 
 impl Item {
     /// A local with its value; the number is that of `=`.
     pub fn local(value_type: ValueType, name: Name, assign: u32, value: Expr) -> Item
-        requires { IsItem (Declares value_type name assign (see_expr value)) }
-        ensures { see_item result ≡ Declares value_type name assign (see_expr value) }
+        ensures { see_item result ≡ LocalItem value_type name assign (see_expr value) }
     {
         Item::Local {
             value_type,
@@ -133,20 +130,17 @@ impl Item {
     }
 
     /// A statement.
-    pub fn plain(stmt: Stmt) -> Item
-        requires { IsItem (Does (see_stmt stmt)) }
-        ensures { see_item result ≡ Does (see_stmt stmt) }
+    pub fn stmt(stmt: Stmt) -> Item
+        ensures { see_item result ≡ StmtItem (see_stmt stmt) }
     {
-        Item::Plain(stmt)
+        Item::Stmt(stmt)
     }
 }
 
-// What has no parts but tokens is always derived, so its constructors have no condition.
 impl Stmt {
     /// A variable gets a value; the number is that of `=`.
     pub fn assign(name: Name, assign: u32, value: Expr) -> Stmt
-        requires { IsStmt (Assigns name assign (see_expr value)) }
-        ensures { see_stmt result ≡ Assigns name assign (see_expr value) }
+        ensures { see_stmt result ≡ AssignStmt name assign (see_expr value) }
     {
         Stmt::Assign {
             name,
@@ -157,8 +151,7 @@ impl Stmt {
 
     /// A call without receiver, and the calls on what it gives.
     pub fn call(name: Name, actuals: Actuals, calls: Vec<Dot>) -> Stmt
-        requires { IsStmt (Calls name (see_actuals actuals) (dots (map see_dot calls.items))) }
-        ensures { see_stmt result ≡ Calls name (see_actuals actuals) (dots (map see_dot calls.items)) }
+        ensures { see_stmt result ≡ CallStmt name (see_actuals actuals) (dots (map see_dot calls.items)) }
     {
         Stmt::Call {
             name,
@@ -168,25 +161,22 @@ impl Stmt {
     }
 
     /// Calls on a variable, or on the word `Console`.
-    pub fn through(name: Name, first: Dot, calls: Vec<Dot>) -> Stmt
-        requires { IsStmt (CallsThrough name (see_dot first) (dots (map see_dot calls.items))) }
-        ensures { see_stmt result ≡ CallsThrough name (see_dot first) (dots (map see_dot calls.items)) }
+    pub fn method_call(name: Name, first: Dot, calls: Vec<Dot>) -> Stmt
+        ensures { see_stmt result ≡ MethodCallStmt name (see_dot first) (dots (map see_dot calls.items)) }
     {
-        Stmt::Through { name, first, calls }
+        Stmt::MethodCall { name, first, calls }
     }
 
     /// Calls on `this`.
-    pub fn this(at: u32, first: Dot, calls: Vec<Dot>) -> Stmt
-        requires { IsStmt (CallsThis at (see_dot first) (dots (map see_dot calls.items))) }
-        ensures { see_stmt result ≡ CallsThis at (see_dot first) (dots (map see_dot calls.items)) }
+    pub fn this_call(at: u32, first: Dot, calls: Vec<Dot>) -> Stmt
+        ensures { see_stmt result ≡ ThisCallStmt at (see_dot first) (dots (map see_dot calls.items)) }
     {
-        Stmt::This { at, first, calls }
+        Stmt::ThisCall { at, first, calls }
     }
 
     /// `new` and a class, and the calls on the object.
-    pub fn made(at: u32, name: Name, actuals: Actuals, calls: Vec<Dot>) -> Stmt
-        requires { IsStmt (Makes at name (see_actuals actuals) (dots (map see_dot calls.items))) }
-        ensures { see_stmt result ≡ Makes at name (see_actuals actuals) (dots (map see_dot calls.items)) }
+    pub fn new_object(at: u32, name: Name, actuals: Actuals, calls: Vec<Dot>) -> Stmt
+        ensures { see_stmt result ≡ NewStmt at name (see_actuals actuals) (dots (map see_dot calls.items)) }
     {
         Stmt::New {
             at,
@@ -198,15 +188,14 @@ impl Stmt {
 
     /// A block.
     pub fn block(block: Block) -> Stmt
-        requires { IsStmt (Braces (see_block block)) }
-        ensures { see_stmt result ≡ Braces (see_block block) }
+        ensures { see_stmt result ≡ BlockStmt (see_block block) }
     {
         Stmt::Block(block)
     }
 
     /// `;`
     pub fn empty() -> Stmt
-        ensures { see_stmt result ≡ Nothing }
+        ensures { see_stmt result ≡ EmptyStmt }
     {
         Stmt::Empty
     }
@@ -219,8 +208,7 @@ impl Stmt {
         test: Expr,
         first: Stmt,
     ) -> Result<Stmt, AllocError>
-        requires { IsStmt (IfThen at bracket (see_expr test) (see_stmt first)) }
-        ensures { IfOk result (λ s. see_stmt s ≡ IfThen at bracket (see_expr test) (see_stmt first)) }
+        ensures { IfOk result (λ s. see_stmt s ≡ IfStmt at bracket (see_expr test) (see_stmt first)) }
     {
         Ok(Stmt::If {
             at,
@@ -239,8 +227,7 @@ impl Stmt {
         first: Stmt,
         second: Stmt,
     ) -> Result<Stmt, AllocError>
-        requires { IsStmt (IfElse at bracket (see_expr test) (see_stmt first) (see_stmt second)) }
-        ensures { IfOk result (λ s. see_stmt s ≡ IfElse at bracket (see_expr test) (see_stmt first) (see_stmt second)) }
+        ensures { IfOk result (λ s. see_stmt s ≡ IfElseStmt at bracket (see_expr test) (see_stmt first) (see_stmt second)) }
     {
         Ok(Stmt::IfElse {
             at,
@@ -252,15 +239,14 @@ impl Stmt {
     }
 
     /// `while`; the numbers are those of `while` and `(`.
-    pub fn repeat(
+    pub fn while_loop(
         alloc: Global,
         at: u32,
         bracket: u32,
         test: Expr,
         body: Stmt,
     ) -> Result<Stmt, AllocError>
-        requires { IsStmt (Repeats at bracket (see_expr test) (see_stmt body)) }
-        ensures { IfOk result (λ s. see_stmt s ≡ Repeats at bracket (see_expr test) (see_stmt body)) }
+        ensures { IfOk result (λ s. see_stmt s ≡ WhileStmt at bracket (see_expr test) (see_stmt body)) }
     {
         Ok(Stmt::While {
             at,
@@ -271,16 +257,15 @@ impl Stmt {
     }
 
     /// `return` without a value.
-    pub fn leave(at: u32) -> Stmt
-        ensures { see_stmt result ≡ Returns at }
+    pub fn return_nothing(at: u32) -> Stmt
+        ensures { see_stmt result ≡ ReturnStmt at }
     {
         Stmt::Return { at }
     }
 
     /// `return` with a value.
-    pub fn give(at: u32, value: Expr) -> Stmt
-        requires { IsStmt (Gives at (see_expr value)) }
-        ensures { see_stmt result ≡ Gives at (see_expr value) }
+    pub fn return_value(at: u32, value: Expr) -> Stmt
+        ensures { see_stmt result ≡ ReturnValueStmt at (see_expr value) }
     {
         Stmt::ReturnValue { at, value }
     }

@@ -7,7 +7,9 @@ ghost use Rattle.chord_tree.specs.ViewStmts.{see_item};
 ghost use Rattle.chord_tree.specs.Walk.{spots};
 ghost use Rattle.chord_tree.specs.Walked.{no_locals, with_local, example_spots};
 
-use crate::classes::{Class, Formal, Formals, Header, Member, Modifier, ModifierWord, ReturnType};
+use crate::classes::{
+    Class, Formal, Formals, Header, Member, Modifier, ModifierKeyword, ReturnType,
+};
 use crate::exprs::{Actuals, Dot, Expr, Link, Operator, Start};
 use crate::laws::walks;
 use crate::names::{BasicType, Name, ValueType};
@@ -52,7 +54,7 @@ fn buffer(alloc: Global) -> Result<Class, AllocError>
     ensures { IfOk result (λ c. see_class c ≡ buffer_class) }
 {
     let get_name = named(alloc, b"Get", 5)?;
-    let get_modifiers = one(alloc, Modifier::new(ModifierWord::Public, 3))?;
+    let get_modifiers = one(alloc, Modifier::new(ModifierKeyword::Public, 3))?;
     let get_formals = Formals::new(6, Vec::new(alloc));
     let get = Header::new(
         get_modifiers,
@@ -64,7 +66,7 @@ fn buffer(alloc: Global) -> Result<Class, AllocError>
     let formal = Formal::new(ValueType::basic(BasicType::String, 13), formal_name);
     let formal_list = one(alloc, formal)?;
     let put_name = named(alloc, b"Put", 11)?;
-    let put_modifiers = one(alloc, Modifier::new(ModifierWord::Public, 9))?;
+    let put_modifiers = one(alloc, Modifier::new(ModifierKeyword::Public, 9))?;
     let put_formals = Formals::new(12, formal_list);
     let put = Header::new(
         put_modifiers,
@@ -75,8 +77,8 @@ fn buffer(alloc: Global) -> Result<Class, AllocError>
     let headers = two(alloc, get, put)?;
     let value_name = named(alloc, b"s", 18)?;
     let value = Expr::primary(Start::variable(value_name), Vec::new(alloc));
-    let give = Stmt::give(17, value);
-    let item = Item::plain(give);
+    let give = Stmt::return_value(17, value);
+    let item = Item::stmt(give);
     let item_list = one(alloc, item)?;
     let body = Block::new(item_list, 20);
     let member = Member::chord(headers, body);
@@ -90,7 +92,7 @@ fn main(alloc: Global) -> Result<Class, AllocError>
 {
     let made_name = named(alloc, b"Buffer", 35)?;
     let made_actuals = Actuals::new(36, Vec::new(alloc));
-    let made_start = Start::made(34, made_name, made_actuals);
+    let made_start = Start::new_object(34, made_name, made_actuals);
     let made = Expr::primary(made_start, Vec::new(alloc));
     let local_type = named(alloc, b"Buffer", 31)?;
     let local_name = named(alloc, b"b", 32)?;
@@ -101,7 +103,7 @@ fn main(alloc: Global) -> Result<Class, AllocError>
     items.push(print)?;
     let body = Block::new(items, 57);
     let formals = Formals::new(28, Vec::new(alloc));
-    let modifiers = one(alloc, Modifier::new(ModifierWord::Static, 25))?;
+    let modifiers = one(alloc, Modifier::new(ModifierKeyword::Static, 25))?;
     let main_name = named(alloc, b"Main", 27)?;
     let header = Header::new(modifiers, ReturnType::void(26), main_name, formals);
     let headers = one(alloc, header)?;
@@ -121,8 +123,8 @@ fn put_call(alloc: Global) -> Result<Item, AllocError>
     let put_name = named(alloc, b"Put", 41)?;
     let dot = Dot::new(40, put_name, actuals);
     let receiver = named(alloc, b"b", 39)?;
-    let call = Stmt::through(receiver, dot, Vec::new(alloc));
-    Ok(Item::plain(call))
+    let call = Stmt::method_call(receiver, dot, Vec::new(alloc));
+    Ok(Item::stmt(call))
 }
 
 fn print_call(alloc: Global) -> Result<Item, AllocError>
@@ -139,8 +141,8 @@ fn print_call(alloc: Global) -> Result<Item, AllocError>
     let write_name = named(alloc, b"WriteLine", 48)?;
     let dot = Dot::new(47, write_name, actuals);
     let console = named(alloc, b"Console", 46)?;
-    let call = Stmt::through(console, dot, Vec::new(alloc));
-    Ok(Item::plain(call))
+    let call = Stmt::method_call(console, dot, Vec::new(alloc));
+    Ok(Item::stmt(call))
 }
 
 fn first_program(alloc: Global) -> Result<Program, AllocError>
@@ -209,17 +211,16 @@ fn branches(alloc: Global) -> Result<Block, AllocError> {
     let negative = Expr::minus(alloc, 5, one_number)?;
     let two_number = Expr::primary(Start::number(2, 8), Vec::new(alloc));
     let link = Link::new(Operator::Less, 7, two_number);
-    let links = one(alloc, link)?;
-    let chain = Expr::chain(alloc, negative, links)?;
+    let chain = Expr::chain(alloc, negative, link, Vec::new(alloc))?;
     let group = Start::group(alloc, 4, chain)?;
     let inner = Expr::primary(group, Vec::new(alloc));
     let test = Expr::not(alloc, 3, inner)?;
-    let never = Expr::primary(Start::no(19), Vec::new(alloc));
-    let inside = Stmt::if_then(alloc, 17, 18, never, Stmt::leave(21))?;
-    let always = Expr::primary(Start::yes(15), Vec::new(alloc));
-    let turns = Stmt::repeat(alloc, 13, 14, always, inside)?;
-    let all = Stmt::if_else(alloc, 1, 2, test, Stmt::empty(), turns)?;
-    let item = Item::plain(all);
+    let never = Expr::primary(Start::false_word(19), Vec::new(alloc));
+    let inside = Stmt::if_then(alloc, 17, 18, never, Stmt::return_nothing(21))?;
+    let always = Expr::primary(Start::true_word(15), Vec::new(alloc));
+    let turns = Stmt::while_loop(alloc, 13, 14, always, inside)?;
+    let whole = Stmt::if_else(alloc, 1, 2, test, Stmt::empty(), turns)?;
+    let item = Item::stmt(whole);
     let items = one(alloc, item)?;
     Ok(Block::new(items, 23))
 }
@@ -288,13 +289,12 @@ fn a_long_chain_is_walked_and_dropped(rt: HostRuntime) -> Result<(), Fail> {
         })?;
     }
     let first = Expr::primary(Start::this(7), Vec::new(rt.alloc()));
-    let chain = Expr::Chain {
-        first: Box::new(rt.alloc(), first)?,
-        links,
-    };
+    let operand = Expr::primary(Start::this(9), Vec::new(rt.alloc()));
+    let link = Link::new(Operator::Plus, 8, operand);
+    let chain = Expr::chain(rt.alloc(), first, link, links)?;
     assert_eq!(rt; chain.first_token(), 7);
     let mut tokens = Vec::new(rt.alloc());
     put_expr(rt.alloc(), &mut tokens, &chain)?;
-    assert_eq!(rt; tokens.len(), 200_001);
+    assert_eq!(rt; tokens.len(), 200_003);
     Ok(())
 }

@@ -1,13 +1,13 @@
 use Rattle.std.proofs.Common.{length}
 use Rattle.chord_tree.specs.Symbols as grammar
-use Rattle.chord_tree.specs.Program.{told}
+use Rattle.chord_tree.specs.Program.{token_kinds}
 use Rattle.chord_parser.specs.Reading.{Continues}
 use Rattle.chord_parser.specs.Lists.{wrapped}
 use Rattle.chord_parser.proofs.ClassLists.{part_way}
 use Rattle.chord_parser.proofs.classes.parts_of.Given as goal
 
 abbrev pub invariant-each : goal.invariant-each
-invariant-each l = Continues l.all grammar.Name_parts 0 (told l.tokens) grammar.Name_parts 0 (told l.left) (wrapped part_way l.list.items)
+invariant-each l = Continues l.count grammar.Name_parts 0 (token_kinds l.tokens) grammar.Name_parts 0 (token_kinds l.left) (wrapped part_way l.list.items)
 
 abbrev pub decreases-each : goal.decreases-each
 decreases-each l = length l.left

@@ -1,139 +1,139 @@
 use Rattle.std.proofs.Common.{◌∷◌, [], map, ◌++◌, sym, ap, subst, ◌∙◌, arith}
-use Rattle.chord_tree.specs.Part.{Terminal}
-use Rattle.chord_tree.specs.Program.{told}
-use Rattle.chord_tree.specs.Shape.{node_at, node_start, node_actuals, node_dot, node_exprs}
+use Rattle.chord_tree.specs.Symbol.{Terminal}
+use Rattle.chord_tree.specs.Program.{token_kinds}
+use Rattle.chord_tree.specs.ExprNodes.{node_at, node_start, node_actuals, node_dot, node_exprs}
 use Rattle.chord_tree.specs.Tree.{exprs, MakeLink}
 use Rattle.chord_tree.specs.ViewExprs.{see_expr, see_link, see_dot}
 use Rattle.chord_tree.proofs.Ahead.{next_small}
 use Rattle.chord_parser.specs.Reading.{StopsAs}
-use Rattle.chord_parser.proofs.Reading.{step, ends, opened}
-use Rattle.chord_parser.proofs.Chains.{stops, stops_in, exits, enters, then, renamed, as_node, level_begun, no_link, begun_link, links_all, links_push, links_led, dots_all, dots_push, opt_push, opt_first, opt_all, shorter, shorter_dot, operator_read, pushed}
+use Rattle.chord_parser.proofs.Reading.{step, ends, goes_into}
+use Rattle.chord_parser.proofs.Chains.{stops, stops_in, exits, enters, then, renamed, as_node, level_begun, no_link, begun_link, links_all, links_push, links_at_level, dots_all, dots_push, opt_push, opt_first, opt_all, shorter, shorter_dot, operator_read, pushed}
 use Rattle.chord_parser.proofs.ChainSteps.{expr_and, expr_and_at}
-use Rattle.chord_parser.proofs.ExprSteps.{actuals_open, actuals_open_at, dot_dot, dot_dot_at, dots_dot, dots_dot_at, dots_none, dots_none_at, more_exprs_comma, more_exprs_comma_at, more_exprs_none, more_exprs_none_at, optional_actuals_actuals, optional_actuals_actuals_at, optional_actuals_none, optional_actuals_none_at, optional_exprs_expr, optional_exprs_expr_at, optional_exprs_none, optional_exprs_none_at, primary_start, primary_start_at, start_name, start_name_at, start_new, start_new_at, start_open, start_open_at, unary_minus, unary_minus_at, unary_not, unary_not_at, unary_primary, unary_primary_at}
+use Rattle.chord_parser.proofs.ExprSteps.{actuals_open, actuals_open_at, dot_dot, dot_dot_at, dots_dot, dots_dot_at, dots_none, dots_none_at, more_exprs_comma, more_exprs_comma_at, more_exprs_none, more_exprs_none_at, optional_actuals_actuals, optional_actuals_actuals_at, optional_actuals_none, optional_actuals_none_at, optional_exprs_expr, optional_exprs_expr_at, optional_exprs_none, optional_exprs_none_at, primary_operand_start, primary_operand_start_at, operand_start_name, operand_start_name_at, operand_start_new, operand_start_new_at, operand_start_open, operand_start_open_at, unary_minus, unary_minus_at, unary_not, unary_not_at, unary_primary, unary_primary_at}
 use Rattle.chord_parser.proofs.exprs.+parser.Goals as goal
 
 pub actuals-returns-in_err-at-clause-err : goal.actuals-returns-in_err-at-clause-err
-actuals-returns-in_err-at-clause-err t c = exits _ _ _ _ _ c.from_residual.ensures.1 (stops {all = c.args.all} (actuals_open (actuals_open_at _ (next_small (told c.args.tokens.now)))) _ c.in_err-at.ensures.err)
+actuals-returns-in_err-at-clause-err t c = exits _ _ _ _ _ c.from_residual.ensures.1 (stops {count = c.args.count} (actuals_open (actuals_open_at _ (next_small (token_kinds c.args.tokens.now)))) _ c.in_err-at.ensures.err)
 
 pub actuals-returns-in_err-passed-clause-err : goal.actuals-returns-in_err-passed-clause-err
-actuals-returns-in_err-passed-clause-err t c = exits _ _ _ _ _ c.from_residual-in_err-passed.ensures.1 (stops {all = c.args.all} (step (actuals_open (actuals_open_at _ (next_small (told c.args.tokens.now)))) c.in_ok-at.ensures.ok) _ c.in_err-passed.ensures.err)
+actuals-returns-in_err-passed-clause-err t c = exits _ _ _ _ _ c.from_residual-in_err-passed.ensures.1 (stops {count = c.args.count} (step (actuals_open (actuals_open_at _ (next_small (token_kinds c.args.tokens.now)))) c.in_ok-at.ensures.ok) _ c.in_err-passed.ensures.err)
 
 pub actuals-returns-in_err-rest-clause-err : goal.actuals-returns-in_err-rest-clause-err
-actuals-returns-in_err-rest-clause-err t c = exits _ _ _ _ _ c.from_residual-in_err-rest.ensures.1 (stops {all = c.args.all} (step (step (actuals_open (actuals_open_at _ (next_small (told c.args.tokens.now)))) c.in_ok-at.ensures.ok) c.in_ok-passed.ensures.ok) _ c.in_err-rest.ensures.err)
+actuals-returns-in_err-rest-clause-err t c = exits _ _ _ _ _ c.from_residual-in_err-rest.ensures.1 (stops {count = c.args.count} (step (step (actuals_open (actuals_open_at _ (next_small (token_kinds c.args.tokens.now)))) c.in_ok-at.ensures.ok) c.in_ok-passed.ensures.ok) _ c.in_err-rest.ensures.err)
 
 pub actuals-returns-clause-ok : goal.actuals-returns-clause-ok
-actuals-returns-clause-ok t c = as_node (ends (step (step (step (actuals_open (actuals_open_at _ (next_small (told c.args.tokens.now)))) c.in_ok-at.ensures.ok) c.in_ok-passed.ensures.ok) c.in_ok-rest.ensures.ok)) (sym (ap node_actuals c.make_actuals.ensures))
+actuals-returns-clause-ok t c = as_node (ends (step (step (step (actuals_open (actuals_open_at _ (next_small (token_kinds c.args.tokens.now)))) c.in_ok-at.ensures.ok) c.in_ok-passed.ensures.ok) c.in_ok-rest.ensures.ok)) (sym (ap node_actuals c.make_actuals.ensures))
 
 pub dot-returns-in_err-at-clause-err : goal.dot-returns-in_err-at-clause-err
-dot-returns-in_err-at-clause-err t c = exits _ _ _ _ _ c.from_residual.ensures.1 (stops {all = c.args.all} (dot_dot (dot_dot_at _ (next_small (told c.args.tokens.now)))) _ c.in_err-at.ensures.err)
+dot-returns-in_err-at-clause-err t c = exits _ _ _ _ _ c.from_residual.ensures.1 (stops {count = c.args.count} (dot_dot (dot_dot_at _ (next_small (token_kinds c.args.tokens.now)))) _ c.in_err-at.ensures.err)
 
 pub dot-returns-in_err-name-clause-err : goal.dot-returns-in_err-name-clause-err
-dot-returns-in_err-name-clause-err t c = exits _ _ _ _ _ c.from_residual-in_err-name.ensures.1 (stops {all = c.args.all} (step (dot_dot (dot_dot_at _ (next_small (told c.args.tokens.now)))) c.in_ok-at.ensures.ok) _ c.in_err-name.ensures.err)
+dot-returns-in_err-name-clause-err t c = exits _ _ _ _ _ c.from_residual-in_err-name.ensures.1 (stops {count = c.args.count} (step (dot_dot (dot_dot_at _ (next_small (token_kinds c.args.tokens.now)))) c.in_ok-at.ensures.ok) _ c.in_err-name.ensures.err)
 
 pub dot-returns-in_err-passed-clause-err : goal.dot-returns-in_err-passed-clause-err
-dot-returns-in_err-passed-clause-err t c = exits _ _ _ _ _ c.from_residual-in_err-passed.ensures.1 (stops {all = c.args.all} (step (step (dot_dot (dot_dot_at _ (next_small (told c.args.tokens.now)))) c.in_ok-at.ensures.ok) c.in_ok-name.ensures.ok) _ c.in_err-passed.ensures.err)
+dot-returns-in_err-passed-clause-err t c = exits _ _ _ _ _ c.from_residual-in_err-passed.ensures.1 (stops {count = c.args.count} (step (step (dot_dot (dot_dot_at _ (next_small (token_kinds c.args.tokens.now)))) c.in_ok-at.ensures.ok) c.in_ok-name.ensures.ok) _ c.in_err-passed.ensures.err)
 
 pub dot-returns-clause-ok : goal.dot-returns-clause-ok
-dot-returns-clause-ok t c = as_node (ends (step (step (step (dot_dot (dot_dot_at _ (next_small (told c.args.tokens.now)))) c.in_ok-at.ensures.ok) c.in_ok-name.ensures.ok) c.in_ok-passed.ensures.ok)) (sym (ap node_dot c.make_dot.ensures))
+dot-returns-clause-ok t c = as_node (ends (step (step (step (dot_dot (dot_dot_at _ (next_small (token_kinds c.args.tokens.now)))) c.in_ok-at.ensures.ok) c.in_ok-name.ensures.ok) c.in_ok-passed.ensures.ok)) (sym (ap node_dot c.make_dot.ensures))
 
 pub start_group-returns-in_err-at-clause-err : goal.start_group-returns-in_err-at-clause-err
-start_group-returns-in_err-at-clause-err t c = exits _ _ _ _ _ c.from_residual.ensures.1 (stops {all = c.args.all} (start_open (start_open_at _ c.requires.first)) _ c.in_err-at.ensures.err)
+start_group-returns-in_err-at-clause-err t c = exits _ _ _ _ _ c.from_residual.ensures.1 (stops {count = c.args.count} (operand_start_open (operand_start_open_at _ c.requires.first)) _ c.in_err-at.ensures.err)
 
 pub start_group-returns-in_err-inner-clause-err : goal.start_group-returns-in_err-inner-clause-err
-start_group-returns-in_err-inner-clause-err t c = exits _ _ _ _ _ c.from_residual-in_err-inner.ensures.1 (stops {all = c.args.all} (step (start_open (start_open_at _ c.requires.first)) c.in_ok-at.ensures.ok) _ c.in_err-inner.ensures.err)
+start_group-returns-in_err-inner-clause-err t c = exits _ _ _ _ _ c.from_residual-in_err-inner.ensures.1 (stops {count = c.args.count} (step (operand_start_open (operand_start_open_at _ c.requires.first)) c.in_ok-at.ensures.ok) _ c.in_err-inner.ensures.err)
 
 pub start_group-returns-in_err-rest-clause-err : goal.start_group-returns-in_err-rest-clause-err
-start_group-returns-in_err-rest-clause-err t c = exits _ _ _ _ _ c.from_residual-in_err-rest.ensures.1 (stops {all = c.args.all} (step (step (start_open (start_open_at _ c.requires.first)) c.in_ok-at.ensures.ok) c.in_ok-inner.ensures.ok) _ c.in_err-rest.ensures.err)
+start_group-returns-in_err-rest-clause-err t c = exits _ _ _ _ _ c.from_residual-in_err-rest.ensures.1 (stops {count = c.args.count} (step (step (operand_start_open (operand_start_open_at _ c.requires.first)) c.in_ok-at.ensures.ok) c.in_ok-inner.ensures.ok) _ c.in_err-rest.ensures.err)
 
 pub start_group-returns-clause-ok : goal.start_group-returns-clause-ok
-start_group-returns-clause-ok t c = as_node (ends (step (step (step (start_open (start_open_at _ c.requires.first)) c.in_ok-at.ensures.ok) c.in_ok-inner.ensures.ok) c.in_ok-rest.ensures.ok)) (sym (ap node_start c.in_ok-make_group.ensures))
+start_group-returns-clause-ok t c = as_node (ends (step (step (step (operand_start_open (operand_start_open_at _ c.requires.first)) c.in_ok-at.ensures.ok) c.in_ok-inner.ensures.ok) c.in_ok-rest.ensures.ok)) (sym (ap node_start c.in_ok-make_group.ensures))
 
 pub start_new-returns-in_err-at-clause-err : goal.start_new-returns-in_err-at-clause-err
-start_new-returns-in_err-at-clause-err t c = exits _ _ _ _ _ c.from_residual.ensures.1 (stops {all = c.args.all} (start_new (start_new_at _ c.requires.first)) _ c.in_err-at.ensures.err)
+start_new-returns-in_err-at-clause-err t c = exits _ _ _ _ _ c.from_residual.ensures.1 (stops {count = c.args.count} (operand_start_new (operand_start_new_at _ c.requires.first)) _ c.in_err-at.ensures.err)
 
 pub start_new-returns-in_err-name-clause-err : goal.start_new-returns-in_err-name-clause-err
-start_new-returns-in_err-name-clause-err t c = exits _ _ _ _ _ c.from_residual-in_err-name.ensures.1 (stops {all = c.args.all} (step (start_new (start_new_at _ c.requires.first)) c.in_ok-at.ensures.ok) _ c.in_err-name.ensures.err)
+start_new-returns-in_err-name-clause-err t c = exits _ _ _ _ _ c.from_residual-in_err-name.ensures.1 (stops {count = c.args.count} (step (operand_start_new (operand_start_new_at _ c.requires.first)) c.in_ok-at.ensures.ok) _ c.in_err-name.ensures.err)
 
 pub start_new-returns-in_err-passed-clause-err : goal.start_new-returns-in_err-passed-clause-err
-start_new-returns-in_err-passed-clause-err t c = exits _ _ _ _ _ c.from_residual-in_err-passed.ensures.1 (stops {all = c.args.all} (step (step (start_new (start_new_at _ c.requires.first)) c.in_ok-at.ensures.ok) c.in_ok-name.ensures.ok) _ c.in_err-passed.ensures.err)
+start_new-returns-in_err-passed-clause-err t c = exits _ _ _ _ _ c.from_residual-in_err-passed.ensures.1 (stops {count = c.args.count} (step (step (operand_start_new (operand_start_new_at _ c.requires.first)) c.in_ok-at.ensures.ok) c.in_ok-name.ensures.ok) _ c.in_err-passed.ensures.err)
 
 pub start_new-returns-clause-ok : goal.start_new-returns-clause-ok
-start_new-returns-clause-ok t c = as_node (ends (step (step (step (start_new (start_new_at _ c.requires.first)) c.in_ok-at.ensures.ok) c.in_ok-name.ensures.ok) c.in_ok-passed.ensures.ok)) (sym (ap node_start c.make_new.ensures))
+start_new-returns-clause-ok t c = as_node (ends (step (step (step (operand_start_new (operand_start_new_at _ c.requires.first)) c.in_ok-at.ensures.ok) c.in_ok-name.ensures.ok) c.in_ok-passed.ensures.ok)) (sym (ap node_start c.make_new.ensures))
 
 pub start_name-returns-in_err-name-clause-err : goal.start_name-returns-in_err-name-clause-err
-start_name-returns-in_err-name-clause-err t c = exits _ _ _ _ _ c.from_residual.ensures.1 (stops {all = c.args.all} (start_name (start_name_at _ c.requires.first)) _ c.in_err-name.ensures.err)
+start_name-returns-in_err-name-clause-err t c = exits _ _ _ _ _ c.from_residual.ensures.1 (stops {count = c.args.count} (operand_start_name (operand_start_name_at _ c.requires.first)) _ c.in_err-name.ensures.err)
 
 pub start_name-returns-in_err-passed-clause-err : goal.start_name-returns-in_err-passed-clause-err
-start_name-returns-in_err-passed-clause-err t c = exits _ _ _ _ _ c.from_residual-in_err-passed.ensures.1 (stops {all = c.args.all} (opened (step (start_name (start_name_at _ c.requires.first)) c.in_ok-name.ensures.ok) (optional_actuals_actuals (optional_actuals_actuals_at _ (sym c.next.ensures ∙ c.if-next-eq-OPEN.true)))) _ c.in_err-passed.ensures.err)
+start_name-returns-in_err-passed-clause-err t c = exits _ _ _ _ _ c.from_residual-in_err-passed.ensures.1 (stops {count = c.args.count} (goes_into (step (operand_start_name (operand_start_name_at _ c.requires.first)) c.in_ok-name.ensures.ok) (optional_actuals_actuals (optional_actuals_actuals_at _ (sym c.next.ensures ∙ c.if-next-eq-OPEN.true)))) _ c.in_err-passed.ensures.err)
 
 pub start_name-returns-then-next-eq-OPEN-clause-ok : goal.start_name-returns-then-next-eq-OPEN-clause-ok
-start_name-returns-then-next-eq-OPEN-clause-ok t c = as_node (ends (step (opened (step (start_name (start_name_at _ c.requires.first)) c.in_ok-name.ensures.ok) (optional_actuals_actuals (optional_actuals_actuals_at _ (sym c.next.ensures ∙ c.if-next-eq-OPEN.true)))) c.in_ok-passed.ensures.ok)) (sym (ap node_start c.make_called.ensures))
+start_name-returns-then-next-eq-OPEN-clause-ok t c = as_node (ends (step (goes_into (step (operand_start_name (operand_start_name_at _ c.requires.first)) c.in_ok-name.ensures.ok) (optional_actuals_actuals (optional_actuals_actuals_at _ (sym c.next.ensures ∙ c.if-next-eq-OPEN.true)))) c.in_ok-passed.ensures.ok)) (sym (ap node_start c.make_called.ensures))
 
 pub start_name-returns-clause-ok : goal.start_name-returns-clause-ok
-start_name-returns-clause-ok t c = as_node (ends (step (step (start_name (start_name_at _ c.requires.first)) c.in_ok-name.ensures.ok) (ends (optional_actuals_none (optional_actuals_none_at _ (next_small (told c.in_ok-name.rest.now)) (λ q. c.if-next-eq-OPEN.false (c.next.ensures ∙ q))))))) (sym (ap node_start c.make_variable.ensures))
+start_name-returns-clause-ok t c = as_node (ends (step (step (operand_start_name (operand_start_name_at _ c.requires.first)) c.in_ok-name.ensures.ok) (ends (optional_actuals_none (optional_actuals_none_at _ (next_small (token_kinds c.in_ok-name.rest.now)) (λ q. c.if-next-eq-OPEN.false (c.next.ensures ∙ q))))))) (sym (ap node_start c.make_variable.ensures))
 
 pub unary-returns-in_err-at-clause-err : goal.unary-returns-in_err-at-clause-err
-unary-returns-in_err-at-clause-err t c = exits _ _ _ _ _ c.from_residual.ensures.1 (stops {all = c.args.all} (unary_minus (unary_minus_at _ (sym c.next-c.ensures ∙ c.if-c-eq-MINUS.true))) _ c.in_err-at.ensures.err)
+unary-returns-in_err-at-clause-err t c = exits _ _ _ _ _ c.from_residual.ensures.1 (stops {count = c.args.count} (unary_minus (unary_minus_at _ (sym c.next-ahead.ensures ∙ c.if-ahead-eq-MINUS.true))) _ c.in_err-at.ensures.err)
 
 pub unary-returns-in_err-inner-clause-err : goal.unary-returns-in_err-inner-clause-err
-unary-returns-in_err-inner-clause-err t c = exits _ _ _ _ _ c.from_residual-in_err-inner.ensures.1 (stops {all = c.args.all} (step (unary_minus (unary_minus_at _ (sym c.next-c.ensures ∙ c.if-c-eq-MINUS.true))) c.in_ok-at.ensures.ok) _ c.in_err-inner.ensures.err)
+unary-returns-in_err-inner-clause-err t c = exits _ _ _ _ _ c.from_residual-in_err-inner.ensures.1 (stops {count = c.args.count} (step (unary_minus (unary_minus_at _ (sym c.next-ahead.ensures ∙ c.if-ahead-eq-MINUS.true))) c.in_ok-at.ensures.ok) _ c.in_err-inner.ensures.err)
 
-pub unary-returns-then-c-eq-MINUS-clause-ok : goal.unary-returns-then-c-eq-MINUS-clause-ok
-unary-returns-then-c-eq-MINUS-clause-ok t c = as_node (ends (step (step (unary_minus (unary_minus_at _ (sym c.next-c.ensures ∙ c.if-c-eq-MINUS.true))) c.in_ok-at.ensures.ok) c.in_ok-inner.ensures.ok)) (sym (ap (node_at 0) c.in_ok-make_minus.ensures))
+pub unary-returns-then-ahead-eq-MINUS-clause-ok : goal.unary-returns-then-ahead-eq-MINUS-clause-ok
+unary-returns-then-ahead-eq-MINUS-clause-ok t c = as_node (ends (step (step (unary_minus (unary_minus_at _ (sym c.next-ahead.ensures ∙ c.if-ahead-eq-MINUS.true))) c.in_ok-at.ensures.ok) c.in_ok-inner.ensures.ok)) (sym (ap (node_at 0) c.in_ok-make_minus.ensures))
 
 pub unary-returns-in_err-at-2-clause-err : goal.unary-returns-in_err-at-2-clause-err
-unary-returns-in_err-at-2-clause-err t c = exits _ _ _ _ _ c.from_residual-in_err-at-2.ensures.1 (stops {all = c.args.all} (unary_not (unary_not_at _ (sym c.next-c.ensures ∙ c.if-c-eq-NOT.true))) _ c.in_err-at-2.ensures.err)
+unary-returns-in_err-at-2-clause-err t c = exits _ _ _ _ _ c.from_residual-in_err-at-2.ensures.1 (stops {count = c.args.count} (unary_not (unary_not_at _ (sym c.next-ahead.ensures ∙ c.if-ahead-eq-NOT.true))) _ c.in_err-at-2.ensures.err)
 
 pub unary-returns-in_err-inner-2-clause-err : goal.unary-returns-in_err-inner-2-clause-err
-unary-returns-in_err-inner-2-clause-err t c = exits _ _ _ _ _ c.from_residual-in_err-inner-2.ensures.1 (stops {all = c.args.all} (step (unary_not (unary_not_at _ (sym c.next-c.ensures ∙ c.if-c-eq-NOT.true))) c.in_ok-at-2.ensures.ok) _ c.in_err-inner-2.ensures.err)
+unary-returns-in_err-inner-2-clause-err t c = exits _ _ _ _ _ c.from_residual-in_err-inner-2.ensures.1 (stops {count = c.args.count} (step (unary_not (unary_not_at _ (sym c.next-ahead.ensures ∙ c.if-ahead-eq-NOT.true))) c.in_ok-at-2.ensures.ok) _ c.in_err-inner-2.ensures.err)
 
-pub unary-returns-then-c-eq-NOT-clause-ok : goal.unary-returns-then-c-eq-NOT-clause-ok
-unary-returns-then-c-eq-NOT-clause-ok t c = as_node (ends (step (step (unary_not (unary_not_at _ (sym c.next-c.ensures ∙ c.if-c-eq-NOT.true))) c.in_ok-at-2.ensures.ok) c.in_ok-inner-2.ensures.ok)) (sym (ap (node_at 0) c.in_ok-make_not.ensures))
+pub unary-returns-then-ahead-eq-NOT-clause-ok : goal.unary-returns-then-ahead-eq-NOT-clause-ok
+unary-returns-then-ahead-eq-NOT-clause-ok t c = as_node (ends (step (step (unary_not (unary_not_at _ (sym c.next-ahead.ensures ∙ c.if-ahead-eq-NOT.true))) c.in_ok-at-2.ensures.ok) c.in_ok-inner-2.ensures.ok)) (sym (ap (node_at 0) c.in_ok-make_not.ensures))
 
 pub unary-returns-in_err-first-clause-err : goal.unary-returns-in_err-first-clause-err
-unary-returns-in_err-first-clause-err t c = exits _ _ _ _ _ c.from_residual-in_err-first.ensures.1 (stops {all = c.args.all} (opened (unary_primary (unary_primary_at _ (next_small (told c.args.tokens.now)) (λ q. c.if-c-eq-MINUS.false (c.next-c.ensures ∙ q)) (λ q. c.if-c-eq-NOT.false (c.next-c.ensures ∙ q)))) (primary_start (primary_start_at _ (next_small (told c.args.tokens.now))))) _ c.in_err-first.ensures.err)
+unary-returns-in_err-first-clause-err t c = exits _ _ _ _ _ c.from_residual-in_err-first.ensures.1 (stops {count = c.args.count} (goes_into (unary_primary (unary_primary_at _ (next_small (token_kinds c.args.tokens.now)) (λ q. c.if-ahead-eq-MINUS.false (c.next-ahead.ensures ∙ q)) (λ q. c.if-ahead-eq-NOT.false (c.next-ahead.ensures ∙ q)))) (primary_operand_start (primary_operand_start_at _ (next_small (token_kinds c.args.tokens.now))))) _ c.in_err-first.ensures.err)
 
 pub unary-returns-in_err-calls-clause-err : goal.unary-returns-in_err-calls-clause-err
-unary-returns-in_err-calls-clause-err t c = exits _ _ _ _ _ c.from_residual-in_err-calls.ensures.1 (stops {all = c.args.all} (step (opened (unary_primary (unary_primary_at _ (next_small (told c.args.tokens.now)) (λ q. c.if-c-eq-MINUS.false (c.next-c.ensures ∙ q)) (λ q. c.if-c-eq-NOT.false (c.next-c.ensures ∙ q)))) (primary_start (primary_start_at _ (next_small (told c.args.tokens.now))))) c.in_ok-first.ensures.ok) _ c.in_err-calls.ensures.err)
+unary-returns-in_err-calls-clause-err t c = exits _ _ _ _ _ c.from_residual-in_err-calls.ensures.1 (stops {count = c.args.count} (step (goes_into (unary_primary (unary_primary_at _ (next_small (token_kinds c.args.tokens.now)) (λ q. c.if-ahead-eq-MINUS.false (c.next-ahead.ensures ∙ q)) (λ q. c.if-ahead-eq-NOT.false (c.next-ahead.ensures ∙ q)))) (primary_operand_start (primary_operand_start_at _ (next_small (token_kinds c.args.tokens.now))))) c.in_ok-first.ensures.ok) _ c.in_err-calls.ensures.err)
 
 pub unary-returns-clause-ok : goal.unary-returns-clause-ok
-unary-returns-clause-ok t c = as_node (ends (step (step (opened (unary_primary (unary_primary_at _ (next_small (told c.args.tokens.now)) (λ q. c.if-c-eq-MINUS.false (c.next-c.ensures ∙ q)) (λ q. c.if-c-eq-NOT.false (c.next-c.ensures ∙ q)))) (primary_start (primary_start_at _ (next_small (told c.args.tokens.now))))) c.in_ok-first.ensures.ok) c.in_ok-calls.ensures.ok)) (sym (ap (node_at 0) c.make_primary.ensures))
+unary-returns-clause-ok t c = as_node (ends (step (step (goes_into (unary_primary (unary_primary_at _ (next_small (token_kinds c.args.tokens.now)) (λ q. c.if-ahead-eq-MINUS.false (c.next-ahead.ensures ∙ q)) (λ q. c.if-ahead-eq-NOT.false (c.next-ahead.ensures ∙ q)))) (primary_operand_start (primary_operand_start_at _ (next_small (token_kinds c.args.tokens.now))))) c.in_ok-first.ensures.ok) c.in_ok-calls.ensures.ok)) (sym (ap (node_at 0) c.make_primary.ensures))
 
 pub expr-returns-in_err-first-clause-err : goal.expr-returns-in_err-first-clause-err
-expr-returns-in_err-first-clause-err t c = exits _ _ _ _ _ c.from_residual.ensures.1 (stops {all = c.args.all} (expr_and (expr_and_at _ (next_small (told c.args.tokens.now)))) _ c.in_err-first.ensures.err)
+expr-returns-in_err-first-clause-err t c = exits _ _ _ _ _ c.from_residual.ensures.1 (stops {count = c.args.count} (expr_and (expr_and_at _ (next_small (token_kinds c.args.tokens.now)))) _ c.in_err-first.ensures.err)
 
 pub expr-returns-in_err-more-clause-err : goal.expr-returns-in_err-more-clause-err
-expr-returns-in_err-more-clause-err t c = exits _ _ _ _ _ c.from_residual-in_err-more.ensures.1 (stops {all = c.args.all} (step (expr_and (expr_and_at _ (next_small (told c.args.tokens.now)))) c.in_ok-first.ensures.ok) _ c.in_err-more.ensures.err)
+expr-returns-in_err-more-clause-err t c = exits _ _ _ _ _ c.from_residual-in_err-more.ensures.1 (stops {count = c.args.count} (step (expr_and (expr_and_at _ (next_small (token_kinds c.args.tokens.now)))) c.in_ok-first.ensures.ok) _ c.in_err-more.ensures.err)
 
 pub expr-returns-clause-ok : goal.expr-returns-clause-ok
-expr-returns-clause-ok t c = as_node (ends (step (step (expr_and (expr_and_at _ (next_small (told c.args.tokens.now)))) c.in_ok-first.ensures.ok) c.in_ok-more.ensures.ok)) (sym c.in_ok-whole.ensures.node)
+expr-returns-clause-ok t c = as_node (ends (step (step (expr_and (expr_and_at _ (next_small (token_kinds c.args.tokens.now)))) c.in_ok-first.ensures.ok) c.in_ok-more.ensures.ok)) (sym c.in_ok-whole.ensures.node)
 
 pub chain-returns-in_err-first-clause-err : goal.chain-returns-in_err-first-clause-err
-chain-returns-in_err-first-clause-err t c = exits _ _ _ _ _ c.from_residual.ensures.1 (stops {all = c.args.all} (level_begun c.args.l (omega (arith, c.if-l-eq0.false)) c.requires.level) _ c.in_err-first.ensures.err)
+chain-returns-in_err-first-clause-err t c = exits _ _ _ _ _ c.from_residual.ensures.1 (stops {count = c.args.count} (level_begun c.args.l (omega (arith, c.if-l-eq0.false)) c.requires.operator_level) _ c.in_err-first.ensures.err)
 
 pub chain-returns-in_err-more-clause-err : goal.chain-returns-in_err-more-clause-err
-chain-returns-in_err-more-clause-err t c = exits _ _ _ _ _ c.from_residual-in_err-more.ensures.1 (stops {all = c.args.all} (step (level_begun c.args.l (omega (arith, c.if-l-eq0.false)) c.requires.level) c.in_ok-first.ensures.ok) _ c.in_err-more.ensures.err)
+chain-returns-in_err-more-clause-err t c = exits _ _ _ _ _ c.from_residual-in_err-more.ensures.1 (stops {count = c.args.count} (step (level_begun c.args.l (omega (arith, c.if-l-eq0.false)) c.requires.operator_level) c.in_ok-first.ensures.ok) _ c.in_err-more.ensures.err)
 
 pub chain-returns-clause-ok : goal.chain-returns-clause-ok
-chain-returns-clause-ok t c = as_node (ends (step (step (level_begun c.args.l (omega (arith, c.if-l-eq0.false)) c.requires.level) c.in_ok-first.ensures.ok) c.in_ok-more.ensures.ok)) (sym c.in_ok-whole.ensures.node)
+chain-returns-clause-ok t c = as_node (ends (step (step (level_begun c.args.l (omega (arith, c.if-l-eq0.false)) c.requires.operator_level) c.in_ok-first.ensures.ok) c.in_ok-more.ensures.ok)) (sym c.in_ok-whole.ensures.node)
 
 pub chain_links-returns-in_err-at-clause-err : goal.chain_links-returns-in_err-at-clause-err
-chain_links-returns-in_err-at-clause-err t c = exits _ _ _ _ _ c.from_residual.ensures.1 (stops_in c.each.invariant.0 _ (stops {all = c.args.all} (begun_link c.in-Some.operator c.args.l c.in-Some.ensures.level c.in-Some.ensures.some) _ (subst (λ z. StopsAs (Terminal z) c.args.depth (told c.each.left.now) c.in_err-at.field-0.0) c.class_of_operator.ensures c.in_err-at.ensures.err)))
+chain_links-returns-in_err-at-clause-err t c = exits _ _ _ _ _ c.from_residual.ensures.1 (stops_in c.each.invariant.0 _ (stops {count = c.args.count} (begun_link c.in-Some.operator c.args.l c.in-Some.ensures.operator_level c.in-Some.ensures.some) _ (subst (λ z. StopsAs (Terminal z) c.args.depth (token_kinds c.each.left.now) c.in_err-at.field-0.0) c.terminal_of_operator.ensures c.in_err-at.ensures.err)))
 
 pub chain_links-returns-in_err-term-clause-err : goal.chain_links-returns-in_err-term-clause-err
-chain_links-returns-in_err-term-clause-err t c = exits _ _ _ _ _ c.from_residual-in_err-term.ensures.1 (stops_in c.each.invariant.0 _ (stops (step (begun_link c.in-Some.operator c.args.l c.in-Some.ensures.level c.in-Some.ensures.some) (operator_read _ c.in-Some.operator c.class_of_operator.ensures c.in_ok-at.ensures.ok)) _ c.in_err-term.ensures.err))
+chain_links-returns-in_err-term-clause-err t c = exits _ _ _ _ _ c.from_residual-in_err-term.ensures.1 (stops_in c.each.invariant.0 _ (stops (step (begun_link c.in-Some.operator c.args.l c.in-Some.ensures.operator_level c.in-Some.ensures.some) (operator_read _ c.in-Some.operator c.terminal_of_operator.ensures c.in_ok-at.ensures.ok)) _ c.in_err-term.ensures.err))
 
 pub chain_links-each-smaller : goal.chain_links-each-smaller
 chain_links-each-smaller t c = shorter _ _ _ c.in_ok-at.ensures.ok c.in_ok-term.ensures.ok
 
 pub chain_links-each-preserved : goal.chain_links-each-preserved
-chain_links-each-preserved t c = (renamed (then c.each.invariant.0 (enters (step (step (begun_link c.in-Some.operator c.args.l c.in-Some.ensures.level c.in-Some.ensures.some) (operator_read _ c.in-Some.operator c.class_of_operator.ensures c.in_ok-at.ensures.ok)) c.in_ok-term.ensures.ok))) (λ n. links_push c.args.l _ _ _ (MakeLink c.in-Some.operator c.in_ok-at.at (see_expr c.in_ok-term.term)) n c.in_ok-push.ensures.items c.make_link.ensures), links_led _ _ _ _ _ _ _ c.in_ok-push.ensures.items c.make_link.ensures c.in-Some.ensures.level c.each.invariant.1)
+chain_links-each-preserved t c = (renamed (then c.each.invariant.0 (enters (step (step (begun_link c.in-Some.operator c.args.l c.in-Some.ensures.operator_level c.in-Some.ensures.some) (operator_read _ c.in-Some.operator c.terminal_of_operator.ensures c.in_ok-at.ensures.ok)) c.in_ok-term.ensures.ok))) (λ n. links_push c.args.l _ _ _ (MakeLink c.in-Some.operator c.in_ok-at.at (see_expr c.in_ok-term.term)) n c.in_ok-push.ensures.items c.make_link.ensures), links_at_level _ _ _ _ _ _ _ c.in_ok-push.ensures.items c.make_link.ensures c.in-Some.ensures.operator_level c.each.invariant.1)
 
 pub chain_links-returns-clause-ok : goal.chain_links-returns-clause-ok
-chain_links-returns-clause-ok t c = as_node (c.each.invariant.0.reads _ _ (no_link c.args.l c.requires.some c.requires.level c.in_default.ensures.none)) (links_all c.args.l (map see_link c.each.more.items))
+chain_links-returns-clause-ok t c = as_node (c.each.invariant.0.reads _ _ (no_link c.args.l c.requires.some c.requires.operator_level c.in_default.ensures.none)) (links_all c.args.l (map see_link c.each.more.items))
 
 pub dots_next-returns-in_err-one-clause-err : goal.dots_next-returns-in_err-one-clause-err
-dots_next-returns-in_err-one-clause-err t c = exits _ _ _ _ _ c.from_residual.ensures.1 (stops_in c.each.invariant _ (stops {all = c.args.all} (dots_dot (dots_dot_at _ (sym c.next.ensures ∙ c.each-test.true))) _ c.in_err-one.ensures.err))
+dots_next-returns-in_err-one-clause-err t c = exits _ _ _ _ _ c.from_residual.ensures.1 (stops_in c.each.invariant _ (stops {count = c.args.count} (dots_dot (dots_dot_at _ (sym c.next.ensures ∙ c.each-test.true))) _ c.in_err-one.ensures.err))
 
 pub dots_next-each-smaller : goal.dots_next-each-smaller
 dots_next-each-smaller t c = shorter_dot _ _ _ c.in_ok-one.ensures.ok
@@ -142,19 +142,19 @@ pub dots_next-each-preserved : goal.dots_next-each-preserved
 dots_next-each-preserved t c = renamed (then c.each.invariant (enters (step (dots_dot (dots_dot_at _ (sym c.next.ensures ∙ c.each-test.true))) c.in_ok-one.ensures.ok))) (λ n. dots_push _ _ _ n c.in_ok-push.ensures.items)
 
 pub dots_next-returns-clause-ok : goal.dots_next-returns-clause-ok
-dots_next-returns-clause-ok t c = as_node (c.each.invariant.reads _ _ (ends (dots_none (dots_none_at _ (next_small (told c.each.left.now)) (λ q. c.each-test.false (c.next.ensures ∙ q)))))) (dots_all (map see_dot c.each.calls.items))
+dots_next-returns-clause-ok t c = as_node (c.each.invariant.reads _ _ (ends (dots_none (dots_none_at _ (next_small (token_kinds c.each.left.now)) (λ q. c.each-test.false (c.next.ensures ∙ q)))))) (dots_all (map see_dot c.each.calls.items))
 
 pub actuals_inside-returns-then-next-eq-CLOSE-clause-ok : goal.actuals_inside-returns-then-next-eq-CLOSE-clause-ok
 actuals_inside-returns-then-next-eq-CLOSE-clause-ok t c = as_node (ends (optional_exprs_none (optional_exprs_none_at _ (sym c.next.ensures ∙ c.if-next-eq-CLOSE.true)))) (sym (ap (λ z. node_exprs (exprs (map see_expr z))) c.new-passed.ensures.items))
 
 pub actuals_inside-returns-in_err-first-clause-err : goal.actuals_inside-returns-in_err-first-clause-err
-actuals_inside-returns-in_err-first-clause-err t c = exits _ _ _ _ _ c.from_residual.ensures.1 (stops {all = c.args.all} (optional_exprs_expr (optional_exprs_expr_at _ (next_small (told c.args.tokens.now)) (λ q. c.if-next-eq-CLOSE.false (c.next.ensures ∙ q)))) _ c.in_err-first.ensures.err)
+actuals_inside-returns-in_err-first-clause-err t c = exits _ _ _ _ _ c.from_residual.ensures.1 (stops {count = c.args.count} (optional_exprs_expr (optional_exprs_expr_at _ (next_small (token_kinds c.args.tokens.now)) (λ q. c.if-next-eq-CLOSE.false (c.next.ensures ∙ q)))) _ c.in_err-first.ensures.err)
 
 pub actuals_inside-each-init : goal.actuals_inside-each-init
-actuals_inside-each-init t c = (renamed (enters (step (optional_exprs_expr (optional_exprs_expr_at _ (next_small (told c.args.tokens.now)) (λ q. c.if-next-eq-CLOSE.false (c.next.ensures ∙ q)))) c.in_ok-first.ensures.ok)) (λ n. opt_first _ _ n (c.in_ok-push.ensures.items ∙ ap (λ z. z ++ (c.in_ok-first.first ∷ [])) c.new-passed.ensures.items)), pushed _ _ _ c.in_ok-push.ensures.items)
+actuals_inside-each-init t c = (renamed (enters (step (optional_exprs_expr (optional_exprs_expr_at _ (next_small (token_kinds c.args.tokens.now)) (λ q. c.if-next-eq-CLOSE.false (c.next.ensures ∙ q)))) c.in_ok-first.ensures.ok)) (λ n. opt_first _ _ n (c.in_ok-push.ensures.items ∙ ap (λ z. z ++ (c.in_ok-first.first ∷ [])) c.new-passed.ensures.items)), pushed _ _ _ c.in_ok-push.ensures.items)
 
 pub actuals_inside-returns-in_err-rest-clause-err : goal.actuals_inside-returns-in_err-rest-clause-err
-actuals_inside-returns-in_err-rest-clause-err t c = exits _ _ _ _ _ c.from_residual-in_err-rest.ensures.1 (stops_in c.each.invariant.0 _ (stops {all = c.args.all} (more_exprs_comma (more_exprs_comma_at _ (sym c.next-in-each.ensures ∙ c.each-test.true))) _ c.in_err-rest.ensures.err))
+actuals_inside-returns-in_err-rest-clause-err t c = exits _ _ _ _ _ c.from_residual-in_err-rest.ensures.1 (stops_in c.each.invariant.0 _ (stops {count = c.args.count} (more_exprs_comma (more_exprs_comma_at _ (sym c.next-in-each.ensures ∙ c.each-test.true))) _ c.in_err-rest.ensures.err))
 
 pub actuals_inside-returns-in_err-one-clause-err : goal.actuals_inside-returns-in_err-one-clause-err
 actuals_inside-returns-in_err-one-clause-err t c = exits _ _ _ _ _ c.from_residual-in_err-one.ensures.1 (stops_in c.each.invariant.0 _ (stops (step (more_exprs_comma (more_exprs_comma_at _ (sym c.next-in-each.ensures ∙ c.each-test.true))) c.in_ok-rest.ensures.ok) _ c.in_err-one.ensures.err))
@@ -166,4 +166,4 @@ pub actuals_inside-each-preserved : goal.actuals_inside-each-preserved
 actuals_inside-each-preserved t c = (renamed (then c.each.invariant.0 (enters (step (step (more_exprs_comma (more_exprs_comma_at _ (sym c.next-in-each.ensures ∙ c.each-test.true))) c.in_ok-rest.ensures.ok) c.in_ok-one.ensures.ok))) (λ n. opt_push _ _ _ n c.each.invariant.1 c.in_ok-push-2.ensures.items), pushed _ _ _ c.in_ok-push-2.ensures.items)
 
 pub actuals_inside-returns-clause-ok : goal.actuals_inside-returns-clause-ok
-actuals_inside-returns-clause-ok t c = as_node (c.each.invariant.0.reads _ _ (ends (more_exprs_none (more_exprs_none_at _ (next_small (told c.each.left.now)) (λ q. c.each-test.false (c.next-in-each.ensures ∙ q)))))) (opt_all _ c.each.invariant.1)
+actuals_inside-returns-clause-ok t c = as_node (c.each.invariant.0.reads _ _ (ends (more_exprs_none (more_exprs_none_at _ (next_small (token_kinds c.each.left.now)) (λ q. c.each-test.false (c.next-in-each.ensures ∙ q)))))) (opt_all _ c.each.invariant.1)

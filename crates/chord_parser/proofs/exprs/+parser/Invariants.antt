@@ -1,9 +1,9 @@
 use Rattle.std.proofs.Common.{◌<◌, length, ◌+◌, ◌-◌, ◌*◌, map}
 use Rattle.chord_tree.specs.Symbols as grammar
-use Rattle.chord_tree.specs.Program.{told}
-use Rattle.chord_tree.specs.Shape.{level_tail}
+use Rattle.chord_tree.specs.Program.{token_kinds}
+use Rattle.chord_tree.specs.ExprNodes.{level_tail}
 use Rattle.chord_tree.specs.ViewExprs.{see_expr, see_link, see_dot}
-use Rattle.chord_parser.specs.Reading.{Continues, IsLed, before_links, before_dots, before_opt}
+use Rattle.chord_parser.specs.Reading.{Continues, IsAtLevel, before_links, before_dots, before_opt}
 use Rattle.chord_parser.proofs.exprs.+parser.Given as goal
 
 abbrev pub decreases-actuals : goal.decreases-actuals
@@ -43,19 +43,19 @@ abbrev pub decreases-unary : goal.decreases-unary
 decreases-unary l = 16 * (203 - l.depth) + 1
 
 abbrev pub invariant-chain_links-each : goal.invariant-chain_links-each
-invariant-chain_links-each l = Continues l.all (level_tail l.l) l.depth (told l.tokens) (level_tail l.l) l.depth (told l.left) (before_links l.l (map see_link l.more.items)) × IsLed l.l (map see_link l.more.items)
+invariant-chain_links-each l = Continues l.count (level_tail l.l) l.depth (token_kinds l.tokens) (level_tail l.l) l.depth (token_kinds l.left) (before_links l.l (map see_link l.more.items)) × IsAtLevel l.l (map see_link l.more.items)
 
 abbrev pub decreases-chain_links-each : goal.decreases-chain_links-each
 decreases-chain_links-each l = length l.left
 
 abbrev pub invariant-dots_next-each : goal.invariant-dots_next-each
-invariant-dots_next-each l = Continues l.all grammar.Dots l.depth (told l.tokens) grammar.Dots l.depth (told l.left) (before_dots (map see_dot l.calls.items))
+invariant-dots_next-each l = Continues l.count grammar.Dots l.depth (token_kinds l.tokens) grammar.Dots l.depth (token_kinds l.left) (before_dots (map see_dot l.calls.items))
 
 abbrev pub decreases-dots_next-each : goal.decreases-dots_next-each
 decreases-dots_next-each l = length l.left
 
 abbrev pub invariant-actuals_inside-each : goal.invariant-actuals_inside-each
-invariant-actuals_inside-each l = Continues l.all grammar.Optional_exprs l.depth (told l.tokens) grammar.More_exprs l.depth (told l.left) (before_opt (map see_expr l.passed.items)) × (0 < length l.passed.items)
+invariant-actuals_inside-each l = Continues l.count grammar.Optional_exprs l.depth (token_kinds l.tokens) grammar.More_exprs l.depth (token_kinds l.left) (before_opt (map see_expr l.passed.items)) × (0 < length l.passed.items)
 
 abbrev pub decreases-actuals_inside-each : goal.decreases-actuals_inside-each
 decreases-actuals_inside-each l = length l.left

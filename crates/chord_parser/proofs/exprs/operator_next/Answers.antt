@@ -1,18 +1,18 @@
 use Rattle.std.proofs.Common.{sym, ap, subst, ◌∙◌, IfNone}
 use Rattle.chord_tree.specs.Derivation.{next}
-use Rattle.chord_tree.specs.Program.{told}
+use Rattle.chord_tree.specs.Program.{token_kinds}
 use Rattle.chord_parser.specs.Reading.{IsOther}
-use Rattle.chord_parser.proofs.Chains.{none_told, level_told, end_other, other_told, operator_read_at, told_nil}
+use Rattle.chord_parser.proofs.Chains.{none_next, level_told, end_other, other_told, operator_read_at, told_nil}
 use Rattle.chord_parser.proofs.exprs.operator_next.Goals as goal
 
 pub returns-in_err-first-clause-none : goal.returns-in_err-first-clause-none
-returns-in_err-first-clause-none c = subst (λ r. IfNone r (IsOther c.args.l (told c.args.tokens.now))) (sym c.from_residual.ensures) (other_told _ _ _ (told_nil c.args.tokens.now c.in_err-first.ensures.cases) (end_other c.args.l))
+returns-in_err-first-clause-none c = subst (λ r. IfNone r (IsOther c.args.l (token_kinds c.args.tokens.now))) (sym c.from_residual.ensures) (other_told _ _ _ (told_nil c.args.tokens.now c.in_err-first.ensures.cases) (end_other c.args.l))
 
 pub returns-in_err-operator-clause-none : goal.returns-in_err-operator-clause-none
-returns-in_err-operator-clause-none c = subst (λ r. IfNone r (IsOther c.args.l (told c.args.tokens.now))) (sym c.from_residual-in_err-operator.ensures) (none_told c.args.l _ _ _ (ap told c.in_ok-first.ensures.cases.0) (sym c.operator_of_kind.ensures ∙ c.in_err-operator.was))
+returns-in_err-operator-clause-none c = subst (λ r. IfNone r (IsOther c.args.l (token_kinds c.args.tokens.now))) (sym c.from_residual-in_err-operator.ensures) (none_next c.args.l _ _ _ (ap token_kinds c.in_ok-first.ensures.cases.0) (sym c.operator_of_kind.ensures ∙ c.in_err-operator.was))
 
 pub returns-else-level_of-l-clause-none : goal.returns-else-level_of-l-clause-none
-returns-else-level_of-l-clause-none c = level_told c.args.l _ _ _ c.in_ok-operator.operator (ap told c.in_ok-first.ensures.cases.0) (sym c.operator_of_kind.ensures ∙ c.in_ok-operator.was) (λ e. c.if-level_of-l.false (c.level_of.ensures ∙ e))
+returns-else-level_of-l-clause-none c = level_told c.args.l _ _ _ c.in_ok-operator.operator (ap token_kinds c.in_ok-first.ensures.cases.0) (sym c.operator_of_kind.ensures ∙ c.in_ok-operator.was) (λ e. c.if-level_of-l.false (c.level_of.ensures ∙ e))
 
 pub returns-then-level_of-l-clause-some : goal.returns-then-level_of-l-clause-some
-returns-then-level_of-l-clause-some c = ap (λ z. next (told z)) c.in_ok-first.ensures.cases.0 ∙ operator_read_at _ c.in_ok-operator.operator (sym c.operator_of_kind.ensures ∙ c.in_ok-operator.was)
+returns-then-level_of-l-clause-some c = ap (λ z. next (token_kinds z)) c.in_ok-first.ensures.cases.0 ∙ operator_read_at _ c.in_ok-operator.operator (sym c.operator_of_kind.ensures ∙ c.in_ok-operator.was)

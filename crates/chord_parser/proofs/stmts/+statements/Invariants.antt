@@ -1,6 +1,6 @@
 use Rattle.std.proofs.Common.{length, ◌+◌, ◌-◌, ◌*◌, map}
 use Rattle.chord_tree.specs.Symbols as grammar
-use Rattle.chord_tree.specs.Program.{told}
+use Rattle.chord_tree.specs.Program.{token_kinds}
 use Rattle.chord_tree.specs.ViewStmts.{see_item}
 use Rattle.chord_parser.specs.Reading.{Continues, before_items}
 use Rattle.chord_parser.proofs.stmts.+statements.Given as goal
@@ -27,7 +27,7 @@ abbrev pub decreases-while_stmt : goal.decreases-while_stmt
 decreases-while_stmt l = 8 * (203 - l.depth) + 6
 
 abbrev pub invariant-items_of-each : goal.invariant-items_of-each
-invariant-items_of-each l = Continues l.all grammar.Items l.depth (told l.tokens) grammar.Items l.depth (told l.left) (before_items (map see_item l.inside.items))
+invariant-items_of-each l = Continues l.count grammar.Items l.depth (token_kinds l.tokens) grammar.Items l.depth (token_kinds l.left) (before_items (map see_item l.inside.items))
 
 abbrev pub decreases-items_of-each : goal.decreases-items_of-each
 decreases-items_of-each l = length l.left

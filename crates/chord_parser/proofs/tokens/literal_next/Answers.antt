@@ -4,4 +4,4 @@ use Rattle.chord_parser.proofs.Single.{read_as}
 use Rattle.chord_parser.proofs.tokens.literal_next.Goals as goal
 
 pub returns-in_ok-bytes-in-Literal-clause-ok : goal.returns-in_ok-bytes-in-Literal-clause-ok
-returns-in_ok-bytes-in-Literal-clause-ok c = read_as _ _ _ _ _ _ _ _ c.in_ok-first.ensures.ok c.in_ok-first.ensures.low (c.in-Literal.is ∙ ap kinds.Literal (sym c.in_ok-bytes-in-Literal.ensures)) c.place-at.ensures refl
+returns-in_ok-bytes-in-Literal-clause-ok c = read_as _ _ _ _ _ _ _ _ c.in_ok-first.ensures.ok c.in_ok-first.ensures.not_tall (c.in-Literal.is ∙ ap kinds.Literal (sym c.in_ok-bytes-in-Literal.ensures)) c.token_number-at.ensures refl

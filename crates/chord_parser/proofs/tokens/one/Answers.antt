@@ -1,17 +1,17 @@
 use Rattle.std.proofs.Common.{refl, sym, ap, ◌∙◌}
 use Rattle.chord_tree.specs.Derivation.{next}
-use Rattle.chord_tree.specs.Program.{told}
-use Rattle.chord_parser.proofs.Single.{stops_other, stops_high, none_left}
+use Rattle.chord_tree.specs.Program.{token_kinds}
+use Rattle.chord_parser.proofs.Single.{stops_other, stops_tall, none_left}
 use Rattle.chord_parser.proofs.tokens.one.Goals as goal
 
-pub returns-then-class_of_kind-c-clause-err : goal.returns-then-class_of_kind-c-clause-err
-returns-then-class_of_kind-c-clause-err c = stops_other _ _ _ _ refl (λ e. c.if-class_of_kind-c.true (c.class_of_kind.ensures ∙ sym (ap (λ z. next (told z)) c.in-Some.ensures.cases.0) ∙ e))
+pub returns-then-terminal_of_kind-c-clause-err : goal.returns-then-terminal_of_kind-c-clause-err
+returns-then-terminal_of_kind-c-clause-err c = stops_other _ _ _ _ refl (λ e. c.if-terminal_of_kind-c.true (c.terminal_of_kind.ensures ∙ sym (ap (λ z. next (token_kinds z)) c.in-Some.ensures.cases.0) ∙ e))
 
 pub returns-then-depth-gt-MAX_DEPTH-clause-err : goal.returns-then-depth-gt-MAX_DEPTH-clause-err
-returns-then-depth-gt-MAX_DEPTH-clause-err c = stops_high _ _ _ _ _ _ refl (record { class = sym c.class_of_kind.ensures ∙ c.if-class_of_kind-c.false; same = ap told c.in-Some.ensures.cases.0 }) c.if-depth-gt-MAX_DEPTH.true
+returns-then-depth-gt-MAX_DEPTH-clause-err c = stops_tall _ _ _ _ _ _ refl (record { class = sym c.terminal_of_kind.ensures ∙ c.if-terminal_of_kind-c.false; same = ap token_kinds c.in-Some.ensures.cases.0 }) c.if-depth-gt-MAX_DEPTH.true
 
 pub returns-in-None-clause-err : goal.returns-in-None-clause-err
 returns-in-None-clause-err c = stops_other _ _ _ _ refl (none_left _ _ c.in-None.ensures.cases c.requires)
 
 pub returns-else-depth-gt-MAX_DEPTH-clause-ok : goal.returns-else-depth-gt-MAX_DEPTH-clause-ok
-returns-else-depth-gt-MAX_DEPTH-clause-ok c = record { class = sym c.class_of_kind.ensures ∙ c.if-class_of_kind-c.false; same = ap told c.in-Some.ensures.cases.0 }
+returns-else-depth-gt-MAX_DEPTH-clause-ok c = record { class = sym c.terminal_of_kind.ensures ∙ c.if-terminal_of_kind-c.false; same = ap token_kinds c.in-Some.ensures.cases.0 }

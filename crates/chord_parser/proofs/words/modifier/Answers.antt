@@ -1,6 +1,6 @@
 use Rattle.std.proofs.Common.{subst}
-use Rattle.chord_tree.specs.Part.{Terminal}
-use Rattle.chord_tree.specs.Program.{told}
+use Rattle.chord_tree.specs.Symbol.{Terminal}
+use Rattle.chord_tree.specs.Program.{token_kinds}
 use Rattle.chord_parser.specs.Reading.{StopsAs}
 use Rattle.chord_parser.proofs.Reading.{step, ends}
 use Rattle.chord_parser.proofs.Chains.{stops, exits}
@@ -8,7 +8,7 @@ use Rattle.chord_parser.proofs.ClassLists.{modifier_begun, modifier_read}
 use Rattle.chord_parser.proofs.words.modifier.Goals as goal
 
 pub returns-in_err-at-clause-err : goal.returns-in_err-at-clause-err
-returns-in_err-at-clause-err c = exits _ _ _ _ _ c.from_residual.ensures.1 (stops {all = c.args.all} (modifier_begun c.args.word c.requires.first) _ (subst (λ z. StopsAs (Terminal z) 0 (told c.args.tokens.now) c.in_err-at.field-0.0) c.class_of_modifier.ensures c.in_err-at.ensures.err))
+returns-in_err-at-clause-err c = exits _ _ _ _ _ c.from_residual.ensures.1 (stops {count = c.args.count} (modifier_begun c.args.word c.requires.first) _ (subst (λ z. StopsAs (Terminal z) 0 (token_kinds c.args.tokens.now) c.in_err-at.field-0.0) c.terminal_of_modifier.ensures c.in_err-at.ensures.err))
 
 pub returns-clause-ok : goal.returns-clause-ok
-returns-clause-ok c = ends (step (modifier_begun c.args.word c.requires.first) (modifier_read _ c.args.word c.class_of_modifier.ensures c.in_ok-at.ensures.ok))
+returns-clause-ok c = ends (step (modifier_begun c.args.word c.requires.first) (modifier_read _ c.args.word c.terminal_of_modifier.ensures c.in_ok-at.ensures.ok))

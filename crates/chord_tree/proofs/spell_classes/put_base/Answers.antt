@@ -1,4 +1,4 @@
-use Rattle.chord_tree.specs.Members.{node_base}
+use Rattle.chord_tree.specs.ClassNodes.{node_base}
 use Rattle.chord_tree.proofs.Words.{nil, cons, made, seen_as, on_ok}
 use Rattle.chord_tree.proofs.spell_classes.put_base.Goals as goal
 

@@ -1,5 +1,5 @@
 use Rattle.std.proofs.Common.{[]}
-use Rattle.chord_tree.specs.Members.{node_more_formals, node_formal_list}
+use Rattle.chord_tree.specs.ClassNodes.{node_more_formals, node_formal_list}
 use Rattle.chord_tree.proofs.Words.{nil, cons, made, seen_as, dropped, drop_end, length_zero}
 use Rattle.chord_tree.proofs.spell_classes.put_formal_list.Goals as goal
 

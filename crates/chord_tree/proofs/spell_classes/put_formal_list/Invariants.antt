@@ -1,7 +1,7 @@
 use Rattle.std.proofs.Common.{List, drop}
 use Rattle.chord_lexer.specs.declared.token.Token.{Token}
 use Rattle.chord_tree.specs.Program.{Adds}
-use Rattle.chord_tree.specs.Members.{node_more_formals}
+use Rattle.chord_tree.specs.ClassNodes.{node_more_formals}
 use Rattle.chord_tree.proofs.spell_classes.put_formal_list.Given as goal
 
 abbrev pub invariant-each : goal.invariant-each

@@ -1,5 +1,5 @@
 use Rattle.std.proofs.Common.{sym}
-use Rattle.chord_tree.specs.Members.{node_modifiers}
+use Rattle.chord_tree.specs.ClassNodes.{node_modifiers}
 use Rattle.chord_tree.proofs.Words.{nil, cons, made, seen_as, on_ok}
 use Rattle.chord_tree.proofs.spell_classes.put_header.Goals as goal
 

@@ -1,5 +1,5 @@
 use Rattle.std.proofs.Common.{[], map}
-use Rattle.chord_tree.specs.Members.{node_headers}
+use Rattle.chord_tree.specs.ClassNodes.{node_headers}
 use Rattle.chord_tree.specs.Program.{node_header_list}
 use Rattle.chord_tree.specs.View.{see_header}
 use Rattle.chord_tree.proofs.Words.{nil, cons, made, seen_as, dropped, drop_end, length_zero}

@@ -1,7 +1,7 @@
 use Rattle.std.proofs.Common.{List, map, drop}
 use Rattle.chord_lexer.specs.declared.token.Token.{Token}
 use Rattle.chord_tree.specs.Program.{Adds}
-use Rattle.chord_tree.specs.Members.{node_headers}
+use Rattle.chord_tree.specs.ClassNodes.{node_headers}
 use Rattle.chord_tree.specs.View.{see_header}
 use Rattle.chord_tree.proofs.spell_classes.put_headers.Given as goal
 

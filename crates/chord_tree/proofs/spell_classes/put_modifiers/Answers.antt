@@ -1,4 +1,4 @@
-use Rattle.chord_tree.specs.Members.{node_modifiers}
+use Rattle.chord_tree.specs.ClassNodes.{node_modifiers}
 use Rattle.chord_tree.proofs.Words.{nil, cons, made, seen_as, dropped_or, drop_end}
 use Rattle.chord_tree.proofs.spell_classes.put_modifiers.Goals as goal
 

@@ -1,4 +1,4 @@
-use Rattle.chord_tree.specs.Members.{node_name_parts}
+use Rattle.chord_tree.specs.ClassNodes.{node_name_parts}
 use Rattle.chord_tree.proofs.Words.{nil, cons, made, leaf, seen_as, dropped, drop_end}
 use Rattle.chord_tree.proofs.spell_classes.put_parts.Goals as goal
 

@@ -1,7 +1,7 @@
 use Rattle.std.proofs.Common.{List, drop}
 use Rattle.chord_lexer.specs.declared.token.Token.{Token}
 use Rattle.chord_tree.specs.Program.{Adds}
-use Rattle.chord_tree.specs.Members.{node_name_parts}
+use Rattle.chord_tree.specs.ClassNodes.{node_name_parts}
 use Rattle.chord_tree.proofs.spell_classes.put_parts.Given as goal
 
 abbrev pub invariant-each : goal.invariant-each

@@ -1,5 +1,5 @@
 use Rattle.std.proofs.Common.{map}
-use Rattle.chord_tree.specs.Members.{node_usings}
+use Rattle.chord_tree.specs.ClassNodes.{node_usings}
 use Rattle.chord_tree.specs.View.{see_using}
 use Rattle.chord_tree.proofs.Words.{nil, cons, made, seen_as, dropped, drop_end}
 use Rattle.chord_tree.proofs.spell_classes.put_usings.Goals as goal

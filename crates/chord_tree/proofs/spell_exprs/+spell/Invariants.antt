@@ -1,8 +1,8 @@
 use Rattle.std.proofs.Common.{List, map, drop, ◌+◌}
-use Rattle.chord_tree.proofs.Weights.{total, weigh_expr, weigh_link, weigh_start, weigh_actuals, weigh_dot}
+use Rattle.chord_tree.proofs.Weights.{total, weigh_expr, weigh_parts, weigh_link, weigh_start, weigh_actuals, weigh_dot}
 use Rattle.chord_lexer.specs.declared.token.Token.{Token}
 use Rattle.chord_tree.specs.Program.{Adds}
-use Rattle.chord_tree.specs.Shape.{node_links, node_more, node_dots}
+use Rattle.chord_tree.specs.ExprNodes.{node_links, node_more, node_dots}
 use Rattle.chord_tree.specs.Tree.{links, dots, exprs}
 use Rattle.chord_tree.specs.ViewExprs.{see_expr, see_link, see_dot}
 use Rattle.chord_tree.proofs.spell_exprs.+spell.Given as goal
@@ -19,6 +19,12 @@ invariant-put_links-each l = (end : List Token) → Adds l.out.items end (node_l
 abbrev pub decreases-put_expr : goal.decreases-put_expr
 decreases-put_expr l = weigh_expr l.expr.now
 
+abbrev pub decreases-put_chain : goal.decreases-put_chain
+decreases-put_chain l = weigh_parts l.chain.now
+
+abbrev pub decreases-put_link : goal.decreases-put_link
+decreases-put_link l = weigh_link l.link.now
+
 abbrev pub decreases-put_links : goal.decreases-put_links
 decreases-put_links l = total (map weigh_link l.more.now) + 1
 
@@ -29,7 +35,7 @@ abbrev pub decreases-put_actuals : goal.decreases-put_actuals
 decreases-put_actuals l = weigh_actuals l.actuals.now
 
 abbrev pub decreases-put_exprs : goal.decreases-put_exprs
-decreases-put_exprs l = total (map weigh_expr l.all.now) + 1
+decreases-put_exprs l = total (map weigh_expr l.arguments.now) + 1
 
 abbrev pub decreases-put_dots : goal.decreases-put_dots
 decreases-put_dots l = total (map weigh_dot l.calls.now) + 1

@@ -1,7 +1,7 @@
 use Rattle.std.proofs.Common.{List, map, drop, ◌+◌}
 use Rattle.chord_lexer.specs.declared.token.Token.{Token}
 use Rattle.chord_tree.specs.Program.{Adds}
-use Rattle.chord_tree.specs.Forms.{node_items}
+use Rattle.chord_tree.specs.StmtNodes.{node_items}
 use Rattle.chord_tree.specs.Tree.{items}
 use Rattle.chord_tree.specs.ViewStmts.{see_item}
 use Rattle.chord_tree.proofs.Weights.{total}
@@ -9,13 +9,13 @@ use Rattle.chord_tree.proofs.WeightsStmts.{weigh_item, weigh_stmt, weigh_block}
 use Rattle.chord_tree.proofs.spell_stmts.+spell.Given as goal
 
 abbrev pub invariant-put_items-each : goal.invariant-put_items-each
-invariant-put_items-each l = (end : List Token) → Adds l.out.items end (node_items (items (map see_item (drop l.item-index l.all)))) → Adds l.initial.out.items end (node_items (items (map see_item l.all)))
+invariant-put_items-each l = (end : List Token) → Adds l.out.items end (node_items (items (map see_item (drop l.item-index l.list)))) → Adds l.initial.out.items end (node_items (items (map see_item l.list)))
 
 abbrev pub decreases-put_block : goal.decreases-put_block
 decreases-put_block l = weigh_block l.block.now
 
 abbrev pub decreases-put_items : goal.decreases-put_items
-decreases-put_items l = total (map weigh_item l.all.now) + 1
+decreases-put_items l = total (map weigh_item l.list.now) + 1
 
 abbrev pub decreases-put_item : goal.decreases-put_item
 decreases-put_item l = weigh_item l.item.now

@@ -2,4 +2,4 @@ use Rattle.chord_tree.proofs.Words.{nil, cons, made, leaf, on_ok}
 use Rattle.chord_tree.proofs.spell_stmts.put_new.Goals as goal
 
 pub returns : goal.returns
-returns c = on_ok _ _ _ (λ h. made (cons (made (cons (leaf c.in_ok-put_word.ensures) (cons c.in_ok-put_name.ensures (cons c.in_ok-put_actuals.ensures (cons c.in_ok-put_dots.ensures (cons h nil)))))) nil)) c.put_mark.ensures
+returns c = on_ok _ _ _ (λ h. made (cons (made (cons (leaf c.in_ok-put_keyword.ensures) (cons c.in_ok-put_name.ensures (cons c.in_ok-put_actuals.ensures (cons c.in_ok-put_dots.ensures (cons h nil)))))) nil)) c.put_mark.ensures

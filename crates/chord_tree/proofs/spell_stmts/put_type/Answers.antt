@@ -1,4 +1,4 @@
-use Rattle.chord_tree.specs.Members.{node_type}
+use Rattle.chord_tree.specs.ClassNodes.{node_type}
 use Rattle.chord_tree.proofs.Words.{nil, cons, made, leaf, seen_as, on_ok}
 use Rattle.chord_tree.proofs.spell_stmts.put_type.Goals as goal
 

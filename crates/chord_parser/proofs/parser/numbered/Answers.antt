@@ -1,5 +1,5 @@
 use Rattle.chord_parser.proofs.Whole.{at_parts, tall_parts}
-use Rattle.chord_parser.proofs.parser.placed.Goals as goal
+use Rattle.chord_parser.proofs.parser.numbered.Goals as goal
 
 pub overflow_sub-result : goal.overflow_sub-result
 overflow_sub-result c = (at_parts _ _ _ c.in-At.is c.requires.stopped).0

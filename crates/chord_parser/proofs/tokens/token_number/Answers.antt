@@ -3,4 +3,4 @@ use Rattle.chord_parser.proofs.Single.{told_length}
 use Rattle.chord_parser.proofs.tokens.place.Goals as goal
 
 pub returns : goal.returns
-returns c = c.saturating_sub.ensures ∙ ap (λ z. c.args.all - z) (sym (told_length c.args.tokens.now))
+returns c = c.saturating_sub.ensures ∙ ap (λ z. c.args.count - z) (sym (told_length c.args.tokens.now))

@@ -1,4 +1,4 @@
-use Rattle.chord_lexer.proofs.word.find_with.Goals as goal
+use Rattle.chord_lexer.proofs.identifier.find_with.Goals as goal
 
 pub returns-in-97 : goal.returns-in-97
 returns-in-97 c = rw c.in-97.is c.find.ensures

@@ -1,19 +1,19 @@
-//! Words: reserved words and names.
+//! Identifiers: reserved words and names.
 #![tactic(auto)]
 
 ghost use Rattle.std.specs.Prelude.{◌≡◌, ◌<◌, ◌≤◌, length, map, IfOk, IfErr};
-ghost use Rattle.chord_lexer.specs.Words.{find_word, keyword_of};
-ghost use Rattle.chord_lexer.specs.Scanning.{lead_of, words_with, Begins, IsStop};
+ghost use Rattle.chord_lexer.specs.Identifiers.{find_reserved, keyword_of};
+ghost use Rattle.chord_lexer.specs.Scanning.{lead_of, reserved_with, Begins, IsStop};
 ghost use Rattle.chord_lexer.specs.declared.scan.Lead.TheVariants as leads;
 
 use crate::piece::Piece;
-use crate::scan::{Class, Stop, run};
+use crate::scan::{ByteKind, Stop, run};
 use crate::token::{Keyword, Kind};
 use chord_base::text::Text;
 use std::alloc::Global;
 
-/// The most bytes that a word has.
-const MAX_WORD_BYTES: usize = 255;
+/// The most bytes that an identifier has.
+const MAX_IDENTIFIER_BYTES: usize = 255;
 
 const A_WORDS: [(&[u8], Keyword); 3] = [
     (b"async", Keyword::Async),
@@ -140,67 +140,67 @@ const V_WORDS: [(&[u8], Keyword); 3] = [
 
 const W_WORDS: [(&[u8], Keyword); 1] = [(b"while", Keyword::While)];
 
-/// What the table has for the word.
-fn find(table: &[(&[u8], Keyword)], word: &[u8]) -> Option<Keyword>
-    ensures { result ≡ find_word (map (λ entry. (entry.0.now, entry.1)) table.now) word.now }
+/// What the table has for the identifier.
+fn find(table: &[(&[u8], Keyword)], identifier: &[u8]) -> Option<Keyword>
+    ensures { result ≡ find_reserved (map (λ entry. (entry.0.now, entry.1)) table.now) identifier.now }
 {
     for (text, keyword) in table {
-        if word == *text {
+        if identifier == *text {
             return Some(*keyword);
         }
     }
     None
 }
 
-/// What the reserved words that begin with the letter have for the word.
-fn find_with(letter: u8, word: &[u8]) -> Option<Keyword>
-    ensures { result ≡ find_word (words_with letter) word.now }
+/// What the reserved words that begin with the letter have for the identifier.
+fn find_with(letter: u8, identifier: &[u8]) -> Option<Keyword>
+    ensures { result ≡ find_reserved (reserved_with letter) identifier.now }
 {
     match letter {
-        b'a' => find(&A_WORDS, word),
-        b'b' => find(&B_WORDS, word),
-        b'c' => find(&C_WORDS, word),
-        b'd' => find(&D_WORDS, word),
-        b'e' => find(&E_WORDS, word),
-        b'f' => find(&F_WORDS, word),
-        b'g' => find(&G_WORDS, word),
-        b'i' => find(&I_WORDS, word),
-        b'l' => find(&L_WORDS, word),
-        b'n' => find(&N_WORDS, word),
-        b'o' => find(&O_WORDS, word),
-        b'p' => find(&P_WORDS, word),
-        b'r' => find(&R_WORDS, word),
-        b's' => find(&S_WORDS, word),
-        b't' => find(&T_WORDS, word),
-        b'u' => find(&U_WORDS, word),
-        b'v' => find(&V_WORDS, word),
-        b'w' => find(&W_WORDS, word),
+        b'a' => find(&A_WORDS, identifier),
+        b'b' => find(&B_WORDS, identifier),
+        b'c' => find(&C_WORDS, identifier),
+        b'd' => find(&D_WORDS, identifier),
+        b'e' => find(&E_WORDS, identifier),
+        b'f' => find(&F_WORDS, identifier),
+        b'g' => find(&G_WORDS, identifier),
+        b'i' => find(&I_WORDS, identifier),
+        b'l' => find(&L_WORDS, identifier),
+        b'n' => find(&N_WORDS, identifier),
+        b'o' => find(&O_WORDS, identifier),
+        b'p' => find(&P_WORDS, identifier),
+        b'r' => find(&R_WORDS, identifier),
+        b's' => find(&S_WORDS, identifier),
+        b't' => find(&T_WORDS, identifier),
+        b'u' => find(&U_WORDS, identifier),
+        b'v' => find(&V_WORDS, identifier),
+        b'w' => find(&W_WORDS, identifier),
         _ => None,
     }
 }
 
-/// The keyword of a word, if it is reserved.
-fn keyword(word: &[u8]) -> Option<Keyword>
-    requires { 0 < length word.now }
-    ensures { result ≡ keyword_of word.now }
+/// The keyword of an identifier, if it is reserved.
+fn keyword(identifier: &[u8]) -> Option<Keyword>
+    requires { 0 < length identifier.now }
+    ensures { result ≡ keyword_of identifier.now }
 {
-    find_with(word[0], word)
+    find_with(identifier[0], identifier)
 }
 
-/// The word at the front.
-pub fn word(alloc: Global, text: &[u8]) -> Result<(Piece, usize), Stop>
+/// The identifier at the front.
+pub fn identifier(alloc: Global, text: &[u8]) -> Result<(Piece, usize), Stop>
     requires { lead_of text.now ≡ leads.Letter }
     ensures found { IfOk result (λ r. Begins text.now r.0 r.1) }
     ensures none { IfErr result (IsStop text.now) }
 {
-    let length = run(text, Class::Word);
-    if length > MAX_WORD_BYTES {
+    let length = run(text, ByteKind::Identifier);
+    if length > MAX_IDENTIFIER_BYTES {
         return Err(Stop::Nothing);
     }
-    let word = &text[..length];
-    match keyword(word) {
+    let identifier = &text[..length];
+    match keyword(identifier) {
         Some(keyword) => Ok((Piece::Token(Kind::Word(keyword)), length)),
-        None => match Text::of_bytes(alloc, word) {
+        None => match Text::of_bytes(alloc, identifier) {
             Ok(name) => Ok((Piece::Token(Kind::Name(name)), length)),
             Err(_) => Err(Stop::Memory),
         },

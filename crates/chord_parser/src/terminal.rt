@@ -1,4 +1,4 @@
-//! The numbers of the classes of tokens, and the number that stands for the end of the text. Made by tools/grammar.py.
+//! The numbers of the terminals, and the number that stands for the end of the text. Made by tools/grammar.py.
 
 pub const USING: u8 = 0;
 

@@ -1,9 +1,0 @@
-use Rattle.std.proofs.Common.{sym, ◌∙◌}
-use Rattle.chord_lexer.proofs.Reserved.{entry_here, entry_not_here}
-use Rattle.chord_lexer.proofs.word.find.Goals as goal
-
-pub returns-then-eq : goal.returns-then-eq
-returns-then-eq c = sym (c.loop-text.invariant ∙ entry_here (λ entry. (entry.0.now, entry.1)) c.args.table.now c.args.word.now c.loop-text.text-index _ c.loop-text-test.true (sym c.if-eq.ensures))
-
-pub loop-text-preserved : goal.loop-text-preserved
-loop-text-preserved c = c.loop-text.invariant ∙ entry_not_here (λ entry. (entry.0.now, entry.1)) c.args.table.now c.args.word.now c.loop-text.text-index _ c.loop-text-test.true (sym c.if-eq.ensures)
