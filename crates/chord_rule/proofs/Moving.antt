@@ -129,7 +129,7 @@ module _ {P : Type 0} (entries : P → List Entry) (arguments : P → List value
         record u { stage = put u.stage i (InHand id (Flying k above)); order = linked_order u.order i k above },
         tt,
         wholes.whole_link entries arguments keeps_to p n small m u whole id v at whole.tabled i q e x is num says method placing free may others args call parked task,
-        (λ j r e. let same = same_out i j q r e in (refl, (above, refl, λ z. kinds.flown v (same.0 z) k above (entries (same.1 z))))),
+        (λ j r e. let same = same_out i j q r e in (refl, (above, refl, fits, λ z. kinds.flown v (same.0 z) k above (entries (same.1 z))))),
       ))
 
   pub arm_step : (id : ℕ) (me : Me (Option P) View) (i : ℕ) → i < n → me.0.flight ≡ Some i

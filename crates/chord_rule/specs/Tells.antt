@@ -9,6 +9,7 @@ use Rattle.chord_word.specs.declared.cells.Cell.{Cell}
 use Rattle.chord_word.specs.declared.cells.Cell.TheVariants as a_cell
 use Rattle.chord_word.specs.declared.cells.Word.{Word}
 use Rattle.chord_word.specs.Cells.{word_of, link_of, WordFits}
+use Rattle.chord_rule.specs.Moment.{LinkOk}
 use Rattle.chord_rule.specs.declared.view.Claim.{Claim}
 use Rattle.chord_rule.specs.declared.view.View.{View}
 use Rattle.chord_rule.specs.Made.{key}
@@ -30,7 +31,7 @@ module _ {S : Type 0} where
 
   -- the message of the slot that is out is linked in the bag of its object and method, and the parcel goes with its entries
   abbrev pub links : (S → List Entry) → Object → ℕ → Step (Option S) → Me (Option S) View → ℕ → Me (Option S) View → Type 0
-  links entries o j s m x w = (i : ℕ) (q : S) → m.1 ≡ (i, Some q) ∷ [] → (w.1 ≡ []) × ((above : Option ℕ) × (x ≡ link_of above) × (w.0 ≡ flown m.0 i (key o j) above (entries q)))
+  links entries o j s m x w = (i : ℕ) (q : S) → m.1 ≡ (i, Some q) ∷ [] → (w.1 ≡ []) × ((above : Option ℕ) × (x ≡ link_of above) × LinkOk above × (w.0 ≡ flown m.0 i (key o j) above (entries q)))
 
   abbrev pub arms : Step (Option S) → Me (Option S) View → ℕ → Me (Option S) View → Type 0
   arms s m x w = (i : ℕ) → m.0.flight ≡ Some i → w ≡ (armed m.0 i, m.1)

@@ -1,4 +1,10 @@
 -- What a clause sees of a space and of a desk.
+use Rattle.std.specs.Prelude.{◌⊎◌, true, false}
+use Rattle.chord_base.specs.Bodies.{Asks}
+use Rattle.chord_base.specs.Story.{IsOwn}
+use Rattle.chord_base.specs.declared.event.What.{What}
+use Rattle.chord_base.specs.declared.event.What.TheVariants.{Begun}
+use Rattle.chord_base.specs.declared.value.Object.{Object}
 use Rattle.std.specs.Prelude.{◌≡◌, ℕ, ◌<◌, []}
 use Rattle.chord_base.specs.Meaning.{Program}
 use Rattle.chord_base.specs.declared.event.Limits.{Limits}
@@ -8,6 +14,18 @@ use Rattle.chord_word.specs.Cells.{link_of}
 use Rattle.chord_rule.specs.declared.view.View.{View}
 use Rattle.chord_space.specs.declared.space.Space.{Space}
 use Rattle.chord_space.specs.declared.space.Desk.{Desk}
+
+-- a code without classes and blocks, limits of nothing, and an object: what a step has where no call has picked another
+abbrev pub no_parts : Parts
+no_parts = record { classes = []; blocks = [] }
+
+-- limits that allow nothing
+abbrev pub no_limits : Limits
+no_limits = record { events = 0; turns = 0; depth = 0 }
+
+-- the object of number 0 and class 0
+abbrev pub no_object : Object
+no_object = record { number = 0; class = 0 }
 
 module _ {P : Type 0} where
   -- what the desk knows
@@ -33,3 +51,9 @@ module _ {P : Type 0} where
 
   abbrev pub IsSameDesk : Desk P → Desk P → Type 0
   IsSameDesk d e = (e.seat.table_id ≡ d.seat.table_id) × (e.seat.id ≡ d.seat.id)
+
+  -- a desk may draw an entry: the next ask of a body by what it keeps, or the beginning of `Main` where it is the first desk,
+  -- which has neither drawn nor been split
+  abbrev pub MayDraw : Space P → Desk P → ℕ → What → Type 0
+  MayDraw s d body what = (IsOwn what × Asks (program_of s) (view d).kept body what)
+      ⊎ ((what ≡ Begun) × (body ≡ 0) × ((view d).first ≡ true) × ((view d).drawn ≡ false) × ((view d).splits ≡ 0))
