@@ -25,9 +25,7 @@ impl<P: Carry> Space<P> {
         ensures drawn { result < self.now.events → (view desk.new ≡ drew (view desk.old) result body what.now) × AllBelow result (view desk.old).kept × ((o : value.Object) → Names what.now o → o.number < result) }
         ensures told { self.now.events ≤ result → view desk.new ≡ was_told (view desk.old) }
     {
-        self.table
-            .shared
-            .fetch_add::<Draw<J>>(&mut desk.seat, 0, 1)
+        self.table.shared.fetch_add::<Draw<J>>(&mut desk.seat, 0, 1)
     }
 
     /// Draws the next number for an entry, which the desk keeps from now on: the next ask of a body by what the desk keeps, or

@@ -43,8 +43,7 @@ impl<P: Carry> Space<P> {
             Some(_) => unreachable!(),
         }
         let head = 16 * object.number as usize + method as usize;
-        desk.above =
-            words.swap::<Link<P, J>>(&mut desk.seat, 1 + count + head, pack_head(Some(m)));
+        desk.above = words.swap::<Link<P, J>>(&mut desk.seat, 1 + count + head, pack_head(Some(m)));
     }
 
     /// Adds message m to the bag of its object and method, and gives its parcel away with the entries that it keeps. The message

@@ -18,7 +18,7 @@ fetch_add-requires g c = let sized = c.args.self.now.sized in let key = c.args.s
     let may : ℕ → What → Type 0 = λ b w. Allows (Held g.P.Carry.entries g.P.Carry.arguments keeps p n) n seat.id seat.me 0 (λ x. (x + 1) % 2 ^ 64) (draws b w (step n 0 1 0 none) seat.me) in
     let own : IsOwn c.args.what.now × Asks p seat.me.0.kept c.args.body c.args.what.now → may c.args.body c.args.what.now = λ next. draw_step g.P.Carry.entries g.P.Carry.arguments keeps p n (omega arith) (omega arith) seat.id seat.me c.args.body c.args.what.now c.requires.room next.0 next.1 in
     let begun : (c.args.what.now ≡ Begun) × (c.args.body ≡ 0) × (seat.me.0.first ≡ true) × (seat.me.0.drawn ≡ false) × (seat.me.0.splits ≡ 0) → may c.args.body c.args.what.now = λ first.
-        subst (λ (y : ℕ × What). may y.0 y.1) (λ i. (sym first.1 i, sym first.0 i)) (begun_step g.P.Carry.entries g.P.Carry.arguments keeps p n (omega arith) (omega arith) seat.id seat.me first.2 first.3 first.4) in (
+    subst (λ (y : ℕ × What). may y.0 y.1) (λ i. (sym first.1 i, sym first.0 i)) (begun_step g.P.Carry.entries g.P.Carry.arguments keeps p n (omega arith) (omega arith) seat.id seat.me first.2 first.3 first.4) in (
       c.requires.desk,
       omega arith,
       subst (λ (y : ℕ × ℕ × What). Allows (Held g.P.Carry.entries g.P.Carry.arguments keeps p n) y.0 seat.id seat.me 0 (λ x. (x + 1) % 2 ^ 64) (draws y.1 y.2 (step y.0 0 1 0 none) seat.me)) (λ i. ((sized.0 ∙ sym sized.2) i, sym said.0 i, sym said.1 i))

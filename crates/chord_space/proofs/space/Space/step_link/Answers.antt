@@ -51,13 +51,13 @@ swap-desk-requires g c = let sized = c.args.self.now.sized in let key_of = c.arg
     let head : 1 + n + head_of (key o j) ≡ 1 + c.args.self.now.events + (16 * o.number + j) = omega arith in
     let x : Message = record { object = o; method = j; arguments = g.P.Carry.arguments q } in
     let others : (e : Entry) (y : Message) → IsIn e (g.P.Carry.entries q) → message_of e.what ≡ Some y → (e.number ≡ i) ⊎ (IsUnlinked (hand v) e.number → ⊥) = (λ e y is says. ⊎_elim (λ same. inl same)
-        (λ old. inr (λ un. ⊎_elim (λ h. old (has_without e.number i c.args.desk.now.seat.me.0.fresh h).1) (λ s. let same : i ≡ e.number = (let z = s in cc) in old (subst (λ (k : ℕ). HasNumber k c.args.desk.now.seat.me.0.fresh) same may.fresh)) un)) (may.others e y is says)) in (
+    (λ old. inr (λ un. ⊎_elim (λ h. old (has_without e.number i c.args.desk.now.seat.me.0.fresh h).1) (λ s. let same : i ≡ e.number = (let z = s in cc) in old (subst (λ (k : ℕ). HasNumber k c.args.desk.now.seat.me.0.fresh) same may.fresh)) un)) (may.others e y is says)) in (
       c.exchange.ensures.0 ∙ c.store.ensures.0 ∙ c.requires.desk,
       omega arith,
       subst (λ (y : ℕ × ℕ × ℕ × Me (Option g.row.P.Denot) View × (g.row.P.Denot → Type 0)). Allows (Held g.P.Carry.entries g.P.Carry.arguments keeps p n) y.0 c.exchange.new.seat.id y.3 y.1 (λ _. y.2) (links g.P.Carry.entries g.J.Addressed.object g.J.Addressed.method (step y.0 y.1 y.2 0 none) y.3))
           (λ k. ((sized.0 ∙ sym sized.2) k, head k, sym c.pack_head.ensures.value k, sym me k, keeps))
           (subst (λ (y : _ × ℕ). Allows (Held g.P.Carry.entries g.P.Carry.arguments keeps p n) n c.exchange.new.seat.id (v, (i, Some q) ∷ []) (1 + n + head_of (key o j)) (λ _. link_of (Some i)) (links g.P.Carry.entries y.0 y.1 (step n (1 + n + head_of (key o j)) (link_of (Some i)) 0 none) (v, (i, Some q) ∷ []))) (λ k. (sym c.requires.address.0 k, sym c.requires.address.1 k))
-              (link_step g.P.Carry.entries g.P.Carry.arguments keeps p n (omega arith) (omega arith) c.exchange.new.seat.id v i q may.entry x (omega arith) may.kept may.numbered (omega arith) may.message (omega arith) refl may.idle may.goes others refl may.call may.parked c.requires.task)),
+          (link_step g.P.Carry.entries g.P.Carry.arguments keeps p n (omega arith) (omega arith) c.exchange.new.seat.id v i q may.entry x (omega arith) may.kept may.numbered (omega arith) may.message (omega arith) refl may.idle may.goes others refl may.call may.parked c.requires.task)),
     )
 
 pub invariant_of-desk : goal.invariant_of-desk
