@@ -7,5 +7,6 @@
 
 pub mod args;
 pub mod body;
+pub mod cross;
 pub mod parcel;
 pub mod task;
