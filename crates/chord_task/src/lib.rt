@@ -10,3 +10,5 @@ pub mod body;
 pub mod cross;
 pub mod parcel;
 pub mod task;
+#[cfg(test)]
+mod task_tests;
