@@ -99,23 +99,23 @@ abbrev pub ValueDue : Type 0
 ValueDue = Option StaticType
 
 abbrev mutual
-  -- a statement keeps to its types, from one scope to the next
-  pub StmtIs : Signatures → ValueDue → StmtOf → Scope → Scope → Type 0
-  StmtIs sig due (Store i e) g d = (a t : StaticType) × (old : Option StaticType) × ExprIs sig g e (Some a) × (fits sig a t ≡ true) × (slice_get g i ≡ Some old) × Keeps (Some t) old × (d ≡ declared i t g)
-  StmtIs sig due (Do e) g d = (t : Option StaticType) × ExprIs sig g e t × (d ≡ g)
-  StmtIs sig due (Send r c j args) g d = (m : Signature) × ExprIs sig g r (Some (ty.Class c)) × (sig.methods c j ≡ Some m) × (m.is_sync ≡ false) × ExprsAre sig g args m.parameters × (d ≡ g)
-  StmtIs sig due (Print e) g d = (a : StaticType) × ExprIs sig g e (Some a) × (prints a ≡ true) × (d ≡ g)
-  StmtIs sig due (IfThen e s) g d = (a : Scope) × ExprIs sig g e (Some ty.Bool) × StmtIs sig due s g a × Extends a g × (d ≡ g)
-  StmtIs sig due (IfElse e s u) g d = (a b : Scope) × ExprIs sig g e (Some ty.Bool) × StmtIs sig due s g a × StmtIs sig due u g b × Extends a g × Extends b g × (d ≡ g)
-  StmtIs sig due (While e s) g d = (a : Scope) × ExprIs sig g e (Some ty.Bool) × StmtIs sig due s g a × Extends a g × (d ≡ g)
-  StmtIs sig due Return g d = (due ≡ None) × (d ≡ g)
-  StmtIs sig due (Give e) g d = (a t : StaticType) × ExprIs sig g e (Some a) × (due ≡ Some t) × (fits sig a t ≡ true) × (d ≡ g)
-  StmtIs sig due (Block ss) g d = (a : Scope) × StmtsAre sig due ss g a × Extends a g × (d ≡ g)
+  -- A statement keeps to its types, from one scope to the next. Each variable has the type that its slot has among those of all slots.
+  pub StmtIs : Signatures → Scope → ValueDue → StmtOf → Scope → Scope → Type 0
+  StmtIs sig types due (Store i e) g d = (a t : StaticType) × (old : Option StaticType) × ExprIs sig g e (Some a) × (fits sig a t ≡ true) × (slice_get types i ≡ Some (Some t)) × (slice_get g i ≡ Some old) × Keeps (Some t) old × (d ≡ declared i t g)
+  StmtIs sig types due (Do e) g d = (t : Option StaticType) × ExprIs sig g e t × (d ≡ g)
+  StmtIs sig types due (Send r c j args) g d = (m : Signature) × ExprIs sig g r (Some (ty.Class c)) × (sig.methods c j ≡ Some m) × (m.is_sync ≡ false) × ExprsAre sig g args m.parameters × (d ≡ g)
+  StmtIs sig types due (Print e) g d = (a : StaticType) × ExprIs sig g e (Some a) × (prints a ≡ true) × (d ≡ g)
+  StmtIs sig types due (IfThen e s) g d = (a : Scope) × ExprIs sig g e (Some ty.Bool) × StmtIs sig types due s g a × Extends a g × (d ≡ g)
+  StmtIs sig types due (IfElse e s u) g d = (a b : Scope) × ExprIs sig g e (Some ty.Bool) × StmtIs sig types due s g a × StmtIs sig types due u g b × Extends a g × Extends b g × (d ≡ g)
+  StmtIs sig types due (While e s) g d = (a : Scope) × ExprIs sig g e (Some ty.Bool) × StmtIs sig types due s g a × Extends a g × (d ≡ g)
+  StmtIs sig types due Return g d = (due ≡ None) × (d ≡ g)
+  StmtIs sig types due (Give e) g d = (a t : StaticType) × ExprIs sig g e (Some a) × (due ≡ Some t) × (fits sig a t ≡ true) × (d ≡ g)
+  StmtIs sig types due (Block ss) g d = (a : Scope) × StmtsAre sig types due ss g a × Extends a g × (d ≡ g)
 
   -- the statements of a block keep to their types, each in the scope that the one before it leaves
-  pub StmtsAre : Signatures → ValueDue → StmtsOf → Scope → Scope → Type 0
-  StmtsAre sig due NoStmts g d = d ≡ g
-  StmtsAre sig due (MoreStmts s ss) g d = (a : Scope) × StmtIs sig due s g a × StmtsAre sig due ss a d
+  pub StmtsAre : Signatures → Scope → ValueDue → StmtsOf → Scope → Scope → Type 0
+  StmtsAre sig types due NoStmts g d = d ≡ g
+  StmtsAre sig types due (MoreStmts s ss) g d = (a : Scope) × StmtIs sig types due s g a × StmtsAre sig types due ss a d
 
 -- the word `true`
 abbrev pub is_true : ExprOf → Bool
@@ -150,15 +150,15 @@ this_in false c = Some (ty.Class c)
 abbrev pub opening : BodyOf → Scope
 opening b = this_in b.is_main b.class ∷ (map (λ t. Some t) b.parameters ++ map (λ t. None) b.locals)
 
--- a body keeps to its types, and one with a value does not fall off its end
-pub record BodyIs (sig : Signatures) (b : BodyOf) : Type 0 where
-  pub last : Scope
-  pub stmts : StmtsAre sig b.result b.stmts (opening b) last
-  pub ends : (t : StaticType) → b.result ≡ Some t → one_returns b.stmts ≡ true
-
 -- the types of all slots of a body; `this` has none in `Main`
 abbrev pub slot_types : BodyOf → List (Option StaticType)
 slot_types b = this_in b.is_main b.class ∷ map (λ t. Some t) (b.parameters ++ b.locals)
+
+-- a body keeps to its types, and one with a value does not fall off its end
+pub record BodyIs (sig : Signatures) (b : BodyOf) : Type 0 where
+  pub last : Scope
+  pub stmts : StmtsAre sig (slot_types b) b.result b.stmts (opening b) last
+  pub ends : (t : StaticType) → b.result ≡ Some t → one_returns b.stmts ≡ true
 
 -- the type of what is there, if it has one
 abbrev pub typed_slot : Option (Option StaticType) → Option StaticType

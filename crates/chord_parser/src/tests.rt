@@ -241,6 +241,18 @@ fn sources_are_programs_or_refused_at_a_token(rt: HostRuntime) -> Result<(), Fai
 }
 
 #[test]
+fn faults_say_what_is_wrong(rt: HostRuntime) -> Result<(), Fail> {
+    for (fault, expected) in [
+        (ParseFault::Memory, "out of memory"),
+        (ParseFault::At(7), "token 7 fits no program"),
+        (ParseFault::Tall(200), "token 200 is too deep"),
+    ] {
+        assert_eq!(rt; format!(in rt.alloc(); "{fault}")?.as_str(), expected);
+    }
+    Ok(())
+}
+
+#[test]
 fn a_token_is_at_most_200_deep(rt: HostRuntime) -> Result<(), Fail> {
     let source = nested(rt.alloc(), 98)?;
     let found = answer(rt.alloc(), source.as_bytes())?;

@@ -18,10 +18,11 @@ use Rattle.chord_tree.proofs.Ahead.{below, imp, imp_true}
 
 mutual
   -- a node spells as many tokens as it has
-  spelled_count : (n : Node) (d : ℕ) (w : List Spelled) → length (kinds_of (spell n d w)) ≡ size n + length (kinds_of w)
+  pub spelled_count : (n : Node) (d : ℕ) (w : List Spelled) → length (kinds_of (spell n d w)) ≡ size n + length (kinds_of w)
   spelled_count (Leaf kind at) d w = omega arith
   spelled_count (Made p ns) d w = spelled_counts ns _ w
 
+  -- and nodes side by side
   spelled_counts : (ns : Nodes) (d : ℕ) (w : List Spelled) → length (kinds_of (spell_all ns d w)) ≡ size_all ns + length (kinds_of w)
   spelled_counts End d w = omega arith
   spelled_counts (n ▸ ns) d w = let a = spelled_count n d (spell_all ns d w) in let b = spelled_counts ns d w in omega arith
@@ -38,7 +39,7 @@ last_at x [] d = refl
 last_at x (y ∷ ys) d = last_at y ys d
 
 -- the last `}` is the last token
-class_end : (c : ClassTree) (at : ℕ) → IsNumbered (node_class c) at → c.end + 1 ≡ at + size (node_class c)
+pub class_end : (c : ClassTree) (at : ℕ) → IsNumbered (node_class c) at → c.end + 1 ≡ at + size (node_class c)
 class_end c at h = let e = h.1.1.1.1.1.1.0 in omega arith
 
 classes_end : (c : ClassTree) (cs : List ClassTree) (at : ℕ) → IsNumbered (node_class c) at → IsNumbered (node_classes cs) (at + size (node_class c)) → (last_of c cs).end + 1 ≡ at + size (node_class c) + size (node_classes cs)

@@ -61,7 +61,7 @@ pub other-returns-in_err-inside-clause-err : goal.other-returns-in_err-inside-cl
 other-returns-in_err-inside-clause-err t c = exits _ _ _ _ _ c.from_residual.ensures.1 (stops {count = c.args.count} (other_block (other_block_at _ (sym c.next-ahead.ensures ∙ c.if-ahead-eq-OPEN_BRACE.true))) _ c.in_err-inside.ensures.err)
 
 pub other-returns-then-ahead-eq-OPEN_BRACE-clause-ok : goal.other-returns-then-ahead-eq-OPEN_BRACE-clause-ok
-other-returns-then-ahead-eq-OPEN_BRACE-clause-ok t c = as_node (ends (step (other_block (other_block_at _ (sym c.next-ahead.ensures ∙ c.if-ahead-eq-OPEN_BRACE.true))) c.in_ok-inside.ensures.ok)) (sym (ap node_other c.block-2.ensures))
+other-returns-then-ahead-eq-OPEN_BRACE-clause-ok t c = as_node (ends (step (other_block (other_block_at _ (sym c.next-ahead.ensures ∙ c.if-ahead-eq-OPEN_BRACE.true))) c.in_ok-inside.ensures.ok)) (sym (ap node_other c.block-then-ahead-eq-OPEN_BRACE.ensures))
 
 pub other-returns-in_err-rest-clause-err : goal.other-returns-in_err-rest-clause-err
 other-returns-in_err-rest-clause-err t c = exits _ _ _ _ _ c.from_residual-in_err-rest.ensures.1 (stops {count = c.args.count} (other_semicolon (other_semicolon_at _ (sym c.next-ahead.ensures ∙ c.if-ahead-eq-SEMICOLON.true))) _ c.in_err-rest.ensures.err)
