@@ -8,8 +8,8 @@ import tempfile
 
 import common
 
-TURNS = 40
-RUNS = 50000
+TURNS = 60
+RUNS = 40000
 
 OURS = '''
 use chord_base::event::Limits;
