@@ -168,6 +168,7 @@ after_mark_short source = elim (bytes_eq byte_order_mark (take 3 source)) as (λ
   | false ↦ omega arith
 ]
 
+-- a chain that leaves nothing is a chain of the whole text
 pub all_read : (text : List ℕ) (ts : List Token) (left : List ℕ) → Chain 0 text ts left → length left ≡ 0 → Chain 0 text ts []
 all_read text ts [] c l = c
 all_read text ts (b ∷ left) c l = absurd (omega arith)
@@ -198,9 +199,11 @@ refused_at source text ts left e c l n =
 pub one_list : (source : List ℕ) (ts us : List Token) → IsRead source ts → IsRead source us → ts ≡ us
 one_list source ts us h k = (chain_same h nothing_left k nothing_left refl refl).0
 
+-- a source that is read is not refused
 pub not_both : (source : List ℕ) (ts : List Token) (k : ℕ) → IsRead source ts → IsRefused source k → ⊥
 not_both source ts k h r = let f = ap length (chain_same h nothing_left r.chain r.nothing refl refl).1 in let l = r.there in omega arith
 
+-- a source is refused at one byte at most
 pub one_place : (source : List ℕ) (j k : ℕ) → IsRefused source j → IsRefused source k → j ≡ k
 one_place source j k h r = let f = ap length (chain_same h.chain h.nothing r.chain r.nothing refl refl).1 in let a = h.place in let b = r.place in omega arith
 
@@ -210,11 +213,13 @@ only_list source (Ok found) h k ts t = one_list source found.items ts h t
 only_list source (Err faults.Memory) h k ts t = refl
 only_list source (Err (faults.Bad j)) h k ts t = absurd (not_both source ts j t k)
 
+-- where the source is refused, the answer names that byte or lacks memory
 pub only_place : (source : List ℕ) (r : Result (Vec Token Global) LexFault) → IfOk r (λ found. IsRead source found.items) → IfErr r (IsFault source) → (k : ℕ) → IsRefused source k → MatchResult r (λ found. ⊥) (λ fault. (fault ≡ faults.Memory) ⊎ (fault ≡ faults.Bad k))
 only_place source (Ok found) h k j t = not_both source found.items j h t
 only_place source (Err faults.Memory) h k j t = inl refl
 only_place source (Err (faults.Bad i)) h k j t = inr (ap faults.Bad (one_place source i j k t))
 
+-- a source has no more tokens than bytes
 pub no_more : (source : List ℕ) (r : Result (Vec Token Global) LexFault) → IfOk r (λ found. IsRead source found.items) → IfOk r (λ found. length found.items ≤ length source)
 no_more source (Ok found) h = let s = spanned h in let m = after_mark_short source in omega arith
 no_more source (Err fault) h = tt
@@ -223,5 +228,6 @@ no_more source (Err fault) h = tt
 pub text_short : (source text : List ℕ) → length source ≤ 1048576 → text ≡ after_byte_order_mark source → length text ≤ 1048576
 text_short source text l e = let s = after_mark_short source in let f = ap length e in omega arith
 
+-- what a chain leaves is no longer than the text
 pub left_short : (text : List ℕ) (ts : List Token) (left : List ℕ) → Chain 0 text ts left → length left ≤ length text
 left_short text ts left c = let s = spanned c in omega arith

@@ -56,6 +56,7 @@ at_extent text n h x q v more e k =
     let w = only_comment q v more (leads_to text leads.Comment h q v more e k) k in
     (delimited_same (take n text) (drop n text) v more x.is w.0 (e ∙ sym (take-append-drop n text)), w.1)
 
+-- a delimited comment in UTF-8 begins the text
 pub comment_begins : (text : List ℕ) (n : ℕ) → lead_of text ≡ leads.Comment → IsExtent text n → IsUtf8 (take n text) → Begins text pieces.Comment n
 comment_begins text n h x u = record {
   within = x.within;
@@ -65,9 +66,11 @@ comment_begins text n h x u = record {
   };
 }
 
+-- where what is delimited is not UTF-8, nothing begins the text
 pub not_utf8 : (text : List ℕ) (n : ℕ) → lead_of text ≡ leads.Comment → IsExtent text n → (IsUtf8 (take n text) → ⊥) → IsNone text
 not_utf8 text n h x u q v more e k = let f = at_extent text n h x q v more e k in u (subst (λ z. IsUtf8 z) f.0 f.1)
 
+-- where nothing is delimited as a comment, nothing begins the text
 pub not_delimited : (text : List ℕ) → lead_of text ≡ leads.Comment → IsUndelimited text → IsNone text
 not_delimited text h u q v more e k = u v more e (only_comment q v more (leads_to text leads.Comment h q v more e k) k).0
 
@@ -88,6 +91,7 @@ opened_by (a ∷ b ∷ body) h = record {
   either = elim (or_cases _ _ (and_right _ _ h)) [ inl e ↦ inl (eqb-true b 47 e) | inr e ↦ inr (eqb-true b 42 e) ];
 }
 
+-- a text that may begin with a comment opens one
 pub opened : (text : List ℕ) → lead_of text ≡ leads.Comment → IsOpened text
 opened [] h = cc
 opened (b ∷ bs) h = opened_by (b ∷ bs) (told leads.Comment b bs h)
@@ -105,6 +109,7 @@ line_of (a ∷ b ∷ body) n h i l r =
       is = inl (record { body = take n body; begins = let g : a ∷ b ∷ take n body ≡ 47 ∷ 47 ∷ take n body = cc in g; line = r });
     })
 
+-- a line comment goes to the end of its line
 pub line_extent : (text body : List ℕ) (n : ℕ) → lead_of text ≡ leads.Comment → get_or text 1 0 ≡ 47 → body ≡ drop 2 text → n ≤ length body → IsMaximalRun is_in_line (take n body) (drop n body) → IsExtent text (n + 2)
 line_extent text body n h i e l r = line_of text n h i (subst (λ z. n ≤ length z) e l) (subst (λ z. IsMaximalRun is_in_line (take n z) (drop n z)) e r)
 
@@ -123,6 +128,7 @@ block_of (a ∷ b ∷ body) n h i l c =
       is = inr (record { body = take n body; begins = let k : a ∷ b ∷ take (n + 2) body ≡ 47 ∷ 42 ∷ (take n body ++ 42 ∷ 47 ∷ []) = cc in k; next = c.next });
     })
 
+-- a block comment goes through the first `*/`
 pub block_extent : (text body : List ℕ) (n : ℕ) → lead_of text ≡ leads.Comment → (get_or text 1 0 ≡ 47 → ⊥) → body ≡ drop 2 text → n + 2 ≤ length body → IsClosedAt body n → IsExtent text (n + 4)
 block_extent text body n h i e l c = block_of text n h i (subst (λ z. n + 2 ≤ length z) e l) (subst (λ z. IsClosedAt z n) e c)
 
@@ -150,18 +156,22 @@ unclosed_by_place body h front back e =
 abbrev pub IsPassed : List ℕ → ℕ → Type 0
 IsPassed text at = (k : ℕ) → k + 1 < at → get_or text k 0 ≡ 42 → get_or text (k + 1) 0 ≡ 47 → ⊥
 
+-- no `*/` ends at the first byte
 pub passed_none : (text : List ℕ) → IsPassed text 1
 passed_none text k l a b = absurd (omega arith)
 
+-- no `*/` ends at the next byte either
 pub passed_more : (text : List ℕ) (at : ℕ) → 1 ≤ at → IsPassed text at → (get_or text (at - 1) 0 ≡ 42 → get_or text at 0 ≡ 47 → ⊥) → IsPassed text (at + 1)
 passed_more text at m h here k l a b = elim (split_lt (k + 1) at (omega arith)) [
   | inl i ↦ h k i a b
   | inr i ↦ let j : k ≡ at - 1 = omega arith in here (ap (λ z. get_or text z 0) (sym j) ∙ a) (ap (λ z. get_or text z 0) (sym i) ∙ b)
 ]
 
+-- where no `*/` ended up to the end, the comment is not closed
 pub passed_all : (text : List ℕ) (at : ℕ) → length text ≤ at → IsPassed text at → IsUnclosed text
 passed_all text at l h = unclosed_by_place text (λ k m a b. h k (omega arith) a b)
 
+-- the first `*/` ends here
 pub closed_here : (text : List ℕ) (at : ℕ) → 1 ≤ at → at < length text → get_or text (at - 1) 0 ≡ 42 → get_or text at 0 ≡ 47 → IsPassed text at → IsClosedAt text (at - 1)
 closed_here text at m l a b h =
     let n : ℕ = at - 1 in

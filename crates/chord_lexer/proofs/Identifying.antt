@@ -24,6 +24,7 @@ word_of : (b : ℕ) (bs : List ℕ) (n : ℕ) → is_letter b ≡ true → IsMax
 word_of b bs zero h r l = let f = sym r.1 ∙ or_left (is_letter b) _ h in cc
 word_of b bs (suc n) h r l = record { first = b; others = take n bs; begins = refl; letter = h; run = r; short = l }
 
+-- a run of at most 255 bytes after a letter is an identifier
 pub is_word : (text : List ℕ) (n : ℕ) → lead_of text ≡ leads.Letter → n ≤ length text → IsMaximalRun is_identifier_byte (take n text) (drop n text) → n ≤ 255 → IsIdentifier (take n text) (drop n text)
 is_word [] n h l r m = cc
 is_word (b ∷ bs) n h l r m = let t = length-take-le n (b ∷ bs) l in word_of b bs n (told leads.Letter b bs h) r (omega arith)
@@ -38,11 +39,14 @@ word_begins text n kind h l r k = record {
   };
 }
 
+-- a reserved word begins the text
 pub reserved_begins : (text : List ℕ) (n : ℕ) (keyword : Keyword) → lead_of text ≡ leads.Letter → n ≤ length text → IsMaximalRun is_identifier_byte (take n text) (drop n text) → n ≤ 255 → keyword_of (take n text) ≡ Some keyword → Begins text (pieces.Token (kinds.Word keyword)) n
 reserved_begins text n keyword h l r m k = word_begins text n (kinds.Word keyword) h l r (is_word text n h l r m, k)
 
+-- a name begins the text
 pub name_begins : (text : List ℕ) (n : ℕ) (name : List ℕ) → lead_of text ≡ leads.Letter → n ≤ length text → IsMaximalRun is_identifier_byte (take n text) (drop n text) → n ≤ 255 → keyword_of (take n text) ≡ None → name ≡ take n text → Begins text (pieces.Token (kinds.Name name)) n
 name_begins text n name h l r m k i = word_begins text n (kinds.Name name) h l r (is_word text n h l r m, k, i)
 
+-- a longer run is no token
 pub no_word : (text : List ℕ) (n : ℕ) → lead_of text ≡ leads.Letter → n ≤ length text → IsMaximalRun is_identifier_byte (take n text) (drop n text) → 255 < n → IsNone text
 no_word text n h l r m q v more e k = let f = word_at_front text n h r q v more e k in let g = ap length f.0 in let s = f.1 in let t = length-take-le n text l in omega arith

@@ -29,6 +29,7 @@ lead_for (pieces.Token (kinds.Number n)) = leads.Digit
 lead_for (pieces.Token (kinds.Literal bytes)) = leads.Quote
 lead_for (pieces.Token (kinds.Mark mark)) = leads.Mark
 
+-- a letter is no digit
 pub letter_digit : (b : ℕ) → is_letter b ≡ true → is_digit b ≡ false
 letter_digit b h = grind (arith, nat_tests)
 
@@ -96,6 +97,7 @@ lead_is (pieces.Token (kinds.Mark mark)) v more h = subst (λ z. lead_of (z ++ m
 pub leads_to : (text : List ℕ) (lead : Lead) → lead_of text ≡ lead → (q : Piece) (v more : List ℕ) → v ++ more ≡ text → IsPiece q v more → lead_for q ≡ lead
 leads_to text lead h q v more e k = sym (lead_is q v more k) ∙ ap lead_of e ∙ h
 
+-- where a blank leads, only a blank begins
 pub only_blank : (q : Piece) (v more : List ℕ) → lead_for q ≡ leads.Blank → IsPiece q v more → (b : ℕ) × (v ≡ b ∷ [])
 only_blank pieces.Blank v more e h = (h.0, h.1)
 only_blank pieces.Comment v more e h = cc
@@ -105,6 +107,7 @@ only_blank (pieces.Token (kinds.Number n)) v more e h = cc
 only_blank (pieces.Token (kinds.Literal bytes)) v more e h = cc
 only_blank (pieces.Token (kinds.Mark mark)) v more e h = cc
 
+-- where `//` or `/*` leads, only a comment begins
 pub only_comment : (q : Piece) (v more : List ℕ) → lead_for q ≡ leads.Comment → IsPiece q v more → IsComment v more
 only_comment pieces.Comment v more e h = h
 only_comment pieces.Blank v more e h = cc
@@ -114,19 +117,23 @@ only_comment (pieces.Token (kinds.Number n)) v more e h = cc
 only_comment (pieces.Token (kinds.Literal bytes)) v more e h = cc
 only_comment (pieces.Token (kinds.Mark mark)) v more e h = cc
 
+-- where a letter leads, only an identifier begins
 pub only_word : (q : Piece) (v more : List ℕ) → lead_for q ≡ leads.Letter → IsPiece q v more → IsIdentifier v more
 only_word (pieces.Token (kinds.Word keyword)) v more e h = h.0
 only_word (pieces.Token (kinds.Name name)) v more e h = h.0
 only_word _ v more e h = cc
 
+-- where a digit leads, only a number begins
 pub only_number : (q : Piece) (v more : List ℕ) → lead_for q ≡ leads.Digit → IsPiece q v more → (n : ℕ) × IsNumber n v more
 only_number (pieces.Token (kinds.Number n)) v more e h = (n, h)
 only_number _ v more e h = cc
 
+-- where a quote leads, only a literal begins
 pub only_literal : (q : Piece) (v more : List ℕ) → lead_for q ≡ leads.Quote → IsPiece q v more → (bytes : List ℕ) × IsLiteral bytes v
 only_literal (pieces.Token (kinds.Literal bytes)) v more e h = (bytes, h)
 only_literal _ v more e h = cc
 
+-- where nothing else leads, only a mark begins
 pub only_mark : (q : Piece) (v more : List ℕ) → lead_for q ≡ leads.Mark → IsPiece q v more → (mark : Mark) × (v ≡ mark_bytes mark)
 only_mark (pieces.Token (kinds.Mark mark)) v more e h = (mark, h.0)
 only_mark _ v more e h = cc
@@ -152,6 +159,7 @@ tell P false false false false false hd hl hb hq hc hm = hm refl
 told_of : (b : ℕ) (bs : List ℕ) → Told (lead_of (b ∷ bs)) b bs
 told_of b bs = tell (λ lead. Told lead b bs) (is_digit b) (is_letter b) (is_blank b) (nat_eq b 0x22) (begins_comment (b ∷ bs)) (λ h. h) (λ h. h) (λ h. h) (λ h. eqb-true b 0x22 h) (λ h. h) (λ h. h)
 
+-- what the first bytes say of the text
 pub told : (lead : Lead) (b : ℕ) (bs : List ℕ) → lead_of (b ∷ bs) ≡ lead → Told lead b bs
 told lead b bs h = subst (λ z. Told z b bs) h (told_of b bs)
 

@@ -18,6 +18,7 @@ pub data Sized (mark : Mark) : Type 0 where
   one : (a : ℕ) → mark_bytes mark ≡ a ∷ [] → single_mark a ≡ Some mark → Sized mark
   two : (a b : ℕ) → mark_bytes mark ≡ a ∷ b ∷ [] → pair_mark a b ≡ Some mark → Sized mark
 
+-- a mark has one byte or two
 pub sized : (mark : Mark) → Sized mark
 sized marks.OpenBrace = one 123 refl refl
 sized marks.CloseBrace = one 125 refl refl
@@ -75,15 +76,18 @@ begins text mark n h l s most =
       };
     }
 
+-- a mark of two bytes begins the text
 pub pair_begins : (text : List ℕ) (mark : Mark) → lead_of text ≡ leads.Mark → pair_mark_of text ≡ Some mark → mark_bytes mark ≡ take 2 text → Begins text (pieces.Token (kinds.Mark mark)) 2
 pair_begins [] mark h p s = cc
 pair_begins (a ∷ []) mark h p s = cc
 pair_begins (a ∷ b ∷ text) mark h p s = begins (a ∷ b ∷ text) mark 2 h (omega arith) (sym s) (most_two (a ∷ b ∷ text) h)
 
+-- a mark of one byte begins the text, where none of two does
 pub single_begins : (text : List ℕ) (mark : Mark) (b : ℕ) → 0 < length text → lead_of text ≡ leads.Mark → pair_mark_of text ≡ None → b ≡ get_or text 0 0 → mark_bytes mark ≡ b ∷ [] → Begins text (pieces.Token (kinds.Mark mark)) 1
 single_begins [] mark b l h n i s = absurd (omega arith)
 single_begins (a ∷ text) mark b l h n i s = begins (a ∷ text) mark 1 h (omega arith) (ap (λ z. z ∷ []) (sym i) ∙ sym s) (most_one (a ∷ text) h n)
 
+-- where no mark stands, nothing begins the text
 pub no_mark : (text : List ℕ) (b : ℕ) → 0 < length text → lead_of text ≡ leads.Mark → pair_mark_of text ≡ None → b ≡ get_or text 0 0 → single_mark b ≡ None → IsNone text
 no_mark [] b l h n i s q v more e k = absurd (omega arith)
 no_mark (a ∷ text) b l h n i s q v more e k = elim (at_front (a ∷ text) h q v more e k) [

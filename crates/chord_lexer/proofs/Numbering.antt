@@ -36,6 +36,7 @@ some_digit [] n h r = cc
 some_digit (b ∷ bs) zero h r = let f = sym r.1 ∙ told leads.Digit b bs h in cc
 some_digit (b ∷ bs) (suc n) h r = omega arith
 
+-- a number begins the text
 pub number_begins : (text : List ℕ) (n x : ℕ) → lead_of text ≡ leads.Digit → n ≤ length text → IsMaximalRun is_digit (take n text) (drop n text) → first_passes is_identifier_byte (drop n text) ≡ false → x ≡ value_after 0 (take n text) → x ≤ 2147483648
     → Begins text (pieces.Token (kinds.Number x)) n
 number_begins text n x h l r f i m = record {
@@ -46,11 +47,13 @@ number_begins text n x h l r f i m = record {
   };
 }
 
+-- digits before a letter are no token
 pub followed : (text : List ℕ) (n : ℕ) → lead_of text ≡ leads.Digit → IsMaximalRun is_digit (take n text) (drop n text) → first_passes is_identifier_byte (drop n text) ≡ true → IsNone text
 followed text n h r f q v more e k =
     let s = number_at_front text n h r q v more e k in
     let g = sym (subst (λ z. first_passes is_identifier_byte z ≡ false) s.3 s.1.end) ∙ f in cc
 
+-- digits of a greater value are no token
 pub too_large : (text : List ℕ) (n : ℕ) → lead_of text ≡ leads.Digit → IsMaximalRun is_digit (take n text) (drop n text) → 2147483648 < value_after 0 (take n text) → IsNone text
 too_large text n h r f q v more e k =
     let s = number_at_front text n h r q v more e k in

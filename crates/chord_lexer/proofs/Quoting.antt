@@ -34,6 +34,7 @@ plain_if b p q r s = rw (ne_eqb b 34 p, ne_eqb b 92 q, ne_eqb b 13 r, ne_eqb b 1
 high_plain : (b : ℕ) → 128 ≤ b → is_plain b ≡ true
 high_plain b h = plain_if b (λ e. absurd (omega arith)) (λ e. absurd (omega arith)) (λ e. absurd (omega arith)) (λ e. absurd (omega arith))
 
+-- the second byte of an escape is ASCII
 pub escaped_low : (b m : ℕ) → escaped b ≡ Some m → b < 128
 escaped_low b m h =
     elim (eqb_tells b 34) [
@@ -105,16 +106,19 @@ body_same {u} h k x y e =
 pub stuck_after : {u bs : List ℕ} → Bytewise u bs → (x : List ℕ) → IsUnquoted x → IsUnquoted (u ++ x)
 stuck_after h x n body cs y e k = let r = goes_on h k x y e in n r.tail r.meaning y r.left r.body
 
+-- the end of the text is no body with a quote
 pub stuck_end : IsUnquoted []
 stuck_end body cs y e end = cc
 stuck_end body cs y e (byte p h) = cc
 stuck_end body cs y e (pair f h) = cc
 
+-- a byte that cannot stand in a body ends it
 pub stuck_byte : (b : ℕ) (x : List ℕ) → is_plain b ≡ false → (b ≡ 34 → ⊥) → (b ≡ 92 → ⊥) → IsUnquoted (b ∷ x)
 stuck_byte b x p q r body cs y e end = let i : b ≡ 34 = cc in q i
 stuck_byte b x p q r body cs y e (byte {b = c} h k) = let i : c ≡ b = cc in let f = sym h ∙ ap is_plain i ∙ p in cc
 stuck_byte b x p q r body cs y e (pair f k) = let i : b ≡ 92 = cc in r i
 
+-- a `\` without its letter ends the body
 pub stuck_escape : (x : List ℕ) → ((b : ℕ) (rest : List ℕ) → x ≡ b ∷ rest → escaped b ≡ None) → IsUnquoted (92 ∷ x)
 stuck_escape x h body cs y e end = let i : ◌≡◌ {A = ℕ} 92 34 = cc in absurd (omega arith)
 stuck_escape x h body cs y e (byte {b = c} p k) = let i : c ≡ 92 = cc in absurd ((not_plain c p).1 i)
@@ -124,12 +128,15 @@ stuck_escape x h body cs y e (pair {b} {body = v} f k) = let i : x ≡ b ∷ (v 
 stuck_at : (text : List ℕ) (at : ℕ) → IsBody (take at text) → IsUnquoted (drop at text) → IsUnquoted text
 stuck_at text at h n = subst (λ z. IsUnquoted z) (take-append-drop at text) (stuck_after h.1 (drop at text) n)
 
+-- a body up to the end has no quote
 pub unquoted_end : (text : List ℕ) (at : ℕ) → length text ≤ at → IsBody (take at text) → IsUnquoted text
 unquoted_end text at l h = stuck_at text at h (subst (λ z. IsUnquoted z) (sym (drop_of_length-le text l)) stuck_end)
 
+-- a byte that cannot stand in a body leaves it without a quote
 pub unquoted_byte : (text : List ℕ) (at : ℕ) → at < length text → is_plain (get_or text at 0) ≡ false → (get_or text at 0 ≡ 34 → ⊥) → (get_or text at 0 ≡ 92 → ⊥) → IsBody (take at text) → IsUnquoted text
 unquoted_byte text at l p q r h = stuck_at text at h (subst (λ z. IsUnquoted z) (sym (drop_first at text l)) (stuck_byte (get_or text at 0) (drop (at + 1) text) p q r))
 
+-- a wrong escape leaves the body without a quote
 pub unquoted_escape : (text : List ℕ) (at : ℕ) → at < length text → get_or text at 0 ≡ 92 → (at + 1 < length text → escaped (get_or text (at + 1) 0) ≡ None) → IsBody (take at text) → IsUnquoted text
 unquoted_escape text at l i n h =
     let d = drop_first at text l ∙ ap (λ z. z ∷ drop (at + 1) text) i in
@@ -140,6 +147,7 @@ unquoted_escape text at l i n h =
     ap escaped k ∙ n m) in
     stuck_at text at h (subst (λ z. IsUnquoted z) (sym d) s)
 
+-- the body ends before this quote
 pub quoted_here : (text : List ℕ) (at : ℕ) → at < length text → get_or text at 0 ≡ 34 → IsBody (take at text) → IsQuoted text at
 quoted_here text at l i h = (h, (drop (at + 1) text, drop_first at text l ∙ ap (λ z. z ∷ drop (at + 1) text) i))
 
@@ -161,6 +169,7 @@ escape_in w x bs e end = cc
 escape_in w x bs e (byte {b} p h) = let i : b ≡ 92 = cc in absurd ((not_plain b p).1 i)
 escape_in w x bs e (pair {b} {m} {body = v} {bytes = cs} f h) = record { second = b; meaning = m; rest = v; is = let g : x ≡ b ∷ v = cc in g; stands = f; body = (cs, h) }
 
+-- a body that begins with `\` begins with an escape
 pub escape_first : (x : List ℕ) → IsBody (92 ∷ x) → Escape x
 escape_first x h = escape_in (92 ∷ x) x h.0 refl h.1
 
@@ -169,6 +178,7 @@ plain_in w b x bs e n end = cc
 plain_in w b x bs e n (byte {b = c} {body = v} {bytes = cs} p h) = let i : c ≡ b = cc in let t : v ≡ x = cc in (subst (λ z. is_plain z ≡ true) i p, subst (λ z. IsBody z) t (cs, h))
 plain_in w b x bs e n (pair f h) = let i : b ≡ 92 = cc in absurd (n i)
 
+-- a body that begins with another byte goes on after it
 pub plain_first : (b : ℕ) (x : List ℕ) → (b ≡ 92 → ⊥) → IsBody (b ∷ x) → (is_plain b ≡ true) × IsBody x
 plain_first b x n h = plain_in (b ∷ x) b x h.0 refl n h.1
 
@@ -178,6 +188,7 @@ body_byte text at bs l p h =
     let e = take_plus at 1 text (omega arith) ∙ ap (λ z. take at text ++ take 1 z) (drop_first at text l) in
     subst (λ z. Bytewise z (bs ++ get_or text at 0 ∷ [])) (sym e) (bytewise_append h (byte p end))
 
+-- a body with one escape more
 pub body_pair : (text : List ℕ) (at m : ℕ) (bs : List ℕ) → at + 1 < length text → get_or text at 0 ≡ 92 → escaped (get_or text (at + 1) 0) ≡ Some m → Bytewise (take at text) bs → Bytewise (take (at + 2) text) (bs ++ m ∷ [])
 body_pair text at m bs l p f h =
     let d = drop_first at text (omega arith) ∙ ap (λ z. z ∷ drop (at + 1) text) p ∙ ap (λ z. 92 ∷ z) (drop_first (at + 1) text l) in
@@ -188,12 +199,14 @@ body_pair text at m bs l p f h =
 pub left_byte : (text : List ℕ) (at : ℕ) → at < length text → (get_or text at 0 ≡ 92 → ⊥) → IsBody (drop at text) → (is_plain (get_or text at 0) ≡ true) × IsBody (drop (at + 1) text)
 left_byte text at l n h = plain_first (get_or text at 0) (drop (at + 1) text) n (subst (λ z. IsBody z) (drop_first at text l) h)
 
+-- an escape stands first in what is left of a body
 pub record LeftPair (text : List ℕ) (at : ℕ) : Type 0 where
   pub meaning : ℕ
   pub more : at + 1 < length text
   pub stands : escaped (get_or text (at + 1) 0) ≡ Some meaning
   pub body : IsBody (drop (at + 2) text)
 
+-- what is left of a body from a `\` on begins with an escape
 pub left_pair : (text : List ℕ) (at : ℕ) → at < length text → get_or text at 0 ≡ 92 → IsBody (drop at text) → LeftPair text at
 left_pair text at l i h =
     let e = escape_first (drop (at + 1) text) (subst (λ z. IsBody z) (drop_first at text l ∙ ap (λ z. z ∷ drop (at + 1) text) i) h) in
@@ -235,6 +248,7 @@ one_ascii a l = (a ∷ [], (let s : all_scalars (a ∷ []) ≡ true = rw (low_sc
 two_ascii : (a b : ℕ) → a < 128 → b < 128 → IsUtf8 (a ∷ b ∷ [])
 two_ascii a b l m = IsUtf8-append (a ∷ []) (b ∷ []) (one_ascii a l) (one_ascii b m)
 
+-- a body is UTF-8
 pub utf8_of : {body bs : List ℕ} → StandsFor body bs → IsUtf8 body
 utf8_of none = IsUtf8-nil
 utf8_of (plain c {body} s p h) = IsUtf8-append (encode_utf8 c) body (IsUtf8-encode c s) (utf8_of h)
@@ -340,9 +354,11 @@ literal_of text tail n bs h t l c m =
       };
     }
 
-pub not_utf8 : (text tail : List ℕ) (n : ℕ) → lead_of text ≡ leads.Quote → tail ≡ drop 1 text → IsQuoted tail n → (IsUtf8 (take n tail) → ⊥) → IsNone text
-not_utf8 text tail n h t c u q v more e k = u (same_front text tail n h t c q v more e k).1
+-- where the body is not UTF-8, nothing begins the text
+pub body_not_utf8 : (text tail : List ℕ) (n : ℕ) → lead_of text ≡ leads.Quote → tail ≡ drop 1 text → IsQuoted tail n → (IsUtf8 (take n tail) → ⊥) → IsNone text
+body_not_utf8 text tail n h t c u q v more e k = u (same_front text tail n h t c q v more e k).1
 
+-- where no quote ends the body, nothing begins the text
 pub not_quoted : (text tail : List ℕ) → lead_of text ≡ leads.Quote → tail ≡ drop 1 text → IsUnquoted tail → IsNone text
 not_quoted text tail h t n q v more e k = let w = at_front text tail h t q v more e k in n w.0 w.1 more w.3 (bytewise_of w.4)
 
@@ -361,6 +377,7 @@ one_meaning (pair {b} {m} {body = u} f h) e (pair {b = c} {m = n} {body = v} g k
     let j : Some m ≡ Some n = sym f ∙ ap escaped i ∙ g in
     let r = one_meaning h t k in cc
 
+-- a body stands for one list of bytes
 pub meaning_same : {body bs cs : List ℕ} → StandsFor body bs → StandsFor body cs → bs ≡ cs
 meaning_same h k = one_meaning (bytewise_of h) refl (bytewise_of k)
 
@@ -368,5 +385,6 @@ meaning_same h k = one_meaning (bytewise_of h) refl (bytewise_of k)
 pub stands_for : (body bs : List ℕ) → IsUtf8 body → Bytewise body bs → StandsFor body bs
 stands_for body bs u h = let m = some_meaning body u (bs, h) in subst (λ z. StandsFor body z) (one_meaning (bytewise_of m.1) refl h) m.1
 
+-- a literal begins the text
 pub literal_begins : (text tail : List ℕ) (n : ℕ) (bs bytes : List ℕ) → lead_of text ≡ leads.Quote → tail ≡ drop 1 text → n < length tail → IsQuoted tail n → IsUtf8 (take n tail) → Bytewise (take n tail) bs → bytes ≡ bs → Begins text (pieces.Token (kinds.Literal bytes)) (n + 2)
 literal_begins text tail n bs bytes h t l c u k e = literal_of text tail n bytes h t l c (subst (λ z. StandsFor (take n tail) z) (sym e) (stands_for (take n tail) bs u k))

@@ -83,6 +83,7 @@ by_letter b bs =
           ]
     ]
 
+-- the reserved words that begin with its first letter are enough to look a word up
 pub by_first : (identifier : List ℕ) → 0 < length identifier → find_reserved (reserved_with (get_or identifier 0 0)) identifier ≡ keyword_of identifier
 by_first [] l = absurd (omega arith)
 by_first (b ∷ bs) l = by_letter b bs
@@ -98,5 +99,6 @@ not_here entry [] identifier i d l e = absurd (omega arith)
 not_here entry (x ∷ table) identifier zero d l e = rw e refl
 not_here entry (x ∷ table) identifier (suc i) d l e = not_here entry table identifier i d (omega arith) e
 
+-- an entry of another word is passed over
 pub entry_not_here : {X : Type 0} (entry : X → List ℕ × Keyword) (table : List X) (identifier : List ℕ) (i : ℕ) (d : X) → i < length table → bytes_eq identifier (entry (get_or table i d)).0 ≡ false → find_reserved (drop i (map entry table)) identifier ≡ find_reserved (drop (i + 1) (map entry table)) identifier
 entry_not_here entry table identifier i d l e = rw add-one (not_here entry table identifier i d l e)

@@ -2,22 +2,27 @@
 use Rattle.std.proofs.Common.{◌≡◌, ℕ, zero, suc, ◌+◌, ◌<◌, ◌≤◌, Bool, true, false, ◌&&◌, ◌||◌, List, [], ◌∷◌, ◌++◌, length, take, drop, get_or, refl, sym, ap, subst, ◌∙◌, arith, add-one, ◌⊎◌, inl, inr, Option, Some, None, IfNone}
 use Rattle.chord_lexer.specs.Letters.{all_pass, first_passes, IsMaximalRun}
 
+-- the first of two that hold
 pub and_left : (a b : Bool) → (a && b) ≡ true → a ≡ true
 and_left true b h = refl
 and_left false b h = cc
 
+-- the second of two that hold
 pub and_right : (a b : Bool) → (a && b) ≡ true → b ≡ true
 and_right true b h = h
 and_right false b h = cc
 
+-- two that hold, together
 pub and_both : (a b : Bool) → a ≡ true → b ≡ true → (a && b) ≡ true
 and_both true b h k = k
 and_both false b h k = cc
 
+-- one of the two holds
 pub or_cases : (a b : Bool) → (a || b) ≡ true → (a ≡ true) ⊎ (b ≡ true)
 or_cases true b h = inl refl
 or_cases false b h = inr h
 
+-- the first holds, and so one of the two
 pub or_left : (a b : Bool) → a ≡ true → (a || b) ≡ true
 or_left true b h = refl
 or_left false b h = cc
@@ -48,6 +53,7 @@ first_passes_at test [] n l = absurd (omega arith)
 first_passes_at test (b ∷ text) zero l = refl
 first_passes_at test (b ∷ text) (suc n) l = first_passes_at test text n (omega arith)
 
+-- no byte stands after the end
 pub first_passes_past : (test : ℕ → Bool) (text : List ℕ) (n : ℕ) → length text ≤ n → first_passes test (drop n text) ≡ false
 first_passes_past test [] zero l = refl
 first_passes_past test [] (suc n) l = refl

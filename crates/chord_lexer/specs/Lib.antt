@@ -16,7 +16,6 @@ pub mod Marks
 pub mod Pieces
 -- what a source reads as, and where it is refused
 pub mod Reading
-
 -- ## What only the code's own contracts use
 
 -- what the functions of the scanner say of their answers

@@ -11,6 +11,7 @@ use Rattle.chord_lexer.specs.Pieces.{IsLongest, IsNone}
 abbrev pub byte_order_mark : List ℕ
 byte_order_mark = 0xEF ∷ 0xBB ∷ 0xBF ∷ []
 
+-- the text of a source, after its byte order mark if it has one
 abbrev pub after_byte_order_mark : List ℕ → List ℕ
 after_byte_order_mark source = cond (bytes_eq byte_order_mark (take 3 source)) (drop 3 source) source
 

@@ -43,6 +43,7 @@ pub data Bytewise : List ℕ → List ℕ → Type 0 where
   byte : {b : ℕ} {body bytes : List ℕ} → is_plain b ≡ true → Bytewise body bytes → Bytewise (b ∷ body) (b ∷ bytes)
   pair : {b m : ℕ} {body bytes : List ℕ} → escaped b ≡ Some m → Bytewise body bytes → Bytewise (0x5C ∷ b ∷ body) (m ∷ bytes)
 
+-- the bytes are the body of a literal, byte by byte
 abbrev pub IsBody : List ℕ → Type 0
 IsBody body = (bytes : List ℕ) × Bytewise body bytes
 
@@ -50,6 +51,7 @@ IsBody body = (bytes : List ℕ) × Bytewise body bytes
 abbrev pub IsQuoted : List ℕ → ℕ → Type 0
 IsQuoted text n = IsBody (take n text) × ((rest : List ℕ) × (drop n text ≡ 0x22 ∷ rest))
 
+-- no body of a literal with its quote begins the text
 abbrev pub IsUnquoted : List ℕ → Type 0
 IsUnquoted text = (body bytes rest : List ℕ) → text ≡ body ++ 0x22 ∷ rest → Bytewise body bytes → ⊥
 
@@ -64,6 +66,7 @@ pub record IsExtent (text : List ℕ) (n : ℕ) : Type 0 where
   pub within : n ≤ length text
   pub is : IsDelimited (take n text) (drop n text)
 
+-- nothing that is delimited as a comment begins the text
 abbrev pub IsUndelimited : List ℕ → Type 0
 IsUndelimited text = (comment rest : List ℕ) → comment ++ rest ≡ text → IsDelimited comment rest → ⊥
 
@@ -89,6 +92,7 @@ single_mark b =
     cond (nat_eq b 0x21) (Some marks.Not) (
     cond (nat_eq b 0x26) (Some marks.Ampersand) None)))))))))))))))))
 
+-- the mark of two bytes
 abbrev pub pair_mark : ℕ → ℕ → Option Mark
 pair_mark a b =
     cond (nat_eq a 0x3D && nat_eq b 0x3D) (Some marks.Equal) (
@@ -100,6 +104,7 @@ pair_mark a b =
     cond (nat_eq a 0x2B && nat_eq b 0x2B) (Some marks.Increment) (
     cond (nat_eq a 0x2D && nat_eq b 0x2D) (Some marks.Decrement) None)))))))
 
+-- the mark of the first two bytes
 abbrev pub pair_mark_of : List ℕ → Option Mark
 pair_mark_of (a ∷ b ∷ text) = pair_mark a b
 pair_mark_of text = None
@@ -108,6 +113,7 @@ pair_mark_of text = None
 abbrev pub begins_with : ℕ → List ℕ × Keyword → Bool
 begins_with letter entry = nat_eq letter (slice_index entry.0 0)
 
+-- the entries of the reserved words that begin with the letter
 abbrev pub reserved_with : ℕ → List (List ℕ × Keyword)
 reserved_with letter =
     cond (nat_eq letter 0x61) (filter (begins_with 0x61) reserved_words) (

@@ -15,6 +15,8 @@ use std::alloc::Global;
 /// The most bytes that an identifier has.
 const MAX_IDENTIFIER_BYTES: usize = 255;
 
+// A table for each first letter: one table of all is too large a constant for the prover, and a look-up then reads the
+// words of its letter alone.
 const A_WORDS: [(&[u8], Keyword); 3] = [
     (b"async", Keyword::Async),
     (b"abstract", Keyword::Unused),

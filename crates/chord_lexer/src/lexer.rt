@@ -9,14 +9,17 @@ use crate::piece::Piece;
 use crate::scan::{Stop, after, longest};
 use crate::token::Token;
 use std::alloc::Global;
+use thiserror::Error;
 
 /// Why a source has no tokens.
-#[derive(Clone, Copy, Debug, PartialEq, Eq)]
+#[derive(Clone, Copy, Debug, PartialEq, Eq, Error)]
 pub enum LexFault {
-    /// For want of memory.
+    /// The call ran out of memory.
+    #[error("out of memory")]
     Memory,
     /// The bytes before this one are whole tokens, blanks and comments, and none of these begins here.
     /// It is counted from 0, after a leading mark EF BB BF.
+    #[error("no token begins at byte {0}")]
     Bad(u32),
 }
 

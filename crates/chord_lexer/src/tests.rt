@@ -394,6 +394,17 @@ fn the_longest_of_each_kind(rt: HostRuntime) -> Result<(), Fail> {
 }
 
 #[test]
+fn faults_say_what_is_wrong(rt: HostRuntime) -> Result<(), Fail> {
+    for (fault, expected) in [
+        (LexFault::Memory, "out of memory"),
+        (LexFault::Bad(7), "no token begins at byte 7"),
+    ] {
+        assert_eq!(rt; format!(in rt.alloc(); "{fault}")?.as_str(), expected);
+    }
+    Ok(())
+}
+
+#[test]
 fn copies(rt: HostRuntime) -> Result<(), Fail> {
     let bytes = Bytes::of_items(vec![in rt.alloc(); 1u8, 2]?);
     let copy = bytes.copied(rt.alloc())?;

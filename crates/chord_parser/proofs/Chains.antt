@@ -4,7 +4,7 @@ use Rattle.std.specs.Prelude.{nat_lt}
 use Rattle.std.proofs.lemmas.Bool.{le-ltb}
 use Rattle.std.proofs.lemmas.List.{map-append}
 use Rattle.chord_lexer.specs.declared.token.Kind.TheVariants as kinds
-use Rattle.chord_lexer.specs.declared.token.Punctuator.TheVariants as punctuators
+use Rattle.chord_lexer.specs.declared.token.Mark.TheVariants as marks
 use Rattle.chord_parser.specs.declared.faults.Fault.TheVariants as faults
 use Rattle.chord_lexer.specs.declared.token.Kind.{Kind}
 use Rattle.chord_lexer.specs.declared.token.Token.{Token}
@@ -20,16 +20,16 @@ use Rattle.chord_parser.specs.Runs.{Wrong, Tall, Runs, stuck, Reads, none, more,
 use Rattle.chord_parser.specs.Samples.{sample}
 use Rattle.chord_tree.specs.Node.{Node, Nodes, End, ◌▸◌, Leaf, Made, size}
 use Rattle.chord_tree.proofs.Ahead.{choice, next_small}
-use Rattle.chord_parser.specs.Reading.{valued, StopsAs, Continues, IsAtLevel, IsOther, operator_at, operator_terminal, one_link, before_links, before_dots, before_more, before_opt}
+use Rattle.chord_parser.specs.Reading.{valued, StopsAs, Continues, IsOther, operator_at, operator_terminal, one_link, before_links, before_dots, before_more, before_opt}
 use Rattle.chord_tree.specs.Program.{token_kinds}
-use Rattle.chord_tree.specs.Tree.{ExprTree, LinkTrees, LinkTree, DotTree, DotTrees, ChainExpr, MoreLinks, MakeLink, MoreDots, MakeDot, links, dots, exprs, chained}
+use Rattle.chord_tree.specs.Tree.{ExprTree, LinkTrees, LinkTree, DotTree, DotTrees, ChainExpr, MoreLinks, MakeLink, MoreDots, MakeDot, links, dots, exprs}
 use Rattle.chord_tree.specs.ViewExprs.{see_link, see_dot, see_expr}
-use Rattle.chord_tree.specs.ExprNodes.{link_level, operator_level, level_symbol, level_tail, punctuator_of, punctuator_leaf, precedence, lifted, alone, bare, node_at, node_links, node_dot, node_dots, node_more, node_exprs}
-use Rattle.chord_parser.proofs.Single.{bare_punctuator, of_terminal}
+use Rattle.chord_tree.specs.ExprNodes.{link_level, operator_level, level_symbol, level_tail, mark_of, mark_leaf, precedence, lifted, alone, bare, node_at, node_links, node_dot, node_dots, node_more, node_exprs}
+use Rattle.chord_parser.proofs.Single.{bare_mark, of_terminal}
 use Rattle.chord_parser.proofs.Reading.{ends, measured}
 use Rattle.chord_parser.proofs.ChainSteps.{product_unary, product_unary_at, sum_product, sum_product_at, order_sum, order_sum_at, equal_order, equal_order_at, and_equal, and_equal_at, more_product_none, more_product_none_at, more_product_times, more_product_times_at, more_product_divide, more_product_divide_at, more_product_remainder, more_product_remainder_at, more_sum_none, more_sum_none_at, more_sum_plus, more_sum_plus_at, more_sum_minus, more_sum_minus_at, more_order_none, more_order_none_at, more_order_less, more_order_less_at, more_order_greater, more_order_greater_at, more_order_less_or_equal, more_order_less_or_equal_at, more_order_greater_or_equal, more_order_greater_or_equal_at, more_equal_none, more_equal_none_at, more_equal_equal, more_equal_equal_at, more_equal_not_equal, more_equal_not_equal_at, more_and_none, more_and_none_at, more_and_and, more_and_and_at, more_or_none, more_or_none_at, more_or_or, more_or_or_at}
 use Rattle.chord_tree.specs.declared.exprs.Operator.TheVariants as operators
-use Rattle.chord_lexer.specs.declared.token.Punctuator.{Punctuator}
+use Rattle.chord_lexer.specs.declared.token.Mark.{Mark}
 use Rattle.chord_tree.specs.Symbols as grammar
 use Rattle.chord_tree.specs.Terminals.{terminal_of}
 use Rattle.std.specs.Prelude.{Some, None}
@@ -40,6 +40,7 @@ stops {e = e} {ps = ps} o faults.Memory h = tt
 stops {e = e} {ps = ps} o (faults.At n) h = λ s. o.runs s (Wrong n) (h (at_depth e ps ++ s))
 stops {e = e} {ps = ps} o (faults.Tall n) h = λ s. o.runs s (Tall n) (h (at_depth e ps ++ s))
 
+-- where what goes on stops, the whole stops
 pub stops_in : {count d e : ℕ} {p q : Symbol} {ks mid : List Kind} {g : Node → Node} → Continues count p d ks q e mid g → (fault : Fault) → StopsAs q e mid fault → StopsAs p d ks fault
 stops_in c faults.Memory h = tt
 stops_in c (faults.At n) h = λ s. c.runs s (Wrong n) (h s)
@@ -50,45 +51,41 @@ pub exits : {T : Type 0} (p : Symbol) (d : ℕ) (ks : List Kind) (e : Fault) (r 
 exits p d ks e (Ok x) h g = tt
 exits p d ks e (Err y) h g = subst (λ z. StopsAs p d ks z) (sym h) g
 
+-- nothing is read yet
 pub from_the_start : {count : ℕ} {p : Symbol} {d : ℕ} {ks : List Kind} → Continues count p d ks p d ks (λ n. n)
 from_the_start = record { reads = λ rest n h. h; runs = λ s v r. r }
 
--- the symbol from_the_start, and goes on with its last part
+-- the symbol begins, and goes on with its last part
 pub enters : {count d e : ℕ} {p q : Symbol} {ks mid : List Kind} {f : Nodes → Node} → Onward count p d ks (q ∷ []) e mid f → Continues count p d ks q e mid (λ n. f (n ▸ End))
 enters o = record { reads = λ rest n h. o.reads rest _ (more h none); runs = λ s v r. o.runs s v r }
 
 pub then : {count d e g : ℕ} {p q x : Symbol} {ks mid end : List Kind} {u v : Node → Node} → Continues count p d ks q e mid u → Continues count q e mid x g end v → Continues count p d ks x g end (λ n. u (v n))
 then a b = record { reads = λ rest n h. a.reads rest _ (b.reads rest n h); runs = λ s v r. a.runs s v (b.runs s v r) }
 
+-- what goes on, by an equal way to its node
 pub renamed : {count d e : ℕ} {p q : Symbol} {ks mid : List Kind} {u v : Node → Node} → Continues count p d ks q e mid u → ((n : Node) → u n ≡ v n) → Continues count p d ks q e mid v
 renamed {count} {d} {e} {p} {q} {ks} a h = record { reads = λ rest n r. subst (λ z. Reads count p d ks rest z) (h n) (a.reads rest n r); runs = a.runs }
 
+-- what is read, as an equal node
 pub as_node : {count d : ℕ} {p : Symbol} {ks rest : List Kind} {n m : Node} → Reads count p d ks rest n → n ≡ m → Reads count p d ks rest m
 as_node {count} {d} {p} {ks} {rest} r e = subst (λ z. Reads count p d ks rest z) e r
 
+-- no number is below itself
 less_not : (l : ℕ) → nat_lt l l ≡ false
+-- no number is below itself
 less_not l = le-ltb l l (omega arith)
 
+-- what is of a level as itself
 pub lifted_same : (l : ℕ) (n : Node) → lifted l l n ≡ n
 lifted_same zero n = refl
 lifted_same (suc l) n = ap (λ b. cond b (alone (suc l) (lifted l (suc l) n)) n) (less_not (suc l))
 
-joined_node : (l : ℕ) (f : ExprTree) (x : LinkTree) (ls : LinkTrees) → link_level x ≡ l → node_at l (ChainExpr f x ls) ≡ Made (level_symbol l) (node_at (l - 1) f ▸ node_links l (MoreLinks x ls) ▸ End)
+-- a chain as the nonterminal of its level
+pub joined_node : (l : ℕ) (f : ExprTree) (x : LinkTree) (ls : LinkTrees) → link_level x ≡ l → node_at l (ChainExpr f x ls) ≡ Made (level_symbol l) (node_at (l - 1) f ▸ node_links l (MoreLinks x ls) ▸ End)
 joined_node l f (MakeLink o at t) ls e =
     ap (λ m. lifted l m (Made (level_symbol m) (lifted (m - 1) (precedence f) (bare f) ▸ node_links m (MoreLinks (MakeLink o at t) ls) ▸ End))) e ∙ lifted_same l _
 
-pub joined : (l : ℕ) (f e : ExprTree) (more : List Link) → length more ≢ 0 → IsAtLevel l (map see_link more) → e ≡ chained f (map see_link more) → node_at l e ≡ Made (level_symbol l) (node_at (l - 1) f ▸ node_links l (links (map see_link more)) ▸ End)
-joined l f e [] h k q = absurd (h refl)
-joined l f e (x ∷ xs) h k q = ap (node_at l) q ∙ joined_node l f (see_link x) (links (map see_link xs)) k
-
-precedence_joined : (l : ℕ) (f : ExprTree) (x : LinkTree) (ls : LinkTrees) → link_level x ≡ l → precedence (ChainExpr f x ls) ≤ l
-precedence_joined l f (MakeLink o at t) ls e = omega (arith, e)
-
-pub joined_precedence : (l : ℕ) (f e : ExprTree) (more : List Link) → length more ≢ 0 → IsAtLevel l (map see_link more) → e ≡ chained f (map see_link more) → precedence e ≤ l
-joined_precedence l f e [] h k q = absurd (h refl)
-joined_precedence l f e (x ∷ xs) h k q = subst (λ z. precedence z ≤ l) (sym q) (precedence_joined l f (see_link x) (links (map see_link xs)) k)
-
--- a symbol of a level from_the_start with one of the level below
+-- a symbol of a level begins with one of the level below
 pub level_begun : {count d : ℕ} {ks : List Kind} (l : ℕ) → 0 < l → l ≤ 5 → Onward count (level_symbol l) d ks (level_symbol (l - 1) ∷ level_tail l ∷ []) d ks (Made (level_symbol l))
 level_begun zero h k = absurd (omega arith)
 level_begun {ks = ks} (suc zero) h k = product_unary (product_unary_at _ (next_small ks))
@@ -124,7 +121,7 @@ link_begun operators.Times e = more_product_times (more_product_times_at _ e)
 link_begun operators.Divide e = more_product_divide (more_product_divide_at _ e)
 link_begun operators.Remainder e = more_product_remainder (more_product_remainder_at _ e)
 
--- a link of the level from_the_start
+-- a link of the level begins
 pub begun_link : {count d : ℕ} {ks : List Kind} (o : Operator) (l : ℕ) → operator_level o ≡ l → next ks ≡ operator_terminal o → Onward count (level_tail l) d ks (Terminal (operator_terminal o) ∷ level_symbol (l - 1) ∷ level_tail l ∷ []) d ks (Made (level_tail l))
 begun_link {count} {d} {ks} o l q e = subst (λ z. Onward count (level_tail z) d ks (Terminal (operator_terminal o) ∷ level_symbol (z - 1) ∷ level_tail z ∷ []) d ks (Made (level_tail z))) q (link_begun o e)
 
@@ -133,22 +130,27 @@ pub links_grown : (l : ℕ) (xs : List LinkTree) (x : LinkTree) (n : Node) → b
 links_grown l [] x n = refl
 links_grown l (y ∷ xs) x n = ap (one_link l y) (links_grown l xs x n)
 
+-- links before no others are the links
 pub links_all : (l : ℕ) (xs : List LinkTree) → before_links l xs (Made (level_tail l) End) ≡ node_links l (links xs)
 links_all l [] = refl
 links_all l (MakeLink o at t ∷ xs) = ap (λ n. one_link l (MakeLink o at t) n) (links_all l xs)
 
+-- a call more at the end
 pub dots_grown : (xs : List DotTree) (x : DotTree) (n : Node) → before_dots (xs ++ (x ∷ [])) n ≡ before_dots xs (before_dots (x ∷ []) n)
 dots_grown [] x n = refl
 dots_grown (y ∷ xs) x n = ap (λ z. before_dots (y ∷ []) z) (dots_grown xs x n)
 
+-- an argument more at the end
 pub more_grown : (xs : List ExprTree) (x : ExprTree) (n : Node) → before_more (xs ++ (x ∷ [])) n ≡ before_more xs (before_more (x ∷ []) n)
 more_grown [] x n = refl
 more_grown (y ∷ xs) x n = ap (λ z. before_more (y ∷ []) z) (more_grown xs x n)
 
+-- what follows of an answer that is Ok
 pub ok_map : {T E : Type 0} (r : Result T E) (P Q : T → Type 0) → ((x : T) → P x → Q x) → IfOk r P → IfOk r Q
 ok_map (Ok x) P Q f h = f x h
 ok_map (Err e) P Q f h = tt
 
+-- there are as many kinds as tokens
 pub told_size : (ts : List Token) → length (token_kinds ts) ≡ length ts
 told_size [] = refl
 told_size (t ∷ ts) = ap suc (told_size ts)
@@ -157,9 +159,11 @@ told_size (t ∷ ts) = ap suc (told_size ts)
 pub shorter : {count c d e : ℕ} {q : Symbol} {k : Kind} {at : ℕ} {m : Node} (left mid rest : List Token) → Reads count (Terminal c) d (token_kinds left) (token_kinds mid) (Leaf k at) → Reads count q e (token_kinds mid) (token_kinds rest) m → length rest < length left
 shorter left mid rest h k = let a = measured h in let b = measured k in let x = told_size left in let y = told_size rest in omega arith
 
+-- a call has a token
 pub dot_size : (x : DotTree) → 0 < size (node_dot x)
 dot_size (MakeDot at y a) = omega arith
 
+-- a call takes a token at least
 pub shorter_dot : {count d : ℕ} {q : Symbol} (x : DotTree) (left rest : List Token) → Reads count q d (token_kinds left) (token_kinds rest) (node_dot x) → length rest < length left
 shorter_dot x left rest h = let a = measured h in let b = dot_size x in let y = told_size left in let z = told_size rest in omega arith
 
@@ -167,33 +171,35 @@ shorter_dot x left rest h = let a = measured h in let b = dot_size x in let y = 
 pub stuck_at : {x d : ℕ} (ts : List Token) (n : ℕ) → choice x (next (token_kinds ts)) ≡ rule_count → n ≡ length ts → StopsAs (Nonterminal x) d (token_kinds ts) (faults.At n)
 stuck_at {x} {d} ts n h e = λ s. subst (λ z. Runs ((Nonterminal x, d) ∷ s) (token_kinds ts) (Wrong z)) (told_size ts ∙ sym e) (stuck (omega arith))
 
+-- a link more in memory
 pub links_push : (l : ℕ) (xs ys : List Link) (x : Link) (t : LinkTree) (n : Node) → ys ≡ xs ++ (x ∷ []) → see_link x ≡ t → before_links l (map see_link xs) (one_link l t n) ≡ before_links l (map see_link ys) n
 links_push l xs ys x t n e q = ap (λ z. before_links l (map see_link xs) (one_link l z n)) (sym q) ∙ sym (links_grown l (map see_link xs) (see_link x) n) ∙ ap (λ z. before_links l z n) (sym (map-append see_link xs (x ∷ []))) ∙ ap (λ z. before_links l (map see_link z) n) (sym e)
 
-pub links_at_level : (l : ℕ) (xs ys : List Link) (x : Link) (o : Operator) (at : ℕ) (t : ExprTree) → ys ≡ xs ++ (x ∷ []) → see_link x ≡ MakeLink o at t → operator_level o ≡ l → IsAtLevel l (map see_link xs) → IsAtLevel l (map see_link ys)
-links_at_level l [] ys x o at t e q h k = subst (λ z. IsAtLevel l (map see_link z)) (sym e) (ap link_level q ∙ h)
-links_at_level l (y ∷ xs) ys x o at t e q h k = subst (λ z. IsAtLevel l (map see_link z)) (sym e) k
-
 -- the token of an operator
-pub operator_read : {count d at : ℕ} {ks rest : List Kind} (c : ℕ) (o : Operator) → c ≡ operator_terminal o → Reads count (Terminal c) d ks rest (Leaf (sample c) at) → Reads count (Terminal (operator_terminal o)) d ks rest (punctuator_leaf (punctuator_of o) at)
-operator_read {count} {d} {at} {ks} {rest} c o e r = subst (λ z. Reads count (Terminal (operator_terminal o)) d ks rest (Leaf z at)) (bare_punctuator (punctuator_of o)) (subst (λ z. Reads count (Terminal z) d ks rest (Leaf (sample z) at)) e r)
+pub operator_read : {count d at : ℕ} {ks rest : List Kind} (c : ℕ) (o : Operator) → c ≡ operator_terminal o → Reads count (Terminal c) d ks rest (Leaf (sample c) at) → Reads count (Terminal (operator_terminal o)) d ks rest (mark_leaf (mark_of o) at)
+operator_read {count} {d} {at} {ks} {rest} c o e r = subst (λ z. Reads count (Terminal (operator_terminal o)) d ks rest (Leaf z at)) (bare_mark (mark_of o)) (subst (λ z. Reads count (Terminal z) d ks rest (Leaf (sample z) at)) e r)
 
+-- a list that grew is not empty
 pub pushed : {A : Type 0} (xs ys : List A) (x : A) → ys ≡ xs ++ (x ∷ []) → 0 < length ys
 pushed xs ys x e = let f = ap length e ∙ length-append xs (x ∷ []) in omega arith
 
+-- a call more in memory
 pub dots_push : (xs ys : List Dot) (x : Dot) (n : Node) → ys ≡ xs ++ (x ∷ []) → before_dots (map see_dot xs) (before_dots (see_dot x ∷ []) n) ≡ before_dots (map see_dot ys) n
 dots_push xs ys x n e = sym (dots_grown (map see_dot xs) (see_dot x) n) ∙ ap (λ z. before_dots z n) (sym (map-append see_dot xs (x ∷ []))) ∙ ap (λ z. before_dots (map see_dot z) n) (sym e)
 
 one_dot : (x : DotTree) (ds : DotTrees) → Made grammar.Dots (node_dot x ▸ node_dots ds ▸ End) ≡ node_dots (MoreDots x ds)
 one_dot (MakeDot at y a) ds = refl
 
+-- calls before no others are the calls
 pub dots_all : (xs : List DotTree) → before_dots xs (Made grammar.Dots End) ≡ node_dots (dots xs)
 dots_all [] = refl
 dots_all (x ∷ xs) = ap (λ z. Made grammar.Dots (node_dot x ▸ z ▸ End)) (dots_all xs) ∙ one_dot x (dots xs)
 
+-- the first argument
 pub opt_first : (ys : List Expr) (x : Expr) (n : Node) → ys ≡ x ∷ [] → Made grammar.Optional_exprs (node_at 6 (see_expr x) ▸ n ▸ End) ≡ before_opt (map see_expr ys) n
 opt_first ys x n e = ap (λ z. before_opt (map see_expr z) n) (sym e)
 
+-- an argument more in memory
 pub opt_push : (xs ys : List Expr) (x : Expr) (n : Node) → 0 < length xs → ys ≡ xs ++ (x ∷ []) → before_opt (map see_expr xs) (before_more (see_expr x ∷ []) n) ≡ before_opt (map see_expr ys) n
 opt_push [] ys x n h e = absurd (omega arith)
 opt_push (y ∷ xs) ys x n h e =
@@ -204,27 +210,28 @@ more_all : (xs : List ExprTree) → before_more xs (Made grammar.More_exprs End)
 more_all [] = refl
 more_all (x ∷ xs) = ap (λ z. before_more (x ∷ []) z) (more_all xs)
 
+-- arguments before no others are the arguments
 pub opt_all : (xs : List Expr) → 0 < length xs → before_opt (map see_expr xs) (Made grammar.More_exprs End) ≡ node_exprs (exprs (map see_expr xs))
 opt_all [] h = absurd (omega arith)
 opt_all (x ∷ xs) h = ap (λ z. Made grammar.Optional_exprs (node_at 6 (see_expr x) ▸ z ▸ End)) (more_all (map see_expr xs))
 
 -- the operators of kinds of tokens
-operator_back : (o : Operator) → operator_at (kinds.Punctuator (punctuator_of o)) ≡ Some o
+operator_back : (o : Operator) → operator_at (kinds.Mark (mark_of o)) ≡ Some o
 operator_back operators.Or = refl
 operator_back _ = refl
 
-punctuator_at : (m : Punctuator) (o : Operator) → operator_at (kinds.Punctuator m) ≡ Some o → kinds.Punctuator m ≡ kinds.Punctuator (punctuator_of o)
-punctuator_at punctuators.Or o h = cc
-punctuator_at _ o h = cc
+mark_at : (m : Mark) (o : Operator) → operator_at (kinds.Mark m) ≡ Some o → kinds.Mark m ≡ kinds.Mark (mark_of o)
+mark_at marks.Or o h = cc
+mark_at _ o h = cc
 
-kind_at : (k : Kind) (o : Operator) → operator_at k ≡ Some o → k ≡ kinds.Punctuator (punctuator_of o)
-kind_at (kinds.Keyword w) o h = cc
+kind_at : (k : Kind) (o : Operator) → operator_at k ≡ Some o → k ≡ kinds.Mark (mark_of o)
+kind_at (kinds.Word w) o h = cc
 kind_at (kinds.Name x) o h = cc
 kind_at (kinds.Number x) o h = cc
 kind_at (kinds.Literal x) o h = cc
-kind_at (kinds.Punctuator m) o h = punctuator_at m o h
+kind_at (kinds.Mark m) o h = mark_at m o h
 
--- where a kind is an operator, its class is the operator's
+-- where a kind is an operator, its terminal is the operator's
 pub operator_read_at : (k : Kind) (o : Operator) → operator_at k ≡ Some o → terminal_of k ≡ operator_terminal o
 operator_read_at k o h = ap terminal_of (kind_at k o h)
 
@@ -233,11 +240,13 @@ valued_not operators.Or = refl
 valued_not _ = refl
 
 same_operator : (k : Kind) (o : Operator) → terminal_of k ≡ operator_terminal o → operator_at k ≡ Some o
-same_operator k o e = ap operator_at (sym (of_terminal (operator_terminal o) k e (valued_not o)) ∙ bare_punctuator (punctuator_of o)) ∙ operator_back o
+same_operator k o e = ap operator_at (sym (of_terminal (operator_terminal o) k e (valued_not o)) ∙ bare_mark (mark_of o)) ∙ operator_back o
 
+-- a kind that is no operator is of no level
 pub none_at : (l : ℕ) (k : Kind) (ks : List Kind) → operator_at k ≡ None → IsOther l (k ∷ ks)
 none_at l k ks h = λ o e q. let a = same_operator k o e in cc
 
+-- an operator of another level is none of this
 pub other_at : (l : ℕ) (k : Kind) (ks : List Kind) (p : Operator) → operator_at k ≡ Some p → operator_level p ≢ l → IsOther l (k ∷ ks)
 other_at l k ks p h n = λ o e q. let a = same_operator k o e in let b : p ≡ o = cc in n (ap operator_level b ∙ q)
 
@@ -248,19 +257,24 @@ operator_small _ = lit< tt
 not_end : (o : Operator) → 52 ≡ operator_terminal o → ⊥
 not_end o e = let h = operator_small o in omega arith
 
+-- no operator comes at the end
 pub end_other : (l : ℕ) → IsOther l []
 unfolding terminal_count
 end_other l = λ o e q. not_end o e
 
+-- the same of tokens with these kinds
 pub other_told : (l : ℕ) (ts : List Token) (ks : List Kind) → token_kinds ts ≡ ks → IsOther l ks → IsOther l (token_kinds ts)
 other_told l ts ks e h = subst (λ z. IsOther l z) (sym e) h
 
+-- no tokens have no kinds
 pub told_nil : (ts : List Token) → length ts ≡ 0 → token_kinds ts ≡ []
 told_nil [] e = refl
 told_nil (t ∷ ts) e = absurd (omega arith)
 
+-- tokens that begin with no operator have none of the level
 pub none_next : (l : ℕ) (ts : List Token) (k : Kind) (ks : List Kind) → token_kinds ts ≡ k ∷ ks → operator_at k ≡ None → IsOther l (token_kinds ts)
 none_next l ts k ks e h = other_told l ts (k ∷ ks) e (none_at l k ks h)
 
+-- tokens that begin with an operator of another level have none of this
 pub level_told : (l : ℕ) (ts : List Token) (k : Kind) (ks : List Kind) (p : Operator) → token_kinds ts ≡ k ∷ ks → operator_at k ≡ Some p → operator_level p ≢ l → IsOther l (token_kinds ts)
 level_told l ts k ks p e h n = other_told l ts (k ∷ ks) e (other_at l k ks p h n)

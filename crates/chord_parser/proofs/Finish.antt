@@ -11,7 +11,7 @@ use Rattle.chord_tree.specs.Terminals.{terminal_of}
 use Rattle.chord_tree.specs.Derivation.{Spelled, Want, kinds_of, next, head_of, parts_of, inside, at_depth, allowed, Derives, done, token, rule}
 use Rattle.chord_tree.proofs.Ahead.{imp, imp_true, both_left, both_right, both_true, all_below, below, next_small}
 
--- a token of the class there is, or the symbol is one
+-- a token of the terminal there is, or the nonterminal is one of the grammar
 abbrev pub listed : Symbol → Bool
 listed (Terminal c) = nat_eq (terminal_of (sample c)) c
 listed (Nonterminal x) = nat_lt x nonterminal_count
@@ -21,10 +21,12 @@ abbrev pub not_else : Symbol → Bool
 not_else (Terminal c) = nat_eq (terminal_of (sample c)) c && not (nat_eq c else_terminal)
 not_else (Nonterminal x) = nat_lt x nonterminal_count
 
+-- no symbol that is wanted is `else`
 abbrev pub all_not_else : List Want → Bool
 all_not_else [] = true
 all_not_else ((p, d) ∷ s) = not_else p && all_not_else s
 
+-- no symbol of these is `else`
 abbrev pub not_else_parts : List Symbol → Bool
 not_else_parts [] = true
 not_else_parts (p ∷ ps) = not_else p && not_else_parts ps
@@ -34,22 +36,27 @@ abbrev pub else_first : List Want → Bool
 else_first [] = true
 else_first ((p, d) ∷ s) = listed p && all_not_else s
 
+-- none but the first of these symbols is `else`
 abbrev pub else_first_parts : List Symbol → Bool
 else_first_parts [] = true
 else_first_parts (p ∷ ps) = listed p && not_else_parts ps
 
+-- a bound on the steps to the end of a symbol
 abbrev pub weight : Symbol → ℕ
 weight (Terminal c) = 1
 weight (Nonterminal x) = get_or weights x 0
 
-abbrev pub total : List Want → ℕ
-total [] = 0
-total ((p, d) ∷ s) = weight p + total s
+-- a bound on the steps to the end of what is wanted
+abbrev pub total_weight : List Want → ℕ
+total_weight [] = 0
+total_weight ((p, d) ∷ s) = weight p + total_weight s
 
+-- a bound on the steps to the end of symbols
 abbrev pub total_parts : List Symbol → ℕ
 total_parts [] = 0
 total_parts (p ∷ ps) = weight p + total_parts ps
 
+-- the production by which a nonterminal ends soonest
 pub finish : ℕ → ℕ
 finish x = get_or finishes x 0
 
@@ -74,6 +81,7 @@ table_else_first : all_below rule_count check_else_first ≡ true
 unfolding check_else_first head_of parts_of productions rule_count nonterminal_count else_terminal
 table_else_first = refl
 
+-- no production has an `else` but as its first symbol
 pub rule_else_first : (i : ℕ) → i < rule_count → else_first_parts (parts_of i) ≡ true
 unfolding check_else_first
 rule_else_first i l = below rule_count check_else_first table_else_first i l
@@ -96,26 +104,31 @@ finish_open : (x c : ℕ) → x < nonterminal_count → c < suc terminal_count �
 unfolding check_open
 finish_open x c l m h = imp_true _ _ (below (suc terminal_count) (λ c. check_open x c) (below nonterminal_count _ table_open x l) c m) (not_eq c else_terminal h)
 
+-- what is wanted has no `else` where its symbols have none
 pub not_else_at_depth : (d : ℕ) (ps : List Symbol) (s : List Want) → not_else_parts ps ≡ true → all_not_else s ≡ true → all_not_else (at_depth d ps ++ s) ≡ true
 not_else_at_depth d [] s h k = k
 not_else_at_depth d (p ∷ ps) s h k = both_true _ _ (both_left _ _ h) (not_else_at_depth d ps s (both_right (not_else p) _ h) k)
 
-total_at_depth : (d : ℕ) (ps : List Symbol) (s : List Want) → total (at_depth d ps ++ s) ≡ total_parts ps + total s
+total_at_depth : (d : ℕ) (ps : List Symbol) (s : List Want) → total_weight (at_depth d ps ++ s) ≡ total_parts ps + total_weight s
 total_at_depth d [] s = omega arith
 total_at_depth d (p ∷ ps) s = let h = total_at_depth d ps s in omega arith
 
+-- a symbol that is not `else` is one of the grammar
 pub not_else_listed : (p : Symbol) → not_else p ≡ true → listed p ≡ true
 not_else_listed (Terminal c) h = both_left _ _ h
 not_else_listed (Nonterminal x) h = h
 
+-- what has no `else` has none but as its first
 pub not_else_else_first : (s : List Want) → all_not_else s ≡ true → else_first s ≡ true
 not_else_else_first [] h = refl
 not_else_else_first ((p, d) ∷ s) h = both_true _ _ (not_else_listed p (both_left _ _ h)) (both_right (not_else p) _ h)
 
+-- what is wanted has an `else` but as its first where its symbols do
 pub else_first_at_depth : (d : ℕ) (ps : List Symbol) (s : List Want) → else_first_parts ps ≡ true → all_not_else s ≡ true → else_first (at_depth d ps ++ s) ≡ true
 else_first_at_depth d [] s h k = not_else_else_first s k
 else_first_at_depth d (p ∷ ps) s h k = both_true _ _ (both_left _ _ h) (not_else_at_depth d ps s (both_right (listed p) _ h) k)
 
+-- something is derived from what is wanted
 abbrev pub Finished : List Want → Type 0
 Finished s = (w : List Spelled) × Derives s w × (next (kinds_of w) ≢ else_terminal)
 
@@ -134,7 +147,7 @@ finish_tree x d s l (w, r, n) =
     let f = finish_fits x l in
     (w, rule (finish x) f.2 f.1 (finish_open x (next (kinds_of w)) l (next_small (kinds_of w)) n) r, n)
 
-finished_in : (n : ℕ) (s : List Want) → all_not_else s ≡ true → total s ≤ n → Finished s
+finished_in : (n : ℕ) (s : List Want) → all_not_else s ≡ true → total_weight s ≤ n → Finished s
 finished_in n [] h l = ([], done, end_not_else)
 finished_in zero ((Terminal c, d) ∷ s) h l = absurd (omega arith)
 finished_in (suc n) ((Terminal c, d) ∷ s) h l = finish_word c d s (both_left _ _ h) (finished_in n s (both_right (not_else (Terminal c)) _ h) (omega arith))
@@ -149,6 +162,6 @@ finished_in (suc n) ((Nonterminal x, d) ∷ s) h l =
 pub finished : (s : List Want) → else_first s ≡ true → (w : List Spelled) × Derives s w
 finished [] h = ([], done)
 finished ((Terminal c, d) ∷ s) h =
-    let f = finished_in (total s) s (both_right (listed (Terminal c)) _ h) (omega arith) in
+    let f = finished_in (total_weight s) s (both_right (listed (Terminal c)) _ h) (omega arith) in
     ((sample c, d) ∷ f.0, token (eqb-true _ _ (both_left _ _ h)) f.1)
-finished ((Nonterminal x, d) ∷ s) h = let f = finished_in (total ((Nonterminal x, d) ∷ s)) ((Nonterminal x, d) ∷ s) h (omega arith) in (f.0, f.1)
+finished ((Nonterminal x, d) ∷ s) h = let f = finished_in (total_weight ((Nonterminal x, d) ∷ s)) ((Nonterminal x, d) ∷ s) h (omega arith) in (f.0, f.1)

@@ -10,6 +10,7 @@ pub mod ChainSteps
 pub mod ExprSteps
 pub mod Single
 pub mod Chains
+pub mod Climb
 pub mod StmtLists
 pub mod ClassLists
 pub mod Whole

@@ -58,6 +58,7 @@ left_of ks n o = let e = ap length o.cut ∙ length-append (kinds_of o.prefix) o
 left_tall : (ks : List Kind) (n : ℕ) → (o : IsTall start ks n) → n + length o.prefix ≡ length ks
 left_tall ks n o = let e = ap length o.cut ∙ length-append (kinds_of o.prefix) (o.kind ∷ o.suffix) in let a = kinds_length o.prefix in let c = o.count in omega arith
 
+-- tokens are refused at one place at most
 pub one_wrong : (ks : List Kind) (n m : ℕ) → IsWrong start ks n → IsWrong start ks m → n ≡ m
 one_wrong ks n m o p =
     let a = left_of ks n o in
@@ -78,6 +79,7 @@ tall_inside ks n o prefix rest after e not_tall r l =
     let k = o.tall in
     omega arith
 
+-- one token at most is the first that is tall
 pub one_tall : (ks : List Kind) (n m : ℕ) → IsTall start ks n → IsTall start ks m → n ≡ m
 one_tall ks n m o p =
     let a = left_tall ks n o in
@@ -86,6 +88,7 @@ one_tall ks n m o p =
     let d : length p.prefix < length o.prefix → ⊥ = tall_inside ks m p o.prefix ((o.kind, o.depth) ∷ o.rest) (o.kind ∷ o.suffix) o.cut o.not_tall o.opens in
     omega arith
 
+-- tokens that are refused at a place have no tall token before it
 pub not_wrong_and_tall : (ks : List Kind) (n m : ℕ) → IsWrong start ks n → IsTall start ks m → ⊥
 not_wrong_and_tall ks n m o p =
     let x = kinds_length o.prefix in
@@ -99,18 +102,22 @@ not_wrong_and_tall ks n m o p =
     let d : length p.prefix < length o.prefix → ⊥ = tall_inside ks m p o.prefix o.rest o.suffix o.cut o.not_tall o.opens in
     absurd (omega arith)
 
+-- where a token is the first that fits nothing, the answer names it or lacks memory
 pub at_only : (ks : List Kind) (f : ParseFault) → IsAnswer ks f → (k : ℕ) → IsAnswer ks (answers.At k) → (f ≡ answers.Memory) ⊎ (f ≡ answers.At k)
 at_only ks answers.Memory h k a = inl refl
 at_only ks (answers.At j) h k a = let e = one_wrong ks h.0 a.0 h.2 a.2 in let x = h.1 in let y = a.1 in let z : j ≡ k = omega arith in inr (ap answers.At z)
 at_only ks (answers.Tall j) h k a = absurd (not_wrong_and_tall ks a.0 h.0 a.2 h.2)
 
+-- where a token is the first that is tall, the answer names it or lacks memory
 pub tall_only : (ks : List Kind) (f : ParseFault) → IsAnswer ks f → (k : ℕ) → IsAnswer ks (answers.Tall k) → (f ≡ answers.Memory) ⊎ (f ≡ answers.Tall k)
 tall_only ks answers.Memory h k a = inl refl
 tall_only ks (answers.At j) h k a = absurd (not_wrong_and_tall ks h.0 a.0 h.2 a.2)
 tall_only ks (answers.Tall j) h k a = let e = one_tall ks h.0 a.0 h.2 a.2 in let x = h.1 in let y = a.1 in let z : j ≡ k = omega arith in inr (ap answers.Tall z)
 
+-- tokens of a program are not refused
 pub found_not_at : (ks : List Kind) (t : ProgramTree) → IsFound ks t → (k : ℕ) → IsAnswer ks (answers.At k) → ⊥
 found_not_at ks t f k a = not_wrong ks t a.0 f.program f.spelled a.2
 
+-- tokens of a program have no tall one
 pub found_not_tall : (ks : List Kind) (t : ProgramTree) → IsFound ks t → (k : ℕ) → IsAnswer ks (answers.Tall k) → ⊥
 found_not_tall ks t f k a = never_tall ks t a.0 f.program f.not_tall f.spelled a.2

@@ -13,7 +13,7 @@ use Rattle.chord_tree.proofs.Ahead.{choice, both_left, both_right, small, next_s
 use Rattle.chord_tree.proofs.LookAhead.{starts, Legal, legal_rule, chosen}
 use Rattle.chord_parser.proofs.Finish.{else_first, listed, not_else_else_first, else_first_at_depth, rule_else_first, finished}
 
--- the tokens begin with those of front, and then stands one of class c, or nothing where c is terminal_count
+-- the tokens begin with those of the prefix, and then stands terminal c, or nothing where c is terminal_count
 abbrev pub BeginsBefore : List Kind → List Kind → ℕ → Type 0
 BeginsBefore ks [] c = next ks ≡ c
 BeginsBefore [] (f ∷ fs) c = ⊥
@@ -26,7 +26,7 @@ pub record IsDerivedList (s : List Want) (ks : List Kind) : Type 0 where
   pub not_tall : NotTall text
   pub derived : Derives s text
 
--- the first token that does not fit, and no token of its class does
+-- the first token that does not fit, and no token of its terminal does
 pub record IsRefused (s : List Want) (ks : List Kind) (left : ℕ) : Type 0 where
   pub prefix : List Spelled
   pub rest : List Spelled
@@ -37,6 +37,7 @@ pub record IsRefused (s : List Want) (ks : List Kind) (left : ℕ) : Type 0 wher
   pub opens : Derives s (prefix ++ rest)
   pub refuses : (w : List Spelled) → BeginsBefore (kinds_of w) (kinds_of prefix) (next suffix) → Derives s w → ⊥
 
+-- what a verdict says of the tokens
 abbrev pub Outcome : List Want → List Kind → Verdict → Type 0
 Outcome s ks Fine = IsDerivedList s ks
 Outcome s ks (Wrong n) = IsRefused s ks n
@@ -50,7 +51,7 @@ same_class : (ks fs suffix : List Kind) → BeginsThrough ks fs suffix → Begin
 same_class ks fs [] e = subst (λ z. BeginsBefore z fs (next [])) (append-nil fs ∙ sym e) (begins_before fs [])
 same_class ks fs (k ∷ suffix) (rest, e) = subst (λ z. BeginsBefore z fs (terminal_of k)) (sym e) (begins_before fs (k ∷ rest))
 
--- no token of the class fits, so that one does not
+-- no token of the terminal fits, so that one does not
 pub by_kinds : (s : List Want) (ks : List Kind) (n : ℕ) → IsRefused s ks n → IsWrong s ks n
 by_kinds s ks n o = record {
   prefix = o.prefix;
@@ -105,13 +106,13 @@ low_choice : (x c : ℕ) (d : ℕ) (s : List Want) → else_first ((Nonterminal 
 low_choice x c d s t n l = choice_fits x c (ltb-true _ _ (both_left _ _ t)) n l
 
 module _ (x d : ℕ) (s : List Want) (t : else_first ((Nonterminal x, d) ∷ s) ≡ true) (legal : Legal ((Nonterminal x, d) ∷ s)) where
-  -- a derivation of the symbol before a token of class c goes on with the choice
+  -- a derivation of the nonterminal before terminal c goes on with the choice
   chose : (w : List Spelled) → Derives ((Nonterminal x, d) ∷ s) w → (choice x (next (kinds_of w)) < rule_count) × Derives (at_depth (inside x d) (parts_of (choice x (next (kinds_of w)))) ++ s) w
   chose w (rule i l e a r) =
       let same = chosen x d i (next (kinds_of w)) s legal l e (next_small (kinds_of w)) a (starts r) in
       (subst (λ j. j < rule_count) (sym same) l, subst (λ j. Derives (at_depth (inside x d) (parts_of j) ++ s) w) (sym same) r)
 
-  -- something is derived that begins with front, before the token of class c
+  -- something is derived that begins with the prefix, before terminal c
   reopened : (c : ℕ) → c < suc terminal_count → choice x c < rule_count → (prefix rest : List Spelled) → (prefix ≡ [] → ⊥) → next (kinds_of prefix) ≡ c → Derives (at_depth (inside x d) (parts_of (choice x c)) ++ s) (prefix ++ rest) → Derives ((Nonterminal x, d) ∷ s) (prefix ++ rest)
   reopened c n l [] rest f e r = absurd (f refl)
   reopened c n l ((k, g) ∷ prefix) rest f e r =

@@ -14,6 +14,7 @@ Alike fs ((k, g) ∷ w) [] d = ⊥
 Alike [] ((k, g) ∷ w) ((j, h) ∷ y) d = (k ≡ j) × (g ≡ d)
 Alike (f ∷ fs) ((k, g) ∷ w) ((j, h) ∷ y) d = (k ≡ j) × Alike fs w y d
 
+-- the depth of the token after a prefix
 abbrev pub DepthAt : List Spelled → List Spelled → ℕ → Type 0
 DepthAt fs [] d = ⊥
 DepthAt [] ((j, h) ∷ y) d = h ≡ d
@@ -31,6 +32,7 @@ mixed c d x e s t h =
     let part : Terminal c ≡ Nonterminal x = ap (λ (z : Want). z.0) want in
     cc
 
+-- two derivations agree on the depths of the tokens that they share
 pub one_prefix : {s t : List Want} {w y : List Spelled} (fs : List Spelled) (g : ℕ) → Derives s w → Derives t y → s ≡ t → Alike fs w y g → Legal s → DepthAt fs y g
 one_prefix fs g done q e a l = elim a [ ]
 one_prefix [] g (token {c} {d} {k} {s} {w} p n) (token {c = c'} {d = d'} {k = k'} {s = t} {w = y} q m) e a l =
@@ -57,12 +59,14 @@ one_prefix fs g (rule {x} {d} {s} {w} i m h a p) (rule {x = x'} {d = d'} {s = t}
     let stacks : at_depth (inside x d) (parts_of i) ++ s ≡ at_depth (inside x' d') (parts_of j) ++ t = ap (λ z. at_depth (inside x d) (parts_of z) ++ s) ij ∙ ap (λ z. at_depth (inside z d) (parts_of j) ++ s) xs ∙ ap (λ z. at_depth (inside x' z) (parts_of j) ++ s) ds ∙ ap (λ z. at_depth (inside x' d') (parts_of j) ++ z) st in
     one_prefix fs g p q stacks al (legal_rule x d i s l m h)
 
+-- two lists that begin alike share the depth of the next token
 pub alike : (prefix : List Spelled) (k : Kind) (g : ℕ) (rest y : List Spelled) (suffix : List Kind) → kinds_of y ≡ kinds_of prefix ++ (k ∷ suffix) → Alike prefix (prefix ++ ((k, g) ∷ rest)) y g
 alike [] k g rest [] suffix e = cc
 alike [] k g rest ((j, h) ∷ y) suffix e = let a : k ≡ j = cc in (a, refl)
 alike ((i, f) ∷ prefix) k g rest [] suffix e = cc
 alike ((i, f) ∷ prefix) k g rest ((j, h) ∷ y) suffix e = let a : i ≡ j = cc in let b : kinds_of y ≡ kinds_of prefix ++ (k ∷ suffix) = cc in (a, alike prefix k g rest y suffix b)
 
+-- a token among those that are not tall is not tall
 pub not_tall_at : (fs y : List Spelled) (g : ℕ) → NotTall y → DepthAt fs y g → g ≤ 200
 not_tall_at fs [] g l h = elim h [ ]
 not_tall_at [] ((j, d) ∷ y) g l h = let a = l.0 in omega (arith, h)

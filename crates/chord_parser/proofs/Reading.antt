@@ -5,9 +5,10 @@ use Rattle.chord_tree.specs.Symbol.{Symbol, Nonterminal}
 use Rattle.chord_tree.specs.Grammar.{rule_count}
 use Rattle.chord_tree.specs.Derivation.{next, Want, parts_of, at_depth, inside, Spelled, kinds_of, NotTall, token}
 use Rattle.chord_parser.specs.Runs.{Verdict, Runs, take, expand, Reads, ReadAll, token, tree, none, more, Onward}
-use Rattle.chord_tree.specs.Node.{Node, Nodes, End, ◌▸◌, Made, spell, spell_all, size, size_all, IsNumbered, AreNumbered}
+use Rattle.chord_tree.specs.Node.{Node, Nodes, End, ◌▸◌, Made, spell, spell_all, size, size_all, IsNumbered, AllNumbered}
 use Rattle.chord_tree.proofs.Ahead.{choice}
 
+-- symbols side by side are wanted side by side
 pub at_depth_append : (d : ℕ) (ps qs : List Symbol) → at_depth d (ps ++ qs) ≡ at_depth d ps ++ at_depth d qs
 at_depth_append d [] qs = refl
 at_depth_append d (p ∷ ps) qs = ap (λ s. (p, d) ∷ s) (at_depth_append d ps qs)
@@ -17,10 +18,12 @@ by_rule {x} {d} {s} {ks} {v} i e l r = expand (subst (λ j. j < rule_count) (sym
 
 -- What is read, whatever else is wanted.
 mutual
+  -- after a symbol that is read, the reader goes on
   pub goes_on : {count : ℕ} {p : Symbol} {d : ℕ} {ks rest : List Kind} {n : Node} → Reads count p d ks rest n → (s : List Want) (v : Verdict) → Runs s rest v → Runs ((p, d) ∷ s) ks v
   goes_on (token e l) s v r = take e l r
   goes_on (tree {i} e l h) s v r = by_rule i e l (goes_all h s v r)
 
+  -- after symbols that are read, the reader goes on
   pub goes_all : {count : ℕ} {ps : List Symbol} {d : ℕ} {ks rest : List Kind} {ns : Nodes} → ReadAll count ps d ks rest ns → (s : List Want) (v : Verdict) → Runs s rest v → Runs (at_depth d ps ++ s) ks v
   goes_all none s v r = r
   goes_all (more h k) s v r = goes_on h _ v (goes_all k s v r)
@@ -47,37 +50,43 @@ mutual
   spells (token {k} e l) w q = ap (λ z. k ∷ z) q
   spells (tree e l h) w q = spells_all h w q
 
+  -- nodes side by side spell what was read
   pub spells_all : {count : ℕ} {ps : List Symbol} {d : ℕ} {ks rest : List Kind} {ns : Nodes} → ReadAll count ps d ks rest ns → (w : List Spelled) → kinds_of w ≡ rest → kinds_of (spell_all ns d w) ≡ ks
   spells_all none w q = q
   spells_all (more h k) w q = spells h _ (spells_all k w q)
 
 mutual
-  pub not_tall : {count : ℕ} {p : Symbol} {d : ℕ} {ks rest : List Kind} {n : Node} → Reads count p d ks rest n → (w : List Spelled) → NotTall w → NotTall (spell n d w)
-  not_tall (token e l) w q = (l, q)
-  not_tall (tree e l h) w q = not_tall_all h w q
+  -- what is read is not tall
+  pub read_not_tall : {count : ℕ} {p : Symbol} {d : ℕ} {ks rest : List Kind} {n : Node} → Reads count p d ks rest n → (w : List Spelled) → NotTall w → NotTall (spell n d w)
+  read_not_tall (token e l) w q = (l, q)
+  read_not_tall (tree e l h) w q = read_not_tall_all h w q
 
-  pub not_tall_all : {count : ℕ} {ps : List Symbol} {d : ℕ} {ks rest : List Kind} {ns : Nodes} → ReadAll count ps d ks rest ns → (w : List Spelled) → NotTall w → NotTall (spell_all ns d w)
-  not_tall_all none w q = q
-  not_tall_all (more h k) w q = not_tall h _ (not_tall_all k w q)
+  -- symbols that are read are not tall
+  pub read_not_tall_all : {count : ℕ} {ps : List Symbol} {d : ℕ} {ks rest : List Kind} {ns : Nodes} → ReadAll count ps d ks rest ns → (w : List Spelled) → NotTall w → NotTall (spell_all ns d w)
+  read_not_tall_all none w q = q
+  read_not_tall_all (more h k) w q = read_not_tall h _ (read_not_tall_all k w q)
 
 mutual
+  -- what is read has as many tokens as its node
   pub measured : {count : ℕ} {p : Symbol} {d : ℕ} {ks rest : List Kind} {n : Node} → Reads count p d ks rest n → length ks ≡ size n + length rest
   measured (token e l) = omega arith
   measured (tree e l h) = measured_all h
 
+  -- symbols that are read have as many tokens as their nodes
   pub measured_all : {count : ℕ} {ps : List Symbol} {d : ℕ} {ks rest : List Kind} {ns : Nodes} → ReadAll count ps d ks rest ns → length ks ≡ size_all ns + length rest
   measured_all none = omega arith
   measured_all (more h k) = let a = measured h in let b = measured_all k in omega arith
 
 mutual
   -- the numbers are places
-  pub numbered : {count : ℕ} {p : Symbol} {d : ℕ} {ks rest : List Kind} {n : Node} → Reads count p d ks rest n → length ks ≤ count → IsNumbered n (count - length ks)
-  numbered (token e l) q = refl
-  numbered (tree e l h) q = numbered_all h q
+  pub read_numbered : {count : ℕ} {p : Symbol} {d : ℕ} {ks rest : List Kind} {n : Node} → Reads count p d ks rest n → length ks ≤ count → IsNumbered n (count - length ks)
+  read_numbered (token e l) q = refl
+  read_numbered (tree e l h) q = read_numbered_all h q
 
-  pub numbered_all : {count : ℕ} {ps : List Symbol} {d : ℕ} {ks rest : List Kind} {ns : Nodes} → ReadAll count ps d ks rest ns → length ks ≤ count → AreNumbered ns (count - length ks)
-  numbered_all none q = tt
-  numbered_all {count} (more {ks} {mid} {n} {ns} h k) q =
+  -- nodes side by side have the numbers of their tokens
+  pub read_numbered_all : {count : ℕ} {ps : List Symbol} {d : ℕ} {ks rest : List Kind} {ns : Nodes} → ReadAll count ps d ks rest ns → length ks ≤ count → AllNumbered ns (count - length ks)
+  read_numbered_all none q = tt
+  read_numbered_all {count} (more {ks} {mid} {n} {ns} h k) q =
       let a = measured h in
       let e : count - length mid ≡ (count - length ks) + size n = omega arith in
-      (numbered h q, subst (λ z. AreNumbered ns z) e (numbered_all k (omega arith)))
+      (read_numbered h q, subst (λ z. AllNumbered ns z) e (read_numbered_all k (omega arith)))

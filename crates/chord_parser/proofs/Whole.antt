@@ -22,8 +22,8 @@ use Rattle.chord_parser.specs.Reading.{StopsAs}
 use Rattle.chord_parser.specs.Runs.{Runs, Reads, Verdict}
 use Rattle.chord_parser.proofs.Finish.{else_first}
 use Rattle.chord_parser.proofs.Outcomes.{Outcome, outcome, by_kinds}
-use Rattle.chord_parser.proofs.Reading.{spells, not_tall, numbered}
-use Rattle.chord_parser.proofs.Fit.{fits}
+use Rattle.chord_parser.proofs.Reading.{spells, read_not_tall, read_numbered}
+use Rattle.chord_parser.proofs.Fit.{node_fits}
 use Rattle.chord_parser.proofs.Chains.{told_size}
 use Rattle.chord_parser.proofs.Prefix.{one_prefix, alike, not_tall_at}
 
@@ -40,7 +40,8 @@ wrong_within ks n o = let e = ap length o.cut ∙ length-append (kinds_of o.pref
 tall_within : (ks : List Kind) (n : ℕ) → IsTall start ks n → n ≤ length ks
 tall_within ks n o = let e = ap length o.cut ∙ length-append (kinds_of o.prefix) (o.kind ∷ o.suffix) in let c = o.count in omega arith
 
-pub stopped : (ks : List Kind) (fault : Fault) → StopsAs Program 0 ks fault → IsStopped ks fault
+-- where the reader stops, the tokens are refused
+pub stopped : (ks : List Kind) (fault : Fault) → StopsAs Whole_program 0 ks fault → IsStopped ks fault
 stopped ks faults.Memory h = tt
 stopped ks (faults.At n) h = let o = by_kinds start ks n (exact (h [])) in (wrong_within ks n o, o)
 stopped ks (faults.Tall n) h = let o = exact (h []) in (tall_within ks n o, o)
@@ -51,21 +52,24 @@ pub record IsFound (ks : List Kind) (t : ProgramTree) : Type 0 where
   pub spelled : spelling t ≡ ks
   pub not_tall : IsNotTall t
 
-pub found : (count : ℕ) (ts : List Token) (rest : List Kind) (t : ProgramTree) → count ≡ length ts → rest ≡ [] → Reads count Program 0 (token_kinds ts) rest (node_program t) → IsFound (token_kinds ts) t
+-- where all is read, the tokens are those of the program
+pub found : (count : ℕ) (ts : List Token) (rest : List Kind) (t : ProgramTree) → count ≡ length ts → rest ≡ [] → Reads count Whole_program 0 (token_kinds ts) rest (node_program t) → IsFound (token_kinds ts) t
 unfolding nonterminal_count
 found count ts rest t e h r =
-    let r' : Reads count Program 0 (token_kinds ts) [] (node_program t) = subst (λ z. Reads count Program 0 (token_kinds ts) z (node_program t)) h r in
+    let r' : Reads count Whole_program 0 (token_kinds ts) [] (node_program t) = subst (λ z. Reads count Whole_program 0 (token_kinds ts) z (node_program t)) h r in
     let k : count - length (token_kinds ts) ≡ 0 = (let z = told_size ts in omega arith) in
     let l : length (token_kinds ts) ≤ count = (let z = told_size ts in omega arith) in
     record {
-      program = record { derived = fits r' refl [] refl; numbered = subst (λ z. IsNumbered (node_program t) z) k (numbered r' l) };
+      program = record { derived = node_fits r' refl [] refl; numbered = subst (λ z. IsNumbered (node_program t) z) k (read_numbered r' l) };
       spelled = spells r' [] refl;
-      not_tall = not_tall r' [] tt;
+      not_tall = read_not_tall r' [] tt;
     }
 
+-- a stop at a token, by its number
 pub at_parts : (ts : List Token) (f : Fault) (n : ℕ) → f ≡ faults.At n → IsStopped (token_kinds ts) f → (n ≤ length ts) × (x : ℕ) × (length ts - n + x ≡ length (token_kinds ts)) × IsWrong start (token_kinds ts) x
 at_parts ts f n e h = let s = subst (λ z. IsStopped (token_kinds ts) z) e h in let y = told_size ts in let l = s.0 in (omega arith, n, omega arith, s.1)
 
+-- a stop at a tall token, by its number
 pub tall_parts : (ts : List Token) (f : Fault) (n : ℕ) → f ≡ faults.Tall n → IsStopped (token_kinds ts) f → (n ≤ length ts) × (x : ℕ) × (length ts - n + x ≡ length (token_kinds ts)) × IsTall start (token_kinds ts) x
 tall_parts ts f n e h = let s = subst (λ z. IsStopped (token_kinds ts) z) e h in let y = told_size ts in let l = s.0 in (omega arith, n, omega arith, s.1)
 
@@ -86,11 +90,13 @@ never_tall ks t left a l e o =
     let d = o.tall in
     omega arith
 
+-- tokens of a program are refused for want of memory alone
 pub only_memory : (ks : List Kind) (f : ParseFault) → IsAnswer ks f → (t : ProgramTree) → IsProgram t → IsNotTall t → spelling t ≡ ks → f ≡ answers.Memory
 only_memory ks answers.Memory h t a l e = refl
 only_memory ks (answers.At k) h t a l e = absurd (not_wrong ks t h.0 a e h.2)
 only_memory ks (answers.Tall k) h t a l e = absurd (never_tall ks t h.0 a l e h.2)
 
+-- tokens have one program at most
 pub the_one : (ks : List Kind) (u : ProgramTree) → IsFound ks u → (t : ProgramTree) → IsProgram t → spelling t ≡ ks → u ≡ t
 the_one ks u f t a e = only_one u t f.program a (f.spelled ∙ sym e)
 
@@ -99,5 +105,6 @@ pub told_unplaced : (ks : List Kind) → token_kinds (map without_span ks) ≡ k
 told_unplaced [] = refl
 told_unplaced (k ∷ ks) = ap (λ z. k ∷ z) (told_unplaced ks)
 
+-- what is spelled is spelled again
 pub spelled_again : (t u : ProgramTree) (ts : List Token) → ts ≡ map without_span (spelling t) → spelling u ≡ token_kinds ts → spelling t ≡ spelling u
 spelled_again t u ts e f = sym (f ∙ ap token_kinds e ∙ told_unplaced (spelling t))

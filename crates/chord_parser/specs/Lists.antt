@@ -2,7 +2,7 @@
 use Rattle.std.specs.Prelude.{◌≡◌, ℕ, List, [], ◌∷◌}
 use Rattle.chord_lexer.specs.declared.token.Keyword.{Keyword}
 use Rattle.chord_lexer.specs.declared.token.Keyword.TheVariants as keywords
-use Rattle.chord_lexer.specs.declared.token.Punctuator.TheVariants as punctuators
+use Rattle.chord_lexer.specs.declared.token.Mark.TheVariants as marks
 use Rattle.chord_tree.specs.declared.names.ValueType.TheVariants as types
 use Rattle.chord_tree.specs.declared.classes.ModifierKeyword.{ModifierKeyword}
 use Rattle.chord_tree.specs.declared.classes.Modifier.{Modifier}
@@ -14,13 +14,13 @@ use Rattle.chord_tree.specs.StmtNodes.{node_block}
 use Rattle.chord_tree.specs.ClassNodes.{modifier_keyword, node_formal, node_formals, node_headers, node_rest, node_classes}
 use Rattle.chord_tree.specs.Node.{Node, End, ◌▸◌, Made}
 use Rattle.chord_tree.specs.Symbol.{number_of}
-use Rattle.chord_tree.specs.ExprNodes.{keyword_leaf, punctuator_leaf, name}
+use Rattle.chord_tree.specs.ExprNodes.{keyword_leaf, mark_leaf, name}
 use Rattle.chord_tree.specs.Symbols as grammar
 use Rattle.chord_tree.specs.Tree.{HeaderTree, MemberTree, ConstructorMember, ChordMember, ClassTree}
 use Rattle.chord_parser.specs.declared.plain.ResultKeyword.{ResultKeyword}
 use Rattle.chord_parser.specs.declared.plain.ResultKeyword.TheVariants as plains
 
--- the class of a modifier's token
+-- the terminal of a modifier
 abbrev pub modifier_terminal : ModifierKeyword → ℕ
 modifier_terminal w = number_of (keyword_symbol (modifier_keyword w))
 
@@ -32,7 +32,7 @@ plain_keyword plains.Int = keywords.Int
 plain_keyword plains.Bool = keywords.Bool
 plain_keyword plains.String = keywords.String
 
--- the class of a result's word
+-- the terminal of a result's keyword
 abbrev pub plain_terminal : ResultKeyword → ℕ
 plain_terminal w = number_of (keyword_symbol (plain_keyword w))
 
@@ -85,4 +85,4 @@ wrapped_after f (x ∷ xs) n = wrapped f xs n
 -- parameters before another node: the first, and each further one after a comma
 abbrev pub before_formals : List Formal → Node → Node
 before_formals [] n = n
-before_formals (x ∷ xs) n = Made grammar.Optional_formals (node_formal x ▸ wrapped (λ y m. Made grammar.More_formals (punctuator_leaf punctuators.Comma 0 ▸ node_formal y ▸ m ▸ End)) xs n ▸ End)
+before_formals (x ∷ xs) n = Made grammar.Optional_formals (node_formal x ▸ wrapped (λ y m. Made grammar.More_formals (mark_leaf marks.Comma 0 ▸ node_formal y ▸ m ▸ End)) xs n ▸ End)

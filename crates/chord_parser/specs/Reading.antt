@@ -1,7 +1,9 @@
 -- What each function of the parser promises.
-use Rattle.std.specs.Prelude.{◌≡◌, ℕ, ◌-◌, ◌≢◌, List, [], ◌∷◌, Option, Some, None}
+use Rattle.std.specs.Prelude.{◌≡◌, ℕ, ◌-◌, ◌≢◌, List, [], ◌∷◌, Option, Some, None, Box}
+use Rattle.std.specs.Global.{Global}
 use Rattle.chord_parser.specs.declared.faults.Fault.TheVariants as faults
-use Rattle.chord_lexer.specs.declared.token.Punctuator.TheVariants as punctuators
+use Rattle.chord_lexer.specs.declared.token.Keyword.TheVariants as keywords
+use Rattle.chord_lexer.specs.declared.token.Mark.TheVariants as marks
 use Rattle.chord_lexer.specs.declared.token.Kind.TheVariants as kinds
 use Rattle.chord_tree.specs.declared.exprs.Operator.{Operator}
 use Rattle.chord_tree.specs.declared.exprs.Operator.TheVariants as operators
@@ -9,20 +11,22 @@ use Rattle.chord_tree.specs.Symbols as grammar
 use Rattle.chord_lexer.specs.declared.token.Kind.{Kind}
 use Rattle.chord_parser.specs.declared.faults.Fault.{Fault}
 use Rattle.chord_tree.specs.Symbol.{Symbol, number_of}
-use Rattle.chord_tree.specs.Terminals.{terminal_of, punctuator_symbol}
+use Rattle.chord_tree.specs.Terminals.{terminal_of, mark_symbol}
 use Rattle.chord_tree.specs.Derivation.{next, Want}
 use Rattle.chord_parser.specs.Runs.{Verdict, Wrong, Tall, Runs, Reads}
 use Rattle.chord_tree.specs.Node.{Node, End, ◌▸◌, Made}
 use Rattle.chord_tree.specs.Tree.{ExprTree, LinkTree, MakeLink, DotTree, StmtTree, ItemTree, AssignStmt, CallStmt, MethodCallStmt}
 use Rattle.chord_tree.specs.declared.names.Name.{Name}
-use Rattle.chord_tree.specs.StmtNodes.{node_item}
-use Rattle.chord_tree.specs.ExprNodes.{operator_level, link_level, level_tail, punctuator_leaf, punctuator_of, precedence, bare, lifted, node_dot}
+use Rattle.chord_tree.specs.declared.stmts.Stmt.{Stmt}
+use Rattle.chord_tree.specs.StmtNodes.{node_item, node_stmt}
+use Rattle.chord_tree.specs.ViewStmts.{see_stmt}
+use Rattle.chord_tree.specs.ExprNodes.{operator_level, level_tail, keyword_leaf, mark_leaf, node_expr, mark_of, precedence, bare, lifted, node_dot}
 
--- the classes whose tokens say more
+-- the terminals whose tokens carry a value
 abbrev pub valued : List ℕ
 valued = number_of grammar.NAME ∷ number_of grammar.NUMBER ∷ number_of grammar.LITERAL ∷ []
 
--- The first token is of class c, and then come those of rest.
+-- The first token is terminal c, and then come those of rest.
 pub record Heads (c : ℕ) (ks rest : List Kind) (k : Kind) : Type 0 where
   pub terminal : terminal_of k ≡ c
   pub same : ks ≡ k ∷ rest
@@ -40,37 +44,32 @@ pub record Continues (count : ℕ) (p : Symbol) (d : ℕ) (ks : List Kind) (q : 
 
 -- the operator that a kind of token is
 abbrev pub operator_at : Kind → Option Operator
-operator_at (kinds.Punctuator punctuators.Or) = Some operators.Or
-operator_at (kinds.Punctuator punctuators.And) = Some operators.And
-operator_at (kinds.Punctuator punctuators.Equal) = Some operators.Equal
-operator_at (kinds.Punctuator punctuators.NotEqual) = Some operators.NotEqual
-operator_at (kinds.Punctuator punctuators.Less) = Some operators.Less
-operator_at (kinds.Punctuator punctuators.Greater) = Some operators.Greater
-operator_at (kinds.Punctuator punctuators.LessOrEqual) = Some operators.LessOrEqual
-operator_at (kinds.Punctuator punctuators.GreaterOrEqual) = Some operators.GreaterOrEqual
-operator_at (kinds.Punctuator punctuators.Plus) = Some operators.Plus
-operator_at (kinds.Punctuator punctuators.Minus) = Some operators.Minus
-operator_at (kinds.Punctuator punctuators.Times) = Some operators.Times
-operator_at (kinds.Punctuator punctuators.Divide) = Some operators.Divide
-operator_at (kinds.Punctuator punctuators.Remainder) = Some operators.Remainder
+operator_at (kinds.Mark marks.Or) = Some operators.Or
+operator_at (kinds.Mark marks.And) = Some operators.And
+operator_at (kinds.Mark marks.Equal) = Some operators.Equal
+operator_at (kinds.Mark marks.NotEqual) = Some operators.NotEqual
+operator_at (kinds.Mark marks.Less) = Some operators.Less
+operator_at (kinds.Mark marks.Greater) = Some operators.Greater
+operator_at (kinds.Mark marks.LessOrEqual) = Some operators.LessOrEqual
+operator_at (kinds.Mark marks.GreaterOrEqual) = Some operators.GreaterOrEqual
+operator_at (kinds.Mark marks.Plus) = Some operators.Plus
+operator_at (kinds.Mark marks.Minus) = Some operators.Minus
+operator_at (kinds.Mark marks.Times) = Some operators.Times
+operator_at (kinds.Mark marks.Divide) = Some operators.Divide
+operator_at (kinds.Mark marks.Remainder) = Some operators.Remainder
 operator_at _ = None
 
--- the class of an operator's token
+-- the terminal of an operator
 abbrev pub operator_terminal : Operator → ℕ
-operator_terminal operator = number_of (punctuator_symbol (punctuator_of operator))
+operator_terminal operator = number_of (mark_symbol (mark_of operator))
 
 -- no operator of the level comes next
 abbrev pub IsOther : ℕ → List Kind → Type 0
 IsOther l ks = (o : Operator) → next ks ≡ operator_terminal o → operator_level o ≢ l
 
--- the first link is of the level
-abbrev pub IsAtLevel : ℕ → List LinkTree → Type 0
-IsAtLevel l [] = Unit {0}
-IsAtLevel l (x ∷ xs) = link_level x ≡ l
-
 -- one link before another node
 abbrev pub one_link : ℕ → LinkTree → Node → Node
-one_link l (MakeLink o at t) n = Made (level_tail l) (punctuator_leaf (punctuator_of o) at ▸ lifted (l - 1) (precedence t) (bare t) ▸ n ▸ End)
+one_link l (MakeLink o at t) n = Made (level_tail l) (mark_leaf (mark_of o) at ▸ lifted (l - 1) (precedence t) (bare t) ▸ n ▸ End)
 
 -- links before another node
 abbrev pub before_links : ℕ → List LinkTree → Node → Node
@@ -85,7 +84,7 @@ before_dots (x ∷ xs) n = Made grammar.Dots (node_dot x ▸ before_dots xs n �
 -- further arguments, a comma before each, and then another node
 abbrev pub before_more : List ExprTree → Node → Node
 before_more [] n = n
-before_more (x ∷ xs) n = Made grammar.More_exprs (punctuator_leaf punctuators.Comma 0 ▸ lifted 6 (precedence x) (bare x) ▸ before_more xs n ▸ End)
+before_more (x ∷ xs) n = Made grammar.More_exprs (mark_leaf marks.Comma 0 ▸ lifted 6 (precedence x) (bare x) ▸ before_more xs n ▸ End)
 
 -- arguments before another node: the first, and the further ones
 abbrev pub before_opt : List ExprTree → Node → Node
@@ -110,3 +109,12 @@ IsUnnamed _ = Unit {0}
 abbrev pub before_items : List ItemTree → Node → Node
 before_items [] n = n
 before_items (x ∷ xs) n = Made grammar.Items (node_item x ▸ before_items xs n ▸ End)
+
+-- the second branch of an `if`, if there is one
+abbrev pub node_else : Option (Box Stmt Global) → Node
+node_else None = Made grammar.Optional_else End
+node_else (Some second) = Made grammar.Optional_else (keyword_leaf keywords.Else 0 ▸ node_stmt (see_stmt second.value) ▸ End)
+
+-- an `if` with its branches
+abbrev pub node_if : ℕ → ℕ → ExprTree → StmtTree → Option (Box Stmt Global) → Node
+node_if at bracket test first second = Made grammar.Other (keyword_leaf keywords.If at ▸ mark_leaf marks.OpenParenthesis bracket ▸ node_expr test ▸ mark_leaf marks.CloseParenthesis 0 ▸ node_stmt first ▸ node_else second ▸ End)

@@ -3,62 +3,62 @@ use Rattle.std.specs.Prelude.{ℕ, List, [], ◌∷◌, get_or}
 use Rattle.chord_lexer.specs.declared.token.Kind.{Kind}
 use Rattle.chord_lexer.specs.declared.token.Kind.TheVariants as kinds
 use Rattle.chord_lexer.specs.declared.token.Keyword.TheVariants as keywords
-use Rattle.chord_lexer.specs.declared.token.Punctuator.TheVariants as punctuators
+use Rattle.chord_lexer.specs.declared.token.Mark.TheVariants as marks
 
 abbrev pub samples : List Kind
 samples =
-    kinds.Keyword keywords.Using ∷
+    kinds.Word keywords.Using ∷
     kinds.Name [] ∷
-    kinds.Punctuator punctuators.Semicolon ∷
-    kinds.Punctuator punctuators.Dot ∷
-    kinds.Keyword keywords.Class ∷
-    kinds.Punctuator punctuators.OpenBrace ∷
-    kinds.Punctuator punctuators.CloseBrace ∷
-    kinds.Keyword keywords.Public ∷
-    kinds.Punctuator punctuators.Colon ∷
-    kinds.Keyword keywords.Private ∷
-    kinds.Keyword keywords.Protected ∷
-    kinds.Keyword keywords.Virtual ∷
-    kinds.Keyword keywords.Override ∷
-    kinds.Keyword keywords.Static ∷
-    kinds.Punctuator punctuators.Ampersand ∷
-    kinds.Keyword keywords.Async ∷
-    kinds.Keyword keywords.Void ∷
-    kinds.Keyword keywords.Int ∷
-    kinds.Keyword keywords.Bool ∷
-    kinds.Keyword keywords.String ∷
-    kinds.Punctuator punctuators.OpenParenthesis ∷
-    kinds.Punctuator punctuators.CloseParenthesis ∷
-    kinds.Punctuator punctuators.Comma ∷
-    kinds.Punctuator punctuators.Assign ∷
-    kinds.Keyword keywords.If ∷
-    kinds.Keyword keywords.While ∷
-    kinds.Keyword keywords.Return ∷
-    kinds.Keyword keywords.This ∷
-    kinds.Keyword keywords.New ∷
-    kinds.Keyword keywords.Else ∷
-    kinds.Punctuator punctuators.Or ∷
-    kinds.Punctuator punctuators.And ∷
-    kinds.Punctuator punctuators.Equal ∷
-    kinds.Punctuator punctuators.NotEqual ∷
-    kinds.Punctuator punctuators.Less ∷
-    kinds.Punctuator punctuators.Greater ∷
-    kinds.Punctuator punctuators.LessOrEqual ∷
-    kinds.Punctuator punctuators.GreaterOrEqual ∷
-    kinds.Punctuator punctuators.Plus ∷
-    kinds.Punctuator punctuators.Minus ∷
-    kinds.Punctuator punctuators.Times ∷
-    kinds.Punctuator punctuators.Divide ∷
-    kinds.Punctuator punctuators.Remainder ∷
-    kinds.Punctuator punctuators.Not ∷
+    kinds.Mark marks.Semicolon ∷
+    kinds.Mark marks.Dot ∷
+    kinds.Word keywords.Class ∷
+    kinds.Mark marks.OpenBrace ∷
+    kinds.Mark marks.CloseBrace ∷
+    kinds.Word keywords.Public ∷
+    kinds.Mark marks.Colon ∷
+    kinds.Word keywords.Private ∷
+    kinds.Word keywords.Protected ∷
+    kinds.Word keywords.Virtual ∷
+    kinds.Word keywords.Override ∷
+    kinds.Word keywords.Static ∷
+    kinds.Mark marks.Ampersand ∷
+    kinds.Word keywords.Async ∷
+    kinds.Word keywords.Void ∷
+    kinds.Word keywords.Int ∷
+    kinds.Word keywords.Bool ∷
+    kinds.Word keywords.String ∷
+    kinds.Mark marks.OpenParenthesis ∷
+    kinds.Mark marks.CloseParenthesis ∷
+    kinds.Mark marks.Comma ∷
+    kinds.Mark marks.Assign ∷
+    kinds.Word keywords.If ∷
+    kinds.Word keywords.While ∷
+    kinds.Word keywords.Return ∷
+    kinds.Word keywords.This ∷
+    kinds.Word keywords.New ∷
+    kinds.Word keywords.Else ∷
+    kinds.Mark marks.Or ∷
+    kinds.Mark marks.And ∷
+    kinds.Mark marks.Equal ∷
+    kinds.Mark marks.NotEqual ∷
+    kinds.Mark marks.Less ∷
+    kinds.Mark marks.Greater ∷
+    kinds.Mark marks.LessOrEqual ∷
+    kinds.Mark marks.GreaterOrEqual ∷
+    kinds.Mark marks.Plus ∷
+    kinds.Mark marks.Minus ∷
+    kinds.Mark marks.Times ∷
+    kinds.Mark marks.Divide ∷
+    kinds.Mark marks.Remainder ∷
+    kinds.Mark marks.Not ∷
     kinds.Number 0 ∷
     kinds.Literal [] ∷
-    kinds.Keyword keywords.True ∷
-    kinds.Keyword keywords.False ∷
-    kinds.Keyword keywords.Do ∷
-    kinds.Keyword keywords.Unused ∷
-    kinds.Punctuator punctuators.Increment ∷
-    kinds.Punctuator punctuators.Decrement ∷
+    kinds.Word keywords.True ∷
+    kinds.Word keywords.False ∷
+    kinds.Word keywords.Do ∷
+    kinds.Word keywords.Unused ∷
+    kinds.Mark marks.Increment ∷
+    kinds.Mark marks.Decrement ∷
     []
 
 abbrev pub sample : ℕ → Kind

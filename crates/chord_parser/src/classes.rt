@@ -12,9 +12,9 @@ ghost use Rattle.chord_parser.specs.Reading.{StopsAs};
 ghost use Rattle.chord_parser.specs.Lists.{node_rest_of, IsHeaded, headers_after, classes_after, IsFirst};
 ghost use Rattle.chord_parser.specs.Runs.{Reads};
 
-use crate::terminal;
 use crate::faults::Fault;
 use crate::stmts::block;
+use crate::terminal;
 use crate::tokens::{name_of, next, skip, take};
 use crate::words::{modifier, modifier_next, plain, plain_next};
 use chord_lexer::token::Token;
@@ -24,6 +24,7 @@ use chord_tree::classes::{
 use chord_tree::names::{BasicType, Name, ValueType};
 use std::alloc::Global;
 
+/// { Modifier }
 fn modifiers_of(
     alloc: Global,
     count: u32,
@@ -42,6 +43,7 @@ fn modifiers_of(
     Ok((list, left))
 }
 
+/// ValueType = "int" | "bool" | "string" | Name
 fn value_type(alloc: Global, count: u32, tokens: &[Token]) -> Result<(ValueType, &[Token]), Fault>
     ensures ok { IfOk result (λ r. Reads count grammar.Value_type 0 (token_kinds tokens.now) (token_kinds r.1.now) (node_type r.0)) }
     ensures err { IfErr result (λ fault. StopsAs grammar.Value_type 0 (token_kinds tokens.now) fault) }
@@ -84,6 +86,7 @@ fn value_type(alloc: Global, count: u32, tokens: &[Token]) -> Result<(ValueType,
     Err(Fault::At(tokens.len()))
 }
 
+/// Formal = ValueType Name
 fn formal(alloc: Global, count: u32, tokens: &[Token]) -> Result<(Formal, &[Token]), Fault>
     ensures ok { IfOk result (λ r. Reads count grammar.Formal 0 (token_kinds tokens.now) (token_kinds r.1.now) (node_formal r.0)) }
     ensures err { IfErr result (λ fault. StopsAs grammar.Formal 0 (token_kinds tokens.now) fault) }
@@ -99,6 +102,7 @@ fn formal(alloc: Global, count: u32, tokens: &[Token]) -> Result<(Formal, &[Toke
     ))
 }
 
+/// [ Formal { "," Formal } ]
 fn formals_inside(
     alloc: Global,
     count: u32,
@@ -122,6 +126,7 @@ fn formals_inside(
     Ok((list, left))
 }
 
+/// Formals = "(" [ Formal { "," Formal } ] ")"
 fn formals(alloc: Global, count: u32, tokens: &[Token]) -> Result<(Formals, &[Token]), Fault>
     ensures ok { IfOk result (λ r. Reads count grammar.Formals 0 (token_kinds tokens.now) (token_kinds r.1.now) (node_formals (see_formals r.0))) }
     ensures err { IfErr result (λ fault. StopsAs grammar.Formals 0 (token_kinds tokens.now) fault) }
@@ -129,9 +134,16 @@ fn formals(alloc: Global, count: u32, tokens: &[Token]) -> Result<(Formals, &[To
     let (at, rest) = take(count, tokens, terminal::OPEN, 0)?;
     let (list, rest) = formals_inside(alloc, count, rest)?;
     let rest = skip(count, rest, terminal::CLOSE, 0)?;
-    Ok((Formals { at, parameters: list }, rest))
+    Ok((
+        Formals {
+            at,
+            parameters: list,
+        },
+        rest,
+    ))
 }
 
+/// Result = Plain | Name
 fn result_type(alloc: Global, count: u32, tokens: &[Token]) -> Result<(ReturnType, &[Token]), Fault>
     ensures ok { IfOk result (λ r. Reads count grammar.Result 0 (token_kinds tokens.now) (token_kinds r.1.now) (node_result r.0)) }
     ensures err { IfErr result (λ fault. StopsAs grammar.Result 0 (token_kinds tokens.now) fault) }
@@ -147,6 +159,7 @@ fn result_type(alloc: Global, count: u32, tokens: &[Token]) -> Result<(ReturnTyp
     Ok((kind, rest))
 }
 
+/// Header = { Modifier } Result Name Formals
 fn header(alloc: Global, count: u32, tokens: &[Token]) -> Result<(Header, &[Token]), Fault>
     ensures ok { IfOk result (λ r. Reads count grammar.Header 0 (token_kinds tokens.now) (token_kinds r.1.now) (node_header (see_header r.0))) }
     ensures err { IfErr result (λ fault. StopsAs grammar.Header 0 (token_kinds tokens.now) fault) }
@@ -166,6 +179,8 @@ fn header(alloc: Global, count: u32, tokens: &[Token]) -> Result<(Header, &[Toke
     ))
 }
 
+/// { "&" Header }
+///
 /// The headers after the first, which is put before them.
 fn headers_of(
     alloc: Global,
@@ -189,7 +204,9 @@ fn headers_of(
     Ok((list, left))
 }
 
-/// What follows the modifiers of a member and a name.
+/// Rest = Name After
+/// After = Formals Block
+///     | Name Formals { "&" Header } Block
 fn after_name(
     alloc: Global,
     count: u32,
@@ -232,6 +249,8 @@ fn after_name(
     Err(Fault::At(rest.len()))
 }
 
+/// Rest = Name After | Plain Name Formals { "&" Header } Block
+///
 /// What follows the modifiers of a member.
 fn rest_of(
     alloc: Global,
@@ -263,6 +282,7 @@ fn rest_of(
     Ok((Member::Chord { headers, body }, rest))
 }
 
+/// Member = { Modifier } Rest
 fn member(alloc: Global, count: u32, tokens: &[Token]) -> Result<(Member, &[Token]), Fault>
     ensures ok { IfOk result (λ r. Reads count grammar.Member 0 (token_kinds tokens.now) (token_kinds r.1.now) (node_member (see_member r.0))) }
     ensures err { IfErr result (λ fault. StopsAs grammar.Member 0 (token_kinds tokens.now) fault) }
@@ -272,6 +292,7 @@ fn member(alloc: Global, count: u32, tokens: &[Token]) -> Result<(Member, &[Toke
     Ok((one, rest))
 }
 
+/// { Member }
 fn members_of(alloc: Global, count: u32, tokens: &[Token]) -> Result<(Vec<Member>, &[Token]), Fault>
     ensures ok { IfOk result (λ r. Reads count grammar.Members 0 (token_kinds tokens.now) (token_kinds r.1.now) (node_members (map see_member r.0.items))) }
     ensures err { IfErr result (λ fault. StopsAs grammar.Members 0 (token_kinds tokens.now) fault) }
@@ -286,6 +307,7 @@ fn members_of(alloc: Global, count: u32, tokens: &[Token]) -> Result<(Vec<Member
     Ok((list, left))
 }
 
+/// [ "public" ]
 fn public_of(count: u32, tokens: &[Token]) -> Result<(Option<u32>, &[Token]), Fault>
     ensures ok { IfOk result (λ r. Reads count grammar.Optional_public 0 (token_kinds tokens.now) (token_kinds r.1.now) (node_public r.0)) }
     ensures err { IfErr result (λ fault. StopsAs grammar.Optional_public 0 (token_kinds tokens.now) fault) }
@@ -297,6 +319,7 @@ fn public_of(count: u32, tokens: &[Token]) -> Result<(Option<u32>, &[Token]), Fa
     Ok((None, tokens))
 }
 
+/// [ ":" Name ]
 fn base_of(alloc: Global, count: u32, tokens: &[Token]) -> Result<(Option<Name>, &[Token]), Fault>
     ensures ok { IfOk result (λ r. Reads count grammar.Optional_base 0 (token_kinds tokens.now) (token_kinds r.1.now) (node_base r.0)) }
     ensures err { IfErr result (λ fault. StopsAs grammar.Optional_base 0 (token_kinds tokens.now) fault) }
@@ -309,6 +332,7 @@ fn base_of(alloc: Global, count: u32, tokens: &[Token]) -> Result<(Option<Name>,
     Ok((None, tokens))
 }
 
+/// Class = [ "public" ] "class" Name [ ":" Name ] "{" { Member } "}"
 fn class_of(alloc: Global, count: u32, tokens: &[Token]) -> Result<(Class, &[Token]), Fault>
     ensures ok { IfOk result (λ r. Reads count grammar.Class 0 (token_kinds tokens.now) (token_kinds r.1.now) (node_class (see_class r.0))) }
     ensures err { IfErr result (λ fault. StopsAs grammar.Class 0 (token_kinds tokens.now) fault) }
@@ -332,6 +356,8 @@ fn class_of(alloc: Global, count: u32, tokens: &[Token]) -> Result<(Class, &[Tok
     ))
 }
 
+/// { Class }
+///
 /// The classes after the first, which is put before them: all tokens are read.
 fn classes_of(
     alloc: Global,
@@ -355,6 +381,7 @@ fn classes_of(
     Ok((list, left))
 }
 
+/// { "." Name }
 fn parts_of(alloc: Global, count: u32, tokens: &[Token]) -> Result<(Vec<NamePart>, &[Token]), Fault>
     ensures ok { IfOk result (λ r. Reads count grammar.Name_parts 0 (token_kinds tokens.now) (token_kinds r.1.now) (node_name_parts r.0.items)) }
     ensures err { IfErr result (λ fault. StopsAs grammar.Name_parts 0 (token_kinds tokens.now) fault) }
@@ -370,6 +397,7 @@ fn parts_of(alloc: Global, count: u32, tokens: &[Token]) -> Result<(Vec<NamePart
     Ok((list, left))
 }
 
+/// Using = "using" Name { "." Name } ";"
 fn using(alloc: Global, count: u32, tokens: &[Token]) -> Result<(Using, &[Token]), Fault>
     ensures ok { IfOk result (λ r. Reads count grammar.Using 0 (token_kinds tokens.now) (token_kinds r.1.now) (node_using (see_using r.0))) }
     ensures err { IfErr result (λ fault. StopsAs grammar.Using 0 (token_kinds tokens.now) fault) }
@@ -381,6 +409,7 @@ fn using(alloc: Global, count: u32, tokens: &[Token]) -> Result<(Using, &[Token]
     Ok((Using { first, more }, rest))
 }
 
+/// { Using }
 fn usings_of(alloc: Global, count: u32, tokens: &[Token]) -> Result<(Vec<Using>, &[Token]), Fault>
     ensures ok { IfOk result (λ r. Reads count grammar.Usings 0 (token_kinds tokens.now) (token_kinds r.1.now) (node_usings (map see_using r.0.items))) }
     ensures err { IfErr result (λ fault. StopsAs grammar.Usings 0 (token_kinds tokens.now) fault) }
@@ -395,6 +424,8 @@ fn usings_of(alloc: Global, count: u32, tokens: &[Token]) -> Result<(Vec<Using>,
     Ok((list, left))
 }
 
+/// Program = { Using } Class { Class }
+///
 /// The lines and the classes of a program: all tokens are read.
 pub fn program(
     alloc: Global,

@@ -3,29 +3,24 @@
 
 ghost use Rattle.std.specs.Prelude.{◌≡◌, ◌≢◌, ◌<◌, ◌≤◌, ◌-◌, ◌∷◌, [], length, map, suc, zero, IfOk, IfErr, IfSome, IfNone};
 ghost use Rattle.chord_tree.specs.Derivation.{next};
-ghost use Rattle.chord_tree.specs.Node.{Made, End, ◌▸◌};
 ghost use Rattle.chord_tree.specs.Symbol.{number_of};
 ghost use Rattle.chord_tree.specs.Program.{token_kinds};
-ghost use Rattle.chord_tree.specs.ExprNodes.{operator_level, level_symbol, level_tail, precedence, node_at, node_links, node_start, node_actuals, node_exprs, node_dots, node_dot};
+ghost use Rattle.chord_tree.specs.ExprNodes.{operator_level, link_level, level_symbol, level_tail, precedence, node_at, node_links, node_start, node_actuals, node_exprs, node_dots, node_dot};
 ghost use Rattle.chord_tree.specs.Symbols as grammar;
-ghost use Rattle.chord_tree.specs.Tree.{links, dots, exprs};
+ghost use Rattle.chord_tree.specs.Tree.{MoreLinks, links, dots, exprs};
 ghost use Rattle.chord_tree.specs.ViewExprs.{see_expr, see_link, see_start, see_actuals, see_dot};
-ghost use Rattle.chord_parser.specs.Reading.{StopsAs, IsAtLevel, IsOther, operator_at, operator_terminal};
+ghost use Rattle.chord_parser.specs.Reading.{StopsAs, IsOther, operator_at, operator_terminal};
+ghost use Rattle.chord_parser.specs.Climbing.{NoneUpTo, Chains, IsLinkRead};
 ghost use Rattle.chord_parser.specs.Runs.{Reads};
 
-use crate::build::{
-    make_actuals, make_called, make_chain, make_dot, make_false, make_group, make_link,
-    make_literal, make_minus, make_new, make_not, make_number, make_primary, make_this, make_true,
-    make_variable,
-};
-use crate::terminal;
 use crate::faults::Fault;
+use crate::terminal;
 use crate::tokens::{literal_next, name_of, next, number_next, skip, take};
-use chord_lexer::token::{Kind, Punctuator, Token};
+use chord_lexer::token::{Kind, Mark, Token};
 use chord_tree::exprs::{Actuals, Dot, Expr, Link, Operator, Start};
-use std::alloc::{AllocError, Global};
+use std::alloc::Global;
 
-/// The class of an operator's token.
+/// The terminal of an operator.
 fn terminal_of_operator(operator: Operator) -> u8
     ensures { result ≡ operator_terminal operator }
 {
@@ -67,23 +62,23 @@ fn level_of(operator: Operator) -> u8
     }
 }
 
-fn operator_of_punctuator(sign: Punctuator) -> Option<Operator>
-    ensures { result ≡ operator_at (Kind.Punctuator sign) }
+fn operator_of_mark(sign: Mark) -> Option<Operator>
+    ensures { result ≡ operator_at (Kind.Mark sign) }
 {
     match sign {
-        Punctuator::Or => Some(Operator::Or),
-        Punctuator::And => Some(Operator::And),
-        Punctuator::Equal => Some(Operator::Equal),
-        Punctuator::NotEqual => Some(Operator::NotEqual),
-        Punctuator::Less => Some(Operator::Less),
-        Punctuator::Greater => Some(Operator::Greater),
-        Punctuator::LessOrEqual => Some(Operator::LessOrEqual),
-        Punctuator::GreaterOrEqual => Some(Operator::GreaterOrEqual),
-        Punctuator::Plus => Some(Operator::Plus),
-        Punctuator::Minus => Some(Operator::Minus),
-        Punctuator::Times => Some(Operator::Times),
-        Punctuator::Divide => Some(Operator::Divide),
-        Punctuator::Remainder => Some(Operator::Remainder),
+        Mark::Or => Some(Operator::Or),
+        Mark::And => Some(Operator::And),
+        Mark::Equal => Some(Operator::Equal),
+        Mark::NotEqual => Some(Operator::NotEqual),
+        Mark::Less => Some(Operator::Less),
+        Mark::Greater => Some(Operator::Greater),
+        Mark::LessOrEqual => Some(Operator::LessOrEqual),
+        Mark::GreaterOrEqual => Some(Operator::GreaterOrEqual),
+        Mark::Plus => Some(Operator::Plus),
+        Mark::Minus => Some(Operator::Minus),
+        Mark::Times => Some(Operator::Times),
+        Mark::Divide => Some(Operator::Divide),
+        Mark::Remainder => Some(Operator::Remainder),
         _ => None,
     }
 }
@@ -93,41 +88,42 @@ fn operator_of_kind(kind: &Kind) -> Option<Operator>
     ensures { result ≡ operator_at kind.now }
 {
     match kind {
-        Kind::Punctuator(sign) => operator_of_punctuator(*sign),
+        Kind::Mark(sign) => operator_of_mark(*sign),
         _ => None,
     }
 }
 
 /// The operator that comes next, if it is of the level.
-fn operator_next(tokens: &[Token], l: u8) -> Option<Operator>
+fn operator_of_level(tokens: &[Token], level: u8) -> Option<Operator>
     ensures some { IfSome result (λ o. next (token_kinds tokens.now) ≡ operator_terminal o) }
-    ensures operator_level { IfSome result (λ o. operator_level o ≡ l) }
-    ensures none { IfNone result (IsOther l (token_kinds tokens.now)) }
+    ensures level { IfSome result (λ o. operator_level o ≡ level) }
+    ensures none { IfNone result (IsOther level (token_kinds tokens.now)) }
 {
     let (first, _) = tokens.split_first()?;
     let operator = operator_of_kind(&first.kind)?;
-    if level_of(operator) == l {
+    if level_of(operator) == level {
         Some(operator)
     } else {
         None
     }
 }
 
-/// The chain of the links after the first, or the first alone.
-fn joined(alloc: Global, first: Expr, more: Vec<Link>, l: u8) -> Result<Expr, AllocError>
-    requires some { 0 < l }
-    requires not_tall { precedence (see_expr first) < l }
-    requires at_level { IsAtLevel l (map see_link more.items) }
-    ensures node { IfOk result (λ e. node_at l (see_expr e) ≡ Made (level_symbol l) (node_at (l - 1) (see_expr first) ▸ node_links l (links (map see_link more.items)) ▸ End)) }
-    ensures precedence { IfOk result (λ e. precedence (see_expr e) ≤ l) }
+/// The operator that comes next, if its level is at most this.
+fn operator_up_to(tokens: &[Token], level: u8) -> Option<Operator>
+    ensures some { IfSome result (λ o. next (token_kinds tokens.now) ≡ operator_terminal o) }
+    ensures within { IfSome result (λ o. operator_level o ≤ level) }
+    ensures none { IfNone result (NoneUpTo level (token_kinds tokens.now)) }
 {
-    let links: &[Link] = &more;
-    if links.len() == 0 {
-        return Ok(first);
+    let (first, _) = tokens.split_first()?;
+    let operator = operator_of_kind(&first.kind)?;
+    if level_of(operator) <= level {
+        Some(operator)
+    } else {
+        None
     }
-    make_chain(alloc, first, more)
 }
 
+/// Expr = And { "||" And }
 #[cycle(parser)]
 pub fn expr(
     alloc: Global,
@@ -140,60 +136,112 @@ pub fn expr(
     ensures err { IfErr result (λ fault. StopsAs grammar.Expr depth (token_kinds tokens.now) fault) }
 {
     let (first, rest) = chain(alloc, count, tokens, depth + 1, 5)?;
-    let (more, rest) = chain_links(alloc, count, rest, depth + 1, 6)?;
-    let whole = joined(alloc, first, more, 6)?;
+    let Some(operator) = operator_of_level(rest, 6) else {
+        return Ok((first, rest));
+    };
+    let (whole, rest) = chained(alloc, count, rest, depth + 1, operator, first)?;
     Ok((whole, rest))
 }
 
+/// And = Equal { "&&" Equal }
+/// Equal = Order { ( "==" | "!=" ) Order }
+/// Order = Sum { ( "<" | ">" | "<=" | ">=" ) Sum }
+/// Sum = Product { ( "+" | "-" ) Product }
+/// Product = Unary { ( "*" | "/" | "%" ) Unary }
+///
+/// By precedence climbing: after an operand, the levels below that of the next operator have ended.
 #[cycle(parser)]
 fn chain(
     alloc: Global,
     count: u32,
     tokens: &[Token],
     depth: u32,
-    l: u8,
+    level: u8,
 ) -> Result<(Expr, &[Token]), Fault>
     requires depth { depth ≤ 201 }
-    requires operator_level { l ≤ 5 }
-    ensures ok { IfOk result (λ r. Reads count (level_symbol l) depth (token_kinds tokens.now) (token_kinds r.1.now) (node_at l (see_expr r.0))) }
-    ensures err { IfErr result (λ fault. StopsAs (level_symbol l) depth (token_kinds tokens.now) fault) }
-    ensures precedence { IfOk result (λ r. precedence (see_expr r.0) ≤ l) }
+    requires level { level ≤ 5 }
+    ensures ok { IfOk result (λ r. Reads count (level_symbol level) depth (token_kinds tokens.now) (token_kinds r.1.now) (node_at level (see_expr r.0))) }
+    ensures err { IfErr result (λ fault. StopsAs (level_symbol level) depth (token_kinds tokens.now) fault) }
+    ensures within { IfOk result (λ r. precedence (see_expr r.0) ≤ level) }
+    ensures none { IfOk result (λ r. NoneUpTo level (token_kinds r.1.now)) }
 {
-    if l == 0 {
-        return unary(alloc, count, tokens, depth);
+    let (mut whole, mut left) = unary(alloc, count, tokens, depth)?;
+    'each: while let Some(operator) = operator_up_to(left, level) {
+        let (longer, rest) = chained(alloc, count, left, depth, operator, whole)?;
+        whole = longer;
+        left = rest;
     }
-    let (first, rest) = chain(alloc, count, tokens, depth, l - 1)?;
-    let (more, rest) = chain_links(alloc, count, rest, depth, l)?;
-    let whole = joined(alloc, first, more, l)?;
-    Ok((whole, rest))
+    Ok((whole, left))
 }
 
+/// The chain of the operand before and the links of the operator's level, of which this is the first.
 #[cycle(parser)]
-fn chain_links(
+fn chained(
     alloc: Global,
     count: u32,
     tokens: &[Token],
     depth: u32,
-    l: u8,
-) -> Result<(Vec<Link>, &[Token]), Fault>
+    operator: Operator,
+    first: Expr,
+) -> Result<(Expr, &[Token]), Fault>
     requires depth { depth ≤ 201 }
-    requires some { 0 < l }
-    requires operator_level { l ≤ 6 }
-    ensures ok { IfOk result (λ r. Reads count (level_tail l) depth (token_kinds tokens.now) (token_kinds r.1.now) (node_links l (links (map see_link r.0.items)))) }
-    ensures err { IfErr result (λ fault. StopsAs (level_tail l) depth (token_kinds tokens.now) fault) }
-    ensures at_level { IfOk result (λ r. IsAtLevel l (map see_link r.0.items)) }
+    requires next { next (token_kinds tokens.now) ≡ operator_terminal operator }
+    ensures ok { IfOk result (λ r. Chains count (operator_level operator) depth (see_expr first) (see_expr r.0) (token_kinds tokens.now) (token_kinds r.1.now)) }
+    ensures err { IfErr result (λ fault. StopsAs (level_tail (operator_level operator)) depth (token_kinds tokens.now) fault) }
+    ensures none { IfOk result (λ r. NoneUpTo (operator_level operator) (token_kinds r.1.now)) }
 {
-    let mut more = Vec::new(alloc);
-    let mut left = tokens;
-    'each: while let Some(operator) = operator_next(left, l) {
-        let (at, rest) = take(count, left, terminal_of_operator(operator), depth)?;
-        let (term, rest) = chain(alloc, count, rest, depth, l - 1)?;
-        more.push(make_link(operator, at, term))?;
-        left = rest;
-    }
-    Ok((more, left))
+    let (one, more, rest) = links(alloc, count, tokens, depth, operator)?;
+    let whole = Expr::chain(alloc, first, one, more)?;
+    Ok((whole, rest))
 }
 
+/// The links of the operator's level, of which this is the first: one, and those after it.
+#[cycle(parser)]
+fn links(
+    alloc: Global,
+    count: u32,
+    tokens: &[Token],
+    depth: u32,
+    operator: Operator,
+) -> Result<(Link, Vec<Link>, &[Token]), Fault>
+    requires depth { depth ≤ 201 }
+    requires next { next (token_kinds tokens.now) ≡ operator_terminal operator }
+    ensures ok { IfOk result (λ r. Reads count (level_tail (operator_level operator)) depth (token_kinds tokens.now) (token_kinds r.2.now) (node_links (operator_level operator) (MoreLinks (see_link r.0) (links (map see_link r.1.items))))) }
+    ensures err { IfErr result (λ fault. StopsAs (level_tail (operator_level operator)) depth (token_kinds tokens.now) fault) }
+    ensures level { IfOk result (λ r. link_level (see_link r.0) ≡ operator_level operator) }
+    ensures none { IfOk result (λ r. NoneUpTo (operator_level operator) (token_kinds r.2.now)) }
+{
+    let (first, mut left) = link(alloc, count, tokens, depth, operator)?;
+    let mut more = Vec::new(alloc);
+    'each: while let Some(following) = operator_of_level(left, level_of(operator)) {
+        let (one, rest) = link(alloc, count, left, depth, following)?;
+        more.push(one)?;
+        left = rest;
+    }
+    Ok((first, more, left))
+}
+
+/// An operator, which comes next, and its right operand.
+#[cycle(parser)]
+fn link(
+    alloc: Global,
+    count: u32,
+    tokens: &[Token],
+    depth: u32,
+    operator: Operator,
+) -> Result<(Link, &[Token]), Fault>
+    requires depth { depth ≤ 201 }
+    requires next { next (token_kinds tokens.now) ≡ operator_terminal operator }
+    ensures ok { IfOk result (λ r. IsLinkRead count (operator_level operator) depth (token_kinds tokens.now) (token_kinds r.1.now) (see_link r.0)) }
+    ensures err { IfErr result (λ fault. StopsAs (level_tail (operator_level operator)) depth (token_kinds tokens.now) fault) }
+{
+    let (at, rest) = take(count, tokens, terminal_of_operator(operator), depth)?;
+    let (operand, rest) = chain(alloc, count, rest, depth, level_of(operator) - 1)?;
+    Ok((Link::new(operator, at, operand), rest))
+}
+
+/// Unary = ( "-" | "!" ) Unary | Primary
+/// Primary = Start { Dot }
 #[cycle(parser)]
 fn unary(alloc: Global, count: u32, tokens: &[Token], depth: u32) -> Result<(Expr, &[Token]), Fault>
     requires depth { depth ≤ 201 }
@@ -205,20 +253,27 @@ fn unary(alloc: Global, count: u32, tokens: &[Token], depth: u32) -> Result<(Exp
     if ahead == terminal::MINUS {
         let (at, rest) = take(count, tokens, terminal::MINUS, depth + 1)?;
         let (inner, rest) = unary(alloc, count, rest, depth + 1)?;
-        return Ok((make_minus(alloc, at, inner)?, rest));
+        return Ok((Expr::minus(alloc, at, inner)?, rest));
     }
     if ahead == terminal::NOT {
         let (at, rest) = take(count, tokens, terminal::NOT, depth + 1)?;
         let (inner, rest) = unary(alloc, count, rest, depth + 1)?;
-        return Ok((make_not(alloc, at, inner)?, rest));
+        return Ok((Expr::not(alloc, at, inner)?, rest));
     }
     let (first, rest) = start(alloc, count, tokens, depth + 1)?;
     let (calls, rest) = dots_next(alloc, count, rest, depth + 1)?;
-    Ok((make_primary(first, calls), rest))
+    Ok((Expr::primary(first, calls), rest))
 }
 
+/// Start = Name [ Actuals ] | "this" | "new" Name Actuals
+///     | Number | Literal | "true" | "false" | "(" Expr ")"
 #[cycle(parser)]
-fn start(alloc: Global, count: u32, tokens: &[Token], depth: u32) -> Result<(Start, &[Token]), Fault>
+fn start(
+    alloc: Global,
+    count: u32,
+    tokens: &[Token],
+    depth: u32,
+) -> Result<(Start, &[Token]), Fault>
     requires depth { depth ≤ 202 }
     ensures ok { IfOk result (λ r. Reads count grammar.Operand_start depth (token_kinds tokens.now) (token_kinds r.1.now) (node_start (see_start r.0))) }
     ensures err { IfErr result (λ fault. StopsAs grammar.Operand_start depth (token_kinds tokens.now) fault) }
@@ -234,9 +289,10 @@ fn start(alloc: Global, count: u32, tokens: &[Token], depth: u32) -> Result<(Sta
     if ahead == terminal::OPEN {
         return start_group(alloc, count, tokens, depth);
     }
-    start_word(alloc, count, tokens, depth)
+    start_token(alloc, count, tokens, depth)
 }
 
+/// Name [ Actuals ]
 #[cycle(parser)]
 fn start_name(
     alloc: Global,
@@ -253,11 +309,12 @@ fn start_name(
     let (name, rest) = name_of(alloc, count, tokens, depth)?;
     if next(rest) == terminal::OPEN {
         let (passed, rest) = actuals(alloc, count, rest, depth)?;
-        return Ok((make_called(name, passed), rest));
+        return Ok((Start::call(name, passed), rest));
     }
-    Ok((make_variable(name), rest))
+    Ok((Start::variable(name), rest))
 }
 
+/// "new" Name Actuals
 #[cycle(parser)]
 fn start_new(
     alloc: Global,
@@ -274,9 +331,10 @@ fn start_new(
     let (at, rest) = take(count, tokens, terminal::NEW, depth)?;
     let (name, rest) = name_of(alloc, count, rest, depth)?;
     let (passed, rest) = actuals(alloc, count, rest, depth)?;
-    Ok((make_new(at, name, passed), rest))
+    Ok((Start::new_object(at, name, passed), rest))
 }
 
+/// "(" Expr ")"
 #[cycle(parser)]
 fn start_group(
     alloc: Global,
@@ -293,10 +351,11 @@ fn start_group(
     let (at, rest) = take(count, tokens, terminal::OPEN, depth)?;
     let (inner, rest) = expr(alloc, count, rest, depth)?;
     let rest = skip(count, rest, terminal::CLOSE, depth)?;
-    Ok((make_group(alloc, at, inner)?, rest))
+    Ok((Start::group(alloc, at, inner)?, rest))
 }
 
-fn start_word(
+/// "this" | Number | Literal | "true" | "false"
+fn start_token(
     alloc: Global,
     count: u32,
     tokens: &[Token],
@@ -313,27 +372,28 @@ fn start_word(
     let ahead = next(tokens);
     if ahead == terminal::THIS {
         let (at, rest) = take(count, tokens, terminal::THIS, depth)?;
-        return Ok((make_this(at), rest));
+        return Ok((Start::this(at), rest));
     }
     if ahead == terminal::NUMBER {
         let (value, at, rest) = number_next(count, tokens, depth)?;
-        return Ok((make_number(value, at), rest));
+        return Ok((Start::number(value, at), rest));
     }
     if ahead == terminal::LITERAL {
         let (bytes, at, rest) = literal_next(alloc, count, tokens, depth)?;
-        return Ok((make_literal(bytes, at), rest));
+        return Ok((Start::literal(bytes, at), rest));
     }
     if ahead == terminal::TRUE {
         let (at, rest) = take(count, tokens, terminal::TRUE, depth)?;
-        return Ok((make_true(at), rest));
+        return Ok((Start::true_word(at), rest));
     }
     if ahead == terminal::FALSE {
         let (at, rest) = take(count, tokens, terminal::FALSE, depth)?;
-        return Ok((make_false(at), rest));
+        return Ok((Start::false_word(at), rest));
     }
     Err(Fault::At(tokens.len()))
 }
 
+/// { Dot }
 #[cycle(parser)]
 pub fn dots_next(
     alloc: Global,
@@ -355,8 +415,14 @@ pub fn dots_next(
     Ok((calls, left))
 }
 
+/// Dot = "." Name Actuals
 #[cycle(parser)]
-pub fn dot(alloc: Global, count: u32, tokens: &[Token], depth: u32) -> Result<(Dot, &[Token]), Fault>
+pub fn dot(
+    alloc: Global,
+    count: u32,
+    tokens: &[Token],
+    depth: u32,
+) -> Result<(Dot, &[Token]), Fault>
     requires depth { depth ≤ 200 }
     ensures ok { IfOk result (λ r. Reads count grammar.Dot depth (token_kinds tokens.now) (token_kinds r.1.now) (node_dot (see_dot r.0))) }
     ensures err { IfErr result (λ fault. StopsAs grammar.Dot depth (token_kinds tokens.now) fault) }
@@ -364,9 +430,10 @@ pub fn dot(alloc: Global, count: u32, tokens: &[Token], depth: u32) -> Result<(D
     let (at, rest) = take(count, tokens, terminal::DOT, depth)?;
     let (name, rest) = name_of(alloc, count, rest, depth)?;
     let (passed, rest) = actuals(alloc, count, rest, depth)?;
-    Ok((make_dot(at, name, passed), rest))
+    Ok((Dot::new(at, name, passed), rest))
 }
 
+/// Actuals = "(" [ Expr { "," Expr } ] ")"
 #[cycle(parser)]
 pub fn actuals(
     alloc: Global,
@@ -381,9 +448,10 @@ pub fn actuals(
     let (at, rest) = take(count, tokens, terminal::OPEN, depth)?;
     let (passed, rest) = actuals_inside(alloc, count, rest, depth)?;
     let rest = skip(count, rest, terminal::CLOSE, depth)?;
-    Ok((make_actuals(at, passed), rest))
+    Ok((Actuals::new(at, passed), rest))
 }
 
+/// [ Expr { "," Expr } ]
 #[cycle(parser)]
 fn actuals_inside(
     alloc: Global,

@@ -13,15 +13,19 @@ use crate::faults::Fault;
 use chord_lexer::token::Token;
 use chord_tree::program::Program;
 use std::alloc::Global;
+use thiserror::Error;
 
 /// Why tokens are no program.
-#[derive(Clone, Copy, Debug, PartialEq, Eq)]
+#[derive(Clone, Copy, Debug, PartialEq, Eq, Error)]
 pub enum ParseFault {
-    /// No memory was found.
+    /// The call ran out of memory.
+    #[error("out of memory")]
     Memory,
     /// The first token, by its number, that fits no program, or the number of tokens where they end too soon.
+    #[error("token {0} fits no program")]
     At(u32),
-    /// The first token, by its number, that is deeper than 200.
+    /// The first token, by its number, that is tall: deeper than 200.
+    #[error("token {0} is too deep")]
     Tall(u32),
 }
 

@@ -9,24 +9,22 @@ ghost use Rattle.chord_tree.specs.Terminals.{keyword_symbol};
 ghost use Rattle.chord_tree.specs.Program.{token_kinds};
 ghost use Rattle.chord_tree.specs.Symbols as grammar;
 ghost use Rattle.chord_tree.specs.Tree.{items};
+ghost use Rattle.chord_tree.specs.ViewExprs.{see_expr};
 ghost use Rattle.chord_tree.specs.ViewStmts.{see_item, see_stmt, see_block};
-ghost use Rattle.chord_parser.specs.Reading.{StopsAs, IsNamed, IsUnnamed};
+ghost use Rattle.chord_parser.specs.Reading.{StopsAs, IsNamed, IsUnnamed, node_else, node_if};
 ghost use Rattle.chord_parser.specs.Runs.{Reads};
 
-use crate::build::{
-    make_assign, make_block, make_braces, make_call, make_empty, make_if, make_if_else, make_local,
-    make_new_stmt, make_plain, make_return, make_return_value, make_this_stmt, make_through,
-    make_while,
-};
-use crate::terminal;
 use crate::exprs::{actuals, dot, dots_next, expr};
 use crate::faults::Fault;
+use crate::terminal;
 use crate::tokens::{name_of, next, skip, take};
 use chord_lexer::token::Token;
+use chord_tree::exprs::Expr;
 use chord_tree::names::{BasicType, Name, ValueType};
 use chord_tree::stmts::{Block, Item, Stmt};
 use std::alloc::Global;
 
+/// Block = "{" { Item } "}"
 #[cycle(statements)]
 pub fn block(
     alloc: Global,
@@ -41,9 +39,10 @@ pub fn block(
     let rest = skip(count, tokens, terminal::OPEN_BRACE, depth)?;
     let (inside, rest) = items_of(alloc, count, rest, depth)?;
     let (end, rest) = take(count, rest, terminal::CLOSE_BRACE, depth)?;
-    Ok((make_block(inside, end), rest))
+    Ok((Block::new(inside, end), rest))
 }
 
+/// { Item }
 #[cycle(statements)]
 fn items_of(
     alloc: Global,
@@ -65,6 +64,9 @@ fn items_of(
     Ok((inside, left))
 }
 
+/// Item = ( "int" | "bool" | "string" ) Name "=" Expr ";"
+///     | Name ( Name "=" Expr | Tail ) ";"
+///     | Other
 #[cycle(statements)]
 fn item(alloc: Global, count: u32, tokens: &[Token], depth: u32) -> Result<(Item, &[Token]), Fault>
     requires depth { depth ≤ 200 }
@@ -79,15 +81,23 @@ fn item(alloc: Global, count: u32, tokens: &[Token], depth: u32) -> Result<(Item
         return local(alloc, count, tokens, depth, BasicType::Bool, terminal::BOOL);
     }
     if ahead == terminal::STRING {
-        return local(alloc, count, tokens, depth, BasicType::String, terminal::STRING);
+        return local(
+            alloc,
+            count,
+            tokens,
+            depth,
+            BasicType::String,
+            terminal::STRING,
+        );
     }
     if ahead == terminal::NAME {
         return item_name(alloc, count, tokens, depth);
     }
     let (form, rest) = other(alloc, count, tokens, depth + 1)?;
-    Ok((make_plain(form), rest))
+    Ok((Item::stmt(form), rest))
 }
 
+/// ( "int" | "bool" | "string" ) Name "=" Expr ";"
 fn local(
     alloc: Global,
     count: u32,
@@ -108,11 +118,12 @@ fn local(
     let (value, rest) = expr(alloc, count, rest, depth + 1)?;
     let rest = skip(count, rest, terminal::SEMICOLON, depth + 1)?;
     Ok((
-        make_local(ValueType::Basic { basic, at }, name, assign, value),
+        Item::local(ValueType::Basic { basic, at }, name, assign, value),
         rest,
     ))
 }
 
+/// Name ( Name "=" Expr | Tail ) ";"
 fn item_name(
     alloc: Global,
     count: u32,
@@ -131,15 +142,16 @@ fn item_name(
         let (value, rest) = expr(alloc, count, rest, depth + 1)?;
         let rest = skip(count, rest, terminal::SEMICOLON, depth + 1)?;
         return Ok((
-            make_local(ValueType::Class(first), second, assign, value),
+            Item::local(ValueType::Class(first), second, assign, value),
             rest,
         ));
     }
     let (form, rest) = tail(alloc, count, rest, depth + 1, first)?;
     let rest = skip(count, rest, terminal::SEMICOLON, depth + 1)?;
-    Ok((make_plain(form), rest))
+    Ok((Item::stmt(form), rest))
 }
 
+/// Tail = "=" Expr | Actuals { Dot } | Dot { Dot }
 fn tail(
     alloc: Global,
     count: u32,
@@ -156,21 +168,22 @@ fn tail(
     if ahead == terminal::ASSIGN {
         let (at, rest) = take(count, tokens, terminal::ASSIGN, depth)?;
         let (value, rest) = expr(alloc, count, rest, depth)?;
-        return Ok((make_assign(name, at, value), rest));
+        return Ok((Stmt::assign(name, at, value), rest));
     }
     if ahead == terminal::OPEN {
         let (passed, rest) = actuals(alloc, count, tokens, depth)?;
         let (calls, rest) = dots_next(alloc, count, rest, depth)?;
-        return Ok((make_call(name, passed, calls), rest));
+        return Ok((Stmt::call(name, passed, calls), rest));
     }
     if ahead == terminal::DOT {
         let (first, rest) = dot(alloc, count, tokens, depth)?;
         let (calls, rest) = dots_next(alloc, count, rest, depth)?;
-        return Ok((make_through(name, first, calls), rest));
+        return Ok((Stmt::method_call(name, first, calls), rest));
     }
     Err(Fault::At(tokens.len()))
 }
 
+/// Stmt = Name Tail ";" | Other
 #[cycle(statements)]
 fn stmt(alloc: Global, count: u32, tokens: &[Token], depth: u32) -> Result<(Stmt, &[Token]), Fault>
     requires depth { depth ≤ 200 }
@@ -187,6 +200,9 @@ fn stmt(alloc: Global, count: u32, tokens: &[Token], depth: u32) -> Result<(Stmt
     Ok((form, rest))
 }
 
+/// Other = Block | ";"
+///     | "if" "(" Expr ")" Stmt [ "else" Stmt ] | "while" "(" Expr ")" Stmt
+///     | "return" [ Expr ] ";" | "this" Dot { Dot } ";" | "new" Name Actuals { Dot } ";"
 #[cycle(statements)]
 fn other(alloc: Global, count: u32, tokens: &[Token], depth: u32) -> Result<(Stmt, &[Token]), Fault>
     requires depth { depth ≤ 201 }
@@ -197,11 +213,11 @@ fn other(alloc: Global, count: u32, tokens: &[Token], depth: u32) -> Result<(Stm
     let ahead = next(tokens);
     if ahead == terminal::OPEN_BRACE {
         let (inside, rest) = block(alloc, count, tokens, depth)?;
-        return Ok((make_braces(inside), rest));
+        return Ok((Stmt::block(inside), rest));
     }
     if ahead == terminal::SEMICOLON {
         let rest = skip(count, tokens, terminal::SEMICOLON, depth)?;
-        return Ok((make_empty(), rest));
+        return Ok((Stmt::empty(), rest));
     }
     if ahead == terminal::IF {
         return if_stmt(alloc, count, tokens, depth);
@@ -221,8 +237,62 @@ fn other(alloc: Global, count: u32, tokens: &[Token], depth: u32) -> Result<(Stm
     Err(Fault::At(tokens.len()))
 }
 
+/// Stmt, in a box of its own
 #[cycle(statements)]
-fn if_stmt(alloc: Global, count: u32, tokens: &[Token], depth: u32) -> Result<(Stmt, &[Token]), Fault>
+fn boxed_stmt(
+    alloc: Global,
+    count: u32,
+    tokens: &[Token],
+    depth: u32,
+) -> Result<(Box<Stmt>, &[Token]), Fault>
+    requires depth { depth ≤ 200 }
+    ensures ok { IfOk result (λ r. Reads count grammar.Stmt depth (token_kinds tokens.now) (token_kinds r.1.now) (node_stmt (see_stmt r.0.value))) }
+    ensures err { IfErr result (λ fault. StopsAs grammar.Stmt depth (token_kinds tokens.now) fault) }
+{
+    let (form, rest) = stmt(alloc, count, tokens, depth)?;
+    let form = Box::new(alloc, form)?;
+    Ok((form, rest))
+}
+
+/// [ "else" Stmt ]
+#[cycle(statements)]
+fn else_of(
+    alloc: Global,
+    count: u32,
+    tokens: &[Token],
+    depth: u32,
+) -> Result<(Option<Box<Stmt>>, &[Token]), Fault>
+    requires depth { depth ≤ 200 }
+    ensures ok { IfOk result (λ r. Reads count grammar.Optional_else depth (token_kinds tokens.now) (token_kinds r.1.now) (node_else r.0)) }
+    ensures err { IfErr result (λ fault. StopsAs grammar.Optional_else depth (token_kinds tokens.now) fault) }
+{
+    if next(tokens) == terminal::ELSE {
+        let rest = skip(count, tokens, terminal::ELSE, depth)?;
+        let (second, rest) = boxed_stmt(alloc, count, rest, depth)?;
+        return Ok((Some(second), rest));
+    }
+    Ok((None, tokens))
+}
+
+/// `if`, with `else` if there is a second branch.
+fn if_form(at: u32, bracket: u32, test: Expr, first: Box<Stmt>, second: Option<Box<Stmt>>) -> Stmt
+    ensures node { node_other (see_stmt result) ≡ node_if at bracket (see_expr test) (see_stmt first.value) second }
+    ensures unnamed { IsUnnamed (see_stmt result) }
+{
+    match second {
+        Some(second) => Stmt::if_else(at, bracket, test, first, second),
+        None => Stmt::if_then(at, bracket, test, first),
+    }
+}
+
+/// "if" "(" Expr ")" Stmt [ "else" Stmt ]
+#[cycle(statements)]
+fn if_stmt(
+    alloc: Global,
+    count: u32,
+    tokens: &[Token],
+    depth: u32,
+) -> Result<(Stmt, &[Token]), Fault>
     requires depth { depth ≤ 201 }
     requires first { next (token_kinds tokens.now) ≡ number_of grammar.IF }
     ensures ok { IfOk result (λ r. Reads count grammar.Other depth (token_kinds tokens.now) (token_kinds r.1.now) (node_other (see_stmt r.0))) }
@@ -233,17 +303,12 @@ fn if_stmt(alloc: Global, count: u32, tokens: &[Token], depth: u32) -> Result<(S
     let (bracket, rest) = take(count, rest, terminal::OPEN, depth)?;
     let (test, rest) = expr(alloc, count, rest, depth)?;
     let rest = skip(count, rest, terminal::CLOSE, depth)?;
-    let (first, rest) = stmt(alloc, count, rest, depth)?;
-    if next(rest) == terminal::ELSE {
-        let rest = skip(count, rest, terminal::ELSE, depth)?;
-        let (second, rest) = stmt(alloc, count, rest, depth)?;
-        let form = make_if_else(alloc, at, bracket, test, first, second)?;
-        return Ok((form, rest));
-    }
-    let form = make_if(alloc, at, bracket, test, first)?;
-    Ok((form, rest))
+    let (first, rest) = boxed_stmt(alloc, count, rest, depth)?;
+    let (second, rest) = else_of(alloc, count, rest, depth)?;
+    Ok((if_form(at, bracket, test, first, second), rest))
 }
 
+/// "while" "(" Expr ")" Stmt
 #[cycle(statements)]
 fn while_stmt(
     alloc: Global,
@@ -261,11 +326,11 @@ fn while_stmt(
     let (bracket, rest) = take(count, rest, terminal::OPEN, depth)?;
     let (test, rest) = expr(alloc, count, rest, depth)?;
     let rest = skip(count, rest, terminal::CLOSE, depth)?;
-    let (body, rest) = stmt(alloc, count, rest, depth)?;
-    let form = make_while(alloc, at, bracket, test, body)?;
-    Ok((form, rest))
+    let (body, rest) = boxed_stmt(alloc, count, rest, depth)?;
+    Ok((Stmt::while_loop(at, bracket, test, body), rest))
 }
 
+/// "return" [ Expr ] ";"
 fn return_stmt(
     alloc: Global,
     count: u32,
@@ -281,13 +346,14 @@ fn return_stmt(
     let (at, rest) = take(count, tokens, terminal::RETURN, depth)?;
     if next(rest) == terminal::SEMICOLON {
         let rest = skip(count, rest, terminal::SEMICOLON, depth)?;
-        return Ok((make_return(at), rest));
+        return Ok((Stmt::return_nothing(at), rest));
     }
     let (value, rest) = expr(alloc, count, rest, depth)?;
     let rest = skip(count, rest, terminal::SEMICOLON, depth)?;
-    Ok((make_return_value(at, value), rest))
+    Ok((Stmt::return_value(at, value), rest))
 }
 
+/// "this" Dot { Dot } ";"
 fn this_stmt(
     alloc: Global,
     count: u32,
@@ -304,9 +370,10 @@ fn this_stmt(
     let (first, rest) = dot(alloc, count, rest, depth)?;
     let (calls, rest) = dots_next(alloc, count, rest, depth)?;
     let rest = skip(count, rest, terminal::SEMICOLON, depth)?;
-    Ok((make_this_stmt(at, first, calls), rest))
+    Ok((Stmt::this_call(at, first, calls), rest))
 }
 
+/// "new" Name Actuals { Dot } ";"
 fn new_stmt(
     alloc: Global,
     count: u32,
@@ -324,5 +391,5 @@ fn new_stmt(
     let (passed, rest) = actuals(alloc, count, rest, depth)?;
     let (calls, rest) = dots_next(alloc, count, rest, depth)?;
     let rest = skip(count, rest, terminal::SEMICOLON, depth)?;
-    Ok((make_new_stmt(at, name, passed, calls), rest))
+    Ok((Stmt::new_object(at, name, passed, calls), rest))
 }

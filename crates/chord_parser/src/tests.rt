@@ -77,11 +77,11 @@ class Program {
 
 fn same(left: &Kind, right: &Kind) -> bool {
     match (left, right) {
-        (Kind::Keyword(a), Kind::Keyword(b)) => a == b,
+        (Kind::Word(a), Kind::Word(b)) => a == b,
         (Kind::Name(a), Kind::Name(b)) => a.items() == b.items(),
         (Kind::Number(a), Kind::Number(b)) => a == b,
         (Kind::Literal(a), Kind::Literal(b)) => a.items() == b.items(),
-        (Kind::Punctuator(a), Kind::Punctuator(b)) => a == b,
+        (Kind::Mark(a), Kind::Mark(b)) => a == b,
         _ => false,
     }
 }
@@ -216,7 +216,7 @@ fn sources_are_programs_or_refused_at_a_token(rt: HostRuntime) -> Result<(), Fai
             "program of 30 tokens",
         ),
         (
-            "punctuators that no program has",
+            "marks that no program has",
             b"class A { A() { x = 1 ++ 2; } }",
             "at 10",
         ),
@@ -236,6 +236,18 @@ fn sources_are_programs_or_refused_at_a_token(rt: HostRuntime) -> Result<(), Fai
     for (name, source, wanted) in cases {
         let found = answer(rt.alloc(), source)?;
         assert_eq!(rt; found.as_str(), *wanted, "{name}");
+    }
+    Ok(())
+}
+
+#[test]
+fn faults_say_what_is_wrong(rt: HostRuntime) -> Result<(), Fail> {
+    for (fault, expected) in [
+        (ParseFault::Memory, "out of memory"),
+        (ParseFault::At(7), "token 7 fits no program"),
+        (ParseFault::Tall(200), "token 200 is too deep"),
+    ] {
+        assert_eq!(rt; format!(in rt.alloc(); "{fault}")?.as_str(), expected);
     }
     Ok(())
 }

@@ -1,9 +1,9 @@
-//! Single tokens: each is tested for its class, and then for its depth.
+//! Single tokens: each is tested for its terminal, and then for its depth.
 #![tactic(auto)]
 
 ghost use Rattle.std.specs.Prelude.{◌≡◌, ◌<◌, ◌≤◌, ◌-◌, length, IfOk, IfErr, false, true};
 ghost use Rattle.chord_lexer.specs.declared.token.Kind.TheVariants as kinds;
-ghost use Rattle.chord_tree.specs.Terminals.{terminal_of, keyword_symbol, punctuator_symbol};
+ghost use Rattle.chord_tree.specs.Terminals.{terminal_of, keyword_symbol, mark_symbol};
 ghost use Rattle.chord_tree.specs.Derivation.{next, includes};
 ghost use Rattle.chord_tree.specs.Grammar.{terminal_count};
 ghost use Rattle.chord_tree.specs.Node.{Leaf, unnumbered};
@@ -15,10 +15,10 @@ ghost use Rattle.chord_parser.specs.Runs.{Reads};
 ghost use Rattle.chord_parser.specs.Reading.{Heads, StopsAs, valued};
 ghost use Rattle.chord_parser.specs.Samples.{sample};
 
-use crate::terminal;
 use crate::faults::Fault;
+use crate::terminal;
 use chord_lexer::bytes::Bytes;
-use chord_lexer::token::{Keyword, Kind, Punctuator, Token};
+use chord_lexer::token::{Keyword, Kind, Mark, Token};
 use chord_tree::names::Name;
 use std::alloc::Global;
 
@@ -55,53 +55,53 @@ fn terminal_of_keyword(word: Keyword) -> u8
     }
 }
 
-fn terminal_of_punctuator(punctuator: Punctuator) -> u8
-    ensures { result ≡ number_of (punctuator_symbol punctuator) }
+fn terminal_of_mark(mark: Mark) -> u8
+    ensures { result ≡ number_of (mark_symbol mark) }
 {
-    match punctuator {
-        Punctuator::OpenBrace => terminal::OPEN_BRACE,
-        Punctuator::CloseBrace => terminal::CLOSE_BRACE,
-        Punctuator::OpenParenthesis => terminal::OPEN,
-        Punctuator::CloseParenthesis => terminal::CLOSE,
-        Punctuator::Semicolon => terminal::SEMICOLON,
-        Punctuator::Comma => terminal::COMMA,
-        Punctuator::Dot => terminal::DOT,
-        Punctuator::Colon => terminal::COLON,
-        Punctuator::Assign => terminal::ASSIGN,
-        Punctuator::Equal => terminal::EQUAL,
-        Punctuator::NotEqual => terminal::NOT_EQUAL,
-        Punctuator::Less => terminal::LESS,
-        Punctuator::Greater => terminal::GREATER,
-        Punctuator::LessOrEqual => terminal::LESS_OR_EQUAL,
-        Punctuator::GreaterOrEqual => terminal::GREATER_OR_EQUAL,
-        Punctuator::Plus => terminal::PLUS,
-        Punctuator::Minus => terminal::MINUS,
-        Punctuator::Times => terminal::TIMES,
-        Punctuator::Divide => terminal::DIVIDE,
-        Punctuator::Remainder => terminal::REMAINDER,
-        Punctuator::Not => terminal::NOT,
-        Punctuator::And => terminal::AND,
-        Punctuator::Or => terminal::OR,
-        Punctuator::Ampersand => terminal::AMPERSAND,
-        Punctuator::Increment => terminal::INCREMENT,
-        Punctuator::Decrement => terminal::DECREMENT,
+    match mark {
+        Mark::OpenBrace => terminal::OPEN_BRACE,
+        Mark::CloseBrace => terminal::CLOSE_BRACE,
+        Mark::OpenParenthesis => terminal::OPEN,
+        Mark::CloseParenthesis => terminal::CLOSE,
+        Mark::Semicolon => terminal::SEMICOLON,
+        Mark::Comma => terminal::COMMA,
+        Mark::Dot => terminal::DOT,
+        Mark::Colon => terminal::COLON,
+        Mark::Assign => terminal::ASSIGN,
+        Mark::Equal => terminal::EQUAL,
+        Mark::NotEqual => terminal::NOT_EQUAL,
+        Mark::Less => terminal::LESS,
+        Mark::Greater => terminal::GREATER,
+        Mark::LessOrEqual => terminal::LESS_OR_EQUAL,
+        Mark::GreaterOrEqual => terminal::GREATER_OR_EQUAL,
+        Mark::Plus => terminal::PLUS,
+        Mark::Minus => terminal::MINUS,
+        Mark::Times => terminal::TIMES,
+        Mark::Divide => terminal::DIVIDE,
+        Mark::Remainder => terminal::REMAINDER,
+        Mark::Not => terminal::NOT,
+        Mark::And => terminal::AND,
+        Mark::Or => terminal::OR,
+        Mark::Ampersand => terminal::AMPERSAND,
+        Mark::Increment => terminal::INCREMENT,
+        Mark::Decrement => terminal::DECREMENT,
     }
 }
 
-/// The class of a kind.
+/// The terminal of a kind.
 fn terminal_of_kind(kind: &Kind) -> u8
     ensures { result ≡ terminal_of kind.now }
 {
     match kind {
-        Kind::Keyword(word) => terminal_of_keyword(*word),
+        Kind::Word(word) => terminal_of_keyword(*word),
         Kind::Name(_) => terminal::NAME,
         Kind::Number(_) => terminal::NUMBER,
         Kind::Literal(_) => terminal::LITERAL,
-        Kind::Punctuator(punctuator) => terminal_of_punctuator(*punctuator),
+        Kind::Mark(mark) => terminal_of_mark(*mark),
     }
 }
 
-/// The class of the next token, or `END`.
+/// The terminal of the next token, or `END`.
 pub fn next(tokens: &[Token]) -> u8
     ensures { result ≡ next (token_kinds tokens.now) }
 {
@@ -118,7 +118,7 @@ pub fn token_number(count: u32, tokens: &[Token]) -> u32
     (count as usize).saturating_sub(tokens.len()) as u32
 }
 
-/// The next token, which is of the class, and those after it.
+/// The next token, which is the terminal, and those after it.
 fn one(tokens: &[Token], wanted: u8, depth: u32) -> Result<(&Token, &[Token]), Fault>
     requires { wanted < 52 }
     ensures ok { IfOk result (λ r. Heads wanted (token_kinds tokens.now) (token_kinds r.1.now) r.0.now.kind) }
@@ -139,7 +139,7 @@ fn one(tokens: &[Token], wanted: u8, depth: u32) -> Result<(&Token, &[Token]), F
     }
 }
 
-/// The tokens after one of the class, which has no number in the tree.
+/// The tokens after the terminal, which has no number in the tree.
 pub fn skip(count: u32, tokens: &[Token], wanted: u8, depth: u32) -> Result<&[Token], Fault>
     requires unnumbered { includes unnumbered wanted ≡ true }
     requires bare { includes valued wanted ≡ false }
@@ -152,7 +152,7 @@ pub fn skip(count: u32, tokens: &[Token], wanted: u8, depth: u32) -> Result<&[To
     Ok(rest)
 }
 
-/// The number of a token of the class, and the tokens after it.
+/// The number of the terminal's token, and the tokens after it.
 pub fn take(count: u32, tokens: &[Token], wanted: u8, depth: u32) -> Result<(u32, &[Token]), Fault>
     requires marked { includes unnumbered wanted ≡ false }
     requires bare { includes valued wanted ≡ false }
@@ -183,7 +183,7 @@ pub fn name_of(
             let text = text.copied(alloc)?;
             Ok((Name { text, at }, rest))
         }
-        _ => Err(Fault::Memory),
+        _ => unreachable!(),
     }
 }
 
@@ -197,7 +197,7 @@ pub fn number_next(count: u32, tokens: &[Token], depth: u32) -> Result<(u32, u32
     let at = token_number(count, tokens);
     match &first.kind {
         Kind::Number(value) => Ok((*value, at, rest)),
-        _ => Err(Fault::Memory),
+        _ => unreachable!(),
     }
 }
 
@@ -219,6 +219,6 @@ pub fn literal_next(
             let bytes = bytes.copied(alloc)?;
             Ok((bytes, at, rest))
         }
-        _ => Err(Fault::Memory),
+        _ => unreachable!(),
     }
 }

@@ -10,9 +10,9 @@ ghost use Rattle.chord_parser.specs.Reading.{StopsAs};
 ghost use Rattle.chord_parser.specs.Lists.{modifier_terminal, plain_terminal, plain_node, IsPlain};
 ghost use Rattle.chord_parser.specs.Runs.{Reads};
 
-use crate::terminal;
 use crate::faults::Fault;
 use crate::plain::ResultKeyword;
+use crate::terminal;
 use crate::tokens::{next, take};
 use chord_lexer::token::Token;
 use chord_tree::classes::{Modifier, ModifierKeyword, ReturnType};
@@ -58,6 +58,8 @@ pub fn modifier_next(tokens: &[Token]) -> Option<ModifierKeyword>
     None
 }
 
+/// Modifier = "public" | "private" | "protected" | "virtual" | "override" | "static"
+///
 /// The modifier, which comes next, and the tokens after it.
 pub fn modifier(
     count: u32,
@@ -130,8 +132,14 @@ fn plain_type(word: ResultKeyword, at: u32) -> ReturnType
     }
 }
 
+/// Plain = "async" | "void" | "int" | "bool" | "string"
+///
 /// The result that the word says, which comes next, and the tokens after it.
-pub fn plain(count: u32, tokens: &[Token], word: ResultKeyword) -> Result<(ReturnType, &[Token]), Fault>
+pub fn plain(
+    count: u32,
+    tokens: &[Token],
+    word: ResultKeyword,
+) -> Result<(ReturnType, &[Token]), Fault>
     requires first { next (token_kinds tokens.now) ≡ plain_terminal word }
     ensures ok { IfOk result (λ r. Reads count grammar.Plain 0 (token_kinds tokens.now) (token_kinds r.1.now) (node_plain r.0)) }
     ensures err { IfErr result (λ fault. StopsAs grammar.Plain 0 (token_kinds tokens.now) fault) }

@@ -8,7 +8,7 @@ use Rattle.chord_lexer.proofs.Chains.{not_both, one_list}
 use Rattle.chord_lexer.specs.declared.token.Token.{Token}
 use Rattle.chord_parser.proofs.Whole.{never_tall, not_wrong}
 use Rattle.chord_parser.specs.declared.parser.ParseFault.TheVariants as parser
-use Rattle.chord_tree.specs.Program.{told}
+use Rattle.chord_tree.specs.Program.{token_kinds}
 use Rattle.chord_run.specs.Answers.{Answers, AnswersSource, IsSilence, IsSilent}
 use Rattle.chord_run.specs.Command.{Requested}
 use Rattle.chord_run.specs.Due.{HasStatus, IsDue, IsRefusalDue, IsRunDue, IsTextDue, IsTextOf}
@@ -28,14 +28,14 @@ pub syntax_not_grammatical :
     (source : List ℕ) (tokens : List Token) (k : ℕ) → IsAnsweredBy source (parser.At k) → IsGrammatical source tokens → ⊥
 syntax_not_grammatical source tokens k a g =
     let same = one_list source a.tokens tokens a.read g.read in
-    not_wrong (told a.tokens) g.program a.answer.0 g.is_program (rw same g.spelled) a.answer.2
+    not_wrong (token_kinds a.tokens) g.program a.answer.0 g.is_program (rw same g.spelled) a.answer.2
 
 -- nor is one of them too deep
 pub tall_not_grammatical :
     (source : List ℕ) (tokens : List Token) (k : ℕ) → IsAnsweredBy source (parser.Tall k) → IsGrammatical source tokens → ⊥
 tall_not_grammatical source tokens k a g =
     let same = one_list source a.tokens tokens a.read g.read in
-    never_tall (told a.tokens) g.program a.answer.0 g.is_program g.low (rw same g.spelled) a.answer.2
+    never_tall (token_kinds a.tokens) g.program a.answer.0 g.is_program g.not_tall (rw same g.spelled) a.answer.2
 
 -- a source with a cause of a refusal is not accepted
 pub cause_refuses : (source : List ℕ) (refusal : Refusal) → IsCause source refusal → IsAccepted source → ⊥
@@ -179,15 +179,18 @@ finishes_or arguments left report before after status no1 no5 no6 a e = elim a.a
       | inr full ↦ absurd (no6 (sym e ∙ w.0 ∙ full.1))
     ]
     | inr (inl q) ↦ absurd (no1 (sym e ∙ w.0 ∙ q.2.status_is))
-    | inr (inr t) ↦ inr (sym e ∙ w.0 ∙ t.2.status_is, record {
-      source = a.source;
-      given = a.given;
-      journal = t.0;
-      refusal = t.1;
-      text = a.answered.due.text;
-      is_text = t.2.text;
-      written = w.1;
-    })
+    | inr (inr t) ↦ inr (
+      sym e ∙ w.0 ∙ t.2.status_is,
+      record {
+        source = a.source;
+        given = a.given;
+        journal = t.0;
+        refusal = t.1;
+        text = a.answered.due.text;
+        is_text = t.2.text;
+        written = w.1;
+      },
+    )
   ]
   | inr w ↦ absurd (no5 (sym e ∙ w.0))
 ]
@@ -205,57 +208,69 @@ pub fills : (arguments : List (List ℕ)) (left : Option (List ℕ)) (report : R
 fills arguments left report before after a e = filled (λ x. omega (arith, x)) (λ x. omega (arith, x)) (λ x. omega (arith, x))
   where
     filled : (◌≡◌ {A = ℕ} 6 1 → ⊥) → (◌≡◌ {A = ℕ} 6 0 → ⊥) → (◌≡◌ {A = ℕ} 6 5 → ⊥) → Requested arguments (λ request. Fills request left report before after)
-    filled no1 no0 no5 = (a.request, a.requested, elim a.answered.written [
-      | inl w ↦ elim (due_cases a.request a.source report.journal report.refusal a.answered.due a.answered.is_due) [
-        | inl p ↦ elim p.2.has_status [
-          | inl complete ↦ absurd (status_not_six p.0 (sym complete.status_is ∙ sym w.0 ∙ e))
-          | inr full ↦ record {
-            source = a.source;
-            given = a.given;
-            program = p.2.program;
-            machine = p.2.machine;
-            journal = p.0;
-            reported = p.1;
-            full = full.0;
-            written = rw p.2.text at w.1;
-          }
+    filled no1 no0 no5 = (
+      a.request,
+      a.requested,
+      elim a.answered.written [
+        | inl w ↦ elim (due_cases a.request a.source report.journal report.refusal a.answered.due a.answered.is_due) [
+          | inl p ↦ elim p.2.has_status [
+            | inl complete ↦ absurd (status_not_six p.0 (sym complete.status_is ∙ sym w.0 ∙ e))
+            | inr full ↦ record {
+              source = a.source;
+              given = a.given;
+              program = p.2.program;
+              machine = p.2.machine;
+              journal = p.0;
+              reported = p.1;
+              full = full.0;
+              written = rw p.2.text at w.1;
+            }
+          ]
+          | inr (inl q) ↦ absurd (no1 (sym e ∙ w.0 ∙ q.2.status_is))
+          | inr (inr t) ↦ absurd (no0 (sym e ∙ w.0 ∙ t.2.status_is))
         ]
-        | inr (inl q) ↦ absurd (no1 (sym e ∙ w.0 ∙ q.2.status_is))
-        | inr (inr t) ↦ absurd (no0 (sym e ∙ w.0 ∙ t.2.status_is))
-      ]
-      | inr w ↦ absurd (no5 (sym e ∙ w.0))
-    ])
+        | inr w ↦ absurd (no5 (sym e ∙ w.0))
+      ],
+    )
 
 -- 1
 pub refuses : (arguments : List (List ℕ)) (left : Option (List ℕ)) (report : Report) (before after : Option (List ℕ)) → Answers arguments left report before after → report.status ≡ 1 → Requested arguments (λ request. Refuses request left report before after)
 refuses arguments left report before after a e = refused (λ x. omega (arith, x)) (λ x. omega (arith, x)) (λ x. omega (arith, x))
   where
     refused : (◌≡◌ {A = ℕ} 1 6 → ⊥) → (◌≡◌ {A = ℕ} 1 0 → ⊥) → (◌≡◌ {A = ℕ} 1 5 → ⊥) → Requested arguments (λ request. Refuses request left report before after)
-    refused no6 no0 no5 = (a.request, a.requested, elim a.answered.written [
-      | inl w ↦ elim (due_cases a.request a.source report.journal report.refusal a.answered.due a.answered.is_due) [
-        | inl p ↦ elim p.2.has_status [
-          | inl complete ↦ absurd (status_not_one p.0 (sym complete.status_is ∙ sym w.0 ∙ e))
-          | inr full ↦ absurd (no6 (sym e ∙ w.0 ∙ full.1))
+    refused no6 no0 no5 = (
+      a.request,
+      a.requested,
+      elim a.answered.written [
+        | inl w ↦ elim (due_cases a.request a.source report.journal report.refusal a.answered.due a.answered.is_due) [
+          | inl p ↦ elim p.2.has_status [
+            | inl complete ↦ absurd (status_not_one p.0 (sym complete.status_is ∙ sym w.0 ∙ e))
+            | inr full ↦ absurd (no6 (sym e ∙ w.0 ∙ full.1))
+          ]
+          | inr (inl q) ↦ record {
+            source = a.source;
+            given = a.given;
+            refusal = q.0;
+            reported = q.1;
+            cause = q.2.cause;
+            not_accepted = cause_refuses a.source q.0 q.2.cause;
+            line = a.answered.due.text;
+            is_line = q.2.text;
+            written = w.1;
+          }
+          | inr (inr t) ↦ absurd (no0 (sym e ∙ w.0 ∙ t.2.status_is))
         ]
-        | inr (inl q) ↦ record {
-          source = a.source;
-          given = a.given;
-          refusal = q.0;
-          reported = q.1;
-          cause = q.2.cause;
-          not_accepted = cause_refuses a.source q.0 q.2.cause;
-          line = a.answered.due.text;
-          is_line = q.2.text;
-          written = w.1;
-        }
-        | inr (inr t) ↦ absurd (no0 (sym e ∙ w.0 ∙ t.2.status_is))
-      ]
-      | inr w ↦ absurd (no5 (sym e ∙ w.0))
-    ])
+        | inr w ↦ absurd (no5 (sym e ∙ w.0))
+      ],
+    )
 
 -- 5
 pub cuts_short : (arguments : List (List ℕ)) (left : Option (List ℕ)) (report : Report) (before after : Option (List ℕ)) → Answers arguments left report before after → report.status ≡ 5 → Requested arguments (λ request. CutsShort request left report before after)
-cuts_short arguments left report before after a e = (a.request, a.requested, elim a.answered.written [
-  | inl w ↦ absurd (due_not_five a.request a.source report.journal report.refusal a.answered.due a.answered.is_due (sym w.0 ∙ e))
-  | inr w ↦ record { source = a.source; given = a.given; due = a.answered.due; is_due = a.answered.is_due; written = w.1 }
-])
+cuts_short arguments left report before after a e = (
+  a.request,
+  a.requested,
+  elim a.answered.written [
+    | inl w ↦ absurd (due_not_five a.request a.source report.journal report.refusal a.answered.due a.answered.is_due (sym w.0 ∙ e))
+    | inr w ↦ record { source = a.source; given = a.given; due = a.answered.due; is_due = a.answered.is_due; written = w.1 }
+  ],
+)

@@ -9,7 +9,7 @@ use Rattle.chord_base.specs.declared.event.Entry.{Entry}
 use Rattle.chord_io.specs.Pieces.{Took}
 use Rattle.chord_io.proofs.Joined.{not_whole}
 use Rattle.chord_lexer.proofs.Chains.{one_list}
-use Rattle.chord_lexer.specs.Reading.{after_mark}
+use Rattle.chord_lexer.specs.Reading.{after_byte_order_mark}
 use Rattle.chord_lexer.specs.declared.token.Kind.{Kind}
 use Rattle.chord_lists.specs.Small.{small_program}
 use Rattle.chord_lists.specs.declared.small.SmallLine.{SmallLine}
@@ -30,7 +30,7 @@ use Rattle.chord_run.specs.declared.report.Report.{Report}
 use Rattle.chord_run.proofs.Causes.{no_text}
 use Rattle.chord_run.proofs.Complete.{one_request}
 use Rattle.chord_run.proofs.LineByLine.{form_lines, head_stands, line_is_no_tail, line_unique}
-use Rattle.chord_tree.specs.Program.{told}
+use Rattle.chord_tree.specs.Program.{token_kinds}
 
 -- the lines of `Main` are known by their kinds
 one_body : (n : Chosen) → AreApart n → (ls ms : List SmallLine) → body n ls ≡ body n ms → ls ≡ ms
@@ -76,25 +76,25 @@ one_form kinds ls ms a b =
 pub one_machine : (source : List ℕ) (limits : Limits) (p q : Program) → IsMachine source limits p → IsMachine source limits q → p ≡ q
 one_machine source limits p q a b =
     let tokens = one_list source a.1.tokens b.1.tokens a.1.grammatical.read b.1.grammatical.read in
-    let same : a.0 ≡ b.0 = one_form (told a.1.tokens) a.0 b.0 a.1.small (rw tokens b.1.small) in
+    let same : a.0 ≡ b.0 = one_form (token_kinds a.1.tokens) a.0 b.0 a.1.small (rw tokens b.1.small) in
     a.2 ∙ ap small_program same ∙ sym b.2
 
 -- a token of a source begins at one byte
 one_start : (source : List ℕ) (k i j : ℕ) → IsTokenAt source k i → IsTokenAt source k j → i ≡ j
 one_start source k i j a b =
-    a.at ∙ ap (λ tokens. token_start tokens k (length (after_mark source))) (one_list source a.tokens b.tokens a.read b.read) ∙ sym b.at
+    a.at ∙ ap (λ tokens. token_start tokens k (length (after_byte_order_mark source))) (one_list source a.tokens b.tokens a.read b.read) ∙ sym b.at
 
 -- a refusal of a source has one line
 pub one_line : (source : List ℕ) (refusal : Refusal) (l m : List ℕ) → IsLine source refusal l → IsLine source refusal m → l ≡ m
 one_line source Long l m a b = a ∙ sym b
 one_line source (Bad k) l m a b =
-    a.2 ∙ ap (λ byte. with_position (codes "refused byte ") (position_of (after_mark source) byte)) (a.1.1 ∙ sym b.1.1) ∙ sym b.2
+    a.2 ∙ ap (λ byte. with_position (codes "refused byte ") (position_of (after_byte_order_mark source) byte)) (a.1.1 ∙ sym b.1.1) ∙ sym b.2
 one_line source (Syntax k) l m a b =
     let same = one_start source k a.0 b.0 a.1.1 b.1.1 in
-    a.2 ∙ ap (λ byte. with_position (codes "refused syntax ") (position_of (after_mark source) byte)) same ∙ sym b.2
+    a.2 ∙ ap (λ byte. with_position (codes "refused syntax ") (position_of (after_byte_order_mark source) byte)) same ∙ sym b.2
 one_line source (Tall k) l m a b =
     let same = one_start source k a.0 b.0 a.1.1 b.1.1 in
-    a.2 ∙ ap (λ byte. with_position (codes "refused tall ") (position_of (after_mark source) byte)) same ∙ sym b.2
+    a.2 ∙ ap (λ byte. with_position (codes "refused tall ") (position_of (after_byte_order_mark source) byte)) same ∙ sym b.2
 one_line source Unbuilt l m a b = a ∙ sym b
 
 -- what is due was written whole, so the status is the one that is due

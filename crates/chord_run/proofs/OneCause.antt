@@ -4,7 +4,7 @@ use Rattle.chord_lexer.proofs.Chains.{not_both, one_list, one_place}
 use Rattle.chord_lexer.specs.declared.token.Token.{Token}
 use Rattle.chord_parser.proofs.OneVerdict.{at_only, tall_only}
 use Rattle.chord_parser.specs.declared.parser.ParseFault.TheVariants as parser
-use Rattle.chord_tree.specs.Program.{told}
+use Rattle.chord_tree.specs.Program.{token_kinds}
 use Rattle.chord_run.specs.Refusals.{IsAnsweredBy, IsCause}
 use Rattle.chord_run.specs.Sources.{IsShort}
 use Rattle.chord_run.specs.declared.refusal.Refusal.{Refusal}
@@ -19,7 +19,7 @@ not_long source refusal long short = absurd (omega arith)
 one_syntax : (source : List ℕ) (j k : ℕ) → IsAnsweredBy source (parser.At j) → IsAnsweredBy source (parser.At k) → j ≡ k
 one_syntax source j k a b =
     let same = one_list source a.tokens b.tokens a.read b.read in
-    elim (at_only (told a.tokens) (parser.At j) a.answer k (rw same b.answer)) [
+    elim (at_only (token_kinds a.tokens) (parser.At j) a.answer k (rw same b.answer)) [
       | inl memory ↦ absurd (cc)
       | inr at ↦ cc
     ]
@@ -28,7 +28,7 @@ one_syntax source j k a b =
 one_tall : (source : List ℕ) (j k : ℕ) → IsAnsweredBy source (parser.Tall j) → IsAnsweredBy source (parser.Tall k) → j ≡ k
 one_tall source j k a b =
     let same = one_list source a.tokens b.tokens a.read b.read in
-    elim (tall_only (told a.tokens) (parser.Tall j) a.answer k (rw same b.answer)) [
+    elim (tall_only (token_kinds a.tokens) (parser.Tall j) a.answer k (rw same b.answer)) [
       | inl memory ↦ absurd (cc)
       | inr tall ↦ cc
     ]
@@ -37,7 +37,7 @@ one_tall source j k a b =
 syntax_is_not_tall : (source : List ℕ) (j k : ℕ) → IsAnsweredBy source (parser.At j) → IsAnsweredBy source (parser.Tall k) → ⊥
 syntax_is_not_tall source j k a b =
     let same = one_list source a.tokens b.tokens a.read b.read in
-    elim (tall_only (told a.tokens) (parser.At j) a.answer k (rw same b.answer)) [
+    elim (tall_only (token_kinds a.tokens) (parser.At j) a.answer k (rw same b.answer)) [
       | inl memory ↦ cc
       | inr tall ↦ cc
     ]

@@ -1,6 +1,6 @@
 -- Each token of a source begins within its text.
 use Rattle.std.proofs.Common.{◌≡◌, ℕ, zero, suc, ◌+◌, ◌≤◌, List, [], ◌∷◌, ◌++◌, length, length-append, arith, refl, sym, ap, ◌∙◌}
-use Rattle.chord_lexer.specs.Reading.{Chain, IsRead, after_mark, more, none, tokens_of}
+use Rattle.chord_lexer.specs.Reading.{Chain, IsRead, after_byte_order_mark, more, none, tokens_of}
 use Rattle.chord_lexer.specs.declared.piece.Piece.{Piece}
 use Rattle.chord_lexer.specs.declared.piece.Piece.TheVariants as pieces
 use Rattle.chord_lexer.specs.declared.token.Token.{Token}
@@ -37,13 +37,13 @@ start_within end (token ∷ later) zero b = b.0
 start_within end (token ∷ later) (suc k) b = start_within end later k b.1
 
 -- the byte at which a token of a source begins is within the text
-pub token_within : (source : List ℕ) (tokens : List Token) (k : ℕ) → IsRead source tokens → token_start tokens k (length (after_mark source)) ≤ length (after_mark source)
+pub token_within : (source : List ℕ) (tokens : List Token) (k : ℕ) → IsRead source tokens → token_start tokens k (length (after_byte_order_mark source)) ≤ length (after_byte_order_mark source)
 token_within source tokens k read =
-    let b : BeginWithin (0 + length (after_mark source)) tokens = chain_within read in
-    start_within (length (after_mark source)) tokens k (further_within (0 + length (after_mark source)) (length (after_mark source)) tokens (omega arith) b)
+    let b : BeginWithin (0 + length (after_byte_order_mark source)) tokens = chain_within read in
+    start_within (length (after_byte_order_mark source)) tokens k (further_within (0 + length (after_byte_order_mark source)) (length (after_byte_order_mark source)) tokens (omega arith) b)
 
 -- the byte at which token k begins is one at which the tokens of a source may refuse it
-pub points_at_token : (source : List ℕ) (tokens : List Token) (k byte : ℕ) → IsShort source → IsRead source tokens → byte ≡ token_start tokens k (length (after_mark source)) → IsWithin source byte × IsTokenAt source k byte
+pub points_at_token : (source : List ℕ) (tokens : List Token) (k byte : ℕ) → IsShort source → IsRead source tokens → byte ≡ token_start tokens k (length (after_byte_order_mark source)) → IsWithin source byte × IsTokenAt source k byte
 points_at_token source tokens k byte short read at =
     let w = token_within source tokens k read in
     (record { short = short; within = omega arith }, record { tokens = tokens; read = read; at = at })

@@ -24,7 +24,6 @@ pub mod Refusals
 pub mod Positions
 -- what holds of each source
 pub mod Laws
-
 -- ## What only the code's own contracts use
 
 -- what the private functions of the top call report

@@ -1,6 +1,6 @@
 -- Why a source is refused, and the line that says so.
 use Rattle.std.specs.Prelude.{◌≡◌, ℕ, ◌<◌, ◌≤◌, ◌++◌, List, codes, decimal, length, slice_get, unwrap_or, option_map}
-use Rattle.chord_lexer.specs.Reading.{IsRead, IsRefused, after_mark}
+use Rattle.chord_lexer.specs.Reading.{IsRead, IsRefused, after_byte_order_mark}
 use Rattle.chord_lexer.specs.declared.token.Token.{Token}
 use Rattle.chord_lists.specs.declared.small.SmallLine.{SmallLine}
 use Rattle.chord_run.specs.Positions.{position_of}
@@ -9,7 +9,7 @@ use Rattle.chord_parser.specs.declared.parser.ParseFault.{ParseFault}
 use Rattle.chord_parser.specs.declared.parser.ParseFault.TheVariants as parser
 use Rattle.chord_run.specs.SmallForm.{IsSmallForm}
 use Rattle.chord_run.specs.Sources.{IsGrammatical, IsShort}
-use Rattle.chord_tree.specs.Program.{told}
+use Rattle.chord_tree.specs.Program.{token_kinds}
 use Rattle.chord_run.specs.declared.front.FrontFault.{FrontFault}
 use Rattle.chord_run.specs.declared.front.FrontFault.TheVariants.{Memory, Refused}
 use Rattle.chord_run.specs.declared.position.Position.{Position}
@@ -21,13 +21,13 @@ pub record IsAnsweredBy (source : List ℕ) (fault : ParseFault) : Type 0 where
   pub short : IsShort source
   pub tokens : List Token
   pub read : IsRead source tokens
-  pub answer : IsAnswer (told tokens) fault
+  pub answer : IsAnswer (token_kinds tokens) fault
 
 -- a source is grammatical, and its tokens are of no small source
 pub record IsUnbuilt (source : List ℕ) : Type 0 where
   pub tokens : List Token
   pub grammatical : IsGrammatical source tokens
-  pub other : (lines : List SmallLine) → IsSmallForm (told tokens) lines → ⊥
+  pub other : (lines : List SmallLine) → IsSmallForm (token_kinds tokens) lines → ⊥
 
 -- the cause of a refusal: too many bytes; a byte at which nothing begins; a token with which no program goes on; a token that
 -- is too deep; a program that is not small
@@ -45,13 +45,13 @@ token_start tokens k end = unwrap_or (option_map (λ token. token.start) (slice_
 -- the byte is in the text of a source, or at its end
 pub record IsWithin (source : List ℕ) (byte : ℕ) : Type 0 where
   pub short : IsShort source
-  pub within : byte ≤ length (after_mark source)
+  pub within : byte ≤ length (after_byte_order_mark source)
 
 -- the byte at which the tokens of a source refuse it
 pub record IsTokenAt (source : List ℕ) (k byte : ℕ) : Type 0 where
   pub tokens : List Token
   pub read : IsRead source tokens
-  pub at : byte ≡ token_start tokens k (length (after_mark source))
+  pub at : byte ≡ token_start tokens k (length (after_byte_order_mark source))
 
 -- the byte at which a refusal points, where it points at one
 abbrev pub PointsAt : List ℕ → Refusal → ℕ → Type 0
@@ -67,7 +67,7 @@ with_position front place = front ++ decimal place.line ++ codes ":" ++ decimal 
 
 -- a line that ends with the place of a byte at which the refusal points
 abbrev pub PointsIn : List ℕ → Refusal → List ℕ → List ℕ → Type 0
-PointsIn source refusal front line = (byte : ℕ) × PointsAt source refusal byte × (line ≡ with_position front (position_of (after_mark source) byte))
+PointsIn source refusal front line = (byte : ℕ) × PointsAt source refusal byte × (line ≡ with_position front (position_of (after_byte_order_mark source) byte))
 
 -- the line of a refusal
 abbrev pub IsLine : List ℕ → Refusal → List ℕ → Type 0

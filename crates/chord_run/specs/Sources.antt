@@ -6,9 +6,9 @@ use Rattle.chord_lexer.specs.Reading.{IsRead}
 use Rattle.chord_lexer.specs.declared.token.Token.{Token}
 use Rattle.chord_lists.specs.Small.{small_program}
 use Rattle.chord_lists.specs.declared.small.SmallLine.{SmallLine}
-use Rattle.chord_parser.specs.Answers.{IsLow}
+use Rattle.chord_parser.specs.Answers.{IsNotTall}
 use Rattle.chord_run.specs.SmallForm.{IsSmallForm}
-use Rattle.chord_tree.specs.Program.{IsProgram, spelling, told}
+use Rattle.chord_tree.specs.Program.{IsProgram, spelling, token_kinds}
 use Rattle.chord_tree.specs.Tree.{ProgramTree}
 
 -- a source has at most 1,048,576 bytes, a leading mark included
@@ -21,14 +21,14 @@ pub record IsGrammatical (source : List ℕ) (tokens : List Token) : Type 0 wher
   pub read : IsRead source tokens
   pub program : ProgramTree
   pub is_program : IsProgram program
-  pub low : IsLow program
-  pub spelled : spelling program ≡ told tokens
+  pub not_tall : IsNotTall program
+  pub spelled : spelling program ≡ token_kinds tokens
 
 -- a source is small, with these lines: it is grammatical, and its tokens, as kinds, are the small form's
 pub record IsSmall (source : List ℕ) (lines : List SmallLine) : Type 0 where
   pub tokens : List Token
   pub grammatical : IsGrammatical source tokens
-  pub small : IsSmallForm (told tokens) lines
+  pub small : IsSmallForm (token_kinds tokens) lines
 
 -- a source is accepted: it is small
 abbrev pub IsAccepted : List ℕ → Type 0

@@ -2,7 +2,7 @@
 #![tactic(auto)]
 
 ghost use Rattle.std.specs.Prelude.{◌≡◌, ◌≤◌, IfErr, IfOk, length};
-ghost use Rattle.chord_lexer.specs.Reading.{IsRead, after_mark};
+ghost use Rattle.chord_lexer.specs.Reading.{IsRead, after_byte_order_mark};
 ghost use Rattle.chord_run.specs.Refusals.{IsFrontFault, token_start};
 ghost use Rattle.chord_run.specs.Sources.{IsShort, IsSmall};
 
@@ -63,7 +63,7 @@ fn small_program(alloc: Global, source: &[u8], tokens: &[Token]) -> Result<Small
 /// The byte at which token `k` begins, or the end of the text.
 fn start_byte(source: &[u8], tokens: &[Token], k: u32) -> u32
     requires { IsShort source.now }
-    ensures { result ≡ token_start tokens.now k (length (after_mark source.now)) }
+    ensures { result ≡ token_start tokens.now k (length (after_byte_order_mark source.now)) }
 {
     match tokens.get(k as usize) {
         Some(token) => token.start,

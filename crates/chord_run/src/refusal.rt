@@ -2,7 +2,7 @@
 #![tactic(auto)]
 
 ghost use Rattle.std.specs.Prelude.{◌≡◌, IfOk};
-ghost use Rattle.chord_lexer.specs.Reading.{after_mark};
+ghost use Rattle.chord_lexer.specs.Reading.{after_byte_order_mark};
 ghost use Rattle.chord_run.specs.Positions.{position_of};
 ghost use Rattle.chord_run.specs.Refusals.{IsLine, IsWithin, PointsAt, with_position};
 
@@ -54,7 +54,7 @@ fn pointing_line(
     byte: u32,
 ) -> Result<Vec<u8>, AllocError>
     requires { IsWithin source.now byte }
-    ensures { IfOk result (λ line. line.items ≡ with_position front.now (position_of (after_mark source.now) byte)) }
+    ensures { IfOk result (λ line. line.items ≡ with_position front.now (position_of (after_byte_order_mark source.now) byte)) }
 {
     let place = position_at(unmarked(source), byte as usize);
     positioned_line(alloc, front, place)

@@ -4,7 +4,7 @@
 ghost use Rattle.std.specs.Prelude.{◌≡◌, ◌↔◌, ◌≤◌, ℕ, List, length, slice_get, take, IsTrue, Some, IfNone, IfOk, IfSome, IsSomeAnd};
 ghost use Rattle.chord_lexer.specs.declared.token.Kind.TheVariants as a_kind;
 ghost use Rattle.chord_lists.specs.declared.small.SmallLine as line;
-ghost use Rattle.chord_tree.specs.Program.{told};
+ghost use Rattle.chord_tree.specs.Program.{token_kinds};
 ghost use Rattle.chord_run.specs.Chosen.{AreApart, Chosen};
 ghost use Rattle.chord_run.specs.SmallForm.{AreFit, IsFit, IsSmallForm, StandInHead, body, kind_of_piece, mapped_kinds, line_kinds, name_of, spelled, tail, with_literal};
 
@@ -57,7 +57,7 @@ pub struct Names<'a> {
 }
 
 impl<'a> Model for Names<'a> {
-    ghost use Rattle.chord_tree.specs.Program.{told};
+    ghost use Rattle.chord_tree.specs.Program.{token_kinds};
     ghost use Rattle.chord_run.specs.Chosen.{Chosen};
 
     ghost Value = { Chosen };
@@ -337,8 +337,8 @@ fn lines_of(
 
 /// The lines of the small source that these tokens are, if they are one.
 pub fn small_of(alloc: Global, tokens: &[Token]) -> Result<Option<Small>, AllocError>
-    ensures small { IfOk result (λ found. IfSome found (λ lines. IsSmallForm (told tokens.now) lines)) }
-    ensures other { IfOk result (λ found. IfNone found ((lines : List line.SmallLine) → IsSmallForm (told tokens.now) lines → ⊥)) }
+    ensures small { IfOk result (λ found. IfSome found (λ lines. IsSmallForm (token_kinds tokens.now) lines)) }
+    ensures other { IfOk result (λ found. IfNone found ((lines : List line.SmallLine) → IsSmallForm (token_kinds tokens.now) lines → ⊥)) }
 {
     let Some(names) = names_of(tokens) else {
         return Ok(None);

@@ -18,7 +18,9 @@ ghost use Rattle.chord_run.specs.declared.command.Request as asked;
 use crate::command::{Mode, Request, request_of};
 use crate::front::{FrontFault, small_source};
 use crate::refusal::{Refusal, line_of};
-use crate::report::{AT_LIMIT, NO_MEMORY, OTHER_ARGUMENTS, READ_FAULT, REFUSED, Report, WRITE_FAULT};
+use crate::report::{
+    AT_LIMIT, NO_MEMORY, OTHER_ARGUMENTS, READ_FAULT, REFUSED, Report, WRITE_FAULT,
+};
 use chord_base::journal::Journal;
 use chord_io::{Failed, ReadFault, Sink, Source, read_all, write_all};
 use chord_journal::write_lines;

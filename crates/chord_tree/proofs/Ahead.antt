@@ -19,33 +19,41 @@ use Rattle.chord_tree.specs.Derivation.{includes, Want, next, head_of, parts_of,
 unfoldable pub choice : ℕ → ℕ → ℕ
 choice x c = get_or (get_or choices x []) c rule_count
 
+-- the second holds where the first does
 abbrev pub imp : Bool → Bool → Bool
 imp a b = not a || b
 
+-- what follows from what holds
 pub imp_true : (a b : Bool) → imp a b ≡ true → a ≡ true → b ≡ true
 imp_true true b h e = h
 imp_true false b h e = cc
 
+-- the first of two that hold
 pub both_left : (a b : Bool) → (a && b) ≡ true → a ≡ true
 both_left true b h = refl
 both_left false b h = cc
 
+-- the second of two that hold
 pub both_right : (a b : Bool) → (a && b) ≡ true → b ≡ true
 both_right true b h = h
 both_right false b h = cc
 
+-- two that hold, together
 pub both_true : (a b : Bool) → a ≡ true → b ≡ true → (a && b) ≡ true
 both_true true b h k = k
 both_true false b h k = cc
 
+-- the first holds, and so one of the two
 pub either_left : (a b : Bool) → a ≡ true → (a || b) ≡ true
 either_left true b h = refl
 either_left false b h = cc
 
+-- the test holds of each number below n
 abbrev pub all_below : ℕ → (ℕ → Bool) → Bool
 all_below zero f = true
 all_below (suc n) f = f n && all_below n f
 
+-- what holds of all numbers below n holds of one
 pub below : (n : ℕ) (f : ℕ → Bool) → all_below n f ≡ true → (i : ℕ) → i < n → f i ≡ true
 below zero f h i l = absurd (omega arith)
 below (suc n) f h i l = elim (eqb_tells i n) [ inl (t, e) ↦ subst (λ j. f j ≡ true) (sym e) (both_left (f n) _ h) | inr (t, e) ↦ below n f (both_right (f n) _ h) i (omega arith) ]
@@ -54,20 +62,25 @@ below (suc n) f h i l = elim (eqb_tells i n) [ inl (t, e) ↦ subst (λ j. f j �
 unfoldable pub begins : ℕ → ℕ → Bool
 begins x c = includes (get_or firsts x []) c
 
+-- nonterminal x may derive nothing
 unfoldable pub may_be_empty : ℕ → Bool
 may_be_empty x = includes empties x
 
+-- terminal c may follow nonterminal x
 unfoldable pub follows_at : ℕ → ℕ → Bool
 follows_at x c = includes (get_or follows x []) c
 
+-- the symbol may begin at terminal c
 abbrev pub part_begins : Symbol → ℕ → Bool
 part_begins (Terminal a) c = nat_eq a c
 part_begins (Nonterminal x) c = begins x c
 
+-- the symbol may derive nothing
 abbrev pub part_empty : Symbol → Bool
 part_empty (Terminal a) = false
 part_empty (Nonterminal x) = may_be_empty x
 
+-- terminal c may follow the symbol
 abbrev pub part_follows : Symbol → ℕ → Bool
 part_follows (Terminal a) c = true
 part_follows (Nonterminal x) c = follows_at x c
@@ -82,6 +95,7 @@ abbrev pub begin_at : List Want → ℕ → Bool
 begin_at [] c = nat_eq c terminal_count
 begin_at ((p, d) ∷ s) c = part_begins p c || (part_empty p && begin_at s c)
 
+-- each terminal that may begin what follows a symbol may follow it
 abbrev pub legal_under : List Symbol → Bool → ℕ → Bool
 legal_under [] after c = true
 legal_under (p ∷ ps) after c = imp (begin_under ps after c) (part_follows p c) && legal_under ps after c
@@ -120,19 +134,23 @@ table_taken : over_symbols check_taken ≡ true
 unfolding over_symbols check_taken head_of productions rule_count terminal_count nonterminal_count choice choices allowed no_else else_terminal
 table_taken = refl
 
+-- where the right side may begin, its nonterminal may
 pub rule_begins : (i c : ℕ) (after : Bool) → i < rule_count → c < suc terminal_count → begin_under (parts_of i) after c ≡ true → (begins (head_of i) c || (may_be_empty (head_of i) && after)) ≡ true
 unfolding over_rules check_begin
 rule_begins i c true l m h = imp_true _ _ (both_left _ _ (below (suc terminal_count) (λ c. check_begin i c) (below rule_count _ table_begin i l) c m)) h
 rule_begins i c false l m h = imp_true _ _ (both_right (imp (begin_under (parts_of i) true c) (begins (head_of i) c || (may_be_empty (head_of i) && true))) _ (below (suc terminal_count) (λ c. check_begin i c) (below rule_count _ table_begin i l) c m)) h
 
+-- the right side is legal where its nonterminal is
 pub rule_legal : (i c : ℕ) → i < rule_count → c < suc terminal_count → legal_under (parts_of i) (follows_at (head_of i) c) c ≡ true
 unfolding over_rules check_legal
 rule_legal i c l m = below (suc terminal_count) (λ c. check_legal i c) (below rule_count _ table_legal i l) c m
 
+-- where a production fits, it is the choice
 pub rule_chosen : (i c : ℕ) → i < rule_count → c < suc terminal_count → begin_under (parts_of i) (follows_at (head_of i) c) c ≡ true → allowed i c ≡ true → choice (head_of i) c ≡ i
 unfolding over_rules check_choice
 rule_chosen i c l m h a = eqb-true _ _ (imp_true _ _ (below (suc terminal_count) (λ c. check_choice i c) (below rule_count _ table_choice i l) c m) (both_true _ _ h a))
 
+-- the choice is a production of the nonterminal that is allowed
 pub choice_fits : (x c : ℕ) → x < nonterminal_count → c < suc terminal_count → choice x c < rule_count → (head_of (choice x c) ≡ x) × (allowed (choice x c) c ≡ true)
 unfolding over_symbols check_taken
 choice_fits x c l m h =
@@ -149,6 +167,7 @@ unfolding terminal_count
 mark_small marks.Semicolon = lit< tt
 mark_small _ = lit< tt
 
+-- the terminal of a kind is one of the grammar
 pub small : (k : Kind) → terminal_of k < terminal_count
 unfolding terminal_count
 small (kinds.Word k) = word_small k
@@ -157,9 +176,11 @@ small (kinds.Number x) = lit< tt
 small (kinds.Literal x) = lit< tt
 small (kinds.Mark k) = mark_small k
 
+-- the next terminal is one of the grammar, or the end
 pub next_small : (ks : List Kind) → next ks < suc terminal_count
 next_small [] = omega arith
 next_small (k ∷ ks) = let h = small k in omega arith
 
+-- what holds of each number but one holds of a number that is another
 pub else_rule : (c b : ℕ) (x : Bool) → c ≢ b → (nat_eq c b || x) ≡ true → x ≡ true
 else_rule c b x n h = elim (eqb_tells c b) [ inl (t, e) ↦ absurd (n e) | inr (t, e) ↦ sym (ap (λ z. z || x) t) ∙ h ]

@@ -85,15 +85,18 @@ operator_back : (o : Operator) → operator_of (kinds.Mark (mark_of o)) ≡ o
 operator_back operators.Or = refl
 operator_back _ = refl
 
+-- the basic type of a keyword
 abbrev pub basic_of : Kind → BasicType
 basic_of (kinds.Word keywords.Int) = basics.Int
 basic_of (kinds.Word keywords.Bool) = basics.Bool
 basic_of _ = basics.String
 
+-- the basic type of its keyword
 pub basic_back : (b : BasicType) → basic_of (kinds.Word (basic_keyword b)) ≡ b
 basic_back basics.Int = refl
 basic_back _ = refl
 
+-- the bytes of a name or a literal
 abbrev pub bytes_of : Kind → List ℕ
 bytes_of (kinds.Name bytes) = bytes
 bytes_of _ = []
@@ -259,10 +262,12 @@ combined kind at bs = record {
 }
 
 abbrev mutual
+  -- the trees that a node may stand for
   pub back : Node → Back
   back (Leaf kind at) = combined kind at []
   back (Made part inner) = combined no_kind 0 (back_all inner)
 
+  -- those of nodes side by side
   pub back_all : Nodes → List Back
   back_all End = []
   back_all (n ▸ ns) = back n ∷ back_all ns
@@ -280,6 +285,7 @@ pick false false x y z h g = cc
 pub two : {A B C : Type 0} (f : A → B → C) (a a' : A) (b b' : B) → a ≡ a' → b ≡ b' → f a b ≡ f a' b'
 two f a a' b b' h g = ap (λ z. f z b) h ∙ ap (f a') g
 
+-- equal parts make equal wholes
 pub three : {A B C D : Type 0} (f : A → B → C → D) (a a' : A) (b b' : B) (c c' : C) → a ≡ a' → b ≡ b' → c ≡ c' → f a b c ≡ f a' b' c'
 three f a a' b b' c c' h g k = ap (λ z. f z b c) h ∙ two (f a') b b' c c' g k
 
@@ -297,6 +303,7 @@ has_parts (NotExpr at e) = refl
 has_parts (PrimaryExpr s ds) = refl
 
 mutual
+  -- an expression is had back from its node
   pub back_expr : (e : ExprTree) → (back (bare e)).expr ≡ e
   back_expr (ChainExpr first (MakeLink o at t) more) =
       three ChainExpr _ first _ (MakeLink o at t) _ more (back_lifted (operator_level o - 1) (precedence first) (bare first) ∙ back_expr first)
@@ -306,11 +313,13 @@ mutual
   back_expr (NotExpr at e) = pick _ _ _ _ _ (not_three e) (has_parts e) ∙ ap (NotExpr at) (back_expr e)
   back_expr (PrimaryExpr s ds) = two PrimaryExpr _ s _ ds (back_start s) (back_dots ds)
 
+  -- and links
   pub back_links : (l : ℕ) (ls : LinkTrees) → (back (node_links l ls)).links ≡ ls
   back_links l NoLinks = refl
   back_links l (MoreLinks (MakeLink o at t) more) =
       two MoreLinks _ (MakeLink o at t) _ more (two (λ p e. MakeLink p at e) _ o _ t (operator_back o) (back_lifted (l - 1) (precedence t) (bare t) ∙ back_expr t)) (back_links l more)
 
+  -- and a start
   pub back_start : (s : StartTree) → (back (node_start s)).start ≡ s
   back_start (VariableStart x) = refl
   back_start (CallStart x a) = ap (CallStart x) (back_actuals a)
@@ -322,24 +331,30 @@ mutual
   back_start (FalseStart at) = refl
   back_start (GroupStart at e) = ap (GroupStart at) (back_lifted 6 (precedence e) (bare e) ∙ back_expr e)
 
+  -- and arguments in brackets
   pub back_actuals : (a : ActualsTree) → (back (node_actuals a)).actuals ≡ a
   back_actuals (MakeActuals at es) = ap (MakeActuals at) (back_exprs es)
 
+  -- and arguments
   pub back_exprs : (es : ExprTrees) → (back (node_exprs es)).exprs ≡ es
   back_exprs NoExprs = refl
   back_exprs (MoreExprs e es) = two MoreExprs _ e _ es (back_lifted 6 (precedence e) (bare e) ∙ back_expr e) (back_more es)
 
+  -- and further arguments
   pub back_more : (es : ExprTrees) → (back (node_more es)).exprs ≡ es
   back_more NoExprs = refl
   back_more (MoreExprs e es) = two MoreExprs _ e _ es (back_lifted 6 (precedence e) (bare e) ∙ back_expr e) (back_more es)
 
+  -- and calls
   pub back_dots : (ds : DotTrees) → (back (node_dots ds)).dots ≡ ds
   back_dots NoDots = refl
   back_dots (MoreDots (MakeDot at x a) ds) = two MoreDots _ (MakeDot at x a) _ ds (ap (MakeDot at x) (back_actuals a)) (back_dots ds)
 
+-- and one call
 pub back_dot : (d : DotTree) → (back (node_dot d)).dot ≡ d
 back_dot (MakeDot at x a) = ap (MakeDot at x) (back_actuals a)
 
+-- an expression is had back from its node as an Expr
 pub back_node : (e : ExprTree) → (back (node_expr e)).expr ≡ e
 back_node e = back_lifted 6 (precedence e) (bare e) ∙ back_expr e
 
@@ -378,6 +393,7 @@ mutual
   back_stmt (ReturnStmt at) = (refl, refl)
   back_stmt (ReturnValueStmt at e) = let h = ap (ReturnValueStmt at) (back_node e) in both _ _ _ h h
 
+  -- a block is had back from its node
   pub back_block : (b : BlockTree) → (back (node_block b)).block ≡ b
   back_block (MakeBlock is end) = ap (λ z. MakeBlock z end) (back_items is)
 

@@ -244,6 +244,7 @@ all_back : (us : List UsingTree) (cs : List ClassTree) → to_program (node_all_
 all_back us [] = ap (λ z. record { usings = z; classes = [] }) (usings_back us)
 all_back us (c ∷ cs) = three (λ z x xs. record { usings = z; classes = x ∷ xs }) _ us _ c _ cs (usings_back us) (class_back c) (classes_back cs)
 
+-- a program is had back from its node
 pub program_back : (t : ProgramTree) → to_program (node_program t) ≡ t
 program_back t = all_back t.usings t.classes
 

@@ -6,7 +6,7 @@ use Rattle.chord_tree.specs.Symbol.{Symbol, Terminal, Nonterminal, number_of}
 use Rattle.chord_tree.specs.Grammar.{rule_count, terminal_count}
 use Rattle.chord_tree.specs.Terminals.{terminal_of}
 use Rattle.chord_tree.specs.Derivation.{Spelled, kinds_of, next, head_of, parts_of, inside, allowed}
-use Rattle.chord_tree.specs.Node.{Node, Nodes, End, ◌▸◌, Leaf, Made, spell, spell_all, Fits, FitAll, leaf, made, none, more, IsDerived, size, number_at, IsNumbered, AreNumbered}
+use Rattle.chord_tree.specs.Node.{Node, Nodes, End, ◌▸◌, Leaf, Made, spell, spell_all, Fits, FitAll, leaf, made, none, more, IsDerived, size, number_at, IsNumbered, AllNumbered}
 use Rattle.chord_tree.proofs.Ahead.{both_left, both_right}
 
 abbrev mutual
@@ -15,6 +15,7 @@ abbrev mutual
   lead (Leaf kind at) c = terminal_of kind
   lead (Made part inner) c = lead_all inner c
 
+  -- the terminal of the first token of nodes side by side
   pub lead_all : Nodes → ℕ → ℕ
   lead_all End c = c
   lead_all (node ▸ rest) c = lead node (lead_all rest c)
@@ -52,6 +53,7 @@ abbrev mutual
   fits (Leaf kind at) p c = is_terminal p (terminal_of kind)
   fits (Made part inner) p c = is_symbol p part && some_below rule_count (λ i. nat_eq (head_of i) (number_of part) && (allowed i (lead_all inner c) && fit_all inner (parts_of i) c))
 
+  -- the grammar derives nodes side by side
   pub fit_all : Nodes → List Symbol → ℕ → Bool
   fit_all End [] c = true
   fit_all End (p ∷ ps) c = false
@@ -59,6 +61,7 @@ abbrev mutual
   fit_all (node ▸ rest) (p ∷ ps) c = fits node p (lead_all rest c) && fit_all rest ps c
 
 mutual
+  -- what is tested so is derived
   pub sound : (n : Node) (p : Symbol) (c d : ℕ) (w : List Spelled) → next (kinds_of w) ≡ c → fits n p c ≡ true → Fits p d n w
   sound (Leaf kind at) (Terminal a) c d w e h = leaf (sym (eqb-true a (terminal_of kind) h))
   sound (Leaf kind at) (Nonterminal x) c d w e h = cc
@@ -89,15 +92,17 @@ abbrev mutual
   numbered (Leaf kind number) at = nat_eq number (number_at kind at)
   numbered (Made part inner) at = all_numbered inner at
 
+  -- each number in nodes side by side is that of its token
   pub all_numbered : Nodes → ℕ → Bool
   all_numbered End at = true
   all_numbered (node ▸ rest) at = numbered node at && all_numbered rest (at + size node)
 
 mutual
+  -- what is tested so has the numbers of its tokens
   pub places : (n : Node) (at : ℕ) → numbered n at ≡ true → IsNumbered n at
   places (Leaf kind number) at h = eqb-true number (number_at kind at) h
   places (Made part inner) at h = all_places inner at h
 
-  all_places : (ns : Nodes) (at : ℕ) → all_numbered ns at ≡ true → AreNumbered ns at
+  all_places : (ns : Nodes) (at : ℕ) → all_numbered ns at ≡ true → AllNumbered ns at
   all_places End at h = tt
   all_places (n ▸ ns) at h = (places n at (both_left _ _ h), all_places ns (at + size n) (both_right (numbered n at) _ h))

@@ -18,25 +18,28 @@ use Rattle.chord_tree.proofs.Ahead.{below, imp, imp_true}
 
 mutual
   -- a node spells as many tokens as it has
-  spelled_count : (n : Node) (d : ℕ) (w : List Spelled) → length (kinds_of (spell n d w)) ≡ size n + length (kinds_of w)
+  pub spelled_count : (n : Node) (d : ℕ) (w : List Spelled) → length (kinds_of (spell n d w)) ≡ size n + length (kinds_of w)
   spelled_count (Leaf kind at) d w = omega arith
   spelled_count (Made p ns) d w = spelled_counts ns _ w
 
+  -- and nodes side by side
   spelled_counts : (ns : Nodes) (d : ℕ) (w : List Spelled) → length (kinds_of (spell_all ns d w)) ≡ size_all ns + length (kinds_of w)
   spelled_counts End d w = omega arith
   spelled_counts (n ▸ ns) d w = let a = spelled_count n d (spell_all ns d w) in let b = spelled_counts ns d w in omega arith
 
+-- the last of a list after a first
 pub last_of : {X : Type 0} → X → List X → X
 last_of x [] = x
 last_of x (y ∷ ys) = last_of y ys
 
+-- the last of a list by its place
 pub last_at : {X : Type 0} (x : X) (xs : List X) (d : X) → get_or (x ∷ xs) (length xs) d ≡ last_of x xs
 unfolding last_of
 last_at x [] d = refl
 last_at x (y ∷ ys) d = last_at y ys d
 
 -- the last `}` is the last token
-class_end : (c : ClassTree) (at : ℕ) → IsNumbered (node_class c) at → c.end + 1 ≡ at + size (node_class c)
+pub class_end : (c : ClassTree) (at : ℕ) → IsNumbered (node_class c) at → c.end + 1 ≡ at + size (node_class c)
 class_end c at h = let e = h.1.1.1.1.1.1.0 in omega arith
 
 classes_end : (c : ClassTree) (cs : List ClassTree) (at : ℕ) → IsNumbered (node_class c) at → IsNumbered (node_classes cs) (at + size (node_class c)) → (last_of c cs).end + 1 ≡ at + size (node_class c) + size (node_classes cs)
@@ -73,6 +76,7 @@ no_class us (made {x} {ns = ns} i l h a f) e g =
     let n = three_parts i l (h ∙ ap number_of e) in
     absurd (omega arith)
 
+-- a program has a class
 pub some_class : (us : List Using) (cs : List Class) → IsProgram (record { usings = map see_using us; classes = map see_class cs }) → 0 < length cs
 some_class us [] h = absurd (no_class _ h.derived refl refl)
 some_class us (c ∷ cs) h = omega arith
@@ -94,9 +98,11 @@ first_operated : (ls : LinkTrees) (t : Term) → first_token (operated ls t) ≡
 first_operated NoLinks t = refl
 first_operated (MoreLinks (MakeLink operator at operand) ls) t = first_operated ls _
 
+-- calls change nothing of the first token
 pub first_called : (ds : DotTrees) (t : Term) → first_token (called ds t) ≡ first_token t
 first_called NoDots t = refl
 first_called (MoreDots (MakeDot dot name (MakeActuals at arguments)) ds) t = first_called ds _
 
+-- nor do operators
 pub first_chained : (e : ExprTree) (l : LinkTree) (ls : LinkTrees) → first_token (term (ChainExpr e l ls)) ≡ first_token (term e)
 first_chained e (MakeLink operator at operand) ls = first_operated ls _

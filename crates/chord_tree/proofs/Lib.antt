@@ -15,3 +15,5 @@ pub mod Checked
 pub mod Counts
 pub mod Spots
 pub mod Walks
+pub mod Folds
+pub mod Orders

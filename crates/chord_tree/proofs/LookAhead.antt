@@ -6,6 +6,7 @@ use Rattle.chord_tree.specs.Terminals.{terminal_of}
 use Rattle.chord_tree.specs.Derivation.{Spelled, Want, kinds_of, next, head_of, parts_of, inside, at_depth, allowed, Derives, done, token, rule}
 use Rattle.chord_tree.proofs.Ahead.{choice, imp, imp_true, both_left, both_right, either_left, begins, may_be_empty, follows_at, part_begins, part_empty, part_follows, begin_under, begin_at, legal_under, rule_begins, rule_legal, rule_chosen, next_small}
 
+-- what is wanted may begin as its symbols do
 pub under : (d : ℕ) (ps : List Symbol) (s : List Want) (c : ℕ) → begin_at (at_depth d ps ++ s) c ≡ begin_under ps (begin_at s c) c
 under d [] s c = refl
 under d (p ∷ ps) s c = ap (λ b. part_begins p c || (part_empty p && b)) (under d ps s c)
@@ -15,6 +16,7 @@ or_map true n u v f h = refl
 or_map false true u v f h = f h
 or_map false false u v f h = h
 
+-- symbols may begin where more may follow them
 pub grows : (ps : List Symbol) (a b : Bool) (c : ℕ) → (a ≡ true → b ≡ true) → begin_under ps a c ≡ true → begin_under ps b c ≡ true
 grows [] a b c f h = f h
 grows (p ∷ ps) a b c f h = or_map (part_begins p c) (part_empty p) _ _ (grows ps a b c f) h
@@ -41,6 +43,7 @@ legal_parts (p ∷ ps) d a s l f h = (
   legal_parts ps d a s l f (λ c m. both_right (imp (begin_under ps (a c) c) (part_follows p c)) _ (h c m)),
 )
 
+-- what is wanted is legal after a production
 pub legal_rule : (x d i : ℕ) (s : List Want) → Legal ((Nonterminal x, d) ∷ s) → i < rule_count → head_of i ≡ x → Legal (at_depth (inside x d) (parts_of i) ++ s)
 legal_rule x d i s l m e =
     legal_parts (parts_of i) (inside x d) (λ c. follows_at x c) s l.1 l.0

@@ -5,16 +5,18 @@ use Rattle.chord_tree.specs.Symbol.{Symbol, Terminal, Nonterminal}
 use Rattle.chord_tree.specs.Symbols.{Whole_program}
 use Rattle.chord_tree.specs.Grammar.{terminal_count}
 use Rattle.chord_tree.specs.Derivation.{Spelled, Want, kinds_of, next, parts_of, inside, at_depth, Derives, done, token, rule}
-use Rattle.chord_tree.specs.Node.{Node, Nodes, End, ◌▸◌, Leaf, Made, spell, spell_all, Fits, FitAll, IsDerived, leaf, made, none, more, size, size_all, IsNumbered, AreNumbered, number_at}
+use Rattle.chord_tree.specs.Node.{Node, Nodes, End, ◌▸◌, Leaf, Made, spell, spell_all, Fits, FitAll, IsDerived, leaf, made, none, more, size, size_all, IsNumbered, AllNumbered, number_at}
 use Rattle.chord_tree.proofs.Ahead.{choice, next_small, follows_at}
 use Rattle.chord_tree.proofs.Table.{follows}
 use Rattle.chord_tree.proofs.LookAhead.{starts, Legal, legal_rule, chosen}
 
 mutual
+  -- a derived node is a derivation of its symbol
   pub derives : {p : Symbol} {d : ℕ} {n : Node} {w : List Spelled} {s : List Want} → Fits p d n w → Derives s w → Derives ((p, d) ∷ s) (spell n d w)
   derives (leaf e) r = token e r
   derives (made i l h a f) r = rule i l h a (derives_all f r)
 
+  -- and derived nodes of their symbols
   pub derives_all : {ps : List Symbol} {d : ℕ} {ns : Nodes} {w : List Spelled} {s : List Want} → FitAll ps d ns w → Derives s w → Derives (at_depth d ps ++ s) (spell_all ns d w)
   derives_all none r = r
   derives_all (more f g) r = derives f (derives_all g r)
@@ -25,6 +27,7 @@ abbrev mutual
   unmarked (Leaf k at) = Leaf k 0
   unmarked (Made p ns) = Made p (unmarked_all ns)
 
+  -- nodes without the numbers of their tokens
   pub unmarked_all : Nodes → Nodes
   unmarked_all End = End
   unmarked_all (n ▸ ns) = unmarked n ▸ unmarked_all ns
@@ -46,6 +49,7 @@ mutual
       let k = same_all f g (ap parts_of ij) (ap (λ v. inside v d) xs ∙ ap (inside x') de) z r u (legal_rule x d i s l m h) q in
       (ap (λ v. Made (Nonterminal v) (unmarked_all ns)) xs ∙ ap (Made (Nonterminal x')) k.0, k.1)
 
+  -- nodes that spell the same are the same but for numbers
   pub same_all : {ps qs : List Symbol} {d e : ℕ} {ns ms : Nodes} {w y : List Spelled} {s t : List Want} → FitAll ps d ns w → FitAll qs e ms y → ps ≡ qs → d ≡ e → s ≡ t → Derives s w → Derives t y → Legal (at_depth d ps ++ s)
       → kinds_of (spell_all ns d w) ≡ kinds_of (spell_all ms e y) → (unmarked_all ns ≡ unmarked_all ms) × (kinds_of w ≡ kinds_of y)
   same_all none none h g z r u l q = (refl, q)
@@ -92,15 +96,17 @@ mutual
   equal (Made p ns) (Leaf j b) at e h g = cc
   equal (Made p ns) (Made q ms) at e h g = let pq : p ≡ q = cc in ap (λ z. Made z ns) pq ∙ ap (Made q) (equal_all ns ms at (ap inner e) h g)
 
-  pub equal_all : (ns ms : Nodes) (at : ℕ) → unmarked_all ns ≡ unmarked_all ms → AreNumbered ns at → AreNumbered ms at → ns ≡ ms
+  -- nodes with the numbers of their tokens are equal where they are but for numbers
+  pub equal_all : (ns ms : Nodes) (at : ℕ) → unmarked_all ns ≡ unmarked_all ms → AllNumbered ns at → AllNumbered ms at → ns ≡ ms
   equal_all End End at e h g = refl
   equal_all End (m ▸ ms) at e h g = cc
   equal_all (n ▸ ns) End at e h g = cc
   equal_all (n ▸ ns) (m ▸ ms) at e h g =
       let nm : unmarked n ≡ unmarked m = ap (first_of (Made (Terminal 0) End)) e in
       let s = unmarked_size n m nm in
-      ap (λ z. z ▸ ns) (equal n m at nm h.0 g.0) ∙ ap (λ z. m ▸ z) (equal_all ns ms (at + size n) (ap after_first e) h.1 (subst (λ z. AreNumbered ms (at + z)) (sym s) g.1))
+      ap (λ z. z ▸ ns) (equal n m at nm h.0 g.0) ∙ ap (λ z. m ▸ z) (equal_all ns ms (at + size n) (ap after_first e) h.1 (subst (λ z. AllNumbered ms (at + z)) (sym s) g.1))
 
+-- a whole program is legal
 pub start_legal : Legal ((Whole_program, 0) ∷ [])
 unfolding follows_at follows terminal_count
 start_legal = (λ c l h. let e : c ≡ terminal_count = eqb-true _ _ h in subst (λ x. follows_at 0 x ≡ true) (sym e) refl, tt)

@@ -26,9 +26,11 @@ module _ {Note : Type 0} (kind : Note → Bool) where
     at_spots (AtItem around item ∷ ss) = two_at_a_spot (first.at_item around item) (second.at_item around item) _ _ _ (at_spots ss)
     at_spots (AtMember class member ∷ ss) = two_at_a_spot (first.at_member class member) (second.at_member class member) _ _ _ (at_spots ss)
 
+-- a walk notes what is noted at its spots
 pub notes_at_spots : {Around Note : Type 0} → NotesAtSpots Around Note
 notes_at_spots after enter notes program = program_spots after notes.at_term notes.at_item notes.at_member enter program
 
+-- one walk for two rules notes as many as two walks
 pub notes_together : {Around Note : Type 0} → NotesTogether Around Note
 notes_together after enter first second program kind =
     ap (count_by kind) (notes_at_spots after enter (both first second) program) ∙ at_spots kind first second (spots after enter program)

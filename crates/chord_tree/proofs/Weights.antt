@@ -15,82 +15,106 @@ use Rattle.chord_tree.specs.declared.exprs.Expr.TheOpen.{Expr-F, Chain-F, Link-F
 use Rattle.chord_tree.specs.declared.exprs.Expr.TheOpen as open_nodes
 use Rattle.chord_tree.specs.declared.exprs.Expr.TheFolds.{fold-Expr, fold-Chain, fold-Link, fold-Start, fold-Actuals, fold-Dot, fold-roll-Expr, fold-roll-Start, fold_out-Chain, fold_out-Link, fold_out-Actuals, fold_out-Dot}
 
+-- the sum of a list
 abbrev pub total : List ℕ → ℕ
 total [] = 0
 total (x ∷ xs) = x + total xs
 
+-- the weight of a expr, where its parts are weighed
 abbrev pub expr_weight : Expr-F ℕ ℕ ℕ ℕ ℕ ℕ → ℕ
 expr_weight (open_nodes.Chain chain) = chain.value + 1
 expr_weight (open_nodes.Minus at operand) = operand.value + 1
 expr_weight (open_nodes.Not at operand) = operand.value + 1
 expr_weight (open_nodes.Primary start calls) = start + total calls.items + 2
 
+-- the weight of a chain, where its parts are weighed
 abbrev pub chain_weight : Chain-F ℕ ℕ ℕ ℕ ℕ ℕ → ℕ
 chain_weight chain = chain.first + chain.link + total chain.more.items + 2
 
+-- the weight of a start, where its parts are weighed
 abbrev pub start_weight : Start-F ℕ ℕ ℕ ℕ ℕ ℕ → ℕ
 start_weight (open_nodes.Call name actuals) = actuals + 1
 start_weight (open_nodes.New at name actuals) = actuals + 1
 start_weight (open_nodes.Group at inner) = inner.value + 1
 start_weight _ = 1
 
+-- the weight of a actuals, where its parts are weighed
 abbrev pub actuals_weight : Actuals-F ℕ ℕ ℕ ℕ ℕ ℕ → ℕ
 actuals_weight actuals = total actuals.arguments.items + 2
 
+-- the weight of a dot, where its parts are weighed
 abbrev pub dot_weight : Dot-F ℕ ℕ ℕ ℕ ℕ ℕ → ℕ
 dot_weight dot = dot.actuals + 1
 
+-- the weight of a link, where its parts are weighed
 abbrev pub link_weight : Link-F ℕ ℕ ℕ ℕ ℕ ℕ → ℕ
 link_weight link = link.operand + 1
 
+-- the weight of a expr
 abbrev pub weigh_expr : Expr → ℕ
 weigh_expr = fold-Expr ℕ ℕ ℕ ℕ ℕ ℕ expr_weight start_weight actuals_weight chain_weight dot_weight link_weight
 
+-- the weight of a start
 abbrev pub weigh_start : Start → ℕ
 weigh_start = fold-Start ℕ ℕ ℕ ℕ ℕ ℕ expr_weight start_weight actuals_weight chain_weight dot_weight link_weight
 
+-- the weight of a actuals
 abbrev pub weigh_actuals : Actuals → ℕ
 weigh_actuals = fold-Actuals ℕ ℕ ℕ ℕ ℕ ℕ expr_weight start_weight actuals_weight chain_weight dot_weight link_weight
 
+-- the weight of a dot
 abbrev pub weigh_dot : Dot → ℕ
 weigh_dot = fold-Dot ℕ ℕ ℕ ℕ ℕ ℕ expr_weight start_weight actuals_weight chain_weight dot_weight link_weight
 
+-- the weight of a link
 abbrev pub weigh_link : Link → ℕ
 weigh_link = fold-Link ℕ ℕ ℕ ℕ ℕ ℕ expr_weight start_weight actuals_weight chain_weight dot_weight link_weight
 
+-- the weight of a chain
 abbrev pub weigh_parts : Chain → ℕ
 weigh_parts = fold-Chain ℕ ℕ ℕ ℕ ℕ ℕ expr_weight start_weight actuals_weight chain_weight dot_weight link_weight
 
+-- the weight of a chain by its parts
 pub of_chain : (chain : Chain) → weigh_parts chain ≡ weigh_expr (out-Chain chain).first + weigh_link (out-Chain chain).link + total (map weigh_link (out-Chain chain).more.items) + 2
 of_chain chain = fold_out-Chain ℕ ℕ ℕ ℕ ℕ ℕ expr_weight start_weight actuals_weight chain_weight dot_weight link_weight chain
 
+-- the weight of a chain
 pub weigh_chain : (chain : Box Chain Global) → weigh_expr (expr.Chain chain) ≡ weigh_parts chain.value + 1
 weigh_chain chain = ap weigh_expr (sym (expr.rolls-Chain chain)) ∙ fold-roll-Expr ℕ ℕ ℕ ℕ ℕ ℕ expr_weight start_weight actuals_weight chain_weight dot_weight link_weight (open_nodes.Chain chain)
 
+-- the weight of a minus
 pub weigh_minus : (at : ℕ) (operand : Box Expr Global) → weigh_expr (expr.Minus at operand) ≡ weigh_expr operand.value + 1
 weigh_minus at operand = ap weigh_expr (sym (expr.rolls-Minus at operand)) ∙ fold-roll-Expr ℕ ℕ ℕ ℕ ℕ ℕ expr_weight start_weight actuals_weight chain_weight dot_weight link_weight (open_nodes.Minus at operand)
 
+-- the weight of a not
 pub weigh_not : (at : ℕ) (operand : Box Expr Global) → weigh_expr (expr.Not at operand) ≡ weigh_expr operand.value + 1
 weigh_not at operand = ap weigh_expr (sym (expr.rolls-Not at operand)) ∙ fold-roll-Expr ℕ ℕ ℕ ℕ ℕ ℕ expr_weight start_weight actuals_weight chain_weight dot_weight link_weight (open_nodes.Not at operand)
 
+-- the weight of a primary
 pub weigh_primary : (start : Start) (calls : Vec Dot Global) → weigh_expr (expr.Primary start calls) ≡ weigh_start start + total (map weigh_dot calls.items) + 2
 weigh_primary start calls = ap weigh_expr (sym (expr.rolls-Primary start calls)) ∙ fold-roll-Expr ℕ ℕ ℕ ℕ ℕ ℕ expr_weight start_weight actuals_weight chain_weight dot_weight link_weight (open_nodes.Primary start calls)
 
+-- the weight of a start call
 pub weigh_start_call : (name : Name) (actuals : Actuals) → weigh_start (start.Call name actuals) ≡ weigh_actuals actuals + 1
 weigh_start_call name actuals = ap weigh_start (sym (start.rolls-Call name actuals)) ∙ fold-roll-Start ℕ ℕ ℕ ℕ ℕ ℕ expr_weight start_weight actuals_weight chain_weight dot_weight link_weight (open_nodes.Call name actuals)
 
+-- the weight of a start new
 pub weigh_start_new : (at : ℕ) (name : Name) (actuals : Actuals) → weigh_start (start.New at name actuals) ≡ weigh_actuals actuals + 1
 weigh_start_new at name actuals = ap weigh_start (sym (start.rolls-New at name actuals)) ∙ fold-roll-Start ℕ ℕ ℕ ℕ ℕ ℕ expr_weight start_weight actuals_weight chain_weight dot_weight link_weight (open_nodes.New at name actuals)
 
+-- the weight of a start group
 pub weigh_start_group : (at : ℕ) (inner : Box Expr Global) → weigh_start (start.Group at inner) ≡ weigh_expr inner.value + 1
 weigh_start_group at inner = ap weigh_start (sym (start.rolls-Group at inner)) ∙ fold-roll-Start ℕ ℕ ℕ ℕ ℕ ℕ expr_weight start_weight actuals_weight chain_weight dot_weight link_weight (open_nodes.Group at inner)
 
+-- the weight of a link by its operand
 pub of_link : (link : Link) → weigh_link link ≡ weigh_expr (out-Link link).operand + 1
 of_link link = fold_out-Link ℕ ℕ ℕ ℕ ℕ ℕ expr_weight start_weight actuals_weight chain_weight dot_weight link_weight link
 
+-- the weight of arguments
 pub of_actuals : (actuals : Actuals) → weigh_actuals actuals ≡ total (map weigh_expr (out-Actuals actuals).arguments.items) + 2
 of_actuals actuals = fold_out-Actuals ℕ ℕ ℕ ℕ ℕ ℕ expr_weight start_weight actuals_weight chain_weight dot_weight link_weight actuals
 
+-- the weight of a call by its arguments
 pub of_dot : (dot : Dot) → weigh_dot dot ≡ weigh_actuals (out-Dot dot).actuals + 1
 of_dot dot = fold_out-Dot ℕ ℕ ℕ ℕ ℕ ℕ expr_weight start_weight actuals_weight chain_weight dot_weight link_weight dot
 

@@ -25,6 +25,7 @@ mutual
   spell_all_words End d w = refl
   spell_all_words (n ▸ ns) d w = spell_words n d _ ∙ ap (λ z. node_kinds n ++ z) (spell_all_words ns d w) ∙ sym (append_assoc (node_kinds n) (nodes_kinds ns) (kinds_of w))
 
+-- a level without operators spells nothing more
 pub words_lifted : (l m : ℕ) (n : Node) → node_kinds (lifted l m n) ≡ node_kinds n
 words_lifted zero m n = refl
 words_lifted (suc l) m n = elim (nat_lt m (suc l)) as (λ b. node_kinds (cond b (alone (suc l) (lifted l m n)) n) ≡ node_kinds n) [ true ↦ append-nil (node_kinds (lifted l m n)) ∙ words_lifted l m n | false ↦ refl ]
@@ -36,6 +37,7 @@ words_links l (MoreLinks (MakeLink o at t) more) =
     ap (λ z. kinds.Mark (mark_of o) ∷ (z ++ (node_kinds (node_links l more) ++ []))) (words_lifted (l - 1) (precedence t) (bare t) ∙ sym (words_lifted 0 (precedence t) (bare t)))
     ∙ ap (λ z. kinds.Mark (mark_of o) ∷ (node_kinds (lifted 0 (precedence t) (bare t)) ++ (z ++ []))) (words_links l more)
 
+-- a chain spells its first operand, its first link and the others
 pub words_chained : (first : ExprTree) (l : LinkTree) (ls : LinkTrees) → node_kinds (bare (ChainExpr first l ls)) ≡ node_kinds (bare first) ++ (node_kinds (node_links 0 (MoreLinks l NoLinks)) ++ node_kinds (node_links 0 ls))
 words_chained first (MakeLink o at t) more =
     let operand = node_kinds (lifted 0 (precedence t) (bare t)) in
@@ -44,6 +46,7 @@ words_chained first (MakeLink o at t) more =
     ∙ ap (λ z. node_kinds (bare first) ++ z) (append-nil (node_kinds (node_links (operator_level o) (MoreLinks (MakeLink o at t) more))) ∙ words_links (operator_level o) (MoreLinks (MakeLink o at t) more))
     ∙ ap (λ z. node_kinds (bare first) ++ (kinds.Mark (mark_of o) ∷ z)) (ap (λ z. operand ++ z) (append-nil others) ∙ sym (ap (λ z. z ++ others) (append-nil operand)))
 
+-- an expression spells the same as an Expr
 pub words_expr : (e : ExprTree) → node_kinds (node_expr e) ≡ node_kinds (bare e)
 words_expr e = words_lifted 6 (precedence e) (bare e)
 
@@ -51,6 +54,7 @@ words_expr e = words_lifted 6 (precedence e) (bare e)
 abbrev pub tokens : List Kind → List Token
 tokens ks = map without_span ks
 
+-- tokens of kinds side by side
 pub tokens_append : (xs ys : List Kind) → tokens (xs ++ ys) ≡ tokens xs ++ tokens ys
 tokens_append xs ys = map-append without_span xs ys
 
@@ -61,21 +65,27 @@ pub record AddsAll (old new : List Token) (nodes : Nodes) : Type 0 where
 grown_on : (a b c : List Token) (xs ys : List Kind) → b ≡ a ++ tokens xs → c ≡ b ++ tokens ys → c ≡ a ++ tokens (xs ++ ys)
 grown_on a b c xs ys h g = g ∙ ap (λ z. z ++ tokens ys) h ∙ append_assoc a (tokens xs) (tokens ys) ∙ ap (λ z. a ++ z) (sym (tokens_append xs ys))
 
+-- no node adds no token
 pub nil : {a : List Token} → AddsAll a a End
 nil {a} = record { grown = sym (append-nil a) }
 
+-- a node, and those after it
 pub cons : {a b c : List Token} {n : Node} {ns : Nodes} → Adds a b n → AddsAll b c ns → AddsAll a c (n ▸ ns)
 cons {a} {b} {c} {n} {ns} h g = record { grown = grown_on a b c (node_kinds n) (nodes_kinds ns) h.grown g.grown }
 
+-- a node adds what its parts add
 pub made : {p : Symbol} {a c : List Token} {ns : Nodes} → AddsAll a c ns → Adds a c (Made p ns)
 made h = record { grown = h.grown }
 
+-- a token is added whatever its number
 pub leaf : {a b : List Token} {k : Kind} {x y : ℕ} → Adds a b (Leaf k x) → Adds a b (Leaf k y)
 leaf h = record { grown = h.grown }
 
+-- what spells the same adds the same
 pub same_words : {a b : List Token} {n m : Node} → Adds a b n → node_kinds n ≡ node_kinds m → Adds a b m
 same_words {a} {b} h e = record { grown = h.grown ∙ ap (λ z. a ++ tokens z) e }
 
+-- an expression adds the same as any level
 pub as_level : {a b : List Token} (l : ℕ) (e : ExprTree) → Adds a b (bare e) → Adds a b (lifted l (precedence e) (bare e))
 as_level l e h = same_words h (sym (words_lifted l (precedence e) (bare e)))
 
@@ -87,12 +97,15 @@ chain_added {a} {b} {c} {d} first l ls h g k = record {
       ∙ ap (λ z. a ++ tokens z) (sym (words_chained first l ls));
 }
 
+-- a call, and those after it
 pub dots_added : {a b c : List Token} (d : DotTree) (ds : DotTrees) → Adds a b (node_dot d) → Adds b c (node_dots ds) → Adds a c (node_dots (MoreDots d ds))
 dots_added (MakeDot at x actuals) ds h g = made (cons h (cons g nil))
 
+-- an operator and its operand, and the links after it
 pub links_added : {a b c d : List Token} {n : ℕ} (l : Link) (ls : LinkTrees) → Adds a b (mark_leaf (mark_of (out-Link l).operator) n) → Adds b c (bare (see_expr (out-Link l).operand)) → Adds c d (node_links 0 ls) → Adds a d (node_links 0 (MoreLinks (see_link l) ls))
 links_added {a} {b} {c} {d} l ls h g k = subst (λ z. Adds a d (node_links 0 (MoreLinks z ls))) (sym (seen_link l)) (made (cons (leaf h) (cons (as_level 0 (see_expr (out-Link l).operand) g) (cons k nil))))
 
+-- a link, and those after it
 pub more_links_added : {a b c : List Token} (l : LinkTree) (ls : LinkTrees) → Adds a b (node_links 0 (MoreLinks l NoLinks)) → Adds b c (node_links 0 ls) → Adds a c (node_links 0 (MoreLinks l ls))
 more_links_added {a} {b} {c} (MakeLink o at t) ls h g =
     let operand = node_kinds (lifted 0 (precedence t) (bare t)) in
@@ -106,6 +119,7 @@ more_links_added {a} {b} {c} (MakeLink o at t) ls h g =
 pub seen_as : {V : Type 0} (f : V → Node) {a c : List Token} (v w : V) → v ≡ w → Adds a c (f w) → Adds a c (f v)
 seen_as f {a} {c} v w e h = subst (λ z. Adds a c (f z)) (sym e) h
 
+-- what follows where a call succeeds
 pub on_ok : {T E : Type 0} (r : Result T E) (P Q : Type 0) → (P → Q) → OnOk r P → OnOk r Q
 on_ok (Ok x) P Q f h = f h
 on_ok (Err e) P Q f h = tt
@@ -116,15 +130,18 @@ dropped_at [] i x l e = absurd (omega arith)
 dropped_at (a ∷ xs) zero x l e = ap (λ z. z ∷ xs) e
 dropped_at (a ∷ xs) (suc i) x l e = dropped_at xs i x (omega arith) e
 
+-- a list from a place on begins with what stands there
 pub dropped : {A : Type 0} (xs : List A) (i : ℕ) (x : A) → i < length xs → x ≡ get_or xs i x → drop i xs ≡ x ∷ drop (i + 1) xs
 dropped xs i x l e = rw add-one (sym (dropped_at xs i x l e))
 
+-- nothing is left of a list after its end
 pub drop_end : {A : Type 0} (xs : List A) (i : ℕ) → length xs ≤ i → drop i xs ≡ []
 drop_end [] zero l = refl
 drop_end [] (suc i) l = refl
 drop_end (a ∷ xs) zero l = absurd (omega arith)
 drop_end (a ∷ xs) (suc i) l = drop_end xs i (omega arith)
 
+-- a list of no length is empty
 pub length_zero : {A : Type 0} (xs : List A) → length xs ≡ 0 → xs ≡ []
 length_zero [] e = refl
 length_zero (x ∷ xs) e = absurd (omega arith)

@@ -17,6 +17,7 @@ use Rattle.chord_tree.specs.View.{Parts, see_using, see_class, tree_of}
 use Rattle.chord_tree.specs.Program.{node_kinds, nodes_kinds, Adds, node_header_list, without_span, spelling}
 use Rattle.chord_tree.proofs.Words.{cons, nil, same_words, tokens, tokens_append, spell_words}
 
+-- a type as a result
 pub result_added : {a b : List Token} (t : ValueType) → Adds a b (node_type t) → Adds a b (node_result (results.Value t))
 result_added (types.Basic basic at) h = same_words h refl
 result_added (types.Class class) h = same_words h refl
@@ -42,6 +43,7 @@ words_chord (h ∷ hs) b =
     let e = node_kinds (node_block b) ++ [] in
     flat m r x f k e ∙ ap (λ z. m ++ z) (words_rest h.result_type h.name h.formals hs b ∙ sym (append-nil _))
 
+-- headers and a body make a chord
 pub chord_added : {a b c : List Token} (hs : List HeaderTree) (body : BlockTree) → Adds a b (node_header_list hs) → Adds b c (node_block body) → Adds a c (node_chord hs body)
 chord_added {a} hs body h g = record { grown = (cons h (cons g nil)).grown ∙ ap (λ z. a ++ tokens z) (words_chord hs body) }
 
@@ -49,6 +51,7 @@ words_all_classes : (us : List UsingTree) (cs : List ClassTree) → node_kinds (
 words_all_classes us [] = refl
 words_all_classes us (c ∷ cs) = refl
 
+-- lines and classes make a program
 pub program_spelled : (a b c : List Token) (usings : List Using) (classes : List Class) (p : Parts) → a ≡ [] → usings ≡ p.usings → classes ≡ p.classes → Adds a b (node_usings (map see_using usings)) → Adds b c (node_classes (map see_class classes)) → c ≡ map without_span (spelling (tree_of p))
 program_spelled a b c usings classes p e u k h g =
     let t = tree_of p in

@@ -36,6 +36,7 @@ words_local (types.Class class) x q e =
     ap (λ z. node_kinds (name class) ++ z) (sym (append_assoc (nodes_kinds (name x ▸ mark_leaf marks.Assign q ▸ End)) (node_kinds (node_expr e)) (nodes_kinds (semicolon ▸ End))))
     ∙ ap (λ z. node_kinds (name class) ++ (z ++ nodes_kinds (semicolon ▸ End))) (ap (λ z. nodes_kinds (name x ▸ mark_leaf marks.Assign q ▸ End) ++ z) (sym (append-nil (node_kinds (node_expr e)))))
 
+-- an item, and those after it
 pub item_added : {a b c : List Token} (i : ItemTree) (is : ItemTrees) → Adds a b (node_item i) → Adds b c (node_items is) → Adds a c (node_items (MoreItems i is))
 item_added (LocalItem t x q e) is h g = made (cons h (cons g nil))
 item_added (StmtItem s) is h g = made (cons h (cons g nil))
@@ -46,8 +47,10 @@ tested {a} {b} {c} {ns} n e h g =
     let list = cons h g in
     record { grown = list.grown ∙ ap (λ z. a ++ tokens z) (ap (λ z. kinds.Mark marks.OpenParenthesis ∷ z) (append_assoc (node_kinds (node_expr e)) (kinds.Mark marks.CloseParenthesis ∷ []) (nodes_kinds ns))) }
 
+-- the parts of a local make it
 pub local_added : {a c : List Token} (t : ValueType) (x : Name) (q : ℕ) (e : ExprTree) → AddsAll a c (node_type t ▸ name x ▸ mark_leaf marks.Assign q ▸ node_expr e ▸ semicolon ▸ End) → Adds a c (node_local t x q e)
 local_added {a} t x q e h = record { grown = h.grown ∙ ap (λ z. a ++ tokens z) (words_local t x q e) }
 
+-- a local is added whatever the number of its `=`
 pub local_same : {a b : List Token} (t : ValueType) (x : Name) (q : ℕ) (e : ExprTree) → Adds a b (node_local t x 0 e) → Adds a b (node_local t x q e)
 local_same t x q e h = same_words h (sym (words_local t x 0 e) ∙ words_local t x q e)

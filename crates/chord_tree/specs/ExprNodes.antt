@@ -29,6 +29,7 @@ name x = Leaf (kinds.Name x.text) x.at
 abbrev pub level_symbol : ℕ → Symbol
 level_symbol l = get_or (grammar.Unary ∷ grammar.Product ∷ grammar.Sum ∷ grammar.Order ∷ grammar.Equal ∷ grammar.And ∷ grammar.Expr ∷ []) l grammar.Expr
 
+-- the nonterminal of the further operands of each level
 abbrev pub level_tail : ℕ → Symbol
 level_tail l = get_or (grammar.More_product ∷ grammar.More_product ∷ grammar.More_sum ∷ grammar.More_order ∷ grammar.More_equal ∷ grammar.More_and ∷ grammar.More_or ∷ []) l grammar.More_or
 

@@ -34,7 +34,8 @@ pub mod Terms
 pub mod Walk
 -- what holds of each walk
 pub mod Laws
-
+-- where the tokens of a program stand
+pub mod Positions
 -- ## What only the code's own contracts use
 
 -- a program of two classes, built by hand

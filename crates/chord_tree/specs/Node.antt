@@ -69,9 +69,9 @@ abbrev mutual
   -- Each number in the node is the place of its token, where the first token has this place.
   pub IsNumbered : Node → ℕ → Type 0
   IsNumbered (Leaf kind number) at = number ≡ number_at kind at
-  IsNumbered (Made part inner) at = AreNumbered inner at
+  IsNumbered (Made part inner) at = AllNumbered inner at
 
   -- the same of nodes side by side
-  pub AreNumbered : Nodes → ℕ → Type 0
-  AreNumbered End at = Unit {0}
-  AreNumbered (node ▸ rest) at = IsNumbered node at × AreNumbered rest (at + size node)
+  pub AllNumbered : Nodes → ℕ → Type 0
+  AllNumbered End at = Unit {0}
+  AllNumbered (node ▸ rest) at = IsNumbered node at × AllNumbered rest (at + size node)

@@ -32,6 +32,8 @@ impl Program {
     ghost use Rattle.std.specs.Prelude.{◌≡◌, ◌<◌, ◌^◌, length};
     ghost use Rattle.chord_tree.specs.View.{tree_of};
     ghost use Rattle.chord_tree.specs.Program.{IsProgram, spelling};
+    ghost use Rattle.chord_tree.specs.ClassNodes.{node_program};
+    ghost use Rattle.chord_tree.specs.Positions.{AreInOrder, IsBelow};
 
     /// The program of these lines and classes.
     pub fn new(usings: Vec<Using>, classes: Vec<Class>) -> Program
@@ -65,6 +67,14 @@ impl Program {
             Some(class) => class.end + 1,
             None => 0,
         }
+    }
+
+    /// A law: each class ends before the name of the next, and each number in the tree is below the number of its tokens.
+    pub fn positions(&self)
+        ensures order { AreInOrder (tree_of self.now).classes }
+        ensures below { IsBelow (length (spelling (tree_of self.now))) (node_program (tree_of self.now)) }
+    {
+        let _ = &self.classes;
     }
 
     /// A law: programs that spell the same tokens have the same tree.

@@ -8,7 +8,6 @@ ghost use Rattle.chord_tree.specs.ViewStmts.{see_item, see_stmt, see_block};
 
 use crate::exprs::{Actuals, Dot, Expr};
 use crate::names::{Name, ValueType};
-use std::alloc::{AllocError, Global};
 
 /// Items in braces.
 #[cycle(stmts)]
@@ -201,59 +200,40 @@ impl Stmt {
     }
 
     /// `if` without `else`; the numbers are those of `if` and `(`.
-    pub fn if_then(
-        alloc: Global,
-        at: u32,
-        bracket: u32,
-        test: Expr,
-        first: Stmt,
-    ) -> Result<Stmt, AllocError>
-        ensures { IfOk result (λ s. see_stmt s ≡ IfStmt at bracket (see_expr test) (see_stmt first)) }
+    pub fn if_then(at: u32, bracket: u32, test: Expr, first: Box<Stmt>) -> Stmt
+        ensures { see_stmt result ≡ IfStmt at bracket (see_expr test) (see_stmt first.value) }
     {
-        Ok(Stmt::If {
+        Stmt::If {
             at,
             bracket,
             test,
-            first: Box::new(alloc, first)?,
-        })
+            first,
+        }
     }
 
     /// `if` with `else`; the numbers are those of `if` and `(`.
-    pub fn if_else(
-        alloc: Global,
-        at: u32,
-        bracket: u32,
-        test: Expr,
-        first: Stmt,
-        second: Stmt,
-    ) -> Result<Stmt, AllocError>
-        ensures { IfOk result (λ s. see_stmt s ≡ IfElseStmt at bracket (see_expr test) (see_stmt first) (see_stmt second)) }
+    pub fn if_else(at: u32, bracket: u32, test: Expr, first: Box<Stmt>, second: Box<Stmt>) -> Stmt
+        ensures { see_stmt result ≡ IfElseStmt at bracket (see_expr test) (see_stmt first.value) (see_stmt second.value) }
     {
-        Ok(Stmt::IfElse {
+        Stmt::IfElse {
             at,
             bracket,
             test,
-            first: Box::new(alloc, first)?,
-            second: Box::new(alloc, second)?,
-        })
+            first,
+            second,
+        }
     }
 
     /// `while`; the numbers are those of `while` and `(`.
-    pub fn while_loop(
-        alloc: Global,
-        at: u32,
-        bracket: u32,
-        test: Expr,
-        body: Stmt,
-    ) -> Result<Stmt, AllocError>
-        ensures { IfOk result (λ s. see_stmt s ≡ WhileStmt at bracket (see_expr test) (see_stmt body)) }
+    pub fn while_loop(at: u32, bracket: u32, test: Expr, body: Box<Stmt>) -> Stmt
+        ensures { see_stmt result ≡ WhileStmt at bracket (see_expr test) (see_stmt body.value) }
     {
-        Ok(Stmt::While {
+        Stmt::While {
             at,
             bracket,
             test,
-            body: Box::new(alloc, body)?,
-        })
+            body,
+        }
     }
 
     /// `return` without a value.

@@ -216,10 +216,14 @@ fn branches(alloc: Global) -> Result<Block, AllocError> {
     let inner = Expr::primary(group, Vec::new(alloc));
     let test = Expr::not(alloc, 3, inner)?;
     let never = Expr::primary(Start::false_word(19), Vec::new(alloc));
-    let inside = Stmt::if_then(alloc, 17, 18, never, Stmt::return_nothing(21))?;
+    let nothing = Box::new(alloc, Stmt::return_nothing(21))?;
+    let inside = Stmt::if_then(17, 18, never, nothing);
     let always = Expr::primary(Start::true_word(15), Vec::new(alloc));
-    let turns = Stmt::while_loop(alloc, 13, 14, always, inside)?;
-    let whole = Stmt::if_else(alloc, 1, 2, test, Stmt::empty(), turns)?;
+    let body = Box::new(alloc, inside)?;
+    let turns = Stmt::while_loop(13, 14, always, body);
+    let first = Box::new(alloc, Stmt::empty())?;
+    let second = Box::new(alloc, turns)?;
+    let whole = Stmt::if_else(1, 2, test, first, second);
     let item = Item::stmt(whole);
     let items = one(alloc, item)?;
     Ok(Block::new(items, 23))

@@ -1,13 +1,16 @@
-use Rattle.std.proofs.Common.{◌∷◌, [], map, ◌++◌, sym, ap, subst, ◌∙◌, arith}
+use Rattle.std.proofs.Common.{refl, ◌+◌, ◌-◌, lit<, ◌∷◌, [], map, ◌++◌, sym, ap, subst, ◌∙◌, arith}
 use Rattle.chord_tree.specs.Symbol.{Terminal}
 use Rattle.chord_tree.specs.Program.{token_kinds}
-use Rattle.chord_tree.specs.ExprNodes.{node_at, node_start, node_actuals, node_dot, node_exprs}
-use Rattle.chord_tree.specs.Tree.{exprs, MakeLink}
+use Rattle.chord_tree.specs.ExprNodes.{operator_level, level_symbol, level_tail, node_at, node_start, node_actuals, node_dot, node_exprs}
+use Rattle.chord_tree.specs.Tree.{exprs}
 use Rattle.chord_tree.specs.ViewExprs.{see_expr, see_link, see_dot}
 use Rattle.chord_tree.proofs.Ahead.{next_small}
-use Rattle.chord_parser.specs.Reading.{StopsAs}
+use Rattle.chord_parser.specs.Reading.{StopsAs, IsOther, one_link, before_links}
+use Rattle.chord_parser.specs.Climbing.{NoneUpTo, Chains, IsLinkRead}
+use Rattle.chord_parser.specs.Runs.{Reads}
 use Rattle.chord_parser.proofs.Reading.{step, ends, goes_into}
-use Rattle.chord_parser.proofs.Chains.{stops, stops_in, exits, enters, then, renamed, as_node, level_begun, no_link, begun_link, links_all, links_push, links_at_level, dots_all, dots_push, opt_push, opt_first, opt_all, shorter, shorter_dot, operator_read, pushed}
+use Rattle.chord_parser.proofs.Chains.{stops, stops_in, exits, enters, then, renamed, as_node, no_link, begun_link, dots_all, dots_push, opt_push, opt_first, opt_all, shorter, shorter_dot, operator_read, pushed}
+use Rattle.chord_parser.proofs.Climb.{chain_read, link_read, operand_stops, fewer_left, chain_shorter, link_shorter, some_level, top_level, climb_begins, climb_goes_on, climb_ends, climb_stops, lifted_to_or, links_grow, links_done, one_more_level}
 use Rattle.chord_parser.proofs.ChainSteps.{expr_and, expr_and_at}
 use Rattle.chord_parser.proofs.ExprSteps.{actuals_open, actuals_open_at, dot_dot, dot_dot_at, dots_dot, dots_dot_at, dots_none, dots_none_at, more_exprs_comma, more_exprs_comma_at, more_exprs_none, more_exprs_none_at, optional_actuals_actuals, optional_actuals_actuals_at, optional_actuals_none, optional_actuals_none_at, optional_exprs_expr, optional_exprs_expr_at, optional_exprs_none, optional_exprs_none_at, primary_operand_start, primary_operand_start_at, operand_start_name, operand_start_name_at, operand_start_new, operand_start_new_at, operand_start_open, operand_start_open_at, unary_minus, unary_minus_at, unary_not, unary_not_at, unary_primary, unary_primary_at}
 use Rattle.chord_parser.proofs.exprs.+parser.Goals as goal
@@ -22,7 +25,7 @@ pub actuals-returns-in_err-rest-clause-err : goal.actuals-returns-in_err-rest-cl
 actuals-returns-in_err-rest-clause-err t c = exits _ _ _ _ _ c.from_residual-in_err-rest.ensures.1 (stops {count = c.args.count} (step (step (actuals_open (actuals_open_at _ (next_small (token_kinds c.args.tokens.now)))) c.in_ok-at.ensures.ok) c.in_ok-passed.ensures.ok) _ c.in_err-rest.ensures.err)
 
 pub actuals-returns-clause-ok : goal.actuals-returns-clause-ok
-actuals-returns-clause-ok t c = as_node (ends (step (step (step (actuals_open (actuals_open_at _ (next_small (token_kinds c.args.tokens.now)))) c.in_ok-at.ensures.ok) c.in_ok-passed.ensures.ok) c.in_ok-rest.ensures.ok)) (sym (ap node_actuals c.make_actuals.ensures))
+actuals-returns-clause-ok t c = as_node (ends (step (step (step (actuals_open (actuals_open_at _ (next_small (token_kinds c.args.tokens.now)))) c.in_ok-at.ensures.ok) c.in_ok-passed.ensures.ok) c.in_ok-rest.ensures.ok)) (sym (ap node_actuals c.new.ensures))
 
 pub dot-returns-in_err-at-clause-err : goal.dot-returns-in_err-at-clause-err
 dot-returns-in_err-at-clause-err t c = exits _ _ _ _ _ c.from_residual.ensures.1 (stops {count = c.args.count} (dot_dot (dot_dot_at _ (next_small (token_kinds c.args.tokens.now)))) _ c.in_err-at.ensures.err)
@@ -34,7 +37,7 @@ pub dot-returns-in_err-passed-clause-err : goal.dot-returns-in_err-passed-clause
 dot-returns-in_err-passed-clause-err t c = exits _ _ _ _ _ c.from_residual-in_err-passed.ensures.1 (stops {count = c.args.count} (step (step (dot_dot (dot_dot_at _ (next_small (token_kinds c.args.tokens.now)))) c.in_ok-at.ensures.ok) c.in_ok-name.ensures.ok) _ c.in_err-passed.ensures.err)
 
 pub dot-returns-clause-ok : goal.dot-returns-clause-ok
-dot-returns-clause-ok t c = as_node (ends (step (step (step (dot_dot (dot_dot_at _ (next_small (token_kinds c.args.tokens.now)))) c.in_ok-at.ensures.ok) c.in_ok-name.ensures.ok) c.in_ok-passed.ensures.ok)) (sym (ap node_dot c.make_dot.ensures))
+dot-returns-clause-ok t c = as_node (ends (step (step (step (dot_dot (dot_dot_at _ (next_small (token_kinds c.args.tokens.now)))) c.in_ok-at.ensures.ok) c.in_ok-name.ensures.ok) c.in_ok-passed.ensures.ok)) (sym (ap node_dot c.new.ensures))
 
 pub start_group-returns-in_err-at-clause-err : goal.start_group-returns-in_err-at-clause-err
 start_group-returns-in_err-at-clause-err t c = exits _ _ _ _ _ c.from_residual.ensures.1 (stops {count = c.args.count} (operand_start_open (operand_start_open_at _ c.requires.first)) _ c.in_err-at.ensures.err)
@@ -46,7 +49,7 @@ pub start_group-returns-in_err-rest-clause-err : goal.start_group-returns-in_err
 start_group-returns-in_err-rest-clause-err t c = exits _ _ _ _ _ c.from_residual-in_err-rest.ensures.1 (stops {count = c.args.count} (step (step (operand_start_open (operand_start_open_at _ c.requires.first)) c.in_ok-at.ensures.ok) c.in_ok-inner.ensures.ok) _ c.in_err-rest.ensures.err)
 
 pub start_group-returns-clause-ok : goal.start_group-returns-clause-ok
-start_group-returns-clause-ok t c = as_node (ends (step (step (step (operand_start_open (operand_start_open_at _ c.requires.first)) c.in_ok-at.ensures.ok) c.in_ok-inner.ensures.ok) c.in_ok-rest.ensures.ok)) (sym (ap node_start c.in_ok-make_group.ensures))
+start_group-returns-clause-ok t c = as_node (ends (step (step (step (operand_start_open (operand_start_open_at _ c.requires.first)) c.in_ok-at.ensures.ok) c.in_ok-inner.ensures.ok) c.in_ok-rest.ensures.ok)) (sym (ap node_start c.in_ok-group.ensures))
 
 pub start_new-returns-in_err-at-clause-err : goal.start_new-returns-in_err-at-clause-err
 start_new-returns-in_err-at-clause-err t c = exits _ _ _ _ _ c.from_residual.ensures.1 (stops {count = c.args.count} (operand_start_new (operand_start_new_at _ c.requires.first)) _ c.in_err-at.ensures.err)
@@ -58,7 +61,7 @@ pub start_new-returns-in_err-passed-clause-err : goal.start_new-returns-in_err-p
 start_new-returns-in_err-passed-clause-err t c = exits _ _ _ _ _ c.from_residual-in_err-passed.ensures.1 (stops {count = c.args.count} (step (step (operand_start_new (operand_start_new_at _ c.requires.first)) c.in_ok-at.ensures.ok) c.in_ok-name.ensures.ok) _ c.in_err-passed.ensures.err)
 
 pub start_new-returns-clause-ok : goal.start_new-returns-clause-ok
-start_new-returns-clause-ok t c = as_node (ends (step (step (step (operand_start_new (operand_start_new_at _ c.requires.first)) c.in_ok-at.ensures.ok) c.in_ok-name.ensures.ok) c.in_ok-passed.ensures.ok)) (sym (ap node_start c.make_new.ensures))
+start_new-returns-clause-ok t c = as_node (ends (step (step (step (operand_start_new (operand_start_new_at _ c.requires.first)) c.in_ok-at.ensures.ok) c.in_ok-name.ensures.ok) c.in_ok-passed.ensures.ok)) (sym (ap node_start c.new_object.ensures))
 
 pub start_name-returns-in_err-name-clause-err : goal.start_name-returns-in_err-name-clause-err
 start_name-returns-in_err-name-clause-err t c = exits _ _ _ _ _ c.from_residual.ensures.1 (stops {count = c.args.count} (operand_start_name (operand_start_name_at _ c.requires.first)) _ c.in_err-name.ensures.err)
@@ -67,10 +70,10 @@ pub start_name-returns-in_err-passed-clause-err : goal.start_name-returns-in_err
 start_name-returns-in_err-passed-clause-err t c = exits _ _ _ _ _ c.from_residual-in_err-passed.ensures.1 (stops {count = c.args.count} (goes_into (step (operand_start_name (operand_start_name_at _ c.requires.first)) c.in_ok-name.ensures.ok) (optional_actuals_actuals (optional_actuals_actuals_at _ (sym c.next.ensures ∙ c.if-next-eq-OPEN.true)))) _ c.in_err-passed.ensures.err)
 
 pub start_name-returns-then-next-eq-OPEN-clause-ok : goal.start_name-returns-then-next-eq-OPEN-clause-ok
-start_name-returns-then-next-eq-OPEN-clause-ok t c = as_node (ends (step (goes_into (step (operand_start_name (operand_start_name_at _ c.requires.first)) c.in_ok-name.ensures.ok) (optional_actuals_actuals (optional_actuals_actuals_at _ (sym c.next.ensures ∙ c.if-next-eq-OPEN.true)))) c.in_ok-passed.ensures.ok)) (sym (ap node_start c.make_called.ensures))
+start_name-returns-then-next-eq-OPEN-clause-ok t c = as_node (ends (step (goes_into (step (operand_start_name (operand_start_name_at _ c.requires.first)) c.in_ok-name.ensures.ok) (optional_actuals_actuals (optional_actuals_actuals_at _ (sym c.next.ensures ∙ c.if-next-eq-OPEN.true)))) c.in_ok-passed.ensures.ok)) (sym (ap node_start c.call.ensures))
 
 pub start_name-returns-clause-ok : goal.start_name-returns-clause-ok
-start_name-returns-clause-ok t c = as_node (ends (step (step (operand_start_name (operand_start_name_at _ c.requires.first)) c.in_ok-name.ensures.ok) (ends (optional_actuals_none (optional_actuals_none_at _ (next_small (token_kinds c.in_ok-name.rest.now)) (λ q. c.if-next-eq-OPEN.false (c.next.ensures ∙ q))))))) (sym (ap node_start c.make_variable.ensures))
+start_name-returns-clause-ok t c = as_node (ends (step (step (operand_start_name (operand_start_name_at _ c.requires.first)) c.in_ok-name.ensures.ok) (ends (optional_actuals_none (optional_actuals_none_at _ (next_small (token_kinds c.in_ok-name.rest.now)) (λ q. c.if-next-eq-OPEN.false (c.next.ensures ∙ q))))))) (sym (ap node_start c.variable.ensures))
 
 pub unary-returns-in_err-at-clause-err : goal.unary-returns-in_err-at-clause-err
 unary-returns-in_err-at-clause-err t c = exits _ _ _ _ _ c.from_residual.ensures.1 (stops {count = c.args.count} (unary_minus (unary_minus_at _ (sym c.next-ahead.ensures ∙ c.if-ahead-eq-MINUS.true))) _ c.in_err-at.ensures.err)
@@ -79,7 +82,7 @@ pub unary-returns-in_err-inner-clause-err : goal.unary-returns-in_err-inner-clau
 unary-returns-in_err-inner-clause-err t c = exits _ _ _ _ _ c.from_residual-in_err-inner.ensures.1 (stops {count = c.args.count} (step (unary_minus (unary_minus_at _ (sym c.next-ahead.ensures ∙ c.if-ahead-eq-MINUS.true))) c.in_ok-at.ensures.ok) _ c.in_err-inner.ensures.err)
 
 pub unary-returns-then-ahead-eq-MINUS-clause-ok : goal.unary-returns-then-ahead-eq-MINUS-clause-ok
-unary-returns-then-ahead-eq-MINUS-clause-ok t c = as_node (ends (step (step (unary_minus (unary_minus_at _ (sym c.next-ahead.ensures ∙ c.if-ahead-eq-MINUS.true))) c.in_ok-at.ensures.ok) c.in_ok-inner.ensures.ok)) (sym (ap (node_at 0) c.in_ok-make_minus.ensures))
+unary-returns-then-ahead-eq-MINUS-clause-ok t c = as_node (ends (step (step (unary_minus (unary_minus_at _ (sym c.next-ahead.ensures ∙ c.if-ahead-eq-MINUS.true))) c.in_ok-at.ensures.ok) c.in_ok-inner.ensures.ok)) (sym (ap (node_at 0) c.in_ok-minus.ensures))
 
 pub unary-returns-in_err-at-2-clause-err : goal.unary-returns-in_err-at-2-clause-err
 unary-returns-in_err-at-2-clause-err t c = exits _ _ _ _ _ c.from_residual-in_err-at-2.ensures.1 (stops {count = c.args.count} (unary_not (unary_not_at _ (sym c.next-ahead.ensures ∙ c.if-ahead-eq-NOT.true))) _ c.in_err-at-2.ensures.err)
@@ -88,7 +91,7 @@ pub unary-returns-in_err-inner-2-clause-err : goal.unary-returns-in_err-inner-2-
 unary-returns-in_err-inner-2-clause-err t c = exits _ _ _ _ _ c.from_residual-in_err-inner-2.ensures.1 (stops {count = c.args.count} (step (unary_not (unary_not_at _ (sym c.next-ahead.ensures ∙ c.if-ahead-eq-NOT.true))) c.in_ok-at-2.ensures.ok) _ c.in_err-inner-2.ensures.err)
 
 pub unary-returns-then-ahead-eq-NOT-clause-ok : goal.unary-returns-then-ahead-eq-NOT-clause-ok
-unary-returns-then-ahead-eq-NOT-clause-ok t c = as_node (ends (step (step (unary_not (unary_not_at _ (sym c.next-ahead.ensures ∙ c.if-ahead-eq-NOT.true))) c.in_ok-at-2.ensures.ok) c.in_ok-inner-2.ensures.ok)) (sym (ap (node_at 0) c.in_ok-make_not.ensures))
+unary-returns-then-ahead-eq-NOT-clause-ok t c = as_node (ends (step (step (unary_not (unary_not_at _ (sym c.next-ahead.ensures ∙ c.if-ahead-eq-NOT.true))) c.in_ok-at-2.ensures.ok) c.in_ok-inner-2.ensures.ok)) (sym (ap (node_at 0) c.in_ok-not.ensures))
 
 pub unary-returns-in_err-first-clause-err : goal.unary-returns-in_err-first-clause-err
 unary-returns-in_err-first-clause-err t c = exits _ _ _ _ _ c.from_residual-in_err-first.ensures.1 (stops {count = c.args.count} (goes_into (unary_primary (unary_primary_at _ (next_small (token_kinds c.args.tokens.now)) (λ q. c.if-ahead-eq-MINUS.false (c.next-ahead.ensures ∙ q)) (λ q. c.if-ahead-eq-NOT.false (c.next-ahead.ensures ∙ q)))) (primary_operand_start (primary_operand_start_at _ (next_small (token_kinds c.args.tokens.now))))) _ c.in_err-first.ensures.err)
@@ -97,40 +100,88 @@ pub unary-returns-in_err-calls-clause-err : goal.unary-returns-in_err-calls-clau
 unary-returns-in_err-calls-clause-err t c = exits _ _ _ _ _ c.from_residual-in_err-calls.ensures.1 (stops {count = c.args.count} (step (goes_into (unary_primary (unary_primary_at _ (next_small (token_kinds c.args.tokens.now)) (λ q. c.if-ahead-eq-MINUS.false (c.next-ahead.ensures ∙ q)) (λ q. c.if-ahead-eq-NOT.false (c.next-ahead.ensures ∙ q)))) (primary_operand_start (primary_operand_start_at _ (next_small (token_kinds c.args.tokens.now))))) c.in_ok-first.ensures.ok) _ c.in_err-calls.ensures.err)
 
 pub unary-returns-clause-ok : goal.unary-returns-clause-ok
-unary-returns-clause-ok t c = as_node (ends (step (step (goes_into (unary_primary (unary_primary_at _ (next_small (token_kinds c.args.tokens.now)) (λ q. c.if-ahead-eq-MINUS.false (c.next-ahead.ensures ∙ q)) (λ q. c.if-ahead-eq-NOT.false (c.next-ahead.ensures ∙ q)))) (primary_operand_start (primary_operand_start_at _ (next_small (token_kinds c.args.tokens.now))))) c.in_ok-first.ensures.ok) c.in_ok-calls.ensures.ok)) (sym (ap (node_at 0) c.make_primary.ensures))
+unary-returns-clause-ok t c = as_node (ends (step (step (goes_into (unary_primary (unary_primary_at _ (next_small (token_kinds c.args.tokens.now)) (λ q. c.if-ahead-eq-MINUS.false (c.next-ahead.ensures ∙ q)) (λ q. c.if-ahead-eq-NOT.false (c.next-ahead.ensures ∙ q)))) (primary_operand_start (primary_operand_start_at _ (next_small (token_kinds c.args.tokens.now))))) c.in_ok-first.ensures.ok) c.in_ok-calls.ensures.ok)) (sym (ap (node_at 0) c.primary.ensures))
 
 pub expr-returns-in_err-first-clause-err : goal.expr-returns-in_err-first-clause-err
 expr-returns-in_err-first-clause-err t c = exits _ _ _ _ _ c.from_residual.ensures.1 (stops {count = c.args.count} (expr_and (expr_and_at _ (next_small (token_kinds c.args.tokens.now)))) _ c.in_err-first.ensures.err)
 
-pub expr-returns-in_err-more-clause-err : goal.expr-returns-in_err-more-clause-err
-expr-returns-in_err-more-clause-err t c = exits _ _ _ _ _ c.from_residual-in_err-more.ensures.1 (stops {count = c.args.count} (step (expr_and (expr_and_at _ (next_small (token_kinds c.args.tokens.now)))) c.in_ok-first.ensures.ok) _ c.in_err-more.ensures.err)
+pub expr-returns-in_default-clause-ok : goal.expr-returns-in_default-clause-ok
+expr-returns-in_default-clause-ok t c = as_node (ends (step (step (expr_and (expr_and_at _ (next_small (token_kinds c.args.tokens.now)))) c.in_ok-first.ensures.ok) (no_link 6 (lit< tt) (omega arith) c.in_default.ensures.none))) (lifted_to_or _ c.in_ok-first.ensures.within)
+
+pub expr-returns-in_err-whole-clause-err : goal.expr-returns-in_err-whole-clause-err
+expr-returns-in_err-whole-clause-err t c = exits _ _ _ _ _ c.from_residual-in_err-whole.ensures.1 (stops {count = c.args.count} (step (expr_and (expr_and_at _ (next_small (token_kinds c.args.tokens.now)))) c.in_ok-first.ensures.ok) _ (subst (λ z. StopsAs (level_tail z) (c.args.depth + 1) (token_kinds c.in_ok-first.rest.now) c.in_err-whole.field-0.0) c.in-Some.ensures.level c.in_err-whole.ensures.err))
 
 pub expr-returns-clause-ok : goal.expr-returns-clause-ok
-expr-returns-clause-ok t c = as_node (ends (step (step (expr_and (expr_and_at _ (next_small (token_kinds c.args.tokens.now)))) c.in_ok-first.ensures.ok) c.in_ok-more.ensures.ok)) (sym c.in_ok-whole.ensures.node)
+expr-returns-clause-ok t c =
+    let chain : Chains c.args.count 6 (c.args.depth + 1) (see_expr c.in_ok-first.first) (see_expr c.in_ok-whole.whole) (token_kinds c.in_ok-first.rest.now) (token_kinds c.in_ok-whole.rest.now) = subst (λ z. Chains c.args.count z (c.args.depth + 1) (see_expr c.in_ok-first.first) (see_expr c.in_ok-whole.whole) (token_kinds c.in_ok-first.rest.now) (token_kinds c.in_ok-whole.rest.now)) c.in-Some.ensures.level c.in_ok-whole.ensures.ok in
+    as_node (ends (step (step (expr_and (expr_and_at _ (next_small (token_kinds c.args.tokens.now)))) c.in_ok-first.ensures.ok) chain.reads)) (sym chain.node)
 
-pub chain-returns-in_err-first-clause-err : goal.chain-returns-in_err-first-clause-err
-chain-returns-in_err-first-clause-err t c = exits _ _ _ _ _ c.from_residual.ensures.1 (stops {count = c.args.count} (level_begun c.args.l (omega (arith, c.if-l-eq0.false)) c.requires.operator_level) _ c.in_err-first.ensures.err)
+pub chain-returns-in_err-whole-clause-err : goal.chain-returns-in_err-whole-clause-err
+chain-returns-in_err-whole-clause-err t c = exits _ _ _ _ _ c.from_residual.ensures.1 (operand_stops _ _ c.args.level c.requires.level _ c.in_err-whole.ensures.err)
 
-pub chain-returns-in_err-more-clause-err : goal.chain-returns-in_err-more-clause-err
-chain-returns-in_err-more-clause-err t c = exits _ _ _ _ _ c.from_residual-in_err-more.ensures.1 (stops {count = c.args.count} (step (level_begun c.args.l (omega (arith, c.if-l-eq0.false)) c.requires.operator_level) c.in_ok-first.ensures.ok) _ c.in_err-more.ensures.err)
+pub chain-each-init : goal.chain-each-init
+chain-each-init t c = climb_begins _ c.in_ok-whole.ensures.ok c.in_ok-whole.ensures.precedence
+
+pub chain-returns-in_err-longer-clause-err : goal.chain-returns-in_err-longer-clause-err
+chain-returns-in_err-longer-clause-err t c = exits _ _ _ _ _ c.from_residual-in_err-longer.ensures.1 (climb_stops _ c.in-Some.operator c.requires.level c.each.invariant c.in-Some.ensures.some c.in-Some.ensures.within _ c.in_err-longer.ensures.err)
+
+pub chain-each-smaller : goal.chain-each-smaller
+chain-each-smaller t c = chain_shorter _ _ c.in_ok-longer.ensures.ok
+
+pub chain-each-preserved : goal.chain-each-preserved
+chain-each-preserved t c = climb_goes_on _ _ c.in-Some.operator c.requires.level c.each.invariant c.in-Some.ensures.some c.in-Some.ensures.within c.in_ok-longer.ensures.ok c.in_ok-longer.ensures.none
 
 pub chain-returns-clause-ok : goal.chain-returns-clause-ok
-chain-returns-clause-ok t c = as_node (ends (step (step (level_begun c.args.l (omega (arith, c.if-l-eq0.false)) c.requires.operator_level) c.in_ok-first.ensures.ok) c.in_ok-more.ensures.ok)) (sym c.in_ok-whole.ensures.node)
+chain-returns-clause-ok t c = climb_ends _ c.requires.level c.each.invariant c.in_default.ensures.none
 
-pub chain_links-returns-in_err-at-clause-err : goal.chain_links-returns-in_err-at-clause-err
-chain_links-returns-in_err-at-clause-err t c = exits _ _ _ _ _ c.from_residual.ensures.1 (stops_in c.each.invariant.0 _ (stops {count = c.args.count} (begun_link c.in-Some.operator c.args.l c.in-Some.ensures.operator_level c.in-Some.ensures.some) _ (subst (λ z. StopsAs (Terminal z) c.args.depth (token_kinds c.each.left.now) c.in_err-at.field-0.0) c.terminal_of_operator.ensures c.in_err-at.ensures.err)))
+pub chain-returns-clause-within : goal.chain-returns-clause-within
+chain-returns-clause-within t c = c.each.invariant.within
 
-pub chain_links-returns-in_err-term-clause-err : goal.chain_links-returns-in_err-term-clause-err
-chain_links-returns-in_err-term-clause-err t c = exits _ _ _ _ _ c.from_residual-in_err-term.ensures.1 (stops_in c.each.invariant.0 _ (stops (step (begun_link c.in-Some.operator c.args.l c.in-Some.ensures.operator_level c.in-Some.ensures.some) (operator_read _ c.in-Some.operator c.terminal_of_operator.ensures c.in_ok-at.ensures.ok)) _ c.in_err-term.ensures.err))
+pub chain-returns-clause-none : goal.chain-returns-clause-none
+chain-returns-clause-none t c = c.in_default.ensures.none
 
-pub chain_links-each-smaller : goal.chain_links-each-smaller
-chain_links-each-smaller t c = shorter _ _ _ c.in_ok-at.ensures.ok c.in_ok-term.ensures.ok
+pub chained-returns-in_err-one-clause-err : goal.chained-returns-in_err-one-clause-err
+chained-returns-in_err-one-clause-err t c = exits _ _ _ _ _ c.from_residual.ensures.1 c.in_err-one.ensures.err
 
-pub chain_links-each-preserved : goal.chain_links-each-preserved
-chain_links-each-preserved t c = (renamed (then c.each.invariant.0 (enters (step (step (begun_link c.in-Some.operator c.args.l c.in-Some.ensures.operator_level c.in-Some.ensures.some) (operator_read _ c.in-Some.operator c.terminal_of_operator.ensures c.in_ok-at.ensures.ok)) c.in_ok-term.ensures.ok))) (λ n. links_push c.args.l _ _ _ (MakeLink c.in-Some.operator c.in_ok-at.at (see_expr c.in_ok-term.term)) n c.in_ok-push.ensures.items c.make_link.ensures), links_at_level _ _ _ _ _ _ _ c.in_ok-push.ensures.items c.make_link.ensures c.in-Some.ensures.operator_level c.each.invariant.1)
+pub chained-returns-clause-ok : goal.chained-returns-clause-ok
+chained-returns-clause-ok t c = chain_read _ _ _ _ c.in_ok-one.ensures.ok c.in_ok-one.ensures.level c.in_ok-whole.ensures
 
-pub chain_links-returns-clause-ok : goal.chain_links-returns-clause-ok
-chain_links-returns-clause-ok t c = as_node (c.each.invariant.0.reads _ _ (no_link c.args.l c.requires.some c.requires.operator_level c.in_default.ensures.none)) (links_all c.args.l (map see_link c.each.more.items))
+pub links-returns-in_err-first-clause-err : goal.links-returns-in_err-first-clause-err
+links-returns-in_err-first-clause-err t c = exits _ _ _ _ _ c.from_residual.ensures.1 c.in_err-first.ensures.err
+
+pub links-each-init : goal.links-each-init
+links-each-init t c = (renamed c.in_ok-first.ensures.ok.goes_on (λ n. ap (λ z. one_link (operator_level c.args.operator) (see_link c.in_ok-first.first) (before_links (operator_level c.args.operator) (map see_link z) n)) (sym c.new-more.ensures.items)), c.in_ok-first.ensures.ok.level_is, c.in_ok-first.ensures.ok.none)
+
+pub links-returns-in_err-one-clause-err : goal.links-returns-in_err-one-clause-err
+links-returns-in_err-one-clause-err t c = exits _ _ _ _ _ c.from_residual-in_err-one.ensures.1 (stops_in c.each.invariant.0 _ (subst (λ z. StopsAs (level_tail z) c.args.depth (token_kinds c.each.left.now) c.in_err-one.field-0.0) (c.in-Some.ensures.level ∙ c.level_of.ensures) c.in_err-one.ensures.err))
+
+pub links-each-smaller : goal.links-each-smaller
+links-each-smaller t c = link_shorter _ _ c.in_ok-one.ensures.ok
+
+pub links-each-preserved : goal.links-each-preserved
+links-each-preserved t c =
+    let one : IsLinkRead c.args.count (operator_level c.args.operator) c.args.depth (token_kinds c.each.left.now) (token_kinds c.in_ok-one.rest.now) (see_link c.in_ok-one.one) = subst (λ z. IsLinkRead c.args.count z c.args.depth (token_kinds c.each.left.now) (token_kinds c.in_ok-one.rest.now) (see_link c.in_ok-one.one)) (c.in-Some.ensures.level ∙ c.level_of.ensures) c.in_ok-one.ensures.ok in
+    (renamed (then c.each.invariant.0 one.goes_on) (λ n. links_grow (operator_level c.args.operator) c.in_ok-first.first _ _ c.in_ok-one.one n c.in_ok-push.ensures.items), c.each.invariant.1, one.none)
+
+pub links-returns-clause-ok : goal.links-returns-clause-ok
+links-returns-clause-ok t c = as_node (c.each.invariant.0.reads _ _ (no_link (operator_level c.args.operator) (some_level c.args.operator) (top_level c.args.operator) (subst (λ z. IsOther z (token_kinds c.each.left.now)) c.level_of.ensures c.in_default.ensures.none))) (links_done (operator_level c.args.operator) (see_link c.in_ok-first.first) (map see_link c.each.more.items))
+
+pub links-returns-clause-level : goal.links-returns-clause-level
+links-returns-clause-level t c = c.each.invariant.1
+
+pub links-returns-clause-none : goal.links-returns-clause-none
+links-returns-clause-none t c = one_more_level _ (operator_level c.args.operator) (some_level c.args.operator) c.each.invariant.2 (subst (λ z. IsOther z (token_kinds c.each.left.now)) c.level_of.ensures c.in_default.ensures.none)
+
+pub link-returns-in_err-at-clause-err : goal.link-returns-in_err-at-clause-err
+link-returns-in_err-at-clause-err t c = exits _ _ _ _ _ c.from_residual.ensures.1 (stops {count = c.args.count} (begun_link c.args.operator _ refl c.requires.next) _ (subst (λ z. StopsAs (Terminal z) c.args.depth (token_kinds c.args.tokens.now) c.in_err-at.field-0.0) c.terminal_of_operator.ensures c.in_err-at.ensures.err))
+
+pub link-returns-in_err-operand-clause-err : goal.link-returns-in_err-operand-clause-err
+link-returns-in_err-operand-clause-err t c = exits _ _ _ _ _ c.from_residual-in_err-operand.ensures.1 (stops (step (begun_link c.args.operator _ refl c.requires.next) (operator_read _ c.args.operator c.terminal_of_operator.ensures c.in_ok-at.ensures.ok)) _ (subst (λ z. StopsAs (level_symbol (z - 1)) c.args.depth (token_kinds c.in_ok-at.rest.now) c.in_err-operand.field-0.0) c.level_of.ensures c.in_err-operand.ensures.err))
+
+pub link-returns-clause-ok : goal.link-returns-clause-ok
+link-returns-clause-ok t c =
+    let operand : Reads c.args.count (level_symbol (operator_level c.args.operator - 1)) c.args.depth (token_kinds c.in_ok-at.rest.now) (token_kinds c.in_ok-operand.rest.now) (node_at (operator_level c.args.operator - 1) (see_expr c.in_ok-operand.operand)) = subst (λ z. Reads c.args.count (level_symbol (z - 1)) c.args.depth (token_kinds c.in_ok-at.rest.now) (token_kinds c.in_ok-operand.rest.now) (node_at (z - 1) (see_expr c.in_ok-operand.operand))) c.level_of.ensures c.in_ok-operand.ensures.ok in
+    link_read c.args.operator c.in_ok-at.at (see_expr c.in_ok-operand.operand) _ (enters (step (step (begun_link c.args.operator _ refl c.requires.next) (operator_read _ c.args.operator c.terminal_of_operator.ensures c.in_ok-at.ensures.ok)) operand)) refl (fewer_left c.in_ok-at.ensures.ok c.in_ok-operand.ensures.ok) (subst (λ z. NoneUpTo (z - 1) (token_kinds c.in_ok-operand.rest.now)) c.level_of.ensures c.in_ok-operand.ensures.none) c.new.ensures
 
 pub dots_next-returns-in_err-one-clause-err : goal.dots_next-returns-in_err-one-clause-err
 dots_next-returns-in_err-one-clause-err t c = exits _ _ _ _ _ c.from_residual.ensures.1 (stops_in c.each.invariant _ (stops {count = c.args.count} (dots_dot (dots_dot_at _ (sym c.next.ensures ∙ c.each-test.true))) _ c.in_err-one.ensures.err))

@@ -19,7 +19,7 @@ pub block-returns-in_err-end-clause-err : goal.block-returns-in_err-end-clause-e
 block-returns-in_err-end-clause-err t c = exits _ _ _ _ _ c.from_residual-in_err-end.ensures.1 (stops {count = c.args.count} (step (step (block_open_brace (block_open_brace_at _ (next_small (token_kinds c.args.tokens.now)))) c.in_ok-rest.ensures.ok) c.in_ok-inside.ensures.ok) _ c.in_err-end.ensures.err)
 
 pub block-returns-clause-ok : goal.block-returns-clause-ok
-block-returns-clause-ok t c = as_node (ends (step (step (step (block_open_brace (block_open_brace_at _ (next_small (token_kinds c.args.tokens.now)))) c.in_ok-rest.ensures.ok) c.in_ok-inside.ensures.ok) c.in_ok-end.ensures.ok)) (sym (ap node_block c.make_block.ensures))
+block-returns-clause-ok t c = as_node (ends (step (step (step (block_open_brace (block_open_brace_at _ (next_small (token_kinds c.args.tokens.now)))) c.in_ok-rest.ensures.ok) c.in_ok-inside.ensures.ok) c.in_ok-end.ensures.ok)) (sym (ap node_block c.new.ensures))
 
 pub items_of-returns-in_err-one-clause-err : goal.items_of-returns-in_err-one-clause-err
 items_of-returns-in_err-one-clause-err t c = exits _ _ _ _ _ c.from_residual.ensures.1 (stops_in c.each.invariant _ (stops {count = c.args.count} (items_item (items_item_at _ (next_small (token_kinds c.each.left.now)) (λ q. c.each-test.true (c.next.ensures ∙ q)))) _ c.in_err-one.ensures.err))
@@ -37,7 +37,7 @@ pub item-returns-in_err-form-clause-err : goal.item-returns-in_err-form-clause-e
 item-returns-in_err-form-clause-err t c = exits _ _ _ _ _ c.from_residual.ensures.1 (stops {count = c.args.count} (item_other (item_other_at _ (next_small (token_kinds c.args.tokens.now)) (λ q. c.if-ahead-eq-NAME.false (c.next-ahead.ensures ∙ q)) (λ q. c.if-ahead-eq-INT.false (c.next-ahead.ensures ∙ q)) (λ q. c.if-ahead-eq-BOOL.false (c.next-ahead.ensures ∙ q)) (λ q. c.if-ahead-eq-STRING.false (c.next-ahead.ensures ∙ q)))) _ c.in_err-form.ensures.err)
 
 pub item-returns-clause-ok : goal.item-returns-clause-ok
-item-returns-clause-ok t c = as_node (ends (step (item_other (item_other_at _ (next_small (token_kinds c.args.tokens.now)) (λ q. c.if-ahead-eq-NAME.false (c.next-ahead.ensures ∙ q)) (λ q. c.if-ahead-eq-INT.false (c.next-ahead.ensures ∙ q)) (λ q. c.if-ahead-eq-BOOL.false (c.next-ahead.ensures ∙ q)) (λ q. c.if-ahead-eq-STRING.false (c.next-ahead.ensures ∙ q)))) c.in_ok-form.ensures.ok)) (unnamed_item _ _ c.in_ok-form.ensures.unnamed ∙ sym (ap node_item c.make_plain.ensures))
+item-returns-clause-ok t c = as_node (ends (step (item_other (item_other_at _ (next_small (token_kinds c.args.tokens.now)) (λ q. c.if-ahead-eq-NAME.false (c.next-ahead.ensures ∙ q)) (λ q. c.if-ahead-eq-INT.false (c.next-ahead.ensures ∙ q)) (λ q. c.if-ahead-eq-BOOL.false (c.next-ahead.ensures ∙ q)) (λ q. c.if-ahead-eq-STRING.false (c.next-ahead.ensures ∙ q)))) c.in_ok-form.ensures.ok)) (unnamed_item _ _ c.in_ok-form.ensures.unnamed ∙ sym (ap node_item c.stmt.ensures))
 
 pub stmt-returns-in_err-name-clause-err : goal.stmt-returns-in_err-name-clause-err
 stmt-returns-in_err-name-clause-err t c = exits _ _ _ _ _ c.from_residual.ensures.1 (stops {count = c.args.count} (stmt_name (stmt_name_at _ (sym c.next.ensures ∙ c.if-next-eq-NAME.true))) _ c.in_err-name.ensures.err)
@@ -61,13 +61,13 @@ pub other-returns-in_err-inside-clause-err : goal.other-returns-in_err-inside-cl
 other-returns-in_err-inside-clause-err t c = exits _ _ _ _ _ c.from_residual.ensures.1 (stops {count = c.args.count} (other_block (other_block_at _ (sym c.next-ahead.ensures ∙ c.if-ahead-eq-OPEN_BRACE.true))) _ c.in_err-inside.ensures.err)
 
 pub other-returns-then-ahead-eq-OPEN_BRACE-clause-ok : goal.other-returns-then-ahead-eq-OPEN_BRACE-clause-ok
-other-returns-then-ahead-eq-OPEN_BRACE-clause-ok t c = as_node (ends (step (other_block (other_block_at _ (sym c.next-ahead.ensures ∙ c.if-ahead-eq-OPEN_BRACE.true))) c.in_ok-inside.ensures.ok)) (sym (ap node_other c.make_braces.ensures))
+other-returns-then-ahead-eq-OPEN_BRACE-clause-ok t c = as_node (ends (step (other_block (other_block_at _ (sym c.next-ahead.ensures ∙ c.if-ahead-eq-OPEN_BRACE.true))) c.in_ok-inside.ensures.ok)) (sym (ap node_other c.block-then-ahead-eq-OPEN_BRACE.ensures))
 
 pub other-returns-in_err-rest-clause-err : goal.other-returns-in_err-rest-clause-err
 other-returns-in_err-rest-clause-err t c = exits _ _ _ _ _ c.from_residual-in_err-rest.ensures.1 (stops {count = c.args.count} (other_semicolon (other_semicolon_at _ (sym c.next-ahead.ensures ∙ c.if-ahead-eq-SEMICOLON.true))) _ c.in_err-rest.ensures.err)
 
 pub other-returns-then-ahead-eq-SEMICOLON-clause-ok : goal.other-returns-then-ahead-eq-SEMICOLON-clause-ok
-other-returns-then-ahead-eq-SEMICOLON-clause-ok t c = as_node (ends (step (other_semicolon (other_semicolon_at _ (sym c.next-ahead.ensures ∙ c.if-ahead-eq-SEMICOLON.true))) c.in_ok-rest.ensures.ok)) (sym (ap node_other c.make_empty.ensures))
+other-returns-then-ahead-eq-SEMICOLON-clause-ok t c = as_node (ends (step (other_semicolon (other_semicolon_at _ (sym c.next-ahead.ensures ∙ c.if-ahead-eq-SEMICOLON.true))) c.in_ok-rest.ensures.ok)) (sym (ap node_other c.empty.ensures))
 
 pub other-returns-clause-err : goal.other-returns-clause-err
 other-returns-clause-err t c = stuck_at _ _ (other_stuck _ (next_small (token_kinds c.args.tokens.now)) (λ q. c.if-ahead-eq-SEMICOLON.false (c.next-ahead.ensures ∙ q)) (λ q. c.if-ahead-eq-OPEN_BRACE.false (c.next-ahead.ensures ∙ q)) (λ q. c.if-ahead-eq-IF.false (c.next-ahead.ensures ∙ q)) (λ q. c.if-ahead-eq-WHILE.false (c.next-ahead.ensures ∙ q)) (λ q. c.if-ahead-eq-RETURN.false (c.next-ahead.ensures ∙ q)) (λ q. c.if-ahead-eq-THIS.false (c.next-ahead.ensures ∙ q)) (λ q. c.if-ahead-eq-NEW.false (c.next-ahead.ensures ∙ q))) refl
@@ -88,7 +88,7 @@ pub while_stmt-returns-in_err-body-clause-err : goal.while_stmt-returns-in_err-b
 while_stmt-returns-in_err-body-clause-err t c = exits _ _ _ _ _ c.from_residual-in_err-body.ensures.1 (stops {count = c.args.count} (step (step (step (step (other_while (other_while_at _ c.requires.first)) c.in_ok-at.ensures.ok) c.in_ok-bracket.ensures.ok) c.in_ok-test.ensures.ok) c.in_ok-rest.ensures.ok) _ c.in_err-body.ensures.err)
 
 pub while_stmt-returns-clause-ok : goal.while_stmt-returns-clause-ok
-while_stmt-returns-clause-ok t c = as_node (ends (step (step (step (step (step (other_while (other_while_at _ c.requires.first)) c.in_ok-at.ensures.ok) c.in_ok-bracket.ensures.ok) c.in_ok-test.ensures.ok) c.in_ok-rest.ensures.ok) c.in_ok-body.ensures.ok)) (sym (ap node_other c.in_ok-form.ensures))
+while_stmt-returns-clause-ok t c = as_node (ends (step (step (step (step (step (other_while (other_while_at _ c.requires.first)) c.in_ok-at.ensures.ok) c.in_ok-bracket.ensures.ok) c.in_ok-test.ensures.ok) c.in_ok-rest.ensures.ok) c.in_ok-body.ensures.ok)) (sym (ap node_other c.while_loop.ensures))
 
 pub if_stmt-returns-in_err-at-clause-err : goal.if_stmt-returns-in_err-at-clause-err
 if_stmt-returns-in_err-at-clause-err t c = exits _ _ _ _ _ c.from_residual.ensures.1 (stops {count = c.args.count} (other_if (other_if_at _ c.requires.first)) _ c.in_err-at.ensures.err)
@@ -105,14 +105,23 @@ if_stmt-returns-in_err-rest-clause-err t c = exits _ _ _ _ _ c.from_residual-in_
 pub if_stmt-returns-in_err-first-clause-err : goal.if_stmt-returns-in_err-first-clause-err
 if_stmt-returns-in_err-first-clause-err t c = exits _ _ _ _ _ c.from_residual-in_err-first.ensures.1 (stops {count = c.args.count} (step (step (step (step (other_if (other_if_at _ c.requires.first)) c.in_ok-at.ensures.ok) c.in_ok-bracket.ensures.ok) c.in_ok-test.ensures.ok) c.in_ok-rest.ensures.ok) _ c.in_err-first.ensures.err)
 
-pub if_stmt-returns-in_err-rest-2-clause-err : goal.if_stmt-returns-in_err-rest-2-clause-err
-if_stmt-returns-in_err-rest-2-clause-err t c = exits _ _ _ _ _ c.from_residual-in_err-rest-2.ensures.1 (stops {count = c.args.count} (goes_into (step (step (step (step (step (other_if (other_if_at _ c.requires.first)) c.in_ok-at.ensures.ok) c.in_ok-bracket.ensures.ok) c.in_ok-test.ensures.ok) c.in_ok-rest.ensures.ok) c.in_ok-first.ensures.ok) (optional_else_else (optional_else_else_at _ (sym c.next.ensures ∙ c.if-next-eq-ELSE.true)))) _ c.in_err-rest-2.ensures.err)
-
 pub if_stmt-returns-in_err-second-clause-err : goal.if_stmt-returns-in_err-second-clause-err
-if_stmt-returns-in_err-second-clause-err t c = exits _ _ _ _ _ c.from_residual-in_err-second.ensures.1 (stops {count = c.args.count} (step (goes_into (step (step (step (step (step (other_if (other_if_at _ c.requires.first)) c.in_ok-at.ensures.ok) c.in_ok-bracket.ensures.ok) c.in_ok-test.ensures.ok) c.in_ok-rest.ensures.ok) c.in_ok-first.ensures.ok) (optional_else_else (optional_else_else_at _ (sym c.next.ensures ∙ c.if-next-eq-ELSE.true)))) c.in_ok-rest-2.ensures.ok) _ c.in_err-second.ensures.err)
-
-pub if_stmt-returns-then-next-eq-ELSE-clause-ok : goal.if_stmt-returns-then-next-eq-ELSE-clause-ok
-if_stmt-returns-then-next-eq-ELSE-clause-ok t c = as_node (ends (step (step (goes_into (step (step (step (step (step (other_if (other_if_at _ c.requires.first)) c.in_ok-at.ensures.ok) c.in_ok-bracket.ensures.ok) c.in_ok-test.ensures.ok) c.in_ok-rest.ensures.ok) c.in_ok-first.ensures.ok) (optional_else_else (optional_else_else_at _ (sym c.next.ensures ∙ c.if-next-eq-ELSE.true)))) c.in_ok-rest-2.ensures.ok) c.in_ok-second.ensures.ok)) (sym (ap node_other c.in_ok-form.ensures))
+if_stmt-returns-in_err-second-clause-err t c = exits _ _ _ _ _ c.from_residual-in_err-second.ensures.1 (stops {count = c.args.count} (step (step (step (step (step (other_if (other_if_at _ c.requires.first)) c.in_ok-at.ensures.ok) c.in_ok-bracket.ensures.ok) c.in_ok-test.ensures.ok) c.in_ok-rest.ensures.ok) c.in_ok-first.ensures.ok) _ c.in_err-second.ensures.err)
 
 pub if_stmt-returns-clause-ok : goal.if_stmt-returns-clause-ok
-if_stmt-returns-clause-ok t c = as_node (ends (step (step (step (step (step (step (other_if (other_if_at _ c.requires.first)) c.in_ok-at.ensures.ok) c.in_ok-bracket.ensures.ok) c.in_ok-test.ensures.ok) c.in_ok-rest.ensures.ok) c.in_ok-first.ensures.ok) (ends (optional_else_none (optional_else_none_at _ (next_small (token_kinds c.in_ok-first.rest.now)) (λ q. c.if-next-eq-ELSE.false (c.next.ensures ∙ q))))))) (sym (ap node_other c.in_ok-form-2.ensures))
+if_stmt-returns-clause-ok t c = as_node (ends (step (step (step (step (step (step (other_if (other_if_at _ c.requires.first)) c.in_ok-at.ensures.ok) c.in_ok-bracket.ensures.ok) c.in_ok-test.ensures.ok) c.in_ok-rest.ensures.ok) c.in_ok-first.ensures.ok) c.in_ok-second.ensures.ok)) (sym c.if_form.ensures.node)
+
+pub boxed_stmt-returns-in_err-form-clause-err : goal.boxed_stmt-returns-in_err-form-clause-err
+boxed_stmt-returns-in_err-form-clause-err t c = exits _ _ _ _ _ c.from_residual.ensures.1 c.in_err-form.ensures.err
+
+pub else_of-returns-in_err-rest-clause-err : goal.else_of-returns-in_err-rest-clause-err
+else_of-returns-in_err-rest-clause-err t c = exits _ _ _ _ _ c.from_residual.ensures.1 (stops {count = c.args.count} (optional_else_else (optional_else_else_at _ (sym c.next.ensures ∙ c.if-next-eq-ELSE.true))) _ c.in_err-rest.ensures.err)
+
+pub else_of-returns-in_err-second-clause-err : goal.else_of-returns-in_err-second-clause-err
+else_of-returns-in_err-second-clause-err t c = exits _ _ _ _ _ c.from_residual-in_err-second.ensures.1 (stops {count = c.args.count} (step (optional_else_else (optional_else_else_at _ (sym c.next.ensures ∙ c.if-next-eq-ELSE.true))) c.in_ok-rest.ensures.ok) _ c.in_err-second.ensures.err)
+
+pub else_of-returns-then-next-eq-ELSE-clause-ok : goal.else_of-returns-then-next-eq-ELSE-clause-ok
+else_of-returns-then-next-eq-ELSE-clause-ok t c = ends (step (step (optional_else_else (optional_else_else_at _ (sym c.next.ensures ∙ c.if-next-eq-ELSE.true))) c.in_ok-rest.ensures.ok) c.in_ok-second.ensures.ok)
+
+pub else_of-returns-clause-ok : goal.else_of-returns-clause-ok
+else_of-returns-clause-ok t c = ends (optional_else_none (optional_else_none_at _ (next_small (token_kinds c.args.tokens.now)) (λ q. c.if-next-eq-ELSE.false (c.next.ensures ∙ q))))

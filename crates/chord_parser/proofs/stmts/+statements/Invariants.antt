@@ -8,6 +8,12 @@ use Rattle.chord_parser.proofs.stmts.+statements.Given as goal
 abbrev pub decreases-block : goal.decreases-block
 decreases-block l = 8 * (203 - l.depth) + 6
 
+abbrev pub decreases-boxed_stmt : goal.decreases-boxed_stmt
+decreases-boxed_stmt l = 8 * (203 - l.depth) + 1
+
+abbrev pub decreases-else_of : goal.decreases-else_of
+decreases-else_of l = 8 * (203 - l.depth) + 2
+
 abbrev pub decreases-if_stmt : goal.decreases-if_stmt
 decreases-if_stmt l = 8 * (203 - l.depth) + 6
 

@@ -24,7 +24,7 @@ pub returns-in_err-rest-clause-err : goal.returns-in_err-rest-clause-err
 returns-in_err-rest-clause-err c = exits _ _ _ _ _ c.from_residual-in_err-rest.ensures.1 (stops (step (step (item_name (item_name_at _ c.requires.first)) c.in_ok-first.ensures.ok) (ends (step (step (step (after_name_name (after_name_name_at _ (sym c.next.ensures ∙ c.if-next-eq-NAME.true))) c.in_ok-second.ensures.ok) c.in_ok-assign.ensures.ok) c.in_ok-value.ensures.ok))) _ c.in_err-rest.ensures.err)
 
 pub returns-then-next-eq-NAME-clause-ok : goal.returns-then-next-eq-NAME-clause-ok
-returns-then-next-eq-NAME-clause-ok c = as_node (ends (step (step (step (item_name (item_name_at _ c.requires.first)) c.in_ok-first.ensures.ok) (ends (step (step (step (after_name_name (after_name_name_at _ (sym c.next.ensures ∙ c.if-next-eq-NAME.true))) c.in_ok-second.ensures.ok) c.in_ok-assign.ensures.ok) c.in_ok-value.ensures.ok))) c.in_ok-rest.ensures.ok)) (sym (ap node_item c.make_local.ensures))
+returns-then-next-eq-NAME-clause-ok c = as_node (ends (step (step (step (item_name (item_name_at _ c.requires.first)) c.in_ok-first.ensures.ok) (ends (step (step (step (after_name_name (after_name_name_at _ (sym c.next.ensures ∙ c.if-next-eq-NAME.true))) c.in_ok-second.ensures.ok) c.in_ok-assign.ensures.ok) c.in_ok-value.ensures.ok))) c.in_ok-rest.ensures.ok)) (sym (ap node_item c.local.ensures))
 
 pub returns-in_err-form-clause-err : goal.returns-in_err-form-clause-err
 returns-in_err-form-clause-err c = exits _ _ _ _ _ c.from_residual-in_err-form.ensures.1 (stops (step (item_name (item_name_at _ c.requires.first)) c.in_ok-first.ensures.ok) _ (stops {count = c.args.count} (after_name_tail (after_name_tail_at _ (next_small (token_kinds c.in_ok-first.rest.now)) (λ q. c.if-next-eq-NAME.false (c.next.ensures ∙ q)))) _ c.in_err-form.ensures.err))
@@ -33,4 +33,4 @@ pub returns-in_err-rest-2-clause-err : goal.returns-in_err-rest-2-clause-err
 returns-in_err-rest-2-clause-err c = exits _ _ _ _ _ c.from_residual-in_err-rest-2.ensures.1 (stops (step (step (item_name (item_name_at _ c.requires.first)) c.in_ok-first.ensures.ok) (ends (step (after_name_tail (after_name_tail_at _ (next_small (token_kinds c.in_ok-first.rest.now)) (λ q. c.if-next-eq-NAME.false (c.next.ensures ∙ q)))) c.in_ok-form.ensures.ok))) _ c.in_err-rest-2.ensures.err)
 
 pub returns-clause-ok : goal.returns-clause-ok
-returns-clause-ok c = as_node (ends (step (step (step (item_name (item_name_at _ c.requires.first)) c.in_ok-first.ensures.ok) (ends (step (after_name_tail (after_name_tail_at _ (next_small (token_kinds c.in_ok-first.rest.now)) (λ q. c.if-next-eq-NAME.false (c.next.ensures ∙ q)))) c.in_ok-form.ensures.ok))) c.in_ok-rest-2.ensures.ok)) (named_item _ _ c.in_ok-form.ensures.named ∙ sym (ap node_item c.make_plain.ensures))
+returns-clause-ok c = as_node (ends (step (step (step (item_name (item_name_at _ c.requires.first)) c.in_ok-first.ensures.ok) (ends (step (after_name_tail (after_name_tail_at _ (next_small (token_kinds c.in_ok-first.rest.now)) (λ q. c.if-next-eq-NAME.false (c.next.ensures ∙ q)))) c.in_ok-form.ensures.ok))) c.in_ok-rest-2.ensures.ok)) (named_item _ _ c.in_ok-form.ensures.named ∙ sym (ap node_item c.stmt.ensures))

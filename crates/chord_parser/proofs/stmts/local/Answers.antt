@@ -24,4 +24,4 @@ pub returns-in_err-rest-clause-err : goal.returns-in_err-rest-clause-err
 returns-in_err-rest-clause-err c = exits _ _ _ _ _ c.from_residual-in_err-rest.ensures.1 (stops (step (step (step (step (basic_begun c.args.basic (c.requires.first ∙ c.requires.basic)) (basic_read c.args.wanted c.args.basic c.requires.basic c.in_ok-at.ensures.ok)) c.in_ok-name.ensures.ok) c.in_ok-assign.ensures.ok) c.in_ok-value.ensures.ok) _ c.in_err-rest.ensures.err)
 
 pub returns-clause-ok : goal.returns-clause-ok
-returns-clause-ok c = as_node (ends (step (step (step (step (step (basic_begun c.args.basic (c.requires.first ∙ c.requires.basic)) (basic_read c.args.wanted c.args.basic c.requires.basic c.in_ok-at.ensures.ok)) c.in_ok-name.ensures.ok) c.in_ok-assign.ensures.ok) c.in_ok-value.ensures.ok) c.in_ok-rest.ensures.ok)) (sym (ap node_item c.make_local.ensures))
+returns-clause-ok c = as_node (ends (step (step (step (step (step (basic_begun c.args.basic (c.requires.first ∙ c.requires.basic)) (basic_read c.args.wanted c.args.basic c.requires.basic c.in_ok-at.ensures.ok)) c.in_ok-name.ensures.ok) c.in_ok-assign.ensures.ok) c.in_ok-value.ensures.ok) c.in_ok-rest.ensures.ok)) (sym (ap node_item c.local.ensures))

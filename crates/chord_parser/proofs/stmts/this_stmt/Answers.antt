@@ -18,4 +18,4 @@ pub returns-in_err-rest-clause-err : goal.returns-in_err-rest-clause-err
 returns-in_err-rest-clause-err c = exits _ _ _ _ _ c.from_residual-in_err-rest.ensures.1 (stops {count = c.args.count} (step (step (step (other_this (other_this_at _ c.requires.first)) c.in_ok-at.ensures.ok) c.in_ok-first.ensures.ok) c.in_ok-calls.ensures.ok) _ c.in_err-rest.ensures.err)
 
 pub returns-clause-ok : goal.returns-clause-ok
-returns-clause-ok c = as_node (ends (step (step (step (step (other_this (other_this_at _ c.requires.first)) c.in_ok-at.ensures.ok) c.in_ok-first.ensures.ok) c.in_ok-calls.ensures.ok) c.in_ok-rest.ensures.ok)) (sym (ap node_other c.make_this_stmt.ensures))
+returns-clause-ok c = as_node (ends (step (step (step (step (other_this (other_this_at _ c.requires.first)) c.in_ok-at.ensures.ok) c.in_ok-first.ensures.ok) c.in_ok-calls.ensures.ok) c.in_ok-rest.ensures.ok)) (sym (ap node_other c.this_call.ensures))

@@ -3,5 +3,5 @@ use Rattle.chord_lexer.specs.declared.token.Kind.TheVariants as kinds
 use Rattle.chord_parser.proofs.Single.{read_as}
 use Rattle.chord_parser.proofs.tokens.literal_next.Goals as goal
 
-pub returns-in_ok-bytes-in-Literal-clause-ok : goal.returns-in_ok-bytes-in-Literal-clause-ok
-returns-in_ok-bytes-in-Literal-clause-ok c = read_as _ _ _ _ _ _ _ _ c.in_ok-first.ensures.ok c.in_ok-first.ensures.not_tall (c.in-Literal.is ∙ ap kinds.Literal (sym c.in_ok-bytes-in-Literal.ensures)) c.token_number-at.ensures refl
+pub returns-clause-ok : goal.returns-clause-ok
+returns-clause-ok c = read_as _ _ _ _ _ _ _ _ c.in_ok-first.ensures.ok c.in_ok-first.ensures.not_tall (c.in-Literal.is ∙ ap kinds.Literal (sym c.in_ok-bytes-in-Literal.ensures)) c.token_number-at.ensures refl
