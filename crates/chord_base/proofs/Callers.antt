@@ -1,5 +1,5 @@
 -- Callers in a run: who is served, by what, and who waits.
-use Rattle.std.proofs.Common.{◌≡◌, ℕ, ◌<◌, Bool, true, false, ◌==◌, List, [], ◌∷◌, ◌++◌, length, Option, Some, None, refl, sym, ap, ◌∙◌, subst, arith, ◌⊎◌, inl, inr}
+use Rattle.std.proofs.Common.{◌≡◌, ℕ, ◌<◌, Bool, true, false, ◌==◌, List, [], ◌∷◌, length, Option, Some, None, refl, sym, ap, ◌∙◌, subst, arith, ◌⊎◌, inl, inr}
 use Rattle.std.proofs.lemmas.Bool.{eq-eqb, eqb-true, eqb-false, ne_eqb}
 use Rattle.chord_base.specs.declared.event.End.{End}
 use Rattle.chord_base.specs.declared.event.What.{What}
@@ -9,7 +9,7 @@ use Rattle.chord_base.specs.Meaning.{Program, Start, Asked, HasOneSync}
 use Rattle.chord_base.specs.Messages.{IsCall, has, maker, members_of}
 use Rattle.chord_base.specs.Bodies.{Doing, Absent, Unplaced, Ready, Waits, Over, WaitsFor, answered, heard, waiting, own, doing, asked, Asks, served, served_among, serves}
 use Rattle.chord_base.specs.Machine.{Comes, IsPast, MayFollow}
-use Rattle.chord_base.specs.Served.{HasEnded, IsServed}
+use Rattle.chord_base.specs.Served.{IsServed}
 use Rattle.chord_base.specs.Story.{IsIn, IsSound}
 use Rattle.chord_base.specs.Laws.{OthersWait, ServedGoesOn, ServedOnce, ServedWaitsNoMore}
 use Rattle.chord_base.proofs.AskLists.{body_below, entry_within}

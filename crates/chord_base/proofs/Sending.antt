@@ -1,13 +1,11 @@
 -- What is pending in a run, as what was sent and not taken.
-use Rattle.std.proofs.Common.{◌≡◌, ℕ, ◌<◌, Bool, true, false, ◌==◌, List, [], ◌∷◌, length, Option, Some, None, refl, sym, ap, ◌∙◌, subst, arith, inl, inr}
-use Rattle.std.proofs.lemmas.Bool.{eq-eqb, eqb-true, ne_eqb}
-use Rattle.chord_base.specs.declared.event.What.{What}
-use Rattle.chord_base.specs.declared.event.What.TheVariants.{Begun, Made, Sent, Called, Printed, Fired, Ended}
+use Rattle.std.proofs.Common.{◌≡◌, false, ◌==◌, List, [], ◌∷◌, Option, Some, None, refl, sym, ap, ◌∙◌, subst, arith, inl, inr}
+use Rattle.std.proofs.lemmas.Bool.{eq-eqb, ne_eqb}
 use Rattle.chord_base.specs.declared.event.Entry.{Entry}
 use Rattle.chord_base.specs.Meaning.{Program}
 use Rattle.chord_base.specs.Messages.{Message, has, message_of, members_of, pending}
 use Rattle.chord_base.specs.Machine.{IsPast}
-use Rattle.chord_base.specs.Served.{IsSent, IsTaken}
+use Rattle.chord_base.specs.Served.{IsTaken}
 use Rattle.chord_base.specs.Story.{IsIn}
 use Rattle.chord_base.specs.Laws.{PendingIsSentNotTaken}
 use Rattle.chord_base.proofs.Waits.{either}
@@ -33,8 +31,8 @@ still_pending p (x ∷ h) e m r i s n =
 pub pending_is_sent_not_taken : PendingIsSentNotTaken
 pending_is_sent_not_taken p h n m r = (
   λ s.
-  let k = entry_pending h n m s in
-  (record { entry = k.0; there = k.1; numbered = k.2; sends = k.3 }, λ t. let z : ◌≡◌ {A = Option Message} None (Some m) = sym (taken_for_good p h t.entry n r t.there t.takes) ∙ s in cc),
+      let k = entry_pending h n m s in
+      (record { entry = k.0; there = k.1; numbered = k.2; sends = k.3 }, λ t. let z : ◌≡◌ {A = Option Message} None (Some m) = sym (taken_for_good p h t.entry n r t.there t.takes) ∙ s in cc),
   λ b.
-  ap (λ i. pending i h) (sym b.0.numbered) ∙ still_pending p h b.0.entry m r b.0.there b.0.sends (λ t. b.1 (record { entry = t.entry; there = t.there; takes = ap (λ i. has i (members_of t.entry.what)) (sym b.0.numbered) ∙ t.takes })),
+      ap (λ i. pending i h) (sym b.0.numbered) ∙ still_pending p h b.0.entry m r b.0.there b.0.sends (λ t. b.1 (record { entry = t.entry; there = t.there; takes = ap (λ i. has i (members_of t.entry.what)) (sym b.0.numbered) ∙ t.takes })),
 )

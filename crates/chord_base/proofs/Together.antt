@@ -2,8 +2,7 @@
 use Rattle.std.proofs.Common.{◌≡◌, ◌≢◌, ℕ, ◌<◌, Bool, true, false, ◌==◌, ◌||◌, List, [], ◌∷◌, if◌then◌else◌, refl, sym, ap, ap₂, ◌∙◌, subst, arith, inl, inr, lt-ltb, le-ltb}
 use Rattle.std.proofs.lemmas.Bool.{eq-eqb, eqb-true, eqb-false, ne_eqb}
 use Rattle.chord_base.specs.declared.event.Entry.{Entry}
-use Rattle.chord_base.specs.Meaning.{Program}
-use Rattle.chord_base.specs.Story.{AllBelow, IsMerged, IsRising, insert, kept, moved_into, together}
+use Rattle.chord_base.specs.Story.{AllBelow, IsRising, insert, kept, moved_into, together}
 use Rattle.chord_base.specs.Laws.{MovingKeepsPlaces, PartsTogether}
 use Rattle.chord_base.proofs.Waits.{either}
 use Rattle.chord_base.proofs.Merged.{merged_union, past_rises}
@@ -87,8 +86,10 @@ moving_keeps_places p view h a b ne m = merged_union p view (moved_into a b view
     there = kept_equal (λ n. goes_to a b (m.at n) == b) (λ n. (m.at n == b) || (m.at n == a)) h (λ n. comes_to a b (m.at n) ne)
         ∙ sym (parts_together p h (λ n. m.at n == b) (λ n. m.at n == a) m.past (λ n q. ne_eqb (m.at n) a (λ r. ne (sym r ∙ eqb-true (m.at n) b q))))
         ∙ ap₂ together (m.keeps b) (m.keeps a)
+
     gone : kept (λ n. goes_to a b (m.at n) == a) h ≡ []
     gone = kept_equal (λ n. goes_to a b (m.at n) == a) (λ n. false) h (λ n. leaves a b (m.at n) ne) ∙ kept_nothing h
+
     keeps : (c : ℕ) → kept (λ n. goes_to a b (m.at n) == c) h ≡ moved_into a b view c
     keeps c =
         elim (either (c == b)) [

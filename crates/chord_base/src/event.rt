@@ -166,7 +166,11 @@ mod tests {
             let copy = entry.copied(rt.alloc())?;
             assert_eq!(rt; copy.number, entry.number);
             assert_eq!(rt; copy.body, entry.body);
-            assert!(rt; same_what(&copy.what, &entry.what), "entry {}", entry.number);
+            assert!(rt;
+                same_what(&copy.what, &entry.what),
+                "entry {}",
+                entry.number
+            );
         }
         Ok(())
     }

@@ -48,6 +48,7 @@ pub type Outcome = Result<Value, Trap>;
 /// What the operator comes to: its value, or its trap.
 ///
 /// Only a join takes memory.
+#[inline(always)]
 pub fn compute(
     alloc: Global,
     operation: Operation,
@@ -69,6 +70,7 @@ pub fn compute(
 }
 
 /// What an operator on two ints comes to.
+#[inline(always)]
 fn compute_ints(operation: Operation, left: i32, right: i32) -> Outcome
     requires { operation ≢ Operation.Join }
     ensures { IsComputed (computed operation (Value.Int left) (Value.Int right)) result }
@@ -155,5 +157,69 @@ pub fn deny(value: Value) -> Value
     match value {
         Value::Flag(flag) => Value::Flag(!flag),
         _ => unreachable!(),
+    }
+}
+
+#[cfg(test)]
+mod tests {
+    use super::*;
+    use std::test::Fail;
+
+    /// What an operator on two ints gives: the number, or 1 and 0 for a truth value. None for a trap.
+    fn of_ints(operation: Operation, left: i32, right: i32) -> Option<i32>
+        requires { operation ≢ Operation.Join }
+    {
+        match compute_ints(operation, left, right) {
+            Ok(Value::Int(number)) => Some(number),
+            Ok(Value::Flag(flag)) => Some(i32::from(flag)),
+            _ => None,
+        }
+    }
+
+    #[test]
+    fn operators_at_the_edges_of_ints(rt: HostRuntime) {
+        for (left, right, quotient, remainder, sum) in [
+            (7, 2, Some(3), Some(1), 9),
+            (-7, 2, Some(-3), Some(-1), -5),
+            (7, -2, Some(-3), Some(1), 5),
+            (i32::MIN, -1, Some(i32::MIN), Some(0), i32::MAX),
+            (i32::MAX, 1, Some(i32::MAX), Some(0), i32::MIN),
+            (1, 0, None, None, 1),
+        ] {
+            assert_eq!(rt;
+                of_ints(Operation::Divide, left, right),
+                quotient,
+                "{left} / {right}"
+            );
+            assert_eq!(rt;
+                of_ints(Operation::Remainder, left, right),
+                remainder,
+                "{left} % {right}"
+            );
+            assert_eq!(rt;
+                of_ints(Operation::Add, left, right),
+                Some(sum),
+                "{left} + {right}"
+            );
+        }
+    }
+
+    /// The length of the text of two numbers joined, if it is no trap.
+    fn joined_numbers(alloc: Global, left: i32, right: i32) -> Result<usize, AllocError> {
+        match compute(alloc, Operation::Join, Value::Int(left), Value::Int(right))? {
+            Ok(Value::Text(text)) => Ok(text.items().len()),
+            _ => Ok(0),
+        }
+    }
+
+    #[test]
+    fn numbers_are_joined_as_texts(rt: HostRuntime) -> Result<(), Fail> {
+        assert_eq!(rt; joined_numbers(rt.alloc(), i32::MIN, 0)?, 12);
+        assert_eq!(rt;
+            Text::of_flag(rt.alloc(), true)?.items(),
+            b"True".as_slice()
+        );
+        assert_eq!(rt; Text::of_int(rt.alloc(), -17)?.items(), b"-17".as_slice());
+        Ok(())
     }
 }

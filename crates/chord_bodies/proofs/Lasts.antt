@@ -51,14 +51,18 @@ calls_last : (result : Option StaticType) (calls : List Call) → last_call resu
 calls_last result [] = refl
 calls_last result (call ∷ more) = calls_last (result_of call) more
 
+-- the operator of a chain is that of its last link
 pub last_link_there : (operator : BinaryOperator) (links : List Link) (link : Link) → slice_get links (length links - 1) ≡ Some link → last_link operator (map view_link links) ≡ operator_of link
 last_link_there operator links link h = links_last operator links ∙ last_there operator_of operator links link h
 
+-- the operator of a chain of one link is its own
 pub last_link_absent : (operator : BinaryOperator) (links : List Link) → slice_get links (length links - 1) ≡ None → last_link operator (map view_link links) ≡ operator
 last_link_absent operator links h = links_last operator links ∙ last_absent operator_of operator links h
 
+-- the result of a chain of calls is that of its last call
 pub last_call_there : (result : Option StaticType) (calls : List Call) (call : Call) → slice_get calls (length calls - 1) ≡ Some call → last_call result (map view_call calls) ≡ result_of call
 last_call_there result calls call h = calls_last result calls ∙ last_there result_of result calls call h
 
+-- the result of a chain of one call is its own
 pub last_call_absent : (result : Option StaticType) (calls : List Call) → slice_get calls (length calls - 1) ≡ None → last_call result (map view_call calls) ≡ result
 last_call_absent result calls h = calls_last result calls ∙ last_absent result_of result calls h

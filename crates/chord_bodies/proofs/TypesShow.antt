@@ -5,11 +5,11 @@ use Rattle.chord_base.specs.declared.operation.Operation.TheVariants.{Add, Subtr
 use Rattle.chord_base.specs.declared.static_type.StaticType.{StaticType}
 use Rattle.chord_base.specs.declared.static_type.StaticType.TheVariants as ty
 use Rattle.chord_bodies.specs.Resolved.{IntOf, FlagOf, TextOf, Load, This, Negate, Deny, Operate, Both, Either, New, Call}
-use Rattle.chord_bodies.specs.Types.{Signatures, operated, operation_type}
+use Rattle.chord_bodies.specs.Types.{Signatures, operation_result, operation_type}
 use Rattle.chord_bodies.specs.Laws.{TypesShown}
 
 -- where operands fit an operator, what it gives depends on the operator alone
-operated_type : (sig : Signatures) (op : Operation) (a b c : StaticType) → operated sig op a b ≡ Some c → operation_type op ≡ c
+operated_type : (sig : Signatures) (op : Operation) (a b c : StaticType) → operation_result sig op a b ≡ Some c → operation_type op ≡ c
 operated_type sig Add ty.Int ty.Int c h = cc
 operated_type sig Add ty.Int ty.Bool c h = cc
 operated_type sig Add ty.Int ty.Text c h = cc

@@ -11,6 +11,7 @@ abbrev pub laid : Signatures → ℕ → List ℕ → List StaticType → Type 0
 laid sig c [] ts = ts ≡ []
 laid sig c (j ∷ js) ts = (m : Signature) × (rest : List StaticType) × (sig.methods c j ≡ Some m) × (ts ≡ m.parameters ++ rest) × laid sig c js rest
 
+-- one of two facts, by whether callers wait
 abbrev pub if_sync : Bool → Type 0 → Type 0 → Type 0
 if_sync true A B = A
 if_sync false A B = B
@@ -25,6 +26,7 @@ abbrev pub is_sync_in : Option Signature → Bool
 is_sync_in None = false
 is_sync_in (Some m) = m.is_sync
 
+-- what sound code needs of an effective chord of a class
 pub record ChordIs (sig : Signatures) (p : Resolved) (c : ℕ) (k : ChordOf) : Type 0 where
   pub body : BodyOf
   pub there : slice_get p.bodies k.body ≡ Some body

@@ -20,30 +20,30 @@ abbrev pub Scope : Type 0
 Scope = List (Option StaticType)
 
 -- the type of what an operator gives, where its operands fit it
-abbrev pub operated : Signatures → Operation → StaticType → StaticType → Option StaticType
-operated sig Add ty.Int ty.Int = Some ty.Int
-operated sig Subtract ty.Int ty.Int = Some ty.Int
-operated sig Multiply ty.Int ty.Int = Some ty.Int
-operated sig Divide ty.Int ty.Int = Some ty.Int
-operated sig Remainder ty.Int ty.Int = Some ty.Int
-operated sig Less ty.Int ty.Int = Some ty.Bool
-operated sig Greater ty.Int ty.Int = Some ty.Bool
-operated sig LessOrEqual ty.Int ty.Int = Some ty.Bool
-operated sig GreaterOrEqual ty.Int ty.Int = Some ty.Bool
-operated sig Join ty.Text ty.Int = Some ty.Text
-operated sig Join ty.Text ty.Bool = Some ty.Text
-operated sig Join ty.Text ty.Text = Some ty.Text
-operated sig Join ty.Int ty.Text = Some ty.Text
-operated sig Join ty.Bool ty.Text = Some ty.Text
-operated sig Equal ty.Int ty.Int = Some ty.Bool
-operated sig Equal ty.Bool ty.Bool = Some ty.Bool
-operated sig Equal ty.Text ty.Text = Some ty.Bool
-operated sig Equal (ty.Class c) (ty.Class d) = Some ty.Bool
-operated sig NotEqual ty.Int ty.Int = Some ty.Bool
-operated sig NotEqual ty.Bool ty.Bool = Some ty.Bool
-operated sig NotEqual ty.Text ty.Text = Some ty.Bool
-operated sig NotEqual (ty.Class c) (ty.Class d) = Some ty.Bool
-operated sig _ _ _ = None
+abbrev pub operation_result : Signatures → Operation → StaticType → StaticType → Option StaticType
+operation_result sig Add ty.Int ty.Int = Some ty.Int
+operation_result sig Subtract ty.Int ty.Int = Some ty.Int
+operation_result sig Multiply ty.Int ty.Int = Some ty.Int
+operation_result sig Divide ty.Int ty.Int = Some ty.Int
+operation_result sig Remainder ty.Int ty.Int = Some ty.Int
+operation_result sig Less ty.Int ty.Int = Some ty.Bool
+operation_result sig Greater ty.Int ty.Int = Some ty.Bool
+operation_result sig LessOrEqual ty.Int ty.Int = Some ty.Bool
+operation_result sig GreaterOrEqual ty.Int ty.Int = Some ty.Bool
+operation_result sig Join ty.Text ty.Int = Some ty.Text
+operation_result sig Join ty.Text ty.Bool = Some ty.Text
+operation_result sig Join ty.Text ty.Text = Some ty.Text
+operation_result sig Join ty.Int ty.Text = Some ty.Text
+operation_result sig Join ty.Bool ty.Text = Some ty.Text
+operation_result sig Equal ty.Int ty.Int = Some ty.Bool
+operation_result sig Equal ty.Bool ty.Bool = Some ty.Bool
+operation_result sig Equal ty.Text ty.Text = Some ty.Bool
+operation_result sig Equal (ty.Class c) (ty.Class d) = Some ty.Bool
+operation_result sig NotEqual ty.Int ty.Int = Some ty.Bool
+operation_result sig NotEqual ty.Bool ty.Bool = Some ty.Bool
+operation_result sig NotEqual ty.Text ty.Text = Some ty.Bool
+operation_result sig NotEqual (ty.Class c) (ty.Class d) = Some ty.Bool
+operation_result sig _ _ _ = None
 
 abbrev mutual
   -- an expression has this type in a scope; None is that of a call without a value
@@ -55,7 +55,7 @@ abbrev mutual
   ExprIs sig g This t = (a : StaticType) × (slice_get g 0 ≡ Some (Some a)) × (t ≡ Some a)
   ExprIs sig g (Negate e) t = ExprIs sig g e (Some ty.Int) × (t ≡ Some ty.Int)
   ExprIs sig g (Deny e) t = ExprIs sig g e (Some ty.Bool) × (t ≡ Some ty.Bool)
-  ExprIs sig g (Operate op l r) t = (a b c : StaticType) × ExprIs sig g l (Some a) × ExprIs sig g r (Some b) × (operated sig op a b ≡ Some c) × (t ≡ Some c)
+  ExprIs sig g (Operate op l r) t = (a b c : StaticType) × ExprIs sig g l (Some a) × ExprIs sig g r (Some b) × (operation_result sig op a b ≡ Some c) × (t ≡ Some c)
   ExprIs sig g (Both l r) t = ExprIs sig g l (Some ty.Bool) × ExprIs sig g r (Some ty.Bool) × (t ≡ Some ty.Bool)
   ExprIs sig g (Either l r) t = ExprIs sig g l (Some ty.Bool) × ExprIs sig g r (Some ty.Bool) × (t ≡ Some ty.Bool)
   ExprIs sig g (New c args) t = (ps : List StaticType) × (sig.builders c ≡ Some ps) × ExprsAre sig g args ps × (t ≡ Some (ty.Class c))
@@ -99,23 +99,23 @@ abbrev pub ValueDue : Type 0
 ValueDue = Option StaticType
 
 abbrev mutual
-  -- a statement keeps to its types, from one scope to the next
-  pub StmtIs : Signatures → ValueDue → StmtOf → Scope → Scope → Type 0
-  StmtIs sig due (Store i e) g d = (a t : StaticType) × (old : Option StaticType) × ExprIs sig g e (Some a) × (fits sig a t ≡ true) × (slice_get g i ≡ Some old) × Keeps (Some t) old × (d ≡ declared i t g)
-  StmtIs sig due (Do e) g d = (t : Option StaticType) × ExprIs sig g e t × (d ≡ g)
-  StmtIs sig due (Send r c j args) g d = (m : Signature) × ExprIs sig g r (Some (ty.Class c)) × (sig.methods c j ≡ Some m) × (m.is_sync ≡ false) × ExprsAre sig g args m.parameters × (d ≡ g)
-  StmtIs sig due (Print e) g d = (a : StaticType) × ExprIs sig g e (Some a) × (prints a ≡ true) × (d ≡ g)
-  StmtIs sig due (IfThen e s) g d = (a : Scope) × ExprIs sig g e (Some ty.Bool) × StmtIs sig due s g a × Extends a g × (d ≡ g)
-  StmtIs sig due (IfElse e s u) g d = (a b : Scope) × ExprIs sig g e (Some ty.Bool) × StmtIs sig due s g a × StmtIs sig due u g b × Extends a g × Extends b g × (d ≡ g)
-  StmtIs sig due (While e s) g d = (a : Scope) × ExprIs sig g e (Some ty.Bool) × StmtIs sig due s g a × Extends a g × (d ≡ g)
-  StmtIs sig due Return g d = (due ≡ None) × (d ≡ g)
-  StmtIs sig due (Give e) g d = (a t : StaticType) × ExprIs sig g e (Some a) × (due ≡ Some t) × (fits sig a t ≡ true) × (d ≡ g)
-  StmtIs sig due (Block ss) g d = (a : Scope) × StmtsAre sig due ss g a × Extends a g × (d ≡ g)
+  -- A statement keeps to its types, from one scope to the next. Each variable has the type that its slot has among those of all slots.
+  pub StmtIs : Signatures → Scope → ValueDue → StmtOf → Scope → Scope → Type 0
+  StmtIs sig types due (Store i e) g d = (a t : StaticType) × (old : Option StaticType) × ExprIs sig g e (Some a) × (fits sig a t ≡ true) × (slice_get types i ≡ Some (Some t)) × (slice_get g i ≡ Some old) × Keeps (Some t) old × (d ≡ declared i t g)
+  StmtIs sig types due (Do e) g d = (t : Option StaticType) × ExprIs sig g e t × (d ≡ g)
+  StmtIs sig types due (Send r c j args) g d = (m : Signature) × ExprIs sig g r (Some (ty.Class c)) × (sig.methods c j ≡ Some m) × (m.is_sync ≡ false) × ExprsAre sig g args m.parameters × (d ≡ g)
+  StmtIs sig types due (Print e) g d = (a : StaticType) × ExprIs sig g e (Some a) × (prints a ≡ true) × (d ≡ g)
+  StmtIs sig types due (IfThen e s) g d = (a : Scope) × ExprIs sig g e (Some ty.Bool) × StmtIs sig types due s g a × Extends a g × (d ≡ g)
+  StmtIs sig types due (IfElse e s u) g d = (a b : Scope) × ExprIs sig g e (Some ty.Bool) × StmtIs sig types due s g a × StmtIs sig types due u g b × Extends a g × Extends b g × (d ≡ g)
+  StmtIs sig types due (While e s) g d = (a : Scope) × ExprIs sig g e (Some ty.Bool) × StmtIs sig types due s g a × Extends a g × (d ≡ g)
+  StmtIs sig types due Return g d = (due ≡ None) × (d ≡ g)
+  StmtIs sig types due (Give e) g d = (a t : StaticType) × ExprIs sig g e (Some a) × (due ≡ Some t) × (fits sig a t ≡ true) × (d ≡ g)
+  StmtIs sig types due (Block ss) g d = (a : Scope) × StmtsAre sig types due ss g a × Extends a g × (d ≡ g)
 
   -- the statements of a block keep to their types, each in the scope that the one before it leaves
-  pub StmtsAre : Signatures → ValueDue → StmtsOf → Scope → Scope → Type 0
-  StmtsAre sig due NoStmts g d = d ≡ g
-  StmtsAre sig due (MoreStmts s ss) g d = (a : Scope) × StmtIs sig due s g a × StmtsAre sig due ss a d
+  pub StmtsAre : Signatures → Scope → ValueDue → StmtsOf → Scope → Scope → Type 0
+  StmtsAre sig types due NoStmts g d = d ≡ g
+  StmtsAre sig types due (MoreStmts s ss) g d = (a : Scope) × StmtIs sig types due s g a × StmtsAre sig types due ss a d
 
 -- the word `true`
 abbrev pub is_true : ExprOf → Bool
@@ -150,15 +150,15 @@ this_in false c = Some (ty.Class c)
 abbrev pub opening : BodyOf → Scope
 opening b = this_in b.is_main b.class ∷ (map (λ t. Some t) b.parameters ++ map (λ t. None) b.locals)
 
--- a body keeps to its types, and one with a value does not fall off its end
-pub record BodyIs (sig : Signatures) (b : BodyOf) : Type 0 where
-  pub last : Scope
-  pub stmts : StmtsAre sig b.result b.stmts (opening b) last
-  pub ends : (t : StaticType) → b.result ≡ Some t → one_returns b.stmts ≡ true
-
 -- the types of all slots of a body; `this` has none in `Main`
 abbrev pub slot_types : BodyOf → List (Option StaticType)
 slot_types b = this_in b.is_main b.class ∷ map (λ t. Some t) (b.parameters ++ b.locals)
+
+-- a body keeps to its types, and one with a value does not fall off its end
+pub record BodyIs (sig : Signatures) (b : BodyOf) : Type 0 where
+  pub last : Scope
+  pub stmts : StmtsAre sig (slot_types b) b.result b.stmts (opening b) last
+  pub ends : (t : StaticType) → b.result ≡ Some t → one_returns b.stmts ≡ true
 
 -- the type of what is there, if it has one
 abbrev pub typed_slot : Option (Option StaticType) → Option StaticType

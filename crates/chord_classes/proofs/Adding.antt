@@ -61,16 +61,19 @@ pub known_main : (main rest : Bool) → true ≡ main → true ≡ (main || rest
 known_main true rest e = refl
 known_main false rest e = absurd (false≢true (sym e))
 
+-- a header adds none where one of the class has its name
 pub known_own : (main joined inherits own : Bool) → joined ≡ (inherits || own) → own ≡ true → true ≡ (main || joined)
 known_own true joined inherits own j o = refl
 known_own false joined true own j o = sym j
 known_own false joined false own j o = sym o ∙ sym j
 
+-- a header of another name than `Main` and than those of the class adds none where an inherited method has its name
 pub known_inherits : (main joined inherits own found : Bool) → main ≡ false → joined ≡ (inherits || own) → own ≡ false → found ≡ inherits → found ≡ (main || joined)
 known_inherits true joined inherits own found m j o f = absurd (false≢true (sym m))
 known_inherits false joined true own found m j o f = f ∙ sym j
 known_inherits false joined false own found m j o f = f ∙ sym o ∙ sym j
 
+-- a method was found where there is one
 pub own_is_some : (found : Option OwnMethod) (o : Option Found) → option_map see_own found ≡ o → is_some found ≡ is_some o
 own_is_some None o e = ap is_some e
 own_is_some (Some own) o e = ap is_some e
@@ -232,9 +235,9 @@ entries_more done entries names entry class a room n = record {
 }
 
 -- the table with one more
-pub table_more : (done : List Shape) (entries more : List Entry) (names more_names : List (List ℕ)) (entry : Entry) (text : List ℕ) → shapes_of entries ≡ done → AreEntries (shapes_of entries) entries names → length entries < 4294967295
+pub entries_extended : (done : List Shape) (entries more : List Entry) (names more_names : List (List ℕ)) (entry : Entry) (text : List ℕ) → shapes_of entries ≡ done → AreEntries (shapes_of entries) entries names → length entries < 4294967295
     → IsNext done (see_class entry.class.now) entry → more ≡ entries ++ (entry ∷ []) → more_names ≡ names ++ (text ∷ []) → text ≡ entry.class.now.name.text → AreEntries (shapes_of more) more more_names
-table_more done entries more names more_names entry text view a room next e n same =
+entries_extended done entries more names more_names entry text view a room next e n same =
     subst (λ z. AreEntries (shapes_of z) z more_names) (sym e)
     (subst (λ z. AreEntries z (entries ++ (entry ∷ [])) more_names) (sym (shapes_more entries entry))
     (subst (λ z. AreEntries (shapes_of entries ++ (shape_of (shapes_of entries) (see_class entry.class.now) ∷ [])) (entries ++ (entry ∷ [])) z) (sym (n ∙ ap (λ z. names ++ (z ∷ [])) same))

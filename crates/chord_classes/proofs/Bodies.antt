@@ -7,7 +7,7 @@ use Rattle.chord_tree.specs.Tree.{MemberTree, ClassTree}
 use Rattle.chord_tree.specs.Walk.{AtMember, body_of, block_end, over_member, over_class, over_classes, spot_of_term, spot_of_item, spot_of_member}
 use Rattle.chord_base.specs.declared.static_type.StaticType.{StaticType}
 use Rattle.chord_base.specs.declared.static_type.StaticType.TheVariants as ty
-use Rattle.chord_bodies.specs.Types.{Scope, BodyIs, opening, this_in}
+use Rattle.chord_bodies.specs.Types.{Scope, BodyIs, opening, slot_types, this_in}
 use Rattle.chord_classes.specs.Table.{Shape}
 use Rattle.chord_classes.specs.Types.{type_known, signatures}
 use Rattle.chord_classes.specs.Site.{after, block_locals, parameters, member_formals, member_due, member_in_main, enter}
@@ -15,7 +15,7 @@ use Rattle.chord_classes.specs.NameRules.{when}
 use Rattle.chord_classes.specs.ItemRules.{block_surely}
 use Rattle.chord_classes.specs.Resolve.{resolved_member, resolved_classes}
 use Rattle.chord_classes.proofs.Every.{Every, every_left, every_right, every_both}
-use Rattle.chord_classes.proofs.Facts.{none_some, when_not}
+use Rattle.chord_classes.proofs.Facts.{none_some, same_some, when_not}
 use Rattle.chord_classes.proofs.Free.{Free, FreeMember}
 use Rattle.chord_classes.proofs.Terms.{DeclaredTable, Stands, Holds}
 use Rattle.chord_classes.proofs.Scopes.{HasRoom}
@@ -77,9 +77,24 @@ none_past (x ∷ xs) ts zero h k = absurd (below h)
     below h = omega arith
 none_past (x ∷ xs) ts (suc i) h k = none_past xs ts i (let m : suc (length xs) ≤ suc i = h in omega (arith, m)) (let m : suc i < suc (length (xs ++ free ts)) = k in omega (arith, m))
 
--- the room of a body: a slot for each of its locals
+given_get : (ps : List StaticType) (ls : List StaticType) (i : ℕ) (t : StaticType) → slice_get (given ps ++ free ls) i ≡ Some (Some t) → slice_get (given (ps ++ ls)) i ≡ Some (Some t)
+given_get [] [] i t h = h
+given_get [] (l ∷ ls) zero t h = absurd (none_some (same_some h))
+given_get [] (l ∷ ls) (suc i) t h = given_get [] ls i t h
+given_get (p ∷ ps) ls zero t h = h
+given_get (p ∷ ps) ls (suc i) t h = given_get ps ls i t h
+
+local_get : (table : List Shape) (ps : List StaticType) (locals : List ValueType) (j : ℕ) (w : ValueType) → slice_get locals j ≡ Some w → slice_get (given (ps ++ map (type_known table) locals)) (length ps + j) ≡ Some (Some (type_known table w))
+local_get table [] [] j w h = absurd (none_some h)
+local_get table [] (l ∷ ls) zero w h = ap (λ (z : ValueType). Some (Some (type_known table z))) (same_some h)
+local_get table [] (l ∷ ls) (suc j) w h =
+    let one : 0 + suc j ≡ suc (0 + j) = omega arith in ap (slice_get (given (type_known table l ∷ map (type_known table) ls))) one ∙ local_get table [] ls j w h
+local_get table (p ∷ ps) locals j w h =
+    let one : suc (length ps) + j ≡ suc (length ps + j) = omega arith in ap (slice_get (given (p ∷ (ps ++ map (type_known table) locals)))) one ∙ local_get table ps locals j w h
+
+-- the room of a body: a slot for each of its locals, which has its type
 room_of : (this : Option StaticType) (table : List Shape) (formals : List Formal) (locals : List ValueType)
-    → HasRoom (this ∷ (given (types_of table formals) ++ free (map (type_known table) locals))) (1 + length formals) (length locals)
+    → HasRoom table (this ∷ given (types_of table formals ++ map (type_known table) locals)) (this ∷ (given (types_of table formals) ++ free (map (type_known table) locals))) (1 + length formals) locals
 room_of this table formals locals =
     let a = length_given (types_of table formals) in
     let b = length_types table formals in
@@ -89,7 +104,15 @@ room_of this table formals locals =
     record {
       fits = omega (arith, a, b, c, d, e);
       free = λ i above below. none_past (this ∷ given (types_of table formals)) (map (type_known table) locals) i (let from : 1 + length formals ≤ i = above in omega (arith, from, a, b)) below;
+      typed = λ j w h.
+          let one : 1 + length formals + j ≡ suc (length (types_of table formals) + j) = omega (arith, b) in
+          ap (slice_get (this ∷ given (types_of table formals ++ map (type_known table) locals))) one ∙ local_get table (types_of table formals) locals j w h;
+      agrees = agrees_at;
     }
+  where
+    agrees_at : (i : ℕ) (t : StaticType) → slice_get (this ∷ (given (types_of table formals) ++ free (map (type_known table) locals))) i ≡ Some (Some t) → slice_get (this ∷ given (types_of table formals ++ map (type_known table) locals)) i ≡ Some (Some t)
+    agrees_at zero t h = h
+    agrees_at (suc i) t h = given_get (types_of table formals) (map (type_known table) locals) i t h
 
 surely_is : (o : Option ValueType) (b : Bool) (at : ℕ) → when (is_some o && not b) at ≡ [] → (t : StaticType) (f : ValueType → StaticType) → option_map f o ≡ Some t → b ≡ true
 surely_is None b at h t f e = absurd (none_some e)
@@ -109,7 +132,7 @@ member_is table number class member declared h =
       itself = λ e. ap (λ b. Some (this_in b number)) e;
     } in
     let due : DueDeclared site = record { declared = due_declared table member f } in
-    let b = block_is site (opening body) (body_of member) holds due (room_of (this_in (member_in_main member) number) table (member_formals member) (block_locals (body_of member))) (every_left (Free table) (in_block site (body_of member)) (AtMember class member ∷ []) h) in
+    let b = block_is (slot_types body) site (opening body) (body_of member) holds due (room_of (this_in (member_in_main member) number) table (member_formals member) (block_locals (body_of member))) (every_left (Free table) (in_block site (body_of member)) (AtMember class member ∷ []) h) in
     record {
       last = b.last;
       stmts = b.are;
@@ -123,6 +146,7 @@ members_are table number class (m ∷ ms) declared h =
     let rest = flat_map (over_member after spot_of_term spot_of_item (enter table) spot_of_member number class) ms in
     (member_is table number class m declared (every_left (Free table) here rest h), members_are table number class ms declared (every_right (Free table) here rest h))
 
+-- the bodies of classes keep to their types
 pub classes_are : (table : List Shape) (number : ℕ) (classes : List ClassTree) → DeclaredTable table → Every (Free table) (over_classes after spot_of_term spot_of_item (enter table) spot_of_member number classes) → Every (BodyIs (signatures table)) (resolved_classes table number classes)
 classes_are table number [] declared h = tt
 classes_are table number (c ∷ cs) declared h =
@@ -140,6 +164,7 @@ members_free table number class (m ∷ ms) h =
     let rest = flat_map (over_member after spot_of_term spot_of_item (enter table) spot_of_member number class) ms in
     ((every_right (Free table) (in_block (enter table number class m) (body_of m)) (AtMember class m ∷ []) (every_left (Free table) here rest h)).0, members_free table number class ms (every_right (Free table) here rest h))
 
+-- nothing is broken at the members of classes
 pub classes_free : (table : List Shape) (number : ℕ) (classes : List ClassTree) → Every (Free table) (over_classes after spot_of_term spot_of_item (enter table) spot_of_member number classes) → Every (FreeMembers table) classes
 classes_free table number [] h = tt
 classes_free table number (c ∷ cs) h =

@@ -31,6 +31,7 @@ record DeclaredShape (table : List Shape) (shape : Shape) : Type 0 where
   methods : Every (DeclaredMethod table) shape.methods
   builder : Every (Declared table) (built_from shape.builder)
 
+-- the types of parameters are declared
 pub declared_formals : (table : List Shape) (formals : List Formal) → undeclared_formals table formals ≡ [] → Every (DeclaredFormal table) formals
 declared_formals table [] h = tt
 declared_formals table (f ∷ fs) h = (declared_type table f.value_type (left_nil (undeclared_type table f.value_type) (undeclared_formals table fs) h), declared_formals table fs (right_nil (undeclared_type table f.value_type) (undeclared_formals table fs) h))
@@ -45,6 +46,7 @@ declared_header table header h = record {
   result = declared_result table (value_type header.result_type) (left_nil (undeclared_result table (value_type header.result_type)) (undeclared_formals table header.formals.parameters) h);
 }
 
+-- the types of headers are declared
 pub declared_headers : (table : List Shape) (headers : List HeaderTree) → flat_map (undeclared_header table) headers ≡ [] → Every (DeclaredHeader table) headers
 declared_headers table [] h = tt
 declared_headers table (x ∷ xs) h = (declared_header table x (left_nil (undeclared_header table x) (flat_map (undeclared_header table) xs) h), declared_headers table xs (right_nil (undeclared_header table x) (flat_map (undeclared_header table) xs) h))
@@ -119,6 +121,7 @@ headers_formals : (table : List Shape) (headers : List HeaderTree) → Every (De
 headers_formals table [] h = tt
 headers_formals table (x ∷ xs) h = every_both (DeclaredFormal table) x.formals.parameters (flat_map (λ (h : HeaderTree). h.formals.parameters) xs) h.0.formals (headers_formals table xs h.1)
 
+-- the types of the parameters of a member are declared
 pub formals_declared : (table : List Shape) (member : MemberTree) → FreeMember table member → Every (DeclaredFormal table) (member_formals member)
 formals_declared table (ConstructorMember modifiers name formals body) f = declared_formals table formals.parameters f.undeclared
 formals_declared table (ChordMember headers body) f = headers_formals table headers (declared_headers table headers f.undeclared)
@@ -132,6 +135,7 @@ headers_due_declared : (table : List Shape) (headers : List HeaderTree) → Ever
 headers_due_declared table [] h w e = absurd (none_some e)
 headers_due_declared table (x ∷ xs) h w e = due_by_declared table x.result_type (headers_due xs) h.0.result (λ v k. headers_due_declared table xs h.1 v k) w e
 
+-- the type of the value that is due is declared
 pub due_declared : (table : List Shape) (member : MemberTree) → FreeMember table member → (w : ValueType) → member_due member ≡ Some w → Declared table w
 due_declared table (ConstructorMember modifiers name formals body) f w e = absurd (none_some e)
 due_declared table (ChordMember headers body) f w e = headers_due_declared table headers (declared_headers table headers f.undeclared) w e

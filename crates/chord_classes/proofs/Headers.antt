@@ -27,7 +27,7 @@ use Rattle.chord_classes.specs.Rules.{C05, C09, C10, IsFree, is_header_rule}
 use Rattle.chord_classes.specs.Plan.{header_number}
 use Rattle.chord_classes.specs.Laws.{chord_methods, ChordsKept, Inherits}
 use Rattle.chord_classes.proofs.Every.{Every, every_left, every_right, every_get}
-use Rattle.chord_classes.proofs.Facts.{none_some, same_some, true_false, when_not, unless_not, left_nil, right_nil, and_left, and_right}
+use Rattle.chord_classes.proofs.Facts.{none_some, same_some, true_false, when_not, unless_not, left_nil, right_nil, truth_left, truth_right}
 use Rattle.chord_classes.proofs.Terms.{FoundIn, method_is}
 use Rattle.chord_classes.proofs.Kept.{none_contained}
 use Rattle.chord_classes.proofs.Inherits.{Begins, get_left, methods_inherited}
@@ -45,9 +45,11 @@ basic_same basics.Bool basics.String h = absurd (false≢true h)
 basic_same basics.String basics.Int h = absurd (false≢true h)
 basic_same basics.String basics.Bool h = absurd (false≢true h)
 
+-- names that are equal by their bytes are the same
 pub bytes_same : (x y : List ℕ) → bytes_eq x y ≡ true → x ≡ y
 bytes_same x y h = (bytes_eq-Decides x y).0 h
 
+-- a name is equal to itself
 pub bytes_itself : (x : List ℕ) → bytes_eq x x ≡ true
 bytes_itself x = (bytes_eq-Decides x x).1 refl
 
@@ -60,7 +62,7 @@ known_same table (types.Class x) (types.Basic b j) h = absurd (false≢true h)
 all_known_same : (table : List Shape) (vs ws : List ValueType) → same_all vs ws ≡ true → map (type_known table) vs ≡ map (type_known table) ws
 all_known_same table [] [] h = refl
 all_known_same table (v ∷ vs) (w ∷ ws) h =
-    ap₂ (λ x xs. x ∷ xs) (known_same table v w (and_left (same_written v w) (same_all vs ws) h)) (all_known_same table vs ws (and_right (same_written v w) (same_all vs ws) h))
+    ap₂ (λ x xs. x ∷ xs) (known_same table v w (truth_left (same_written v w) (same_all vs ws) h)) (all_known_same table vs ws (truth_right (same_written v w) (same_all vs ws) h))
 all_known_same table [] (w ∷ ws) h = absurd (false≢true h)
 all_known_same table (v ∷ vs) [] h = absurd (false≢true h)
 
@@ -185,7 +187,7 @@ method_kept table owner methods headers i header there m d5 (Some f) e d9 d10 =
     record {
       found = f;
       is = kept_by_headers owner methods headers header.name.text f e;
-      same = signature_same table f.method (method_of 0 header) (and_left _ _ may) (and_left _ _ (and_right (same_result f.method.result_type header.result_type) _ may));
+      same = signature_same table f.method (method_of 0 header) (truth_left _ _ may) (truth_left _ _ (truth_right (same_result f.method.result_type header.result_type) _ may));
     }
   where
     unmain : (b : Bool) (xs : List ℕ) → b ≡ false → cond b [] xs ≡ [] → xs ≡ []
@@ -207,7 +209,7 @@ method_kept table owner methods headers i header there m d5 None e d9 d10 =
     record {
       found = f.0;
       is = f.1;
-      same = ap (signature table) f.2 ∙ signature_same table (method_of owner first.0) (method_of 0 header) (and_left _ _ agreeing) (and_left _ _ (and_right (same_result first.0.result_type header.result_type) _ agreeing));
+      same = ap (signature table) f.2 ∙ signature_same table (method_of owner first.0) (method_of 0 header) (truth_left _ _ agreeing) (truth_left _ _ (truth_right (same_result first.0.result_type header.result_type) _ agreeing));
     }
   where
     unmain : (b : Bool) (xs : List ℕ) → b ≡ false → cond b [] xs ≡ [] → xs ≡ []
@@ -237,10 +239,12 @@ headers_kept table done class h5 h9 h10 =
 
 -- Classes by their numbers.
 
+-- the shapes of the classes so far stay
 pub shapes_begin : (done : List Shape) (classes : List ClassTree) → Begins done (shapes_after done classes)
 shapes_begin done [] j x h = h
 shapes_begin done (c ∷ cs) j x h = shapes_begin (done ++ (shape_of done c ∷ [])) cs j x (get_left done (shape_of done c ∷ []) j x h)
 
+-- the element behind a list is the last
 pub get_last : {X : Type 0} (xs : List X) (x : X) → slice_get (xs ++ (x ∷ [])) (length xs) ≡ Some x
 get_last [] x = refl
 get_last (y ∷ ys) x = get_last ys x
@@ -295,6 +299,7 @@ map_twice : (table : List Shape) (fs : List Formal) → formals_types table fs �
 map_twice table [] = refl
 map_twice table (f ∷ fs) = ap (λ z. type_known table f.value_type ∷ z) (map_twice table fs)
 
+-- the parameters of a chord are those of its methods laid together
 pub laid_is : (table : List Shape) (class : ℕ) (headers : List HeaderTree) → Every (HeaderKept table (methods_at table class)) headers
     → laid (signatures table) class (chord_methods table class headers) (formals_types table (flat_map (λ (h : HeaderTree). h.formals.parameters) headers))
 laid_is table class [] k = refl
@@ -312,14 +317,17 @@ given_by table class (results.Async at) others methods g = g
 given_by table class (results.Void at) others methods g = refl
 given_by table class (results.Value written) others methods g = refl
 
+-- a chord gives the result of its synchronous method
 pub gives_is : (table : List Shape) (class : ℕ) (headers : List HeaderTree) → Every (HeaderKept table (methods_at table class)) headers → gives (signatures table) class (chord_methods table class headers) (option_map (type_known table) (headers_due headers))
 gives_is table class [] k = refl
 gives_is table class (x ∷ xs) k = (signature table (method_of 0 x), number_is table class x k.0, given_by table class x.result_type (headers_due xs) (chord_methods table class xs) (gives_is table class xs k.1))
 
+-- parameters are laid together in a deriving class as in its base
 pub laid_along : (sig : Signatures) (d c : ℕ) → Inherits sig → sig.derives d c ≡ true → (js : List ℕ) (ts : List StaticType) → laid sig c js ts → laid sig d js ts
 laid_along sig d c i h [] ts l = l
 laid_along sig d c i h (j ∷ js) ts l = (l.0, l.1, i.inherits d c j l.0 h l.2, l.3, laid_along sig d c i h js l.1 l.4)
 
+-- the result is the same in a deriving class as in its base
 pub gives_along : (sig : Signatures) (d c : ℕ) → Inherits sig → sig.derives d c ≡ true → (js : List ℕ) (r : Option StaticType) → gives sig c js r → gives sig d js r
 gives_along sig d c i h [] r g = g
 gives_along sig d c i h (j ∷ js) r g = (g.0, i.inherits d c j g.0 h g.1, by_kind g.0.is_sync g.2 (λ k. gives_along sig d c i h js r k))
@@ -373,12 +381,14 @@ none_along : (sig : Signatures) (d c : ℕ) → Inherits sig → sig.derives d c
 none_along sig d c i h [] ts l n = tt
 none_along sig d c i h (j ∷ js) ts l n = (ap is_sync_in (i.inherits d c j l.0 h l.2) ∙ sym (ap is_sync_in l.2) ∙ n.0, none_along sig d c i h js l.1 l.4 n.1)
 
+-- at most one method is synchronous in a deriving class as in its base
 pub one_sync_along : (sig : Signatures) (d c : ℕ) → Inherits sig → sig.derives d c ≡ true → (js : List ℕ) (ts : List StaticType) → laid sig c js ts → OneSync (λ j. is_sync_in (sig.methods c j)) js → OneSync (λ j. is_sync_in (sig.methods d j)) js
 one_sync_along sig d c i h [] ts l n = tt
 one_sync_along sig d c i h (j ∷ js) ts l n =
     let same = ap is_sync_in (i.inherits d c j l.0 h l.2) ∙ sym (ap is_sync_in l.2) in
     ((λ e. none_along sig d c i h js l.1 l.4 (n.0 (sym same ∙ e))), one_sync_along sig d c i h js l.1 l.4 n.1)
 
+-- where `Main` is none of the headers each is of a method
 pub no_mains : (P : HeaderTree → Type 0) (headers : List HeaderTree) → has_main headers ≡ false → Every (λ header. is_main header ≡ false → P header) headers → Every P headers
 no_mains P [] m k = tt
 no_mains P (x ∷ xs) m k = (k.0 (first_false (is_main x) (has_main xs) m), no_mains P xs (rest_false (is_main x) (has_main xs) m) k.1)

@@ -17,6 +17,7 @@ use Rattle.chord_classes.proofs.Terms.{class_is}
 abbrev pub Begins : {X : Type 0} → List X → List X → Type 0
 Begins {X} xs ys = (j : ℕ) (x : X) → slice_get xs j ≡ Some x → slice_get ys j ≡ Some x
 
+-- an element of the first of two lists joined
 pub get_left : {X : Type 0} (xs ys : List X) (j : ℕ) (x : X) → slice_get xs j ≡ Some x → slice_get (xs ++ ys) j ≡ Some x
 get_left [] ys j x h = absurd (none_some h)
 get_left (y ∷ xs) ys zero x h = h
@@ -73,6 +74,7 @@ new_above done class (Some base) e there h =
           (every_get (AreAbove done) done base s.0 h s.1)),
     )
 
+-- the base of a class is there
 pub base_there : (done : List Shape) (o : Option Name) (c : ℕ) → option_and_then (λ (base : Name). class_named done base.text) o ≡ Some c → (s : Shape) × (slice_get done c ≡ Some s)
 base_there done None c h = absurd (none_some h)
 base_there done (Some name) c h = class_is done name.text c h
@@ -91,6 +93,7 @@ one_of : (P : ℕ → Type 0) (n m : ℕ) (b more : Bool) → nat_eq n m ≡ b �
 one_of P n m true more same h p f = subst P (sym (eqb-true n m same)) p
 one_of P n m false more same h p f = f h
 
+-- a fact of each number holds of one that is among them
 pub among_every : (P : ℕ → Type 0) (ns : List ℕ) (n : ℕ) → among n ns ≡ true → Every P ns → P n
 among_every P [] n h e = absurd (false≢true h)
 among_every P (m ∷ ms) n h e = one_of P n m (nat_eq n m) (among n ms) refl h e.0 (λ k. among_every P ms n k e.1)

@@ -18,6 +18,7 @@ use Rattle.chord_classes.proofs.Free.{Free}
 use Rattle.chord_classes.proofs.Declared.{table_declared}
 use Rattle.chord_classes.proofs.Bodies.{classes_are, classes_free}
 
+-- a list that contains nothing is empty
 pub none_contained : (xs : List ℕ) → ((at : ℕ) → Contains xs at → ⊥) → xs ≡ []
 none_contained [] h = refl
 none_contained (x ∷ xs) h = absurd (h x (0, omega arith, refl))

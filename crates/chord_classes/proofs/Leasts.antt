@@ -104,13 +104,13 @@ least_append o [] ys = refl
 least_append o (x ∷ xs) ys = least_append (lesser o x) xs ys
 
 -- what is noted after two lists, one after the other, is noted after both joined
-pub two : (o p q : Option ℕ) (a b : List ℕ) → p ≡ least o a → q ≡ least p b → q ≡ least o (a ++ b)
-two o p q a b hp hq = hq ∙ ap (λ z. least z b) hp ∙ sym (least_append o a b)
+pub noted_two : (o p q : Option ℕ) (a b : List ℕ) → p ≡ least o a → q ≡ least p b → q ≡ least o (a ++ b)
+noted_two o p q a b hp hq = hq ∙ ap (λ z. least z b) hp ∙ sym (least_append o a b)
 
 -- the same of three lists
-pub three : (o p q r : Option ℕ) (a b c : List ℕ) → p ≡ least o a → q ≡ least p b → r ≡ least q c → r ≡ least o (a ++ (b ++ c))
-three o p q r a b c hp hq hr = two o p r a (b ++ c) hp (two p q r b c hq hr)
+pub noted_three : (o p q r : Option ℕ) (a b c : List ℕ) → p ≡ least o a → q ≡ least p b → r ≡ least q c → r ≡ least o (a ++ (b ++ c))
+noted_three o p q r a b c hp hq hr = noted_two o p r a (b ++ c) hp (noted_two p q r b c hq hr)
 
 -- the same of four lists
-pub four : (o p q r s : Option ℕ) (a b c d : List ℕ) → p ≡ least o a → q ≡ least p b → r ≡ least q c → s ≡ least r d → s ≡ least o (a ++ (b ++ (c ++ d)))
-four o p q r s a b c d hp hq hr hs = two o p s a (b ++ (c ++ d)) hp (three p q r s b c d hq hr hs)
+pub noted_four : (o p q r s : Option ℕ) (a b c d : List ℕ) → p ≡ least o a → q ≡ least p b → r ≡ least q c → s ≡ least r d → s ≡ least o (a ++ (b ++ (c ++ d)))
+noted_four o p q r s a b c d hp hq hr hs = noted_two o p s a (b ++ (c ++ d)) hp (noted_three p q r s b c d hq hr hs)

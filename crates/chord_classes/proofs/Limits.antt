@@ -123,6 +123,7 @@ small_shape done plans class h limits =
       each = with_headers_few (length done) (inherited done (base_of done class)) (headers_of class) base.1 (members_few class.members (members_within done plans class limits));
     }
 
+-- a class within the limits has at most sixteen methods and sixteen classes above it
 pub shapes_small : (done : List Shape) (plans : List ClassOf) (number : ℕ) (classes : List ClassTree) → Every SmallShape done → over_plans limits_passed done plans number classes ≡ [] → Every SmallShape (shapes_after done classes)
 shapes_small done plans number [] h limits = h
 shapes_small done plans number (c ∷ cs) h limits =
@@ -143,6 +144,7 @@ few_builder (ConstructorMember modifiers name formals body ∷ more) h =
     omega (arith, a, b, c)
 few_builder (ChordMember headers body ∷ more) h = few_builder more (right_nil (member_limits (ChordMember headers body)) (flat_map member_limits more) h)
 
+-- a constructor within the limits has at most eight parameters
 pub few_builders : (done : List Shape) (plans : List ClassOf) (number : ℕ) (classes : List ClassTree) → Every FewBuiltShape done → over_plans limits_passed done plans number classes ≡ [] → Every FewBuiltShape (shapes_after done classes)
 few_builders done plans number [] h limits = h
 few_builders done plans number (c ∷ cs) h limits =
@@ -152,6 +154,7 @@ few_builders done plans number (c ∷ cs) h limits =
 
 -- Classes.
 
+-- a program within the limits has at most 1,024 classes
 pub few_classes : (done : List Shape) (plans : List ClassOf) (number : ℕ) (classes : List ClassTree) → length plans ≡ length done → length plans ≤ 1024 → over_plans limits_passed done plans number classes ≡ [] → length (plans_after done plans number classes) ≤ 1024
 few_classes done plans number [] same h limits = h
 few_classes done plans number (c ∷ cs) same h limits =
@@ -208,6 +211,7 @@ few_chords_here done plans number class h limits heads =
     let all = length-append (chords_without (overridden ms (headers_of class)) bases) (own_chords (shape_of done class).methods number class.members) in
     omega (arith, before, kept, own, within, all)
 
+-- a class within the limits has at most 256 effective chords
 pub few_chords : (done : List Shape) (plans : List ClassOf) (number : ℕ) (classes : List ClassTree) → ((n k : ℕ) (class : ClassTree) (member : MemberTree) → slice_get classes n ≡ Some class → slice_get class.members k ≡ Some member → HasHeader member)
     → Every FewChords plans → over_plans limits_passed done plans number classes ≡ [] → Every FewChords (plans_after done plans number classes)
 few_chords done plans number [] heads h limits = h

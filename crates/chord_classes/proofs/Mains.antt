@@ -15,7 +15,7 @@ use Rattle.chord_classes.specs.Site.{member_formals, due_by, member_due, has_mai
 use Rattle.chord_classes.specs.NameRules.{when}
 use Rattle.chord_classes.specs.Plan.{main_among, or_else, main_in, main_of}
 use Rattle.chord_classes.specs.ChordRules.{is_void, static_word, is_right_main, MainAt, mains_among, member_mains, mains_of, wrong_mains}
-use Rattle.chord_classes.proofs.Facts.{none_some, same_some, true_false, unless_not, left_nil, and_left, and_right}
+use Rattle.chord_classes.proofs.Facts.{none_some, same_some, true_false, unless_not, left_nil, truth_left, truth_right}
 
 -- a member is `Main` as it should be: it has neither parameters nor a value
 pub record IsRight (member : MemberTree) : Type 0 where
@@ -64,11 +64,11 @@ none_of (f ∷ fs) h = absurd (differ (eqb-true (suc (length fs)) 0 h))
 -- a chord of one header that is `Main` as it should be
 alone_right : (header : HeaderTree) (body : BlockTree) → is_main header ≡ true → is_right_main (header ∷ []) header ≡ true → IsRight (ChordMember (header ∷ []) body)
 alone_right header body m r =
-    let after_static = and_right (has_word static_word header.modifiers) _ r in
-    let after_virtual = and_right (not (has_word is_virtual_word header.modifiers)) _ after_static in
-    let void = and_left (is_void header.result_type) _ after_virtual in
-    let rest = and_right (is_void header.result_type) _ after_virtual in
-    let formals = none_of header.formals.parameters (and_left (nat_eq (length header.formals.parameters) 0) _ rest) in
+    let after_static = truth_right (has_word static_word header.modifiers) _ r in
+    let after_virtual = truth_right (not (has_word is_virtual_word header.modifiers)) _ after_static in
+    let void = truth_left (is_void header.result_type) _ after_virtual in
+    let rest = truth_right (is_void header.result_type) _ after_virtual in
+    let formals = none_of header.formals.parameters (truth_left (nat_eq (length header.formals.parameters) 0) _ rest) in
     record { in_main = ap (λ b. b || false) m; formals = ap (λ fs. fs ++ []) formals; due = void_due header.result_type void }
 
 right_chord : (headers : List HeaderTree) (body : BlockTree) (m : MainAt) → has_main headers ≡ true → Begins_with (mains_among headers headers) m → m.right ≡ true → IsRight (ChordMember headers body)
@@ -82,8 +82,8 @@ right_chord (x ∷ y ∷ zs) body m h b r =
     let f = first_main (x ∷ y ∷ zs) (x ∷ y ∷ zs) h in
     let same : record { right = is_right_main (x ∷ y ∷ zs) f.0; at = f.0.name.at } ≡ m = same_head (record { right = is_right_main (x ∷ y ∷ zs) f.0; at = f.0.name.at }) m f.1.0 b.0 (sym f.1.1 ∙ b.1) in
     let right : is_right_main (x ∷ y ∷ zs) f.0 ≡ true = ap (λ (z : MainAt). z.right) same ∙ r in
-    let rest = and_right (is_void f.0.result_type) _ (and_right (not (has_word is_virtual_word f.0.modifiers)) _ (and_right (has_word static_word f.0.modifiers) _ right)) in
-    absurd (differ (eqb-true (suc (suc (length zs))) 1 (and_right (nat_eq (length f.0.formals.parameters) 0) _ rest)))
+    let rest = truth_right (is_void f.0.result_type) _ (truth_right (not (has_word is_virtual_word f.0.modifiers)) _ (truth_right (has_word static_word f.0.modifiers) _ right)) in
+    absurd (differ (eqb-true (suc (suc (length zs))) 1 (truth_right (nat_eq (length f.0.formals.parameters) 0) _ rest)))
   where
     differ : ◌≡◌ {A = ℕ} (suc (suc (length zs))) 1 → ⊥
     differ e = omega arith
@@ -214,6 +214,7 @@ first_right (x ∷ xs) main end h b =
     let same = same_head x main xs b.0 b.1 in
     ap (λ (z : MainAt). z.right) (sym same) ∙ unless_not x.right x.at (left_nil (when (not x.right) x.at) _ h)
 
+-- the body of `Main` is there, without parameters and result
 pub main_body : (p : ProgramTree) (end : ℕ) → wrong_mains (mains_of p.classes) end ≡ [] → MainBody p
 main_body p end h = by_place (main_in 0 p.classes) refl
   where

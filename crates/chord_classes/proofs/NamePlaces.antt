@@ -51,6 +51,7 @@ module _ {m n : BTreeMap (Bor (List ℕ)) ℕ} {names : List (List ℕ)} (w : Li
         ∙ sym (place_end names w x);
   }
 
+-- a name that is there keeps its place
 pub finds_same : {m : BTreeMap (Bor (List ℕ)) ℕ} {names : List (List ℕ)} (w : List ℕ) → FindsNames m names → is_some (name_place names w) ≡ true → FindsNames m (names ++ (w ∷ []))
 finds_same {m} {names} w finds some = record {
   each = λ x. finds.each x ∙ present (bytes_eq w x) (length names) (name_place names w) (name_place names x) (λ t. ap (name_place names) ((bytes_decides w x).0 t)) some ∙ sym (place_end names w x);

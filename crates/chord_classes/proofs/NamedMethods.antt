@@ -12,6 +12,7 @@ none_some e = cc
 same_some : {X : Type 0} {x y : X} → ◌≡◌ {A = Option X} (Some x) (Some y) → x ≡ y
 same_some e = cc
 
+-- a method was found at a place
 pub record IsFound (ms : List Method) (n i : ℕ) (o : Option table.Found) : Type 0 where
   pub k : ℕ
   pub m : Method
@@ -36,6 +37,7 @@ named_from : (n : ℕ) (ms : List Method) (x : List ℕ) (i : ℕ) → name_plac
 named_from n [] x i h = absurd (none_some h)
 named_from n (m ∷ ms) x i h = named_by (bytes_eq m.header.now.name.text x) n i m ms (name_place_from (n + 1) (names_of ms) x) (table.method_from (n + 1) (map see_method ms) x) (named_from (n + 1) ms x i) h
 
+-- no method has a name that has no place
 pub unnamed : (names : List (List ℕ)) (ms : List Method) (x : List ℕ) → names ≡ names_of ms → name_place names x ≡ None → ◌≡◌ {A = Option table.Found} None (table.method_named (map see_method ms) x)
 unnamed names ms x e h = sym (unnamed_from 0 ms x (ap (λ z. name_place z x) (sym e) ∙ h))
 
@@ -45,8 +47,10 @@ named names ms x i e h =
     let r = named_from 0 ms x i (ap (λ z. name_place z x) (sym e) ∙ h) in
     (r.m, ap (slice_get ms) (r.is ∙ omega arith) ∙ r.item, r.found)
 
+-- a method that is there
 pub of_some : {m method : Method} {o : Option table.Found} (i : ℕ) → ◌≡◌ {A = Option Method} (Some m) (Some method) → o ≡ Some (at_place i m) → ◌≡◌ {A = Option table.Found} (Some (at_place i method)) o
 of_some i e h = ap (λ z. Some (at_place i z)) (sym (same_some e)) ∙ sym h
 
+-- a method that is there is not missing
 pub not_none : {m : Method} {P : Type 0} → ◌≡◌ {A = Option Method} (Some m) None → P
 not_none e = absurd (none_some (sym e))

@@ -113,6 +113,7 @@ length_numbers : (methods : List Method) (headers : List HeaderTree) → length 
 length_numbers methods [] = refl
 length_numbers methods (x ∷ xs) = ap suc (length_numbers methods xs)
 
+-- there are as many tokens as headers
 pub length_tokens : (headers : List HeaderTree) → length (header_tokens headers) ≡ length headers
 length_tokens [] = refl
 length_tokens (x ∷ xs) = ap suc (length_tokens xs)

@@ -47,6 +47,7 @@ mutual
   stmt_returns site (ReturnStmt at) h = refl
   stmt_returns site (ReturnValueStmt at value) h = refl
 
+  -- a block that surely returns is resolved to one that does
   pub block_returns : (site : Site) (block : BlockTree) → block_surely block ≡ true → one_returns (resolved_block site block) ≡ true
   block_returns site (MakeBlock items end) h = items_return site items h
 

@@ -17,17 +17,17 @@ use Rattle.chord_base.specs.declared.operation.Operation.TheVariants as by
 use Rattle.chord_bodies.specs.Resolved.{ExprOf, ExprsOf}
 use Rattle.chord_bodies.specs.Resolved as to
 use Rattle.chord_bodies.specs.Types.{Scope, ExprIs, ExprsAre, fits, prints}
-use Rattle.chord_bodies.specs.Types as probe
+use Rattle.chord_bodies.specs.Types as bodies
 use Rattle.chord_classes.specs.Table.{Method, Builder, Found, Shape, method_from, method_named, methods_at, class_from, class_named}
 use Rattle.chord_classes.specs.Types.{type_written, type_known, is_sync, value_type, result_known, signature, signatures, built_from}
 use Rattle.chord_classes.specs.Site.{Local, Site, variable_named, after}
 use Rattle.chord_classes.specs.TypedTerms.{Passed, TypedTerm, VariableTyped, ThisTyped, NumberTyped, LiteralTyped, BoolTyped, GroupTyped, MinusTyped, NotTyped, OperationTyped, NewTyped, OwnCallTyped, CallTyped, PrintTyped, is_console, typed_call, Target, target_in, target_at, own_target, target_on, all_typed, parts_have_types}
 use Rattle.chord_classes.specs.NameRules.{when, may_be_console, is_print, valueless, class_formals, builder_at, miscounted_for, target_formals, named_formals, is_used}
-use Rattle.chord_classes.specs.TypeRules.{from_ints, from_bools, sum_of, comparison_type, operated, is_int, is_bool, is_class_type, when_typed, misfit, misfits, misfits_for, clash}
+use Rattle.chord_classes.specs.TypeRules.{from_ints, from_bools, sum_of, comparison_type, operator_result, is_int, is_bool, is_class_type, when_typed, misfit, misfits, misfits_for, clash}
 use Rattle.chord_classes.specs.Typed.{faults, is_nil, local_type, target_type, operands_type, natural, judged, passed, type_of_term}
 use Rattle.chord_classes.specs.Resolve.{slot_of, is_text, applied, call_of, resolved, all_resolved}
 use Rattle.chord_classes.proofs.Every.{Every, every_left, every_right}
-use Rattle.chord_classes.proofs.Facts.{none_some, same_some, true_false, when_not, unless_not, left_nil, right_nil, there_is, is_there, and_true, nothing, chosen}
+use Rattle.chord_classes.proofs.Facts.{none_some, same_some, true_false, when_not, unless_not, left_nil, right_nil, there_is, is_there, and_true, nothing, picked}
 use Rattle.chord_classes.proofs.Free.{FreeTerm, Free}
 
 -- a written type is declared
@@ -79,7 +79,7 @@ Usable site Alone term = ⊥
 
 typed_by : (site : Site) (role : Role) (parts : TypedTerm) (kind : StaticType) → FreeTerm site role parts → parts_have_types parts ≡ true → natural site parts ≡ Some kind → judged site role parts ≡ Some kind
 typed_by site role parts kind f p n =
-    chosen (parts_have_types parts) (is_nil (faults site role parts)) (natural site parts) kind p (nothing _ _ _ _ _ _ f.undeclared f.unknown f.disagreeing f.inaccessible f.used_valueless f.miscounted) n
+    picked (parts_have_types parts) (is_nil (faults site role parts)) (natural site parts) kind p (nothing _ _ _ _ _ _ f.undeclared f.unknown f.disagreeing f.inaccessible f.used_valueless f.miscounted) n
 
 neither : (b v : Bool) → (b && v) ≡ false → (v && not b) ≡ false → v ≡ false
 neither true true h k = cc
@@ -100,10 +100,12 @@ local_choice : (P : Local → Type 0) (b : Bool) (l local : Local) (rest : Optio
 local_choice P true l local rest p k h = subst P (same_some h) p
 local_choice P false l local rest p k h = k h
 
+-- a variable that is found is one in scope
 pub variable_is : (P : Local → Type 0) (locals : List Local) (name : List ℕ) (local : Local) → variable_named locals name ≡ Some local → Every P locals → P local
 variable_is P [] name local h e = absurd (none_some h)
 variable_is P (l ∷ ls) name local h e = local_choice P (bytes_eq l.name name) l local (variable_named ls name) e.0 (λ k. variable_is P ls name local k e.1) h
 
+-- a type that passes a test
 pub typed_as : (is_wanted : StaticType → Bool) (o : Option StaticType) (kind : StaticType) (at : ℕ) → o ≡ Some kind → when_typed is_wanted o at ≡ [] → is_wanted kind ≡ true
 typed_as is_wanted o kind at e h = unless_not (is_wanted kind) at (subst (λ (z : Option StaticType). when_typed is_wanted z at ≡ []) e h)
 
@@ -113,6 +115,7 @@ an_int ty.Bool h = cc
 an_int ty.Text h = cc
 an_int (ty.Class c) h = cc
 
+-- a type that is `bool`
 pub a_bool : (kind : StaticType) → is_bool kind ≡ true → kind ≡ ty.Bool
 a_bool ty.Bool h = refl
 a_bool ty.Int h = cc
@@ -127,6 +130,7 @@ an_object ty.Text h = absurd (false≢true h)
 
 -- What is found by name.
 
+-- a method was found in a class by its number
 unfoldable pub FoundIn : ℕ → List Method → Found → Type 0
 FoundIn n ms f = (i : ℕ) × (f.number ≡ n + i) × (slice_get ms i ≡ Some f.method)
 
@@ -135,6 +139,7 @@ unfolding FoundIn
 method_choice true n m ms rest f k h = subst (λ (z : Found). (i : ℕ) × (z.number ≡ n + i) × (slice_get (m ∷ ms) i ≡ Some z.method)) (same_some h) (0, omega arith, refl)
 method_choice false n m ms rest f k h = let r = k h in let at : f.number ≡ n + 1 + r.0 = r.1 in (suc r.0, omega (arith, at), r.2)
 
+-- a method that is found has a signature
 pub method_is : (n : ℕ) (ms : List Method) (name : List ℕ) (f : Found) → method_from n ms name ≡ Some f → FoundIn n ms f
 method_is n [] name f h = absurd (none_some h)
 method_is n (m ∷ ms) name f h = method_choice (bytes_eq m.name name) n m ms (method_from (n + 1) ms name) f (λ k. method_is (n + 1) ms name f k) h
@@ -169,6 +174,7 @@ class_found : (n : ℕ) (ss : List Shape) (name : List ℕ) (c : ℕ) → class_
 class_found n [] name c h = absurd (none_some h)
 class_found n (s ∷ ss) name c h = class_choice (bytes_eq s.name name) n s ss (class_from (n + 1) ss name) c (λ k. class_found (n + 1) ss name c k) h
 
+-- a class that is named is one of the table
 pub class_is : (table : List Shape) (name : List ℕ) (c : ℕ) → class_named table name ≡ Some c → (s : Shape) × (slice_get table c ≡ Some s)
 unfolding ClassIn
 class_is table name c h =
@@ -181,10 +187,12 @@ class_is table name c h =
 known_is : (table : List Shape) (written : ValueType) (kind : StaticType) → type_written table written ≡ Some kind → type_known table written ≡ kind
 known_is table written kind h = ap (λ o. unwrap_or o ty.Int) h
 
+-- a value fits where nothing is noted
 pub fits_one : (table : List Shape) (wanted value : Option StaticType) (p a : StaticType) (at : ℕ) → wanted ≡ Some p → value ≡ Some a → misfit table wanted value at ≡ [] → fits (signatures table) a p ≡ true
 fits_one table wanted value p a at hw hv h =
     typed_as (λ t. fits (signatures table) t p) value a at hv (subst (λ (z : Option StaticType). misfit table z value at ≡ []) hw h)
 
+-- a value fits a written type where nothing is noted
 pub fits_written : (table : List Shape) (written : ValueType) (value : Option StaticType) (a : StaticType) (at : ℕ) → Declared table written → value ≡ Some a → misfit table (type_written table written) value at ≡ [] → fits (signatures table) a (type_known table written) ≡ true
 fits_written table written value a at d hv h =
     subst (λ (z : StaticType). fits (signatures table) a z ≡ true) (sym (known_is table written d.kind d.is)) (fits_one table (type_written table written) value d.kind a at d.is hv h)
@@ -250,6 +258,7 @@ pub record Callable (site : Site) (scope : Scope) (o : Option Target) (receiver 
   pub there : slice_get (methods_at site.table target.class) target.number ≡ Some target.method
   pub on : ExprIs (signatures site.table) scope receiver (Some (ty.Class target.class))
 
+-- a method that is not missing can be called
 pub callable : (site : Site) (scope : Scope) (class : ℕ) (name : List ℕ) (receiver : ExprOf) → is_none (target_at site.table class name) ≡ false → ExprIs (signatures site.table) scope receiver (Some (ty.Class class)) → Callable site scope (target_at site.table class name) receiver
 callable site scope class name receiver h r =
     let t = there_is (target_at site.table class name) h in
@@ -264,7 +273,7 @@ callable site scope class name receiver h r =
 -- Operators.
 
 -- an operator that takes two ints
-ints_by : (table : List Shape) (result : StaticType) (o : AnOperation) (a b c : StaticType) → probe.operated (signatures table) o ty.Int ty.Int ≡ Some result → from_ints result a b ≡ Some c → probe.operated (signatures table) o a b ≡ Some c
+ints_by : (table : List Shape) (result : StaticType) (o : AnOperation) (a b c : StaticType) → bodies.operation_result (signatures table) o ty.Int ty.Int ≡ Some result → from_ints result a b ≡ Some c → bodies.operation_result (signatures table) o a b ≡ Some c
 ints_by table result o ty.Int ty.Int c k h = k ∙ h
 ints_by table result o ty.Int ty.Bool c k h = absurd (none_some h)
 ints_by table result o ty.Int ty.Text c k h = absurd (none_some h)
@@ -307,7 +316,7 @@ bools_by (ty.Class d1) ty.Text c h = absurd (none_some h)
 bools_by (ty.Class d1) (ty.Class d2) c h = absurd (none_some h)
 
 -- `+`
-sum_by : (table : List Shape) (a b c : StaticType) → sum_of a b ≡ Some c → probe.operated (signatures table) (cond (is_text (Some a) || is_text (Some b)) by.Join by.Add) a b ≡ Some c
+sum_by : (table : List Shape) (a b c : StaticType) → sum_of a b ≡ Some c → bodies.operation_result (signatures table) (cond (is_text (Some a) || is_text (Some b)) by.Join by.Add) a b ≡ Some c
 sum_by table ty.Int ty.Int c h = h
 sum_by table ty.Int ty.Bool c h = absurd (none_some h)
 sum_by table ty.Int ty.Text c h = h
@@ -331,8 +340,8 @@ if_so false r c h = absurd (none_some h)
 
 -- `==` and `!=`
 record AreCompared (table : List Shape) (a b c : StaticType) : Type 0 where
-  equal : probe.operated (signatures table) by.Equal a b ≡ Some c
-  differ : probe.operated (signatures table) by.NotEqual a b ≡ Some c
+  equal : bodies.operation_result (signatures table) by.Equal a b ≡ Some c
+  differ : bodies.operation_result (signatures table) by.NotEqual a b ≡ Some c
 
 compared_by : (table : List Shape) (a b c : StaticType) → comparison_type table a b ≡ Some c → AreCompared table a b c
 compared_by table ty.Int ty.Int c h = record { equal = h; differ = h }
@@ -353,7 +362,7 @@ compared_by table (ty.Class d1) ty.Text c h = absurd (none_some h)
 compared_by table (ty.Class d1) (ty.Class d2) c h = record { equal = if_so _ ty.Bool c h; differ = if_so _ ty.Bool c h }
 
 -- an operator whose operands fit it
-applied_is : (table : List Shape) (scope : Scope) (operator : Operator) (a b c : StaticType) (left right : ExprOf) → ExprIs (signatures table) scope left (Some a) → ExprIs (signatures table) scope right (Some b) → operated table operator a b ≡ Some c
+applied_is : (table : List Shape) (scope : Scope) (operator : Operator) (a b c : StaticType) (left right : ExprOf) → ExprIs (signatures table) scope left (Some a) → ExprIs (signatures table) scope right (Some b) → operator_result table operator a b ≡ Some c
     → ExprIs (signatures table) scope (applied operator (Some a) (Some b) left right) (Some c)
 applied_is table scope op.Or a b c left right l r h =
     let k = bools_by a b c h in
@@ -376,18 +385,18 @@ applied_is table scope op.Remainder a b c left right l r h = (a, b, c, l, r, int
 -- operands whose types are known, of which nothing is broken
 record Operands (table : List Shape) (operator : Operator) (s t : Option StaticType) (a b : StaticType) : Type 0 where
   kind : StaticType
-  fits : operated table operator a b ≡ Some kind
-  natural : operands_type (operated table operator) s t ≡ Some kind
+  fits : operator_result table operator a b ≡ Some kind
+  natural : operands_type (operator_result table operator) s t ≡ Some kind
 
 operands : (table : List Shape) (operator : Operator) (s t : Option StaticType) (a b : StaticType) (at : ℕ) → s ≡ Some a → t ≡ Some b → clash table operator at s t ≡ [] → Operands table operator s t a b
 operands table operator s t a b at hs ht h =
     let h1 : clash table operator at (Some a) t ≡ [] = subst (λ (z : Option StaticType). clash table operator at z t ≡ []) hs h in
     let h2 : clash table operator at (Some a) (Some b) ≡ [] = subst (λ (z : Option StaticType). clash table operator at (Some a) z ≡ []) ht h1 in
-    let k = there_is (operated table operator a b) (when_not _ at h2) in
+    let k = there_is (operator_result table operator a b) (when_not _ at h2) in
     record {
       kind = k.0;
       fits = k.1;
-      natural = ap (λ z. operands_type (operated table operator) z t) hs ∙ ap (λ z. operands_type (operated table operator) (Some a) z) ht ∙ k.1;
+      natural = ap (λ z. operands_type (operator_result table operator) z t) hs ∙ ap (λ z. operands_type (operator_result table operator) (Some a) z) ht ∙ k.1;
     }
 
 -- The induction.
@@ -396,9 +405,11 @@ operands table operator s t a b at hs ht h =
 abbrev pub in_term : Site → Role → Term → List (Spot Site)
 in_term site role term = over_term after spot_of_term spot_of_item site role term
 
+-- the spots of arguments
 abbrev pub in_terms : Site → Terms → List (Spot Site)
 in_terms site actuals = over_terms after spot_of_term spot_of_item site actuals
 
+-- a fact of the last spot
 pub the_last : (table : List Shape) (spots : List (Spot Site)) (spot : Spot Site) → Every (Free table) (spots ++ (spot ∷ [])) → Free table spot
 the_last table spots spot h = (every_right (Free table) spots (spot ∷ []) h).0
 
@@ -450,6 +461,7 @@ not_printed site role name actuals used f = contrary (is_used role) (is_print na
     contrary true b u h k = true_false (sym k ∙ h)
     contrary false b u h k = false≢true u
 
+-- a method without receiver that is not missing can be called
 pub own_callable : (site : Site) (scope : Scope) (name : List ℕ) → Holds site scope → is_none (own_target site name) ≡ false → Callable site scope (own_target site name) to.This
 own_callable site scope name holds h = by_main site.in_main refl h
   where

@@ -22,7 +22,7 @@ use Rattle.chord_classes.proofs.Inherits.{Begins, get_left}
 use Rattle.chord_classes.proofs.Headers.{shapes_begin, get_last}
 use Rattle.chord_classes.proofs.Planned.{get_behind, get_mapped, length_members}
 
--- what a class of the plan was made from
+-- what a class of the plan was planned_from from
 pub record Made (p : ProgramTree) (c : ℕ) (x : ClassOf) : Type 0 where
   pub done : List Shape
   pub plans : List ClassOf
@@ -78,8 +78,9 @@ made_at p done plans number (class ∷ more) whole all same bodies h =
       members = λ j m f. bodies j ∙ get_mapped p (length done) class class.members (resolved_classes (table_of p) (length done + 1) more) j m f ∙ ap (λ z. Some (resolved_member (table_of p) z class m)) place;
     }))
 
-pub made : (p : ProgramTree) (c : ℕ) (x : ClassOf) → slice_get (plan_of p) c ≡ Some x → Made p c x
-made p = made_at p [] [] 0 p.classes refl refl refl (λ j. let e : 0 + j ≡ j = omega arith in ap (slice_get (bodies_of p)) e) (λ c x e. absurd (none_some e))
+-- a class of the plan was planned_from from a class of the text
+pub planned_from : (p : ProgramTree) (c : ℕ) (x : ClassOf) → slice_get (plan_of p) c ≡ Some x → Made p c x
+planned_from p = made_at p [] [] 0 p.classes refl refl refl (λ j. let e : 0 + j ≡ j = omega arith in ap (slice_get (bodies_of p)) e) (λ c x e. absurd (none_some e))
 
 -- Each class of the table is one of the plan.
 
@@ -95,6 +96,7 @@ get_within [] c h = absurd (omega (arith, h))
 get_within (x ∷ xs) zero h = (x, refl)
 get_within (x ∷ xs) (suc c) h = get_within xs c (omega (arith, h))
 
+-- what is built is a class of the plan
 pub class_planned : (p : ProgramTree) (c : ℕ) (s : Shape) → slice_get (table_of p) c ≡ Some s → (x : ClassOf) × (slice_get (plan_of p) c ≡ Some x)
 class_planned p c s e =
     let within = slice_get_within (table_of p) c s e in
@@ -105,6 +107,7 @@ mapped_some : {A B : Type 0} (f : A → B) (o : Option A) (y : B) → option_map
 mapped_some f None y e = absurd (none_some e)
 mapped_some f (Some x) y e = (x, refl, same_some e)
 
+-- the constructor of a class is one of its bodies
 pub built_planned : (p : ProgramTree) (c : ℕ) (ps : List StaticType) → (signatures_of p).builders c ≡ Some ps → (x : ClassOf) × (slice_get (plan_of p) c ≡ Some x)
 built_planned p c ps e =
     let s = mapped_some (λ (s : Shape). map (type_known (table_of p)) (built_from s.builder)) (slice_get (table_of p) c) ps e in
@@ -116,6 +119,7 @@ length_known : (table : List Shape) (ws : List ValueType) → length (map (type_
 length_known table [] = refl
 length_known table (w ∷ ws) = ap suc (length_known table ws)
 
+-- a method of a signature is one of the plan
 pub method_planned : (p : ProgramTree) (c j : ℕ) (m : Signature) → (signatures_of p).methods c j ≡ Some m → (x : ClassOf) × (y : MethodOf) × (slice_get (plan_of p) c ≡ Some x) × (slice_get x.methods j ≡ Some y) × (y.is_sync ≡ m.is_sync) × (y.parameters ≡ length m.parameters)
 method_planned p c j m e =
     let q = mapped_some (signature (table_of p)) (slice_get (methods_at (table_of p) c) j) m e in
@@ -126,16 +130,17 @@ method_planned p c j m e =
     by_class y f g None w = absurd (none_some (ap (λ o. slice_get (methods_in o) j) (sym w) ∙ f))
     by_class y f g (Some s) w =
         let x = class_planned p c s w in
-        let a = made p c x.0 x.1 in
+        let a = planned_from p c x.0 x.1 in
         let here : slice_get (shape_of a.done a.class).methods j ≡ Some y = ap (λ o. slice_get (methods_in o) j) (sym a.shape) ∙ f in
         let planned : slice_get x.0.methods j ≡ Some (method_plan y) = ap (λ (z : ClassOf). slice_get z.methods j) (sym a.is) ∙ slice_get-map method_plan (shape_of a.done a.class).methods j ∙ ap (option_map method_plan) here in
         (x.0, method_plan y, x.1, planned, ap (λ (z : Signature). z.is_sync) g, sym (length_known (table_of p) y.formals) ∙ ap (λ (z : Signature). length z.parameters) g)
 
 -- A class derives from its base.
 
+-- a class derives from its base
 pub base_derived : (p : ProgramTree) (c b : ℕ) (x : ClassOf) → slice_get (plan_of p) c ≡ Some x → x.base ≡ Some b → (signatures_of p).derives c b ≡ true
 base_derived p c b x e f =
-    let a = made p c x e in
+    let a = planned_from p c x e in
     let base : base_of a.done a.class ≡ Some b = ap (λ (z : ClassOf). z.base) a.is ∙ f in
     let all : above (table_of p) c ≡ b ∷ above a.done b = ap above_in a.shape ∙ ap (from_base a.done) base in
     let listed : among b (above (table_of p) c) ≡ true = ap (among b) all ∙ first_true (nat_eq b b) (among b (above a.done b)) (eq-eqb b b refl) in
@@ -174,9 +179,10 @@ builder_member table c class number i (ChordMember headers body ∷ more) e =
     let next : number + 1 + r.place ≡ number + suc r.place = omega arith in
     record { member = r.member; place = suc r.place; there = r.there; is = r.is ∙ next; not_main = r.not_main; is_constructor = r.is_constructor; result = r.result; formals = r.formals }
 
+-- a class without a constructor is built from nothing
 pub builder_planned : (p : ProgramTree) (c i : ℕ) (x : ClassOf) → slice_get (plan_of p) c ≡ Some x → x.constructor_body ≡ Some i → IsBuilder (signatures_of p) (resolved_program p) c i
 builder_planned p c i x e f =
-    let a = made p c x e in
+    let a = planned_from p c x e in
     let r = builder_member (table_of p) c a.class a.number i a.class.members (ap (λ (z : ClassOf). z.constructor_body) a.is ∙ f) in
     record {
       body = resolved_member (table_of p) c a.class r.member;
@@ -220,7 +226,7 @@ module _ (p : ProgramTree) where
   all_owned : (n c : ℕ) (x : ClassOf) → c < n → slice_get (plan_of p) c ≡ Some x → Every Owned x.chords
   all_owned zero c x l e = absurd (omega (arith, l))
   all_owned (suc n) c x l e =
-      let a = made p c x e in
+      let a = planned_from p c x e in
       let methods = (shape_of a.done a.class).methods in
       let ks = own_chords methods a.number a.class.members in
       let own_is : map (λ (z : ChordOf). z.body) ks ≡ x.own = ap (λ (z : ClassOf). z.own) a.is in

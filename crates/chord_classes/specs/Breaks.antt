@@ -13,6 +13,7 @@ pub record IsBreak (mine : ℕ → Bool) (p : ProgramTree) (r k : ℕ) : Type 0 
   pub broken : Broken p r k
   pub first : (s l : ℕ) → mine s ≡ true → Broken p s l → IsNotAfter r k s l
 
+-- all rules
 abbrev pub every_rule : ℕ → Bool
 every_rule rule = true
 
@@ -27,5 +28,6 @@ pub record BreaksJoin (p : ProgramTree) (mine others : ℕ → Bool) : Type 0 wh
   pub accepted : IsFree mine p → IsFree others p → KeepsEveryRule p
   pub only_one : (r k s l : ℕ) → IsBreak mine p r k → IsBreak mine p s l → (r ≡ s) × (k ≡ l)
 
+-- This holds of every program and of two families of rules, one of which each rule is of.
 abbrev pub AllJoin : Type 0
 AllJoin = (p : ProgramTree) (mine others : ℕ → Bool) → ((rule : ℕ) → (mine rule ≡ true) ⊎ (others rule ≡ true)) → BreaksJoin p mine others

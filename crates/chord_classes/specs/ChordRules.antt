@@ -25,6 +25,7 @@ abbrev pub repeated : List (List ℕ) → List HeaderTree → List ℕ
 repeated before [] = []
 repeated before (header ∷ more) = when (not (is_main header) && named_in header.name.text before) header.name.at ++ repeated (header.name.text ∷ before) more
 
+-- the headers of a member whose name stands before them
 abbrev pub repeated_in : MemberTree → List ℕ
 repeated_in (ConstructorMember modifiers name formals body) = []
 repeated_in (ChordMember headers body) = repeated [] headers
@@ -42,6 +43,7 @@ abbrev pub second_sync : Bool → List HeaderTree → List ℕ
 second_sync seen [] = []
 second_sync seen (header ∷ more) = when (seen && counts_sync header) header.name.at ++ second_sync (seen || counts_sync header) more
 
+-- the synchronous headers of a member that stand behind a synchronous one
 abbrev pub crowded_in : MemberTree → List ℕ
 crowded_in (ConstructorMember modifiers name formals body) = []
 crowded_in (ChordMember headers body) = second_sync false headers
@@ -50,9 +52,11 @@ crowded_in (ChordMember headers body) = second_sync false headers
 abbrev pub second_synchronous : List Shape → ClassTree → List ℕ
 second_synchronous done class = flat_map crowded_in class.members
 
+-- the tokens of the names of headers
 abbrev pub header_tokens : List HeaderTree → List ℕ
 header_tokens headers = map (λ (header : HeaderTree). header.name.at) headers
 
+-- the tokens of the names of parameters
 abbrev pub formal_tokens : List Formal → List ℕ
 formal_tokens formals = map (λ (formal : Formal). formal.name.at) formals
 
@@ -64,6 +68,7 @@ new_headers owner methods (header ∷ more) =
 
 -- the names of the locals that are declared in a statement, a block or items, in the order of the text
 abbrev mutual
+  -- the tokens of the names of the locals that are declared in a statement
   pub stmt_names : StmtTree → List ℕ
   stmt_names (AssignStmt name assign value) = []
   stmt_names (CallStmt name actuals calls) = []
@@ -78,9 +83,11 @@ abbrev mutual
   stmt_names (ReturnStmt at) = []
   stmt_names (ReturnValueStmt at value) = []
 
+  -- the tokens of the names of the locals that are declared in a block
   pub block_names : BlockTree → List ℕ
   block_names (MakeBlock items end) = items_names items
 
+  -- the tokens of the names of the locals that are declared in items
   pub items_names : ItemTrees → List ℕ
   items_names NoItems = []
   items_names (MoreItems (LocalItem written name assign value) more) = name.at ∷ items_names more
@@ -98,6 +105,7 @@ chord_tokens (ConstructorMember modifiers name formals body ∷ more) = chord_to
 chord_tokens (ChordMember [] body ∷ more) = chord_tokens more
 chord_tokens (ChordMember (header ∷ others) body ∷ more) = cond (has_main (header ∷ others)) [] (header.name.at ∷ []) ++ chord_tokens more
 
+-- the token of the base name, where a condition holds
 abbrev pub base_token : Option Name → Bool → List ℕ
 base_token None condition = []
 base_token (Some base) condition = when condition base.at
@@ -117,6 +125,7 @@ over_plans rule done plans number [] = []
 over_plans rule done plans number (class ∷ more) =
     rule done plans class ++ over_plans rule (done ++ (shape_of done class ∷ [])) (plans ++ (class_plan done plans number class ∷ [])) (number + length class.members) more
 
+-- the token of the name of a constructor
 abbrev pub builder_token : MemberTree → List ℕ
 builder_token (ConstructorMember modifiers name formals body) = name.at ∷ []
 builder_token (ChordMember headers body) = []
@@ -132,14 +141,17 @@ abbrev pub has_parameters : MemberTree → Bool
 has_parameters (ConstructorMember modifiers name formals body) = not (nat_eq (length formals.parameters) 0)
 has_parameters (ChordMember headers body) = false
 
+-- one of the members is a constructor with parameters
 abbrev pub any_has : List MemberTree → Bool
 any_has [] = false
 any_has (member ∷ more) = has_parameters member || any_has more
 
+-- a class has a constructor with parameters
 abbrev pub class_has : Option ClassTree → Bool
 class_has None = false
 class_has (Some class) = any_has class.members
 
+-- a base class has a constructor with parameters
 abbrev pub base_has : List ClassTree → Option ℕ → Bool
 base_has classes None = false
 base_has classes (Some base) = class_has (slice_get classes base)
@@ -148,10 +160,12 @@ base_has classes (Some base) = class_has (slice_get classes base)
 abbrev pub wrong_constructors : List ClassTree → List Shape → ClassTree → List ℕ
 wrong_constructors classes done class = misnamed_constructors class.name.text class.members ++ base_token class.base (base_has classes (base_of done class))
 
+-- a result is `void`
 abbrev pub is_void : ReturnType → Bool
 is_void (results.Void at) = true
 is_void _ = false
 
+-- the word `static`
 abbrev pub static_word : ModifierKeyword → Bool
 static_word modifiers.Static = true
 static_word _ = false
@@ -166,17 +180,21 @@ pub record MainAt : Type 0 where
   pub right : Bool
   pub at : ℕ
 
+-- the headers named `Main` among headers
 abbrev pub mains_among : List HeaderTree → List HeaderTree → List MainAt
 mains_among all [] = []
 mains_among all (header ∷ more) = cond (is_main header) (record { right = is_right_main all header; at = header.name.at } ∷ []) [] ++ mains_among all more
 
+-- the headers named `Main` of a member
 abbrev pub member_mains : MemberTree → List MainAt
 member_mains (ConstructorMember modifiers name formals body) = []
 member_mains (ChordMember headers body) = mains_among headers headers
 
+-- the headers named `Main` of classes
 abbrev pub mains_of : List ClassTree → List MainAt
 mains_of classes = flat_map (λ (class : ClassTree). flat_map member_mains class.members) classes
 
+-- C13: a method named `Main` is not as it should be, or is the second one; or there is none, which is at the end of the text
 abbrev pub wrong_mains : List MainAt → ℕ → List ℕ
 wrong_mains [] end = end ∷ []
 wrong_mains (first ∷ more) end = when (not first.right) first.at ++ map (λ (main : MainAt). main.at) more

@@ -31,12 +31,14 @@ repeated_formals before (formal ∷ more) = when (named_in formal.name.text befo
 abbrev pub parameter_again : List Shape → ClassTree → List ℕ
 parameter_again done class = flat_map (λ (member : MemberTree). repeated_formals [] (member_formals member)) class.members
 
+-- an access modifier
 abbrev pub is_access : ModifierKeyword → Bool
 is_access modifiers.Public = true
 is_access modifiers.Protected = true
 is_access modifiers.Private = true
 is_access _ = false
 
+-- an access modifier with which a method may be `virtual` or `override`
 abbrev pub is_open : ModifierKeyword → Bool
 is_open modifiers.Public = true
 is_open modifiers.Protected = true
@@ -47,10 +49,12 @@ pub data Bearer : Type 0 where
   OnConstructor : Bearer
   InHeader : (main_alone : Bool) → Bearer
 
+-- `static` may stand there
 abbrev pub bears_static : Bearer → Bool
 bears_static OnConstructor = false
 bears_static (InHeader main_alone) = main_alone
 
+-- `virtual` and `override` may stand there
 abbrev pub bears_virtual : Bearer → Bool
 bears_virtual OnConstructor = false
 bears_virtual (InHeader main_alone) = true
@@ -64,10 +68,12 @@ is_barred bearer before all modifiers.Static = has_word static_word before || (h
 is_barred bearer before all modifiers.Virtual = has_word is_virtual_word before || (has_word static_word before || (not (bears_virtual bearer) || not (has_word is_open all)))
 is_barred bearer before all modifiers.Override = has_word is_virtual_word before || (has_word static_word before || (not (bears_virtual bearer) || not (has_word is_open all)))
 
+-- the modifiers that are not allowed, of those behind these
 abbrev pub barred_among : Bearer → List Modifier → List Modifier → List Modifier → List ℕ
 barred_among bearer all before [] = []
 barred_among bearer all before (modifier ∷ more) = when (is_barred bearer before all modifier.keyword) modifier.at ++ barred_among bearer all (before ++ (modifier ∷ [])) more
 
+-- the modifiers of a member that are not allowed
 abbrev pub barred_in : MemberTree → List ℕ
 barred_in (ConstructorMember modifiers name formals body) = barred_among OnConstructor modifiers [] modifiers
 barred_in (ChordMember headers body) = flat_map (λ (header : HeaderTree). barred_among (InHeader (is_main header && nat_eq (length headers) 1)) header.modifiers [] header.modifiers) headers
@@ -92,6 +98,7 @@ pub data Grouped (chords : List ChordOf) : ℕ → ℕ → Type 0 where
 abbrev pub overriding : List Method → List HeaderTree → List HeaderTree
 overriding methods headers = filter (λ header. overrides header && is_some (method_named methods header.name.text)) headers
 
+-- a header is among headers
 abbrev pub IsAmong : HeaderTree → List HeaderTree → Type 0
 IsAmong header [] = ⊥
 IsAmong header (other ∷ more) = (header ≡ other) ⊎ IsAmong header more

@@ -79,6 +79,7 @@ abbrev mutual
   pub block_surely : BlockTree → Bool
   block_surely (MakeBlock items end) = items_surely items
 
+  -- one of the items surely returns
   pub items_surely : ItemTrees → Bool
   items_surely NoItems = false
   items_surely (MoreItems (LocalItem written name assign value) more) = items_surely more
@@ -88,13 +89,16 @@ abbrev mutual
 abbrev pub unreturned : MemberTree → List ℕ
 unreturned member = when (is_some (member_due member) && not (block_surely (body_of member))) (block_end (body_of member))
 
+-- the type names of parameters that are not declared
 abbrev pub undeclared_formals : List Shape → List Formal → List ℕ
 undeclared_formals table formals = flat_map (λ (f : Formal). undeclared_type table f.value_type) formals
 
+-- the type name of a result that is not declared
 abbrev pub undeclared_result : List Shape → Option ValueType → List ℕ
 undeclared_result table None = []
 undeclared_result table (Some written) = undeclared_type table written
 
+-- the type names of a header that are not declared
 abbrev pub undeclared_header : List Shape → HeaderTree → List ℕ
 undeclared_header table header = undeclared_result table (value_type header.result_type) ++ undeclared_formals table header.formals.parameters
 

@@ -9,6 +9,7 @@ use Rattle.chord_classes.specs.Types.{value_type, built_from}
 use Rattle.chord_classes.specs.Site.{Site, variable_named}
 use Rattle.chord_classes.specs.TypedTerms.{Passed, TypedTerm, VariableTyped, ThisTyped, NumberTyped, LiteralTyped, NewTyped, OwnCallTyped, CallTyped, PrintTyped, Target, own_target, target_at, target_of}
 
+-- a token, where a condition holds
 abbrev pub when : Bool → ℕ → List ℕ
 when condition at = cond condition (at ∷ []) []
 
@@ -43,14 +44,17 @@ may_reach site receiver owner Public = true
 may_reach site receiver owner Private = nat_eq site.own owner
 may_reach site receiver owner Protected = derives site.table site.own owner && derives site.table receiver site.own
 
+-- a method that a call names is not accessible
 abbrev pub barred : Site → Option Target → ℕ → List ℕ
 barred site None at = []
 barred site (Some target) at = when (not (may_reach site target.class target.method.owner target.method.access)) at
 
+-- everybody may use it
 abbrev pub is_public : Access → Bool
 is_public Public = true
 is_public _ = false
 
+-- a constructor is not accessible
 abbrev pub barred_builder : Site → ℕ → Option Builder → ℕ → List ℕ
 barred_builder site class None at = []
 barred_builder site class (Some builder) at = when (not (is_public builder.access || nat_eq class site.own)) at
@@ -59,6 +63,7 @@ barred_builder site class (Some builder) at = when (not (is_public builder.acces
 abbrev pub builder_at : List Shape → ℕ → Option Builder
 builder_at table class = option_and_then (λ (shape : Shape). shape.builder) (slice_get table class)
 
+-- the constructor of a class is not accessible
 abbrev pub barred_class : Site → Option ℕ → ℕ → List ℕ
 barred_class site None at = []
 barred_class site (Some class) at = barred_builder site class (builder_at site.table class) at
@@ -70,11 +75,13 @@ inaccessible site (OwnCallTyped name actuals) = barred site (own_target site nam
 inaccessible site (CallTyped receiver dot name actuals) = barred site (target_of site (CallTyped receiver dot name actuals)) name.at
 inaccessible site _ = []
 
+-- the value of an expression is used
 abbrev pub is_used : Role → Bool
 is_used Used = true
 is_used Alone = false
 is_used Receiver = true
 
+-- a method that a call names gives no value
 abbrev pub valueless : Option Target → Bool
 valueless None = false
 valueless (Some target) = is_none (value_type target.method.result_type)
@@ -90,14 +97,17 @@ used_valueless site role _ = []
 abbrev pub class_formals : List Shape → ℕ → List ValueType
 class_formals table class = built_from (builder_at table class)
 
+-- the number of arguments is not that of the parameters, where these are known
 abbrev pub miscounted_for : Option (List ValueType) → List Passed → ℕ → List ℕ
 miscounted_for None actuals at = []
 miscounted_for (Some formals) actuals at = when (not (nat_eq (length actuals) (length formals))) at
 
+-- the written types of the parameters of what a call names
 abbrev pub target_formals : Option Target → Option (List ValueType)
 target_formals None = None
 target_formals (Some target) = Some target.method.formals
 
+-- the written types of what a class that is named is built from
 abbrev pub named_formals : List Shape → Option ℕ → Option (List ValueType)
 named_formals table None = None
 named_formals table (Some class) = Some (class_formals table class)

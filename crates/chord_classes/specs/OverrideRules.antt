@@ -13,6 +13,7 @@ use Rattle.chord_tree.specs.Walk.{headers_of}
 use Rattle.chord_classes.specs.Table.{Access, Public, Protected, Private, Found, Shape, has_word, access_of, formal_types, is_main, method_named, base_of, inherited, shape_of}
 use Rattle.chord_classes.specs.NameRules.{when}
 
+-- two types that are words of the language are the same
 abbrev pub same_basic : BasicType → BasicType → Bool
 same_basic basics.Int basics.Int = true
 same_basic basics.Bool basics.Bool = true
@@ -25,31 +26,37 @@ same_written (types.Basic a i) (types.Basic b j) = same_basic a b
 same_written (types.Class x) (types.Class y) = bytes_eq x.text y.text
 same_written _ _ = false
 
+-- written types are the same, one by one
 abbrev pub same_all : List ValueType → List ValueType → Bool
 same_all [] [] = true
 same_all (v ∷ vs) (w ∷ ws) = same_written v w && same_all vs ws
 same_all _ _ = false
 
+-- results are the same
 abbrev pub same_result : ReturnType → ReturnType → Bool
 same_result (results.Async i) (results.Async j) = true
 same_result (results.Void i) (results.Void j) = true
 same_result (results.Value v) (results.Value w) = same_written v w
 same_result _ _ = false
 
+-- accesses are the same
 abbrev pub same_access : Access → Access → Bool
 same_access Public Public = true
 same_access Protected Protected = true
 same_access Private Private = true
 same_access _ _ = false
 
+-- two truth values are the same
 abbrev pub same_truth : Bool → Bool → Bool
 same_truth true b = b
 same_truth false b = not b
 
+-- the word `virtual`
 abbrev pub virtual_word : ModifierKeyword → Bool
 virtual_word modifiers.Virtual = true
 virtual_word _ = false
 
+-- the word `override`
 abbrev pub override_word : ModifierKeyword → Bool
 override_word modifiers.Override = true
 override_word _ = false
@@ -69,6 +76,7 @@ abbrev pub first_named : List HeaderTree → List ℕ → Option HeaderTree
 first_named [] name = None
 first_named (header ∷ more) name = cond (bytes_eq header.name.text name) (Some header) (first_named more name)
 
+-- a header differs from the first of its name
 abbrev pub differs_from : Option HeaderTree → HeaderTree → List ℕ
 differs_from None header = []
 differs_from (Some first) header = when (not (agree first header)) header.name.at

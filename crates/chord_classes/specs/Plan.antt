@@ -17,6 +17,7 @@ header_number methods header = unwrap_or (option_map (λ (found : Found). found.
 abbrev pub header_numbers : List Method → List HeaderTree → List ℕ
 header_numbers methods headers = map (header_number methods) headers
 
+-- the number of a method that was found
 abbrev pub number_in : Option Found → List ℕ
 number_in None = []
 number_in (Some found) = found.number ∷ []
@@ -48,6 +49,7 @@ own_builder number [] = None
 own_builder number (ConstructorMember modifiers name formals body ∷ more) = Some number
 own_builder number (ChordMember headers body ∷ more) = own_builder (number + 1) more
 
+-- the effective chords of a class that is there
 abbrev pub chords_in : Option ClassOf → List ChordOf
 chords_in None = []
 chords_in (Some class) = class.chords
@@ -57,6 +59,7 @@ abbrev pub base_chords : List ClassOf → Option ℕ → List ChordOf
 base_chords plans None = []
 base_chords plans (Some base) = chords_in (slice_get plans base)
 
+-- what the plan says of a method
 abbrev pub method_plan : Method → MethodOf
 method_plan method = record { name = method.name; is_sync = is_sync method.result_type; parameters = length method.formals }
 
@@ -85,10 +88,12 @@ abbrev pub main_among : ℕ → List MemberTree → Option ℕ
 main_among number [] = None
 main_among number (member ∷ more) = cond (member_in_main member) (Some number) (main_among (number + 1) more)
 
+-- the first of two numbers that is there
 abbrev pub or_else : Option ℕ → Option ℕ → Option ℕ
 or_else (Some number) others = Some number
 or_else None others = others
 
+-- the first member that is `Main` among classes, of which the first member has this number
 abbrev pub main_in : ℕ → List ClassTree → Option ℕ
 main_in number [] = None
 main_in number (class ∷ more) = or_else (main_among number class.members) (main_in (number + length class.members) more)

@@ -17,6 +17,7 @@ use Rattle.chord_classes.specs.Site.{Site, Local, variable_named, after, block_l
 use Rattle.chord_classes.specs.TypedTerms.{Target, is_console, own_target, target_on}
 use Rattle.chord_classes.specs.Typed.{type_of_term}
 
+-- the slot of a variable
 abbrev pub slot_of : Option Local → ℕ
 slot_of None = 0
 slot_of (Some local) = local.slot
@@ -25,6 +26,7 @@ slot_of (Some local) = local.slot
 abbrev pub int_of_number : ℕ → ℤ
 int_of_number value = cond (nat_lt value 2147483648) (pos value) (negsuc 2147483647)
 
+-- a type is that of texts
 abbrev pub is_text : Option StaticType → Bool
 is_text (Some ty.Text) = true
 is_text _ = false
@@ -114,6 +116,7 @@ abbrev mutual
   resolved_items site (MoreItems (LocalItem written name assign value) more) = MoreStmts (to.Store site.next (resolved site (term value))) (resolved_items (after site (LocalItem written name assign value)) more)
   resolved_items site (MoreItems (StmtItem stmt) more) = MoreStmts (resolved_stmt site stmt) (resolved_items (after site (StmtItem stmt)) more)
 
+-- a member is a constructor
 abbrev pub is_builder : MemberTree → Bool
 is_builder (ConstructorMember modifiers name formals body) = true
 is_builder (ChordMember headers body) = false

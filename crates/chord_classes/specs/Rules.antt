@@ -28,9 +28,11 @@ at_typed_term rule site role term = rule site role (typed_term site term)
 abbrev pub no_term : Site → Role → Term → List ℕ
 no_term site role term = []
 
+-- what a rule says where it says nothing of items
 abbrev pub no_item : Site → ItemTree → List ℕ
 no_item site item = []
 
+-- what a rule says where it says nothing of members
 abbrev pub no_member : ClassTree → MemberTree → List ℕ
 no_member class member = []
 

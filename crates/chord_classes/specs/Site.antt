@@ -31,6 +31,7 @@ variable_named (local ∷ more) name = cond (bytes_eq local.name name) (Some loc
 
 -- the written types of the locals that are declared in a statement, a block or items, in the order of the text
 abbrev mutual
+  -- the written types of the locals that are declared in a statement, in the order of the text
   pub stmt_locals : StmtTree → List ValueType
   stmt_locals (AssignStmt name assign value) = []
   stmt_locals (CallStmt name actuals calls) = []
@@ -45,9 +46,11 @@ abbrev mutual
   stmt_locals (ReturnStmt at) = []
   stmt_locals (ReturnValueStmt at value) = []
 
+  -- the written types of the locals that are declared in a block
   pub block_locals : BlockTree → List ValueType
   block_locals (MakeBlock items end) = items_locals items
 
+  -- the written types of the locals that are declared in items
   pub items_locals : ItemTrees → List ValueType
   items_locals NoItems = []
   items_locals (MoreItems (LocalItem value_type name assign value) more) = value_type ∷ items_locals more
@@ -77,6 +80,7 @@ abbrev pub member_formals : MemberTree → List Formal
 member_formals (ConstructorMember modifiers name formals body) = formals.parameters
 member_formals (ChordMember headers body) = flat_map (λ (header : HeaderTree). header.formals.parameters) headers
 
+-- the value that a header is to give, or else that of others
 abbrev pub due_by : ReturnType → Option ValueType → Option ValueType
 due_by (results.Async at) others = others
 due_by (results.Void at) others = None
@@ -92,6 +96,7 @@ abbrev pub member_due : MemberTree → Option ValueType
 member_due (ConstructorMember modifiers name formals body) = None
 member_due (ChordMember headers body) = headers_due headers
 
+-- one of the headers is that of `Main`
 abbrev pub has_main : List HeaderTree → Bool
 has_main [] = false
 has_main (header ∷ more) = is_main header || has_main more

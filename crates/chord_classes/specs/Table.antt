@@ -44,6 +44,7 @@ abbrev pub has_word : (ModifierKeyword → Bool) → List Modifier → Bool
 has_word is_word [] = false
 has_word is_word (m ∷ ms) = is_word m.keyword || has_word is_word ms
 
+-- the words with which a method may be overridden
 abbrev pub is_virtual_word : ModifierKeyword → Bool
 is_virtual_word modifiers.Virtual = true
 is_virtual_word modifiers.Override = true
@@ -119,6 +120,7 @@ class_named table name = class_from 0 table name
 abbrev pub base_of : List Shape → ClassTree → Option ℕ
 base_of done class = option_and_then (λ (base : Name). class_named done base.text) class.base
 
+-- the methods of a class that is there
 abbrev pub methods_in : Option Shape → List Method
 methods_in None = []
 methods_in (Some shape) = shape.methods
@@ -127,6 +129,7 @@ methods_in (Some shape) = shape.methods
 abbrev pub methods_at : List Shape → ℕ → List Method
 methods_at table class = methods_in (slice_get table class)
 
+-- the classes above a class that is there
 abbrev pub above_in : Option Shape → List ℕ
 above_in None = []
 above_in (Some shape) = shape.above
@@ -135,10 +138,12 @@ above_in (Some shape) = shape.above
 abbrev pub above : List Shape → ℕ → List ℕ
 above table class = above_in (slice_get table class)
 
+-- the methods that are inherited from a base class
 abbrev pub inherited : List Shape → Option ℕ → List Method
 inherited done None = []
 inherited done (Some base) = methods_at done base
 
+-- a base class and the classes above it
 abbrev pub from_base : List Shape → Option ℕ → List ℕ
 from_base done None = []
 from_base done (Some base) = base ∷ above done base
@@ -161,6 +166,7 @@ shapes_after done (class ∷ more) = shapes_after (done ++ (shape_of done class 
 abbrev pub table_of : ProgramTree → List Shape
 table_of program = shapes_after [] program.classes
 
+-- a number is among numbers
 abbrev pub among : ℕ → List ℕ → Bool
 among n [] = false
 among n (m ∷ ms) = nat_eq n m || among n ms

@@ -41,25 +41,27 @@ comparison_type table (ty.Class c) (ty.Class d) = cond (derives table c d || der
 comparison_type table _ _ = None
 
 -- the type of an operator's result, where its operands fit it
-abbrev pub operated : List Shape → Operator → StaticType → StaticType → Option StaticType
-operated table op.Or left right = from_bools left right
-operated table op.And left right = from_bools left right
-operated table op.Equal left right = comparison_type table left right
-operated table op.NotEqual left right = comparison_type table left right
-operated table op.Less left right = from_ints ty.Bool left right
-operated table op.Greater left right = from_ints ty.Bool left right
-operated table op.LessOrEqual left right = from_ints ty.Bool left right
-operated table op.GreaterOrEqual left right = from_ints ty.Bool left right
-operated table op.Plus left right = sum_of left right
-operated table op.Minus left right = from_ints ty.Int left right
-operated table op.Times left right = from_ints ty.Int left right
-operated table op.Divide left right = from_ints ty.Int left right
-operated table op.Remainder left right = from_ints ty.Int left right
+abbrev pub operator_result : List Shape → Operator → StaticType → StaticType → Option StaticType
+operator_result table op.Or left right = from_bools left right
+operator_result table op.And left right = from_bools left right
+operator_result table op.Equal left right = comparison_type table left right
+operator_result table op.NotEqual left right = comparison_type table left right
+operator_result table op.Less left right = from_ints ty.Bool left right
+operator_result table op.Greater left right = from_ints ty.Bool left right
+operator_result table op.LessOrEqual left right = from_ints ty.Bool left right
+operator_result table op.GreaterOrEqual left right = from_ints ty.Bool left right
+operator_result table op.Plus left right = sum_of left right
+operator_result table op.Minus left right = from_ints ty.Int left right
+operator_result table op.Times left right = from_ints ty.Int left right
+operator_result table op.Divide left right = from_ints ty.Int left right
+operator_result table op.Remainder left right = from_ints ty.Int left right
 
+-- a type is `int`
 abbrev pub is_int : StaticType → Bool
 is_int ty.Int = true
 is_int _ = false
 
+-- a type is `bool`
 abbrev pub is_bool : StaticType → Bool
 is_bool ty.Bool = true
 is_bool _ = false
@@ -86,7 +88,7 @@ misfits_for table (Some formals) actuals = cond (nat_eq (length actuals) (length
 
 -- operands that do not fit their operator, where both have types
 abbrev pub clash : List Shape → Operator → ℕ → Option StaticType → Option StaticType → List ℕ
-clash table operator at (Some left) (Some right) = when (is_none (operated table operator left right)) at
+clash table operator at (Some left) (Some right) = when (is_none (operator_result table operator left right)) at
 clash table operator at _ _ = []
 
 -- an argument of `WriteLine` that cannot be printed
@@ -94,6 +96,7 @@ abbrev pub unprintable : List Passed → List ℕ
 unprintable (actual ∷ []) = when_typed prints actual.static_type actual.first
 unprintable _ = []
 
+-- a type is a class
 abbrev pub is_class_type : StaticType → Bool
 is_class_type (ty.Class class) = true
 is_class_type _ = false

@@ -9,24 +9,28 @@ use Rattle.chord_classes.specs.Types.{type_written, value_type}
 use Rattle.chord_classes.specs.Site.{Site, Local, variable_named}
 use Rattle.chord_classes.specs.TypedTerms.{Passed, TypedTerm, VariableTyped, ThisTyped, NumberTyped, LiteralTyped, BoolTyped, GroupTyped, MinusTyped, NotTyped, OperationTyped, NewTyped, OwnCallTyped, CallTyped, PrintTyped, is_console, typed_call, Target, own_target, target_of, parts_have_types}
 use Rattle.chord_classes.specs.NameRules.{undeclared, unknown, inaccessible, used_valueless, miscounted}
-use Rattle.chord_classes.specs.TypeRules.{operated, disagreeing}
+use Rattle.chord_classes.specs.TypeRules.{operator_result, disagreeing}
 
 -- all that the rules on names and types say of one expression; those on numbers and literals leave its type
 abbrev pub faults : Site → Role → TypedTerm → List ℕ
 faults site role parts = undeclared site parts ++ (unknown site role parts ++ (disagreeing site parts ++ (inaccessible site parts ++ (used_valueless site role parts ++ miscounted site parts))))
 
+-- nothing is broken
 abbrev pub is_nil : List ℕ → Bool
 is_nil [] = true
 is_nil (n ∷ ns) = false
 
+-- the type of a variable
 abbrev pub local_type : Option Local → Option StaticType
 local_type None = None
 local_type (Some local) = local.static_type
 
+-- the type of what a method that a call names gives
 abbrev pub target_type : Site → Option Target → Option StaticType
 target_type site None = None
 target_type site (Some target) = option_and_then (type_written site.table) (value_type target.method.result_type)
 
+-- the type of what an operator gives, where both operands have types
 abbrev pub operands_type : (StaticType → StaticType → Option StaticType) → Option StaticType → Option StaticType → Option StaticType
 operands_type f (Some left) (Some right) = f left right
 operands_type f _ _ = None
@@ -41,7 +45,7 @@ natural site BoolTyped = Some ty.Bool
 natural site (GroupTyped inner) = inner
 natural site (MinusTyped at operand) = Some ty.Int
 natural site (NotTyped at operand) = Some ty.Bool
-natural site (OperationTyped operator at left right) = operands_type (operated site.table operator) left right
+natural site (OperationTyped operator at left right) = operands_type (operator_result site.table operator) left right
 natural site (NewTyped name actuals) = option_map ty.Class (class_named site.table name.text)
 natural site (OwnCallTyped name actuals) = target_type site (own_target site name.text)
 natural site (CallTyped receiver dot name actuals) = target_type site (target_of site (CallTyped receiver dot name actuals))
@@ -67,6 +71,7 @@ abbrev mutual
   typed_term site (OwnCallTerm name brackets actuals) = OwnCallTyped name (passed site actuals)
   typed_term site (CallTerm receiver dot name brackets actuals) = typed_call (is_console site receiver) (judged site Receiver (typed_term site receiver)) dot name (passed site actuals)
 
+  -- arguments with their first tokens and types
   pub passed : Site → Terms → List Passed
   passed site NoTerms = []
   passed site (MoreTerms actual more) = record { first = first_token actual; static_type = judged site Used (typed_term site actual) } ∷ passed site more

@@ -46,6 +46,7 @@ pub record Target : Type 0 where
   pub number : ℕ
   pub method : Method
 
+-- what a call names, of a method that was found in a class
 abbrev pub target_in : ℕ → Option Found → Option Target
 target_in class None = None
 target_in class (Some found) = Some (record { class = class; number = found.number; method = found.method })
@@ -69,6 +70,7 @@ target_of site (OwnCallTyped name actuals) = own_target site name.text
 target_of site (CallTyped receiver dot name actuals) = target_on site receiver name.text
 target_of site _ = None
 
+-- all arguments have types
 abbrev pub all_typed : List Passed → Bool
 all_typed [] = true
 all_typed (actual ∷ more) = is_some actual.static_type && all_typed more

@@ -12,6 +12,7 @@ use Rattle.chord_base.specs.declared.static_type.StaticType.TheVariants as ty
 use Rattle.chord_bodies.specs.Types.{Signature, Signatures}
 use Rattle.chord_classes.specs.Table.{Method, Builder, Shape, class_named, methods_at, derives, table_of}
 
+-- the static type of a word of the language
 abbrev pub basic_type : BasicType → StaticType
 basic_type basics.Int = ty.Int
 basic_type basics.Bool = ty.Bool

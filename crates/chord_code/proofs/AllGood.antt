@@ -33,14 +33,17 @@ sent_below n q m (e ∷ h) a s =
       | inr o ↦ sent_below n q m h a.1 (rw o at s)
     ]
 
+-- a message that was sent stays one
 pub sent_more : (e : Entry) (q : ℕ) (m : Message) (h : List Entry) → AllBelow e.number h → sent q h ≡ Some m → sent q (e ∷ h) ≡ Some m
 sent_more e q m h a s = (let less = sent_below e.number q m h a s in let o : (e.number == q) ≡ false = ne_eqb e.number q (λ i. omega (arith, i, less)) in rw (o, s))
 
+-- the type that is due of a body stays after one more entry
 pub due_more : (p : Program) (sig : Signatures) (e : Entry) (h : List Entry) (b : ℕ) (r : Option StaticType) → AllBelow e.number h → b < e.number → IsDueType p sig h b r → IsDueType p sig (e ∷ h) b r
 due_more p sig e h b r a l due =
     let o : (e.number == b) ≡ false = ne_eqb e.number b (λ i. omega (arith, i, l)) in
     elim due [ inl none ↦ inl (rw (o, none)) | inr d ↦ inr (d.0, d.1, d.2, rw (o, d.3), sent_more e d.0 d.1 h a d.4, d.5, d.6) ]
 
+-- a body that plays goes on so after an entry that leaves it as it is
 abbrev pub playing_later : (code : Parts) (limits : Limits) (sig : Signatures) (src : Start → ℕ → Play) (e : Entry) (h : List Entry) (b : ℕ) (s : Start) (d : ℕ) (rs : List End) → AllBelow e.number h → e.number ≡ length h → IsPlaying code limits sig src h b s d rs → IsPlaying code limits sig src (e ∷ h) b s d rs
 playing_later code limits sig src e h b s d rs a n k =
     record {
@@ -124,6 +127,7 @@ printed_fits sig (CallsMethod l o' j' vs' k) t e = (let z : Called o' j' vs' ≡
 printed_fits sig (EndsBody x) t e = (let z : Ended x ≡ Printed t = cc in cc)
 printed_fits sig GoesWrong t e = (let z : ◌≡◌ {A = Option What} None (Some (Printed t)) = e in cc)
 
+-- an entry of this number and body
 abbrev pub own_entry : ℕ → ℕ → What → Entry
 own_entry n b w = record { number = n; body = b; what = w }
 

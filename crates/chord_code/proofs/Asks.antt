@@ -1,10 +1,10 @@
 -- The next ask of a machine: one, and found within its weight.
-use Rattle.std.proofs.Common.{◌≡◌, ℕ, zero, suc, ◌<◌, ◌+◌, ◌≤◌, List, [], ◌∷◌, ◌++◌, Option, Some, None, refl, sym, subst, ◌∙◌, ap, arith}
+use Rattle.std.proofs.Common.{◌≡◌, ℕ, zero, suc, ◌<◌, ◌+◌, ◌≤◌, List, [], ◌∷◌, ◌++◌, Bool, true, Option, Some, None, refl, sym, subst, ◌∙◌, ap, arith}
 use Rattle.chord_base.specs.declared.event.End.{End}
 use Rattle.chord_base.specs.declared.event.What.{What}
 use Rattle.chord_code.specs.declared.instruction.Instruction.{Instruction}
 use Rattle.chord_code.specs.declared.parts.Parts.{Parts}
-use Rattle.chord_code.specs.Machine.{Machine, Waiting, Did, Goes, Asking, Bad, fetch, act, step, goes_on, run, ComesTo, IsForward}
+use Rattle.chord_code.specs.Machine.{Machine, Waiting, Did, Goes, Asking, Bad, fetch, act, step, goes_on, run, ComesTo, ComesToAsk, IsForward}
 use Rattle.chord_code.specs.Fuel.{weight, comes_to}
 use Rattle.chord_code.specs.Meaning.{IsAsked, Point, point_replied, points}
 use Rattle.chord_code.proofs.Weight.{lighter, act_asked}
@@ -25,6 +25,7 @@ within code fwd a w (suc n) (suc k) m e l = after_step code fwd a w n k (within 
 pub comes_found : (code : Parts) → IsForward code → (m : Machine) (a : What) (w : Waiting) → ComesTo code m a w → comes_to code m ≡ Asking a w
 comes_found code fwd m a w c = within code fwd a w c.count (suc (weight code m)) m c.by (omega arith)
 
+-- and the other way round
 pub found_comes : (code : Parts) (m : Machine) (a : What) (w : Waiting) → comes_to code m ≡ Asking a w → ComesTo code m a w
 found_comes code m a w e = record { count = suc (weight code m); by = e }
 
@@ -63,3 +64,38 @@ comes_to_an_end code fwd m m' e = (let w = run_weight code fwd (suc (weight code
 pub asks_are_one : (code : Parts) → IsForward code → (m : Machine) (a b : What) (w v : Waiting) → ComesTo code m a w → ComesTo code m b v → (a ≡ b) × (w ≡ v)
 asks_are_one code fwd m a b w v c d =
     (let e : Asking a w ≡ Asking b v = sym (comes_found code fwd m a w c) ∙ comes_found code fwd m b v d in (cc, cc))
+
+-- what a machine that is safe comes to
+abbrev IsSafe : (Machine → Type 0) → Did → Type 0
+IsSafe P (Goes m) = P m
+IsSafe P (Asking a w) = Unit {0}
+IsSafe P Bad = ⊥
+
+safe_on : (code : Parts) (P : Machine → Type 0) (n : ℕ) → ((m : Machine) → P m → IsSafe P (run code n m)) → (d : Did) → IsSafe P d → IsSafe P (goes_on (run code n) d)
+safe_on code P n more (Goes m) s = more m s
+safe_on code P n more (Asking a w) s = tt
+safe_on code P n more Bad s = absurd s
+
+run_safe : (code : Parts) (P : Machine → Type 0) → ((m : Machine) → P m → IsSafe P (step code m)) → (n : ℕ) (m : Machine) → P m → IsSafe P (run code n m)
+run_safe code P safe zero m p = p
+run_safe code P safe (suc n) m p = safe_on code P n (run_safe code P safe n) (step code m) (safe m p)
+
+by_did : (code : Parts) → IsForward code → (P : Machine → Type 0) (m : Machine) (d : Did) → comes_to code m ≡ d → IsSafe P d → ComesToAsk code m
+by_did code fwd P m (Goes n) e s = absurd (comes_to_an_end code fwd m n e)
+by_did code fwd P m (Asking a w) e s = record { ask = a; waiting = w; comes = found_comes code m a w e }
+by_did code fwd P m Bad e s = absurd s
+
+-- a machine with a property that each instruction keeps, and under which none is undefined, comes to an ask
+pub safe_comes : (code : Parts) → IsForward code → (P : Machine → Type 0) → ((m : Machine) → P m → IsSafe P (step code m)) → (m : Machine) → P m → ComesToAsk code m
+safe_comes code fwd P safe m p = by_did code fwd P m (comes_to code m) refl (run_safe code P safe (suc (weight code m)) m p)
+
+-- of a test that a machine meets after an instruction: none is undefined
+safe_test : (t : Machine → Bool) (d : Did) → ((m : Machine) → d ≡ Goes m → t m ≡ true) → (d ≡ Bad → ⊥) → IsSafe (λ m. t m ≡ true) d
+safe_test t (Goes m) g b = g m refl
+safe_test t (Asking a w) g b = tt
+safe_test t Bad g b = b refl
+
+-- the same of a test
+pub tested_comes : (code : Parts) → IsForward code → (t : Machine → Bool) → ((m : Machine) → t m ≡ true → step code m ≡ Bad → ⊥) → ((m n : Machine) → t m ≡ true → step code m ≡ Goes n → t n ≡ true) → (m : Machine) → t m ≡ true → ComesToAsk code m
+tested_comes code fwd t good keeps m p =
+    safe_comes code fwd (λ n. t n ≡ true) (λ n q. safe_test t (step code n) (λ k e. keeps n k q e) (good n q)) m p

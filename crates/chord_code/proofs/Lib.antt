@@ -9,3 +9,4 @@ pub mod Tame
 pub mod Each
 pub mod Validity
 pub mod Failing
+pub mod Bounded

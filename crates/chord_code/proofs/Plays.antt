@@ -15,6 +15,7 @@ use Rattle.chord_code.specs.Meaning.{Point, At, FailsBy, Lost, point_of, failed,
 use Rattle.chord_code.specs.Plays.{Play, MakesObject, SendsMessage, CallsMethod, PrintsLine, EndsBody, GoesWrong, Plays, PlaysAt, Good, left_of, EndFits, what_of, ask_of}
 use Rattle.chord_code.proofs.Asks.{comes_found, run_asked}
 
+-- a play of a machine that is there is one of its point
 pub plays_point : (code : Parts) (sig : Signatures) (r : Option StaticType) (p : Play) (x : Option Machine) → Good sig r p → Plays code p x → PlaysAt code p (point_of x)
 plays_point code sig r p (Some m) g h = h
 plays_point code sig r (MakesObject c k) None g h = absurd h

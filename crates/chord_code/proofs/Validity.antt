@@ -111,7 +111,7 @@ valid_one_sync code limits valid c k js e =
     subst (λ (z : List ℕ). OneSync (method_is_sync code c) z) l.4 (subst (λ (f : ℕ → Bool). OneSync f l.1.methods) (sync_same code l.0 c l.2) l.3.one_sync)
 
 -- a chord of a valid code has at most eight methods
-valid_headers : (code : Parts) → IsValid code → (c k : ℕ) (js : List ℕ) → slice_get (map methods_of (chord_lines code c)) k ≡ Some js → length js ≤ 8
+pub valid_headers : (code : Parts) → IsValid code → (c k : ℕ) (js : List ℕ) → slice_get (map methods_of (chord_lines code c)) k ≡ Some js → length js ≤ 8
 valid_headers code valid c k js e = let l = line_valid code valid c k js e in subst (λ (z : List ℕ). length z ≤ 8) l.4 l.3.few
 
 map_length : (xs : List ChordLine) → length (map methods_of xs) ≡ length xs
@@ -119,7 +119,7 @@ map_length [] = refl
 map_length (x ∷ xs) = ap suc (map_length xs)
 
 -- a class of a valid code has at most 256 chords
-valid_chords : (code : Parts) → IsValid code → (c : ℕ) → length (map methods_of (chord_lines code c)) ≤ 256
+pub valid_chords : (code : Parts) → IsValid code → (c : ℕ) → length (map methods_of (chord_lines code c)) ≤ 256
 valid_chords code valid c = by_class (slice_get code.classes c) refl
   where
     by_class : (o : Option ClassLine) → slice_get code.classes c ≡ o → length (map methods_of (chords_in o)) ≤ 256

@@ -12,10 +12,12 @@ entered w None = 0
 entered w (Some None) = 0
 entered w (Some (Some b)) = w b.0
 
+-- the instructions of a block, and none where there is no block
 abbrev pub items_of : Option Block → List Instruction
 items_of None = []
 items_of (Some b) = b.instructions
 
+-- the costs of these instructions together
 abbrev pub sum_with : (Instruction → ℕ) → List Instruction → ℕ
 sum_with f [] = 0
 sum_with f (i ∷ is) = f i + sum_with f is
@@ -34,6 +36,7 @@ whole (suc n) code b = sum_with (cost_with code (whole n code)) (items_of (slice
 abbrev pub left : Parts → ℕ → ℕ → ℕ
 left code b p = sum_with (cost_with code (whole b code)) (drop p (items_of (slice_get code.blocks b)))
 
+-- what the blocks that wait have left, and their ways back
 abbrev pub waits : Parts → List Frame → ℕ
 waits code [] = 0
 waits code (f ∷ fs) = suc (left code f.block f.place) + waits code fs
@@ -43,9 +46,11 @@ abbrev pub below_sum : Parts → ℕ → ℕ
 below_sum code zero = 0
 below_sum code (suc n) = left code n 0 + below_sum code n
 
+-- what all blocks have from their first instruction on
 abbrev pub total : Parts → ℕ
 total code = below_sum code (length code.blocks)
 
+-- a bound on the instructions of a machine up to its next ask: each turn may run all blocks once more
 abbrev pub weight : Parts → Machine → ℕ
 weight code m = m.turns * suc (total code) + left code m.top.block m.top.place + waits code m.below
 

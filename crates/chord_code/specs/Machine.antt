@@ -45,10 +45,12 @@ pub data Did : Type 0 where
   Asking : What → Waiting → Did
   Bad : Did
 
+-- the instruction of a block at a place
 abbrev pub instr_in : Option Block → ℕ → Option Instruction
 instr_in None p = None
 instr_in (Some b) p = slice_get b.instructions p
 
+-- the instruction of the block of this number at a place
 abbrev pub fetch : Parts → ℕ → ℕ → Option Instruction
 fetch code b p = instr_in (slice_get code.blocks b) p
 
@@ -57,14 +59,17 @@ abbrev pub builder_in : Option Block → ℕ → Option (Option (ℕ × ℕ))
 builder_in None b = None
 builder_in (Some block) b = Some (Some (b, block.slots))
 
+-- the builder of this block, if the class has one
 abbrev pub builder_by : Parts → Option ℕ → Option (Option (ℕ × ℕ))
 builder_by code None = Some None
 builder_by code (Some b) = builder_in (slice_get code.blocks b) b
 
+-- the builder of a class that may be there
 abbrev pub builder_at : Parts → Option ClassLine → Option (Option (ℕ × ℕ))
 builder_at code None = None
 builder_at code (Some c) = builder_by code c.builder
 
+-- the builder of the class of this number: a block and its slots; none in it where the class has none
 abbrev pub builder_of : Parts → ℕ → Option (Option (ℕ × ℕ))
 builder_of code c = builder_at code (slice_get code.classes c)
 
@@ -80,6 +85,7 @@ with_top m p s vs t = record {
 abbrev pub goes : Machine → ℕ → List Value → Did
 goes m p s = Goes (with_top m p s m.top.slots m.turns)
 
+-- the body asks its end
 abbrev pub ends : Machine → End → Did
 ends m e = Asking (Ended e) (record { machine = m; awaited = ForNothing })
 
@@ -87,6 +93,7 @@ ends m e = Asking (Ended e) (record { machine = m; awaited = ForNothing })
 abbrev pub asks : Machine → What → Awaited → List Value → Did
 asks m a w s = Asking a (record { machine = with_top m (suc m.top.place) s m.top.slots m.turns; awaited = w })
 
+-- the value of an operator is pushed, and its trap ends the body
 abbrev pub pushes : Machine → List Value → Computed → Did
 pushes m s (Is v) = goes m (suc m.top.place) (v ∷ s)
 pushes m s (Trapped t) = ends m (Traps t)
@@ -98,14 +105,17 @@ pops zero xs s = Some (xs, s)
 pops (suc n) xs [] = None
 pops (suc n) xs (x ∷ s) = pops n (x ∷ xs) s
 
+-- a value is pushed, if it is there
 abbrev pub loads : Machine → Option Value → Did
 loads m None = Bad
 loads m (Some v) = goes m (suc m.top.place) (v ∷ m.top.stack)
 
+-- the slots are these, if they are there
 abbrev pub stores : Machine → List Value → Option (List Value) → Did
 stores m s None = Bad
 stores m s (Some vs) = Goes (with_top m (suc m.top.place) s vs m.turns)
 
+-- the value on top goes to a slot
 abbrev pub store_top : ℕ → Machine → List Value → Did
 store_top i m [] = Bad
 store_top i m (v ∷ s) = stores m s (set_slot i v m.top.slots)
@@ -115,28 +125,34 @@ abbrev pub operate : Operation → Machine → List Value → Did
 operate op m (y ∷ x ∷ s) = pushes m s (compute op x y)
 operate op m _ = Bad
 
+-- unary `-` of the value on top
 abbrev pub negates : Machine → List Value → Did
 negates m [] = Bad
 negates m (x ∷ s) = pushes m s (negated x)
 
+-- `!` of the value on top
 abbrev pub denies : Machine → List Value → Did
 denies m [] = Bad
 denies m (x ∷ s) = pushes m s (denied x)
 
+-- a jump where the value on top is false
 abbrev pub skips : ℕ → Machine → List Value → Did
 skips a m (a_value.Flag true ∷ s) = goes m (suc m.top.place) s
 skips a m (a_value.Flag false ∷ s) = goes m a s
 skips a m _ = Bad
 
+-- a jump back that counts one turn, where one is left
 abbrev pub turns_to : ℕ → Machine → List Value → ℕ → Did
 turns_to a m s zero = ends m (Traps OutOfTurns)
 turns_to a m s (suc t) = Goes (with_top m a s m.top.slots t)
 
+-- a jump back where the value on top is true
 abbrev pub again : ℕ → Machine → List Value → Did
 again a m (a_value.Flag true ∷ s) = turns_to a m s m.turns
 again a m (a_value.Flag false ∷ s) = goes m (suc m.top.place) s
 again a m _ = Bad
 
+-- a trap where no room is left below the depth limit
 abbrev pub if_deeper : ℕ → Machine → Did → Did
 if_deeper zero m d = ends m (Traps TooDeep)
 if_deeper (suc room) m d = d
@@ -147,34 +163,41 @@ makes_object c n m None = Bad
 makes_object c n m (Some b) =
     Asking (Made c) (record { machine = with_top m (suc m.top.place) m.top.stack m.top.slots m.turns; awaited = ForObject b n })
 
+-- a message to the receiver that stands below the arguments
 abbrev pub send_by : ℕ → Machine → Option (List Value × List Value) → Did
 send_by j m None = Bad
 send_by j m (Some (xs, [])) = Bad
 send_by j m (Some (xs, a_value.Ref o ∷ s)) = asks m (Sent o j xs) ForNothing s
 send_by j m (Some (xs, _ ∷ s)) = Bad
 
+-- a call of the receiver that stands below the arguments; these are looked at before the depth
 abbrev pub call_by : ℕ → Machine → Option (List Value × List Value) → Did
 call_by j m None = Bad
 call_by j m (Some (xs, [])) = Bad
 call_by j m (Some (xs, a_value.Ref o ∷ s)) = if_deeper m.top.room m (asks m (Called o j xs) ForValue s)
 call_by j m (Some (xs, _ ∷ s)) = Bad
 
+-- a line with this text, if the value has one
 abbrev pub print_by : Machine → List Value → Option (List ℕ) → Did
 print_by m s None = Bad
 print_by m s (Some t) = asks m (Printed t) ForNothing s
 
+-- a line with the text of the value on top
 abbrev pub print_top : Machine → List Value → Did
 print_top m [] = Bad
 print_top m (v ∷ s) = print_by m s (text_of v)
 
+-- the value on top is dropped
 abbrev pub pop_top : Machine → List Value → Did
 pop_top m [] = Bad
 pop_top m (v ∷ s) = goes m (suc m.top.place) s
 
+-- the body ends with the value on top
 abbrev pub end_with : Machine → List Value → Did
 end_with m [] = Bad
 end_with m (v ∷ s) = ends m (Gives v)
 
+-- the block that waits goes on
 abbrev pub goes_back : Machine → List Frame → Did
 goes_back m [] = Bad
 goes_back m (f ∷ fs) = Goes (record { top = f; below = fs; turns = m.turns })
@@ -185,6 +208,7 @@ started b room t below None = None
 started b room t below (Some vs) =
     Some (record { top = record { block = b; place = 0; room = room; stack = []; slots = vs }; below = below; turns = t })
 
+-- a block begins, if its slots suffice
 abbrev pub enters : Option Machine → Did
 enters None = Bad
 enters (Some m) = Goes m
@@ -193,12 +217,14 @@ enters (Some m) = Goes m
 abbrev pub next_place : Frame → Frame
 next_place f = record { block = f.block; place = suc f.place; room = f.room; stack = f.stack; slots = f.slots }
 
+-- a builder begins on this value, no deeper; the block at work waits at its next place
 abbrev pub init_by : Machine → Option Value → Option (Option (ℕ × ℕ)) → Did
 init_by m None b = Bad
 init_by m (Some v) None = Bad
 init_by m (Some v) (Some None) = Bad
 init_by m (Some v) (Some (Some b)) = enters (started b.0 m.top.room m.turns (next_place m.top ∷ m.below) (slots_of b.1 (v ∷ [])))
 
+-- what one instruction comes to
 abbrev pub act : Parts → Option Instruction → Machine → Did
 act code None m = Bad
 act code (Some (instr.Int n)) m = loads m (Some (a_value.Int n))
@@ -233,9 +259,11 @@ act code (Some instr.End) m = ends m (Gives a_value.Unit)
 act code (Some instr.Endv) m = end_with m m.top.stack
 act code (Some instr.Back) m = goes_back m m.below
 
+-- what the instruction at the machine's place comes to
 abbrev pub step : Parts → Machine → Did
 step code m = act code (fetch code m.top.block m.top.place) m
 
+-- what comes after an instruction that goes on
 abbrev pub goes_on : (Machine → Did) → Did → Did
 goes_on f (Goes m) = f m
 goes_on f (Asking a w) = Asking a w
@@ -251,16 +279,20 @@ pub record ComesTo (code : Parts) (m : Machine) (a : What) (w : Waiting) : Type 
   pub count : ℕ
   pub by : run code count m ≡ Asking a w
 
+-- the frame with another stack
 abbrev pub with_stack : Frame → List Value → Frame
 with_stack f s = record { block = f.block; place = f.place; room = f.room; stack = s; slots = f.slots }
 
+-- the machine with a value on its stack
 abbrev pub pushed : Machine → Value → List Value → Machine
 pushed m v s = record { top = with_stack m.top (v ∷ s); below = m.below; turns = m.turns }
 
+-- one less, and nothing of nothing
 abbrev pub pred_of : ℕ → ℕ
 pred_of zero = 0
 pred_of (suc n) = n
 
+-- the machine with the new object: its arguments are popped, it is pushed, and its builder begins one deeper
 abbrev pub with_object : Machine → Option (ℕ × ℕ) → Object → Option (List Value × List Value) → Option Machine
 with_object m b o None = None
 with_object m None o (Some (xs, s)) = Some (pushed m (a_value.Ref o) s)
@@ -274,6 +306,7 @@ with_answer m ForValue v = Some (pushed m v m.top.stack)
 with_answer m (ForObject b n) (a_value.Ref o) = with_object m b o (pops n [] m.top.stack)
 with_answer m (ForObject b n) _ = None
 
+-- a body begins in a block that may be there
 abbrev pub body_in : Option Block → ℕ → ℕ → List Value → ℕ → Option Machine
 body_in None b room xs t = None
 body_in (Some block) b room xs t = started b room t [] (slots_of block.slots xs)

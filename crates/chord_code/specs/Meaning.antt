@@ -36,6 +36,7 @@ pub data Point : Type 0 where
   FailsBy : Trap → Point
   Lost : Point
 
+-- a body stands at a machine, if there is one
 abbrev pub point_of : Option Machine → Point
 point_of None = Lost
 point_of (Some m) = At m
@@ -46,10 +47,12 @@ failed ForValue t = FailsBy t
 failed ForNothing t = Lost
 failed (ForObject b n) t = Lost
 
+-- where a body stands once its ask is answered
 abbrev pub reply : Waiting → End → Point
 reply w (Gives v) = point_of (with_answer w.machine w.awaited v)
 reply w (Traps t) = failed w.awaited t
 
+-- where a body stands once what it came to is answered; only an ask is answered
 abbrev pub reply_to : Did → End → Point
 reply_to (Asking a w) r = reply w r
 reply_to (Goes m) r = Lost
@@ -61,6 +64,7 @@ point_replied code (At m) r = reply_to (comes_to code m) r
 point_replied code (FailsBy t) r = Lost
 point_replied code Lost r = Lost
 
+-- where a body stands after these answers
 abbrev pub points : Parts → Point → List End → Point
 points code p [] = p
 points code p (r ∷ rs) = points code (point_replied code p r) rs
@@ -81,18 +85,22 @@ asked_at limits (Asking a w) = Some (record { what = a; depth = place a (limits.
 asked_at limits (Goes m) = None
 asked_at limits Bad = None
 
+-- the next ask of a body that stands here
 abbrev pub asked_of : Parts → Limits → Point → Option Asked
 asked_of code limits (At m) = asked_at limits (comes_to code m)
 asked_of code limits (FailsBy t) = Some (record { what = Ended (Traps t); depth = 0 })
 asked_of code limits Lost = None
 
+-- the chords of a class, and none where there is no such class
 abbrev pub chords_in : Option ClassLine → List ChordLine
 chords_in None = []
 chords_in (Some c) = c.chords
 
+-- the chords of the class of this number
 abbrev pub chord_lines : Parts → ℕ → List ChordLine
 chord_lines code c = chords_in (slice_get code.classes c)
 
+-- the body of a chord begins on the object and the arguments, if the chord is there
 abbrev pub start_line : Parts → Limits → Object → List Value → ℕ → Option ChordLine → Option Machine
 start_line code limits o vs d None = None
 start_line code limits o vs d (Some line) = body_in_block code line.block (limits.depth - d) (a_value.Ref o ∷ vs) limits.turns

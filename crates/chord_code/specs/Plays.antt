@@ -15,6 +15,7 @@ use Rattle.chord_base.specs.Types.{Signature, Signatures, Has, HaveAll}
 use Rattle.chord_code.specs.Machine.{Machine, Waiting, ComesTo, with_answer}
 use Rattle.chord_code.specs.Meaning.{Point, At, FailsBy, Lost}
 
+-- what a body does, whatever it is answered; where it goes wrong nothing is said of it
 pub data Play : Type 0 where
   MakesObject : (class : ℕ) → (Object → Play) → Play
   SendsMessage : (object : Object) (method : ℕ) (values : List Value) → Play → Play
@@ -23,10 +24,12 @@ pub data Play : Type 0 where
   EndsBody : (end : End) → Play
   GoesWrong : Play
 
+-- a fact of a machine that is there
 abbrev pub There : Option Machine → (Machine → Type 0) → Type 0
 There None P = ⊥
 There (Some m) P = P m
 
+-- the machine comes to the play's ask, and for each answer goes on as the play does
 abbrev pub Plays : Parts → Play → Option Machine → Type 0
 Plays code (MakesObject c k) from = There from (λ m. (w : Waiting) × ComesTo code m (Made c) w × ((o : Object) → Plays code (k o) (with_answer w.machine w.awaited (a_value.Ref o))))
 Plays code (SendsMessage o j xs p) from = There from (λ m. (w : Waiting) × ComesTo code m (Sent o j xs) w × Plays code p (with_answer w.machine w.awaited a_value.Unit))
@@ -41,6 +44,7 @@ PlaysAt code p (At m) = Plays code p (Some m)
 PlaysAt code p (FailsBy t) = p ≡ EndsBody (Traps t)
 PlaysAt code p Lost = ⊥
 
+-- a play keeps to its types: its messages have their arguments, and its end is of this type
 abbrev pub Good : Signatures → Option StaticType → Play → Type 0
 Good sig r (MakesObject c k) = (o : Object) → o.class ≡ c → Good sig r (k o)
 Good sig r (SendsMessage o j xs p) = ((m : Signature) × (sig.methods o.class j ≡ Some m) × (m.is_sync ≡ false) × HaveAll sig m.parameters xs) × Good sig r p
@@ -82,6 +86,7 @@ abbrev pub left_after : Play → List End → Play
 left_after p [] = p
 left_after p (r ∷ rs) = left_after (left_of p r) rs
 
+-- an ask at a depth
 abbrev pub asked_at_depth : ℕ → What → Option Asked
 asked_at_depth d w = Some (record { what = w; depth = d })
 

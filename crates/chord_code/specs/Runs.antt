@@ -44,6 +44,7 @@ pub record IsPlaying (code : Parts) (limits : Limits) (sig : Signatures) (src : 
   pub plays : PlaysAt code play (stands code limits s d rs)
   pub due : IsDueType (code_program code limits) sig h b kind
 
+-- what is known of a body: it does what is left of its play
 abbrev pub BodyIs : Parts → Limits → Signatures → (Start → ℕ → Play) → List Entry → ℕ → Doing → Type 0
 BodyIs code limits sig src h b (Ready s d rs) = IsPlaying code limits sig src h b s d rs
 BodyIs code limits sig src h b (Waits s d rs q l) =
@@ -52,6 +53,7 @@ BodyIs code limits sig src h b (Over x) = Unit {0}
 BodyIs code limits sig src h b Absent = Unit {0}
 BodyIs code limits sig src h b Unplaced = Unit {0}
 
+-- after a run: each message has its arguments, and each body does what is left of its play
 pub record AllGood (code : Parts) (limits : Limits) (sig : Signatures) (src : Start → ℕ → Play) (h : List Entry) : Type 0 where
   pub messages : (n : ℕ) (m : Message) → sent n h ≡ Some m → IsFitMessage sig m
   pub bodies : (b : ℕ) → BodyIs code limits sig src h b (doing (code_program code limits) h b)

@@ -1,7 +1,7 @@
 //! What is true of every valid code: functions whose contracts are the laws.
 #![tactic(auto)]
 
-ghost use Rattle.std.specs.Prelude.{◌≡◌, ℕ, ◌<◌, Some, List, [], ◌∷◌, ◌++◌};
+ghost use Rattle.std.specs.Prelude.{◌≡◌, ℕ, ◌≤◌, Bool, true, Some, List, [], ◌∷◌, ◌++◌, length};
 ghost use Rattle.chord_base.specs.declared.value.Object.{Object};
 ghost use Rattle.chord_base.specs.declared.value.Value.{Value as V};
 ghost use Rattle.chord_base.specs.declared.event.Trap.{Trap};
@@ -10,10 +10,12 @@ ghost use Rattle.chord_base.specs.declared.event.End.TheVariants as an_end;
 ghost use Rattle.chord_base.specs.declared.event.Limits.{Limits};
 ghost use Rattle.chord_base.specs.declared.event.What.{What};
 ghost use Rattle.chord_base.specs.declared.event.What.TheVariants as what;
-ghost use Rattle.chord_base.specs.Meaning.{Start, Asked, HasOneSync, HaveMethods};
-ghost use Rattle.chord_base.specs.Messages.{AreDifferent, has};
-ghost use Rattle.chord_base.specs.Objects.{IsTame};
-ghost use Rattle.chord_code.specs.Machine.{Machine, Waiting, Asking, Goes, ComesTo};
+ghost use Rattle.chord_base.specs.Meaning.{Start, Asked};
+ghost use Rattle.chord_base.specs.declared.event.Entry.{Entry};
+ghost use Rattle.chord_base.specs.Bounds.{AreWithin};
+ghost use Rattle.chord_base.specs.Machine.{IsPast};
+ghost use Rattle.chord_base.specs.Objects.{IsTame, WhatAmong, was_made};
+ghost use Rattle.chord_code.specs.Machine.{Machine, Waiting, Asking, Goes, Bad, step, ComesTo, ComesToAsk};
 ghost use Rattle.chord_code.specs.Fuel.{comes_to};
 ghost use Rattle.chord_code.specs.Meaning.{code_program};
 ghost use Rattle.chord_code.specs.Within.{IsAskWithin};
@@ -50,6 +52,22 @@ pub fn asks_are_tame(code: &Code)
 /// The chords of a class have methods, all different and at most one of them synchronous.
 pub fn chords_are_right(code: &Code)
     ensures { (limits : Limits) → ChordsAreRight (code_program code.now limits) }
+{
+    let _parts = code.parts();
+}
+
+/// Each entry of a run of at most 65,536 entries is within the bounds of a journal, and each object in it was made before it.
+pub fn entries_are_within(code: &Code)
+    ensures within { (limits : Limits) (h : List Entry) → IsPast (code_program code.now limits) h → length h ≤ 65536 → AreWithin h }
+    ensures made { (limits : Limits) (e : Entry) (h : List Entry) → IsPast (code_program code.now limits) (e ∷ h) → WhatAmong (was_made h) e.what }
+{
+    let _parts = code.parts();
+}
+
+/// Safe code comes to asks: where each instruction keeps what a test says of a machine, and none of such a machine is
+/// undefined, each such machine comes to an ask after finitely many instructions.
+pub fn safe_code_asks(code: &Code)
+    ensures { (t : Machine → Bool) → ((m : Machine) → t m ≡ true → step code.now m ≡ Bad → ⊥) → ((m n : Machine) → t m ≡ true → step code.now m ≡ Goes n → t n ≡ true) → (m : Machine) → t m ≡ true → ComesToAsk code.now m }
 {
     let _parts = code.parts();
 }

@@ -219,7 +219,14 @@ fn are_right(parts: &Parts, number: usize, block: &Block) -> bool
 {
     let count = block.instructions.items().len();
     for (place, instruction) in block.instructions.items().iter().enumerate() {
-        if !is_right(parts, number, block.slots as usize, count, place, instruction) {
+        if !is_right(
+            parts,
+            number,
+            block.slots as usize,
+            count,
+            place,
+            instruction,
+        ) {
             return false;
         }
     }
@@ -264,5 +271,158 @@ fn builds_before(parts: &Parts, number: usize, class: u16) -> bool
             None => false,
             Some(block) => (block as usize) < number,
         },
+    }
+}
+
+#[cfg(test)]
+mod tests {
+    use super::*;
+    use crate::code::Code;
+    use crate::lines::Lines;
+    use crate::parts::MethodNumbers;
+    use chord_base::text::Text;
+    use std::alloc::{AllocError, Global};
+    use std::test::Fail;
+
+    /// A name.
+    fn name(alloc: Global) -> Result<Text, AllocError> {
+        match Text::of_bytes(alloc, b"Buffer") {
+            Ok(text) => Ok(text),
+            Err(_) => Err(AllocError),
+        }
+    }
+
+    /// A class of two methods and one chord of both, whose builder, if it has one, and whose chord's body are these blocks.
+    fn class(
+        alloc: Global,
+        builder: Option<u32>,
+        block: u32,
+        numbers: [u8; 2],
+        waits: [bool; 2],
+        parameters: u8,
+    ) -> Result<ClassLine, AllocError> {
+        let mut methods = Vec::new(alloc);
+        for sync in waits {
+            methods.push(MethodLine {
+                name: name(alloc)?,
+                sync,
+                parameters,
+            })?;
+        }
+        let mut headers = MethodNumbers::new(alloc);
+        headers.push(numbers[0])?;
+        headers.push(numbers[1])?;
+        let mut chords = Vec::new(alloc);
+        chords.push(ChordLine {
+            block,
+            methods: headers,
+        })?;
+        Ok(ClassLine {
+            name: name(alloc)?,
+            builder,
+            methods: Lines::of_items(methods),
+            chords: Lines::of_items(chords),
+        })
+    }
+
+    /// A block of two slots that begins with a `flag`, and then has this instruction and an end.
+    fn block(alloc: Global, instruction: Instruction) -> Result<Block, AllocError> {
+        let mut instructions = Vec::new(alloc);
+        instructions.push(Instruction::Flag(true))?;
+        instructions.push(instruction)?;
+        instructions.push(Instruction::End)?;
+        Ok(Block {
+            slots: 2,
+            instructions: Lines::of_items(instructions),
+        })
+    }
+
+    /// The parts of one class, and of two blocks whose second one has this instruction.
+    fn parts(
+        alloc: Global,
+        class: ClassLine,
+        instruction: Instruction,
+    ) -> Result<Parts, AllocError> {
+        let mut classes = Vec::new(alloc);
+        classes.push(class)?;
+        let mut blocks = Vec::new(alloc);
+        blocks.push(block(alloc, Instruction::Drop)?)?;
+        blocks.push(block(alloc, instruction)?)?;
+        Ok(Parts {
+            classes: Lines::of_items(classes),
+            blocks: Lines::of_items(blocks),
+        })
+    }
+
+    #[test]
+    fn a_class_is_valid(rt: HostRuntime) -> Result<(), Fail> {
+        for (builder, body, numbers, waits, parameters, expected) in [
+            (Some(0), 1, [1, 0], [true, false], 8, true),
+            (None, 1, [0, 1], [false, false], 0, true),
+            (Some(2), 1, [0, 1], [true, false], 0, false),
+            (None, 2, [0, 1], [true, false], 0, false),
+            (None, 1, [0, 2], [true, false], 0, false),
+            (None, 1, [1, 1], [true, false], 0, false),
+            (None, 1, [0, 1], [true, true], 0, false),
+            (None, 1, [0, 1], [true, false], 9, false),
+        ] {
+            let class = class(rt.alloc(), builder, body, numbers, waits, parameters)?;
+            let parts = parts(rt.alloc(), class, Instruction::Drop)?;
+            assert_eq!(rt; valid(&parts), expected, "{body}, {parameters}");
+        }
+        Ok(())
+    }
+
+    /// The instruction of a case.
+    fn instruction_of(case: u8) -> Instruction {
+        match case {
+            0 => Instruction::Load(1),
+            1 => Instruction::Load(2),
+            2 => Instruction::Skip(2),
+            3 => Instruction::Skip(1),
+            4 => Instruction::Jump(3),
+            5 => Instruction::Again(0),
+            6 => Instruction::Again(1),
+            7 => Instruction::New(0, 8),
+            8 => Instruction::New(1, 0),
+            9 => Instruction::New(0, 9),
+            10 => Instruction::Init(0),
+            11 => Instruction::Init(1),
+            12 => Instruction::Send(15, 8),
+            13 => Instruction::Send(16, 0),
+            14 => Instruction::Call(0, 9),
+            _ => Instruction::Store(2),
+        }
+    }
+
+    #[test]
+    fn an_instruction_is_right(rt: HostRuntime) -> Result<(), Fail> {
+        for (case, expected) in [
+            (0, true),
+            (1, false),
+            (2, true),
+            (3, false),
+            (4, false),
+            (5, true),
+            (6, false),
+            (7, true),
+            (8, false),
+            (9, false),
+            (10, true),
+            (11, false),
+            (12, true),
+            (13, false),
+            (14, false),
+            (15, false),
+        ] {
+            let class = class(rt.alloc(), Some(0), 1, [0, 1], [true, false], 1)?;
+            let parts = parts(rt.alloc(), class, instruction_of(case))?;
+            assert_eq!(rt; valid(&parts), expected, "instruction {case}");
+            if valid(&parts) {
+                let code = Code::of_parts(parts);
+                assert!(rt; code.parts().classes.items().len() == 1);
+            }
+        }
+        Ok(())
     }
 }

@@ -10,7 +10,6 @@ pub mod Typed
 pub mod Wrong
 -- entries in any order that are those of a journal
 pub mod Gathered
-
 -- ## What only the code's own contracts use
 
 -- reading on lists of bytes, part by part

@@ -200,7 +200,10 @@ fn faults_say_what_is_wrong(rt: HostRuntime) -> Result<(), Fail> {
     for (fault, expected) in [
         (JournalFault::Memory, "out of memory"),
         (JournalFault::At(0), "line 0 is no line of a journal"),
-        (JournalFault::At(65_537), "line 65537 is no line of a journal"),
+        (
+            JournalFault::At(65_537),
+            "line 65537 is no line of a journal",
+        ),
     ] {
         assert_eq!(rt; format!(in rt.alloc(); "{fault}")?.as_str(), expected);
     }

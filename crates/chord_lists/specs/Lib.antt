@@ -4,7 +4,6 @@
 
 -- what a small program means
 pub mod Small
-
 -- ## What only the code's own contracts use
 
 -- the bag of pending messages

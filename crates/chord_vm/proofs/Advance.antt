@@ -24,9 +24,11 @@ comes_good code m a w (suc n) e b = elim (no (ap (goes_on (run code n)) (sym b) 
     no : Bad ≡ Asking a w → ⊥
     no e = cc
 
+-- a machine that comes to an ask has an instruction that is defined
 pub not_bad : (code : Parts) (m : Machine) → ComesToAsk code m → step code m ≡ Bad → ⊥
 not_bad code m d b = comes_good code m d.ask d.waiting d.comes.count d.comes.by b
 
+-- what comes after an instruction comes before it too
 pub comes_on : (code : Parts) (m m' : Machine) (a : What) (w : Waiting) → step code m ≡ Goes m' → ComesTo code m' a w → ComesTo code m a w
 comes_on code m m' a w e c = record { count = suc c.count; by = ap (goes_on (run code c.count)) e ∙ c.by }
 
@@ -37,6 +39,7 @@ rest_of code m m' a w zero e r = elim (no r) [ ]
     no e = cc
 rest_of code m m' a w (suc n) e r = record { count = n; by = ap (goes_on (run code n)) (sym e) ∙ r }
 
+-- a machine that comes to an ask still does after an instruction
 pub defined_on : (code : Parts) (m m' : Machine) → step code m ≡ Goes m' → ComesToAsk code m → ComesToAsk code m'
 defined_on code m m' e d = record { ask = d.ask; waiting = d.waiting; comes = rest_of code m m' d.ask d.waiting d.comes.count e d.comes.by }
 
@@ -63,18 +66,21 @@ advanced_on code m m' (ask.Print v) f s h = comes_on code m m' (Printed v) (wait
 pub fetch_some : (code : Parts) (m : Machine) → ComesToAsk code m → fetch code m.top.block m.top.place ≡ None → ⊥
 fetch_some code m d e = not_bad code m d (ap (λ o. act code o m) e)
 
+-- the block of such a machine is there
 pub block_in : (code : Parts) (m : Machine) → ComesToAsk code m → m.top.block < length code.blocks
 block_in code m d =
     ⊎_elim (λ lt. lt)
     (λ le. absurd (fetch_some code m d (ap (λ o. instr_in o m.top.place) (slice_get_past code.blocks m.top.block le))))
     (cases_lt m.top.block (length code.blocks))
 
+-- the place of such a machine is in its block
 pub place_in : (code : Parts) (m : Machine) (b : Block) → slice_get code.blocks m.top.block ≡ Some b → ComesToAsk code m → m.top.place < length b.instructions
 place_in code m b e d =
     ⊎_elim (λ lt. lt)
     (λ le. absurd (fetch_some code m d (ap (λ o. instr_in o m.top.place) e ∙ slice_get_past b.instructions m.top.place le)))
     (cases_lt m.top.place (length b.instructions))
 
+-- without an ask the machine went on
 pub stepped_none : (d : Did) (o : Option Ask) (f : Frames) → ((a : Ask) → o ≡ Some a → ⊥) → SteppedTo d o f → d ≡ Goes (machine_of f)
 stepped_none d None f n h = h
 stepped_none d (Some a) f n h = absurd (n a refl)

@@ -13,14 +13,15 @@ use Rattle.chord_vm.specs.declared.frames.Frames.{Frames}
 use Rattle.chord_vm.specs.Frames.{IsMoved, IsSpacious}
 use Rattle.chord_vm.proofs.Slots.{slots_room, slots_of_fits, pops_fits, pops_split, pops_tail, append_nil}
 
+-- one more value moves
 pub moved_more : (n k : ℕ) (from mid from' to between to' : List Value) (v : Value) → suc k ≡ n → from ≡ mid ++ v ∷ [] → IsMoved k mid from' to between → to' ≡ between ++ v ∷ [] → IsMoved n from from' to to'
 moved_more n k from mid from' to between to' v e f m t =
     let r : reverse from ≡ v ∷ reverse mid = ap reverse f ∙ reverse-append mid (v ∷ []) in (
       m.0 ++ v ∷ [],
       t ∙ ap (λ l. l ++ v ∷ []) m.1 ∙ append_assoc to m.0 (v ∷ []),
       λ acc.
-      ap (λ l. pops n acc l) r ∙ ap (λ i. pops i acc (v ∷ reverse mid)) (sym e) ∙ m.2 (v ∷ acc)
-      ∙ ap (λ l. Some (l, reverse from')) (sym (append_assoc m.0 (v ∷ []) acc)),
+          ap (λ l. pops n acc l) r ∙ ap (λ i. pops i acc (v ∷ reverse mid)) (sym e) ∙ m.2 (v ∷ acc)
+          ∙ ap (λ l. Some (l, reverse from')) (sym (append_assoc m.0 (v ∷ []) acc)),
     )
 
 -- the slots of a block, filled from the end of a list
@@ -38,6 +39,7 @@ filled n k this from from' first to l h m t =
     pops_length zero ys s xs s' e = (let z : ◌≡◌ {A = List Value × List Value} (ys, s) (xs, s') = cc in omega (arith, ap (λ p. length p.0) z))
     pops_length (suc k) ys [] xs s' e = cc
     pops_length (suc k) ys (x ∷ s) xs s' e = (let r = pops_length k (x ∷ ys) s xs s' e in omega (arith, r))
+
     slots_fit : (n : ℕ) (xs : List Value) → length xs ≤ n → slots_of n xs ≡ Some (xs ++ replicate (n - length xs) a_value.Unit)
     slots_fit n xs h = slots_of_fits n xs h
 
@@ -47,13 +49,16 @@ whole_pops xs ys k r e p =
     let z : ◌≡◌ {A = Option (List Value × List Value)} (Some (xs, [])) (Some (ys, r)) = sym (pops_tail [] xs k e) ∙ p in
     let w : ◌≡◌ {A = List Value × List Value} (xs, []) (ys, r) = cc in ap (λ q. q.0) w
 
+-- a block for which there is room is there
 pub spacious_block : (f : Frames) (o : Option Block) → IsSpacious f o → (b : Block) × (o ≡ Some b)
 spacious_block f None h = absurd h
 spacious_block f (Some b) h = (b, refl)
 
+-- where a body begins, its values fit the block
 pub started_room : (b : Block) (n room turns : ℕ) (xs : List Value) → (body_in (Some b) n room xs turns ≡ None → ⊥) → length xs ≤ b.slots
 started_room b n room turns xs h = slots_room b.slots xs (λ e. h (ap (started n room turns []) e))
 
+-- the machine that begins with these slots
 pub started_is : (b : Block) (n room turns : ℕ) (xs vs : List Value) → slots_of b.slots xs ≡ Some vs → body_in (Some b) n room xs turns ≡ Some (record { top = record { block = n; place = 0; room = room; stack = []; slots = vs }; below = []; turns = turns })
 started_is b n room turns xs vs e = ap (started n room turns []) e
 
@@ -68,6 +73,7 @@ most_more blocks i most more b e l m h j c k s =
     let r : c.slots ≤ more = subst (λ (d : Block). d.slots ≤ more) w l in r)
     (cases_lt j i)
 
+-- where the object comes, its arguments are there
 pub with_object_pops : (m : Machine) (b : Option (ℕ × ℕ)) (o : Object) (n : ℕ) (s : List Value) → (with_object m b o (pops n [] (reverse s)) ≡ None → ⊥) → n ≤ length s
 with_object_pops m b o n s h = pops_fits n s (λ e. h (ap (with_object m b o) e))
 

@@ -9,16 +9,19 @@ use Rattle.chord_base.specs.declared.value.Value.TheVariants as a_value
 use Rattle.chord_code.specs.Slots.{set_slot, with_first, slots_of}
 use Rattle.chord_code.specs.Machine.{Machine, Goes, Bad, with_top, stores, store_top, pops}
 
+-- a slot that is there is set
 pub slots_set : (i : ℕ) (v : Value) (xs : List Value) → i < length xs → set_slot i v xs ≡ Some (slice_set xs i v)
 slots_set i v [] h = absurd (omega arith)
 slots_set zero v (x ∷ xs) h = refl
 slots_set (suc i) v (x ∷ xs) h = ap (with_first x) (slots_set i v xs (omega arith))
 
+-- a slot that is not there is not set
 pub slots_past : (i : ℕ) (v : Value) (xs : List Value) → length xs ≤ i → set_slot i v xs ≡ None
 slots_past i v [] h = refl
 slots_past zero v (x ∷ xs) h = absurd (omega arith)
 slots_past (suc i) v (x ∷ xs) h = ap (with_first x) (slots_past i v xs (omega arith))
 
+-- a slot that is set is there
 pub slots_within : (i : ℕ) (v : Value) (xs : List Value) → set_slot i v xs ≢ None → i < length xs
 slots_within i v xs h = ⊎_elim (λ lt. lt) (λ le. absurd (h (slots_past i v xs le))) (cases_lt i (length xs))
 
@@ -29,10 +32,12 @@ pops_more (x ∷ b) m ys t =
     ap (λ l. pops (suc (length b) + m) ys (l ++ t)) (reverse-append (x ∷ []) b)
     ∙ ap (λ n. pops n ys ((reverse b ++ x ∷ []) ++ t)) e ∙ ap (λ l. pops (length b + suc m) ys l) (append_assoc (reverse b) (x ∷ []) t) ∙ pops_more b (suc m) ys (x ∷ t)
 
+-- nothing more at the end
 pub append_nil : (xs : List Value) → xs ++ [] ≡ xs
 append_nil [] = refl
 append_nil (x ∷ xs) = ap (λ ys. x ∷ ys) (append_nil xs)
 
+-- the end of a list is popped in its order
 pub pops_tail : (a b : List Value) (n : ℕ) → length b ≡ n → pops n [] (reverse (a ++ b)) ≡ Some (b, reverse a)
 pops_tail a b n e =
     ap (λ m. pops m [] (reverse (a ++ b))) (sym e)
@@ -41,27 +46,33 @@ pops_tail a b n e =
     ∙ pops_more b 0 [] (reverse a)
     ∙ ap (λ l. Some (l, reverse a)) (append_nil b)
 
+-- no more is popped than is there
 pub pops_short : (n : ℕ) (ys r : List Value) → length r < n → pops n ys r ≡ None
 pops_short zero ys r h = absurd (omega arith)
 pops_short (suc n) ys [] h = refl
 pops_short (suc n) ys (x ∷ r) h = pops_short n (x ∷ ys) r (omega arith)
 
+-- where `store` is defined the slot is there
 pub stored_within : (i : ℕ) (m : Machine) (v : Value) (s vs : List Value) → m.top.stack ≡ v ∷ s → m.top.slots ≡ vs → (store_top i m m.top.stack ≡ Bad → ⊥) → i < length vs
 stored_within i m v s vs st sl h =
     slots_within i v vs (λ e. h (ap (store_top i m) st ∙ ap (stores m s) (ap (set_slot i v) sl ∙ e)))
 
+-- what `store` comes to
 pub stored_goes : (i : ℕ) (m : Machine) (v : Value) (s vs : List Value) → m.top.stack ≡ v ∷ s → m.top.slots ≡ vs → i < length vs → store_top i m m.top.stack ≡ Goes (with_top m (suc m.top.place) s (slice_set vs i v) m.turns)
 stored_goes i m v s vs st sl h =
     ap (store_top i m) st ∙ ap (stores m s) (ap (set_slot i v) sl ∙ slots_set i v vs h)
 
+-- where values are popped they are there
 pub pops_fits : (n : ℕ) (s : List Value) → (pops n [] (reverse s) ≡ None → ⊥) → n ≤ length s
 pops_fits n s h = ⊎_elim (λ lt. absurd (h (pops_short n [] (reverse s) (omega (arith, length-reverse s))))) (λ le. le) (cases_lt (length s) n)
 
+-- what is popped, and what is left
 pub pops_split : (s : List Value) (n k : ℕ) → n ≤ length s → k + n ≡ length s → pops n [] (reverse s) ≡ Some (drop k s, reverse (take k s))
 pops_split s n k h e =
     ap (λ l. pops n [] (reverse l)) (sym (take-append-drop k s))
     ∙ pops_tail (take k s) (drop k s) n (omega (arith, length-drop k s))
 
+-- the rest of a list, read as a slice
 pub slice_rest : (k : ℕ) (d items : List Value) → d ≡ items → take (length d - k) (drop k d) ≡ drop k items
 slice_rest k d items e =
     ap (λ n. take n (drop k d)) (sym (length-drop k d)) ∙ take-length (drop k d) ∙ ap (drop k) e
@@ -73,6 +84,7 @@ slots_of_nil : (n : ℕ) → slots_of n [] ≡ Some (replicate n a_value.Unit)
 slots_of_nil zero = refl
 slots_of_nil (suc n) = ap (with_first a_value.Unit) (slots_of_nil n)
 
+-- the slots with which a block begins, where the values fit
 pub slots_of_fits : (n : ℕ) (xs : List Value) → length xs ≤ n → slots_of n xs ≡ Some (xs ++ replicate (n - length xs) a_value.Unit)
 slots_of_fits n [] h = slots_of_nil n ∙ (let e : n ≡ n - 0 = omega arith in ap (λ k. Some (replicate k a_value.Unit)) e)
 slots_of_fits zero (x ∷ xs) h = absurd (omega arith)
@@ -85,9 +97,11 @@ slots_of_short n [] h = absurd (omega arith)
 slots_of_short zero (x ∷ xs) h = refl
 slots_of_short (suc n) (x ∷ xs) h = ap (with_first x) (slots_of_short n xs (omega arith))
 
+-- where a block begins the values fit
 pub slots_room : (n : ℕ) (xs : List Value) → (slots_of n xs ≡ None → ⊥) → length xs ≤ n
 slots_room n xs h = ⊎_elim (λ lt. absurd (h (slots_of_short n xs lt))) (λ le. le) (cases_lt n (length xs))
 
+-- the slots with which a block begins
 pub slots_filled : (n : ℕ) (xs : List Value) → (slots_of n xs ≡ None → ⊥) → slots_of n xs ≡ Some (take n xs ++ replicate (n - length xs) a_value.Unit)
 slots_filled n xs h =
     let le = slots_room n xs h in

@@ -242,7 +242,13 @@ fn build(frames: &mut Frames, block: u32, slots: u32, n: u32, object: Object)
         Some(mut fresh) => {
             let this = Value::Ref(object);
             let arguments = n as usize;
-            fill(&mut fresh.slots, slots as usize, this, &mut frames.top.stack, arguments);
+            fill(
+                &mut fresh.slots,
+                slots as usize,
+                this,
+                &mut frames.top.stack,
+                arguments,
+            );
             frames.top.stack.push_reserved(Value::Ref(object));
             fresh.stack.truncate(0);
             fresh.block = block as usize;

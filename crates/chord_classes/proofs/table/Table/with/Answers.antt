@@ -2,13 +2,13 @@ use Rattle.std.proofs.Common.{◌++◌, ◌∷◌, [], ap, ◌∙◌, arith}
 use Rattle.chord_tree.specs.View.{see_class}
 use Rattle.chord_classes.specs.Table.{shape_of}
 use Rattle.chord_classes.specs.Entries.{shapes_of}
-use Rattle.chord_classes.proofs.Adding.{table_more, shapes_more}
+use Rattle.chord_classes.proofs.Adding.{entries_extended, shapes_more}
 use Rattle.chord_classes.proofs.table.Table.with.Goals as goal
 
 pub invariant_of-result : goal.invariant_of-result
 invariant_of-result c =
     let entries = c.self.inside.entries in
-    table_more c.args.self entries.items c.push.new.self.items c.self.inside.names c.in_ok-names.names _ c.items.result.now c.self.view_is c.self.invariant
+    entries_extended c.args.self entries.items c.push.new.self.items c.self.inside.names c.in_ok-names.names _ c.items.result.now c.self.view_is c.self.invariant
     (let few = entries.ok.0 in omega (arith, few, c.len.ensures, c.if-len-room.false))
     (record {
       base = c.requires.base;

@@ -1,0 +1,264 @@
+-- From a step of a moment to a step of the table: one lemma for each kind of word.
+use Rattle.std.proofs.Common.{◌≡◌, ◌≢◌, ℕ, ◌+◌, ◌*◌, ◌<◌, List, [], ◌∷◌, length, get_or, set, sym, ap, ◌∙◌, subst, arith, length-set, get_or-set_other, get_or-set_same, Bool, eqb, eq-eqb, ne_eqb, Option}
+use mathlib.Core.Option.{some, none}
+use mathlib.Core.Logic.{dite}
+use native.Mathlib.Decide.{ℕ_discrete}
+use lib.ListN.{get_elem?}
+use lib.Seq.{set-get_or}
+use Rattle.atomic_table.specs.Table.{State, Me, Act, keeps, takes, gives, chain, put_back, carried_after, homes_after, Valid, stepped, Allows}
+use Rattle.atomic_table.proofs.Lists.{set_here, set_else}
+use prog.Atomic.{either}
+use Rattle.chord_word.proofs.Packing.{same_word}
+use Rattle.chord_word.specs.declared.cells.Word.{Word}
+use Rattle.chord_word.specs.Cells.{word_of, link_of, WordFits}
+use Rattle.chord_rule.specs.declared.view.View.{View}
+use Rattle.chord_rule.specs.Moment.{Moment, Shows, Home, Place, word_at_place, PlaceOk, LinkOk}
+use Rattle.chord_rule.specs.Held.{HeldBy}
+use Rattle.chord_rule.proofs.Puts.{put, put_here, put_else, put_all}
+
+module _ {P : Type 0} where
+  abbrev pub back : (ℕ → Home P) → List (ℕ × Option P) → ℕ → Home P
+  back h [] = h
+  back h (x ∷ xs) = put h x.0 (some x.1)
+
+  -- the slots after an act
+  abbrev pub after : (ℕ → Home P) → List (ℕ × Option P) → Act (Option P) → ℕ → Home P
+  after h c keeps = h
+  after h c (takes k y) = put h k none
+  after h c gives = back h c
+  after h c (chain a b) = after (after h c a) (carried_after c a) b
+
+  -- the act is possible
+  abbrev pub Can : ℕ → (ℕ → Home P) → List (ℕ × Option P) → Act (Option P) → Type 0
+  Can n h c keeps = Unit {0}
+  Can n h c (takes k y) = (k < n) × (h k ≡ some y)
+  Can n h c gives = Unit {0}
+  Can n h c (chain a b) = Can n h c a × Can n (after h c a) (carried_after c a) b
+
+  abbrev Shown : ℕ → List (Home P) → (ℕ → Home P) → Type 0
+  Shown n hs h = (length hs ≡ n) × ((i : ℕ) → i < n → get_elem? hs i ≡ some (h i))
+
+  shown_put : (n : ℕ) (hs : List (Home P)) (h : ℕ → Home P) (k : ℕ) (y : Home P) → Shown n hs h → Shown n (set hs k y) (put h k y)
+  shown_put n hs h k y s = (
+    length-set hs k y ∙ s.0,
+    λ i l. let is = s.0 in dite (ℕ_discrete i k)
+        (λ e. subst (λ (j : ℕ). get_elem? (set hs k y) j ≡ some (put h k y j)) (sym e) (set_here hs k y (omega arith) ∙ ap some (sym (put_here h k y))))
+        (λ ne. set_else hs k i y ne ∙ s.1 i l ∙ ap some (sym (put_else h k y i ne))),
+  )
+
+  shown_back : (n : ℕ) (hs : List (Home P)) (h : ℕ → Home P) (c : List (ℕ × Option P)) → Shown n hs h → Shown n (put_back hs c) (back h c)
+  shown_back n hs h [] s = s
+  shown_back n hs h (x ∷ xs) s = shown_put n hs h x.0 (some x.1) s
+
+  shown_after : (n : ℕ) (hs : List (Home P)) (h : ℕ → Home P) (c : List (ℕ × Option P)) (a : Act (Option P)) → Shown n hs h → Shown n (homes_after hs c a) (after h c a)
+  shown_after n hs h c keeps s = s
+  shown_after n hs h c (takes k y) s = shown_put n hs h k none s
+  shown_after n hs h c gives s = shown_back n hs h c s
+  shown_after n hs h c (chain a b) s = shown_after n (homes_after hs c a) (after h c a) (carried_after c a) b (shown_after n hs h c a s)
+
+  valid_after : (n : ℕ) (hs : List (Home P)) (h : ℕ → Home P) (c : List (ℕ × Option P)) (a : Act (Option P)) → Shown n hs h → Can n h c a → Valid hs c a
+  valid_after n hs h c keeps s can = tt
+  valid_after n hs h c (takes k y) s can = s.1 k can.0 ∙ ap some can.1
+  valid_after n hs h c gives s can = tt
+  valid_after n hs h c (chain a b) s can = (valid_after n hs h c a s can.0, valid_after n (homes_after hs c a) (after h c a) (carried_after c a) b (shown_after n hs h c a s) can.1)
+
+  -- the words other than word i
+  shows_counter : (n : ℕ) (m : Moment P) (s : State (Option P) View) (x id : ℕ) (c : List (ℕ × Option P)) (w : View) (a : Act (Option P)) → Shows n m s
+      → Shows n (record m { count = x; homes = after m.homes c a; views = set m.views id w }) (stepped s 0 x id c w a)
+  shows_counter n m s x id c w a k = let h = shown_after n s.homes m.homes c a (k.deep, k.homes) in let wide = k.wide in record {
+    wide = length-set s.words 0 x ∙ k.wide;
+    deep = h.0;
+    count = get_or-set_same s.words 0 x 0 (omega arith);
+    cells = λ i l. (get_or-set_other s.words 0 (1 + i) x 0 (omega arith) ∙ (k.cells i l).0, (k.cells i l).1);
+    heads = λ i l. (get_or-set_other s.words 0 (1 + n + i) x 0 (omega arith) ∙ (k.heads i l).0, (k.heads i l).1);
+    places = λ i l. (get_or-set_other s.words 0 (1 + 17 * n + i) x 0 (omega arith) ∙ (k.places i l).0, (k.places i l).1);
+    homes = h.1;
+    views = ap (λ (vs : List View). set vs id w) k.views;
+  }
+
+  shows_cell : (n : ℕ) (m : Moment P) (s : State (Option P) View) (i id : ℕ) (x : Word) (c : List (ℕ × Option P)) (w : View) (a : Act (Option P)) → i < n → WordFits x → Shows n m s
+      → Shows n (record m { cells = put m.cells i x; homes = after m.homes c a; views = set m.views id w }) (stepped s (1 + i) (word_of x) id c w a)
+  shows_cell n m s i id x c w a low fits k = let h = shown_after n s.homes m.homes c a (k.deep, k.homes) in let wide = k.wide in record {
+    wide = length-set s.words (1 + i) (word_of x) ∙ k.wide;
+    deep = h.0;
+    count = get_or-set_other s.words (1 + i) 0 (word_of x) 0 (omega arith) ∙ k.count;
+    cells = λ j l. put_all m.cells i x (λ j y. (get_or (set s.words (1 + i) (word_of x)) (1 + j) 0 ≡ word_of y) × WordFits y) j
+        (get_or-set_same s.words (1 + i) (word_of x) 0 (omega arith), fits)
+        (λ ne. (get_or-set_other s.words (1 + i) (1 + j) (word_of x) 0 (λ e. ne (omega arith)) ∙ (k.cells j l).0, (k.cells j l).1));
+    heads = λ j l. (get_or-set_other s.words (1 + i) (1 + n + j) (word_of x) 0 (omega arith) ∙ (k.heads j l).0, (k.heads j l).1);
+    places = λ j l. (get_or-set_other s.words (1 + i) (1 + 17 * n + j) (word_of x) 0 (omega arith) ∙ (k.places j l).0, (k.places j l).1);
+    homes = h.1;
+    views = ap (λ (vs : List View). set vs id w) k.views;
+  }
+
+  shows_head : (n : ℕ) (m : Moment P) (s : State (Option P) View) (i id : ℕ) (x : Option ℕ) (c : List (ℕ × Option P)) (w : View) (a : Act (Option P)) → i < 16 * n → LinkOk x → Shows n m s
+      → Shows n (record m { heads = put m.heads i x; homes = after m.homes c a; views = set m.views id w }) (stepped s (1 + n + i) (link_of x) id c w a)
+  shows_head n m s i id x c w a low fits k = let h = shown_after n s.homes m.homes c a (k.deep, k.homes) in let wide = k.wide in record {
+    wide = length-set s.words (1 + n + i) (link_of x) ∙ k.wide;
+    deep = h.0;
+    count = get_or-set_other s.words (1 + n + i) 0 (link_of x) 0 (omega arith) ∙ k.count;
+    cells = λ j l. (get_or-set_other s.words (1 + n + i) (1 + j) (link_of x) 0 (omega arith) ∙ (k.cells j l).0, (k.cells j l).1);
+    heads = λ j l. put_all m.heads i x (λ j y. (get_or (set s.words (1 + n + i) (link_of x)) (1 + n + j) 0 ≡ link_of y) × LinkOk y) j
+        (get_or-set_same s.words (1 + n + i) (link_of x) 0 (omega arith), fits)
+        (λ ne. (get_or-set_other s.words (1 + n + i) (1 + n + j) (link_of x) 0 (λ e. ne (omega arith)) ∙ (k.heads j l).0, (k.heads j l).1));
+    places = λ j l. (get_or-set_other s.words (1 + n + i) (1 + 17 * n + j) (link_of x) 0 (omega arith) ∙ (k.places j l).0, (k.places j l).1);
+    homes = h.1;
+    views = ap (λ (vs : List View). set vs id w) k.views;
+  }
+
+  shows_place : (n : ℕ) (m : Moment P) (s : State (Option P) View) (i id : ℕ) (x : Option Place) (c : List (ℕ × Option P)) (w : View) (a : Act (Option P)) → i < n → PlaceOk x → Shows n m s
+      → Shows n (record m { places = put m.places i x; homes = after m.homes c a; views = set m.views id w }) (stepped s (1 + 17 * n + i) (word_at_place x) id c w a)
+  shows_place n m s i id x c w a low fits k = let h = shown_after n s.homes m.homes c a (k.deep, k.homes) in let wide = k.wide in record {
+    wide = length-set s.words (1 + 17 * n + i) (word_at_place x) ∙ k.wide;
+    deep = h.0;
+    count = get_or-set_other s.words (1 + 17 * n + i) 0 (word_at_place x) 0 (omega arith) ∙ k.count;
+    cells = λ j l. (get_or-set_other s.words (1 + 17 * n + i) (1 + j) (word_at_place x) 0 (omega arith) ∙ (k.cells j l).0, (k.cells j l).1);
+    heads = λ j l. (get_or-set_other s.words (1 + 17 * n + i) (1 + n + j) (word_at_place x) 0 (omega arith) ∙ (k.heads j l).0, (k.heads j l).1);
+    places = λ j l. put_all m.places i x (λ j y. (get_or (set s.words (1 + 17 * n + i) (word_at_place x)) (1 + 17 * n + j) 0 ≡ word_at_place y) × PlaceOk y) j
+        (get_or-set_same s.words (1 + 17 * n + i) (word_at_place x) 0 (omega arith), fits)
+        (λ ne. (get_or-set_other s.words (1 + 17 * n + i) (1 + 17 * n + j) (word_at_place x) 0 (λ e. ne (omega arith)) ∙ (k.places j l).0, (k.places j l).1));
+    homes = h.1;
+    views = ap (λ (vs : List View). set vs id w) k.views;
+  }
+
+  -- a load of the word i
+  shows_look : (n : ℕ) (m : Moment P) (s : State (Option P) View) (i id : ℕ) (c : List (ℕ × Option P)) (w : View) (a : Act (Option P)) → Shows n m s
+      → Shows n (record m { homes = after m.homes c a; views = set m.views id w }) (stepped s i (get_or s.words i 0) id c w a)
+  shows_look n m s i id c w a k = let h = shown_after n s.homes m.homes c a (k.deep, k.homes) in
+      subst (λ (ws : List ℕ). Shows n (record m { homes = after m.homes c a; views = set m.views id w }) record { words = ws; homes = homes_after s.homes c a; views = set s.views id w }) (sym (set-get_or s.words i 0)) record {
+        wide = k.wide;
+        deep = h.0;
+        count = k.count;
+        cells = k.cells;
+        heads = k.heads;
+        places = k.places;
+        homes = h.1;
+        views = ap (λ (vs : List View). set vs id w) k.views;
+      }
+
+  module _ (G : Type 0) (R : Moment P → G → Type 0) (n : ℕ) where
+    -- a step on the counter
+    pub counter_step : (id : ℕ) (me : Me (Option P) View) (f : ℕ → ℕ) (then : ℕ → Me (Option P) View → Type 0)
+        → ((m : Moment P) (g : G) → R m g → get_elem? m.views id ≡ some me.0 → m.count < 18446744073709551616
+        → (w : View) × (a : Act (Option P)) × (g' : G) × Can n m.homes me.1 a
+        × R (record m { count = f m.count; homes = after m.homes me.1 a; views = set m.views id w }) g' × then m.count (w, carried_after me.1 a))
+        → Allows (HeldBy G R n) n id me 0 f then
+    counter_step id me f then k s h deep at fits = let sh = h.shows in let m = h.moment in
+        let r = k m h.ghosts h.rule (subst (λ (vs : List View). get_elem? vs id ≡ some me.0) sh.views at) (subst (λ (x : ℕ). x < 18446744073709551616) sh.count fits) in (
+          r.0,
+          r.1,
+          valid_after n s.homes m.homes me.1 r.1 (sh.deep, sh.homes) r.3,
+          record {
+            moment = record m { count = f (get_or s.words 0 0); homes = after m.homes me.1 r.1; views = set m.views id r.0 };
+            ghosts = r.2;
+            shows = shows_counter n m s (f (get_or s.words 0 0)) id me.1 r.0 r.1 sh;
+            rule = subst (λ (x : ℕ). R (record m { count = f x; homes = after m.homes me.1 r.1; views = set m.views id r.0 }) r.2) (sym sh.count) r.4;
+          },
+          subst (λ (x : ℕ). then x (r.0, carried_after me.1 r.1)) (sym sh.count) r.5,
+        )
+
+    abbrev pub Goes : (m : Moment P) → Me (Option P) View → (View → Act (Option P) → Moment P) → (View → Act (Option P) → Type 0) → Type 0
+    Goes m me to then = (w : View) × (a : Act (Option P)) × (g : G) × Can n m.homes me.1 a × R (to w a) g × then w a
+
+    found : (m : Moment P) (s : State (Option P) View) (id : ℕ) (v : View) → Shows n m s → get_elem? s.views id ≡ some v → get_elem? m.views id ≡ some v
+    found m s id v sh at = subst (λ (vs : List View). get_elem? vs id ≡ some v) sh.views at
+
+    -- a store to the cell i
+    pub store_cell : (id : ℕ) (me : Me (Option P) View) (i : ℕ) (x : Word) (then : Me (Option P) View → Type 0) → i < n
+        → ((m : Moment P) (g : G) → R m g → get_elem? m.views id ≡ some me.0 → WordFits (m.cells i)
+        → WordFits x × Goes m me (λ w a. record m { cells = put m.cells i x; homes = after m.homes me.1 a; views = set m.views id w }) (λ w a. then (w, carried_after me.1 a)))
+        → Allows (HeldBy G R n) n id me (1 + i) (λ _. word_of x) (λ _. then)
+    store_cell id me i x then low k s h deep at word = let sh = h.shows in let m = h.moment in let kr = k m h.ghosts h.rule (found m s id me.0 sh at) (sh.cells i low).1 in let fits = kr.0 in let r = kr.1 in (
+      r.0,
+      r.1,
+      valid_after n s.homes m.homes me.1 r.1 (sh.deep, sh.homes) r.3,
+      record { moment = record m { cells = put m.cells i x; homes = after m.homes me.1 r.1; views = set m.views id r.0 }; ghosts = r.2; shows = shows_cell n m s i id x me.1 r.0 r.1 low fits sh; rule = r.4 },
+      r.5,
+    )
+
+    -- a swap of the head i
+    pub swap_head : (id : ℕ) (me : Me (Option P) View) (i : ℕ) (x : Option ℕ) (then : ℕ → Me (Option P) View → Type 0) → i < 16 * n → LinkOk x
+        → ((m : Moment P) (g : G) → R m g → get_elem? m.views id ≡ some me.0 → LinkOk (m.heads i)
+        → Goes m me (λ w a. record m { heads = put m.heads i x; homes = after m.homes me.1 a; views = set m.views id w }) (λ w a. then (link_of (m.heads i)) (w, carried_after me.1 a)))
+        → Allows (HeldBy G R n) n id me (1 + n + i) (λ _. link_of x) then
+    swap_head id me i x then low fits k s h deep at word = let sh = h.shows in let m = h.moment in let r = k m h.ghosts h.rule (found m s id me.0 sh at) (sh.heads i low).1 in (
+      r.0,
+      r.1,
+      valid_after n s.homes m.homes me.1 r.1 (sh.deep, sh.homes) r.3,
+      record { moment = record m { heads = put m.heads i x; homes = after m.homes me.1 r.1; views = set m.views id r.0 }; ghosts = r.2; shows = shows_head n m s i id x me.1 r.0 r.1 low fits sh; rule = r.4 },
+      subst (λ (y : ℕ). then y (r.0, carried_after me.1 r.1)) (sym (sh.heads i low).0) r.5,
+    )
+
+    -- a store to the place i
+    pub store_place : (id : ℕ) (me : Me (Option P) View) (i : ℕ) (x : Option Place) (then : Me (Option P) View → Type 0) → i < n → PlaceOk x
+        → ((m : Moment P) (g : G) → R m g → get_elem? m.views id ≡ some me.0
+        → Goes m me (λ w a. record m { places = put m.places i x; homes = after m.homes me.1 a; views = set m.views id w }) (λ w a. then (w, carried_after me.1 a)))
+        → Allows (HeldBy G R n) n id me (1 + 17 * n + i) (λ _. word_at_place x) (λ _. then)
+    store_place id me i x then low fits k s h deep at word = let sh = h.shows in let m = h.moment in let r = k m h.ghosts h.rule (found m s id me.0 sh at) in (
+      r.0,
+      r.1,
+      valid_after n s.homes m.homes me.1 r.1 (sh.deep, sh.homes) r.3,
+      record { moment = record m { places = put m.places i x; homes = after m.homes me.1 r.1; views = set m.views id r.0 }; ghosts = r.2; shows = shows_place n m s i id x me.1 r.0 r.1 low fits sh; rule = r.4 },
+      r.5,
+    )
+
+    -- a load of the cell i
+    pub load_cell : (id : ℕ) (me : Me (Option P) View) (i : ℕ) (then : ℕ → Me (Option P) View → Type 0) → i < n
+        → ((m : Moment P) (g : G) → R m g → get_elem? m.views id ≡ some me.0 → WordFits (m.cells i)
+        → Goes m me (λ w a. record m { homes = after m.homes me.1 a; views = set m.views id w }) (λ w a. then (word_of (m.cells i)) (w, carried_after me.1 a)))
+        → Allows (HeldBy G R n) n id me (1 + i) (λ x. x) then
+    load_cell id me i then low k s h deep at word = let sh = h.shows in let m = h.moment in let r = k m h.ghosts h.rule (found m s id me.0 sh at) (sh.cells i low).1 in (
+      r.0,
+      r.1,
+      valid_after n s.homes m.homes me.1 r.1 (sh.deep, sh.homes) r.3,
+      record { moment = record m { homes = after m.homes me.1 r.1; views = set m.views id r.0 }; ghosts = r.2; shows = shows_look n m s (1 + i) id me.1 r.0 r.1 sh; rule = r.4 },
+      subst (λ (y : ℕ). then y (r.0, carried_after me.1 r.1)) (sym (sh.cells i low).0) r.5,
+    )
+
+    -- a compare-exchange of the cell i, which goes from x to y
+    pub exchange_cell : (id : ℕ) (me : Me (Option P) View) (i : ℕ) (x y : Word) (then : ℕ → Me (Option P) View → Type 0) → i < n → WordFits x → WordFits y
+        → ((m : Moment P) (g : G) → R m g → get_elem? m.views id ≡ some me.0 → m.cells i ≡ x
+        → Goes m me (λ w a. record m { cells = put m.cells i y; homes = after m.homes me.1 a; views = set m.views id w }) (λ w a. then (word_of x) (w, carried_after me.1 a)))
+        → ((m : Moment P) (g : G) → R m g → get_elem? m.views id ≡ some me.0 → WordFits (m.cells i) → word_of (m.cells i) ≢ word_of x
+        → Goes m me (λ w a. record m { homes = after m.homes me.1 a; views = set m.views id w }) (λ w a. then (word_of (m.cells i)) (w, carried_after me.1 a)))
+        → Allows (HeldBy G R n) n id me (1 + i) (λ z. either (eqb z (word_of x)) (word_of y) z) then
+    exchange_cell id me i x y then low xfits yfits hit miss s h deep at word = let sh = h.shows in let m = h.moment in let c = sh.cells i low in let at' = found m s id me.0 sh at in dite (ℕ_discrete (word_of (m.cells i)) (word_of x))
+        (λ e. let r = hit m h.ghosts h.rule at' (same_word (m.cells i) x c.1 xfits e) in (
+          r.0,
+          r.1,
+          valid_after n s.homes m.homes me.1 r.1 (sh.deep, sh.homes) r.3,
+          record {
+            moment = record m { cells = put m.cells i y; homes = after m.homes me.1 r.1; views = set m.views id r.0 };
+            ghosts = r.2;
+            shows = subst (λ (z : ℕ). Shows n (record m { cells = put m.cells i y; homes = after m.homes me.1 r.1; views = set m.views id r.0 }) (stepped s (1 + i) z id me.1 r.0 r.1))
+                (ap (λ (b : Bool). either b (word_of y) (get_or s.words (1 + i) 0)) (sym (eq-eqb (get_or s.words (1 + i) 0) (word_of x) (c.0 ∙ e)))) (shows_cell n m s i id y me.1 r.0 r.1 low yfits sh);
+            rule = r.4;
+          },
+          subst (λ (z : ℕ). then z (r.0, carried_after me.1 r.1)) (sym (c.0 ∙ e)) r.5,
+        ))
+        (λ ne. let r = miss m h.ghosts h.rule at' c.1 ne in (
+          r.0,
+          r.1,
+          valid_after n s.homes m.homes me.1 r.1 (sh.deep, sh.homes) r.3,
+          record {
+            moment = record m { homes = after m.homes me.1 r.1; views = set m.views id r.0 };
+            ghosts = r.2;
+            shows = subst (λ (z : ℕ). Shows n (record m { homes = after m.homes me.1 r.1; views = set m.views id r.0 }) (stepped s (1 + i) z id me.1 r.0 r.1))
+                (ap (λ (b : Bool). either b (word_of y) (get_or s.words (1 + i) 0)) (sym (ne_eqb (get_or s.words (1 + i) 0) (word_of x) (λ q. ne (sym c.0 ∙ q))))) (shows_look n m s (1 + i) id me.1 r.0 r.1 sh);
+            rule = r.4;
+          },
+          subst (λ (z : ℕ). then z (r.0, carried_after me.1 r.1)) (sym c.0) r.5,
+        ))
+
+    -- a load of the head i
+    pub load_head : (id : ℕ) (me : Me (Option P) View) (i : ℕ) (then : ℕ → Me (Option P) View → Type 0) → i < 16 * n
+        → ((m : Moment P) (g : G) → R m g → get_elem? m.views id ≡ some me.0 → LinkOk (m.heads i)
+        → Goes m me (λ w a. record m { homes = after m.homes me.1 a; views = set m.views id w }) (λ w a. then (link_of (m.heads i)) (w, carried_after me.1 a)))
+        → Allows (HeldBy G R n) n id me (1 + n + i) (λ x. x) then
+    load_head id me i then low k s h deep at word = let sh = h.shows in let m = h.moment in let r = k m h.ghosts h.rule (found m s id me.0 sh at) (sh.heads i low).1 in (
+      r.0,
+      r.1,
+      valid_after n s.homes m.homes me.1 r.1 (sh.deep, sh.homes) r.3,
+      record { moment = record m { homes = after m.homes me.1 r.1; views = set m.views id r.0 }; ghosts = r.2; shows = shows_look n m s (1 + n + i) id me.1 r.0 r.1 sh; rule = r.4 },
+      subst (λ (y : ℕ). then y (r.0, carried_after me.1 r.1)) (sym (sh.heads i low).0) r.5,
+    )

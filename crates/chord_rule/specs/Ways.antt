@@ -1,0 +1,84 @@
+-- The ways of a desk through bags.
+use Rattle.std.specs.Prelude.{◌≡◌, ◌⊎◌, ℕ, ◌<◌, Bool, true, false, ◌||◌, if◌then◌else◌, length, List, [], ◌∷◌, Option, Some, None}
+use Rattle.chord_word.specs.declared.cells.Cell.{Cell}
+use Rattle.chord_word.specs.declared.cells.Cell.TheVariants.{Empty, Pending, Claimed, Consumed, Woken}
+use Rattle.chord_word.specs.declared.cells.Word.{Word}
+use Rattle.chord_rule.specs.declared.view.Look.{Look}
+use Rattle.chord_rule.specs.declared.view.Way.{Way}
+use Rattle.chord_rule.specs.declared.view.Duty.{Duty}
+use Rattle.chord_rule.specs.declared.view.View.{View}
+use Rattle.chord_rule.specs.Bags.{Order}
+use Rattle.chord_rule.specs.Duties.{HasDuty, at_place}
+
+-- where a walk goes on: an unarmed message has no next yet
+abbrev pub way_onward : Cell → Option ℕ → Option ℕ
+way_onward Empty next = None
+way_onward _ next = next
+
+-- after a look at the head of the bag k
+abbrev pub way_begun : ℕ → Option ℕ → Way
+way_begun k head = record { bag = k; place = head; looks = [] }
+
+-- after a look at the message i, to which the way had come
+abbrev pub gone_on : Way → ℕ → Word → Way
+gone_on w i c = record { bag = w.bag; place = way_onward c.cell c.next; looks = record { number = i; word = c } ∷ w.looks }
+
+-- a look at the cell i goes on the newest way, if that has come to i
+abbrev pub on_way : ℕ → Word → List Way → List Way
+on_way i c [] = []
+on_way i c (w ∷ ws) = (if at_place i w.place then gone_on w i c else w) ∷ ws
+
+-- the newest way has come to i
+abbrev pub IsAt : ℕ → List Way → Type 0
+IsAt i [] = ⊥
+IsAt i (w ∷ ws) = w.place ≡ Some i
+
+-- the way is one of these
+abbrev pub HasWay : Way → List Way → Type 0
+HasWay w [] = ⊥
+HasWay w (x ∷ xs) = (w ≡ x) ⊎ HasWay w xs
+
+-- the message was looked at
+abbrev pub IsRead : ℕ → List Look → Type 0
+IsRead i [] = ⊥
+IsRead i (l ∷ ls) = (i ≡ l.number) ⊎ IsRead i ls
+
+-- the desk has a duty on the message i
+abbrev pub HasDutyOn : ℕ → List Duty → Type 0
+HasDutyOn i ds = (d : Duty) × HasDuty d ds × (d.message ≡ i)
+
+-- the desk knows that the message i is linked in the bag k: it stands on a way of that bag, or the desk has a duty on it
+abbrev pub KnowsBag : View → ℕ → ℕ → Type 0
+KnowsBag v i k = ((w : Way) × HasWay w v.looked.ways × (w.bag ≡ k) × IsRead i w.looks) ⊎ ((d : Duty) × HasDuty d v.duties × (d.message ≡ i) × (d.bag ≡ k))
+
+-- what the desk last read or wrote in the cell i
+abbrev pub LastSeen : ℕ → Word → List Look → Type 0
+LastSeen i c [] = ⊥
+LastSeen i c (l ∷ ls) = ((i ≡ l.number) × (c ≡ l.word)) ⊎ ((i ≡ l.number → ⊥) × LastSeen i c ls)
+
+-- a cell that a linked message can have
+abbrev pub IsLinkedCell : Cell → Type 0
+IsLinkedCell Empty = Unit {0}
+IsLinkedCell Pending = Unit {0}
+IsLinkedCell Claimed = Unit {0}
+IsLinkedCell Consumed = Unit {0}
+IsLinkedCell (Woken q) = Unit {0}
+IsLinkedCell _ = ⊥
+
+-- a cell that a linked message can have where no desk has it in hand
+abbrev pub IsSettledCell : Cell → Type 0
+IsSettledCell Pending = Unit {0}
+IsSettledCell Consumed = Unit {0}
+IsSettledCell (Woken q) = Unit {0}
+IsSettledCell _ = ⊥
+
+-- the first desk, which has lent none, and has no claim and nothing in flight
+pub record IsAlone (v : View) : Type 0 where
+  pub first : v.first ≡ true
+  pub lent : v.lent ≡ 0
+  pub claims : v.claims ≡ []
+  pub flight : v.flight ≡ None
+
+-- what a desk may read next on its newest way: a message below n, which makes at most n
+abbrev pub HasRoom : ℕ → List Way → Type 0
+HasRoom n ws = (w : Way) (rest : List Way) → ws ≡ w ∷ rest → (x : ℕ) → w.place ≡ Some x → (x < n) × (length w.looks < n)

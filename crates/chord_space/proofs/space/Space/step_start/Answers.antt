@@ -1,0 +1,105 @@
+use Rattle.std.proofs.Common.{◌≡◌, ℕ, ◌+◌, eqb, List, [], ◌∷◌, Option, Some, None, IsSome, refl, sym, ap, ◌∙◌, subst, arith}
+use mathlib.Core.Option.{none}
+use mathlib.Core.Path.{Path}
+use prog.Atomic.{either}
+use Rattle.atomic_table.specs.Table.{Me, Allows, step, rest}
+use Rattle.chord_base.specs.declared.event.Limits.{Limits}
+use Rattle.chord_code.specs.declared.parts.Parts.{Parts}
+use Rattle.chord_code.specs.Meaning.{code_program}
+use Rattle.chord_word.specs.Cells.{link_of, IsNoCell}
+use Rattle.chord_word.proofs.Packing.{some_cell}
+use Rattle.chord_rule.specs.Parcels.{Begins}
+use Rattle.chord_rule.specs.declared.view.View.{View}
+use Rattle.chord_rule.specs.Kinds.{firing_started, played}
+use Rattle.chord_rule.specs.Tells.{starts, plays}
+use Rattle.chord_rule.specs.Whole.{Held}
+use Rattle.chord_rule.proofs.Moving.{start_step, play_step}
+use Rattle.chord_space.proofs.Slots.{out_slot}
+use Rattle.chord_space.proofs.space.Space.step_start.Goals as goal
+
+pub compare_exchange-found-requires : goal.compare_exchange-found-requires
+compare_exchange-found-requires g c = let sized = c.args.self.now.sized in let key = c.args.self.now.table.shared.key in let n : ℕ = key.limits.events in let seat = c.args.desk.now.seat in let f : ℕ = c.args.f in let bounds = c.requires.bounds in let governed = c.requires.governed in
+    let p = code_program key.code.value key.limits in let keeps : g.row.P.Denot → Type 0 = λ q. g.P.Carry.keeps_to q key.code.value key.limits in (
+      c.requires.desk,
+      omega arith,
+      subst (λ (y : ℕ × ℕ × ℕ × Parts × Limits). Allows (Held g.P.Carry.entries g.P.Carry.arguments keeps p n) y.0 seat.id seat.me (1 + f) (λ x. either (eqb x y.1) y.2 x) (starts g.P.Carry.entries (λ q. g.P.Carry.keeps_to q y.3 y.4) (step y.0 (1 + f) y.1 y.2 none) seat.me))
+          (λ k. ((sized.0 ∙ sym sized.2) k, sym c.firing_word-ready.ensures k, sym c.firing_word.ensures k, sym governed.0 k, sym governed.1 k))
+          (start_step g.P.Carry.entries g.P.Carry.arguments keeps p n (omega arith) (omega arith) seat.id seat.me f (omega arith) c.args.desk.now.settled.5),
+    )
+
+pub exchange-parcel-requires : goal.exchange-parcel-requires
+exchange-parcel-requires g c = let f : ℕ = c.args.f in let told = (c.compare_exchange-found.ensures.2 f refl).0 c.if-found-ready.true in
+    let held : c.compare_exchange-found.new.seat.me.1 ≡ (f, Some told.0) ∷ [] = told.2 ∙ ap (λ (xs : List (ℕ × Option g.row.P.Denot)). (f, Some told.0) ∷ xs) c.args.desk.now.settled.0 in
+    (c.compare_exchange-found.ensures.0 ∙ c.requires.desk, (Some told.0, held ∙ (λ k. (f, Some told.0) ∷ sym (ap rest held) k)))
+
+pub load-requires : goal.load-requires
+load-requires g c = let sized = c.args.self.now.sized in let key = c.args.self.now.table.shared.key in let n : ℕ = key.limits.events in let f : ℕ = c.args.f in
+    let p = code_program key.code.value key.limits in let keeps : g.row.P.Denot → Type 0 = λ q. g.P.Carry.keeps_to q key.code.value key.limits in
+    let told = (c.compare_exchange-found.ensures.2 f refl).0 c.if-found-ready.true in
+    let held : c.compare_exchange-found.new.seat.me.1 ≡ (f, Some told.0) ∷ [] = told.2 ∙ ap (λ (xs : List (ℕ × Option g.row.P.Denot)). (f, Some told.0) ∷ xs) c.args.desk.now.settled.0 in
+    let v : View = firing_started c.args.desk.now.seat.me.0 f (g.P.Carry.entries told.0) in
+    let seat = c.exchange-parcel.new.seat in
+    let me : seat.me ≡ (v, (f, None) ∷ []) = c.exchange-parcel.ensures.3 ∙ (λ k. (told.1 k, (f, None) ∷ ap rest held k)) in (
+      c.exchange-parcel.ensures.0 ∙ c.compare_exchange-found.ensures.0 ∙ c.requires.desk,
+      omega arith,
+      subst (λ (y : ℕ × Me (Option g.row.P.Denot) View). Allows (Held g.P.Carry.entries g.P.Carry.arguments keeps p n) y.0 seat.id y.1 0 (λ x. x) (plays (step y.0 0 0 0 none) y.1)) (λ k. ((sized.0 ∙ sym sized.2) k, sym me k))
+          (play_step g.P.Carry.entries g.P.Carry.arguments keeps p n (omega arith) (omega arith) seat.id v f refl),
+    )
+
+pub invariant_of-desk : goal.invariant_of-desk
+invariant_of-desk g c = let f : ℕ = c.args.f in let settled = c.args.desk.now.settled in
+    let told = (c.compare_exchange-found.ensures.2 f refl).0 c.if-found-ready.true in
+    let held : c.compare_exchange-found.new.seat.me.1 ≡ (f, Some told.0) ∷ [] = told.2 ∙ ap (λ (xs : List (ℕ × Option g.row.P.Denot)). (f, Some told.0) ∷ xs) settled.0 in
+    let v : View = firing_started c.args.desk.now.seat.me.0 f (g.P.Carry.entries told.0) in
+    let me : c.exchange-parcel.new.seat.me ≡ (v, (f, None) ∷ []) = c.exchange-parcel.ensures.3 ∙ (λ k. (told.1 k, (f, None) ∷ ap rest held k)) in
+    let home = c.load.ensures.2 f (ap (λ (m : Me (Option g.row.P.Denot) View). m.0.starting) me) (ap (λ (m : Me (Option g.row.P.Denot) View). m.1) me) in
+    let view : c.load.new.seat.me.0 ≡ played v = ap (λ (m : Me (Option g.row.P.Denot) View). m.0) home ∙ ap (λ (m : Me (Option g.row.P.Denot) View). played m.0) me in record {
+      settled = (
+        ap (λ (m : Me (Option g.row.P.Denot) View). m.1) home,
+        settled.1 ∙ sym (ap (λ (w : View). link_of w.above) view),
+        settled.2,
+        ap (λ (w : View). w.placing) view ∙ settled.3,
+        ap (λ (w : View). w.posting) view ∙ settled.4,
+        ap (λ (w : View). w.starting) view,
+      );
+    }
+
+pub unwrap-requires : goal.unwrap-requires
+unwrap-requires g c = let f : ℕ = c.args.f in let told = (c.compare_exchange-found.ensures.2 f refl).0 c.if-found-ready.true in
+    subst (λ (r : Option g.row.P.Denot). IsSome r) (out_slot f (Some told.0) c.exchange-parcel.result c.compare_exchange-found.new.seat.me.1 c.args.desk.now.seat.me.1 (rest c.compare_exchange-found.new.seat.me.1) told.2 c.exchange-parcel.ensures.2) refl
+
+pub returns-then-found-ready-clause-started : goal.returns-then-found-ready-clause-started
+returns-then-found-ready-clause-started g c = let f : ℕ = c.args.f in let told = (c.compare_exchange-found.ensures.2 f refl).0 c.if-found-ready.true in
+    let held : c.compare_exchange-found.new.seat.me.1 ≡ (f, Some told.0) ∷ [] = told.2 ∙ ap (λ (xs : List (ℕ × Option g.row.P.Denot)). (f, Some told.0) ∷ xs) c.args.desk.now.settled.0 in
+    let v : View = firing_started c.args.desk.now.seat.me.0 f (g.P.Carry.entries told.0) in
+    let me : c.exchange-parcel.new.seat.me ≡ (v, (f, None) ∷ []) = c.exchange-parcel.ensures.3 ∙ (λ k. (told.1 k, (f, None) ∷ ap rest held k)) in
+    let home = c.load.ensures.2 f (ap (λ (m : Me (Option g.row.P.Denot) View). m.0.starting) me) (ap (λ (m : Me (Option g.row.P.Denot) View). m.1) me) in
+    let was : Path (Option g.row.P.Denot) (Some told.0) (Some c.unwrap.result) = out_slot f (Some told.0) c.exchange-parcel.result c.compare_exchange-found.new.seat.me.1 c.args.desk.now.seat.me.1 (rest c.compare_exchange-found.new.seat.me.1) told.2 c.exchange-parcel.ensures.2 ∙ c.unwrap.ensures in
+    let same : told.0 ≡ c.unwrap.result = (let e = was in cc) in
+    ap (λ (m : Me (Option g.row.P.Denot) View). m.0) home ∙ ap (λ (m : Me (Option g.row.P.Denot) View). played m.0) me ∙ (λ k. played (firing_started c.args.desk.now.seat.me.0 f (g.P.Carry.entries (same k))))
+
+pub returns-then-found-ready-clause-parcel : goal.returns-then-found-ready-clause-parcel
+returns-then-found-ready-clause-parcel g c = let f : ℕ = c.args.f in let told = (c.compare_exchange-found.ensures.2 f refl).0 c.if-found-ready.true in let governed = c.requires.governed in
+    let was : Path (Option g.row.P.Denot) (Some told.0) (Some c.unwrap.result) = out_slot f (Some told.0) c.exchange-parcel.result c.compare_exchange-found.new.seat.me.1 c.args.desk.now.seat.me.1 (rest c.compare_exchange-found.new.seat.me.1) told.2 c.exchange-parcel.ensures.2 ∙ c.unwrap.ensures in
+    let same : told.0 ≡ c.unwrap.result = (let e = was in cc) in
+    (subst (λ (q : g.row.P.Denot). Begins f (g.P.Carry.entries q)) same told.3, subst (λ (y : g.row.P.Denot × Parts × Limits). g.P.Carry.keeps_to y.0 y.1 y.2) (λ k. (same k, governed.0 k, governed.1 k)) told.4)
+
+pub invariant_of-desk-else-found-ready : goal.invariant_of-desk-else-found-ready
+invariant_of-desk-else-found-ready g c = let settled = c.args.desk.now.settled in let missed = ((c.compare_exchange-found.ensures.2 c.args.f refl).1 c.if-found-ready.false).0 in
+    let view = ap (λ (m : Me (Option g.row.P.Denot) View). m.0) missed in record {
+      settled = (
+        ap (λ (m : Me (Option g.row.P.Denot) View). m.1) missed ∙ settled.0,
+        settled.1 ∙ sym (ap (λ (w : View). link_of w.above) view),
+        settled.2,
+        ap (λ (w : View). w.placing) view ∙ settled.3,
+        ap (λ (w : View). w.posting) view ∙ settled.4,
+        ap (λ (w : View). w.starting) view ∙ settled.5,
+      );
+    }
+
+pub unreachable-requires : goal.unreachable-requires
+unreachable-requires g c = let missed = (c.compare_exchange-found.ensures.2 c.args.f refl).1 c.if-found-ready.false in
+    some_cell missed.1.0 missed.1.1 (subst IsNoCell missed.1.3 (c.in-None.ensures.none.0 refl))
+
+pub returns-clause-same : goal.returns-clause-same
+returns-clause-same g c = ap (λ (m : Me (Option g.row.P.Denot) View). m.0) ((c.compare_exchange-found.ensures.2 c.args.f refl).1 c.if-found-ready.false).0

@@ -1,0 +1,48 @@
+//! Entries are drawn: the one step that is an event of the join machine.
+ghost use Rattle.std.specs.Prelude.{◌≡◌, ◌⊎◌, ℕ, ◌<◌, ◌≤◌, true, false, MatchResult, IfErr};
+ghost use Rattle.chord_base.specs.declared.event.What.TheVariants.{Begun};
+ghost use Rattle.chord_base.specs.declared.value.Object as value;
+ghost use Rattle.chord_base.specs.Bodies.{Asks};
+ghost use Rattle.chord_base.specs.Story.{AllBelow, IsOwn};
+ghost use Rattle.chord_rule.specs.Kinds.{drew, was_told};
+ghost use Rattle.chord_rule.specs.Made.{Names};
+ghost use Rattle.chord_space.specs.Desks.{view, program_of, IsDeskOf, IsSameDesk, MayDraw};
+
+use crate::plays::{Draw, Said};
+use crate::space::{Desk, Space, Spent};
+use chord_base::event::What;
+use chord_code::carry::Carry;
+use std::marker::Brand;
+
+impl<P: Carry> Space<P> {
+    // Pairs with every other draw: the counter gives each number once, and numbers are the order of the journal.
+    fn step_draw<J: Said>(&self, desk: &mut Desk<P>, body: u32, what: &What) -> u64
+        requires entry { (J.body ≡ body) × (J.what ≡ what.now) }
+        requires desk { IsDeskOf self.now desk.old }
+        requires room { (view desk.old).spent ≡ false }
+        requires next { MayDraw self.now desk.old body what.now }
+        ensures desk { IsSameDesk desk.old desk.new }
+        ensures drawn { result < self.now.events → (view desk.new ≡ drew (view desk.old) result body what.now) × AllBelow result (view desk.old).kept × ((o : value.Object) → Names what.now o → o.number < result) }
+        ensures told { self.now.events ≤ result → view desk.new ≡ was_told (view desk.old) }
+    {
+        self.table.shared.fetch_add::<Draw<J>>(&mut desk.seat, 0, 1)
+    }
+
+    /// Draws the next number for an entry, which the desk keeps from now on: the next ask of a body by what the desk keeps, or
+    /// the beginning of `Main` by the first desk. `Spent` where the counter had reached the limit on events.
+    pub fn draw(&self, desk: &mut Desk<P>, body: u32, what: &What) -> Result<u32, Spent>
+        requires desk { IsDeskOf self.now desk.old }
+        requires room { (view desk.old).spent ≡ false }
+        requires next { MayDraw self.now desk.old body what.now }
+        ensures desk { IsSameDesk desk.old desk.new }
+        ensures drawn { MatchResult result (λ x. (x < self.now.events) × (view desk.new ≡ drew (view desk.old) x body what.now)) (λ _. view desk.new ≡ was_told (view desk.old)) }
+        ensures above { MatchResult result (λ x. AllBelow x (view desk.old).kept × ((o : value.Object) → Names what.now o → o.number < x)) (λ _. view desk.new ≡ was_told (view desk.old)) }
+    {
+        let found = self.step_draw::<Brand>(desk, body, what);
+        if found < self.events as u64 {
+            Ok(found as u32)
+        } else {
+            Err(Spent)
+        }
+    }
+}

@@ -1,0 +1,87 @@
+//! Firings are posted with their parcels, and firing_started by whoever finds them ready.
+ghost use Rattle.std.specs.Prelude.{◌≡◌, ◌≢◌, ◌⊎◌, ℕ, ◌<◌, None, OnErr, IfErr, IfOk};
+ghost use Rattle.chord_rule.specs.Kinds.{posting, posted, firing_started, played};
+ghost use Rattle.chord_rule.specs.Parcels.{Begins};
+ghost use Rattle.chord_word.specs.declared.cells.Cell.TheVariants.{Ready, Started};
+ghost use Rattle.chord_rule.specs.Tells.{word};
+ghost use Rattle.chord_space.specs.Desks.{view, code_of, limits_of, program_of, IsDeskOf, IsSameDesk};
+ghost use Rattle.chord_space.specs.Gives.{MayPost};
+
+use crate::plays::{GiveSlot, Governed, Post, Start, TakeSlot};
+use crate::space::{Desk, Space};
+use chord_code::carry::Carry;
+use chord_word::{Cell, Word, pack, unpack};
+use std::marker::Brand;
+
+/// The word of a firing's cell.
+fn firing_word(cell: Cell) -> u64
+    requires { (cell ≡ Ready) ⊎ (cell ≡ Started) }
+    ensures { result ≡ word cell None }
+{
+    pack(&Word { cell, next: None })
+}
+
+impl<P: Carry> Space<P> {
+    /// Firing f becomes ready, with a parcel that is given away with the entries that it keeps.
+    ///
+    /// Pairs with each `start` of this firing: who reads it Ready finds the parcel in its slot. The load takes the slot out.
+    pub fn post(&self, desk: &mut Desk<P>, f: u32, parcel: P)
+        requires desk { IsDeskOf self.now desk.old }
+        requires bounds { f < self.now.events }
+        requires post { MayPost (program_of self.now) (view desk.old) f (P.entries parcel) }
+        requires task { P.keeps_to parcel (code_of self.now) (limits_of self.now) }
+        ensures desk { IsSameDesk desk.old desk.new }
+        ensures posted { view desk.new ≡ posted (posting (view desk.old) f) (P.entries parcel) }
+    {
+        let words = &self.table.shared;
+        words.load::<TakeSlot>(&mut desk.seat, 1 + f as usize);
+        match words.exchange(&mut desk.seat, f as usize, Some(parcel)) {
+            None => {}
+            Some(_) => unreachable!(),
+        }
+        words.store::<Post<P>>(&mut desk.seat, 1 + f as usize, firing_word(Cell::Ready));
+    }
+
+    // Pairs with `post`. One exchange decides who plays the firing; the load gives its empty slot back.
+    fn step_start<J: Governed>(&self, desk: &mut Desk<P>, f: u32) -> Result<P, Cell>
+        requires governed { (J.parts ≡ code_of self.now) × (J.limits ≡ limits_of self.now) }
+        requires desk { IsDeskOf self.now desk.old }
+        requires bounds { f < self.now.events }
+        ensures desk { IsSameDesk desk.old desk.new }
+        ensures started { IfOk result (λ q. view desk.new ≡ played (firing_started (view desk.old) f (P.entries q))) }
+        ensures parcel { IfOk result (λ q. Begins f (P.entries q) × P.keeps_to q (code_of self.now) (limits_of self.now)) }
+        ensures refused { IfErr result (λ c. c ≢ Ready) }
+        ensures same { OnErr result (view desk.new ≡ view desk.old) }
+    {
+        let words = &self.table.shared;
+        let ready = firing_word(Cell::Ready);
+        let found = words.compare_exchange::<Start<P, J>>(
+            &mut desk.seat,
+            1 + f as usize,
+            ready,
+            firing_word(Cell::Started),
+        );
+        if found == ready {
+            let parcel = words.exchange(&mut desk.seat, f as usize, None);
+            words.load::<GiveSlot>(&mut desk.seat, 0);
+            return Ok(parcel.unwrap());
+        }
+        match unpack(found) {
+            Some(word) => Err(word.cell),
+            None => unreachable!(),
+        }
+    }
+
+    /// Starts firing f, whose parcel comes with its entries; or gives the cell that the one exchange read, which is not Ready.
+    pub fn start(&self, desk: &mut Desk<P>, f: u32) -> Result<P, Cell>
+        requires desk { IsDeskOf self.now desk.old }
+        requires bounds { f < self.now.events }
+        ensures desk { IsSameDesk desk.old desk.new }
+        ensures started { IfOk result (λ q. view desk.new ≡ played (firing_started (view desk.old) f (P.entries q))) }
+        ensures parcel { IfOk result (λ q. Begins f (P.entries q) × P.keeps_to q (code_of self.now) (limits_of self.now)) }
+        ensures refused { IfErr result (λ c. c ≢ Ready) }
+        ensures same { OnErr result (view desk.new ≡ view desk.old) }
+    {
+        self.step_start::<Brand>(desk, f)
+    }
+}

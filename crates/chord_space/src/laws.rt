@@ -1,0 +1,26 @@
+//! What the rule of the table says of its journal, at any moment between two steps: functions whose contracts are the laws.
+ghost use Rattle.chord_base.specs.declared.event.Limits.{Limits};
+ghost use Rattle.chord_code.specs.declared.parts.Parts.{Parts};
+ghost use Rattle.chord_rule.specs.Laws.{OneIsMinded, TakenShows, ConsumedTaken, ClaimedTaken, CellPending, PendingShows};
+
+use chord_code::carry::Carry;
+
+/// Wherever the join machine may fire a chord, one of the pending messages is minded: a desk has it in hand or has a duty on
+/// it, or a woken caller looks after it.
+pub fn one_is_minded<P: Carry>()
+    ensures { (code : Parts) (limits : Limits) → OneIsMinded P.entries P.arguments (λ q. P.keeps_to q code limits) }
+{}
+
+/// A message is taken by a firing exactly where its cell is consumed, or a desk has claimed it and drawn that firing.
+pub fn taken_messages<P: Carry>()
+    ensures shows { (code : Parts) (limits : Limits) → TakenShows P.entries P.arguments (λ q. P.keeps_to q code limits) }
+    ensures consumed { (code : Parts) (limits : Limits) → ConsumedTaken P.entries P.arguments (λ q. P.keeps_to q code limits) }
+    ensures claimed { (code : Parts) (limits : Limits) → ClaimedTaken P.entries P.arguments (λ q. P.keeps_to q code limits) }
+{}
+
+/// A message whose cell is Pending, or that is claimed for no firing yet, is pending; and this is what the table shows of a
+/// pending message.
+pub fn pending_messages<P: Carry>()
+    ensures pending { (code : Parts) (limits : Limits) → CellPending P.entries P.arguments (λ q. P.keeps_to q code limits) }
+    ensures shows { (code : Parts) (limits : Limits) → PendingShows P.entries P.arguments (λ q. P.keeps_to q code limits) }
+{}

@@ -1,0 +1,83 @@
+//! The space and its desks.
+ghost use Rattle.std.specs.Prelude.{◌≡◌, ℕ, ◌+◌, ◌*◌, ◌<◌, ◌≤◌, [], None, IfOk};
+ghost use Rattle.chord_code.specs.Meaning.{code_program};
+ghost use Rattle.chord_code.specs.Sound.{IsSoundCode};
+ghost use Rattle.chord_rule.specs.Kinds.{newcomer_first};
+ghost use Rattle.chord_rule.specs.Whole.{Held};
+ghost use Rattle.chord_word.specs.Cells.{link_of};
+
+use atomic_table::{Seat, Table, TableRule};
+use chord_base::event::Limits;
+use chord_code::carry::Carry;
+use chord_code::code::Code;
+use chord_rule::view::View;
+use std::alloc::{AllocError, Global};
+use std::marker::PhantomData;
+use std::snapshot::Snapshot;
+
+/// What the rule is told once, when the table is made: the code and the limits of its runs.
+#[derive(Drop)]
+pub struct Key {
+    pub code: Snapshot<Code>,
+    pub limits: Limits,
+}
+
+/// The rule of the table, for parcels of this type.
+pub struct Law<P: Carry> {
+    of: PhantomData<P>,
+}
+
+impl<P: Carry> TableRule<Option<P>, View, Key> for Law<P> {
+    ghost holds = { λ key. Held P.entries P.arguments (λ q. P.keeps_to q key.code.value key.limits) (code_program key.code.value key.limits) key.limits.events };
+
+    ghost first = { λ _. newcomer_first };
+}
+
+/// A shared table for the runs of one code: a counter, and for each event a cell, a place word and a slot for a parcel, and
+/// 16 heads of bags. Threads share it, and each makes its steps with a desk of its own.
+#[derive(Drop)]
+pub struct Space<P: Carry> {
+    pub(crate) table: Table<Option<P>, View, Key, Law<P>, Global>,
+    pub(crate) events: u32,
+    ghost sized: { (table.shared.key.limits.events ≡ events) × (table.shared.table_id.words ≡ 1 + 18 * events) × (table.shared.table_id.slots ≡ events) × (0 < events) × (events ≤ 65536) },
+}
+
+/// A seat at the table: what its view says it keeps and has in hand. Between two calls no slot is out with it.
+#[derive(Drop)]
+pub struct Desk<P> {
+    pub(crate) seat: Seat<Option<P>, View>,
+    // The head that the last link read, as a word: 0 for none, else the number plus 1.
+    pub(crate) above: u64,
+    ghost settled: { (seat.me.1 ≡ []) × (above ≡ link_of seat.me.0.above) × (above < 65537) × (seat.me.0.placing ≡ None) × (seat.me.0.posting ≡ None) × (seat.me.0.starting ≡ None) },
+}
+
+/// The counter had reached the limit on events, and the entry was not drawn.
+#[derive(Clone, Copy, Debug, PartialEq, Eq, Drop)]
+pub struct Spent;
+
+impl<P: Carry> Space<P> {
+    ghost use Rattle.chord_space.specs.Desks.{view, code_of, limits_of, IsDeskOf};
+
+    /// A table for the runs of the code under these limits, and its first desk. It takes memory for 18 words and a slot an event.
+    pub fn make(
+        alloc: Global,
+        code: &Code,
+        limits: &Limits,
+    ) -> Result<(Space<P>, Desk<P>), AllocError>
+        requires events { (0 < limits.now.events) × (limits.now.events ≤ 65536) }
+        requires depth { (0 < limits.now.depth) × (limits.now.depth ≤ 256) }
+        requires sound { IsSoundCode code.now }
+        ensures { IfOk result (λ r. (code_of r.0 ≡ code.now) × (limits_of r.0 ≡ limits.now) × IsDeskOf r.0 r.1 × (view r.1 ≡ newcomer_first)) }
+    {
+        let _ = code.parts();
+        let events = limits.events;
+        let count = events as usize;
+        let words = vec![in alloc; 0u64; 1 + 18 * count]?;
+        let key = Key {
+            code: Snapshot::of(code),
+            limits: *limits,
+        };
+        let (table, seat) = Table::vacant(alloc, words.as_slice(), count, &key)?;
+        Ok((Space { table, events }, Desk { seat, above: 0 }))
+    }
+}

@@ -1,0 +1,204 @@
+-- The task as a whole, before and after its calls.
+use Rattle.std.proofs.Common.{◌≡◌, ℕ, ◌+◌, true, false, List, [], ◌∷◌, ◌++◌, length, Option, Some, None, refl, sym, ap, ◌∙◌, subst, arith, Vec, Global, vec_len, vec_capacity}
+use Rattle.std.specs.Prelude.{reverse, Result, Ok, Err, OnOk}
+use Rattle.std.proofs.lemmas.List.{reverse-append}
+use Rattle.chord_base.specs.declared.value.Value.{Value}
+use Rattle.chord_base.specs.declared.event.End.{End}
+use Rattle.chord_base.specs.declared.event.End.TheVariants.{Gives, Traps}
+use Rattle.chord_base.specs.declared.event.Entry.{Entry}
+use Rattle.chord_base.specs.declared.event.Limits.{Limits}
+use Rattle.chord_base.specs.declared.event.What.{What}
+use Rattle.chord_base.specs.declared.event.What.TheVariants.{Ended}
+use Rattle.chord_base.specs.Bodies.{Absent, Unplaced, doing, asked as asks_of}
+use Rattle.chord_base.specs.Printed.{is_end}
+use Rattle.chord_base.specs.Story.{IsTold, IsDefined as StaysDefinedAt}
+use Rattle.chord_code.specs.declared.parts.Parts.{Parts}
+use Rattle.chord_code.specs.Machine.{IsForward}
+use Rattle.chord_code.specs.Meaning.{code_program, stands}
+use Rattle.chord_task.specs.declared.body.Next.TheVariants as N
+use Rattle.chord_task.specs.declared.body.Body.{Body}
+use Rattle.chord_task.specs.declared.task.Task.{Task}
+use Rattle.chord_task.specs.Stacks.{IsTask, task_noted}
+use Rattle.chord_task.specs.Arguments.{MayBeList}
+use Rattle.chord_task.specs.Standing.{body_number, view_of, NextIs, IsTop, IsBodyStack, IsResumable, HasRoomIf, HasRoomFor, IsTaskOf, given_of, given_by, answer_of, MayAnswer, AnsweredWith, CalledBack, IsReadyFor, MayNote}
+use Rattle.chord_task.proofs.Standing.{entry, noted_answer_fits}
+use Rattle.chord_task.proofs.Notes.{stack_view, gave_up, note_gave, note_last, note_end, back_top}
+
+-- one more entry at the end stands first, the newest first
+pub one_more : (xs ys : List Entry) (e : Entry) → ys ≡ xs ++ e ∷ [] → reverse ys ≡ e ∷ reverse xs
+one_more xs ys e i = ap reverse i ∙ reverse-append xs (e ∷ [])
+
+-- a task gave one ask
+pub same_what : (t : Task) (b : Body) (v w : What) → t.top ≡ Some b → given_of b.next ≡ Some w → given_by t.top ≡ Some v → v ≡ w
+same_what t b v w top e g = (let z : Some v ≡ Some w = sym g ∙ ap given_by top ∙ e in cc)
+
+-- the parts of a task, where a body is on top
+pub stack_at : (code : Parts) (limits : Limits) (t : Task) (b : Body) → IsTaskOf code limits t → t.top ≡ Some b → IsBodyStack code limits (view_of t).past (Some b) (reverse t.below.items)
+stack_at code limits t b k top = subst (λ z. IsBodyStack code limits (view_of t).past z (reverse t.below.items)) top k.stack
+
+-- the stack of a task whose body on top is this one
+pub task_at : (code : Parts) (limits : Limits) (t : Task) (b : Body) → IsTaskOf code limits t → t.top ≡ Some b → IsTask (code_program code limits) (stack_view (view_of t).past (Some b.number))
+task_at code limits t b k top = subst (λ z. IsTask (code_program code limits) (stack_view (view_of t).past z)) (ap body_number top) k.task
+
+stays_at : (code : Parts) (limits : Limits) (t : Task) (b : Body) (n : ℕ) (w : What) (may : MayNote code limits t n) → t.top ≡ Some b → may.what ≡ w → (c : ℕ) → StaysDefinedAt (code_program code limits) (doing (code_program code limits) (entry n b.number w ∷ (view_of t).past) c)
+stays_at code limits t b n w may top e c =
+    subst (λ z. StaysDefinedAt (code_program code limits) (doing (code_program code limits) (entry n b.number z ∷ (view_of t).past) c)) e (may.stays b.number (ap body_number top) c)
+
+given_gave : (b : Body) (w : What) → b.next ≡ N.Gave w → given_of b.next ≡ Some w
+given_gave b w e = ap given_of e
+
+-- a body that holds its end gave it
+pub given_ends : (b : Body) (x y : End) → b.next ≡ N.Ends x y → given_of b.next ≡ Some (Ended x)
+given_ends b x y e = ap given_of e
+
+-- what the note of an ask needs
+pub may_answer : (code : Parts) (limits : Limits) (t : Task) (b : Body) (n : ℕ) (w : What) → IsTaskOf code limits t → MayNote code limits t n → t.top ≡ Some b → b.next ≡ N.Gave w → MayAnswer (answer_of n w) b.frames
+may_answer code limits t b n w k may top e = by_value (answer_of n w) refl
+  where
+    by_value : (o : Option Value) → answer_of n w ≡ o → MayAnswer o b.frames
+    by_value None a = tt
+    by_value (Some v) a =
+        let s = stack_at code limits t b k top in
+        let u = gave_up code limits (view_of t).past b w e s.0 in
+        let i = same_what t b may.what w top (given_gave b w e) may.gave in (
+          subst IsReadyFor top may.reserved.top,
+          noted_answer_fits code limits (view_of t).past b n w v u e a (stays_at code limits t b n w may top i b.number),
+        )
+
+-- the task after its ask became an entry
+pub task_gave : (code : Parts) (limits : Limits) (t : Task) (past : Vec Entry Global) (b b' : Body) (n : ℕ) (w : What) → IsTaskOf code limits t → (may : MayNote code limits t n) → t.top ≡ Some b → b.next ≡ N.Gave w → b'.number ≡ b.number → AnsweredWith (answer_of n w) n b.frames b' → past.items ≡ t.past.items ++ entry n b.number w ∷ [] → vec_len past ≡ vec_len t.past + 1 → vec_capacity past ≡ vec_capacity t.past → IsTaskOf code limits (record { past = past; top = Some b'; below = t.below; spare = t.spare; values = t.values; limits = t.limits }) × task_noted (view_of t) n may.what (view_of (record { past = past; top = Some b'; below = t.below; spare = t.spare; values = t.values; limits = t.limits })) × (is_end may.what ≡ false → (view_of (record { past = past; top = Some b'; below = t.below; spare = t.spare; values = t.values; limits = t.limits })).top ≡ (view_of t).top)
+task_gave code limits t past b b' n w k may top e i r items len capacity =
+    let p = code_program code limits in
+    let h = (view_of t).past in
+    let new : reverse past.items ≡ entry n b.number w ∷ h = one_more t.past.items past.items (entry n b.number w) items in
+    let j = same_what t b may.what w top (given_gave b w e) may.gave in
+    let whole = note_gave code k.forward limits h b b' (reverse t.below.items) n w (task_at code limits t b k top) (stack_at code limits t b k top) may.above e i r (subst IsReadyFor top may.reserved.top) in (
+      record {
+        forward = k.forward;
+        kept = k.kept;
+        kept_values = k.kept_values;
+        limited = k.limited;
+        task = subst (λ z. IsTask p (stack_view z (Some b'.number))) (sym new) whole.task;
+        is_defined = λ c. subst (λ z. StaysDefinedAt p (doing p z c)) (sym new) (stays_at code limits t b n w may top j c);
+        stack = subst (λ z. IsBodyStack code limits z (Some b') (reverse t.below.items)) (sym new) whole.stack;
+        room =
+            λ q z.
+            record {
+              past = (let l = may.reserved.past in omega (arith, l, len, capacity));
+              below = may.reserved.below;
+              frames = may.reserved.frames;
+              spare = may.reserved.spare;
+              room = may.reserved.room;
+              values = may.reserved.values;
+            };
+      },
+      (b.number, ap body_number top, subst (λ z. reverse past.items ≡ entry n b.number z ∷ h) (sym j) new),
+      λ z. ap Some i ∙ sym (ap body_number top),
+    )
+
+-- the last body of a task ends
+pub task_last : (code : Parts) (limits : Limits) (t : Task) (past : Vec Entry Global) (below : Vec Body Global) (b : Body) (n : ℕ) (x y : End) → IsTaskOf code limits t → (may : MayNote code limits t n) → t.top ≡ Some b → b.next ≡ N.Ends x y → t.below.items ≡ [] → below.items ≡ [] → past.items ≡ t.past.items ++ entry n b.number (Ended x) ∷ [] → vec_len past ≡ vec_len t.past + 1 → vec_capacity past ≡ vec_capacity t.past → vec_len below ≡ vec_len t.below → vec_capacity below ≡ vec_capacity t.below → IsTaskOf code limits (record { past = past; top = None; below = below; spare = t.spare; values = t.values; limits = t.limits }) × task_noted (view_of t) n may.what (view_of (record { past = past; top = None; below = below; spare = t.spare; values = t.values; limits = t.limits })) × (is_end may.what ≡ false → (view_of (record { past = past; top = None; below = below; spare = t.spare; values = t.values; limits = t.limits })).top ≡ (view_of t).top)
+task_last code limits t past below b n x y k may top e none left items len capacity long room =
+    let p = code_program code limits in
+    let h = (view_of t).past in
+    let new : reverse past.items ≡ entry n b.number (Ended x) ∷ h = one_more t.past.items past.items (entry n b.number (Ended x)) items in
+    let j = same_what t b may.what (Ended x) top (given_ends b x y e) may.gave in
+    let s = subst (λ (z : List Body). IsBodyStack code limits h (Some b) (reverse z)) none (stack_at code limits t b k top) in
+    let whole = note_last code limits h b n x y (task_at code limits t b k top) s may.above e in (
+      record {
+        forward = k.forward;
+        kept = k.kept;
+        kept_values = k.kept_values;
+        limited = k.limited;
+        task = subst (λ z. IsTask p (stack_view z None)) (sym new) whole.task;
+        is_defined = λ c. subst (λ z. StaysDefinedAt p (doing p z c)) (sym new) (stays_at code limits t b n (Ended x) may top j c);
+        stack = ap reverse left;
+        room =
+            record {
+              past = (let l = may.reserved.past in omega (arith, l, len, capacity));
+              below = (let l = may.reserved.below in omega (arith, l, long, room));
+              frames = may.reserved.frames;
+              spare = may.reserved.spare;
+              room = may.reserved.room;
+              values = may.reserved.values;
+            };
+      },
+      (b.number, ap body_number top, subst (λ z. reverse past.items ≡ entry n b.number z ∷ h) (sym j) new),
+      λ z. let x : true ≡ false = sym (ap is_end j) ∙ z in cc,
+    )
+
+back_number : (x : End) (c c' : Body) → CalledBack x c c' → c'.number ≡ c.number
+back_number (Gives v) c c' r = r.0
+back_number (Traps t) c c' r = r.0
+
+back_next : (x : End) (c c' : Body) (q : ℕ) → CalledBack x c c' → c'.next ≡ N.Waits q → ⊥
+back_next (Gives v) c c' q r e = (let z : N.Runs ≡ N.Waits q = sym r.1.0 ∙ e in cc)
+back_next (Traps t) c c' q r e = (let z : N.Fails t ≡ N.Waits q = sym r.1 ∙ e in cc)
+
+last_of : (below rest : List Body) (c : Body) → below ≡ rest ++ c ∷ [] → reverse below ≡ c ∷ reverse rest
+last_of below rest c e = ap reverse e ∙ reverse-append rest (c ∷ [])
+
+-- the last of the bodies below is the caller
+pub caller_at : (code : Parts) (limits : Limits) (t : Task) (rest : List Body) (b c : Body) → IsTaskOf code limits t → t.top ≡ Some b → t.below.items ≡ rest ++ c ∷ [] → IsBodyStack code limits (view_of t).past (Some b) (c ∷ reverse rest)
+caller_at code limits t rest b c k top e = subst (λ z. IsBodyStack code limits (view_of t).past (Some b) z) (last_of t.below.items rest c e) (stack_at code limits t b k top)
+
+-- a body ends, and its caller goes on
+pub task_back : (code : Parts) (limits : Limits) (t : Task) (past : Vec Entry Global) (below : Vec Body Global) (b c c' : Body) (n : ℕ) (x y : End) → IsTaskOf code limits t → (may : MayNote code limits t n) → t.top ≡ Some b → b.next ≡ N.Ends x y → t.below.items ≡ below.items ++ c ∷ [] → CalledBack y c c' → past.items ≡ t.past.items ++ entry n b.number (Ended x) ∷ [] → IsTaskOf code limits (record { past = past; top = Some c'; below = below; spare = t.spare; values = t.values; limits = t.limits }) × task_noted (view_of t) n may.what (view_of (record { past = past; top = Some c'; below = below; spare = t.spare; values = t.values; limits = t.limits })) × (is_end may.what ≡ false → (view_of (record { past = past; top = Some c'; below = below; spare = t.spare; values = t.values; limits = t.limits })).top ≡ (view_of t).top)
+task_back code limits t past below b c c' n x y k may top e parts back items =
+    let p = code_program code limits in
+    let h = (view_of t).past in
+    let new : reverse past.items ≡ entry n b.number (Ended x) ∷ h = one_more t.past.items past.items (entry n b.number (Ended x)) items in
+    let j = same_what t b may.what (Ended x) top (given_ends b x y e) may.gave in
+    let s = caller_at code limits t below.items b c k top parts in
+    let u = gave_ends code limits h b x y e s.0 in
+    let r = subst (λ z. CalledBack z c c') u back in
+    let whole = note_end code limits h b c c' (reverse below.items) n x y (task_at code limits t b k top) s may.above e r (back_number x c c' r) (back_top code limits h b c c' (reverse below.items) n x y s r) in (
+      record {
+        forward = k.forward;
+        kept = k.kept;
+        kept_values = k.kept_values;
+        limited = k.limited;
+        task = subst (λ z. IsTask p (stack_view z (Some c'.number))) (sym new) whole.task;
+        is_defined = λ d. subst (λ z. StaysDefinedAt p (doing p z d)) (sym new) (stays_at code limits t b n (Ended x) may top j d);
+        stack = subst (λ z. IsBodyStack code limits z (Some c') (reverse below.items)) (sym new) whole.stack;
+        room = λ q z. absurd (back_next x c c' q r z);
+      },
+      (b.number, ap body_number top, subst (λ z. reverse past.items ≡ entry n b.number z ∷ h) (sym j) new),
+      λ z. let x : true ≡ false = sym (ap is_end j) ∙ z in cc,
+    )
+  where
+    gave_ends : (code : Parts) (limits : Limits) (h : List Entry) (b : Body) (x y : End) → b.next ≡ N.Ends x y → IsTop code limits h b.next b → y ≡ x
+    gave_ends code limits h b x y e t =
+        let u = subst (λ n. IsTop code limits h n b) e t in
+        let i = subst (λ n. NextIs code limits n b.frames (stands code limits u.start u.depth u.answers)) e u.next in i.2
+
+-- a list of no length is empty
+pub no_length : {A : Type 0} (xs : List A) → length xs ≡ 0 → xs ≡ []
+no_length [] e = refl
+no_length (x ∷ xs) e = absurd (omega (arith, e))
+
+-- what follows from an answer that is there
+pub on_ok : {A B : Type 0} (P Q : Type 0) (r : Result A B) → (P → Q) → OnOk r P → OnOk r Q
+on_ok P Q (Ok x) f p = f p
+on_ok P Q (Err e) f p = tt
+
+-- a task without a body, with room for one
+pub spare_task : (code : Parts) (limits : Limits) (t : Task) → IsForward code → t.limits ≡ limits → t.top ≡ None → t.past.items ≡ [] → t.below.items ≡ [] → IsResumable code t → HasRoomFor code t.limits t.spare → MayBeList t.values → IsTaskOf code limits t
+spare_task code limits t forward limited top past below room kept list =
+    let p = code_program code limits in
+    let none : (view_of t).past ≡ [] = ap reverse past in
+    record {
+      forward = forward;
+      limited = limited;
+      task =
+          record {
+            told = subst (λ (h : List Entry). IsTold p h) (sym none) tt;
+            quiet = λ b d. ap (λ (h : List Entry). asks_of p (doing p h b)) none;
+            placed = λ b u. let z : Absent ≡ Unplaced = sym (ap (λ (h : List Entry). doing p h b) none) ∙ u in cc;
+          };
+      is_defined = λ b. subst (λ (h : List Entry). StaysDefinedAt p (doing p h b)) (sym none) tt;
+      stack = subst (λ z. IsBodyStack code limits (view_of t).past z (reverse t.below.items)) (sym top) (ap reverse below);
+      room = subst (λ z. HasRoomIf code t z) (sym top) room;
+      kept = kept;
+      kept_values = list;
+    }

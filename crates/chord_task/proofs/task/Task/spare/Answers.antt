@@ -1,0 +1,27 @@
+use Rattle.std.proofs.Common.{arith, refl}
+use Rattle.chord_code.proofs.Validity.{valid_forward}
+use Rattle.chord_task.proofs.Tasks.{spare_task}
+use Rattle.chord_task.proofs.task.Task.spare.Goals as goal
+
+pub returns-clause-room : goal.returns-clause-room
+returns-clause-room c = record {
+  past = omega (arith, c.in_ok-past.ensures.len, c.in_ok-past.ensures.exact);
+  below = omega (arith, c.in_ok-below.ensures.len, c.in_ok-below.ensures.exact);
+  frames = c.in_ok-frames.frames;
+  spare = refl;
+  room = record { room = c.in_ok-frames.ensures.room; limited = c.in_ok-frames.ensures.limits };
+  values = record { bare = c.in_ok-values.ensures.items; wide = omega (arith, c.in_ok-values.ensures.exact) };
+}
+
+pub returns-clause-task : goal.returns-clause-task
+returns-clause-task c =
+    spare_task c.args.code.now c.args.limits.now _ (valid_forward c.args.code.now c.parts-parts.ensures.valid) refl refl c.in_ok-past.ensures.items c.in_ok-below.ensures.items (record {
+      past = omega (arith, c.in_ok-past.ensures.len, c.in_ok-past.ensures.exact);
+      below = omega (arith, c.in_ok-below.ensures.len, c.in_ok-below.ensures.exact);
+      frames = c.in_ok-frames.frames;
+      spare = refl;
+      room = record { room = c.in_ok-frames.ensures.room; limited = c.in_ok-frames.ensures.limits };
+      values = record { bare = c.in_ok-values.ensures.items; wide = omega (arith, c.in_ok-values.ensures.exact) };
+    })
+    (record { room = c.in_ok-frames.ensures.room; limited = c.in_ok-frames.ensures.limits })
+    (record { bare = c.in_ok-values.ensures.items; wide = omega (arith, c.in_ok-values.ensures.exact) })

@@ -1,0 +1,9 @@
+-- ## What callers read
+-- the arguments of messages, held twice
+pub mod Arguments
+-- stacks of bodies of any program
+pub mod Stacks
+-- what the bodies of a task stand for
+pub mod Standing
+-- what a parcel keeps and holds
+pub mod Parcels

@@ -1,0 +1,313 @@
+-- What the bodies of a task stand for: where the code of each stands after the answers that its story has.
+use Rattle.std.specs.Prelude.{◌≡◌, ◌≢◌, ◌+◌, ◌-◌, ◌<◌, ◌≤◌, vec_len, vec_capacity, ℕ, List, [], ◌∷◌, Bool, true, false, ◌==◌, Option, Some, None, reverse, IsSome}
+use Rattle.chord_base.specs.declared.value.Object.{Object}
+use Rattle.chord_base.specs.declared.value.Value.{Value}
+use Rattle.chord_base.specs.declared.value.Value.TheVariants as a_value
+use Rattle.chord_base.specs.declared.event.End.{End}
+use Rattle.chord_base.specs.declared.event.End.TheVariants.{Gives, Traps}
+use Rattle.chord_base.specs.declared.event.Entry.{Entry}
+use Rattle.chord_base.specs.declared.event.Limits.{Limits}
+use Rattle.chord_base.specs.declared.event.What.{What}
+use Rattle.chord_base.specs.declared.event.What.TheVariants.{Begun, Made, Sent, Called, Printed, Fired, Ended}
+use Rattle.chord_base.specs.Meaning.{Start, Main}
+use Rattle.chord_base.specs.Bodies.{Ready, Waits, doing, serves}
+use Rattle.chord_base.specs.Story.{AllBelow, IsOwn, IsDefined as StaysDefinedAt}
+use Rattle.chord_code.specs.declared.parts.Parts.{Parts}
+use Rattle.chord_code.specs.declared.awaited.Awaited.TheVariants.{ForValue}
+use Rattle.chord_code.specs.Machine.{Machine, Asking, with_answer, ComesToAsk, IsForward}
+use Rattle.chord_code.specs.Fuel.{comes_to}
+use Rattle.chord_code.specs.Meaning.{Point, At, FailsBy, code_program, stands, asked_of}
+use Rattle.chord_vm.specs.declared.frames.Frames.{Frames}
+use Rattle.chord_vm.specs.Frames.{machine_of, waiting_of, what_of_ask, Advanced, IsReady, IsRoomFor}
+use Rattle.chord_vm.specs.declared.ask.Ask.{Ask}
+use Rattle.chord_task.specs.Arguments.{IsList, MayBeList}
+use Rattle.chord_base.specs.Printed.{is_end}
+use Rattle.chord_task.specs.declared.body.Next.{Next}
+use Rattle.chord_task.specs.declared.body.Next.TheVariants as N
+use Rattle.chord_task.specs.declared.body.Body.{Body}
+use Rattle.chord_task.specs.declared.task.Task.{Task}
+use Rattle.chord_task.specs.Stacks.{TaskView, IsTask, StaysDefined, BeginsDefined, MayBeginBody}
+
+-- the number of a body, if there is one
+abbrev pub body_number : Option Body → Option ℕ
+body_number None = None
+body_number (Some b) = Some b.number
+
+-- the past with its newest entry first, and the body on top
+abbrev pub view_of : Task → TaskView
+view_of t = record { past = reverse t.past.items; top = body_number t.top }
+
+-- the ask of a body at this point is this one, and its frames wait for the answer
+abbrev pub GaveAt : Parts → What → Frames → Point → Type 0
+GaveAt code w f point = (m : Machine) × (point ≡ At m) × (comes_to code m ≡ Asking w (waiting_of f))
+
+-- what the state of a body says of the point where it stands
+abbrev pub NextIs : Parts → Limits → Next → Frames → Point → Type 0
+NextIs code limits N.Runs f point = point ≡ At (machine_of f)
+NextIs code limits (N.Gave (Ended e)) f point = ⊥
+NextIs code limits (N.Gave Begun) f point = ⊥
+NextIs code limits (N.Gave (Fired k o ms vs)) f point = ⊥
+NextIs code limits (N.Gave (Made c)) f point = GaveAt code (Made c) f point
+NextIs code limits (N.Gave (Sent o j vs)) f point = GaveAt code (Sent o j vs) f point
+NextIs code limits (N.Gave (Called o j vs)) f point = GaveAt code (Called o j vs) f point
+NextIs code limits (N.Gave (Printed t)) f point = GaveAt code (Printed t) f point
+NextIs code limits (N.Ends e e') f point = (l : ℕ) × (asked_of code limits point ≡ Some (record { what = Ended e; depth = l })) × (e' ≡ e)
+NextIs code limits (N.Fails t) f point = point ≡ FailsBy t
+NextIs code limits (N.Waits q) f point = ⊥
+
+-- a body that may make its next entry
+pub record IsUp (code : Parts) (limits : Limits) (h : List Entry) (b : Body) : Type 0 where
+  pub start : Start
+  pub depth : ℕ
+  pub answers : List End
+  pub is : doing (code_program code limits) h b.number ≡ Ready start depth answers
+  pub next : NextIs code limits b.next b.frames (stands code limits start depth answers)
+
+-- a body that waits for this call, with room for its answer
+pub record IsParked (code : Parts) (limits : Limits) (h : List Entry) (b : Body) (q : ℕ) : Type 0 where
+  pub start : Start
+  pub depth : ℕ
+  pub answers : List End
+  pub machine : Machine
+  pub what : What
+  pub waits : b.next ≡ N.Waits q
+  pub is : doing (code_program code limits) h b.number ≡ Waits start depth answers q (limits.depth - b.frames.top.room)
+  pub at : stands code limits start depth answers ≡ At machine
+  pub comes : comes_to code machine ≡ Asking what (waiting_of b.frames)
+  pub awaited : b.frames.awaited ≡ ForValue
+  pub ready : IsReady ForValue b.frames
+
+-- what is known of the body on top: it waits for a call, or may make its next entry
+abbrev pub IsTop : Parts → Limits → List Entry → Next → Body → Type 0
+IsTop code limits h (N.Waits q) b = IsParked code limits h b q
+IsTop code limits h N.Runs b = IsUp code limits h b
+IsTop code limits h (N.Gave w) b = IsUp code limits h b
+IsTop code limits h (N.Ends e e') b = IsUp code limits h b
+IsTop code limits h (N.Fails t) b = IsUp code limits h b
+
+-- each body waits for the call that the one above it serves; the topmost stands first
+abbrev pub AreParked : Parts → Limits → List Entry → Option ℕ → ℕ → List Body → Type 0
+AreParked code limits h call above [] = call ≡ None
+AreParked code limits h call above (b ∷ bs) =
+    ((q : ℕ) × (call ≡ Some q) × IsParked code limits h b q) × (b.number < above)
+    × AreParked code limits h (serves (code_program code limits) b.number h) b.number bs
+
+-- what is known of a stack of bodies
+abbrev pub IsBodyStack : Parts → Limits → List Entry → Option Body → List Body → Type 0
+IsBodyStack code limits h None bs = bs ≡ []
+IsBodyStack code limits h (Some b) bs =
+    IsTop code limits h b.next b × AreParked code limits h (serves (code_program code limits) b.number h) b.number bs
+
+-- frames of no body for this code under these limits, with room for each block
+pub record IsSpareOf (code : Parts) (limits : Limits) (f : Frames) : Type 0 where
+  pub room : IsRoomFor code f
+  pub limited : f.limits ≡ limits
+
+-- there is room for a firing
+pub record IsResumable (code : Parts) (t : Task) : Type 0 where
+  pub past : vec_len t.past < vec_capacity t.past
+  pub below : vec_len t.below < vec_capacity t.below
+  pub frames : Frames
+  pub spare : t.spare ≡ Some frames
+  pub room : IsSpareOf code t.limits frames
+  pub values : IsList t.values
+
+-- there is room for a firing, if this body on top waits for one, or none is left
+abbrev pub HasRoomIf : Parts → Task → Option Body → Type 0
+HasRoomIf code t None = IsResumable code t
+HasRoomIf code t (Some b) = (q : ℕ) → b.next ≡ N.Waits q → IsResumable code t
+
+-- frames in stock are for this code under these limits
+abbrev pub HasRoomFor : Parts → Limits → Option Frames → Type 0
+HasRoomFor code limits None = Unit {0}
+HasRoomFor code limits (Some f) = IsSpareOf code limits f
+
+-- a task of this code under these limits
+pub record IsTaskOf (code : Parts) (limits : Limits) (t : Task) : Type 0 where
+  pub forward : IsForward code
+  pub limited : t.limits ≡ limits
+  pub task : IsTask (code_program code limits) (view_of t)
+  pub is_defined : (b : ℕ) → StaysDefinedAt (code_program code limits) (doing (code_program code limits) (view_of t).past b)
+  pub stack : IsBodyStack code limits (view_of t).past t.top (reverse t.below.items)
+  pub room : HasRoomIf code t t.top
+  pub kept : HasRoomFor code t.limits t.spare
+  pub kept_values : MayBeList t.values
+
+-- the body can go on to an ask
+abbrev pub IsRunnable : Parts → Body → Type 0
+IsRunnable code b = (b.next ≡ N.Runs → ComesToAsk code (machine_of b.frames)) × ((q : ℕ) → b.next ≡ N.Waits q → ⊥)
+
+-- what a body does next once it came to this ask
+abbrev pub GivenBy : What → Next → Type 0
+GivenBy (Ended e) n = n ≡ N.Ends e e
+GivenBy Begun n = n ≡ N.Gave Begun
+GivenBy (Made c) n = n ≡ N.Gave (Made c)
+GivenBy (Sent o j vs) n = n ≡ N.Gave (Sent o j vs)
+GivenBy (Called o j vs) n = n ≡ N.Gave (Called o j vs)
+GivenBy (Printed t) n = n ≡ N.Gave (Printed t)
+GivenBy (Fired k o ms vs) n = n ≡ N.Gave (Fired k o ms vs)
+
+-- the frames of a body ran on to its ask
+abbrev pub HasRun : Parts → Frames → Body → Type 0
+HasRun code f b = (a : Ask) × Advanced code (machine_of f) a b.frames × GivenBy (what_of_ask a) b.next
+
+-- how a body comes to its ask
+abbrev pub AskedBy : Parts → Next → Body → Body → Type 0
+AskedBy code N.Runs b b' = HasRun code b.frames b'
+AskedBy code (N.Gave w) b b' = b' ≡ b
+AskedBy code (N.Ends e e') b b' = b' ≡ b
+AskedBy code (N.Fails t) b b' = b'.next ≡ N.Ends (Traps t) (Traps t)
+AskedBy code (N.Waits q) b b' = ⊥
+
+-- the body after it came to its ask
+pub record AskedBody (code : Parts) (b b' : Body) : Type 0 where
+  pub number : b'.number ≡ b.number
+  pub by : AskedBy code b.next b b'
+
+-- the body gave an ask
+abbrev pub IsAskGiven : Next → Type 0
+IsAskGiven (N.Gave w) = IsOwn w × (is_end w ≡ false)
+IsAskGiven (N.Ends e e') = Unit {0}
+IsAskGiven N.Runs = ⊥
+IsAskGiven (N.Fails t) = ⊥
+IsAskGiven (N.Waits q) = ⊥
+
+-- the ask that a body gave
+abbrev pub given_of : Next → Option What
+given_of N.Runs = None
+given_of (N.Gave w) = Some w
+given_of (N.Ends e e') = Some (Ended e)
+given_of (N.Fails t) = None
+given_of (N.Waits q) = None
+
+-- the ask that a body gave, if there is a body
+abbrev pub given_by : Option Body → Option What
+given_by None = None
+given_by (Some b) = given_of b.next
+
+-- the task gave this ask
+abbrev pub HasGiven : Task → What → Type 0
+HasGiven t w = given_by t.top ≡ Some w
+
+-- a body may go on: it does not wait for a call
+abbrev pub may_go : Next → Bool
+may_go N.Runs = true
+may_go (N.Gave w) = true
+may_go (N.Ends e e') = true
+may_go (N.Fails t) = true
+may_go (N.Waits q) = false
+
+-- there is a body, and it may go on
+abbrev pub body_may_go : Option Body → Bool
+body_may_go None = false
+body_may_go (Some b) = may_go b.next
+
+-- a body is left, and the top one does not wait
+abbrev pub is_ready_of : Task → Bool
+is_ready_of t = body_may_go t.top
+
+-- a body waits for this call
+abbrev pub waits_on : ℕ → Next → Bool
+waits_on q N.Runs = false
+waits_on q (N.Gave w) = false
+waits_on q (N.Ends e e') = false
+waits_on q (N.Fails t) = false
+waits_on q (N.Waits c) = c == q
+
+-- there is a body, and it waits for this call
+abbrev pub body_waits : ℕ → Option Body → Bool
+body_waits q None = false
+body_waits q (Some b) = waits_on q b.next
+
+-- the body on top of a task waits for this call
+abbrev pub waits_of : ℕ → Task → Bool
+waits_of q t = body_waits q t.top
+
+-- the value that answers an ask whose entry has this number; none for a call, which is with_answer by an end
+abbrev pub answer_of : ℕ → What → Option Value
+answer_of n (Made c) = Some (a_value.Ref (record { number = n; class = c }))
+answer_of n (Sent o j vs) = Some a_value.Unit
+answer_of n (Printed t) = Some a_value.Unit
+answer_of n (Called o j vs) = None
+answer_of n Begun = None
+answer_of n (Fired k o ms vs) = None
+answer_of n (Ended e) = None
+
+-- frames can be answered by this value, if there is one
+abbrev pub MayAnswer : Option Value → Frames → Type 0
+MayAnswer None f = Unit {0}
+MayAnswer (Some v) f = IsReady f.awaited f × (with_answer (machine_of f) f.awaited v ≢ None)
+
+-- the body that was answered by this value runs on; one that was not waits for the call of this number
+abbrev pub AnsweredWith : Option Value → ℕ → Frames → Body → Type 0
+AnsweredWith None n f b = (b.next ≡ N.Waits n) × (b.frames ≡ f)
+AnsweredWith (Some v) n f b = (b.next ≡ N.Runs) × (with_answer (machine_of f) f.awaited v ≡ Some (machine_of b.frames))
+
+-- the caller after the end of the body that it called
+abbrev pub CalledBack : End → Body → Body → Type 0
+CalledBack (Gives v) b b' = (b'.number ≡ b.number) × AnsweredWith (Some v) 0 b.frames b'
+CalledBack (Traps t) b b' = (b'.number ≡ b.number) × (b'.next ≡ N.Fails t)
+
+-- there is room for the answer of a body, if there is a body
+abbrev pub IsReadyFor : Option Body → Type 0
+IsReadyFor None = Unit {0}
+IsReadyFor (Some b) = IsReady b.frames.awaited b.frames
+
+-- there is room for the next note and for a firing after it
+pub record IsReserved (code : Parts) (t : Task) : Type 0 where
+  pub past : vec_len t.past + 2 ≤ vec_capacity t.past
+  pub below : vec_len t.below < vec_capacity t.below
+  pub frames : Frames
+  pub spare : t.spare ≡ Some frames
+  pub room : IsSpareOf code t.limits frames
+  pub values : IsList t.values
+  pub top : IsReadyFor t.top
+
+-- the ask that was given may become the entry of this number
+pub record MayNote (code : Parts) (limits : Limits) (t : Task) (n : ℕ) : Type 0 where
+  pub what : What
+  pub gave : HasGiven t what
+  pub reserved : IsReserved code t
+  pub stays : StaysDefined (code_program code limits) (view_of t) n what
+  pub above : AllBelow n (view_of t).past
+
+-- the firing of this number may begin its body
+pub record MayResume (code : Parts) (limits : Limits) (t : Task) (n k : ℕ) (o : Object) (ms : List ℕ) (vs : List Value) : Type 0 where
+  pub may : MayBeginBody (code_program code limits) (view_of t) k o ms vs
+  pub begins : BeginsDefined (code_program code limits) (view_of t) n k o ms vs
+  pub above : AllBelow n (view_of t).past
+  pub room : IsResumable code t
+
+-- an ask that is with_answer at its note, or later
+abbrev pub IsAnsweredByNote : What → Type 0
+IsAnsweredByNote (Made c) = Unit {0}
+IsAnsweredByNote (Sent o j vs) = Unit {0}
+IsAnsweredByNote (Printed t) = Unit {0}
+IsAnsweredByNote (Called o j vs) = Unit {0}
+IsAnsweredByNote Begun = ⊥
+IsAnsweredByNote (Fired k o ms vs) = ⊥
+IsAnsweredByNote (Ended e) = ⊥
+
+-- the ask that a task gave may become the entry of this number, for some code and limits of the task
+abbrev pub CanNote : Task → ℕ → Type 0
+CanNote t n = (code : Parts) × (limits : Limits) × IsTaskOf code limits t × MayNote code limits t n
+
+-- the room of a body that is put on top of this one
+abbrev pub room_of : Limits → Option Body → ℕ
+room_of limits None = limits.depth - 1
+room_of limits (Some b) = limits.depth - ((limits.depth - b.frames.top.room) + 1)
+
+-- the body on top with more room, and the same state
+abbrev pub IsRoomier : Body → Body → Type 0
+IsRoomier b b' = (b'.number ≡ b.number) × (b'.next ≡ b.next) × (machine_of b'.frames ≡ machine_of b.frames) × (b'.frames.awaited ≡ b.frames.awaited)
+
+-- the body on top, if there is one, with more room
+abbrev pub IsRoomierTop : Option Body → Option Body → Type 0
+IsRoomierTop None None = Unit {0}
+IsRoomierTop (Some b) (Some b') = IsRoomier b b'
+IsRoomierTop None (Some b') = ⊥
+IsRoomierTop (Some b) None = ⊥
+
+-- `Main` begins
+abbrev pub MainBegins : Parts → Limits → Type 0
+MainBegins code limits = IsSome ((code_program code limits).next Main 1 [])

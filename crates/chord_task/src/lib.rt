@@ -1,0 +1,14 @@
+//! Tasks: stacks of bodies, each waiting for the one above it, and the entries that they made.
+//! Stands on: chord_base (entries), chord_code (what a code means), chord_vm (the machine of a body). Used by: nobody.
+//! Promise: the past of a task is a story of its code; `note` and `resume` add exactly the entry that they are told, and take
+//! no memory.
+//! Not here: which body goes on next, and which chord fires (the engines).
+#![tactic(auto)]
+
+pub mod args;
+pub mod body;
+pub mod cross;
+pub mod parcel;
+pub mod task;
+#[cfg(test)]
+mod task_tests;

@@ -1,0 +1,391 @@
+//! A stack of bodies, each waiting for the one above it, and the entries that they made.
+#![tactic(auto)]
+
+ghost use Rattle.std.specs.Prelude.{◌≡◌, ◌≢◌, ℕ, ◌-◌, ◌≤◌, List, [], ◌∷◌, true, false, IfOk, OnOk, Some, None, length, slice_get, is_none, option_copied};
+ghost use Rattle.chord_base.specs.declared.event.Limits.{Limits as L};
+ghost use Rattle.chord_base.specs.declared.event.What.{What as W};
+ghost use Rattle.chord_base.specs.Printed.{is_end};
+ghost use Rattle.chord_code.specs.declared.parts.Parts.{Parts};
+ghost use Rattle.chord_code.specs.Meaning.{code_program, chord_lines};
+ghost use Rattle.chord_vm.specs.declared.frames.Frames.{Frames as F};
+ghost use Rattle.chord_vm.specs.Frames.{laid, what_of_ask};
+ghost use Rattle.chord_task.specs.Arguments.{firsts, AreTwice, MayBeList, IsList};
+ghost use Rattle.chord_task.specs.Stacks.{task_noted, task_begun, IsNext};
+ghost use Rattle.chord_task.specs.Standing.{view_of, IsTaskOf, HasGiven, IsReserved, IsResumable, MayNote, MayResume, is_ready_of, waits_of, room_of, given_by, IsRoomierTop, HasRoomFor, IsSpareOf, IsReadyFor, MainBegins, CanNote};
+
+use crate::args::{Args, part_all};
+use crate::body::{Body, Next, asked, called_back, given, noted_body};
+use chord_base::event::{Entry, Limits, What};
+use chord_base::hand::Hand;
+use chord_base::members::Members;
+use chord_base::value::{Object, Value};
+use chord_code::code::Code;
+use chord_code::parts::ChordLine;
+use chord_vm::ask::Ask;
+use chord_vm::frames::{Frames, begin, reserve as reserve_frames, spare as spare_frames};
+use std::alloc::{AllocError, Global};
+use std::mem;
+
+/// The most values of an entry.
+const MAX_ENTRY_VALUES: usize = 64;
+
+/// A stack of bodies, and what they did.
+#[derive(Drop)]
+pub struct Task {
+    /// The entries that its bodies made, the oldest first.
+    pub past: Vec<Entry>,
+    /// The body on top.
+    pub top: Option<Body>,
+    /// The bodies below it, each of which waits for the one above it.
+    pub below: Vec<Body>,
+    /// Frames for the next body.
+    pub spare: Option<Frames>,
+    /// A list for the values of the next firing's entry.
+    pub values: Option<Vec<Value>>,
+    /// The limits of its run.
+    pub limits: Limits,
+}
+
+/// The line of a chord of a class.
+fn line_of(code: &Code, class: u16, chord: u16) -> &ChordLine
+    requires { slice_get (chord_lines code.now class) chord ≢ None }
+    ensures { slice_get (chord_lines code.now class) chord ≡ Some result.now }
+{
+    match code.parts().classes.items().get(class as usize) {
+        None => unreachable!(),
+        Some(line) => match line.chords.items().get(chord as usize) {
+            None => unreachable!(),
+            Some(chord) => chord,
+        },
+    }
+}
+
+/// The depth of a body that is put on top of this one.
+fn depth_over(depth: u32, top: &Option<Body>) -> u32
+    ensures { (limits : L) → limits.depth ≡ depth → limits.depth - result ≡ room_of limits top.now }
+{
+    match top {
+        None => 1,
+        Some(body) => {
+            let place = (depth as usize).saturating_sub(body.frames.top.room);
+            (place as u32).saturating_add(1)
+        }
+    }
+}
+
+/// Sees to frames in stock.
+fn reserve_spare(
+    alloc: Global,
+    code: &Code,
+    limits: &Limits,
+    spare: &mut Option<Frames>,
+) -> Result<(), AllocError>
+    requires { HasRoomFor code.now limits.now spare.old }
+    ensures kept { HasRoomFor code.now limits.now spare.new }
+    ensures some { OnOk result ((f : F) × (spare.new ≡ Some f) × IsSpareOf code.now limits.now f) }
+{
+    match spare.take() {
+        None => {
+            *spare = Some(spare_frames(alloc, code, limits)?);
+            Ok(())
+        }
+        Some(frames) => {
+            *spare = Some(frames);
+            Ok(())
+        }
+    }
+}
+
+/// Sees to a list in stock.
+fn reserve_values(alloc: Global, values: &mut Option<Vec<Value>>) -> Result<(), AllocError>
+    requires { MayBeList values.old }
+    ensures kept { MayBeList values.new }
+    ensures some { OnOk result (IsList values.new) }
+{
+    match values.take() {
+        None => {
+            *values = Some(Vec::with_capacity(alloc, MAX_ENTRY_VALUES)?);
+            Ok(())
+        }
+        Some(list) => {
+            *values = Some(list);
+            Ok(())
+        }
+    }
+}
+
+/// Room for the answer of the body on top.
+fn reserve_top(alloc: Global, top: &mut Option<Body>) -> Result<(), AllocError>
+    ensures same { IsRoomierTop top.old top.new }
+    ensures ready { OnOk result (IsReadyFor top.new) }
+{
+    match top.take() {
+        None => Ok(()),
+        Some(body) => {
+            let mut body = body;
+            match reserve_frames(alloc, &mut body.frames) {
+                Ok(()) => {
+                    *top = Some(body);
+                    Ok(())
+                }
+                Err(error) => {
+                    *top = Some(body);
+                    Err(error)
+                }
+            }
+        }
+    }
+}
+
+impl Task {
+    #[tactic(auto, using(chord_code::proofs::Validity::valid_forward))]
+    /// Body 0, and the past that begins it.
+    pub fn main(alloc: Global, code: &Code, limits: &Limits) -> Result<Task, AllocError>
+        requires { MainBegins code.now limits.now }
+        ensures task { IfOk result (λ t. IsTaskOf code.now limits.now t) }
+        ensures past { IfOk result (λ t. (view_of t).past ≡ record { number = 0; body = 0; what = What.Begun } ∷ []) }
+        ensures top { IfOk result (λ t. (view_of t).top ≡ Some 0) }
+    {
+        let mut past = Vec::with_capacity(alloc, 1)?;
+        past.push_reserved(Entry {
+            number: 0,
+            body: 0,
+            what: What::Begun,
+        });
+        let _parts = code.parts();
+        let mut frames = spare_frames(alloc, code, limits)?;
+        begin(code, &mut frames, 0, Value::Unit, Hand::new(), 1);
+        Ok(Task {
+            past,
+            top: Some(Body {
+                number: 0,
+                frames,
+                next: Next::Runs,
+            }),
+            below: Vec::new(alloc),
+            spare: None,
+            values: None,
+            limits: *limits,
+        })
+    }
+
+    /// No body, and room for one.
+    pub fn spare(alloc: Global, code: &Code, limits: &Limits) -> Result<Task, AllocError>
+        ensures task { IfOk result (λ t. IsTaskOf code.now limits.now t) }
+        ensures past { IfOk result (λ t. (view_of t).past ≡ []) }
+        ensures top { IfOk result (λ t. (view_of t).top ≡ None) }
+        ensures room { IfOk result (λ t. IsResumable code.now t) }
+    {
+        let _parts = code.parts();
+        let past = Vec::with_capacity(alloc, 1)?;
+        let below = Vec::with_capacity(alloc, 1)?;
+        let values = Vec::with_capacity(alloc, MAX_ENTRY_VALUES)?;
+        let frames = spare_frames(alloc, code, limits)?;
+        Ok(Task {
+            past,
+            top: None,
+            below,
+            spare: Some(frames),
+            values: Some(values),
+            limits: *limits,
+        })
+    }
+
+    /// The next ask of the body on top. Asked again before a note, it gives the same.
+    ///
+    /// Where no memory is found the task can only give its past.
+    pub fn ask(&mut self, alloc: Global, code: &Code, limits: &Limits) -> Result<Ask, AllocError>
+        requires task { IsTaskOf code.now limits.now self.old }
+        requires left { is_ready_of self.old ≡ true }
+        ensures past { self.new.past ≡ self.old.past }
+        ensures task { IfOk result (λ _. IsTaskOf code.now limits.now self.new) }
+        ensures same { IfOk result (λ _. view_of self.new ≡ view_of self.old) }
+        ensures gave { IfOk result (λ ask. HasGiven self.new (what_of_ask ask)) }
+        ensures next { IfOk result (λ ask. IsNext (code_program code.now limits.now) (view_of self.old) (what_of_ask ask)) }
+        ensures again { IfOk result (λ ask. (w : W) → HasGiven self.old w → w ≡ what_of_ask ask) }
+    {
+        match self.top.take() {
+            None => unreachable!(),
+            Some(body) => {
+                let body = asked(alloc, code, body, limits)?;
+                match given(alloc, &body.next) {
+                    Ok(ask) => {
+                        self.top = Some(body);
+                        Ok(ask)
+                    }
+                    Err(error) => {
+                        self.top = Some(body);
+                        Err(error)
+                    }
+                }
+            }
+        }
+    }
+
+    /// The body on top comes to its next ask, and keeps it until it is noted. As `ask`, but copies nothing.
+    pub fn prepare(&mut self, alloc: Global, code: &Code, limits: &Limits) -> Result<(), AllocError>
+        requires task { IsTaskOf code.now limits.now self.old }
+        requires left { is_ready_of self.old ≡ true }
+        ensures past { self.new.past ≡ self.old.past }
+        ensures task { IfOk result (λ _. IsTaskOf code.now limits.now self.new) }
+        ensures same { IfOk result (λ _. view_of self.new ≡ view_of self.old) }
+        ensures gave { IfOk result (λ _. given_by self.new.top ≢ None) }
+    {
+        match self.top.take() {
+            None => unreachable!(),
+            Some(body) => {
+                let body = asked(alloc, code, body, limits)?;
+                self.top = Some(body);
+                Ok(())
+            }
+        }
+    }
+
+    /// Takes the room that the next note and the next resume need. Where there is none the task is as it was.
+    pub fn reserve(&mut self, alloc: Global, code: &Code) -> Result<(), AllocError>
+        requires task { (limits : L) × IsTaskOf code.now limits self.old }
+        requires left { is_ready_of self.old ≡ true }
+        ensures task { (limits : L) → IsTaskOf code.now limits self.old → IsTaskOf code.now limits self.new }
+        ensures same { view_of self.new ≡ view_of self.old }
+        ensures gave { given_by self.new.top ≡ given_by self.old.top }
+        ensures ready { OnOk result (IsReserved code.now self.new) }
+    {
+        self.past.reserve(2)?;
+        self.below.reserve(1)?;
+        reserve_spare(alloc, code, &self.limits, &mut self.spare)?;
+        reserve_values(alloc, &mut self.values)?;
+        reserve_top(alloc, &mut self.top)
+    }
+
+    /// The ask that was given becomes the entry of this number. Takes no memory.
+    ///
+    /// An object, a message and a line are answered; a call waits. After an end the body below is answered by it.
+    pub fn note(&mut self, number: u32)
+        requires { CanNote self.old number }
+        ensures { (code : Parts) (limits : L) → IsTaskOf code limits self.old → (may : MayNote code limits self.old number) → IsTaskOf code limits self.new × task_noted (view_of self.old) number may.what (view_of self.new) × (is_end may.what ≡ false → (view_of self.new).top ≡ (view_of self.old).top) }
+    {
+        match self.top.take() {
+            None => unreachable!(),
+            Some(body) => {
+                let Body {
+                    number: maker,
+                    frames,
+                    next,
+                } = body;
+                match next {
+                    Next::Gave(what) => {
+                        let top = noted_body(maker, frames, number, &what);
+                        self.past.push_reserved(Entry {
+                            number,
+                            body: maker,
+                            what,
+                        });
+                        self.top = Some(top);
+                    }
+                    Next::Ends(first, second) => {
+                        self.past.push_reserved(Entry {
+                            number,
+                            body: maker,
+                            what: What::Ended(first),
+                        });
+                        if let Some(caller) = self.below.pop() {
+                            self.top = Some(called_back(caller, second));
+                        }
+                    }
+                    _ => unreachable!(),
+                }
+            }
+        }
+    }
+
+    /// Puts the body of a firing on top. Takes no memory.
+    pub fn resume(
+        &mut self,
+        code: &Code,
+        number: u32,
+        chord: u16,
+        object: Object,
+        members: &Members,
+        arguments: Hand<Args>,
+    )
+        requires task { IsTaskOf code.now self.old.limits self.old }
+        requires may { MayResume code.now self.old.limits self.old number chord object members.now (laid (firsts arguments)) }
+        requires few { length (laid (firsts arguments)) ≤ 64 }
+        requires twice { AreTwice arguments }
+        ensures task { IsTaskOf code.now self.old.limits self.new }
+        ensures past { task_begun (view_of self.old) number chord object members.now (laid (firsts arguments)) (view_of self.new) }
+        ensures top { (view_of self.new).top ≡ Some number }
+    {
+        let depth = depth_over(self.limits.depth, &self.top);
+        let parts = part_all(&mut self.values, arguments);
+        match self.spare.take() {
+            None => unreachable!(),
+            Some(frames) => {
+                let mut frames = frames;
+                let block = line_of(code, object.class, chord).block;
+                let this = Value::Ref(object);
+                begin(code, &mut frames, block, this, parts.body, depth);
+                self.past.push_reserved(Entry {
+                    number,
+                    body: number,
+                    what: What::Fired(chord, object, members.copied(), parts.entry),
+                });
+                let body = Body {
+                    number,
+                    frames,
+                    next: Next::Runs,
+                };
+                if let Some(caller) = mem::replace(&mut self.top, Some(body)) {
+                    self.below.push_reserved(caller);
+                }
+            }
+        }
+    }
+
+    /// Whether no body is left.
+    pub fn over(&self) -> bool
+        ensures { result ≡ is_none (view_of self.now).top }
+    {
+        self.top.is_none()
+    }
+
+    /// The entries, the oldest first.
+    pub fn into_past(self) -> Vec<Entry>
+        ensures { result ≡ self.past }
+    {
+        self.past
+    }
+
+    /// The newest entry.
+    pub fn newest(&self) -> Option<&Entry>
+        ensures { option_copied result ≡ slice_get self.now.past.items (length self.now.past.items - 1) }
+    {
+        self.past.last()
+    }
+
+    /// Whether a body is left, and the top one does not wait.
+    pub fn is_ready(&self) -> bool
+        ensures { result ≡ is_ready_of self.now }
+    {
+        match &self.top {
+            None => false,
+            Some(body) => match body.next {
+                Next::Waits(_) => false,
+                _ => true,
+            },
+        }
+    }
+
+    /// Whether the body on top waits for this call.
+    pub fn waits_for(&self, call: u32) -> bool
+        ensures { result ≡ waits_of call self.now }
+    {
+        match &self.top {
+            None => false,
+            Some(body) => match body.next {
+                Next::Waits(number) => number == call,
+                _ => false,
+            },
+        }
+    }
+}
