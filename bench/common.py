@@ -95,8 +95,9 @@ def below(crates):
     return found
 
 
-def rows_of(name, crates, source):
-    """Proves, builds and runs a program in Rattle over copies of these crates, in a folder of its own; gives the words of each line that it prints."""
+def rows_of(name, crates, source, answers=()):
+    """Proves, builds and runs a program in Rattle over copies of these crates, in a folder of its own; gives the words of each line that it prints.
+    The answers are pairs of a function's name and what its goals need."""
     with tempfile.TemporaryDirectory() as work:
         os.makedirs(f'{work}/crates/{name}/src')
         with open(f'{work}/crates.txt', 'w', encoding='utf-8') as file:
@@ -106,6 +107,10 @@ def rows_of(name, crates, source):
             file.write(f'{name}: {" ".join(crates)}\n')
         with open(f'{work}/crates/{name}/src/main.rt', 'w', encoding='utf-8') as file:
             file.write(f'// {name}: a bench.\n#![tactic(auto)]\n{PRELUDE}{source}')
+        for function, text in answers:
+            os.makedirs(f'{work}/crates/{name}/proofs/{function}')
+            with open(f'{work}/crates/{name}/proofs/{function}/Answers.antt', 'w', encoding='utf-8') as file:
+                file.write(f'use Rattle.{name}.proofs.{function}.Goals as goal\n{text}')
         ran = subprocess.run(['rt', 'run'], cwd=f'{work}/crates/{name}', stdout=subprocess.PIPE, stderr=subprocess.PIPE, text=True, check=False)
         if ran.returncode:
             sys.exit(f'{name}: {ran.stdout[-2000:]}{ran.stderr[-2000:]}')

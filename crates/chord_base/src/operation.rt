@@ -48,6 +48,7 @@ pub type Outcome = Result<Value, Trap>;
 /// What the operator comes to: its value, or its trap.
 ///
 /// Only a join takes memory.
+#[inline(always)]
 pub fn compute(
     alloc: Global,
     operation: Operation,
@@ -69,6 +70,7 @@ pub fn compute(
 }
 
 /// What an operator on two ints comes to.
+#[inline(always)]
 fn compute_ints(operation: Operation, left: i32, right: i32) -> Outcome
     requires { operation ≢ Operation.Join }
     ensures { IsComputed (computed operation (Value.Int left) (Value.Int right)) result }

@@ -26,6 +26,7 @@ impl<T: Drop> Lines<T> {
     }
 
     /// The lines.
+    #[inline(always)]
     pub fn items(&self) -> &[T]
         ensures { result.now ≡ self.now }
     {

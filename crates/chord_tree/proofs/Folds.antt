@@ -1,8 +1,8 @@
 -- Lists of calls and of links that grow at the end, as a pass takes them: the term of what was read so far is the receiver, or the left operand, of what comes next.
-use Rattle.std.proofs.Common.{◌≡◌, ℕ, List, [], ◌∷◌, ◌++◌, refl, false}
-use Rattle.chord_tree.specs.Tree.{ItemTree, LinkTree, DotTree, MakeLink, MakeDot, MakeActuals, links, dots}
+use Rattle.std.proofs.Common.{◌≡◌, ℕ, suc, ◌+◌, List, [], ◌∷◌, ◌++◌, length, refl, sym, ap, ◌∙◌, arith, append_assoc, false}
+use Rattle.chord_tree.specs.Tree.{ItemTree, MemberTree, ClassTree, LinkTree, DotTree, MakeLink, MakeDot, MakeActuals, links, dots}
 use Rattle.chord_tree.specs.Terms.{Term, Terms, OperationTerm, CallTerm, term_after, operated, called, terms}
-use Rattle.chord_tree.specs.Walk.{Role, Used, Receiver, over_term, over_terms}
+use Rattle.chord_tree.specs.Walk.{Role, Used, Receiver, over_term, over_terms, over_class, over_classes}
 
 -- a call on a term
 abbrev pub on_dot : DotTree → Term → Term
@@ -38,3 +38,18 @@ module _ {Around Note : Type 0} (at_term : Around → Role → Term → List Not
   -- and of an operation: of both operands, and of the operation itself
   pub over_operation : (around : Around) (role : Role) (t : Term) (l : LinkTree) (after : Around → ItemTree → Around) (at_item : Around → ItemTree → List Note) → over_term after at_term at_item around role (with_link l t) ≡ over_term after at_term at_item around Used t ++ (over_term after at_term at_item around Used (operand_of l) ++ at_term around role (with_link l t))
   over_operation around role t (MakeLink operator at operand) after at_item = refl
+
+module _ {Around Note : Type 0} (after : Around → ItemTree → Around) (at_term : Around → Role → Term → List Note) (at_item : Around → ItemTree → List Note) (enter : ℕ → ClassTree → MemberTree → Around) (at_member : ClassTree → MemberTree → List Note) where
+  -- classes after others are entered with the numbers that follow
+  pub over_classes_after : (n : ℕ) (xs ys : List ClassTree) → over_classes after at_term at_item enter at_member n (xs ++ ys) ≡ over_classes after at_term at_item enter at_member n xs ++ over_classes after at_term at_item enter at_member (n + length xs) ys
+  over_classes_after n [] ys = ap (λ z. over_classes after at_term at_item enter at_member z ys) (let e : n ≡ n + 0 = omega arith in e)
+  over_classes_after n (x ∷ xs) ys =
+      ap (λ z. over_class after at_term at_item enter at_member n x ++ z) (over_classes_after (n + 1) xs ys)
+      ∙ sym (append_assoc (over_class after at_term at_item enter at_member n x) (over_classes after at_term at_item enter at_member (n + 1) xs) (over_classes after at_term at_item enter at_member (n + 1 + length xs) ys))
+      ∙ ap (λ z. (over_class after at_term at_item enter at_member n x ++ over_classes after at_term at_item enter at_member (n + 1) xs) ++ over_classes after at_term at_item enter at_member z ys) (let e : n + 1 + length xs ≡ n + length (x ∷ xs) = omega arith in e)
+
+  -- so a class is entered with as many as stand before it
+  pub over_class_at : (xs : List ClassTree) (c : ClassTree) (ys : List ClassTree) → over_classes after at_term at_item enter at_member 0 (xs ++ (c ∷ ys)) ≡ over_classes after at_term at_item enter at_member 0 xs ++ (over_class after at_term at_item enter at_member (length xs) c ++ over_classes after at_term at_item enter at_member (length xs + 1) ys)
+  over_class_at xs c ys =
+      over_classes_after 0 xs (c ∷ ys)
+      ∙ ap (λ z. over_classes after at_term at_item enter at_member 0 xs ++ over_classes after at_term at_item enter at_member z (c ∷ ys)) (let e : 0 + length xs ≡ length xs = omega arith in e)

@@ -29,10 +29,13 @@ impl Model for Program {
 }
 
 impl Program {
-    ghost use Rattle.std.specs.Prelude.{◌≡◌, ◌<◌, ◌^◌, length};
+    ghost use Rattle.std.specs.Prelude.{◌≡◌, ◌<◌, ◌^◌, ◌∷◌, [], length};
     ghost use Rattle.chord_tree.specs.View.{tree_of};
     ghost use Rattle.chord_tree.specs.Program.{IsProgram, spelling};
     ghost use Rattle.chord_tree.specs.ClassNodes.{node_program};
+    ghost use Rattle.chord_tree.specs.Derivation.{Derives};
+    ghost use Rattle.chord_tree.specs.Node.{spell};
+    ghost use Rattle.chord_tree.specs.Symbols.{Whole_program};
     ghost use Rattle.chord_tree.specs.Positions.{AreInOrder, IsBelow};
 
     /// The program of these lines and classes.
@@ -67,6 +70,13 @@ impl Program {
             Some(class) => class.end + 1,
             None => 0,
         }
+    }
+
+    /// A law: the grammar derives the tokens that the program spells, each with its depth.
+    pub fn derivation(&self)
+        ensures { Derives ((Whole_program, 0) ∷ []) (spell (node_program (tree_of self.now)) 0 []) }
+    {
+        let _ = &self.classes;
     }
 
     /// A law: each class ends before the name of the next, and each number in the tree is below the number of its tokens.

@@ -5,7 +5,7 @@ ghost use Rattle.chord_tree.specs.Example.{buffer_class, main_class, put_item, p
 ghost use Rattle.chord_tree.specs.View.{see_class, tree_of};
 ghost use Rattle.chord_tree.specs.ViewStmts.{see_item};
 ghost use Rattle.chord_tree.specs.Walk.{spots};
-ghost use Rattle.chord_tree.specs.Walked.{no_locals, with_local, example_spots};
+ghost use Rattle.chord_tree.specs.Walked.{class_number, with_local, example_spots};
 
 use crate::classes::{
     Class, Formal, Formals, Header, Member, Modifier, ModifierKeyword, ReturnType,
@@ -156,7 +156,7 @@ fn first_program(alloc: Global) -> Result<Program, AllocError>
 
 // The walk comes by each expression, item and member of the program once, after its parts.
 fn walk_of_first_program()
-    ensures { spots with_local no_locals example ≡ example_spots }
+    ensures { spots with_local class_number example ≡ example_spots }
 {}
 
 // A word, a mark or a name as it is written.

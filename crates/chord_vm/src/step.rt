@@ -26,6 +26,7 @@ use std::mem;
 type Step = Result<Option<Ask>, AllocError>;
 
 /// Pushes a value, and goes to the next instruction.
+#[inline(always)]
 fn push(frame: &mut Frame, value: Value) -> Result<(), AllocError>
     requires { frame.old.place + 1 < 2 ^ 64 }
     ensures { OnOk result (shown_frame frame.new ≡ frame_with (shown_frame frame.old) (suc frame.old.place) (value ∷ (shown_frame frame.old).stack) (shown_frame frame.old).slots) }
@@ -36,6 +37,7 @@ fn push(frame: &mut Frame, value: Value) -> Result<(), AllocError>
 }
 
 /// Pops.
+#[inline(always)]
 fn take(frame: &mut Frame) -> Value
     requires { (shown_frame frame.old).stack ≢ [] }
     ensures { shown_frame frame.old ≡ frame_with (shown_frame frame.new) frame.new.place (result ∷ (shown_frame frame.new).stack) (shown_frame frame.new).slots }
@@ -56,6 +58,7 @@ fn take_all(alloc: Global, frame: &mut Frame, n: usize) -> Result<Values, AllocE
 }
 
 /// One instruction.
+#[inline(always)]
 fn step(alloc: Global, parts: &Parts, frames: &mut Frames, instruction: &Instruction) -> Step
     requires fits { frames.old.top.place + 1 < 2 ^ 64 }
     requires within { IsInstructionWithin instruction.now }
@@ -117,6 +120,7 @@ fn step(alloc: Global, parts: &Parts, frames: &mut Frames, instruction: &Instruc
 }
 
 /// `int`, `flag` and `text`.
+#[inline(always)]
 fn push_value(frames: &mut Frames, value: Value) -> Step
     requires { frames.old.top.place + 1 < 2 ^ 64 }
     ensures { IfOk result (λ o. SteppedTo (loads (machine_of frames.old) (Some value)) o frames.new) }
@@ -126,6 +130,7 @@ fn push_value(frames: &mut Frames, value: Value) -> Step
 }
 
 /// `neg`.
+#[inline(always)]
 fn negated_top(frames: &mut Frames) -> Step
     requires fits { frames.old.top.place + 1 < 2 ^ 64 }
     requires sound { negates (machine_of frames.old) (machine_of frames.old).top.stack ≢ Bad }
@@ -137,6 +142,7 @@ fn negated_top(frames: &mut Frames) -> Step
 }
 
 /// `not`.
+#[inline(always)]
 fn denied_top(frames: &mut Frames) -> Step
     requires fits { frames.old.top.place + 1 < 2 ^ 64 }
     requires sound { denies (machine_of frames.old) (machine_of frames.old).top.stack ≢ Bad }
@@ -172,6 +178,7 @@ fn print(alloc: Global, frames: &mut Frames) -> Step
 }
 
 /// `load`.
+#[inline(always)]
 fn load(alloc: Global, frames: &mut Frames, slot: usize) -> Step
     requires fits { frames.old.top.place + 1 < 2 ^ 64 }
     requires sound { loads (machine_of frames.old) (slice_get frames.old.top.slots.items slot) ≢ Bad }
@@ -188,6 +195,7 @@ fn load(alloc: Global, frames: &mut Frames, slot: usize) -> Step
 }
 
 /// `store`.
+#[inline(always)]
 fn store(frames: &mut Frames, i: usize)
     requires fits { frames.old.top.place + 1 < 2 ^ 64 }
     requires sound { store_top i (machine_of frames.old) (machine_of frames.old).top.stack ≢ Bad }
@@ -199,6 +207,7 @@ fn store(frames: &mut Frames, i: usize)
 }
 
 /// The operators of two operands. The right one stands on top.
+#[inline(always)]
 fn operate(alloc: Global, frames: &mut Frames, operation: Operation) -> Step
     requires fits { frames.old.top.place + 1 < 2 ^ 64 }
     requires sound { operate_of operation (machine_of frames.old) (machine_of frames.old).top.stack ≢ Bad }
@@ -216,6 +225,7 @@ fn operate(alloc: Global, frames: &mut Frames, operation: Operation) -> Step
 }
 
 /// `skip`.
+#[inline(always)]
 fn skip(frames: &mut Frames, to: usize) -> Step
     requires fits { frames.old.top.place + 1 < 2 ^ 64 }
     requires sound { skips to (machine_of frames.old) (machine_of frames.old).top.stack ≢ Bad }
@@ -230,6 +240,7 @@ fn skip(frames: &mut Frames, to: usize) -> Step
 }
 
 /// `again`.
+#[inline(always)]
 fn again(frames: &mut Frames, to: usize) -> Step
     requires fits { frames.old.top.place + 1 < 2 ^ 64 }
     requires sound { again_of to (machine_of frames.old) (machine_of frames.old).top.stack ≢ Bad }
@@ -353,6 +364,7 @@ fn enter(alloc: Global, frames: &mut Frames, block: usize, slots: usize, this: V
 }
 
 /// The instruction at the place of the top frame.
+#[inline(always)]
 fn next<'a>(parts: &'a Parts, frames: &Frames) -> &'a Instruction
     requires valid { IsValid parts.now }
     requires sound { ComesToAsk parts.now (machine_of frames.now) }
