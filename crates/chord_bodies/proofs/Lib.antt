@@ -1,4 +1,5 @@
 mod TypesShow
+mod ScopesStay
 pub mod Viewed
 mod Lasts
 mod ChainTypes

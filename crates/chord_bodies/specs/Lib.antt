@@ -9,7 +9,7 @@ pub mod BodyView
 pub mod Types
 -- What sound code needs of a plan.
 pub mod Planned
--- What an expression's outermost form shows of its type.
+-- What an expression shows of its type, and which scopes are those of a body.
 pub mod Laws
 -- ## What only the code's own contracts use
 -- What the last operator and the last call of a chain give.

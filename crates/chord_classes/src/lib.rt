@@ -12,3 +12,5 @@ pub mod method;
 pub mod methods;
 pub mod names;
 pub mod table;
+#[cfg(test)]
+mod tests;
