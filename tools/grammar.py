@@ -32,8 +32,8 @@ STEP_IMPORTS = [
     ("Rattle.chord_tree.specs.Grammar", "productions counted rule_count terminal_count"),
     ("Rattle.chord_tree.specs.Derivation", "next parts_of inside"),
     ("Rattle.chord_tree.specs.Node", "Made"),
-    ("Rattle.chord_tree.proofs.Table", "choices"),
-    ("Rattle.chord_tree.proofs.Ahead", "choice below else_rule"),
+    ("Rattle.chord_tree.specs.OneAhead", "choices choice"),
+    ("Rattle.chord_tree.proofs.Ahead", "below else_rule"),
     ("Rattle.chord_parser.specs.Runs", "Onward"),
     ("Rattle.chord_parser.proofs.Reading", "begun"),
 ]
@@ -205,7 +205,8 @@ def productions(g):
 
 
 def tables(g):
-    o = [f"-- The tables of one token ahead. {MADE}", "use Rattle.std.specs.Prelude.{ℕ, List, [], ◌∷◌}"]
+    o = [f"-- The tables of one token ahead. {MADE}", "use Rattle.std.specs.Prelude.{ℕ, List, [], ◌∷◌, get_or}",
+         "use Rattle.chord_tree.specs.Grammar.{rule_count}"]
 
     def table(name, rows, meaning):
         o.extend(["", f"-- {meaning}", f"unfoldable pub {name} : List (List ℕ)", f"{name} ="])
@@ -217,6 +218,8 @@ def tables(g):
     table("firsts", [g.first[h] for h in g.heads], "the terminals that may begin each nonterminal")
     table("follows", [g.follow[h] for h in g.heads], "the terminals that may follow each nonterminal")
     table("choices", [g.choice[h] for h in g.heads], "the production of each nonterminal at each terminal, or the number of productions")
+    o.extend(["", "-- the production of nonterminal x at terminal c, or the number of productions where none fits", "unfoldable pub choice : ℕ → ℕ → ℕ",
+              "choice x c = get_or (get_or choices x []) c rule_count"])
     row("empties", [i for i, h in enumerate(g.heads) if g.empty[h]], "the nonterminals that may derive nothing")
     row("finishes", [g.finish[h] for h in g.heads], "a production of each nonterminal by which it ends soonest")
     row("weights", [g.weight[h] for h in g.heads], "a bound on the symbols until each nonterminal has ended")
@@ -319,10 +322,10 @@ def main():
     root = sys.argv[1] if len(sys.argv) > 1 else os.path.dirname(HERE)
     write(root, "crates/chord_tree/specs/Symbols.antt", symbols(g))
     write(root, "crates/chord_tree/specs/Grammar.antt", productions(g))
-    write(root, "crates/chord_tree/proofs/Table.antt", tables(g))
+    write(root, "crates/chord_tree/specs/OneAhead.antt", tables(g))
     write(root, "crates/chord_parser/specs/Samples.antt", samples(g))
     for name, (meaning, heads) in STEPS.items():
-        write(root, f"crates/chord_parser/proofs/{name}.antt", steps(g, meaning, heads.split()))
+        write(root, f"crates/chord_parser/proofs/made/{name}.antt", steps(g, meaning, heads.split()))
     write(root, "crates/chord_parser/src/terminal.rt", classes(g))
 
 

@@ -19,7 +19,8 @@ use Rattle.chord_tree.specs.Derivation.{includes, next, at_depth}
 use Rattle.chord_parser.specs.Runs.{Wrong, Tall, Runs, stuck, Reads, none, more, Onward}
 use Rattle.chord_parser.specs.Samples.{sample}
 use Rattle.chord_tree.specs.Node.{Node, Nodes, End, ◌▸◌, Leaf, Made, size}
-use Rattle.chord_tree.proofs.Ahead.{choice, next_small}
+use Rattle.chord_tree.specs.OneAhead.{choice}
+use Rattle.chord_tree.proofs.Ahead.{next_small}
 use Rattle.chord_parser.specs.Reading.{valued, StopsAs, Continues, IsOther, operator_at, operator_terminal, one_link, before_links, before_dots, before_more, before_opt}
 use Rattle.chord_tree.specs.Program.{token_kinds}
 use Rattle.chord_tree.specs.Tree.{ExprTree, LinkTrees, LinkTree, DotTree, DotTrees, ChainExpr, MoreLinks, MakeLink, MoreDots, MakeDot, links, dots, exprs}
@@ -27,7 +28,7 @@ use Rattle.chord_tree.specs.ViewExprs.{see_link, see_dot, see_expr}
 use Rattle.chord_tree.specs.ExprNodes.{link_level, operator_level, level_symbol, level_tail, mark_of, mark_leaf, precedence, lifted, alone, bare, node_at, node_links, node_dot, node_dots, node_more, node_exprs}
 use Rattle.chord_parser.proofs.Single.{bare_mark, of_terminal}
 use Rattle.chord_parser.proofs.Reading.{ends, measured}
-use Rattle.chord_parser.proofs.ChainSteps.{product_unary, product_unary_at, sum_product, sum_product_at, order_sum, order_sum_at, equal_order, equal_order_at, and_equal, and_equal_at, more_product_none, more_product_none_at, more_product_times, more_product_times_at, more_product_divide, more_product_divide_at, more_product_remainder, more_product_remainder_at, more_sum_none, more_sum_none_at, more_sum_plus, more_sum_plus_at, more_sum_minus, more_sum_minus_at, more_order_none, more_order_none_at, more_order_less, more_order_less_at, more_order_greater, more_order_greater_at, more_order_less_or_equal, more_order_less_or_equal_at, more_order_greater_or_equal, more_order_greater_or_equal_at, more_equal_none, more_equal_none_at, more_equal_equal, more_equal_equal_at, more_equal_not_equal, more_equal_not_equal_at, more_and_none, more_and_none_at, more_and_and, more_and_and_at, more_or_none, more_or_none_at, more_or_or, more_or_or_at}
+use Rattle.chord_parser.proofs.made.ChainSteps.{product_unary, product_unary_at, sum_product, sum_product_at, order_sum, order_sum_at, equal_order, equal_order_at, and_equal, and_equal_at, more_product_none, more_product_none_at, more_product_times, more_product_times_at, more_product_divide, more_product_divide_at, more_product_remainder, more_product_remainder_at, more_sum_none, more_sum_none_at, more_sum_plus, more_sum_plus_at, more_sum_minus, more_sum_minus_at, more_order_none, more_order_none_at, more_order_less, more_order_less_at, more_order_greater, more_order_greater_at, more_order_less_or_equal, more_order_less_or_equal_at, more_order_greater_or_equal, more_order_greater_or_equal_at, more_equal_none, more_equal_none_at, more_equal_equal, more_equal_equal_at, more_equal_not_equal, more_equal_not_equal_at, more_and_none, more_and_none_at, more_and_and, more_and_and_at, more_or_none, more_or_none_at, more_or_or, more_or_or_at}
 use Rattle.chord_tree.specs.declared.exprs.Operator.TheVariants as operators
 use Rattle.chord_lexer.specs.declared.token.Mark.{Mark}
 use Rattle.chord_tree.specs.Symbols as grammar

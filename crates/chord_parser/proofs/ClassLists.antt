@@ -23,8 +23,8 @@ use Rattle.chord_tree.specs.ExprNodes.{keyword_leaf, mark_leaf, name}
 use Rattle.chord_tree.specs.StmtNodes.{node_block}
 use Rattle.chord_tree.specs.Tree.{FormalsTree, HeaderTree, MemberTree, ConstructorMember, ChordMember, ClassTree, UsingTree, BlockTree, MakeBlock}
 use Rattle.chord_tree.specs.ClassNodes.{modifier_keyword, node_modifier, node_modifiers, node_formal, node_more_formals, node_formal_list, node_formals, node_plain, node_result, node_header, node_headers, node_rest, node_member, node_members, node_class, node_classes, node_name_parts, node_using, node_usings, node_all_classes}
-use Rattle.chord_tree.proofs.Table.{choices}
-use Rattle.chord_tree.proofs.Ahead.{choice, small}
+use Rattle.chord_tree.specs.OneAhead.{choices, choice}
+use Rattle.chord_tree.proofs.Ahead.{small}
 use Rattle.chord_parser.specs.declared.plain.ResultKeyword.{ResultKeyword}
 use Rattle.chord_parser.specs.declared.plain.ResultKeyword.TheVariants as plains
 use Rattle.chord_parser.specs.Lists.{modifier_terminal, plain_terminal, plain_keyword, IsPlain, node_rest_of, IsHeaded, IsFirst, headers_after, classes_after, wrapped, wrapped_after, before_formals}
@@ -33,7 +33,7 @@ use Rattle.chord_parser.specs.Samples.{sample}
 use Rattle.chord_parser.proofs.Single.{bare_word}
 use Rattle.chord_parser.proofs.Reading.{measured}
 use Rattle.chord_parser.proofs.Chains.{told_size}
-use Rattle.chord_parser.proofs.MemberSteps.{modifiers_modifier, modifiers_modifier_at_public, modifiers_modifier_at_private, modifiers_modifier_at_protected, modifiers_modifier_at_virtual, modifiers_modifier_at_override, modifiers_modifier_at_static, modifier_public, modifier_public_at, modifier_private, modifier_private_at, modifier_protected, modifier_protected_at, modifier_virtual, modifier_virtual_at, modifier_override, modifier_override_at, modifier_static, modifier_static_at, plain_async, plain_async_at, plain_void, plain_void_at, plain_int, plain_int_at, plain_bool, plain_bool_at, plain_string, plain_string_at, result_plain, result_plain_at_async, result_plain_at_void, result_plain_at_int, result_plain_at_bool, result_plain_at_string, rest_plain, rest_plain_at_async, rest_plain_at_void, rest_plain_at_int, rest_plain_at_bool, rest_plain_at_string}
+use Rattle.chord_parser.proofs.made.MemberSteps.{modifiers_modifier, modifiers_modifier_at_public, modifiers_modifier_at_private, modifiers_modifier_at_protected, modifiers_modifier_at_virtual, modifiers_modifier_at_override, modifiers_modifier_at_static, modifier_public, modifier_public_at, modifier_private, modifier_private_at, modifier_protected, modifier_protected_at, modifier_virtual, modifier_virtual_at, modifier_override, modifier_override_at, modifier_static, modifier_static_at, plain_async, plain_async_at, plain_void, plain_void_at, plain_int, plain_int_at, plain_bool, plain_bool_at, plain_string, plain_string_at, result_plain, result_plain_at_async, result_plain_at_void, result_plain_at_int, result_plain_at_bool, result_plain_at_string, rest_plain, rest_plain_at_async, rest_plain_at_void, rest_plain_at_int, rest_plain_at_bool, rest_plain_at_string}
 
 -- a list that grows at its end
 module _ {A : Type 0} (f : A → Node → Node) where

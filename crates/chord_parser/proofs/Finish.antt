@@ -5,7 +5,7 @@ use Rattle.std.proofs.lemmas.Bool.{eqb-true, ltb-true}
 use Rattle.std.proofs.lemmas.Bool.Decides.{eqb_tells}
 use Rattle.chord_tree.specs.Symbol.{Symbol, Terminal, Nonterminal}
 use Rattle.chord_tree.specs.Grammar.{productions, rule_count, nonterminal_count, terminal_count, else_terminal, no_else}
-use Rattle.chord_tree.proofs.Table.{finishes, weights}
+use Rattle.chord_tree.specs.OneAhead.{finishes, weights}
 use Rattle.chord_parser.specs.Samples.{sample}
 use Rattle.chord_tree.specs.Terminals.{terminal_of}
 use Rattle.chord_tree.specs.Derivation.{Spelled, Want, kinds_of, next, head_of, parts_of, inside, at_depth, allowed, Derives, done, token, rule}

@@ -7,7 +7,8 @@ use Rattle.chord_tree.specs.Symbol.{Symbol}
 use Rattle.chord_tree.specs.Grammar.{rule_count}
 use Rattle.chord_tree.specs.Derivation.{Spelled, kinds_of, next, head_of, allowed}
 use Rattle.chord_tree.specs.Node.{Node, Nodes, Fits, FitAll, leaf, made, none, more}
-use Rattle.chord_tree.proofs.Ahead.{choice, both_left, both_right, next_small, choice_fits}
+use Rattle.chord_tree.specs.OneAhead.{choice}
+use Rattle.chord_tree.proofs.Ahead.{both_left, both_right, next_small, choice_fits}
 use Rattle.chord_parser.specs.Runs.{Reads, ReadAll}
 use Rattle.chord_parser.proofs.Finish.{listed, not_else, not_else_parts, else_first_parts, not_else_listed, rule_else_first}
 use Rattle.chord_parser.proofs.Reading.{spells_all}

@@ -1,13 +1,9 @@
+pub mod made
 pub mod Reading
 pub mod Finish
 pub mod Fit
 pub mod Outcomes
 pub mod Prefix
-pub mod ClassSteps
-pub mod MemberSteps
-pub mod StmtSteps
-pub mod ChainSteps
-pub mod ExprSteps
 pub mod Single
 pub mod Chains
 pub mod Climb

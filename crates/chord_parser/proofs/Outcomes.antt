@@ -9,7 +9,8 @@ use Rattle.chord_tree.specs.Terminals.{terminal_of}
 use Rattle.chord_tree.specs.Derivation.{Spelled, Want, kinds_of, next, head_of, parts_of, inside, at_depth, allowed, Derives, done, token, rule, NotTall}
 use Rattle.chord_parser.specs.Runs.{Verdict, Fine, Wrong, Tall, Runs, fine, extra, take, tall, other, expand, stuck}
 use Rattle.chord_parser.specs.Exact.{BeginsThrough, IsWrong, IsTall}
-use Rattle.chord_tree.proofs.Ahead.{choice, both_left, both_right, small, next_small, choice_fits}
+use Rattle.chord_tree.specs.OneAhead.{choice}
+use Rattle.chord_tree.proofs.Ahead.{both_left, both_right, small, next_small, choice_fits}
 use Rattle.chord_tree.proofs.LookAhead.{starts, Legal, legal_rule, chosen}
 use Rattle.chord_parser.proofs.Finish.{else_first, listed, not_else_else_first, else_first_at_depth, rule_else_first, finished}
 

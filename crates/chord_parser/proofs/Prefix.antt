@@ -4,7 +4,8 @@ use Rattle.chord_lexer.specs.declared.token.Kind.{Kind}
 use Rattle.chord_tree.specs.Symbol.{Terminal, Nonterminal}
 use Rattle.chord_tree.specs.Terminals.{terminal_of}
 use Rattle.chord_tree.specs.Derivation.{Spelled, Want, kinds_of, next, parts_of, inside, at_depth, Derives, done, token, rule, NotTall}
-use Rattle.chord_tree.proofs.Ahead.{choice, next_small}
+use Rattle.chord_tree.specs.OneAhead.{choice}
+use Rattle.chord_tree.proofs.Ahead.{next_small}
 use Rattle.chord_tree.proofs.LookAhead.{starts, Legal, legal_rule, chosen}
 
 -- the two begin with as many tokens of the same kinds, and then stand tokens of one kind, the first at this depth

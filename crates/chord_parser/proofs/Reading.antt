@@ -6,7 +6,7 @@ use Rattle.chord_tree.specs.Grammar.{rule_count}
 use Rattle.chord_tree.specs.Derivation.{next, Want, parts_of, at_depth, inside, Spelled, kinds_of, NotTall, token}
 use Rattle.chord_parser.specs.Runs.{Verdict, Runs, take, expand, Reads, ReadAll, token, tree, none, more, Onward}
 use Rattle.chord_tree.specs.Node.{Node, Nodes, End, ◌▸◌, Made, spell, spell_all, size, size_all, IsNumbered, AllNumbered}
-use Rattle.chord_tree.proofs.Ahead.{choice}
+use Rattle.chord_tree.specs.OneAhead.{choice}
 
 -- symbols side by side are wanted side by side
 pub at_depth_append : (d : ℕ) (ps qs : List Symbol) → at_depth d (ps ++ qs) ≡ at_depth d ps ++ at_depth d qs

@@ -25,7 +25,7 @@ use Rattle.chord_parser.specs.Samples.{sample}
 use Rattle.chord_parser.proofs.Single.{bare_word}
 use Rattle.chord_parser.proofs.Reading.{measured}
 use Rattle.chord_parser.proofs.Chains.{told_size}
-use Rattle.chord_parser.proofs.StmtSteps.{item_int, item_int_at, item_bool, item_bool_at, item_string, item_string_at}
+use Rattle.chord_parser.proofs.made.StmtSteps.{item_int, item_int_at, item_bool, item_bool_at, item_string, item_string_at}
 
 items_grown : (xs : List ItemTree) (x : ItemTree) (n : Node) → before_items (xs ++ (x ∷ [])) n ≡ before_items xs (before_items (x ∷ []) n)
 items_grown [] x n = refl

@@ -3,7 +3,7 @@ use Rattle.std.specs.Prelude.{◌≡◌, ℕ, ◌-◌, ◌<◌, ◌≤◌, ◌�
 use Rattle.chord_lexer.specs.declared.token.Kind.{Kind}
 use Rattle.chord_tree.specs.Symbol.{Symbol, Terminal, Nonterminal}
 use Rattle.chord_tree.specs.Grammar.{rule_count}
-use Rattle.chord_tree.proofs.Ahead.{choice}
+use Rattle.chord_tree.specs.OneAhead.{choice}
 use Rattle.chord_tree.specs.Terminals.{terminal_of}
 use Rattle.chord_tree.specs.Derivation.{next, Want, parts_of, at_depth, inside}
 use Rattle.chord_tree.specs.Node.{Node, Nodes, End, ◌▸◌, Leaf, Made, number_at}

@@ -11,13 +11,9 @@ use Rattle.chord_lexer.specs.declared.token.Keyword.{Keyword}
 use Rattle.chord_lexer.specs.declared.token.Mark.{Mark}
 use Rattle.chord_tree.specs.Symbol.{number_of, Symbol, Terminal, Nonterminal}
 use Rattle.chord_tree.specs.Grammar.{productions, rule_count, nonterminal_count, terminal_count, else_terminal, no_else}
-use Rattle.chord_tree.proofs.Table.{firsts, follows, choices, empties}
+use Rattle.chord_tree.specs.OneAhead.{firsts, follows, choices, choice, empties}
 use Rattle.chord_tree.specs.Terminals.{terminal_of, keyword_symbol, mark_symbol}
 use Rattle.chord_tree.specs.Derivation.{includes, Want, next, head_of, parts_of, allowed}
-
--- the production of nonterminal x at terminal c, or the number of productions where none fits
-unfoldable pub choice : ℕ → ℕ → ℕ
-choice x c = get_or (get_or choices x []) c rule_count
 
 -- the second holds where the first does
 abbrev pub imp : Bool → Bool → Bool

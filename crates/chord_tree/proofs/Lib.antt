@@ -1,4 +1,3 @@
-pub mod Table
 pub mod Ahead
 pub mod LookAhead
 pub mod OneTree

@@ -4,7 +4,8 @@ use Rattle.chord_tree.specs.Symbol.{Symbol, Nonterminal}
 use Rattle.chord_tree.specs.Grammar.{rule_count, terminal_count}
 use Rattle.chord_tree.specs.Terminals.{terminal_of}
 use Rattle.chord_tree.specs.Derivation.{Spelled, Want, kinds_of, next, head_of, parts_of, inside, at_depth, allowed, Derives, done, token, rule}
-use Rattle.chord_tree.proofs.Ahead.{choice, imp, imp_true, both_left, both_right, either_left, begins, may_be_empty, follows_at, part_begins, part_empty, part_follows, begin_under, begin_at, legal_under, rule_begins, rule_legal, rule_chosen, next_small}
+use Rattle.chord_tree.specs.OneAhead.{choice}
+use Rattle.chord_tree.proofs.Ahead.{imp, imp_true, both_left, both_right, either_left, begins, may_be_empty, follows_at, part_begins, part_empty, part_follows, begin_under, begin_at, legal_under, rule_begins, rule_legal, rule_chosen, next_small}
 
 -- what is wanted may begin as its symbols do
 pub under : (d : ℕ) (ps : List Symbol) (s : List Want) (c : ℕ) → begin_at (at_depth d ps ++ s) c ≡ begin_under ps (begin_at s c) c

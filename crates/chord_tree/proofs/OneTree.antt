@@ -6,8 +6,8 @@ use Rattle.chord_tree.specs.Symbols.{Whole_program}
 use Rattle.chord_tree.specs.Grammar.{terminal_count}
 use Rattle.chord_tree.specs.Derivation.{Spelled, Want, kinds_of, next, parts_of, inside, at_depth, Derives, done, token, rule}
 use Rattle.chord_tree.specs.Node.{Node, Nodes, End, ◌▸◌, Leaf, Made, spell, spell_all, Fits, FitAll, IsDerived, leaf, made, none, more, size, size_all, IsNumbered, AllNumbered, number_at}
-use Rattle.chord_tree.proofs.Ahead.{choice, next_small, follows_at}
-use Rattle.chord_tree.proofs.Table.{follows}
+use Rattle.chord_tree.specs.OneAhead.{choice, follows}
+use Rattle.chord_tree.proofs.Ahead.{next_small, follows_at}
 use Rattle.chord_tree.proofs.LookAhead.{starts, Legal, legal_rule, chosen}
 
 mutual

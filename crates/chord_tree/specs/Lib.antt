@@ -38,6 +38,8 @@ pub mod Laws
 pub mod Positions
 -- ## What only the code's own contracts use
 
+-- the tables of one token ahead
+pub mod OneAhead
 -- a program of two classes, built by hand
 pub mod Example
 -- the walk over it

@@ -9,7 +9,7 @@ use Rattle.chord_parser.specs.declared.faults.Fault.TheVariants as faults
 use Rattle.chord_parser.proofs.Reading.{step, ends}
 use Rattle.chord_parser.proofs.Chains.{stops, exits, as_node, stuck_at}
 use Rattle.chord_parser.proofs.ClassLists.{class_chord, chord_headed}
-use Rattle.chord_parser.proofs.MemberSteps.{after_formals, after_formals_at, after_name, after_name_at, after_stuck, rest_name, rest_name_at}
+use Rattle.chord_parser.proofs.made.MemberSteps.{after_formals, after_formals_at, after_name, after_name_at, after_stuck, rest_name, rest_name_at}
 use Rattle.chord_parser.proofs.classes.after_name.Goals as goal
 
 pub returns-in_err-first-clause-err : goal.returns-in_err-first-clause-err

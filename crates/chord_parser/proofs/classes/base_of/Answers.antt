@@ -3,7 +3,7 @@ use Rattle.chord_tree.specs.Program.{token_kinds}
 use Rattle.chord_tree.proofs.Ahead.{next_small}
 use Rattle.chord_parser.proofs.Reading.{step, ends}
 use Rattle.chord_parser.proofs.Chains.{stops, exits}
-use Rattle.chord_parser.proofs.ClassSteps.{optional_base_colon, optional_base_colon_at, optional_base_none, optional_base_none_at}
+use Rattle.chord_parser.proofs.made.ClassSteps.{optional_base_colon, optional_base_colon_at, optional_base_none, optional_base_none_at}
 use Rattle.chord_parser.proofs.classes.base_of.Goals as goal
 
 pub returns-in_err-rest-clause-err : goal.returns-in_err-rest-clause-err

@@ -2,7 +2,7 @@ use Rattle.chord_tree.specs.Program.{token_kinds}
 use Rattle.chord_tree.proofs.Ahead.{next_small}
 use Rattle.chord_parser.proofs.Reading.{step, ends}
 use Rattle.chord_parser.proofs.Chains.{stops, exits}
-use Rattle.chord_parser.proofs.ClassSteps.{class_optional_public, class_optional_public_at}
+use Rattle.chord_parser.proofs.made.ClassSteps.{class_optional_public, class_optional_public_at}
 use Rattle.chord_parser.proofs.classes.class_of.Goals as goal
 
 pub returns-in_err-public-clause-err : goal.returns-in_err-public-clause-err

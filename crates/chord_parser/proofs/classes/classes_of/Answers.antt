@@ -5,7 +5,7 @@ use Rattle.chord_tree.proofs.Ahead.{next_small}
 use Rattle.chord_parser.proofs.Reading.{step, ends}
 use Rattle.chord_parser.proofs.Chains.{stops, stops_in, exits, from_the_start, enters, then, renamed, as_node}
 use Rattle.chord_parser.proofs.ClassLists.{push_seen_after, first_seen, one_seen, one_after, class_way, classes_all, shorter_by, sized_class, classes_end, at_end_of}
-use Rattle.chord_parser.proofs.ClassSteps.{classes_class, classes_class_at, classes_none}
+use Rattle.chord_parser.proofs.made.ClassSteps.{classes_class, classes_class_at, classes_none}
 use Rattle.chord_parser.proofs.classes.classes_of.Goals as goal
 
 pub each-init : goal.each-init

@@ -2,7 +2,7 @@ use Rattle.chord_tree.specs.Program.{token_kinds}
 use Rattle.chord_tree.proofs.Ahead.{next_small}
 use Rattle.chord_parser.proofs.Reading.{step, ends}
 use Rattle.chord_parser.proofs.Chains.{stops, exits}
-use Rattle.chord_parser.proofs.MemberSteps.{formal_value_type, formal_value_type_at}
+use Rattle.chord_parser.proofs.made.MemberSteps.{formal_value_type, formal_value_type_at}
 use Rattle.chord_parser.proofs.classes.formal.Goals as goal
 
 pub returns-in_err-kind-clause-err : goal.returns-in_err-kind-clause-err

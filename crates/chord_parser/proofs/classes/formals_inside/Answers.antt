@@ -5,7 +5,7 @@ use Rattle.chord_tree.proofs.Ahead.{next_small}
 use Rattle.chord_parser.proofs.Reading.{step, ends}
 use Rattle.chord_parser.proofs.Chains.{stops, stops_in, exits, enters, then, renamed, as_node, shorter, pushed}
 use Rattle.chord_parser.proofs.ClassLists.{formal_list, formals_first, formals_push}
-use Rattle.chord_parser.proofs.MemberSteps.{more_formals_comma, more_formals_comma_at, more_formals_none, more_formals_none_at, optional_formals_formal, optional_formals_formal_at, optional_formals_none, optional_formals_none_at}
+use Rattle.chord_parser.proofs.made.MemberSteps.{more_formals_comma, more_formals_comma_at, more_formals_none, more_formals_none_at, optional_formals_formal, optional_formals_formal_at, optional_formals_none, optional_formals_none_at}
 use Rattle.chord_parser.proofs.classes.formals_inside.Goals as goal
 
 pub returns-then-next-eq-CLOSE-clause-ok : goal.returns-then-next-eq-CLOSE-clause-ok

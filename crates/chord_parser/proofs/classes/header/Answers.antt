@@ -2,7 +2,7 @@ use Rattle.chord_tree.specs.Program.{token_kinds}
 use Rattle.chord_tree.proofs.Ahead.{next_small}
 use Rattle.chord_parser.proofs.Reading.{step, ends}
 use Rattle.chord_parser.proofs.Chains.{stops, exits}
-use Rattle.chord_parser.proofs.MemberSteps.{header_modifiers, header_modifiers_at}
+use Rattle.chord_parser.proofs.made.MemberSteps.{header_modifiers, header_modifiers_at}
 use Rattle.chord_parser.proofs.classes.header.Goals as goal
 
 pub returns-in_err-modifiers-clause-err : goal.returns-in_err-modifiers-clause-err

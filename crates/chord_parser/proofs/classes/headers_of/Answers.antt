@@ -5,7 +5,7 @@ use Rattle.chord_tree.proofs.Ahead.{next_small}
 use Rattle.chord_parser.proofs.Reading.{step, ends}
 use Rattle.chord_parser.proofs.Chains.{stops, stops_in, exits, from_the_start, enters, then, renamed, as_node, shorter}
 use Rattle.chord_parser.proofs.ClassLists.{push_seen_after, first_seen, one_seen, one_after, header_way, headers_all}
-use Rattle.chord_parser.proofs.MemberSteps.{headers_ampersand, headers_ampersand_at, headers_none, headers_none_at}
+use Rattle.chord_parser.proofs.made.MemberSteps.{headers_ampersand, headers_ampersand_at, headers_none, headers_none_at}
 use Rattle.chord_parser.proofs.classes.headers_of.Goals as goal
 
 pub each-init : goal.each-init

@@ -3,7 +3,7 @@ use Rattle.chord_tree.proofs.Ahead.{next_small}
 use Rattle.chord_parser.proofs.Reading.{step, ends}
 use Rattle.chord_parser.proofs.Chains.{stops, exits, as_node}
 use Rattle.chord_parser.proofs.ClassLists.{member_of}
-use Rattle.chord_parser.proofs.MemberSteps.{member_modifiers, member_modifiers_at}
+use Rattle.chord_parser.proofs.made.MemberSteps.{member_modifiers, member_modifiers_at}
 use Rattle.chord_parser.proofs.classes.member.Goals as goal
 
 pub returns-in_err-modifiers-clause-err : goal.returns-in_err-modifiers-clause-err

@@ -6,7 +6,7 @@ use Rattle.chord_parser.specs.Lists.{wrapped}
 use Rattle.chord_parser.proofs.Reading.{step, ends}
 use Rattle.chord_parser.proofs.Chains.{stops, stops_in, exits, from_the_start, enters, then, renamed, as_node}
 use Rattle.chord_parser.proofs.ClassLists.{push_seen, member_way, all_members, shorter_by, sized_member}
-use Rattle.chord_parser.proofs.ClassSteps.{members_member, members_member_at, members_none, members_none_at}
+use Rattle.chord_parser.proofs.made.ClassSteps.{members_member, members_member_at, members_none, members_none_at}
 use Rattle.chord_parser.proofs.classes.members_of.Goals as goal
 
 pub each-init : goal.each-init

@@ -6,7 +6,7 @@ use Rattle.chord_parser.specs.Lists.{wrapped}
 use Rattle.chord_parser.proofs.Reading.{step, ends}
 use Rattle.chord_parser.proofs.Chains.{stops, stops_in, exits, from_the_start, enters, then, renamed, as_node}
 use Rattle.chord_parser.proofs.ClassLists.{push, modifier_way, all_modifiers, modifiers_begun, shorter_by}
-use Rattle.chord_parser.proofs.MemberSteps.{modifiers_none, modifiers_none_at}
+use Rattle.chord_parser.proofs.made.MemberSteps.{modifiers_none, modifiers_none_at}
 use Rattle.chord_parser.proofs.classes.modifiers_of.Goals as goal
 
 pub each-init : goal.each-init

@@ -5,7 +5,7 @@ use Rattle.chord_parser.specs.Lists.{wrapped}
 use Rattle.chord_parser.proofs.Reading.{step, ends}
 use Rattle.chord_parser.proofs.Chains.{stops, stops_in, exits, from_the_start, enters, then, renamed, as_node, shorter}
 use Rattle.chord_parser.proofs.ClassLists.{push, part_way, all_parts}
-use Rattle.chord_parser.proofs.ClassSteps.{name_parts_dot, name_parts_dot_at, name_parts_none, name_parts_none_at}
+use Rattle.chord_parser.proofs.made.ClassSteps.{name_parts_dot, name_parts_dot_at, name_parts_none, name_parts_none_at}
 use Rattle.chord_parser.proofs.classes.parts_of.Goals as goal
 
 pub each-init : goal.each-init

@@ -3,7 +3,7 @@ use Rattle.chord_tree.proofs.Ahead.{next_small}
 use Rattle.chord_parser.proofs.Reading.{step, ends}
 use Rattle.chord_parser.proofs.Chains.{stops, exits, as_node}
 use Rattle.chord_parser.proofs.ClassLists.{program_of}
-use Rattle.chord_parser.proofs.ClassSteps.{whole_program_usings, whole_program_usings_at}
+use Rattle.chord_parser.proofs.made.ClassSteps.{whole_program_usings, whole_program_usings_at}
 use Rattle.chord_parser.proofs.classes.program.Goals as goal
 
 pub returns-in_err-usings-clause-err : goal.returns-in_err-usings-clause-err

@@ -3,7 +3,7 @@ use Rattle.chord_tree.specs.Program.{token_kinds}
 use Rattle.chord_tree.proofs.Ahead.{next_small}
 use Rattle.chord_parser.proofs.Reading.{step, ends}
 use Rattle.chord_parser.proofs.Chains.{stops, exits}
-use Rattle.chord_parser.proofs.ClassSteps.{optional_public_none, optional_public_none_at, optional_public_public, optional_public_public_at}
+use Rattle.chord_parser.proofs.made.ClassSteps.{optional_public_none, optional_public_none_at, optional_public_public, optional_public_public_at}
 use Rattle.chord_parser.proofs.classes.public_of.Goals as goal
 
 pub returns-in_err-at-clause-err : goal.returns-in_err-at-clause-err

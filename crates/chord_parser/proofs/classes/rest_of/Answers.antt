@@ -7,7 +7,7 @@ use Rattle.chord_parser.specs.declared.plain.ResultKeyword.TheVariants as plains
 use Rattle.chord_parser.proofs.Reading.{step, ends}
 use Rattle.chord_parser.proofs.Chains.{stops, exits, as_node, stuck_at}
 use Rattle.chord_parser.proofs.ClassLists.{rest_begun, plain_chord, chord_headed}
-use Rattle.chord_parser.proofs.MemberSteps.{rest_stuck}
+use Rattle.chord_parser.proofs.made.MemberSteps.{rest_stuck}
 use Rattle.chord_parser.proofs.classes.rest_of.Goals as goal
 
 pub returns-in_default-clause-err : goal.returns-in_default-clause-err

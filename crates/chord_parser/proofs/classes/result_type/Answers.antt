@@ -5,7 +5,7 @@ use Rattle.chord_parser.specs.declared.plain.ResultKeyword.TheVariants as plains
 use Rattle.chord_parser.proofs.Reading.{step, ends}
 use Rattle.chord_parser.proofs.Chains.{stops, exits, as_node, stuck_at}
 use Rattle.chord_parser.proofs.ClassLists.{result_begun, plain_result}
-use Rattle.chord_parser.proofs.MemberSteps.{result_name, result_name_at, result_stuck}
+use Rattle.chord_parser.proofs.made.MemberSteps.{result_name, result_name_at, result_stuck}
 use Rattle.chord_parser.proofs.classes.result_type.Goals as goal
 
 pub returns-in_err-name-clause-err : goal.returns-in_err-name-clause-err

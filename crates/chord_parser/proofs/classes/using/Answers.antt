@@ -2,7 +2,7 @@ use Rattle.chord_tree.specs.Program.{token_kinds}
 use Rattle.chord_tree.proofs.Ahead.{next_small}
 use Rattle.chord_parser.proofs.Reading.{step, ends}
 use Rattle.chord_parser.proofs.Chains.{stops, exits}
-use Rattle.chord_parser.proofs.ClassSteps.{using_using, using_using_at}
+use Rattle.chord_parser.proofs.made.ClassSteps.{using_using, using_using_at}
 use Rattle.chord_parser.proofs.classes.using.Goals as goal
 
 pub returns-in_err-rest-clause-err : goal.returns-in_err-rest-clause-err

@@ -6,7 +6,7 @@ use Rattle.chord_parser.specs.Lists.{wrapped}
 use Rattle.chord_parser.proofs.Reading.{step, ends}
 use Rattle.chord_parser.proofs.Chains.{stops, stops_in, exits, from_the_start, enters, then, renamed, as_node}
 use Rattle.chord_parser.proofs.ClassLists.{push_seen, using_way, all_usings, shorter_by, sized_using}
-use Rattle.chord_parser.proofs.ClassSteps.{usings_none, usings_none_at, usings_using, usings_using_at}
+use Rattle.chord_parser.proofs.made.ClassSteps.{usings_none, usings_none_at, usings_using, usings_using_at}
 use Rattle.chord_parser.proofs.classes.usings_of.Goals as goal
 
 pub each-init : goal.each-init

@@ -3,7 +3,7 @@ use Rattle.chord_tree.specs.Program.{token_kinds}
 use Rattle.chord_tree.proofs.Ahead.{next_small}
 use Rattle.chord_parser.proofs.Reading.{step, ends}
 use Rattle.chord_parser.proofs.Chains.{stops, exits, stuck_at}
-use Rattle.chord_parser.proofs.MemberSteps.{value_type_bool, value_type_bool_at, value_type_int, value_type_int_at, value_type_name, value_type_name_at, value_type_string, value_type_string_at, value_type_stuck}
+use Rattle.chord_parser.proofs.made.MemberSteps.{value_type_bool, value_type_bool_at, value_type_int, value_type_int_at, value_type_name, value_type_name_at, value_type_string, value_type_string_at, value_type_stuck}
 use Rattle.chord_parser.proofs.classes.value_type.Goals as goal
 
 pub returns-in_err-at-clause-err : goal.returns-in_err-at-clause-err

@@ -11,8 +11,8 @@ use Rattle.chord_parser.specs.Runs.{Reads}
 use Rattle.chord_parser.proofs.Reading.{step, ends, goes_into}
 use Rattle.chord_parser.proofs.Chains.{stops, stops_in, exits, enters, then, renamed, as_node, no_link, begun_link, dots_all, dots_push, opt_push, opt_first, opt_all, shorter, shorter_dot, operator_read, pushed}
 use Rattle.chord_parser.proofs.Climb.{chain_read, link_read, operand_stops, fewer_left, chain_shorter, link_shorter, some_level, top_level, climb_begins, climb_goes_on, climb_ends, climb_stops, lifted_to_or, links_grow, links_done, one_more_level}
-use Rattle.chord_parser.proofs.ChainSteps.{expr_and, expr_and_at}
-use Rattle.chord_parser.proofs.ExprSteps.{actuals_open, actuals_open_at, dot_dot, dot_dot_at, dots_dot, dots_dot_at, dots_none, dots_none_at, more_exprs_comma, more_exprs_comma_at, more_exprs_none, more_exprs_none_at, optional_actuals_actuals, optional_actuals_actuals_at, optional_actuals_none, optional_actuals_none_at, optional_exprs_expr, optional_exprs_expr_at, optional_exprs_none, optional_exprs_none_at, primary_operand_start, primary_operand_start_at, operand_start_name, operand_start_name_at, operand_start_new, operand_start_new_at, operand_start_open, operand_start_open_at, unary_minus, unary_minus_at, unary_not, unary_not_at, unary_primary, unary_primary_at}
+use Rattle.chord_parser.proofs.made.ChainSteps.{expr_and, expr_and_at}
+use Rattle.chord_parser.proofs.made.ExprSteps.{actuals_open, actuals_open_at, dot_dot, dot_dot_at, dots_dot, dots_dot_at, dots_none, dots_none_at, more_exprs_comma, more_exprs_comma_at, more_exprs_none, more_exprs_none_at, optional_actuals_actuals, optional_actuals_actuals_at, optional_actuals_none, optional_actuals_none_at, optional_exprs_expr, optional_exprs_expr_at, optional_exprs_none, optional_exprs_none_at, primary_operand_start, primary_operand_start_at, operand_start_name, operand_start_name_at, operand_start_new, operand_start_new_at, operand_start_open, operand_start_open_at, unary_minus, unary_minus_at, unary_not, unary_not_at, unary_primary, unary_primary_at}
 use Rattle.chord_parser.proofs.exprs.+parser.Goals as goal
 
 pub actuals-returns-in_err-at-clause-err : goal.actuals-returns-in_err-at-clause-err

@@ -4,7 +4,7 @@ use Rattle.chord_tree.specs.ExprNodes.{node_start}
 use Rattle.chord_tree.proofs.Ahead.{next_small}
 use Rattle.chord_parser.proofs.Reading.{step, ends}
 use Rattle.chord_parser.proofs.Chains.{stops, exits, as_node, stuck_at}
-use Rattle.chord_parser.proofs.ExprSteps.{operand_start_false, operand_start_false_at, operand_start_literal, operand_start_literal_at, operand_start_number, operand_start_number_at, operand_start_stuck, operand_start_this, operand_start_this_at, operand_start_true, operand_start_true_at}
+use Rattle.chord_parser.proofs.made.ExprSteps.{operand_start_false, operand_start_false_at, operand_start_literal, operand_start_literal_at, operand_start_number, operand_start_number_at, operand_start_stuck, operand_start_this, operand_start_this_at, operand_start_true, operand_start_true_at}
 use Rattle.chord_parser.proofs.exprs.start_token.Goals as goal
 
 pub returns-in_err-at-clause-err : goal.returns-in_err-at-clause-err

@@ -3,7 +3,7 @@ use Rattle.chord_tree.specs.Program.{token_kinds}
 use Rattle.chord_tree.proofs.Ahead.{next_small}
 use Rattle.chord_parser.proofs.Reading.{step, ends}
 use Rattle.chord_parser.proofs.Chains.{stops, stops_in, exits, enters, then, renamed, as_node, stuck_at}
-use Rattle.chord_parser.proofs.StmtSteps.{block_open_brace, block_open_brace_at, item_other, item_other_at, items_item, items_item_at, items_none, items_none_at, optional_else_else, optional_else_else_at, optional_else_none, optional_else_none_at, other_block, other_block_at, other_if, other_if_at, other_semicolon, other_semicolon_at, other_stuck, other_while, other_while_at, stmt_name, stmt_name_at, stmt_other, stmt_other_at}
+use Rattle.chord_parser.proofs.made.StmtSteps.{block_open_brace, block_open_brace_at, item_other, item_other_at, items_item, items_item_at, items_none, items_none_at, optional_else_else, optional_else_else_at, optional_else_none, optional_else_none_at, other_block, other_block_at, other_if, other_if_at, other_semicolon, other_semicolon_at, other_stuck, other_while, other_while_at, stmt_name, stmt_name_at, stmt_other, stmt_other_at}
 use Rattle.chord_tree.specs.StmtNodes.{node_other, node_block, node_item}
 use Rattle.chord_tree.specs.ViewStmts.{see_item}
 use Rattle.chord_parser.proofs.StmtLists.{items_push, items_all, named_stmt, unnamed_stmt, unnamed_item, shorter_item}

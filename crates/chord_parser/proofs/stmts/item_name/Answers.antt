@@ -3,7 +3,7 @@ use Rattle.chord_tree.specs.Program.{token_kinds}
 use Rattle.chord_tree.proofs.Ahead.{next_small}
 use Rattle.chord_parser.proofs.Reading.{step, ends}
 use Rattle.chord_parser.proofs.Chains.{stops, exits, as_node}
-use Rattle.chord_parser.proofs.StmtSteps.{after_name_name, after_name_name_at, after_name_tail, after_name_tail_at, item_name, item_name_at}
+use Rattle.chord_parser.proofs.made.StmtSteps.{after_name_name, after_name_name_at, after_name_tail, after_name_tail_at, item_name, item_name_at}
 use Rattle.chord_tree.specs.StmtNodes.{node_item}
 use Rattle.chord_parser.proofs.StmtLists.{named_item}
 use Rattle.chord_parser.proofs.stmts.item_name.Goals as goal

@@ -3,7 +3,7 @@ use Rattle.chord_tree.specs.Program.{token_kinds}
 use Rattle.chord_tree.proofs.Ahead.{next_small}
 use Rattle.chord_parser.proofs.Reading.{step, ends}
 use Rattle.chord_parser.proofs.Chains.{stops, exits, as_node}
-use Rattle.chord_parser.proofs.StmtSteps.{optional_expr_expr, optional_expr_expr_at, optional_expr_none, optional_expr_none_at, other_return, other_return_at}
+use Rattle.chord_parser.proofs.made.StmtSteps.{optional_expr_expr, optional_expr_expr_at, optional_expr_none, optional_expr_none_at, other_return, other_return_at}
 use Rattle.chord_tree.specs.StmtNodes.{node_other}
 use Rattle.chord_parser.proofs.stmts.return_stmt.Goals as goal
 

@@ -3,7 +3,7 @@ use Rattle.chord_tree.specs.Program.{token_kinds}
 use Rattle.chord_tree.proofs.Ahead.{next_small}
 use Rattle.chord_parser.proofs.Reading.{step, ends}
 use Rattle.chord_parser.proofs.Chains.{stops, exits, as_node, stuck_at}
-use Rattle.chord_parser.proofs.StmtSteps.{tail_actuals, tail_actuals_at, tail_assign, tail_assign_at, tail_dot, tail_dot_at, tail_stuck}
+use Rattle.chord_parser.proofs.made.StmtSteps.{tail_actuals, tail_actuals_at, tail_assign, tail_assign_at, tail_dot, tail_dot_at, tail_stuck}
 use Rattle.chord_tree.specs.StmtNodes.{node_tail}
 use Rattle.chord_parser.proofs.stmts.tail.Goals as goal
 

@@ -1,7 +1,7 @@
 use Rattle.std.proofs.Common.{sym, ap}
 use Rattle.chord_parser.proofs.Reading.{step, ends}
 use Rattle.chord_parser.proofs.Chains.{stops, exits, as_node}
-use Rattle.chord_parser.proofs.StmtSteps.{other_this, other_this_at}
+use Rattle.chord_parser.proofs.made.StmtSteps.{other_this, other_this_at}
 use Rattle.chord_tree.specs.StmtNodes.{node_other}
 use Rattle.chord_parser.proofs.stmts.this_stmt.Goals as goal
 

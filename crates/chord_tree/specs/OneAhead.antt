@@ -1,5 +1,6 @@
 -- The tables of one token ahead. Made by tools/grammar.py.
-use Rattle.std.specs.Prelude.{ℕ, List, [], ◌∷◌}
+use Rattle.std.specs.Prelude.{ℕ, List, [], ◌∷◌, get_or}
+use Rattle.chord_tree.specs.Grammar.{rule_count}
 
 -- the terminals that may begin each nonterminal
 unfoldable pub firsts : List (List ℕ)
@@ -174,6 +175,10 @@ choices =
     (121 ∷ 111 ∷ 121 ∷ 121 ∷ 121 ∷ 121 ∷ 121 ∷ 121 ∷ 121 ∷ 121 ∷ 121 ∷ 121 ∷ 121 ∷ 121 ∷ 121 ∷ 121 ∷ 121 ∷ 121 ∷ 121 ∷ 121 ∷ 118 ∷ 121 ∷ 121 ∷ 121 ∷ 121 ∷ 121 ∷ 121 ∷ 112 ∷ 113 ∷ 121 ∷ 121 ∷ 121 ∷ 121 ∷ 121 ∷ 121 ∷ 121 ∷ 121 ∷ 121 ∷ 121 ∷ 121 ∷ 121 ∷ 121 ∷ 121 ∷ 121 ∷ 114 ∷ 115 ∷ 116 ∷ 117 ∷ 121 ∷ 121 ∷ 121 ∷ 121 ∷ 121 ∷ []) ∷
     (119 ∷ 119 ∷ 119 ∷ 119 ∷ 119 ∷ 119 ∷ 119 ∷ 119 ∷ 119 ∷ 119 ∷ 119 ∷ 119 ∷ 119 ∷ 119 ∷ 119 ∷ 119 ∷ 119 ∷ 119 ∷ 119 ∷ 119 ∷ 120 ∷ 119 ∷ 119 ∷ 119 ∷ 119 ∷ 119 ∷ 119 ∷ 119 ∷ 119 ∷ 119 ∷ 119 ∷ 119 ∷ 119 ∷ 119 ∷ 119 ∷ 119 ∷ 119 ∷ 119 ∷ 119 ∷ 119 ∷ 119 ∷ 119 ∷ 119 ∷ 119 ∷ 119 ∷ 119 ∷ 119 ∷ 119 ∷ 119 ∷ 119 ∷ 119 ∷ 119 ∷ 119 ∷ []) ∷
     []
+
+-- the production of nonterminal x at terminal c, or the number of productions where none fits
+unfoldable pub choice : ℕ → ℕ → ℕ
+choice x c = get_or (get_or choices x []) c rule_count
 
 -- the nonterminals that may derive nothing
 unfoldable pub empties : List ℕ

@@ -6,8 +6,8 @@ use Rattle.chord_tree.specs.Symbol.{Terminal, Nonterminal}
 use Rattle.chord_tree.specs.Grammar.{productions, counted, rule_count, terminal_count}
 use Rattle.chord_tree.specs.Derivation.{next, parts_of, inside}
 use Rattle.chord_tree.specs.Node.{Made}
-use Rattle.chord_tree.proofs.Table.{choices}
-use Rattle.chord_tree.proofs.Ahead.{choice, below, else_rule}
+use Rattle.chord_tree.specs.OneAhead.{choices, choice}
+use Rattle.chord_tree.proofs.Ahead.{below, else_rule}
 use Rattle.chord_parser.specs.Runs.{Onward}
 use Rattle.chord_parser.proofs.Reading.{begun}
 
