@@ -1,5 +1,5 @@
 -- Each status by its row: from the headline to the statuses one by one.
-use Rattle.std.proofs.Common.{◌≡◌, ℕ, List, Option, Some, None, refl, sym, ap, ◌∙◌, inl, inr, arith, true, false}
+use Rattle.std.proofs.Common.{◌≡◌, ℕ, List, Option, Some, None, refl, sym, ◌∙◌, inl, inr, arith, true, false}
 use Rattle.std.specs.Prelude.{◌⊎◌, Bool, if◌then◌else◌}
 use Rattle.chord_base.specs.Meaning.{Program}
 use Rattle.chord_base.specs.Printed.{has_failed, main_ended, status_of}

@@ -1,5 +1,5 @@
 -- Where no I/O call failed, an accepted source is run, and every other one is refused.
-use Rattle.std.proofs.Common.{◌≡◌, ℕ, List, Option, Some, None, sym, ap, subst, ◌∙◌, inl, inr}
+use Rattle.std.proofs.Common.{◌≡◌, ℕ, List, Option, Some, None, sym, subst, ◌∙◌, inl, inr}
 use Rattle.std.specs.Prelude.{◌⊎◌}
 use Rattle.chord_io.specs.Faults.{Rose}
 use Rattle.chord_run.specs.Answers.{Answers, IsSilence}

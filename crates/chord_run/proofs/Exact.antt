@@ -1,5 +1,5 @@
 -- Answers are exact: a source has one machine, a refusal has one line, and what was taken whole comes with the status that is due.
-use Rattle.std.proofs.Common.{◌≡◌, ℕ, List, [], ◌∷◌, reverse, Option, Some, None, refl, sym, ap, subst, ◌∙◌, inl, inr, codes}
+use Rattle.std.proofs.Common.{◌≡◌, ℕ, List, [], ◌∷◌, Option, Some, None, refl, sym, ap, subst, ◌∙◌, inl, inr, codes}
 use Rattle.std.specs.Prelude.{◌⊎◌, length}
 use Rattle.chord_base.specs.Machine.{IsComplete}
 use Rattle.chord_base.specs.Meaning.{Program}
@@ -19,7 +19,7 @@ use Rattle.chord_run.specs.Due.{HasStatus, IsDue, IsFull, IsRefusalDue, text_due
 use Rattle.chord_run.specs.Chosen.{AreApart, Chosen}
 use Rattle.chord_run.specs.Refusals.{IsLine, IsTokenAt, token_start, with_position}
 use Rattle.chord_run.specs.Positions.{position_of}
-use Rattle.chord_run.specs.Rows.{AreSpecified, Fills, Finishes, IsExact, Refuses}
+use Rattle.chord_run.specs.Rows.{AreSpecified, IsExact}
 use Rattle.chord_run.specs.SmallForm.{IsSmallForm, StandInHead, body}
 use Rattle.chord_run.specs.Sources.{IsMachine}
 use Rattle.chord_run.specs.Written.{Due, IsWritten}

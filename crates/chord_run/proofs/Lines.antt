@@ -1,7 +1,5 @@
 -- Each cause of a refusal has a line, and each accepted source a machine.
 use Rattle.std.proofs.Common.{ℕ, List, arith, codes, length, refl}
-use Rattle.chord_base.specs.Meaning.{Program}
-use Rattle.chord_base.specs.declared.event.Limits.{Limits}
 use Rattle.chord_lexer.specs.Reading.{after_byte_order_mark}
 use Rattle.chord_lists.specs.Small.{small_program}
 use Rattle.chord_parser.specs.declared.parser.ParseFault.{ParseFault}

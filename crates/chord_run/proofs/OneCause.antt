@@ -1,7 +1,6 @@
 -- A source has at most one cause of a refusal.
 use Rattle.std.proofs.Common.{◌≡◌, ℕ, List, refl, sym, ap, inl, inr, arith}
 use Rattle.chord_lexer.proofs.Chains.{not_both, one_list, one_place}
-use Rattle.chord_lexer.specs.declared.token.Token.{Token}
 use Rattle.chord_parser.proofs.OneVerdict.{at_only, tall_only}
 use Rattle.chord_parser.specs.declared.parser.ParseFault.TheVariants as parser
 use Rattle.chord_tree.specs.Program.{token_kinds}

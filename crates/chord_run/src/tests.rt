@@ -1,6 +1,4 @@
 //! The top call on whole sources: what is written, the status, and what the report has.
-mod front;
-
 use crate::{Gate, Refusal, Report, chord};
 use chord_io::{MemSink, MemSource};
 use std::alloc::{AllocError, Global};

@@ -1,4 +1,3 @@
-use Rattle.std.proofs.Common.{◌≡◌, refl, sym, ap}
 use Rattle.chord_run.proofs.Starts.{points_at_token}
 use Rattle.chord_run.proofs.front.small_program.Goals as goal
 
