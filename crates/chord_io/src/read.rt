@@ -2,7 +2,7 @@
 ghost use Rattle.std.specs.Prelude.{◌≡◌, ℕ, ◌<◌, ◌≤◌, ◌+◌, List, length, Ok, IfOk, OnOk, OnErr, IsErrOf, IfSome, vec_len};
 ghost use Rattle.chord_io.specs.Faults.{Rose};
 ghost use Rattle.chord_io.specs.Pieces.{Gave, IsSpent};
-ghost use Rattle.chord_io.specs.declared.read.ReadFault.TheVariants.{Failed as read_failed, Memory as no_memory};
+ghost use Rattle.chord_io.specs.declared.read.ReadFault.TheVariants as faults;
 
 use crate::{Failed, Source};
 use std::alloc::{AllocError, Global};
@@ -25,7 +25,7 @@ pub enum ReadFault {
 }
 
 impl From<Failed> for ReadFault {
-    ghost from_gives = { λ _ fault. fault ≡ read_failed };
+    ghost from_gives = { λ _ fault. fault ≡ faults.Failed };
 
     fn from(_failed: Failed) -> ReadFault {
         ReadFault::Failed
@@ -33,7 +33,7 @@ impl From<Failed> for ReadFault {
 }
 
 impl From<AllocError> for ReadFault {
-    ghost from_gives = { λ _ fault. fault ≡ no_memory };
+    ghost from_gives = { λ _ fault. fault ≡ faults.Memory };
 
     fn from(_error: AllocError) -> ReadFault {
         ReadFault::Memory

@@ -4,7 +4,7 @@ ghost use Rattle.std.specs.List.{prefix_len};
 ghost use Rattle.std.specs.Char.{is_ascii_digit};
 ghost use Rattle.chord_journal.specs.Reading.{ReadsAs, decimal_at, negative_at, value_if_below, int_at, byte_at, text_at, object_at};
 ghost use Rattle.chord_journal.specs.Reading.{after as after_lem, is_decimal as is_plain_lem, begins_digit as begins_digit_lem, digit_of as digit_of_lem};
-ghost use Rattle.chord_journal.specs.declared.parts.LineFault.TheVariants.{Memory as no_memory};
+ghost use Rattle.chord_journal.specs.declared.parts.LineFault.TheVariants as faults;
 
 use arrayvec::ArrayVec;
 use chord_base::text::{MAX_TEXT_BYTES, Text};
@@ -21,7 +21,7 @@ pub enum LineFault {
 }
 
 impl<T: Drop> From<AllocFailed<T>> for LineFault {
-    ghost from_gives = { λ _ fault. fault ≡ no_memory };
+    ghost from_gives = { λ _ fault. fault ≡ faults.Memory };
 
     fn from(_failed: AllocFailed<T>) -> LineFault {
         LineFault::Memory

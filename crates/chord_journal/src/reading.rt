@@ -6,7 +6,7 @@ ghost use Rattle.chord_journal.specs.Text.{journal_text};
 ghost use Rattle.chord_journal.specs.Typed.{AreTyped};
 ghost use Rattle.chord_journal.specs.Wrong.{IsWrongAt, UnlessMemory};
 ghost use Rattle.chord_journal.specs.Reading.{ReadsAs, header_at};
-ghost use Rattle.chord_journal.specs.declared.reading.JournalFault.TheVariants.{Memory as no_memory};
+ghost use Rattle.chord_journal.specs.declared.reading.JournalFault.TheVariants as faults;
 
 use crate::line::read_entry;
 use crate::parts::{LineFault, after, read_number};
@@ -27,7 +27,7 @@ pub enum JournalFault {
 }
 
 impl<T: Drop> From<AllocFailed<T>> for JournalFault {
-    ghost from_gives = { λ _ fault. fault ≡ no_memory };
+    ghost from_gives = { λ _ fault. fault ≡ faults.Memory };
 
     fn from(_failed: AllocFailed<T>) -> JournalFault {
         JournalFault::Memory
