@@ -1,6 +1,6 @@
 #!/usr/bin/env python3
 """Has each word one meaning?  Refuses a name that two modules of definitions, or two modules of lemmas, of one reader define; a definition or lemma
-without a sentence; and a row of docs/WORDS.md that names a file which is not there."""
+without a sentence; a definition that stands on a lemma; and a row of docs/WORDS.md that names a file which is not there."""
 
 import collections
 import os
@@ -10,6 +10,7 @@ import sys
 sys.dont_write_bytecode = True
 import antt
 
+LEMMAS = re.compile(r'^\s*use Rattle\.chord_\w+\.proofs\b')
 FILE = re.compile(r'`((?:crates|docs|tools|bench|cases)/[^` ]+|chord_\w+/[^` ]+)`')
 
 
@@ -44,6 +45,16 @@ def unsaid(below):
                         yield f'{it.place}: {it.name} has no sentence above it'
 
 
+def on_lemmas(below):
+    """Modules of definitions that import a module of the repository's proofs."""
+    for crate in below:
+        for path in antt.modules(crate, 'specs'):
+            with open(path, encoding='utf-8') as file:
+                for number, line in enumerate(file, 1):
+                    if LEMMAS.match(line):
+                        yield f'{os.path.relpath(path, antt.TOP)}:{number}: a definition stands on a lemma'
+
+
 def lost_files():
     """Files that a row of docs/WORDS.md names and that are not there."""
     with open(f'{antt.TOP}/docs/WORDS.md', encoding='utf-8') as page:
@@ -57,7 +68,7 @@ def lost_files():
 
 def main():
     below = antt.crates()
-    wrong = [*clashes(below, 'specs'), *clashes(below, 'proofs'), *unsaid(below), *lost_files()]
+    wrong = [*clashes(below, 'specs'), *clashes(below, 'proofs'), *unsaid(below), *on_lemmas(below), *lost_files()]
     for line in wrong:
         print(f'words: {line}', file=sys.stderr)
     return 1 if wrong else 0
