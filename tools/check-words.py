@@ -1,6 +1,6 @@
 #!/usr/bin/env python3
-"""Has each word one meaning?  Refuses a name that two modules of definitions, or two modules of lemmas, of one reader define; a definition or lemma
-without a sentence; a definition that stands on a lemma; and a row of docs/WORDS.md that names a file which is not there."""
+"""Has each word one meaning?  Refuses a name that two modules of definitions, or two modules of lemmas, of one reader define; a definition, or a lemma
+that other modules see, without a sentence; a definition that stands on a lemma; and a row of docs/WORDS.md that names a file which is not there."""
 
 import collections
 import os
