@@ -20,17 +20,17 @@ use Rattle.chord_classes.specs.AllNotes.{all_notes, LeastIsBreak}
 
 -- a rule of this number, and what it notes
 data IsRule (p : ProgramTree) : ℕ → Notes Site ℕ → Type 0 where
-  R02 : IsRule p 2 (notes_02 p)
-  R14 : IsRule p 14 notes_14
-  R15 : IsRule p 15 notes_15
-  R16 : IsRule p 16 notes_16
-  R17 : IsRule p 17 notes_17
-  R18 : IsRule p 18 notes_18
-  R19 : IsRule p 19 notes_19
-  R20 : IsRule p 20 notes_20
-  R22 : IsRule p 22 notes_22
-  R23 : IsRule p 23 notes_23
-  R24 : IsRule p 24 notes_24
+  Rule_02 : IsRule p 2 (notes_02 p)
+  Rule_14 : IsRule p 14 notes_14
+  Rule_15 : IsRule p 15 notes_15
+  Rule_16 : IsRule p 16 notes_16
+  Rule_17 : IsRule p 17 notes_17
+  Rule_18 : IsRule p 18 notes_18
+  Rule_19 : IsRule p 19 notes_19
+  Rule_20 : IsRule p 20 notes_20
+  Rule_22 : IsRule p 22 notes_22
+  Rule_23 : IsRule p 23 notes_23
+  Rule_24 : IsRule p 24 notes_24
 
 abbrev at_one : Notes Site ℕ → Spot Site → List ℕ
 at_one notes s = at_spot notes.at_term notes.at_item notes.at_member s
@@ -40,39 +40,39 @@ at_all notes ss = flat_map (at_one notes) ss
 
 -- what a rule notes at a spot is noted with its number
 keyed : (p : ProgramTree) (r : ℕ) (notes : Notes Site ℕ) (s : Spot Site) (at : ℕ) → IsRule p r notes → IsIn (at_one notes s) at → IsIn (at_one (all_notes p) s) (32 * at + r)
-keyed p r notes (AtTerm site role term) at R02 h = in_left (keys 2 (undeclared site (typed_term site term))) (keys 23 (too_large (typed_term site term)) ++ (keys 24 (too_long (typed_term site term)) ++ (keys 14 (unknown site role (typed_term site term)) ++ (keys 15 (disagreeing site (typed_term site term)) ++ (keys 16 (inaccessible site (typed_term site term)) ++ (keys 19 (used_valueless site role (typed_term site term)) ++ (keys 22 (miscounted site (typed_term site term))))))))) (32 * at + 2) (at_key 2 (undeclared site (typed_term site term)) at h)
-keyed p r notes (AtTerm site role term) at R14 h = in_right (keys 2 (undeclared site (typed_term site term))) (keys 23 (too_large (typed_term site term)) ++ (keys 24 (too_long (typed_term site term)) ++ (keys 14 (unknown site role (typed_term site term)) ++ (keys 15 (disagreeing site (typed_term site term)) ++ (keys 16 (inaccessible site (typed_term site term)) ++ (keys 19 (used_valueless site role (typed_term site term)) ++ (keys 22 (miscounted site (typed_term site term))))))))) (32 * at + 14) (in_right (keys 23 (too_large (typed_term site term))) (keys 24 (too_long (typed_term site term)) ++ (keys 14 (unknown site role (typed_term site term)) ++ (keys 15 (disagreeing site (typed_term site term)) ++ (keys 16 (inaccessible site (typed_term site term)) ++ (keys 19 (used_valueless site role (typed_term site term)) ++ (keys 22 (miscounted site (typed_term site term)))))))) (32 * at + 14) (in_right (keys 24 (too_long (typed_term site term))) (keys 14 (unknown site role (typed_term site term)) ++ (keys 15 (disagreeing site (typed_term site term)) ++ (keys 16 (inaccessible site (typed_term site term)) ++ (keys 19 (used_valueless site role (typed_term site term)) ++ (keys 22 (miscounted site (typed_term site term))))))) (32 * at + 14) (in_left (keys 14 (unknown site role (typed_term site term))) (keys 15 (disagreeing site (typed_term site term)) ++ (keys 16 (inaccessible site (typed_term site term)) ++ (keys 19 (used_valueless site role (typed_term site term)) ++ (keys 22 (miscounted site (typed_term site term)))))) (32 * at + 14) (at_key 14 (unknown site role (typed_term site term)) at h))))
-keyed p r notes (AtTerm site role term) at R15 h = in_right (keys 2 (undeclared site (typed_term site term))) (keys 23 (too_large (typed_term site term)) ++ (keys 24 (too_long (typed_term site term)) ++ (keys 14 (unknown site role (typed_term site term)) ++ (keys 15 (disagreeing site (typed_term site term)) ++ (keys 16 (inaccessible site (typed_term site term)) ++ (keys 19 (used_valueless site role (typed_term site term)) ++ (keys 22 (miscounted site (typed_term site term))))))))) (32 * at + 15) (in_right (keys 23 (too_large (typed_term site term))) (keys 24 (too_long (typed_term site term)) ++ (keys 14 (unknown site role (typed_term site term)) ++ (keys 15 (disagreeing site (typed_term site term)) ++ (keys 16 (inaccessible site (typed_term site term)) ++ (keys 19 (used_valueless site role (typed_term site term)) ++ (keys 22 (miscounted site (typed_term site term)))))))) (32 * at + 15) (in_right (keys 24 (too_long (typed_term site term))) (keys 14 (unknown site role (typed_term site term)) ++ (keys 15 (disagreeing site (typed_term site term)) ++ (keys 16 (inaccessible site (typed_term site term)) ++ (keys 19 (used_valueless site role (typed_term site term)) ++ (keys 22 (miscounted site (typed_term site term))))))) (32 * at + 15) (in_right (keys 14 (unknown site role (typed_term site term))) (keys 15 (disagreeing site (typed_term site term)) ++ (keys 16 (inaccessible site (typed_term site term)) ++ (keys 19 (used_valueless site role (typed_term site term)) ++ (keys 22 (miscounted site (typed_term site term)))))) (32 * at + 15) (in_left (keys 15 (disagreeing site (typed_term site term))) (keys 16 (inaccessible site (typed_term site term)) ++ (keys 19 (used_valueless site role (typed_term site term)) ++ (keys 22 (miscounted site (typed_term site term))))) (32 * at + 15) (at_key 15 (disagreeing site (typed_term site term)) at h)))))
-keyed p r notes (AtTerm site role term) at R16 h = in_right (keys 2 (undeclared site (typed_term site term))) (keys 23 (too_large (typed_term site term)) ++ (keys 24 (too_long (typed_term site term)) ++ (keys 14 (unknown site role (typed_term site term)) ++ (keys 15 (disagreeing site (typed_term site term)) ++ (keys 16 (inaccessible site (typed_term site term)) ++ (keys 19 (used_valueless site role (typed_term site term)) ++ (keys 22 (miscounted site (typed_term site term))))))))) (32 * at + 16) (in_right (keys 23 (too_large (typed_term site term))) (keys 24 (too_long (typed_term site term)) ++ (keys 14 (unknown site role (typed_term site term)) ++ (keys 15 (disagreeing site (typed_term site term)) ++ (keys 16 (inaccessible site (typed_term site term)) ++ (keys 19 (used_valueless site role (typed_term site term)) ++ (keys 22 (miscounted site (typed_term site term)))))))) (32 * at + 16) (in_right (keys 24 (too_long (typed_term site term))) (keys 14 (unknown site role (typed_term site term)) ++ (keys 15 (disagreeing site (typed_term site term)) ++ (keys 16 (inaccessible site (typed_term site term)) ++ (keys 19 (used_valueless site role (typed_term site term)) ++ (keys 22 (miscounted site (typed_term site term))))))) (32 * at + 16) (in_right (keys 14 (unknown site role (typed_term site term))) (keys 15 (disagreeing site (typed_term site term)) ++ (keys 16 (inaccessible site (typed_term site term)) ++ (keys 19 (used_valueless site role (typed_term site term)) ++ (keys 22 (miscounted site (typed_term site term)))))) (32 * at + 16) (in_right (keys 15 (disagreeing site (typed_term site term))) (keys 16 (inaccessible site (typed_term site term)) ++ (keys 19 (used_valueless site role (typed_term site term)) ++ (keys 22 (miscounted site (typed_term site term))))) (32 * at + 16) (in_left (keys 16 (inaccessible site (typed_term site term))) (keys 19 (used_valueless site role (typed_term site term)) ++ (keys 22 (miscounted site (typed_term site term)))) (32 * at + 16) (at_key 16 (inaccessible site (typed_term site term)) at h))))))
-keyed p r notes (AtTerm site role term) at R17 h = absurd h
-keyed p r notes (AtTerm site role term) at R18 h = absurd h
-keyed p r notes (AtTerm site role term) at R19 h = in_right (keys 2 (undeclared site (typed_term site term))) (keys 23 (too_large (typed_term site term)) ++ (keys 24 (too_long (typed_term site term)) ++ (keys 14 (unknown site role (typed_term site term)) ++ (keys 15 (disagreeing site (typed_term site term)) ++ (keys 16 (inaccessible site (typed_term site term)) ++ (keys 19 (used_valueless site role (typed_term site term)) ++ (keys 22 (miscounted site (typed_term site term))))))))) (32 * at + 19) (in_right (keys 23 (too_large (typed_term site term))) (keys 24 (too_long (typed_term site term)) ++ (keys 14 (unknown site role (typed_term site term)) ++ (keys 15 (disagreeing site (typed_term site term)) ++ (keys 16 (inaccessible site (typed_term site term)) ++ (keys 19 (used_valueless site role (typed_term site term)) ++ (keys 22 (miscounted site (typed_term site term)))))))) (32 * at + 19) (in_right (keys 24 (too_long (typed_term site term))) (keys 14 (unknown site role (typed_term site term)) ++ (keys 15 (disagreeing site (typed_term site term)) ++ (keys 16 (inaccessible site (typed_term site term)) ++ (keys 19 (used_valueless site role (typed_term site term)) ++ (keys 22 (miscounted site (typed_term site term))))))) (32 * at + 19) (in_right (keys 14 (unknown site role (typed_term site term))) (keys 15 (disagreeing site (typed_term site term)) ++ (keys 16 (inaccessible site (typed_term site term)) ++ (keys 19 (used_valueless site role (typed_term site term)) ++ (keys 22 (miscounted site (typed_term site term)))))) (32 * at + 19) (in_right (keys 15 (disagreeing site (typed_term site term))) (keys 16 (inaccessible site (typed_term site term)) ++ (keys 19 (used_valueless site role (typed_term site term)) ++ (keys 22 (miscounted site (typed_term site term))))) (32 * at + 19) (in_right (keys 16 (inaccessible site (typed_term site term))) (keys 19 (used_valueless site role (typed_term site term)) ++ (keys 22 (miscounted site (typed_term site term)))) (32 * at + 19) (in_left (keys 19 (used_valueless site role (typed_term site term))) (keys 22 (miscounted site (typed_term site term))) (32 * at + 19) (at_key 19 (used_valueless site role (typed_term site term)) at h)))))))
-keyed p r notes (AtTerm site role term) at R20 h = absurd h
-keyed p r notes (AtTerm site role term) at R22 h = in_right (keys 2 (undeclared site (typed_term site term))) (keys 23 (too_large (typed_term site term)) ++ (keys 24 (too_long (typed_term site term)) ++ (keys 14 (unknown site role (typed_term site term)) ++ (keys 15 (disagreeing site (typed_term site term)) ++ (keys 16 (inaccessible site (typed_term site term)) ++ (keys 19 (used_valueless site role (typed_term site term)) ++ (keys 22 (miscounted site (typed_term site term))))))))) (32 * at + 22) (in_right (keys 23 (too_large (typed_term site term))) (keys 24 (too_long (typed_term site term)) ++ (keys 14 (unknown site role (typed_term site term)) ++ (keys 15 (disagreeing site (typed_term site term)) ++ (keys 16 (inaccessible site (typed_term site term)) ++ (keys 19 (used_valueless site role (typed_term site term)) ++ (keys 22 (miscounted site (typed_term site term)))))))) (32 * at + 22) (in_right (keys 24 (too_long (typed_term site term))) (keys 14 (unknown site role (typed_term site term)) ++ (keys 15 (disagreeing site (typed_term site term)) ++ (keys 16 (inaccessible site (typed_term site term)) ++ (keys 19 (used_valueless site role (typed_term site term)) ++ (keys 22 (miscounted site (typed_term site term))))))) (32 * at + 22) (in_right (keys 14 (unknown site role (typed_term site term))) (keys 15 (disagreeing site (typed_term site term)) ++ (keys 16 (inaccessible site (typed_term site term)) ++ (keys 19 (used_valueless site role (typed_term site term)) ++ (keys 22 (miscounted site (typed_term site term)))))) (32 * at + 22) (in_right (keys 15 (disagreeing site (typed_term site term))) (keys 16 (inaccessible site (typed_term site term)) ++ (keys 19 (used_valueless site role (typed_term site term)) ++ (keys 22 (miscounted site (typed_term site term))))) (32 * at + 22) (in_right (keys 16 (inaccessible site (typed_term site term))) (keys 19 (used_valueless site role (typed_term site term)) ++ (keys 22 (miscounted site (typed_term site term)))) (32 * at + 22) (in_right (keys 19 (used_valueless site role (typed_term site term))) (keys 22 (miscounted site (typed_term site term))) (32 * at + 22) (at_key 22 (miscounted site (typed_term site term)) at h)))))))
-keyed p r notes (AtTerm site role term) at R23 h = in_right (keys 2 (undeclared site (typed_term site term))) (keys 23 (too_large (typed_term site term)) ++ (keys 24 (too_long (typed_term site term)) ++ (keys 14 (unknown site role (typed_term site term)) ++ (keys 15 (disagreeing site (typed_term site term)) ++ (keys 16 (inaccessible site (typed_term site term)) ++ (keys 19 (used_valueless site role (typed_term site term)) ++ (keys 22 (miscounted site (typed_term site term))))))))) (32 * at + 23) (in_left (keys 23 (too_large (typed_term site term))) (keys 24 (too_long (typed_term site term)) ++ (keys 14 (unknown site role (typed_term site term)) ++ (keys 15 (disagreeing site (typed_term site term)) ++ (keys 16 (inaccessible site (typed_term site term)) ++ (keys 19 (used_valueless site role (typed_term site term)) ++ (keys 22 (miscounted site (typed_term site term)))))))) (32 * at + 23) (at_key 23 (too_large (typed_term site term)) at h))
-keyed p r notes (AtTerm site role term) at R24 h = in_right (keys 2 (undeclared site (typed_term site term))) (keys 23 (too_large (typed_term site term)) ++ (keys 24 (too_long (typed_term site term)) ++ (keys 14 (unknown site role (typed_term site term)) ++ (keys 15 (disagreeing site (typed_term site term)) ++ (keys 16 (inaccessible site (typed_term site term)) ++ (keys 19 (used_valueless site role (typed_term site term)) ++ (keys 22 (miscounted site (typed_term site term))))))))) (32 * at + 24) (in_right (keys 23 (too_large (typed_term site term))) (keys 24 (too_long (typed_term site term)) ++ (keys 14 (unknown site role (typed_term site term)) ++ (keys 15 (disagreeing site (typed_term site term)) ++ (keys 16 (inaccessible site (typed_term site term)) ++ (keys 19 (used_valueless site role (typed_term site term)) ++ (keys 22 (miscounted site (typed_term site term)))))))) (32 * at + 24) (in_left (keys 24 (too_long (typed_term site term))) (keys 14 (unknown site role (typed_term site term)) ++ (keys 15 (disagreeing site (typed_term site term)) ++ (keys 16 (inaccessible site (typed_term site term)) ++ (keys 19 (used_valueless site role (typed_term site term)) ++ (keys 22 (miscounted site (typed_term site term))))))) (32 * at + 24) (at_key 24 (too_long (typed_term site term)) at h)))
-keyed p r notes (AtItem site item) at R02 h = in_left (keys 2 (undeclared_item site item)) (keys 14 (unknown_item site item) ++ (keys 15 (disagreeing_item site item) ++ (keys 18 (misreturned site item) ++ (keys 20 (redeclared site item))))) (32 * at + 2) (at_key 2 (undeclared_item site item) at h)
-keyed p r notes (AtItem site item) at R14 h = in_right (keys 2 (undeclared_item site item)) (keys 14 (unknown_item site item) ++ (keys 15 (disagreeing_item site item) ++ (keys 18 (misreturned site item) ++ (keys 20 (redeclared site item))))) (32 * at + 14) (in_left (keys 14 (unknown_item site item)) (keys 15 (disagreeing_item site item) ++ (keys 18 (misreturned site item) ++ (keys 20 (redeclared site item)))) (32 * at + 14) (at_key 14 (unknown_item site item) at h))
-keyed p r notes (AtItem site item) at R15 h = in_right (keys 2 (undeclared_item site item)) (keys 14 (unknown_item site item) ++ (keys 15 (disagreeing_item site item) ++ (keys 18 (misreturned site item) ++ (keys 20 (redeclared site item))))) (32 * at + 15) (in_right (keys 14 (unknown_item site item)) (keys 15 (disagreeing_item site item) ++ (keys 18 (misreturned site item) ++ (keys 20 (redeclared site item)))) (32 * at + 15) (in_left (keys 15 (disagreeing_item site item)) (keys 18 (misreturned site item) ++ (keys 20 (redeclared site item))) (32 * at + 15) (at_key 15 (disagreeing_item site item) at h)))
-keyed p r notes (AtItem site item) at R16 h = absurd h
-keyed p r notes (AtItem site item) at R17 h = absurd h
-keyed p r notes (AtItem site item) at R18 h = in_right (keys 2 (undeclared_item site item)) (keys 14 (unknown_item site item) ++ (keys 15 (disagreeing_item site item) ++ (keys 18 (misreturned site item) ++ (keys 20 (redeclared site item))))) (32 * at + 18) (in_right (keys 14 (unknown_item site item)) (keys 15 (disagreeing_item site item) ++ (keys 18 (misreturned site item) ++ (keys 20 (redeclared site item)))) (32 * at + 18) (in_right (keys 15 (disagreeing_item site item)) (keys 18 (misreturned site item) ++ (keys 20 (redeclared site item))) (32 * at + 18) (in_left (keys 18 (misreturned site item)) (keys 20 (redeclared site item)) (32 * at + 18) (at_key 18 (misreturned site item) at h))))
-keyed p r notes (AtItem site item) at R19 h = absurd h
-keyed p r notes (AtItem site item) at R20 h = in_right (keys 2 (undeclared_item site item)) (keys 14 (unknown_item site item) ++ (keys 15 (disagreeing_item site item) ++ (keys 18 (misreturned site item) ++ (keys 20 (redeclared site item))))) (32 * at + 20) (in_right (keys 14 (unknown_item site item)) (keys 15 (disagreeing_item site item) ++ (keys 18 (misreturned site item) ++ (keys 20 (redeclared site item)))) (32 * at + 20) (in_right (keys 15 (disagreeing_item site item)) (keys 18 (misreturned site item) ++ (keys 20 (redeclared site item))) (32 * at + 20) (in_right (keys 18 (misreturned site item)) (keys 20 (redeclared site item)) (32 * at + 20) (at_key 20 (redeclared site item) at h))))
-keyed p r notes (AtItem site item) at R22 h = absurd h
-keyed p r notes (AtItem site item) at R23 h = absurd h
-keyed p r notes (AtItem site item) at R24 h = absurd h
-keyed p r notes (AtMember class member) at R02 h = in_left (keys 2 (undeclared_member (table_of p) member)) (keys 17 (unreturned member)) (32 * at + 2) (at_key 2 (undeclared_member (table_of p) member) at h)
-keyed p r notes (AtMember class member) at R14 h = absurd h
-keyed p r notes (AtMember class member) at R15 h = absurd h
-keyed p r notes (AtMember class member) at R16 h = absurd h
-keyed p r notes (AtMember class member) at R17 h = in_right (keys 2 (undeclared_member (table_of p) member)) (keys 17 (unreturned member)) (32 * at + 17) (at_key 17 (unreturned member) at h)
-keyed p r notes (AtMember class member) at R18 h = absurd h
-keyed p r notes (AtMember class member) at R19 h = absurd h
-keyed p r notes (AtMember class member) at R20 h = absurd h
-keyed p r notes (AtMember class member) at R22 h = absurd h
-keyed p r notes (AtMember class member) at R23 h = absurd h
-keyed p r notes (AtMember class member) at R24 h = absurd h
+keyed p r notes (AtTerm site role term) at Rule_02 h = in_left (keys 2 (undeclared site (typed_term site term))) (keys 23 (too_large (typed_term site term)) ++ (keys 24 (too_long (typed_term site term)) ++ (keys 14 (unknown site role (typed_term site term)) ++ (keys 15 (disagreeing site (typed_term site term)) ++ (keys 16 (inaccessible site (typed_term site term)) ++ (keys 19 (used_valueless site role (typed_term site term)) ++ (keys 22 (miscounted site (typed_term site term))))))))) (32 * at + 2) (at_key 2 (undeclared site (typed_term site term)) at h)
+keyed p r notes (AtTerm site role term) at Rule_14 h = in_right (keys 2 (undeclared site (typed_term site term))) (keys 23 (too_large (typed_term site term)) ++ (keys 24 (too_long (typed_term site term)) ++ (keys 14 (unknown site role (typed_term site term)) ++ (keys 15 (disagreeing site (typed_term site term)) ++ (keys 16 (inaccessible site (typed_term site term)) ++ (keys 19 (used_valueless site role (typed_term site term)) ++ (keys 22 (miscounted site (typed_term site term))))))))) (32 * at + 14) (in_right (keys 23 (too_large (typed_term site term))) (keys 24 (too_long (typed_term site term)) ++ (keys 14 (unknown site role (typed_term site term)) ++ (keys 15 (disagreeing site (typed_term site term)) ++ (keys 16 (inaccessible site (typed_term site term)) ++ (keys 19 (used_valueless site role (typed_term site term)) ++ (keys 22 (miscounted site (typed_term site term)))))))) (32 * at + 14) (in_right (keys 24 (too_long (typed_term site term))) (keys 14 (unknown site role (typed_term site term)) ++ (keys 15 (disagreeing site (typed_term site term)) ++ (keys 16 (inaccessible site (typed_term site term)) ++ (keys 19 (used_valueless site role (typed_term site term)) ++ (keys 22 (miscounted site (typed_term site term))))))) (32 * at + 14) (in_left (keys 14 (unknown site role (typed_term site term))) (keys 15 (disagreeing site (typed_term site term)) ++ (keys 16 (inaccessible site (typed_term site term)) ++ (keys 19 (used_valueless site role (typed_term site term)) ++ (keys 22 (miscounted site (typed_term site term)))))) (32 * at + 14) (at_key 14 (unknown site role (typed_term site term)) at h))))
+keyed p r notes (AtTerm site role term) at Rule_15 h = in_right (keys 2 (undeclared site (typed_term site term))) (keys 23 (too_large (typed_term site term)) ++ (keys 24 (too_long (typed_term site term)) ++ (keys 14 (unknown site role (typed_term site term)) ++ (keys 15 (disagreeing site (typed_term site term)) ++ (keys 16 (inaccessible site (typed_term site term)) ++ (keys 19 (used_valueless site role (typed_term site term)) ++ (keys 22 (miscounted site (typed_term site term))))))))) (32 * at + 15) (in_right (keys 23 (too_large (typed_term site term))) (keys 24 (too_long (typed_term site term)) ++ (keys 14 (unknown site role (typed_term site term)) ++ (keys 15 (disagreeing site (typed_term site term)) ++ (keys 16 (inaccessible site (typed_term site term)) ++ (keys 19 (used_valueless site role (typed_term site term)) ++ (keys 22 (miscounted site (typed_term site term)))))))) (32 * at + 15) (in_right (keys 24 (too_long (typed_term site term))) (keys 14 (unknown site role (typed_term site term)) ++ (keys 15 (disagreeing site (typed_term site term)) ++ (keys 16 (inaccessible site (typed_term site term)) ++ (keys 19 (used_valueless site role (typed_term site term)) ++ (keys 22 (miscounted site (typed_term site term))))))) (32 * at + 15) (in_right (keys 14 (unknown site role (typed_term site term))) (keys 15 (disagreeing site (typed_term site term)) ++ (keys 16 (inaccessible site (typed_term site term)) ++ (keys 19 (used_valueless site role (typed_term site term)) ++ (keys 22 (miscounted site (typed_term site term)))))) (32 * at + 15) (in_left (keys 15 (disagreeing site (typed_term site term))) (keys 16 (inaccessible site (typed_term site term)) ++ (keys 19 (used_valueless site role (typed_term site term)) ++ (keys 22 (miscounted site (typed_term site term))))) (32 * at + 15) (at_key 15 (disagreeing site (typed_term site term)) at h)))))
+keyed p r notes (AtTerm site role term) at Rule_16 h = in_right (keys 2 (undeclared site (typed_term site term))) (keys 23 (too_large (typed_term site term)) ++ (keys 24 (too_long (typed_term site term)) ++ (keys 14 (unknown site role (typed_term site term)) ++ (keys 15 (disagreeing site (typed_term site term)) ++ (keys 16 (inaccessible site (typed_term site term)) ++ (keys 19 (used_valueless site role (typed_term site term)) ++ (keys 22 (miscounted site (typed_term site term))))))))) (32 * at + 16) (in_right (keys 23 (too_large (typed_term site term))) (keys 24 (too_long (typed_term site term)) ++ (keys 14 (unknown site role (typed_term site term)) ++ (keys 15 (disagreeing site (typed_term site term)) ++ (keys 16 (inaccessible site (typed_term site term)) ++ (keys 19 (used_valueless site role (typed_term site term)) ++ (keys 22 (miscounted site (typed_term site term)))))))) (32 * at + 16) (in_right (keys 24 (too_long (typed_term site term))) (keys 14 (unknown site role (typed_term site term)) ++ (keys 15 (disagreeing site (typed_term site term)) ++ (keys 16 (inaccessible site (typed_term site term)) ++ (keys 19 (used_valueless site role (typed_term site term)) ++ (keys 22 (miscounted site (typed_term site term))))))) (32 * at + 16) (in_right (keys 14 (unknown site role (typed_term site term))) (keys 15 (disagreeing site (typed_term site term)) ++ (keys 16 (inaccessible site (typed_term site term)) ++ (keys 19 (used_valueless site role (typed_term site term)) ++ (keys 22 (miscounted site (typed_term site term)))))) (32 * at + 16) (in_right (keys 15 (disagreeing site (typed_term site term))) (keys 16 (inaccessible site (typed_term site term)) ++ (keys 19 (used_valueless site role (typed_term site term)) ++ (keys 22 (miscounted site (typed_term site term))))) (32 * at + 16) (in_left (keys 16 (inaccessible site (typed_term site term))) (keys 19 (used_valueless site role (typed_term site term)) ++ (keys 22 (miscounted site (typed_term site term)))) (32 * at + 16) (at_key 16 (inaccessible site (typed_term site term)) at h))))))
+keyed p r notes (AtTerm site role term) at Rule_17 h = absurd h
+keyed p r notes (AtTerm site role term) at Rule_18 h = absurd h
+keyed p r notes (AtTerm site role term) at Rule_19 h = in_right (keys 2 (undeclared site (typed_term site term))) (keys 23 (too_large (typed_term site term)) ++ (keys 24 (too_long (typed_term site term)) ++ (keys 14 (unknown site role (typed_term site term)) ++ (keys 15 (disagreeing site (typed_term site term)) ++ (keys 16 (inaccessible site (typed_term site term)) ++ (keys 19 (used_valueless site role (typed_term site term)) ++ (keys 22 (miscounted site (typed_term site term))))))))) (32 * at + 19) (in_right (keys 23 (too_large (typed_term site term))) (keys 24 (too_long (typed_term site term)) ++ (keys 14 (unknown site role (typed_term site term)) ++ (keys 15 (disagreeing site (typed_term site term)) ++ (keys 16 (inaccessible site (typed_term site term)) ++ (keys 19 (used_valueless site role (typed_term site term)) ++ (keys 22 (miscounted site (typed_term site term)))))))) (32 * at + 19) (in_right (keys 24 (too_long (typed_term site term))) (keys 14 (unknown site role (typed_term site term)) ++ (keys 15 (disagreeing site (typed_term site term)) ++ (keys 16 (inaccessible site (typed_term site term)) ++ (keys 19 (used_valueless site role (typed_term site term)) ++ (keys 22 (miscounted site (typed_term site term))))))) (32 * at + 19) (in_right (keys 14 (unknown site role (typed_term site term))) (keys 15 (disagreeing site (typed_term site term)) ++ (keys 16 (inaccessible site (typed_term site term)) ++ (keys 19 (used_valueless site role (typed_term site term)) ++ (keys 22 (miscounted site (typed_term site term)))))) (32 * at + 19) (in_right (keys 15 (disagreeing site (typed_term site term))) (keys 16 (inaccessible site (typed_term site term)) ++ (keys 19 (used_valueless site role (typed_term site term)) ++ (keys 22 (miscounted site (typed_term site term))))) (32 * at + 19) (in_right (keys 16 (inaccessible site (typed_term site term))) (keys 19 (used_valueless site role (typed_term site term)) ++ (keys 22 (miscounted site (typed_term site term)))) (32 * at + 19) (in_left (keys 19 (used_valueless site role (typed_term site term))) (keys 22 (miscounted site (typed_term site term))) (32 * at + 19) (at_key 19 (used_valueless site role (typed_term site term)) at h)))))))
+keyed p r notes (AtTerm site role term) at Rule_20 h = absurd h
+keyed p r notes (AtTerm site role term) at Rule_22 h = in_right (keys 2 (undeclared site (typed_term site term))) (keys 23 (too_large (typed_term site term)) ++ (keys 24 (too_long (typed_term site term)) ++ (keys 14 (unknown site role (typed_term site term)) ++ (keys 15 (disagreeing site (typed_term site term)) ++ (keys 16 (inaccessible site (typed_term site term)) ++ (keys 19 (used_valueless site role (typed_term site term)) ++ (keys 22 (miscounted site (typed_term site term))))))))) (32 * at + 22) (in_right (keys 23 (too_large (typed_term site term))) (keys 24 (too_long (typed_term site term)) ++ (keys 14 (unknown site role (typed_term site term)) ++ (keys 15 (disagreeing site (typed_term site term)) ++ (keys 16 (inaccessible site (typed_term site term)) ++ (keys 19 (used_valueless site role (typed_term site term)) ++ (keys 22 (miscounted site (typed_term site term)))))))) (32 * at + 22) (in_right (keys 24 (too_long (typed_term site term))) (keys 14 (unknown site role (typed_term site term)) ++ (keys 15 (disagreeing site (typed_term site term)) ++ (keys 16 (inaccessible site (typed_term site term)) ++ (keys 19 (used_valueless site role (typed_term site term)) ++ (keys 22 (miscounted site (typed_term site term))))))) (32 * at + 22) (in_right (keys 14 (unknown site role (typed_term site term))) (keys 15 (disagreeing site (typed_term site term)) ++ (keys 16 (inaccessible site (typed_term site term)) ++ (keys 19 (used_valueless site role (typed_term site term)) ++ (keys 22 (miscounted site (typed_term site term)))))) (32 * at + 22) (in_right (keys 15 (disagreeing site (typed_term site term))) (keys 16 (inaccessible site (typed_term site term)) ++ (keys 19 (used_valueless site role (typed_term site term)) ++ (keys 22 (miscounted site (typed_term site term))))) (32 * at + 22) (in_right (keys 16 (inaccessible site (typed_term site term))) (keys 19 (used_valueless site role (typed_term site term)) ++ (keys 22 (miscounted site (typed_term site term)))) (32 * at + 22) (in_right (keys 19 (used_valueless site role (typed_term site term))) (keys 22 (miscounted site (typed_term site term))) (32 * at + 22) (at_key 22 (miscounted site (typed_term site term)) at h)))))))
+keyed p r notes (AtTerm site role term) at Rule_23 h = in_right (keys 2 (undeclared site (typed_term site term))) (keys 23 (too_large (typed_term site term)) ++ (keys 24 (too_long (typed_term site term)) ++ (keys 14 (unknown site role (typed_term site term)) ++ (keys 15 (disagreeing site (typed_term site term)) ++ (keys 16 (inaccessible site (typed_term site term)) ++ (keys 19 (used_valueless site role (typed_term site term)) ++ (keys 22 (miscounted site (typed_term site term))))))))) (32 * at + 23) (in_left (keys 23 (too_large (typed_term site term))) (keys 24 (too_long (typed_term site term)) ++ (keys 14 (unknown site role (typed_term site term)) ++ (keys 15 (disagreeing site (typed_term site term)) ++ (keys 16 (inaccessible site (typed_term site term)) ++ (keys 19 (used_valueless site role (typed_term site term)) ++ (keys 22 (miscounted site (typed_term site term)))))))) (32 * at + 23) (at_key 23 (too_large (typed_term site term)) at h))
+keyed p r notes (AtTerm site role term) at Rule_24 h = in_right (keys 2 (undeclared site (typed_term site term))) (keys 23 (too_large (typed_term site term)) ++ (keys 24 (too_long (typed_term site term)) ++ (keys 14 (unknown site role (typed_term site term)) ++ (keys 15 (disagreeing site (typed_term site term)) ++ (keys 16 (inaccessible site (typed_term site term)) ++ (keys 19 (used_valueless site role (typed_term site term)) ++ (keys 22 (miscounted site (typed_term site term))))))))) (32 * at + 24) (in_right (keys 23 (too_large (typed_term site term))) (keys 24 (too_long (typed_term site term)) ++ (keys 14 (unknown site role (typed_term site term)) ++ (keys 15 (disagreeing site (typed_term site term)) ++ (keys 16 (inaccessible site (typed_term site term)) ++ (keys 19 (used_valueless site role (typed_term site term)) ++ (keys 22 (miscounted site (typed_term site term)))))))) (32 * at + 24) (in_left (keys 24 (too_long (typed_term site term))) (keys 14 (unknown site role (typed_term site term)) ++ (keys 15 (disagreeing site (typed_term site term)) ++ (keys 16 (inaccessible site (typed_term site term)) ++ (keys 19 (used_valueless site role (typed_term site term)) ++ (keys 22 (miscounted site (typed_term site term))))))) (32 * at + 24) (at_key 24 (too_long (typed_term site term)) at h)))
+keyed p r notes (AtItem site item) at Rule_02 h = in_left (keys 2 (undeclared_item site item)) (keys 14 (unknown_item site item) ++ (keys 15 (disagreeing_item site item) ++ (keys 18 (misreturned site item) ++ (keys 20 (redeclared site item))))) (32 * at + 2) (at_key 2 (undeclared_item site item) at h)
+keyed p r notes (AtItem site item) at Rule_14 h = in_right (keys 2 (undeclared_item site item)) (keys 14 (unknown_item site item) ++ (keys 15 (disagreeing_item site item) ++ (keys 18 (misreturned site item) ++ (keys 20 (redeclared site item))))) (32 * at + 14) (in_left (keys 14 (unknown_item site item)) (keys 15 (disagreeing_item site item) ++ (keys 18 (misreturned site item) ++ (keys 20 (redeclared site item)))) (32 * at + 14) (at_key 14 (unknown_item site item) at h))
+keyed p r notes (AtItem site item) at Rule_15 h = in_right (keys 2 (undeclared_item site item)) (keys 14 (unknown_item site item) ++ (keys 15 (disagreeing_item site item) ++ (keys 18 (misreturned site item) ++ (keys 20 (redeclared site item))))) (32 * at + 15) (in_right (keys 14 (unknown_item site item)) (keys 15 (disagreeing_item site item) ++ (keys 18 (misreturned site item) ++ (keys 20 (redeclared site item)))) (32 * at + 15) (in_left (keys 15 (disagreeing_item site item)) (keys 18 (misreturned site item) ++ (keys 20 (redeclared site item))) (32 * at + 15) (at_key 15 (disagreeing_item site item) at h)))
+keyed p r notes (AtItem site item) at Rule_16 h = absurd h
+keyed p r notes (AtItem site item) at Rule_17 h = absurd h
+keyed p r notes (AtItem site item) at Rule_18 h = in_right (keys 2 (undeclared_item site item)) (keys 14 (unknown_item site item) ++ (keys 15 (disagreeing_item site item) ++ (keys 18 (misreturned site item) ++ (keys 20 (redeclared site item))))) (32 * at + 18) (in_right (keys 14 (unknown_item site item)) (keys 15 (disagreeing_item site item) ++ (keys 18 (misreturned site item) ++ (keys 20 (redeclared site item)))) (32 * at + 18) (in_right (keys 15 (disagreeing_item site item)) (keys 18 (misreturned site item) ++ (keys 20 (redeclared site item))) (32 * at + 18) (in_left (keys 18 (misreturned site item)) (keys 20 (redeclared site item)) (32 * at + 18) (at_key 18 (misreturned site item) at h))))
+keyed p r notes (AtItem site item) at Rule_19 h = absurd h
+keyed p r notes (AtItem site item) at Rule_20 h = in_right (keys 2 (undeclared_item site item)) (keys 14 (unknown_item site item) ++ (keys 15 (disagreeing_item site item) ++ (keys 18 (misreturned site item) ++ (keys 20 (redeclared site item))))) (32 * at + 20) (in_right (keys 14 (unknown_item site item)) (keys 15 (disagreeing_item site item) ++ (keys 18 (misreturned site item) ++ (keys 20 (redeclared site item)))) (32 * at + 20) (in_right (keys 15 (disagreeing_item site item)) (keys 18 (misreturned site item) ++ (keys 20 (redeclared site item))) (32 * at + 20) (in_right (keys 18 (misreturned site item)) (keys 20 (redeclared site item)) (32 * at + 20) (at_key 20 (redeclared site item) at h))))
+keyed p r notes (AtItem site item) at Rule_22 h = absurd h
+keyed p r notes (AtItem site item) at Rule_23 h = absurd h
+keyed p r notes (AtItem site item) at Rule_24 h = absurd h
+keyed p r notes (AtMember class member) at Rule_02 h = in_left (keys 2 (undeclared_member (table_of p) member)) (keys 17 (unreturned member)) (32 * at + 2) (at_key 2 (undeclared_member (table_of p) member) at h)
+keyed p r notes (AtMember class member) at Rule_14 h = absurd h
+keyed p r notes (AtMember class member) at Rule_15 h = absurd h
+keyed p r notes (AtMember class member) at Rule_16 h = absurd h
+keyed p r notes (AtMember class member) at Rule_17 h = in_right (keys 2 (undeclared_member (table_of p) member)) (keys 17 (unreturned member)) (32 * at + 17) (at_key 17 (unreturned member) at h)
+keyed p r notes (AtMember class member) at Rule_18 h = absurd h
+keyed p r notes (AtMember class member) at Rule_19 h = absurd h
+keyed p r notes (AtMember class member) at Rule_20 h = absurd h
+keyed p r notes (AtMember class member) at Rule_22 h = absurd h
+keyed p r notes (AtMember class member) at Rule_23 h = absurd h
+keyed p r notes (AtMember class member) at Rule_24 h = absurd h
 
 -- what is noted at a spot is what a rule notes there
 record Says (p : ProgramTree) (f : Notes Site ℕ → List ℕ) (k : ℕ) : Type 0 where
@@ -84,9 +84,9 @@ record Says (p : ProgramTree) (f : Notes Site ℕ → List ℕ) (k : ℕ) : Type
   said : IsIn (f notes) at
 
 says : (p : ProgramTree) (s : Spot Site) (k : ℕ) → IsIn (at_one (all_notes p) s) k → Says p (λ notes. at_one notes s) k
-says p (AtTerm site role term) k h = elim (in_either (keys 2 (undeclared site (typed_term site term))) (keys 23 (too_large (typed_term site term)) ++ (keys 24 (too_long (typed_term site term)) ++ (keys 14 (unknown site role (typed_term site term)) ++ (keys 15 (disagreeing site (typed_term site term)) ++ (keys 16 (inaccessible site (typed_term site term)) ++ (keys 19 (used_valueless site role (typed_term site term)) ++ (keys 22 (miscounted site (typed_term site term))))))))) k h) [ inl a ↦ (let x = of_key 2 (undeclared site (typed_term site term)) k a in record { rule = 2; at = x.0; notes = (notes_02 p); is = R02; key = x.1; said = x.2 }) | inr b0 ↦ elim (in_either (keys 23 (too_large (typed_term site term))) (keys 24 (too_long (typed_term site term)) ++ (keys 14 (unknown site role (typed_term site term)) ++ (keys 15 (disagreeing site (typed_term site term)) ++ (keys 16 (inaccessible site (typed_term site term)) ++ (keys 19 (used_valueless site role (typed_term site term)) ++ (keys 22 (miscounted site (typed_term site term)))))))) k b0) [ inl a ↦ (let x = of_key 23 (too_large (typed_term site term)) k a in record { rule = 23; at = x.0; notes = notes_23; is = R23; key = x.1; said = x.2 }) | inr b1 ↦ elim (in_either (keys 24 (too_long (typed_term site term))) (keys 14 (unknown site role (typed_term site term)) ++ (keys 15 (disagreeing site (typed_term site term)) ++ (keys 16 (inaccessible site (typed_term site term)) ++ (keys 19 (used_valueless site role (typed_term site term)) ++ (keys 22 (miscounted site (typed_term site term))))))) k b1) [ inl a ↦ (let x = of_key 24 (too_long (typed_term site term)) k a in record { rule = 24; at = x.0; notes = notes_24; is = R24; key = x.1; said = x.2 }) | inr b2 ↦ elim (in_either (keys 14 (unknown site role (typed_term site term))) (keys 15 (disagreeing site (typed_term site term)) ++ (keys 16 (inaccessible site (typed_term site term)) ++ (keys 19 (used_valueless site role (typed_term site term)) ++ (keys 22 (miscounted site (typed_term site term)))))) k b2) [ inl a ↦ (let x = of_key 14 (unknown site role (typed_term site term)) k a in record { rule = 14; at = x.0; notes = notes_14; is = R14; key = x.1; said = x.2 }) | inr b3 ↦ elim (in_either (keys 15 (disagreeing site (typed_term site term))) (keys 16 (inaccessible site (typed_term site term)) ++ (keys 19 (used_valueless site role (typed_term site term)) ++ (keys 22 (miscounted site (typed_term site term))))) k b3) [ inl a ↦ (let x = of_key 15 (disagreeing site (typed_term site term)) k a in record { rule = 15; at = x.0; notes = notes_15; is = R15; key = x.1; said = x.2 }) | inr b4 ↦ elim (in_either (keys 16 (inaccessible site (typed_term site term))) (keys 19 (used_valueless site role (typed_term site term)) ++ (keys 22 (miscounted site (typed_term site term)))) k b4) [ inl a ↦ (let x = of_key 16 (inaccessible site (typed_term site term)) k a in record { rule = 16; at = x.0; notes = notes_16; is = R16; key = x.1; said = x.2 }) | inr b5 ↦ elim (in_either (keys 19 (used_valueless site role (typed_term site term))) (keys 22 (miscounted site (typed_term site term))) k b5) [ inl a ↦ (let x = of_key 19 (used_valueless site role (typed_term site term)) k a in record { rule = 19; at = x.0; notes = notes_19; is = R19; key = x.1; said = x.2 }) | inr b6 ↦ (let x = of_key 22 (miscounted site (typed_term site term)) k b6 in record { rule = 22; at = x.0; notes = notes_22; is = R22; key = x.1; said = x.2 }) ] ] ] ] ] ] ]
-says p (AtItem site item) k h = elim (in_either (keys 2 (undeclared_item site item)) (keys 14 (unknown_item site item) ++ (keys 15 (disagreeing_item site item) ++ (keys 18 (misreturned site item) ++ (keys 20 (redeclared site item))))) k h) [ inl a ↦ (let x = of_key 2 (undeclared_item site item) k a in record { rule = 2; at = x.0; notes = (notes_02 p); is = R02; key = x.1; said = x.2 }) | inr b0 ↦ elim (in_either (keys 14 (unknown_item site item)) (keys 15 (disagreeing_item site item) ++ (keys 18 (misreturned site item) ++ (keys 20 (redeclared site item)))) k b0) [ inl a ↦ (let x = of_key 14 (unknown_item site item) k a in record { rule = 14; at = x.0; notes = notes_14; is = R14; key = x.1; said = x.2 }) | inr b1 ↦ elim (in_either (keys 15 (disagreeing_item site item)) (keys 18 (misreturned site item) ++ (keys 20 (redeclared site item))) k b1) [ inl a ↦ (let x = of_key 15 (disagreeing_item site item) k a in record { rule = 15; at = x.0; notes = notes_15; is = R15; key = x.1; said = x.2 }) | inr b2 ↦ elim (in_either (keys 18 (misreturned site item)) (keys 20 (redeclared site item)) k b2) [ inl a ↦ (let x = of_key 18 (misreturned site item) k a in record { rule = 18; at = x.0; notes = notes_18; is = R18; key = x.1; said = x.2 }) | inr b3 ↦ (let x = of_key 20 (redeclared site item) k b3 in record { rule = 20; at = x.0; notes = notes_20; is = R20; key = x.1; said = x.2 }) ] ] ] ]
-says p (AtMember class member) k h = elim (in_either (keys 2 (undeclared_member (table_of p) member)) (keys 17 (unreturned member)) k h) [ inl a ↦ (let x = of_key 2 (undeclared_member (table_of p) member) k a in record { rule = 2; at = x.0; notes = (notes_02 p); is = R02; key = x.1; said = x.2 }) | inr b0 ↦ (let x = of_key 17 (unreturned member) k b0 in record { rule = 17; at = x.0; notes = notes_17; is = R17; key = x.1; said = x.2 }) ]
+says p (AtTerm site role term) k h = elim (in_either (keys 2 (undeclared site (typed_term site term))) (keys 23 (too_large (typed_term site term)) ++ (keys 24 (too_long (typed_term site term)) ++ (keys 14 (unknown site role (typed_term site term)) ++ (keys 15 (disagreeing site (typed_term site term)) ++ (keys 16 (inaccessible site (typed_term site term)) ++ (keys 19 (used_valueless site role (typed_term site term)) ++ (keys 22 (miscounted site (typed_term site term))))))))) k h) [ inl a ↦ (let x = of_key 2 (undeclared site (typed_term site term)) k a in record { rule = 2; at = x.0; notes = (notes_02 p); is = Rule_02; key = x.1; said = x.2 }) | inr b0 ↦ elim (in_either (keys 23 (too_large (typed_term site term))) (keys 24 (too_long (typed_term site term)) ++ (keys 14 (unknown site role (typed_term site term)) ++ (keys 15 (disagreeing site (typed_term site term)) ++ (keys 16 (inaccessible site (typed_term site term)) ++ (keys 19 (used_valueless site role (typed_term site term)) ++ (keys 22 (miscounted site (typed_term site term)))))))) k b0) [ inl a ↦ (let x = of_key 23 (too_large (typed_term site term)) k a in record { rule = 23; at = x.0; notes = notes_23; is = Rule_23; key = x.1; said = x.2 }) | inr b1 ↦ elim (in_either (keys 24 (too_long (typed_term site term))) (keys 14 (unknown site role (typed_term site term)) ++ (keys 15 (disagreeing site (typed_term site term)) ++ (keys 16 (inaccessible site (typed_term site term)) ++ (keys 19 (used_valueless site role (typed_term site term)) ++ (keys 22 (miscounted site (typed_term site term))))))) k b1) [ inl a ↦ (let x = of_key 24 (too_long (typed_term site term)) k a in record { rule = 24; at = x.0; notes = notes_24; is = Rule_24; key = x.1; said = x.2 }) | inr b2 ↦ elim (in_either (keys 14 (unknown site role (typed_term site term))) (keys 15 (disagreeing site (typed_term site term)) ++ (keys 16 (inaccessible site (typed_term site term)) ++ (keys 19 (used_valueless site role (typed_term site term)) ++ (keys 22 (miscounted site (typed_term site term)))))) k b2) [ inl a ↦ (let x = of_key 14 (unknown site role (typed_term site term)) k a in record { rule = 14; at = x.0; notes = notes_14; is = Rule_14; key = x.1; said = x.2 }) | inr b3 ↦ elim (in_either (keys 15 (disagreeing site (typed_term site term))) (keys 16 (inaccessible site (typed_term site term)) ++ (keys 19 (used_valueless site role (typed_term site term)) ++ (keys 22 (miscounted site (typed_term site term))))) k b3) [ inl a ↦ (let x = of_key 15 (disagreeing site (typed_term site term)) k a in record { rule = 15; at = x.0; notes = notes_15; is = Rule_15; key = x.1; said = x.2 }) | inr b4 ↦ elim (in_either (keys 16 (inaccessible site (typed_term site term))) (keys 19 (used_valueless site role (typed_term site term)) ++ (keys 22 (miscounted site (typed_term site term)))) k b4) [ inl a ↦ (let x = of_key 16 (inaccessible site (typed_term site term)) k a in record { rule = 16; at = x.0; notes = notes_16; is = Rule_16; key = x.1; said = x.2 }) | inr b5 ↦ elim (in_either (keys 19 (used_valueless site role (typed_term site term))) (keys 22 (miscounted site (typed_term site term))) k b5) [ inl a ↦ (let x = of_key 19 (used_valueless site role (typed_term site term)) k a in record { rule = 19; at = x.0; notes = notes_19; is = Rule_19; key = x.1; said = x.2 }) | inr b6 ↦ (let x = of_key 22 (miscounted site (typed_term site term)) k b6 in record { rule = 22; at = x.0; notes = notes_22; is = Rule_22; key = x.1; said = x.2 }) ] ] ] ] ] ] ]
+says p (AtItem site item) k h = elim (in_either (keys 2 (undeclared_item site item)) (keys 14 (unknown_item site item) ++ (keys 15 (disagreeing_item site item) ++ (keys 18 (misreturned site item) ++ (keys 20 (redeclared site item))))) k h) [ inl a ↦ (let x = of_key 2 (undeclared_item site item) k a in record { rule = 2; at = x.0; notes = (notes_02 p); is = Rule_02; key = x.1; said = x.2 }) | inr b0 ↦ elim (in_either (keys 14 (unknown_item site item)) (keys 15 (disagreeing_item site item) ++ (keys 18 (misreturned site item) ++ (keys 20 (redeclared site item)))) k b0) [ inl a ↦ (let x = of_key 14 (unknown_item site item) k a in record { rule = 14; at = x.0; notes = notes_14; is = Rule_14; key = x.1; said = x.2 }) | inr b1 ↦ elim (in_either (keys 15 (disagreeing_item site item)) (keys 18 (misreturned site item) ++ (keys 20 (redeclared site item))) k b1) [ inl a ↦ (let x = of_key 15 (disagreeing_item site item) k a in record { rule = 15; at = x.0; notes = notes_15; is = Rule_15; key = x.1; said = x.2 }) | inr b2 ↦ elim (in_either (keys 18 (misreturned site item)) (keys 20 (redeclared site item)) k b2) [ inl a ↦ (let x = of_key 18 (misreturned site item) k a in record { rule = 18; at = x.0; notes = notes_18; is = Rule_18; key = x.1; said = x.2 }) | inr b3 ↦ (let x = of_key 20 (redeclared site item) k b3 in record { rule = 20; at = x.0; notes = notes_20; is = Rule_20; key = x.1; said = x.2 }) ] ] ] ]
+says p (AtMember class member) k h = elim (in_either (keys 2 (undeclared_member (table_of p) member)) (keys 17 (unreturned member)) k h) [ inl a ↦ (let x = of_key 2 (undeclared_member (table_of p) member) k a in record { rule = 2; at = x.0; notes = (notes_02 p); is = Rule_02; key = x.1; said = x.2 }) | inr b0 ↦ (let x = of_key 17 (unreturned member) k b0 in record { rule = 17; at = x.0; notes = notes_17; is = Rule_17; key = x.1; said = x.2 }) ]
 
 keyed_all : (p : ProgramTree) (r : ℕ) (notes : Notes Site ℕ) (ss : List (Spot Site)) (at : ℕ) → IsRule p r notes → IsIn (at_all notes ss) at → IsIn (at_all (all_notes p) ss) (32 * at + r)
 keyed_all p r notes [] at rule h = absurd h
@@ -112,30 +112,30 @@ at_spots p notes = notes_at_spots after (enter (table_of p)) notes p
 
 -- a rule that notes is broken
 breaks : (p : ProgramTree) (r : ℕ) (notes : Notes Site ℕ) (at : ℕ) → IsRule p r notes → IsIn (in_program p notes) at → Broken p r at
-breaks p r notes at R02 h = C02 at (contains_in (in_program p (notes_02 p)) at h)
-breaks p r notes at R14 h = C14 at (contains_in (in_program p notes_14) at h)
-breaks p r notes at R15 h = C15 at (contains_in (in_program p notes_15) at h)
-breaks p r notes at R16 h = C16 at (contains_in (in_program p notes_16) at h)
-breaks p r notes at R17 h = C17 at (contains_in (in_program p notes_17) at h)
-breaks p r notes at R18 h = C18 at (contains_in (in_program p notes_18) at h)
-breaks p r notes at R19 h = C19 at (contains_in (in_program p notes_19) at h)
-breaks p r notes at R20 h = C20 at (contains_in (in_program p notes_20) at h)
-breaks p r notes at R22 h = C22 at (contains_in (in_program p notes_22) at h)
-breaks p r notes at R23 h = C23 at (contains_in (in_program p notes_23) at h)
-breaks p r notes at R24 h = C24 at (contains_in (in_program p notes_24) at h)
+breaks p r notes at Rule_02 h = C02 at (contains_in (in_program p (notes_02 p)) at h)
+breaks p r notes at Rule_14 h = C14 at (contains_in (in_program p notes_14) at h)
+breaks p r notes at Rule_15 h = C15 at (contains_in (in_program p notes_15) at h)
+breaks p r notes at Rule_16 h = C16 at (contains_in (in_program p notes_16) at h)
+breaks p r notes at Rule_17 h = C17 at (contains_in (in_program p notes_17) at h)
+breaks p r notes at Rule_18 h = C18 at (contains_in (in_program p notes_18) at h)
+breaks p r notes at Rule_19 h = C19 at (contains_in (in_program p notes_19) at h)
+breaks p r notes at Rule_20 h = C20 at (contains_in (in_program p notes_20) at h)
+breaks p r notes at Rule_22 h = C22 at (contains_in (in_program p notes_22) at h)
+breaks p r notes at Rule_23 h = C23 at (contains_in (in_program p notes_23) at h)
+breaks p r notes at Rule_24 h = C24 at (contains_in (in_program p notes_24) at h)
 
 is_type : (p : ProgramTree) (r : ℕ) (notes : Notes Site ℕ) → IsRule p r notes → (is_type_rule r ≡ true) × (r < 32)
-is_type p r notes R02 = (refl, omega arith)
-is_type p r notes R14 = (refl, omega arith)
-is_type p r notes R15 = (refl, omega arith)
-is_type p r notes R16 = (refl, omega arith)
-is_type p r notes R17 = (refl, omega arith)
-is_type p r notes R18 = (refl, omega arith)
-is_type p r notes R19 = (refl, omega arith)
-is_type p r notes R20 = (refl, omega arith)
-is_type p r notes R22 = (refl, omega arith)
-is_type p r notes R23 = (refl, omega arith)
-is_type p r notes R24 = (refl, omega arith)
+is_type p r notes Rule_02 = (refl, omega arith)
+is_type p r notes Rule_14 = (refl, omega arith)
+is_type p r notes Rule_15 = (refl, omega arith)
+is_type p r notes Rule_16 = (refl, omega arith)
+is_type p r notes Rule_17 = (refl, omega arith)
+is_type p r notes Rule_18 = (refl, omega arith)
+is_type p r notes Rule_19 = (refl, omega arith)
+is_type p r notes Rule_20 = (refl, omega arith)
+is_type p r notes Rule_22 = (refl, omega arith)
+is_type p r notes Rule_23 = (refl, omega arith)
+is_type p r notes Rule_24 = (refl, omega arith)
 
 false_true : false ≡ true → ⊥
 false_true e = cc
@@ -148,7 +148,7 @@ record IsNoted (p : ProgramTree) (r at : ℕ) : Type 0 where
 
 is_noted : (p : ProgramTree) (r at : ℕ) → is_type_rule r ≡ true → Broken p r at → IsNoted p r at
 is_noted p r at e (C01 k h) = absurd (false_true e)
-is_noted p r at e (C02 k h) = record { notes = (notes_02 p); is = R02; said = in_contains (in_program p (notes_02 p)) k h }
+is_noted p r at e (C02 k h) = record { notes = (notes_02 p); is = Rule_02; said = in_contains (in_program p (notes_02 p)) k h }
 is_noted p r at e (C03 k h) = absurd (false_true e)
 is_noted p r at e (C04 k h) = absurd (false_true e)
 is_noted p r at e (C05 k h) = absurd (false_true e)
@@ -160,17 +160,17 @@ is_noted p r at e (C10 k h) = absurd (false_true e)
 is_noted p r at e (C11 k h) = absurd (false_true e)
 is_noted p r at e (C12 k h) = absurd (false_true e)
 is_noted p r at e (C13 k h) = absurd (false_true e)
-is_noted p r at e (C14 k h) = record { notes = notes_14; is = R14; said = in_contains (in_program p notes_14) k h }
-is_noted p r at e (C15 k h) = record { notes = notes_15; is = R15; said = in_contains (in_program p notes_15) k h }
-is_noted p r at e (C16 k h) = record { notes = notes_16; is = R16; said = in_contains (in_program p notes_16) k h }
-is_noted p r at e (C17 k h) = record { notes = notes_17; is = R17; said = in_contains (in_program p notes_17) k h }
-is_noted p r at e (C18 k h) = record { notes = notes_18; is = R18; said = in_contains (in_program p notes_18) k h }
-is_noted p r at e (C19 k h) = record { notes = notes_19; is = R19; said = in_contains (in_program p notes_19) k h }
-is_noted p r at e (C20 k h) = record { notes = notes_20; is = R20; said = in_contains (in_program p notes_20) k h }
+is_noted p r at e (C14 k h) = record { notes = notes_14; is = Rule_14; said = in_contains (in_program p notes_14) k h }
+is_noted p r at e (C15 k h) = record { notes = notes_15; is = Rule_15; said = in_contains (in_program p notes_15) k h }
+is_noted p r at e (C16 k h) = record { notes = notes_16; is = Rule_16; said = in_contains (in_program p notes_16) k h }
+is_noted p r at e (C17 k h) = record { notes = notes_17; is = Rule_17; said = in_contains (in_program p notes_17) k h }
+is_noted p r at e (C18 k h) = record { notes = notes_18; is = Rule_18; said = in_contains (in_program p notes_18) k h }
+is_noted p r at e (C19 k h) = record { notes = notes_19; is = Rule_19; said = in_contains (in_program p notes_19) k h }
+is_noted p r at e (C20 k h) = record { notes = notes_20; is = Rule_20; said = in_contains (in_program p notes_20) k h }
 is_noted p r at e (C21 k h) = absurd (false_true e)
-is_noted p r at e (C22 k h) = record { notes = notes_22; is = R22; said = in_contains (in_program p notes_22) k h }
-is_noted p r at e (C23 k h) = record { notes = notes_23; is = R23; said = in_contains (in_program p notes_23) k h }
-is_noted p r at e (C24 k h) = record { notes = notes_24; is = R24; said = in_contains (in_program p notes_24) k h }
+is_noted p r at e (C22 k h) = record { notes = notes_22; is = Rule_22; said = in_contains (in_program p notes_22) k h }
+is_noted p r at e (C23 k h) = record { notes = notes_23; is = Rule_23; said = in_contains (in_program p notes_23) k h }
+is_noted p r at e (C24 k h) = record { notes = notes_24; is = Rule_24; said = in_contains (in_program p notes_24) k h }
 
 noted_key : (p : ProgramTree) (r at : ℕ) → is_type_rule r ≡ true → Broken p r at → IsIn (in_program p (all_notes p)) (32 * at + r) × (r < 32)
 noted_key p r at e b =
