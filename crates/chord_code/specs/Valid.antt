@@ -3,7 +3,7 @@ use Rattle.std.specs.Prelude.{◌≡◌, ◌<◌, ◌≤◌, ◌-◌, ℕ, List,
 use Rattle.chord_base.specs.Meaning.{OneSync}
 use Rattle.chord_base.specs.Messages.{AreDifferent}
 use Rattle.chord_code.specs.declared.instruction.Instruction.{Instruction}
-use Rattle.chord_code.specs.declared.instruction.Instruction.TheVariants as i
+use Rattle.chord_code.specs.declared.instruction.Instruction.TheVariants as instr
 use Rattle.chord_code.specs.declared.parts.ChordLine.{ChordLine}
 use Rattle.chord_code.specs.declared.parts.MethodLine.{MethodLine}
 use Rattle.chord_code.specs.declared.parts.ClassLine.{ClassLine}
@@ -20,22 +20,22 @@ pub record BuildsBefore (code : Parts) (b c : ℕ) : Type 0 where
 
 -- an instruction at place p of block b, which has n instructions and s slots, names what is there, and jumps as it may
 abbrev pub IsRight : Parts → (b s n p : ℕ) → Instruction → Type 0
-IsRight code b s n p (i.Load k) = k < s
-IsRight code b s n p (i.Store k) = k < s
-IsRight code b s n p (i.Jump a) = (p < a) × (a < n)
-IsRight code b s n p (i.Skip a) = (p < a) × (a < n)
-IsRight code b s n p (i.Again a) = a < p
-IsRight code b s n p (i.New c k) = (c < length code.classes) × (k ≤ 8)
-IsRight code b s n p (i.Init c) = BuildsBefore code b c
-IsRight code b s n p (i.Send j k) = (j < 16) × (k ≤ 8)
-IsRight code b s n p (i.Call j k) = (j < 16) × (k ≤ 8)
+IsRight code b s n p (instr.Load k) = k < s
+IsRight code b s n p (instr.Store k) = k < s
+IsRight code b s n p (instr.Jump a) = (p < a) × (a < n)
+IsRight code b s n p (instr.Skip a) = (p < a) × (a < n)
+IsRight code b s n p (instr.Again a) = a < p
+IsRight code b s n p (instr.New c k) = (c < length code.classes) × (k ≤ 8)
+IsRight code b s n p (instr.Init c) = BuildsBefore code b c
+IsRight code b s n p (instr.Send j k) = (j < 16) × (k ≤ 8)
+IsRight code b s n p (instr.Call j k) = (j < 16) × (k ≤ 8)
 IsRight code b s n p _ = Unit {0}
 
 -- a block ends by this instruction
 abbrev pub Closes : Option Instruction → Type 0
-Closes (Some i.End) = Unit {0}
-Closes (Some i.Endv) = Unit {0}
-Closes (Some i.Back) = Unit {0}
+Closes (Some instr.End) = Unit {0}
+Closes (Some instr.Endv) = Unit {0}
+Closes (Some instr.Back) = Unit {0}
 Closes _ = ⊥
 
 -- block b ends, and each of its instructions is right

@@ -3,7 +3,7 @@
 
 ghost use Rattle.std.specs.Prelude.{◌≡◌, ℕ, ◌≤◌, Bool, true, Some, List, [], ◌∷◌, ◌++◌, length};
 ghost use Rattle.chord_base.specs.declared.value.Object.{Object};
-ghost use Rattle.chord_base.specs.declared.value.Value.{Value as V};
+ghost use Rattle.chord_base.specs.declared.value.Value.{Value as AValue};
 ghost use Rattle.chord_base.specs.declared.event.Trap.{Trap};
 ghost use Rattle.chord_base.specs.declared.event.End.{End};
 ghost use Rattle.chord_base.specs.declared.event.End.TheVariants as an_end;
@@ -36,7 +36,7 @@ pub fn asks_are_found(code: &Code)
 
 /// A call that is answered by a trap: the body next asks its own end by that trap.
 pub fn traps_are_handed_on(code: &Code)
-    ensures { (limits : Limits) (s : Start) (d : ℕ) (rs : List End) (t : Trap) (l : ℕ) (o : Object) (j : ℕ) (vs : List V) → (code_program code.now limits).next s d rs ≡ Some (record { what = what.Called o j vs; depth = l }) → (code_program code.now limits).next s d (rs ++ an_end.Traps t ∷ []) ≡ Some (record { what = what.Ended (an_end.Traps t); depth = 0 }) }
+    ensures { (limits : Limits) (s : Start) (d : ℕ) (rs : List End) (t : Trap) (l : ℕ) (o : Object) (j : ℕ) (vs : List AValue) → (code_program code.now limits).next s d rs ≡ Some (record { what = what.Called o j vs; depth = l }) → (code_program code.now limits).next s d (rs ++ an_end.Traps t ∷ []) ≡ Some (record { what = what.Ended (an_end.Traps t); depth = 0 }) }
 {
     let _parts = code.parts();
 }

@@ -4,7 +4,7 @@
 ghost use Rattle.std.specs.Prelude.{◌≡◌, ◌≤◌, [], length, IfOk, true, false};
 ghost use Rattle.chord_base.specs.Messages.{AreDifferent};
 ghost use Rattle.chord_lists.specs.Bag.{ArePopped, HasMessage, HasMessages, header_to, IsPopped, IsPushed, LacksMessage, LacksAMessage, numbers_of};
-ghost use Rattle.chord_lists.specs.declared.bag.Header.{Header as H};
+ghost use Rattle.chord_lists.specs.declared.bag.Header.{Header as AHeader};
 
 use chord_base::members::Members;
 use chord_base::value::Object;
@@ -41,7 +41,7 @@ impl Header {
 impl Bag {
     /// The bag before any entry.
     pub fn new(alloc: Global) -> Bag
-        ensures { (k : H) → numbers_of result k ≡ [] }
+        ensures { (k : AHeader) → numbers_of result k ≡ [] }
     {
         Bag {
             numbers: HashMap::new(alloc),

@@ -20,7 +20,7 @@ use Rattle.chord_vm.specs.Frames.{machine_of, waiting_of, what_of_ask, Advanced}
 use Rattle.chord_vm.specs.declared.ask.Ask.{Ask}
 use Rattle.chord_vm.specs.declared.ask.Ask.TheVariants as ask
 use Rattle.chord_task.specs.declared.body.Next.{Next}
-use Rattle.chord_task.specs.declared.body.Next.TheVariants as N
+use Rattle.chord_task.specs.declared.body.Next.TheVariants as nexts
 use Rattle.chord_task.specs.declared.body.Body.{Body}
 use Rattle.chord_task.specs.declared.task.Task.{Task}
 use Rattle.chord_task.specs.Stacks.{IsTask, IsNext, CanAsk, AsksNothing, TopWaitsFor}
@@ -68,29 +68,29 @@ not_own code fwd m a w c f = f (run_asked code fwd a w c.count m c.by)
 -- the body that ran to its ask
 ran : (code : Parts) → IsForward code → (limits : Limits) (h : List Entry) (b b' : Body) (u : IsUp code limits h b) → b'.number ≡ b.number → stands code limits u.start u.depth u.answers ≡ At (machine_of b.frames) → (a : Ask) → Advanced code (machine_of b.frames) a b'.frames → GivenBy (what_of_ask a) b'.next → IsUp code limits h b'
 ran code fwd limits h b b' u i at (ask.End e) a g =
-    up_again code limits h b b' (N.Ends e e) u i g (0, ap (asked_of code limits) at ∙ ap (asked_at limits) (comes_found code fwd (machine_of b.frames) (Ended e) a.0 a.1), refl)
-ran code fwd limits h b b' u i at (ask.Make c) a g = up_again code limits h b b' (N.Gave (Made c)) u i g (machine_of b.frames, at, comes_found code fwd (machine_of b.frames) (Made c) (waiting_of b'.frames) a)
-ran code fwd limits h b b' u i at (ask.Send o j vs) a g = up_again code limits h b b' (N.Gave (Sent o j vs)) u i g (machine_of b.frames, at, comes_found code fwd (machine_of b.frames) (Sent o j vs) (waiting_of b'.frames) a)
-ran code fwd limits h b b' u i at (ask.Call o j vs) a g = up_again code limits h b b' (N.Gave (Called o j vs)) u i g (machine_of b.frames, at, comes_found code fwd (machine_of b.frames) (Called o j vs) (waiting_of b'.frames) a)
-ran code fwd limits h b b' u i at (ask.Print t) a g = up_again code limits h b b' (N.Gave (Printed t)) u i g (machine_of b.frames, at, comes_found code fwd (machine_of b.frames) (Printed t) (waiting_of b'.frames) a)
+    up_again code limits h b b' (nexts.Ends e e) u i g (0, ap (asked_of code limits) at ∙ ap (asked_at limits) (comes_found code fwd (machine_of b.frames) (Ended e) a.0 a.1), refl)
+ran code fwd limits h b b' u i at (ask.Make c) a g = up_again code limits h b b' (nexts.Gave (Made c)) u i g (machine_of b.frames, at, comes_found code fwd (machine_of b.frames) (Made c) (waiting_of b'.frames) a)
+ran code fwd limits h b b' u i at (ask.Send o j vs) a g = up_again code limits h b b' (nexts.Gave (Sent o j vs)) u i g (machine_of b.frames, at, comes_found code fwd (machine_of b.frames) (Sent o j vs) (waiting_of b'.frames) a)
+ran code fwd limits h b b' u i at (ask.Call o j vs) a g = up_again code limits h b b' (nexts.Gave (Called o j vs)) u i g (machine_of b.frames, at, comes_found code fwd (machine_of b.frames) (Called o j vs) (waiting_of b'.frames) a)
+ran code fwd limits h b b' u i at (ask.Print t) a g = up_again code limits h b b' (nexts.Gave (Printed t)) u i g (machine_of b.frames, at, comes_found code fwd (machine_of b.frames) (Printed t) (waiting_of b'.frames) a)
 
 asked_up : (code : Parts) → IsForward code → (limits : Limits) (h : List Entry) (b b' : Body) (n : Next) → b.next ≡ n → b'.number ≡ b.number → AskedBy code n b b' → IsTop code limits h n b → IsUp code limits h b'
-asked_up code fwd limits h b b' N.Runs e i a u = ran code fwd limits h b b' u i (subst (λ n. NextIs code limits n b.frames (stands code limits u.start u.depth u.answers)) e u.next) a.0 a.1 a.2
-asked_up code fwd limits h b b' (N.Gave w) e i a u = subst (λ (z : Body). IsUp code limits h z) (sym a) u
-asked_up code fwd limits h b b' (N.Ends x y) e i a u = subst (λ (z : Body). IsUp code limits h z) (sym a) u
-asked_up code fwd limits h b b' (N.Fails t) e i a u =
+asked_up code fwd limits h b b' nexts.Runs e i a u = ran code fwd limits h b b' u i (subst (λ n. NextIs code limits n b.frames (stands code limits u.start u.depth u.answers)) e u.next) a.0 a.1 a.2
+asked_up code fwd limits h b b' (nexts.Gave w) e i a u = subst (λ (z : Body). IsUp code limits h z) (sym a) u
+asked_up code fwd limits h b b' (nexts.Ends x y) e i a u = subst (λ (z : Body). IsUp code limits h z) (sym a) u
+asked_up code fwd limits h b b' (nexts.Fails t) e i a u =
     let at : stands code limits u.start u.depth u.answers ≡ FailsBy t = subst (λ n. NextIs code limits n b.frames (stands code limits u.start u.depth u.answers)) e u.next in
-    up_again code limits h b b' (N.Ends (Traps t) (Traps t)) u i a (0, ap (asked_of code limits) at, refl)
-asked_up code fwd limits h b b' (N.Waits q) e i a u = absurd a
+    up_again code limits h b b' (nexts.Ends (Traps t) (Traps t)) u i a (0, ap (asked_of code limits) at, refl)
+asked_up code fwd limits h b b' (nexts.Waits q) e i a u = absurd a
 
 up_is_top : (code : Parts) (limits : Limits) (h : List Entry) (b : Body) (n : Next) (w : What) → given_of n ≡ Some w → b.next ≡ n → IsUp code limits h b → IsTop code limits h n b
-up_is_top code limits h b N.Runs w g e u = u
-up_is_top code limits h b (N.Gave v) w g e u = u
-up_is_top code limits h b (N.Ends x y) w g e u = u
-up_is_top code limits h b (N.Fails t) w g e u = u
-up_is_top code limits h b (N.Waits q) w g e u = (let z : ◌≡◌ {A = Option What} None (Some w) = g in cc)
+up_is_top code limits h b nexts.Runs w g e u = u
+up_is_top code limits h b (nexts.Gave v) w g e u = u
+up_is_top code limits h b (nexts.Ends x y) w g e u = u
+up_is_top code limits h b (nexts.Fails t) w g e u = u
+up_is_top code limits h b (nexts.Waits q) w g e u = (let z : ◌≡◌ {A = Option What} None (Some w) = g in cc)
 
-not_waiting : (n : Next) (w : What) (q : ℕ) → given_of n ≡ Some w → n ≡ N.Waits q → ⊥
+not_waiting : (n : Next) (w : What) (q : ℕ) → given_of n ≡ Some w → n ≡ nexts.Waits q → ⊥
 not_waiting n w q g e = (let z : ◌≡◌ {A = Option What} None (Some w) = sym (ap given_of e) ∙ g in cc)
 
 -- the task with the ask of its body on top
@@ -153,12 +153,12 @@ parked_waits code limits t b q top k =
     record { body = b.number; on_top = ap body_number top; start = k.start; depth = k.depth; answers = k.answers; place = limits.depth - b.frames.top.room; is = k.is }
 
 -- the body on top is up, or it is parked
-top_is : (code : Parts) (limits : Limits) (h : List Entry) (b : Body) (n : Next) → b.next ≡ n → IsTop code limits h n b → (IsUp code limits h b × (may_go n ≡ true)) ⊎ ((q : ℕ) × IsParked code limits h b q × (n ≡ N.Waits q))
-top_is code limits h b N.Runs e u = inl (u, refl)
-top_is code limits h b (N.Gave w) e u = inl (u, refl)
-top_is code limits h b (N.Ends x y) e u = inl (u, refl)
-top_is code limits h b (N.Fails t) e u = inl (u, refl)
-top_is code limits h b (N.Waits q) e k = inr (q, k, refl)
+top_is : (code : Parts) (limits : Limits) (h : List Entry) (b : Body) (n : Next) → b.next ≡ n → IsTop code limits h n b → (IsUp code limits h b × (may_go n ≡ true)) ⊎ ((q : ℕ) × IsParked code limits h b q × (n ≡ nexts.Waits q))
+top_is code limits h b nexts.Runs e u = inl (u, refl)
+top_is code limits h b (nexts.Gave w) e u = inl (u, refl)
+top_is code limits h b (nexts.Ends x y) e u = inl (u, refl)
+top_is code limits h b (nexts.Fails t) e u = inl (u, refl)
+top_is code limits h b (nexts.Waits q) e k = inr (q, k, refl)
 
 -- a task that may go on has a next ask
 pub ready_can : (code : Parts) (limits : Limits) (t : Task) → IsTaskOf code limits t → is_ready_of t ≡ true → CanAsk (code_program code limits) (view_of t)
@@ -193,11 +193,11 @@ pub waits_yes : (code : Parts) (limits : Limits) (t : Task) (q : ℕ) → IsTask
 waits_yes code limits t q k r = by_top t.top refl
   where
     goes_waits : (n : Next) (q : ℕ) → may_go n ≡ true → waits_on q n ≡ true → ⊥
-    goes_waits N.Runs q g w = (let z : false ≡ true = w in cc)
-    goes_waits (N.Gave x) q g w = (let z : false ≡ true = w in cc)
-    goes_waits (N.Ends x y) q g w = (let z : false ≡ true = w in cc)
-    goes_waits (N.Fails x) q g w = (let z : false ≡ true = w in cc)
-    goes_waits (N.Waits x) q g w = (let z : false ≡ true = g in cc)
+    goes_waits nexts.Runs q g w = (let z : false ≡ true = w in cc)
+    goes_waits (nexts.Gave x) q g w = (let z : false ≡ true = w in cc)
+    goes_waits (nexts.Ends x y) q g w = (let z : false ≡ true = w in cc)
+    goes_waits (nexts.Fails x) q g w = (let z : false ≡ true = w in cc)
+    goes_waits (nexts.Waits x) q g w = (let z : false ≡ true = g in cc)
 
     by_top : (o : Option Body) → t.top ≡ o → TopWaitsFor (code_program code limits) (view_of t) q
     by_top None e = (let z : false ≡ true = sym (ap (body_waits q) e) ∙ r in cc)
@@ -233,17 +233,17 @@ pub given_next : (code : Parts) (limits : Limits) (t : Task) (w : What) → IsTa
 given_next code limits t w k g = by_top t.top refl
   where
     by_next : (b : Body) → t.top ≡ Some b → (n : Next) → b.next ≡ n → given_of n ≡ Some w → IsNext (code_program code limits) (stack_view (view_of t).past (Some b.number)) w
-    by_next b e N.Runs i x = (let z : ◌≡◌ {A = Option What} None (Some w) = x in cc)
-    by_next b e (N.Gave v) i x =
+    by_next b e nexts.Runs i x = (let z : ◌≡◌ {A = Option What} None (Some w) = x in cc)
+    by_next b e (nexts.Gave v) i x =
         let z : v ≡ w = cc in
         let u = gave_up code limits (view_of t).past b v i (stack_at code limits t b k e).0 in
         subst (λ y. IsNext (code_program code limits) (stack_view (view_of t).past (Some b.number)) y) z (gave_next code limits (view_of t).past b v u i)
-    by_next b e (N.Ends y y') i x =
+    by_next b e (nexts.Ends y y') i x =
         let z : Ended y ≡ w = cc in
         let u = ends_up code limits (view_of t).past b y y' i (stack_at code limits t b k e).0 in
         subst (λ v. IsNext (code_program code limits) (stack_view (view_of t).past (Some b.number)) v) z (ends_next code limits (view_of t).past b y y' u i)
-    by_next b e (N.Fails x') i x = (let z : ◌≡◌ {A = Option What} None (Some w) = x in cc)
-    by_next b e (N.Waits q) i x = (let z : ◌≡◌ {A = Option What} None (Some w) = x in cc)
+    by_next b e (nexts.Fails x') i x = (let z : ◌≡◌ {A = Option What} None (Some w) = x in cc)
+    by_next b e (nexts.Waits q) i x = (let z : ◌≡◌ {A = Option What} None (Some w) = x in cc)
 
     by_top : (o : Option Body) → t.top ≡ o → IsNext (code_program code limits) (view_of t) w
     by_top None e = (let z : ◌≡◌ {A = Option What} None (Some w) = sym (ap given_by e) ∙ g in cc)
@@ -260,19 +260,19 @@ given_is (Fired k o ms vs) n g = ap given_of g
 
 -- a body that came to its ask has given it
 pub asked_gives : (code : Parts) (b b' : Body) (n : Next) → b.next ≡ n → AskedBy code n b b' → (w : What) × (given_of b'.next ≡ Some w)
-asked_gives code b b' N.Runs e a = (what_of_ask a.0, given_is (what_of_ask a.0) b'.next a.2)
-asked_gives code b b' (N.Gave w) e a = (w, ap (λ (x : Body). given_of x.next) a ∙ ap given_of e)
-asked_gives code b b' (N.Ends x y) e a = (Ended x, ap (λ (z : Body). given_of z.next) a ∙ ap given_of e)
-asked_gives code b b' (N.Fails t) e a = (Ended (Traps t), ap given_of a)
-asked_gives code b b' (N.Waits q) e a = absurd a
+asked_gives code b b' nexts.Runs e a = (what_of_ask a.0, given_is (what_of_ask a.0) b'.next a.2)
+asked_gives code b b' (nexts.Gave w) e a = (w, ap (λ (x : Body). given_of x.next) a ∙ ap given_of e)
+asked_gives code b b' (nexts.Ends x y) e a = (Ended x, ap (λ (z : Body). given_of z.next) a ∙ ap given_of e)
+asked_gives code b b' (nexts.Fails t) e a = (Ended (Traps t), ap given_of a)
+asked_gives code b b' (nexts.Waits q) e a = absurd a
 
 -- asked again, a body gives what it gave
 pub asked_again : (code : Parts) (b b' : Body) (n : Next) (w : What) → b.next ≡ n → AskedBy code n b b' → given_of n ≡ Some w → given_of b'.next ≡ Some w
-asked_again code b b' N.Runs w e a g = (let z : ◌≡◌ {A = Option What} None (Some w) = g in cc)
-asked_again code b b' (N.Gave v) w e a g = ap (λ (x : Body). given_of x.next) a ∙ ap given_of e ∙ g
-asked_again code b b' (N.Ends x y) w e a g = ap (λ (z : Body). given_of z.next) a ∙ ap given_of e ∙ g
-asked_again code b b' (N.Fails t) w e a g = (let z : ◌≡◌ {A = Option What} None (Some w) = g in cc)
-asked_again code b b' (N.Waits q) w e a g = absurd a
+asked_again code b b' nexts.Runs w e a g = (let z : ◌≡◌ {A = Option What} None (Some w) = g in cc)
+asked_again code b b' (nexts.Gave v) w e a g = ap (λ (x : Body). given_of x.next) a ∙ ap given_of e ∙ g
+asked_again code b b' (nexts.Ends x y) w e a g = ap (λ (z : Body). given_of z.next) a ∙ ap given_of e ∙ g
+asked_again code b b' (nexts.Fails t) w e a g = (let z : ◌≡◌ {A = Option What} None (Some w) = g in cc)
+asked_again code b b' (nexts.Waits q) w e a g = absurd a
 
 -- what a task gave it gives again
 pub same_given : (code : Parts) (t : Task) (b b' : Body) (w v : What) → t.top ≡ Some b → AskedBody code b b' → HasGiven t w → given_of b'.next ≡ Some v → w ≡ v

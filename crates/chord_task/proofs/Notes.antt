@@ -22,7 +22,7 @@ use Rattle.chord_code.specs.Machine.{IsForward}
 use Rattle.chord_code.specs.Meaning.{code_program}
 use Rattle.chord_vm.specs.Frames.{IsReady}
 use Rattle.chord_task.specs.declared.body.Next.{Next}
-use Rattle.chord_task.specs.declared.body.Next.TheVariants as N
+use Rattle.chord_task.specs.declared.body.Next.TheVariants as nexts
 use Rattle.chord_task.specs.declared.body.Body.{Body}
 use Rattle.chord_task.specs.Stacks.{TaskView, IsTask}
 use Rattle.chord_task.specs.Standing.{IsUp, IsParked, IsTop, AreParked, IsBodyStack, AnsweredWith, CalledBack, answer_of}
@@ -38,19 +38,19 @@ pub record Whole (code : Parts) (limits : Limits) (h : List Entry) (top : Option
   pub task : IsTask (code_program code limits) (stack_view h top)
   pub stack : IsBodyStack code limits h body below
 
-up_top : (code : Parts) (limits : Limits) (h : List Entry) (b : Body) (n : Next) → b.next ≡ n → ((q : ℕ) → n ≡ N.Waits q → ⊥) → IsTop code limits h b.next b → IsUp code limits h b
-up_top code limits h b N.Runs e f t = subst (λ n. IsTop code limits h n b) e t
-up_top code limits h b (N.Gave w) e f t = subst (λ n. IsTop code limits h n b) e t
-up_top code limits h b (N.Ends x y) e f t = subst (λ n. IsTop code limits h n b) e t
-up_top code limits h b (N.Fails x) e f t = subst (λ n. IsTop code limits h n b) e t
-up_top code limits h b (N.Waits q) e f t = absurd (f q refl)
+up_top : (code : Parts) (limits : Limits) (h : List Entry) (b : Body) (n : Next) → b.next ≡ n → ((q : ℕ) → n ≡ nexts.Waits q → ⊥) → IsTop code limits h b.next b → IsUp code limits h b
+up_top code limits h b nexts.Runs e f t = subst (λ n. IsTop code limits h n b) e t
+up_top code limits h b (nexts.Gave w) e f t = subst (λ n. IsTop code limits h n b) e t
+up_top code limits h b (nexts.Ends x y) e f t = subst (λ n. IsTop code limits h n b) e t
+up_top code limits h b (nexts.Fails x) e f t = subst (λ n. IsTop code limits h n b) e t
+up_top code limits h b (nexts.Waits q) e f t = absurd (f q refl)
 
 -- a body that gave an ask may make its next entry
-pub gave_up : (code : Parts) (limits : Limits) (h : List Entry) (b : Body) (w : What) → b.next ≡ N.Gave w → IsTop code limits h b.next b → IsUp code limits h b
+pub gave_up : (code : Parts) (limits : Limits) (h : List Entry) (b : Body) (w : What) → b.next ≡ nexts.Gave w → IsTop code limits h b.next b → IsUp code limits h b
 gave_up code limits h b w e t = subst (λ n. IsTop code limits h n b) e t
 
 -- a body that gave its end may make its next entry
-pub ends_up : (code : Parts) (limits : Limits) (h : List Entry) (b : Body) (x y : End) → b.next ≡ N.Ends x y → IsTop code limits h b.next b → IsUp code limits h b
+pub ends_up : (code : Parts) (limits : Limits) (h : List Entry) (b : Body) (x y : End) → b.next ≡ nexts.Ends x y → IsTop code limits h b.next b → IsUp code limits h b
 ends_up code limits h b x y e t = subst (λ n. IsTop code limits h n b) e t
 
 -- an entry of a body that was ready changes no body that waits, unless it ends the one that this one called
@@ -71,7 +71,7 @@ call_answer n Begun i e a = absurd i
 call_answer n (Fired k o ms vs) i e a = absurd i
 call_answer n (Ended x) i e a = cc
 
-new_top : (code : Parts) → IsForward code → (limits : Limits) (h : List Entry) (b b' : Body) (n : ℕ) (w : What) → IsUp code limits h b → b.next ≡ N.Gave w → b'.number ≡ b.number → (o : Option Value) → answer_of n w ≡ o → AnsweredWith o n b.frames b' → IsReady b.frames.awaited b.frames → IsTop code limits (entry n b.number w ∷ h) b'.next b'
+new_top : (code : Parts) → IsForward code → (limits : Limits) (h : List Entry) (b b' : Body) (n : ℕ) (w : What) → IsUp code limits h b → b.next ≡ nexts.Gave w → b'.number ≡ b.number → (o : Option Value) → answer_of n w ≡ o → AnsweredWith o n b.frames b' → IsReady b.frames.awaited b.frames → IsTop code limits (entry n b.number w ∷ h) b'.next b'
 new_top code fwd limits h b b' n w u e i (Some v) a r ready =
     subst (λ z. IsTop code limits (entry n b.number w ∷ h) z b') (sym r.0) (up_more code limits h b b' n w v u e a i r.0 r.1)
 new_top code fwd limits h b b' n w u e i None a r ready =
@@ -79,10 +79,10 @@ new_top code fwd limits h b b' n w u e i None a r ready =
     let c = call_answer n w g.0 g.1 a in
     subst (λ z. IsTop code limits (entry n b.number w ∷ h) z b') (sym r.0)
     (subst (λ z. IsParked code limits (entry n b.number z ∷ h) b' n) (sym c.3)
-    (parks code fwd limits h b b' n c.0 c.1 c.2 u (e ∙ ap N.Gave c.3) i r.0 r.1 ready))
+    (parks code fwd limits h b b' n c.0 c.1 c.2 u (e ∙ ap nexts.Gave c.3) i r.0 r.1 ready))
 
 -- the ask that was given becomes an entry
-pub note_gave : (code : Parts) → IsForward code → (limits : Limits) (h : List Entry) (b b' : Body) (bs : List Body) (n : ℕ) (w : What) → IsTask (code_program code limits) (stack_view h (Some b.number)) → IsBodyStack code limits h (Some b) bs → AllBelow n h → b.next ≡ N.Gave w → b'.number ≡ b.number → AnsweredWith (answer_of n w) n b.frames b' → IsReady b.frames.awaited b.frames → Whole code limits (entry n b.number w ∷ h) (Some b'.number) (Some b') bs
+pub note_gave : (code : Parts) → IsForward code → (limits : Limits) (h : List Entry) (b b' : Body) (bs : List Body) (n : ℕ) (w : What) → IsTask (code_program code limits) (stack_view h (Some b.number)) → IsBodyStack code limits h (Some b) bs → AllBelow n h → b.next ≡ nexts.Gave w → b'.number ≡ b.number → AnsweredWith (answer_of n w) n b.frames b' → IsReady b.frames.awaited b.frames → Whole code limits (entry n b.number w ∷ h) (Some b'.number) (Some b') bs
 note_gave code fwd limits h b b' bs n w t s l e i r ready =
     let p = code_program code limits in
     let u = gave_up code limits h b w e s.0 in
@@ -105,7 +105,7 @@ none_waits : (d : Doing) → waits_for None d ≡ true → ⊥
 none_waits d e = (let z : false ≡ true = e in cc)
 
 -- the body on top ends, and no other is left
-pub note_last : (code : Parts) (limits : Limits) (h : List Entry) (b : Body) (n : ℕ) (x y : End) → IsTask (code_program code limits) (stack_view h (Some b.number)) → IsBodyStack code limits h (Some b) [] → AllBelow n h → b.next ≡ N.Ends x y → Whole code limits (entry n b.number (Ended x) ∷ h) None None []
+pub note_last : (code : Parts) (limits : Limits) (h : List Entry) (b : Body) (n : ℕ) (x y : End) → IsTask (code_program code limits) (stack_view h (Some b.number)) → IsBodyStack code limits h (Some b) [] → AllBelow n h → b.next ≡ nexts.Ends x y → Whole code limits (entry n b.number (Ended x) ∷ h) None None []
 note_last code limits h b n x y t s l e =
     let p = code_program code limits in
     let u = ends_up code limits h b x y e s.0 in
@@ -127,7 +127,7 @@ same_some : (m n : ℕ) → Some m ≡ Some n → m ≡ n
 same_some m n e = cc
 
 -- the body on top ends, and its caller is answered
-pub note_end : (code : Parts) (limits : Limits) (h : List Entry) (b c c' : Body) (bs : List Body) (n : ℕ) (x y : End) → IsTask (code_program code limits) (stack_view h (Some b.number)) → IsBodyStack code limits h (Some b) (c ∷ bs) → AllBelow n h → b.next ≡ N.Ends x y → CalledBack x c c' → c'.number ≡ c.number → IsTop code limits (entry n b.number (Ended x) ∷ h) c'.next c' → Whole code limits (entry n b.number (Ended x) ∷ h) (Some c'.number) (Some c') bs
+pub note_end : (code : Parts) (limits : Limits) (h : List Entry) (b c c' : Body) (bs : List Body) (n : ℕ) (x y : End) → IsTask (code_program code limits) (stack_view h (Some b.number)) → IsBodyStack code limits h (Some b) (c ∷ bs) → AllBelow n h → b.next ≡ nexts.Ends x y → CalledBack x c c' → c'.number ≡ c.number → IsTop code limits (entry n b.number (Ended x) ∷ h) c'.next c' → Whole code limits (entry n b.number (Ended x) ∷ h) (Some c'.number) (Some c') bs
 note_end code limits h b c c' bs n x y t s l e r i top =
     let p = code_program code limits in
     let u = ends_up code limits h b x y e s.0 in

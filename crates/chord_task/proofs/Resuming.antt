@@ -23,7 +23,7 @@ use Rattle.chord_code.specs.Meaning.{Point, At, point_of, chord_lines, start_lin
 use Rattle.chord_vm.specs.declared.frames.Frames.{Frames}
 use Rattle.chord_vm.specs.Frames.{machine_of, waiting_of, IsSpacious, IsRoomFor}
 use Rattle.chord_task.specs.declared.body.Next.{Next}
-use Rattle.chord_task.specs.declared.body.Next.TheVariants as N
+use Rattle.chord_task.specs.declared.body.Next.TheVariants as nexts
 use Rattle.chord_task.specs.declared.body.Body.{Body}
 use Rattle.chord_task.specs.declared.task.Task.{Task}
 use Rattle.chord_task.specs.Stacks.{IsTask, TopWaitsFor, FitsCall}
@@ -57,22 +57,22 @@ fired_own p h n k o ms vs = let i : (n == n) ≡ true = eq-eqb n n refl in rw i 
 
 -- a body on top has an entry
 top_seen : (code : Parts) (limits : Limits) (h : List Entry) (b : Body) (n : Next) → h ≡ [] → IsTop code limits h n b → ⊥
-top_seen code limits h b N.Runs e u = (let z : Absent ≡ Ready u.start u.depth u.answers = sym (ap (λ l. doing (code_program code limits) l b.number) e) ∙ u.is in cc)
-top_seen code limits h b (N.Gave w) e u = (let z : Absent ≡ Ready u.start u.depth u.answers = sym (ap (λ l. doing (code_program code limits) l b.number) e) ∙ u.is in cc)
-top_seen code limits h b (N.Ends x y) e u = (let z : Absent ≡ Ready u.start u.depth u.answers = sym (ap (λ l. doing (code_program code limits) l b.number) e) ∙ u.is in cc)
-top_seen code limits h b (N.Fails t) e u = (let z : Absent ≡ Ready u.start u.depth u.answers = sym (ap (λ l. doing (code_program code limits) l b.number) e) ∙ u.is in cc)
-top_seen code limits h b (N.Waits q) e k = (let z : Absent ≡ Waits k.start k.depth k.answers q (limits.depth - b.frames.top.room) = sym (ap (λ l. doing (code_program code limits) l b.number) e) ∙ k.is in cc)
+top_seen code limits h b nexts.Runs e u = (let z : Absent ≡ Ready u.start u.depth u.answers = sym (ap (λ l. doing (code_program code limits) l b.number) e) ∙ u.is in cc)
+top_seen code limits h b (nexts.Gave w) e u = (let z : Absent ≡ Ready u.start u.depth u.answers = sym (ap (λ l. doing (code_program code limits) l b.number) e) ∙ u.is in cc)
+top_seen code limits h b (nexts.Ends x y) e u = (let z : Absent ≡ Ready u.start u.depth u.answers = sym (ap (λ l. doing (code_program code limits) l b.number) e) ∙ u.is in cc)
+top_seen code limits h b (nexts.Fails t) e u = (let z : Absent ≡ Ready u.start u.depth u.answers = sym (ap (λ l. doing (code_program code limits) l b.number) e) ∙ u.is in cc)
+top_seen code limits h b (nexts.Waits q) e k = (let z : Absent ≡ Waits k.start k.depth k.answers q (limits.depth - b.frames.top.room) = sym (ap (λ l. doing (code_program code limits) l b.number) e) ∙ k.is in cc)
 
 up_waits : (code : Parts) (limits : Limits) (h : List Entry) (b : Body) (s : Start) (d : ℕ) (rs : List End) (q l : ℕ) → doing (code_program code limits) h b.number ≡ Waits s d rs q l → IsUp code limits h b → ⊥
 up_waits code limits h b s d rs q l e u = (let z : Waits s d rs q l ≡ Ready u.start u.depth u.answers = sym e ∙ u.is in cc)
 
 -- the body on top that waits is parked
 top_parked : (code : Parts) (limits : Limits) (h : List Entry) (b : Body) (s : Start) (d : ℕ) (rs : List End) (q l : ℕ) (n : Next) → doing (code_program code limits) h b.number ≡ Waits s d rs q l → IsTop code limits h n b → (q' : ℕ) × IsParked code limits h b q'
-top_parked code limits h b s d rs q l N.Runs e u = absurd (up_waits code limits h b s d rs q l e u)
-top_parked code limits h b s d rs q l (N.Gave w) e u = absurd (up_waits code limits h b s d rs q l e u)
-top_parked code limits h b s d rs q l (N.Ends x y) e u = absurd (up_waits code limits h b s d rs q l e u)
-top_parked code limits h b s d rs q l (N.Fails t) e u = absurd (up_waits code limits h b s d rs q l e u)
-top_parked code limits h b s d rs q l (N.Waits r) e k = (r, k)
+top_parked code limits h b s d rs q l nexts.Runs e u = absurd (up_waits code limits h b s d rs q l e u)
+top_parked code limits h b s d rs q l (nexts.Gave w) e u = absurd (up_waits code limits h b s d rs q l e u)
+top_parked code limits h b s d rs q l (nexts.Ends x y) e u = absurd (up_waits code limits h b s d rs q l e u)
+top_parked code limits h b s d rs q l (nexts.Fails t) e u = absurd (up_waits code limits h b s d rs q l e u)
+top_parked code limits h b s d rs q l (nexts.Waits r) e k = (r, k)
 
 begins_spare : (code : Parts) (limits : Limits) (t : Task) (n k : ℕ) (o : Object) (ms : List ℕ) (vs : List Value) → (top : Option Body) → t.top ≡ top → served (code_program code limits) (Fired k o ms vs) ≡ None → (view_of t).top ≡ None → IsTaskOf code limits t → MayResume code limits t n k o ms vs → IsBodyStack code limits (view_of t).past top (reverse t.below.items) → Beginning code limits (view_of t).past top (reverse t.below.items) n k o ms vs
 begins_spare code limits t n k o ms vs (Some b) i s e task may stack = (let z : ◌≡◌ {A = Option ℕ} None (Some b.number) = sym e ∙ ap body_number i in cc)
@@ -151,7 +151,7 @@ opening code limits t n k o ms vs task may =
     subst (λ r. Opening code limits k o vs r) b.room (opens_in code limits k o vs b.depth (slice_get (chord_lines code o.class) k) refl d)
 
 -- the new body is up
-begun_up : (code : Parts) (limits : Limits) (h : List Entry) (top : Option Body) (bs : List Body) (n k : ℕ) (o : Object) (ms : List ℕ) (vs : List Value) (f : Frames) (line : ChordLine) → (b : Beginning code limits h top bs n k o ms vs) → slice_get (chord_lines code o.class) k ≡ Some line → body_in_block code line.block (room_of limits top) (a_value.Ref o ∷ vs) limits.turns ≡ Some (machine_of f) → IsUp code limits (entry n n (Fired k o ms vs) ∷ h) (record { number = n; frames = f; next = N.Runs })
+begun_up : (code : Parts) (limits : Limits) (h : List Entry) (top : Option Body) (bs : List Body) (n k : ℕ) (o : Object) (ms : List ℕ) (vs : List Value) (f : Frames) (line : ChordLine) → (b : Beginning code limits h top bs n k o ms vs) → slice_get (chord_lines code o.class) k ≡ Some line → body_in_block code line.block (room_of limits top) (a_value.Ref o ∷ vs) limits.turns ≡ Some (machine_of f) → IsUp code limits (entry n n (Fired k o ms vs) ∷ h) (record { number = n; frames = f; next = nexts.Runs })
 begun_up code limits h top bs n k o ms vs f line b l s =
     record {
       start = Chord k o vs;
@@ -162,7 +162,7 @@ begun_up code limits h top bs n k o ms vs f line b l s =
     }
 
 -- the task with the new body on top
-pub task_resumed : (code : Parts) (limits : Limits) (t : Task) (past : Vec Entry Global) (below : Vec Body Global) (n k : ℕ) (o : Object) (ms : List ℕ) (vs : List Value) (f : Frames) (line : ChordLine) → IsTaskOf code limits t → MayResume code limits t n k o ms vs → slice_get (chord_lines code o.class) k ≡ Some line → body_in_block code line.block (room_of limits t.top) (a_value.Ref o ∷ vs) limits.turns ≡ Some (machine_of f) → past.items ≡ t.past.items ++ entry n n (Fired k o ms vs) ∷ [] → reverse below.items ≡ with_top t.top (reverse t.below.items) → IsTaskOf code limits (record { past = past; top = Some (record { number = n; frames = f; next = N.Runs }); below = below; spare = None; values = None; limits = t.limits })
+pub task_resumed : (code : Parts) (limits : Limits) (t : Task) (past : Vec Entry Global) (below : Vec Body Global) (n k : ℕ) (o : Object) (ms : List ℕ) (vs : List Value) (f : Frames) (line : ChordLine) → IsTaskOf code limits t → MayResume code limits t n k o ms vs → slice_get (chord_lines code o.class) k ≡ Some line → body_in_block code line.block (room_of limits t.top) (a_value.Ref o ∷ vs) limits.turns ≡ Some (machine_of f) → past.items ≡ t.past.items ++ entry n n (Fired k o ms vs) ∷ [] → reverse below.items ≡ with_top t.top (reverse t.below.items) → IsTaskOf code limits (record { past = past; top = Some (record { number = n; frames = f; next = nexts.Runs }); below = below; spare = None; values = None; limits = t.limits })
 task_resumed code limits t past below n k o ms vs f line task may l s items bodies =
     let p = code_program code limits in
     let h = (view_of t).past in
@@ -175,11 +175,11 @@ task_resumed code limits t past below n k o ms vs f line task may l s items bodi
       task = subst (λ z. IsTask p (stack_view z (Some n))) (sym new) b.task;
       is_defined = λ c. subst (λ z. StaysDefinedAt p (doing p z c)) (sym new) (may.begins c);
       stack =
-          subst (λ z. IsBodyStack code limits z (Some (record { number = n; frames = f; next = N.Runs })) (reverse below.items)) (sym new) (
+          subst (λ z. IsBodyStack code limits z (Some (record { number = n; frames = f; next = nexts.Runs })) (reverse below.items)) (sym new) (
             begun_up code limits h t.top (reverse t.below.items) n k o ms vs f line b l s,
             subst (λ z. AreParked code limits (e ∷ h) (serves p n (e ∷ h)) n z) (sym bodies) b.rest,
           );
-      room = λ q z. let x : N.Runs ≡ N.Waits q = z in cc;
+      room = λ q z. let x : nexts.Runs ≡ nexts.Waits q = z in cc;
       kept = tt;
       kept_values = tt;
     }
@@ -197,17 +197,17 @@ waiting_same : (f f' : Frames) → machine_of f' ≡ machine_of f → f'.awaited
 waiting_same f f' m p = ap (λ x. record { machine = x; awaited = f.awaited }) (sym m) ∙ ap (λ x. record { machine = machine_of f'; awaited = x }) (sym p)
 
 next_roomier : (code : Parts) (limits : Limits) (n : Next) (f f' : Frames) (point : Point) → machine_of f' ≡ machine_of f → f'.awaited ≡ f.awaited → NextIs code limits n f point → NextIs code limits n f' point
-next_roomier code limits N.Runs f f' point m p x = x ∙ ap At (sym m)
-next_roomier code limits (N.Gave (Made c)) f f' point m p x = (x.0, x.1, x.2 ∙ ap (λ z. Asking (Made c) z) (waiting_same f f' m p))
-next_roomier code limits (N.Gave (Sent o j vs)) f f' point m p x = (x.0, x.1, x.2 ∙ ap (λ z. Asking (Sent o j vs) z) (waiting_same f f' m p))
-next_roomier code limits (N.Gave (Called o j vs)) f f' point m p x = (x.0, x.1, x.2 ∙ ap (λ z. Asking (Called o j vs) z) (waiting_same f f' m p))
-next_roomier code limits (N.Gave (Printed t)) f f' point m p x = (x.0, x.1, x.2 ∙ ap (λ z. Asking (Printed t) z) (waiting_same f f' m p))
-next_roomier code limits (N.Gave Begun) f f' point m p x = x
-next_roomier code limits (N.Gave (Fired k o ms vs)) f f' point m p x = x
-next_roomier code limits (N.Gave (Ended e)) f f' point m p x = x
-next_roomier code limits (N.Ends e e') f f' point m p x = x
-next_roomier code limits (N.Fails t) f f' point m p x = x
-next_roomier code limits (N.Waits q) f f' point m p x = x
+next_roomier code limits nexts.Runs f f' point m p x = x ∙ ap At (sym m)
+next_roomier code limits (nexts.Gave (Made c)) f f' point m p x = (x.0, x.1, x.2 ∙ ap (λ z. Asking (Made c) z) (waiting_same f f' m p))
+next_roomier code limits (nexts.Gave (Sent o j vs)) f f' point m p x = (x.0, x.1, x.2 ∙ ap (λ z. Asking (Sent o j vs) z) (waiting_same f f' m p))
+next_roomier code limits (nexts.Gave (Called o j vs)) f f' point m p x = (x.0, x.1, x.2 ∙ ap (λ z. Asking (Called o j vs) z) (waiting_same f f' m p))
+next_roomier code limits (nexts.Gave (Printed t)) f f' point m p x = (x.0, x.1, x.2 ∙ ap (λ z. Asking (Printed t) z) (waiting_same f f' m p))
+next_roomier code limits (nexts.Gave Begun) f f' point m p x = x
+next_roomier code limits (nexts.Gave (Fired k o ms vs)) f f' point m p x = x
+next_roomier code limits (nexts.Gave (Ended e)) f f' point m p x = x
+next_roomier code limits (nexts.Ends e e') f f' point m p x = x
+next_roomier code limits (nexts.Fails t) f f' point m p x = x
+next_roomier code limits (nexts.Waits q) f f' point m p x = x
 
 up_roomier : (code : Parts) (limits : Limits) (h : List Entry) (b b' : Body) → IsRoomier b b' → IsUp code limits h b → IsUp code limits h b'
 up_roomier code limits h b b' r u =
@@ -220,13 +220,13 @@ up_roomier code limits h b b' r u =
     }
 
 top_roomier : (code : Parts) (limits : Limits) (h : List Entry) (b b' : Body) (n : Next) → may_go n ≡ true → IsRoomier b b' → IsTop code limits h n b → IsTop code limits h n b'
-top_roomier code limits h b b' N.Runs g r u = up_roomier code limits h b b' r u
-top_roomier code limits h b b' (N.Gave w) g r u = up_roomier code limits h b b' r u
-top_roomier code limits h b b' (N.Ends x y) g r u = up_roomier code limits h b b' r u
-top_roomier code limits h b b' (N.Fails t) g r u = up_roomier code limits h b b' r u
-top_roomier code limits h b b' (N.Waits q) g r u = (let z : false ≡ true = g in cc)
+top_roomier code limits h b b' nexts.Runs g r u = up_roomier code limits h b b' r u
+top_roomier code limits h b b' (nexts.Gave w) g r u = up_roomier code limits h b b' r u
+top_roomier code limits h b b' (nexts.Ends x y) g r u = up_roomier code limits h b b' r u
+top_roomier code limits h b b' (nexts.Fails t) g r u = up_roomier code limits h b b' r u
+top_roomier code limits h b b' (nexts.Waits q) g r u = (let z : false ≡ true = g in cc)
 
-waits_goes : (n : Next) (q : ℕ) → n ≡ N.Waits q → may_go n ≡ true → ⊥
+waits_goes : (n : Next) (q : ℕ) → n ≡ nexts.Waits q → may_go n ≡ true → ⊥
 waits_goes n q e g = (let z : false ≡ true = sym (ap may_go e) ∙ g in cc)
 
 -- the task with more room

@@ -27,7 +27,7 @@ use Rattle.chord_code.specs.Meaning.{Point, At, FailsBy, point_of, failed, reply
 use Rattle.chord_code.proofs.Asks.{points_more, run_asked}
 use Rattle.chord_vm.specs.declared.frames.Frames.{Frames}
 use Rattle.chord_vm.specs.Frames.{machine_of, waiting_of, IsReady}
-use Rattle.chord_task.specs.declared.body.Next.TheVariants as N
+use Rattle.chord_task.specs.declared.body.Next.TheVariants as nexts
 use Rattle.chord_task.specs.declared.body.Body.{Body}
 use Rattle.chord_task.specs.Stacks.{IsNext}
 use Rattle.chord_task.specs.Standing.{GaveAt, NextIs, IsUp, IsParked, AreParked, CalledBack, answer_of}
@@ -38,7 +38,7 @@ abbrev pub entry : ℕ → ℕ → What → Entry
 entry n b w = record { number = n; body = b; what = w }
 
 -- an ask that was given is the body's own, and no end
-pub gave_at : (code : Parts) (limits : Limits) (w : What) (f : Frames) (p : Point) → NextIs code limits (N.Gave w) f p → IsOwn w × (is_end w ≡ false) × GaveAt code w f p
+pub gave_at : (code : Parts) (limits : Limits) (w : What) (f : Frames) (p : Point) → NextIs code limits (nexts.Gave w) f p → IsOwn w × (is_end w ≡ false) × GaveAt code w f p
 gave_at code limits Begun f p x = absurd x
 gave_at code limits (Fired k o ms vs) f p x = absurd x
 gave_at code limits (Ended e) f p x = absurd x
@@ -48,7 +48,7 @@ gave_at code limits (Called o j vs) f p x = (tt, refl, x)
 gave_at code limits (Printed t) f p x = (tt, refl, x)
 
 -- what is known of an ask that a body gave
-pub gave_by : (code : Parts) (limits : Limits) (h : List Entry) (b : Body) (w : What) (u : IsUp code limits h b) → b.next ≡ N.Gave w → IsOwn w × (is_end w ≡ false) × GaveAt code w b.frames (stands code limits u.start u.depth u.answers)
+pub gave_by : (code : Parts) (limits : Limits) (h : List Entry) (b : Body) (w : What) (u : IsUp code limits h b) → b.next ≡ nexts.Gave w → IsOwn w × (is_end w ≡ false) × GaveAt code w b.frames (stands code limits u.start u.depth u.answers)
 gave_by code limits h b w u e = gave_at code limits w b.frames _ (subst (λ n. NextIs code limits n b.frames (stands code limits u.start u.depth u.answers)) e u.next)
 
 -- the next ask of a point whose ask was given
@@ -56,7 +56,7 @@ pub gave_asks : (code : Parts) (limits : Limits) (w : What) (f : Frames) (p : Po
 gave_asks code limits w f p g = ap (asked_of code limits) g.1 ∙ ap (asked_at limits) g.2
 
 -- it is the next ask of the body on top
-abbrev pub gave_next : (code : Parts) (limits : Limits) (h : List Entry) (b : Body) (w : What) → IsUp code limits h b → b.next ≡ N.Gave w → IsNext (code_program code limits) (record { past = h; top = Some b.number }) w
+abbrev pub gave_next : (code : Parts) (limits : Limits) (h : List Entry) (b : Body) (w : What) → IsUp code limits h b → b.next ≡ nexts.Gave w → IsNext (code_program code limits) (record { past = h; top = Some b.number }) w
 gave_next code limits h b w u e =
     let g = gave_by code limits h b w u e in
     record {
@@ -67,11 +67,11 @@ gave_next code limits h b w u e =
     }
 
 -- what is known of an end that a body gave
-pub ends_by : (code : Parts) (limits : Limits) (h : List Entry) (b : Body) (e e' : End) (u : IsUp code limits h b) → b.next ≡ N.Ends e e' → (l : ℕ) × (asked_of code limits (stands code limits u.start u.depth u.answers) ≡ Some (record { what = Ended e; depth = l })) × (e' ≡ e)
+pub ends_by : (code : Parts) (limits : Limits) (h : List Entry) (b : Body) (e e' : End) (u : IsUp code limits h b) → b.next ≡ nexts.Ends e e' → (l : ℕ) × (asked_of code limits (stands code limits u.start u.depth u.answers) ≡ Some (record { what = Ended e; depth = l })) × (e' ≡ e)
 ends_by code limits h b e e' u i = subst (λ n. NextIs code limits n b.frames (stands code limits u.start u.depth u.answers)) i u.next
 
 -- the end that a body gave is its next ask
-abbrev pub ends_next : (code : Parts) (limits : Limits) (h : List Entry) (b : Body) (e e' : End) → IsUp code limits h b → b.next ≡ N.Ends e e' → IsNext (code_program code limits) (record { past = h; top = Some b.number }) (Ended e)
+abbrev pub ends_next : (code : Parts) (limits : Limits) (h : List Entry) (b : Body) (e e' : End) → IsUp code limits h b → b.next ≡ nexts.Ends e e' → IsNext (code_program code limits) (record { past = h; top = Some b.number }) (Ended e)
 ends_next code limits h b e e' u i =
     let g = ends_by code limits h b e e' u i in
     record { body = b.number; on_top = refl; own = tt; asks = (g.0, ap (asked (code_program code limits)) u.is ∙ g.1) }
@@ -102,7 +102,7 @@ own_ready code limits h b n w v u a =
     s ∙ own_answered p n w (λ q. maker q h) (doing p h) (doing p h b.number) v a ∙ ap (and_then (Gives v)) u.is
 
 -- a body whose ask became an entry that answers it may make its next entry
-pub up_more : (code : Parts) (limits : Limits) (h : List Entry) (b b' : Body) (n : ℕ) (w : What) (v : Value) (u : IsUp code limits h b) → b.next ≡ N.Gave w → answer_of n w ≡ Some v → b'.number ≡ b.number → b'.next ≡ N.Runs → with_answer (machine_of b.frames) b.frames.awaited v ≡ Some (machine_of b'.frames) → IsUp code limits (entry n b.number w ∷ h) b'
+pub up_more : (code : Parts) (limits : Limits) (h : List Entry) (b b' : Body) (n : ℕ) (w : What) (v : Value) (u : IsUp code limits h b) → b.next ≡ nexts.Gave w → answer_of n w ≡ Some v → b'.number ≡ b.number → b'.next ≡ nexts.Runs → with_answer (machine_of b.frames) b.frames.awaited v ≡ Some (machine_of b'.frames) → IsUp code limits (entry n b.number w ∷ h) b'
 up_more code limits h b b' n w v u e a i r f =
     let g = gave_by code limits h b w u e in
     let point : stands code limits u.start u.depth (u.answers ++ Gives v ∷ []) ≡ At (machine_of b'.frames) =
@@ -123,7 +123,7 @@ some_none None s e = cc
 some_none (Some x) s e = cc
 
 -- where the trace stays defined, the machine takes the answer
-pub noted_answer_fits : (code : Parts) (limits : Limits) (h : List Entry) (b : Body) (n : ℕ) (w : What) (v : Value) (u : IsUp code limits h b) → b.next ≡ N.Gave w → answer_of n w ≡ Some v → IsDefined (code_program code limits) (doing (code_program code limits) (entry n b.number w ∷ h) b.number) → with_answer (machine_of b.frames) b.frames.awaited v ≡ None → ⊥
+pub noted_answer_fits : (code : Parts) (limits : Limits) (h : List Entry) (b : Body) (n : ℕ) (w : What) (v : Value) (u : IsUp code limits h b) → b.next ≡ nexts.Gave w → answer_of n w ≡ Some v → IsDefined (code_program code limits) (doing (code_program code limits) (entry n b.number w ∷ h) b.number) → with_answer (machine_of b.frames) b.frames.awaited v ≡ None → ⊥
 noted_answer_fits code limits h b n w v u e a d none =
     let g = gave_by code limits h b w u e in
     let s = subst (λ (x : Doing). IsDefined (code_program code limits) x) (own_ready code limits h b n w v u a) d in
@@ -134,7 +134,7 @@ noted_answer_fits code limits h b n w v u e a d none =
     ∙ ap point_of none))
 
 -- the body that calls
-pub parks : (code : Parts) → IsForward code → (limits : Limits) (h : List Entry) (b b' : Body) (n : ℕ) (o : Object) (j : ℕ) (vs : List Value) → IsUp code limits h b → b.next ≡ N.Gave (Called o j vs) → b'.number ≡ b.number → b'.next ≡ N.Waits n → b'.frames ≡ b.frames → IsReady b.frames.awaited b.frames → IsParked code limits (entry n b.number (Called o j vs) ∷ h) b' n
+pub parks : (code : Parts) → IsForward code → (limits : Limits) (h : List Entry) (b b' : Body) (n : ℕ) (o : Object) (j : ℕ) (vs : List Value) → IsUp code limits h b → b.next ≡ nexts.Gave (Called o j vs) → b'.number ≡ b.number → b'.next ≡ nexts.Waits n → b'.frames ≡ b.frames → IsReady b.frames.awaited b.frames → IsParked code limits (entry n b.number (Called o j vs) ∷ h) b' n
 parks code fwd limits h b b' n o j vs u e i r f ready =
     let p = code_program code limits in
     let g = gave_by code limits h b (Called o j vs) u e in

@@ -15,7 +15,7 @@ use Rattle.chord_base.specs.Story.{IsTold, IsDefined as StaysDefinedAt}
 use Rattle.chord_code.specs.declared.parts.Parts.{Parts}
 use Rattle.chord_code.specs.Machine.{IsForward}
 use Rattle.chord_code.specs.Meaning.{code_program, stands}
-use Rattle.chord_task.specs.declared.body.Next.TheVariants as N
+use Rattle.chord_task.specs.declared.body.Next.TheVariants as nexts
 use Rattle.chord_task.specs.declared.body.Body.{Body}
 use Rattle.chord_task.specs.declared.task.Task.{Task}
 use Rattle.chord_task.specs.Stacks.{IsTask, task_noted}
@@ -44,15 +44,15 @@ stays_at : (code : Parts) (limits : Limits) (t : Task) (b : Body) (n : ℕ) (w :
 stays_at code limits t b n w may top e c =
     subst (λ z. StaysDefinedAt (code_program code limits) (doing (code_program code limits) (entry n b.number z ∷ (view_of t).past) c)) e (may.stays b.number (ap body_number top) c)
 
-given_gave : (b : Body) (w : What) → b.next ≡ N.Gave w → given_of b.next ≡ Some w
+given_gave : (b : Body) (w : What) → b.next ≡ nexts.Gave w → given_of b.next ≡ Some w
 given_gave b w e = ap given_of e
 
 -- a body that holds its end gave it
-pub given_ends : (b : Body) (x y : End) → b.next ≡ N.Ends x y → given_of b.next ≡ Some (Ended x)
+pub given_ends : (b : Body) (x y : End) → b.next ≡ nexts.Ends x y → given_of b.next ≡ Some (Ended x)
 given_ends b x y e = ap given_of e
 
 -- what the note of an ask needs
-pub may_answer : (code : Parts) (limits : Limits) (t : Task) (b : Body) (n : ℕ) (w : What) → IsTaskOf code limits t → MayNote code limits t n → t.top ≡ Some b → b.next ≡ N.Gave w → MayAnswer (answer_of n w) b.frames
+pub may_answer : (code : Parts) (limits : Limits) (t : Task) (b : Body) (n : ℕ) (w : What) → IsTaskOf code limits t → MayNote code limits t n → t.top ≡ Some b → b.next ≡ nexts.Gave w → MayAnswer (answer_of n w) b.frames
 may_answer code limits t b n w k may top e = by_value (answer_of n w) refl
   where
     by_value : (o : Option Value) → answer_of n w ≡ o → MayAnswer o b.frames
@@ -66,7 +66,7 @@ may_answer code limits t b n w k may top e = by_value (answer_of n w) refl
         )
 
 -- the task after its ask became an entry
-pub task_gave : (code : Parts) (limits : Limits) (t : Task) (past : Vec Entry Global) (b b' : Body) (n : ℕ) (w : What) → IsTaskOf code limits t → (may : MayNote code limits t n) → t.top ≡ Some b → b.next ≡ N.Gave w → b'.number ≡ b.number → AnsweredWith (answer_of n w) n b.frames b' → past.items ≡ t.past.items ++ entry n b.number w ∷ [] → vec_len past ≡ vec_len t.past + 1 → vec_capacity past ≡ vec_capacity t.past → IsTaskOf code limits (record { past = past; top = Some b'; below = t.below; spare = t.spare; values = t.values; limits = t.limits }) × task_noted (view_of t) n may.what (view_of (record { past = past; top = Some b'; below = t.below; spare = t.spare; values = t.values; limits = t.limits })) × (is_end may.what ≡ false → (view_of (record { past = past; top = Some b'; below = t.below; spare = t.spare; values = t.values; limits = t.limits })).top ≡ (view_of t).top)
+pub task_gave : (code : Parts) (limits : Limits) (t : Task) (past : Vec Entry Global) (b b' : Body) (n : ℕ) (w : What) → IsTaskOf code limits t → (may : MayNote code limits t n) → t.top ≡ Some b → b.next ≡ nexts.Gave w → b'.number ≡ b.number → AnsweredWith (answer_of n w) n b.frames b' → past.items ≡ t.past.items ++ entry n b.number w ∷ [] → vec_len past ≡ vec_len t.past + 1 → vec_capacity past ≡ vec_capacity t.past → IsTaskOf code limits (record { past = past; top = Some b'; below = t.below; spare = t.spare; values = t.values; limits = t.limits }) × task_noted (view_of t) n may.what (view_of (record { past = past; top = Some b'; below = t.below; spare = t.spare; values = t.values; limits = t.limits })) × (is_end may.what ≡ false → (view_of (record { past = past; top = Some b'; below = t.below; spare = t.spare; values = t.values; limits = t.limits })).top ≡ (view_of t).top)
 task_gave code limits t past b b' n w k may top e i r items len capacity =
     let p = code_program code limits in
     let h = (view_of t).past in
@@ -97,7 +97,7 @@ task_gave code limits t past b b' n w k may top e i r items len capacity =
     )
 
 -- the last body of a task ends
-pub task_last : (code : Parts) (limits : Limits) (t : Task) (past : Vec Entry Global) (below : Vec Body Global) (b : Body) (n : ℕ) (x y : End) → IsTaskOf code limits t → (may : MayNote code limits t n) → t.top ≡ Some b → b.next ≡ N.Ends x y → t.below.items ≡ [] → below.items ≡ [] → past.items ≡ t.past.items ++ entry n b.number (Ended x) ∷ [] → vec_len past ≡ vec_len t.past + 1 → vec_capacity past ≡ vec_capacity t.past → vec_len below ≡ vec_len t.below → vec_capacity below ≡ vec_capacity t.below → IsTaskOf code limits (record { past = past; top = None; below = below; spare = t.spare; values = t.values; limits = t.limits }) × task_noted (view_of t) n may.what (view_of (record { past = past; top = None; below = below; spare = t.spare; values = t.values; limits = t.limits })) × (is_end may.what ≡ false → (view_of (record { past = past; top = None; below = below; spare = t.spare; values = t.values; limits = t.limits })).top ≡ (view_of t).top)
+pub task_last : (code : Parts) (limits : Limits) (t : Task) (past : Vec Entry Global) (below : Vec Body Global) (b : Body) (n : ℕ) (x y : End) → IsTaskOf code limits t → (may : MayNote code limits t n) → t.top ≡ Some b → b.next ≡ nexts.Ends x y → t.below.items ≡ [] → below.items ≡ [] → past.items ≡ t.past.items ++ entry n b.number (Ended x) ∷ [] → vec_len past ≡ vec_len t.past + 1 → vec_capacity past ≡ vec_capacity t.past → vec_len below ≡ vec_len t.below → vec_capacity below ≡ vec_capacity t.below → IsTaskOf code limits (record { past = past; top = None; below = below; spare = t.spare; values = t.values; limits = t.limits }) × task_noted (view_of t) n may.what (view_of (record { past = past; top = None; below = below; spare = t.spare; values = t.values; limits = t.limits })) × (is_end may.what ≡ false → (view_of (record { past = past; top = None; below = below; spare = t.spare; values = t.values; limits = t.limits })).top ≡ (view_of t).top)
 task_last code limits t past below b n x y k may top e none left items len capacity long room =
     let p = code_program code limits in
     let h = (view_of t).past in
@@ -131,9 +131,9 @@ back_number : (x : End) (c c' : Body) → CalledBack x c c' → c'.number ≡ c.
 back_number (Gives v) c c' r = r.0
 back_number (Traps t) c c' r = r.0
 
-back_next : (x : End) (c c' : Body) (q : ℕ) → CalledBack x c c' → c'.next ≡ N.Waits q → ⊥
-back_next (Gives v) c c' q r e = (let z : N.Runs ≡ N.Waits q = sym r.1.0 ∙ e in cc)
-back_next (Traps t) c c' q r e = (let z : N.Fails t ≡ N.Waits q = sym r.1 ∙ e in cc)
+back_next : (x : End) (c c' : Body) (q : ℕ) → CalledBack x c c' → c'.next ≡ nexts.Waits q → ⊥
+back_next (Gives v) c c' q r e = (let z : nexts.Runs ≡ nexts.Waits q = sym r.1.0 ∙ e in cc)
+back_next (Traps t) c c' q r e = (let z : nexts.Fails t ≡ nexts.Waits q = sym r.1 ∙ e in cc)
 
 last_of : (below rest : List Body) (c : Body) → below ≡ rest ++ c ∷ [] → reverse below ≡ c ∷ reverse rest
 last_of below rest c e = ap reverse e ∙ reverse-append rest (c ∷ [])
@@ -143,7 +143,7 @@ pub caller_at : (code : Parts) (limits : Limits) (t : Task) (rest : List Body) (
 caller_at code limits t rest b c k top e = subst (λ z. IsBodyStack code limits (view_of t).past (Some b) z) (last_of t.below.items rest c e) (stack_at code limits t b k top)
 
 -- a body ends, and its caller goes on
-pub task_back : (code : Parts) (limits : Limits) (t : Task) (past : Vec Entry Global) (below : Vec Body Global) (b c c' : Body) (n : ℕ) (x y : End) → IsTaskOf code limits t → (may : MayNote code limits t n) → t.top ≡ Some b → b.next ≡ N.Ends x y → t.below.items ≡ below.items ++ c ∷ [] → CalledBack y c c' → past.items ≡ t.past.items ++ entry n b.number (Ended x) ∷ [] → IsTaskOf code limits (record { past = past; top = Some c'; below = below; spare = t.spare; values = t.values; limits = t.limits }) × task_noted (view_of t) n may.what (view_of (record { past = past; top = Some c'; below = below; spare = t.spare; values = t.values; limits = t.limits })) × (is_end may.what ≡ false → (view_of (record { past = past; top = Some c'; below = below; spare = t.spare; values = t.values; limits = t.limits })).top ≡ (view_of t).top)
+pub task_back : (code : Parts) (limits : Limits) (t : Task) (past : Vec Entry Global) (below : Vec Body Global) (b c c' : Body) (n : ℕ) (x y : End) → IsTaskOf code limits t → (may : MayNote code limits t n) → t.top ≡ Some b → b.next ≡ nexts.Ends x y → t.below.items ≡ below.items ++ c ∷ [] → CalledBack y c c' → past.items ≡ t.past.items ++ entry n b.number (Ended x) ∷ [] → IsTaskOf code limits (record { past = past; top = Some c'; below = below; spare = t.spare; values = t.values; limits = t.limits }) × task_noted (view_of t) n may.what (view_of (record { past = past; top = Some c'; below = below; spare = t.spare; values = t.values; limits = t.limits })) × (is_end may.what ≡ false → (view_of (record { past = past; top = Some c'; below = below; spare = t.spare; values = t.values; limits = t.limits })).top ≡ (view_of t).top)
 task_back code limits t past below b c c' n x y k may top e parts back items =
     let p = code_program code limits in
     let h = (view_of t).past in
@@ -167,7 +167,7 @@ task_back code limits t past below b c c' n x y k may top e parts back items =
       λ z. let x : true ≡ false = sym (ap is_end j) ∙ z in cc,
     )
   where
-    gave_ends : (code : Parts) (limits : Limits) (h : List Entry) (b : Body) (x y : End) → b.next ≡ N.Ends x y → IsTop code limits h b.next b → y ≡ x
+    gave_ends : (code : Parts) (limits : Limits) (h : List Entry) (b : Body) (x y : End) → b.next ≡ nexts.Ends x y → IsTop code limits h b.next b → y ≡ x
     gave_ends code limits h b x y e t =
         let u = subst (λ n. IsTop code limits h n b) e t in
         let i = subst (λ n. NextIs code limits n b.frames (stands code limits u.start u.depth u.answers)) e u.next in i.2

@@ -23,7 +23,7 @@ use Rattle.chord_vm.specs.declared.ask.Ask.{Ask}
 use Rattle.chord_task.specs.Arguments.{IsList, MayBeList}
 use Rattle.chord_base.specs.Printed.{is_end}
 use Rattle.chord_task.specs.declared.body.Next.{Next}
-use Rattle.chord_task.specs.declared.body.Next.TheVariants as N
+use Rattle.chord_task.specs.declared.body.Next.TheVariants as nexts
 use Rattle.chord_task.specs.declared.body.Body.{Body}
 use Rattle.chord_task.specs.declared.task.Task.{Task}
 use Rattle.chord_task.specs.Stacks.{TaskView, IsTask, StaysDefined, BeginsDefined, MayBeginBody}
@@ -43,17 +43,17 @@ GaveAt code w f point = (m : Machine) × (point ≡ At m) × (comes_to code m �
 
 -- what the state of a body says of the point where it stands
 abbrev pub NextIs : Parts → Limits → Next → Frames → Point → Type 0
-NextIs code limits N.Runs f point = point ≡ At (machine_of f)
-NextIs code limits (N.Gave (Ended e)) f point = ⊥
-NextIs code limits (N.Gave Begun) f point = ⊥
-NextIs code limits (N.Gave (Fired k o ms vs)) f point = ⊥
-NextIs code limits (N.Gave (Made c)) f point = GaveAt code (Made c) f point
-NextIs code limits (N.Gave (Sent o j vs)) f point = GaveAt code (Sent o j vs) f point
-NextIs code limits (N.Gave (Called o j vs)) f point = GaveAt code (Called o j vs) f point
-NextIs code limits (N.Gave (Printed t)) f point = GaveAt code (Printed t) f point
-NextIs code limits (N.Ends e e') f point = (l : ℕ) × (asked_of code limits point ≡ Some (record { what = Ended e; depth = l })) × (e' ≡ e)
-NextIs code limits (N.Fails t) f point = point ≡ FailsBy t
-NextIs code limits (N.Waits q) f point = ⊥
+NextIs code limits nexts.Runs f point = point ≡ At (machine_of f)
+NextIs code limits (nexts.Gave (Ended e)) f point = ⊥
+NextIs code limits (nexts.Gave Begun) f point = ⊥
+NextIs code limits (nexts.Gave (Fired k o ms vs)) f point = ⊥
+NextIs code limits (nexts.Gave (Made c)) f point = GaveAt code (Made c) f point
+NextIs code limits (nexts.Gave (Sent o j vs)) f point = GaveAt code (Sent o j vs) f point
+NextIs code limits (nexts.Gave (Called o j vs)) f point = GaveAt code (Called o j vs) f point
+NextIs code limits (nexts.Gave (Printed t)) f point = GaveAt code (Printed t) f point
+NextIs code limits (nexts.Ends e e') f point = (l : ℕ) × (asked_of code limits point ≡ Some (record { what = Ended e; depth = l })) × (e' ≡ e)
+NextIs code limits (nexts.Fails t) f point = point ≡ FailsBy t
+NextIs code limits (nexts.Waits q) f point = ⊥
 
 -- a body that may make its next entry
 pub record IsUp (code : Parts) (limits : Limits) (h : List Entry) (b : Body) : Type 0 where
@@ -70,7 +70,7 @@ pub record IsParked (code : Parts) (limits : Limits) (h : List Entry) (b : Body)
   pub answers : List End
   pub machine : Machine
   pub what : What
-  pub waits : b.next ≡ N.Waits q
+  pub waits : b.next ≡ nexts.Waits q
   pub is : doing (code_program code limits) h b.number ≡ Waits start depth answers q (limits.depth - b.frames.top.room)
   pub at : stands code limits start depth answers ≡ At machine
   pub comes : comes_to code machine ≡ Asking what (waiting_of b.frames)
@@ -79,11 +79,11 @@ pub record IsParked (code : Parts) (limits : Limits) (h : List Entry) (b : Body)
 
 -- what is known of the body on top: it waits for a call, or may make its next entry
 abbrev pub IsTop : Parts → Limits → List Entry → Next → Body → Type 0
-IsTop code limits h (N.Waits q) b = IsParked code limits h b q
-IsTop code limits h N.Runs b = IsUp code limits h b
-IsTop code limits h (N.Gave w) b = IsUp code limits h b
-IsTop code limits h (N.Ends e e') b = IsUp code limits h b
-IsTop code limits h (N.Fails t) b = IsUp code limits h b
+IsTop code limits h (nexts.Waits q) b = IsParked code limits h b q
+IsTop code limits h nexts.Runs b = IsUp code limits h b
+IsTop code limits h (nexts.Gave w) b = IsUp code limits h b
+IsTop code limits h (nexts.Ends e e') b = IsUp code limits h b
+IsTop code limits h (nexts.Fails t) b = IsUp code limits h b
 
 -- each body waits for the call that the one above it serves; the topmost stands first
 abbrev pub AreParked : Parts → Limits → List Entry → Option ℕ → ℕ → List Body → Type 0
@@ -115,7 +115,7 @@ pub record IsResumable (code : Parts) (t : Task) : Type 0 where
 -- there is room for a firing, if this body on top waits for one, or none is left
 abbrev pub HasRoomIf : Parts → Task → Option Body → Type 0
 HasRoomIf code t None = IsResumable code t
-HasRoomIf code t (Some b) = (q : ℕ) → b.next ≡ N.Waits q → IsResumable code t
+HasRoomIf code t (Some b) = (q : ℕ) → b.next ≡ nexts.Waits q → IsResumable code t
 
 -- frames in stock are for this code under these limits
 abbrev pub HasRoomFor : Parts → Limits → Option Frames → Type 0
@@ -135,17 +135,17 @@ pub record IsTaskOf (code : Parts) (limits : Limits) (t : Task) : Type 0 where
 
 -- the body can go on to an ask
 abbrev pub IsRunnable : Parts → Body → Type 0
-IsRunnable code b = (b.next ≡ N.Runs → ComesToAsk code (machine_of b.frames)) × ((q : ℕ) → b.next ≡ N.Waits q → ⊥)
+IsRunnable code b = (b.next ≡ nexts.Runs → ComesToAsk code (machine_of b.frames)) × ((q : ℕ) → b.next ≡ nexts.Waits q → ⊥)
 
 -- what a body does next once it came to this ask
 abbrev pub GivenBy : What → Next → Type 0
-GivenBy (Ended e) n = n ≡ N.Ends e e
-GivenBy Begun n = n ≡ N.Gave Begun
-GivenBy (Made c) n = n ≡ N.Gave (Made c)
-GivenBy (Sent o j vs) n = n ≡ N.Gave (Sent o j vs)
-GivenBy (Called o j vs) n = n ≡ N.Gave (Called o j vs)
-GivenBy (Printed t) n = n ≡ N.Gave (Printed t)
-GivenBy (Fired k o ms vs) n = n ≡ N.Gave (Fired k o ms vs)
+GivenBy (Ended e) n = n ≡ nexts.Ends e e
+GivenBy Begun n = n ≡ nexts.Gave Begun
+GivenBy (Made c) n = n ≡ nexts.Gave (Made c)
+GivenBy (Sent o j vs) n = n ≡ nexts.Gave (Sent o j vs)
+GivenBy (Called o j vs) n = n ≡ nexts.Gave (Called o j vs)
+GivenBy (Printed t) n = n ≡ nexts.Gave (Printed t)
+GivenBy (Fired k o ms vs) n = n ≡ nexts.Gave (Fired k o ms vs)
 
 -- the frames of a body ran on to its ask
 abbrev pub HasRun : Parts → Frames → Body → Type 0
@@ -153,11 +153,11 @@ HasRun code f b = (a : Ask) × Advanced code (machine_of f) a b.frames × GivenB
 
 -- how a body comes to its ask
 abbrev pub AskedBy : Parts → Next → Body → Body → Type 0
-AskedBy code N.Runs b b' = HasRun code b.frames b'
-AskedBy code (N.Gave w) b b' = b' ≡ b
-AskedBy code (N.Ends e e') b b' = b' ≡ b
-AskedBy code (N.Fails t) b b' = b'.next ≡ N.Ends (Traps t) (Traps t)
-AskedBy code (N.Waits q) b b' = ⊥
+AskedBy code nexts.Runs b b' = HasRun code b.frames b'
+AskedBy code (nexts.Gave w) b b' = b' ≡ b
+AskedBy code (nexts.Ends e e') b b' = b' ≡ b
+AskedBy code (nexts.Fails t) b b' = b'.next ≡ nexts.Ends (Traps t) (Traps t)
+AskedBy code (nexts.Waits q) b b' = ⊥
 
 -- the body after it came to its ask
 pub record AskedBody (code : Parts) (b b' : Body) : Type 0 where
@@ -166,19 +166,19 @@ pub record AskedBody (code : Parts) (b b' : Body) : Type 0 where
 
 -- the body gave an ask
 abbrev pub IsAskGiven : Next → Type 0
-IsAskGiven (N.Gave w) = IsOwn w × (is_end w ≡ false)
-IsAskGiven (N.Ends e e') = Unit {0}
-IsAskGiven N.Runs = ⊥
-IsAskGiven (N.Fails t) = ⊥
-IsAskGiven (N.Waits q) = ⊥
+IsAskGiven (nexts.Gave w) = IsOwn w × (is_end w ≡ false)
+IsAskGiven (nexts.Ends e e') = Unit {0}
+IsAskGiven nexts.Runs = ⊥
+IsAskGiven (nexts.Fails t) = ⊥
+IsAskGiven (nexts.Waits q) = ⊥
 
 -- the ask that a body gave
 abbrev pub given_of : Next → Option What
-given_of N.Runs = None
-given_of (N.Gave w) = Some w
-given_of (N.Ends e e') = Some (Ended e)
-given_of (N.Fails t) = None
-given_of (N.Waits q) = None
+given_of nexts.Runs = None
+given_of (nexts.Gave w) = Some w
+given_of (nexts.Ends e e') = Some (Ended e)
+given_of (nexts.Fails t) = None
+given_of (nexts.Waits q) = None
 
 -- the ask that a body gave, if there is a body
 abbrev pub given_by : Option Body → Option What
@@ -191,11 +191,11 @@ HasGiven t w = given_by t.top ≡ Some w
 
 -- a body may go on: it does not wait for a call
 abbrev pub may_go : Next → Bool
-may_go N.Runs = true
-may_go (N.Gave w) = true
-may_go (N.Ends e e') = true
-may_go (N.Fails t) = true
-may_go (N.Waits q) = false
+may_go nexts.Runs = true
+may_go (nexts.Gave w) = true
+may_go (nexts.Ends e e') = true
+may_go (nexts.Fails t) = true
+may_go (nexts.Waits q) = false
 
 -- there is a body, and it may go on
 abbrev pub body_may_go : Option Body → Bool
@@ -208,11 +208,11 @@ is_ready_of t = body_may_go t.top
 
 -- a body waits for this call
 abbrev pub waits_on : ℕ → Next → Bool
-waits_on q N.Runs = false
-waits_on q (N.Gave w) = false
-waits_on q (N.Ends e e') = false
-waits_on q (N.Fails t) = false
-waits_on q (N.Waits c) = c == q
+waits_on q nexts.Runs = false
+waits_on q (nexts.Gave w) = false
+waits_on q (nexts.Ends e e') = false
+waits_on q (nexts.Fails t) = false
+waits_on q (nexts.Waits c) = c == q
 
 -- there is a body, and it waits for this call
 abbrev pub body_waits : ℕ → Option Body → Bool
@@ -240,13 +240,13 @@ MayAnswer (Some v) f = IsReady f.awaited f × (with_answer (machine_of f) f.awai
 
 -- the body that was answered by this value runs on; one that was not waits for the call of this number
 abbrev pub AnsweredWith : Option Value → ℕ → Frames → Body → Type 0
-AnsweredWith None n f b = (b.next ≡ N.Waits n) × (b.frames ≡ f)
-AnsweredWith (Some v) n f b = (b.next ≡ N.Runs) × (with_answer (machine_of f) f.awaited v ≡ Some (machine_of b.frames))
+AnsweredWith None n f b = (b.next ≡ nexts.Waits n) × (b.frames ≡ f)
+AnsweredWith (Some v) n f b = (b.next ≡ nexts.Runs) × (with_answer (machine_of f) f.awaited v ≡ Some (machine_of b.frames))
 
 -- the caller after the end of the body that it called
 abbrev pub CalledBack : End → Body → Body → Type 0
 CalledBack (Gives v) b b' = (b'.number ≡ b.number) × AnsweredWith (Some v) 0 b.frames b'
-CalledBack (Traps t) b b' = (b'.number ≡ b.number) × (b'.next ≡ N.Fails t)
+CalledBack (Traps t) b b' = (b'.number ≡ b.number) × (b'.next ≡ nexts.Fails t)
 
 -- there is room for the answer of a body, if there is a body
 abbrev pub IsReadyFor : Option Body → Type 0

@@ -2,12 +2,12 @@
 #![tactic(auto)]
 
 ghost use Rattle.std.specs.Prelude.{◌≡◌, ◌≢◌, ℕ, ◌-◌, ◌≤◌, List, [], ◌∷◌, true, false, IfOk, OnOk, Some, None, length, slice_get, is_none, option_copied};
-ghost use Rattle.chord_base.specs.declared.event.Limits.{Limits as L};
-ghost use Rattle.chord_base.specs.declared.event.What.{What as W};
+ghost use Rattle.chord_base.specs.declared.event.Limits.{Limits as TheLimits};
+ghost use Rattle.chord_base.specs.declared.event.What.{What as AWhat};
 ghost use Rattle.chord_base.specs.Printed.{is_end};
 ghost use Rattle.chord_code.specs.declared.parts.Parts.{Parts};
 ghost use Rattle.chord_code.specs.Meaning.{code_program, chord_lines};
-ghost use Rattle.chord_vm.specs.declared.frames.Frames.{Frames as F};
+ghost use Rattle.chord_vm.specs.declared.frames.Frames.{Frames as TheFrames};
 ghost use Rattle.chord_vm.specs.Frames.{laid, what_of_ask};
 ghost use Rattle.chord_task.specs.Arguments.{firsts, AreTwice, MayBeList, IsList};
 ghost use Rattle.chord_task.specs.Stacks.{task_noted, task_begun, IsNext};
@@ -62,7 +62,7 @@ fn line_of(code: &Code, class: u16, chord: u16) -> &ChordLine
 
 /// The depth of a body that is put on top of this one.
 fn depth_over(depth: u32, top: &Option<Body>) -> u32
-    ensures { (limits : L) → limits.depth ≡ depth → limits.depth - result ≡ room_of limits top.now }
+    ensures { (limits : TheLimits) → limits.depth ≡ depth → limits.depth - result ≡ room_of limits top.now }
 {
     match top {
         None => 1,
@@ -82,7 +82,7 @@ fn reserve_spare(
 ) -> Result<(), AllocError>
     requires { HasRoomFor code.now limits.now spare.old }
     ensures kept { HasRoomFor code.now limits.now spare.new }
-    ensures some { OnOk result ((f : F) × (spare.new ≡ Some f) × IsSpareOf code.now limits.now f) }
+    ensures some { OnOk result ((f : TheFrames) × (spare.new ≡ Some f) × IsSpareOf code.now limits.now f) }
 {
     match spare.take() {
         None => {
@@ -202,7 +202,7 @@ impl Task {
         ensures same { IfOk result (λ _. view_of self.new ≡ view_of self.old) }
         ensures gave { IfOk result (λ ask. HasGiven self.new (what_of_ask ask)) }
         ensures next { IfOk result (λ ask. IsNext (code_program code.now limits.now) (view_of self.old) (what_of_ask ask)) }
-        ensures again { IfOk result (λ ask. (w : W) → HasGiven self.old w → w ≡ what_of_ask ask) }
+        ensures again { IfOk result (λ ask. (w : AWhat) → HasGiven self.old w → w ≡ what_of_ask ask) }
     {
         match self.top.take() {
             None => unreachable!(),
@@ -243,9 +243,9 @@ impl Task {
 
     /// Takes the room that the next note and the next resume need. Where there is none the task is as it was.
     pub fn reserve(&mut self, alloc: Global, code: &Code) -> Result<(), AllocError>
-        requires task { (limits : L) × IsTaskOf code.now limits self.old }
+        requires task { (limits : TheLimits) × IsTaskOf code.now limits self.old }
         requires left { is_ready_of self.old ≡ true }
-        ensures task { (limits : L) → IsTaskOf code.now limits self.old → IsTaskOf code.now limits self.new }
+        ensures task { (limits : TheLimits) → IsTaskOf code.now limits self.old → IsTaskOf code.now limits self.new }
         ensures same { view_of self.new ≡ view_of self.old }
         ensures gave { given_by self.new.top ≡ given_by self.old.top }
         ensures ready { OnOk result (IsReserved code.now self.new) }
@@ -262,7 +262,7 @@ impl Task {
     /// An object, a message and a line are answered; a call waits. After an end the body below is answered by it.
     pub fn note(&mut self, number: u32)
         requires { CanNote self.old number }
-        ensures { (code : Parts) (limits : L) → IsTaskOf code limits self.old → (may : MayNote code limits self.old number) → IsTaskOf code limits self.new × task_noted (view_of self.old) number may.what (view_of self.new) × (is_end may.what ≡ false → (view_of self.new).top ≡ (view_of self.old).top) }
+        ensures { (code : Parts) (limits : TheLimits) → IsTaskOf code limits self.old → (may : MayNote code limits self.old number) → IsTaskOf code limits self.new × task_noted (view_of self.old) number may.what (view_of self.new) × (is_end may.what ≡ false → (view_of self.new).top ≡ (view_of self.old).top) }
     {
         match self.top.take() {
             None => unreachable!(),

@@ -15,13 +15,13 @@ pub struct Program {
 
 impl Model for Program {
     ghost use Rattle.std.specs.Coded.{codes};
-    ghost use Rattle.chord_tree.specs.contracts.stmts.Block as b;
+    ghost use Rattle.chord_tree.specs.contracts.stmts.Block as block;
     ghost use Rattle.chord_tree.specs.View.{Parts, tree_of};
     ghost use Rattle.chord_tree.specs.Program.{IsProgram};
 
     ghost Value = { Parts };
 
-    ghost coded = { Prim.hlevel (codes, b.the_row.coded) };
+    ghost coded = { Prim.hlevel (codes, block.the_row.coded) };
 
     ghost view = { λ p. record { usings = p.usings.items; classes = p.classes.items } };
 

@@ -1,6 +1,6 @@
 -- What the frames of a body stand for.
 use Rattle.std.specs.Prelude.{◌≡◌, ◌<◌, ◌≤◌, vec_len, vec_capacity, ℕ, List, [], ◌∷◌, ◌++◌, Option, Some, None, map, reverse, slice_get}
-use Rattle.chord_vm.specs.declared.frames.Frame as F
+use Rattle.chord_vm.specs.declared.frames.Frame as declared_frame
 use Rattle.chord_vm.specs.declared.frames.Frames.{Frames}
 use Rattle.chord_vm.specs.declared.ask.Ask.{Ask}
 use Rattle.chord_vm.specs.declared.ask.Ask.TheVariants as ask
@@ -14,7 +14,7 @@ use Rattle.chord_code.specs.declared.parts.Block.{Block}
 use Rattle.chord_code.specs.Machine.{Frame, Machine, Waiting, Did, Goes, Asking, pops, ComesTo}
 
 -- a frame's stack grows at its end
-abbrev pub shown_frame : F.Frame → Frame
+abbrev pub shown_frame : declared_frame.Frame → Frame
 shown_frame f = record { block = f.block; place = f.place; room = f.room; stack = reverse f.stack.items; slots = f.slots.items }
 
 -- the machine of the frames
@@ -69,7 +69,7 @@ abbrev pub IsRoomFor : Parts → Frames → Type 0
 IsRoomFor code f = (i : ℕ) (b : Block) → slice_get code.blocks i ≡ Some b → b.slots ≤ vec_capacity f.top.slots
 
 -- the frame is there, and its slots have room for so many values
-abbrev pub HasRoom : Option F.Frame → ℕ → Type 0
+abbrev pub HasRoom : Option declared_frame.Frame → ℕ → Type 0
 HasRoom None n = ⊥
 HasRoom (Some f) n = n ≤ vec_capacity f.slots
 

@@ -2,7 +2,6 @@
 #![tactic(auto)]
 
 ghost use Rattle.std.specs.Prelude.{◌≡◌, ◌≢◌, ℕ, suc, ◌+◌, ◌^◌, ◌<◌, ◌≤◌, List, [], ◌∷◌, IfOk, OnOk, Some, None, length, slice_get, vec_len, vec_capacity};
-ghost use Rattle.chord_base.specs.declared.operation.Operation.{Operation as O};
 ghost use Rattle.chord_base.specs.Operators.{Computed, Is, Trapped, Mistyped, compute as compute_of, text_of, negated, denied, IsComputed};
 ghost use Rattle.chord_code.specs.Valid.{IsValid};
 ghost use Rattle.chord_code.specs.Within.{IsInstructionWithin};
