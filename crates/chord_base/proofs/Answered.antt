@@ -52,6 +52,7 @@ IsAnsweredSoFar h es Absent = Unit {0}
 IsAnsweredSoFar h es Unplaced = Unit {0}
 IsAnsweredSoFar h es (Over x) = Unit {0}
 
+-- with one more entry in the history, what a body got still is what its entries were answered
 state_more : (e : Entry) (h es : List Entry) (d : Doing) → IsAnsweredSoFar h es d → IsAnsweredSoFar (e ∷ h) es d
 state_more e h es (Ready s d rs) a = all_more e h es (reverse rs) a
 state_more e h es (Waits s d rs q l) a = (a.0, a.1, a.2, a.3, all_more e h a.1 (reverse rs) a.4)
@@ -61,6 +62,7 @@ state_more e h es (Over x) a = tt
 
 -- ---- entries of the body itself
 
+-- a body without later entries that begins one deeper than its caller, or lacks its call, has no answer
 placed_state : (h : List Entry) (s : Start) (q : ℕ) (d : Doing) → IsAnsweredSoFar h [] (placed s q d)
 placed_state h s q (Waits t k rs c l) = elim (either (q == c)) [ inl y ↦ rw y tt | inr o ↦ rw o tt ]
 placed_state h s q Absent = tt
@@ -68,6 +70,7 @@ placed_state h s q Unplaced = tt
 placed_state h s q (Ready t k rs) = tt
 placed_state h s q (Over x) = tt
 
+-- a body without later entries that begins to serve a call, whether the call has a maker or not, has no answer
 by_state : (h : List Entry) (s : Start) (q : ℕ) (o : Option ℕ) (f : ℕ → Doing) → IsAnsweredSoFar h [] (begun_by s q o f)
 by_state h s q None f = tt
 by_state h s q (Some b) f = placed_state h s q (f b)
@@ -95,10 +98,12 @@ waiting_state p h es e (Over y) a k i st = tt
 
 -- ---- entries of other bodies
 
+-- the end that serves the caller of a call is the answer to the entry of that call
 call_is_answered : (h : List Entry) (c : Entry) (q : ℕ) (x : End) → IsCall q c → IsServed q x h → IsAnswered h c.number c.what x
 call_is_answered h c q x call s =
     subst (λ (w : What). IsAnswered h c.number w x) (sym call.1.3) (subst (λ (n : ℕ). IsServed n x h) (sym call.0) s)
 
+-- where an end serves the caller that waits for its call, what a body of these entries got still is what they were answered
 answered_state : (h es : List Entry) (e : Entry) (x : End) (c : Option ℕ) (d : Doing) → ((q : ℕ) → c ≡ Some q → IsServed q x (e ∷ h)) → IsAnsweredSoFar h es d → IsAnsweredSoFar (e ∷ h) es (answered x c d)
 answered_state h es e x None d f st = state_more e h es d st
 answered_state h es e x (Some c) (Waits s d rs q l) f st =
@@ -114,6 +119,7 @@ answered_state h es e x (Some c) Absent f st = tt
 answered_state h es e x (Some c) Unplaced f st = tt
 answered_state h es e x (Some c) (Over y) f st = tt
 
+-- after an entry of another body, what a body got still is what its own entries were answered
 heard_state : (h es : List Entry) (e : Entry) (w : What) (c : Option ℕ) (d : Doing) → ((q : ℕ) (x : End) → w ≡ Ended x → c ≡ Some q → IsServed q x (e ∷ h)) → IsAnsweredSoFar h es d → IsAnsweredSoFar (e ∷ h) es (heard w c d)
 heard_state h es e (Ended x) c d f st = answered_state h es e x c d (λ q i. f q x refl i) st
 heard_state h es e Begun c d f st = state_more e h es d st
@@ -131,6 +137,7 @@ end_serves p h e q x is s =
 
 -- ---- which entries are a body's later ones
 
+-- in a run, a body whose number is no entry's yet has no later entries
 later_nothing : (p : Program) (h : List Entry) (b : ℕ) → IsPast p h → length h ≤ b → later b h ≡ []
 later_nothing p [] b r l = refl
 later_nothing p (x ∷ h) b r l =
@@ -138,6 +145,7 @@ later_nothing p (x ∷ h) b r l =
     let other : (x.body == b) ≡ false = ne_eqb x.body b (λ e. omega (arith, e, w, l)) in
     rw other (later_nothing p h b r.0 (omega (arith, l)))
 
+-- after an entry of its own, what a body got is what its entries were answered, if that was so before
 own_state : (p : Program) (h : List Entry) (b n : ℕ) (w : What) → IsPast p h → n ≡ length h → Comes p h n b w → IsAnsweredSoFar h (later b h) (doing p h b) → IsAnsweredSoFar (record { number = n; body = b; what = w } ∷ h) (later b (record { number = n; body = b; what = w } ∷ h)) (own p n w (λ q. maker q h) (doing p h) (doing p h b))
 own_state p h b n Begun r e c i =
     let first : n ≡ b = (let z : length h ≡ 0 = ap length c.0 in omega (arith, e, z, c.1)) in
@@ -154,6 +162,7 @@ own_state p h b n (Called o j vs) r e c i =
     (let l = entry_within p h b r (asks_entry p (doing p h b) _ c.1) in rw (eq-eqb b b refl, ne_eqb n b (λ z. omega (arith, z, e, l))) (waiting_state p h (later b h) (record { number = n; body = b; what = Called o j vs }) (doing p h b) _ c.1 (refl, (o, j, vs, refl)) i))
 own_state p h b n (Ended x) r e c i = tt
 
+-- in a run, what each body got is what its later entries were answered
 all_answered : (p : Program) (h : List Entry) (b : ℕ) → IsPast p h → IsAnsweredSoFar h (later b h) (doing p h b)
 all_answered p [] b r = tt
 all_answered p (e ∷ h) b r =

@@ -15,6 +15,7 @@ use Rattle.chord_base.specs.Machine.{Comes, IsPast}
 use Rattle.chord_base.specs.Laws.{EntriesAreAsks, CallIsLastAsk}
 use Rattle.chord_base.proofs.Waits.{either}
 
+-- what the next ask of a body that got these answers says, if there is such an ask
 abbrev next_what : Program → Start → ℕ → List End → Option What
 next_what p s d rs = option_map (λ a. a.what) (p.next s d rs)
 
@@ -25,6 +26,7 @@ asks_more_on p s d got (r ∷ rs) x =
     ap (λ z. next_what p s d got ∷ z)
     (asks_more_on p s d (got ++ r ∷ []) rs x ∙ ap (λ z. asks_on p s d (got ++ r ∷ []) rs ++ next_what p s d z ∷ []) (append_assoc got (r ∷ []) (rs ++ x ∷ [])))
 
+-- with one more answer the list of a body's asks has one more ask at its end
 asks_more : (p : Program) (s : Start) (d : ℕ) (rs : List End) (x : End) → asks_of p s d (rs ++ x ∷ []) ≡ asks_of p s d rs ++ next_what p s d (rs ++ x ∷ []) ∷ []
 asks_more p s d rs x = asks_more_on p s d [] rs x
 
@@ -48,6 +50,7 @@ asks_entry p (Waits s d rs q l) a e = tt
 asks_entry p (Over x) a e = tt
 asks_entry p Absent a e = (let z : ◌≡◌ {A = Option Asked} None (Some a) = e in cc)
 
+-- an entry of another body leaves an absent body absent
 heard_absent : (w : What) (c : Option ℕ) → heard w c Absent ≡ Absent
 heard_absent (Ended x) None = refl
 heard_absent (Ended x) (Some c) = refl
@@ -58,6 +61,7 @@ heard_absent (Called o j vs) c = refl
 heard_absent (Printed t) c = refl
 heard_absent (Fired k o ms vs) c = refl
 
+-- a body that has an entry after an entry of another body had one before
 heard_entry : (w : What) (c : Option ℕ) (d : Doing) → IsSeen (heard w c d) → IsSeen d
 heard_entry w c (Ready s d rs) e = tt
 heard_entry w c Unplaced e = tt
@@ -94,6 +98,7 @@ said_nothing p (x ∷ h) b r l =
     let other : (x.body == b) ≡ false = ne_eqb x.body b (λ e. omega (arith, e, w, l)) in
     rw other (said_nothing p h b r.0 (omega (arith, l)))
 
+-- of a body that has said nothing and begins one deeper than its caller, or lacks its call, nothing said and its next ask are the list of its asks
 placed_said : (p : Program) (s : Start) (q : ℕ) (d : Doing) → IsSaid p [] (placed s q d)
 placed_said p s q (Waits t k rs c l) = elim (either (q == c)) [ inl y ↦ rw y refl | inr o ↦ rw o tt ]
 placed_said p s q Absent = tt
@@ -101,6 +106,7 @@ placed_said p s q Unplaced = tt
 placed_said p s q (Ready t k rs) = tt
 placed_said p s q (Over x) = tt
 
+-- the same of a body that has said nothing and begins to serve a call, whether the call has a maker or not
 by_said : (p : Program) (s : Start) (q : ℕ) (o : Option ℕ) (f : ℕ → Doing) → IsSaid p [] (begun_by s q o f)
 by_said p s q None f = tt
 by_said p s q (Some b) f = placed_said p s q (f b)
@@ -141,6 +147,7 @@ answered_said p x (Some c) ws Absent i = tt
 answered_said p x (Some c) ws Unplaced i = tt
 answered_said p x (Some c) ws (Over y) i = tt
 
+-- after an entry of another body, what a body said, and its next ask if it may go on, still is the list of its asks
 heard_said : (p : Program) (w : What) (c : Option ℕ) (ws : List What) (d : Doing) → IsSaid p ws d → IsSaid p ws (heard w c d)
 heard_said p (Ended x) c ws d i = answered_said p x c ws d i
 heard_said p Begun c ws d i = i
@@ -158,6 +165,7 @@ said_later p h e b y n l = (let other : (e.number == b) ≡ false = ne_eqb e.num
 said_first : (p : Program) (h : List Entry) (e : Entry) (b : ℕ) → (e.body == b) ≡ true → e.number ≡ b → said b (e ∷ h) ≡ said b h
 said_first p h e b y n = rw (y, eq-eqb e.number b n) refl
 
+-- after an entry of its own, what a body said, and its next ask if it may go on, is the list of its asks, if that was so before
 own_said : (p : Program) (h : List Entry) (b n : ℕ) (w : What) → IsPast p h → n ≡ length h → Comes p h n b w → IsSaid p (said b h) (doing p h b) → IsSaid p (said b (record { number = n; body = b; what = w } ∷ h)) (own p n w (λ q. maker q h) (doing p h) (doing p h b))
 own_said p h b n Begun r e c i =
     let first : n ≡ b = (let z : length h ≡ 0 = ap length c.0 in omega (arith, e, z, c.1)) in
@@ -174,6 +182,7 @@ own_said p h b n (Called o j vs) r e c i =
     (let l = entry_within p h b r (asks_entry p (doing p h b) _ c.1) in rw (eq-eqb b b refl, ne_eqb n b (λ z. omega (arith, z, e, l))) (waiting_said p n (Called o j vs) (said b h) (doing p h b) c.0 c.1 i))
 own_said p h b n (Ended x) r e c i = tt
 
+-- in a run, what each body said, and its next ask if it may go on, is the list of its asks
 all_said : (p : Program) (h : List Entry) (b : ℕ) → IsPast p h → IsSaid p (said b h) (doing p h b)
 all_said p [] b r = tt
 all_said p (e ∷ h) b r =

@@ -79,6 +79,7 @@ body_within p (x ∷ h) e r i =
       | inr y ↦ (let l = body_within p h e r.0 y in omega (arith, l))
     ]
 
+-- a body that has a next ask is none that asks nothing
 asks_none : (p : Program) (h : List Entry) (b c : ℕ) (w : What) → Asks p h b w → b ≡ c → asked p (doing p h c) ≡ None → ⊥
 asks_none p h b c w a e n = let z : ◌≡◌ {A = Option Asked} None (Some (record { what = w; depth = a.0 })) = sym n ∙ ap (λ i. asked p (doing p h i)) (sym e) ∙ a.1 in cc
 
@@ -92,6 +93,7 @@ silent_is_other p h n b c (Called o j vs) e f l s y = asks_none p h b c (Called 
 silent_is_other p h n b c (Printed t) e f l s y = asks_none p h b c (Printed t) f y s
 silent_is_other p h n b c (Ended x) e f l s y = asks_none p h b c (Ended x) f y s
 
+-- a body that waits for a call asks nothing
 waits_silent : (p : Program) (q : ℕ) (d : Doing) → WaitsFor q d → asked p d ≡ None
 waits_silent p q (Waits s d rs c l) w = refl
 waits_silent p q (Ready s d rs) w = absurd w
@@ -99,6 +101,7 @@ waits_silent p q Absent w = absurd w
 waits_silent p q Unplaced w = absurd w
 waits_silent p q (Over x) w = absurd w
 
+-- an entry of another body leaves a body that has ended as it is
 heard_over : (w : What) (c : Option ℕ) (x : End) → heard w c (Over x) ≡ Over x
 heard_over (Ended y) None x = refl
 heard_over (Ended y) (Some c) x = refl
@@ -151,6 +154,7 @@ served_by_body p h c q x sound one r i call s = record {
 
 -- ---- a call, from its entry on
 
+-- a body that asks, and that makes a call of this number, waits for that call
 waits_now : (p : Program) (n : ℕ) (d : Doing) (a : Asked) → asked p d ≡ Some a → WaitsFor n (waiting p n d)
 waits_now p n (Ready s d rs) a e = refl
 waits_now p n (Waits s d rs q l) a e = (let z : ◌≡◌ {A = Option Asked} None (Some a) = e in cc)
@@ -167,6 +171,7 @@ call_waits p h e q f c =
     let said : WaitsFor e.number (own p e.number e.what (λ i. maker i h) (doing p h) (doing p h e.body)) = subst (λ (w : What). WaitsFor e.number (own p e.number w (λ i. maker i h) (doing p h) (doing p h e.body))) (sym what) now in
     rw (eq-eqb e.body e.body refl) (subst (λ i. WaitsFor i (own p e.number e.what (λ i. maker i h) (doing p h) (doing p h e.body))) c.0 said)
 
+-- a body that waits for a call still does after an end that answers some call, or the end answers just that call
 answered_or : (x : End) (c : Option ℕ) (q : ℕ) (d : Doing) → WaitsFor q d → WaitsFor q (answered x c d) ⊎ (c ≡ Some q)
 answered_or x None q d w = inl w
 answered_or x (Some c) q (Waits s d rs i l) w =
@@ -212,6 +217,7 @@ call_state p (e ∷ h) c q r i call =
 
 -- ---- once served, nobody waits
 
+-- after an end that answers a call no body waits for that call
 not_after_end : (x : End) (q : ℕ) (d : Doing) → WaitsFor q (answered x (Some q) d) → ⊥
 not_after_end x q (Waits s d rs i l) w =
     elim (either (q == i)) [ inl y ↦ rw y at w | inr o ↦ (let same : q ≡ i = rw o at w in eqb-false q i o same) ]
@@ -220,6 +226,7 @@ not_after_end x q Absent w = w
 not_after_end x q Unplaced w = w
 not_after_end x q (Over y) w = w
 
+-- if a body waits for a call, then that call is one that it waits for, or it is this number
 self_waits : (n : ℕ) (d : Doing) → WaitsOn (λ i. WaitsFor i d ⊎ (i ≡ n)) d
 self_waits n (Waits s d rs q l) = inl refl
 self_waits n (Ready s d rs) = tt
@@ -289,6 +296,7 @@ served_once p h q x y r s t =
     let both : Over x ≡ Over y = sym (over_after p h s.ended.entry x r s.ended.there s.ended.ended) ∙ ap (doing p h) body ∙ over_after p h t.ended.entry y r t.ended.there t.ended.ended in
     cc
 
+-- a body that waits for a call does so from some start, at some depth, with some answers, at a place of some depth
 waits_form : (q : ℕ) (d : Doing) → WaitsFor q d → (s : Start) × (k l : ℕ) × (rs : List End) × (d ≡ Waits s k rs q l)
 waits_form q (Waits s d rs c l) w = (s, d, l, rs, ap (λ i. Waits s d rs i l) (sym w))
 waits_form q (Ready s d rs) w = absurd w

@@ -78,6 +78,7 @@ served_here p h n b (Called o j vs) q m one c s sync t = cc
 served_here p h n b (Printed x) q m one c s sync t = cc
 served_here p h n b (Ended x) q m one c s sync t = cc
 
+-- the message that a synchronous call sends is to a method with callers that wait, where the call has the kind of its method
 call_has_message : (p : Program) (c : Entry) (q : ℕ) (m : Message) → HasKind p c.what → IsCall q c → message_of c.what ≡ Some m → p.is_sync m.object.class m.method ≡ true
 call_has_message p c q m kind i s =
     let what = i.1.3 in
@@ -86,6 +87,7 @@ call_has_message p c q m kind i s =
     let to : record { object = i.1.0; method = i.1.1; arguments = i.1.2 } ≡ m = cc in
     subst (λ (z : Message). p.is_sync z.object.class z.method ≡ true) to kind'
 
+-- a synchronous call takes no message
 no_members : (c : Entry) (q n : ℕ) → IsCall q c → has n (members_of c.what) ≡ true → ⊥
 no_members c q n i t = let z : false ≡ true = ap (λ (w : What). has n (members_of w)) (sym i.1.3) ∙ t in cc
 
@@ -130,6 +132,7 @@ served_member sync h o (j ∷ js) (i ∷ ms) vs q t s =
       | inr n ↦ (let x = served_member sync h o js ms t.1 q t.4 (rw n at s) in (has_more q i ms x.0, x.1))
     ]
 
+-- an entry that has the kind of its method and sends a message to a method with callers that wait is a synchronous call
 by_kind : (p : Program) (w : What) (m : Message) → HasKind p w → message_of w ≡ Some m → p.is_sync m.object.class m.method ≡ true → (o : Object) × (j : ℕ) × (vs : List value.Value) × (w ≡ Called o j vs)
 by_kind p (Called o j vs) m kind s sync = (o, j, vs, refl)
 by_kind p (Sent o j vs) m kind s sync =
@@ -146,6 +149,7 @@ by_kind p (Ended x) m kind s sync = (let z : ◌≡◌ {A = Option Message} None
 message_called : (p : Program) (e : Entry) (m : Message) → HasKind p e.what → message_of e.what ≡ Some m → p.is_sync m.object.class m.method ≡ true → (o : Object) × (j : ℕ) × (vs : List value.Value) × (e.what ≡ Called o j vs)
 message_called p e m kind s sync = by_kind p e.what m kind s sync
 
+-- in a run of a sound program, the call that a next entry serves is a member of it and the number of a synchronous call in the run
 only_calls : (p : Program) (h : List Entry) (n b : ℕ) (w : What) (q : ℕ) → IsSound p → IsPast p h → Comes p h n b w → served p w ≡ Some q → (has q (members_of w) ≡ true) × ((c : Entry) × IsIn c h × IsCall q c)
 only_calls p h n b (Fired k o ms vs) q s r c t =
     let fires = c.1 in

@@ -12,6 +12,7 @@ pub past_numbered : (p : Program) (h : List Entry) → IsPast p h → AreNumbere
 past_numbered p [] r = tt
 past_numbered p (e ∷ h) r = (r.1.numbered, past_numbered p h r.0)
 
+-- where each number is the place of its entry, an entry's number is below the count of the entries
 numbered_below : (e : Entry) (h : List Entry) → AreNumbered h → IsIn e h → e.number < length h
 numbered_below e [] n i = absurd i
 numbered_below e (x ∷ h) n i =

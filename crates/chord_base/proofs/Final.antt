@@ -11,9 +11,11 @@ use Rattle.chord_base.specs.Machine.{Comes, Fires, IsPast, IsFinal}
 use Rattle.chord_base.specs.Story.{IsOwn}
 use Rattle.chord_base.specs.Laws.{CompleteWhenQuiet, QuietWhenComplete}
 
+-- a body that asks nothing has no next ask
 no_ask : (p : Program) (h : List Entry) (b : ℕ) (w : What) → asked p (doing p h b) ≡ None → Asks p h b w → ⊥
 no_ask p h b w n a = let c : ◌≡◌ {A = Option Asked} None (Some (record { what = w; depth = a.0 })) = sym n ∙ a.1 in cc
 
+-- nothing may come next after a history that is not empty, in which no body asks and no chord is enabled
 nothing_comes : (p : Program) (h : List Entry) (n b : ℕ) (w : What) → 0 < length h → ((i : ℕ) → asked p (doing p h i) ≡ None) → ((k : ℕ) (o : Object) (ms : List ℕ) (vs : List value.Value) → Fires p h k o ms vs → ⊥) → Comes p h n b w → ⊥
 nothing_comes p h n b Begun s q f c = let e : length h ≡ 0 = ap length c.0 in absurd (omega (arith, e, s))
 nothing_comes p h n b (Fired k o ms vs) s q f c = f k o ms vs c.1

@@ -27,6 +27,7 @@ pending_within p (e ∷ h) n m r s =
           ]
     ]
 
+-- an entry that may follow has another number than each entry before it
 next_is_other : (p : Program) (h : List Entry) (e : Entry) (n : ℕ) → n < length h → MayFollow p h e → (e.number == n) ≡ false
 next_is_other p h e n l f = ne_eqb e.number n (λ i. let j = f.numbered in omega (arith, i, j, l))
 
@@ -86,6 +87,7 @@ taken_for_good p (x ∷ h) f n r i t =
           elim (either (has n (members_of x.what))) [ inl a ↦ rw (other, a) refl | inr a ↦ rw (other, a) (taken_for_good p h f n r.0 y t) ])
     ]
 
+-- an entry that may follow takes no message that an earlier entry took
 not_again : (p : Program) (h : List Entry) (x e f : Entry) (n : ℕ) → IsPast p h → MayFollow p h x → e ≡ x → IsIn f h → has n (members_of e.what) ≡ true → has n (members_of f.what) ≡ true → ⊥
 not_again p h x e f n r m y i t u =
     let here : has n (members_of x.what) ≡ true = ap (λ (z : Entry). has n (members_of z.what)) (sym y) ∙ t in
@@ -115,6 +117,7 @@ taken_method h o (j ∷ js) (i ∷ ms) vs n m t s e =
       | inr d ↦ has_more m.method j js (taken_method h o js ms t.1 n m t.4 (rw d at s) e)
     ]
 
+-- a chord that has no method twice takes no message twice
 taken_different : (h : List Entry) (o : Object) (js ms : List ℕ) (vs : List value.Value) → Takes h o js ms vs → AreDifferent js → AreDifferent ms
 taken_different h o [] [] vs t d = tt
 taken_different h o [] (i ∷ ms) vs t d = absurd t

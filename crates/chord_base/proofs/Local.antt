@@ -48,6 +48,7 @@ other_body p e h b n m = rw n (heard_same e.what (serves p e.body h) (doing p h 
 pub call_answered : (p : Program) (e : Entry) (h : List Entry) (b : ℕ) (x : End) (s : Start) (d : ℕ) (rs : List End) (q l : ℕ) → (e.body == b) ≡ false → e.what ≡ Ended x → doing p h b ≡ Waits s d rs q l → serves p e.body h ≡ Some q → doing p (e ∷ h) b ≡ Ready s d (rs ++ x ∷ [])
 call_answered p e h b x s d rs q l n w o c = rw (n, w, c, o, eq-eqb q q refl)
 
+-- an entry that is an end says how a body ended
 end_of : (w : What) → is_end w ≡ true → (x : End) × (w ≡ Ended x)
 end_of (Ended x) e = (x, refl)
 end_of Begun e = cc
@@ -57,6 +58,7 @@ end_of (Called o j vs) e = cc
 end_of (Printed t) e = cc
 end_of (Fired k o ms vs) e = cc
 
+-- where a body waits for the call that is served, there is such a call
 waits_of : (c : Option ℕ) (d : Doing) → waits_for c d ≡ true → (q : ℕ) × (c ≡ Some q) × WaitsFor q d
 waits_of None d e = cc
 waits_of (Some c) (Waits s d rs q l) e = (c, refl, eqb-true c q e)

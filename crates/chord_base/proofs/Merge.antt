@@ -21,6 +21,7 @@ Agrees (Ready s k rs) d = Ready s k rs ≡ d
 Agrees (Waits s k rs q l) d = Waits s k rs q l ≡ d
 Agrees (Over x) d = Over x ≡ d
 
+-- each body's doing agrees with itself
 agrees_refl : (d : Doing) → Agrees d d
 agrees_refl Absent = refl
 agrees_refl Unplaced = tt
@@ -56,6 +57,7 @@ kept_maker keep n (e ∷ h) k =
       | inr o ↦ rw (o, other_number keep e.number n o k, kept_maker keep n h k)
     ]
 
+-- of a body whose first entry's number is kept, what is kept tells the call that it serves as the whole history does
 kept_serves : (p : Program) (keep : ℕ → Bool) (n : ℕ) (h : List Entry) → keep n ≡ true → serves p n (kept keep h) ≡ serves p n h
 kept_serves p keep n [] k = refl
 kept_serves p keep n (e ∷ h) k =
@@ -73,6 +75,7 @@ kept_with_maker p keep (e ∷ h) n b w m =
       | inr o ↦ kept_with_maker p keep h n b w.0 (rw o at m)
     ]
 
+-- where a place keeps each body whole, a body waits only for calls that are kept exactly where the body is
 doing_waits : (p : Program) (keep : ℕ → Bool) (h : List Entry) (b : ℕ) → IsWhole p keep h → WaitsOn (λ q. keep q ≡ keep b) (doing p h b)
 doing_waits p keep [] b w = tt
 doing_waits p keep (e ∷ h) b w =
@@ -81,6 +84,7 @@ doing_waits p keep (e ∷ h) b w =
       | inr o ↦ rw o (heard_waits (λ q. keep q ≡ keep b) e.what (serves p e.body h) (doing p h b) (doing_waits p keep h b w.0))
     ]
 
+-- an entry whose number is not kept has no maker in what is kept
 kept_no_maker : (keep : ℕ → Bool) (n : ℕ) (h : List Entry) → keep n ≡ false → maker n (kept keep h) ≡ None
 kept_no_maker keep n [] k = refl
 kept_no_maker keep n (e ∷ h) k =
@@ -89,6 +93,7 @@ kept_no_maker keep n (e ∷ h) k =
       | inr o ↦ rw (o, kept_no_maker keep n h k)
     ]
 
+-- an entry of another body leaves a body that lacks its call as it is
 heard_unplaced : (w : What) (c : Option ℕ) → heard w c Unplaced ≡ Unplaced
 heard_unplaced (Ended x) None = refl
 heard_unplaced (Ended x) (Some c) = refl
@@ -155,6 +160,7 @@ agrees p keep (e ∷ h) w b y =
       | inr out ↦ rw (out, other_number keep e.body b (sym w.1 ∙ out) y) (away_agrees p keep h w.0 (agrees p keep h w.0) e b y (sym w.1 ∙ out) w.2)
     ]
 
+-- an entry that is known stays known after one more
 known_more : (n : ℕ) (e : Entry) (h : List Entry) → Known n h → Known n (e ∷ h)
 known_more n e h k = elim (either (e.number == n)) [ inl y ↦ (e.body, rw y refl) | inr o ↦ (k.0, rw o k.1) ]
 
@@ -195,6 +201,7 @@ placed_seen (Over x) e = tt
 placed_seen Absent e = absurd e
 placed_seen Unplaced e = absurd e
 
+-- a body that has an entry after an end that answers some call had one before
 answered_seen : (x : End) (c : Option ℕ) (d : Doing) → IsSeen (answered x c d) → IsSeen d
 answered_seen x None d s = s
 answered_seen x (Some c) (Waits st k rs q l) s = tt
@@ -203,6 +210,7 @@ answered_seen x (Some c) Absent s = s
 answered_seen x (Some c) Unplaced s = tt
 answered_seen x (Some c) (Over y) s = tt
 
+-- a body that has an entry after an entry of another body had one before
 heard_seen : (w : What) (c : Option ℕ) (d : Doing) → IsSeen (heard w c d) → IsSeen d
 heard_seen (Ended x) c d s = answered_seen x c d s
 heard_seen Begun c d s = s
@@ -212,6 +220,7 @@ heard_seen (Called o j vs) c d s = s
 heard_seen (Printed t) c d s = s
 heard_seen (Fired k o ms vs) c d s = s
 
+-- a body that is placed after an end that answers some call was placed before
 answered_placed : (x : End) (c : Option ℕ) (d : Doing) → IsPlaced (answered x c d) → IsPlaced d
 answered_placed x None d s = s
 answered_placed x (Some c) (Waits st k rs q l) s = tt
@@ -220,6 +229,7 @@ answered_placed x (Some c) Absent s = s
 answered_placed x (Some c) Unplaced s = s
 answered_placed x (Some c) (Over y) s = tt
 
+-- a body that is placed after an entry of another body was placed before
 heard_placed : (w : What) (c : Option ℕ) (d : Doing) → IsPlaced (heard w c d) → IsPlaced d
 heard_placed (Ended x) c d s = answered_placed x c d s
 heard_placed Begun c d s = s
@@ -258,13 +268,16 @@ body_known p (e ∷ h) b t s =
           ]
     ]
 
+-- two numbers are equal where both are there as equal options
 some_inj : (a b : ℕ) → ◌≡◌ {A = Option ℕ} (Some a) (Some b) → a ≡ b
 some_inj a b e = cc
 
+-- a body that begins to serve a call, and is placed, has the entry of that call before it
 begun_by_known : (s : Start) (q : ℕ) (o : Option ℕ) (f : ℕ → Doing) (h : List Entry) → maker q h ≡ o → IsPlaced (begun_by s q o f) → Known q h
 begun_by_known s q None f h m i = absurd i
 begun_by_known s q (Some b) f h m i = (b, m)
 
+-- a body that begins, serves this call and is placed has the entry of the call before it
 begun_known : (s : Start) (c : Option ℕ) (q : ℕ) (f : ℕ → Doing) (h : List Entry) → c ≡ Some q → IsPlaced (begun s c (λ n. maker n h) f) → Known q h
 begun_known s None q f h e i = cc
 begun_known s (Some c) q f h e i = subst (λ n. Known n h) (some_inj c q e) (begun_by_known s c (maker c h) f h refl i)
@@ -279,6 +292,7 @@ fired_known p n (Called o j vs) f d h q e i = cc
 fired_known p n (Printed t) f d h q e i = cc
 fired_known p n (Ended x) f d h q e i = cc
 
+-- a told entry that serves a call is the first entry of its body
 served_first : (p : Program) (h : List Entry) (n b : ℕ) (w : What) (q : ℕ) → Tells p h n b w → served p w ≡ Some q → b ≡ n
 served_first p h n b (Fired k o ms vs) q t e = t
 served_first p h n b Begun q t e = t
@@ -320,6 +334,7 @@ end_next p h n b (Called o j vs) e t = cc
 end_next p h n b (Printed t') e t = cc
 end_next p h n b (Fired k o ms vs) e t = cc
 
+-- what a place keeps is told without the newest entry of the history, too
 told_before : (p : Program) (keep : ℕ → Bool) (e : Entry) (h : List Entry) → IsTold p (kept keep (e ∷ h)) → IsTold p (kept keep h)
 told_before p keep e h t = elim (either (keep e.number)) [ inl y ↦ (let u = rw y at t in u.0) | inr o ↦ rw o at t ]
 
@@ -364,6 +379,7 @@ whole_of_told p at (e ∷ h) t c = (
   λ is q s. ap (λ i. i == c) (with_call p at e h t q is s),
 )
 
+-- what a body asks, it asks also by each doing with which its own agrees
 agrees_asked : (p : Program) (d d' : Doing) (a : Asked) → Agrees d d' → asked p d ≡ Some a → asked p d' ≡ Some a
 agrees_asked p (Ready s k rs) d' a g e = let f : Doing → Type 0 = λ o. asked p o ≡ Some a in subst f g e
 agrees_asked p (Waits s k rs q l) d' a g e = cc

@@ -42,6 +42,7 @@ kept_same f g n (e ∷ h) a s =
 abbrev pub placed_at : (ℕ → ℕ) → ℕ → ℕ → ℕ → ℕ
 placed_at at n i m = if m == n then i else at m
 
+-- one more number in the map of places leaves the smaller numbers where they are
 placed_old : (at : ℕ → ℕ) (n i m : ℕ) → m < n → placed_at at n i m ≡ at m
 placed_old at n i m l = rw (ne_eqb m n (λ e. omega (arith, e, l)))
 
@@ -70,6 +71,7 @@ merged_more p view h i e m f t =
           ];
     }
 
+-- what each place of a merged run keeps is told
 merged_told : (p : Program) (view : ℕ → List Entry) (h : List Entry) (m : IsMerged p view h) → AreTold p m.at h
 merged_told p view h m j = rw (m.keeps j) (m.told j)
 
@@ -109,6 +111,7 @@ merged_union p view view' h f m k =
       told = λ i. rw (← k i) (union_told p m.at f h (past_rises p h m.past) (merged_told p view h m) i);
     }
 
+-- where a body does not lack its call and asks nothing, it asks nothing by a doing with which its own agrees either
 agrees_back : (p : Program) (d d' : Doing) → Agrees d d' → (d ≡ Unplaced → ⊥) → asked p d ≡ None → asked p d' ≡ None
 agrees_back p Absent d' a u e = let f : Doing → Type 0 = λ o. asked p o ≡ None in subst f a e
 agrees_back p Unplaced d' a u e = absurd (u refl)
@@ -116,6 +119,7 @@ agrees_back p (Ready s k rs) d' a u e = let f : Doing → Type 0 = λ o. asked p
 agrees_back p (Waits s k rs q l) d' a u e = let f : Doing → Type 0 = λ o. asked p o ≡ None in subst f a e
 agrees_back p (Over x) d' a u e = let f : Doing → Type 0 = λ o. asked p o ≡ None in subst f a e
 
+-- of two doings that agree the first lacks its call, or is the second
 agrees_or : (d d' : Doing) → Agrees d d' → (d ≡ Unplaced) ⊎ (d ≡ d')
 agrees_or Unplaced d' a = inl refl
 agrees_or Absent d' a = inr a
@@ -145,6 +149,7 @@ merged_quiet p view h m q b =
 pub merged_final : (p : Program) (view : ℕ → List Entry) (h : List Entry) → IsMerged p view h → 0 < length h → ((i b : ℕ) → (asked p (doing p (view i) b) ≡ None) × (doing p (view i) b ≡ Unplaced → ⊥)) → NoneFires p h → IsFinal p h
 merged_final p view h m s q f = final_when p h m.past s (merged_quiet p view h m q) f
 
+-- of two doings that agree, where the program says what the second does next, it says what the first does next
 agrees_defined : (p : Program) (d d' : Doing) → Agrees d d' → IsDefined p d' → IsDefined p d
 agrees_defined p Absent d' a e = tt
 agrees_defined p Unplaced d' a e = tt
@@ -152,6 +157,7 @@ agrees_defined p (Ready s k rs) d' a e = let f : Doing → Type 0 = λ o. IsDefi
 agrees_defined p (Waits s k rs q l) d' a e = let f : Doing → Type 0 = λ o. IsDefined p o in subst f (sym a) e
 agrees_defined p (Over x) d' a e = tt
 
+-- what a body without an entry does is defined
 unseen_defined : (p : Program) (d : Doing) → (IsSeen d → ⊥) → IsDefined p d
 unseen_defined p Absent s = tt
 unseen_defined p Unplaced s = tt

@@ -32,13 +32,16 @@ kept_none f e h k =
       | inr o ↦ (o, rw o at k)
     ]
 
+-- where two tests hold the first does
 both_left : (a b : Bool) → (a && b) ≡ true → a ≡ true
 both_left true b e = refl
 both_left false b e = e
 
+-- numbers that are not equal are not equal by test
 not_it : (a b : ℕ) → (a ≡ b → ⊥) → (a == b) ≡ false
 not_it a b n = ne_eqb a b n
 
+-- numbers that are not equal by test are not equal
 eq_not : (a b : ℕ) → (a == b) ≡ false → a ≡ b → ⊥
 eq_not a b f e = let z : true ≡ false = sym (eq-eqb a b e) ∙ f in cc
 
@@ -114,6 +117,7 @@ comes_tells p h n b (Called o j vs) e c = c
 comes_tells p h n b (Printed t) e c = c
 comes_tells p h n b (Ended x) e c = c
 
+-- in a past the next number is above that of the newest entry
 past_rises_once : (p : Program) (n : ℕ) (h : List Entry) → IsPast p h → n ≡ length h → Rises n h
 past_rises_once p n [] r e = tt
 past_rises_once p n (x ∷ h) r e = omega (arith, e, r.1.numbered)

@@ -41,6 +41,7 @@ pending_other e h n none o = rw (o, none)
 pub has_more : (n i : ℕ) (ms : List ℕ) → has n ms ≡ true → has n (i ∷ ms) ≡ true
 has_more n i ms s = elim (either (n == i)) [ inl y ↦ rw y refl | inr o ↦ rw (o, s) refl ]
 
+-- a number that is among some is another than one that is not among them
 not_member : (n i : ℕ) (ms : List ℕ) → has n ms ≡ false → has i ms ≡ true → (n == i) ≡ false
 not_member n i ms out s =
     elim (either (n == i)) [
@@ -48,6 +49,7 @@ not_member n i ms out s =
       | inr o ↦ o
     ]
 
+-- members that are taken in one history are taken in another in which each of them is the same pending message
 takes_before : (h h' : List Entry) (o : Object) (js ms : List ℕ) (vs : List value.Value) → ((n : ℕ) (m : Message) → has n ms ≡ true → pending n h' ≡ Some m → pending n h ≡ Some m) → Takes h' o js ms vs → Takes h o js ms vs
 takes_before h h' o [] [] vs f t = t
 takes_before h h' o [] (i ∷ ms) vs f t = t
@@ -76,6 +78,7 @@ none_fires_with p e h n f g k o ms vs x =
       | inr out ↦ f k o ms vs (fires_without p e h k o ms vs n out x)
     ]
 
+-- no chord takes a message that the newest entry, a firing, has taken
 not_taken : (f : Entry) (h : List Entry) (n : ℕ) → message_of f.what ≡ None → has n (members_of f.what) ≡ true → (o : Object) (js ms : List ℕ) (vs : List value.Value) → has n ms ≡ true → Takes (f ∷ h) o js ms vs → ⊥
 not_taken f h n m t o [] [] vs s x = cc
 not_taken f h n m t o [] (i ∷ ms) vs s x = x
@@ -94,6 +97,7 @@ none_fires_after p f e h no_message n t none k o ms vs x =
       | inr out ↦ none k o ms vs (fires_without p e h k o ms vs n out (fires_before p f (e ∷ h) k o ms vs no_message x))
     ]
 
+-- a chord of which no method has callers that wait takes no pending call
 none_sync_member : (sync : ℕ → Bool) (h : List Entry) (o : Object) (js ms : List ℕ) (vs : List value.Value) (q : ℕ) (m : Message) → NoneSync sync js → Takes h o js ms vs → pending q h ≡ Some m → sync m.method ≡ true → has q ms ≡ false
 none_sync_member sync h o [] [] vs q m n t p s = refl
 none_sync_member sync h o [] (i ∷ ms) vs q m n t p s = absurd t

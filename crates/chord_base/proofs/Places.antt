@@ -12,6 +12,7 @@ use Rattle.chord_base.specs.Story.{kept, IsTold, AreTold, Tells, Rises, AllBelow
 use Rattle.chord_base.proofs.Waits.{either, Known, WaitsOn, own_waits, heard_waits}
 use Rattle.chord_base.proofs.Merge.{next_in_story}
 
+-- numbers that are below one number are below each larger one
 all_below_trans : (m n : ℕ) (h : List Entry) → m < n → AllBelow m h → AllBelow n h
 all_below_trans m n [] l a = tt
 all_below_trans m n (e ∷ h) l a = (omega (arith, a.0), all_below_trans m n h l a.1)
@@ -37,6 +38,7 @@ tells_more p h h' n b (Called o j vs) f t = f t
 tells_more p h h' n b (Printed t') f t = f t
 tells_more p h h' n b (Ended x) f t = f t
 
+-- what a place keeps of what the place that it goes into keeps is what it keeps of the whole history
 kept_twice : (at : ℕ → ℕ) (f : ℕ → ℕ) (c c' : ℕ) (h : List Entry) → f c ≡ c' → kept (λ n. at n == c) (kept (λ n. f (at n) == c') h) ≡ kept (λ n. at n == c) h
 kept_twice at f c c' [] e = refl
 kept_twice at f c c' (x ∷ h) e =
@@ -49,6 +51,7 @@ kept_twice at f c c' (x ∷ h) e =
           ]
     ]
 
+-- a place keeps nothing of what a place keeps that it does not go into
 kept_apart : (at : ℕ → ℕ) (f : ℕ → ℕ) (c c' : ℕ) (h : List Entry) → (f c == c') ≡ false → kept (λ n. at n == c) (kept (λ n. f (at n) == c') h) ≡ []
 kept_apart at f c c' [] e = refl
 kept_apart at f c c' (x ∷ h) e =
@@ -60,6 +63,7 @@ kept_apart at f c c' (x ∷ h) e =
       | inr z ↦ rw (z, kept_apart at f c c' h e)
     ]
 
+-- where each place of a history is told, each place of what a union of places keeps is told
 told_within : (p : Program) (at f : ℕ → ℕ) (c' : ℕ) (h : List Entry) → AreTold p at h → AreTold p at (kept (λ n. f (at n) == c') h)
 told_within p at f c' h t c =
     elim (either (f c == c')) [
@@ -67,9 +71,11 @@ told_within p at f c' h t c =
       | inr o ↦ rw (kept_apart at f c c' h o) tt
     ]
 
+-- what a place keeps is told without the newest entry of the history, too
 told_before : (p : Program) (keep : ℕ → Bool) (e : Entry) (h : List Entry) → IsTold p (kept keep (e ∷ h)) → IsTold p (kept keep h)
 told_before p keep e h t = elim (either (keep e.number)) [ inl y ↦ (let u = rw y at t in u.0) | inr o ↦ rw o at t ]
 
+-- where each place is told, the newest entry is told by what its place kept before
 told_here : (p : Program) (at : ℕ → ℕ) (e : Entry) (h : List Entry) → AreTold p at (e ∷ h) → Tells p (kept (λ n. at n == at e.number) h) e.number e.body e.what
 told_here p at e h t =
     let y : (at e.number == at e.number) ≡ true = eq-eqb (at e.number) (at e.number) refl in
@@ -125,6 +131,7 @@ pub told_below : (p : Program) (n : ℕ) (h : List Entry) → IsTold p h → Ris
 told_below p n [] t r = tt
 told_below p n (e ∷ h) t r = (r, all_below_trans e.number n h r (told_below p e.number h t.0 t.1))
 
+-- a call that a body waits for is still the body's own after an entry of a larger number than all before
 later_waits : (e : Entry) (h : List Entry) (b : ℕ) (d : Doing) → AllBelow e.number h → WaitsOn (λ q. maker q h ≡ Some b) d → WaitsOn (λ q. maker q (e ∷ h) ≡ Some b) d
 later_waits e h b (Waits s k rs q l) a w = (let o : (e.number == q) ≡ false = ne_eqb e.number q (λ i. let u = known_under e.number q h a (b, w) in omega (arith, i, u)) in rw (o, w))
 later_waits e h b (Ready s k rs) a w = tt

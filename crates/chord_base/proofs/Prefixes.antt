@@ -43,6 +43,7 @@ run_whole p entries i l m r =
 abbrev pub SaysNext : Program → List body.Body → Entry → Type 0
 SaysNext p bodies e = (l : ℕ) × (asked p (doing_at bodies e.body) ≡ Some (record { what = e.what; depth = l }))
 
+-- what is no first entry of a body comes next exactly where it is the body's next ask
 asks_follows : (p : Program) (h : List Entry) (n b : ℕ) (w : What) → (w ≡ Begun → ⊥) → ((k : ℕ) (o : Object) (ms : List ℕ) (vs : List value.Value) → w ≡ Fired k o ms vs → ⊥) → (Asks p h b w → Comes p h n b w) × (Comes p h n b w → Asks p h b w)
 asks_follows p h n b Begun x y = absurd (x refl)
 asks_follows p h n b (Fired k o ms vs) x y = absurd (y k o ms vs refl)

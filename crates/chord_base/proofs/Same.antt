@@ -18,6 +18,7 @@ use Rattle.chord_base.specs.declared.event.End.{End}
 use Rattle.chord_base.specs.declared.event.End.TheVariants.{Gives, Traps}
 use Rattle.chord_base.specs.Listed.{equal_objects, equal_values, equal_traps, equal_ends, equal_starts}
 
+-- two objects are equal where their numbers and their classes are
 same_parts : (o q : Object) → o.number ≡ q.number → o.class ≡ q.class → o ≡ q
 same_parts o q n c = (λ k. record { number = n k; class = c k })
 

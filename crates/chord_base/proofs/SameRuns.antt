@@ -10,6 +10,7 @@ use Rattle.chord_base.specs.Bodies.{Doing, Absent, Unplaced, Ready, Waits, Over,
 use Rattle.chord_base.specs.Machine.{IsPast, Comes}
 use Rattle.chord_base.specs.Agreement.{AgreeInRuns, SameRuns}
 
+-- programs that agree in runs say the same of the call that a firing serves
 served_same : (p q : Program) → AgreeInRuns p q → (w : What) → served p w ≡ served q w
 served_same p q a (Fired k o ms vs) = rw (a.chords, a.is_sync) refl
 served_same p q a Begun = refl
@@ -19,14 +20,17 @@ served_same p q a (Called o j vs) = refl
 served_same p q a (Printed t) = refl
 served_same p q a (Ended x) = refl
 
+-- a choice between equal branches gives equal results
 if_same : {A : Type 0} (b : Bool) (x y u v : A) → x ≡ u → y ≡ v → (if b then x else y) ≡ (if b then u else v)
 if_same true x y u v e f = e
 if_same false x y u v e f = f
 
+-- programs that agree in runs say the same of the call that a body serves
 serves_same : (p q : Program) → AgreeInRuns p q → (b : ℕ) (h : List Entry) → serves p b h ≡ serves q b h
 serves_same p q a b [] = refl
 serves_same p q a b (e ∷ h) = if_same (e.number == b) (served p e.what) (serves p b h) (served q e.what) (serves q b h) (served_same p q a e.what) (serves_same p q a b h)
 
+-- a body that makes a call then does the same in two programs that have the same next ask for it
 waiting_same : (p q : Program) (n : ℕ) (d : Doing) → ((s : Start) (k : ℕ) (rs : List End) → d ≡ Ready s k rs → p.next s k rs ≡ q.next s k rs) → waiting p n d ≡ waiting q n d
 waiting_same p q n (Ready s k rs) f = ap (λ (z : Option Asked). Waits s k rs n (ask_depth z)) (f s k rs refl)
 waiting_same p q n (Waits s k rs c l) f = refl
@@ -34,6 +38,7 @@ waiting_same p q n Absent f = refl
 waiting_same p q n Unplaced f = refl
 waiting_same p q n (Over x) f = refl
 
+-- after an entry of its own a body does the same in programs that agree in runs and have the same next ask for it
 own_same : (p q : Program) → AgreeInRuns p q → (n : ℕ) (w : What) (m : ℕ → Option ℕ) (f g : ℕ → Doing) (d : Doing) → f ≡ g
     → ((s : Start) (k : ℕ) (rs : List End) → d ≡ Ready s k rs → p.next s k rs ≡ q.next s k rs) → own p n w m f d ≡ own q n w m g d
 own_same p q a n (Fired k o ms vs) m f g d e next = ap (λ (z : Option ℕ). begun (Chord k o vs) z m f) (served_same p q a (Fired k o ms vs)) ∙ ap (λ (z : ℕ → Doing). begun (Chord k o vs) (served q (Fired k o ms vs)) m z) e
@@ -53,6 +58,7 @@ doing_same p q a (e ∷ h) past b =
     (own_same p q a e.number e.what (λ c. maker c h) (doing p h) (doing q h) (doing p h b) before (λ s k rs is. a.next h b k s rs past.0 is) ∙ ap (λ (z : Doing). own q e.number e.what (λ c. maker c h) (doing q h) z) (doing_same p q a h past.0 b))
     (ap (λ (z : Option ℕ). heard e.what z (doing p h b)) (serves_same p q a e.body h) ∙ ap (λ (z : Doing). heard e.what (serves q e.body h) z) (doing_same p q a h past.0 b))
 
+-- a body asks the same in two programs that have the same next ask for it
 asked_same : (p q : Program) (d : Doing) → ((s : Start) (k : ℕ) (rs : List End) → d ≡ Ready s k rs → p.next s k rs ≡ q.next s k rs) → asked p d ≡ asked q d
 asked_same p q (Ready s k rs) f = f s k rs refl
 asked_same p q (Waits s k rs c l) f = refl
@@ -64,6 +70,7 @@ asked_same p q (Over x) f = refl
 asks_same : (p q : Program) → AgreeInRuns p q → (h : List Entry) → IsPast p h → (b : ℕ) → asked p (doing p h b) ≡ asked q (doing q h b)
 asks_same p q a h past b = asked_same p q (doing p h b) (λ s k rs is. a.next h b k s rs past is) ∙ ap (asked q) (doing_same p q a h past b)
 
+-- what may come next in a run of the first of two programs that agree in runs may come next in the second
 comes_on : (p q : Program) → AgreeInRuns p q → (h : List Entry) → IsPast p h → (n b : ℕ) (w : What) → Comes p h n b w → Comes q h n b w
 comes_on p q a h past n b Begun c = c
 comes_on p q a h past n b (Fired k o ms vs) c = (c.0, (c.1.0, rw (sym a.chords) c.1.1, c.1.2))
@@ -73,6 +80,7 @@ comes_on p q a h past n b (Called o j vs) c = (c.0, rw (sym (asks_same p q a h p
 comes_on p q a h past n b (Printed t) c = (c.0, rw (sym (asks_same p q a h past b)) c.1)
 comes_on p q a h past n b (Ended x) c = (c.0, rw (sym (asks_same p q a h past b)) c.1)
 
+-- what may come next in the second of two programs that agree in runs, after a run of the first, may come next in the first
 comes_back : (p q : Program) → AgreeInRuns p q → (h : List Entry) → IsPast p h → (n b : ℕ) (w : What) → Comes q h n b w → Comes p h n b w
 comes_back p q a h past n b Begun c = c
 comes_back p q a h past n b (Fired k o ms vs) c = (c.0, (c.1.0, rw a.chords c.1.1, c.1.2))

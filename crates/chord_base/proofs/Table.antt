@@ -64,6 +64,7 @@ same_length f g [] (y ∷ ys) e = cc
 same_length f g (x ∷ xs) [] e = cc
 same_length f g (x ∷ xs) (y ∷ ys) e = let t : map f xs ≡ map g ys = cc in let n = same_length f g xs ys t in omega (arith, n)
 
+-- an entry of another body leaves an absent body absent
 heard_absent : (w : What) (c : Option ℕ) → heard w c Absent ≡ Absent
 heard_absent (Ended x) None = refl
 heard_absent (Ended x) (Some c) = refl
@@ -82,6 +83,7 @@ asks_within p bodies b a e =
       | inr o ↦ (let z : ◌≡◌ {A = Option Asked} None (Some a) = sym (ap (asked p) (absent_at_end bodies b (omega (arith, ltb-false b (length bodies) o)))) ∙ e in cc)
     ]
 
+-- a body that has a next ask has a number no larger than the number of entries
 next_within : (p : Program) (h : List Entry) (bodies : List body.Body) (b : ℕ) (w : What) → IsTable p h bodies → Asks p h b w → b ≤ length h
 next_within p h bodies b w t a = let l = asks_within p bodies b _ (ap (asked p) (t.says b) ∙ a.1) in omega (arith, l, t.size)
 

@@ -99,6 +99,7 @@ below_length p (e ∷ h) n r k =
       | inr o ↦ (let b = below_length p h n r.0 (k.0, rw o at k.1) in omega (arith, b))
     ]
 
+-- one more entry of another number changes nothing about who made an entry
 maker_on : (e : Entry) (h : List Entry) (q b : ℕ) → (e.number == q) ≡ false → maker q h ≡ Some b → maker q (e ∷ h) ≡ Some b
 maker_on e h q b o m = rw (o, m)
 

@@ -64,6 +64,7 @@ each_byte : (bytes : List ℕ) → AreBytes bytes → Each (λ b. b < 256) bytes
 each_byte [] all = tt
 each_byte (b ∷ bytes) (here, all) = (here, each_byte bytes all)
 
+-- bytes that are each below 256 are the bytes of a text
 all_bytes : (bytes : List ℕ) → Each (λ b. b < 256) bytes → AreBytes bytes
 all_bytes [] each = tt
 all_bytes (b ∷ bytes) (here, each) = (here, all_bytes bytes each)

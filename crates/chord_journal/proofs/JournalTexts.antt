@@ -95,6 +95,7 @@ record LinesGoOn (place : ℕ) (es fs : List Entry) (rest more : List ℕ) : Typ
   lines : rest ≡ flat_map entry_text others ++ more
   right : AreEntriesFrom (place + length es) others
 
+-- of two ways to read lines at the front of the same bytes, the longer goes on where the shorter ends
 goes_on : (place : ℕ) (es fs : List Entry) (rest more : List ℕ) → AreEntriesFrom place es → AreEntriesFrom place fs → place + length fs ≤ 65536 →
     length es ≤ length fs → flat_map entry_text es ++ rest ≡ flat_map entry_text fs ++ more → LinesGoOn place es fs rest more
 goes_on place [] fs rest more all these low few same =

@@ -55,6 +55,7 @@ sending_again o j vs more within typed =
     let values = values_again 8 vs (10 ∷ more) within.few within.values typed stops refl in
     ap sending_at (message_parts o j vs (10 ∷ more)) ∙ rw (object, method, values) refl
 
+-- synchronous calls are read at the end of a line
 calling_again : (o : Object) (j : ℕ) (vs : List value.Value) (more : List ℕ) → IsMessageWithin o j vs → AreTypedValues vs →
     calling_at (message_text o j vs ++ (10 ∷ more)) ≡ Some (Called o j vs, 10 ∷ more)
 unfolding calling_at
@@ -123,6 +124,7 @@ IsWhatRead bytes w rest = (bytes ≡ what_text w ++ rest) × IsWhatWithin w × I
 abbrev IsMessageRead : List ℕ → Object → ℕ → List value.Value → List ℕ → Type 0
 IsMessageRead bytes o j vs rest = (bytes ≡ message_text o j vs ++ rest) × IsMessageWithin o j vs × AreTypedValues vs
 
+-- an object, a blank, a method and values that were read one after another are a message that was read
 message_takes : (bytes : List ℕ) (o : Object × List ℕ) (blank : List ℕ) (j : ℕ × List ℕ) (vs : List value.Value × List ℕ) →
     object_at bytes ≡ Some o → after (codes " ") o.1 ≡ Some blank → decimal_at 16 blank ≡ Some j → values_at 8 j.1 ≡ Some vs → IsMessageRead bytes o.0 j.0 vs.0 vs.1
 message_takes bytes o blank j vs first second third fourth =
@@ -138,15 +140,19 @@ message_takes bytes o blank j vs first second third fourth =
 abbrev as_message : (Object → ℕ → List value.Value → What) → Object → ℕ → List value.Value × List ℕ → Read What
 as_message made o j vs = Some (made o j vs.0, vs.1)
 
+-- what is read of a message behind its method: its values
 abbrev with_method : (Object → ℕ → List value.Value → What) → Object → ℕ × List ℕ → Read What
 with_method made o j = values_at 8 j.1 >>= as_message made o j.0
 
+-- what is read of a message behind the blank that follows its object: its method and its values
 abbrev with_blank : (Object → ℕ → List value.Value → What) → Object → List ℕ → Read What
 with_blank made o blank = decimal_at 16 blank >>= with_method made o
 
+-- what is read of a message behind its object: a blank, its method and its values
 abbrev with_object : (Object → ℕ → List value.Value → What) → Object × List ℕ → Read What
 with_object made o = after (codes " ") o.1 >>= with_blank made o.0
 
+-- what is read behind `sent ` is an asynchronous message
 sending_takes : (bytes : List ℕ) (w : What) (rest : List ℕ) → sending_at bytes ≡ Some (w, rest) → IsWhatRead (codes "sent " ++ bytes) w rest
 unfolding sending_at
 sending_takes bytes w rest read =
@@ -159,6 +165,7 @@ sending_takes bytes w rest read =
     subst (λ x. IsWhatRead (codes "sent " ++ bytes) x rest) same
     (ap (λ b. codes "sent " ++ b) (text ∙ ap (λ r. message_text o.0 j.0 vs.0 ++ r) left), within, typed)
 
+-- what is read behind `called ` is a synchronous call
 calling_takes : (bytes : List ℕ) (w : What) (rest : List ℕ) → calling_at bytes ≡ Some (w, rest) → IsWhatRead (codes "called " ++ bytes) w rest
 unfolding calling_at
 calling_takes bytes w rest read =
@@ -171,6 +178,7 @@ calling_takes bytes w rest read =
     subst (λ x. IsWhatRead (codes "called " ++ bytes) x rest) same
     (ap (λ b. codes "called " ++ b) (text ∙ ap (λ r. message_text o.0 j.0 vs.0 ++ r) left), within, typed)
 
+-- what is read behind `made ` is the class of an object that is made
 made_takes : (bytes : List ℕ) (w : What) (rest : List ℕ) → made_at bytes ≡ Some (w, rest) → IsWhatRead (codes "made " ++ bytes) w rest
 unfolding made_at
 made_takes bytes w rest read =
@@ -182,6 +190,7 @@ made_takes bytes w rest read =
     as_made : ℕ × List ℕ → Read What
     as_made c = Some (Made c.0, c.1)
 
+-- what is read behind `printed x` is the text of a printed line
 printed_takes : (bytes : List ℕ) (w : What) (rest : List ℕ) → printed_at bytes ≡ Some (w, rest) → IsWhatRead (codes "printed x" ++ bytes) w rest
 unfolding printed_at
 printed_takes bytes w rest read =
@@ -198,24 +207,31 @@ printed_takes bytes w rest read =
 abbrev as_firing : ℕ → Object → List ℕ → List value.Value × List ℕ → Read What
 as_firing k o ms vs = Some (Fired k o ms vs.0, vs.1)
 
+-- what is read of a firing behind its members: its values
 abbrev with_members : ℕ → Object → List ℕ × List ℕ → Read What
 with_members k o ms = values_at 64 ms.1 >>= as_firing k o ms.0
 
+-- what is read of a firing behind the count of its members: so many members, and its values
 abbrev with_count : ℕ → Object → ℕ × List ℕ → Read What
 with_count k o count = (if count.0 == 0 then None else numbers_at count.0 count.1) >>= with_members k o
 
+-- what is read of a firing behind the blank that follows its object: the count of its members, its members and its values
 abbrev with_next : ℕ → Object → List ℕ → Read What
 with_next k o next = decimal_at 9 next >>= with_count k o
 
+-- what is read of a firing behind its object: a blank, the count of its members, its members and its values
 abbrev with_target : ℕ → Object × List ℕ → Read What
 with_target k o = after (codes " ") o.1 >>= with_next k o.0
 
+-- what is read of a firing behind the blank that follows its chord: its object and all that follows it
 abbrev with_space : ℕ → List ℕ → Read What
 with_space k blank = object_at blank >>= with_target k
 
+-- what is read of a firing behind its chord: a blank, its object and all that follows it
 abbrev with_chord : ℕ × List ℕ → Read What
 with_chord k = after (codes " ") k.1 >>= with_space k.0
 
+-- what is read behind `fired ` is a firing
 firing_takes : (bytes : List ℕ) (w : What) (rest : List ℕ) → firing_at bytes ≡ Some (w, rest) → IsWhatRead (codes "fired " ++ bytes) w rest
 unfolding firing_at
 firing_takes bytes w rest read =
@@ -269,18 +285,22 @@ followed {A} {R} word bytes part other y read here there =
       | None ↦ λ is found. there found
     ] refl read
 
+-- what stands at the front, and the end that was read of it
 abbrev IsEndRead : List ℕ → End → List ℕ → Type 0
 IsEndRead bytes x rest = (bytes ≡ end_text x ++ rest) × IsEndWithin x × IsTypedEnd x
 
+-- where the text of a trap stands at the front, and that trap was read, it is the end that was read
 trap_takes : (bytes front : List ℕ) (t : Trap) (x : End) (rest : List ℕ) → bytes ≡ trap_text t ++ front →
     ◌≡◌ {A = Option (End × List ℕ)} (Some (Traps t, front)) (Some (x, rest)) → IsEndRead bytes x rest
 trap_takes bytes front t x rest text read =
     let (same, left) = same_read (Traps t) x front rest read in
     subst (λ y. IsEndRead bytes y rest) same (text ∙ ap (λ r. trap_text t ++ r) left, tt, tt)
 
+-- a value that was read, as an end
 abbrev as_end : value.Value × List ℕ → Read End
 as_end v = Some (Gives v.0, v.1)
 
+-- what is read is an end
 end_takes : (bytes : List ℕ) (x : End) (rest : List ℕ) → end_at bytes ≡ Some (x, rest) → IsEndRead bytes x rest
 unfolding end_at
 end_takes bytes x rest read =
@@ -294,6 +314,7 @@ end_takes bytes x rest read =
     let (text, within, typed) = value_takes bytes v.0 v.1 found in
     subst (λ y. IsEndRead bytes y rest) same (text ∙ ap (λ r. value_text v.0 ++ r) left, within, typed)))))
 
+-- what is read behind `ended ` is how a body ended
 ended_takes : (bytes : List ℕ) (w : What) (rest : List ℕ) → ended_at bytes ≡ Some (w, rest) → IsWhatRead (codes "ended " ++ bytes) w rest
 unfolding ended_at
 ended_takes bytes w rest read =
@@ -344,18 +365,23 @@ entry_again place e rest right few =
 abbrev as_entry : ℕ → ℕ → What → List ℕ → Read Entry
 as_entry number body what rest = Some (record { number = number; body = body; what = what }, rest)
 
+-- what is read of a line behind what happened: the end of the line
 abbrev with_what : ℕ → ℕ → What × List ℕ → Read Entry
 with_what number body what = after (codes "\n") what.1 >>= as_entry number body what.0
 
+-- what is read of a line behind the blank that follows its body: what happened, and the end of the line
 abbrev with_gap : ℕ → ℕ → List ℕ → Read Entry
 with_gap number body next = what_at next >>= with_what number body
 
+-- what is read of a line behind its body: a blank, what happened, and the end of the line
 abbrev with_body : ℕ → ℕ × List ℕ → Read Entry
 with_body number body = after (codes " ") body.1 >>= with_gap number body.0
 
+-- what is read of a line behind the blank that follows its number: its body and all that follows it
 abbrev behind_number : ℕ → List ℕ → Read Entry
 behind_number number blank = decimal_at 65536 blank >>= with_body number
 
+-- what is read of a line behind its number, which is that of its place: a blank, its body and all that follows it
 abbrev with_number : ℕ → ℕ × List ℕ → Read Entry
 with_number place number = (if number.0 == place then after (codes " ") number.1 else None) >>= behind_number number.0
 

@@ -16,6 +16,7 @@ use Rattle.chord_journal.specs.Typed.{IsInt}
 use Rattle.chord_journal.specs.Reading.{Read, ◌>>=◌, decimal_at, int_at, negative_at, is_decimal, value_if_below}
 use Rattle.chord_journal.proofs.Binds.{bound, guarded, passed, same_read}
 
+-- all digits, with their value, are a model of numerals
 own : IsNumeralModel (AllDigits 10) (digits_value 10)
 own = numerals_by_value (AllDigits 10) tells_digits
 
@@ -23,6 +24,7 @@ own = numerals_by_value (AllDigits 10) tells_digits
 digit_range : (b : ℕ) → is_ascii_digit b ≡ true → (48 ≤ b) × (b ≤ 57)
 digit_range b is = grind (arith, nat_tests)
 
+-- a byte between 48 and 57 is a digit
 range_digit : (b : ℕ) → (48 ≤ b) × (b ≤ 57) → is_ascii_digit b ≡ true
 range_digit b is = grind (arith, nat_tests)
 
@@ -54,20 +56,24 @@ plain_digits (d ∷ []) some first = refl
 plain_digits (d ∷ e ∷ ds) some (inl big) = grind (arith, nat_tests, big)
 plain_digits (d ∷ e ∷ ds) some (inr one) = absurd (omega (arith, one))
 
+-- digits that are a decimal are at least one, and only one where a zero leads them
 digits_plain : (ds : List ℕ) → is_decimal ds ≡ true → (0 < length ds) × (get_or ds 0 0 ≡ 48 → length ds ≡ 1)
 digits_plain [] plain = absurd (cc)
 digits_plain (d ∷ []) plain = (omega arith, λ zero. refl)
 digits_plain (d ∷ e ∷ ds) plain = (omega arith, λ zero. absurd (grind (arith, nat_tests, plain, zero)))
 
+-- the digits that a number is written with are a decimal
 decimal_plain : (n : ℕ) → n < 2 ^ 64 → is_decimal (decimal n) ≡ true
 decimal_plain zero fits = rw (decimal_digit 0 (omega arith)) refl
 decimal_plain (suc n) fits = plain_digits (decimal (suc n)) (decimal_nonempty (suc n) fits) (inl (first_decimal (suc n) (omega arith) fits))
 
+-- digits whose value is below the limit are read as their value
 value_below : (limit : ℕ) (ds : List ℕ) (n : ℕ) → digits_value 10 ds ≡ n → n < limit → value_if_below limit ds ≡ Some n
 value_below limit ds n is less =
     let test : nat_lt (digits_value 10 ds) limit ≡ true = grind (arith, nat_tests) in
     rw test (ap (λ x. Some x) is)
 
+-- digits that are read as a number have it as their value, and it is below the limit
 below_value : (limit : ℕ) (ds : List ℕ) (n : ℕ) → value_if_below limit ds ≡ Some n → (digits_value 10 ds ≡ n) × (n < limit)
 below_value limit ds n read =
     let (test, is) = guarded (nat_lt (digits_value 10 ds) limit) (Some (digits_value 10 ds)) n read in
@@ -108,6 +114,7 @@ begins_plain (d ∷ ds) some (here, all) =
 abbrev as_positive : ℕ × List ℕ → Read ℤ
 as_positive n = Some (pos n.0, n.1)
 
+-- bytes that begin with no sign are read as a number without a sign
 unsigned : (bytes : List ℕ) (b : ℕ) (more : List ℕ) → bytes ≡ b ∷ more → (b == 45) ≡ false → int_at bytes ≡ (decimal_at 2147483648 bytes >>= as_positive)
 unfolding int_at
 unsigned bytes b more is plain = rw (is, plain) refl

@@ -19,6 +19,7 @@ values_push : (vs : List value.Value) (v : value.Value) → AreTypedValues vs �
 values_push [] v all here = (here, tt)
 values_push (x ∷ vs) v (first, all) here = (first, values_push vs v all here)
 
+-- one more entry whose parts have their types, behind such entries
 entries_push : (es : List Entry) (e : Entry) → AreTyped es → IsTypedWhat e.what → AreTyped (es ++ (e ∷ []))
 entries_push [] e all here = (here, tt)
 entries_push (x ∷ es) e (first, all) here = (first, entries_push es e all here)

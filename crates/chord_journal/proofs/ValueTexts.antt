@@ -86,9 +86,11 @@ letter_takes b bytes w v rest text within typed read =
 abbrev as_int_value : ℤ × List ℕ → Read value.Value
 as_int_value n = Some (a_value.Int n.0, n.1)
 
+-- a text that was read, as a value
 abbrev as_text : List ℕ × List ℕ → Read value.Value
 as_text t = Some (a_value.Text t.0, t.1)
 
+-- an object that was read, as a value
 abbrev as_object : Object × List ℕ → Read value.Value
 as_object o = Some (a_value.Ref o.0, o.1)
 
@@ -135,9 +137,11 @@ value_takes (b ∷ bytes) v rest read =
 abbrev IsGood : value.Value → Type 0
 IsGood v = IsValueWithin v × IsTypedValue v
 
+-- a value's text behind a blank
 abbrev behind_blank : value.Value → List ℕ
 behind_blank v = codes " " ++ value_text v
 
+-- what is read behind a blank is a value
 next_value_takes : (bytes : List ℕ) (v : value.Value) (more : List ℕ) → next_value_at bytes ≡ Some (v, more) → (bytes ≡ behind_blank v ++ more) × IsGood v
 next_value_takes bytes v more read =
     let (front, first, second) = bound (after (codes " ") bytes) value_at (v, more) read in
@@ -145,10 +149,12 @@ next_value_takes bytes v more read =
     let (text, within, typed) = value_takes front v more second in
     (blank ∙ ap (λ b. 32 ∷ b) text, (within, typed))
 
+-- values that are within their bounds and have their types are so each for itself
 each_good : (vs : List value.Value) → AreValuesWithin vs → AreTypedValues vs → Each IsGood vs
 each_good [] within typed = tt
 each_good (v ∷ vs) (in_v, within) (of_v, typed) = ((in_v, of_v), each_good vs within typed)
 
+-- values that are each within their bounds and have their types are so together
 all_good : (vs : List value.Value) → Each IsGood vs → AreValuesWithin vs × AreTypedValues vs
 all_good [] each = (tt, tt)
 all_good (v ∷ vs) (here, each) = (let (within, typed) = all_good vs each in ((here.0, within), (here.1, typed)))

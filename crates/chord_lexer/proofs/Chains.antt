@@ -33,6 +33,7 @@ pub nothing_left : IsNone []
 nothing_left q [] after e h = some_piece q [] after h refl
 nothing_left q (b ∷ v) after e h = cc
 
+-- marks that have the same bytes are the same
 mark_same : (m n : Mark) → mark_bytes m ≡ mark_bytes n → m ≡ n
 mark_same m n e = elim (sized m) [
   | one a s t ↦ elim (sized n) [
@@ -145,6 +146,7 @@ grown {a} (more {p = q} {piece = v} {text = x} {tokens = ts} k c) p u rest s e l
     let r = grown c p u rest s e (omega arith) h in
     subst (λ z. Chain a (v ++ x) z rest) (sym (append_assoc (tokens_of q a (a + length v)) ts (tokens_of p s (s + length u)))) (more k r)
 
+-- a piece gives no more tokens than it has bytes
 few : (p : Piece) (u x : List ℕ) (start stop : ℕ) → IsPiece p u x → length (tokens_of p start stop) ≤ length u
 few pieces.Blank u x start stop h = omega arith
 few pieces.Comment u x start stop h = omega arith

@@ -81,6 +81,7 @@ pub record IsOpened (text : List ℕ) : Type 0 where
   pub is : text ≡ 47 ∷ second ∷ body
   pub either : (second ≡ 47) ⊎ (second ≡ 42)
 
+-- a text that begins a comment begins with `//` or `/*`
 opened_by : (text : List ℕ) → begins_comment text ≡ true → IsOpened text
 opened_by [] h = cc
 opened_by (a ∷ []) h = cc
@@ -113,6 +114,7 @@ line_of (a ∷ b ∷ body) n h i l r =
 pub line_extent : (text body : List ℕ) (n : ℕ) → lead_of text ≡ leads.Comment → get_or text 1 0 ≡ 47 → body ≡ drop 2 text → n ≤ length body → IsMaximalRun is_in_line (take n body) (drop n body) → IsExtent text (n + 2)
 line_extent text body n h i e l r = line_of text n h i (subst (λ z. n ≤ length z) e l) (subst (λ z. IsMaximalRun is_in_line (take n z) (drop n z)) e r)
 
+-- a text that may begin with a comment but not with `//`, and has the next `*/` n bytes after its first two, has an extent of n + 4 bytes
 block_of : (text : List ℕ) (n : ℕ) → lead_of text ≡ leads.Comment → (get_or text 1 0 ≡ 47 → ⊥) → n + 2 ≤ length (drop 2 text) → IsClosedAt (drop 2 text) n → IsExtent text (n + 4)
 block_of [] n h i l c = cc
 block_of (a ∷ []) n h i l c = absurd (let l : n + 2 ≤ 0 = l in omega arith)
@@ -141,6 +143,7 @@ never_closed text h i body d u comment rest e (inr block) =
     let f : text ≡ 47 ∷ 42 ∷ (block.body ++ 42 ∷ 47 ∷ rest) = sym e ∙ ap (λ z. z ++ rest) block.begins ∙ block_text block.body rest in
     u block.body rest (d ∙ ap (drop 2) f)
 
+-- a number below one more than another is below the other or equal to it
 split_lt : (a b : ℕ) → a < b + 1 → (a < b) ⊎ (a ≡ b)
 split_lt a b h = elim (cases_lt a b) [ inl l ↦ inl l | inr l ↦ inr (omega arith) ]
 

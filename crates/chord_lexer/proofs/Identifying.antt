@@ -20,6 +20,7 @@ word_at_front text n h r q v more e k =
     let w = only_word q v more (leads_to text leads.Letter h q v more e k) k in
     ((run_same is_identifier_byte (take n text) (drop n text) v more r w.run (e ∙ sym (take-append-drop n text))).0, w.short)
 
+-- a whole run of at most 255 bytes that begins with a letter is an identifier
 word_of : (b : ℕ) (bs : List ℕ) (n : ℕ) → is_letter b ≡ true → IsMaximalRun is_identifier_byte (take n (b ∷ bs)) (drop n (b ∷ bs)) → length (take n (b ∷ bs)) ≤ 255 → IsIdentifier (take n (b ∷ bs)) (drop n (b ∷ bs))
 word_of b bs zero h r l = let f = sym r.1 ∙ or_left (is_letter b) _ h in cc
 word_of b bs (suc n) h r l = record { first = b; others = take n bs; begins = refl; letter = h; run = r; short = l }

@@ -33,6 +33,7 @@ lead_for (pieces.Token (kinds.Mark mark)) = leads.Mark
 pub letter_digit : (b : ℕ) → is_letter b ≡ true → is_digit b ≡ false
 letter_digit b h = grind (arith, nat_tests)
 
+-- a text that begins with a blank may begin with a blank alone
 blank_led : (b : ℕ) (bs : List ℕ) → is_blank b ≡ true → lead_of (b ∷ bs) ≡ leads.Blank
 blank_led b bs h =
     elim (or_cases _ (nat_eq b 10) h) [
@@ -45,13 +46,16 @@ blank_led b bs h =
           ]
     ]
 
+-- a text that begins with a letter may begin with an identifier alone
 word_led : (b : ℕ) (bs : List ℕ) → is_letter b ≡ true → lead_of (b ∷ bs) ≡ leads.Letter
 word_led b bs h = rw (letter_digit b h, h) refl
 
+-- a text that begins with digits may begin with a number alone
 number_led : (v more : List ℕ) → 0 < length v → all_pass is_digit v ≡ true → lead_of (v ++ more) ≡ leads.Digit
 number_led [] more l h = absurd (omega arith)
 number_led (b ∷ v) more l h = rw (and_left (is_digit b) _ h) refl
 
+-- a text that begins with the bytes of a mark, and with no comment, may begin with a mark alone
 mark_led : (mark : Mark) (more : List ℕ) → begins_comment (mark_bytes mark ++ more) ≡ false → lead_of (mark_bytes mark ++ more) ≡ leads.Mark
 mark_led marks.OpenBrace more h = rw h refl
 mark_led marks.CloseBrace more h = rw h refl
@@ -80,6 +84,7 @@ mark_led marks.Ampersand more h = rw h refl
 mark_led marks.Increment more h = refl
 mark_led marks.Decrement more h = refl
 
+-- a text that begins with a comment may begin with a comment alone
 comment_led : (v more : List ℕ) → IsComment v more → lead_of (v ++ more) ≡ leads.Comment
 comment_led v more h = elim h.0 [ inl line ↦ rw line.begins refl | inr block ↦ rw block.begins refl ]
 
@@ -147,6 +152,7 @@ Told leads.Quote b bs = b ≡ 0x22
 Told leads.Comment b bs = begins_comment (b ∷ bs) ≡ true
 Told leads.Mark b bs = begins_comment (b ∷ bs) ≡ false
 
+-- what holds of each lead where its test holds, holds of the lead that the tests choose
 tell : (P : Lead → Type 0) (d l b q c : Bool) → (d ≡ true → P leads.Digit) → (l ≡ true → P leads.Letter) → (b ≡ true → P leads.Blank) → (q ≡ true → P leads.Quote) → (c ≡ true → P leads.Comment) → (c ≡ false → P leads.Mark)
     → P (cond d leads.Digit (cond l leads.Letter (cond b leads.Blank (cond q leads.Quote (cond c leads.Comment leads.Mark)))))
 tell P true l b q c hd hl hb hq hc hm = hd refl
@@ -156,6 +162,7 @@ tell P false false false true c hd hl hb hq hc hm = hq refl
 tell P false false false false true hd hl hb hq hc hm = hc refl
 tell P false false false false false hd hl hb hq hc hm = hm refl
 
+-- the first bytes of a text pass the test of the lead that they have
 told_of : (b : ℕ) (bs : List ℕ) → Told (lead_of (b ∷ bs)) b bs
 told_of b bs = tell (λ lead. Told lead b bs) (is_digit b) (is_letter b) (is_blank b) (nat_eq b 0x22) (begins_comment (b ∷ bs)) (λ h. h) (λ h. h) (λ h. h) (λ h. eqb-true b 0x22 h) (λ h. h) (λ h. h)
 

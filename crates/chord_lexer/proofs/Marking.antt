@@ -57,9 +57,11 @@ at_front text h q v more e k =
       | two a b s t ↦ let f : v ≡ a ∷ b ∷ [] = m.1 ∙ s in inr (m.0, ap pair_mark_of (sym e ∙ ap (λ z. z ++ more) f) ∙ t, ap length f)
     ]
 
+-- where a mark may begin, a piece at the front has at most two bytes
 most_two : (text : List ℕ) → lead_of text ≡ leads.Mark → (q : Piece) (v more : List ℕ) → v ++ more ≡ text → IsPiece q v more → length v ≤ 2
 most_two text h q v more e k = elim (at_front text h q v more e k) [ inl m ↦ let l : length v ≡ 1 = m.5 in omega arith | inr m ↦ let l : length v ≡ 2 = m.2 in omega arith ]
 
+-- where a mark may begin and none of two bytes does, a piece at the front has at most one byte
 most_one : (text : List ℕ) → lead_of text ≡ leads.Mark → pair_mark_of text ≡ None → (q : Piece) (v more : List ℕ) → v ++ more ≡ text → IsPiece q v more → length v ≤ 1
 most_one text h n q v more e k = elim (at_front text h q v more e k) [ inl m ↦ let l : length v ≡ 1 = m.5 in omega arith | inr m ↦ let f = sym n ∙ m.1 in cc ]
 

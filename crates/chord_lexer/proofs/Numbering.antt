@@ -14,6 +14,7 @@ use Rattle.chord_lexer.specs.Scanning.{lead_of, Begins}
 use Rattle.chord_lexer.proofs.Runs.{run_same, and_left, and_right}
 use Rattle.chord_lexer.proofs.Leads.{leads_to, only_number, told}
 
+-- where neither of two tests holds the second does not
 digit_goes_on : (a b : Bool) → (a || b) ≡ false → b ≡ false
 digit_goes_on true b h = cc
 digit_goes_on false b h = h
@@ -31,6 +32,7 @@ number_at_front text n h r q v more e k =
     let s = run_same is_digit (take n text) (drop n text) v more r (w.1.all, no_digit more w.1.end) (e ∙ sym (take-append-drop n text)) in
     (w.0, w.1, s.0, s.1)
 
+-- a whole run of digits at the front of a text that may begin with a number has a digit
 some_digit : (text : List ℕ) (n : ℕ) → lead_of text ≡ leads.Digit → IsMaximalRun is_digit (take n text) (drop n text) → 0 < length (take n text)
 some_digit [] n h r = cc
 some_digit (b ∷ bs) zero h r = let f = sym r.1 ∙ told leads.Digit b bs h in cc
@@ -65,10 +67,12 @@ too_large text n h r f q v more e k =
 pub digit_range : (b : ℕ) → is_digit b ≡ true → (48 ≤ b) × (b ≤ 57)
 digit_range b h = (leb-true _ _ (and_left _ _ h), leb-true _ _ (and_right (nat_le 48 b) _ h))
 
+-- the value of digits after others is no less than the value of those others
 value_grows : (digits : List ℕ) (n : ℕ) → n ≤ value_after n digits
 value_grows [] n = omega arith
 value_grows (b ∷ digits) n = let h = value_grows digits (10 * n + (b - 48)) in omega arith
 
+-- the value of the digits from a place on is that of the digits after it, with the digit there among those before
 step_at : (digits : List ℕ) (i n : ℕ) → i < length digits → value_after n (drop i digits) ≡ value_after (10 * n + (get_or digits i 0 - 48)) (drop (suc i) digits)
 step_at [] i n l = absurd (omega arith)
 step_at (b ∷ digits) zero n l = refl

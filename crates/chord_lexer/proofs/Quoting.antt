@@ -19,6 +19,7 @@ use Rattle.chord_lexer.specs.Scanning.{lead_of, Begins, Bytewise, end, byte, pai
 use Rattle.chord_lexer.proofs.Runs.{and_left, and_right, and_both, take_plus, drop_first}
 use Rattle.chord_lexer.proofs.Leads.{leads_to, only_literal, told}
 
+-- a byte that stands for itself is none of `"`, `\`, 0D and 0A
 not_plain : (b : ℕ) → is_plain b ≡ true → (b ≡ 34 → ⊥) × (b ≡ 92 → ⊥) × (b ≡ 13 → ⊥) × (b ≡ 10 → ⊥)
 not_plain b h = (
   (λ e. let f : is_plain 34 ≡ true = subst (λ z. is_plain z ≡ true) e h in cc),
@@ -27,6 +28,7 @@ not_plain b h = (
   (λ e. let f : is_plain 10 ≡ true = subst (λ z. is_plain z ≡ true) e h in cc),
 )
 
+-- a byte that is none of `"`, `\`, 0D and 0A stands for itself
 plain_if : (b : ℕ) → (b ≡ 34 → ⊥) → (b ≡ 92 → ⊥) → (b ≡ 13 → ⊥) → (b ≡ 10 → ⊥) → is_plain b ≡ true
 plain_if b p q r s = rw (ne_eqb b 34 p, ne_eqb b 92 q, ne_eqb b 13 r, ne_eqb b 10 s) refl
 
@@ -73,6 +75,7 @@ pub record GoesOn (u v x y : List ℕ) : Type 0 where
   pub left : x ≡ tail ++ 34 ∷ y
   pub body : Bytewise tail meaning
 
+-- of two bodies at the front of one text, the one with a quote after it goes on where the other stops
 goes_on : {u bs : List ℕ} → Bytewise u bs → {v cs : List ℕ} → Bytewise v cs → (x y : List ℕ) → u ++ x ≡ v ++ 34 ∷ y → GoesOn u v x y
 goes_on end {v} {cs} k x y e = record { tail = v; meaning = cs; is = refl; left = e; body = k }
 goes_on (byte {b} p h) end x y e = let i : b ≡ 34 = cc in absurd ((not_plain b p).0 i)
@@ -164,6 +167,7 @@ pub record Escape (x : List ℕ) : Type 0 where
   pub stands : escaped second ≡ Some meaning
   pub body : IsBody rest
 
+-- a `\` and what follows it, where they stand for something byte by byte, are an escape and a body
 escape_in : (w x bs : List ℕ) → w ≡ 92 ∷ x → Bytewise w bs → Escape x
 escape_in w x bs e end = cc
 escape_in w x bs e (byte {b} p h) = let i : b ≡ 92 = cc in absurd ((not_plain b p).1 i)
@@ -173,6 +177,7 @@ escape_in w x bs e (pair {b} {m} {body = v} {bytes = cs} f h) = record { second 
 pub escape_first : (x : List ℕ) → IsBody (92 ∷ x) → Escape x
 escape_first x h = escape_in (92 ∷ x) x h.0 refl h.1
 
+-- a byte that is no `\` and what follows it, where they stand for something byte by byte, are a byte that stands for itself and a body
 plain_in : (w : List ℕ) (b : ℕ) (x bs : List ℕ) → w ≡ b ∷ x → (b ≡ 92 → ⊥) → Bytewise w bs → (is_plain b ≡ true) × IsBody x
 plain_in w b x bs e n end = cc
 plain_in w b x bs e n (byte {b = c} {body = v} {bytes = cs} p h) = let i : c ≡ b = cc in let t : v ≡ x = cc in (subst (λ z. is_plain z ≡ true) i p, subst (λ z. IsBody z) t (cs, h))
@@ -225,13 +230,16 @@ encode_byte c k p l = elim (cases_lt (get_or (encode_utf8 c) k 0) 128) [
   | inr high ↦ high_plain (get_or (encode_utf8 c) k 0) high
 ]
 
+-- where the byte at each place passes a test, all bytes pass it
 all_from_each : (test : ℕ → Bool) (xs : List ℕ) → ((k : ℕ) → k < length xs → test (get_or xs k 0) ≡ true) → all_pass test xs ≡ true
 all_from_each test [] h = refl
 all_from_each test (x ∷ xs) h = and_both _ _ (h 0 (omega arith)) (all_from_each test xs (λ k l. h (suc k) (omega arith)))
 
+-- all bytes of a character that stands for itself stand for themselves
 encode_plain : (c : ℕ) → is_plain c ≡ true → all_pass is_plain (encode_utf8 c) ≡ true
 encode_plain c p = all_from_each is_plain (encode_utf8 c) (λ k l. encode_byte c k p l)
 
+-- bytes that stand for themselves, and a body after them, stand for those bytes and what the body stands for
 plain_bytes : (u : List ℕ) {v bs : List ℕ} → all_pass is_plain u ≡ true → Bytewise v bs → Bytewise (u ++ v) (u ++ bs)
 plain_bytes [] p h = h
 plain_bytes (b ∷ u) p h = byte (and_left _ _ p) (plain_bytes u (and_right (is_plain b) _ p) h)
@@ -242,9 +250,11 @@ bytewise_of none = end
 bytewise_of (plain c s p h) = plain_bytes (encode_utf8 c) (encode_plain c p) (bytewise_of h)
 bytewise_of (escape e h) = pair e (bytewise_of h)
 
+-- a byte below 128 is UTF-8
 one_ascii : (a : ℕ) → a < 128 → IsUtf8 (a ∷ [])
 one_ascii a l = (a ∷ [], (let s : all_scalars (a ∷ []) ≡ true = rw (low_scalar a (omega arith)) refl in s, let e : encode_utf8_all (a ∷ []) ≡ a ∷ [] = rw (encode_ascii a l) refl in e))
 
+-- two bytes below 128 are UTF-8
 two_ascii : (a b : ℕ) → a < 128 → b < 128 → IsUtf8 (a ∷ b ∷ [])
 two_ascii a b l m = IsUtf8-append (a ∷ []) (b ∷ []) (one_ascii a l) (one_ascii b m)
 
@@ -261,24 +271,29 @@ strip_plain (b ∷ u) w v bs e p end = cc
 strip_plain (b ∷ u) w v bs e p (byte {body = x} {bytes = cs} q h) = let t : x ≡ u ++ v = cc in strip_plain u x v cs t (and_right (is_plain b) _ p) h
 strip_plain (b ∷ u) w v bs e p (pair f h) = let i : b ≡ 92 = cc in absurd ((not_plain b (and_left _ _ p)).1 i)
 
+-- the first byte of what stands for something byte by byte stands for itself, if it is no `\`
 first_plain : (c : ℕ) (w rest bs : List ℕ) → w ≡ c ∷ rest → (c ≡ 92 → ⊥) → Bytewise w bs → is_plain c ≡ true
 first_plain c w rest bs e n h = (plain_in w c rest bs e n h).0
 
+-- the first character of what stands for something byte by byte stands for itself, if it is no `\`
 plain_character : (c : ℕ) (rest bs : List ℕ) → (c ≡ 92 → ⊥) → Bytewise (encode_utf8 c ++ rest) bs → is_plain c ≡ true
 plain_character c rest bs n h = elim (cases_lt c 128) [
   | inl low ↦ first_plain c (encode_utf8 c ++ rest) rest bs (ap (λ z. z ++ rest) (encode_ascii c low)) n h
   | inr high ↦ high_plain c high
 ]
 
+-- a body that begins with a character other than `\` stands for some bytes, where the body after that character does
 plain_front : (c : ℕ) (rest : List ℕ) → IsScalar c → (c ≡ 92 → ⊥) → IsBody (encode_utf8 c ++ rest) → (IsBody rest → (bs : List ℕ) × StandsFor rest bs) → (bs : List ℕ) × StandsFor (encode_utf8 c ++ rest) bs
 plain_front c rest s n h rec =
     let p = plain_character c rest h.0 n h.1 in
     let r = rec (strip_plain (encode_utf8 c) (encode_utf8 c ++ rest) rest h.0 refl (encode_plain c p) h.1) in
     (encode_utf8 c ++ r.0, plain c s p r.1)
 
+-- a character in UTF-8, with whatever follows it, has a byte
 some_bytes : (c : ℕ) (rest : List ℕ) → 0 < length (encode_utf8 c ++ rest)
 some_bytes c rest = let a = length-append (encode_utf8 c) rest in let b = length-encode c in let d = (len_utf8_bounds c).0 in omega arith
 
+-- a body that begins with `\` and another character stands for some bytes, where the body after the two does
 escape_front : (c d : ℕ) (rest : List ℕ) → c ≡ 92 → IsBody (encode_utf8 c ++ (encode_utf8 d ++ rest)) → (IsBody rest → (bs : List ℕ) × StandsFor rest bs) → (bs : List ℕ) × StandsFor (encode_utf8 c ++ (encode_utf8 d ++ rest)) bs
 escape_front c d rest i h rec =
     let x : List ℕ = encode_utf8 d ++ rest in
@@ -296,6 +311,7 @@ escape_front c d rest i h rec =
     let r = rec (subst (λ z. IsBody z) left f.body) in
     (f.meaning ∷ r.0, subst (λ z. StandsFor z (f.meaning ∷ r.0)) (ap (λ z. 92 ∷ z) same ∙ sym whole) (escape {b = f.second} {byte = f.meaning} {body = rest} {bytes = r.0} f.stands r.1))
 
+-- a body of characters in UTF-8 stands for some bytes
 meant : (cs : List ℕ) → all_scalars cs ≡ true → IsBody (encode_utf8_all cs) → (bs : List ℕ) × StandsFor (encode_utf8_all cs) bs
 meant [] s h = ([], none)
 meant (c ∷ []) s h = elim (eqb_tells c 92) [
@@ -308,6 +324,7 @@ meant (c ∷ d ∷ ds) s h = elim (eqb_tells c 92) [
   | inr e ↦ plain_front c (encode_utf8_all (d ∷ ds)) (and_left _ _ s) e.1 h (λ k. meant (d ∷ ds) (and_right (scalar c) _ s) k)
 ]
 
+-- a body that is UTF-8 stands for some bytes
 some_meaning : (body : List ℕ) → IsUtf8 body → IsBody body → (bs : List ℕ) × StandsFor body bs
 some_meaning body u h = subst (λ z. (bs : List ℕ) × StandsFor z bs) u.1.1 (meant u.0 u.1.0 (subst (λ z. IsBody z) (sym u.1.1) h))
 
@@ -334,11 +351,13 @@ same_front text tail n h t c q v more e k =
     let s = body_same c.0.1 (bytewise_of w.4) c.1.0 more f in
     (w.2 ∙ ap (λ z. 34 ∷ (z ++ 34 ∷ [])) s, subst (λ z. IsUtf8 z) s (utf8_of w.4))
 
+-- a byte and a quoted body of n bytes after it, with its quote, are the first n + 2 bytes
 literal_bytes : (b : ℕ) (tail : List ℕ) (n : ℕ) → n < length tail → IsQuoted tail n → take (n + 2) (b ∷ tail) ≡ b ∷ (take n tail ++ 34 ∷ [])
 literal_bytes b tail n l c =
     let e : n + 2 ≡ suc (n + 1) = omega arith in
     rw e (ap (λ z. b ∷ z) (take_plus n 1 tail (omega arith) ∙ ap (λ z. take n tail ++ take 1 z) c.1.1))
 
+-- a literal begins the text, where a quote leads it and the quoted body after that stands for these bytes
 literal_of : (text tail : List ℕ) (n : ℕ) (bs : List ℕ) → lead_of text ≡ leads.Quote → tail ≡ drop 1 text → n < length tail → IsQuoted tail n → StandsFor (take n tail) bs → Begins text (pieces.Token (kinds.Literal bs)) (n + 2)
 literal_of text tail n bs h t l c m =
     let a = after_quote text h in

@@ -6,6 +6,7 @@ use Rattle.chord_lexer.specs.declared.token.Keyword.{Keyword}
 use Rattle.chord_lexer.specs.Identifiers.{find_reserved, keyword_of}
 use Rattle.chord_lexer.specs.Scanning.{reserved_with}
 
+-- the reserved words that begin with a byte are enough to look up an identifier that begins with it
 by_letter : (b : ℕ) (bs : List ℕ) → find_reserved (reserved_with b) (b ∷ bs) ≡ keyword_of (b ∷ bs)
 unfolding keyword_of
 by_letter b bs =
@@ -94,6 +95,7 @@ entry_here entry [] identifier i d l e = absurd (omega arith)
 entry_here entry (x ∷ table) identifier zero d l e = rw e refl
 entry_here entry (x ∷ table) identifier (suc i) d l e = entry_here entry table identifier i d (omega arith) e
 
+-- where the entry at a place is of another word, the entries from there on have for the identifier what those after it have
 not_here : {X : Type 0} (entry : X → List ℕ × Keyword) (table : List X) (identifier : List ℕ) (i : ℕ) (d : X) → i < length table → bytes_eq identifier (entry (get_or table i d)).0 ≡ false → find_reserved (drop i (map entry table)) identifier ≡ find_reserved (drop (suc i) (map entry table)) identifier
 not_here entry [] identifier i d l e = absurd (omega arith)
 not_here entry (x ∷ table) identifier zero d l e = rw e refl

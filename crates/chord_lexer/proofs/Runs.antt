@@ -27,6 +27,7 @@ pub or_left : (a b : Bool) → a ≡ true → (a || b) ≡ true
 or_left true b h = refl
 or_left false b h = cc
 
+-- where the first n bytes pass a test and the byte after them does, the first n and that one pass it
 more_at : (test : ℕ → Bool) (text : List ℕ) (n : ℕ) → n < length text → all_pass test (take n text) ≡ true → test (get_or text n 0) ≡ true → all_pass test (take (suc n) text) ≡ true
 more_at test [] n l h k = absurd (omega arith)
 more_at test (b ∷ text) zero l h k = and_both _ _ k refl

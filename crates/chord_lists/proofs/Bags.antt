@@ -10,20 +10,24 @@ use Rattle.chord_lists.specs.Bag.{header_to, header_of, same_header, HasMessages
 
 -- ---- headers
 
+-- where two tests hold the first does
 and_left : (a b : Bool) → (a && b) ≡ true → a ≡ true
 and_left true b e = refl
 and_left false b e = cc
 
+-- where two tests hold the second does
 and_right : (a b : Bool) → (a && b) ≡ true → b ≡ true
 and_right true b e = e
 and_right false b e = cc
 
+-- headers are equal where their objects, classes and methods are
 header_is : (a b : Header) → a.object ≡ b.object → a.class ≡ b.class → a.method ≡ b.method → a ≡ b
 header_is a b o c m =
     ap (λ n. record { object = n; class = a.class; method = a.method }) o
     ∙ ap (λ n. record { object = b.object; class = n; method = a.method }) c
     ∙ ap (λ n. record { object = b.object; class = b.class; method = n }) m
 
+-- headers that are the same by test are equal
 same_is : (a b : Header) → same_header a b ≡ true → a ≡ b
 same_is a b e =
     let o = eqb-true a.object b.object (and_left (a.object == b.object) _ e) in
@@ -32,6 +36,7 @@ same_is a b e =
     let m = eqb-true a.method b.method (and_right (a.class == b.class) _ r) in
     header_is a b o c m
 
+-- a header is the same as itself by test
 same_self : (a : Header) → same_header a a ≡ true
 same_self a = rw (eq-eqb a.object a.object refl, eq-eqb a.class a.class refl, eq-eqb a.method a.method refl) refl
 
@@ -39,6 +44,7 @@ same_self a = rw (eq-eqb a.object a.object refl, eq-eqb a.class a.class refl, eq
 other_method : (o : Object) (j i : ℕ) → (j ≡ i → ⊥) → same_header (header_to o j) (header_to o i) ≡ false
 other_method o j i d = rw (eq-eqb o.number o.number refl, eq-eqb o.class o.class refl, ne_eqb j i d) refl
 
+-- objects are equal where their numbers and classes are
 object_is : (a b : Object) → a.number ≡ b.number → a.class ≡ b.class → a ≡ b
 object_is a b n c = ap (λ i. record { number = i; class = a.class }) n ∙ ap (λ i. record { number = b.number; class = i }) c
 
@@ -52,15 +58,19 @@ message_to m o j e =
 
 -- ---- numbers in a list
 
+-- the first of some numbers is among them
 has_here : (n : ℕ) (ns : List ℕ) → has n (n ∷ ns) ≡ true
 has_here n ns = rw (eq-eqb n n refl) refl
 
+-- a number that is among some is among them with one more before them
 has_there : (n m : ℕ) (ns : List ℕ) → has n ns ≡ true → has n (m ∷ ns) ≡ true
 has_there n m ns e = elim (either (n == m)) [ inl y ↦ rw y refl | inr o ↦ rw o e ]
 
+-- a number among some that is not their first is among the rest
 has_tail : (n m : ℕ) (ns : List ℕ) → n ≢ m → has n (m ∷ ns) ≡ true → has n ns ≡ true
 has_tail n m ns d e = rw (ne_eqb n m d) at e
 
+-- a number in a list that falls from a bound is below that bound
 falls_below : (n m : ℕ) (ns : List ℕ) → Falls n ns → has m ns ≡ true → m < n
 falls_below n m [] f e = cc
 falls_below n m (i ∷ ns) f e =
@@ -69,15 +79,18 @@ falls_below n m (i ∷ ns) f e =
       | inr o ↦ (let l = falls_below i m ns f.1 (rw o at e) in omega (arith, l, f.0))
     ]
 
+-- a list that falls from a bound falls from each larger bound
 falls_to : (n m : ℕ) (ns : List ℕ) → Falls n ns → n ≤ m → Falls m ns
 falls_to n m [] f l = tt
 falls_to n m (i ∷ ns) f l = (omega (arith, f.0, l), f.1)
 
 -- ---- what the lists say
 
+-- nothing is not something
 none_some : {A : Type 0} (x : A) → ◌≡◌ {A = Option A} None (Some x) → ⊥
 none_some x e = cc
 
+-- true is not false
 true_false : true ≡ false → ⊥
 true_false e = cc
 
@@ -150,6 +163,7 @@ stays_listed k h n i old new p e =
 listed_first : (k : Header) (n : ℕ) (old new : Header → List ℕ) → IsPushed k n old new → has n (new k) ≡ true
 listed_first k n old new p = let q : new k ≡ n ∷ old k = p k ∙ rw (same_self k) refl in ap (has n) q ∙ has_here n (old k)
 
+-- where the new message is numbered by the bound of a list, each list falls from the next bound after it came
 falls_pushed : (k h : Header) (n : ℕ) (old new : Header → List ℕ) → IsPushed k n old new → Falls n (old h) → Falls (suc n) (new h)
 falls_pushed k h n old new p f =
     elim (either (same_header k h)) [
@@ -231,6 +245,7 @@ other_there held n i m k h old new s p o e =
           true_false (sym (same_self k) ∙ ap (same_header k) same ∙ o),
     )
 
+-- what stands in a list after a number went from the top of one stood there before, and is another number
 still_there : (held : ℕ → Option Message) (n i m : ℕ) (k h : Header) (old new : Header → List ℕ) → Lists held n old → IsPopped k i old new
     → has m (new h) ≡ true → (has m (old h) ≡ true) × (m ≢ i)
 still_there held n i m k h old new s p e =
@@ -241,6 +256,7 @@ still_there held n i m k h old new s p e =
       | inr o ↦ other_there held n i m k h old new s p o e
     ]
 
+-- each list still falls from its bound after a number went from the top of one
 falls_popped : (n i : ℕ) (k h : Header) (old new : Header → List ℕ) → IsPopped k i old new → ((z : Header) → Falls n (old z)) → Falls n (new h)
 falls_popped n i k h old new p f =
     elim (either (same_header k h)) [
@@ -280,6 +296,7 @@ lists_less held n i k old new s p =
 
 -- ---- messages go, one after another
 
+-- the messages without one, and then without some, are those without all of these
 without_more : (i : ℕ) (ms : List ℕ) (held : ℕ → Option Message) (n : ℕ) → without_all ms (without i held) n ≡ without_all (i ∷ ms) held n
 without_more i ms held n =
     elim (either (n == i)) [
@@ -325,6 +342,7 @@ has_all_kept o j n (i ∷ js) old new d p a =
 
 -- ---- a stack, as it is kept
 
+-- a list that is not empty has a first and a rest
 parts_of : (xs : List ℕ) → (xs ≡ [] → ⊥) → (n : ℕ) × (ns : List ℕ) × (xs ≡ n ∷ ns)
 parts_of [] some = absurd (some refl)
 parts_of (n ∷ ns) some = (n, ns, refl)

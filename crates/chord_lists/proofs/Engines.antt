@@ -33,6 +33,7 @@ message_within (Printed t) m i e = let z : ◌≡◌ {A = Option Message} None (
 message_within (Fired k o ms vs) m i e = let z : ◌≡◌ {A = Option Message} None (Some m) = e in cc
 message_within (Ended x) m i e = let z : ◌≡◌ {A = Option Message} None (Some m) = e in cc
 
+-- where the entries of a history are within their bounds, so is each pending message
 pending_within : (h : List Entry) (n : ℕ) (m : Message) → AreWithin h → pending n h ≡ Some m → IsMessageWithin m.object m.method m.arguments
 pending_within [] n m w e = let z : ◌≡◌ {A = Option Message} None (Some m) = e in cc
 pending_within (x ∷ h) n m w e =
@@ -58,6 +59,7 @@ pending_below (x ∷ h) n m w e =
           ]
     ]
 
+-- two lists of values within their bounds are one list of such values
 values_append : (us vs : List value.Value) → AreValuesWithin us → AreValuesWithin vs → AreValuesWithin (us ++ vs)
 values_append [] vs a b = b
 values_append (u ∷ us) vs a b = (a.0, values_append us vs a.1 b)
@@ -69,6 +71,7 @@ pub record IsTakenWithin (ms : List ℕ) (vs : List value.Value) (js : List ℕ)
   pub same : length ms ≡ length js
   pub few : length vs ≤ 8 * length js
 
+-- where the entries of a history are within their bounds, so is what a firing takes of it
 taken_within : (h : List Entry) (o : Object) (js ms : List ℕ) (vs : List value.Value) → AreWithin h → length h ≤ 65536 → Takes h o js ms vs
     → IsTakenWithin ms vs js
 taken_within h o [] [] vs w few t = record { members = tt; values = rw t tt; same = refl; few = rw t (lit≤ tt) }
@@ -86,6 +89,7 @@ taken_within h o (j ∷ js) (i ∷ ms) vs w few t =
       few = (let e = ap length t.3 in omega (arith, e, length-append t.0 t.1, a.few, r.few));
     }
 
+-- where the entries of a history are within their bounds, so is the object whose messages a chord with a method takes
 taken_object : (h : List Entry) (o : Object) (js ms : List ℕ) (vs : List value.Value) → AreWithin h → 0 < length js → Takes h o js ms vs
     → IsObjectWithin o
 taken_object h o [] ms vs w some t = absurd (omega (arith, some))
@@ -124,6 +128,7 @@ pending_more h e n i number none =
       | inr o ↦ (let o' : (n == i) ≡ false = ap (λ z. z == i) (sym number) ∙ o in rw o' (sym (pending_other e h i none o)))
     ]
 
+-- a bag that lists the pending messages with that of an entry that takes nothing lists what is pending after the entry
 lists_entry : (h : List Entry) (e : Entry) (n : ℕ) (index : Header → List ℕ) → e.number ≡ n → members_of e.what ≡ []
     → Lists (λ i. if n == i then message_of e.what else pending i h) (suc n) index → Lists (λ i. pending i (e ∷ h)) (n + 1) index
 lists_entry h e n index number none s =
@@ -170,9 +175,11 @@ idle_fire p h e f k o ms vs w none idle fires =
 
 -- ---- states
 
+-- nothing is pending when `Main` has just begun
 begun_pending : (n : ℕ) → pending n engine.main_begun ≡ None
 begun_pending n = elim (either (0 == n)) [ inl y ↦ rw y refl | inr o ↦ rw o refl ]
 
+-- a chord with a method takes nothing when `Main` has just begun
 none_taken : (o : Object) (js ms : List ℕ) (vs : List value.Value) → 0 < length js → Takes engine.main_begun o js ms vs → ⊥
 none_taken o [] ms vs l t = omega (arith, l)
 none_taken o (j ∷ js) [] vs l t = t

@@ -33,10 +33,12 @@ find_above n m (x ∷ xs) s l =
     let o : (x.number == m) ≡ false = ne_eqb x.number m (λ e. omega (arith, e, s.0, l)) in
     rw (o, find_above x.number m xs s.1 (omega (arith, s.0, l)))
 
+-- a stack of puts below a bound is below the next bound
 stack_on : (n : ℕ) (stack : List PendingPut) → IsStack n stack → IsStack (suc n) stack
 stack_on n [] s = tt
 stack_on n (x ∷ xs) s = (omega (arith, s.0), s.1)
 
+-- a stack of puts below a bound is below each larger bound
 stack_to : (n m : ℕ) (stack : List PendingPut) → IsStack n stack → n ≤ m → IsStack m stack
 stack_to n m [] s l = tt
 stack_to n m (x ∷ xs) s l = (omega (arith, s.0, l), s.1)
@@ -46,6 +48,7 @@ abbrev pub without_put : ℕ → List PendingPut → List PendingPut
 without_put n [] = []
 without_put n (x ∷ xs) = if x.number == n then xs else x ∷ without_put n xs
 
+-- a stack of puts below a bound is below it without one of its puts
 stack_without : (n m : ℕ) (stack : List PendingPut) → IsStack n stack → IsStack n (without_put m stack)
 stack_without n m [] s = tt
 stack_without n m (x ∷ xs) s =
@@ -54,6 +57,7 @@ stack_without n m (x ∷ xs) s =
       | inr o ↦ rw o (s.0, stack_without x.number m xs s.1)
     ]
 
+-- without one put a stack has nothing of that number, and under each other number what it had
 find_without : (n m i : ℕ) (stack : List PendingPut) → IsStack n stack → find_put i (without_put m stack) ≡ (if i == m then None else find_put i stack)
 find_without n m i [] s = elim (either (i == m)) [ inl y ↦ rw y refl | inr o ↦ rw o refl ]
 find_without n m i (x ∷ xs) s =
@@ -74,6 +78,7 @@ find_without n m i (x ∷ xs) s =
           ]
     ]
 
+-- a stack that has a put is longer by one than without it
 length_without : (m : ℕ) (stack : List PendingPut) (x : Message) → find_put m stack ≡ Some x → length stack ≡ suc (length (without_put m stack))
 length_without m [] x e = cc
 length_without m (y ∷ ys) x e =
@@ -98,6 +103,7 @@ more b w h = record { number = length h; body = b; what = w } ∷ h
 count_more : (f : What → Bool) (e : Entry) (h : List Entry) → count_by (λ x. f x.what) (e ∷ h) ≡ cond (f e.what) 1 0 + count_by (λ x. f x.what) h
 count_more f e h = sum_by-cons (λ x. cond (f x.what) 1 0) e h
 
+-- while `Main` plays its lines, its next ask is that of the lines that are left
 main_asks : (ls rest : List SmallLine) (stack : List PendingPut) (h : List Entry) (w : What) → Playing ls rest stack h → small_lines first rest [] ≡ Some w → Asks (small_program ls) h 0 w
 main_asks ls rest stack h w s e =
     (1, rw s.main (ap (asked_at 1) (ap (small_main ls) (sym (append-nil s.answers)) ∙ s.lines [] ∙ e)))
@@ -171,6 +177,7 @@ quiet_asks p (Over x) q = refl
 quiet_asks p (Ready s d rs) q = absurd q
 quiet_asks p (Waits s d rs c l) q = absurd q
 
+-- an end that answers some call leaves a quiet body as it is
 quiet_answered : (x : End) (c : Option ℕ) (d : Doing) → IsQuiet d → answered x c d ≡ d
 quiet_answered x None d q = refl
 quiet_answered x (Some c) Absent q = refl
@@ -389,6 +396,7 @@ begin_step ls =
       goes_on = refl;
     }
 
+-- the object that `Main` makes is within its bounds
 first_within : IsObjectWithin first
 first_within = record { number = lit< tt; class = lit< tt }
 

@@ -64,6 +64,7 @@ more_entry b w h = record { number = length h; body = b; what = w }
 entry_is : (e : Entry) (n b : ℕ) (w : What) → e.number ≡ n → e.body ≡ b → e.what ≡ w → e ≡ record { number = n; body = b; what = w }
 entry_is e n b w x y z = rw (← x, ← y, ← z) refl
 
+-- an ask at a place of some depth says what it was made of
 at_depth_is : (d : ℕ) (o : Option What) (w : What) (l : ℕ) → asked_at d o ≡ Some (record { what = w; depth = l }) → o ≡ Some w
 at_depth_is d None w l e = let x : ◌≡◌ {A = Option Asked} None (Some (record { what = w; depth = l })) = e in cc
 at_depth_is d (Some v) w l e =
@@ -106,6 +107,7 @@ main_entry ls h rs e v d q l some none m =
 playing_asks : (ls rest : List SmallLine) (stack : List PendingPut) (h : List Entry) (s : Playing ls rest stack h) → small_main ls s.answers ≡ small_lines first rest []
 playing_asks ls rest stack h s = ap (small_main ls) (sym (append-nil s.answers)) ∙ s.lines []
 
+-- an entry that may follow while `Main` plays its lines leads to one of the states
 playing_next : (ls rest : List SmallLine) (stack : List PendingPut) (h : List Entry) (e : Entry) → Playing ls rest stack h → MayFollow (small_program ls) h e → State ls (e ∷ h)
 playing_next ls [] stack h e s m =
     let x = main_entry ls h s.answers e (Ended (Gives a_value.Unit)) s.main s.quiet (playing_asks ls [] stack h s) (omega (arith, s.begun)) (none_fires ls stack h s.waiting) m in
@@ -120,6 +122,7 @@ playing_next ls (PrintGet ∷ rest) stack h e s m =
     let x = main_entry ls h s.answers e (Called first 0 []) s.main s.quiet (playing_asks ls (PrintGet ∷ rest) stack h s) (omega (arith, s.begun)) (none_fires ls stack h s.waiting) m in
     subst (λ i. State ls (i ∷ h)) (sym x) (Calls rest stack (length h) (call_step ls rest stack h s))
 
+-- an entry that may follow while `Main` is about to print what it got leads to one of the states
 got_next : (ls rest : List SmallLine) (stack : List PendingPut) (t : List ℕ) (h : List Entry) (e : Entry) → Got ls rest stack t h → MayFollow (small_program ls) h e → State ls (e ∷ h)
 got_next ls rest stack t h e s m =
     let x = main_entry ls h (s.answers ++ Gives (a_value.Text t) ∷ []) e (Printed t) s.main s.quiet (s.lines (Gives (a_value.Text t) ∷ [])) (omega (arith, s.begun)) (none_fires ls stack h s.waiting) m in
@@ -129,14 +132,17 @@ got_next ls rest stack t h e s m =
 pub begun_waiting : (n : ℕ) → pending n main_begun ≡ find_put n []
 begun_waiting n = elim (either (0 == n)) [ inl y ↦ rw y refl | inr o ↦ rw o refl ]
 
+-- an entry that may follow the beginning of `Main` leads to one of the states
 begun_next : (ls : List SmallLine) (e : Entry) → MayFollow (small_program ls) main_begun e → State ls (e ∷ main_begun)
 begun_next ls e m =
     let x = main_entry ls main_begun [] e (Made 0) refl (λ b n. rw (other_main b n) tt) refl (lit< tt) (none_fires ls [] main_begun begun_waiting) m in
     subst (λ i. State ls (i ∷ main_begun)) (sym x) (Plays ls [] (begin_step ls))
 
+-- nothing is pending before a run
 nothing_waits : (n : ℕ) → pending n [] ≡ find_put n []
 nothing_waits n = refl
 
+-- what comes first is the beginning of `Main`, which is body 0
 first_is : (ls : List SmallLine) (n b : ℕ) (w : What) → Comes (small_program ls) [] n b w → (b ≡ 0) × (w ≡ Begun)
 first_is ls n b Begun c = (c.1, refl)
 first_is ls n b (Fired k o ms vs) c = absurd (none_fires ls [] [] nothing_waits k o ms vs c.1)
@@ -146,12 +152,14 @@ first_is ls n b (Called o j vs) c = absurd (quiet_silent (small_program ls) [] b
 first_is ls n b (Printed t) c = absurd (quiet_silent (small_program ls) [] b (Printed t) tt c)
 first_is ls n b (Ended x) c = absurd (quiet_silent (small_program ls) [] b (Ended x) tt c)
 
+-- the first entry leads to one of the states
 fresh_next : (ls : List SmallLine) (e : Entry) → MayFollow (small_program ls) [] e → State ls (e ∷ [])
 fresh_next ls e m =
     let x = first_is ls e.number e.body e.what m.comes in
     let y : e ≡ more_entry 0 Begun [] = entry_is e 0 0 Begun m.numbered x.0 x.1 in
     Started (ap (λ i. i ∷ []) y)
 
+-- an entry that may follow while the chord's body is about to give its text leads to one of the states
 serving_next : (ls rest : List SmallLine) (stack : List PendingPut) (n : ℕ) (t : List ℕ) (h : List Entry) (e : Entry) → Serving ls rest stack n t h → MayFollow (small_program ls) h e → State ls (e ∷ h)
 serving_next ls rest stack n t h e s m =
     elim (come (small_program ls) h e.number e.body e.what (omega (arith, s.begun)) m.comes) [
@@ -179,11 +187,13 @@ pub record IsTaking (stack : List PendingPut) (q k : ℕ) (o : Object) (ms : Lis
   pub found : find_put put stack ≡ Some (put_message text)
   pub is : Fired k o ms vs ≡ Fired 0 first (q ∷ put ∷ []) (a_value.Text text ∷ [])
 
+-- the only chord of a small program has the number 0
 chord_zero : (c k : ℕ) (js : List ℕ) → slice_get (small_chords c) k ≡ Some js → k ≡ 0
 chord_zero zero zero js e = refl
 chord_zero zero (suc k) js e = let x : ◌≡◌ {A = Option (List ℕ)} None (Some js) = e in cc
 chord_zero (suc c) k js e = let x : ◌≡◌ {A = Option (List ℕ)} None (Some js) = e in cc
 
+-- what is found among the pending puts is the message of a put of some text
 found_text : (n : ℕ) (stack : List PendingPut) (m : Message) → find_put n stack ≡ Some m → (t : List ℕ) × (m ≡ put_message t)
 found_text n [] m e = let x : ◌≡◌ {A = Option Message} None (Some m) = e in cc
 found_text n (x ∷ xs) m e =
@@ -208,9 +218,11 @@ is_put q n stack m e z =
       | inr o ↦ rw o at e
     ]
 
+-- a firing of two members is that of chord 0 of the first object with the same members and arguments, where its parts are equal to these
 same_firing : (k : ℕ) (o : Object) (i q j : ℕ) (vs us : List value.Value) → k ≡ 0 → o ≡ first → q ≡ i → vs ≡ us → Fired k o (i ∷ j ∷ []) vs ≡ Fired 0 first (q ∷ j ∷ []) us
 same_firing k o i q j vs us z here call all = rw (z, here, call, all) refl
 
+-- while `Main` waits, what takes a message to each of the two methods takes the call and one of the puts
 takes_put : (ls rest : List SmallLine) (stack : List PendingPut) (q k : ℕ) (h : List Entry) (o : Object) (ms : List ℕ) (vs : List value.Value) → Calling ls rest stack q h → k ≡ 0 → Takes h o (0 ∷ 1 ∷ []) ms vs → IsTaking stack q k o ms vs
 takes_put ls rest stack q k h o [] vs s z t = absurd t
 takes_put ls rest stack q k h o (i ∷ []) vs s z t = absurd t.4
@@ -231,6 +243,7 @@ call_taken ls rest stack q k h o ms vs s f =
     let js = the_chord o.class k f.0 f.1 in
     takes_put ls rest stack q k h o ms vs s (chord_zero o.class k f.0 f.1) (subst (λ i. Takes h o i ms vs) js f.2)
 
+-- an entry that may follow while `Main` waits leads to one of the states
 calling_next : (ls rest : List SmallLine) (stack : List PendingPut) (q : ℕ) (h : List Entry) (e : Entry) → Calling ls rest stack q h → MayFollow (small_program ls) h e → State ls (e ∷ h)
 calling_next ls rest stack q h e s m =
     elim (come (small_program ls) h e.number e.body e.what (omega (arith, s.begun)) m.comes) [
@@ -246,6 +259,7 @@ calling_next ls rest stack q h e s m =
           ]
     ]
 
+-- an entry that may follow one of the states leads to one of the states
 state_next : (ls : List SmallLine) (h : List Entry) (e : Entry) → State ls h → MayFollow (small_program ls) h e → State ls (e ∷ h)
 state_next ls h e (Fresh i) m = rw i (fresh_next ls e (rw i at m))
 state_next ls h e (Started i) m = rw i (begun_next ls e (rw i at m))
@@ -264,6 +278,7 @@ state_of ls (e ∷ h) r = state_next ls h e (state_of ls h r.0) r.1
 abbrev pub MayContinue : List SmallLine → List Entry → Type 0
 MayContinue ls h = (e : Entry) × MayFollow (small_program ls) h e
 
+-- while `Main` plays its lines some entry may follow
 playing_goes_on : (ls rest : List SmallLine) (stack : List PendingPut) (h : List Entry) → Playing ls rest stack h → MayContinue ls h
 playing_goes_on ls [] stack h s = let x = end_main ls stack h s in (more_entry 0 (Ended (Gives a_value.Unit)) h, x.past.1)
 playing_goes_on ls (Put t ∷ rest) stack h s = let x = put_step ls rest stack h t s in (more_entry 0 (Sent first 1 (a_value.Text t ∷ [])) h, x.past.1)
@@ -277,6 +292,7 @@ calling_over ls rest (x ∷ xs) q h s o =
     let e : count_sent h ≡ count_fired h = eqb-true (count_sent h) (count_fired h) (sym s.called ∙ o) in
     absurd (omega (arith, e, s.tally))
 
+-- while `Main` waits and the run is not over some entry may follow
 calling_goes_on : (ls rest : List SmallLine) (stack : List PendingPut) (q : ℕ) (h : List Entry) → Calling ls rest stack q h → is_over h ≡ false → MayContinue ls h
 calling_goes_on ls rest [] q h s o =
     let e : count_sent h ≡ count_fired h = omega (arith, s.tally) in
@@ -290,6 +306,7 @@ apart : (b : Bool) → b ≡ false → b ≡ true → ⊥
 apart true f t = cc
 apart false f t = cc
 
+-- nothing may follow a state whose run is over
 state_over : (ls : List SmallLine) (h : List Entry) → State ls h → is_over h ≡ true → IsFinal (small_program ls) h
 state_over ls h (Fresh i) o = absurd (apart (is_over h) (rw i refl) o)
 state_over ls h (Started i) o = absurd (apart (is_over h) (rw i refl) o)
@@ -299,6 +316,7 @@ state_over ls h (Serves rest stack n t s) o = absurd (apart (is_over h) s.goes_o
 state_over ls h (Gets rest stack t s) o = absurd (apart (is_over h) s.goes_on o)
 state_over ls h (Ends stack s) o = done_final ls stack h s
 
+-- some entry may follow a state whose run is not over
 state_goes_on : (ls : List SmallLine) (h : List Entry) → State ls h → is_over h ≡ false → MayContinue ls h
 state_goes_on ls h (Fresh i) o = let x : IsPast (small_program ls) main_begun = begun_past ls in rw i (more_entry 0 Begun [], x.1)
 state_goes_on ls h (Started i) o = let x = begin_step ls in rw i (more_entry 0 (Made 0) main_begun, x.past.1)
@@ -337,9 +355,11 @@ newest (x ∷ xs) e s =
     let first_is : x ≡ e = sym (ap (λ i. get_or (x ∷ xs) i e) z) ∙ sym b ∙ a in
     (xs, ap (λ i. i ∷ xs) first_is)
 
+-- a run whose last entry is a call is over exactly where as many entries put as fire
 called_at : (b : ℕ) (w : What) (h : List Entry) (o : Object) (j : ℕ) (vs : List value.Value) → w ≡ Called o j vs → is_over_at b w h ≡ (count_sent h == count_fired h)
 called_at b w h o j vs e = rw e refl
 
+-- a history whose newest entry is a call is over exactly where as many of its entries put as fire
 called_over : (h r : List Entry) (e : Entry) (o : Object) (j : ℕ) (vs : List value.Value) → h ≡ e ∷ r → e.what ≡ Called o j vs → is_over h ≡ (count_sent h == count_fired h)
 called_over h r e o j vs x w = subst (λ i. is_over i ≡ (count_sent i == count_fired i)) (sym x) (called_at e.body e.what (e ∷ r) o j vs w)
 

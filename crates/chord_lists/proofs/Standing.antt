@@ -125,6 +125,7 @@ entry_end : (es : List Entry) (e : Entry) → slice_get (es ++ e ∷ []) (length
 entry_end [] e = refl
 entry_end (x ∷ es) e = entry_end es e
 
+-- an entry before the last one is the same entry without the last one
 entry_before : (es : List Entry) (e : Entry) (n : ℕ) → n < length es → slice_get (es ++ e ∷ []) n ≡ slice_get es n
 entry_before [] e n l = absurd (omega (arith, l))
 entry_before (x ∷ es) e zero l = refl
@@ -160,14 +161,17 @@ pub record IsTaken (bodies : SmallBodies) (ms : List ℕ) : Type 0 where
   pub text : List ℕ
   pub carries : Carries bodies.entries.items put text
 
+-- equal firings have equal members
 members_of_firing : (k k' : ℕ) (o o' : Object) (ms ms' : List ℕ) (vs vs' : List value.Value) → a_what.Fired k o ms vs ≡ a_what.Fired k' o' ms' vs'
     → ms ≡ ms'
 members_of_firing k k' o o' ms ms' vs vs' e = cc
 
+-- equal firings have equal arguments
 arguments_of_firing : (k k' : ℕ) (o o' : Object) (ms ms' : List ℕ) (vs vs' : List value.Value) → a_what.Fired k o ms vs ≡ a_what.Fired k' o' ms' vs'
     → vs ≡ vs'
 arguments_of_firing k k' o o' ms ms' vs vs' e = cc
 
+-- where a chord may fire after the history of a stage, the stage is that `Main` waits
 stage_waits : (ls : List SmallLine) (stage : Stage) (h : List Entry) (k : ℕ) (o : Object) (ms : List ℕ) (vs : List value.Value) → IsAt ls stage h
     → Fires (small_program ls) h k o ms vs → (i : ℕ) × (stage ≡ a_stage.Waits i) × IsAt ls (a_stage.Waits i) h
 stage_waits ls a_stage.Begins h k o ms vs s f = absurd (none_fires ls [] main_begun begun_waiting k o ms vs (subst (λ i. Fires (small_program ls) i k o ms vs) s f))
@@ -239,6 +243,7 @@ last_member ms q m n two last =
 abbrev pub IsBegun : List SmallLine → ℕ → List Entry → What → ℕ → List ℕ → Type 0
 IsBegun ls i h w n t = IsAt ls (a_stage.Gives i n t) (entry n n w ∷ h)
 
+-- after a firing that takes the call and the put of this text, the stage is that of the body which the firing begins
 stage_begun : (ls : List SmallLine) (stack : List PendingPut) (n k i q : ℕ) (o : Object) (ms : List ℕ) (vs : List value.Value) (t : List ℕ)
     (h : List Entry) → length h ≡ n → Calling ls (drop i ls) stack q h → (x : IsTaking stack q k o ms vs) → x.text ≡ t
     → IsBegun ls i h (a_what.Fired k o ms vs) n t

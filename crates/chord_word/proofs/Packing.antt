@@ -11,6 +11,7 @@ link_low : (c : Cell) (next : Option ℕ) → NextFits c next → link_of next <
 link_low c None f = omega arith
 link_low c (Some n) f = let h = f.1 in omega arith
 
+-- the number of a state is below 7
 state_low : (c : Cell) → state_of c < 7
 state_low Empty = omega arith
 state_low Pending = omega arith
@@ -51,6 +52,7 @@ cell_at (suc (suc (suc (suc zero)))) m = Woken m
 cell_at (suc (suc (suc (suc (suc zero))))) m = Ready
 cell_at (suc (suc (suc (suc (suc (suc n)))))) m = Started
 
+-- the cell of a cell's state and its waking message is the cell
 cell_again : (c : Cell) → cell_at (state_of c) (waker_of c) ≡ c
 unfolding cell_at
 cell_again Empty = refl
