@@ -111,6 +111,7 @@ pub all_parts : (xs : List NamePart) → wrapped part_way xs (Made grammar.Name_
 all_parts [] = refl
 all_parts (x ∷ xs) = ap (part_way x) (all_parts xs)
 
+-- further parameters before no others are those parameters
 all_formals : (xs : List Formal) → wrapped formal_way xs (Made grammar.More_formals End) ≡ node_more_formals xs
 all_formals [] = refl
 all_formals (x ∷ xs) = ap (formal_way x) (all_formals xs)
@@ -129,6 +130,7 @@ pub formals_push : (xs ys : List Formal) (x : Formal) (n : Node) → 0 < length 
 formals_push [] ys x n h e = absurd (omega arith)
 formals_push (y ∷ xs) ys x n h e = ap (λ z. Made grammar.Optional_formals (node_formal y ▸ z ▸ End)) (sym (grown formal_way xs x n)) ∙ ap (λ z. before_formals z n) (sym e)
 
+-- further headers before no others are those headers
 all_headers : (xs : List HeaderTree) → wrapped header_way xs (Made grammar.Headers End) ≡ node_headers xs
 all_headers [] = refl
 all_headers (x ∷ xs) = ap (header_way x) (all_headers xs)
@@ -143,6 +145,7 @@ pub all_members : (xs : List MemberTree) → wrapped member_way xs (Made grammar
 all_members [] = refl
 all_members (x ∷ xs) = ap (member_way x) (all_members xs)
 
+-- further classes before no others are those classes
 all_classes : (xs : List ClassTree) → wrapped class_way xs (Made grammar.Classes End) ≡ node_classes xs
 all_classes [] = refl
 all_classes (x ∷ xs) = ap (class_way x) (all_classes xs)
@@ -231,6 +234,7 @@ plain_result (results.Void at) h = refl
 plain_result (results.Value (types.Basic basic at)) h = refl
 plain_result (results.Value (types.Class class)) h = elim h [ ]
 
+-- what follows a chord's modifiers begins with the word of the result, where that is a word
 plain_rest : (r : ReturnType) (x : Name) (f : FormalsTree) (hs : List HeaderTree) (b : BlockTree) → IsPlain r → Made grammar.Rest (node_plain r ▸ name x ▸ node_formals f ▸ node_headers hs ▸ node_block b ▸ End) ≡ node_rest r x f hs b
 plain_rest (results.Async at) x f hs b h = refl
 plain_rest (results.Void at) x f hs b h = refl
@@ -267,6 +271,7 @@ program_of us first (c ∷ cs) h = ap (λ z. Made grammar.Whole_program (node_us
 pub shorter_by : {count d : ℕ} {q : Symbol} {n : Node} (left rest : List Token) → Reads count q d (token_kinds left) (token_kinds rest) n → 0 < size n → length rest < length left
 shorter_by left rest h l = let a = measured h in let y = told_size left in let z = told_size rest in omega arith
 
+-- what follows a chord's modifiers has a token
 sized_rest : (r : ReturnType) (x : Name) (f : FormalsTree) (hs : List HeaderTree) (b : BlockTree) → 0 < size (node_rest r x f hs b)
 sized_rest (results.Async at) x f hs b = omega arith
 sized_rest (results.Void at) x f hs b = omega arith
