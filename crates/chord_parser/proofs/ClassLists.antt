@@ -37,16 +37,20 @@ use Rattle.chord_parser.proofs.made.MemberSteps.{modifiers_modifier, modifiers_m
 
 -- a list that grows at its end
 module _ {A : Type 0} (f : A → Node → Node) where
+  -- things and one more before a node are the things before that one and the node
   pub grown : (xs : List A) (x : A) (n : Node) → wrapped f (xs ++ (x ∷ [])) n ≡ wrapped f xs (f x n)
   grown [] x n = refl
   grown (y ∷ xs) x n = ap (f y) (grown xs x n)
 
+  -- things before one more and a node are the grown list before the node
   pub push : (xs ys : List A) (x : A) (n : Node) → ys ≡ xs ++ (x ∷ []) → wrapped f xs (f x n) ≡ wrapped f ys n
   push xs ys x n e = sym (grown xs x n) ∙ ap (λ z. wrapped f z n) (sym e)
 
+  -- of a list that grew, the things after the first before one more and a node are the grown list, but its first, before the node
   after_first : (y : A) (xs ys : List A) (x : A) (n : Node) → ys ≡ (y ∷ xs) ++ (x ∷ []) → wrapped f xs (f x n) ≡ wrapped_after f ys n
   after_first y xs ys x n e = sym (grown xs x n) ∙ ap (λ z. wrapped_after f z n) (sym e)
 
+  -- all things but the first, before one more and a node, are the grown list, but its first, before the node
   pub push_after : (xs ys : List A) (x first : A) (n : Node) → IsFirst first xs → ys ≡ xs ++ (x ∷ []) → wrapped_after f xs (f x n) ≡ wrapped_after f ys n
   push_after [] ys x first n h e = elim h [ ]
   push_after (y ∷ xs) ys x first n h e = after_first y xs ys x n e
@@ -58,18 +62,23 @@ first_stays (y ∷ xs) ys x first h e = subst (λ z. IsFirst first z) (sym e) h
 
 -- the same through a view
 module _ {A B : Type 0} (see : A → B) (f : B → Node → Node) where
+  -- things as trees before one more and a node are the grown list as trees before the node
   pub push_seen : (xs ys : List A) (x : A) (n : Node) → ys ≡ xs ++ (x ∷ []) → wrapped f (map see xs) (f (see x) n) ≡ wrapped f (map see ys) n
   push_seen xs ys x n e = push f (map see xs) (map see ys) (see x) n (ap (map see) e ∙ map-append see xs (x ∷ []))
 
+  -- all things but the first, as trees, before one more and a node, are the grown list, but its first, before the node
   pub push_seen_after : (xs ys : List A) (x : A) (first : B) (n : Node) → IsFirst first (map see xs) → ys ≡ xs ++ (x ∷ []) → wrapped_after f (map see xs) (f (see x) n) ≡ wrapped_after f (map see ys) n
   push_seen_after xs ys x first n h e = push_after f (map see xs) (map see ys) (see x) first n h (ap (map see) e ∙ map-append see xs (x ∷ []))
 
+  -- the first of things as trees stays the first when the list grows
   pub first_seen : (xs ys : List A) (x : A) (first : B) → IsFirst first (map see xs) → ys ≡ xs ++ (x ∷ []) → IsFirst first (map see ys)
   first_seen xs ys x first h e = first_stays (map see xs) (map see ys) (see x) first h (ap (map see) e ∙ map-append see xs (x ∷ []))
 
+  -- a list of one thing begins with that thing as a tree
   pub one_seen : (ys : List A) (x : A) → ys ≡ x ∷ [] → IsFirst (see x) (map see ys)
   one_seen ys x e = subst (λ z. IsFirst (see x) (map see z)) (sym e) refl
 
+  -- a list of one thing has nothing after its first to stand before a node
   pub one_after : (ys : List A) (x : A) (n : Node) → ys ≡ x ∷ [] → n ≡ wrapped_after f (map see ys) n
   one_after ys x n e = ap (λ z. wrapped_after f (map see z) n) (sym e)
 

@@ -137,6 +137,7 @@ first_same [] k d rest suffix = refl
 first_same ((j, e) ∷ prefix) k d rest suffix = refl
 
 module _ (x d : ℕ) (s : List Want) (t : else_first ((Nonterminal x, d) ∷ s) ≡ true) (legal : Legal ((Nonterminal x, d) ∷ s)) where
+  -- where the right side of the choice and what is wanted after it derive no list that begins so, neither does the nonterminal
   refuses_too : (ks fs suffix : List Kind) → ks ≡ fs ++ suffix
       → ((w : List Spelled) → BeginsBefore (kinds_of w) fs (next suffix) → Derives (at_depth (inside x d) (parts_of (choice x (next ks))) ++ s) w → ⊥)
       → (w : List Spelled) → BeginsBefore (kinds_of w) fs (next suffix) → Derives ((Nonterminal x, d) ∷ s) w → ⊥
@@ -144,6 +145,7 @@ module _ (x d : ℕ) (s : List Want) (t : else_first ((Nonterminal x, d) ∷ s) 
       let same : next (kinds_of w) ≡ next ks = next_same (kinds_of w) fs suffix b ∙ sym (ap next cut) in
       f w b (subst (λ c. Derives (at_depth (inside x d) (parts_of (choice x c)) ++ s) w) same (chose x d s t legal w r).1)
 
+  -- tokens that the right side of the choice refuses at a place are refused there by the nonterminal
   wrong_too : (ks : List Kind) (n : ℕ) → choice x (next ks) < rule_count → (prefix rest : List Spelled) (suffix : List Kind)
       → ks ≡ kinds_of prefix ++ suffix → length suffix ≡ n → NotTall prefix → Derives (at_depth (inside x d) (parts_of (choice x (next ks))) ++ s) (prefix ++ rest)
       → ((w : List Spelled) → BeginsBefore (kinds_of w) (kinds_of prefix) (next suffix) → Derives (at_depth (inside x d) (parts_of (choice x (next ks))) ++ s) w → ⊥)
@@ -163,6 +165,7 @@ module _ (x d : ℕ) (s : List Want) (t : else_first ((Nonterminal x, d) ∷ s) 
         refuses = refuses_too ks (k ∷ kinds_of prefix) suffix cut f;
       }
 
+  -- what a verdict says of the tokens for the right side of the choice, it says of them for the nonterminal
   expanded : (ks : List Kind) (v : Verdict) → choice x (next ks) < rule_count → Outcome (at_depth (inside x d) (parts_of (choice x (next ks))) ++ s) ks v → Outcome ((Nonterminal x, d) ∷ s) ks v
   expanded ks Fine l o =
       let h = low_choice x (next ks) d s t (next_small ks) l in
