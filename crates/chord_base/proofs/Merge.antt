@@ -206,7 +206,7 @@ placed_seen (Over x) e = tt
 placed_seen Absent e = absurd e
 placed_seen Unplaced e = absurd e
 
--- a body that has an entry after an end that answers some call had one before
+-- a body that has an entry after the end of another body had one before
 answered_seen : (x : End) (c : Option ℕ) (d : Doing) → IsSeen (answered x c d) → IsSeen d
 answered_seen x None d s = s
 answered_seen x (Some c) (Waits st k rs q l) s = tt
@@ -225,7 +225,7 @@ heard_seen (Called o j vs) c d s = s
 heard_seen (Printed t) c d s = s
 heard_seen (Fired k o ms vs) c d s = s
 
--- a body that is placed after an end that answers some call was placed before
+-- a body that is placed after the end of another body was placed before
 answered_placed : (x : End) (c : Option ℕ) (d : Doing) → IsPlaced (answered x c d) → IsPlaced d
 answered_placed x None d s = s
 answered_placed x (Some c) (Waits st k rs q l) s = tt
