@@ -171,7 +171,7 @@ call_waits p h e q f c =
     let said : WaitsFor e.number (own p e.number e.what (λ i. maker i h) (doing p h) (doing p h e.body)) = subst (λ (w : What). WaitsFor e.number (own p e.number w (λ i. maker i h) (doing p h) (doing p h e.body))) (sym what) now in
     rw (eq-eqb e.body e.body refl) (subst (λ i. WaitsFor i (own p e.number e.what (λ i. maker i h) (doing p h) (doing p h e.body))) c.0 said)
 
--- a body that waits for a call still does after an end that answers some call, or the end answers just that call
+-- after the end of another body a body still waits for its call, or the end answers that call
 answered_or : (x : End) (c : Option ℕ) (q : ℕ) (d : Doing) → WaitsFor q d → WaitsFor q (answered x c d) ⊎ (c ≡ Some q)
 answered_or x None q d w = inl w
 answered_or x (Some c) q (Waits s d rs i l) w =

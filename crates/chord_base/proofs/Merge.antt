@@ -114,11 +114,13 @@ not_waiting keep b b' (Some c) Unplaced w y out ends = refl
 not_waiting keep b b' (Some c) (Over x) w y out ends = refl
 
 module _ (p : Program) (keep : ℕ → Bool) (h : List Entry) (w : IsWhole p keep h) (ih : (b : ℕ) → keep b ≡ true → Agrees (doing p (kept keep h) b) (doing p h b)) where
+  -- how a body begins by the maker of a kept call, if there is one, agrees in what is kept with the whole history
   by_maker : (s : Start) (q : ℕ) (o : Option ℕ) → maker q h ≡ o → keep q ≡ true → Agrees (begun_by s q o (doing p (kept keep h))) (begun_by s q o (doing p h))
   by_maker s q None m y = tt
   by_maker s q (Some b) m y =
       agrees_through (placed s q) (doing p (kept keep h) b) (doing p h b) refl (ih b (sym (kept_with_maker p keep h q b w m) ∙ y))
 
+  -- how a body begins that serves a call agrees in what is kept with the whole history
   begun_some_agrees : (s : Start) (q : ℕ) → Agrees (begun_by s q (maker q (kept keep h)) (doing p (kept keep h))) (begun_by s q (maker q h) (doing p h))
   begun_some_agrees s q =
       elim (either (keep q)) [
@@ -126,10 +128,12 @@ module _ (p : Program) (keep : ℕ → Bool) (h : List Entry) (w : IsWhole p kee
         | inr o ↦ rw (kept_no_maker keep q h o) tt
       ]
 
+  -- how a body begins agrees in what is kept with the whole history
   begun_agrees : (s : Start) (c : Option ℕ) → Agrees (begun s c (λ q. maker q (kept keep h)) (doing p (kept keep h))) (begun s c (λ q. maker q h) (doing p h))
   begun_agrees s None = refl
   begun_agrees s (Some q) = begun_some_agrees s q
 
+  -- what a kept body does after an entry of its own agrees in what is kept with the whole history
   own_agrees : (b n : ℕ) (what : What) → keep b ≡ true → Agrees (own p n what (λ q. maker q (kept keep h)) (doing p (kept keep h)) (doing p (kept keep h) b)) (own p n what (λ q. maker q h) (doing p h) (doing p h b))
   own_agrees b n Begun y = refl
   own_agrees b n (Fired k o ms vs) y = begun_agrees (Chord k o vs) (served p (Fired k o ms vs))
@@ -139,6 +143,7 @@ module _ (p : Program) (keep : ℕ → Bool) (h : List Entry) (w : IsWhole p kee
   own_agrees b n (Called o j vs) y = agrees_through (waiting p n) (doing p (kept keep h) b) (doing p h b) refl (ih b y)
   own_agrees b n (Ended x) y = refl
 
+  -- what a kept body does after a kept entry of another body agrees in what is kept with the whole history
   heard_agrees : (b : ℕ) (what : What) (c : Option ℕ) → keep b ≡ true → Agrees (heard what c (doing p (kept keep h) b)) (heard what c (doing p h b))
   heard_agrees b what c y = agrees_through (heard what c) (doing p (kept keep h) b) (doing p h b) (heard_unplaced what c) (ih b y)
 
@@ -201,7 +206,7 @@ placed_seen (Over x) e = tt
 placed_seen Absent e = absurd e
 placed_seen Unplaced e = absurd e
 
--- a body that has an entry after an end that answers some call had one before
+-- a body that has an entry after the end of another body had one before
 answered_seen : (x : End) (c : Option ℕ) (d : Doing) → IsSeen (answered x c d) → IsSeen d
 answered_seen x None d s = s
 answered_seen x (Some c) (Waits st k rs q l) s = tt
@@ -220,7 +225,7 @@ heard_seen (Called o j vs) c d s = s
 heard_seen (Printed t) c d s = s
 heard_seen (Fired k o ms vs) c d s = s
 
--- a body that is placed after an end that answers some call was placed before
+-- a body that is placed after the end of another body was placed before
 answered_placed : (x : End) (c : Option ℕ) (d : Doing) → IsPlaced (answered x c d) → IsPlaced d
 answered_placed x None d s = s
 answered_placed x (Some c) (Waits st k rs q l) s = tt
@@ -339,12 +344,15 @@ told_before : (p : Program) (keep : ℕ → Bool) (e : Entry) (h : List Entry) �
 told_before p keep e h t = elim (either (keep e.number)) [ inl y ↦ (let u = rw y at t in u.0) | inr o ↦ rw o at t ]
 
 module _ (p : Program) (at : ℕ → ℕ) (e : Entry) (h : List Entry) (told : AreTold p at (e ∷ h)) where
+  -- whether a number stands in the place of the newest entry
   at_here : ℕ → Bool
   at_here n = at n == at e.number
 
+  -- what the place of the newest entry keeps is told with that entry
   here_told : IsTold p (e ∷ kept (λ n. at n == at e.number) h)
   here_told = let y : (at e.number == at e.number) ≡ true = eq-eqb (at e.number) (at e.number) refl in rw y at (told (at e.number))
 
+  -- a body that has a next ask in the place of the newest entry stands in that place
   asked_here : (b : ℕ) (w : What) → Asks p (kept (λ n. at n == at e.number) h) b w → at b ≡ at e.number
   asked_here b w a =
       eqb-true (at b) (at e.number)

@@ -30,7 +30,7 @@ DoingAmong f (Over x) = Unit {0}
 abbrev pub More : (Object → Bool) → (Object → Bool) → Type 0
 More f g = (o : Object) → f o ≡ true → g o ≡ true
 
--- the objects of a value that are among some are among more
+-- a value whose objects are all among some has them among more objects too
 value_more : (f g : Object → Bool) → More f g → (v : value.Value) → ValueAmong f v → ValueAmong g v
 value_more f g m (a_value.Ref o) a = m o a
 value_more f g m a_value.Unit a = tt
@@ -38,27 +38,27 @@ value_more f g m (a_value.Int n) a = tt
 value_more f g m (a_value.Flag b) a = tt
 value_more f g m (a_value.Text t) a = tt
 
--- the objects of some values that are among some are among more
+-- values whose objects are all among some have them among more objects too
 values_more : (f g : Object → Bool) → More f g → (vs : List value.Value) → ValuesAmong f vs → ValuesAmong g vs
 values_more f g m [] a = tt
 values_more f g m (v ∷ vs) a = (value_more f g m v a.0, values_more f g m vs a.1)
 
--- the object of an end that is among some is among more
+-- an end whose object is among some has it among more objects too
 end_more : (f g : Object → Bool) → More f g → (x : End) → EndAmong f x → EndAmong g x
 end_more f g m (Gives v) a = value_more f g m v a
 end_more f g m (Traps t) a = tt
 
--- the objects of some ends that are among some are among more
+-- ends whose objects are all among some have them among more objects too
 ends_more : (f g : Object → Bool) → More f g → (rs : List End) → EndsAmong f rs → EndsAmong g rs
 ends_more f g m [] a = tt
 ends_more f g m (r ∷ rs) a = (end_more f g m r a.0, ends_more f g m rs a.1)
 
--- the objects with which a body starts, among some, are among more
+-- a start whose objects are all among some has them among more objects too
 start_more : (f g : Object → Bool) → More f g → (s : Start) → StartAmong f s → StartAmong g s
 start_more f g m Main a = tt
 start_more f g m (Chord k o vs) a = (m o a.0, values_more f g m vs a.1)
 
--- the objects with which a body began or that it was answered, among some, are among more
+-- a body that began with, and was answered, only objects among some has them among more objects too
 doing_more : (f g : Object → Bool) → More f g → (d : Doing) → DoingAmong f d → DoingAmong g d
 doing_more f g m (Ready s d rs) a = (start_more f g m s a.0, ends_more f g m rs a.1)
 doing_more f g m (Waits s d rs q l) a = (start_more f g m s a.0, ends_more f g m rs a.1)
@@ -179,11 +179,11 @@ sent_among f (Printed t) m a e = absurd (none_is m e)
 sent_among f (Fired k o ms vs) m a e = absurd (none_is m e)
 sent_among f (Ended x) m a e = absurd (none_is m e)
 
--- the objects of a message that are among some are among more
+-- a message whose objects are all among some has them among more objects too
 message_more : (f g : Object → Bool) → More f g → (m : Message) → MessageAmong f m → MessageAmong g m
 message_more f g k m a = (k m.object a.0, values_more f g k m.arguments a.1)
 
--- the objects of what an entry says, among some, are among more
+-- what an entry says, whose objects are all among some, has them among more objects too
 what_more : (f g : Object → Bool) → More f g → (w : What) → WhatAmong f w → WhatAmong g w
 what_more f g k (Sent o j vs) a = (k o a.0, values_more f g k vs a.1)
 what_more f g k (Called o j vs) a = (k o a.0, values_more f g k vs a.1)

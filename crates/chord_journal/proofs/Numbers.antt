@@ -16,7 +16,7 @@ use Rattle.chord_journal.specs.Typed.{IsInt}
 use Rattle.chord_journal.specs.Reading.{Read, ◌>>=◌, decimal_at, int_at, negative_at, is_decimal, value_if_below}
 use Rattle.chord_journal.proofs.Binds.{bound, guarded, passed, same_read}
 
--- all digits, with their value, are a model of numerals
+-- digits, with the value that they are read as, meet what std asks of numerals
 own : IsNumeralModel (AllDigits 10) (digits_value 10)
 own = numerals_by_value (AllDigits 10) tells_digits
 
@@ -62,7 +62,7 @@ digits_plain [] plain = absurd (cc)
 digits_plain (d ∷ []) plain = (omega arith, λ zero. refl)
 digits_plain (d ∷ e ∷ ds) plain = (omega arith, λ zero. absurd (grind (arith, nat_tests, plain, zero)))
 
--- the digits that a number is written with are a decimal
+-- the digits that a number of 64 bits is written with are a decimal
 decimal_plain : (n : ℕ) → n < 2 ^ 64 → is_decimal (decimal n) ≡ true
 decimal_plain zero fits = rw (decimal_digit 0 (omega arith)) refl
 decimal_plain (suc n) fits = plain_digits (decimal (suc n)) (decimal_nonempty (suc n) fits) (inl (first_decimal (suc n) (omega arith) fits))

@@ -20,6 +20,7 @@ abbrev pub Read : Type 0 → Type 0
 Read A = Option (A × List ℕ)
 
 infixl 10 ◌>>=◌
+-- what is read on behind what was read, or nothing where nothing was read
 abbrev pub ◌>>=◌ : {A B : Type 0} → Option A → (A → Option B) → Option B
 o >>= f = option_and_then f o
 

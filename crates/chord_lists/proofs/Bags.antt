@@ -163,7 +163,7 @@ stays_listed k h n i old new p e =
 listed_first : (k : Header) (n : ℕ) (old new : Header → List ℕ) → IsPushed k n old new → has n (new k) ≡ true
 listed_first k n old new p = let q : new k ≡ n ∷ old k = p k ∙ rw (same_self k) refl in ap (has n) q ∙ has_here n (old k)
 
--- where the new message is numbered by the bound of a list, each list falls from the next bound after it came
+-- a list that falls from the number of the new message falls from the next number after that message came
 falls_pushed : (k h : Header) (n : ℕ) (old new : Header → List ℕ) → IsPushed k n old new → Falls n (old h) → Falls (suc n) (new h)
 falls_pushed k h n old new p f =
     elim (either (same_header k h)) [

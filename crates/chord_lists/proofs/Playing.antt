@@ -177,7 +177,7 @@ quiet_asks p (Over x) q = refl
 quiet_asks p (Ready s d rs) q = absurd q
 quiet_asks p (Waits s d rs c l) q = absurd q
 
--- an end that answers some call leaves a quiet body as it is
+-- the end of another body leaves a quiet body as it is
 quiet_answered : (x : End) (c : Option ℕ) (d : Doing) → IsQuiet d → answered x c d ≡ d
 quiet_answered x None d q = refl
 quiet_answered x (Some c) Absent q = refl

@@ -107,6 +107,7 @@ no_link {ks = ks} (suc (suc (suc (suc (suc zero))))) h k o = ends (more_and_none
 no_link {ks = ks} (suc (suc (suc (suc (suc (suc zero)))))) h k o = ends (more_or_none (more_or_none_at _ (next_small ks) (λ q. o operators.Or q refl)))
 no_link (suc (suc (suc (suc (suc (suc (suc l))))))) h k o = absurd (omega arith)
 
+-- where an operator comes next, a link of its own level begins
 link_begun : {count d : ℕ} {ks : List Kind} (o : Operator) → next ks ≡ operator_terminal o → Onward count (level_tail (operator_level o)) d ks (Terminal (operator_terminal o) ∷ level_symbol (operator_level o - 1) ∷ level_tail (operator_level o) ∷ []) d ks (Made (level_tail (operator_level o)))
 link_begun operators.Or e = more_or_or (more_or_or_at _ e)
 link_begun operators.And e = more_and_and (more_and_and_at _ e)
@@ -188,6 +189,7 @@ pushed xs ys x e = let f = ap length e ∙ length-append xs (x ∷ []) in omega 
 pub dots_push : (xs ys : List Dot) (x : Dot) (n : Node) → ys ≡ xs ++ (x ∷ []) → before_dots (map see_dot xs) (before_dots (see_dot x ∷ []) n) ≡ before_dots (map see_dot ys) n
 dots_push xs ys x n e = sym (dots_grown (map see_dot xs) (see_dot x) n) ∙ ap (λ z. before_dots z n) (sym (map-append see_dot xs (x ∷ []))) ∙ ap (λ z. before_dots (map see_dot z) n) (sym e)
 
+-- a call before calls is the node of them all
 one_dot : (x : DotTree) (ds : DotTrees) → Made grammar.Dots (node_dot x ▸ node_dots ds ▸ End) ≡ node_dots (MoreDots x ds)
 one_dot (MakeDot at y a) ds = refl
 
@@ -207,6 +209,7 @@ opt_push (y ∷ xs) ys x n h e =
     ap (λ z. Made grammar.Optional_exprs (node_at 6 (see_expr y) ▸ z ▸ End)) (sym (more_grown (map see_expr xs) (see_expr x) n) ∙ ap (λ z. before_more z n) (sym (map-append see_expr xs (x ∷ []))))
     ∙ ap (λ z. before_opt (map see_expr z) n) (sym e)
 
+-- further arguments before no others are those arguments
 more_all : (xs : List ExprTree) → before_more xs (Made grammar.More_exprs End) ≡ node_more (exprs xs)
 more_all [] = refl
 more_all (x ∷ xs) = ap (λ z. before_more (x ∷ []) z) (more_all xs)
@@ -221,10 +224,12 @@ operator_back : (o : Operator) → operator_at (kinds.Mark (mark_of o)) ≡ Some
 operator_back operators.Or = refl
 operator_back _ = refl
 
+-- a mark that is an operator is the mark of that operator
 mark_at : (m : Mark) (o : Operator) → operator_at (kinds.Mark m) ≡ Some o → kinds.Mark m ≡ kinds.Mark (mark_of o)
 mark_at marks.Or o h = cc
 mark_at _ o h = cc
 
+-- a kind that is an operator is the mark of that operator
 kind_at : (k : Kind) (o : Operator) → operator_at k ≡ Some o → k ≡ kinds.Mark (mark_of o)
 kind_at (kinds.Word w) o h = cc
 kind_at (kinds.Name x) o h = cc
@@ -236,10 +241,12 @@ kind_at (kinds.Mark m) o h = mark_at m o h
 pub operator_read_at : (k : Kind) (o : Operator) → operator_at k ≡ Some o → terminal_of k ≡ operator_terminal o
 operator_read_at k o h = ap terminal_of (kind_at k o h)
 
+-- the token of an operator carries no value
 valued_not : (o : Operator) → includes valued (operator_terminal o) ≡ false
 valued_not operators.Or = refl
 valued_not _ = refl
 
+-- a kind with the terminal of an operator is that operator
 same_operator : (k : Kind) (o : Operator) → terminal_of k ≡ operator_terminal o → operator_at k ≡ Some o
 same_operator k o e = ap operator_at (sym (of_terminal (operator_terminal o) k e (valued_not o)) ∙ bare_mark (mark_of o)) ∙ operator_back o
 
@@ -251,10 +258,12 @@ none_at l k ks h = λ o e q. let a = same_operator k o e in cc
 pub other_at : (l : ℕ) (k : Kind) (ks : List Kind) (p : Operator) → operator_at k ≡ Some p → operator_level p ≢ l → IsOther l (k ∷ ks)
 other_at l k ks p h n = λ o e q. let a = same_operator k o e in let b : p ≡ o = cc in n (ap operator_level b ∙ q)
 
+-- the terminal of an operator is one of the grammar
 operator_small : (o : Operator) → operator_terminal o < 52
 operator_small operators.Or = lit< tt
 operator_small _ = lit< tt
 
+-- no operator is the end of the tokens
 not_end : (o : Operator) → 52 ≡ operator_terminal o → ⊥
 not_end o e = let h = operator_small o in omega arith
 

@@ -37,16 +37,20 @@ use Rattle.chord_parser.proofs.made.MemberSteps.{modifiers_modifier, modifiers_m
 
 -- a list that grows at its end
 module _ {A : Type 0} (f : A → Node → Node) where
+  -- things and one more before a node are the things before that one and the node
   pub grown : (xs : List A) (x : A) (n : Node) → wrapped f (xs ++ (x ∷ [])) n ≡ wrapped f xs (f x n)
   grown [] x n = refl
   grown (y ∷ xs) x n = ap (f y) (grown xs x n)
 
+  -- things before one more and a node are the grown list before the node
   pub push : (xs ys : List A) (x : A) (n : Node) → ys ≡ xs ++ (x ∷ []) → wrapped f xs (f x n) ≡ wrapped f ys n
   push xs ys x n e = sym (grown xs x n) ∙ ap (λ z. wrapped f z n) (sym e)
 
+  -- of a list that grew, the things after the first before one more and a node are the grown list, but its first, before the node
   after_first : (y : A) (xs ys : List A) (x : A) (n : Node) → ys ≡ (y ∷ xs) ++ (x ∷ []) → wrapped f xs (f x n) ≡ wrapped_after f ys n
   after_first y xs ys x n e = sym (grown xs x n) ∙ ap (λ z. wrapped_after f z n) (sym e)
 
+  -- all things but the first, before one more and a node, are the grown list, but its first, before the node
   pub push_after : (xs ys : List A) (x first : A) (n : Node) → IsFirst first xs → ys ≡ xs ++ (x ∷ []) → wrapped_after f xs (f x n) ≡ wrapped_after f ys n
   push_after [] ys x first n h e = elim h [ ]
   push_after (y ∷ xs) ys x first n h e = after_first y xs ys x n e
@@ -58,18 +62,23 @@ first_stays (y ∷ xs) ys x first h e = subst (λ z. IsFirst first z) (sym e) h
 
 -- the same through a view
 module _ {A B : Type 0} (see : A → B) (f : B → Node → Node) where
+  -- things as trees before one more and a node are the grown list as trees before the node
   pub push_seen : (xs ys : List A) (x : A) (n : Node) → ys ≡ xs ++ (x ∷ []) → wrapped f (map see xs) (f (see x) n) ≡ wrapped f (map see ys) n
   push_seen xs ys x n e = push f (map see xs) (map see ys) (see x) n (ap (map see) e ∙ map-append see xs (x ∷ []))
 
+  -- all things but the first, as trees, before one more and a node, are the grown list, but its first, before the node
   pub push_seen_after : (xs ys : List A) (x : A) (first : B) (n : Node) → IsFirst first (map see xs) → ys ≡ xs ++ (x ∷ []) → wrapped_after f (map see xs) (f (see x) n) ≡ wrapped_after f (map see ys) n
   push_seen_after xs ys x first n h e = push_after f (map see xs) (map see ys) (see x) first n h (ap (map see) e ∙ map-append see xs (x ∷ []))
 
+  -- the first of things as trees stays the first when the list grows
   pub first_seen : (xs ys : List A) (x : A) (first : B) → IsFirst first (map see xs) → ys ≡ xs ++ (x ∷ []) → IsFirst first (map see ys)
   first_seen xs ys x first h e = first_stays (map see xs) (map see ys) (see x) first h (ap (map see) e ∙ map-append see xs (x ∷ []))
 
+  -- a list of one thing begins with that thing as a tree
   pub one_seen : (ys : List A) (x : A) → ys ≡ x ∷ [] → IsFirst (see x) (map see ys)
   one_seen ys x e = subst (λ z. IsFirst (see x) (map see z)) (sym e) refl
 
+  -- a list of one thing has nothing after its first to stand before a node
   pub one_after : (ys : List A) (x : A) (n : Node) → ys ≡ x ∷ [] → n ≡ wrapped_after f (map see ys) n
   one_after ys x n e = ap (λ z. wrapped_after f (map see z) n) (sym e)
 
@@ -111,6 +120,7 @@ pub all_parts : (xs : List NamePart) → wrapped part_way xs (Made grammar.Name_
 all_parts [] = refl
 all_parts (x ∷ xs) = ap (part_way x) (all_parts xs)
 
+-- further parameters before no others are those parameters
 all_formals : (xs : List Formal) → wrapped formal_way xs (Made grammar.More_formals End) ≡ node_more_formals xs
 all_formals [] = refl
 all_formals (x ∷ xs) = ap (formal_way x) (all_formals xs)
@@ -129,6 +139,7 @@ pub formals_push : (xs ys : List Formal) (x : Formal) (n : Node) → 0 < length 
 formals_push [] ys x n h e = absurd (omega arith)
 formals_push (y ∷ xs) ys x n h e = ap (λ z. Made grammar.Optional_formals (node_formal y ▸ z ▸ End)) (sym (grown formal_way xs x n)) ∙ ap (λ z. before_formals z n) (sym e)
 
+-- further headers before no others are those headers
 all_headers : (xs : List HeaderTree) → wrapped header_way xs (Made grammar.Headers End) ≡ node_headers xs
 all_headers [] = refl
 all_headers (x ∷ xs) = ap (header_way x) (all_headers xs)
@@ -143,6 +154,7 @@ pub all_members : (xs : List MemberTree) → wrapped member_way xs (Made grammar
 all_members [] = refl
 all_members (x ∷ xs) = ap (member_way x) (all_members xs)
 
+-- further classes before no others are those classes
 all_classes : (xs : List ClassTree) → wrapped class_way xs (Made grammar.Classes End) ≡ node_classes xs
 all_classes [] = refl
 all_classes (x ∷ xs) = ap (class_way x) (all_classes xs)
@@ -231,6 +243,7 @@ plain_result (results.Void at) h = refl
 plain_result (results.Value (types.Basic basic at)) h = refl
 plain_result (results.Value (types.Class class)) h = elim h [ ]
 
+-- what follows a chord's modifiers begins with the word of the result, where that is a word
 plain_rest : (r : ReturnType) (x : Name) (f : FormalsTree) (hs : List HeaderTree) (b : BlockTree) → IsPlain r → Made grammar.Rest (node_plain r ▸ name x ▸ node_formals f ▸ node_headers hs ▸ node_block b ▸ End) ≡ node_rest r x f hs b
 plain_rest (results.Async at) x f hs b h = refl
 plain_rest (results.Void at) x f hs b h = refl
@@ -267,6 +280,7 @@ program_of us first (c ∷ cs) h = ap (λ z. Made grammar.Whole_program (node_us
 pub shorter_by : {count d : ℕ} {q : Symbol} {n : Node} (left rest : List Token) → Reads count q d (token_kinds left) (token_kinds rest) n → 0 < size n → length rest < length left
 shorter_by left rest h l = let a = measured h in let y = told_size left in let z = told_size rest in omega arith
 
+-- what follows a chord's modifiers has a token
 sized_rest : (r : ReturnType) (x : Name) (f : FormalsTree) (hs : List HeaderTree) (b : BlockTree) → 0 < size (node_rest r x f hs b)
 sized_rest (results.Async at) x f hs b = omega arith
 sized_rest (results.Void at) x f hs b = omega arith

@@ -60,23 +60,29 @@ total_parts (p ∷ ps) = weight p + total_parts ps
 pub finish : ℕ → ℕ
 finish x = get_or finishes x 0
 
+-- the production that ends nonterminal x soonest has less weight than x, is one of x, and has no `else`
 check_finish : ℕ → Bool
 check_finish x = nat_lt (total_parts (parts_of (finish x))) (get_or weights x 0) && (nat_eq (head_of (finish x)) x && (nat_lt (finish x) rule_count && not_else_parts (parts_of (finish x))))
 
+-- the production that ends nonterminal x soonest is allowed at terminal c, if that is not `else`
 check_open : ℕ → ℕ → Bool
 check_open x c = imp (not (nat_eq c else_terminal)) (allowed (finish x) c)
 
+-- no symbol of production i but its first may be `else`
 check_else_first : ℕ → Bool
 check_else_first i = else_first_parts (parts_of i)
 
+-- the production that ends a nonterminal soonest has less weight, is one of that nonterminal, and has no `else`
 table_finish : all_below nonterminal_count check_finish ≡ true
 unfolding check_finish finish head_of parts_of productions finishes weights rule_count nonterminal_count else_terminal
 table_finish = refl
 
+-- the production that ends a nonterminal soonest is allowed wherever `else` does not come next
 table_open : all_below nonterminal_count (λ x. all_below (suc terminal_count) (λ c. check_open x c)) ≡ true
 unfolding check_open finish allowed finishes no_else nonterminal_count terminal_count else_terminal
 table_open = refl
 
+-- no symbol of a production but its first is `else`
 table_else_first : all_below rule_count check_else_first ≡ true
 unfolding check_else_first head_of parts_of productions rule_count nonterminal_count else_terminal
 table_else_first = refl
@@ -86,6 +92,7 @@ pub rule_else_first : (i : ℕ) → i < rule_count → else_first_parts (parts_o
 unfolding check_else_first
 rule_else_first i l = below rule_count check_else_first table_else_first i l
 
+-- the production that ends a nonterminal soonest has less weight, is one of that nonterminal, and has no `else`
 finish_fits : (x : ℕ) → x < nonterminal_count → (total_parts (parts_of (finish x)) < get_or weights x 0) × (head_of (finish x) ≡ x) × (finish x < rule_count) × (not_else_parts (parts_of (finish x)) ≡ true)
 unfolding check_finish
 finish_fits x l =
@@ -94,12 +101,15 @@ finish_fits x l =
     let u = both_right (nat_eq (head_of (finish x)) x) _ t in
     (ltb-true _ _ (both_left _ _ h), eqb-true _ _ (both_left _ _ t), ltb-true _ _ (both_left _ _ u), both_right (nat_lt (finish x) rule_count) _ u)
 
+-- numbers that are not equal are not equal by test
 not_eq : (a b : ℕ) → a ≢ b → not (nat_eq a b) ≡ true
 not_eq a b h = elim (eqb_tells a b) [ inl (t, e) ↦ absurd (h e) | inr (t, e) ↦ ap not t ]
 
+-- numbers that are not equal by test are not equal
 eq_not : (a b : ℕ) → not (nat_eq a b) ≡ true → a ≢ b
 eq_not a b h e = let t = eq-eqb a b e in let u = sym (ap not t) ∙ h in cc
 
+-- the production that ends a nonterminal soonest is allowed at each terminal but `else`
 finish_open : (x c : ℕ) → x < nonterminal_count → c < suc terminal_count → c ≢ else_terminal → allowed (finish x) c ≡ true
 unfolding check_open
 finish_open x c l m h = imp_true _ _ (below (suc terminal_count) (λ c. check_open x c) (below nonterminal_count _ table_open x l) c m) (not_eq c else_terminal h)
@@ -109,6 +119,7 @@ pub not_else_at_depth : (d : ℕ) (ps : List Symbol) (s : List Want) → not_els
 not_else_at_depth d [] s h k = k
 not_else_at_depth d (p ∷ ps) s h k = both_true _ _ (both_left _ _ h) (not_else_at_depth d ps s (both_right (not_else p) _ h) k)
 
+-- symbols and what is wanted after them weigh as much as both
 total_at_depth : (d : ℕ) (ps : List Symbol) (s : List Want) → total_weight (at_depth d ps ++ s) ≡ total_parts ps + total_weight s
 total_at_depth d [] s = omega arith
 total_at_depth d (p ∷ ps) s = let h = total_at_depth d ps s in omega arith
@@ -132,21 +143,25 @@ else_first_at_depth d (p ∷ ps) s h k = both_true _ _ (both_left _ _ h) (not_el
 abbrev pub Finished : List Want → Type 0
 Finished s = (w : List Spelled) × Derives s w × (next (kinds_of w) ≢ else_terminal)
 
+-- the end is not `else`
 end_not_else : terminal_count ≢ else_terminal
 unfolding terminal_count else_terminal
 end_not_else e = omega arith
 
+-- where something is derived from what is wanted, so it is with a terminal before that, which is not `else`
 finish_word : (c d : ℕ) (s : List Want) → not_else (Terminal c) ≡ true → Finished s → Finished ((Terminal c, d) ∷ s)
 finish_word c d s h (w, r, n) =
     let e = eqb-true _ _ (both_left _ _ h) in
     let m = eq_not _ _ (both_right (nat_eq (terminal_of (sample c)) c) _ h) in
     ((sample c, d) ∷ w, token e r, λ q. m (sym e ∙ q))
 
+-- where something is derived from a nonterminal's soonest end and what is wanted after it, so it is from the nonterminal and that
 finish_tree : (x d : ℕ) (s : List Want) → x < nonterminal_count → Finished (at_depth (inside x d) (parts_of (finish x)) ++ s) → Finished ((Nonterminal x, d) ∷ s)
 finish_tree x d s l (w, r, n) =
     let f = finish_fits x l in
     (w, rule (finish x) f.2 f.1 (finish_open x (next (kinds_of w)) l (next_small (kinds_of w)) n) r, n)
 
+-- where nothing that is wanted is `else`, and its weight is at most n, something is derived from it
 finished_in : (n : ℕ) (s : List Want) → all_not_else s ≡ true → total_weight s ≤ n → Finished s
 finished_in n [] h l = ([], done, end_not_else)
 finished_in zero ((Terminal c, d) ∷ s) h l = absurd (omega arith)

@@ -18,10 +18,12 @@ abbrev pub all_listed : List Symbol → Type 0
 all_listed [] = Unit {0}
 all_listed (p ∷ ps) = (listed p ≡ true) × all_listed ps
 
+-- symbols that are not `else` are each one of the grammar
 not_else_all : (ps : List Symbol) → not_else_parts ps ≡ true → all_listed ps
 not_else_all [] h = tt
 not_else_all (p ∷ ps) h = (not_else_listed p (both_left _ _ h), not_else_all ps (both_right (not_else p) _ h))
 
+-- symbols of which only the first may be `else` are each one of the grammar
 else_first_all : (ps : List Symbol) → else_first_parts ps ≡ true → all_listed ps
 else_first_all [] h = tt
 else_first_all (p ∷ ps) h = (both_left _ _ h, not_else_all ps (both_right (listed p) _ h))

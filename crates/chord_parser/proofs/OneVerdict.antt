@@ -12,10 +12,12 @@ use Rattle.chord_parser.proofs.Whole.{IsFound, not_wrong, never_tall}
 use Rattle.chord_parser.specs.Exact.{BeginsThrough, IsWrong, IsTall}
 use Rattle.chord_parser.proofs.Prefix.{one_prefix, alike, DepthAt}
 
+-- the kinds of two lists of tokens, one behind the other, are those of the first and then those of the second
 kinds_append : (a b : List Spelled) → kinds_of (a ++ b) ≡ kinds_of a ++ kinds_of b
 kinds_append [] b = refl
 kinds_append ((k, d) ∷ a) b = ap (λ z. k ∷ z) (kinds_append a b)
 
+-- there are as many kinds as tokens
 kinds_length : (a : List Spelled) → length (kinds_of a) ≡ length a
 kinds_length [] = refl
 kinds_length ((k, d) ∷ a) = ap suc (kinds_length a)
@@ -37,6 +39,7 @@ begins_more fs gs (k ∷ suffix) after w e l =
     let h = longer gs fs after k suffix (sym e) l in
     (h.0 ++ w, ap (λ z. z ++ w) h.1 ∙ append_assoc fs (k ∷ h.0) w)
 
+-- a token that stands among tokens of which none is tall is at most 200 deep
 not_tall_front : (fs y rest : List Spelled) (g : ℕ) → NotTall y → length fs < length y → DepthAt fs (y ++ rest) g → g ≤ 200
 not_tall_front fs [] rest g l m h = absurd (omega arith)
 not_tall_front [] ((j, d) ∷ y) rest g l m h = let a = l.0 in omega (arith, h)
@@ -46,15 +49,18 @@ not_tall_front (f ∷ fs) ((j, d) ∷ y) rest g l m h = not_tall_front fs y rest
 no_fewer : (ks : List Kind) (n : ℕ) (o : IsWrong start ks n) (prefix rest : List Spelled) (after : List Kind) → ks ≡ kinds_of prefix ++ after → (w : List Spelled) → kinds_of w ≡ kinds_of prefix ++ kinds_of rest → length (kinds_of o.prefix) < length (kinds_of prefix) → BeginsThrough (kinds_of w) (kinds_of o.prefix) o.suffix
 no_fewer ks n o prefix rest after e w q l = subst (λ z. BeginsThrough z (kinds_of o.prefix) o.suffix) (sym q) (begins_more (kinds_of o.prefix) (kinds_of prefix) o.suffix after (kinds_of rest) (sym o.cut ∙ e) l)
 
+-- of two refusals of the same tokens neither stands before the other
 wrong_less : (ks : List Kind) (n m : ℕ) → (o : IsWrong start ks n) (p : IsWrong start ks m) → length o.prefix < length p.prefix → ⊥
 wrong_less ks n m o p l =
     let a = kinds_length o.prefix in
     let b = kinds_length p.prefix in
     o.refuses (p.prefix ++ p.rest) (no_fewer ks n o p.prefix p.rest p.suffix p.cut (p.prefix ++ p.rest) (kinds_append p.prefix p.rest) (omega arith)) p.opens
 
+-- the tokens before a refusal and those that are left at it are all tokens
 left_of : (ks : List Kind) (n : ℕ) → (o : IsWrong start ks n) → n + length o.prefix ≡ length ks
 left_of ks n o = let e = ap length o.cut ∙ length-append (kinds_of o.prefix) o.suffix in let a = kinds_length o.prefix in let c = o.count in omega arith
 
+-- the tokens before the first that is tall and those that are left at it are all tokens
 left_tall : (ks : List Kind) (n : ℕ) → (o : IsTall start ks n) → n + length o.prefix ≡ length ks
 left_tall ks n o = let e = ap length o.cut ∙ length-append (kinds_of o.prefix) (o.kind ∷ o.suffix) in let a = kinds_length o.prefix in let c = o.count in omega arith
 

@@ -44,10 +44,12 @@ Outcome s ks Fine = IsDerivedList s ks
 Outcome s ks (Wrong n) = IsRefused s ks n
 Outcome s ks (Tall n) = IsTall s ks n
 
+-- a prefix and a suffix begin with the prefix, and then stands the next terminal of the suffix
 begins_before : (fs suffix : List Kind) → BeginsBefore (fs ++ suffix) fs (next suffix)
 begins_before [] suffix = refl
 begins_before (f ∷ fs) suffix = (refl, begins_before fs suffix)
 
+-- what begins with a prefix and the first token of a suffix begins with the prefix, and then stands that token's terminal
 same_class : (ks fs suffix : List Kind) → BeginsThrough ks fs suffix → BeginsBefore ks fs (next suffix)
 same_class ks fs [] e = subst (λ z. BeginsBefore z fs (next [])) (append-nil fs ∙ sym e) (begins_before fs [])
 same_class ks fs (k ∷ suffix) (rest, e) = subst (λ z. BeginsBefore z fs (terminal_of k)) (sym e) (begins_before fs (k ∷ rest))
@@ -65,12 +67,15 @@ by_kinds s ks n o = record {
   refuses = λ w b r. o.refuses w (same_class (kinds_of w) (kinds_of o.prefix) o.suffix b) r;
 }
 
+-- where nothing is wanted, no token is derived
 at_end : (k : Kind) {w : List Spelled} → Derives [] w → next (kinds_of w) ≡ terminal_of k → ⊥
 at_end k done e = let h = small k in omega arith
 
+-- where a terminal and more is wanted, the more that is wanted derives the tokens after the first
 after_terminal : {c d e : ℕ} {j : Kind} {s : List Want} {w : List Spelled} → Derives ((Terminal c, d) ∷ s) ((j, e) ∷ w) → Derives s w
 after_terminal (token q r) = r
 
+-- where no list that begins so is derived from the further wants, none with a token more is derived with a terminal wanted first
 refused : (c d : ℕ) (k : Kind) (s : List Want) (fs : List Kind) (n : ℕ) → ((w : List Spelled) → BeginsBefore (kinds_of w) fs n → Derives s w → ⊥)
     → (w : List Spelled) → BeginsBefore (kinds_of w) (k ∷ fs) n → Derives ((Terminal c, d) ∷ s) w → ⊥
 refused c d k s fs n f [] b r = elim b [ ]
@@ -120,16 +125,19 @@ module _ (x d : ℕ) (s : List Want) (t : else_first ((Nonterminal x, d) ∷ s) 
       let h = low_choice x c d s t n l in
       rule (choice x c) l h.0 (subst (λ y. allowed (choice x c) y ≡ true) (sym e) h.1) r
 
+-- tokens that begin with a prefix before the next terminal of a suffix have the next terminal of the two
 next_same : (w fs suffix : List Kind) → BeginsBefore w fs (next suffix) → next w ≡ next (fs ++ suffix)
 next_same w [] suffix b = b
 next_same [] (f ∷ fs) suffix b = elim b [ ]
 next_same (k ∷ w) (f ∷ fs) suffix b = ap terminal_of b.0
 
+-- a prefix and then a kind have the same next terminal, whatever follows and whatever the depths
 first_same : (prefix : List Spelled) (k : Kind) (d : ℕ) (rest : List Spelled) (suffix : List Kind) → next (kinds_of (prefix ++ ((k, d) ∷ rest))) ≡ next (kinds_of prefix ++ (k ∷ suffix))
 first_same [] k d rest suffix = refl
 first_same ((j, e) ∷ prefix) k d rest suffix = refl
 
 module _ (x d : ℕ) (s : List Want) (t : else_first ((Nonterminal x, d) ∷ s) ≡ true) (legal : Legal ((Nonterminal x, d) ∷ s)) where
+  -- where the right side of the choice and what is wanted after it derive no list that begins so, neither does the nonterminal
   refuses_too : (ks fs suffix : List Kind) → ks ≡ fs ++ suffix
       → ((w : List Spelled) → BeginsBefore (kinds_of w) fs (next suffix) → Derives (at_depth (inside x d) (parts_of (choice x (next ks))) ++ s) w → ⊥)
       → (w : List Spelled) → BeginsBefore (kinds_of w) fs (next suffix) → Derives ((Nonterminal x, d) ∷ s) w → ⊥
@@ -137,6 +145,7 @@ module _ (x d : ℕ) (s : List Want) (t : else_first ((Nonterminal x, d) ∷ s) 
       let same : next (kinds_of w) ≡ next ks = next_same (kinds_of w) fs suffix b ∙ sym (ap next cut) in
       f w b (subst (λ c. Derives (at_depth (inside x d) (parts_of (choice x c)) ++ s) w) same (chose x d s t legal w r).1)
 
+  -- tokens that the right side of the choice refuses at a place are refused there by the nonterminal
   wrong_too : (ks : List Kind) (n : ℕ) → choice x (next ks) < rule_count → (prefix rest : List Spelled) (suffix : List Kind)
       → ks ≡ kinds_of prefix ++ suffix → length suffix ≡ n → NotTall prefix → Derives (at_depth (inside x d) (parts_of (choice x (next ks))) ++ s) (prefix ++ rest)
       → ((w : List Spelled) → BeginsBefore (kinds_of w) (kinds_of prefix) (next suffix) → Derives (at_depth (inside x d) (parts_of (choice x (next ks))) ++ s) w → ⊥)
@@ -156,6 +165,7 @@ module _ (x d : ℕ) (s : List Want) (t : else_first ((Nonterminal x, d) ∷ s) 
         refuses = refuses_too ks (k ∷ kinds_of prefix) suffix cut f;
       }
 
+  -- what a verdict says of the tokens for the right side of the choice, it says of them for the nonterminal
   expanded : (ks : List Kind) (v : Verdict) → choice x (next ks) < rule_count → Outcome (at_depth (inside x d) (parts_of (choice x (next ks))) ++ s) ks v → Outcome ((Nonterminal x, d) ∷ s) ks v
   expanded ks Fine l o =
       let h = low_choice x (next ks) d s t (next_small ks) l in
@@ -182,6 +192,7 @@ module _ (x d : ℕ) (s : List Want) (t : else_first ((Nonterminal x, d) ∷ s) 
         opens = rule (choice x (next ks)) l h.0 (subst (λ y. allowed (choice x (next ks)) y ≡ true) (sym same) h.1) o.opens;
       }
 
+-- where a terminal is wanted first, the first token that is derived has it
 word_first : {c d : ℕ} {s : List Want} {w : List Spelled} → Derives ((Terminal c, d) ∷ s) w → next (kinds_of w) ≡ c
 word_first (token e r) = e
 

@@ -21,12 +21,14 @@ DepthAt fs [] d = ⊥
 DepthAt [] ((j, h) ∷ y) d = h ≡ d
 DepthAt (f ∷ fs) ((j, h) ∷ y) d = DepthAt fs y d
 
+-- lists that begin alike have the same next terminal
 alike_next : (fs w y : List Spelled) (d : ℕ) → Alike fs w y d → next (kinds_of w) ≡ next (kinds_of y)
 alike_next fs [] y d a = elim a [ ]
 alike_next fs ((k, g) ∷ w) [] d a = elim a [ ]
 alike_next [] ((k, g) ∷ w) ((j, h) ∷ y) d a = ap terminal_of a.0
 alike_next (f ∷ fs) ((k, g) ∷ w) ((j, h) ∷ y) d a = ap terminal_of a.0
 
+-- wants with a terminal first are not wants with a nonterminal first
 mixed : (c d x e : ℕ) (s t : List Want) → ◌≡◌ {A = List Want} ((Terminal c, d) ∷ s) ((Nonterminal x, e) ∷ t) → ⊥
 mixed c d x e s t h =
     let want : ◌≡◌ {A = Want} (Terminal c, d) (Nonterminal x, e) = cc in

@@ -13,6 +13,7 @@ pub at_depth_append : (d : ℕ) (ps qs : List Symbol) → at_depth d (ps ++ qs) 
 at_depth_append d [] qs = refl
 at_depth_append d (p ∷ ps) qs = ap (λ s. (p, d) ∷ s) (at_depth_append d ps qs)
 
+-- a reader that wants a nonterminal comes to the verdict to which it comes with the right side of its choice
 by_rule : {x d : ℕ} {s : List Want} {ks : List Kind} {v : Verdict} (i : ℕ) → choice x (next ks) ≡ i → i < rule_count → Runs (at_depth (inside x d) (parts_of i) ++ s) ks v → Runs ((Nonterminal x, d) ∷ s) ks v
 by_rule {x} {d} {s} {ks} {v} i e l r = expand (subst (λ j. j < rule_count) (sym e) l) (subst (λ j. Runs (at_depth (inside x d) (parts_of j) ++ s) ks v) (sym e) r)
 

@@ -33,6 +33,7 @@ pub bare_mark : (m : Mark) → sample (number_of (mark_symbol m)) ≡ kinds.Mark
 bare_mark marks.Semicolon = refl
 bare_mark _ = refl
 
+-- the sample of a kind's terminal is the kind, where it carries no value
 bare_kind : (k : Kind) → includes valued (terminal_of k) ≡ false → sample (terminal_of k) ≡ k
 bare_kind (kinds.Word w) h = bare_word w
 bare_kind (kinds.Name x) h = cc

@@ -27,6 +27,7 @@ use Rattle.chord_parser.proofs.Reading.{measured}
 use Rattle.chord_parser.proofs.Chains.{told_size}
 use Rattle.chord_parser.proofs.made.StmtSteps.{item_int, item_int_at, item_bool, item_bool_at, item_string, item_string_at}
 
+-- items and one more before a node are the items before that one and the node
 items_grown : (xs : List ItemTree) (x : ItemTree) (n : Node) → before_items (xs ++ (x ∷ [])) n ≡ before_items xs (before_items (x ∷ []) n)
 items_grown [] x n = refl
 items_grown (y ∷ xs) x n = ap (λ z. Made grammar.Items (node_item y ▸ z ▸ End)) (items_grown xs x n)
@@ -35,6 +36,7 @@ items_grown (y ∷ xs) x n = ap (λ z. Made grammar.Items (node_item y ▸ z ▸
 pub items_push : (xs ys : List Item) (x : Item) (n : Node) → ys ≡ xs ++ (x ∷ []) → before_items (map see_item xs) (before_items (see_item x ∷ []) n) ≡ before_items (map see_item ys) n
 items_push xs ys x n e = sym (items_grown (map see_item xs) (see_item x) n) ∙ ap (λ z. before_items z n) (sym (map-append see_item xs (x ∷ []))) ∙ ap (λ z. before_items (map see_item z) n) (sym e)
 
+-- an item before items is the node of them all
 one_item : (x : ItemTree) (is : ItemTrees) → Made grammar.Items (node_item x ▸ node_items is ▸ End) ≡ node_items (MoreItems x is)
 one_item (LocalItem t x q e) is = refl
 one_item (StmtItem s) is = refl
@@ -82,6 +84,7 @@ basic_begun basics.String e = item_string (item_string_at _ e)
 pub basic_read : {count d at : ℕ} {ks rest : List Kind} (c : ℕ) (k : BasicType) → c ≡ number_of (keyword_symbol (basic_keyword k)) → Reads count (Terminal c) d ks rest (Leaf (sample c) at) → Reads count (Terminal (number_of (keyword_symbol (basic_keyword k)))) d ks rest (Leaf (kinds.Word (basic_keyword k)) at)
 basic_read {count} {d} {at} {ks} {rest} c k e r = subst (λ z. Reads count (Terminal (number_of (keyword_symbol (basic_keyword k)))) d ks rest (Leaf z at)) (bare_word (basic_keyword k)) (subst (λ z. Reads count (Terminal z) d ks rest (Leaf (sample z) at)) e r)
 
+-- an item has a token
 item_size : (x : ItemTree) → 0 < size (node_item x)
 item_size (LocalItem (types.Basic k at) x q e) = omega arith
 item_size (LocalItem (types.Class c) x q e) = omega arith

@@ -27,16 +27,20 @@ use Rattle.chord_parser.proofs.Fit.{node_fits}
 use Rattle.chord_parser.proofs.Chains.{told_size}
 use Rattle.chord_parser.proofs.Prefix.{one_prefix, alike, not_tall_at}
 
+-- a whole program is wanted without any `else`, but as the first symbol
 start_else_first : else_first start ≡ true
 unfolding nonterminal_count
 start_else_first = refl
 
+-- a verdict on tokens that are to be a program says what is so of them
 exact : {ks : List Kind} {v : Verdict} → Runs start ks v → Outcome start ks v
 exact r = outcome r start_else_first start_legal
 
+-- no more tokens are left at a refusal than there are
 wrong_within : (ks : List Kind) (n : ℕ) → IsWrong start ks n → n ≤ length ks
 wrong_within ks n o = let e = ap length o.cut ∙ length-append (kinds_of o.prefix) o.suffix in let c = o.count in omega arith
 
+-- no more tokens are left at the first that is tall than there are
 tall_within : (ks : List Kind) (n : ℕ) → IsTall start ks n → n ≤ length ks
 tall_within ks n o = let e = ap length o.cut ∙ length-append (kinds_of o.prefix) (o.kind ∷ o.suffix) in let c = o.count in omega arith
 
@@ -73,6 +77,7 @@ at_parts ts f n e h = let s = subst (λ z. IsStopped (token_kinds ts) z) e h in 
 pub tall_parts : (ts : List Token) (f : Fault) (n : ℕ) → f ≡ faults.Tall n → IsStopped (token_kinds ts) f → (n ≤ length ts) × (x : ℕ) × (length ts - n + x ≡ length (token_kinds ts)) × IsTall start (token_kinds ts) x
 tall_parts ts f n e h = let s = subst (λ z. IsStopped (token_kinds ts) z) e h in let y = told_size ts in let l = s.0 in (omega arith, n, omega arith, s.1)
 
+-- a prefix and a suffix begin with the prefix and the first token of the suffix
 begins_append : (fs suffix : List Kind) → BeginsThrough (fs ++ suffix) fs suffix
 begins_append fs [] = append-nil fs
 begins_append fs (k ∷ suffix) = (suffix, refl)

@@ -96,36 +96,46 @@ abbrev pub legal_under : List Symbol → Bool → ℕ → Bool
 legal_under [] after c = true
 legal_under (p ∷ ps) after c = imp (begin_under ps after c) (part_follows p c) && legal_under ps after c
 
+-- where the right side of production i may begin at terminal c, whether what follows it may or not, so may its nonterminal
 check_begin : ℕ → ℕ → Bool
 check_begin i c = imp (begin_under (parts_of i) true c) (begins (head_of i) c || (may_be_empty (head_of i) && true)) && imp (begin_under (parts_of i) false c) (begins (head_of i) c || (may_be_empty (head_of i) && false))
 
+-- each symbol of production i may be followed by terminal c, where what stands behind it may begin at c
 check_legal : ℕ → ℕ → Bool
 check_legal i c = legal_under (parts_of i) (follows_at (head_of i) c) c
 
+-- where production i may begin at terminal c and is allowed there, it is the choice for its nonterminal
 check_choice : ℕ → ℕ → Bool
 check_choice i c = imp (begin_under (parts_of i) (follows_at (head_of i) c) c && allowed i c) (nat_eq (choice (head_of i) c) i)
 
+-- where nonterminal x has a choice at terminal c, that is a production of x which is allowed there
 check_taken : ℕ → ℕ → Bool
 check_taken x c = imp (nat_lt (choice x c) rule_count) (nat_eq (head_of (choice x c)) x && allowed (choice x c) c)
 
+-- the test holds of each production with each terminal, and with the end
 over_rules : (ℕ → ℕ → Bool) → Bool
 over_rules f = all_below rule_count (λ i. all_below (suc terminal_count) (λ c. f i c))
 
+-- the test holds of each nonterminal with each terminal, and with the end
 over_symbols : (ℕ → ℕ → Bool) → Bool
 over_symbols f = all_below nonterminal_count (λ i. all_below (suc terminal_count) (λ c. f i c))
 
+-- wherever a right side may begin, its nonterminal may
 table_begin : over_rules check_begin ≡ true
 unfolding over_rules check_begin begins may_be_empty head_of parts_of productions firsts empties rule_count terminal_count
 table_begin = refl
 
+-- whatever may begin behind a symbol of a right side may follow that symbol
 table_legal : over_rules check_legal ≡ true
 unfolding over_rules check_legal begins may_be_empty head_of parts_of productions firsts empties rule_count terminal_count follows_at follows
 table_legal = refl
 
+-- wherever a production may begin and is allowed, it is the choice for its nonterminal
 table_choice : over_rules check_choice ≡ true
 unfolding over_rules check_choice begins may_be_empty head_of parts_of productions firsts empties rule_count terminal_count follows_at follows choice choices allowed no_else else_terminal
 table_choice = refl
 
+-- each choice for a nonterminal is a production of it that is allowed
 table_taken : over_symbols check_taken ≡ true
 unfolding over_symbols check_taken head_of productions rule_count terminal_count nonterminal_count choice choices allowed no_else else_terminal
 table_taken = refl
@@ -153,11 +163,13 @@ choice_fits x c l m h =
     let k : (nat_eq (head_of (choice x c)) x && allowed (choice x c) c) ≡ true = imp_true _ _ (below (suc terminal_count) (λ c. check_taken x c) (below nonterminal_count _ table_taken x l) c m) (lt-ltb _ _ h) in
     (eqb-true _ _ (both_left _ _ k), both_right (nat_eq (head_of (choice x c)) x) _ k)
 
+-- the terminal of a reserved word is one of the grammar
 word_small : (k : Keyword) → number_of (keyword_symbol k) < terminal_count
 unfolding terminal_count
 word_small keywords.Using = lit< tt
 word_small _ = lit< tt
 
+-- the terminal of a mark is one of the grammar
 mark_small : (k : Mark) → number_of (mark_symbol k) < terminal_count
 unfolding terminal_count
 mark_small marks.Semicolon = lit< tt

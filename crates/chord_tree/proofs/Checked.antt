@@ -26,23 +26,28 @@ some_below zero f = false
 some_below (suc n) f = f n || some_below n f
 
 mutual
+  -- what a node spells before other tokens begins with the terminal of the node's first token
   lead_is : (n : Node) (d : ℕ) (w : List Spelled) → next (kinds_of (spell n d w)) ≡ lead n (next (kinds_of w))
   lead_is (Leaf kind at) d w = refl
   lead_is (Made part inner) d w = lead_all_is inner _ w
 
+  -- what nodes side by side spell before other tokens begins with the terminal of their first token
   lead_all_is : (ns : Nodes) (d : ℕ) (w : List Spelled) → next (kinds_of (spell_all ns d w)) ≡ lead_all ns (next (kinds_of w))
   lead_all_is End d w = refl
   lead_all_is (n ▸ ns) d w = lead_is n d _ ∙ ap (lead n) (lead_all_is ns d w)
 
+-- where a test holds of some number below n, there is such a number
 some_at : (n : ℕ) (f : ℕ → Bool) → some_below n f ≡ true → (i : ℕ) × (i < n) × (f i ≡ true)
 some_at zero f h = cc
 some_at (suc n) f h = elim (f n) as (λ b. f n ≡ b → (b || some_below n f) ≡ true → (i : ℕ) × (i < suc n) × (f i ≡ true))
     [ true ↦ λ e k. (n, omega arith, e) | false ↦ λ e k. let r = some_at n f k in (r.0, (let l = r.1 in omega arith), r.2) ] refl h
 
+-- whether a symbol is this terminal
 abbrev is_terminal : Symbol → ℕ → Bool
 is_terminal (Terminal a) c = nat_eq a c
 is_terminal (Nonterminal x) c = false
 
+-- whether two symbols are the same nonterminal
 abbrev is_symbol : Symbol → Symbol → Bool
 is_symbol (Nonterminal x) (Nonterminal y) = nat_eq x y
 is_symbol _ _ = false
@@ -75,6 +80,7 @@ mutual
       subst (λ z. Fits (Nonterminal z) d (Made (Nonterminal y) inner) w) (sym (eqb-true x y (both_left (nat_eq x y) _ h)))
       (made r.0 r.1 (eqb-true _ _ (both_left (nat_eq (head_of r.0) y) _ r.2)) (ap (allowed r.0) l ∙ both_left _ _ k) (sound_all inner (parts_of r.0) c (inside y d) w e (both_right (allowed r.0 (lead_all inner c)) _ k)))
 
+  -- nodes side by side that are tested so are derived
   sound_all : (ns : Nodes) (ps : List Symbol) (c d : ℕ) (w : List Spelled) → next (kinds_of w) ≡ c → fit_all ns ps c ≡ true → FitAll ps d ns w
   sound_all End [] c d w e h = none
   sound_all End (p ∷ ps) c d w e h = cc
@@ -103,6 +109,7 @@ mutual
   places (Leaf kind number) at h = eqb-true number (number_at kind at) h
   places (Made part inner) at h = all_places inner at h
 
+  -- nodes side by side that are tested so have the numbers of their tokens
   all_places : (ns : Nodes) (at : ℕ) → all_numbered ns at ≡ true → AllNumbered ns at
   all_places End at h = tt
   all_places (n ▸ ns) at h = (places n at (both_left _ _ h), all_places ns (at + size n) (both_right (numbered n at) _ h))

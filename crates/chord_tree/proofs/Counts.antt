@@ -42,20 +42,24 @@ last_at x (y ∷ ys) d = last_at y ys d
 pub class_end : (c : ClassTree) (at : ℕ) → IsNumbered (node_class c) at → c.end + 1 ≡ at + size (node_class c)
 class_end c at h = let e = h.1.1.1.1.1.1.0 in omega arith
 
+-- the `}` of the last of classes side by side is their last token
 classes_end : (c : ClassTree) (cs : List ClassTree) (at : ℕ) → IsNumbered (node_class c) at → IsNumbered (node_classes cs) (at + size (node_class c)) → (last_of c cs).end + 1 ≡ at + size (node_class c) + size (node_classes cs)
 unfolding last_of
 classes_end c [] at h g = let e = class_end c at h in omega arith
 classes_end c (x ∷ xs) at h g = let e = classes_end x xs (at + size (node_class c)) g.0 g.1.0 in omega arith
 
+-- the last class ends at the same `}` as the last of their trees
 last_seen : (c : Class) (cs : List Class) → (last_of (see_class c) (map see_class cs)).end ≡ (last_of c cs).end
 unfolding last_of
 last_seen c [] = refl
 last_seen c (x ∷ xs) = last_seen x xs
 
+-- how many nodes stand side by side
 abbrev how_many : Nodes → ℕ
 how_many End = 0
 how_many (n ▸ ns) = suc (how_many ns)
 
+-- nodes that are derived from symbols are as many as these
 as_many : {ps : List Symbol} {d : ℕ} {ns : Nodes} {w : List Spelled} → FitAll ps d ns w → length ps ≡ how_many ns
 as_many none = refl
 as_many (more f g) = ap suc (as_many g)
@@ -65,10 +69,12 @@ three_parts : (i : ℕ) → i < rule_count → head_of i ≡ 0 → length (parts
 unfolding head_of parts_of productions rule_count
 three_parts i l h = eqb-true _ _ (imp_true _ _ (below 121 (λ i. imp (nat_eq (head_of i) 0) (nat_eq (length (parts_of i)) 3)) refl i l) (subst (λ z. nat_eq z 0 ≡ true) (sym h) refl))
 
+-- the nodes of a nonterminal; a token has none
 abbrev inner_nodes : Node → Nodes
 inner_nodes (Leaf kind at) = End
 inner_nodes (Made p ns) = ns
 
+-- no program that has `using` lines alone is derived
 no_class : {p : Symbol} {n : Node} {d : ℕ} {w : List Spelled} (us : Node) → Fits p d n w → p ≡ Whole_program → n ≡ Made Whole_program (us ▸ End) → ⊥
 no_class us (leaf a) e g = cc
 no_class us (made {x} {ns = ns} i l h a f) e g =

@@ -12,6 +12,7 @@ pub under : (d : ℕ) (ps : List Symbol) (s : List Want) (c : ℕ) → begin_at 
 under d [] s c = refl
 under d (p ∷ ps) s c = ap (λ b. part_begins p c || (part_empty p && b)) (under d ps s c)
 
+-- where one test follows from another, it may take its place in `x || (n && ..)`
 or_map : (x n u v : Bool) → (u ≡ true → v ≡ true) → (x || (n && u)) ≡ true → (x || (n && v)) ≡ true
 or_map true n u v f h = refl
 or_map false true u v f h = f h
@@ -35,6 +36,7 @@ abbrev pub Legal : List Want → Type 0
 Legal [] = Unit {0}
 Legal ((p, d) ∷ s) = ((c : ℕ) → c < suc terminal_count → begin_at s c ≡ true → part_follows p c ≡ true) × Legal s
 
+-- symbols before legal wants are legal wants, where they are legal before whatever may begin those
 legal_parts : (ps : List Symbol) (d : ℕ) (a : ℕ → Bool) (s : List Want) → Legal s
     → ((c : ℕ) → c < suc terminal_count → begin_at s c ≡ true → a c ≡ true)
     → ((c : ℕ) → c < suc terminal_count → legal_under ps (a c) c ≡ true) → Legal (at_depth d ps ++ s)

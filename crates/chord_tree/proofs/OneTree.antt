@@ -63,25 +63,30 @@ mutual
       let b = same_all g g' pse de z r u l.1 a.1 in
       (ap (λ v. v ▸ unmarked_all ns) a.0 ∙ ap (λ v. unmarked m ▸ v) b.0, b.1)
 
+-- the nodes of a nonterminal; a token has none
 abbrev inner : Node → Nodes
 inner (Leaf k a) = End
 inner (Made p ns) = ns
 
+-- the nodes after the first
 abbrev after_first : Nodes → Nodes
 after_first End = End
 after_first (n ▸ ns) = ns
 
+-- the first of some nodes, or this one where there is none
 abbrev first_of : Node → Nodes → Node
 first_of m End = m
 first_of m (n ▸ ns) = n
 
 mutual
+  -- nodes that are the same but for numbers have as many tokens
   unmarked_size : (n m : Node) → unmarked n ≡ unmarked m → size n ≡ size m
   unmarked_size (Leaf k a) (Leaf j b) e = refl
   unmarked_size (Leaf k a) (Made p ns) e = cc
   unmarked_size (Made p ns) (Leaf j b) e = cc
   unmarked_size (Made p ns) (Made q ms) e = unmarked_sizes ns ms (ap inner e)
 
+  -- nodes side by side that are the same but for numbers have as many tokens
   unmarked_sizes : (ns ms : Nodes) → unmarked_all ns ≡ unmarked_all ms → size_all ns ≡ size_all ms
   unmarked_sizes End End e = refl
   unmarked_sizes End (m ▸ ms) e = cc

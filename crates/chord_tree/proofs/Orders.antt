@@ -24,6 +24,7 @@ in_order c [] at h g = class_within c at h
 in_order c (x ∷ xs) at h g =
     (class_within c at h, (let e = class_end c at h in let f = class_name x (at + size (node_class c)) g.0 in omega arith), in_order x xs (at + size (node_class c)) g.0 g.1.0)
 
+-- the classes behind `using` lines stand in their order, where each number is the place of its token
 of_classes : (usings : List UsingTree) (cs : List ClassTree) → IsNumbered (node_all_classes usings cs) 0 → AreInOrder cs
 of_classes usings [] h = tt
 of_classes usings (c ∷ cs) h = in_order c cs (0 + size (node_usings usings)) h.1.0 h.1.1.0

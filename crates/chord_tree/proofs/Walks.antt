@@ -6,9 +6,11 @@ use Rattle.chord_tree.specs.Laws.{Notes, both, NotesAtSpots, NotesTogether}
 use Rattle.chord_tree.proofs.Spots.{program_spots}
 
 module _ {Note : Type 0} (kind : Note → Bool) where
+  -- how many of the notes are of the kind
   abbrev counted : List Note → ℕ
   counted = count_by kind
 
+  -- two lists of notes, one behind the other, have as many of the kind as the two together
   joined : (a b : List Note) → counted (a ++ b) ≡ counted a + counted b
   joined a b = sum_by-append (λ x. cond (kind x) 1 0) a b
 
@@ -17,9 +19,11 @@ module _ {Note : Type 0} (kind : Note → Bool) where
   two_at_a_spot a b all one other others = omega (arith, joined (a ++ b) all, joined a b, joined a one, joined b other, others)
 
   module _ {Around : Type 0} (first second : Notes Around Note) where
+    -- what a rule notes at a spot
     abbrev at : Notes Around Note → Spot Around → List Note
     at notes = at_spot notes.at_term notes.at_item notes.at_member
 
+    -- at some spots two rules on one walk note as many of the kind as on a walk each
     at_spots : (ss : List (Spot Around)) → counted (flat_map (at (both first second)) ss) ≡ counted (flat_map (at first) ss) + counted (flat_map (at second) ss)
     at_spots [] = refl
     at_spots (AtTerm around role term ∷ ss) = two_at_a_spot (first.at_term around role term) (second.at_term around role term) _ _ _ (at_spots ss)

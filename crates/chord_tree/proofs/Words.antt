@@ -21,6 +21,7 @@ mutual
   spell_words (Leaf kind at) d w = refl
   spell_words (Made p ns) d w = spell_all_words ns _ w
 
+  -- what nodes side by side spell are their words, whatever the depth
   spell_all_words : (ns : Nodes) (d : ℕ) (w : List Spelled) → kinds_of (spell_all ns d w) ≡ nodes_kinds ns ++ kinds_of w
   spell_all_words End d w = refl
   spell_all_words (n ▸ ns) d w = spell_words n d _ ∙ ap (λ z. node_kinds n ++ z) (spell_all_words ns d w) ∙ sym (append_assoc (node_kinds n) (nodes_kinds ns) (kinds_of w))
@@ -62,6 +63,7 @@ tokens_append xs ys = map-append without_span xs ys
 pub record AddsAll (old new : List Token) (nodes : Nodes) : Type 0 where
   pub grown : new ≡ old ++ tokens (nodes_kinds nodes)
 
+-- tokens that grow by some and then by others grow by all of these
 grown_on : (a b c : List Token) (xs ys : List Kind) → b ≡ a ++ tokens xs → c ≡ b ++ tokens ys → c ≡ a ++ tokens (xs ++ ys)
 grown_on a b c xs ys h g = g ∙ ap (λ z. z ++ tokens ys) h ∙ append_assoc a (tokens xs) (tokens ys) ∙ ap (λ z. a ++ z) (sym (tokens_append xs ys))
 
@@ -146,6 +148,7 @@ pub length_zero : {A : Type 0} (xs : List A) → length xs ≡ 0 → xs ≡ []
 length_zero [] e = refl
 length_zero (x ∷ xs) e = absurd (omega arith)
 
+-- what stands at a place of a list does not depend on what is said to stand past its end
 any_or : {A : Type 0} (xs : List A) (i : ℕ) (d e : A) → i < length xs → get_or xs i d ≡ get_or xs i e
 any_or [] i d e l = absurd (omega arith)
 any_or (a ∷ xs) zero d e l = refl

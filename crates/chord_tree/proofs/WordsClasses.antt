@@ -29,9 +29,11 @@ words_rest (results.Void at) x f hs b = refl
 words_rest (results.Value (types.Basic basic at)) x f hs b = refl
 words_rest (results.Value (types.Class class)) x f hs b = ap (λ z. node_kinds (name class) ++ z) (sym (append-nil (nodes_kinds (name x ▸ node_formals f ▸ node_headers hs ▸ node_block b ▸ End))))
 
+-- six lists one after another are the same list however they are grouped
 flat : {A : Type 0} (m r x f k e : List A) → ((m ++ (r ++ (x ++ (f ++ [])))) ++ (k ++ [])) ++ e ≡ m ++ (r ++ (x ++ (f ++ (k ++ e))))
 flat m r x f k e = simp (append_assoc, append-nil)
 
+-- the headers of a chord and its body spell the same as the chord
 words_chord : (hs : List HeaderTree) (b : BlockTree) → nodes_kinds (node_header_list hs ▸ node_block b ▸ End) ≡ node_kinds (node_chord hs b)
 words_chord [] b = refl
 words_chord (h ∷ hs) b =
@@ -47,6 +49,7 @@ words_chord (h ∷ hs) b =
 pub chord_added : {a b c : List Token} (hs : List HeaderTree) (body : BlockTree) → Adds a b (node_header_list hs) → Adds b c (node_block body) → Adds a c (node_chord hs body)
 chord_added {a} hs body h g = record { grown = (cons h (cons g nil)).grown ∙ ap (λ z. a ++ tokens z) (words_chord hs body) }
 
+-- the lines and the classes of a program spell the same as the program
 words_all_classes : (us : List UsingTree) (cs : List ClassTree) → node_kinds (node_usings us) ++ node_kinds (node_classes cs) ≡ node_kinds (node_all_classes us cs)
 words_all_classes us [] = refl
 words_all_classes us (c ∷ cs) = refl
