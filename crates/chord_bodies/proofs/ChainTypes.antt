@@ -15,15 +15,18 @@ use Rattle.chord_bodies.specs.Types.{type_of}
 use Rattle.chord_bodies.specs.Chains.{binary_type, last_link, last_call}
 use Rattle.chord_bodies.proofs.Viewed.{viewed_chain, viewed_calls}
 
+-- an operator on two operands has the type of what it gives
 one_link : (b : BodyOf) (operator : BinaryOperator) (left right : ExprOf) → type_of b (binary operator left right) ≡ Some (binary_type operator)
 one_link b And left right = refl
 one_link b Or left right = refl
 one_link b (By operation) left right = refl
 
+-- operators one after the other have the type of what the last one gives
 links_type : (b : BodyOf) (first : ExprOf) (link : LinkOf) (more : List LinkOf) → type_of b (links_on first (link ∷ more)) ≡ Some (binary_type (last_link link.operator more))
 links_type b first link [] = one_link b link.operator first link.operand
 links_type b first link (next ∷ more) = links_type b (binary link.operator first link.operand) next more
 
+-- calls one after the other have the result of the last one
 calls_type : (b : BodyOf) (first : ExprOf) (call : CallOf) (more : List CallOf) → type_of b (calls_on first (call ∷ more)) ≡ last_call call.result more
 calls_type b first call [] = refl
 calls_type b first call (next ∷ more) = calls_type b (to.Call first call.class call.method call.result call.arguments) next more

@@ -43,10 +43,12 @@ operator_of link = (view_link link).operator
 abbrev result_of : Call → Option StaticType
 result_of call = (view_call call).result
 
+-- the last operator of links in memory is what the last element gives
 links_last : (operator : BinaryOperator) (links : List Link) → last_link operator (map view_link links) ≡ last_by operator_of operator links
 links_last operator [] = refl
 links_last operator (link ∷ more) = links_last (operator_of link) more
 
+-- the result of the last of calls in memory is what the last element gives
 calls_last : (result : Option StaticType) (calls : List Call) → last_call result (map view_call calls) ≡ last_by result_of result calls
 calls_last result [] = refl
 calls_last result (call ∷ more) = calls_last (result_of call) more

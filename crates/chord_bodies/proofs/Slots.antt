@@ -7,16 +7,19 @@ use Rattle.chord_bodies.specs.Types.{typed_slot}
 abbrev all_typed : List StaticType → List (Option StaticType)
 all_typed ts = map (λ t. Some t) ts
 
+-- the type at a place below the number of the parameters is that of a parameter
 within : (ps ls : List StaticType) (i : ℕ) → i < length ps → typed_slot (slice_get (all_typed (ps ++ ls)) i) ≡ slice_get ps i
 within [] ls i h = absurd (omega (arith, h))
 within (p ∷ ps) ls zero h = refl
 within (p ∷ ps) ls (suc i) h = within ps ls i (let below : suc i < suc (length ps) = h in omega (arith, below))
 
+-- the types of slots, each of which has one, are at each place what the list has there
 there : (ls : List StaticType) (i : ℕ) → typed_slot (slice_get (all_typed ls) i) ≡ slice_get ls i
 there [] i = refl
 there (l ∷ ls) zero = refl
 there (l ∷ ls) (suc i) = there ls i
 
+-- the type at a place after the parameters is that of a local
 past : (ps ls : List StaticType) (i : ℕ) → length ps ≤ i → typed_slot (slice_get (all_typed (ps ++ ls)) i) ≡ slice_get ls (i - length ps)
 past [] ls i h = let same : i ≡ i - 0 = omega arith in there ls i ∙ ap (slice_get ls) same
 past (p ∷ ps) ls zero h = absurd (let above : suc (length ps) ≤ 0 = h in omega (arith, above))

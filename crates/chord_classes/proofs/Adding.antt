@@ -18,6 +18,7 @@ use Rattle.chord_classes.proofs.TableLookups.{class_below, or_found, shift, meth
 
 -- Headers, one after the other.
 
+-- a function over a list with one more element gives what it gives over the list, and one more
 map_end : {A B : Type 0} (f : A → B) (xs : List A) (x : A) → map f (xs ++ (x ∷ [])) ≡ map f xs ++ (f x ∷ [])
 map_end f [] x = refl
 map_end f (a ∷ xs) x = ap (λ z. f a ∷ z) (map_end f xs x)
@@ -78,6 +79,7 @@ pub own_is_some : (found : Option OwnMethod) (o : Option Found) → option_map s
 own_is_some None o e = ap is_some e
 own_is_some (Some own) o e = ap is_some e
 
+-- where methods have a name only with one more behind them, it is that one's name
 same_name : (xs : List Method) (m : Method) (x : List ℕ) → is_some (method_named xs x) ≡ false → is_some (method_named (xs ++ (m ∷ [])) x) ≡ true → m.name ≡ x
 same_name xs m x lacks has = by_last (bytes_eq m.name x) refl (sym (named_joined xs (m ∷ []) x ∙ ap (λ z. z || is_some (method_named (m ∷ []) x)) lacks) ∙ has)
   where
@@ -85,18 +87,22 @@ same_name xs m x lacks has = by_last (bytes_eq m.name x) refl (sym (named_joined
     by_last true e h = (bytes_decides m.name x).0 e
     by_last false e h = absurd (false≢true h)
 
+-- what is not something is nothing
 no_some : (o : Option Found) → is_some o ≡ false → o ≡ None
 no_some None h = refl
 no_some (Some f) h = absurd (false≢true (sym h))
 
+-- where neither of two truth values holds, the first is false
 first_false : (a b : Bool) → (a || b) ≡ false → a ≡ false
 first_false true b h = absurd (false≢true (sym h))
 first_false false b h = refl
 
+-- where neither of two truth values holds, the second is false
 second_false : (a b : Bool) → (a || b) ≡ false → b ≡ false
 second_false true b h = absurd (false≢true (sym h))
 second_false false b h = h
 
+-- an element behind the second of two lists joined stands behind both
 joined_end : (xs ys : List Method) (m : Method) → xs ++ (ys ++ (m ∷ [])) ≡ (xs ++ ys) ++ (m ∷ [])
 joined_end [] ys m = refl
 joined_end (x ∷ xs) ys m = ap (λ z. x ∷ z) (joined_end xs ys m)
@@ -127,27 +133,33 @@ grown_one inherits owner header own after m e is grown = record {
 
 -- One more shape at the end.
 
+-- one more class leaves each class before it at its place
 kept_at : (done : List Shape) (shape : Shape) (k : ℕ) → k < length done → slice_get (done ++ (shape ∷ [])) k ≡ slice_get done k
 kept_at [] shape k h = absurd (omega (arith, h))
 kept_at (s ∷ ss) shape zero h = refl
 kept_at (s ∷ ss) shape (suc k) h = kept_at ss shape k (let less : suc k < suc (length ss) = h in omega (arith, less))
 
+-- one more class stands behind those before it
 last_at : (done : List Shape) (shape : Shape) → slice_get (done ++ (shape ∷ [])) (length done) ≡ Some shape
 last_at [] shape = refl
 last_at (s ∷ ss) shape = last_at ss shape
 
+-- one more class changes nothing of what is inherited from a base class before it
 inherited_kept : (done : List Shape) (shape : Shape) (base : Option ℕ) → ((b : ℕ) → base ≡ Some b → b < length done) → inherited (done ++ (shape ∷ [])) base ≡ inherited done base
 inherited_kept done shape None h = refl
 inherited_kept done shape (Some b) h = ap methods_in (kept_at done shape b (h b refl))
 
+-- one more class changes nothing of a base class before it and of the classes above that
 bases_kept : (done : List Shape) (shape : Shape) (base : Option ℕ) → ((b : ℕ) → base ≡ Some b → b < length done) → from_base (done ++ (shape ∷ [])) base ≡ from_base done base
 bases_kept done shape None h = refl
 bases_kept done shape (Some b) h = ap (λ z. b ∷ above_in z) (kept_at done shape b (h b refl))
 
+-- a list with one more element is longer by 1
 appended : {A : Type 0} (xs : List A) (x : A) → length (xs ++ (x ∷ [])) ≡ length xs + 1
 appended [] x = omega arith
 appended (y ∷ ys) x = let e = appended ys x in omega (arith, e)
 
+-- the shapes of classes with one more are those of the classes, and then that one's
 after_end : (done : List Shape) (classes : List ClassTree) (class : ClassTree) → shapes_after done (classes ++ (class ∷ [])) ≡ shapes_after done classes ++ (shape_of (shapes_after done classes) class ∷ [])
 after_end done [] class = refl
 after_end done (c ∷ cs) class = after_end (done ++ (shape_of done c ∷ [])) cs class
@@ -164,6 +176,7 @@ pub record IsNext (done : List Shape) (class : ClassTree) (entry : Entry) : Type
   pub fits : entry.first + length entry.own.all.items < 4294967296
   pub builder : option_map see_builder entry.builder ≡ first_builder class.members
 
+-- the base of a class is one of the classes so far
 base_below : (done : List Shape) (class : ClassTree) (b : ℕ) → base_of done class ≡ Some b → b < length done
 base_below done class b h = by_base class.base h
   where
@@ -215,6 +228,7 @@ entry_stays done shape k entry less e = record {
     within : (b : ℕ) → entry.base ≡ Some b → b < length done
     within b h = let lower = e.below b h in omega (arith, lower, less)
 
+-- an element of a list with one more is one of the list, or the last
 either_at : (entries : List Entry) (last : Entry) (k : ℕ) (entry : Entry) → slice_get (entries ++ (last ∷ [])) k ≡ Some entry → ((k < length entries) × (slice_get entries k ≡ Some entry)) ⊎ ((k ≡ length entries) × (last ≡ entry))
 either_at [] last zero entry h = inr (refl, cc)
 either_at [] last (suc k) entry h = cc

@@ -31,6 +31,7 @@ types_of table formals = map (λ (f : Formal). type_known table f.value_type) fo
 abbrev given : List StaticType → Scope
 given ts = map (λ t. Some t) ts
 
+-- slots that are not in scope
 abbrev free : List StaticType → Scope
 free ts = map (λ t. None) ts
 
@@ -45,22 +46,27 @@ parameters_stand table scope k (f ∷ fs) rest at d =
       parameters_stand table scope (k + 1) fs rest (λ j. let next : k + 1 + j ≡ k + suc j = omega arith in ap (slice_get scope) next ∙ at (suc j)) d.1,
     )
 
+-- there are as many slots in scope as types that they were given
 length_given : (ts : List StaticType) → length (given ts) ≡ length ts
 length_given [] = refl
 length_given (t ∷ ts) = ap suc (length_given ts)
 
+-- there are as many slots that are not in scope as types
 length_free : (ts : List StaticType) → length (free ts) ≡ length ts
 length_free [] = refl
 length_free (t ∷ ts) = ap suc (length_free ts)
 
+-- parameters are as many as their types
 length_types : (table : List Shape) (formals : List Formal) → length (types_of table formals) ≡ length formals
 length_types table [] = refl
 length_types table (f ∷ fs) = ap suc (length_types table fs)
 
+-- the static types that written types stand for are as many as these
 length_known : (table : List Shape) (written : List ValueType) → length (map (type_known table) written) ≡ length written
 length_known table [] = refl
 length_known table (w ∷ ws) = ap suc (length_known table ws)
 
+-- each slot that is not in scope is there, without a type
 none_there : (ts : List StaticType) (i : ℕ) → i < length (free ts) → slice_get (free ts) i ≡ Some None
 none_there [] i h = absurd (nowhere h)
   where
@@ -69,6 +75,7 @@ none_there [] i h = absurd (nowhere h)
 none_there (t ∷ ts) zero h = refl
 none_there (t ∷ ts) (suc i) h = none_there ts i (let k : suc i < suc (length (free ts)) = h in omega (arith, k))
 
+-- each slot that is not in scope and stands behind others is there, without a type
 none_past : (xs : Scope) (ts : List StaticType) (i : ℕ) → length xs ≤ i → i < length (xs ++ free ts) → slice_get (xs ++ free ts) i ≡ Some None
 none_past [] ts i h k = none_there ts i k
 none_past (x ∷ xs) ts zero h k = absurd (below h)
@@ -77,6 +84,7 @@ none_past (x ∷ xs) ts zero h k = absurd (below h)
     below h = omega arith
 none_past (x ∷ xs) ts (suc i) h k = none_past xs ts i (let m : suc (length xs) ≤ suc i = h in omega (arith, m)) (let m : suc i < suc (length (xs ++ free ts)) = k in omega (arith, m))
 
+-- what is in scope of parameters and locals where a body begins has its type among those of all of them
 given_get : (ps : List StaticType) (ls : List StaticType) (i : ℕ) (t : StaticType) → slice_get (given ps ++ free ls) i ≡ Some (Some t) → slice_get (given (ps ++ ls)) i ≡ Some (Some t)
 given_get [] [] i t h = h
 given_get [] (l ∷ ls) zero t h = absurd (none_some (same_some h))
@@ -84,6 +92,7 @@ given_get [] (l ∷ ls) (suc i) t h = given_get [] ls i t h
 given_get (p ∷ ps) ls zero t h = h
 given_get (p ∷ ps) ls (suc i) t h = given_get ps ls i t h
 
+-- behind the parameters each local has the static type that is written for it
 local_get : (table : List Shape) (ps : List StaticType) (locals : List ValueType) (j : ℕ) (w : ValueType) → slice_get locals j ≡ Some w → slice_get (given (ps ++ map (type_known table) locals)) (length ps + j) ≡ Some (Some (type_known table w))
 local_get table [] [] j w h = absurd (none_some h)
 local_get table [] (l ∷ ls) zero w h = ap (λ (z : ValueType). Some (Some (type_known table z))) (same_some h)
@@ -114,6 +123,7 @@ room_of this table formals locals =
     agrees_at zero t h = h
     agrees_at (suc i) t h = given_get (types_of table formals) (map (type_known table) locals) i t h
 
+-- where a value is due and nothing is noted of a body, it surely returns
 surely_is : (o : Option ValueType) (b : Bool) (at : ℕ) → when (is_some o && not b) at ≡ [] → (t : StaticType) (f : ValueType → StaticType) → option_map f o ≡ Some t → b ≡ true
 surely_is None b at h t f e = absurd (none_some e)
 surely_is (Some w) true at h t f e = refl
@@ -139,6 +149,7 @@ member_is table number class member declared h =
       ends = λ t e. block_returns site (body_of member) (surely_is (member_due member) (block_surely (body_of member)) (block_end (body_of member)) f.unreturned t (type_known table) e);
     }
 
+-- the bodies of members at whose spots no rule is broken keep to their types
 members_are : (table : List Shape) (number : ℕ) (class : ClassTree) (members : List MemberTree) → DeclaredTable table → Every (Free table) (flat_map (over_member after spot_of_term spot_of_item (enter table) spot_of_member number class) members) → Every (BodyIs (signatures table)) (map (resolved_member table number class) members)
 members_are table number class [] declared h = tt
 members_are table number class (m ∷ ms) declared h =
@@ -157,6 +168,7 @@ classes_are table number (c ∷ cs) declared h =
 
 -- Nothing is broken at the members.
 
+-- where no rule is broken at the spots of members, none is broken at the members themselves
 members_free : (table : List Shape) (number : ℕ) (class : ClassTree) (members : List MemberTree) → Every (Free table) (flat_map (over_member after spot_of_term spot_of_item (enter table) spot_of_member number class) members) → Every (FreeMember table) members
 members_free table number class [] h = tt
 members_free table number class (m ∷ ms) h =

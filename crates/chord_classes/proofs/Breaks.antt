@@ -3,12 +3,14 @@ use Rattle.std.proofs.Common.{◌≡◌, ℕ, ◌<◌, ◌≤◌, ◌⊎◌, inl
 use Rattle.chord_classes.specs.Rules.{Broken, IsFree}
 use Rattle.chord_classes.specs.Breaks.{IsNotAfter, IsBreak, AllJoin}
 
+-- a break that is not after a second, which is not after a third, is not after the third
 first_on : (r k s l t m : ℕ) → IsNotAfter r k s l → IsNotAfter s l t m → IsNotAfter r k t m
 first_on r k s l t m (inl a) (inl b) = inl (omega (arith, a, b))
 first_on r k s l t m (inl a) (inr b) = let e : l ≡ m = b.0 in inl (omega (arith, a, e))
 first_on r k s l t m (inr a) (inl b) = let e : k ≡ l = a.0 in inl (omega (arith, e, b))
 first_on r k s l t m (inr a) (inr b) = let e : k ≡ l = a.0 in let f : l ≡ m = b.0 in let g : r ≤ s = a.1 in let h : s ≤ t = b.1 in inr (omega (arith, e, f), omega (arith, g, h))
 
+-- two breaks neither of which is after the other are one
 same_place : (r k s l : ℕ) → IsNotAfter r k s l → IsNotAfter s l r k → (r ≡ s) × (k ≡ l)
 same_place r k s l (inl a) (inl b) = absurd (circle a b)
   where

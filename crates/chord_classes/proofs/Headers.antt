@@ -34,6 +34,7 @@ use Rattle.chord_classes.proofs.Inherits.{Begins, get_left, methods_inherited}
 
 -- The same written types stand for one.
 
+-- types that are words of the language and pass as the same are one
 basic_same : (a b : BasicType) → same_basic a b ≡ true → a ≡ b
 basic_same basics.Int basics.Int h = refl
 basic_same basics.Bool basics.Bool h = refl
@@ -53,12 +54,14 @@ bytes_same x y h = (bytes_eq-Decides x y).0 h
 pub bytes_itself : (x : List ℕ) → bytes_eq x x ≡ true
 bytes_itself x = (bytes_eq-Decides x x).1 refl
 
+-- written types that are the same stand for one static type
 known_same : (table : List Shape) (v w : ValueType) → same_written v w ≡ true → type_known table v ≡ type_known table w
 known_same table (types.Basic a i) (types.Basic b j) h = ap basic_type (basic_same a b h)
 known_same table (types.Class x) (types.Class y) h = ap (λ z. unwrap_or (option_map ty.Class (class_named table z)) ty.Int) (bytes_same x.text y.text h)
 known_same table (types.Basic a i) (types.Class y) h = absurd (false≢true h)
 known_same table (types.Class x) (types.Basic b j) h = absurd (false≢true h)
 
+-- lists of written types that are the same, one by one, stand for the same static types
 all_known_same : (table : List Shape) (vs ws : List ValueType) → same_all vs ws ≡ true → map (type_known table) vs ≡ map (type_known table) ws
 all_known_same table [] [] h = refl
 all_known_same table (v ∷ vs) (w ∷ ws) h =
@@ -71,6 +74,7 @@ record SameResult (table : List Shape) (r s : ReturnType) : Type 0 where
   waits : is_sync r ≡ is_sync s
   known : result_known table r ≡ result_known table s
 
+-- results that are the same wait alike and give the same
 result_same : (table : List Shape) (r s : ReturnType) → same_result r s ≡ true → SameResult table r s
 result_same table (results.Async i) (results.Async j) h = record { waits = refl; known = refl }
 result_same table (results.Void i) (results.Void j) h = record { waits = refl; known = refl }
@@ -82,9 +86,11 @@ result_same table (results.Void i) (results.Value w) h = absurd (false≢true h)
 result_same table (results.Value v) (results.Async j) h = absurd (false≢true h)
 result_same table (results.Value v) (results.Void j) h = absurd (false≢true h)
 
+-- a signature, of whether callers wait, the types of the parameters and that of the result
 make_signature : Bool → List StaticType → Option StaticType → Signature
 make_signature sync parameters result = record { is_sync = sync; parameters = parameters; result = result }
 
+-- methods with the same result and the same parameter types have one signature
 signature_same : (table : List Shape) (m k : Method) → same_result m.result_type k.result_type ≡ true → same_all m.formals k.formals ≡ true → signature table m ≡ signature table k
 unfolding make_signature
 signature_same table m k hr hf =
@@ -95,6 +101,7 @@ signature_same table m k hr hf =
 
 -- What is found by name among methods and more methods.
 
+-- a method that is found among methods is found among them and others behind
 named_left : (n : ℕ) (xs ys : List Method) (name : List ℕ) (f : Found) → method_from n xs name ≡ Some f → method_from n (xs ++ ys) name ≡ Some f
 named_left n [] ys name f h = absurd (none_some h)
 named_left n (x ∷ xs) ys name f h = by_first (bytes_eq x.name name) (method_from (n + 1) xs name) (method_from (n + 1) (xs ++ ys) name) (λ k. named_left (n + 1) xs ys name f k) h
@@ -112,6 +119,7 @@ named_right n (x ∷ xs) m name h e = by_first (bytes_eq x.name name) (method_fr
     by_first true rest all g k = absurd (none_some (sym k))
     by_first false rest all g k = g k
 
+-- a name that is not among methods and not that of the one behind them is not among all
 unnamed_right : (n : ℕ) (xs : List Method) (m : Method) (name : List ℕ) → method_from n xs name ≡ None → bytes_eq m.name name ≡ false → method_from n (xs ++ (m ∷ [])) name ≡ None
 unnamed_right n [] m name h e = ap (λ b. cond b (Some (record { number = n; method = m })) None) e
 unnamed_right n (x ∷ xs) m name h e = by_first (bytes_eq x.name name) (method_from (n + 1) xs name) (method_from (n + 1) (xs ++ (m ∷ [])) name) (λ k. unnamed_right (n + 1) xs m name k e) h
@@ -142,6 +150,7 @@ first_there (y ∷ ys) (suc i) header h = by_first (bytes_eq y.name.text header.
     by_first true r = (y, refl)
     by_first false r = r
 
+-- of two truth values that are false, neither holds
 neither_is : (a b : Bool) → a ≡ false → b ≡ false → (a || b) ≡ false
 neither_is a b h k = rw (h, k) refl
 
@@ -175,6 +184,7 @@ pub record HeaderKept (table : List Shape) (methods : List Method) (header : Hea
   pub is : method_named methods header.name.text ≡ Some found
   pub same : signature table found.method ≡ signature table (method_of 0 header)
 
+-- a header of which no rule on headers is broken is of a method of its class with the signature that it writes
 method_kept : (table : List Shape) (owner : ℕ) (methods : List Method) (headers : List HeaderTree) (i : ℕ) (header : HeaderTree) → slice_get headers i ≡ Some header → is_main header ≡ false
     → unless_main header (differs_from (first_named headers header.name.text) header) ≡ []
     → (o : Option Found) → method_named methods header.name.text ≡ o
@@ -216,10 +226,12 @@ method_kept table owner methods headers i header there m d5 None e d9 d10 =
     unmain true xs h k = absurd (true_false h)
     unmain false xs h k = k
 
+-- where a function gives nothing over a list, it gives nothing of each element
 every_of_flat : {X : Type 0} (f : X → List ℕ) (xs : List X) → flat_map f xs ≡ [] → Every (λ x. f x ≡ []) xs
 every_of_flat f [] h = tt
 every_of_flat f (x ∷ xs) h = (left_nil (f x) (flat_map f xs) h, every_of_flat f xs (right_nil (f x) (flat_map f xs) h))
 
+-- what holds of the element at each place holds of each element
 every_of_get : {X : Type 0} (P : X → Type 0) (xs : List X) → ((i : ℕ) (x : X) → slice_get xs i ≡ Some x → P x) → Every P xs
 every_of_get P [] f = tt
 every_of_get P (x ∷ xs) f = (f 0 x refl, every_of_get P xs (λ i y e. f (suc i) y e))
@@ -257,6 +269,7 @@ record ClassAt (table : List Shape) (number : ℕ) (class : ClassTree) : Type 0 
   missing_override : missing_override before class ≡ []
   wrongly : wrong_override before class ≡ []
 
+-- where no rule on headers is broken in classes, each stands in the table as one of which none is broken
 class_at : (done : List Shape) (classes : List ClassTree) → over_shapes differing_headers done classes ≡ [] → over_shapes missing_override done classes ≡ [] → over_shapes wrong_override done classes ≡ []
     → (i : ℕ) (class : ClassTree) → slice_get classes i ≡ Some class → ClassAt (shapes_after done classes) (length done + i) class
 class_at done [] h5 h9 h10 i class e = absurd (none_some e)
@@ -291,10 +304,12 @@ number_is table class header k =
 abbrev formals_types : List Shape → List Formal → List StaticType
 formals_types table formals = map (λ (f : Formal). type_known table f.value_type) formals
 
+-- the types of two lists of parameters joined are those of the one and then those of the other
 map_append : (table : List Shape) (fs gs : List Formal) → formals_types table (fs ++ gs) ≡ formals_types table fs ++ formals_types table gs
 map_append table [] gs = refl
 map_append table (f ∷ fs) gs = ap (λ z. type_known table f.value_type ∷ z) (map_append table fs gs)
 
+-- the static types of parameters are those that their written types stand for
 map_twice : (table : List Shape) (fs : List Formal) → formals_types table fs ≡ map (type_known table) (formal_types fs)
 map_twice table [] = refl
 map_twice table (f ∷ fs) = ap (λ z. type_known table f.value_type ∷ z) (map_twice table fs)
@@ -311,6 +326,7 @@ laid_is table class (x ∷ xs) k = (
   laid_is table class xs k.1,
 )
 
+-- what is due is a header's own result where its callers wait, and else what the other methods give
 given_by : (table : List Shape) (class : ℕ) (result : ReturnType) (others : Option ValueType) (methods : List ℕ) → gives (signatures table) class methods (option_map (type_known table) others)
     → if_sync (is_sync result) (option_map (type_known table) (due_by result others) ≡ result_known table result) (gives (signatures table) class methods (option_map (type_known table) (due_by result others)))
 given_by table class (results.Async at) others methods g = g
@@ -401,6 +417,7 @@ no_mains P (x ∷ xs) m k = (k.0 (first_false (is_main x) (has_main xs) m), no_m
     rest_false true b h = absurd (true_false h)
     rest_false false b h = h
 
+-- what holds of each header of members holds of each header of a chord among them
 of_chord : (P : HeaderTree → Type 0) (members : List MemberTree) (k : ℕ) (headers : List HeaderTree) (body : BlockTree) → slice_get members k ≡ Some (ChordMember headers body) → Every P (flat_map member_headers members) → Every P headers
 of_chord P [] k headers body e h = absurd (none_some e)
 of_chord P (m ∷ ms) zero headers body e h = every_left P headers (flat_map member_headers ms) (subst (λ (z : MemberTree). Every P (member_headers z ++ flat_map member_headers ms)) (same_some e) h)

@@ -23,10 +23,12 @@ get_left [] ys j x h = absurd (none_some h)
 get_left (y ∷ xs) ys zero x h = h
 get_left (y ∷ xs) ys (suc j) x h = get_left xs ys j x h
 
+-- a list that begins each of two lists begins the one that is chosen
 begins_choice : {X : Type 0} (b : Bool) (xs ys zs : List X) → Begins xs ys → Begins xs zs → Begins xs (cond b ys zs)
 begins_choice true xs ys zs h k = h
 begins_choice false xs ys zs h k = k
 
+-- methods begin the list of them and those that headers add
 with_headers_begins : (owner : ℕ) (methods : List Method) (headers : List HeaderTree) → Begins methods (with_headers owner methods headers)
 with_headers_begins owner methods [] j x h = h
 with_headers_begins owner methods (y ∷ ys) j x h =
@@ -40,15 +42,19 @@ record IsAbove (shapes : List Shape) (shape : Shape) (class : ℕ) : Type 0 wher
   methods : Begins itself.methods shape.methods
   higher : (base : ℕ) → among base itself.above ≡ true → among base shape.above ≡ true
 
+-- all classes that a shape names above itself are above it
 abbrev AreAbove : List Shape → Shape → Type 0
 AreAbove shapes shape = Every (IsAbove shapes shape) shape.above
 
+-- the classes above a shape stay so where more shapes come behind
 above_more : (shapes more : List Shape) (shape : Shape) → AreAbove shapes shape → AreAbove (shapes ++ more) shape
 above_more shapes more shape h = every_map (IsAbove shapes shape) (IsAbove (shapes ++ more) shape) shape.above (λ class a. record { itself = a.itself; there = get_left shapes more class a.itself a.there; methods = a.methods; higher = a.higher }) h
 
+-- one of two truth values holds where the first does
 or_left : (a b : Bool) → a ≡ true → (a || b) ≡ true
 or_left a b h = rw h refl
 
+-- one of two truth values holds where the second does
 or_right : (a b : Bool) → b ≡ true → (a || b) ≡ true
 or_right true b h = refl
 or_right false b h = h
@@ -79,6 +85,7 @@ pub base_there : (done : List Shape) (o : Option Name) (c : ℕ) → option_and_
 base_there done None c h = absurd (none_some h)
 base_there done (Some name) c h = class_is done name.text c h
 
+-- where the classes above each class so far are those that its shape names, they are so with more classes behind
 shapes_above : (done : List Shape) (classes : List ClassTree) → Every (AreAbove done) done → Every (AreAbove (shapes_after done classes)) (shapes_after done classes)
 shapes_above done [] h = h
 shapes_above done (c ∷ cs) h =
@@ -89,6 +96,7 @@ shapes_above done (c ∷ cs) h =
     (every_map (AreAbove done) (AreAbove (done ++ (new ∷ []))) done (λ s a. above_more done (new ∷ []) s a) h)
     (above_more done (new ∷ []) new n, tt))
 
+-- a fact of m that under a condition is one of n holds of n where n is m or the condition is true
 one_of : (P : ℕ → Type 0) (n m : ℕ) (b more : Bool) → nat_eq n m ≡ b → (b || more) ≡ true → P m → (more ≡ true → P n) → P n
 one_of P n m true more same h p f = subst P (sym (eqb-true n m same)) p
 one_of P n m false more same h p f = f h
@@ -105,14 +113,17 @@ record Above (table : List Shape) (class base : ℕ) : Type 0 where
   listed : among base (above table class) ≡ true
   is : IsAbove table shape base
 
+-- a class that a shape names above itself is above it
 above_shape : (table : List Shape) (class base : ℕ) (o : Option Shape) → slice_get table class ≡ o → Every (AreAbove table) table → among base (above_in o) ≡ true → Above table class base
 above_shape table class base None e h k = absurd (false≢true k)
 above_shape table class base (Some s) e h k = record { shape = s; there = e; listed = ap (λ z. among base (above_in z)) e ∙ k; is = among_every (IsAbove table s) s.above base k (every_get (AreAbove table) table class s h e) }
 
+-- a signature that was found is that of a method that was found
 some_mapped : (table : List Shape) (o : Option Method) (m : Signature) → option_map (signature table) o ≡ Some m → (x : Method) × (o ≡ Some x) × (signature table x ≡ m)
 some_mapped table None m h = absurd (none_some h)
 some_mapped table (Some x) m h = (x, refl, same_some h)
 
+-- a class has each method of a class above it by the same number and with the same signature
 inherited_from : (table : List Shape) (d c j : ℕ) (m : Signature) → Above table d c → (signatures table).methods c j ≡ Some m → (signatures table).methods d j ≡ Some m
 inherited_from table d c j m a h =
     let x = some_mapped table (slice_get a.is.itself.methods j) m (ap (λ (z : Option Shape). option_map (signature table) (slice_get (methods_in z) j)) (sym a.is.there) ∙ h) in

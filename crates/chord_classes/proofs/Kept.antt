@@ -42,12 +42,15 @@ record EmptyStmt (p : ProgramTree) (ss : List (Spot Site)) : Type 0 where
 abbrev at_one : Notes Site ℕ → Spot Site → List ℕ
 at_one notes s = at_spot notes.at_term notes.at_item notes.at_member s
 
+-- where a rule notes nothing at spots, it notes nothing at the first
 first : (notes : Notes Site ℕ) (s : Spot Site) (ss : List (Spot Site)) → at_all notes (s ∷ ss) ≡ [] → at_one notes s ≡ []
 first notes s ss h = left_nil (at_one notes s) (at_all notes ss) h
 
+-- where a rule notes nothing at spots, it notes nothing at those behind the first
 others : (notes : Notes Site ℕ) (s : Spot Site) (ss : List (Spot Site)) → at_all notes (s ∷ ss) ≡ [] → at_all notes ss ≡ []
 others notes s ss h = right_nil (at_one notes s) (at_all notes ss) h
 
+-- where no rule notes anything at spots, none does at the spots behind the first
 nothing_later : (p : ProgramTree) (s : Spot Site) (ss : List (Spot Site)) → EmptyStmt p (s ∷ ss) → EmptyStmt p ss
 nothing_later p s ss n = record {
   by_02 = others (notes_02 p) s ss n.by_02;
@@ -60,6 +63,7 @@ nothing_later p s ss n = record {
   by_22 = others notes_22 s ss n.by_22;
 }
 
+-- where no rule notes anything at spots, none is broken at the first
 free_here : (p : ProgramTree) (s : Spot Site) (ss : List (Spot Site)) → EmptyStmt p (s ∷ ss) → Free (table_of p) s
 free_here p (AtTerm site role term) ss n = record {
   undeclared = first (notes_02 p) (AtTerm site role term) ss n.by_02;
@@ -80,6 +84,7 @@ free_here p (AtMember class member) ss n = record {
   unreturned = first notes_17 (AtMember class member) ss n.by_17;
 }
 
+-- where no rule notes anything at spots, none is broken at each of them
 all_free : (p : ProgramTree) (ss : List (Spot Site)) → EmptyStmt p ss → Every (Free (table_of p)) ss
 all_free p [] n = tt
 all_free p (s ∷ ss) n = (free_here p s ss n, all_free p ss (nothing_later p s ss n))
@@ -88,6 +93,7 @@ all_free p (s ∷ ss) n = (free_here p s ss n, all_free p ss (nothing_later p s 
 unbroken : (p : ProgramTree) (notes : Notes Site ℕ) → ((at : ℕ) → Contains (in_program p notes) at → ⊥) → at_all notes (spots after (enter (table_of p)) p) ≡ []
 unbroken p notes h = sym (notes_at_spots after (enter (table_of p)) notes p) ∙ none_contained (in_program p notes) h
 
+-- in a program that breaks no rule on names and types no rule notes anything at its spots
 nothing_noted : (p : ProgramTree) → IsFree is_type_rule p → EmptyStmt p (spots after (enter (table_of p)) p)
 nothing_noted p free = record {
   by_02 = unbroken p (notes_02 p) (λ at k. free 2 at refl (C02 at k));

@@ -32,9 +32,11 @@ data IsRule (p : ProgramTree) : ℕ → Notes Site ℕ → Type 0 where
   Rule_23 : IsRule p 23 notes_23
   Rule_24 : IsRule p 24 notes_24
 
+-- what a rule notes at a spot
 abbrev at_one : Notes Site ℕ → Spot Site → List ℕ
 at_one notes s = at_spot notes.at_term notes.at_item notes.at_member s
 
+-- what a rule notes at spots
 abbrev at_all : Notes Site ℕ → List (Spot Site) → List ℕ
 at_all notes ss = flat_map (at_one notes) ss
 
@@ -83,11 +85,13 @@ record Says (p : ProgramTree) (f : Notes Site ℕ → List ℕ) (k : ℕ) : Type
   key : k ≡ 32 * at + rule
   said : IsIn (f notes) at
 
+-- each number that is noted at a spot is that of a rule and of a token that the rule notes there
 says : (p : ProgramTree) (s : Spot Site) (k : ℕ) → IsIn (at_one (all_notes p) s) k → Says p (λ notes. at_one notes s) k
 says p (AtTerm site role term) k h = elim (in_either (keys 2 (undeclared site (typed_term site term))) (keys 23 (too_large (typed_term site term)) ++ (keys 24 (too_long (typed_term site term)) ++ (keys 14 (unknown site role (typed_term site term)) ++ (keys 15 (disagreeing site (typed_term site term)) ++ (keys 16 (inaccessible site (typed_term site term)) ++ (keys 19 (used_valueless site role (typed_term site term)) ++ (keys 22 (miscounted site (typed_term site term))))))))) k h) [ inl a ↦ (let x = of_key 2 (undeclared site (typed_term site term)) k a in record { rule = 2; at = x.0; notes = (notes_02 p); is = Rule_02; key = x.1; said = x.2 }) | inr b0 ↦ elim (in_either (keys 23 (too_large (typed_term site term))) (keys 24 (too_long (typed_term site term)) ++ (keys 14 (unknown site role (typed_term site term)) ++ (keys 15 (disagreeing site (typed_term site term)) ++ (keys 16 (inaccessible site (typed_term site term)) ++ (keys 19 (used_valueless site role (typed_term site term)) ++ (keys 22 (miscounted site (typed_term site term)))))))) k b0) [ inl a ↦ (let x = of_key 23 (too_large (typed_term site term)) k a in record { rule = 23; at = x.0; notes = notes_23; is = Rule_23; key = x.1; said = x.2 }) | inr b1 ↦ elim (in_either (keys 24 (too_long (typed_term site term))) (keys 14 (unknown site role (typed_term site term)) ++ (keys 15 (disagreeing site (typed_term site term)) ++ (keys 16 (inaccessible site (typed_term site term)) ++ (keys 19 (used_valueless site role (typed_term site term)) ++ (keys 22 (miscounted site (typed_term site term))))))) k b1) [ inl a ↦ (let x = of_key 24 (too_long (typed_term site term)) k a in record { rule = 24; at = x.0; notes = notes_24; is = Rule_24; key = x.1; said = x.2 }) | inr b2 ↦ elim (in_either (keys 14 (unknown site role (typed_term site term))) (keys 15 (disagreeing site (typed_term site term)) ++ (keys 16 (inaccessible site (typed_term site term)) ++ (keys 19 (used_valueless site role (typed_term site term)) ++ (keys 22 (miscounted site (typed_term site term)))))) k b2) [ inl a ↦ (let x = of_key 14 (unknown site role (typed_term site term)) k a in record { rule = 14; at = x.0; notes = notes_14; is = Rule_14; key = x.1; said = x.2 }) | inr b3 ↦ elim (in_either (keys 15 (disagreeing site (typed_term site term))) (keys 16 (inaccessible site (typed_term site term)) ++ (keys 19 (used_valueless site role (typed_term site term)) ++ (keys 22 (miscounted site (typed_term site term))))) k b3) [ inl a ↦ (let x = of_key 15 (disagreeing site (typed_term site term)) k a in record { rule = 15; at = x.0; notes = notes_15; is = Rule_15; key = x.1; said = x.2 }) | inr b4 ↦ elim (in_either (keys 16 (inaccessible site (typed_term site term))) (keys 19 (used_valueless site role (typed_term site term)) ++ (keys 22 (miscounted site (typed_term site term)))) k b4) [ inl a ↦ (let x = of_key 16 (inaccessible site (typed_term site term)) k a in record { rule = 16; at = x.0; notes = notes_16; is = Rule_16; key = x.1; said = x.2 }) | inr b5 ↦ elim (in_either (keys 19 (used_valueless site role (typed_term site term))) (keys 22 (miscounted site (typed_term site term))) k b5) [ inl a ↦ (let x = of_key 19 (used_valueless site role (typed_term site term)) k a in record { rule = 19; at = x.0; notes = notes_19; is = Rule_19; key = x.1; said = x.2 }) | inr b6 ↦ (let x = of_key 22 (miscounted site (typed_term site term)) k b6 in record { rule = 22; at = x.0; notes = notes_22; is = Rule_22; key = x.1; said = x.2 }) ] ] ] ] ] ] ]
 says p (AtItem site item) k h = elim (in_either (keys 2 (undeclared_item site item)) (keys 14 (unknown_item site item) ++ (keys 15 (disagreeing_item site item) ++ (keys 18 (misreturned site item) ++ (keys 20 (redeclared site item))))) k h) [ inl a ↦ (let x = of_key 2 (undeclared_item site item) k a in record { rule = 2; at = x.0; notes = (notes_02 p); is = Rule_02; key = x.1; said = x.2 }) | inr b0 ↦ elim (in_either (keys 14 (unknown_item site item)) (keys 15 (disagreeing_item site item) ++ (keys 18 (misreturned site item) ++ (keys 20 (redeclared site item)))) k b0) [ inl a ↦ (let x = of_key 14 (unknown_item site item) k a in record { rule = 14; at = x.0; notes = notes_14; is = Rule_14; key = x.1; said = x.2 }) | inr b1 ↦ elim (in_either (keys 15 (disagreeing_item site item)) (keys 18 (misreturned site item) ++ (keys 20 (redeclared site item))) k b1) [ inl a ↦ (let x = of_key 15 (disagreeing_item site item) k a in record { rule = 15; at = x.0; notes = notes_15; is = Rule_15; key = x.1; said = x.2 }) | inr b2 ↦ elim (in_either (keys 18 (misreturned site item)) (keys 20 (redeclared site item)) k b2) [ inl a ↦ (let x = of_key 18 (misreturned site item) k a in record { rule = 18; at = x.0; notes = notes_18; is = Rule_18; key = x.1; said = x.2 }) | inr b3 ↦ (let x = of_key 20 (redeclared site item) k b3 in record { rule = 20; at = x.0; notes = notes_20; is = Rule_20; key = x.1; said = x.2 }) ] ] ] ]
 says p (AtMember class member) k h = elim (in_either (keys 2 (undeclared_member (table_of p) member)) (keys 17 (unreturned member)) k h) [ inl a ↦ (let x = of_key 2 (undeclared_member (table_of p) member) k a in record { rule = 2; at = x.0; notes = (notes_02 p); is = Rule_02; key = x.1; said = x.2 }) | inr b0 ↦ (let x = of_key 17 (unreturned member) k b0 in record { rule = 17; at = x.0; notes = notes_17; is = Rule_17; key = x.1; said = x.2 }) ]
 
+-- what a rule notes at spots is noted there with the rule's number
 keyed_all : (p : ProgramTree) (r : ℕ) (notes : Notes Site ℕ) (ss : List (Spot Site)) (at : ℕ) → IsRule p r notes → IsIn (at_all notes ss) at → IsIn (at_all (all_notes p) ss) (32 * at + r)
 keyed_all p r notes [] at rule h = absurd h
 keyed_all p r notes (s ∷ ss) at rule h =
@@ -96,6 +100,7 @@ keyed_all p r notes (s ∷ ss) at rule h =
       | inr b ↦ in_right (at_one (all_notes p) s) (at_all (all_notes p) ss) (32 * at + r) (keyed_all p r notes ss at rule b)
     ]
 
+-- each number that is noted at spots is that of a rule and of a token that the rule notes there
 says_all : (p : ProgramTree) (ss : List (Spot Site)) (k : ℕ) → IsIn (at_all (all_notes p) ss) k → Says p (λ notes. at_all notes ss) k
 says_all p [] k h = absurd h
 says_all p (s ∷ ss) k h =
@@ -104,9 +109,11 @@ says_all p (s ∷ ss) k h =
       | inr b ↦ (let x = says_all p ss k b in record { rule = x.rule; at = x.at; notes = x.notes; is = x.is; key = x.key; said = in_right (at_one x.notes s) (at_all x.notes ss) x.at x.said })
     ]
 
+-- the spots of a program
 abbrev all_spots : ProgramTree → List (Spot Site)
 all_spots p = spots after (enter (table_of p)) p
 
+-- what a rule notes in a program is what it notes at the program's spots
 at_spots : (p : ProgramTree) (notes : Notes Site ℕ) → in_program p notes ≡ at_all notes (all_spots p)
 at_spots p notes = notes_at_spots after (enter (table_of p)) notes p
 
@@ -124,6 +131,7 @@ breaks p r notes at Rule_22 h = C22 at (contains_in (in_program p notes_22) at h
 breaks p r notes at Rule_23 h = C23 at (contains_in (in_program p notes_23) at h)
 breaks p r notes at Rule_24 h = C24 at (contains_in (in_program p notes_24) at h)
 
+-- each rule that notes is one on names and types, and its number is below 32
 is_type : (p : ProgramTree) (r : ℕ) (notes : Notes Site ℕ) → IsRule p r notes → (is_type_rule r ≡ true) × (r < 32)
 is_type p r notes Rule_02 = (refl, omega arith)
 is_type p r notes Rule_14 = (refl, omega arith)
@@ -137,6 +145,7 @@ is_type p r notes Rule_22 = (refl, omega arith)
 is_type p r notes Rule_23 = (refl, omega arith)
 is_type p r notes Rule_24 = (refl, omega arith)
 
+-- false is not true
 false_true : false ≡ true → ⊥
 false_true e = cc
 
@@ -146,6 +155,7 @@ record IsNoted (p : ProgramTree) (r at : ℕ) : Type 0 where
   is : IsRule p r notes
   said : IsIn (in_program p notes) at
 
+-- a rule on names and types that a program breaks at a token notes that token
 is_noted : (p : ProgramTree) (r at : ℕ) → is_type_rule r ≡ true → Broken p r at → IsNoted p r at
 is_noted p r at e (C01 k h) = absurd (false_true e)
 is_noted p r at e (C02 k h) = record { notes = (notes_02 p); is = Rule_02; said = in_contains (in_program p (notes_02 p)) k h }
@@ -172,14 +182,17 @@ is_noted p r at e (C22 k h) = record { notes = notes_22; is = Rule_22; said = in
 is_noted p r at e (C23 k h) = record { notes = notes_23; is = Rule_23; said = in_contains (in_program p notes_23) k h }
 is_noted p r at e (C24 k h) = record { notes = notes_24; is = Rule_24; said = in_contains (in_program p notes_24) k h }
 
+-- a break of a rule on names and types is among the numbers that are noted, and the rule's own number is below 32
 noted_key : (p : ProgramTree) (r at : ℕ) → is_type_rule r ≡ true → Broken p r at → IsIn (in_program p (all_notes p)) (32 * at + r) × (r < 32)
 noted_key p r at e b =
     let n = is_noted p r at e b in
     (subst (λ z. IsIn z (32 * at + r)) (sym (at_spots p (all_notes p))) (keyed_all p r n.notes (all_spots p) at n.is (subst (λ z. IsIn z at) (at_spots p n.notes) n.said)), (is_type p r n.notes n.is).1)
 
+-- a break whose number is not greater than that of another is not after it
 first_of : (r k s l : ℕ) → 32 * k + r ≤ 32 * l + s → r < 32 → s < 32 → IsNotAfter r k s l
 first_of r k s l h a b = elim (leb_tells l k) [ inl (t, g) ↦ inr (omega arith, omega arith) | inr (t, g) ↦ inl (omega arith) ]
 
+-- breaks of one number are of one rule at one token
 same_rule : (r k s l : ℕ) → 32 * k + r ≡ 32 * l + s → r < 32 → s < 32 → (r ≡ s) × (k ≡ l)
 same_rule r k s l h a b = (omega arith, omega arith)
 

@@ -55,6 +55,7 @@ of_key r [] k h = absurd h
 of_key r (x ∷ xs) k (inl e) = (x, sym e, inl refl)
 of_key r (x ∷ xs) k (inr h) = let s = of_key r xs k h in (s.0, s.1, inr s.2)
 
+-- where no number of a list is less than one, none is less than what is not above that
 none_less : (ks : List ℕ) (k m : ℕ) → k ≤ m → NoneLess ks m → NoneLess ks k
 none_less [] k m l h = tt
 none_less (x ∷ ks) k m l h = (let a = h.0 in omega arith, none_less ks k m l h.1)
@@ -65,13 +66,16 @@ not_less [] m k h i = absurd i
 not_less (x ∷ ks) m k h (inl e) = let a = h.0 in omega arith
 not_less (x ∷ ks) m k h (inr i) = not_less ks m k h.1 i
 
+-- the lesser of two numbers is one of them
 one_of : (m x : ℕ) → (min m x ≡ m) ⊎ (min m x ≡ x)
 one_of m x = elim (leb_tells m x) [ inl (t, h) ↦ inl (omega arith) | inr (t, h) ↦ inr (omega arith) ]
 
+-- what is the lesser of m and x, or in a list, is m, or in the list with x before it
 found_in : (x : ℕ) (ks : List ℕ) (m k : ℕ) → (min m x ≡ k) ⊎ IsIn ks k → (m ≡ k) ⊎ IsIn (x ∷ ks) k
 found_in x ks m k (inr h) = inr (inr h)
 found_in x ks m k (inl e) = elim (one_of m x) [ inl f ↦ inl (sym f ∙ e) | inr f ↦ inr (inl (sym f ∙ e)) ]
 
+-- the least of a number and a list is there: it is the number or in the list, and neither has a lesser one
 within : (ks : List ℕ) (m : ℕ) → (k : ℕ) × (least (Some m) ks ≡ Some k) × (k ≤ m) × NoneLess ks k × ((m ≡ k) ⊎ IsIn ks k)
 within [] m = (m, refl, omega arith, tt, inl refl)
 within (x ∷ ks) m =

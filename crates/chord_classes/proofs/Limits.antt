@@ -43,14 +43,17 @@ pub record SmallShape (shape : Shape) : Type 0 where
   pub few : length shape.methods ≤ 16
   pub each : Every FewOf shape.methods
 
+-- parameters are as many as their written types
 length_formals : (formals : List Formal) → length (formal_types formals) ≡ length formals
 length_formals [] = refl
 length_formals (f ∷ fs) = ap suc (length_formals fs)
 
+-- parameters are as many as the tokens of their names
 length_formal_tokens : (formals : List Formal) → length (formal_tokens formals) ≡ length formals
 length_formal_tokens [] = refl
 length_formal_tokens (f ∷ fs) = ap suc (length_formal_tokens fs)
 
+-- the method of a header without parameters past the limit has few
 few_formals : (owner : ℕ) (header : HeaderTree) → drop 8 (formal_tokens header.formals.parameters) ≡ [] → FewOf (method_of owner header)
 few_formals owner header h = let a = length_formals header.formals.parameters in let b = length_formal_tokens header.formals.parameters in let c = few_left 8 (formal_tokens header.formals.parameters) h in omega (arith, a, b, c)
 
@@ -58,10 +61,12 @@ few_formals owner header h = let a = length_formals header.formals.parameters in
 abbrev FewIn : HeaderTree → Type 0
 FewIn header = drop 8 (formal_tokens header.formals.parameters) ≡ []
 
+-- where no header has parameters past the limit, each has few
 few_flat : (headers : List HeaderTree) → flat_map (λ (h : HeaderTree). drop 8 (formal_tokens h.formals.parameters)) headers ≡ [] → Every FewIn headers
 few_flat [] h = tt
 few_flat (x ∷ xs) h = (left_nil (drop 8 (formal_tokens x.formals.parameters)) _ h, few_flat xs (right_nil (drop 8 (formal_tokens x.formals.parameters)) _ h))
 
+-- where members pass no limit, each of their headers has few parameters
 members_few : (members : List MemberTree) → flat_map member_limits members ≡ [] → Every FewIn (flat_map member_headers members)
 members_few [] h = tt
 members_few (ConstructorMember modifiers name formals body ∷ more) h = members_few more (right_nil (member_limits (ConstructorMember modifiers name formals body)) (flat_map member_limits more) h)
@@ -71,6 +76,7 @@ members_few (ChordMember headers body ∷ more) h =
     (few_flat headers (left_nil (flat_map (λ (x : HeaderTree). drop 8 (formal_tokens x.formals.parameters)) headers) (drop 256 (block_names body)) (right_nil (drop 8 (header_tokens headers)) _ here)))
     (members_few more (right_nil (member_limits (ChordMember headers body)) (flat_map member_limits more) h))
 
+-- methods, with those that headers add, have few parameters where the methods and the headers have
 with_headers_few : (owner : ℕ) (methods : List Method) (headers : List HeaderTree) → Every FewOf methods → Every FewIn headers → Every FewOf (with_headers owner methods headers)
 with_headers_few owner methods [] h k = h
 with_headers_few owner methods (y ∷ ys) h k = with_headers_few owner (cond (is_main y || is_some (method_named methods y.name.text)) methods (methods ++ (method_of owner y ∷ []))) ys (by_choice (is_main y || is_some (method_named methods y.name.text))) k.1
@@ -79,11 +85,13 @@ with_headers_few owner methods (y ∷ ys) h k = with_headers_few owner (cond (is
     by_choice true = h
     by_choice false = every_both FewOf methods (method_of owner y ∷ []) h (few_formals owner y k.0, tt)
 
+-- the methods of a class among small ones are few, each with few parameters
 inherited_small : (done : List Shape) (base : ℕ) → Every SmallShape done → (length (methods_in (slice_get done base)) ≤ 16) × Every FewOf (methods_in (slice_get done base))
 inherited_small [] base h = (omega arith, tt)
 inherited_small (s ∷ ss) zero h = (h.0.few, h.0.each)
 inherited_small (s ∷ ss) (suc base) h = inherited_small ss base h.1
 
+-- the methods that are inherited from small classes are few, each with few parameters
 base_small : (done : List Shape) (base : Option ℕ) → Every SmallShape done → (length (inherited done base) ≤ 16) × Every FewOf (inherited done base)
 base_small done None h = (omega arith, tt)
 base_small done (Some base) h = inherited_small done base h
@@ -96,15 +104,18 @@ few_more limit before xs h k = let l = few_left (limit - before) xs k in omega (
 third : (a b c d e : List ℕ) → a ++ (b ++ (c ++ (d ++ e))) ≡ [] → c ≡ []
 third a b c d e h = left_nil c (d ++ e) (right_nil b (c ++ (d ++ e)) (right_nil a (b ++ (c ++ (d ++ e))) h))
 
+-- five lists that have nothing together: the last
 fifth : (a b c d e : List ℕ) → a ++ (b ++ (c ++ (d ++ e))) ≡ [] → e ≡ []
 fifth a b c d e h = right_nil d e (right_nil c (d ++ e) (right_nil b (c ++ (d ++ e)) (right_nil a (b ++ (c ++ (d ++ e))) h)))
 
+-- a class that passes no limit has no more new methods than sixteen less the inherited ones
 methods_within : (done : List Shape) (plans : List ClassOf) (class : ClassTree) → limits_passed done plans class ≡ [] → drop (16 - length (inherited done (base_of done class))) (header_tokens (new_headers (length done) (inherited done (base_of done class)) (headers_of class))) ≡ []
 methods_within done plans class h =
     third (when (nat_le 1024 (length done)) class.name.at) (base_token class.base (nat_lt 16 (length (from_base done (base_of done class)))))
     (drop (16 - length (inherited done (base_of done class))) (header_tokens (new_headers (length done) (inherited done (base_of done class)) (headers_of class)))) (flat_map member_limits class.members)
     (drop (256 - length (base_chords plans (base_of done class))) (chord_tokens class.members)) h
 
+-- a class that passes no limit has no more chords of its own than 256 less those of its base
 chords_within : (done : List Shape) (plans : List ClassOf) (class : ClassTree) → limits_passed done plans class ≡ [] → drop (256 - length (base_chords plans (base_of done class))) (chord_tokens class.members) ≡ []
 chords_within done plans class h =
     fifth (when (nat_le 1024 (length done)) class.name.at) (base_token class.base (nat_lt 16 (length (from_base done (base_of done class)))))
@@ -135,6 +146,7 @@ shapes_small done plans number (c ∷ cs) h limits =
 abbrev pub FewBuiltShape : Shape → Type 0
 FewBuiltShape shape = length (built_from shape.builder) ≤ 8
 
+-- where members pass no limit, the first constructor among them takes at most eight values
 few_builder : (members : List MemberTree) → flat_map member_limits members ≡ [] → length (built_from (first_builder members)) ≤ 8
 few_builder [] h = omega arith
 few_builder (ConstructorMember modifiers name formals body ∷ more) h =
@@ -168,6 +180,7 @@ few_classes done plans number (c ∷ cs) same h limits =
 
 -- Chords.
 
+-- the chords that have none of some methods are at most all chords
 fewer : (others : List ℕ) (chords : List ChordOf) → length (chords_without others chords) ≤ length chords
 fewer others [] = omega arith
 fewer others (k ∷ ks) = by_choice (spared others k.methods) (fewer others ks)
@@ -176,6 +189,7 @@ fewer others (k ∷ ks) = by_choice (spared others k.methods) (fewer others ks)
     by_choice true h = omega (arith, h)
     by_choice false h = omega (arith, h)
 
+-- where each chord has a header, the chords of members are as many as their tokens
 own_count : (methods : List Method) (number : ℕ) (members : List MemberTree) → ((j : ℕ) (m : MemberTree) → slice_get members j ≡ Some m → HasHeader m) → length (own_chords methods number members) ≡ length (chord_tokens members)
 own_count methods number [] heads = refl
 own_count methods number (ConstructorMember modifiers name formals body ∷ more) heads = own_count methods (number + 1) more (λ j m e. heads (suc j) m e)
@@ -194,12 +208,14 @@ own_count methods number (ChordMember (x ∷ xs) body ∷ more) heads = by_main 
 abbrev pub FewChords : ClassOf → Type 0
 FewChords plan = length plan.chords ≤ 256
 
+-- the effective chords of a base class are at most 256 where the plans so far have few
 base_few : (plans : List ClassOf) (base : Option ℕ) → Every FewChords plans → length (base_chords plans base) ≤ 256
 base_few plans None h = omega arith
 base_few [] (Some base) h = omega arith
 base_few (x ∷ xs) (Some zero) h = h.0
 base_few (x ∷ xs) (Some (suc base)) h = base_few xs (Some base) h.1
 
+-- a class that passes no limit has few chords where the plans so far have few
 few_chords_here : (done : List Shape) (plans : List ClassOf) (number : ℕ) (class : ClassTree) → Every FewChords plans → limits_passed done plans class ≡ [] → ((j : ℕ) (m : MemberTree) → slice_get class.members j ≡ Some m → HasHeader m) → FewChords (class_plan done plans number class)
 few_chords_here done plans number class h limits heads =
     let ms = inherited done (base_of done class) in

@@ -46,14 +46,17 @@ first_main all (x ∷ xs) h = by_first (is_main x) h (λ k. first_main all xs k)
     by_first true h f = (x, (mains_among all xs, refl))
     by_first false h f = f h
 
+-- equal lists have one first element
 same_head : {X : Type 0} (x y : X) (xs ys : List X) → ◌≡◌ {A = List X} (x ∷ xs) (y ∷ ys) → x ≡ y
 same_head x y xs ys e = cc
 
+-- a header whose result is `void` makes no value due
 void_due : (result : ReturnType) → is_void result ≡ true → due_by result None ≡ None
 void_due (results.Void at) h = refl
 void_due (results.Async at) h = absurd (false≢true h)
 void_due (results.Value written) h = absurd (false≢true h)
 
+-- parameters whose count is 0 are the empty list
 none_of : (formals : List Formal) → nat_eq (length formals) 0 ≡ true → formals ≡ []
 none_of [] h = refl
 none_of (f ∷ fs) h = absurd (differ (eqb-true (suc (length fs)) 0 h))
@@ -71,6 +74,7 @@ alone_right header body m r =
     let formals = none_of header.formals.parameters (truth_left (nat_eq (length header.formals.parameters) 0) _ rest) in
     record { in_main = ap (λ b. b || false) m; formals = ap (λ fs. fs ++ []) formals; due = void_due header.result_type void }
 
+-- a chord whose first header named `Main` is as it should be is `Main` as it should be
 right_chord : (headers : List HeaderTree) (body : BlockTree) (m : MainAt) → has_main headers ≡ true → Begins_with (mains_among headers headers) m → m.right ≡ true → IsRight (ChordMember headers body)
 right_chord [] body m h b r = absurd (false≢true h)
 right_chord (x ∷ []) body m h b r = by_main (is_main x) refl h b.1
@@ -102,10 +106,12 @@ record MainIn (number : ℕ) (members : List MemberTree) (k : ℕ) : Type 0 wher
 no_more : (xs ys : List MainAt) → xs ≡ [] → ys ≡ [] → xs ++ ys ≡ []
 no_more xs ys h k = rw (h, k) refl
 
+-- a member that is not `Main` has no header named `Main`
 none_here : (member : MemberTree) → member_in_main member ≡ false → member_mains member ≡ []
 none_here (ConstructorMember modifiers name formals body) h = refl
 none_here (ChordMember headers body) h = no_main_here headers headers h
 
+-- where no member is `Main`, no header of them is named so
 none_among : (number : ℕ) (members : List MemberTree) → main_among number members ≡ None → flat_map member_mains members ≡ []
 none_among number [] e = refl
 none_among number (m ∷ ms) e = by_main (member_in_main m) refl e (λ k. none_among (number + 1) ms k)
@@ -120,18 +126,22 @@ record MainHere (member : MemberTree) : Type 0 where
   begins : Begins_with (member_mains member) main
   right : main.right ≡ true → IsRight member
 
+-- a member that is `Main` has a first header of this name, and where that is as it should be, so is the member
 main_here : (member : MemberTree) → member_in_main member ≡ true → MainHere member
 main_here (ConstructorMember modifiers name formals body) h = absurd (false≢true h)
 main_here (ChordMember headers body) h =
     let f = first_main headers headers h in
     record { main = record { right = is_right_main headers f.0; at = f.0.name.at }; begins = f.1; right = λ r. right_chord headers body (record { right = is_right_main headers f.0; at = f.0.name.at }) h f.1 r }
 
+-- the first main of some is the first of them with others behind
 begins_more : (xs ys : List MainAt) (m : MainAt) → Begins_with xs m → Begins_with (xs ++ ys) m
 begins_more xs ys m b = (b.0 ++ ys, ap (λ z. z ++ ys) b.1)
 
+-- the first main of some is the first behind a list that is empty
 begins_after : (xs ys : List MainAt) (m : MainAt) → xs ≡ [] → Begins_with ys m → Begins_with (xs ++ ys) m
 begins_after xs ys m e b = (b.0, ap (λ z. z ++ ys) e ∙ b.1)
 
+-- a member that was found as `Main` is among the members, and it is as it should be where their first header of this name is
 some_among : (number : ℕ) (members : List MemberTree) (k : ℕ) → main_among number members ≡ Some k → MainIn number members k
 some_among number [] k e = absurd (none_some e)
 some_among number (m ∷ ms) k e = by_main (member_in_main m) refl e (λ g. some_among (number + 1) ms k g)
@@ -156,6 +166,7 @@ record MainOf (bodies : ℕ → Option BodyOf) (table : List Shape) (classes : L
   begins : Begins_with (mains_of classes) main
   right : main.right ≡ true → IsRight member
 
+-- where no member of classes is `Main`, no header of them is named so
 none_in : (number : ℕ) (classes : List ClassTree) → main_in number classes ≡ None → mains_of classes ≡ []
 none_in number [] e = refl
 none_in number (c ∷ cs) e = by_class (main_among number c.members) refl e (λ k. none_in (number + length c.members) cs k)
@@ -205,9 +216,11 @@ pub record MainBody (p : ProgramTree) : Type 0 where
   pub parameters : body.parameters ≡ []
   pub result : body.result ≡ None
 
+-- a list with an element is not empty
 not_nil : {X : Type 0} (x : X) (xs : List X) → ◌≡◌ {A = List X} (x ∷ xs) [] → ⊥
 not_nil x xs e = cc
 
+-- where no header named `Main` is wrong, the first is as it should be
 first_right : (mains : List MainAt) (main : MainAt) (end : ℕ) → wrong_mains mains end ≡ [] → Begins_with mains main → main.right ≡ true
 first_right [] main end h b = absurd (not_nil end [] h)
 first_right (x ∷ xs) main end h b =

@@ -10,10 +10,12 @@ use Rattle.std.specs.Cmp.Lexicographic.{slice_cmp, bytes_decides}
 use Rattle.std.proofs.lemmas.Bool.{false≢true}
 use Rattle.chord_classes.specs.NamePlaces.{texts_in, name_place_from, name_place, FindsNames}
 
+-- the first of two places that is there
 abbrev or_place : Option ℕ → Option ℕ → Option ℕ
 or_place (Some j) others = Some j
 or_place None others = others
 
+-- where the place behind a name is that among others or else the last one, so is the place with this name before them
 push_by : (b : Bool) (number : ℕ) (others others' last last' : Option ℕ) → others ≡ or_place others' last' → last' ≡ last → cond b (Some number) others ≡ or_place (cond b (Some number) others') last
 push_by true number others others' last last' h e = refl
 push_by false number others others' last last' h e = h ∙ ap (or_place others') e
@@ -24,6 +26,7 @@ place_push number [] w x = ap (λ z. cond (bytes_eq w x) (Some z) None) (omega a
 place_push number (y ∷ ys) w x =
     push_by (bytes_eq y x) number _ _ _ _ (place_push (number + 1) ys w x) (ap (λ z. cond (bytes_eq w x) (Some z) None) (omega arith))
 
+-- where a name was not there, to ask first whether another is that name gives the same place as to ask first for its old place
 absent : (b : Bool) (w x : List ℕ) (count : ℕ) (at_w at_x : Option ℕ) → (b ≡ true → at_w ≡ at_x) → at_w ≡ None → cond b (Some count) at_x ≡ or_place at_x (cond b (Some count) None)
 absent true w x count at_w None e h = refl
 absent true w x count None (Some j) e h = absurd (false≢true (ap is_some (e refl)))
@@ -31,6 +34,7 @@ absent true w x count (Some i) (Some j) e h = absurd (false≢true (sym (ap is_s
 absent false w x count at_w None e h = refl
 absent false w x count at_w (Some j) e h = refl
 
+-- where a name was there, one more of it at the end changes no name's place
 present : (b : Bool) (count : ℕ) (at_w at_x : Option ℕ) → (b ≡ true → at_w ≡ at_x) → is_some at_w ≡ true → at_x ≡ or_place at_x (cond b (Some count) None)
 present true count at_w (Some j) e h = refl
 present true count at_w None e h = absurd (false≢true (sym (ap is_some (e refl)) ∙ h))
@@ -57,18 +61,22 @@ finds_same {m} {names} w finds some = record {
   each = λ x. finds.each x ∙ present (bytes_eq w x) (length names) (name_place names w) (name_place names x) (λ t. ap (name_place names) ((bytes_decides w x).0 t)) some ∙ sym (place_end names w x);
 }
 
+-- the texts of slices with one more are those of the slices, and then that one's
 texts_push : (items : List (Bor (List ℕ))) (name : Bor (List ℕ)) → texts_in (items ++ (name ∷ [])) ≡ texts_in items ++ (name.now ∷ [])
 texts_push [] name = refl
 texts_push (x ∷ xs) name = ap (λ z. x.now ∷ z) (texts_push xs name)
 
+-- there are as many texts as slices
 texts_length : (items : List (Bor (List ℕ))) → length (texts_in items) ≡ length items
 texts_length [] = refl
 texts_length (x ∷ xs) = ap suc (texts_length xs)
 
+-- what was found is there where its copy is
 is_copied : (found : Option (Bor ℕ)) (o : Option ℕ) → option_copied found ≡ o → is_some found ≡ is_some o
 is_copied None o h = ap is_some h
 is_copied (Some x) o h = ap is_some h
 
+-- what is not something is nothing
 none_of : (o : Option ℕ) → is_some o ≡ false → o ≡ None
 none_of None h = refl
 none_of (Some x) h = absurd (false≢true (sym h))

@@ -36,6 +36,7 @@ found_name n (m ∷ ms) name f h = by_first (bytes_eq m.name name) refl h (λ k.
     by_first true e k g = subst (λ (z : Found). bytes_eq z.method.name name ≡ true) (same_some k) e
     by_first false e k g = g k
 
+-- the method at a header's number is the one that was found by its name
 number_found : (methods : List Method) (header : HeaderTree) (f : Found) → method_named methods header.name.text ≡ Some f → slice_get methods (header_number methods header) ≡ Some f.method
 unfolding FoundIn
 number_found methods header f e =
@@ -50,6 +51,7 @@ same_number table methods x y kx ky e =
     sym (bytes_same kx.found.method.name x.name.text (found_name 0 methods x.name.text kx.found kx.is))
     ∙ ap (λ (z : Method). z.name) one ∙ bytes_same ky.found.method.name y.name.text (found_name 0 methods y.name.text ky.found ky.is)
 
+-- headers of different names have different numbers
 differ_by_name : (table : List Shape) (methods : List Method) (x y : HeaderTree) → HeaderKept table methods x → HeaderKept table methods y → bytes_eq y.name.text x.name.text ≡ false → (header_number methods x == header_number methods y) ≡ false
 differ_by_name table methods x y kx ky d = by_test (header_number methods x == header_number methods y) refl
   where
@@ -83,6 +85,7 @@ others_differ name before (y ∷ ys) m h f = (
     unnamed true b c h k = absurd (true_false h)
     unnamed false b c h k = k
 
+-- the methods of a chord are different where no name stands twice in its header
 different : (table : List Shape) (methods : List Method) (before : List (List ℕ)) (headers : List HeaderTree) → has_main headers ≡ false → repeated before headers ≡ [] → Every (HeaderKept table methods) headers → AreDifferent (header_numbers methods headers)
 different table methods before [] m h ks = tt
 different table methods before (x ∷ xs) m h ks =
@@ -109,6 +112,7 @@ few_left zero (x ∷ xs) h = absurd (not_nil h)
     not_nil e = cc
 few_left (suc n) (x ∷ xs) h = let k = few_left n xs h in omega (arith, k)
 
+-- there are as many numbers of methods as headers
 length_numbers : (methods : List Method) (headers : List HeaderTree) → length (header_numbers methods headers) ≡ length headers
 length_numbers methods [] = refl
 length_numbers methods (x ∷ xs) = ap suc (length_numbers methods xs)

@@ -47,6 +47,7 @@ get_two Q [] x (suc c) y e f g = absurd (none_some e)
 get_two Q (z ∷ zs) x zero y e f g = f e
 get_two Q (z ∷ zs) x (suc c) y e f g = get_two Q zs x c y e f (λ k l. g (ap suc k) l)
 
+-- each class of a plan was made from a class of the text, where each so far was
 plan_at : (p : ProgramTree) (done : List Shape) (plans : List ClassOf) (number : ℕ) (classes : List ClassTree) → shapes_after done classes ≡ table_of p → length plans ≡ length done → over_shapes (wrong_constructors p.classes) done classes ≡ []
     → ((c : ℕ) (x : ClassOf) → slice_get plans c ≡ Some x → PlanAt p c x) → (c : ℕ) (x : ClassOf) → slice_get (plans_after done plans number classes) c ≡ Some x → PlanAt p c x
 plan_at p done plans number [] whole same built h = h
@@ -72,6 +73,7 @@ record ShapeAt (done : List Shape) (classes : List ClassTree) (i : ℕ) (s : Sha
   there : slice_get classes i ≡ Some class
   is : shape_of before class ≡ s
 
+-- each class of the table was made from a class of the text
 shape_at : (done : List Shape) (classes : List ClassTree) (i : ℕ) (s : Shape) → slice_get (shapes_after done classes) (length done + i) ≡ Some s → ShapeAt done classes i s
 shape_at done [] i s e =
     let within = slice_get_within done (length done + i) s e in
@@ -89,6 +91,7 @@ shape_at done (c ∷ cs) (suc i) s e =
     let r = shape_at (done ++ (shape_of done c ∷ [])) cs i s (ap (slice_get (shapes_after (done ++ (shape_of done c ∷ [])) cs)) place ∙ e) in
     record { before = r.before; class = r.class; there = r.there; is = r.is }
 
+-- parameters whose count is 0 have no written types
 no_formals : (formals : List Formal) → not (nat_eq (length formals) 0) ≡ false → formal_types formals ≡ []
 no_formals [] h = refl
 no_formals (f ∷ fs) h = absurd (by_test (nat_eq (suc (length fs)) 0) refl h)
@@ -116,9 +119,11 @@ unbuilt_is number [] h = refl
 unbuilt_is number (ConstructorMember modifiers name formals body ∷ more) h = absurd (none_some (sym h))
 unbuilt_is number (ChordMember headers body ∷ more) h = unbuilt_is (number + 1) more h
 
+-- a class that is built from nothing has an empty list of types that its objects are built from
 builders_are : (table : List Shape) (c : ℕ) (s : Shape) → slice_get table c ≡ Some s → built_from s.builder ≡ [] → (signatures table).builders c ≡ Some []
 builders_are table c s there e = ap (option_map (λ (z : Shape). map (type_known table) (built_from z.builder))) there ∙ ap (λ ws. Some (map (type_known table) ws)) e
 
+-- where a base name is there and nothing is noted at it, the condition is false
 base_unbroken : (o : Option Name) (b : ℕ) (flag : Bool) → (o ≡ None → ⊥) → base_token o flag ≡ [] → flag ≡ false
 base_unbroken None b flag some h = absurd (some refl)
 base_unbroken (Some name) b flag some h = when_not flag name.at h
@@ -138,16 +143,19 @@ base_built p c b x a e =
 
 -- Methods.
 
+-- a method of a plan has the kind and the number of parameters of its signature
 record HasKind (sig : Signatures) (c j : ℕ) (y : MethodOf) : Type 0 where
   signature : Signature
   there : sig.methods c j ≡ Some signature
   kind : y.is_sync ≡ signature.is_sync
   parameters : y.parameters ≡ length signature.parameters
 
+-- the static types that written types stand for are as many as these
 length_known : (table : List Shape) (ws : List ValueType) → length (map (type_known table) ws) ≡ length ws
 length_known table [] = refl
 length_known table (w ∷ ws) = ap suc (length_known table ws)
 
+-- what a plan says of a method, it says of a method that is there
 planned_method : (o : Option Method) (y : MethodOf) → option_map method_plan o ≡ Some y → (m : Method) × (o ≡ Some m) × (method_plan m ≡ y)
 planned_method None y e = absurd (none_some e)
 planned_method (Some m) y e = (m, refl, same_some e)
@@ -158,6 +166,7 @@ record MethodAt (p : ProgramTree) (c j : ℕ) (y : MethodOf) : Type 0 where
   there : slice_get (methods_at (table_of p) c) j ≡ Some method
   is : method_plan method ≡ y
 
+-- each method of a class of the plan is that of the table
 method_at : (p : ProgramTree) (c j : ℕ) (x : ClassOf) (y : MethodOf) → PlanAt p c x → slice_get x.methods j ≡ Some y → MethodAt p c j y
 method_at p c j x y a e =
     let methods = (shape_of a.done a.class).methods in
@@ -165,6 +174,7 @@ method_at p c j x y a e =
     let m = planned_method (slice_get methods j) y here in
     record { method = m.0; there = ap (λ o. slice_get (methods_in o) j) a.shape ∙ m.1; is = m.2 }
 
+-- each method of a class of the plan has the kind and the number of parameters of its signature
 has_kind : (p : ProgramTree) (c j : ℕ) (x : ClassOf) (y : MethodOf) → PlanAt p c x → slice_get x.methods j ≡ Some y → HasKind (signatures_of p) c j y
 has_kind p c j x y a e =
     let m = method_at p c j x y a e in
@@ -175,10 +185,12 @@ has_kind p c j x y a e =
       parameters = ap (λ (z : MethodOf). z.parameters) (sym m.is) ∙ sym (length_known (table_of p) m.method.formals);
     }
 
+-- methods of the plan are as many as those of the table
 length_plans : (methods : List Method) → length (map method_plan methods) ≡ length methods
 length_plans [] = refl
 length_plans (m ∷ ms) = ap suc (length_plans ms)
 
+-- an object is built from at most eight values where each constructor takes at most eight
 few_built_here : (p : ProgramTree) → Every FewBuiltShape (table_of p) → (c : ℕ) (ps : List StaticType) → (signatures_of p).builders c ≡ Some ps → length ps ≤ 8
 few_built_here p few c ps e = by_class (slice_get (table_of p) c) refl e
   where

@@ -7,10 +7,12 @@ use Rattle.chord_classes.specs.Types.{type_known}
 use Rattle.chord_bodies.specs.Types.{Scope, Keeps, Extends, declared}
 use Rattle.chord_classes.proofs.Facts.{none_some, same_some}
 
+-- a slot keeps its own type
 keeps_itself : (x : Option StaticType) → Keeps x x
 keeps_itself None = tt
 keeps_itself (Some t) = refl
 
+-- keeping the type of a slot is transitive
 keeps_on : (x y z : Option StaticType) → Keeps x y → Keeps y z → Keeps x z
 keeps_on x y None h k = tt
 keeps_on x y (Some t) h k = subst (Keeps x) k h
@@ -88,11 +90,13 @@ pub record HasRoom (table : List Shape) (types scope : Scope) (next : ℕ) (loca
   pub typed : (j : ℕ) (written : ValueType) → slice_get locals j ≡ Some written → slice_get types (next + j) ≡ Some (Some (type_known table written))
   pub agrees : (i : ℕ) (t : StaticType) → slice_get scope i ≡ Some (Some t) → slice_get types i ≡ Some (Some t)
 
+-- an element of the first of two lists joined is at its place in both
 get_first : {X : Type 0} (xs ys : List X) (j : ℕ) (x : X) → slice_get xs j ≡ Some x → slice_get (xs ++ ys) j ≡ Some x
 get_first [] ys j x h = absurd (none_some h)
 get_first (a ∷ xs) ys zero x h = h
 get_first (a ∷ xs) ys (suc j) x h = get_first xs ys j x h
 
+-- an element of the second of two lists joined stands behind as many more as the first has
 get_second : {X : Type 0} (xs ys : List X) (j : ℕ) (x : X) → slice_get ys j ≡ Some x → slice_get (xs ++ ys) (length xs + j) ≡ Some x
 get_second [] ys j x h = let same : 0 + j ≡ j = omega arith in ap (slice_get ys) same ∙ h
 get_second (a ∷ xs) ys j x h = let same : suc (length xs) + j ≡ suc (length xs + j) = omega arith in ap (slice_get (a ∷ (xs ++ ys))) same ∙ get_second xs ys j x h

@@ -35,6 +35,7 @@ IsCall (OwnCallTerm name brackets actuals) = Unit {0}
 IsCall (CallTerm receiver dot name brackets actuals) = Unit {0}
 IsCall _ = ⊥
 
+-- calls on a call or `new` are a call or `new`
 called_is_call : (calls : DotTrees) (receiver : Term) → IsCall receiver → IsCall (called calls receiver)
 called_is_call NoDots receiver c = c
 called_is_call (MoreDots (MakeDot dot name (MakeActuals at all)) more) receiver c = called_is_call more (CallTerm receiver dot name at (terms all)) tt
@@ -65,6 +66,7 @@ test_is site scope test at holds h f =
     let t = term_typed site scope Used (term test) holds tt h in
     subst (λ (z : StaticType). ExprIs (signatures site.table) scope (resolved site (term test)) (Some z)) (a_bool t.kind (typed_as is_bool (value_of site test) t.kind at t.typed f)) t.is
 
+-- where `return` without a value is not noted, no value is due
 return_is : (site : Site) (at : ℕ) → when (is_some site.due) at ≡ [] → due_of site ≡ None
 return_is site at h = ap (option_map (type_known site.table)) (none_is site.due (when_not _ at h))
   where
@@ -81,6 +83,7 @@ declared_type table (types.Class name) h = let c = there_is (class_named table n
 moved : (site : Site) (scope : Scope) (stmt : StmtTree) → Holds site scope → Holds (after site (StmtItem stmt)) scope
 moved site scope stmt holds = record { table = holds.table; locals = holds.locals; itself = holds.itself }
 
+-- an item changes nothing of what a body is to give
 due_moved : (site : Site) (item : ItemTree) → DueDeclared site → DueDeclared (after site item)
 due_moved site (LocalItem written name assign value) due = record { declared = due.declared }
 due_moved site (StmtItem stmt) due = record { declared = due.declared }

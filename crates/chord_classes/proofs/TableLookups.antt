@@ -11,14 +11,17 @@ use Rattle.chord_classes.specs.NamePlaces.{name_place_from, name_place}
 use Rattle.chord_classes.specs.MethodViews.{see_method, see_own}
 use Rattle.chord_classes.specs.Entries.{IsEntry, AreEntries}
 
+-- what is there is the same where its options are
 same_some : {X : Type 0} {x y : X} → ◌≡◌ {A = Option X} (Some x) (Some y) → x ≡ y
 same_some e = cc
 
 -- Classes by name.
 
+-- the names of classes
 abbrev shape_names : List Shape → List (List ℕ)
 shape_names shapes = map (λ (shape : Shape). shape.name) shapes
 
+-- the first place of a name among the names of classes is the first class of that name
 class_place : (n : ℕ) (shapes : List Shape) (x : List ℕ) → name_place_from n (shape_names shapes) x ≡ class_from n shapes x
 class_place n [] x = refl
 class_place n (s ∷ ss) x = ap (cond (bytes_eq s.name x) (Some n)) (class_place (n + 1) ss x)
@@ -27,6 +30,7 @@ class_place n (s ∷ ss) x = ap (cond (bytes_eq s.name x) (Some n)) (class_place
 pub class_found : {shapes : List Shape} {entries : List Entry} {names : List (List ℕ)} → AreEntries shapes entries names → (x : List ℕ) → name_place names x ≡ class_named shapes x
 class_found {shapes} e x = ap (λ z. name_place z x) e.named ∙ class_place 0 shapes x
 
+-- a class that was found by its name is one of those that were looked at
 class_within : (n : ℕ) (shapes : List Shape) (x : List ℕ) (p : ℕ) → class_from n shapes x ≡ Some p → p < n + length shapes
 class_within n [] x p h = cc
 class_within n (s ∷ ss) x p h = by_same (bytes_eq s.name x) h (λ e. class_within (n + 1) ss x p e)
@@ -43,6 +47,7 @@ class_below shapes x p h = let less = class_within 0 shapes x p h in omega (arit
 pub class_fits : {shapes : List Shape} {entries : List Entry} {names : List (List ℕ)} → AreEntries shapes entries names → (x : List ℕ) (p : ℕ) → name_place names x ≡ Some p → p < 4294967296
 class_fits {shapes} e x p h = let less = class_below shapes x p (sym (class_found e x) ∙ h) in let count = e.count in let few = e.few in omega (arith, less, count, few)
 
+-- a function over a list gives as many elements as there are
 map_length : {A B : Type 0} (f : A → B) (xs : List A) → length (map f xs) ≡ length xs
 map_length f [] = refl
 map_length f (x ∷ xs) = ap suc (map_length f xs)
@@ -59,6 +64,7 @@ no_entry {shapes = shapes} {entries = entries} t xs i h l = let e = ap length h 
 
 -- Deriving.
 
+-- numbers that differ are not found equal
 differ : (m n : ℕ) → (m ≡ n → ⊥) → nat_eq m n ≡ false
 differ m n h = by_same (nat_eq m n) refl
   where
@@ -66,6 +72,7 @@ differ m n h = by_same (nat_eq m n) refl
     by_same true e = absurd (h (eqb-true m n e))
     by_same false e = e
 
+-- equality of numbers is the same either way
 turned : (m n : ℕ) → nat_eq m n ≡ nat_eq n m
 turned m n = by_same (nat_eq m n) (nat_eq n m) refl refl
   where
@@ -110,27 +117,33 @@ abbrev pub or_found : Option Found → Option Found → Option Found
 or_found None others = others
 or_found (Some found) others = Some found
 
+-- where what was found behind a method is counted from 1 more on, so is what is chosen of the method and that
 shifted_by : (b : Bool) (j : ℕ) (m : Method) (rest rest' : Option Found) → rest ≡ option_map (shift 1) rest'
     → cond b (Some (record { number = j + 1; method = m })) rest ≡ option_map (shift 1) (cond b (Some (record { number = j; method = m })) rest')
 shifted_by true j m rest rest' h = ap (λ z. Some (record { number = z; method = m })) (omega arith)
 shifted_by false j m rest rest' h = h
 
+-- a method that is looked up from a number that is greater by 1 on is found with a number greater by 1
 shifted : (j : ℕ) (ms : List Method) (x : List ℕ) → method_from (j + 1) ms x ≡ option_map (shift 1) (method_from j ms x)
 shifted j [] x = refl
 shifted j (m ∷ ms) x = shifted_by (bytes_eq m.name x) j m _ _ (shifted (j + 1) ms x)
 
+-- to count from 0 on changes nothing
 shift_none : (o : Option Found) → option_map (shift 0) o ≡ o
 shift_none None = refl
 shift_none (Some f) = ap (λ z. Some (record { number = z; method = f.method })) (omega arith)
 
+-- to count from 1 on and then from k on is to count from k + 1 on
 shift_more : (k : ℕ) (o : Option Found) → option_map (shift k) (option_map (shift 1) o) ≡ option_map (shift (suc k)) o
 shift_more k None = refl
 shift_more k (Some f) = ap (λ z. Some (record { number = z; method = f.method })) (omega arith)
 
+-- where what was found behind a method is the first of two that is there, so is what is chosen of the method and that
 append_by : (b : Bool) (f : Found) (all rest others others' : Option Found) → all ≡ or_found rest others → others ≡ others' → cond b (Some f) all ≡ or_found (cond b (Some f) rest) others'
 append_by true f all rest others others' h e = refl
 append_by false f all rest others others' h e = h ∙ ap (or_found rest) e
 
+-- the first method of a name among two lists joined is that of the first, or else that of the second
 append_from : (j : ℕ) (xs ys : List Method) (x : List ℕ) → method_from j (xs ++ ys) x ≡ or_found (method_from j xs x) (option_map (shift (length xs)) (method_from j ys x))
 append_from j [] ys x = sym (shift_none (method_from j ys x))
 append_from j (m ∷ ms) ys x =
@@ -141,6 +154,7 @@ append_from j (m ∷ ms) ys x =
 pub method_append : (xs ys : List Method) (x : List ℕ) → method_named (xs ++ ys) x ≡ or_found (method_named xs x) (option_map (shift (length xs)) (method_named ys x))
 method_append xs ys x = append_from 0 xs ys x
 
+-- a method that was found by its name is one of those that were looked at
 number_within : (j : ℕ) (ms : List Method) (x : List ℕ) (f : Found) → method_from j ms x ≡ Some f → f.number < j + length ms
 number_within j [] x f h = cc
 number_within j (m ∷ ms) x f h = by_same (bytes_eq m.name x) h (λ e. number_within (j + 1) ms x f e)

@@ -77,25 +77,30 @@ Usable site Alone term = ⊥
 
 -- Single facts.
 
+-- an expression of which no rule is broken, and whose parts have types, has its natural type
 typed_by : (site : Site) (role : Role) (parts : TypedTerm) (kind : StaticType) → FreeTerm site role parts → parts_have_types parts ≡ true → natural site parts ≡ Some kind → judged site role parts ≡ Some kind
 typed_by site role parts kind f p n =
     picked (parts_have_types parts) (is_nil (faults site role parts)) (natural site parts) kind p (nothing _ _ _ _ _ _ f.undeclared f.unknown f.disagreeing f.inaccessible f.used_valueless f.miscounted) n
 
+-- a truth value that is false both with another and with the contrary of it is false
 neither : (b v : Bool) → (b && v) ≡ false → (v && not b) ≡ false → v ≡ false
 neither true true h k = cc
 neither true false h k = refl
 neither false true h k = cc
 neither false false h k = refl
 
+-- a truth value that is false together with true is false
 unnamed : (v : Bool) → (v && true) ≡ false → v ≡ false
 unnamed true h = h
 unnamed false h = refl
 
+-- a variable of which nothing is noted and that may be used is in scope
 variable_found : (site : Site) (role : Role) (name : Name) → Usable site role (VariableTerm name) → when (is_none (variable_named site.scope name.text) && not (may_be_console role name)) name.at ≡ [] → is_none (variable_named site.scope name.text) ≡ false
 variable_found site Used name u h = unnamed (is_none (variable_named site.scope name.text)) (when_not _ name.at h)
 variable_found site Receiver name u h = neither (bytes_eq name.text (codes "Console")) (is_none (variable_named site.scope name.text)) u (when_not _ name.at h)
 variable_found site Alone name u h = absurd u
 
+-- a fact of a variable and of what is found behind it holds of what is chosen of the two
 local_choice : (P : Local → Type 0) (b : Bool) (l local : Local) (rest : Option Local) → P l → (rest ≡ Some local → P local) → cond b (Some l) rest ≡ Some local → P local
 local_choice P true l local rest p k h = subst P (same_some h) p
 local_choice P false l local rest p k h = k h
@@ -109,6 +114,7 @@ variable_is P (l ∷ ls) name local h e = local_choice P (bytes_eq l.name name) 
 pub typed_as : (is_wanted : StaticType → Bool) (o : Option StaticType) (kind : StaticType) (at : ℕ) → o ≡ Some kind → when_typed is_wanted o at ≡ [] → is_wanted kind ≡ true
 typed_as is_wanted o kind at e h = unless_not (is_wanted kind) at (subst (λ (z : Option StaticType). when_typed is_wanted z at ≡ []) e h)
 
+-- a type that passes the test for `int` is `int`
 an_int : (kind : StaticType) → is_int kind ≡ true → kind ≡ ty.Int
 an_int ty.Int h = refl
 an_int ty.Bool h = cc
@@ -122,6 +128,7 @@ a_bool ty.Int h = cc
 a_bool ty.Text h = cc
 a_bool (ty.Class c) h = cc
 
+-- a type that passes the test for classes is a class
 an_object : (kind : StaticType) → is_class_type kind ≡ true → (class : ℕ) × (kind ≡ ty.Class class)
 an_object (ty.Class c) h = (c, refl)
 an_object ty.Int h = absurd (false≢true h)
@@ -134,6 +141,7 @@ an_object ty.Text h = absurd (false≢true h)
 unfoldable pub FoundIn : ℕ → List Method → Found → Type 0
 FoundIn n ms f = (i : ℕ) × (f.number ≡ n + i) × (slice_get ms i ≡ Some f.method)
 
+-- what is chosen of a method and what was found behind it is among the methods from that one on
 method_choice : (b : Bool) (n : ℕ) (m : Method) (ms : List Method) (rest : Option Found) (f : Found) → (rest ≡ Some f → FoundIn (n + 1) ms f) → cond b (Some (record { number = n; method = m })) rest ≡ Some f → FoundIn n (m ∷ ms) f
 unfolding FoundIn
 method_choice true n m ms rest f k h = subst (λ (z : Found). (i : ℕ) × (z.number ≡ n + i) × (slice_get (m ∷ ms) i ≡ Some z.method)) (same_some h) (0, omega arith, refl)
@@ -149,10 +157,12 @@ pub record IsTarget (table : List Shape) (class : ℕ) (target : Target) : Type 
   pub class_is : target.class ≡ class
   pub there : slice_get (methods_at table target.class) target.number ≡ Some target.method
 
+-- what a call names, of a method that was found in a class, is a method of that class
 target_of_found : (table : List Shape) (class : ℕ) (o : Option Found) (target : Target) → ((f : Found) → o ≡ Some f → slice_get (methods_at table class) f.number ≡ Some f.method) → target_in class o ≡ Some target → IsTarget table class target
 target_of_found table class None target k h = absurd (none_some h)
 target_of_found table class (Some f) target k h = subst (IsTarget table class) (same_some h) (record { class_is = refl; there = k f refl })
 
+-- what a call names in a class is a method of that class
 target_is : (table : List Shape) (class : ℕ) (name : List ℕ) (target : Target) → target_at table class name ≡ Some target → IsTarget table class target
 unfolding FoundIn
 target_is table class name target h =
@@ -162,14 +172,17 @@ target_is table class name target h =
     ap (slice_get (methods_at table class)) number ∙ r.2)
     h
 
+-- a number is that of one of these classes, of which the first has this number
 ClassIn : ℕ → List Shape → ℕ → Type 0
 ClassIn n ss c = (i : ℕ) × (c ≡ n + i) × (s : Shape) × (slice_get ss i ≡ Some s)
 
+-- what is chosen of a class and what was found behind it is a class from that one on
 class_choice : (b : Bool) (n : ℕ) (s : Shape) (ss : List Shape) (rest : Option ℕ) (c : ℕ) → (rest ≡ Some c → ClassIn (n + 1) ss c) → cond b (Some n) rest ≡ Some c → ClassIn n (s ∷ ss) c
 unfolding ClassIn
 class_choice true n s ss rest c k h = let e : n ≡ c = same_some h in (0, omega (arith, e), s, refl)
 class_choice false n s ss rest c k h = let r = k h in let e : c ≡ n + 1 + r.0 = r.1 in (suc r.0, omega (arith, e), r.2, r.3)
 
+-- a class that was found by its name is one of the classes that were looked at
 class_found : (n : ℕ) (ss : List Shape) (name : List ℕ) (c : ℕ) → class_from n ss name ≡ Some c → ClassIn n ss c
 class_found n [] name c h = absurd (none_some h)
 class_found n (s ∷ ss) name c h = class_choice (bytes_eq s.name name) n s ss (class_from (n + 1) ss name) c (λ k. class_found (n + 1) ss name c k) h
@@ -184,6 +197,7 @@ class_is table name c h =
 
 -- Arguments.
 
+-- a written type that is declared stands for its static type
 known_is : (table : List Shape) (written : ValueType) (kind : StaticType) → type_written table written ≡ Some kind → type_known table written ≡ kind
 known_is table written kind h = ap (λ o. unwrap_or o ty.Int) h
 
@@ -197,9 +211,11 @@ pub fits_written : (table : List Shape) (written : ValueType) (value : Option St
 fits_written table written value a at d hv h =
     subst (λ (z : StaticType). fits (signatures table) a z ≡ true) (sym (known_is table written d.kind d.is)) (fits_one table (type_written table written) value d.kind a at d.is hv h)
 
+-- where the number of arguments is not noted, it is that of the parameters
 counted : (actuals : List Passed) (formals : List ValueType) (at : ℕ) → miscounted_for (Some formals) actuals at ≡ [] → nat_eq (length actuals) (length formals) ≡ true
 counted actuals formals at h = unless_not _ at h
 
+-- where a condition holds and nothing is noted under it, there is nothing to note
 if_counted : (b : Bool) (xs : List ℕ) → b ≡ true → cond b xs [] ≡ [] → xs ≡ []
 if_counted true xs e h = h
 if_counted false xs e h = absurd (false≢true e)
@@ -213,6 +229,7 @@ args_fit site scope actuals o formals at typed e d hc hm =
 
 -- Calls.
 
+-- a call that is used and of which nothing is noted is of a method with a value
 valued : (o : Option Target) (target : Target) (role : Role) (at : ℕ) → o ≡ Some target → is_used role ≡ true → when (is_used role && valueless o) at ≡ [] → is_none (value_type target.method.result_type) ≡ false
 valued o target role at e u h = subst (λ (z : Option Target). valueless z ≡ false) e (second (is_used role) (valueless o) u (when_not _ at h))
   where
@@ -220,6 +237,7 @@ valued o target role at e u h = subst (λ (z : Option Target). valueless z ≡ f
     second true b u h = h
     second false b u h = absurd (false≢true u)
 
+-- callers of a method that gives a value wait
 waits : (result : ReturnType) (written : ValueType) → value_type result ≡ Some written → is_sync result ≡ true
 waits (results.Async at) written h = absurd (none_some h)
 waits (results.Void at) written h = refl
@@ -240,6 +258,7 @@ record HasValue (table : List Shape) (target : Target) : Type 0 where
   known : result_known table target.method.result_type ≡ Some kind
   sync : is_sync target.method.result_type ≡ true
 
+-- a method that gives a value and whose types are declared has a type of its value, and its callers wait
 has_value : (table : List Shape) (target : Target) → DeclaredMethod table target.method → is_none (value_type target.method.result_type) ≡ false → HasValue table target
 has_value table target d h =
     let v = there_is (value_type target.method.result_type) h in
@@ -297,6 +316,7 @@ record AreBools (a b c : StaticType) : Type 0 where
   right : Some b ≡ Some ty.Bool
   result : Some c ≡ Some ty.Bool
 
+-- operands from which `&&` or `||` gives a type are bools, and so is what it gives
 bools_by : (a b c : StaticType) → from_bools a b ≡ Some c → AreBools a b c
 bools_by ty.Int ty.Int c h = absurd (none_some h)
 bools_by ty.Int ty.Bool c h = absurd (none_some h)
@@ -334,6 +354,7 @@ sum_by table (ty.Class d1) ty.Bool c h = absurd (none_some h)
 sum_by table (ty.Class d1) ty.Text c h = absurd (none_some h)
 sum_by table (ty.Class d1) (ty.Class d2) c h = absurd (none_some h)
 
+-- what a choice between something and nothing gives is that something
 if_so : (b : Bool) (r c : StaticType) → cond b (Some r) None ≡ Some c → Some r ≡ Some c
 if_so true r c h = h
 if_so false r c h = absurd (none_some h)
@@ -343,6 +364,7 @@ record AreCompared (table : List Shape) (a b c : StaticType) : Type 0 where
   equal : bodies.operation_result (signatures table) by.Equal a b ≡ Some c
   differ : bodies.operation_result (signatures table) by.NotEqual a b ≡ Some c
 
+-- operands that may be compared have in a body the same result of `==` and of `!=`
 compared_by : (table : List Shape) (a b c : StaticType) → comparison_type table a b ≡ Some c → AreCompared table a b c
 compared_by table ty.Int ty.Int c h = record { equal = h; differ = h }
 compared_by table ty.Int ty.Bool c h = absurd (none_some h)
@@ -388,6 +410,7 @@ record Operands (table : List Shape) (operator : Operator) (s t : Option StaticT
   fits : operator_result table operator a b ≡ Some kind
   natural : operands_type (operator_result table operator) s t ≡ Some kind
 
+-- operands that have types and of which nothing is noted fit their operator
 operands : (table : List Shape) (operator : Operator) (s t : Option StaticType) (a b : StaticType) (at : ℕ) → s ≡ Some a → t ≡ Some b → clash table operator at s t ≡ [] → Operands table operator s t a b
 operands table operator s t a b at hs ht h =
     let h1 : clash table operator at (Some a) t ≡ [] = subst (λ (z : Option StaticType). clash table operator at z t ≡ []) hs h in
@@ -419,6 +442,7 @@ record IsCalled (site : Site) (scope : Scope) (role : Role) (parts : TypedTerm) 
   typed : judged site role parts ≡ Some kind
   is : ExprIs (signatures site.table) scope expr (Some kind)
 
+-- a call of which no rule is broken, whose arguments have types and whose value is used, has a type
 called_typed : (site : Site) (scope : Scope) (role : Role) (parts : TypedTerm) (o : Option Target) (receiver : ExprOf) (actuals : Terms) (at : ℕ) → Holds site scope → FreeTerm site role parts → is_used role ≡ true
     → parts_have_types parts ≡ true → natural site parts ≡ target_type site o → Callable site scope o receiver → AreTyped site scope actuals
     → when (is_used role && valueless o) at ≡ [] → miscounted_for (target_formals o) (passed site actuals) at ≡ [] → misfits_for site.table (target_formals o) (passed site actuals) ≡ []
@@ -434,6 +458,7 @@ called_typed site scope role parts o receiver actuals at holds f used p n c args
           (call_is site.table scope o c.target receiver (all_resolved site actuals) c.is c.on c.there v.sync fit);
     }
 
+-- what may stand where its value is used is used
 used_is : (site : Site) (role : Role) (term : Term) → Usable site role term → is_used role ≡ true
 used_is site Used term u = refl
 used_is site Receiver term u = refl
@@ -476,6 +501,7 @@ on_receiver : (site : Site) (scope : Scope) (role : Role) (b : Bool) (s : Option
 on_receiver site scope role true s dot name actuals receiver holds used f args k = absurd (not_printed site role name (passed site actuals) used f)
 on_receiver site scope role false s dot name actuals receiver holds used f args k = let r = k refl in method_typed site scope role s dot name actuals receiver r.0 holds used f r.1 r.2 args
 
+-- no arguments fit parameters of which there are none
 no_fit : (site : Site) (scope : Scope) (formals : List ValueType) → Every (Declared site.table) formals → length (passed site NoTerms) ≡ length formals → misfits site.table formals (passed site NoTerms) ≡ [] → ExprsAre (signatures site.table) scope (all_resolved site NoTerms) (map (type_known site.table) formals)
 no_fit site scope [] d e h = tt
 no_fit site scope (w ∷ ws) d e h = absurd (differ e)
@@ -483,6 +509,7 @@ no_fit site scope (w ∷ ws) d e h = absurd (differ e)
     differ : 0 ≡ suc (length ws) → ⊥
     differ e = omega arith
 
+-- an argument and others that have types fit as many parameters, where nothing is noted of them
 more_fit : (site : Site) (scope : Scope) (actual : Term) (more : Terms) → IsTyped site scope Used actual → AreTyped site scope more → (formals : List ValueType) → Every (Declared site.table) formals
     → length (passed site (MoreTerms actual more)) ≡ length formals → misfits site.table formals (passed site (MoreTerms actual more)) ≡ []
     → ExprsAre (signatures site.table) scope (all_resolved site (MoreTerms actual more)) (map (type_known site.table) formals)

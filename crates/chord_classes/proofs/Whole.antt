@@ -34,6 +34,7 @@ pub record Made (p : ProgramTree) (c : ℕ) (x : ClassOf) : Type 0 where
   pub earlier : Begins plans (plan_of p)
   pub members : (j : ℕ) (m : MemberTree) → slice_get class.members j ≡ Some m → slice_get (bodies_of p) (number + j) ≡ Some (resolved_member (table_of p) c class m)
 
+-- the plans so far begin the list of them and the others
 plans_begin : (done : List Shape) (plans : List ClassOf) (number : ℕ) (classes : List ClassTree) → Begins plans (plans_after done plans number classes)
 plans_begin done plans number [] j x h = h
 plans_begin done plans number (c ∷ cs) j x h =
@@ -46,6 +47,7 @@ get_two Q [] x (suc c) y e f g = absurd (none_some e)
 get_two Q (z ∷ zs) x zero y e f g = f e
 get_two Q (z ∷ zs) x (suc c) y e f g = get_two Q zs x c y e f (λ k l. g (ap suc k) l)
 
+-- each class of a plan was made from a class of the text, where each so far was
 made_at : (p : ProgramTree) (done : List Shape) (plans : List ClassOf) (number : ℕ) (classes : List ClassTree) → shapes_after done classes ≡ table_of p → plans_after done plans number classes ≡ plan_of p → length plans ≡ length done
     → ((j : ℕ) → slice_get (bodies_of p) (number + j) ≡ slice_get (resolved_classes (table_of p) (length done) classes) j)
     → ((c : ℕ) (x : ClassOf) → slice_get plans c ≡ Some x → Made p c x) → (c : ℕ) (x : ClassOf) → slice_get (plans_after done plans number classes) c ≡ Some x → Made p c x
@@ -84,6 +86,7 @@ planned_from p = made_at p [] [] 0 p.classes refl refl refl (λ j. let e : 0 + j
 
 -- Each class of the table is one of the plan.
 
+-- there are as many plans of classes as shapes, where there were so far
 same_count : (done : List Shape) (plans : List ClassOf) (number : ℕ) (classes : List ClassTree) → length plans ≡ length done → length (plans_after done plans number classes) ≡ length (shapes_after done classes)
 same_count done plans number [] e = e
 same_count done plans number (c ∷ cs) e =
@@ -91,6 +94,7 @@ same_count done plans number (c ∷ cs) e =
     let b = length-append plans (class_plan done plans number c ∷ []) in
     same_count (done ++ (shape_of done c ∷ [])) (plans ++ (class_plan done plans number c ∷ [])) (number + length c.members) cs (omega (arith, a, b, e))
 
+-- each place within a list has an element
 get_within : {X : Type 0} (xs : List X) (c : ℕ) → c < length xs → (x : X) × (slice_get xs c ≡ Some x)
 get_within [] c h = absurd (omega (arith, h))
 get_within (x ∷ xs) zero h = (x, refl)
@@ -103,6 +107,7 @@ class_planned p c s e =
     let count = same_count [] [] 0 p.classes refl in
     get_within (plan_of p) c (omega (arith, within, count))
 
+-- what a function gives of an option is what it gives of a value that is there
 mapped_some : {A B : Type 0} (f : A → B) (o : Option A) (y : B) → option_map f o ≡ Some y → (x : A) × (o ≡ Some x) × (f x ≡ y)
 mapped_some f None y e = absurd (none_some e)
 mapped_some f (Some x) y e = (x, refl, same_some e)
@@ -115,6 +120,7 @@ built_planned p c ps e =
 
 -- Each method of the signatures is one of the plan.
 
+-- the static types that written types stand for are as many as these
 length_known : (table : List Shape) (ws : List ValueType) → length (map (type_known table) ws) ≡ length ws
 length_known table [] = refl
 length_known table (w ∷ ws) = ap suc (length_known table ws)
@@ -155,6 +161,7 @@ base_derived p c b x e f =
 
 -- The constructor of a class.
 
+-- a constructor among members: it is not `Main`, has no result, and its parameters are those of the first constructor
 record BuilderMember (number i : ℕ) (members : List MemberTree) (table : List Shape) (c : ℕ) (class : ClassTree) : Type 0 where
   member : MemberTree
   place : ℕ
@@ -165,10 +172,12 @@ record BuilderMember (number i : ℕ) (members : List MemberTree) (table : List 
   result : (resolved_member table c class member).result ≡ None
   formals : map (type_known table) (built_from (first_builder members)) ≡ (resolved_member table c class member).parameters
 
+-- the static types that the written types of parameters stand for are the types of these parameters
 known_formals : (table : List Shape) (fs : List Formal) → map (type_known table) (formal_types fs) ≡ map (λ (f : Formal). type_known table f.value_type) fs
 known_formals table [] = refl
 known_formals table (f ∷ fs) = ap (λ zs. type_known table f.value_type ∷ zs) (known_formals table fs)
 
+-- the first constructor among members is such a constructor
 builder_member : (table : List Shape) (c : ℕ) (class : ClassTree) (number i : ℕ) (members : List MemberTree) → own_builder number members ≡ Some i → BuilderMember number i members table c class
 builder_member table c class number i [] e = absurd (none_some e)
 builder_member table c class number i (ConstructorMember modifiers name formals body ∷ more) e =
@@ -200,6 +209,7 @@ builder_planned p c i x e f =
 has_itself : (k : ℕ) (ks : List ℕ) → has k (k ∷ ks) ≡ true
 has_itself k ks = let e : (k == k) ≡ true = eq-eqb k k refl in rw e refl
 
+-- a number that is among others is among more
 has_later : (n k : ℕ) (ks : List ℕ) → has n ks ≡ true → has n (k ∷ ks) ≡ true
 has_later n k ks h = second_true (n == k) (has n ks) h
   where
@@ -207,6 +217,7 @@ has_later n k ks h = second_true (n == k) (has n ks) h
     second_true true b h = refl
     second_true false b h = h
 
+-- the body of each chord is among the bodies of the chords
 each_has : (ks : List ChordOf) → Every (λ (y : ChordOf). has y.body (map (λ (z : ChordOf). z.body) ks) ≡ true) ks
 each_has [] = tt
 each_has (k ∷ ks) = (has_itself k.body (map (λ (z : ChordOf). z.body) ks), every_map (λ (y : ChordOf). has y.body (map (λ (z : ChordOf). z.body) ks) ≡ true) (λ (y : ChordOf). has y.body (k.body ∷ map (λ (z : ChordOf). z.body) ks) ≡ true) ks (λ y h. has_later y.body k.body (map (λ (z : ChordOf). z.body) ks) h) (each_has ks))

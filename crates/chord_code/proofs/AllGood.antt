@@ -64,6 +64,7 @@ body_later code limits sig src e h b (Over x) a n k = tt
 body_later code limits sig src e h b Absent a n k = tt
 body_later code limits sig src e h b Unplaced a n k = tt
 
+-- a trap fits a play that asks a call
 trap_fits : (sig : Signatures) (p : Play) (o : Object) (j : ℕ) (vs : List Value) (t : _) → what_of p ≡ Some (Called o j vs) → EndFits sig p (Traps t)
 trap_fits sig (CallsMethod l o' j' vs' k) o j vs t e = tt
 trap_fits sig (MakesObject c k) o j vs t e = (let z : Made c ≡ Called o j vs = cc in cc)
@@ -111,6 +112,7 @@ own_fits sig (PrintsLine x p) n c e = (let z : Printed x ≡ Made c = cc in cc)
 own_fits sig (EndsBody x) n c e = (let z : Ended x ≡ Made c = cc in cc)
 own_fits sig GoesWrong n c e = (let z : ◌≡◌ {A = Option What} None (Some (Made c)) = e in cc)
 
+-- the unit value fits a play that sends a message
 sent_fits : (sig : Signatures) (p : Play) (o : Object) (j : ℕ) (vs : List Value) → what_of p ≡ Some (Sent o j vs) → EndFits sig p (Gives a_value.Unit)
 sent_fits sig (SendsMessage o' j' vs' p) o j vs e = tt
 sent_fits sig (MakesObject d k) o j vs e = (let z : Made d ≡ Sent o j vs = cc in cc)
@@ -119,6 +121,7 @@ sent_fits sig (PrintsLine x p) o j vs e = (let z : Printed x ≡ Sent o j vs = c
 sent_fits sig (EndsBody x) o j vs e = (let z : Ended x ≡ Sent o j vs = cc in cc)
 sent_fits sig GoesWrong o j vs e = (let z : ◌≡◌ {A = Option What} None (Some (Sent o j vs)) = e in cc)
 
+-- the unit value fits a play that prints a line
 printed_fits : (sig : Signatures) (p : Play) (t : List ℕ) → what_of p ≡ Some (Printed t) → EndFits sig p (Gives a_value.Unit)
 printed_fits sig (PrintsLine x p) t e = tt
 printed_fits sig (SendsMessage o' j' vs' p) t e = (let z : Sent o' j' vs' ≡ Printed t = cc in cc)
@@ -173,6 +176,7 @@ message_fits sig r (PrintsLine t p) w m g e i = (let z : Printed t ≡ w = cc in
 message_fits sig r (EndsBody x) w m g e i = (let z : Ended x ≡ w = cc in let y : ◌≡◌ {A = Option Message} None (Some m) = ap message_of z ∙ i in cc)
 message_fits sig r GoesWrong w m g e i = absurd g
 
+-- a message that is a body's next ask has the arguments that its method wants
 asked_fits : (code : Parts) → IsForward code → (limits : Limits) (sig : Signatures) (src : Start → ℕ → Play) (h : List Entry) (b : ℕ) (w : What) (l : ℕ) (m : Message) (d : Doing) → BodyIs code limits sig src h b d → asked (code_program code limits) d ≡ Some (record { what = w; depth = l }) → message_of w ≡ Some m → IsFitMessage sig m
 asked_fits code fwd limits sig src h b w l m (Ready s dp rs) k e i = message_fits sig k.kind k.play w m k.good (playing_asks code fwd limits sig src h b s dp rs k w l e) i
 asked_fits code fwd limits sig src h b w l m (Waits s dp rs q pl) k e i = cc

@@ -9,6 +9,7 @@ use Rattle.chord_code.specs.Fuel.{weight, comes_to}
 use Rattle.chord_code.specs.Meaning.{IsAsked, Point, point_replied, points}
 use Rattle.chord_code.proofs.Weight.{lighter, act_asked}
 
+-- where each machine comes to its ask with enough fuel, so does one after an instruction
 after_step : (code : Parts) → IsForward code → (a : What) (w : Waiting) → (n k : ℕ) → ((m' : Machine) → run code n m' ≡ Asking a w → weight code m' < k → run code k m' ≡ Asking a w) → (m : Machine) (o : Option Instruction) → fetch code m.top.block m.top.place ≡ o → (d : Did) → act code o m ≡ d → goes_on (run code n) d ≡ Asking a w → weight code m < suc k → goes_on (run code k) d ≡ Asking a w
 after_step code fwd a w n k more m o f (Asking b v) e r l = r
 after_step code fwd a w n k more m o f Bad e r l = r
@@ -34,6 +35,7 @@ pub points_more : (code : Parts) (p : Point) (rs : List End) (r : End) → point
 points_more code p [] r = refl
 points_more code p (x ∷ rs) r = points_more code (point_replied code p x) rs r
 
+-- where each machine that asks within n instructions waits for the answer, so does one that asks within one more
 asked_step : (code : Parts) → IsForward code → (a : What) (w : Waiting) → (n : ℕ) → ((m' : Machine) → run code n m' ≡ Asking a w → IsAsked a w.awaited) → (m : Machine) (o : Option Instruction) → fetch code m.top.block m.top.place ≡ o → (d : Did) → act code o m ≡ d → goes_on (run code n) d ≡ Asking a w → IsAsked a w.awaited
 asked_step code fwd a w n more m None f d e r = (let z : Bad ≡ Asking a w = ap (goes_on (run code n)) e ∙ r in cc)
 asked_step code fwd a w n more m (Some i) f (Asking b v) e r = act_asked code m i a w fwd f (e ∙ r)
@@ -45,6 +47,7 @@ pub run_asked : (code : Parts) → IsForward code → (a : What) (w : Waiting) �
 run_asked code fwd a w zero m e = (let z : Goes m ≡ Asking a w = e in cc)
 run_asked code fwd a w (suc n) m e = asked_step code fwd a w n (run_asked code fwd a w n) m (fetch code m.top.block m.top.place) refl (step code m) refl e
 
+-- where n instructions take at least n from the weight, one more takes at least one more
 weight_step : (code : Parts) → IsForward code → (n : ℕ) (m' : Machine) → ((m : Machine) → run code n m ≡ Goes m' → weight code m' + n ≤ weight code m) → (m : Machine) (o : Option Instruction) → fetch code m.top.block m.top.place ≡ o → (d : Did) → act code o m ≡ d → goes_on (run code n) d ≡ Goes m' → weight code m' + suc n ≤ weight code m
 weight_step code fwd n m' more m o f (Asking a w) e r = (let z : Asking a w ≡ Goes m' = r in cc)
 weight_step code fwd n m' more m o f Bad e r = (let z : Bad ≡ Goes m' = r in cc)
@@ -71,15 +74,18 @@ IsSafe P (Goes m) = P m
 IsSafe P (Asking a w) = Unit {0}
 IsSafe P Bad = ⊥
 
+-- where n instructions are safe for each machine with a property, they are so after a safe instruction
 safe_on : (code : Parts) (P : Machine → Type 0) (n : ℕ) → ((m : Machine) → P m → IsSafe P (run code n m)) → (d : Did) → IsSafe P d → IsSafe P (goes_on (run code n) d)
 safe_on code P n more (Goes m) s = more m s
 safe_on code P n more (Asking a w) s = tt
 safe_on code P n more Bad s = absurd s
 
+-- where each instruction is safe for a machine with a property, so are n of them
 run_safe : (code : Parts) (P : Machine → Type 0) → ((m : Machine) → P m → IsSafe P (step code m)) → (n : ℕ) (m : Machine) → P m → IsSafe P (run code n m)
 run_safe code P safe zero m p = p
 run_safe code P safe (suc n) m p = safe_on code P n (run_safe code P safe n) (step code m) (safe m p)
 
+-- a machine that comes to something safe comes to an ask
 by_did : (code : Parts) → IsForward code → (P : Machine → Type 0) (m : Machine) (d : Did) → comes_to code m ≡ d → IsSafe P d → ComesToAsk code m
 by_did code fwd P m (Goes n) e s = absurd (comes_to_an_end code fwd m n e)
 by_did code fwd P m (Asking a w) e s = record { ask = a; waiting = w; comes = found_comes code m a w e }

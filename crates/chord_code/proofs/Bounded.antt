@@ -29,6 +29,7 @@ use Rattle.chord_code.proofs.Validity.{valid_within, valid_methods, valid_header
 
 -- ---- bodies that are not there
 
+-- a body that is absent stays so, whatever another body does
 heard_absent : (w : What) (c : Option ℕ) → heard w c Absent ≡ Absent
 heard_absent (Ended x) None = refl
 heard_absent (Ended x) (Some q) = refl
@@ -39,10 +40,12 @@ heard_absent (Called o j vs) c = refl
 heard_absent (Printed t) c = refl
 heard_absent (Fired k o ms vs) c = refl
 
+-- a body that asks has the number of an entry, where bodies past the entries are absent
 asks_low : (p : Program) (h : List Entry) (b : ℕ) (a : Asked) → ((c : ℕ) → length h ≤ c → doing p h c ≡ Absent) → asked p (doing p h b) ≡ Some a → b < length h
 asks_low p h b a absent e =
     ⊎_elim (λ lt. lt) (λ le. let z : ◌≡◌ {A = Option Asked} None (Some a) = sym (ap (asked p) (absent b le)) ∙ e in cc) (cases_lt b (length h))
 
+-- the body of an entry that may come has no number past the entries, where bodies past them are absent
 comes_low : (p : Program) (h : List Entry) (n b : ℕ) (w : What) → ((c : ℕ) → length h ≤ c → doing p h c ≡ Absent) → n ≡ length h → Comes p h n b w → b ≤ length h
 comes_low p h n b Begun absent i c = (let z = c.1 in omega (arith, z))
 comes_low p h n b (Fired k o ms vs) absent i c = (let z = c.0 in omega (arith, z, i))
@@ -62,6 +65,7 @@ absent_past p (e ∷ h) r b l =
 
 -- ---- objects and messages
 
+-- an entry within its bounds makes an object of a class below 1,024
 makes_within : (c : ℕ) (w : What) → IsWhatWithin w → makes c w ≡ true → c < 1024
 makes_within c (Made k) w m = subst (λ z. z < 1024) (eqb-true k c m) w
 makes_within c Begun w m = (let z : false ≡ true = m in cc)
@@ -83,6 +87,7 @@ made_within (e ∷ h) w l o m =
       | inr n ↦ made_within h w.0 (omega (arith, l)) o (rw n at m)
     ]
 
+-- a value is within its bounds where its object is among objects within theirs
 value_within : (f : Object → Bool) → ((o : Object) → f o ≡ true → IsObjectWithin o) → (v : value.Value) → ValueAmong f v → IsValueWithin v
 value_within f k (a_value.Ref o) a = k o a
 value_within f k a_value.Unit a = tt
@@ -90,10 +95,12 @@ value_within f k (a_value.Int n) a = tt
 value_within f k (a_value.Flag b) a = tt
 value_within f k (a_value.Text t) a = tt
 
+-- values are within their bounds where their objects are among objects within theirs
 values_within : (f : Object → Bool) → ((o : Object) → f o ≡ true → IsObjectWithin o) → (vs : List value.Value) → ValuesAmong f vs → AreValuesWithin vs
 values_within f k [] a = tt
 values_within f k (v ∷ vs) a = (value_within f k v a.0, values_within f k vs a.1)
 
+-- an end is within its bounds where its object is among objects within theirs
 end_within : (f : Object → Bool) → ((o : Object) → f o ≡ true → IsObjectWithin o) → (x : End) → EndAmong f x → IsEndWithin x
 end_within f k (Gives v) a = value_within f k v a
 end_within f k (Traps t) a = tt
@@ -102,6 +109,7 @@ end_within f k (Traps t) a = tt
 abbrev IsShort : Message → Type 0
 IsShort m = length m.arguments ≤ 8
 
+-- a message that an entry within its bounds sends has at most eight values
 sent_short : (w : What) (m : Message) → IsWhatWithin w → message_of w ≡ Some m → IsShort m
 sent_short (Sent o j vs) m w e = (let z : record { object = o; method = j; arguments = vs } ≡ m = cc in subst IsShort z w.few)
 sent_short (Called o j vs) m w e = (let z : record { object = o; method = j; arguments = vs } ≡ m = cc in subst IsShort z w.few)
@@ -140,6 +148,7 @@ takes_within h w l o (j ∷ js) (i ∷ ms) vs t =
 
 -- ---- entries
 
+-- what a body of a valid code asks is within its bounds
 asked_within : (code : Parts) → IsValid code → (limits : Limits) (d : Doing) (a : Asked) → asked (code_program code limits) d ≡ Some a → IsAskWithin a.what
 asked_within code valid limits (Ready s k rs) a e = code_asks_within code limits (valid_within code valid) s k rs a e
 asked_within code valid limits (Waits s k rs q l) a e = (let z : ◌≡◌ {A = Option Asked} None (Some a) = e in cc)

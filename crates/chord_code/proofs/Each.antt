@@ -15,6 +15,7 @@ pub each_more : {A : Type 0} (P : ℕ → A → Type 0) (xs : List A) (n : ℕ) 
 each_more P xs n x below at here k y less is =
     ⊎_elim (λ lt. below k y lt is) (λ le. let e : n ≡ k = omega (arith, le, less) in subst (λ j. P j y) e (subst (P n) (same_item xs n x y at (subst (λ j. slice_get xs j ≡ Some y) (sym e) is)) here)) (cases_lt k n)
 
+-- nothing is not an item
 no_item : {A : Type 0} (y : A) → ◌≡◌ {A = Option A} None (Some y) → ⊥
 no_item y e = cc
 

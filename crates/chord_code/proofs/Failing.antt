@@ -14,12 +14,15 @@ use Rattle.chord_code.specs.Fuel.{weight, comes_to}
 use Rattle.chord_code.specs.Meaning.{Point, At, FailsBy, Lost, failed, reply_to, point_replied, asked_at, asked_of, stands, point_of, begins, code_program}
 use Rattle.chord_code.proofs.Asks.{points_more, run_asked}
 
+-- nothing is not an ask
 no_ask : (a : Asked) → ◌≡◌ {A = Option Asked} None (Some a) → ⊥
 no_ask a e = cc
 
+-- equal asks ask the same
 same_what : (a b : Asked) → Some a ≡ Some b → a.what ≡ b.what
 same_what a b e = (let z : a ≡ b = cc in ap (λ (x : Asked). x.what) z)
 
+-- a machine that comes to a call asks its own end by the trap that answers it
 did_fail : (code : Parts) → IsForward code → (limits : Limits) (m : Machine) (t : Trap) (l : ℕ) (o : Object) (j : ℕ) (vs : List Value) (d : Did) → comes_to code m ≡ d → asked_at limits d ≡ Some (record { what = Called o j vs; depth = l }) → asked_of code limits (reply_to d (Traps t)) ≡ Some (record { what = Ended (Traps t); depth = 0 })
 did_fail code fwd limits m t l o j vs (Goes m') is e = absurd (no_ask (record { what = Called o j vs; depth = l }) e)
 did_fail code fwd limits m t l o j vs Bad is e = absurd (no_ask (record { what = Called o j vs; depth = l }) e)
@@ -28,6 +31,7 @@ did_fail code fwd limits m t l o j vs (Asking a w) is e =
     let waits = run_asked code fwd (Called o j vs) w (suc (weight code m)) m (is ∙ ap (λ x. Asking x w) same) in
     ap (λ p. asked_of code limits (failed p t)) waits
 
+-- a body that stands where it asks a call asks its own end by the trap that answers it
 point_fails : (code : Parts) → IsForward code → (limits : Limits) (p : Point) (t : Trap) (l : ℕ) (o : Object) (j : ℕ) (vs : List Value) → asked_of code limits p ≡ Some (record { what = Called o j vs; depth = l }) → asked_of code limits (point_replied code p (Traps t)) ≡ Some (record { what = Ended (Traps t); depth = 0 })
 point_fails code fwd limits (At m) t l o j vs e = did_fail code fwd limits m t l o j vs (comes_to code m) refl e
 point_fails code fwd limits (FailsBy u) t l o j vs e = (let z : Ended (Traps u) ≡ Called o j vs = same_what _ _ e in cc)

@@ -25,6 +25,7 @@ plays_point code sig r (PrintsLine t p) None g h = absurd h
 plays_point code sig r (EndsBody e) None g h = absurd h
 plays_point code sig r GoesWrong None g h = absurd g
 
+-- a body whose machine comes to an ask stands, once this is answered, where the machine that waits does
 replied_by : (code : Parts) → IsForward code → (m : Machine) (a : What) (w : Waiting) (e : End) → ComesTo code m a w → point_replied code (At m) e ≡ reply w e
 replied_by code fwd m a w e c = ap (λ d. reply_to d e) (comes_found code fwd m a w c)
 
@@ -93,6 +94,7 @@ plays_left code fwd sig r (CallsMethod room o j xs k) (At m) (Traps t) g f h =
     let awaited = run_asked code fwd (Called o j xs) h.0 h.1.count m h.1.by in
     subst (PlaysAt code (EndsBody (Traps t))) (sym (replied_by code fwd m (Called o j xs) h.0 (Traps t) h.1 ∙ ap (λ z. failed z t) awaited)) refl
 
+-- a body whose machine comes to an ask asks it, at the depth of its place
 asked_by : (code : Parts) → IsForward code → (limits : Limits) (m : Machine) (a : What) (w : Waiting) → ComesTo code m a w → asked_of code limits (At m) ≡ Some (record { what = a; depth = place a (limits.depth - w.machine.top.room) })
 asked_by code fwd limits m a w c = ap (asked_at limits) (comes_found code fwd m a w c)
 

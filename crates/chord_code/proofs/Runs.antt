@@ -23,6 +23,7 @@ use Rattle.chord_code.specs.Runs.{sent, IsFitMessage, IsDueType, IsPlaying, Body
 use Rattle.chord_code.proofs.Asks.{points_more}
 use Rattle.chord_code.proofs.Plays.{good_left, plays_left, plays_asks, plays_point, asks_exactly}
 
+-- what is there is something
 some_is : {A : Type 0} (o : Option A) (x : A) → o ≡ Some x → IsSome o
 some_is o x e = rw e refl
 
@@ -89,6 +90,7 @@ ended_kind sig r (CallsMethod l o j vs k) v g e = (let z : Called o j vs ≡ End
 ended_kind sig r (PrintsLine t p) v g e = (let z : Printed t ≡ Ended (Gives v) = cc in cc)
 ended_kind sig r GoesWrong v g e = absurd g
 
+-- what is there is the same where its options are
 same_some : {A : Type 0} (x y : A) → Some x ≡ Some y → x ≡ y
 same_some x y e = cc
 

@@ -24,6 +24,7 @@ use Rattle.chord_code.specs.Runs.{IsPlaying, BodyIs, AllGood, AreLocal, IsPlan}
 use Rattle.chord_code.proofs.Runs.{good_defined, playing_begins}
 use Rattle.chord_code.proofs.AllGood.{own_entry, body_later, step_own}
 
+-- a body that does as its play at each depth does so where it begins below a caller that may wait for it
 placed_good : (code : Parts) (limits : Limits) (sig : Signatures) (src : Start → ℕ → Play) (h : List Entry) (n q : ℕ) (s : Start) (d : Doing) → ((l : ℕ) → IsPlaying code limits sig src h n s l []) → BodyIs code limits sig src h n (placed s q d)
 placed_good code limits sig src h n q s (Waits s' d rs q' l) f = elim (either (q == q')) [ inl y ↦ rw y (f (l + 1)) | inr o ↦ rw o tt ]
 placed_good code limits sig src h n q s (Ready s' d rs) f = tt
@@ -31,14 +32,17 @@ placed_good code limits sig src h n q s Absent f = tt
 placed_good code limits sig src h n q s Unplaced f = tt
 placed_good code limits sig src h n q s (Over x) f = tt
 
+-- a body that does as its play at each depth does so where its call has a maker or none
 begun_by_good : (code : Parts) (limits : Limits) (sig : Signatures) (src : Start → ℕ → Play) (h : List Entry) (n q : ℕ) (s : Start) (b : Option ℕ) (g : ℕ → Doing) → ((l : ℕ) → IsPlaying code limits sig src h n s l []) → BodyIs code limits sig src h n (begun_by s q b g)
 begun_by_good code limits sig src h n q s None g f = tt
 begun_by_good code limits sig src h n q s (Some b) g f = placed_good code limits sig src h n q s (g b) f
 
+-- a body that does as its play at each depth does so where it serves a call or none
 begun_good : (code : Parts) (limits : Limits) (sig : Signatures) (src : Start → ℕ → Play) (h : List Entry) (n : ℕ) (s : Start) (c : Option ℕ) (m : ℕ → Option ℕ) (g : ℕ → Doing) → ((l : ℕ) → IsPlaying code limits sig src h n s l []) → BodyIs code limits sig src h n (begun s c m g)
 begun_good code limits sig src h n s None m g f = f 1
 begun_good code limits sig src h n s (Some q) m g f = begun_by_good code limits sig src h n q s (m q) g f
 
+-- nothing is not a message
 no_message : (m : Message) → ◌≡◌ {A = Option Message} None (Some m) → ⊥
 no_message m e = cc
 
@@ -77,6 +81,7 @@ step_fired code limits sig src fits h n k o ms vs local plan a i all f =
           ];
     }
 
+-- an entry that may come next keeps all good
 step_comes : (code : Parts) → IsForward code → (limits : Limits) (sig : Signatures) (src : Start → ℕ → Play) (fits : Start → Option StaticType → Type 0) (h : List Entry) (n b : ℕ) (w : What) → AreLocal code limits sig src fits → IsPlan code limits sig src fits → AllBelow n h → n ≡ length h → AllGood code limits sig src h → Comes (code_program code limits) h n b w → AllGood code limits sig src (own_entry n b w ∷ h)
 step_comes code fwd limits sig src fits h n b Begun local plan a i all c =
     let z : n ≡ 0 = i ∙ ap length c.0 in

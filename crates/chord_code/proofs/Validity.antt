@@ -38,6 +38,7 @@ pub valid_within : (code : Parts) → IsValid code → IsCodeWithin code
 valid_within code valid b p x e =
     let r = right_at code valid b p x e in right_within code b r.0.slots (length r.0.instructions) p valid.few x r.2
 
+-- what is there is the same where its options are
 same_some : {A : Type 0} (x y : A) → Some x ≡ Some y → x ≡ y
 same_some x y e = cc
 
@@ -114,6 +115,7 @@ valid_one_sync code limits valid c k js e =
 pub valid_headers : (code : Parts) → IsValid code → (c k : ℕ) (js : List ℕ) → slice_get (map methods_of (chord_lines code c)) k ≡ Some js → length js ≤ 8
 valid_headers code valid c k js e = let l = line_valid code valid c k js e in subst (λ (z : List ℕ). length z ≤ 8) l.4 l.3.few
 
+-- chords have as many lists of methods as there are lines
 map_length : (xs : List ChordLine) → length (map methods_of xs) ≡ length xs
 map_length [] = refl
 map_length (x ∷ xs) = ap suc (map_length xs)

@@ -18,17 +18,20 @@ use Rattle.chord_code.specs.Machine
 use Rattle.chord_code.specs.Meaning.{IsAsked}
 use Rattle.chord_code.specs.Fuel.{entered, items_of, sum_with, cost_with, whole, left, waits, below_sum, total, weight}
 
+-- instructions from a place on cost at most what all cost
 drop_less : (w : Instruction → ℕ) (p : ℕ) (xs : List Instruction) → sum_with w (drop p xs) ≤ sum_with w xs
 drop_less w zero xs = omega arith
 drop_less w (suc p) [] = omega arith
 drop_less w (suc p) (x ∷ xs) = let h = drop_less w p xs in omega arith
 
+-- instructions from a later place on cost at most what those from an earlier one on cost
 drop_more : (w : Instruction → ℕ) (p q : ℕ) (xs : List Instruction) → p ≤ q → sum_with w (drop q xs) ≤ sum_with w (drop p xs)
 drop_more w zero q xs h = drop_less w q xs
 drop_more w (suc p) zero xs h = absurd (omega arith)
 drop_more w (suc p) (suc q) [] h = omega arith
 drop_more w (suc p) (suc q) (x ∷ xs) h = drop_more w p q xs (omega arith)
 
+-- instructions from a place on cost what the one there costs and what those after it cost
 left_at : (w : Instruction → ℕ) (xs : List Instruction) (p : ℕ) (i : Instruction) → slice_get xs p ≡ Some i → sum_with w (drop p xs) ≡ w i + sum_with w (drop (suc p) xs)
 left_at w [] p i e = absurd (no e)
   where
@@ -37,10 +40,12 @@ left_at w [] p i e = absurd (no e)
 left_at w (x ∷ xs) zero i e = let e' : x ≡ i = cc in ap (λ z. w z + sum_with w xs) e'
 left_at w (x ∷ xs) (suc p) i e = left_at w xs p i e
 
+-- a block below a number weighs at most what all blocks below it weigh
 below_in : (code : Parts) (n b : ℕ) → b < n → left code b 0 ≤ below_sum code n
 below_in code zero b h = absurd (omega arith)
 below_in code (suc n) b h = ⊎_elim (λ lt. let r = below_in code n b lt in omega arith) (λ le. let e : b ≡ n = omega arith in subst (λ k. left code b 0 ≤ left code k 0 + below_sum code n) e (omega arith)) (cases_lt b n)
 
+-- what is left of a block that has an instruction weighs at most what all blocks weigh
 left-le_total : (code : Parts) (b p : ℕ) (i : Instruction) (q : ℕ) → slice_get (items_of (slice_get code.blocks b)) q ≡ Some i → left code b p ≤ total code
 left-le_total code b p i q e =
     let w = drop_less (cost_with code (whole b code)) p (items_of (slice_get code.blocks b)) in
@@ -57,6 +62,7 @@ Lighter code m (Machine.Goes m') = weight code m' < weight code m
 Lighter code m (Machine.Asking a w) = IsAsked a w.awaited
 Lighter code m Machine.Bad = Unit {0}
 
+-- each instruction costs at least 1
 some_cost : (code : Parts) (w : ℕ → ℕ) (i : Instruction) → 1 ≤ cost_with code w i
 some_cost code w (instr.Init c) = omega arith
 some_cost code w (instr.Int n) = omega arith
@@ -90,13 +96,16 @@ some_cost code w instr.End = omega arith
 some_cost code w instr.Endv = omega arith
 some_cost code w instr.Back = omega arith
 
+-- an instruction that is there is the same where its options are
 same_instr : (x y : Instruction) → Some x ≡ Some y → x ≡ y
 same_instr x y e = cc
 
+-- the instruction at a place of a block, if there is one, is that of its instructions
 items_in : (o : Option Block) (p : ℕ) → slice_get (items_of o) p ≡ Machine.instr_in o p
 items_in None p = refl
 items_in (Some b) p = refl
 
+-- the instruction at a place among those of a block is what is fetched there
 items_fetch : (code : Parts) (b p : ℕ) → slice_get (items_of (slice_get code.blocks b)) p ≡ Machine.fetch code b p
 items_fetch code b p = items_in (slice_get code.blocks b) p
 
@@ -104,11 +113,13 @@ items_fetch code b p = items_in (slice_get code.blocks b) p
 abbrev Enters : Parts → ℕ → List Instruction → Type 0
 Enters code b is = (q c : ℕ) → slice_get is q ≡ Some (instr.Init c) → (k n : ℕ) → Machine.builder_of code c ≡ Some (Some (k, n)) → k < b
 
+-- weights that are equal below b weigh the same what is entered below b
 same_cost : (code : Parts) (b : ℕ) (f g : ℕ → ℕ) → ((k : ℕ) → k < b → f k ≡ g k) → (o : Option (Option (ℕ × ℕ))) → ((k n : ℕ) → o ≡ Some (Some (k, n)) → k < b) → entered f o ≡ entered g o
 same_cost code b f g h None e = refl
 same_cost code b f g h (Some None) e = refl
 same_cost code b f g h (Some (Some p)) e = h p.0 (e p.0 p.1 refl)
 
+-- weights that are equal below b give one cost to an instruction that enters a block below b
 same_one : (code : Parts) (b : ℕ) (f g : ℕ → ℕ) → ((k : ℕ) → k < b → f k ≡ g k) → (i : Instruction) → ((c : ℕ) → i ≡ instr.Init c → (k n : ℕ) → Machine.builder_of code c ≡ Some (Some (k, n)) → k < b) → cost_with code f i ≡ cost_with code g i
 same_one code b f g h (instr.Init c) e = ap (λ n. suc (suc n)) (same_cost code b f g h (Machine.builder_of code c) (e c refl))
 same_one code b f g h (instr.Int n) e = refl
@@ -142,6 +153,7 @@ same_one code b f g h instr.End e = refl
 same_one code b f g h instr.Endv e = refl
 same_one code b f g h instr.Back e = refl
 
+-- weights that are equal below b give one cost to instructions that enter blocks below b
 same_sum : (code : Parts) (b : ℕ) (f g : ℕ → ℕ) → ((k : ℕ) → k < b → f k ≡ g k) → (is : List Instruction) → Enters code b is → sum_with (cost_with code f) is ≡ sum_with (cost_with code g) is
 same_sum code b f g h [] e = refl
 same_sum code b f g h (i ∷ is) e =
@@ -158,6 +170,7 @@ same_whole code fwd (suc n) (suc m) b h k =
     (λ q c x j i e. fwd.inits b q c j i (sym (items_fetch code b q) ∙ x) e)
 
 module _ (code : Parts) (m : Machine.Machine) (here : Instruction) (within : slice_get (items_of (slice_get code.blocks m.top.block)) m.top.place ≡ Some here) where
+  -- a machine at a later place of its block weighs less
   moves : (p : ℕ) (s vs : List Value) → m.top.place < p → weight code (Machine.with_top m p s vs m.turns) < weight code m
   moves p s vs h =
       let w = cost_with code (whole m.top.block code) in
@@ -167,40 +180,49 @@ module _ (code : Parts) (m : Machine.Machine) (here : Instruction) (within : sli
       let c = some_cost code (whole m.top.block code) here in
       omega arith
 
+  -- a load leaves less to do
   loads_lighter : (o : Option Value) → Lighter code m (Machine.loads m o)
   loads_lighter None = tt
   loads_lighter (Some v) = moves (suc m.top.place) (v ∷ m.top.stack) m.top.slots (omega arith)
 
+  -- new slots at the next place leave less to do
   stores_lighter : (s : List Value) (o : Option (List Value)) → Lighter code m (Machine.stores m s o)
   stores_lighter s None = tt
   stores_lighter s (Some vs) = moves (suc m.top.place) s vs (omega arith)
 
+  -- a store leaves less to do
   store_lighter : (i : ℕ) (s : List Value) → Lighter code m (Machine.store_top i m s)
   store_lighter i [] = tt
   store_lighter i (v ∷ s) = stores_lighter s (set_slot i v m.top.slots)
 
+  -- a drop leaves less to do
   pop_lighter : (s : List Value) → Lighter code m (Machine.pop_top m s)
   pop_lighter [] = tt
   pop_lighter (v ∷ s) = moves (suc m.top.place) s m.top.slots (omega arith)
 
+  -- to push what was computed leaves less to do
   pushes_lighter : (s : List Value) (c : Computed) → Lighter code m (Machine.pushes m s c)
   pushes_lighter s (Is v) = moves (suc m.top.place) (v ∷ s) m.top.slots (omega arith)
   pushes_lighter s (Trapped t) = tt
   pushes_lighter s Mistyped = tt
 
+  -- unary `-` leaves less to do
   negates_lighter : (s : List Value) → Lighter code m (Machine.negates m s)
   negates_lighter [] = tt
   negates_lighter (x ∷ s) = pushes_lighter s (negated x)
 
+  -- `!` leaves less to do
   denies_lighter : (s : List Value) → Lighter code m (Machine.denies m s)
   denies_lighter [] = tt
   denies_lighter (x ∷ s) = pushes_lighter s (denied x)
 
+  -- an operator leaves less to do
   operate_lighter : (op : Operation) (s : List Value) → Lighter code m (Machine.operate op m s)
   operate_lighter op [] = tt
   operate_lighter op (y ∷ []) = tt
   operate_lighter op (y ∷ x ∷ s) = pushes_lighter s (compute op x y)
 
+  -- a jump forward on false leaves less to do
   skips_lighter : (a : ℕ) → m.top.place < a → (s : List Value) → Lighter code m (Machine.skips a m s)
   skips_lighter a h [] = tt
   skips_lighter a h (a_value.Unit ∷ s) = tt
@@ -210,6 +232,7 @@ module _ (code : Parts) (m : Machine.Machine) (here : Instruction) (within : sli
   skips_lighter a h (a_value.Flag false ∷ s) = moves a s m.top.slots h
   skips_lighter a h (a_value.Ref o ∷ s) = tt
 
+  -- a jump back that counts a turn leaves less to do
   turns_lighter : (a : ℕ) (s : List Value) (t : ℕ) → m.turns ≡ t → Lighter code m (Machine.turns_to a m s t)
   turns_lighter a s zero e = tt
   turns_lighter a s (suc t) e =
@@ -218,6 +241,7 @@ module _ (code : Parts) (m : Machine.Machine) (here : Instruction) (within : sli
       let k : m.turns * suc T ≡ t * suc T + suc T = ap (λ n. n * suc T) e ∙ omega arith in
       omega arith
 
+  -- a jump back on true leaves less to do
   again_lighter : (a : ℕ) (s : List Value) → Lighter code m (Machine.again a m s)
   again_lighter a [] = tt
   again_lighter a (a_value.Unit ∷ s) = tt
@@ -227,11 +251,13 @@ module _ (code : Parts) (m : Machine.Machine) (here : Instruction) (within : sli
   again_lighter a (a_value.Flag false ∷ s) = moves (suc m.top.place) s m.top.slots (omega arith)
   again_lighter a (a_value.Ref o ∷ s) = tt
 
+  -- a `new` waits for its object
   makes_lighter : (c n r : ℕ) (o : Option (Option (ℕ × ℕ))) → Lighter code m (Machine.if_deeper r m (Machine.makes_object c n m o))
   makes_lighter c n zero o = tt
   makes_lighter c n (suc r) None = tt
   makes_lighter c n (suc r) (Some b) = (b, n, refl)
 
+  -- a message waits for nothing
   send_lighter : (j : ℕ) (o : Option (List Value × List Value)) → Lighter code m (Machine.send_by j m o)
   send_lighter j None = tt
   send_lighter j (Some (xs, [])) = tt
@@ -241,10 +267,12 @@ module _ (code : Parts) (m : Machine.Machine) (here : Instruction) (within : sli
   send_lighter j (Some (xs, a_value.Flag b ∷ s)) = tt
   send_lighter j (Some (xs, a_value.Ref o ∷ s)) = refl
 
+  -- an ask that waits for its answer does so where it may trap for depth
   deeper_lighter : (r : ℕ) (a : What) (w : Machine.Waiting) → IsAsked a w.awaited → Lighter code m (Machine.if_deeper r m (Machine.Asking a w))
   deeper_lighter zero a w h = tt
   deeper_lighter (suc r) a w h = h
 
+  -- a call waits for a value
   call_lighter : (j : ℕ) (o : Option (List Value × List Value)) → Lighter code m (Machine.call_by j m o)
   call_lighter j None = tt
   call_lighter j (Some (xs, [])) = tt
@@ -254,22 +282,27 @@ module _ (code : Parts) (m : Machine.Machine) (here : Instruction) (within : sli
   call_lighter j (Some (xs, a_value.Flag b ∷ s)) = tt
   call_lighter j (Some (xs, a_value.Ref o ∷ s)) = deeper_lighter m.top.room _ _ refl
 
+  -- a line waits for nothing
   print_by_lighter : (s : List Value) (t : Option (List ℕ)) → Lighter code m (Machine.print_by m s t)
   print_by_lighter s None = tt
   print_by_lighter s (Some t) = refl
 
+  -- a line of the value on top waits for nothing
   print_lighter : (s : List Value) → Lighter code m (Machine.print_top m s)
   print_lighter [] = tt
   print_lighter (v ∷ s) = print_by_lighter s (text_of v)
 
+  -- an end with the value on top may wait for anything
   end_lighter : (s : List Value) → Lighter code m (Machine.end_with m s)
   end_lighter [] = tt
   end_lighter (v ∷ s) = tt
 
+  -- a way back leaves less to do
   back_lighter : (fs : List Machine.Frame) → m.below ≡ fs → Lighter code m (Machine.goes_back m fs)
   back_lighter [] e = tt
   back_lighter (f ∷ fs) e = let h : waits code m.below ≡ suc (left code f.block f.place) + waits code fs = ap (waits code) e in omega arith
 
+  -- a block that an `init` enters leaves less to do
   enter_lighter : (c k : ℕ) (v : Value) (n : ℕ) → Machine.IsForward code → Machine.fetch code m.top.block m.top.place ≡ Some (instr.Init c) → Machine.builder_of code c ≡ Some (Some (k, n)) → (o : Option (List Value)) → Lighter code m (Machine.enters (Machine.started k m.top.room m.turns (Machine.next_place m.top ∷ m.below) o))
   enter_lighter c k v n fwd f e None = tt
   enter_lighter c k v n fwd f e (Some vs) =
@@ -281,12 +314,14 @@ module _ (code : Parts) (m : Machine.Machine) (here : Instruction) (within : sli
       let q : left code k 0 ≡ whole b code k = same_whole code fwd (suc k) b k (omega arith) h in
       omega arith
 
+  -- an `init` leaves less to do
   init_lighter : Machine.IsForward code → (c : ℕ) → Machine.fetch code m.top.block m.top.place ≡ Some (instr.Init c) → (o : Option Value) (p : Option (Option (ℕ × ℕ))) → Machine.builder_of code c ≡ p → Lighter code m (Machine.init_by m o p)
   init_lighter fwd c f None p e = tt
   init_lighter fwd c f (Some v) None e = tt
   init_lighter fwd c f (Some v) (Some None) e = tt
   init_lighter fwd c f (Some v) (Some (Some b)) e = enter_lighter c b.0 v b.1 fwd f e (slots_of b.1 (v ∷ []))
 
+  -- each instruction that goes on leaves less to do, and each that asks waits for the answer of its ask
   act_lighter : Machine.IsForward code → (i : Instruction) → Machine.fetch code m.top.block m.top.place ≡ Some i → Lighter code m (Machine.act code (Some i) m)
   act_lighter fwd (instr.Int n) e = loads_lighter (Some (a_value.Int n))
   act_lighter fwd (instr.Text t) e = loads_lighter (Some (a_value.Text t))

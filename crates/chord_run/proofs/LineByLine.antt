@@ -52,6 +52,7 @@ prefix_fits front whole e =
     let n = ap length e in
     omega arith
 
+-- a reading of what is left, which begins with a line, goes on with that line and a reading of what is behind it
 line_forth : (n : Chosen) → AreApart n → (lines ls : List line.SmallLine) (l : line.SmallLine) (rest rest' : List Kind) → rest ≡ line_kinds n l ++ rest' → ((ms : List line.SmallLine) × (ls ≡ lines ++ ms) × AreFit ms × (rest ≡ body n ms)) → (ms : List line.SmallLine) × (ls ≡ (lines ++ l ∷ []) ++ ms) × AreFit ms × (rest' ≡ body n ms)
 line_forth n apart lines ls l rest rest' s ([], e, f, g) = absurd (line_is_no_tail n l rest' (sym s ∙ g))
 line_forth n apart lines ls l rest rest' s (m ∷ ms, e, f, g) =
@@ -73,6 +74,7 @@ reads_line n whole rest lines l apart r f e =
 pub reads_end : (n : Chosen) (whole rest : List Kind) (lines : List line.SmallLine) → ReadsOn n whole rest lines → rest ≡ spelled n tail → whole ≡ body n lines
 reads_end n whole rest lines r e = r.back [] e ∙ ap (λ x. body n x) (append-nil lines)
 
+-- what no line begins and what is not the end of `Main` is spelled by no lines
 none_left : (n : Chosen) (rest : List Kind) → ((l : line.SmallLine) → IsFit l → take (length (line_kinds n l)) rest ≡ line_kinds n l → ⊥) → (rest ≡ spelled n tail → ⊥) → (ms : List line.SmallLine) → AreFit ms → rest ≡ body n ms → ⊥
 none_left n rest none other [] f e = other e
 none_left n rest none other (l ∷ ms) f e = none l f.0 (ap (λ x. take (length (line_kinds n l)) x) e ∙ take-append_seam (line_kinds n l) (body n ms))

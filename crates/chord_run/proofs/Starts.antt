@@ -12,25 +12,30 @@ abbrev pub BeginWithin : ℕ → List Token → Type 0
 BeginWithin end [] = Unit {0}
 BeginWithin end (token ∷ later) = (token.start ≤ end) × BeginWithin end later
 
+-- where the tokens of two lists begin at a byte or before it, so do those of both joined
 both_within : (end : ℕ) (left right : List Token) → BeginWithin end left → BeginWithin end right → BeginWithin end (left ++ right)
 both_within end [] right l r = r
 both_within end (token ∷ left) right l r = (l.0, both_within end left right l.1 r)
 
+-- tokens that begin at a byte or before it begin at each later byte or before it
 further_within : (near far : ℕ) (tokens : List Token) → near ≤ far → BeginWithin near tokens → BeginWithin far tokens
 further_within near far [] h b = tt
 further_within near far (token ∷ later) h b = (omega (arith, b.0), further_within near far later h b.1)
 
+-- the token of a piece that begins at a byte or before it does so too
 piece_within : (piece : Piece) (start stop end : ℕ) → start ≤ end → BeginWithin end (tokens_of piece start stop)
 piece_within pieces.Blank start stop end h = tt
 piece_within pieces.Comment start stop end h = tt
 piece_within (pieces.Token kind) start stop end h = (h, tt)
 
+-- the tokens of a chain begin within its text or at its end
 chain_within : {at : ℕ} {text : List ℕ} {tokens : List Token} {rest : List ℕ} → Chain at text tokens rest → BeginWithin (at + length text) tokens
 chain_within none = tt
 chain_within (more {at = at} {p} {piece} {text} {tokens} longest chain) =
     let l = length-append piece text in
     both_within (at + length (piece ++ text)) (tokens_of p at (at + length piece)) tokens (piece_within p at (at + length piece) (at + length (piece ++ text)) (omega arith)) (further_within (at + length piece + length text) (at + length (piece ++ text)) tokens (omega arith) (chain_within chain))
 
+-- where all tokens begin at a byte or before it, so does each by its number
 start_within : (end : ℕ) (tokens : List Token) (k : ℕ) → BeginWithin end tokens → token_start tokens k end ≤ end
 start_within end [] k b = omega arith
 start_within end (token ∷ later) zero b = b.0

@@ -30,6 +30,7 @@ use Rattle.chord_task.proofs.Notes.{stack_view, gave_up, ends_up}
 use Rattle.chord_task.proofs.Tasks.{stack_at, task_at}
 use Rattle.std.proofs.lemmas.Bool.{eq-eqb, eqb-true}
 
+-- where the ask of what a machine came to is defined, it came to an ask
 some_did : (limits : Limits) (d : Did) → IsSome (asked_at limits d) → (a : What) × (w : Waiting) × (d ≡ Asking a w)
 some_did limits (Asking a w) s = (a, w, refl)
 some_did limits (Goes m) s = cc
@@ -52,6 +53,7 @@ may_run code limits t b k top ready = (
   λ q e. let z : false ≡ true = sym (ap body_may_go top ∙ ap may_go e) ∙ ready in cc,
 )
 
+-- a body that may make its next entry still may where its number is the same and its new state fits its point
 up_again : (code : Parts) (limits : Limits) (h : List Entry) (b b' : Body) (n : Next) (u : IsUp code limits h b) → b'.number ≡ b.number → b'.next ≡ n → NextIs code limits n b'.frames (stands code limits u.start u.depth u.answers) → IsUp code limits h b'
 up_again code limits h b b' n u i e next =
     record {
@@ -62,6 +64,7 @@ up_again code limits h b b' n u i e next =
       next = subst (λ z. NextIs code limits z b'.frames (stands code limits u.start u.depth u.answers)) (sym e) next;
     }
 
+-- a machine that comes to an ask waits for an answer of its kind
 not_own : (code : Parts) → IsForward code → (m : Machine) (a : What) (w : Waiting) → ComesTo code m a w → (IsAsked a w.awaited → ⊥) → ⊥
 not_own code fwd m a w c f = f (run_asked code fwd a w c.count m c.by)
 
@@ -74,6 +77,7 @@ ran code fwd limits h b b' u i at (ask.Send o j vs) a g = up_again code limits h
 ran code fwd limits h b b' u i at (ask.Call o j vs) a g = up_again code limits h b b' (nexts.Gave (Called o j vs)) u i g (machine_of b.frames, at, comes_found code fwd (machine_of b.frames) (Called o j vs) (waiting_of b'.frames) a)
 ran code fwd limits h b b' u i at (ask.Print t) a g = up_again code limits h b b' (nexts.Gave (Printed t)) u i g (machine_of b.frames, at, comes_found code fwd (machine_of b.frames) (Printed t) (waiting_of b'.frames) a)
 
+-- a body that came to its ask may make its next entry
 asked_up : (code : Parts) → IsForward code → (limits : Limits) (h : List Entry) (b b' : Body) (n : Next) → b.next ≡ n → b'.number ≡ b.number → AskedBy code n b b' → IsTop code limits h n b → IsUp code limits h b'
 asked_up code fwd limits h b b' nexts.Runs e i a u = ran code fwd limits h b b' u i (subst (λ n. NextIs code limits n b.frames (stands code limits u.start u.depth u.answers)) e u.next) a.0 a.1 a.2
 asked_up code fwd limits h b b' (nexts.Gave w) e i a u = subst (λ (z : Body). IsUp code limits h z) (sym a) u
@@ -83,6 +87,7 @@ asked_up code fwd limits h b b' (nexts.Fails t) e i a u =
     up_again code limits h b b' (nexts.Ends (Traps t) (Traps t)) u i a (0, ap (asked_of code limits) at, refl)
 asked_up code fwd limits h b b' (nexts.Waits q) e i a u = absurd a
 
+-- a body that gave an ask and may make its next entry is known so on top
 up_is_top : (code : Parts) (limits : Limits) (h : List Entry) (b : Body) (n : Next) (w : What) → given_of n ≡ Some w → b.next ≡ n → IsUp code limits h b → IsTop code limits h n b
 up_is_top code limits h b nexts.Runs w g e u = u
 up_is_top code limits h b (nexts.Gave v) w g e u = u
@@ -90,6 +95,7 @@ up_is_top code limits h b (nexts.Ends x y) w g e u = u
 up_is_top code limits h b (nexts.Fails t) w g e u = u
 up_is_top code limits h b (nexts.Waits q) w g e u = (let z : ◌≡◌ {A = Option What} None (Some w) = g in cc)
 
+-- a body that gave an ask does not wait for a call
 not_waiting : (n : Next) (w : What) (q : ℕ) → given_of n ≡ Some w → n ≡ nexts.Waits q → ⊥
 not_waiting n w q g e = (let z : ◌≡◌ {A = Option What} None (Some w) = sym (ap given_of e) ∙ g in cc)
 
@@ -114,6 +120,7 @@ task_asked code limits t b b' w k top a g =
       room = λ q e. absurd (not_waiting b'.next w q g e);
     }
 
+-- a task whose body on top may make its next entry has a next ask
 up_can : (code : Parts) (limits : Limits) (t : Task) (b : Body) → IsTaskOf code limits t → t.top ≡ Some b → (u : IsUp code limits (view_of t).past b) → CanAsk (code_program code limits) (view_of t)
 up_can code limits t b k top u =
     let p = code_program code limits in
@@ -148,6 +155,7 @@ up_can code limits t b k top u =
     asked_own : (code : Parts) (limits : Limits) (s : Start) (d : ℕ) (rs : List End) → IsForward code → (a : AnAsk) → asked_of code limits (stands code limits s d rs) ≡ Some a → IsOwn a.what
     asked_own code limits s d rs fwd a i = point_own code fwd limits (stands code limits s d rs) a i
 
+-- a task whose body on top is parked waits for that body's call
 parked_waits : (code : Parts) (limits : Limits) (t : Task) (b : Body) (q : ℕ) → t.top ≡ Some b → IsParked code limits (view_of t).past b q → TopWaitsFor (code_program code limits) (view_of t) q
 parked_waits code limits t b q top k =
     record { body = b.number; on_top = ap body_number top; start = k.start; depth = k.depth; answers = k.answers; place = limits.depth - b.frames.top.room; is = k.is }
@@ -249,6 +257,7 @@ given_next code limits t w k g = by_top t.top refl
     by_top None e = (let z : ◌≡◌ {A = Option What} None (Some w) = sym (ap given_by e) ∙ g in cc)
     by_top (Some b) e = subst (λ z. IsNext (code_program code limits) (stack_view (view_of t).past z) w) (sym (ap body_number e)) (by_next b e b.next refl (sym (ap given_by e) ∙ g))
 
+-- a body that came to an ask gave it
 given_is : (w : What) (n : Next) → GivenBy w n → given_of n ≡ Some w
 given_is (Ended e) n g = ap given_of g
 given_is Begun n g = ap given_of g

@@ -38,6 +38,7 @@ pub record Whole (code : Parts) (limits : Limits) (h : List Entry) (top : Option
   pub task : IsTask (code_program code limits) (stack_view h top)
   pub stack : IsBodyStack code limits h body below
 
+-- a body on top that does not wait may make its next entry
 up_top : (code : Parts) (limits : Limits) (h : List Entry) (b : Body) (n : Next) → b.next ≡ n → ((q : ℕ) → n ≡ nexts.Waits q → ⊥) → IsTop code limits h b.next b → IsUp code limits h b
 up_top code limits h b nexts.Runs e f t = subst (λ n. IsTop code limits h n b) e t
 up_top code limits h b (nexts.Gave w) e f t = subst (λ n. IsTop code limits h n b) e t
@@ -62,6 +63,7 @@ keeps_parked code limits h b c n q w u no_end k =
     in
     other_body p (entry n b.number w) h c.number o (λ t. let z : true ≡ false = sym t ∙ no_end in cc)
 
+-- an own entry that is no end and has no answer is a call
 call_answer : (n : ℕ) (w : What) → IsOwn w → is_end w ≡ false → answer_of n w ≡ None → (o : Object) × (j : ℕ) × (vs : List Value) × (w ≡ Called o j vs)
 call_answer n (Called o j vs) i e a = (o, j, vs, refl)
 call_answer n (Made c) i e a = (let z : ◌≡◌ {A = Option Value} (Some (a_value.Ref (record { number = n; class = c }))) None = a in cc)
@@ -71,6 +73,7 @@ call_answer n Begun i e a = absurd i
 call_answer n (Fired k o ms vs) i e a = absurd i
 call_answer n (Ended x) i e a = cc
 
+-- a body whose ask became an entry runs on with the answer, or waits for the end of its call
 new_top : (code : Parts) → IsForward code → (limits : Limits) (h : List Entry) (b b' : Body) (n : ℕ) (w : What) → IsUp code limits h b → b.next ≡ nexts.Gave w → b'.number ≡ b.number → (o : Option Value) → answer_of n w ≡ o → AnsweredWith o n b.frames b' → IsReady b.frames.awaited b.frames → IsTop code limits (entry n b.number w ∷ h) b'.next b'
 new_top code fwd limits h b b' n w u e i (Some v) a r ready =
     subst (λ z. IsTop code limits (entry n b.number w ∷ h) z b') (sym r.0) (up_more code limits h b b' n w v u e a i r.0 r.1)
@@ -101,6 +104,7 @@ note_gave code fwd limits h b b' bs n w t s l e i r ready =
       stack = (new_top code fwd limits h b b' n w u e i (answer_of n w) refl r ready, rest');
     }
 
+-- no body waits where no call is served
 none_waits : (d : Doing) → waits_for None d ≡ true → ⊥
 none_waits d e = (let z : false ≡ true = e in cc)
 
@@ -116,6 +120,7 @@ note_last code limits h b n x y t s l e =
       stack = refl;
     }
 
+-- a fact of the call that a body waits for holds of each call that it waits for
 waits_same : (c : ℕ) (d : Doing) → waits_for (Some c) d ≡ true → (P : ℕ → Type 0) → WaitsOn P d → P c
 waits_same c (Waits s k rs q l) e P w = subst P (sym (eqb-true c q e)) w
 waits_same c (Ready s k rs) e P w = (let z : false ≡ true = e in cc)
@@ -123,6 +128,7 @@ waits_same c Absent e P w = (let z : false ≡ true = e in cc)
 waits_same c Unplaced e P w = (let z : false ≡ true = e in cc)
 waits_same c (Over y) e P w = (let z : false ≡ true = e in cc)
 
+-- numbers are the same where their options are
 same_some : (m n : ℕ) → Some m ≡ Some n → m ≡ n
 same_some m n e = cc
 

@@ -18,6 +18,7 @@ use Rattle.std.proofs.lemmas.Bool.{eqb-true, eqb-false}
 pub task_story : (code : Parts) (limits : Limits) (t : Task) → IsTaskOf code limits t → IsStory (code_program code limits) (view_of t).past
 task_story code limits t k = record { told = k.task.told; is_defined = k.is_defined }
 
+-- where the body on top asks nothing, no body of the task does, whether there is one on top or not
 by_top : (code : Parts) (limits : Limits) (t : Task) → IsTaskOf code limits t → AsksNothing (code_program code limits) (view_of t) → (b : ℕ) (o : Option ℕ) → (view_of t).top ≡ o → asked (code_program code limits) (doing (code_program code limits) (view_of t).past b) ≡ None
 by_top code limits t k f b None e = k.task.quiet b (λ i. let z : ◌≡◌ {A = Option ℕ} None (Some b) = sym e ∙ i in cc)
 by_top code limits t k f b (Some c) e =

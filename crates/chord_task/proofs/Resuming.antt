@@ -49,9 +49,11 @@ pub record Beginning (code : Parts) (limits : Limits) (h : List Entry) (top : Op
   pub task : IsTask (code_program code limits) (stack_view (entry n n (Fired k o ms vs) ∷ h) (Some n))
   pub rest : AreParked code limits (entry n n (Fired k o ms vs) ∷ h) (serves (code_program code limits) n (entry n n (Fired k o ms vs) ∷ h)) n (with_top top bs)
 
+-- a body that an entry of its number begins serves what this entry serves
 serves_own : (p : Program) (h : List Entry) (n : ℕ) (w : What) → serves p n (entry n n w ∷ h) ≡ served p w
 serves_own p h n w = let i : (n == n) ≡ true = eq-eqb n n refl in rw i refl
 
+-- a body after its own firing does what a body of that chord begins with, by the call that it serves
 fired_own : (p : Program) (h : List Entry) (n k : ℕ) (o : Object) (ms : List ℕ) (vs : List Value) → doing p (entry n n (Fired k o ms vs) ∷ h) n ≡ begun_of (Chord k o vs) (served p (Fired k o ms vs)) (λ q. maker q h) (doing p h)
 fired_own p h n k o ms vs = let i : (n == n) ≡ true = eq-eqb n n refl in rw i refl
 
@@ -63,6 +65,7 @@ top_seen code limits h b (nexts.Ends x y) e u = (let z : Absent ≡ Ready u.star
 top_seen code limits h b (nexts.Fails t) e u = (let z : Absent ≡ Ready u.start u.depth u.answers = sym (ap (λ l. doing (code_program code limits) l b.number) e) ∙ u.is in cc)
 top_seen code limits h b (nexts.Waits q) e k = (let z : Absent ≡ Waits k.start k.depth k.answers q (limits.depth - b.frames.top.room) = sym (ap (λ l. doing (code_program code limits) l b.number) e) ∙ k.is in cc)
 
+-- a body that may make its next entry does not wait
 up_waits : (code : Parts) (limits : Limits) (h : List Entry) (b : Body) (s : Start) (d : ℕ) (rs : List End) (q l : ℕ) → doing (code_program code limits) h b.number ≡ Waits s d rs q l → IsUp code limits h b → ⊥
 up_waits code limits h b s d rs q l e u = (let z : Waits s d rs q l ≡ Ready u.start u.depth u.answers = sym e ∙ u.is in cc)
 
@@ -74,6 +77,7 @@ top_parked code limits h b s d rs q l (nexts.Ends x y) e u = absurd (up_waits co
 top_parked code limits h b s d rs q l (nexts.Fails t) e u = absurd (up_waits code limits h b s d rs q l e u)
 top_parked code limits h b s d rs q l (nexts.Waits r) e k = (r, k)
 
+-- a firing that serves no call begins a body in a task that is over
 begins_spare : (code : Parts) (limits : Limits) (t : Task) (n k : ℕ) (o : Object) (ms : List ℕ) (vs : List Value) → (top : Option Body) → t.top ≡ top → served (code_program code limits) (Fired k o ms vs) ≡ None → (view_of t).top ≡ None → IsTaskOf code limits t → MayResume code limits t n k o ms vs → IsBodyStack code limits (view_of t).past top (reverse t.below.items) → Beginning code limits (view_of t).past top (reverse t.below.items) n k o ms vs
 begins_spare code limits t n k o ms vs (Some b) i s e task may stack = (let z : ◌≡◌ {A = Option ℕ} None (Some b.number) = sym e ∙ ap body_number i in cc)
 begins_spare code limits t n k o ms vs None i s e task may stack =
@@ -87,6 +91,7 @@ begins_spare code limits t n k o ms vs None i s e task may stack =
       rest = subst (λ (z : List Body). AreParked code limits (entry n n (Fired k o ms vs) ∷ h) (serves p n (entry n n (Fired k o ms vs) ∷ h)) n z) (sym stack) (serves_own p h n (Fired k o ms vs) ∙ s);
     }
 
+-- a firing that serves a call begins a body on top of the one that waits for the call
 begins_called : (code : Parts) (limits : Limits) (t : Task) (n k : ℕ) (o : Object) (ms : List ℕ) (vs : List Value) (q : ℕ) → (top : Option Body) → t.top ≡ top → served (code_program code limits) (Fired k o ms vs) ≡ Some q → TopWaitsFor (code_program code limits) (view_of t) q → IsTaskOf code limits t → MayResume code limits t n k o ms vs → IsBodyStack code limits (view_of t).past top (reverse t.below.items) → Beginning code limits (view_of t).past top (reverse t.below.items) n k o ms vs
 begins_called code limits t n k o ms vs q None i s w task may stack = (let z : ◌≡◌ {A = Option ℕ} None (Some w.body) = sym (ap body_number i) ∙ w.on_top in cc)
 begins_called code limits t n k o ms vs q (Some b) i s w task may stack =
@@ -120,6 +125,7 @@ begins_called code limits t n k o ms vs q (Some b) i s w task may stack =
       );
     }
 
+-- a firing that fits a task begins a body in it, whether it serves a call or not
 begins_by : (code : Parts) (limits : Limits) (t : Task) (n k : ℕ) (o : Object) (ms : List ℕ) (vs : List Value) (c : Option ℕ) → served (code_program code limits) (Fired k o ms vs) ≡ c → FitsCall (code_program code limits) (view_of t) c → IsTaskOf code limits t → MayResume code limits t n k o ms vs → Beginning code limits (view_of t).past t.top (reverse t.below.items) n k o ms vs
 begins_by code limits t n k o ms vs None s f task may = begins_spare code limits t n k o ms vs t.top refl s f task may task.stack
 begins_by code limits t n k o ms vs (Some q) s f task may = begins_called code limits t n k o ms vs q t.top refl s f task may task.stack
@@ -135,6 +141,7 @@ pub record Opening (code : Parts) (limits : Limits) (k : ℕ) (o : Object) (vs :
   pub machine : Machine
   pub starts : body_in_block code line.block room (a_value.Ref o ∷ vs) limits.turns ≡ Some machine
 
+-- where the first ask of a chord's body is defined, the line of the chord is there, and a machine begins
 opens_in : (code : Parts) (limits : Limits) (k : ℕ) (o : Object) (vs : List Value) (d : ℕ) (x : Option ChordLine) → slice_get (chord_lines code o.class) k ≡ x → IsSome (asked_of code limits (point_of (start_line code limits o vs d x))) → Opening code limits k o vs (limits.depth - d)
 opens_in code limits k o vs d None e s = cc
 opens_in code limits k o vs d (Some line) e s = by_start (body_in_block code line.block (limits.depth - d) (a_value.Ref o ∷ vs) limits.turns) refl s
@@ -196,6 +203,7 @@ spacious_at code f block room turns xs m r s = by_block (slice_get code.blocks b
 waiting_same : (f f' : Frames) → machine_of f' ≡ machine_of f → f'.awaited ≡ f.awaited → waiting_of f ≡ waiting_of f'
 waiting_same f f' m p = ap (λ x. record { machine = x; awaited = f.awaited }) (sym m) ∙ ap (λ x. record { machine = machine_of f'; awaited = x }) (sym p)
 
+-- what frames say of the point where a body stands they say with more room
 next_roomier : (code : Parts) (limits : Limits) (n : Next) (f f' : Frames) (point : Point) → machine_of f' ≡ machine_of f → f'.awaited ≡ f.awaited → NextIs code limits n f point → NextIs code limits n f' point
 next_roomier code limits nexts.Runs f f' point m p x = x ∙ ap At (sym m)
 next_roomier code limits (nexts.Gave (Made c)) f f' point m p x = (x.0, x.1, x.2 ∙ ap (λ z. Asking (Made c) z) (waiting_same f f' m p))
@@ -209,6 +217,7 @@ next_roomier code limits (nexts.Ends e e') f f' point m p x = x
 next_roomier code limits (nexts.Fails t) f f' point m p x = x
 next_roomier code limits (nexts.Waits q) f f' point m p x = x
 
+-- a body that may make its next entry still may with more room
 up_roomier : (code : Parts) (limits : Limits) (h : List Entry) (b b' : Body) → IsRoomier b b' → IsUp code limits h b → IsUp code limits h b'
 up_roomier code limits h b b' r u =
     record {
@@ -219,6 +228,7 @@ up_roomier code limits h b b' r u =
       next = subst (λ z. NextIs code limits z b'.frames (stands code limits u.start u.depth u.answers)) (sym r.1) (next_roomier code limits b.next b.frames b'.frames _ r.2 r.3 u.next);
     }
 
+-- what is known of a body on top that may go on is known of it with more room
 top_roomier : (code : Parts) (limits : Limits) (h : List Entry) (b b' : Body) (n : Next) → may_go n ≡ true → IsRoomier b b' → IsTop code limits h n b → IsTop code limits h n b'
 top_roomier code limits h b b' nexts.Runs g r u = up_roomier code limits h b b' r u
 top_roomier code limits h b b' (nexts.Gave w) g r u = up_roomier code limits h b b' r u
@@ -226,6 +236,7 @@ top_roomier code limits h b b' (nexts.Ends x y) g r u = up_roomier code limits h
 top_roomier code limits h b b' (nexts.Fails t) g r u = up_roomier code limits h b b' r u
 top_roomier code limits h b b' (nexts.Waits q) g r u = (let z : false ≡ true = g in cc)
 
+-- a body that waits may not go on
 waits_goes : (n : Next) (q : ℕ) → n ≡ nexts.Waits q → may_go n ≡ true → ⊥
 waits_goes n q e g = (let z : false ≡ true = sym (ap may_go e) ∙ g in cc)
 

@@ -30,6 +30,7 @@ IsReady Absent = ⊥
 IsReady Unplaced = ⊥
 IsReady (Over x) = ⊥
 
+-- a body that asks is ready
 asked_ready : (p : Program) (d : Doing) (a : Asked) → asked p d ≡ Some a → IsReady d
 asked_ready p (Ready s k rs) a e = tt
 asked_ready p (Waits s k rs q l) a e = cc
@@ -41,6 +42,7 @@ asked_ready p (Over x) a e = cc
 next_told : (p : Program) (t : TaskView) (n : ℕ) (w : What) (a : IsNext p t w) → IsTask p t → AllBelow n t.past → IsTold p (record { number = n; body = a.body; what = w } ∷ t.past)
 next_told p t n w a k l = (k.told, below_rises n t.past l, own_tells p t.past n a.body w a.own a.asks)
 
+-- a body of another number than the one on top is not on top
 other_top : (t : TaskView) (b c : ℕ) → t.top ≡ Some b → (b == c) ≡ false → t.top ≡ Some c → ⊥
 other_top t b c e o f = (let z : Some b ≡ Some c = sym e ∙ f in let w : b ≡ c = cc in eqb-false b c o w)
 
@@ -78,6 +80,7 @@ task_note p t n w a no_end k l =
           ];
     }
 
+-- a body whose call is in the past is still so after an answer
 answered_placed : (x : End) (c : Option ℕ) (d : Doing) → (d ≡ Unplaced → ⊥) → answered x c d ≡ Unplaced → ⊥
 answered_placed x None d f e = f e
 answered_placed x (Some c) (Waits s k rs q l) f e = elim (either (c == q)) [ inl y ↦ (let z : Ready s k (rs ++ x ∷ []) ≡ Unplaced = rw y at e in cc) | inr o ↦ (let z : Waits s k rs q l ≡ Unplaced = rw o at e in cc) ]

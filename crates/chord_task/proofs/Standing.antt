@@ -84,6 +84,7 @@ stands_more code limits s d rs r = points_more code (point_of (begins code limit
 pub replied_at : (code : Parts) (w : What) (f : Frames) (p : Point) (r : End) → GaveAt code w f p → point_replied code p r ≡ reply (waiting_of f) r
 replied_at code w f p r g = ap (λ z. point_replied code z r) g.1 ∙ ap (λ z. reply_to z r) g.2
 
+-- an own entry that answers its ask lets the body go on with that answer
 own_answered : (p : Program) (n : ℕ) (w : What) (m : ℕ → Option ℕ) (g : ℕ → Doing) (d : Doing) (v : Value) → answer_of n w ≡ Some v → own p n w m g d ≡ and_then (Gives v) d
 own_answered p n (Made c) m g d v e = (let z : ◌≡◌ {A = Option Value} (Some (a_value.Ref (record { number = n; class = c }))) (Some v) = e in let y : a_value.Ref (record { number = n; class = c }) ≡ v = cc in ap (λ x. and_then (Gives x) d) y)
 own_answered p n (Sent o j vs) m g d v e = (let z : ◌≡◌ {A = Option Value} (Some a_value.Unit) (Some v) = e in let y : a_value.Unit ≡ v = cc in ap (λ x. and_then (Gives x) d) y)
@@ -118,6 +119,7 @@ up_more code limits h b b' n w v u e a i r f =
       next = subst (λ x. NextIs code limits x b'.frames (stands code limits u.start u.depth (u.answers ++ Gives v ∷ []))) (sym r) point;
     }
 
+-- what is there is not missing
 some_none : {A : Type 0} (o : Option A) → IsSome o → o ≡ None → ⊥
 some_none None s e = cc
 some_none (Some x) s e = cc
@@ -207,12 +209,15 @@ all_parked code limits e h call above (b ∷ bs) l s k =
     let rest = all_parked code limits e h (serves (code_program code limits) b.number h) b.number bs (omega (arith, l, less)) (λ c q m. s c q (omega (arith, m, less))) k.2 in
     ((k.0.0, k.0.1, parked_more code limits e h b k.0.0 (s b k.0.0 less k.0.2) k.0.2), less, subst (λ z. AreParked code limits (e ∷ h) z b.number bs) (sym same) rest)
 
+-- the body has an entry
 abbrev Seen : Doing → Type 0
 Seen d = IsSeen d
 
+-- a ready body has an entry
 ready_seen : (s : Start) (d : ℕ) (rs : List End) (x : Doing) → x ≡ Ready s d rs → IsSeen x
 ready_seen s d rs x e = subst (λ (y : Doing). IsSeen y) (sym e) tt
 
+-- a body that waits has an entry
 waits_seen : (s : Start) (d : ℕ) (rs : List End) (q l : ℕ) (x : Doing) → x ≡ Waits s d rs q l → IsSeen x
 waits_seen s d rs q l x e = subst (λ (y : Doing). IsSeen y) (sym e) tt
 

@@ -40,10 +40,12 @@ stack_at code limits t b k top = subst (λ z. IsBodyStack code limits (view_of t
 pub task_at : (code : Parts) (limits : Limits) (t : Task) (b : Body) → IsTaskOf code limits t → t.top ≡ Some b → IsTask (code_program code limits) (stack_view (view_of t).past (Some b.number))
 task_at code limits t b k top = subst (λ z. IsTask (code_program code limits) (stack_view (view_of t).past z)) (ap body_number top) k.task
 
+-- after an entry that may be noted it is still defined what each body does
 stays_at : (code : Parts) (limits : Limits) (t : Task) (b : Body) (n : ℕ) (w : What) (may : MayNote code limits t n) → t.top ≡ Some b → may.what ≡ w → (c : ℕ) → StaysDefinedAt (code_program code limits) (doing (code_program code limits) (entry n b.number w ∷ (view_of t).past) c)
 stays_at code limits t b n w may top e c =
     subst (λ z. StaysDefinedAt (code_program code limits) (doing (code_program code limits) (entry n b.number z ∷ (view_of t).past) c)) e (may.stays b.number (ap body_number top) c)
 
+-- a body that holds an ask gave it
 given_gave : (b : Body) (w : What) → b.next ≡ nexts.Gave w → given_of b.next ≡ Some w
 given_gave b w e = ap given_of e
 
@@ -127,14 +129,17 @@ task_last code limits t past below b n x y k may top e none left items len capac
       λ z. let x : true ≡ false = sym (ap is_end j) ∙ z in cc,
     )
 
+-- a caller that is called back keeps its number
 back_number : (x : End) (c c' : Body) → CalledBack x c c' → c'.number ≡ c.number
 back_number (Gives v) c c' r = r.0
 back_number (Traps t) c c' r = r.0
 
+-- a caller that is called back waits no more
 back_next : (x : End) (c c' : Body) (q : ℕ) → CalledBack x c c' → c'.next ≡ nexts.Waits q → ⊥
 back_next (Gives v) c c' q r e = (let z : nexts.Runs ≡ nexts.Waits q = sym r.1.0 ∙ e in cc)
 back_next (Traps t) c c' q r e = (let z : nexts.Fails t ≡ nexts.Waits q = sym r.1 ∙ e in cc)
 
+-- the last of the bodies below is the first of them in the other order
 last_of : (below rest : List Body) (c : Body) → below ≡ rest ++ c ∷ [] → reverse below ≡ c ∷ reverse rest
 last_of below rest c e = ap reverse e ∙ reverse-append rest (c ∷ [])
 

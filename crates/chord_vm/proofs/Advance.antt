@@ -14,6 +14,7 @@ use Rattle.chord_vm.specs.declared.frames.Frames.{Frames}
 use Rattle.chord_code.specs.Machine.{Machine, Waiting, Did, Goes, Asking, Bad, instr_in, fetch, act, step, goes_on, run, ComesTo, ComesToAsk}
 use Rattle.chord_vm.specs.Frames.{machine_of, waiting_of, SteppedTo, Advanced}
 
+-- a machine that runs to an ask has an instruction that is defined
 comes_good : (code : Parts) (m : Machine) (a : What) (w : Waiting) (n : ℕ) → run code n m ≡ Asking a w → step code m ≡ Bad → ⊥
 comes_good code m a w zero e b = elim (no e) [ ]
   where
@@ -32,6 +33,7 @@ not_bad code m d b = comes_good code m d.ask d.waiting d.comes.count d.comes.by 
 pub comes_on : (code : Parts) (m m' : Machine) (a : What) (w : Waiting) → step code m ≡ Goes m' → ComesTo code m' a w → ComesTo code m a w
 comes_on code m m' a w e c = record { count = suc c.count; by = ap (goes_on (run code c.count)) e ∙ c.by }
 
+-- a machine that runs to an ask still comes to it after an instruction
 rest_of : (code : Parts) (m m' : Machine) (a : What) (w : Waiting) (n : ℕ) → step code m ≡ Goes m' → run code n m ≡ Asking a w → ComesTo code m' a w
 rest_of code m m' a w zero e r = elim (no r) [ ]
   where
@@ -43,6 +45,7 @@ rest_of code m m' a w (suc n) e r = record { count = n; by = ap (goes_on (run co
 pub defined_on : (code : Parts) (m m' : Machine) → step code m ≡ Goes m' → ComesToAsk code m → ComesToAsk code m'
 defined_on code m m' e d = record { ask = d.ask; waiting = d.waiting; comes = rest_of code m m' d.ask d.waiting d.comes.count e d.comes.by }
 
+-- a machine comes to the ask of its instruction
 now : (code : Parts) (m : Machine) (a : What) (w : Waiting) → step code m ≡ Asking a w → ComesTo code m a w
 now code m a w e = record { count = 1; by = ap (goes_on (run code 0)) e }
 

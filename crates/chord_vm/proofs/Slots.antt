@@ -25,6 +25,7 @@ slots_past (suc i) v (x ∷ xs) h = ap (with_first x) (slots_past i v xs (omega 
 pub slots_within : (i : ℕ) (v : Value) (xs : List Value) → set_slot i v xs ≢ None → i < length xs
 slots_within i v xs h = ⊎_elim (λ lt. lt) (λ le. absurd (h (slots_past i v xs le))) (cases_lt i (length xs))
 
+-- to pop a list that was pushed in its order, and then m more, is to pop these m before the list
 pops_more : (b : List Value) (m : ℕ) (ys t : List Value) → pops (length b + m) ys (reverse b ++ t) ≡ pops m (b ++ ys) t
 pops_more [] m ys t = let e : 0 + m ≡ m = omega arith in ap (λ n. pops n ys t) e
 pops_more (x ∷ b) m ys t =
@@ -77,9 +78,11 @@ pub slice_rest : (k : ℕ) (d items : List Value) → d ≡ items → take (leng
 slice_rest k d items e =
     ap (λ n. take n (drop k d)) (sym (length-drop k d)) ∙ take-length (drop k d) ∙ ap (drop k) e
 
+-- a value goes before others that are there
 with_first_some : (x : Value) (o : Option (List Value)) (xs : List Value) → o ≡ Some xs → with_first x o ≡ Some (x ∷ xs)
 with_first_some x o xs e = ap (with_first x) e
 
+-- the slots with which a block begins without values hold the unit value each
 slots_of_nil : (n : ℕ) → slots_of n [] ≡ Some (replicate n a_value.Unit)
 slots_of_nil zero = refl
 slots_of_nil (suc n) = ap (with_first a_value.Unit) (slots_of_nil n)
@@ -92,6 +95,7 @@ slots_of_fits (suc n) (x ∷ xs) h =
     let e : n - length xs ≡ suc n - suc (length xs) = omega arith in
     ap (with_first x) (slots_of_fits n xs (omega arith)) ∙ ap (λ k. Some (x ∷ (xs ++ replicate k a_value.Unit))) e
 
+-- a block does not begin with more values than it has slots
 slots_of_short : (n : ℕ) (xs : List Value) → n < length xs → slots_of n xs ≡ None
 slots_of_short n [] h = absurd (omega arith)
 slots_of_short zero (x ∷ xs) h = refl
