@@ -1,6 +1,6 @@
 #!/usr/bin/env python3
-"""Has each word one meaning?  Refuses a name that two modules of definitions, or two modules of lemmas, of one reader define; a definition, or a lemma
-that other modules see, without a sentence; a definition that stands on a lemma; and a row of docs/WORDS.md that names a file which is not there."""
+"""Has each word one meaning?  Refuses a name that two modules of definitions, or two modules of lemmas, of one reader define; a definition or a lemma without a
+sentence; a definition that stands on a lemma; and a row of docs/WORDS.md that names a file which is not there."""
 
 import collections
 import os
@@ -32,8 +32,7 @@ def clashes(below, part):
 
 
 def unsaid(below):
-    """Definitions and lemmas that have no sentence above them, made files apart.  A lemma that its module keeps for itself needs none, nor one whose
-    statement is a definition's name alone, which has the sentence there."""
+    """Definitions and lemmas that have no sentence above them, made files apart.  A lemma whose statement is a definition's name alone has its sentence there."""
     for crate in below:
         for part in ('specs', 'proofs'):
             for path in antt.modules(crate, part):
@@ -41,7 +40,7 @@ def unsaid(below):
                     if antt.is_made(file.read()):
                         continue
                 for it in antt.definitions(path):
-                    if not it.sentence and not it.is_named_law and (part == 'specs' or it.is_public):
+                    if not it.sentence and not it.is_named_law:
                         yield f'{it.place}: {it.name} has no sentence above it'
 
 

@@ -13,7 +13,7 @@ use Rattle.chord_base.specs.Bodies.{Doing, Absent, Unplaced, Ready, Waits, Over,
 use Rattle.chord_base.specs.Asks.{said, asks_on, asks_of, all_some}
 use Rattle.chord_base.specs.Machine.{Comes, IsPast}
 use Rattle.chord_base.specs.Laws.{EntriesAreAsks, CallIsLastAsk}
-use Rattle.chord_base.proofs.Waits.{either}
+use Rattle.chord_base.proofs.Waits.{either, heard_absent}
 
 -- what the next ask of a body that got these answers says, if there is such an ask
 abbrev next_what : Program → Start → ℕ → List End → Option What
@@ -49,17 +49,6 @@ asks_entry p Unplaced a e = tt
 asks_entry p (Waits s d rs q l) a e = tt
 asks_entry p (Over x) a e = tt
 asks_entry p Absent a e = (let z : ◌≡◌ {A = Option Asked} None (Some a) = e in cc)
-
--- an entry of another body leaves an absent body absent
-heard_absent : (w : What) (c : Option ℕ) → heard w c Absent ≡ Absent
-heard_absent (Ended x) None = refl
-heard_absent (Ended x) (Some c) = refl
-heard_absent Begun c = refl
-heard_absent (Made k) c = refl
-heard_absent (Sent o j vs) c = refl
-heard_absent (Called o j vs) c = refl
-heard_absent (Printed t) c = refl
-heard_absent (Fired k o ms vs) c = refl
 
 -- a body that has an entry after an entry of another body had one before
 heard_entry : (w : What) (c : Option ℕ) (d : Doing) → IsSeen (heard w c d) → IsSeen d

@@ -340,7 +340,7 @@ end_next p h n b (Printed t') e t = cc
 end_next p h n b (Fired k o ms vs) e t = cc
 
 -- what a place keeps is told without the newest entry of the history, too
-told_before : (p : Program) (keep : ℕ → Bool) (e : Entry) (h : List Entry) → IsTold p (kept keep (e ∷ h)) → IsTold p (kept keep h)
+pub told_before : (p : Program) (keep : ℕ → Bool) (e : Entry) (h : List Entry) → IsTold p (kept keep (e ∷ h)) → IsTold p (kept keep h)
 told_before p keep e h t = elim (either (keep e.number)) [ inl y ↦ (let u = rw y at t in u.0) | inr o ↦ rw o at t ]
 
 module _ (p : Program) (at : ℕ → ℕ) (e : Entry) (h : List Entry) (told : AreTold p at (e ∷ h)) where

@@ -10,7 +10,7 @@ use Rattle.chord_base.specs.Bodies.{Doing, Absent, Unplaced, Ready, Waits, Over,
 use Rattle.chord_base.specs.Machine.{MayFollow, Comes}
 use Rattle.chord_base.specs.Story.{kept, IsTold, AreTold, Tells, Rises, AllBelow, IsRising}
 use Rattle.chord_base.proofs.Waits.{either, Known, WaitsOn, own_waits, heard_waits}
-use Rattle.chord_base.proofs.Merge.{next_in_story}
+use Rattle.chord_base.proofs.Merge.{next_in_story, told_before}
 
 -- numbers that are below one number are below each larger one
 all_below_trans : (m n : ℕ) (h : List Entry) → m < n → AllBelow m h → AllBelow n h
@@ -70,10 +70,6 @@ told_within p at f c' h t c =
       | inl y ↦ rw (kept_twice at f c c' h (eqb-true _ _ y)) (t c)
       | inr o ↦ rw (kept_apart at f c c' h o) tt
     ]
-
--- what a place keeps is told without the newest entry of the history, too
-told_before : (p : Program) (keep : ℕ → Bool) (e : Entry) (h : List Entry) → IsTold p (kept keep (e ∷ h)) → IsTold p (kept keep h)
-told_before p keep e h t = elim (either (keep e.number)) [ inl y ↦ (let u = rw y at t in u.0) | inr o ↦ rw o at t ]
 
 -- where each place is told, the newest entry is told by what its place kept before
 told_here : (p : Program) (at : ℕ → ℕ) (e : Entry) (h : List Entry) → AreTold p at (e ∷ h) → Tells p (kept (λ n. at n == at e.number) h) e.number e.body e.what

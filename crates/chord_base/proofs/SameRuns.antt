@@ -1,3 +1,4 @@
+-- Two programs that agree in their runs have the same runs.
 use Rattle.std.proofs.Common.{◌≡◌, ℕ, Bool, true, false, ◌==◌, List, [], ◌∷◌, Option, refl, sym, ap, ◌∙◌}
 use Rattle.std.specs.Prelude.{if◌then◌else◌}
 use Rattle.chord_base.specs.declared.event.End.{End}

@@ -13,7 +13,7 @@ use Rattle.chord_base.specs.Messages.{maker}
 use Rattle.chord_base.specs.Bodies.{Doing, Absent, own, heard, doing, serves, asked, Asks}
 use Rattle.chord_base.specs.Machine.{Comes, MayFollow}
 use Rattle.chord_base.specs.BodyTable.{doing_of, doing_at, IsTable}
-use Rattle.chord_base.proofs.Waits.{either}
+use Rattle.chord_base.proofs.Waits.{either, heard_absent}
 
 -- past the end of a table bodies are absent
 pub doing_at_or : (bodies : List body.Body) (b : ℕ) → doing_at bodies b ≡ doing_of (get_or bodies b a_body.Absent)
@@ -63,17 +63,6 @@ same_length f g [] [] e = refl
 same_length f g [] (y ∷ ys) e = cc
 same_length f g (x ∷ xs) [] e = cc
 same_length f g (x ∷ xs) (y ∷ ys) e = let t : map f xs ≡ map g ys = cc in let n = same_length f g xs ys t in omega (arith, n)
-
--- an entry of another body leaves an absent body absent
-heard_absent : (w : What) (c : Option ℕ) → heard w c Absent ≡ Absent
-heard_absent (Ended x) None = refl
-heard_absent (Ended x) (Some c) = refl
-heard_absent Begun c = refl
-heard_absent (Made k) c = refl
-heard_absent (Sent o j vs) c = refl
-heard_absent (Called o j vs) c = refl
-heard_absent (Printed t) c = refl
-heard_absent (Fired k o ms vs) c = refl
 
 -- a body that asks has an element of the table
 asks_within : (p : Program) (bodies : List body.Body) (b : ℕ) (a : Asked) → asked p (doing_at bodies b) ≡ Some a → b < length bodies

@@ -48,6 +48,17 @@ answered_waits P x (Some c) Absent w = tt
 answered_waits P x (Some c) Unplaced w = tt
 answered_waits P x (Some c) (Over y) w = tt
 
+-- an entry of another body leaves an absent body absent
+pub heard_absent : (w : What) (c : Option ℕ) → heard w c Absent ≡ Absent
+heard_absent (Ended x) None = refl
+heard_absent (Ended x) (Some c) = refl
+heard_absent Begun c = refl
+heard_absent (Made k) c = refl
+heard_absent (Sent o j vs) c = refl
+heard_absent (Called o j vs) c = refl
+heard_absent (Printed t) c = refl
+heard_absent (Fired k o ms vs) c = refl
+
 -- after an entry of another body a body waits for no call for which it did not wait before
 pub heard_waits : (P : ℕ → Type 0) (w : What) (c : Option ℕ) (d : Doing) → WaitsOn P d → WaitsOn P (heard w c d)
 heard_waits P (Ended x) c d w = answered_waits P x c d w

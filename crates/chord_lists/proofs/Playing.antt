@@ -43,7 +43,7 @@ stack_to : (n m : ℕ) (stack : List PendingPut) → IsStack n stack → n ≤ m
 stack_to n m [] s l = tt
 stack_to n m (x ∷ xs) s l = (omega (arith, s.0, l), s.1)
 
--- the stack without_put the put of this number
+-- the stack without the put of this number
 abbrev pub without_put : ℕ → List PendingPut → List PendingPut
 without_put n [] = []
 without_put n (x ∷ xs) = if x.number == n then xs else x ∷ without_put n xs

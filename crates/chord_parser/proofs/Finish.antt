@@ -134,7 +134,7 @@ pub not_else_else_first : (s : List Want) → all_not_else s ≡ true → else_f
 not_else_else_first [] h = refl
 not_else_else_first ((p, d) ∷ s) h = both_true _ _ (not_else_listed p (both_left _ _ h)) (both_right (not_else p) _ h)
 
--- what is wanted has an `else` but as its first where its symbols do
+-- what is wanted has no `else` but as its first where its symbols have none
 pub else_first_at_depth : (d : ℕ) (ps : List Symbol) (s : List Want) → else_first_parts ps ≡ true → all_not_else s ≡ true → else_first (at_depth d ps ++ s) ≡ true
 else_first_at_depth d [] s h k = not_else_else_first s k
 else_first_at_depth d (p ∷ ps) s h k = both_true _ _ (both_left _ _ h) (not_else_at_depth d ps s (both_right (listed p) _ h) k)

@@ -133,11 +133,6 @@ abbrev is_new : Kind → Bool
 is_new (kinds.Word keywords.New) = true
 is_new _ = false
 
--- whether a token is `;`
-abbrev is_leaf : Kind → Bool
-is_leaf (kinds.Mark marks.Semicolon) = true
-is_leaf _ = false
-
 -- a chain of a first operand and links, or that operand where there are no links
 abbrev chain_of : ExprTree → LinkTrees → ExprTree
 chain_of first NoLinks = first

@@ -15,6 +15,7 @@ use Rattle.chord_tree.specs.View.{see_class, see_using}
 use Rattle.chord_tree.specs.Program.{spelling, IsProgram}
 use Rattle.chord_tree.specs.Terms.{Term, term, operated, called, first_token}
 use Rattle.chord_tree.proofs.Ahead.{below, imp, imp_true}
+use Rattle.chord_tree.proofs.OneTree.{inner_nodes}
 
 mutual
   -- a node spells as many tokens as it has
@@ -64,15 +65,10 @@ as_many : {ps : List Symbol} {d : ℕ} {ns : Nodes} {w : List Spelled} → FitAl
 as_many none = refl
 as_many (more f g) = ap suc (as_many g)
 
--- a program has a class
+-- a production of a whole program has three parts
 three_parts : (i : ℕ) → i < rule_count → head_of i ≡ 0 → length (parts_of i) ≡ 3
 unfolding head_of parts_of productions rule_count
 three_parts i l h = eqb-true _ _ (imp_true _ _ (below 121 (λ i. imp (nat_eq (head_of i) 0) (nat_eq (length (parts_of i)) 3)) refl i l) (subst (λ z. nat_eq z 0 ≡ true) (sym h) refl))
-
--- the nodes of a nonterminal; a token has none
-abbrev inner_nodes : Node → Nodes
-inner_nodes (Leaf kind at) = End
-inner_nodes (Made p ns) = ns
 
 -- no program that has `using` lines alone is derived
 no_class : {p : Symbol} {n : Node} {d : ℕ} {w : List Spelled} (us : Node) → Fits p d n w → p ≡ Whole_program → n ≡ Made Whole_program (us ▸ End) → ⊥

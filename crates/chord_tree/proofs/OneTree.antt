@@ -64,9 +64,9 @@ mutual
       (ap (λ v. v ▸ unmarked_all ns) a.0 ∙ ap (λ v. unmarked m ▸ v) b.0, b.1)
 
 -- the nodes of a nonterminal; a token has none
-abbrev inner : Node → Nodes
-inner (Leaf k a) = End
-inner (Made p ns) = ns
+abbrev pub inner_nodes : Node → Nodes
+inner_nodes (Leaf k a) = End
+inner_nodes (Made p ns) = ns
 
 -- the nodes after the first
 abbrev after_first : Nodes → Nodes
@@ -84,7 +84,7 @@ mutual
   unmarked_size (Leaf k a) (Leaf j b) e = refl
   unmarked_size (Leaf k a) (Made p ns) e = cc
   unmarked_size (Made p ns) (Leaf j b) e = cc
-  unmarked_size (Made p ns) (Made q ms) e = unmarked_sizes ns ms (ap inner e)
+  unmarked_size (Made p ns) (Made q ms) e = unmarked_sizes ns ms (ap inner_nodes e)
 
   -- nodes side by side that are the same but for numbers have as many tokens
   unmarked_sizes : (ns ms : Nodes) → unmarked_all ns ≡ unmarked_all ms → size_all ns ≡ size_all ms
@@ -99,7 +99,7 @@ mutual
   equal (Leaf k a) (Leaf j b) at e h g = let kj : k ≡ j = cc in ap (λ z. Leaf z a) kj ∙ ap (Leaf j) (h ∙ ap (λ z. number_at z at) kj ∙ sym g)
   equal (Leaf k a) (Made p ns) at e h g = cc
   equal (Made p ns) (Leaf j b) at e h g = cc
-  equal (Made p ns) (Made q ms) at e h g = let pq : p ≡ q = cc in ap (λ z. Made z ns) pq ∙ ap (Made q) (equal_all ns ms at (ap inner e) h g)
+  equal (Made p ns) (Made q ms) at e h g = let pq : p ≡ q = cc in ap (λ z. Made z ns) pq ∙ ap (Made q) (equal_all ns ms at (ap inner_nodes e) h g)
 
   -- nodes with the numbers of their tokens are equal where they are but for numbers
   pub equal_all : (ns ms : Nodes) (at : ℕ) → unmarked_all ns ≡ unmarked_all ms → AllNumbered ns at → AllNumbered ms at → ns ≡ ms
