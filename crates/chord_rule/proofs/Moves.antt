@@ -65,11 +65,13 @@ module _ {P : Type 0} (entries : P → List Entry) (arguments : P → List value
         ),
       )
 
+-- each of n slots at the start is at home, with what all have
 all_vacant : {A : Type 0} (n i : ℕ) (a : A) → i < n → get_elem? (map some (replicate n a)) i ≡ some (some a)
 all_vacant zero i a h = absurd (omega arith)
 all_vacant (suc n) zero a h = refl
 all_vacant (suc n) (suc i) a h = all_vacant n i a (omega arith)
 
+-- each of k words at the start is 0
 zero_at : (k i : ℕ) → get_or {A = ℕ} (replicate k 0) i 0 ≡ 0
 zero_at zero i = refl
 zero_at (suc k) zero = refl

@@ -44,6 +44,7 @@ use Rattle.chord_rule.proofs.Standing as standing
 use Rattle.chord_rule.proofs.Bagging as bagging
 use Rattle.chord_rule.proofs.Wholes as wholes
 
+-- a next that fits in a cell fits in a claimed, a pending and a consumed one
 link_low : (c : Cell) (next : Option ℕ) → NextFits c next → NextFits a_cell.Claimed next × NextFits a_cell.Pending next × NextFits a_cell.Consumed next
 link_low c None k = (tt, tt, tt)
 link_low c (Some x) k = ((tt, k.1), (tt, k.1), (tt, k.1))

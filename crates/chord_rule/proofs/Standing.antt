@@ -54,6 +54,7 @@ use Rattle.chord_base.specs.Bodies.{doing}
 use Rattle.chord_base.specs.Story.{AllBelow}
 use Rattle.chord_rule.proofs.Waiting.{no_message}
 
+-- an own entry of a body is no firing
 own_plain : (w : What) → IsOwn w → ¬ IsFiringEntry (Some w)
 own_plain Begun o f = o
 own_plain (Made c) o f = f
@@ -65,6 +66,7 @@ own_plain (Fired k x ms vs) o f = o
 
 -- ## Entries that are kept
 
+-- an entry that is kept by a test was there, and its number passes the test
 kept_in : (f : ℕ → Bool) (h : List Entry) (e : Entry) → IsIn e (kept f h) → IsIn e h × (f e.number ≡ true)
 kept_in f [] e i = absurd i
 kept_in f (x ∷ h) e i = cases (f x.number) refl i (λ k. kept_in f h e k)
@@ -73,6 +75,7 @@ kept_in f (x ∷ h) e i = cases (f x.number) refl i (λ k. kept_in f h e k)
     cases true y k later = ⊎_elim (λ q. (inl q, ap (λ (z : Entry). f z.number) q ∙ y)) (λ r. let t = later r in (inr t.0, t.1)) k
     cases false y k later = let t = later k in (inr t.0, t.1)
 
+-- an entry whose number passes a test is kept by it
 in_kept : (f : ℕ → Bool) (h : List Entry) (e : Entry) → IsIn e h → f e.number ≡ true → IsIn e (kept f h)
 in_kept f [] e i y = absurd i
 in_kept f (x ∷ h) e i y = cases (f x.number) refl i (λ k. in_kept f h e k y)
@@ -81,6 +84,7 @@ in_kept f (x ∷ h) e i y = cases (f x.number) refl i (λ k. in_kept f h e k y)
     cases true z k later = ⊎_elim inl (λ r. inr (later r)) k
     cases false z k later = ⊎_elim (λ q. let t : true ≡ false = sym y ∙ ap (λ (u : Entry). f u.number) q ∙ z in absurd (cc)) later k
 
+-- a number that is among entries is that of one of them
 among_in : (ps : List Entry) (k : ℕ) → among ps k ≡ true → (e : Entry) × IsIn e ps × (e.number ≡ k)
 among_in [] k y = absurd (let z : false ≡ true = y in cc)
 among_in (x ∷ ps) k y = elim (either (x.number == k)) [

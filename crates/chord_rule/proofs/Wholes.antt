@@ -70,20 +70,24 @@ was_duty d x (e ∷ es) h = cases (eqb e.message x) h (λ k. was_duty d x es k)
     cases true k later = inr (later k)
     cases false k later = ⊎_elim inl (λ z. inr (later z)) k
 
+-- a duty of the first of two lists is one of both joined
 has_left : (d : Duty) (xs ys : List Duty) → HasDuty d xs → HasDuty d (xs ++ ys)
 has_left d [] ys h = absurd h
 has_left d (x ∷ xs) ys (inl e) = inl e
 has_left d (x ∷ xs) ys (inr h) = inr (has_left d xs ys h)
 
+-- a duty of the second of two lists is one of both joined
 has_right : (d : Duty) (xs ys : List Duty) → HasDuty d ys → HasDuty d (xs ++ ys)
 has_right d [] ys h = h
 has_right d (x ∷ xs) ys h = inr (has_right d xs ys h)
 
+-- a duty of two joined lists is one of the first or of the second
 has_either : (d : Duty) (xs ys : List Duty) → HasDuty d (xs ++ ys) → HasDuty d xs ⊎ HasDuty d ys
 has_either d [] ys h = inr h
 has_either d (x ∷ xs) ys (inl e) = inl (inl e)
 has_either d (x ∷ xs) ys (inr h) = ⊎_elim (λ a. inl (inr a)) inr (has_either d xs ys h)
 
+-- a duty among duties whose walks are dropped is such a one of a duty that was there
 has_reset : (d : Duty) (ds : List Duty) → HasDuty d (map reset_duty ds) → (e : Duty) × HasDuty e ds × (d ≡ reset_duty e)
 has_reset d [] h = absurd h
 has_reset d (e ∷ es) (inl q) = (e, inl refl, q)
