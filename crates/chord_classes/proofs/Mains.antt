@@ -176,9 +176,11 @@ none_in number (c ∷ cs) e = by_class (main_among number c.members) refl e (λ 
     by_class None h g f = no_more (flat_map member_mains c.members) (mains_of cs) (none_among number c.members h) (f g)
 
 module _ (p : ProgramTree) where
+  -- the bodies of the program by their numbers
   abbrev bodies : ℕ → Option BodyOf
   bodies j = slice_get (bodies_of p) j
 
+  -- a member of classes that was found as `Main` has its body at this number, and is as it should be where the first header of this name is
   some_in : (n number : ℕ) (classes : List ClassTree) (k : ℕ) → ((j : ℕ) → bodies (number + j) ≡ slice_get (resolved_classes (table_of p) n classes) j) → main_in number classes ≡ Some k → MainOf bodies (table_of p) classes k
   some_in n number [] k at e = absurd (none_some e)
   some_in n number (c ∷ cs) k at e = by_class (main_among number c.members) refl e (λ g. some_in (n + 1) (number + length c.members) cs k next g)

@@ -46,6 +46,7 @@ place_end : (names : List (List ℕ)) (w x : List ℕ) → name_place (names ++ 
 place_end names w x = place_push 0 names w x ∙ ap (λ z. or_place (name_place names x) (cond (bytes_eq w x) (Some z) None)) (omega arith)
 
 module _ {m n : BTreeMap (Bor (List ℕ)) ℕ} {names : List (List ℕ)} (w : List ℕ) where
+  -- a map that gets a new name with the count of names as its place has the first place of each name
   pub finds_more : FindsNames m names → name_place names w ≡ None
       → ((x : List ℕ) → get_by (λ k. slice_cmp nat_cmp x k.now) n ≡ update bytes_eq (λ ds. get_by (λ k. slice_cmp nat_cmp ds k.now) m) w (Some (length names)) x)
       → FindsNames n (names ++ (w ∷ []))

@@ -136,9 +136,11 @@ members_within done plans class h =
 -- Chords of a program.
 
 module _ (p : ProgramTree) where
+  -- the class table of the program
   abbrev table : List Shape
   table = table_of p
 
+  -- what sound code needs of a chord holds of it in the class of this number
   abbrev IsPlannedAt : ℕ → ChordOf → Type 0
   IsPlannedAt class chord = ChordIs (signatures_of p) (resolved_program p) class chord
 
@@ -159,6 +161,7 @@ module _ (p : ProgramTree) where
         result = gives_along (signatures table) d c i h chord.methods k.body.result k.result;
       }
 
+  -- what sound code needs of chords holds of those that have none of these methods
   without : (class : ℕ) (others : List ℕ) (chords : List ChordOf) → Every (IsPlannedAt class) chords → Every (IsPlannedAt class) (chords_without others chords)
   without class others [] h = tt
   without class others (k ∷ ks) h = every_both (IsPlannedAt class) (cond (spared others k.methods) (k ∷ []) []) (chords_without others ks) (by_choice (spared others k.methods)) (without class others ks h.1)
@@ -188,6 +191,7 @@ module _ (p : ProgramTree) where
         result = gives_is table n headers ks;
       }
 
+  -- what sound code needs of a class's own chords holds of them where nothing is broken at its members
   own_planned : (n : ℕ) (class : ClassTree) (number : ℕ) (members : List MemberTree) → ((j : ℕ) (m : MemberTree) → slice_get members j ≡ Some m → slice_get (bodies_of p) (number + j) ≡ Some (resolved_member table n class m))
       → Every (λ header. is_main header ≡ false → HeaderKept table (methods_at table n) header) (flat_map member_headers members) → flat_map member_limits members ≡ [] → flat_map repeated_in members ≡ [] → flat_map crowded_in members ≡ []
       → ((j : ℕ) (m : MemberTree) → slice_get members j ≡ Some m → HasHeader m) → Every (IsPlannedAt n) (own_chords (methods_at table n) number members)
@@ -239,11 +243,13 @@ module _ (p : ProgramTree) where
   get_behind [] ys j = let e : 0 + j ≡ j = omega arith in ap (slice_get ys) e
   get_behind (x ∷ xs) ys j = let e : suc (length xs) + j ≡ suc (length xs + j) = omega arith in ap (slice_get (x ∷ (xs ++ ys))) e ∙ get_behind xs ys j
 
+  -- the body of the member at a place is at this place among the bodies of members
   pub get_mapped : (n : ℕ) (class : ClassTree) (members : List MemberTree) (rest : List BodyOf) (j : ℕ) (m : MemberTree) → slice_get members j ≡ Some m → slice_get (map (resolved_member table n class) members ++ rest) j ≡ Some (resolved_member table n class m)
   get_mapped n class [] rest j m e = absurd (none_some e)
   get_mapped n class (x ∷ xs) rest zero m e = ap Some (ap (resolved_member table n class) (same_some e))
   get_mapped n class (x ∷ xs) rest (suc j) m e = get_mapped n class xs rest j m e
 
+  -- there are as many bodies as members
   pub length_members : (n : ℕ) (class : ClassTree) (members : List MemberTree) → length (map (resolved_member table n class) members) ≡ length members
   length_members n class [] = refl
   length_members n class (x ∷ xs) = ap suc (length_members n class xs)
@@ -259,6 +265,7 @@ module _ (p : ProgramTree) where
       subst (λ i. P i y) at (get_either P zs x (k + 1) (λ d w g. let there : k + suc d ≡ k + 1 + d = omega arith in subst (λ i. P i w) there (f (suc d) w g)) (subst (λ i. P i x) last h) c y e)
 
   module _ (free : IsFree is_header_rule p) (heads : HaveHeaders p) where
+    -- what sound code needs of effective chords holds of those of all classes, where it does of the classes so far
     plans_good : (done : List Shape) (plans : List ClassOf) (number : ℕ) (classes : List ClassTree) → shapes_after done classes ≡ table → length plans ≡ length done
         → ((i : ℕ) → slice_get p.classes (length done + i) ≡ slice_get classes i) → ((j : ℕ) → slice_get (bodies_of p) (number + j) ≡ slice_get (resolved_classes table (length done) classes) j)
         → over_plans limits_passed done plans number classes ≡ [] → over_shapes repeated_methods done classes ≡ [] → over_shapes second_synchronous done classes ≡ []

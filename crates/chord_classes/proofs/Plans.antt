@@ -119,7 +119,7 @@ unbuilt_is number [] h = refl
 unbuilt_is number (ConstructorMember modifiers name formals body ∷ more) h = absurd (none_some (sym h))
 unbuilt_is number (ChordMember headers body ∷ more) h = unbuilt_is (number + 1) more h
 
--- a class that is built from nothing has an empty list of types that its objects are built from
+-- a class that is built from nothing is so by its signatures
 builders_are : (table : List Shape) (c : ℕ) (s : Shape) → slice_get table c ≡ Some s → built_from s.builder ≡ [] → (signatures table).builders c ≡ Some []
 builders_are table c s there e = ap (option_map (λ (z : Shape). map (type_known table) (built_from z.builder))) there ∙ ap (λ ws. Some (map (type_known table) ws)) e
 

@@ -175,6 +175,7 @@ module _ (types : Scope) where
     pub are : StmtsAre (signatures site.table) types (due_of site) stmts scope last
     pub extends : Extends last scope
 
+  -- an assignment in which no rule is broken keeps to its types
   assign_is : (site : Site) (scope : Scope) (name : Name) (assign : ℕ) (value : ExprTree) → Holds site scope → HasRoom site.table types scope site.next [] → Every (Free site.table) (in_term site Used (term value)) → FreeItem site (StmtItem (AssignStmt name assign value))
       → StmtIs (signatures site.table) types (due_of site) (resolved_stmt site (AssignStmt name assign value)) scope scope
   assign_is site scope name assign value holds room h f =
@@ -186,6 +187,7 @@ module _ (types : Scope) where
       subst (λ (z : ℕ). StmtIs (signatures site.table) types (due_of site) (to.Store z (resolved site (term value))) scope scope) (sym slot)
       (t.kind, s.kind, Some s.kind, t.is, fit, room.agrees v.0.slot s.kind s.there, s.there, refl, sym (declared_same v.0.slot s.kind scope s.there))
 
+  -- a `return` with a value in which no rule is broken keeps to its types
   give_is : (site : Site) (scope : Scope) (at : ℕ) (value : ExprTree) → Holds site scope → DueDeclared site → Every (Free site.table) (in_term site Used (term value)) → FreeItem site (StmtItem (ReturnValueStmt at value))
       → StmtIs (signatures site.table) types (due_of site) (to.Give (resolved site (term value))) scope scope
   give_is site scope at value holds due h f =
@@ -202,6 +204,7 @@ module _ (types : Scope) where
     holds : Holds (after site (LocalItem written name assign value)) next
     extends : Extends next scope
 
+  -- a declaration in which no rule is broken keeps to its types, and its local is in scope afterwards
   declare_is : (site : Site) (scope : Scope) (written : ValueType) (name : Name) (assign : ℕ) (value : ExprTree) (rest : List ValueType) → Holds site scope → HasRoom site.table types scope site.next (written ∷ rest) → Declared site.table written
       → Every (Free site.table) (in_term site Used (term value)) → FreeItem site (LocalItem written name assign value)
       → IsDeclaration site scope (declared site.next (type_known site.table written) scope) written name assign value

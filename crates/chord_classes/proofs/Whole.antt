@@ -223,9 +223,11 @@ each_has [] = tt
 each_has (k ∷ ks) = (has_itself k.body (map (λ (z : ChordOf). z.body) ks), every_map (λ (y : ChordOf). has y.body (map (λ (z : ChordOf). z.body) ks) ≡ true) (λ (y : ChordOf). has y.body (k.body ∷ map (λ (z : ChordOf). z.body) ks) ≡ true) ks (λ y h. has_later y.body k.body (map (λ (z : ChordOf). z.body) ks) h) (each_has ks))
 
 module _ (p : ProgramTree) where
+  -- the body of a chord is one of some class's own
   abbrev Owned : ChordOf → Type 0
   Owned y = (d : ℕ) × (z : ClassOf) × (slice_get (plan_of p) d ≡ Some z) × (has y.body z.own ≡ true)
 
+  -- where the body of each of some chords is some class's own, so is that of each that has none of these methods
   owned_without : (others : List ℕ) (chords : List ChordOf) → Every Owned chords → Every Owned (chords_without others chords)
   owned_without others [] h = tt
   owned_without others (k ∷ ks) h = every_both Owned (cond (spared others k.methods) (k ∷ []) []) (chords_without others ks) (by_choice (spared others k.methods)) (owned_without others ks h.1)
@@ -234,6 +236,7 @@ module _ (p : ProgramTree) where
       by_choice true = (h.0, tt)
       by_choice false = tt
 
+  -- the body of each effective chord of a class below n is one of some class's own
   all_owned : (n c : ℕ) (x : ClassOf) → c < n → slice_get (plan_of p) c ≡ Some x → Every Owned x.chords
   all_owned zero c x l e = absurd (omega (arith, l))
   all_owned (suc n) c x l e =
@@ -258,5 +261,6 @@ module _ (p : ProgramTree) where
               let count = a.count in
               f b y (omega (arith, within, count, l)) (a.earlier b y w)
 
+  -- the body of each effective chord of a class is one of some class's own
   pub chord_owned : (c k : ℕ) (x : ClassOf) (y : ChordOf) → slice_get (plan_of p) c ≡ Some x → slice_get x.chords k ≡ Some y → (d : ℕ) × (z : ClassOf) × (slice_get (plan_of p) d ≡ Some z) × (has y.body z.own ≡ true)
   chord_owned c k x y e f = every_get Owned x.chords k y (all_owned (suc c) c x (omega arith) e) f

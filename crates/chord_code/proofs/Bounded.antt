@@ -40,12 +40,12 @@ heard_absent (Called o j vs) c = refl
 heard_absent (Printed t) c = refl
 heard_absent (Fired k o ms vs) c = refl
 
--- a body that asks has the number of an entry, where bodies past the entries are absent
+-- a body that asks has a number below the count of entries, where bodies from that count on are absent
 asks_low : (p : Program) (h : List Entry) (b : ℕ) (a : Asked) → ((c : ℕ) → length h ≤ c → doing p h c ≡ Absent) → asked p (doing p h b) ≡ Some a → b < length h
 asks_low p h b a absent e =
     ⊎_elim (λ lt. lt) (λ le. let z : ◌≡◌ {A = Option Asked} None (Some a) = sym (ap (asked p) (absent b le)) ∙ e in cc) (cases_lt b (length h))
 
--- the body of an entry that may come has no number past the entries, where bodies past them are absent
+-- the body of an entry that may come has a number of at most the count of entries, where bodies from that count on are absent
 comes_low : (p : Program) (h : List Entry) (n b : ℕ) (w : What) → ((c : ℕ) → length h ≤ c → doing p h c ≡ Absent) → n ≡ length h → Comes p h n b w → b ≤ length h
 comes_low p h n b Begun absent i c = (let z = c.1 in omega (arith, z))
 comes_low p h n b (Fired k o ms vs) absent i c = (let z = c.0 in omega (arith, z, i))

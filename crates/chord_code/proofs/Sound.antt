@@ -24,7 +24,7 @@ use Rattle.chord_code.specs.Runs.{IsPlaying, BodyIs, AllGood, AreLocal, IsPlan}
 use Rattle.chord_code.proofs.Runs.{good_defined, playing_begins}
 use Rattle.chord_code.proofs.AllGood.{own_entry, body_later, step_own}
 
--- a body that does as its play at each depth does so where it begins below a caller that may wait for it
+-- what is known of a new body at each depth is known of it below the place where its caller waits
 placed_good : (code : Parts) (limits : Limits) (sig : Signatures) (src : Start → ℕ → Play) (h : List Entry) (n q : ℕ) (s : Start) (d : Doing) → ((l : ℕ) → IsPlaying code limits sig src h n s l []) → BodyIs code limits sig src h n (placed s q d)
 placed_good code limits sig src h n q s (Waits s' d rs q' l) f = elim (either (q == q')) [ inl y ↦ rw y (f (l + 1)) | inr o ↦ rw o tt ]
 placed_good code limits sig src h n q s (Ready s' d rs) f = tt
@@ -32,12 +32,12 @@ placed_good code limits sig src h n q s Absent f = tt
 placed_good code limits sig src h n q s Unplaced f = tt
 placed_good code limits sig src h n q s (Over x) f = tt
 
--- a body that does as its play at each depth does so where its call has a maker or none
+-- what is known of a new body at each depth is known of it below the maker of its call, if there is one
 begun_by_good : (code : Parts) (limits : Limits) (sig : Signatures) (src : Start → ℕ → Play) (h : List Entry) (n q : ℕ) (s : Start) (b : Option ℕ) (g : ℕ → Doing) → ((l : ℕ) → IsPlaying code limits sig src h n s l []) → BodyIs code limits sig src h n (begun_by s q b g)
 begun_by_good code limits sig src h n q s None g f = tt
 begun_by_good code limits sig src h n q s (Some b) g f = placed_good code limits sig src h n q s (g b) f
 
--- a body that does as its play at each depth does so where it serves a call or none
+-- what is known of a new body at each depth is known of it as it begins, whether it serves a call or not
 begun_good : (code : Parts) (limits : Limits) (sig : Signatures) (src : Start → ℕ → Play) (h : List Entry) (n : ℕ) (s : Start) (c : Option ℕ) (m : ℕ → Option ℕ) (g : ℕ → Doing) → ((l : ℕ) → IsPlaying code limits sig src h n s l []) → BodyIs code limits sig src h n (begun s c m g)
 begun_good code limits sig src h n s None m g f = f 1
 begun_good code limits sig src h n s (Some q) m g f = begun_by_good code limits sig src h n q s (m q) g f

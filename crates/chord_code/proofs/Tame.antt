@@ -481,7 +481,7 @@ asked_at_among f limits (Machine.Asking a w) d = (d.0, d.1)
 asked_at_among f limits (Machine.Goes m) d = tt
 asked_at_among f limits Machine.Bad d = tt
 
--- a body asks of the objects where it stands only, within its bounds
+-- a body that stands at a point asks of the point's objects only, within its bounds
 asked_of_among : (f : Object → Bool) (code : Parts) → IsCodeWithin code → (limits : Limits) (p : Point) → PointAmong f p → AskAmong f (asked_of code limits p)
 asked_of_among f code w limits (At m) a = asked_at_among f limits (comes_to code m) (run_among f code w (suc (weight code m)) m a)
 asked_of_among f code w limits (FailsBy t) a = (tt, tt)

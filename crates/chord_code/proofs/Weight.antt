@@ -113,13 +113,13 @@ items_fetch code b p = items_in (slice_get code.blocks b) p
 abbrev Enters : Parts → ℕ → List Instruction → Type 0
 Enters code b is = (q c : ℕ) → slice_get is q ≡ Some (instr.Init c) → (k n : ℕ) → Machine.builder_of code c ≡ Some (Some (k, n)) → k < b
 
--- weights that are equal below b weigh the same what is entered below b
+-- two weights that are equal below b give one weight to what is entered below b
 same_cost : (code : Parts) (b : ℕ) (f g : ℕ → ℕ) → ((k : ℕ) → k < b → f k ≡ g k) → (o : Option (Option (ℕ × ℕ))) → ((k n : ℕ) → o ≡ Some (Some (k, n)) → k < b) → entered f o ≡ entered g o
 same_cost code b f g h None e = refl
 same_cost code b f g h (Some None) e = refl
 same_cost code b f g h (Some (Some p)) e = h p.0 (e p.0 p.1 refl)
 
--- weights that are equal below b give one cost to an instruction that enters a block below b
+-- two weights that are equal below b give one cost to an instruction that enters blocks below b only
 same_one : (code : Parts) (b : ℕ) (f g : ℕ → ℕ) → ((k : ℕ) → k < b → f k ≡ g k) → (i : Instruction) → ((c : ℕ) → i ≡ instr.Init c → (k n : ℕ) → Machine.builder_of code c ≡ Some (Some (k, n)) → k < b) → cost_with code f i ≡ cost_with code g i
 same_one code b f g h (instr.Init c) e = ap (λ n. suc (suc n)) (same_cost code b f g h (Machine.builder_of code c) (e c refl))
 same_one code b f g h (instr.Int n) e = refl
@@ -153,7 +153,7 @@ same_one code b f g h instr.End e = refl
 same_one code b f g h instr.Endv e = refl
 same_one code b f g h instr.Back e = refl
 
--- weights that are equal below b give one cost to instructions that enter blocks below b
+-- two weights that are equal below b give one cost to instructions that enter blocks below b only
 same_sum : (code : Parts) (b : ℕ) (f g : ℕ → ℕ) → ((k : ℕ) → k < b → f k ≡ g k) → (is : List Instruction) → Enters code b is → sum_with (cost_with code f) is ≡ sum_with (cost_with code g) is
 same_sum code b f g h [] e = refl
 same_sum code b f g h (i ∷ is) e =

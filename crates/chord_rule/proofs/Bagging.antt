@@ -32,15 +32,19 @@ use Rattle.chord_rule.proofs.Standing.{claim_word, number_low}
 
 module _ {P : Type 0} (entries : P → List Entry) (arguments : P → List value.Value) (keeps_to : P → Type 0) (p : Program) (n : ℕ) (small : n ≤ 65536) (m : Moment P) (u : Unseen)
     (law : StandsFor entries arguments keeps_to p n m u) (heads : HeadLaw (IsKey u.journal) m.heads) (bags : BagLaw (IsKey u.journal) m.cells m.heads u.order) where
+  -- the journal is a run, newest entry first
   past : IsPast p u.journal
   past = law.keeping.merged.past
 
+  -- the number i is in this stage
   abbrev It : ℕ → Stage → Type 0
   It i s = Stands s (what_at i u.journal) (m.cells i) (m.places i) (m.homes i) (u.order.bag i) (u.order.next i)
 
+  -- each number is in its stage
   it : (i : ℕ) (s : Stage) → u.stage i ≡ s → It i s
   it i s e = subst (It i) e (law.messages.stands i)
 
+  -- the bag law with these cells
   abbrev Bags' : (ℕ → Word) → Type 0
   Bags' cells = BagLaw (IsKey u.journal) cells m.heads u.order
 

@@ -17,6 +17,7 @@ use Rattle.chord_rule.specs.Held.{HeldBy}
 use Rattle.chord_rule.proofs.Puts.{put, put_here, put_else, put_all}
 
 module _ {P : Type 0} where
+  -- the slots once those that are out with a desk are home again
   abbrev pub back : (ℕ → Home P) → List (ℕ × Option P) → ℕ → Home P
   back h [] = h
   back h (x ∷ xs) = put h x.0 (some x.1)
@@ -35,9 +36,11 @@ module _ {P : Type 0} where
   Can n h c gives = Unit {0}
   Can n h c (chain a b) = Can n h c a × Can n (after h c a) (carried_after c a) b
 
+  -- the slots of the table are these, below n
   abbrev Shown : ℕ → List (Home P) → (ℕ → Home P) → Type 0
   Shown n hs h = (length hs ≡ n) × ((i : ℕ) → i < n → get_elem? hs i ≡ some (h i))
 
+  -- a slot that is set in the table is set in what is shown
   shown_put : (n : ℕ) (hs : List (Home P)) (h : ℕ → Home P) (k : ℕ) (y : Home P) → Shown n hs h → Shown n (set hs k y) (put h k y)
   shown_put n hs h k y s = (
     length-set hs k y ∙ s.0,
@@ -46,16 +49,19 @@ module _ {P : Type 0} where
         (λ ne. set_else hs k i y ne ∙ s.1 i l ∙ ap some (sym (put_else h k y i ne))),
   )
 
+  -- slots that come home in the table come home in what is shown
   shown_back : (n : ℕ) (hs : List (Home P)) (h : ℕ → Home P) (c : List (ℕ × Option P)) → Shown n hs h → Shown n (put_back hs c) (back h c)
   shown_back n hs h [] s = s
   shown_back n hs h (x ∷ xs) s = shown_put n hs h x.0 (some x.1) s
 
+  -- the slots of the table after an act are the slots that are shown after it
   shown_after : (n : ℕ) (hs : List (Home P)) (h : ℕ → Home P) (c : List (ℕ × Option P)) (a : Act (Option P)) → Shown n hs h → Shown n (homes_after hs c a) (after h c a)
   shown_after n hs h c keeps s = s
   shown_after n hs h c (takes k y) s = shown_put n hs h k none s
   shown_after n hs h c gives s = shown_back n hs h c s
   shown_after n hs h c (chain a b) s = shown_after n (homes_after hs c a) (after h c a) (carried_after c a) b (shown_after n hs h c a s)
 
+  -- an act that is possible in what is shown is one that the table allows
   valid_after : (n : ℕ) (hs : List (Home P)) (h : ℕ → Home P) (c : List (ℕ × Option P)) (a : Act (Option P)) → Shown n hs h → Can n h c a → Valid hs c a
   valid_after n hs h c keeps s can = tt
   valid_after n hs h c (takes k y) s can = s.1 k can.0 ∙ ap some can.1
@@ -76,6 +82,7 @@ module _ {P : Type 0} where
     views = ap (λ (vs : List View). set vs id w) k.views;
   }
 
+  -- a table with another cell shows the moment with that cell
   shows_cell : (n : ℕ) (m : Moment P) (s : State (Option P) View) (i id : ℕ) (x : Word) (c : List (ℕ × Option P)) (w : View) (a : Act (Option P)) → i < n → WordFits x → Shows n m s
       → Shows n (record m { cells = put m.cells i x; homes = after m.homes c a; views = set m.views id w }) (stepped s (1 + i) (word_of x) id c w a)
   shows_cell n m s i id x c w a low fits k = let h = shown_after n s.homes m.homes c a (k.deep, k.homes) in let wide = k.wide in record {
@@ -91,6 +98,7 @@ module _ {P : Type 0} where
     views = ap (λ (vs : List View). set vs id w) k.views;
   }
 
+  -- a table with another head shows the moment with that head
   shows_head : (n : ℕ) (m : Moment P) (s : State (Option P) View) (i id : ℕ) (x : Option ℕ) (c : List (ℕ × Option P)) (w : View) (a : Act (Option P)) → i < 16 * n → LinkOk x → Shows n m s
       → Shows n (record m { heads = put m.heads i x; homes = after m.homes c a; views = set m.views id w }) (stepped s (1 + n + i) (link_of x) id c w a)
   shows_head n m s i id x c w a low fits k = let h = shown_after n s.homes m.homes c a (k.deep, k.homes) in let wide = k.wide in record {
@@ -106,6 +114,7 @@ module _ {P : Type 0} where
     views = ap (λ (vs : List View). set vs id w) k.views;
   }
 
+  -- a table with another place word shows the moment with that place
   shows_place : (n : ℕ) (m : Moment P) (s : State (Option P) View) (i id : ℕ) (x : Option Place) (c : List (ℕ × Option P)) (w : View) (a : Act (Option P)) → i < n → PlaceOk x → Shows n m s
       → Shows n (record m { places = put m.places i x; homes = after m.homes c a; views = set m.views id w }) (stepped s (1 + 17 * n + i) (word_at_place x) id c w a)
   shows_place n m s i id x c w a low fits k = let h = shown_after n s.homes m.homes c a (k.deep, k.homes) in let wide = k.wide in record {
@@ -157,9 +166,11 @@ module _ {P : Type 0} where
           subst (λ (x : ℕ). then x (r.0, carried_after me.1 r.1)) (sym sh.count) r.5,
         )
 
+    -- a desk with its view and its slots goes on to a moment of the rule, by a possible act, and tells what is due
     abbrev pub Goes : (m : Moment P) → Me (Option P) View → (View → Act (Option P) → Moment P) → (View → Act (Option P) → Type 0) → Type 0
     Goes m me to then = (w : View) × (a : Act (Option P)) × (g : G) × Can n m.homes me.1 a × R (to w a) g × then w a
 
+    -- a desk that the table has is one of the moment
     found : (m : Moment P) (s : State (Option P) View) (id : ℕ) (v : View) → Shows n m s → get_elem? s.views id ≡ some v → get_elem? m.views id ≡ some v
     found m s id v sh at = subst (λ (vs : List View). get_elem? vs id ≡ some v) sh.views at
 

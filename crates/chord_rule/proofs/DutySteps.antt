@@ -25,6 +25,7 @@ use Rattle.chord_rule.proofs.BagSteps.{linked_order}
 pub new_carries : (o : Order) (i k : ℕ) (xs : List ℕ) → HasNumber i xs → Carries o (duty_on i k) xs
 new_carries o i k xs h = record { on = refl; of = h; walks = λ w e. absurd e }
 
+-- a number is among numbers or not
 has_dec : (x : ℕ) (xs : List ℕ) → HasNumber x xs ⊎ (HasNumber x xs → ⊥)
 has_dec x [] = inr (λ h. h)
 has_dec x (y ∷ ys) = dite (ℕ_discrete x y) (λ e. inl (inl e)) (λ ne. ⊎_elim (λ h. inl (inr h)) (λ not_later. inr (λ h. ⊎_elim ne not_later h)) (has_dec x ys))
@@ -35,6 +36,7 @@ has_map f d [] h = absurd h
 has_map f d (e ∷ es) (inl q) = inl (ap f q)
 has_map f d (e ∷ es) (inr h) = inr (has_map f d es h)
 
+-- a cell that stands is not consumed
 standing_not_consumed : (c : Cell) → IsStanding c → ¬ IsConsumed c
 standing_not_consumed Empty s = absurd s
 standing_not_consumed Pending s = λ h. h
@@ -44,6 +46,7 @@ standing_not_consumed (Woken q) s = absurd s
 standing_not_consumed Ready s = absurd s
 standing_not_consumed Started s = absurd s
 
+-- a walk that is left without those in a bag was there before
 has_start : (k : ℕ) (h : Option ℕ) (w : Walk) (ws : List Walk) → HasWalk w (filter (λ u. not (is_in k u)) ws) → HasWalk w ws
 has_start k h w [] q = q
 has_start k h w (u ∷ us) q = cases (is_in k u) q (has_start k h w us)
@@ -52,6 +55,7 @@ has_start k h w (u ∷ us) q = cases (is_in k u) q (has_start k h w us)
     cases true q later = inr (later q)
     cases false q later = ⊎_elim inl (λ r. inr (later r)) q
 
+-- a walk among changed walks is the change of one that was there
 has_moved : (f : Walk → Walk) (w : Walk) (ws : List Walk) → HasWalk w (map f ws) → (u : Walk) × HasWalk u ws × (w ≡ f u)
 has_moved f w [] h = absurd h
 has_moved f w (u ∷ us) (inl e) = (u, inl refl, e)

@@ -13,6 +13,7 @@ use Rattle.chord_rule.proofs.Frames.{desks_after}
 use Rattle.chord_rule.proofs.Counting.{told_set}
 
 module _ (n count : ℕ) (views : List View) (counting : Counting n count views) (law : Firsts count views) (id : ℕ) (v : View) (at : get_elem? views id ≡ some v) where
+  -- after a step that leaves whether its desk is the first, only desk 0 is the first
   leads_stay : (w : View) → w.first ≡ v.first → (j : ℕ) (x : View) → get_elem? (set views id w) j ≡ some x → x.first ≡ true → j ≡ 0
   leads_stay w same = desks_after (λ j x. x.first ≡ true → j ≡ 0) views id w (λ e. law.leads id v at (sym same ∙ e)) (λ j x ne a. law.leads j x a)
 
@@ -54,10 +55,12 @@ module _ (n count : ℕ) (views : List View) (counting : Counting n count views)
         (λ t. let l = length-set views id (lent_one v) in let s = counting.some in let q = t.0 in absurd (omega arith)) (at_end (set views id (lent_one v)) newcomer x 0 e);
   }
 
+  -- a desk more counts where it was told that the limit is reached
   told_end : (vs : List View) (x : View) → told (vs ++ x ∷ []) ≡ told vs + flag x.spent
   told_end [] x = omega arith
   told_end (y ∷ ys) x = let h = told_end ys x in omega arith
 
+  -- a split keeps the count of desks and the bound on the counter
   pub counting_split : v.first ≡ true → v.splits < 65535 → Counting n count (set views id (lent_one v) ++ newcomer ∷ [])
   counting_split is_first few =
       let w : View = lent_one v in let vs : List View = set views id w in let zero_id = law.leads id v at is_first in
@@ -73,6 +76,7 @@ module _ (n count : ℕ) (views : List View) (counting : Counting n count views)
       }
 
   module _ (other : ℕ) (x : View) (apart : other ≢ id) (there : get_elem? views other ≡ some x) (is_first : v.first ≡ true) where
+    -- the desk that joins another is desk 0
     zero_id : id ≡ 0
     zero_id = law.leads id v at is_first
 
@@ -84,6 +88,7 @@ module _ (n count : ℕ) (views : List View) (counting : Counting n count views)
           (λ t. (firsts_stay (united v x) refl refl refl).untouched y t.1 none_drawn none_split) (at_set (set views id (united v x)) other 0 gone y e);
     }
 
+    -- a join keeps the count of desks and the bound on the counter
     pub counting_join : Counting n count (set (set views id (united v x)) other gone)
     counting_join = record {
       bound = (let b = counting.bound in let t = told_set views id v (united v x) at in let s = told_set (set views id (united v x)) other x gone at_other in let z : flag gone.spent ≡ 1 = refl in let f = flag_small x.spent in omega arith);

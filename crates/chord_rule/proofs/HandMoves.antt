@@ -81,16 +81,20 @@ module _ (views : List View) (stage : ℕ → Stage) (law : Hands views stage) w
         | inr o ↦ fired_other k (drawn_apart k id x e) o ∙ e
       ]
 
+      -- a claim on a member gets the firing
       with_yes : (c : Claim) → has c.number ms ≡ true → with_firing f ms c ≡ record c { firing = Some f }
       with_yes c y = rw y refl
 
+      -- a claim on no member stays
       with_no : (c : Claim) → has c.number ms ≡ false → with_firing f ms c ≡ c
       with_no c o = rw o refl
 
       module _ (o : Object) (chord : ℕ) (vs : List value.Value) where
+        -- the view of the desk that has drawn the firing
         abbrev w : View
         w = fired v f chord o ms vs
 
+        -- what the desk has in hand after the draw stands so
         mine : (k : ℕ) (x : Hold) → Holds (hand w) k x → fired_stage id f ms stage k ≡ InHand id x
         mine k Fresh h = fired_stays k Fresh (law.holds id v at k Fresh h) refl
         mine k Placing h = fired_stays k Placing (law.holds id v at k Placing h) refl
@@ -124,6 +128,7 @@ module _ (views : List View) (stage : ℕ → Stage) (law : Hands views stage) w
         claimed_still k c x y h q e = subst (Holds (hand w) k) (same_hand id id (Claiming (record c { firing = Some f })) x e).1
             (subst (λ (z : Claim). HasThe z w.claims) (with_yes c (ap (λ (z : ℕ). has z ms) q ∙ y)) (fired_has c f ms v.claims h), q)
 
+        -- a firing is drawn with claims on its members
         pub hands_draw_firing : Hands (set views id w) (fired_stage id f ms stage)
         hands_draw_firing = hands_after views stage law id v at w (fired_stage id f ms stage) mine
             (λ k x e. dite (ℕ_discrete k f)
@@ -157,6 +162,7 @@ module _ (views : List View) (stage : ℕ → Stage) (law : Hands views stage) w
 
   module _ (id other : ℕ) (v w : View) (at : get_elem? views id ≡ some v) (apart : other ≢ id) (there : get_elem? views other ≡ some w)
       (placing : w.placing ≡ None) (flight : w.flight ≡ None) (claims : w.claims ≡ []) (emptying : w.emptying ≡ None) (posting : w.posting ≡ None) (starting : w.starting ≡ None) where
+    -- the view of the desk that has taken over what the other one has
     abbrev both : View
     both = united v w
 
@@ -171,6 +177,7 @@ module _ (views : List View) (stage : ℕ → Stage) (law : Hands views stage) w
     from_other i Posting h = absurd (let z : Path (Option ℕ) None (Some i) = sym posting ∙ h in cc)
     from_other i Starting h = absurd (let z : Path (Option ℕ) None (Some i) = sym starting ∙ h in cc)
 
+    -- what the first desk had in hand, it still has
     from_first : (i : ℕ) (x : Hold) → Holds (hand v) i x → Holds (hand both) i x
     from_first i Fresh h = append_left i v.fresh w.fresh h
     from_first i Placing h = h
@@ -181,6 +188,7 @@ module _ (views : List View) (stage : ℕ → Stage) (law : Hands views stage) w
     from_first i Posting h = h
     from_first i Starting h = h
 
+    -- what the desk has in hand after the join, one of the two had
     from_either : (i : ℕ) (x : Hold) → Holds (hand both) i x → Holds (hand v) i x ⊎ Holds (hand w) i x
     from_either i Fresh h = has_append i v.fresh w.fresh h
     from_either i Placing h = inl h
@@ -191,9 +199,11 @@ module _ (views : List View) (stage : ℕ → Stage) (law : Hands views stage) w
     from_either i Posting h = inl h
     from_either i Starting h = inl h
 
+    -- what neither desk gave up stands as before
     heir_of : (j : ℕ) (x : Hold) → j ≢ other → heir id other (InHand j x) ≡ InHand j x
     heir_of j x ne = ap (λ (b : Bool). InHand (if b then id else j) x) (ne_eqb j other ne)
 
+    -- what the other desk had in hand stands as the first one's
     heir_here : (x : Hold) → heir id other (InHand other x) ≡ InHand id x
     heir_here x = ap (λ (b : Bool). InHand (if b then id else other) x) (eq-eqb other other refl)
 
@@ -212,6 +222,7 @@ module _ (views : List View) (stage : ℕ → Stage) (law : Hands views stage) w
     at_both : get_elem? (set (set views id both) other gone) id ≡ some both
     at_both = set_else (set views id both) other id gone (λ q. apart (sym q)) ∙ set_here views id both (at_inside views id v at)
 
+    -- a desk that takes no part in the join is as it was
     at_third : (j : ℕ) (u : View) → j ≢ id → j ≢ other → get_elem? views j ≡ some u → get_elem? (set (set views id both) other gone) j ≡ some u
     at_third j u ne away e = set_else (set views id both) other j gone away ∙ set_else views id j both ne ∙ e
 
@@ -222,6 +233,7 @@ module _ (views : List View) (stage : ℕ → Stage) (law : Hands views stage) w
         (λ t. ⊎_elim (λ s. subst (λ (y : ℕ × View). F y.0 y.1) (λ i. (sym s.0 i, s.1 i)) b) (λ s. third j u s.0 t.0 s.1) (at_set views id j both u t.1))
         (at_set (set views id both) other j gone u e)
 
+    -- a desk is joined
     pub hands_join : Hands (set (set views id both) other gone) (λ i. heir id other (stage i))
     hands_join = record {
       holds = who (λ j u. (i : ℕ) (x : Hold) → Holds (hand u) i x → heir id other (stage i) ≡ InHand j x)

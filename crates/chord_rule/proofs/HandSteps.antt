@@ -80,9 +80,11 @@ module _ (views : List View) (stage : ℕ → Stage) (law : Hands views stage) (
   in_hand : (a : Hand) (i : ℕ) (y : Hold) → Holds a i y → (j : ℕ) (x : Hold) → InHand id y ≡ InHand j x → (j ≡ id) × Holds a i x
   in_hand a i y h j x e = let q = same_hand id j y x e in (sym q.0, subst (Holds a i) q.1 h)
 
+  -- what this desk has in hand no other desk has
   only : (x : Hold) (j : ℕ) (y : Hold) → InHand id x ≡ InHand j y → j ≡ id
   only x j y e = sym (same_hand id j x y e).0
 
+  -- a message is drawn
   pub hands_fresh : (n : ℕ) (w : View) → stage n ≡ Vacant → hand w ≡ record (hand v) { fresh = n ∷ v.fresh } → Keeps w.kept n → ((k : ℕ) → Keeps v.kept k → Keeps w.kept k)
       → Hands (set views id w) (put stage n (InHand id Fresh))
   hands_fresh n w vacant is new old = let a : Hand = record (hand v) { fresh = n ∷ v.fresh } in

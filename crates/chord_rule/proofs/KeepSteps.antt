@@ -42,6 +42,7 @@ pub if_other : {A : Type 0} (i j : ℕ) (a b : A) → i ≢ j → (if i == j the
 if_other i j a b ne = ap (λ (t : Bool). if t then a else b) (ne_eqb i j ne)
 
 module _ {P : Type 0} (entries : P → List Entry) (p : Program) (n : ℕ) (count : ℕ) (homes : ℕ → Home P) (views : List View) (h : List Entry) (k : Keeping entries p n count homes views h) where
+  -- what each place keeps before the step
   abbrev V : ℕ → List Entry
   V = kept_at entries views homes
 
@@ -64,9 +65,11 @@ module _ {P : Type 0} (entries : P → List Entry) (p : Program) (n : ℕ) (coun
       longer (v ∷ vs) (suc j) = longer vs j
 
   module _ (id : ℕ) (v w : View) (at : get_elem? views id ≡ some v) where
+    -- the place of the desk that steps keeps what the desk keeps
     desk_at : V (desk id) ≡ v.kept
     desk_at = desk_keeps entries views homes id ∙ ap at_desk at
 
+    -- the desk that steps has its new view
     set_at : get_elem? (set views id w) id ≡ some w
     set_at = set_here views id w (at_inside views id v at)
 
@@ -76,6 +79,7 @@ module _ {P : Type 0} (entries : P → List Entry) (p : Program) (n : ℕ) (coun
         (λ e. ap (λ (z : ℕ). view (desk z)) e ∙ mine ∙ sym (ap at_desk (ap (get_elem? (set views id w)) e ∙ set_at)))
         (λ ne. others j ne ∙ desk_keeps entries views homes j ∙ sym (ap at_desk (set_else views id j w ne)))
 
+    -- the parcel of one number keeps this, and the others what they did
     homes_as : (view : ℕ → List Entry) (i : ℕ) (y : Home P) → view (parcel i) ≡ at_home entries y → ((x : ℕ) → x ≢ i → view (parcel x) ≡ V (parcel x)) → (x : ℕ) → view (parcel x) ≡ at_home entries (put homes i y x)
     homes_as view i y here others x = dite (ℕ_discrete x i)
         (λ e. ap (λ (z : ℕ). view (parcel z)) e ∙ here ∙ sym (ap (at_home entries) (ap (put homes i y) e ∙ put_here homes i y)))

@@ -23,6 +23,7 @@ use Rattle.chord_rule.specs.Made.{IsTabled}
 use Rattle.chord_rule.specs.Stages.{what_at, message_in}
 use Rattle.chord_rule.proofs.ParcelSteps.{same_entry}
 
+-- an object that was made stays so after one more entry
 made_more : (e : Entry) (h : List Entry) (o : Object) → IsMade h o → IsMade (e ∷ h) o
 made_more e h o t = (t.0, inr t.1, t.2, t.3)
 

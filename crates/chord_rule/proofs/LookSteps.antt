@@ -14,6 +14,7 @@ use Rattle.chord_rule.proofs.Puts.{put, put_all, at_end}
 use Rattle.chord_rule.proofs.Frames.{desks_after}
 
 module _ (cells : ℕ → Word) (o : Order) (views : List View) (law : Looks cells o views) where
+  -- each cell that the desk saw armed is armed, and has the next that it saw
   abbrev Seen : (ℕ → Word) → Order → ℕ → View → Type 0
   Seen cells' o' j v = (i : ℕ) (next : Option ℕ) → HasSeen v i next → IsArmed (cell_of cells' i) × (o'.next i ≡ next)
 
@@ -30,9 +31,11 @@ module _ (cells : ℕ → Word) (o : Order) (views : List View) (law : Looks cel
           (λ j x ne e i next h. let s = law.seen j x e i next h in let a = armed i s.0 in (a.0, a.1 ∙ s.1));
     }
 
+    -- a step that changes no cell, and nothing that the desk saw
     pub looks_same : (w : View) → w.looked.seen ≡ v.looked.seen → Looks cells o (set views id w)
     looks_same w same = looks_stay cells o w (λ i a. (a, refl)) same
 
+    -- a step that changes one cell, which stays armed if it was
     pub looks_cell : (i : ℕ) (x : Word) (w : View) → (IsArmed (cell_of cells i) → IsArmed x.cell) → w.looked.seen ≡ v.looked.seen → Looks (put cells i x) o (set views id w)
     looks_cell i x w armed same = looks_stay (put cells i x) o w (λ k a. (put_all cells i x (λ k c. IsArmed (cell_of cells k) → IsArmed c.cell) k armed (λ ne b. b) a, refl)) same
 

@@ -41,9 +41,11 @@ module _ {P : Type 0} (h : List Entry) (cells : ℕ → Word) (places : ℕ → 
   }
 
   module _ (id i : ℕ) where
+    -- the number i is in this stage
     abbrev It : Stage → Type 0
     It s = Stands s (what_at i h) (cells i) (places i) (homes i) (o.bag i) (o.next i)
 
+    -- the number i is in its stage
     it : (s : Stage) → stage i ≡ s → It s
     it s e = subst It e (law.stands i)
 
@@ -73,6 +75,7 @@ module _ {P : Type 0} (h : List Entry) (cells : ℕ → Word) (places : ℕ → 
     pub is_armed : (next : Option ℕ) → cells i ≡ record { cell = a_cell.Pending; next = next } → stage i ≡ Armed
     is_armed next e = pending_armed (stage i) (what_at i h) (cells i) (places i) (homes i) (o.bag i) (o.next i) (law.stands i) (ap (λ (w : Word). w.cell) e)
 
+    -- what is ready is posted
     pub is_posted : (cells i).cell ≡ a_cell.Ready → stage i ≡ Posted
     is_posted e = ready_posted (stage i) (what_at i h) (cells i) (places i) (homes i) (o.bag i) (o.next i) (law.stands i) e
 
@@ -161,12 +164,15 @@ module _ {P : Type 0} (h : List Entry) (cells : ℕ → Word) (places : ℕ → 
       what_old e k ne = rw (ne_eqb e.number k (λ q. ne (sym q))) refl
 
   module _ (id n : ℕ) (vacant : stage n ≡ Vacant) where
+    -- nothing was done with the number that is drawn
     nothing : HasNothing (cells n) (places n) (homes n) (o.bag n)
     nothing = (subst (λ (s : Stage). Stands s (what_at n h) (cells n) (places n) (homes n) (o.bag n) (o.next n)) vacant (law.stands n)).1
 
+    -- a choice by the number that is drawn changes its stage alone
     chosen : (t : Stage) → Moves stage (λ i. if i == n then t else stage i) n t
     chosen t = record { here = rw (eq-eqb n n refl) refl; away = λ k ne. rw (ne_eqb k n ne) refl }
 
+    -- where the stages stay, the number that is drawn stays vacant
     still : Moves stage stage n Vacant
     still = record { here = vacant; away = λ k ne. refl }
 

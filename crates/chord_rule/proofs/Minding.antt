@@ -20,6 +20,7 @@ module _ (IsChord : List ℕ → Type 0) (cells : ℕ → Word) (views : List Vi
   stands Ready x e w = absurd w
   stands Started x e w = absurd w
 
+  -- of waiting messages to the bags of a chord all are chosen, or one is minded
   chosen_or : (ks xs : List ℕ) → AreTo bag_of ks xs → AllWaiting cells xs → Chosen IsChord cells o ks xs ⊎ ((x : ℕ) × HasNumber x xs × IsMinded cells views x)
   chosen_or [] [] a w = inl tt
   chosen_or [] (x ∷ xs) a w = absurd a
@@ -28,6 +29,7 @@ module _ (IsChord : List ℕ → Type 0) (cells : ℕ → Word) (views : List Vi
       (λ s. ⊎_elim (λ c. inl (s.1 ∙ ap (λ (z : ℕ). Some z) a.0, s.0, c)) (λ r. inr (r.0, inr r.1, r.2)) (chosen_or ks xs a.1 w.1))
       (λ m. inr (x, inl refl, m)) (stands (cell_of cells x) x refl w.0)
 
+  -- of waiting messages to the bags of a chord, which has a bag, one is minded
   pub one_is_minded : (ks xs : List ℕ) → IsChord ks → (k : ℕ) × HasNumber k ks → AreTo bag_of ks xs → AllWaiting cells xs → (x : ℕ) × HasNumber x xs × IsMinded cells views x
   one_is_minded ks xs chord first to waiting = ⊎_elim
       (λ c. ⊎_elim

@@ -31,6 +31,7 @@ use Rattle.chord_rule.proofs.Bridge.{Can, after, counter_step}
 use Rattle.chord_rule.proofs.Counting.{count_fits}
 
 module _ {P : Type 0} (entries : P → List Entry) (arguments : P → List value.Value) (keeps_to : P → Type 0) (p : Program) (n : ℕ) (any : 0 < n) (small : n ≤ 65536) where
+  -- the draw of an own entry
   pub draw_step : (id : ℕ) (me : Me (Option P) View) (body : ℕ) (what : What) → me.0.spent ≡ false → IsOwn what → Asks p me.0.kept body what
       → Allows (Held entries arguments keeps_to p n) n id me 0 (λ x. (x + 1) % 2 ^ 64) (draws body what (step n 0 1 0 none) me)
   draw_step id me body what untold own next = counter_step Unseen (Whole entries arguments keeps_to p n) n id me (λ x. (x + 1) % 2 ^ 64) (draws body what (step n 0 1 0 none) me)
@@ -65,27 +66,33 @@ module _ {P : Type 0} (entries : P → List Entry) (arguments : P → List value
         ),
       )
 
+-- each of n slots at the start is at home, with what all have
 all_vacant : {A : Type 0} (n i : ℕ) (a : A) → i < n → get_elem? (map some (replicate n a)) i ≡ some (some a)
 all_vacant zero i a h = absurd (omega arith)
 all_vacant (suc n) zero a h = refl
 all_vacant (suc n) (suc i) a h = all_vacant n i a (omega arith)
 
+-- each of k words at the start is 0
 zero_at : (k i : ℕ) → get_or {A = ℕ} (replicate k 0) i 0 ≡ 0
 zero_at zero i = refl
 zero_at (suc k) zero = refl
 zero_at (suc k) (suc i) = zero_at k i
 
 module _ {P : Type 0} (entries : P → List Entry) (arguments : P → List value.Value) (keeps_to : P → Type 0) (p : Program) where
+  -- no message was linked
   abbrev nothing_linked : Order
   nothing_linked = record { clock = 0; bag = λ i. None; rank = λ i. 0; next = λ i. None }
 
+  -- the moment at the start: nothing was drawn, and there is the first desk alone
   abbrev first_moment : Moment P
   first_moment = record { count = 0; cells = λ i. empty_word; heads = λ k. None; places = λ i. None; homes = λ i. some None; views = newcomer_first ∷ [] }
 
+  -- no desk keeps anything at the start
   alone : (j : ℕ) → at_desk (get_elem? (newcomer_first ∷ []) j) ≡ []
   alone zero = refl
   alone (suc j) = refl
 
+  -- no place keeps anything at the start
   nothing : (c : ℕ) → kept_at entries (newcomer_first ∷ []) (λ i. some None) c ≡ []
   nothing c = cases (eqb (c % 2) 0)
     where
@@ -93,6 +100,7 @@ module _ {P : Type 0} (entries : P → List Entry) (arguments : P → List value
       cases true = alone (c / 2)
       cases false = refl
 
+  -- the table at the start meets the rule
   pub opens : IsTabled p → (n words_count : ℕ) → words_count ≡ 1 + 18 * n → Held entries arguments keeps_to p n (opening (replicate words_count 0) (replicate n None) newcomer_first)
   opens tabled n words_count wide = record {
     moment = first_moment;

@@ -44,6 +44,7 @@ use Rattle.chord_rule.proofs.Standing as standing
 use Rattle.chord_rule.proofs.Bagging as bagging
 use Rattle.chord_rule.proofs.Wholes as wholes
 
+-- a next that fits in a cell fits in a claimed, a pending and a consumed one
 link_low : (c : Cell) (next : Option ℕ) → NextFits c next → NextFits a_cell.Claimed next × NextFits a_cell.Pending next × NextFits a_cell.Consumed next
 link_low c None k = (tt, tt, tt)
 link_low c (Some x) k = ((tt, k.1), (tt, k.1), (tt, k.1))
@@ -65,9 +66,11 @@ same_out {P} i j q r e = (ap (λ (xs : List (ℕ × Option P)). number_out xs) e
     parcel_out (x ∷ xs) = parcel_of x.1
 
 module _ {P : Type 0} (entries : P → List Entry) (arguments : P → List value.Value) (keeps_to : P → Type 0) (p : Program) (n : ℕ) (any : 0 < n) (small : n ≤ 65536) where
+  -- the rule at a moment
   abbrev W : Moment P → Unseen → Type 0
   W = Whole entries arguments keeps_to p n
 
+  -- the table shows a moment that meets the rule
   abbrev H : State (Option P) View → Type 0
   H = Held entries arguments keeps_to p n
 
@@ -105,6 +108,7 @@ module _ {P : Type 0} (entries : P → List Entry) (arguments : P → List value
             (refl, (λ k. (refl, standing.desk_below entries arguments keeps_to p n m u whole.stands l id me.0 at)), λ k. absurd (omega arith)),
           )
 
+  -- the place word of a message is set
   pub place_step : (id : ℕ) (me : Me (Option P) View) (i : ℕ) (e : Entry) (x : Message) → PlaceFits x.object x.method → i < n → IsIn e me.0.kept → e.number ≡ i → message_of e.what ≡ Some x → HasNumber i me.0.fresh → me.0.placing ≡ None
       → Allows H n id me (1 + 17 * n + i) (λ _. place_word x.object x.method) (λ _. places (step n (1 + 17 * n + i) (place_word x.object x.method) 0 none) me (place_word x.object x.method))
   place_step id me i e x fits low is num says has free = store_place Unseen W n id me i (Some (x.object, x.method)) (places (step n (1 + 17 * n + i) (place_word x.object x.method) 0 none) me (place_word x.object x.method)) low fits
@@ -117,6 +121,7 @@ module _ {P : Type 0} (entries : P → List Entry) (arguments : P → List value
         (λ j q. let same : i ≡ j = omega arith in (ap (kinds.address_set me.0) same, ap (λ (k : ℕ). (k, None) ∷ me.1) same)),
       ))
 
+  -- a message is linked at the head of its bag
   pub link_step : (id : ℕ) (v : View) (i : ℕ) (q : P) (e : Entry) (x : Message) → x.object.number < n → IsIn e v.kept → e.number ≡ i → i < 65536 → message_of e.what ≡ Some x → x.method < 16 → v.placing ≡ Some i → v.flight ≡ None
       → MayGo p v.kept (entries q) → ((e : Entry) (x : Message) → IsIn e (entries q) → message_of e.what ≡ Some x → (e.number ≡ i) ⊎ (IsUnlinked (hand v) e.number → ⊥)) → x.arguments ≡ arguments q → ((e : Entry) → IsIn e v.kept → IsCall i e → IsIn e (entries q))
       → ((b : ℕ) → Begins b (entries q) → IsParked p (entries q) (Some i) (doing p (entries q) b)) → keeps_to q
@@ -132,6 +137,7 @@ module _ {P : Type 0} (entries : P → List Entry) (arguments : P → List value
         (λ j r e. let same = same_out i j q r e in (refl, (above, refl, fits, λ z. kinds.flown v (same.0 z) k above (entries (same.1 z))))),
       ))
 
+  -- a linked message is armed
   pub arm_step : (id : ℕ) (me : Me (Option P) View) (i : ℕ) → i < n → me.0.flight ≡ Some i
       → Allows H n id me (1 + i) (λ _. word a_cell.Pending me.0.above) (λ _. arms (step n (1 + i) (word a_cell.Pending me.0.above) 0 none) me (word a_cell.Pending me.0.above))
   arm_step id me i low flying = store_cell Unseen W n id me i (record { cell = a_cell.Pending; next = me.0.above }) (arms (step n (1 + i) (word a_cell.Pending me.0.above) 0 none) me (word a_cell.Pending me.0.above)) low
@@ -144,6 +150,7 @@ module _ {P : Type 0} (entries : P → List Entry) (arguments : P → List value
       fits None k = tt
       fits (Some x) k = (tt, k)
 
+  -- a pending message is claimed, if its cell is as it was seen
   pub claim_step : (id : ℕ) (me : Me (Option P) View) (i : ℕ) (next : Option ℕ) → i < n → NextFits a_cell.Pending next → HasSeen me.0 i next
       → Allows H n id me (1 + i) (λ z. either (eqb z (word a_cell.Pending next)) (word a_cell.Claimed next) z) (claims (step n (1 + i) (word a_cell.Pending next) (word a_cell.Claimed next) none) me)
   claim_step id me i next low fits saw = exchange_cell Unseen W n id me i (record { cell = a_cell.Pending; next = next }) (record { cell = a_cell.Claimed; next = next }) (claims (step n (1 + i) (word a_cell.Pending next) (word a_cell.Claimed next) none) me) low
@@ -189,6 +196,7 @@ module _ {P : Type 0} (entries : P → List Entry) (arguments : P → List value
       same_next (Some x) None e = absurd (omega arith)
       same_next (Some x) (Some y) e = let z : x ≡ y = omega arith in ap (λ (k : ℕ). Some k) z
 
+  -- a claim for no firing is given back
   pub give_step : (id : ℕ) (me : Me (Option P) View) (c : Claim) → c.number < n → HasThe c me.0.claims → c.firing ≡ None
       → Allows H n id me (1 + c.number) (λ _. word a_cell.Pending c.next) (λ _. unclaims (step n (1 + c.number) (word a_cell.Pending c.next) 0 none) me (word a_cell.Pending c.next))
   give_step id me c low has free = store_cell Unseen W n id me c.number (record { cell = a_cell.Pending; next = c.next }) (unclaims (step n (1 + c.number) (word a_cell.Pending c.next) 0 none) me (word a_cell.Pending c.next)) low
@@ -204,6 +212,7 @@ module _ {P : Type 0} (entries : P → List Entry) (arguments : P → List value
         ),
       ))
 
+  -- a message that is claimed for a firing is consumed
   pub consume_step : (id : ℕ) (me : Me (Option P) View) (c : Claim) (f : ℕ) → c.number < n → HasThe c me.0.claims → c.firing ≡ Some f → me.0.emptying ≡ None
       → Allows H n id me (1 + c.number) (λ _. word a_cell.Consumed c.next) (λ _. consumes entries arguments keeps_to c f (step n (1 + c.number) (word a_cell.Consumed c.next) 0 none) me (word a_cell.Consumed c.next))
   consume_step id me c f low has for free = store_cell Unseen W n id me c.number (record { cell = a_cell.Consumed; next = c.next }) (consumes entries arguments keeps_to c f (step n (1 + c.number) (word a_cell.Consumed c.next) 0 none) me (word a_cell.Consumed c.next)) low
@@ -220,12 +229,14 @@ module _ {P : Type 0} (entries : P → List Entry) (arguments : P → List value
         ),
       ))
 
+  -- the slot of a consumed message is home again
   pub empty_step : (id : ℕ) (v : View) (i : ℕ) → v.emptying ≡ Some i → Allows H n id (v, (i, None) ∷ []) 0 (λ x. x) (empties (step n 0 0 0 none) (v, (i, None) ∷ []))
   empty_step id v i is = counter_step Unseen W n id (v, (i, None) ∷ []) (λ x. x) (empties (step n 0 0 0 none) (v, (i, None) ∷ []))
       (λ m u whole at fits. (kinds.emptied v, gives, record u { stage = put u.stage i Spent }, tt, wholes.whole_empty entries arguments keeps_to p n small m u whole id v at i is, (λ j e q. refl)))
 
   -- ## Firings
 
+  -- the slot of a firing comes out
   pub post_out_step : (id : ℕ) (me : Me (Option P) View) (f : ℕ) → f < n → HasNumber f me.0.unposted → me.0.posting ≡ None → Allows H n id me (1 + f) (λ x. x) (posts_out (step n (1 + f) 0 0 none) me)
   post_out_step id me f low has free = load_cell Unseen W n id me f (posts_out (step n (1 + f) 0 0 none) me) low
       (λ m u whole at good. (
@@ -237,6 +248,7 @@ module _ {P : Type 0} (entries : P → List Entry) (arguments : P → List value
         (λ j e. let same : f ≡ j = omega arith in (ap (kinds.posting me.0) same, ap (λ (k : ℕ). (k, None) ∷ me.1) same)),
       ))
 
+  -- a firing is posted
   pub post_step : (id : ℕ) (v : View) (f : ℕ) (q : P) → f < n → v.posting ≡ Some f → MayGo p v.kept (entries q) → ((e : Entry) (x : Message) → IsIn e (entries q) → message_of e.what ≡ Some x → IsUnlinked (hand v) e.number → ⊥)
       → Begins f (entries q) → ((e : Entry) → IsIn e (entries q) → e.body ≡ f → e.number ≡ f) → ((b : ℕ) → (b ≡ f → ⊥) → Begins b (entries q) → IsParked p (entries q) None (doing p (entries q) b)) → keeps_to q
       → Allows H n id (v, (f, Some q) ∷ []) (1 + f) (λ _. word a_cell.Ready None) (λ _. posts entries (step n (1 + f) (word a_cell.Ready None) 0 none) (v, (f, Some q) ∷ []) (word a_cell.Ready None))
@@ -246,6 +258,7 @@ module _ {P : Type 0} (entries : P → List Entry) (arguments : P → List value
         (kinds.posted v (entries q), gives, record u { stage = put u.stage f Posted }, tt, wholes.whole_post entries arguments keeps_to p n small m u whole id v at f q posting may others begins only parked task, (λ g r e. let same = same_out f g q r e in (λ z. kinds.posted v (entries (same.1 z)), refl))),
       ))
 
+  -- a firing is started, if it is ready
   pub start_step : (id : ℕ) (me : Me (Option P) View) (f : ℕ) → f < n → me.0.starting ≡ None
       → Allows H n id me (1 + f) (λ z. either (eqb z (word a_cell.Ready None)) (word a_cell.Started None) z) (starts entries keeps_to (step n (1 + f) (word a_cell.Ready None) (word a_cell.Started None) none) me)
   start_step id me f low free = exchange_cell Unseen W n id me f (record { cell = a_cell.Ready; next = None }) (record { cell = a_cell.Started; next = None }) (starts entries keeps_to (step n (1 + f) (word a_cell.Ready None) (word a_cell.Started None) none) me) low
@@ -269,12 +282,14 @@ module _ {P : Type 0} (entries : P → List Entry) (arguments : P → List value
         (λ j e. ((λ s. absurd (ne s)), (λ _. (refl, (m.cells f, good, (λ r. ne (ap word_of (standing.ready_word entries arguments keeps_to p n m u whole.stands id me.0 at f r))), refl))))),
       ))
 
+  -- the slot of a started firing is home again
   pub play_step : (id : ℕ) (v : View) (f : ℕ) → v.starting ≡ Some f → Allows H n id (v, (f, None) ∷ []) 0 (λ x. x) (plays (step n 0 0 0 none) (v, (f, None) ∷ []))
   play_step id v f is = counter_step Unseen W n id (v, (f, None) ∷ []) (λ x. x) (plays (step n 0 0 0 none) (v, (f, None) ∷ []))
       (λ m u whole at fits. (kinds.played v, gives, record u { stage = put u.stage f Played }, tt, wholes.whole_play entries arguments keeps_to p n small m u whole id v at f is, (λ j e q. refl)))
 
   -- ## Desks
 
+  -- the first desk lends one
   pub split_step : (id : ℕ) (v : View) → v.first ≡ true → v.splits < 65535 → Splits H id v (kinds.lent_one v) newcomer
   split_step id v is_first few s h at = let sh = h.shows in record {
     moment = record h.moment { views = set h.moment.views id (kinds.lent_one v) ++ newcomer ∷ [] };
@@ -283,6 +298,7 @@ module _ {P : Type 0} (entries : P → List Entry) (arguments : P → List value
     rule = wholes.whole_split entries arguments keeps_to p n small h.moment h.ghosts h.rule id v (subst (λ (vs : List View). get_elem? vs id ≡ some v) sh.views at) is_first few;
   }
 
+  -- the first desk takes over what another one has
   pub join_step : (id other : ℕ) (v w : View) → v.first ≡ true → w.placing ≡ None → w.flight ≡ None → w.claims ≡ [] → w.emptying ≡ None → w.posting ≡ None → w.starting ≡ None → Joins H id v other w (kinds.united v w) gone
   join_step id other v w is_first placing flight claims emptying posting starting s h at apart there = let sh = h.shows in let m = h.moment in
       let at' : get_elem? m.views id ≡ some v = subst (λ (vs : List View). get_elem? vs id ≡ some v) sh.views at in

@@ -5,13 +5,16 @@ use lib.ListN.{get_elem?}
 use native.Mathlib.Decide.{ℕ_discrete}
 
 module _ {A : Type 0} where
+  -- the first of two values where something is decided to hold, else the second
   abbrev pick : {P : Type 0} → Dec P → A → A → A
   pick (yes _) a b = a
   pick (no _) a b = b
 
+  -- the function with this value at this number
   pub put : (ℕ → A) → ℕ → A → ℕ → A
   put f i c j = pick (ℕ_discrete j i) c (f j)
 
+  -- at this number the changed function has the new value
   pub put_here : (f : ℕ → A) (i : ℕ) (c : A) → put f i c i ≡ c
   unfolding put
   put_here f i c = go (ℕ_discrete i i)
@@ -20,6 +23,7 @@ module _ {A : Type 0} where
       go (yes _) = refl
       go (no n) = absurd (n refl)
 
+  -- at each other number the changed function has the old value
   pub put_else : (f : ℕ → A) (i : ℕ) (c : A) (j : ℕ) → j ≢ i → put f i c j ≡ f j
   unfolding put
   put_else f i c j other = go (ℕ_discrete j i)

@@ -54,6 +54,7 @@ use Rattle.chord_base.specs.Bodies.{doing}
 use Rattle.chord_base.specs.Story.{AllBelow}
 use Rattle.chord_rule.proofs.Waiting.{no_message}
 
+-- an own entry of a body is no firing
 own_plain : (w : What) → IsOwn w → ¬ IsFiringEntry (Some w)
 own_plain Begun o f = o
 own_plain (Made c) o f = f
@@ -65,6 +66,7 @@ own_plain (Fired k x ms vs) o f = o
 
 -- ## Entries that are kept
 
+-- an entry that is kept by a test was there, and its number passes the test
 kept_in : (f : ℕ → Bool) (h : List Entry) (e : Entry) → IsIn e (kept f h) → IsIn e h × (f e.number ≡ true)
 kept_in f [] e i = absurd i
 kept_in f (x ∷ h) e i = cases (f x.number) refl i (λ k. kept_in f h e k)
@@ -73,6 +75,7 @@ kept_in f (x ∷ h) e i = cases (f x.number) refl i (λ k. kept_in f h e k)
     cases true y k later = ⊎_elim (λ q. (inl q, ap (λ (z : Entry). f z.number) q ∙ y)) (λ r. let t = later r in (inr t.0, t.1)) k
     cases false y k later = let t = later k in (inr t.0, t.1)
 
+-- an entry whose number passes a test is kept by it
 in_kept : (f : ℕ → Bool) (h : List Entry) (e : Entry) → IsIn e h → f e.number ≡ true → IsIn e (kept f h)
 in_kept f [] e i y = absurd i
 in_kept f (x ∷ h) e i y = cases (f x.number) refl i (λ k. in_kept f h e k y)
@@ -81,6 +84,7 @@ in_kept f (x ∷ h) e i y = cases (f x.number) refl i (λ k. in_kept f h e k y)
     cases true z k later = ⊎_elim inl (λ r. inr (later r)) k
     cases false z k later = ⊎_elim (λ q. let t : true ≡ false = sym y ∙ ap (λ (u : Entry). f u.number) q ∙ z in absurd (cc)) later k
 
+-- a number that is among entries is that of one of them
 among_in : (ps : List Entry) (k : ℕ) → among ps k ≡ true → (e : Entry) × IsIn e ps × (e.number ≡ k)
 among_in [] k y = absurd (let z : false ≡ true = y in cc)
 among_in (x ∷ ps) k y = elim (either (x.number == k)) [
@@ -89,12 +93,15 @@ among_in (x ∷ ps) k y = elim (either (x.number == k)) [
 ]
 
 module _ {P : Type 0} (entries : P → List Entry) (arguments : P → List value.Value) (keeps_to : P → Type 0) (p : Program) (n : ℕ) (m : Moment P) (u : Unseen) (law : StandsFor entries arguments keeps_to p n m u) where
+  -- the journal is a run, newest entry first
   past : IsPast p u.journal
   past = law.keeping.merged.past
 
+  -- the number i is in this stage
   abbrev It : ℕ → Stage → Type 0
   It i s = Stands s (what_at i u.journal) (m.cells i) (m.places i) (m.homes i) (u.order.bag i) (u.order.next i)
 
+  -- each number is in its stage
   it : (i : ℕ) (s : Stage) → u.stage i ≡ s → It i s
   it i s e = subst (It i) e (law.messages.stands i)
 
@@ -145,9 +152,11 @@ module _ {P : Type 0} (entries : P → List Entry) (arguments : P → List value
   }
 
   module _ (id : ℕ) (v : View) (at : get_elem? m.views id ≡ some v) where
+    -- the desk that steps is one of the desks
     low : id < length m.views
     low = at_inside m.views id v at
 
+    -- what the journal has at the place of the desk is what the desk keeps
     desk_keeping : kept (λ x. eqb (law.keeping.merged.at x) (desk id)) u.journal ≡ v.kept
     desk_keeping = law.keeping.merged.keeps (desk id) ∙ desk_keeps entries m.views m.homes id ∙ ap at_desk at
 
@@ -155,6 +164,7 @@ module _ {P : Type 0} (entries : P → List Entry) (arguments : P → List value
     pub entry_in : (e : Entry) → IsIn e v.kept → IsIn e u.journal × (eqb (law.keeping.merged.at e.number) (desk id) ≡ true)
     entry_in e i = kept_in (λ x. eqb (law.keeping.merged.at x) (desk id)) u.journal e (subst (IsIn e) (sym desk_keeping) i)
 
+    -- an entry that the desk keeps is the one of its number in the journal
     pub entry_what : (e : Entry) → IsIn e v.kept → what_at e.number u.journal ≡ Some e.what
     entry_what e i = (waiting.what_is p u.journal e past (entry_in e i).0).0
 
@@ -190,6 +200,7 @@ module _ {P : Type 0} (entries : P → List Entry) (arguments : P → List value
         let z = eqb-true (law.keeping.merged.at b.0.number) (desk j) y in
         let same : law.keeping.merged.at a.0.number ≡ law.keeping.merged.at b.0.number = ap law.keeping.merged.at (a.2 ∙ sym b.2) in omega arith
 
+    -- a message that the desk keeps, and that is not unlinked at it, was linked, whatever its stage
     linked_stage : (i : ℕ) (x : Message) → Keeps v.kept i → message_in (what_at i u.journal) ≡ Some x → (IsUnlinked (hand v) i → ⊥) → (s : Stage) → u.stage i ≡ s → (k : ℕ) × (u.order.bag i ≡ Some k)
     linked_stage i x mine says un Vacant e = absurd (no_message (what_at i u.journal) x (inl (it i Vacant e).0) says)
     linked_stage i x mine says un (InHand j Fresh) e = let d = law.hands.held i j Fresh e in let same = one_keeps j d.0 d.1 i mine (law.hands.kept j d.0 d.1 i (inl d.2)) in
@@ -240,6 +251,7 @@ module _ {P : Type 0} (entries : P → List Entry) (arguments : P → List value
 
     -- ## Steps that change the view alone
 
+    -- a step that changes nothing in hand and nothing that is kept
     pub stands_still : (w : View) → hand w ≡ hand v → w.kept ≡ v.kept → StandsFor entries arguments keeps_to p n (record m { views = set m.views id w }) u
     stands_still w same kept = record {
       keeping = keep.still_keeps entries p n m.count m.homes m.views u.journal law.keeping id v w at kept;
@@ -252,6 +264,7 @@ module _ {P : Type 0} (entries : P → List Entry) (arguments : P → List value
 
     -- ## Draws
 
+    -- an own entry is drawn
     pub stands_draw : (b : ℕ) (what : What) → m.count < n → IsOwn what → Asks p v.kept b what
         → StandsFor entries arguments keeps_to p n (record m { count = m.count + 1; views = set m.views id (drew v m.count b what) }) (record u { journal = entry m.count b what ∷ u.journal; stage = kinds.drawn_stage id m.count what u.stage })
     stands_draw b what room own asks = let plain = own_plain what own in let vacant = vacant_next room in record {
@@ -278,6 +291,7 @@ module _ {P : Type 0} (entries : P → List Entry) (arguments : P → List value
         empty_list [] e = refl
         empty_list (x ∷ h) e = absurd (omega arith)
 
+    -- the desk is told that the limit is reached
     pub stands_told : n ≤ m.count → StandsFor entries arguments keeps_to p n (record m { count = m.count + 1; views = set m.views id (was_told v) }) u
     stands_told full = record {
       keeping = told_keeps entries p n m.count m.homes m.views u.journal id v law.keeping at low full;
@@ -306,9 +320,11 @@ module _ {P : Type 0} (entries : P → List Entry) (arguments : P → List value
 
     -- ## Messages
 
+    -- a slot that is known to have no parcel keeps nothing
     no_parcel : (i : ℕ) (y : Home P) → m.homes i ≡ y → at_home entries y ≡ [] → at_home entries (m.homes i) ≡ []
     no_parcel i y is e = ap (at_home entries) is ∙ e
 
+    -- the place word of a message is set
     pub stands_place : (i : ℕ) (e : Entry) (x : Message) → IsIn e v.kept → e.number ≡ i → message_of e.what ≡ Some x → HasNumber i v.fresh → v.placing ≡ None
         → StandsFor entries arguments keeps_to p n (record m { places = put m.places i (Some (x.object, x.method)); homes = put m.homes i none; views = set m.views id (kinds.address_set v i) }) (record u { stage = put u.stage i (InHand id Placing) })
     stands_place i e x is num says has free = let was = law.hands.holds id v at i Fresh has in record {
@@ -320,6 +336,7 @@ module _ {P : Type 0} (entries : P → List Entry) (arguments : P → List value
       parcels = parcels.parcels_without entries arguments keeps_to p u.journal m.homes u.order.bag law.parcels i none (λ q e. absurd (cc));
     }
 
+    -- a message is linked
     pub stands_link : (i k : ℕ) (above : Option ℕ) (q : P) (e : Entry) (x : Message) → IsIn e v.kept → e.number ≡ i → message_of e.what ≡ Some x → k ≡ key x.object x.method → x.method < 16 → v.placing ≡ Some i → v.flight ≡ None
         → MayGo p v.kept (entries q) → ((e : Entry) (x : Message) → IsIn e (entries q) → message_of e.what ≡ Some x → (e.number ≡ i) ⊎ (IsUnlinked (hand v) e.number → ⊥)) → x.arguments ≡ arguments q → ((e : Entry) → IsIn e v.kept → IsCall i e → IsIn e (entries q))
         → ((b : ℕ) → Begins b (entries q) → IsParked p (entries q) (Some i) (doing p (entries q) b)) → keeps_to q → (heads : ℕ → Option ℕ)
@@ -336,6 +353,7 @@ module _ {P : Type 0} (entries : P → List Entry) (arguments : P → List value
       parcels = parcels.parcels_link entries arguments keeps_to p u.journal m.homes u.order.bag law.parcels i k q x (entry_says e x i is num says) (sent_parcel i k q e x may is num says args others call parked) task;
     }
 
+    -- a linked message is armed
     pub stands_arm : (i : ℕ) → v.flight ≡ Some i
         → StandsFor entries arguments keeps_to p n (record m { cells = put m.cells i (record { cell = a_cell.Pending; next = v.above }); views = set m.views id (kinds.armed v i) }) (record u { stage = put u.stage i Armed })
     stands_arm i flying = let was = law.hands.holds id v at i (Flying v.bag v.above) (flying, refl, refl) in record {
@@ -351,6 +369,7 @@ module _ {P : Type 0} (entries : P → List Entry) (arguments : P → List value
     pub pending_message : (i : ℕ) (next : Option ℕ) → m.cells i ≡ record { cell = a_cell.Pending; next = next } → (x : Message) × (message_in (what_at i u.journal) ≡ Some x)
     pending_message i next is = messages.armed_message u.journal m.cells m.places m.homes u.order u.stage law.messages id i (messages.is_armed u.journal m.cells m.places m.homes u.order u.stage law.messages id i next is)
 
+    -- a pending message is claimed
     pub stands_claim : (i : ℕ) (next : Option ℕ) (x : Message) → m.cells i ≡ record { cell = a_cell.Pending; next = next } → message_in (what_at i u.journal) ≡ Some x
         → StandsFor entries arguments keeps_to p n (record m { cells = put m.cells i (record { cell = a_cell.Claimed; next = next }); views = set m.views id (kinds.claimed v (messages.claim_on i next x)) }) (record u { stage = put u.stage i (InHand id (Claiming (messages.claim_on i next x))) })
     stands_claim i next x is says = let was = messages.is_armed u.journal m.cells m.places m.homes u.order u.stage law.messages id i next is in record {
@@ -366,9 +385,11 @@ module _ {P : Type 0} (entries : P → List Entry) (arguments : P → List value
     pub claim_word : (c : Claim) → HasThe c v.claims → m.cells c.number ≡ record { cell = a_cell.Claimed; next = c.next }
     claim_word c has = (it c.number (InHand id (Claiming c)) (law.hands.holds id v at c.number (Claiming c) (has, refl))).2
 
+    -- the parcel of a claimed message is at home
     pub claim_home : (c : Claim) → HasThe c v.claims → IsFull (m.homes c.number)
     claim_home c has = (it c.number (InHand id (Claiming c)) (law.hands.holds id v at c.number (Claiming c) (has, refl))).3
 
+    -- a claim for no firing is given back
     pub stands_give_back : (i : ℕ) (c : Claim) → HasThe c v.claims → c.number ≡ i → c.firing ≡ None
         → StandsFor entries arguments keeps_to p n (record m { cells = put m.cells i (record { cell = a_cell.Pending; next = c.next }); views = set m.views id (kinds.unclaimed v i) }) (record u { stage = put u.stage i Armed })
     stands_give_back i c has num free = let was = law.hands.holds id v at i (Claiming c) (has, num) in record {
@@ -380,6 +401,7 @@ module _ {P : Type 0} (entries : P → List Entry) (arguments : P → List value
       parcels = law.parcels;
     }
 
+    -- a message that is claimed for a firing is consumed
     pub stands_consume : (i : ℕ) (c : Claim) (f : ℕ) (q : P) → HasThe c v.claims → c.number ≡ i → c.firing ≡ Some f → v.emptying ≡ None → m.homes i ≡ some (Some q)
         → StandsFor entries arguments keeps_to p n (record m { cells = put m.cells i (record { cell = a_cell.Consumed; next = c.next }); homes = put m.homes i none; views = set m.views id (kinds.consumed v i (entries q)) }) (record u { stage = put u.stage i (InHand id Emptying) })
     stands_consume i c f q has num for free home = let was = law.hands.holds id v at i (Claiming c) (has, num) in record {
@@ -391,6 +413,7 @@ module _ {P : Type 0} (entries : P → List Entry) (arguments : P → List value
       parcels = parcels.parcels_without entries arguments keeps_to p u.journal m.homes u.order.bag law.parcels i none (λ q e. absurd (cc));
     }
 
+    -- the slot of a consumed message is home again
     pub stands_empty : (i : ℕ) → v.emptying ≡ Some i
         → StandsFor entries arguments keeps_to p n (record m { homes = put m.homes i (some None); views = set m.views id (kinds.emptied v) }) (record u { stage = put u.stage i Spent })
     stands_empty i emptying = let was = law.hands.holds id v at i Emptying emptying in record {
@@ -402,6 +425,7 @@ module _ {P : Type 0} (entries : P → List Entry) (arguments : P → List value
       parcels = parcels.parcels_without entries arguments keeps_to p u.journal m.homes u.order.bag law.parcels i (some None) (λ q e. absurd (cc));
     }
 
+    -- the cell of an armed message goes between Pending and Woken
     pub stands_wake : (i : ℕ) (word : Word) (w : View) → IsOpen word.cell → u.stage i ≡ Armed → hand w ≡ hand v → w.kept ≡ v.kept
         → StandsFor entries arguments keeps_to p n (record m { cells = put m.cells i word; views = set m.views id w }) u
     stands_wake i word w open_ was same kept = record {
@@ -415,6 +439,7 @@ module _ {P : Type 0} (entries : P → List Entry) (arguments : P → List value
 
     -- ## Firings
 
+    -- the slot of a firing comes out
     pub stands_posting : (f : ℕ) → HasNumber f v.unposted → v.posting ≡ None
         → StandsFor entries arguments keeps_to p n (record m { homes = put m.homes f none; views = set m.views id (kinds.posting v f) }) (record u { stage = put u.stage f (InHand id Posting) })
     stands_posting f has free = let was = law.hands.holds id v at f Unposted has in record {
@@ -426,6 +451,7 @@ module _ {P : Type 0} (entries : P → List Entry) (arguments : P → List value
       parcels = parcels.parcels_without entries arguments keeps_to p u.journal m.homes u.order.bag law.parcels f none (λ q e. absurd (cc));
     }
 
+    -- a firing is posted
     pub stands_post : (f : ℕ) (q : P) → v.posting ≡ Some f → MayGo p v.kept (entries q) → ((e : Entry) (x : Message) → IsIn e (entries q) → message_of e.what ≡ Some x → IsUnlinked (hand v) e.number → ⊥)
         → Begins f (entries q) → ((e : Entry) → IsIn e (entries q) → e.body ≡ f → e.number ≡ f) → ((b : ℕ) → (b ≡ f → ⊥) → Begins b (entries q) → IsParked p (entries q) None (doing p (entries q) b)) → keeps_to q
         → StandsFor entries arguments keeps_to p n (record m { cells = put m.cells f (record { cell = a_cell.Ready; next = None }); homes = put m.homes f (some (Some q)); views = set m.views id (kinds.posted v (entries q)) }) (record u { stage = put u.stage f Posted })
@@ -447,6 +473,7 @@ module _ {P : Type 0} (entries : P → List Entry) (arguments : P → List value
     pub ready_home : (f : ℕ) → (m.cells f).cell ≡ a_cell.Ready → IsFull (m.homes f)
     ready_home f is = (it f Posted (messages.is_posted u.journal m.cells m.places m.homes u.order u.stage law.messages id f is)).3
 
+    -- a posted firing is started
     pub stands_start : (f : ℕ) (q : P) → (m.cells f).cell ≡ a_cell.Ready → v.starting ≡ None → m.homes f ≡ some (Some q)
         → StandsFor entries arguments keeps_to p n (record m { cells = put m.cells f (record { cell = a_cell.Started; next = None }); homes = put m.homes f none; views = set m.views id (kinds.firing_started v f (entries q)) }) (record u { stage = put u.stage f (InHand id Starting) })
     stands_start f q is free home = let was = messages.is_posted u.journal m.cells m.places m.homes u.order u.stage law.messages id f is in record {
@@ -458,6 +485,7 @@ module _ {P : Type 0} (entries : P → List Entry) (arguments : P → List value
       parcels = parcels.parcels_without entries arguments keeps_to p u.journal m.homes u.order.bag law.parcels f none (λ q e. absurd (cc));
     }
 
+    -- the slot of a started firing is home again
     pub stands_play : (f : ℕ) → v.starting ≡ Some f
         → StandsFor entries arguments keeps_to p n (record m { homes = put m.homes f (some None); views = set m.views id (kinds.played v) }) (record u { stage = put u.stage f Played })
     stands_play f starting = let was = law.hands.holds id v at f Starting starting in record {
@@ -475,6 +503,7 @@ module _ {P : Type 0} (entries : P → List Entry) (arguments : P → List value
   abbrev pub IsOut : ℕ → Type 0
   IsOut i = (j : ℕ) × (v : View) × (get_elem? m.views j ≡ some v) × ((v.placing ≡ Some i) ⊎ ((v.emptying ≡ Some i) ⊎ ((v.posting ≡ Some i) ⊎ (v.starting ≡ Some i))))
 
+  -- a slot that is out is out with a desk, whatever the stage of its number
   out_stage : (i : ℕ) (s : Stage) → u.stage i ≡ s → m.homes i ≡ none → IsOut i
   out_stage i Vacant e out = absurd (some-ne-none None (sym (it i Vacant e).1.slot ∙ out))
   out_stage i (InHand j Fresh) e out = absurd (some-ne-none None (sym (it i (InHand j Fresh) e).1.slot ∙ out))
@@ -490,6 +519,7 @@ module _ {P : Type 0} (entries : P → List Entry) (arguments : P → List value
   out_stage i Posted e out = let q = (it i Posted e).3 in absurd (some-ne-none (Some q.0) (sym q.1 ∙ out))
   out_stage i Played e out = absurd (some-ne-none None (sym (it i Played e).3 ∙ out))
 
+  -- each slot that is out is out with a desk
   pub home_out : (i : ℕ) → m.homes i ≡ none → IsOut i
   home_out i out = out_stage i (u.stage i) refl out
 
@@ -497,6 +527,7 @@ module _ {P : Type 0} (entries : P → List Entry) (arguments : P → List value
   abbrev pub IsClaimed : ℕ → Type 0
   IsClaimed i = (j : ℕ) × (v : View) × (c : Claim) × (get_elem? m.views j ≡ some v) × HasThe c v.claims × (c.number ≡ i) × (m.cells i ≡ record { cell = a_cell.Claimed; next = c.next })
 
+  -- a claimed cell is claimed by a desk, whatever the stage of its number
   claimed_stage : (i : ℕ) (s : Stage) → u.stage i ≡ s → (m.cells i).cell ≡ a_cell.Claimed → IsClaimed i
   claimed_stage i (InHand j (Claiming c)) e is = let d = law.hands.held i j (Claiming c) e in (j, d.0, c, d.1, d.2.0, d.2.1, (it i (InHand j (Claiming c)) e).2)
   claimed_stage i Vacant e is = absurd (let z = sym (ap (λ (w : Word). w.cell) (it i Vacant e).1.cell) ∙ is in cc)
@@ -512,6 +543,7 @@ module _ {P : Type 0} (entries : P → List Entry) (arguments : P → List value
   claimed_stage i Posted e is = absurd (let z = sym (ap (λ (w : Word). w.cell) (it i Posted e).1) ∙ is in cc)
   claimed_stage i Played e is = absurd (let z = sym (it i Played e).1 ∙ is in cc)
 
+  -- each claimed cell is claimed by a desk
   pub cell_claimed : (i : ℕ) → (m.cells i).cell ≡ a_cell.Claimed → IsClaimed i
   cell_claimed i is = claimed_stage i (u.stage i) refl is
 
@@ -531,6 +563,7 @@ module _ {P : Type 0} (entries : P → List Entry) (arguments : P → List value
     pub below : (f : ℕ) → c.firing ≡ Some f → AllBelow f (entries q)
     pub task : keeps_to q
 
+  -- the parcel of a message that a desk has claimed comes so
   pub claim_comes : (id : ℕ) (v : View) → get_elem? m.views id ≡ some v → (c : Claim) (q : P) → HasThe c v.claims → m.homes c.number ≡ some (Some q) → Comes c q
   claim_comes id v at c q has home =
       let was = law.hands.holds id v at c.number (Claiming c) (has, refl) in let says = (it c.number (InHand id (Claiming c)) was).0 in record {
@@ -547,6 +580,7 @@ module _ {P : Type 0} (entries : P → List Entry) (arguments : P → List value
   pub no_entry_blank : (i : ℕ) → what_at i u.journal ≡ None → m.cells i ≡ empty_word
   no_entry_blank i e = (it i Vacant (vacant_where (u.stage i) (what_at i u.journal) (m.cells i) (m.places i) (m.homes i) (u.order.bag i) (u.order.next i) (law.messages.stands i) e)).1.cell
 
+  -- a parcel at home is a message's, or its cell is ready, whatever the stage of its number
   full_stage : (i : ℕ) (q : P) (s : Stage) → u.stage i ≡ s → m.homes i ≡ some (Some q) → ((x : Message) × (message_in (what_at i u.journal) ≡ Some x)) ⊎ ((m.cells i).cell ≡ a_cell.Ready)
   full_stage i q Vacant e home = absurd (let z = sym (it i Vacant e).1.slot ∙ home in cc)
   full_stage i q (InHand j Fresh) e home = inl (it i (InHand j Fresh) e).0

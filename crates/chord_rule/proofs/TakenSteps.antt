@@ -26,39 +26,51 @@ module _ (h : List Entry) (stage : ℕ → Stage) (law : Firings h stage) where
   }
 
   module _ (id i : ℕ) where
+    -- the message was taken as its stage tells
     was : (s : Stage) → stage i ≡ s → IsTakenBy s (taker i h)
     was s e = subst (λ (z : Stage). IsTakenBy z (taker i h)) e (law.taken i)
 
+    -- a message is placed
     pub firings_place : stage i ≡ InHand id Fresh → Firings h (put stage i (InHand id Placing))
     firings_place e = firings_one i (InHand id Placing) (was (InHand id Fresh) e)
 
+    -- a message is linked
     pub firings_link : (k : ℕ) (above : Option ℕ) → stage i ≡ InHand id Placing → Firings h (put stage i (InHand id (Flying k above)))
     firings_link k above e = firings_one i (InHand id (Flying k above)) (was (InHand id Placing) e)
 
+    -- a linked message is armed
     pub firings_arm : (k : ℕ) (above : Option ℕ) → stage i ≡ InHand id (Flying k above) → Firings h (put stage i Armed)
     firings_arm k above e = firings_one i Armed (was (InHand id (Flying k above)) e)
 
+    -- an armed message is claimed
     pub firings_claim : (next : Option ℕ) (m : Message) → stage i ≡ Armed → Firings h (put stage i (InHand id (Claiming (claim_on i next m))))
     firings_claim next m e = firings_one i (InHand id (Claiming (claim_on i next m))) (was Armed e)
 
+    -- a claim for no firing is given back
     pub firings_give_back : (c : Claim) → c.firing ≡ None → stage i ≡ InHand id (Claiming c) → Firings h (put stage i Armed)
     firings_give_back c free e = firings_one i Armed (was (InHand id (Claiming c)) e ∙ free)
 
+    -- a message that is claimed for a firing is consumed
     pub firings_consume : (c : Claim) (f : ℕ) → c.firing ≡ Some f → stage i ≡ InHand id (Claiming c) → Firings h (put stage i (InHand id Emptying))
     firings_consume c f for e = firings_one i (InHand id Emptying) (subst (λ (x : Option ℕ). IsSome x) (sym (was (InHand id (Claiming c)) e ∙ for)) refl)
 
+    -- the slot of a consumed message is home again
     pub firings_empty : stage i ≡ InHand id Emptying → Firings h (put stage i Spent)
     firings_empty e = firings_one i Spent (was (InHand id Emptying) e)
 
+    -- the slot of a firing comes out
     pub firings_posting : stage i ≡ InHand id Unposted → Firings h (put stage i (InHand id Posting))
     firings_posting e = firings_one i (InHand id Posting) (was (InHand id Unposted) e)
 
+    -- a firing is posted
     pub firings_post : stage i ≡ InHand id Posting → Firings h (put stage i Posted)
     firings_post e = firings_one i Posted (was (InHand id Posting) e)
 
+    -- a posted firing is started
     pub firings_start : stage i ≡ Posted → Firings h (put stage i (InHand id Starting))
     firings_start e = firings_one i (InHand id Starting) (was Posted e)
 
+    -- the slot of a started firing is home again
     pub firings_play : stage i ≡ InHand id Starting → Firings h (put stage i Played)
     firings_play e = firings_one i Played (was (InHand id Starting) e)
 

@@ -125,12 +125,15 @@ no_message (Some (Called x j vs)) m k e = ⊎_elim (λ z. z) (λ z. z) k
 
 module _ {P : Type 0} (p : Program) (h : List Entry) (cells : ℕ → Word) (places : ℕ → Option Place) (homes : ℕ → Home P) (o : Order) (views : List View) (stage : ℕ → Stage)
     (past : IsPast p h) (hands : Hands views stage) (messages : Messages h cells places homes o stage) (firings : Firings h stage) where
+  -- the number i is in this stage
   abbrev At : ℕ → Stage → Type 0
   At i s = Stands s (what_at i h) (cells i) (places i) (homes i) (o.bag i) (o.next i)
 
+  -- each number is in its stage
   stands : (i : ℕ) (s : Stage) → stage i ≡ s → At i s
   stands i s e = subst (At i) e (messages.stands i)
 
+  -- each message was taken as its stage tells
   taken : (i : ℕ) (s : Stage) → stage i ≡ s → IsTakenBy s (taker i h)
   taken i s e = subst (λ (z : Stage). IsTakenBy z (taker i h)) e (firings.taken i)
 
@@ -186,6 +189,7 @@ module _ {P : Type 0} (p : Program) (h : List Entry) (cells : ℕ → Word) (pla
   pub cell_pending : (i : ℕ) → cell_of cells i ≡ a_cell.Pending → (m : Message) × (pending i h ≡ Some m)
   cell_pending i e = armed_pending i (pending_armed (stage i) (what_at i h) (cells i) (places i) (homes i) (o.bag i) (o.next i) (messages.stands i) e)
 
+  -- a Pending or Woken cell is that of a message that no firing has taken
   open_waits : (c : Cell) → IsOpen c → IsWaiting c
   open_waits a_cell.Pending t = tt
   open_waits (a_cell.Woken q) t = tt
@@ -208,6 +212,7 @@ module _ {P : Type 0} (p : Program) (h : List Entry) (cells : ℕ → Word) (pla
     claimed = λ q. absurd (let z = sym is ∙ q in cc);
   }
 
+  -- of a message that no firing took the table shows that it is pending, whatever its stage
   pending_stage : (i : ℕ) (m : Message) (s : Stage) → stage i ≡ s → message_in (what_at i h) ≡ Some m → taker i h ≡ None → IsPending cells views o i m
   pending_stage i m Vacant e says free = absurd (no_message (what_at i h) m (inl (stands i Vacant e).0) says)
   pending_stage i m (InHand j Fresh) e says free = let t = stands i (InHand j Fresh) e in let d = hands.held i j Fresh e in
@@ -283,10 +288,12 @@ module _ {P : Type 0} (p : Program) (h : List Entry) (cells : ℕ → Word) (pla
   consumed_some i Posted e a = absurd (subst (λ (w : Word). IsConsumed w.cell) (stands i Posted e).1 a)
   consumed_some i Played e a = absurd (subst IsConsumed (stands i Played e).1 a)
 
+  -- a message that has a taker was taken by a firing
   some_took : (i : ℕ) (t : Option ℕ) → taker i h ≡ t → IsSome t → (f : ℕ) × Took h f i
   some_took i None e s = absurd (let z = s in cc)
   some_took i (Some f) e s = (f, taker_took h i f e)
 
+  -- a message whose cell is consumed was taken by a firing
   pub consumed_taken : (i : ℕ) → IsConsumed (cell_of cells i) → (f : ℕ) × Took h f i
   consumed_taken i a = some_took i (taker i h) refl (consumed_some i (stage i) refl a)
 
@@ -307,6 +314,7 @@ module _ {P : Type 0} (p : Program) (h : List Entry) (cells : ℕ → Word) (pla
   abbrev IsClaimedFor : ℕ → ℕ → Type 0
   IsClaimedFor f i = (j : ℕ) × (v : View) × (c : Claim) × (get_elem? views j ≡ some v) × HasThe c v.claims × (c.number ≡ i) × (c.firing ≡ Some f)
 
+  -- what a firing took is consumed, or claimed by a desk that has drawn that firing, whatever its stage
   taken_stage : (i f : ℕ) (s : Stage) → stage i ≡ s → taker i h ≡ Some f → IsConsumed (cell_of cells i) ⊎ IsClaimedFor f i
   taken_stage i f Vacant e t = absurd (let z = sym (taken i Vacant e) ∙ t in cc)
   taken_stage i f (InHand j Fresh) e t = absurd (let z = sym (taken i (InHand j Fresh) e) ∙ t in cc)
@@ -328,16 +336,20 @@ module _ {P : Type 0} (p : Program) (h : List Entry) (cells : ℕ → Word) (pla
 
   -- ## One of the pending messages is minded
 
+  -- the bag of a message, if there is one
   abbrev to_bag : Option Message → ℕ
   to_bag None = 0
   to_bag (Some m) = key m.object m.method
 
+  -- the bag to which the message of a number is
   abbrev target : ℕ → ℕ
   target i = to_bag (message_in (what_at i h))
 
+  -- an armed message is in the bag to which it is
   armed_bag : (i : ℕ) → IsArmed (cell_of cells i) → o.bag i ≡ Some (target i)
   armed_bag i a = let t = armed_linked i (stage i) refl a in t.2.bagged ∙ ap (λ (z : Option Message). Some (to_bag z)) (sym t.1)
 
+  -- the messages that a firing takes are to the bags of its methods, and no firing has taken any of them
   takes_to : (object : Object) (js ms : List ℕ) (vs : List value.Value) → Takes h object js ms vs → AreTo target (keys object js) ms × AllWaiting cells ms
   takes_to object [] [] vs t = (tt, tt)
   takes_to object [] (i ∷ ms) vs t = absurd t
@@ -347,10 +359,12 @@ module _ {P : Type 0} (p : Program) (h : List Entry) (cells : ℕ → Word) (pla
       let was = pending_was p h i m past t.2 in let rest = takes_to object js ms t.1 t.4 in
       ((ap to_bag was.0, rest.0), ((pending_shows i m t.2).waiting, rest.1))
 
+  -- the bag of one of these methods is one of their bags
   has_key : (object : Object) (j : ℕ) (js : List ℕ) → has j js ≡ true → HasNumber (key object j) (keys object js)
   has_key object j [] y = absurd (let z : false ≡ true = y in cc)
   has_key object j (i ∷ js) y = elim (either (j == i)) [ inl q ↦ inl (ap (key object) (eqb-true j i q)) | inr n ↦ inr (has_key object j js (rw n at y)) ]
 
+  -- a number that is one of these is found among them
   has_true : (i : ℕ) (ms : List ℕ) → HasNumber i ms → has i ms ≡ true
   has_true i [] k = absurd k
   has_true i (x ∷ ms) k = elim (either (i == x)) [

@@ -13,11 +13,13 @@ live_count is_live [] = 0
 live_count is_live (v ∷ vs) = flag (is_live v) + live_count is_live vs
 
 module _ (is_live : View → Bool) (SawCount : View → ℕ → Type 0) (SawHead : View → ℕ → Option ℕ → Type 0) (SawCell : View → ℕ → Word → Type 0) where
+  -- what the first desk remembers of the counter, of heads and of cells is what stands there
   pub record Remembers (count : ℕ) (heads : ℕ → Option ℕ) (cells : ℕ → Word) (v : View) : Type 0 where
     pub counter : (c : ℕ) → SawCount v c → count ≡ c
     pub head : (k : ℕ) (h : Option ℕ) → SawHead v k h → heads k ≡ h
     pub cell : (i : ℕ) (x : Word) → SawCell v i x → cells i ≡ x
 
+  -- the first desk has lent as many desks as are live, and where it has lent none, what it remembers stands
   pub record AloneLaw (count : ℕ) (heads : ℕ → Option ℕ) (cells : ℕ → Word) (views : List View) : Type 0 where
     pub lent : (v : View) → get_elem? views 0 ≡ some v → v.lent ≡ live_count is_live views
     pub alone : (v : View) → get_elem? views 0 ≡ some v → v.lent ≡ 0 → Remembers count heads cells v

@@ -43,6 +43,7 @@ module _ (IsChord : List ℕ → Type 0) where
     Chosen (k ∷ ks) [] = ⊥
     Chosen (k ∷ ks) (x ∷ xs) = (o.bag x ≡ Some k) × IsStanding (cell_of cells x) × Chosen ks xs
 
+    -- one standing message in each bag of a chord, which has a bag
     pub record Choice (ks xs : List ℕ) : Type 0 where
       pub chord : IsChord ks
       pub some : (k : ℕ) × HasNumber k ks
@@ -56,6 +57,7 @@ module _ (IsChord : List ℕ → Type 0) where
   abbrev pub IsCarried : List View → Order → List ℕ → Type 0
   IsCarried views o xs = (j : ℕ) × (v : View) × (d : Duty) × (get_elem? views j ≡ some v) × HasDuty d v.duties × Carries o d xs
 
+  -- each choice has a member that a woken cell names, or is carried by a duty of a desk
   abbrev pub DutyLaw : (ℕ → Word) → List View → Order → Type 0
   DutyLaw cells views o = (ks xs : List ℕ) → Choice cells o ks xs → IsNamed cells o xs ⊎ IsCarried views o xs
 

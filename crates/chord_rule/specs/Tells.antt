@@ -33,6 +33,7 @@ module _ {S : Type 0} where
   abbrev pub links : (S → List Entry) → Object → ℕ → Step (Option S) → Me (Option S) View → ℕ → Me (Option S) View → Type 0
   links entries o j s m x w = (i : ℕ) (q : S) → m.1 ≡ (i, Some q) ∷ [] → (w.1 ≡ []) × ((above : Option ℕ) × (x ≡ link_of above) × LinkOk above × (w.0 ≡ flown m.0 i (key o j) above (entries q)))
 
+  -- the message in flight is armed
   abbrev pub arms : Step (Option S) → Me (Option S) View → ℕ → Me (Option S) View → Type 0
   arms s m x w = (i : ℕ) → m.0.flight ≡ Some i → w ≡ (armed m.0 i, m.1)
 

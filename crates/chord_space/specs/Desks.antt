@@ -32,12 +32,15 @@ module _ {P : Type 0} where
   abbrev pub view : Desk P → View
   view d = d.seat.me.0
 
+  -- how many events the space's runs may have
   abbrev pub events : Space P → ℕ
   events s = s.events
 
+  -- the code of the space
   abbrev pub code_of : Space P → Parts
   code_of s = s.table.shared.key.code.value
 
+  -- the limits of the space's runs
   abbrev pub limits_of : Space P → Limits
   limits_of s = s.table.shared.key.limits
 
@@ -49,6 +52,7 @@ module _ {P : Type 0} where
   abbrev pub IsDeskOf : Space P → Desk P → Type 0
   IsDeskOf s d = (d.seat.table_id ≡ s.table.shared.table_id)
 
+  -- both are one desk of one space
   abbrev pub IsSameDesk : Desk P → Desk P → Type 0
   IsSameDesk d e = (e.seat.table_id ≡ d.seat.table_id) × (e.seat.id ≡ d.seat.id)
 
