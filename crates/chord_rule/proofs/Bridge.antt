@@ -170,7 +170,7 @@ module _ {P : Type 0} where
     abbrev pub Goes : (m : Moment P) → Me (Option P) View → (View → Act (Option P) → Moment P) → (View → Act (Option P) → Type 0) → Type 0
     Goes m me to then = (w : View) × (a : Act (Option P)) × (g : G) × Can n m.homes me.1 a × R (to w a) g × then w a
 
-    -- a desk that the table has is one of the moment
+    -- the view of a desk in the table is its view in the moment
     found : (m : Moment P) (s : State (Option P) View) (id : ℕ) (v : View) → Shows n m s → get_elem? s.views id ≡ some v → get_elem? m.views id ≡ some v
     found m s id v sh at = subst (λ (vs : List View). get_elem? vs id ≡ some v) sh.views at
 

@@ -199,7 +199,7 @@ module _ (views : List View) (stage : ℕ → Stage) (law : Hands views stage) w
     from_either i Posting h = inl h
     from_either i Starting h = inl h
 
-    -- what neither desk gave up stands as before
+    -- what another desk than the joined one has in hand stands as before
     heir_of : (j : ℕ) (x : Hold) → j ≢ other → heir id other (InHand j x) ≡ InHand j x
     heir_of j x ne = ap (λ (b : Bool). InHand (if b then id else j) x) (ne_eqb j other ne)
 

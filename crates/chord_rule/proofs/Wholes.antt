@@ -111,7 +111,7 @@ module _ {P : Type 0} (entries : P → List Entry) (arguments : P → List value
   counting_stays : (w : View) → w.spent ≡ v.spent → w.splits ≡ v.splits → Counting n m.count (set m.views id w)
   counting_stays w a b = counts n m.count m.count m.views id v w whole.counting at (let c = whole.counting.bound in let t = told_set m.views id v w at in let f = ap flag a in omega arith) (λ _. b)
 
-  -- a desk that steps knows the bags of its duties, and so do the others
+  -- where the desk that steps knows the bags of its duties afterwards, all desks do
   tied_stays : (w : View) → ((d : Duty) → HasDuty d w.duties → u.order.bag d.message ≡ Some d.bag) → Tied (set m.views id w) u.order.bag
   tied_stays w mine = record { duties = desks_after (λ j x. (d : Duty) → HasDuty d x.duties → u.order.bag d.message ≡ Some d.bag) m.views id w mine (λ j x ne a. whole.tied.duties j x a) }
 
