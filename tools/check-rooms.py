@@ -9,7 +9,7 @@ sys.dont_write_bytecode = True
 import antt
 
 SAYS = re.compile(r'^//! Stands on: (.*?)\. Used by: (.*?)\.$', re.MULTILINE)
-MANY = 5
+MANY = 3
 ASIDE = re.compile(r'\([^)]*\)')
 
 

@@ -1,5 +1,5 @@
 //! Where the bytes of a run come from and where they go: sources and sinks that count their faults.
-//! Stands on: arrayvec. Used by: chord_journal, chord_run, chord_prog.
+//! Stands on: arrayvec. Used by: many crates.
 //! Promise: `read_all` gives exactly the bytes that were left, `write_all` adds exactly the piece,
 //! and a fault is answered only where the count of faults rose (specs/Pieces.antt, specs/Faults.antt).
 //! Not here: what the bytes mean, and any text of the program.
