@@ -57,15 +57,21 @@ def is_made(text):
 
 
 def definitions(path):
-    """What a module defines at its outermost level, or in a `mutual` block there."""
+    """What a module defines at its outermost level, or in `mutual` blocks and in modules without a name there."""
     with open(path, encoding='utf-8') as file:
         lines = file.read().split('\n')
-    found, in_mutual = [], False
+    found, blocks = [], []
     for number, line in enumerate(lines):
-        if line.strip() and not line.startswith((' ', '--')):
-            in_mutual = line.split()[0] == 'mutual' or line.startswith('abbrev mutual')
+        if not line.strip() or line.lstrip().startswith(('--', '}', ')')):
+            continue
         depth = len(line) - len(line.lstrip(' '))
-        if depth != (2 if in_mutual else 0) or line.lstrip().startswith(('--', '}', ')')):
+        while blocks and blocks[-1] >= depth:
+            blocks.pop()
+        if depth != (blocks[-1] + 2 if blocks else 0):
+            continue
+        bare = line.lstrip()
+        if bare.split()[0] in ('mutual', 'module') or bare.startswith('abbrev mutual'):
+            blocks.append(depth)
             continue
         match = DEFINES.match(line)
         name = match and (match[2] or match[3])

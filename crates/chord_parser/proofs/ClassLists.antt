@@ -38,17 +38,17 @@ use Rattle.chord_parser.proofs.made.MemberSteps.{modifiers_modifier, modifiers_m
 -- a list that grows at its end
 module _ {A : Type 0} (f : A → Node → Node) where
   -- things and one more before a node are the things before that one and the node
-  pub grown : (xs : List A) (x : A) (n : Node) → wrapped f (xs ++ (x ∷ [])) n ≡ wrapped f xs (f x n)
-  grown [] x n = refl
-  grown (y ∷ xs) x n = ap (f y) (grown xs x n)
+  pub wrapped_grown : (xs : List A) (x : A) (n : Node) → wrapped f (xs ++ (x ∷ [])) n ≡ wrapped f xs (f x n)
+  wrapped_grown [] x n = refl
+  wrapped_grown (y ∷ xs) x n = ap (f y) (wrapped_grown xs x n)
 
   -- things before one more and a node are the grown list before the node
   pub push : (xs ys : List A) (x : A) (n : Node) → ys ≡ xs ++ (x ∷ []) → wrapped f xs (f x n) ≡ wrapped f ys n
-  push xs ys x n e = sym (grown xs x n) ∙ ap (λ z. wrapped f z n) (sym e)
+  push xs ys x n e = sym (wrapped_grown xs x n) ∙ ap (λ z. wrapped f z n) (sym e)
 
   -- of a list that grew, the things after the first before one more and a node are the grown list, but its first, before the node
   after_first : (y : A) (xs ys : List A) (x : A) (n : Node) → ys ≡ (y ∷ xs) ++ (x ∷ []) → wrapped f xs (f x n) ≡ wrapped_after f ys n
-  after_first y xs ys x n e = sym (grown xs x n) ∙ ap (λ z. wrapped_after f z n) (sym e)
+  after_first y xs ys x n e = sym (wrapped_grown xs x n) ∙ ap (λ z. wrapped_after f z n) (sym e)
 
   -- all things but the first, before one more and a node, are the grown list, but its first, before the node
   pub push_after : (xs ys : List A) (x first : A) (n : Node) → IsFirst first xs → ys ≡ xs ++ (x ∷ []) → wrapped_after f xs (f x n) ≡ wrapped_after f ys n
@@ -137,7 +137,7 @@ formals_first ys x n e = ap (λ z. before_formals z n) (sym e)
 -- a parameter more in memory
 pub formals_push : (xs ys : List Formal) (x : Formal) (n : Node) → 0 < length xs → ys ≡ xs ++ (x ∷ []) → before_formals xs (formal_way x n) ≡ before_formals ys n
 formals_push [] ys x n h e = absurd (omega arith)
-formals_push (y ∷ xs) ys x n h e = ap (λ z. Made grammar.Optional_formals (node_formal y ▸ z ▸ End)) (sym (grown formal_way xs x n)) ∙ ap (λ z. before_formals z n) (sym e)
+formals_push (y ∷ xs) ys x n h e = ap (λ z. Made grammar.Optional_formals (node_formal y ▸ z ▸ End)) (sym (wrapped_grown formal_way xs x n)) ∙ ap (λ z. before_formals z n) (sym e)
 
 -- further headers before no others are those headers
 all_headers : (xs : List HeaderTree) → wrapped header_way xs (Made grammar.Headers End) ≡ node_headers xs
