@@ -7,3 +7,4 @@ pub mod Quoting
 pub mod Commenting
 pub mod Marking
 pub mod Chains
+pub mod Fronts
