@@ -1,5 +1,5 @@
 -- What the frames of a body stand for.
-use Rattle.std.specs.Prelude.{◌≡◌, ◌<◌, ◌≤◌, vec_len, vec_capacity, ℕ, List, [], ◌∷◌, ◌++◌, Option, Some, None, map, reverse, slice_get}
+use Rattle.std.specs.Prelude.{◌≡◌, ◌<◌, ◌≤◌, Bool, true, false, vec_len, vec_capacity, ℕ, List, [], ◌∷◌, ◌++◌, Option, Some, None, map, reverse, slice_get}
 use Rattle.chord_vm.specs.declared.frames.Frame as declared_frame
 use Rattle.chord_vm.specs.declared.frames.Frames.{Frames}
 use Rattle.chord_vm.specs.declared.ask.Ask.{Ask}
@@ -33,14 +33,19 @@ what_of_ask (ask.Call o j xs) = Called o j xs
 what_of_ask (ask.Print t) = Printed t
 what_of_ask (ask.End e) = Ended e
 
--- what one instruction came to; nothing is said of the frames of a body that has ended
+-- the ask that one instruction came to, if it came to one; nothing is said of the frames of a body that has ended
 abbrev pub SteppedTo : Did → Option Ask → Frames → Type 0
-SteppedTo d None f = d ≡ Goes (machine_of f)
+SteppedTo d None f = ⊥
 SteppedTo d (Some (ask.End e)) f = (w : Waiting) × (d ≡ Asking (Ended e) w)
 SteppedTo d (Some (ask.Make c)) f = d ≡ Asking (Made c) (waiting_of f)
 SteppedTo d (Some (ask.Send o j xs)) f = d ≡ Asking (Sent o j xs) (waiting_of f)
 SteppedTo d (Some (ask.Call o j xs)) f = d ≡ Asking (Called o j xs) (waiting_of f)
 SteppedTo d (Some (ask.Print t)) f = d ≡ Asking (Printed t) (waiting_of f)
+
+-- after one instruction the body goes on, or its ask was put
+abbrev pub WentOn : Did → Bool → Option Ask → Frames → Type 0
+WentOn d true asked f = d ≡ Goes (machine_of f)
+WentOn d false asked f = SteppedTo d asked f
 
 -- the frame at another place, with another stack and other slots
 abbrev pub frame_with : Frame → ℕ → List Value → List Value → Frame

@@ -1,12 +1,12 @@
 //! The instructions of a block at work.
 #![tactic(auto)]
 
-ghost use Rattle.std.specs.Prelude.{◌≡◌, ◌≢◌, ℕ, suc, ◌+◌, ◌^◌, ◌<◌, ◌≤◌, List, [], ◌∷◌, IfOk, OnOk, Some, None, length, slice_get, vec_len, vec_capacity};
+ghost use Rattle.std.specs.Prelude.{◌≡◌, ◌≢◌, ℕ, suc, ◌+◌, ◌^◌, ◌<◌, ◌≤◌, Bool, false, List, [], ◌∷◌, IfOk, OnOk, Some, None, length, slice_get, vec_len, vec_capacity};
 ghost use Rattle.chord_base.specs.Operators.{Computed, Is, Trapped, Mistyped, compute as compute_of, text_of, negated, denied, IsComputed};
 ghost use Rattle.chord_code.specs.Valid.{IsValid};
 ghost use Rattle.chord_code.specs.Within.{IsInstructionWithin};
-ghost use Rattle.chord_code.specs.Machine.{Did, Goes, Asking, Bad, act, operate as operate_of, negates, denies, skips, again as again_of, if_deeper, makes_object, builder_of, init_by, fetch, ComesToAsk, loads, store_top, pops, send_by, call_by, print_top};
-ghost use Rattle.chord_vm.specs.Frames.{shown_frame, machine_of, SteppedTo, frame_with, Advanced, IsMoved};
+ghost use Rattle.chord_code.specs.Machine.{Did, Goes, Asking, Bad, act, operate as operate_of, negates, denies, skips, again as again_of, if_deeper, makes_object, builder_of, init_by, fetch, ComesToAsk, loads, store_top, pops, send_by, call_by, print_top, end_with};
+ghost use Rattle.chord_vm.specs.Frames.{shown_frame, machine_of, WentOn, frame_with, Advanced, IsMoved};
 
 use crate::ask::Ask;
 use crate::frames::{Frame, Frames, fill, move_last};
@@ -21,8 +21,9 @@ use chord_code::parts::Parts;
 use std::alloc::{AllocError, Global};
 use std::mem;
 
-/// What an instruction came to: an ask, or none where the body goes on.
-type Step = Result<Option<Ask>, AllocError>;
+/// Whether the body goes on after an instruction. Where it does not, its ask was put beside: an ask is large, and is moved once in a while, and not with
+/// each instruction.
+type Step = Result<bool, AllocError>;
 
 /// Pushes a value, and goes to the next instruction.
 #[inline(always)]
@@ -58,98 +59,118 @@ fn take_all(alloc: Global, frame: &mut Frame, n: usize) -> Result<Values, AllocE
 
 /// One instruction.
 #[inline(always)]
-fn step(alloc: Global, parts: &Parts, frames: &mut Frames, instruction: &Instruction) -> Step
+fn step(
+    alloc: Global,
+    parts: &Parts,
+    frames: &mut Frames,
+    instruction: &Instruction,
+    asked: &mut Option<Ask>,
+) -> Step
     requires fits { frames.old.top.place + 1 < 2 ^ 64 }
     requires within { IsInstructionWithin instruction.now }
     requires sound { act parts.now (Some instruction.now) (machine_of frames.old) ≢ Bad }
-    ensures { IfOk result (λ o. SteppedTo (act parts.now (Some instruction.now) (machine_of frames.old)) o frames.new) }
+    ensures { IfOk result (λ goes_on. WentOn (act parts.now (Some instruction.now) (machine_of frames.old)) goes_on asked.new frames.new) }
 {
     match instruction {
-        Instruction::Int(number) => push_value(frames, Value::Int(*number)),
-        Instruction::Flag(flag) => push_value(frames, Value::Flag(*flag)),
+        Instruction::Int(number) => push_value(frames, Value::Int(*number))?,
+        Instruction::Flag(flag) => push_value(frames, Value::Flag(*flag))?,
         Instruction::Text(text) => {
             let text = text.copied(alloc)?;
-            push_value(frames, Value::Text(text))
+            push_value(frames, Value::Text(text))?
         }
-        Instruction::Load(slot) => load(alloc, frames, *slot as usize),
-        Instruction::Store(slot) => {
-            store(frames, *slot as usize);
-            Ok(None)
-        }
+        Instruction::Load(slot) => load(alloc, frames, *slot as usize)?,
+        Instruction::Store(slot) => store(frames, *slot as usize),
         Instruction::Drop => {
             let _ = take(&mut frames.top);
             frames.top.place += 1;
-            Ok(None)
         }
-        Instruction::Neg => negated_top(frames),
-        Instruction::Not => denied_top(frames),
-        Instruction::Add => operate(alloc, frames, Operation::Add),
-        Instruction::Sub => operate(alloc, frames, Operation::Subtract),
-        Instruction::Mul => operate(alloc, frames, Operation::Multiply),
-        Instruction::Div => operate(alloc, frames, Operation::Divide),
-        Instruction::Rem => operate(alloc, frames, Operation::Remainder),
-        Instruction::Cat => operate(alloc, frames, Operation::Join),
-        Instruction::Eq => operate(alloc, frames, Operation::Equal),
-        Instruction::Ne => operate(alloc, frames, Operation::NotEqual),
-        Instruction::Lt => operate(alloc, frames, Operation::Less),
-        Instruction::Le => operate(alloc, frames, Operation::LessOrEqual),
-        Instruction::Gt => operate(alloc, frames, Operation::Greater),
-        Instruction::Ge => operate(alloc, frames, Operation::GreaterOrEqual),
-        Instruction::Jump(to) => {
-            frames.top.place = *to as usize;
-            Ok(None)
-        }
+        Instruction::Neg => negated_top(frames)?,
+        Instruction::Not => denied_top(frames)?,
+        Instruction::Add => return operate(alloc, frames, Operation::Add, asked),
+        Instruction::Sub => return operate(alloc, frames, Operation::Subtract, asked),
+        Instruction::Mul => return operate(alloc, frames, Operation::Multiply, asked),
+        Instruction::Div => return operate(alloc, frames, Operation::Divide, asked),
+        Instruction::Rem => return operate(alloc, frames, Operation::Remainder, asked),
+        Instruction::Cat => return operate(alloc, frames, Operation::Join, asked),
+        Instruction::Eq => return operate(alloc, frames, Operation::Equal, asked),
+        Instruction::Ne => return operate(alloc, frames, Operation::NotEqual, asked),
+        Instruction::Lt => return operate(alloc, frames, Operation::Less, asked),
+        Instruction::Le => return operate(alloc, frames, Operation::LessOrEqual, asked),
+        Instruction::Gt => return operate(alloc, frames, Operation::Greater, asked),
+        Instruction::Ge => return operate(alloc, frames, Operation::GreaterOrEqual, asked),
+        Instruction::Jump(to) => frames.top.place = *to as usize,
         Instruction::Skip(to) => skip(frames, *to as usize),
-        Instruction::Again(to) => again(frames, *to as usize),
-        Instruction::New(class, n) => make(parts, frames, *class, *n),
-        Instruction::Init(class) => init(alloc, parts, frames, *class),
-        Instruction::Send(method, n) => send(alloc, frames, *method, *n as usize),
-        Instruction::Call(method, n) => call(alloc, frames, *method, *n as usize),
-        Instruction::Print => print(alloc, frames),
-        Instruction::End => Ok(Some(Ask::End(End::Gives(Value::Unit)))),
-        Instruction::Endv => {
-            let value = take(&mut frames.top);
-            Ok(Some(Ask::End(End::Gives(value))))
-        }
-        Instruction::Back => {
-            frames.top = frames.below.take_last();
-            Ok(None)
-        }
+        Instruction::Again(to) => return again(frames, *to as usize, asked),
+        Instruction::New(class, n) => return make(parts, frames, *class, *n, asked),
+        Instruction::Init(class) => init(alloc, parts, frames, *class)?,
+        Instruction::Send(method, n) => return send(alloc, frames, *method, *n as usize, asked),
+        Instruction::Call(method, n) => return call(alloc, frames, *method, *n as usize, asked),
+        Instruction::Print => return print(alloc, frames, asked),
+        Instruction::End => return end(asked),
+        Instruction::Endv => return end_with_top(frames, asked),
+        Instruction::Back => frames.top = frames.below.take_last(),
     }
+    Ok(true)
+}
+
+/// A trap ends the body.
+#[inline(never)]
+fn ends_by(trap: Trap, asked: &mut Option<Ask>) -> Step
+    ensures { IfOk result (λ goes_on. (goes_on ≡ false) × (asked.new ≡ Some (Ask.End (End.Traps trap)))) }
+{
+    *asked = Some(Ask::End(End::Traps(trap)));
+    Ok(false)
+}
+
+/// `end`.
+#[inline(never)]
+fn end(asked: &mut Option<Ask>) -> Step
+    ensures { IfOk result (λ goes_on. (goes_on ≡ false) × (asked.new ≡ Some (Ask.End (End.Gives Value.Unit)))) }
+{
+    *asked = Some(Ask::End(End::Gives(Value::Unit)));
+    Ok(false)
+}
+
+/// `endv`.
+#[inline(never)]
+fn end_with_top(frames: &mut Frames, asked: &mut Option<Ask>) -> Step
+    requires sound { end_with (machine_of frames.old) (machine_of frames.old).top.stack ≢ Bad }
+    ensures { IfOk result (λ goes_on. WentOn (end_with (machine_of frames.old) (machine_of frames.old).top.stack) goes_on asked.new frames.new) }
+{
+    let value = take(&mut frames.top);
+    *asked = Some(Ask::End(End::Gives(value)));
+    Ok(false)
 }
 
 /// `int`, `flag` and `text`.
 #[inline(always)]
-fn push_value(frames: &mut Frames, value: Value) -> Step
+fn push_value(frames: &mut Frames, value: Value) -> Result<(), AllocError>
     requires { frames.old.top.place + 1 < 2 ^ 64 }
-    ensures { IfOk result (λ o. SteppedTo (loads (machine_of frames.old) (Some value)) o frames.new) }
+    ensures { OnOk result (loads (machine_of frames.old) (Some value) ≡ Goes (machine_of frames.new)) }
 {
-    push(&mut frames.top, value)?;
-    Ok(None)
+    push(&mut frames.top, value)
 }
 
 /// `neg`.
 #[inline(always)]
-fn negated_top(frames: &mut Frames) -> Step
+fn negated_top(frames: &mut Frames) -> Result<(), AllocError>
     requires fits { frames.old.top.place + 1 < 2 ^ 64 }
     requires sound { negates (machine_of frames.old) (machine_of frames.old).top.stack ≢ Bad }
-    ensures { IfOk result (λ o. SteppedTo (negates (machine_of frames.old) (machine_of frames.old).top.stack) o frames.new) }
+    ensures { OnOk result (negates (machine_of frames.old) (machine_of frames.old).top.stack ≡ Goes (machine_of frames.new)) }
 {
     let value = take(&mut frames.top);
-    push(&mut frames.top, negate(value))?;
-    Ok(None)
+    push(&mut frames.top, negate(value))
 }
 
 /// `not`.
 #[inline(always)]
-fn denied_top(frames: &mut Frames) -> Step
+fn denied_top(frames: &mut Frames) -> Result<(), AllocError>
     requires fits { frames.old.top.place + 1 < 2 ^ 64 }
     requires sound { denies (machine_of frames.old) (machine_of frames.old).top.stack ≢ Bad }
-    ensures { IfOk result (λ o. SteppedTo (denies (machine_of frames.old) (machine_of frames.old).top.stack) o frames.new) }
+    ensures { OnOk result (denies (machine_of frames.old) (machine_of frames.old).top.stack ≡ Goes (machine_of frames.new)) }
 {
     let value = take(&mut frames.top);
-    push(&mut frames.top, deny(value))?;
-    Ok(None)
+    push(&mut frames.top, deny(value))
 }
 
 /// The text that a value prints. A text is moved.
@@ -164,31 +185,32 @@ fn into_text(alloc: Global, value: Value) -> Result<Text, AllocError>
 }
 
 /// `print`.
-fn print(alloc: Global, frames: &mut Frames) -> Step
+#[inline(never)]
+fn print(alloc: Global, frames: &mut Frames, asked: &mut Option<Ask>) -> Step
     requires fits { frames.old.top.place + 1 < 2 ^ 64 }
     requires sound { print_top (machine_of frames.old) (machine_of frames.old).top.stack ≢ Bad }
-    ensures { IfOk result (λ o. SteppedTo (print_top (machine_of frames.old) (machine_of frames.old).top.stack) o frames.new) }
+    ensures { IfOk result (λ goes_on. WentOn (print_top (machine_of frames.old) (machine_of frames.old).top.stack) goes_on asked.new frames.new) }
 {
     let value = take(&mut frames.top);
     let text = into_text(alloc, value)?;
     frames.top.place += 1;
     frames.awaited = Awaited::ForNothing;
-    Ok(Some(Ask::Print(text)))
+    *asked = Some(Ask::Print(text));
+    Ok(false)
 }
 
 /// `load`.
 #[inline(always)]
-fn load(alloc: Global, frames: &mut Frames, slot: usize) -> Step
+fn load(alloc: Global, frames: &mut Frames, slot: usize) -> Result<(), AllocError>
     requires fits { frames.old.top.place + 1 < 2 ^ 64 }
     requires sound { loads (machine_of frames.old) (slice_get frames.old.top.slots.items slot) ≢ Bad }
-    ensures { IfOk result (λ o. SteppedTo (loads (machine_of frames.old) (slice_get frames.old.top.slots.items slot)) o frames.new) }
+    ensures { OnOk result (loads (machine_of frames.old) (slice_get frames.old.top.slots.items slot) ≡ Goes (machine_of frames.new)) }
 {
     match frames.top.slots.get(slot) {
         None => unreachable!(),
         Some(value) => {
             let value = value.copied(alloc)?;
-            push(&mut frames.top, value)?;
-            Ok(None)
+            push(&mut frames.top, value)
         }
     }
 }
@@ -207,109 +229,136 @@ fn store(frames: &mut Frames, i: usize)
 
 /// The operators of two operands. The right one stands on top.
 #[inline(always)]
-fn operate(alloc: Global, frames: &mut Frames, operation: Operation) -> Step
+fn operate(
+    alloc: Global,
+    frames: &mut Frames,
+    operation: Operation,
+    asked: &mut Option<Ask>,
+) -> Step
     requires fits { frames.old.top.place + 1 < 2 ^ 64 }
     requires sound { operate_of operation (machine_of frames.old) (machine_of frames.old).top.stack ≢ Bad }
-    ensures { IfOk result (λ o. SteppedTo (operate_of operation (machine_of frames.old) (machine_of frames.old).top.stack) o frames.new) }
+    ensures { IfOk result (λ goes_on. WentOn (operate_of operation (machine_of frames.old) (machine_of frames.old).top.stack) goes_on asked.new frames.new) }
 {
     let right = take(&mut frames.top);
     let left = take(&mut frames.top);
     match compute(alloc, operation, left, right)? {
         Ok(value) => {
             push(&mut frames.top, value)?;
-            Ok(None)
+            Ok(true)
         }
-        Err(trap) => Ok(Some(Ask::End(End::Traps(trap)))),
+        Err(trap) => ends_by(trap, asked),
     }
 }
 
 /// `skip`.
 #[inline(always)]
-fn skip(frames: &mut Frames, to: usize) -> Step
+fn skip(frames: &mut Frames, to: usize)
     requires fits { frames.old.top.place + 1 < 2 ^ 64 }
     requires sound { skips to (machine_of frames.old) (machine_of frames.old).top.stack ≢ Bad }
-    ensures { IfOk result (λ o. SteppedTo (skips to (machine_of frames.old) (machine_of frames.old).top.stack) o frames.new) }
+    ensures { skips to (machine_of frames.old) (machine_of frames.old).top.stack ≡ Goes (machine_of frames.new) }
 {
     match take(&mut frames.top) {
         Value::Flag(true) => frames.top.place += 1,
         Value::Flag(false) => frames.top.place = to,
         _ => unreachable!(),
     }
-    Ok(None)
 }
 
 /// `again`.
 #[inline(always)]
-fn again(frames: &mut Frames, to: usize) -> Step
+fn again(frames: &mut Frames, to: usize, asked: &mut Option<Ask>) -> Step
     requires fits { frames.old.top.place + 1 < 2 ^ 64 }
     requires sound { again_of to (machine_of frames.old) (machine_of frames.old).top.stack ≢ Bad }
-    ensures { IfOk result (λ o. SteppedTo (again_of to (machine_of frames.old) (machine_of frames.old).top.stack) o frames.new) }
+    ensures { IfOk result (λ goes_on. WentOn (again_of to (machine_of frames.old) (machine_of frames.old).top.stack) goes_on asked.new frames.new) }
 {
     match take(&mut frames.top) {
         Value::Flag(true) => {
             if frames.turns == 0 {
-                Ok(Some(Ask::End(End::Traps(Trap::OutOfTurns))))
+                ends_by(Trap::OutOfTurns, asked)
             } else {
                 frames.turns -= 1;
                 frames.top.place = to;
-                Ok(None)
+                Ok(true)
             }
         }
         Value::Flag(false) => {
             frames.top.place += 1;
-            Ok(None)
+            Ok(true)
         }
         _ => unreachable!(),
     }
 }
 
 /// `send`.
-fn send(alloc: Global, frames: &mut Frames, method: u8, n: usize) -> Step
+#[inline(never)]
+fn send(
+    alloc: Global,
+    frames: &mut Frames,
+    method: u8,
+    n: usize,
+    asked: &mut Option<Ask>,
+) -> Step
     requires few { n ≤ 8 }
     requires fits { frames.old.top.place + 1 < 2 ^ 64 }
     requires sound { send_by method (machine_of frames.old) (pops n [] (machine_of frames.old).top.stack) ≢ Bad }
-    ensures { IfOk result (λ o. SteppedTo (send_by method (machine_of frames.old) (pops n [] (machine_of frames.old).top.stack)) o frames.new) }
+    ensures { IfOk result (λ goes_on. WentOn (send_by method (machine_of frames.old) (pops n [] (machine_of frames.old).top.stack)) goes_on asked.new frames.new) }
 {
     let arguments = take_all(alloc, &mut frames.top, n)?;
     match take(&mut frames.top) {
         Value::Ref(object) => {
             frames.top.place += 1;
             frames.awaited = Awaited::ForNothing;
-            Ok(Some(Ask::Send(object, method, arguments)))
+            *asked = Some(Ask::Send(object, method, arguments));
+            Ok(false)
         }
         _ => unreachable!(),
     }
 }
 
 /// `call`. The operands are looked at before the depth.
-fn call(alloc: Global, frames: &mut Frames, method: u8, n: usize) -> Step
+#[inline(never)]
+fn call(
+    alloc: Global,
+    frames: &mut Frames,
+    method: u8,
+    n: usize,
+    asked: &mut Option<Ask>,
+) -> Step
     requires few { n ≤ 8 }
     requires fits { frames.old.top.place + 1 < 2 ^ 64 }
     requires sound { call_by method (machine_of frames.old) (pops n [] (machine_of frames.old).top.stack) ≢ Bad }
-    ensures { IfOk result (λ o. SteppedTo (call_by method (machine_of frames.old) (pops n [] (machine_of frames.old).top.stack)) o frames.new) }
+    ensures { IfOk result (λ goes_on. WentOn (call_by method (machine_of frames.old) (pops n [] (machine_of frames.old).top.stack)) goes_on asked.new frames.new) }
 {
     let arguments = take_all(alloc, &mut frames.top, n)?;
     match take(&mut frames.top) {
         Value::Ref(object) => {
             if frames.top.room == 0 {
-                return Ok(Some(Ask::End(End::Traps(Trap::TooDeep))));
+                return ends_by(Trap::TooDeep, asked);
             }
             frames.top.place += 1;
             frames.awaited = Awaited::ForValue;
-            Ok(Some(Ask::Call(object, method, arguments)))
+            *asked = Some(Ask::Call(object, method, arguments));
+            Ok(false)
         }
         _ => unreachable!(),
     }
 }
 
 /// `new`. The arguments stay on the stack until the object is there.
-fn make(parts: &Parts, frames: &mut Frames, class: u16, n: u32) -> Step
+#[inline(never)]
+fn make(
+    parts: &Parts,
+    frames: &mut Frames,
+    class: u16,
+    n: u32,
+    asked: &mut Option<Ask>,
+) -> Step
     requires fits { frames.old.top.place + 1 < 2 ^ 64 }
     requires sound { if_deeper frames.old.top.room (machine_of frames.old) (makes_object class n (machine_of frames.old) (builder_of parts.now class)) ≢ Bad }
-    ensures { IfOk result (λ o. SteppedTo (if_deeper frames.old.top.room (machine_of frames.old) (makes_object class n (machine_of frames.old) (builder_of parts.now class))) o frames.new) }
+    ensures { IfOk result (λ goes_on. WentOn (if_deeper frames.old.top.room (machine_of frames.old) (makes_object class n (machine_of frames.old) (builder_of parts.now class))) goes_on asked.new frames.new) }
 {
     if frames.top.room == 0 {
-        return Ok(Some(Ask::End(End::Traps(Trap::TooDeep))));
+        return ends_by(Trap::TooDeep, asked);
     }
     let builder = match parts.classes.items()[class as usize].builder {
         None => None,
@@ -317,14 +366,21 @@ fn make(parts: &Parts, frames: &mut Frames, class: u16, n: u32) -> Step
     };
     frames.top.place += 1;
     frames.awaited = Awaited::ForObject(builder, n);
-    Ok(Some(Ask::Make(class)))
+    *asked = Some(Ask::Make(class));
+    Ok(false)
 }
 
 /// `init`: the builder of the base class begins.
-fn init(alloc: Global, parts: &Parts, frames: &mut Frames, class: u16) -> Step
+#[inline(never)]
+fn init(
+    alloc: Global,
+    parts: &Parts,
+    frames: &mut Frames,
+    class: u16,
+) -> Result<(), AllocError>
     requires fits { frames.old.top.place + 1 < 2 ^ 64 }
     requires sound { init_by (machine_of frames.old) (slice_get frames.old.top.slots.items 0) (builder_of parts.now class) ≢ Bad }
-    ensures { IfOk result (λ o. SteppedTo (init_by (machine_of frames.old) (slice_get frames.old.top.slots.items 0) (builder_of parts.now class)) o frames.new) }
+    ensures { OnOk result (init_by (machine_of frames.old) (slice_get frames.old.top.slots.items 0) (builder_of parts.now class) ≡ Goes (machine_of frames.new)) }
 {
     match frames.top.slots.get(0) {
         None => unreachable!(),
@@ -342,10 +398,16 @@ fn init(alloc: Global, parts: &Parts, frames: &mut Frames, class: u16) -> Step
 }
 
 /// A builder's block begins on `this` alone, above the block at work.
-fn enter(alloc: Global, frames: &mut Frames, block: usize, slots: usize, this: Value) -> Step
+fn enter(
+    alloc: Global,
+    frames: &mut Frames,
+    block: usize,
+    slots: usize,
+    this: Value,
+) -> Result<(), AllocError>
     requires fits { frames.old.top.place + 1 < 2 ^ 64 }
     requires sound { init_by (machine_of frames.old) (Some this) (Some (Some (block, slots))) ≢ Bad }
-    ensures { IfOk result (λ o. SteppedTo (init_by (machine_of frames.old) (Some this) (Some (Some (block, slots)))) o frames.new) }
+    ensures { OnOk result (init_by (machine_of frames.old) (Some this) (Some (Some (block, slots))) ≡ Goes (machine_of frames.new)) }
 {
     let mut values = Vec::with_capacity(alloc, slots)?;
     fill(&mut values, slots, this, &mut Vec::new(alloc), 0);
@@ -359,7 +421,7 @@ fn enter(alloc: Global, frames: &mut Frames, block: usize, slots: usize, this: V
     frames.top.place += 1;
     let old = mem::replace(&mut frames.top, fresh);
     frames.below.push(old)?;
-    Ok(None)
+    Ok(())
 }
 
 /// The instruction at the place of the top frame.
@@ -377,17 +439,35 @@ fn next<'a>(parts: &'a Parts, frames: &Frames) -> &'a Instruction
     &instructions[frames.top.place]
 }
 
-/// Runs to the next ask.
-fn run(alloc: Global, parts: &Parts, frames: &mut Frames) -> Result<Ask, AllocError>
+/// Runs to the next ask, which is put.
+fn run(
+    alloc: Global,
+    parts: &Parts,
+    frames: &mut Frames,
+    asked: &mut Option<Ask>,
+) -> Result<(), AllocError>
     requires valid { IsValid parts.now }
     requires sound { ComesToAsk parts.now (machine_of frames.old) }
-    ensures { IfOk result (λ ask. Advanced parts.now (machine_of frames.old) ask frames.new) }
+    ensures { OnOk result ((ask : Ask) × (asked.new ≡ Some ask) × Advanced parts.now (machine_of frames.old) ask frames.new) }
 {
     loop {
         let instruction = next(parts, frames);
-        if let Some(ask) = step(alloc, parts, frames, instruction)? {
-            return Ok(ask);
+        let goes_on = step(alloc, parts, frames, instruction, asked)?;
+        if !goes_on {
+            return Ok(());
         }
+    }
+}
+
+/// The ask that was put.
+#[inline(always)]
+fn put(asked: Option<Ask>) -> Ask
+    requires { asked ≢ None }
+    ensures { asked ≡ Some result }
+{
+    match asked {
+        Some(ask) => ask,
+        None => unreachable!(),
     }
 }
 
@@ -403,6 +483,7 @@ pub fn advance(
     requires sound { ComesToAsk code.now (machine_of frames.old) }
     ensures { IfOk result (λ ask. Advanced code.now (machine_of frames.old) ask frames.new) }
 {
-    let ask = run(alloc, code.parts(), frames)?;
-    Ok(ask)
+    let mut asked = None;
+    run(alloc, code.parts(), frames, &mut asked)?;
+    Ok(put(asked))
 }
