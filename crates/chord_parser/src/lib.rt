@@ -7,6 +7,7 @@
 mod classes;
 mod exprs;
 mod faults;
+pub mod laws;
 pub mod parser;
 mod plain;
 mod stmts;
