@@ -1,5 +1,5 @@
 -- At every list of tokens the reader comes to a verdict: before it takes a token or ends, only so many productions follow each other.
-use Rattle.std.proofs.Common.{◌≡◌, ℕ, zero, suc, ◌+◌, ◌<◌, ◌≤◌, ◌≢◌, Bool, true, false, ◌&&◌, cond, List, [], ◌∷◌, ◌++◌, length, get_or, refl, sym, ap, subst, ◌∙◌, arith, inl, inr}
+use Rattle.std.proofs.Common.{◌≡◌, ℕ, zero, suc, ◌+◌, ◌<◌, ◌≤◌, Bool, true, false, ◌&&◌, cond, List, [], ◌∷◌, ◌++◌, get_or, refl, sym, ap, subst, ◌∙◌, arith, inl, inr}
 use Rattle.std.specs.Prelude.{nat_lt}
 use Rattle.std.proofs.lemmas.Bool.{cases_lt, eqb-true, ltb-true}
 use Rattle.std.proofs.lemmas.Bool.Decides.{eqb_tells}
@@ -10,7 +10,7 @@ use Rattle.chord_tree.specs.Terminals.{terminal_of}
 use Rattle.chord_tree.specs.Derivation.{Want, next, head_of, parts_of, inside, at_depth}
 use Rattle.chord_tree.specs.OneAhead.{choice, empties}
 use Rattle.chord_tree.proofs.Ahead.{imp, imp_true, both_left, both_right, all_below, below, may_be_empty, part_empty, small, next_small, choice_fits}
-use Rattle.chord_parser.specs.Runs.{Verdict, Fine, Wrong, Tall, Runs, fine, extra, take, tall, other, expand, stuck}
+use Rattle.chord_parser.specs.Runs.{Verdict, Fine, Runs, fine, extra, take, tall, other, expand, stuck}
 use Rattle.chord_parser.specs.Samples.{sample}
 use Rattle.chord_parser.proofs.Finish.{listed, else_first, not_else_else_first, else_first_at_depth, rule_else_first}
 use Rattle.chord_parser.proofs.made.Ranks.{ranks}
@@ -36,9 +36,11 @@ abbrev all_empty : List Symbol → Bool
 all_empty [] = true
 all_empty (p ∷ ps) = part_empty p && all_empty ps
 
+-- the bound of a production's symbols is below that of its nonterminal, which may derive nothing if they may
 check_rank : ℕ → Bool
 check_rank i = nat_lt (ranks_under (parts_of i) 0) (rank (head_of i)) && imp (all_empty (parts_of i)) (may_be_empty (head_of i))
 
+-- the bounds are so for each production
 table_rank : all_below rule_count check_rank ≡ true
 unfolding check_rank rank ranks may_be_empty empties head_of parts_of productions rule_count
 table_rank = refl
@@ -56,10 +58,12 @@ ranks_at_depth d [] s = refl
 ranks_at_depth d (Terminal c ∷ ps) s = refl
 ranks_at_depth d (Nonterminal x ∷ ps) s = ap (λ z. rank x + cond (may_be_empty x) z 0) (ranks_at_depth d ps s)
 
+-- a sum under a test is the sum of both under the test
 cond_plus : (b : Bool) (r u v w : ℕ) → u ≡ v + w → r + cond b u 0 ≡ r + cond b v 0 + cond b w 0
 cond_plus true r u v w e = omega arith
 cond_plus false r u v w e = omega arith
 
+-- a test within a test is one of both
 cond_and : (a b : Bool) (w : ℕ) → cond a (cond b w 0) 0 ≡ cond (a && b) w 0
 cond_and true b w = refl
 cond_and false b w = refl
@@ -72,6 +76,7 @@ ranks_split (Nonterminal x ∷ ps) after =
     cond_plus (may_be_empty x) (rank x) (ranks_under ps after) (ranks_under ps 0) (cond (all_empty ps) after 0) (ranks_split ps after)
     ∙ ap (λ z. rank x + cond (may_be_empty x) (ranks_under ps 0) 0 + z) (cond_and (may_be_empty x) (all_empty ps) after)
 
+-- what counts under a test counts under a wider one
 cond_mono : (a b : Bool) (w : ℕ) → (a ≡ true → b ≡ true) → cond a w 0 ≤ cond b w 0
 cond_mono true true w f = omega arith
 cond_mono true false w f = let e = f refl in cc
@@ -134,6 +139,7 @@ else_after x d s i l t = else_first_at_depth (inside x d) (parts_of i) s (rule_e
 chosen_head : (x d : ℕ) (s : List Want) (ks : List Kind) → else_first ((Nonterminal x, d) ∷ s) ≡ true → choice x (next ks) < rule_count → head_of (choice x (next ks)) ≡ x
 chosen_head x d s ks t l = (choice_fits x (next ks) (ltb-true _ _ (both_left _ _ t)) (next_small ks) l).0
 
+-- a nonterminal comes to the verdict of its production
 expanded_by : (x d : ℕ) (s : List Want) (ks : List Kind) → choice x (next ks) < rule_count → Ended (at_depth (inside x d) (parts_of (choice x (next ks))) ++ s) ks → Ended ((Nonterminal x, d) ∷ s) ks
 expanded_by x d s ks l e = record { verdict = e.verdict; runs = expand l e.runs }
 

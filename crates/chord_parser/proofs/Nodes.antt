@@ -1,7 +1,6 @@
 -- What is derived from a symbol is what a node of it spells, whose numbers are the places of its tokens.
 use Rattle.std.proofs.Common.{◌≡◌, ℕ, ◌+◌, ◌<◌, true, List, [], ◌∷◌, ◌++◌, refl, sym, ap, subst, ◌∙◌, arith}
-use Rattle.chord_tree.specs.Symbol.{Symbol, Terminal, Nonterminal}
-use Rattle.chord_tree.specs.Symbols.{Whole_program}
+use Rattle.chord_tree.specs.Symbol.{Symbol, Nonterminal}
 use Rattle.chord_tree.specs.Grammar.{rule_count}
 use Rattle.chord_tree.specs.Derivation.{Spelled, Want, kinds_of, next, head_of, parts_of, inside, at_depth, allowed, Derives, done, token, rule}
 use Rattle.chord_tree.specs.Node.{Node, Nodes, End, ◌▸◌, Leaf, Made, spell, spell_all, Fits, FitAll, leaf, made, none, more, size, size_all, number_at, IsNumbered, AllNumbered, IsDerived}
@@ -31,6 +30,7 @@ gathered_more at d p ps s w n rest f m e g = record {
   after = subst (λ z. Fitted z s g.rest) (let h : at + size n + size_all g.nodes ≡ at + (size n + size_all g.nodes) = omega arith in h) g.after;
 }
 
+-- what is wanted at one depth, and then more, is spelled by nodes side by side and what follows them
 gathered : (at d : ℕ) (ps : List Symbol) (s : List Want) (w : List Spelled) → Fitted at (at_depth d ps ++ s) w → Gathered at d ps s w
 gathered at d [] s w f = record { nodes = End; rest = w; fit = none; numbered = tt; spelled = refl; after = subst (λ z. Fitted z s w) (let h : at ≡ at + 0 = omega arith in h) f }
 gathered at d (p ∷ ps) s w f = gathered_more at d p ps s w f.0 f.1 f.2 f.3 f.4 (gathered (at + size f.0) d ps s f.1 f.5)

@@ -1,5 +1,5 @@
 -- What `At` and `Tall` say, in the words of programs; and each list of kinds has a program, or one of the two.
-use Rattle.std.proofs.Common.{◌≡◌, ℕ, suc, ◌+◌, ◌-◌, ◌<◌, ◌≤◌, List, [], ◌∷◌, ◌++◌, length, take, drop, refl, sym, ap, subst, ◌∙◌, arith, append_assoc, append-nil, length-append, length-drop, ◌⊎◌, inl, inr}
+use Rattle.std.proofs.Common.{◌≡◌, ℕ, ◌+◌, ◌-◌, ◌<◌, List, [], ◌∷◌, ◌++◌, length, take, drop, refl, sym, ap, subst, ◌∙◌, arith, append_assoc, append-nil, length-append, length-drop, ◌⊎◌, inl, inr}
 use Rattle.std.proofs.lemmas.List.{take-append-drop, length-take-le}
 use Rattle.std.proofs.Math.Seq.{take-append_seam, take-append-add}
 use Rattle.chord_lexer.specs.declared.token.Kind.{Kind}
@@ -7,16 +7,14 @@ use Rattle.chord_tree.specs.Grammar.{nonterminal_count}
 use Rattle.chord_tree.specs.Derivation.{Spelled, kinds_of, NotTall, Derives, done}
 use Rattle.chord_tree.specs.Node.{spell}
 use Rattle.chord_tree.specs.ClassNodes.{node_program}
-use Rattle.chord_tree.specs.Program.{IsProgram, spelling}
-use Rattle.chord_tree.specs.Tree.{ProgramTree}
 use Rattle.chord_tree.proofs.OneTree.{derives, start_legal}
 use Rattle.chord_parser.specs.declared.parser.ParseFault.TheVariants as faults
 use Rattle.chord_parser.specs.Answers.{start, IsAnswer}
 use Rattle.chord_parser.specs.Exact.{BeginsThrough, IsWrong, IsTall}
-use Rattle.chord_parser.specs.Runs.{Verdict, Fine, Wrong, Tall, Runs}
-use Rattle.chord_parser.specs.Laws.{IsSpelledBySome, BeginSome, AreOfSome, KindsBeginSome, IsMisfit, IsTooDeep, AreFlat, DerivedWhereSpelled, AtIsMisfit, TallIsTooDeep, EachIsAnswered}
+use Rattle.chord_parser.specs.Runs.{Verdict, Fine, Wrong, Tall}
+use Rattle.chord_parser.specs.Laws.{IsSpelledBySome, AreOfSome, IsMisfit, IsTooDeep, AreFlat, DerivedWhereSpelled, AtIsMisfit, TallIsTooDeep, EachIsAnswered}
 use Rattle.chord_parser.proofs.Ends.{some_verdict}
-use Rattle.chord_parser.proofs.Outcomes.{Outcome, IsDerivedList, IsRefused, outcome, by_kinds}
+use Rattle.chord_parser.proofs.Outcomes.{Outcome, IsDerivedList, outcome, by_kinds}
 use Rattle.chord_parser.proofs.StandsClasses.{spelled_by_one}
 
 -- the grammar derives what a program spells
@@ -78,8 +76,7 @@ misfit ks k (left, h, o) =
 misfit_answers : (ks : List Kind) (k : ℕ) → IsMisfit ks k → IsAnswer ks (faults.At k)
 misfit_answers ks k o =
     let cut : ks ≡ kinds_of o.front ++ drop k ks = sym (ap (λ z. z ++ drop k ks) o.first ∙ take-append-drop k ks) in
-    let l : length (kinds_of o.front) ≡ k = ap length o.first ∙ length-take-le k ks o.within in
-    (
+    let l : length (kinds_of o.front) ≡ k = ap length o.first ∙ length-take-le k ks o.within in (
       length ks - k,
       (let m = o.within in omega arith),
       record {
@@ -120,8 +117,7 @@ too_deep ks k (left, h, o) =
 too_deep_answers : (ks : List Kind) (k : ℕ) → IsTooDeep ks k → IsAnswer ks (faults.Tall k)
 too_deep_answers ks k o =
     let m = o.within in
-    let c = length-drop (k + 1) ks in
-    (
+    let c = length-drop (k + 1) ks in (
       length ks - k,
       omega arith,
       record {

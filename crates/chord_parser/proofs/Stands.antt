@@ -17,7 +17,7 @@ use Rattle.chord_tree.specs.Grammar.{productions, rule_count}
 use Rattle.chord_tree.specs.Terminals.{terminal_of, keyword_symbol, mark_symbol}
 use Rattle.chord_tree.specs.Derivation.{Spelled, includes, head_of, parts_of}
 use Rattle.chord_tree.specs.Node.{Node, Nodes, End, ◌▸◌, Leaf, Made, Fits, FitAll, leaf, made, none, more, size, unnumbered, number_at, IsNumbered, AllNumbered}
-use Rattle.chord_tree.specs.Tree.{ExprTree, LinkTrees, NoLinks, MoreLinks, StartTree, DotTrees, StmtTree, ActualsTree, MemberTree, ItemTree, StmtItem}
+use Rattle.chord_tree.specs.Tree.{ExprTree, LinkTrees, NoLinks, MoreLinks, StartTree, DotTrees, StmtTree, MemberTree, ItemTree, StmtItem}
 use Rattle.chord_tree.specs.ExprNodes.{keyword_leaf, name, link_level, precedence, node_at, node_expr, node_links, node_start, node_actuals, node_exprs, node_more, node_dots, node_dot}
 use Rattle.chord_tree.specs.StmtNodes.{semicolon, node_stmt, node_item, node_items, node_block}
 use Rattle.chord_tree.specs.ClassNodes.{node_modifier, node_modifiers, node_type, node_formal, node_more_formals, node_formal_list, node_formals, node_plain, node_result, node_header, node_headers, node_member, node_members, node_public, node_base, node_class, node_classes, node_name_parts, node_using, node_usings, node_program}
@@ -44,11 +44,13 @@ IsTokenBy false false c n = (at : ℕ) × (n ≡ Leaf (sample c) at)
 abbrev pub IsToken : ℕ → Node → Type 0
 IsToken c n = IsTokenBy (includes valued c) (includes unnumbered c) c n
 
-plain_word : (w : Keyword) → includes valued (number_of (keyword_symbol w)) ≡ false
+-- a keyword carries no value
+pub plain_word : (w : Keyword) → includes valued (number_of (keyword_symbol w)) ≡ false
 plain_word keywords.Using = refl
 plain_word _ = refl
 
-plain_mark : (m : Mark) → includes valued (number_of (mark_symbol m)) ≡ false
+-- a mark carries no value
+pub plain_mark : (m : Mark) → includes valued (number_of (mark_symbol m)) ≡ false
 plain_mark marks.Semicolon = refl
 plain_mark _ = refl
 

@@ -1,13 +1,12 @@
 -- What each production of calls and expressions gives.
-use Rattle.std.proofs.Common.{◌≡◌, ℕ, suc, ◌-◌, ◌<◌, ◌≤◌, cond, [], ◌∷◌, drop, refl, sym, ap, ◌∙◌, arith, inl, inr}
+use Rattle.std.proofs.Common.{◌≡◌, ℕ, suc, ◌-◌, ◌≤◌, cond, [], ◌∷◌, drop, refl, sym, ap, ◌∙◌, arith, inl, inr}
 use Rattle.std.proofs.lemmas.Bool.{lt-ltb}
-use Rattle.chord_lexer.specs.declared.token.Kind.TheVariants as kinds
 use Rattle.chord_tree.specs.declared.exprs.Operator.{Operator}
 use Rattle.chord_tree.specs.declared.exprs.Operator.TheVariants as operators
 use Rattle.chord_tree.specs.Symbols as grammar
 use Rattle.chord_tree.specs.Grammar.{productions}
 use Rattle.chord_tree.specs.Node.{Node, End, ◌▸◌, Made}
-use Rattle.chord_tree.specs.Tree.{ExprTree, LinkTrees, ChainExpr, MinusExpr, NotExpr, PrimaryExpr, NoLinks, MoreLinks, MakeLink, VariableStart, CallStart, ThisStart, NewStart, NumberStart, LiteralStart, TrueStart, FalseStart, GroupStart, MakeActuals, NoExprs, MoreExprs, NoDots, MoreDots, MakeDot}
+use Rattle.chord_tree.specs.Tree.{ChainExpr, MinusExpr, NotExpr, PrimaryExpr, NoLinks, MoreLinks, MakeLink, VariableStart, CallStart, ThisStart, NewStart, NumberStart, LiteralStart, TrueStart, FalseStart, GroupStart, MakeActuals, NoExprs, MoreExprs, NoDots, MoreDots, MakeDot}
 use Rattle.chord_tree.specs.ExprNodes.{mark_leaf, mark_of, operator_level, level_symbol, level_tail, precedence, alone, lifted, bare, node_at, node_links}
 use Rattle.chord_parser.proofs.Chains.{joined_node}
 use Rattle.chord_parser.proofs.Stands.{IsLevel, IsTail, Gives, AllGive, nothing, ◌&◌, last, ◌⊳◌}

@@ -1,13 +1,13 @@
 -- What each production of blocks and statements gives.
-use Rattle.std.proofs.Common.{◌≡◌, [], ◌∷◌, drop, refl, sym, ◌∙◌, inl, inr}
+use Rattle.std.proofs.Common.{◌≡◌, [], ◌∷◌, drop, refl, sym, inl, inr}
 use Rattle.chord_tree.specs.declared.names.BasicType.TheVariants as basics
 use Rattle.chord_tree.specs.declared.names.ValueType.TheVariants as types
 use Rattle.chord_tree.specs.Symbols as grammar
 use Rattle.chord_tree.specs.Grammar.{productions}
-use Rattle.chord_tree.specs.Node.{Node, End, ◌▸◌, Made}
+use Rattle.chord_tree.specs.Node.{End, ◌▸◌, Made}
 use Rattle.chord_tree.specs.StmtNodes.{node_item, node_items}
 use Rattle.chord_tree.specs.Tree.{AssignStmt, CallStmt, MethodCallStmt, ThisCallStmt, NewStmt, BlockStmt, EmptyStmt, IfStmt, IfElseStmt, WhileStmt, ReturnStmt, ReturnValueStmt, MakeBlock, ItemTree, ItemTrees, NoItems, MoreItems, LocalItem, StmtItem}
-use Rattle.chord_parser.proofs.Stands.{Gives, AllGive, nothing, ◌&◌, last, ◌⊳◌}
+use Rattle.chord_parser.proofs.Stands.{Gives, AllGive, nothing, ◌&◌, ◌⊳◌}
 use Rattle.chord_parser.proofs.StandsExprs.{exprs_give}
 
 -- items in braces
