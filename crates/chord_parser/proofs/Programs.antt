@@ -12,10 +12,12 @@ use Rattle.chord_parser.specs.declared.parser.ParseFault.TheVariants as faults
 use Rattle.chord_parser.specs.Answers.{start, IsAnswer}
 use Rattle.chord_parser.specs.Exact.{BeginsThrough, IsWrong, IsTall}
 use Rattle.chord_parser.specs.Runs.{Verdict, Fine, Wrong, Tall}
-use Rattle.chord_parser.specs.Laws.{IsSpelledBySome, AreOfSome, IsMisfit, IsTooDeep, AreFlat, DerivedWhereSpelled, AtIsMisfit, TallIsTooDeep, EachIsAnswered}
+use Rattle.chord_parser.specs.Laws.{IsSpelledBySome, AreOfSome, IsWrongAt, IsTallAt, AreOfNotTall, DerivedWhereSpelled, AtMeansWrong, TallMeansTall, EachIsAnswered, HasOneAnswer, NotTallHasNone}
 use Rattle.chord_parser.proofs.Ends.{some_verdict}
 use Rattle.chord_parser.proofs.Outcomes.{Outcome, IsDerivedList, outcome, by_kinds}
+use Rattle.chord_parser.proofs.OneVerdict.{at_only, tall_only}
 use Rattle.chord_parser.proofs.StandsClasses.{spelled_by_one}
+use Rattle.chord_parser.proofs.Whole.{only_memory}
 
 -- the grammar derives what a program spells
 spelled_derived : (w : List Spelled) → IsSpelledBySome w → Derives start w
@@ -58,9 +60,9 @@ through_cases ks fs (k ∷ suffix) u n e l (rest, b) =
 front_length : (ks fs suffix : List Kind) (k left : ℕ) → ks ≡ fs ++ suffix → length suffix ≡ left → k + left ≡ length ks → length fs ≡ k
 front_length ks fs suffix k left e c h = let a = ap length e ∙ length-append fs suffix in omega (arith, a, c, h)
 
--- a refusal at a token says that it fits no program
-misfit : (ks : List Kind) (k : ℕ) → IsAnswer ks (faults.At k) → IsMisfit ks k
-misfit ks k (left, h, o) =
+-- a refusal at a token says that it is wrong
+wrong_at : (ks : List Kind) (k : ℕ) → IsAnswer ks (faults.At k) → IsWrongAt ks k
+wrong_at ks k (left, h, o) =
     let l = front_length ks (kinds_of o.prefix) o.suffix k left o.cut o.count h in
     record {
       within = omega (arith, h);
@@ -72,9 +74,9 @@ misfit ks k (left, h, o) =
       not_whole = λ m s. let w = from_some ks s in o.refuses w.0 (subst (λ z. BeginsThrough z (kinds_of o.prefix) o.suffix) (sym w.2) (whole_through ks (kinds_of o.prefix) o.suffix k o.cut l m)) w.1;
     }
 
--- a token that fits no program is one at which a refusal comes
-misfit_answers : (ks : List Kind) (k : ℕ) → IsMisfit ks k → IsAnswer ks (faults.At k)
-misfit_answers ks k o =
+-- a token that is wrong is one at which a refusal comes
+wrong_at_answers : (ks : List Kind) (k : ℕ) → IsWrongAt ks k → IsAnswer ks (faults.At k)
+wrong_at_answers ks k o =
     let cut : ks ≡ kinds_of o.front ++ drop k ks = sym (ap (λ z. z ++ drop k ks) o.first ∙ take-append-drop k ks) in
     let l : length (kinds_of o.front) ≡ k = ap length o.first ∙ length-take-le k ks o.within in (
       length ks - k,
@@ -94,13 +96,13 @@ misfit_answers ks k o =
       },
     )
 
--- `At` answers exactly where a token fits no program
-pub at_is_misfit : AtIsMisfit
-at_is_misfit ks k = (misfit ks k, misfit_answers ks k)
+-- `At` is the answer exactly where a token is wrong
+pub at_means_wrong : AtMeansWrong
+at_means_wrong ks k = (wrong_at ks k, wrong_at_answers ks k)
 
--- a tall token is too deep, and none before it
-too_deep : (ks : List Kind) (k : ℕ) → IsAnswer ks (faults.Tall k) → IsTooDeep ks k
-too_deep ks k (left, h, o) =
+-- the answer of a tall token says that it is tall, and none before it
+tall_at : (ks : List Kind) (k : ℕ) → IsAnswer ks (faults.Tall k) → IsTallAt ks k
+tall_at ks k (left, h, o) =
     let l = front_length ks (kinds_of o.prefix) (o.kind ∷ o.suffix) k left o.cut o.count h in
     record {
       within = (let c = o.count in omega (arith, h));
@@ -113,9 +115,9 @@ too_deep ks k (left, h, o) =
       tall = o.tall;
     }
 
--- the first token that is too deep is the one at which the answer comes
-too_deep_answers : (ks : List Kind) (k : ℕ) → IsTooDeep ks k → IsAnswer ks (faults.Tall k)
-too_deep_answers ks k o =
+-- the first token that is tall is the one at which the answer comes
+tall_at_answers : (ks : List Kind) (k : ℕ) → IsTallAt ks k → IsAnswer ks (faults.Tall k)
+tall_at_answers ks k o =
     let m = o.within in
     let c = length-drop (k + 1) ks in (
       length ks - k,
@@ -134,13 +136,13 @@ too_deep_answers ks k o =
       },
     )
 
--- `Tall` answers exactly where a token is too deep
-pub tall_is_too_deep : TallIsTooDeep
-tall_is_too_deep ks k = (too_deep ks k, too_deep_answers ks k)
+-- `Tall` is the answer exactly where a token is the first that is tall
+pub tall_means_tall : TallMeansTall
+tall_means_tall ks k = (tall_at ks k, tall_at_answers ks k)
 
 -- what is derived without a tall token is spelled by a program without one
-derived_flat : (ks : List Kind) → IsDerivedList start ks → AreFlat ks
-derived_flat ks o =
+derived_not_tall : (ks : List Kind) → IsDerivedList start ks → AreOfNotTall ks
+derived_not_tall ks o =
     let s = spelled_by_one o.text o.derived in
     (s.0, s.1, subst NotTall (sym s.2) o.not_tall, ap kinds_of s.2 ∙ o.same)
 
@@ -153,12 +155,22 @@ tall_answer : (ks : List Kind) (n : ℕ) → IsTall start ks n → IsAnswer ks (
 tall_answer ks n o = (n, (let a = ap length o.cut ∙ length-append (kinds_of o.prefix) (o.kind ∷ o.suffix) in let c = o.count in omega arith), o)
 
 -- whatever the verdict is, it is one of the three
-by_outcome : (ks : List Kind) (v : Verdict) → Outcome start ks v → AreFlat ks ⊎ ((k : ℕ) × IsAnswer ks (faults.At k)) ⊎ ((k : ℕ) × IsAnswer ks (faults.Tall k))
-by_outcome ks Fine o = inl (derived_flat ks o)
+by_outcome : (ks : List Kind) (v : Verdict) → Outcome start ks v → AreOfNotTall ks ⊎ ((k : ℕ) × IsAnswer ks (faults.At k)) ⊎ ((k : ℕ) × IsAnswer ks (faults.Tall k))
+by_outcome ks Fine o = inl (derived_not_tall ks o)
 by_outcome ks (Wrong n) o = inr (inl (_, at_answer ks n (by_kinds start ks n o)))
 by_outcome ks (Tall n) o = inr (inr (_, tall_answer ks n o))
 
--- Kinds are those of a program without a token that is too deep, or one of them fits no program, or one is too deep.
+-- Kinds are those of a program without a tall token, or have a first token that is wrong, or a first that is tall.
 pub each_is_answered : EachIsAnswered
 unfolding nonterminal_count
 each_is_answered ks = let v = some_verdict ks start refl in by_outcome ks v.0 (outcome v.1 refl start_legal)
+
+-- kinds have at most one answer that is no lack of memory
+pub has_one_answer : HasOneAnswer
+has_one_answer ks f faults.Memory m n a b = absurd (n refl)
+has_one_answer ks f (faults.At k) m n a b = elim (at_only ks f a k b) [ inl e ↦ absurd (m e) | inr e ↦ e ]
+has_one_answer ks f (faults.Tall k) m n a b = elim (tall_only ks f a k b) [ inl e ↦ absurd (m e) | inr e ↦ e ]
+
+-- those of a program without a tall token have none
+pub not_tall_has_none : NotTallHasNone
+not_tall_has_none ks f m s a = m (only_memory ks f a s.0 s.1 s.2 s.3)

@@ -1,11 +1,12 @@
 -- What holds of each list of kinds of tokens: which lists are those of programs, and what is said of every other.
-use Rattle.std.specs.Prelude.{◌≡◌, ℕ, ◌+◌, ◌<◌, ◌≤◌, ◌↔◌, ◌⊎◌, List, [], ◌∷◌, ◌++◌, length, take}
+use Rattle.std.specs.Prelude.{◌≡◌, ℕ, ◌+◌, ◌<◌, ◌≤◌, ◌≢◌, ◌↔◌, ◌⊎◌, List, [], ◌∷◌, ◌++◌, length, take}
 use Rattle.chord_lexer.specs.declared.token.Kind.{Kind}
 use Rattle.chord_tree.specs.Derivation.{Spelled, kinds_of, NotTall, Derives}
 use Rattle.chord_tree.specs.Node.{spell}
 use Rattle.chord_tree.specs.ClassNodes.{node_program}
 use Rattle.chord_tree.specs.Program.{IsProgram, spelling}
 use Rattle.chord_tree.specs.Tree.{ProgramTree}
+use Rattle.chord_parser.specs.declared.parser.ParseFault.{ParseFault}
 use Rattle.chord_parser.specs.declared.parser.ParseFault.TheVariants as faults
 use Rattle.chord_parser.specs.Answers.{start, IsAnswer, IsNotTall}
 
@@ -29,8 +30,8 @@ AreOfSome ks = (program : ProgramTree) × IsProgram program × (spelling program
 abbrev pub KindsBeginSome : List Kind → Type 0
 KindsBeginSome front = (rest : List Kind) × AreOfSome (front ++ rest)
 
--- Token k fits no program: some program's tokens begin with the first k, which are not too deep, and none's with token k too; or there are k tokens, and no program's.
-pub record IsMisfit (ks : List Kind) (k : ℕ) : Type 0 where
+-- Token k is wrong: some program's tokens begin with the first k, none of which is tall, and none's with token k too; or there are k tokens in all, and no program's.
+pub record IsWrongAt (ks : List Kind) (k : ℕ) : Type 0 where
   pub within : k ≤ length ks
   pub front : List Spelled
   pub first : kinds_of front ≡ take k ks
@@ -39,8 +40,8 @@ pub record IsMisfit (ks : List Kind) (k : ℕ) : Type 0 where
   pub no_further : k < length ks → KindsBeginSome (take (k + 1) ks) → ⊥
   pub not_whole : k ≡ length ks → AreOfSome ks → ⊥
 
--- Token k is too deep, and none before it: some program's tokens begin with those up to k.
-pub record IsTooDeep (ks : List Kind) (k : ℕ) : Type 0 where
+-- Token k is tall, deeper than 200, and none before it is: some program's tokens begin with those up to k.
+pub record IsTallAt (ks : List Kind) (k : ℕ) : Type 0 where
   pub within : k < length ks
   pub front : List Spelled
   pub kind : Kind
@@ -50,18 +51,26 @@ pub record IsTooDeep (ks : List Kind) (k : ℕ) : Type 0 where
   pub not_tall : NotTall front
   pub tall : 200 < depth
 
--- `At(k)` answers exactly where token k fits no program
-abbrev pub AtIsMisfit : Type 0
-AtIsMisfit = (ks : List Kind) (k : ℕ) → IsAnswer ks (faults.At k) ↔ IsMisfit ks k
+-- `At(k)` is the answer exactly where token k is wrong
+abbrev pub AtMeansWrong : Type 0
+AtMeansWrong = (ks : List Kind) (k : ℕ) → IsAnswer ks (faults.At k) ↔ IsWrongAt ks k
 
--- `Tall(k)` answers exactly where token k is too deep
-abbrev pub TallIsTooDeep : Type 0
-TallIsTooDeep = (ks : List Kind) (k : ℕ) → IsAnswer ks (faults.Tall k) ↔ IsTooDeep ks k
+-- `Tall(k)` is the answer exactly where token k is the first that is tall
+abbrev pub TallMeansTall : Type 0
+TallMeansTall = (ks : List Kind) (k : ℕ) → IsAnswer ks (faults.Tall k) ↔ IsTallAt ks k
 
--- the kinds are those of a program without a token that is too deep
-abbrev pub AreFlat : List Kind → Type 0
-AreFlat ks = (program : ProgramTree) × IsProgram program × IsNotTall program × (spelling program ≡ ks)
+-- the kinds are those of a program without a tall token
+abbrev pub AreOfNotTall : List Kind → Type 0
+AreOfNotTall ks = (program : ProgramTree) × IsProgram program × IsNotTall program × (spelling program ≡ ks)
 
--- kinds are those of a program without a token that is too deep, or one of them fits no program, or one is too deep
+-- kinds are those of a program without a tall token, or have a first token that is wrong, or a first that is tall
 abbrev pub EachIsAnswered : Type 0
-EachIsAnswered = (ks : List Kind) → AreFlat ks ⊎ ((k : ℕ) × IsAnswer ks (faults.At k)) ⊎ ((k : ℕ) × IsAnswer ks (faults.Tall k))
+EachIsAnswered = (ks : List Kind) → AreOfNotTall ks ⊎ ((k : ℕ) × IsAnswer ks (faults.At k)) ⊎ ((k : ℕ) × IsAnswer ks (faults.Tall k))
+
+-- kinds have at most one such answer
+abbrev pub HasOneAnswer : Type 0
+HasOneAnswer = (ks : List Kind) (f g : ParseFault) → f ≢ faults.Memory → g ≢ faults.Memory → IsAnswer ks f → IsAnswer ks g → f ≡ g
+
+-- those of a program without a tall token have none
+abbrev pub NotTallHasNone : Type 0
+NotTallHasNone = (ks : List Kind) (f : ParseFault) → f ≢ faults.Memory → AreOfNotTall ks → IsAnswer ks f → ⊥

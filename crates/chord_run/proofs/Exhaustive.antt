@@ -5,7 +5,7 @@ use Rattle.chord_lexer.proofs.Fronts.{read_or_refused}
 use Rattle.chord_lexer.specs.Reading.{IsRead}
 use Rattle.chord_lexer.specs.declared.token.Token.{Token}
 use Rattle.chord_parser.proofs.Programs.{each_is_answered}
-use Rattle.chord_parser.specs.Laws.{AreFlat}
+use Rattle.chord_parser.specs.Laws.{AreOfNotTall}
 use Rattle.chord_tree.specs.Program.{token_kinds}
 use Rattle.chord_run.specs.Laws.{IsAcceptedOrHasCause}
 use Rattle.chord_run.specs.Refusals.{IsCause}
@@ -25,14 +25,14 @@ grammatical_settled source tokens g = elim (small_or_not (token_kinds tokens)) [
   | inr n ↦ inr (Unbuilt, record { tokens = tokens; grammatical = g; other = λ lines s. n (lines, s) })
 ]
 
--- a source of not too many bytes whose tokens are of a program without a token that is too deep
-flat_settled : (source : List ℕ) (tokens : List Token) → IsShort source → IsRead source tokens → AreFlat (token_kinds tokens) → IsSettled source
-flat_settled source tokens short read f = grammatical_settled source tokens (record { short = short; read = read; program = f.0; is_program = f.1; not_tall = f.2; spelled = f.3 })
+-- a source of not too many bytes whose tokens are of a program without a tall token
+not_tall_settled : (source : List ℕ) (tokens : List Token) → IsShort source → IsRead source tokens → AreOfNotTall (token_kinds tokens) → IsSettled source
+not_tall_settled source tokens short read f = grammatical_settled source tokens (record { short = short; read = read; program = f.0; is_program = f.1; not_tall = f.2; spelled = f.3 })
 
 -- a source of not too many bytes that reads as tokens
 read_settled : (source : List ℕ) (tokens : List Token) → IsShort source → IsRead source tokens → IsSettled source
 read_settled source tokens short read = elim (each_is_answered (token_kinds tokens)) [
-  | inl f ↦ flat_settled source tokens short read f
+  | inl f ↦ not_tall_settled source tokens short read f
   | inr (inl a) ↦ inr (Syntax a.0, record { short = short; tokens = tokens; read = read; answer = a.1 })
   | inr (inr a) ↦ inr (Tall a.0, record { short = short; tokens = tokens; read = read; answer = a.1 })
 ]
