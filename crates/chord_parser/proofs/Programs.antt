@@ -12,7 +12,7 @@ use Rattle.chord_parser.specs.declared.parser.ParseFault.TheVariants as faults
 use Rattle.chord_parser.specs.Answers.{start, IsAnswer}
 use Rattle.chord_parser.specs.Exact.{BeginsThrough, IsWrong, IsTall}
 use Rattle.chord_parser.specs.Runs.{Verdict, Fine, Wrong, Tall}
-use Rattle.chord_parser.specs.Laws.{IsSpelledBySome, AreOfSome, IsWrongAt, IsTallAt, AreOfNotTall, DerivedWhereSpelled, AtMeansWrong, TallMeansTall, EachIsAnswered, HasOneAnswer, NotTallHasNone}
+use Rattle.chord_parser.specs.Laws.{IsSpelledBySome, AreOfSome, IsFirstWrong, IsFirstTall, AreOfNotTall, DerivedWhereSpelled, AtMeansWrong, TallMeansTall, EachIsAnswered, HasOneAnswer, NotTallHasNone}
 use Rattle.chord_parser.proofs.Ends.{some_verdict}
 use Rattle.chord_parser.proofs.Outcomes.{Outcome, IsDerivedList, outcome, by_kinds}
 use Rattle.chord_parser.proofs.OneVerdict.{at_only, tall_only}
@@ -61,7 +61,7 @@ front_length : (ks fs suffix : List Kind) (k left : ℕ) → ks ≡ fs ++ suffix
 front_length ks fs suffix k left e c h = let a = ap length e ∙ length-append fs suffix in omega (arith, a, c, h)
 
 -- a refusal at a token says that it is wrong
-wrong_at : (ks : List Kind) (k : ℕ) → IsAnswer ks (faults.At k) → IsWrongAt ks k
+wrong_at : (ks : List Kind) (k : ℕ) → IsAnswer ks (faults.At k) → IsFirstWrong ks k
 wrong_at ks k (left, h, o) =
     let l = front_length ks (kinds_of o.prefix) o.suffix k left o.cut o.count h in
     record {
@@ -75,7 +75,7 @@ wrong_at ks k (left, h, o) =
     }
 
 -- a token that is wrong is one at which a refusal comes
-wrong_at_answers : (ks : List Kind) (k : ℕ) → IsWrongAt ks k → IsAnswer ks (faults.At k)
+wrong_at_answers : (ks : List Kind) (k : ℕ) → IsFirstWrong ks k → IsAnswer ks (faults.At k)
 wrong_at_answers ks k o =
     let cut : ks ≡ kinds_of o.front ++ drop k ks = sym (ap (λ z. z ++ drop k ks) o.first ∙ take-append-drop k ks) in
     let l : length (kinds_of o.front) ≡ k = ap length o.first ∙ length-take-le k ks o.within in (
@@ -101,7 +101,7 @@ pub at_means_wrong : AtMeansWrong
 at_means_wrong ks k = (wrong_at ks k, wrong_at_answers ks k)
 
 -- the answer of a tall token says that it is tall, and none before it
-tall_at : (ks : List Kind) (k : ℕ) → IsAnswer ks (faults.Tall k) → IsTallAt ks k
+tall_at : (ks : List Kind) (k : ℕ) → IsAnswer ks (faults.Tall k) → IsFirstTall ks k
 tall_at ks k (left, h, o) =
     let l = front_length ks (kinds_of o.prefix) (o.kind ∷ o.suffix) k left o.cut o.count h in
     record {
@@ -116,7 +116,7 @@ tall_at ks k (left, h, o) =
     }
 
 -- the first token that is tall is the one at which the answer comes
-tall_at_answers : (ks : List Kind) (k : ℕ) → IsTallAt ks k → IsAnswer ks (faults.Tall k)
+tall_at_answers : (ks : List Kind) (k : ℕ) → IsFirstTall ks k → IsAnswer ks (faults.Tall k)
 tall_at_answers ks k o =
     let m = o.within in
     let c = length-drop (k + 1) ks in (

@@ -31,7 +31,7 @@ abbrev pub KindsBeginSome : List Kind → Type 0
 KindsBeginSome front = (rest : List Kind) × AreOfSome (front ++ rest)
 
 -- Token k is wrong: some program's tokens begin with the first k, none of which is tall, and none's with token k too; or there are k tokens in all, and no program's.
-pub record IsWrongAt (ks : List Kind) (k : ℕ) : Type 0 where
+pub record IsFirstWrong (ks : List Kind) (k : ℕ) : Type 0 where
   pub within : k ≤ length ks
   pub front : List Spelled
   pub first : kinds_of front ≡ take k ks
@@ -41,7 +41,7 @@ pub record IsWrongAt (ks : List Kind) (k : ℕ) : Type 0 where
   pub not_whole : k ≡ length ks → AreOfSome ks → ⊥
 
 -- Token k is tall, deeper than 200, and none before it is: some program's tokens begin with those up to k.
-pub record IsTallAt (ks : List Kind) (k : ℕ) : Type 0 where
+pub record IsFirstTall (ks : List Kind) (k : ℕ) : Type 0 where
   pub within : k < length ks
   pub front : List Spelled
   pub kind : Kind
@@ -53,11 +53,11 @@ pub record IsTallAt (ks : List Kind) (k : ℕ) : Type 0 where
 
 -- `At(k)` is the answer exactly where token k is wrong
 abbrev pub AtMeansWrong : Type 0
-AtMeansWrong = (ks : List Kind) (k : ℕ) → IsAnswer ks (faults.At k) ↔ IsWrongAt ks k
+AtMeansWrong = (ks : List Kind) (k : ℕ) → IsAnswer ks (faults.At k) ↔ IsFirstWrong ks k
 
 -- `Tall(k)` is the answer exactly where token k is the first that is tall
 abbrev pub TallMeansTall : Type 0
-TallMeansTall = (ks : List Kind) (k : ℕ) → IsAnswer ks (faults.Tall k) ↔ IsTallAt ks k
+TallMeansTall = (ks : List Kind) (k : ℕ) → IsAnswer ks (faults.Tall k) ↔ IsFirstTall ks k
 
 -- the kinds are those of a program without a tall token
 abbrev pub AreOfNotTall : List Kind → Type 0
