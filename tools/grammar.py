@@ -72,6 +72,7 @@ class Grammar:
         self.follow_sets()
         self.choices()
         self.shortest()
+        self.ranks()
 
     def is_class(self, part):
         return part in self.number
@@ -151,6 +152,27 @@ class Grammar:
                 if head not in self.weight and all(self.is_class(p) or p in self.weight for p in side):
                     self.weight[head] = 1 + sum(1 if self.is_class(p) else self.weight[p] for p in side)
                     self.finish[head] = i
+
+    def ranks(self):
+        """A bound on the productions of each symbol that follow each other before it takes a token or ends. There is one, since no symbol begins with itself."""
+        self.rank = {}
+
+        def rank(head):
+            if head not in self.rank:
+                self.rank[head] = 1 + max(opening(side) for _, side in self.sides(head))
+            return self.rank[head]
+
+        def opening(side):
+            total = 0
+            for part in side:
+                if self.is_class(part):
+                    return total
+                total += rank(part)
+                if not self.empty[part]:
+                    return total
+            return total
+        for head in self.heads:
+            rank(head)
 
     def sides(self, head):
         """The right sides of a symbol, each with its number."""
@@ -285,6 +307,13 @@ def steps(g, meaning, heads):
     return o + [""] + body
 
 
+def ranks(g):
+    """How many productions of each symbol follow each other at one token."""
+    return [f"-- How many productions of each nonterminal follow each other at most before it takes a token or ends. {MADE}",
+            "use Rattle.std.specs.Prelude.{ℕ, List, [], ◌∷◌}", "",
+            "unfoldable pub ranks : List ℕ", "ranks = " + listed(g.rank[h] for h in g.heads)]
+
+
 def samples(g):
     """A kind of token of each class."""
     words = {name: name.capitalize() for name in "USING CLASS PUBLIC PRIVATE PROTECTED VIRTUAL OVERRIDE STATIC ASYNC VOID INT BOOL STRING IF WHILE RETURN THIS NEW ELSE TRUE FALSE DO UNUSED".split()}
@@ -326,6 +355,7 @@ def main():
     write(root, "crates/chord_parser/specs/Samples.antt", samples(g))
     for name, (meaning, heads) in STEPS.items():
         write(root, f"crates/chord_parser/proofs/made/{name}.antt", steps(g, meaning, heads.split()))
+    write(root, "crates/chord_parser/proofs/made/Ranks.antt", ranks(g))
     write(root, "crates/chord_parser/src/terminal.rt", classes(g))
 
 

@@ -11,3 +11,10 @@ pub mod StmtLists
 pub mod ClassLists
 pub mod Whole
 pub mod OneVerdict
+pub mod Ends
+pub mod Nodes
+pub mod Stands
+pub mod StandsExprs
+pub mod StandsStmts
+pub mod StandsClasses
+pub mod Programs

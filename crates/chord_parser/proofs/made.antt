@@ -4,3 +4,5 @@ pub mod MemberSteps
 pub mod StmtSteps
 pub mod ChainSteps
 pub mod ExprSteps
+-- how many productions follow each other at one token
+pub mod Ranks

@@ -4,6 +4,8 @@
 pub mod Exact
 -- what `parse` answers
 pub mod Answers
+-- what holds of each list of kinds
+pub mod Laws
 -- ## What only the code's own contracts use
 
 -- a reader of tokens that looks one token ahead, and what it reads

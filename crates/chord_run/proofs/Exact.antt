@@ -54,7 +54,7 @@ chosen_names buffer get put parameter program variable = record {
 }
 
 -- the chosen names are known by the kinds
-one_chosen : (kinds : List Kind) (n m : Chosen) → StandInHead n kinds → StandInHead m kinds → n ≡ m
+pub one_chosen : (kinds : List Kind) (n m : Chosen) → StandInHead n kinds → StandInHead m kinds → n ≡ m
 one_chosen kinds n m a b =
     let buffer : n.buffer ≡ m.buffer = (let x = a.buffer in let y = b.buffer in cc) in
     let get : n.get ≡ m.get = (let x = a.get in let y = b.get in cc) in

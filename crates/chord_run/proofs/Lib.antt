@@ -10,3 +10,5 @@ pub mod Breaks
 pub mod Prefixes
 pub mod Calls
 pub mod LineByLine
+pub mod SmallOrNot
+pub mod Exhaustive

@@ -1,5 +1,5 @@
 -- What holds of each source: it is accepted and has one machine, or it has one cause of a refusal with one line.
-use Rattle.std.specs.Prelude.{◌≡◌, ℕ, List}
+use Rattle.std.specs.Prelude.{◌≡◌, ℕ, ◌⊎◌, List}
 use Rattle.chord_base.specs.Meaning.{Program}
 use Rattle.chord_base.specs.declared.event.Limits.{Limits}
 use Rattle.chord_run.specs.Refusals.{IsCause, IsLine}
@@ -29,6 +29,10 @@ CauseHasLine = (source : List ℕ) (refusal : Refusal) → IsCause source refusa
 -- a refusal of a source has at most one line
 abbrev pub HasOneLine : Type 0
 HasOneLine = (source : List ℕ) (refusal : Refusal) (l m : List ℕ) → IsLine source refusal l → IsLine source refusal m → l ≡ m
+
+-- a source is accepted, or it has a cause of a refusal
+abbrev pub IsAcceptedOrHasCause : Type 0
+IsAcceptedOrHasCause = (source : List ℕ) → IsAccepted source ⊎ ((refusal : Refusal) × IsCause source refusal)
 
 -- a source with a cause of a refusal is not accepted
 abbrev pub RefusedIsNotAccepted : Type 0

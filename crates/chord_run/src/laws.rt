@@ -1,10 +1,10 @@
 //! What holds of each source, as the contract of a function that does nothing.
 #![tactic(auto)]
 
-ghost use Rattle.chord_run.specs.Laws.{AcceptedHasMachine, CauseHasLine, HasOneCause, HasOneLine, HasOneMachine, MachineIsOfAccepted, RefusedIsNotAccepted};
+ghost use Rattle.chord_run.specs.Laws.{AcceptedHasMachine, CauseHasLine, HasOneCause, HasOneLine, HasOneMachine, IsAcceptedOrHasCause, MachineIsOfAccepted, RefusedIsNotAccepted};
 
-/// A source is accepted exactly where it has a join machine, and within its limits it has one at most. It has at most one
-/// cause of a refusal, which has one line; it has not both.
+/// A source is accepted exactly where it has a join machine, and within its limits it has one at most. It is accepted or has
+/// a cause of a refusal, and not both. It has at most one cause, which has one line.
 pub fn sources()
     ensures machine { HasOneMachine }
     ensures accepted { AcceptedHasMachine }
@@ -12,5 +12,6 @@ pub fn sources()
     ensures cause { HasOneCause }
     ensures some_line { CauseHasLine }
     ensures line { HasOneLine }
+    ensures exhaustive { IsAcceptedOrHasCause }
     ensures apart { RefusedIsNotAccepted }
 {}

@@ -1,5 +1,6 @@
 use Rattle.chord_run.proofs.Causes.{cause_refuses}
 use Rattle.chord_run.proofs.Exact.{one_line, one_machine}
+use Rattle.chord_run.proofs.Exhaustive.{accepted_or_cause}
 use Rattle.chord_run.proofs.Lines.{accepted_has_machine, cause_has_line, machine_is_of_accepted}
 use Rattle.chord_run.proofs.OneCause.{one_cause}
 use Rattle.chord_run.proofs.laws.sources.Goals as goal
@@ -21,6 +22,9 @@ returns-clause-some_line c = cause_has_line
 
 pub returns-clause-line : goal.returns-clause-line
 returns-clause-line c = one_line
+
+pub returns-clause-exhaustive : goal.returns-clause-exhaustive
+returns-clause-exhaustive c = accepted_or_cause
 
 pub returns-clause-apart : goal.returns-clause-apart
 returns-clause-apart c = cause_refuses
