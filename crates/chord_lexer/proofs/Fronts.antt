@@ -1,5 +1,5 @@
 -- Each text begins with a longest piece, or nothing begins it. So each source reads as tokens, or is refused at a byte.
-use Rattle.std.proofs.Common.{◌≡◌, ℕ, zero, suc, ◌+◌, ◌-◌, ◌<◌, ◌≤◌, Bool, true, false, ◌&&◌, cond, List, [], ◌∷◌, ◌++◌, length, take, drop, get_or, refl, sym, ap, subst, ◌∙◌, arith, length-drop, inl, inr, ◌⊎◌, Option, Some, None}
+use Rattle.std.proofs.Common.{◌≡◌, ℕ, zero, suc, ◌+◌, ◌-◌, ◌<◌, ◌≤◌, Bool, true, false, ◌&&◌, cond, List, [], ◌∷◌, length, take, drop, get_or, refl, sym, ap, ◌∙◌, arith, length-drop, inl, inr, ◌⊎◌, Option, Some, None}
 use Rattle.std.specs.Prelude.{nat_eq}
 use Rattle.std.proofs.lemmas.Bool.{cases_lt, cases_Bool}
 use Rattle.std.proofs.lemmas.Bool.Decides.{eqb_tells}
@@ -7,8 +7,6 @@ use Rattle.std.proofs.lemmas.Str.{IsUtf8-from_is_utf8, is_utf8-from_IsUtf8}
 use Rattle.std.specs.Prelude.{IsUtf8}
 use Rattle.std.specs.Str.{is_utf8}
 use Rattle.chord_lexer.specs.declared.token.Token.{Token}
-use Rattle.chord_lexer.specs.declared.token.Keyword.{Keyword}
-use Rattle.chord_lexer.specs.declared.token.Kind.TheVariants as kinds
 use Rattle.chord_lexer.specs.declared.token.Mark.{Mark}
 use Rattle.chord_lexer.specs.declared.token.Mark.TheVariants as marks
 use Rattle.chord_lexer.specs.declared.piece.Piece.{Piece}
@@ -22,8 +20,8 @@ use Rattle.chord_lexer.specs.Literals.{is_plain, escaped}
 use Rattle.chord_lexer.specs.Comments.{is_in_line, IsUnclosed}
 use Rattle.chord_lexer.specs.Marks.{mark_bytes}
 use Rattle.chord_lexer.specs.Pieces.{IsNone}
-use Rattle.chord_lexer.specs.Reading.{after_byte_order_mark, tokens_of, Chain, none, IsRead, IsRefused}
-use Rattle.chord_lexer.specs.Scanning.{lead_of, Begins, IsBody, IsQuoted, IsUnquoted, IsClosedAt, IsExtent, IsUndelimited, single_mark, pair_mark, pair_mark_of}
+use Rattle.chord_lexer.specs.Reading.{after_byte_order_mark, Chain, none, IsRead, IsRefused}
+use Rattle.chord_lexer.specs.Scanning.{lead_of, Begins, IsBody, IsQuoted, IsUnquoted, IsClosedAt, IsExtent, IsUndelimited, single_mark, pair_mark_of}
 use Rattle.chord_lexer.proofs.Runs.{drop_first}
 use Rattle.chord_lexer.proofs.Leads.{blank_begins}
 use Rattle.chord_lexer.proofs.Identifying.{reserved_begins, name_begins, no_word}
@@ -31,7 +29,7 @@ use Rattle.chord_lexer.proofs.Numbering.{number_begins, followed, too_large}
 use Rattle.chord_lexer.proofs.Quoting.{no_body, body_byte, body_pair, unquoted_end, unquoted_byte, unquoted_escape, literal_begins, body_not_utf8, not_quoted}
 use Rattle.chord_lexer.proofs.Commenting.{IsPassed, passed_none, passed_more, passed_all, closed_here, line_extent, block_extent, never_closed, comment_begins, not_utf8, not_delimited}
 use Rattle.chord_lexer.proofs.Marking.{pair_begins, single_begins, no_mark}
-use Rattle.chord_lexer.proofs.Chains.{some_piece, spanned, all_read, grown_by, refused_at}
+use Rattle.chord_lexer.proofs.Chains.{some_piece, all_read, grown_by, refused_at}
 
 -- an option is something or nothing
 told_option : {A : Type 0} (o : Option A) → ((a : A) × (o ≡ Some a)) ⊎ (o ≡ None)
