@@ -13,7 +13,7 @@ use Rattle.chord_tree.specs.declared.exprs.Link.{Link}
 use Rattle.chord_tree.specs.Symbol.{Symbol, Terminal}
 use Rattle.chord_tree.specs.Symbols as grammar
 use Rattle.chord_tree.specs.Derivation.{next}
-use Rattle.chord_tree.specs.Node.{Node, End, ◌▸◌, Leaf, Made, size}
+use Rattle.chord_tree.specs.Node.{Node, End, Leaf, Made, size}
 use Rattle.chord_tree.specs.ExprNodes.{operator_level, link_level, level_symbol, level_tail, precedence, lifted, alone, bare, node_at, node_links}
 use Rattle.chord_tree.specs.Tree.{ExprTree, LinkTree, LinkTrees, ChainExpr, MakeLink, MoreLinks, links}
 use Rattle.chord_tree.specs.ViewExprs.{see_link}

@@ -2,7 +2,7 @@
 use Rattle.std.specs.Prelude.{◌≡◌, ℕ, ◌-◌, ◌<◌, ◌≤◌, List, length}
 use Rattle.chord_lexer.specs.declared.token.Kind.{Kind}
 use Rattle.chord_tree.specs.ExprNodes.{level_symbol, level_tail, link_level, precedence, bare, node_at, node_links}
-use Rattle.chord_tree.specs.Node.{Node, End, ◌▸◌, Made}
+use Rattle.chord_tree.specs.Node.{End, ◌▸◌, Made}
 use Rattle.chord_tree.specs.Tree.{ExprTree, LinkTree, LinkTrees, MoreLinks}
 use Rattle.chord_parser.specs.Runs.{Reads}
 use Rattle.chord_parser.specs.Reading.{Continues, IsOther, one_link}
