@@ -1,0 +1,7 @@
+mod SlotTypes
+mod OperatorTypes
+mod GoodWays
+mod GoodExpressions
+mod GoodStatements
+mod GoodObjects
+mod GoodPlays
