@@ -1,31 +1,20 @@
 -- An expression that keeps to its type never goes wrong, and gives a value of its type.
-use Rattle.std.proofs.Common.{◌≡◌, ℕ, zero, suc, ◌+◌, ◌-◌, ◌<◌, ◌≤◌, ◌==◌, List, [], ◌∷◌, Bool, true, false, ◌&&◌, ◌||◌, Option, Some, None, refl, sym, ◌∙◌, ap, subst, arith, length, slice_get, inl, inr}
-use Rattle.std.specs.Prelude.{◌⊎◌, option_and_then}
-use Rattle.chord_base.specs.declared.value.Object.{Object}
+use Rattle.std.proofs.Common.{◌≡◌, ℕ, List, [], ◌∷◌, Bool, true, false, Option, Some, refl, sym, ◌∙◌, ap, subst, arith, slice_get, inl, inr}
+use Rattle.std.specs.Prelude.{◌⊎◌}
 use Rattle.chord_base.specs.declared.value.Value.{Value}
-use Rattle.chord_base.specs.declared.value.Value.TheVariants.{Unit as NoValue, Int, Flag, Text, Ref}
-use Rattle.chord_base.specs.declared.event.Limits.{Limits}
-use Rattle.chord_base.specs.Meaning.{Start, Main, Chord}
+use Rattle.chord_base.specs.declared.value.Value.TheVariants.{Int, Flag, Text}
 use Rattle.chord_base.specs.declared.static_type.StaticType.{StaticType}
 use Rattle.chord_base.specs.declared.static_type.StaticType.TheVariants as ty
-use Rattle.chord_base.specs.Operators.{Computed, Is, Trapped, Mistyped, compute, negated, denied}
-use Rattle.chord_bodies.specs.Resolved.{ExprOf, ExprsOf, StmtOf, StmtsOf, BodyOf, ClassOf, ChordOf, Resolved, IntOf, FlagOf, TextOf, Load, This, Negate, Deny, Operate, Both, Either, New, Call, NoExprs, MoreExprs, Store, Do, Send, Print, IfThen, IfElse, While, Return, Give, Block, NoStmts, MoreStmts}
-use Rattle.chord_bodies.specs.Resolved as body
-use Rattle.std.proofs.lemmas.Bool.{false≢true, eq-eqb}
-use Rattle.std.proofs.lemmas.Option.{none-some, same_Some, slice_get_within}
-use Rattle.chord_bodies.specs.Types.{Signature, Signatures, Has, HaveAll, Scope, Extends, ValueDue, ExprIs, ExprsAre, StmtIs, StmtsAre, is_true, returns, one_returns, this_in, opening, slot_types, BodyIs}
-use Rattle.chord_bodies.specs.Planned.{Inherits, IsPlanned}
-use Rattle.chord_code.specs.Plays.{Play, MakesObject, CallsMethod, Good}
-use Rattle.chord_code.specs.Slots.{set_slot, slots_of}
-use Rattle.chord_source.specs.Continuing.{Continuation, Maker, Leaving, on_computed, on_found, branch, send_to, with_room, call_on, take_turn, rounds, return_nothing, return_value}
+use Rattle.chord_base.specs.Operators.{compute, negated, denied}
+use Rattle.chord_bodies.specs.Resolved.{ExprOf, ExprsOf, IntOf, FlagOf, TextOf, Load, This, Negate, Deny, Operate, Both, Either, New, Call, NoExprs, MoreExprs}
+use Rattle.chord_bodies.specs.Types.{Signatures, Has, HaveAll, Scope, ExprIs, ExprsAre, is_true}
+use Rattle.chord_bodies.specs.Planned.{Inherits}
+use Rattle.chord_code.specs.Plays.{Good}
+use Rattle.chord_source.specs.Continuing.{Continuation, Maker}
 use Rattle.chord_source.specs.Expressions.{evaluate, evaluate_all}
-use Rattle.chord_source.specs.Statements.{execute, execute_all, run_body}
-use Rattle.chord_source.specs.Objects.{constructor_of, constructor_arity, class_arity, run_constructor, build, if_arity, make_object}
-use Rattle.chord_source.specs.Source.{chord_body, class_chords, play_of}
-use Rattle.chord_source.specs.Laws.{AreWellTyped, StartFits, GoodPlays}
-use Rattle.chord_source.proofs.SlotTypes.{HasAny, SlotsAre, fitting_has, fewer_slots, slot_has, stored_has, slots_open}
-use Rattle.chord_source.proofs.OperatorTypes.{GivesType, has_text, operator_gives, negation_gives, denial_gives}
-use Rattle.chord_source.proofs.GoodWays.{computed_good, branch_good, room_good, found_good, turn_good, GoodAfter, LeavingIsGood, MakerIsGood, leaving_with_less, nothing_good, value_good, call_good, send_good}
+use Rattle.chord_source.proofs.SlotTypes.{SlotsAre, fitting_has, slot_has}
+use Rattle.chord_source.proofs.OperatorTypes.{operator_gives, negation_gives, denial_gives}
+use Rattle.chord_source.proofs.GoodWays.{computed_good, branch_good, found_good, GoodAfter, MakerIsGood, call_good}
 
 -- a test is written as a truth value, or not as `true`
 is_the_word_true : (e : ExprOf) → ((b : Bool) × (e ≡ FlagOf b)) ⊎ (is_true e ≡ false)

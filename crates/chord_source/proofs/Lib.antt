@@ -5,3 +5,5 @@ mod GoodExpressions
 mod GoodStatements
 mod GoodObjects
 mod GoodPlays
+mod Ends
+mod SoundRuns

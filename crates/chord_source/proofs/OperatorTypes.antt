@@ -1,5 +1,5 @@
 -- What operators give: values of the types that they have in the language.
-use Rattle.std.proofs.Common.{◌≡◌, ℕ, zero, suc, ◌+◌, List, [], ◌∷◌, ◌++◌, Bool, true, false, cond, Option, Some, None, refl, sym, ◌∙◌, ap, subst, arith, length, map, slice_get}
+use Rattle.std.proofs.Common.{◌≡◌, ℕ, zero, suc, ◌+◌, List, ◌++◌, Bool, true, false, cond, Some, refl, subst, length}
 use Rattle.std.specs.Prelude.{ℤ, pos, negsuc, nat_lt, not}
 use Rattle.chord_base.specs.declared.event.Trap.TheVariants.{TextTooLong}
 use Rattle.std.proofs.lemmas.Option.{none-some, same_Some}
@@ -11,8 +11,7 @@ use Rattle.chord_base.specs.declared.operation.Operation.TheVariants.{Add, Subtr
 use Rattle.chord_base.specs.declared.static_type.StaticType.{StaticType}
 use Rattle.chord_base.specs.declared.static_type.StaticType.TheVariants as ty
 use Rattle.chord_base.specs.Operators.{Computed, Is, Trapped, Mistyped, compute, negated, denied, text_of, compared, of_ints, unless_zero}
-use Rattle.chord_bodies.specs.Types.{Signatures, fits, Has, HaveAll, Scope, operation_result, prints, Extends, declared}
-use Rattle.chord_bodies.specs.Planned.{Inherits}
+use Rattle.chord_bodies.specs.Types.{Signatures, Has, operation_result, prints}
 
 -- what an operator comes to is a value of this type, or a trap
 abbrev pub GivesType : Signatures → StaticType → Computed → Type 0

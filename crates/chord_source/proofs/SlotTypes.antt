@@ -1,17 +1,13 @@
 -- What the slots of a body hold: values of the types that its scope tells.
-use Rattle.std.proofs.Common.{◌≡◌, ℕ, zero, suc, ◌+◌, List, [], ◌∷◌, ◌++◌, Bool, true, false, cond, Option, Some, None, refl, sym, ◌∙◌, ap, subst, arith, length, map, slice_get}
-use Rattle.std.specs.Prelude.{ℤ, pos, negsuc, nat_lt, not}
-use Rattle.chord_base.specs.declared.event.Trap.TheVariants.{TextTooLong}
+use Rattle.std.proofs.Common.{◌≡◌, ℕ, zero, suc, ◌+◌, List, [], ◌∷◌, ◌++◌, true, Option, Some, None, refl, ◌∙◌, ap, subst, arith, length, map, slice_get}
 use Rattle.std.proofs.lemmas.Option.{none-some, same_Some}
 use Rattle.std.proofs.lemmas.Bool.{false≢true}
 use Rattle.chord_base.specs.declared.value.Value.{Value}
 use Rattle.chord_base.specs.declared.value.Value.TheVariants.{Unit as NoValue, Int, Flag, Text, Ref}
-use Rattle.chord_base.specs.declared.operation.Operation.{Operation}
-use Rattle.chord_base.specs.declared.operation.Operation.TheVariants.{Add, Subtract, Multiply, Divide, Remainder, Join, Equal, NotEqual, Less, Greater, LessOrEqual, GreaterOrEqual}
 use Rattle.chord_base.specs.declared.static_type.StaticType.{StaticType}
 use Rattle.chord_base.specs.declared.static_type.StaticType.TheVariants as ty
 use Rattle.chord_code.specs.Slots.{with_first, set_slot, slots_of}
-use Rattle.chord_bodies.specs.Types.{Signatures, fits, Has, HaveAll, Scope, operation_result, prints, Extends, declared}
+use Rattle.chord_bodies.specs.Types.{Signatures, fits, Has, HaveAll, Scope, Extends, declared}
 use Rattle.chord_bodies.specs.Planned.{Inherits}
 
 -- a value has the type that a scope tells of its slot, if it tells one

@@ -1,5 +1,5 @@
 -- What follows a part of a body, and the ways in which it is chosen.
-use Rattle.std.specs.Prelude.{ℕ, zero, suc, List, Bool, true, false, Option, Some, None}
+use Rattle.std.specs.Prelude.{ℕ, zero, suc, List, true, false, Option, Some, None}
 use Rattle.chord_base.specs.declared.value.Value.{Value}
 use Rattle.chord_base.specs.declared.value.Value.TheVariants.{Unit, Flag, Ref}
 use Rattle.chord_base.specs.declared.event.Trap.TheVariants.{OutOfTurns, TooDeep}
