@@ -4,6 +4,6 @@ mod GoodWays
 mod GoodExpressions
 mod GoodStatements
 mod GoodObjects
-mod GoodPlays
+pub mod GoodPlays
 mod Ends
-mod SoundRuns
+pub mod SoundRuns

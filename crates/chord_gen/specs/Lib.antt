@@ -1,0 +1,7 @@
+-- ## What callers read
+-- The code of expressions and statements.
+pub mod Emitted
+-- The code of a source.
+pub mod Translation
+-- What the code of a source keeps of it.
+pub mod Laws

@@ -1,0 +1,14 @@
+//! What the code of a source keeps of it, as the contracts of functions that do nothing.
+#![tactic(auto)]
+
+ghost use Rattle.chord_gen.specs.Laws.{TranslationKeeps, TranslationValid};
+
+/// The code of a source asks what the source asks, its runs are the source's, and it is sound in every run.
+pub fn translation()
+    ensures { TranslationKeeps }
+{}
+
+/// The code of a source is valid.
+pub fn valid()
+    ensures { TranslationValid }
+{}
