@@ -40,14 +40,10 @@ is_origin (OfBuilder c) (OfBuilder d) = c == d
 is_origin (OfBody j) (OfBody k) = j == k
 is_origin _ _ = false
 
--- the blocks of one class: its builder, if it has one, and then the bodies of its own chords
-abbrev pub class_origins : Resolved → ℕ → ClassOf → List Origin
-class_origins p c x = cond (has_builder p c) (OfBuilder c ∷ []) [] ++ map OfBody x.own
-
--- the blocks of these classes, of which the first has number c
+-- the blocks of these classes, of which the first has number c: of each its builder, if it has one, and then the bodies of its own chords
 abbrev pub origins_from : Resolved → ℕ → List ClassOf → List Origin
 origins_from p c [] = []
-origins_from p c (x ∷ xs) = class_origins p c x ++ origins_from p (suc c) xs
+origins_from p c (x ∷ xs) = cond (has_builder p c) (OfBuilder c ∷ []) [] ++ (map OfBody x.own ++ origins_from p (suc c) xs)
 
 -- all blocks in order: that of `Main`, and then those of each class
 abbrev pub origins : Resolved → List Origin
