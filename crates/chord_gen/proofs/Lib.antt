@@ -1,3 +1,4 @@
 mod Steps
 mod Follows
 mod Numbers
+mod Blocks
