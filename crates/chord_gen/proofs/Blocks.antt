@@ -19,9 +19,7 @@ use Rattle.chord_bodies.specs.Resolved as body
 use Rattle.chord_code.specs.declared.instruction.Instruction.{Instruction}
 use Rattle.chord_code.specs.declared.instruction.Instruction.TheVariants as i
 use Rattle.chord_code.specs.declared.parts.Block.{Block}
-use Rattle.chord_code.specs.declared.parts.ChordLine.{ChordLine}
 use Rattle.chord_code.specs.declared.parts.ClassLine.{ClassLine}
-use Rattle.chord_code.specs.declared.parts.MethodLine.{MethodLine}
 use Rattle.chord_code.specs.declared.parts.Parts.{Parts}
 use Rattle.chord_code.specs.declared.awaited.Awaited.TheVariants.{ForObject}
 use Rattle.chord_code.specs.Slots.{with_first, slots_of}

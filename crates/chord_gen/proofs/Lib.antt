@@ -2,3 +2,6 @@ mod Steps
 mod Follows
 mod Numbers
 mod Blocks
+mod PartsRight
+mod Valid
+mod Keeps

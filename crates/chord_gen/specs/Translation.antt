@@ -1,5 +1,5 @@
 -- The code of a source: its classes, and its blocks with their numbers.
-use Rattle.std.specs.Prelude.{ℕ, ◌==◌, zero, suc, ◌+◌, List, [], ◌∷◌, ◌++◌, Bool, true, false, ◌||◌, length, map, Option, Some, None, unwrap_or, slice_get, cond}
+use Rattle.std.specs.Prelude.{ℕ, ◌==◌, zero, suc, List, [], ◌∷◌, ◌++◌, Bool, true, false, ◌||◌, length, map, Option, Some, None, unwrap_or, slice_get, cond}
 use Rattle.chord_bodies.specs.Resolved.{BodyOf, ClassOf, ChordOf, MethodOf, Resolved}
 use Rattle.chord_bodies.specs.Resolved as body
 use Rattle.chord_code.specs.declared.instruction.Instruction.{Instruction}
