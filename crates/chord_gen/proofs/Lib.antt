@@ -5,3 +5,6 @@ mod Blocks
 mod PartsRight
 mod Valid
 mod Keeps
+mod Patching
+mod Weights
+mod Emits

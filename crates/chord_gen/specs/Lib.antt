@@ -5,3 +5,6 @@ pub mod Emitted
 pub mod Translation
 -- What the code of a source keeps of it.
 pub mod Laws
+-- ## What only the code's own contracts use
+-- What the code does while it emits instructions.
+pub mod Emitting

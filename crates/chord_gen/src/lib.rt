@@ -4,4 +4,6 @@
 //! Not here: which programs keep to their types (chord_classes).
 #![tactic(auto)]
 
+mod expressions;
+mod instructions;
 pub mod laws;
