@@ -1,6 +1,6 @@
 -- What is emitted, piece by piece.
 use Rattle.std.proofs.Common.{◌≡◌, ℕ, zero, suc, ◌+◌, ◌<◌, ◌≤◌, List, [], ◌∷◌, ◌++◌, length, map, drop, get_or, refl, sym, ap, ◌∙◌, subst, arith, append_assoc, length-append}
-use Rattle.std.specs.Prelude.{Option, Result, Ok, Err, OnOk}
+use Rattle.std.specs.Prelude.{Option, Bool, Result, Ok, Err, OnOk}
 use Rattle.std.proofs.Math.Seq.{drop-cons}
 use Rattle.std.proofs.Math.ListN.{drop_of_length-le}
 use Rattle.chord_base.specs.declared.operation.Operation.{Operation}
@@ -8,7 +8,7 @@ use Rattle.chord_base.specs.declared.static_type.StaticType.{StaticType}
 use Rattle.chord_bodies.specs.declared.expr.BinaryOperator.{BinaryOperator}
 use Rattle.chord_bodies.specs.declared.expr.BinaryOperator.TheVariants.{And, Or, By}
 use Rattle.chord_bodies.specs.declared.expr.Expr.{Expr}
-use Rattle.chord_bodies.specs.Resolved.{ExprOf, ExprsOf, StmtOf, StmtsOf, Operate, New, Call, MoreExprs, MoreStmts}
+use Rattle.chord_bodies.specs.Resolved.{ExprOf, ExprsOf, StmtOf, StmtsOf, Operate, New, Call, Send, MoreExprs, MoreStmts}
 use Rattle.chord_bodies.specs.View.{LinkOf, CallOf, binary, links_on, calls_on, expr_list, view_expr}
 use Rattle.chord_code.specs.declared.instruction.Instruction.{Instruction}
 use Rattle.chord_code.specs.declared.instruction.Instruction.TheVariants as i
@@ -126,3 +126,17 @@ pub argument_emitted : (now next all : List Instruction) (e : ExprOf) (es : Expr
 argument_emitted now next all e es h k =
     let n : length next ≡ length now + length (expr_code e (length now)) = ap length k ∙ length-append now (expr_code e (length now)) in
     ap (λ m. next ++ exprs_code es m) n ∙ ap (λ z. z ++ exprs_code es (length now + length (expr_code e (length now)))) k ∙ append_assoc now (expr_code e (length now)) (exprs_code es (length now + length (expr_code e (length now)))) ∙ h
+
+-- a message behind its receiver and arguments
+pub send_emitted : (base c1 c2 c3 : List Instruction) (e : ExprOf) (args args' : ExprsOf) (c j n : ℕ) (builder : Bool) → args' ≡ args → n ≡ argument_count args → c1 ≡ base ++ expr_code e (length base) → c2 ≡ c1 ++ exprs_code args' (length c1) → c3 ≡ c2 ++ i.Send j n ∷ []
+    → c3 ≡ base ++ stmt_code builder (Send e c j args) (length base)
+send_emitted base c1 c2 c3 e args args' c j n builder s m e1 e2 e3 =
+    then_emitted base (expr_code e (length base)) (λ b. exprs_code args b ++ i.Send j (argument_count args) ∷ []) c1 c3 e1
+    (one_more_emitted c1 c2 c3 (exprs_code args (length c1)) (i.Send j n) (e2 ∙ ap (λ z. c1 ++ exprs_code z (length c1)) s) e3
+    ∙ ap (λ k. c1 ++ (exprs_code args (length c1) ++ i.Send j k ∷ [])) m)
+
+-- one more statement of a list
+pub statement_emitted : (builder : Bool) (now next all : List Instruction) (s : StmtOf) (ss : StmtsOf) → now ++ stmts_code builder (MoreStmts s ss) (length now) ≡ all → next ≡ now ++ stmt_code builder s (length now) → next ++ stmts_code builder ss (length next) ≡ all
+statement_emitted builder now next all s ss h k =
+    let n : length next ≡ length now + length (stmt_code builder s (length now)) = ap length k ∙ length-append now (stmt_code builder s (length now)) in
+    ap (λ m. next ++ stmts_code builder ss m) n ∙ ap (λ z. z ++ stmts_code builder ss (length now + length (stmt_code builder s (length now)))) k ∙ append_assoc now (stmt_code builder s (length now)) (stmts_code builder ss (length now + length (stmt_code builder s (length now)))) ∙ h

@@ -85,9 +85,9 @@ one_in_all f (a ∷ xs) (suc i) x l e = let h = one_in_all f xs i x (omega arith
 
 -- the weight of a statement, where its parts are weighed
 abbrev pub stmt_step : Stmt-F ℕ → ℕ
-stmt_step (stmt_nodes.If test first) = first.value + 1
-stmt_step (stmt_nodes.IfElse test first second) = first.value + second.value + 1
-stmt_step (stmt_nodes.While test body) = body.value + 1
+stmt_step (stmt_nodes.If test first) = first.value + 2
+stmt_step (stmt_nodes.IfElse test first second) = first.value + second.value + 2
+stmt_step (stmt_nodes.While test body) = body.value + 2
 stmt_step (stmt_nodes.Block stmts) = in_all stmts.items + 2
 stmt_step _ = 1
 
@@ -96,15 +96,15 @@ abbrev pub stmt_size : Stmt → ℕ
 stmt_size = fold-Stmt ℕ stmt_step
 
 -- the weight of an `if` without `else`
-pub size_if : (test : Expr) (first : Box Stmt Global) → stmt_size (stmt.If test first) ≡ stmt_size first.value + 1
+pub size_if : (test : Expr) (first : Box Stmt Global) → stmt_size (stmt.If test first) ≡ stmt_size first.value + 2
 size_if test first = ap stmt_size (sym (stmt.rolls-If test first)) ∙ fold-roll-Stmt ℕ stmt_step (stmt_nodes.If test first)
 
 -- the weight of an `if` with `else`
-pub size_if_else : (test : Expr) (first second : Box Stmt Global) → stmt_size (stmt.IfElse test first second) ≡ stmt_size first.value + stmt_size second.value + 1
+pub size_if_else : (test : Expr) (first second : Box Stmt Global) → stmt_size (stmt.IfElse test first second) ≡ stmt_size first.value + stmt_size second.value + 2
 size_if_else test first second = ap stmt_size (sym (stmt.rolls-IfElse test first second)) ∙ fold-roll-Stmt ℕ stmt_step (stmt_nodes.IfElse test first second)
 
 -- the weight of a loop
-pub size_while : (test : Expr) (body : Box Stmt Global) → stmt_size (stmt.While test body) ≡ stmt_size body.value + 1
+pub size_while : (test : Expr) (body : Box Stmt Global) → stmt_size (stmt.While test body) ≡ stmt_size body.value + 2
 size_while test body = ap stmt_size (sym (stmt.rolls-While test body)) ∙ fold-roll-Stmt ℕ stmt_step (stmt_nodes.While test body)
 
 -- the weight of a block

@@ -7,3 +7,4 @@
 mod expressions;
 mod instructions;
 pub mod laws;
+mod statements;
