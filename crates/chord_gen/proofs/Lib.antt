@@ -8,3 +8,4 @@ mod Keeps
 mod Patching
 mod Weights
 mod Emits
+mod Listed

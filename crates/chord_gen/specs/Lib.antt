@@ -5,6 +5,8 @@ pub mod Emitted
 pub mod Translation
 -- What the code of a source keeps of it.
 pub mod Laws
+-- The listing of a code.
+pub mod Listing
 -- ## What only the code's own contracts use
 -- What the code does while it emits instructions.
 pub mod Emitting

@@ -7,4 +7,5 @@
 mod expressions;
 mod instructions;
 pub mod laws;
+pub mod listing;
 mod statements;
