@@ -1,5 +1,5 @@
 -- What is emitted, piece by piece.
-use Rattle.std.proofs.Common.{◌≡◌, ℕ, zero, suc, ◌+◌, ◌<◌, ◌≤◌, List, [], ◌∷◌, ◌++◌, length, map, drop, get_or, refl, sym, ap, ◌∙◌, subst, arith, append_assoc, length-append}
+use Rattle.std.proofs.Common.{◌≡◌, ℕ, suc, ◌+◌, ◌<◌, ◌≤◌, List, [], ◌∷◌, ◌++◌, length, map, drop, get_or, refl, sym, ap, ◌∙◌, arith, append_assoc, length-append}
 use Rattle.std.specs.Prelude.{Option, Bool, Result, Ok, Err, OnOk}
 use Rattle.std.proofs.Math.Seq.{drop-cons}
 use Rattle.std.proofs.Math.ListN.{drop_of_length-le}
@@ -12,8 +12,8 @@ use Rattle.chord_bodies.specs.Resolved.{ExprOf, ExprsOf, StmtOf, StmtsOf, Operat
 use Rattle.chord_bodies.specs.View.{LinkOf, CallOf, binary, links_on, calls_on, expr_list, view_expr}
 use Rattle.chord_code.specs.declared.instruction.Instruction.{Instruction}
 use Rattle.chord_code.specs.declared.instruction.Instruction.TheVariants as i
-use Rattle.chord_gen.specs.Emitted.{argument_count, operator_code, then_code, expr_code, exprs_code, stmt_code, stmts_code}
-use Rattle.chord_gen.specs.Emitting.{IsNarrow, AreNarrow, GoesOnAs, AreNarrowLinks, IsNarrowCall, AreNarrowCalls}
+use Rattle.chord_gen.specs.Emitted.{argument_count, operator_code, expr_code, exprs_code, stmt_code, stmts_code}
+use Rattle.chord_gen.specs.Emitting.{IsNarrow, GoesOnAs, AreNarrowLinks, AreNarrowCalls}
 use Rattle.chord_gen.proofs.Patching.{then_emitted}
 
 -- what follows from a fact holds where a call that gives it succeeds

@@ -39,7 +39,10 @@ pub fn expression(alloc: Global, code: &mut Vec<Instruction>, expr: &Expr) -> Re
         }
         Expr::New { class, arguments } => {
             expressions(alloc, code, arguments)?;
-            put(code, Instruction::New(*class as u16, arguments.len() as u32))
+            put(
+                code,
+                Instruction::New(*class as u16, arguments.len() as u32),
+            )
         }
         Expr::Calls { first, call, more } => {
             expression(alloc, code, first)?;
@@ -51,7 +54,11 @@ pub fn expression(alloc: Global, code: &mut Vec<Instruction>, expr: &Expr) -> Re
 
 /// Emits the code of arguments, the first one first.
 #[cycle(expressions)]
-pub fn expressions(alloc: Global, code: &mut Vec<Instruction>, exprs: &[Expr]) -> Result<(), AllocError>
+pub fn expressions(
+    alloc: Global,
+    code: &mut Vec<Instruction>,
+    exprs: &[Expr],
+) -> Result<(), AllocError>
     requires narrow { AreNarrow (expr_list (map view_expr exprs.now)) }
     ensures { OnOk result (code.new.items ≡ code.old.items ++ exprs_code (expr_list (map view_expr exprs.now)) (length code.old.items)) }
 {
@@ -134,12 +141,19 @@ fn method_call(alloc: Global, code: &mut Vec<Instruction>, call: &Call) -> Resul
     ensures { OnOk result (GoesOnAs (λ receiver. to.Call receiver (view_call call.now).class (view_call call.now).method (view_call call.now).result (view_call call.now).arguments) code.old.items code.new.items) }
 {
     expressions(alloc, code, &call.arguments)?;
-    put(code, Instruction::Call(call.method as u8, call.arguments.len() as u32))
+    put(
+        code,
+        Instruction::Call(call.method as u8, call.arguments.len() as u32),
+    )
 }
 
 /// Goes on behind the code of a receiver with these calls, each on what those before it give.
 #[cycle(expressions)]
-fn method_calls(alloc: Global, code: &mut Vec<Instruction>, calls: &[Call]) -> Result<(), AllocError>
+fn method_calls(
+    alloc: Global,
+    code: &mut Vec<Instruction>,
+    calls: &[Call],
+) -> Result<(), AllocError>
     requires narrow { AreNarrowCalls (map view_call calls.now) }
     ensures { OnOk result (GoesOnAs (λ receiver. calls_on receiver (map view_call calls.now)) code.old.items code.new.items) }
 {

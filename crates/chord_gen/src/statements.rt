@@ -41,7 +41,10 @@ pub fn statement(
         } => {
             expression(alloc, code, receiver)?;
             expressions(alloc, code, arguments)?;
-            put(code, Instruction::Send(*method as u8, arguments.len() as u32))
+            put(
+                code,
+                Instruction::Send(*method as u8, arguments.len() as u32),
+            )
         }
         Stmt::Print(value) => {
             expression(alloc, code, value)?;

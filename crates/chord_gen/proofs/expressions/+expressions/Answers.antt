@@ -1,14 +1,12 @@
-use Rattle.std.proofs.Common.{◌≡◌, ℕ, ◌+◌, List, [], ◌∷◌, ◌++◌, length, map, drop, refl, sym, ap, ◌∙◌, subst, arith, Fits, slice_set, true, false}
+use Rattle.std.proofs.Common.{◌≡◌, ◌+◌, [], ◌∷◌, ◌++◌, length, map, drop, sym, ap, ◌∙◌, subst, arith, slice_set, true, false}
 use Rattle.std.specs.Prelude.{OnOk}
 use Rattle.std.proofs.lemmas.List.{length-set}
-use Rattle.chord_bodies.specs.declared.expr.Expr.{Expr}
 use Rattle.chord_bodies.specs.declared.expr.Link.{Link}
 use Rattle.chord_bodies.specs.declared.expr.Call.{Call}
 use Rattle.chord_bodies.specs.declared.expr.BinaryOperator.TheVariants.{By}
 use Rattle.chord_bodies.specs.View.{LinkOf, CallOf, view_expr, view_link, view_call, expr_list, binary, links_on, calls_on}
 use Rattle.chord_bodies.specs.Resolved as to
 use Rattle.chord_bodies.proofs.Viewed.{viewed_negate, viewed_deny, viewed_chain, viewed_new, viewed_calls, viewed_link, viewed_call}
-use Rattle.chord_code.specs.declared.instruction.Instruction.{Instruction}
 use Rattle.chord_code.specs.declared.instruction.Instruction.TheVariants as i
 use Rattle.chord_gen.specs.Emitted.{expr_code, exprs_code}
 use Rattle.chord_gen.specs.Emitting.{IsNarrow, AreNarrow, GoesOnAs, AreNarrowLinks, IsNarrowCall, AreNarrowCalls}

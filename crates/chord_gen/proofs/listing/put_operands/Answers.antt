@@ -13,4 +13,4 @@ pub returns-in-New : goal.returns-in-New
 returns-in-New g c = rw c.in-New.is (Writes-join c.put_number.ensures c.put_number-in-New.ensures)
 
 pub returns-in-Send : goal.returns-in-Send
-returns-in-Send g c = elim c.in-Send.is [ | inl y ↦ rw y (Writes-join c.put_number-in-Send.ensures c.put_number-in-Send-2.ensures) | inr y ↦ rw y (Writes-join c.put_number-in-Send.ensures c.put_number-in-Send-2.ensures) ]
+returns-in-Send g c = elim c.in-Send.is [ inl y ↦ rw y (Writes-join c.put_number-in-Send.ensures c.put_number-in-Send-2.ensures) | inr y ↦ rw y (Writes-join c.put_number-in-Send.ensures c.put_number-in-Send-2.ensures) ]

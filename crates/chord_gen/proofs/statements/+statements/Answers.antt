@@ -1,15 +1,12 @@
-use Rattle.std.proofs.Common.{◌≡◌, ℕ, ◌+◌, List, [], ◌∷◌, ◌++◌, length, map, drop, refl, sym, ap, ◌∙◌, subst, arith, Fits, slice_set}
+use Rattle.std.proofs.Common.{◌≡◌, ◌+◌, [], ◌∷◌, ◌++◌, length, map, drop, sym, ap, ◌∙◌, subst, arith, slice_set}
 use Rattle.std.specs.Prelude.{OnOk}
 use Rattle.std.proofs.lemmas.List.{length-set}
-use Rattle.chord_bodies.specs.declared.expr.Expr.{Expr}
-use Rattle.chord_bodies.specs.declared.stmt.Stmt.{Stmt}
 use Rattle.chord_bodies.specs.View.{view_expr, view_stmt, expr_list, stmt_list}
 use Rattle.chord_bodies.specs.Resolved as to
 use Rattle.chord_bodies.proofs.Viewed.{viewed_store, viewed_do, viewed_send, viewed_print, viewed_if, viewed_if_else, viewed_while, viewed_return, viewed_give, viewed_block}
-use Rattle.chord_code.specs.declared.instruction.Instruction.{Instruction}
 use Rattle.chord_code.specs.declared.instruction.Instruction.TheVariants as i
-use Rattle.chord_gen.specs.Emitted.{expr_code, exprs_code, stmt_code, stmts_code}
-use Rattle.chord_gen.specs.Emitting.{IsNarrow, AreNarrow, IsNarrowStmt, AreNarrowStmts}
+use Rattle.chord_gen.specs.Emitted.{expr_code, stmt_code, stmts_code}
+use Rattle.chord_gen.specs.Emitting.{AreNarrow, IsNarrowStmt, AreNarrowStmts}
 use Rattle.chord_gen.proofs.Patching.{ways_patched, way_patched, loop_patched}
 use Rattle.chord_gen.proofs.Weights.{in_all, stmt_size, size_if, size_if_else, size_while, size_block, one_in_all}
 use Rattle.chord_gen.proofs.Emits.{ok_gives, item_step, below_more, below_put, count_is, one_more_emitted, send_emitted, statement_emitted}
