@@ -20,7 +20,7 @@ use Rattle.chord_source.proofs.GoodPlays.{good_plays}
 use Rattle.chord_source.proofs.SoundRuns.{sound_runs}
 use Rattle.chord_gen.specs.Translation.{code_of}
 use Rattle.chord_gen.specs.Laws.{TranslationKeeps}
-use Rattle.chord_gen.proofs.Blocks.{bodies_play, same_chords, same_kinds, plan_methods_there}
+use Rattle.chord_gen.proofs.BlocksPlay.{bodies_play, same_chords, same_kinds, plan_methods_there}
 use Rattle.chord_gen.proofs.Valid.{translation_valid}
 
 -- after answers that fit, code that plays a good play asks what is left of it

@@ -1,7 +1,7 @@
 mod Steps
 mod Follows
 mod Numbers
-mod Blocks
+mod BlocksPlay
 mod PartsRight
 mod Valid
 mod Keeps
@@ -9,3 +9,4 @@ mod Patching
 mod Weights
 mod Emits
 mod Listed
+mod BuiltMore

@@ -10,3 +10,5 @@ pub mod Listing
 -- ## What only the code's own contracts use
 -- What the code does while it emits instructions.
 pub mod Emitting
+-- What the code does while it builds blocks.
+pub mod Building

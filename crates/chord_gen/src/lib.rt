@@ -4,6 +4,9 @@
 //! Not here: which programs keep to their types (chord_classes).
 #![tactic(auto)]
 
+mod blocks;
+mod building;
+mod built;
 mod expressions;
 mod instructions;
 pub mod laws;
