@@ -1,13 +1,17 @@
 -- What was built, block by block.
-use Rattle.std.proofs.Common.{◌≡◌, ℕ, zero, suc, ◌+◌, ◌<◌, ◌≤◌, ◌==◌, ◌⊎◌, List, [], ◌∷◌, ◌++◌, Bool, true, false, cond, ◌||◌, Option, Some, None, inl, inr, length, map, get_or, refl, sym, ◌∙◌, ap, subst, arith, length-append, append_assoc, slice_get, slice_set}
-use Rattle.std.specs.Prelude.{unwrap_or}
+use Rattle.std.proofs.Common.{◌≡◌, ℕ, zero, suc, ◌+◌, ◌<◌, ◌≤◌, ◌==◌, ◌⊎◌, List, [], ◌∷◌, ◌++◌, Bool, true, false, cond, ◌||◌, Option, Some, None, inl, inr, length, map, get_or, refl, sym, ◌∙◌, ap, subst, arith, length-append, append_assoc, slice_get, slice_set, drop}
+use Rattle.std.specs.Prelude.{unwrap_or, option_map, replicate}
 use Rattle.std.proofs.lemmas.Bool.{false≢true, eqb-true, eq-eqb, ne_eqb, eqb-false}
-use Rattle.std.proofs.lemmas.Option.{none-some, same_Some, slice_get_within}
+use Rattle.std.proofs.lemmas.Option.{none-some, same_Some, slice_get_within, slice_get-get_or, slice_get-map}
+use Rattle.chord_bodies.specs.declared.plan.ClassPlan.{ClassPlan}
+use Rattle.chord_bodies.specs.View.{view_class_plan}
 use Rattle.chord_bodies.specs.Resolved.{ClassOf, Resolved}
 use Rattle.chord_code.specs.declared.parts.Block.{Block}
 use Rattle.chord_source.specs.Objects.{constructor_of}
-use Rattle.chord_gen.specs.Translation.{has_own, has_builder, Origin, OfMain, OfBuilder, OfBody, is_origin, number_of, one_more, block_of}
-use Rattle.chord_gen.specs.Building.{IsBuilt, is_told, noted}
+use Rattle.chord_gen.specs.Translation.{has_own, has_builder, Origin, OfMain, OfBuilder, OfBody, is_origin, number_of, origins_from, one_more, block_of, init_code}
+use Rattle.chord_gen.specs.Building.{IsTypedSource, IsBuilt, class_origins, is_told, noted, base_told, init_listed}
+use Rattle.chord_gen.proofs.Numbers.{has_of_base, has_builder_by_base}
+use Rattle.chord_code.specs.declared.instruction.Instruction.TheVariants as i
 
 -- a number that an origin has, it keeps where one more origin stands behind
 number_kept : (o x : Origin) (os : List Origin) (n : ℕ) → number_of o os ≡ Some n → number_of o (os ++ x ∷ []) ≡ Some n
@@ -46,25 +50,32 @@ map_behind f [] x = refl
 map_behind f (y ∷ xs) x = ap (λ zs. f y ∷ zs) (map_behind f xs x)
 
 -- a mapped list has as many items
-map_count : {A B : Type 0} (f : A → B) (xs : List A) → length (map f xs) ≡ length xs
+pub map_count : {A B : Type 0} (f : A → B) (xs : List A) → length (map f xs) ≡ length xs
 map_count f [] = refl
 map_count f (x ∷ xs) = ap suc (map_count f xs)
 
 -- a number is noted where 0 stands
-pub noted_there : (ms : List ℕ) (j n : ℕ) → j < length ms → get_or ms j 0 ≡ 0 → slice_set ms j n ≡ noted ms j n
-noted_there [] j n l e = absurd (omega arith)
-noted_there (zero ∷ ms) zero n l e = refl
-noted_there (suc m ∷ ms) zero n l e = absurd (omega (arith, e))
-noted_there (zero ∷ ms) (suc j) n l e = ap (λ z. 0 ∷ z) (noted_there ms j n (omega arith) e)
-noted_there (suc m ∷ ms) (suc j) n l e = ap (λ z. suc m ∷ z) (noted_there ms j n (omega arith) e)
+pub noted_there : (ms : List ℕ) (j n d : ℕ) → j < length ms → get_or ms j d ≡ 0 → slice_set ms j n ≡ noted ms j n
+noted_there [] j n d l e = absurd (omega arith)
+noted_there (zero ∷ ms) zero n d l e = refl
+noted_there (suc m ∷ ms) zero n d l e = absurd (omega (arith, e))
+noted_there (zero ∷ ms) (suc j) n d l e = ap (λ z. 0 ∷ z) (noted_there ms j n d (omega arith) e)
+noted_there (suc m ∷ ms) (suc j) n d l e = ap (λ z. suc m ∷ z) (noted_there ms j n d (omega arith) e)
 
 -- no number is noted where another stands
-pub noted_never : (ms : List ℕ) (j n : ℕ) → (get_or ms j 0 ≡ 0 → length ms ≤ j) → ms ≡ noted ms j n
-noted_never [] j n h = refl
-noted_never (zero ∷ ms) zero n h = absurd (let l = h refl in omega (arith, l))
-noted_never (suc m ∷ ms) zero n h = refl
-noted_never (zero ∷ ms) (suc j) n h = ap (λ z. 0 ∷ z) (noted_never ms j n (λ e. let l = h e in omega (arith, l)))
-noted_never (suc m ∷ ms) (suc j) n h = ap (λ z. suc m ∷ z) (noted_never ms j n (λ e. let l = h e in omega (arith, l)))
+pub noted_never : (ms : List ℕ) (j n d : ℕ) → j < length ms → (get_or ms j d ≡ 0 → ⊥) → ms ≡ noted ms j n
+noted_never [] j n d l h = refl
+noted_never (zero ∷ ms) zero n d l h = absurd (h refl)
+noted_never (suc m ∷ ms) zero n d l h = refl
+noted_never (zero ∷ ms) (suc j) n d l h = ap (λ z. 0 ∷ z) (noted_never ms j n d (omega arith) h)
+noted_never (suc m ∷ ms) (suc j) n d l h = ap (λ z. suc m ∷ z) (noted_never ms j n d (omega arith) h)
+
+-- no number is noted past the end
+pub noted_past : (ms : List ℕ) (j n : ℕ) → length ms ≤ j → ms ≡ noted ms j n
+noted_past [] j n l = refl
+noted_past (m ∷ ms) zero n l = absurd (omega arith)
+noted_past (zero ∷ ms) (suc j) n l = ap (λ z. 0 ∷ z) (noted_past ms j n (omega arith))
+noted_past (suc m ∷ ms) (suc j) n l = ap (λ z. suc m ∷ z) (noted_past ms j n (omega arith))
 
 -- where a number is noted there are as many
 noted_length : (ms : List ℕ) (j n : ℕ) → length (noted ms j n) ≡ length ms
@@ -114,6 +125,66 @@ number_is_more o os e n h = by_number (number_of o os) (ap (λ b. cond b (Some 0
     by_number : (z : Option ℕ) → one_more z ≡ Some n → (m : ℕ) × (n ≡ suc m)
     by_number None w = absurd (none-some _ w)
     by_number (Some m) w = (m, sym (same_Some _ _ w))
+
+-- an item that is there, and those behind it
+pub dropped_at : {A : Type 0} (xs : List A) (k : ℕ) (x : A) → slice_get xs k ≡ Some x → drop k xs ≡ x ∷ drop (k + 1) xs
+dropped_at xs k x e = let n : suc k ≡ k + 1 = omega arith in from_here xs k x e ∙ ap (λ m. x ∷ drop m xs) n
+  where
+    from_here : {A : Type 0} (xs : List A) (k : ℕ) (x : A) → slice_get xs k ≡ Some x → drop k xs ≡ x ∷ drop (suc k) xs
+    from_here [] k x e = absurd (none-some _ e)
+    from_here (y ∷ xs) zero x e = ap (λ z. z ∷ xs) (same_Some _ _ e)
+    from_here (y ∷ xs) (suc k) x e = from_here xs k x e
+
+-- nothing behind a list changes nothing
+pub none_joined : {A : Type 0} (xs : List A) → xs ++ [] ≡ xs
+none_joined [] = refl
+none_joined (x ∷ xs) = ap (λ ys. x ∷ ys) (none_joined xs)
+
+-- a class in memory is that of the plan at its place
+pub class_item : (cs : List ClassPlan) (classes : List ClassOf) (k : ℕ) (x : ClassPlan) → map view_class_plan cs ≡ classes → k < length cs → x ≡ get_or cs k x → slice_get classes k ≡ Some (view_class_plan x)
+class_item cs classes k x m l e = ap (λ z. slice_get z k) (sym m) ∙ slice_get-map view_class_plan cs k ∙ ap (option_map view_class_plan) (slice_get-get_or cs k x l ∙ ap Some (sym e))
+
+-- the base of a class has a number that fits an instruction
+pub base_is_low : (p : Resolved) → IsTypedSource p → (k : ℕ) (x : ClassOf) → slice_get p.classes k ≡ Some x → (b : ℕ) → x.base ≡ Some b → b < 1024
+base_is_low p is k x e b q =
+    let less = is.planned.bases k b x e q in
+    let within = slice_get_within p.classes k x e in
+    let few = is.planned.few in
+    omega (arith, less, within, few)
+
+-- the blocks of one class more
+pub origins_step : (p : Resolved) (before all : List Origin) (n m k : ℕ) (classes : List ClassOf) (x : ClassOf) → m ≡ n + 1 → slice_get classes k ≡ Some x → before ++ origins_from p n (drop k classes) ≡ all → (before ++ class_origins p n x.own) ++ origins_from p m (drop (k + 1) classes) ≡ all
+origins_step p before all n m k classes x w e h =
+    let s : m ≡ suc n = omega (arith, w) in
+    let rest = origins_from p (suc n) (drop (k + 1) classes) in
+    let first = cond (has_builder p n) (OfBuilder n ∷ []) [] in
+    ap (λ z. (before ++ class_origins p n x.own) ++ origins_from p z (drop (k + 1) classes)) s
+    ∙ append_assoc before (class_origins p n x.own) rest
+    ∙ ap (λ z. before ++ z) (append_assoc first (map OfBody x.own) rest)
+    ∙ ap (λ z. before ++ origins_from p n z) (sym (dropped_at classes k x e)) ∙ h
+
+-- of no member a number is noted at first
+zeros_get : (n k v : ℕ) → slice_get (replicate n 0) k ≡ Some v → v ≡ 0
+zeros_get zero k v e = absurd (none-some _ e)
+zeros_get (suc n) zero v e = sym (same_Some _ _ e)
+zeros_get (suc n) (suc k) v e = zeros_get n k v e
+
+-- as many zeros as are wanted
+zeros_length : (n : ℕ) → length {A = ℕ} (replicate n 0) ≡ n
+zeros_length zero = refl
+zeros_length (suc n) = ap suc (zeros_length n)
+
+-- the block of `Main` is built first
+pub main_built : (p : Resolved) (blocks : List Block) (builders : List (Option ℕ)) (members : List ℕ) (n : ℕ) (block : Block) → block ≡ block_of p OfMain → blocks ≡ block ∷ [] → builders ≡ [] → members ≡ replicate n 0 → n ≡ length p.bodies → IsBuilt p blocks builders members (OfMain ∷ [])
+main_built p blocks builders members n block b m s k w = record {
+  blocks_are = m ∙ ap (λ z. z ∷ []) b;
+  begun = ([], refl);
+  builders_are = λ c z e. absurd (none-some _ (sym (ap (λ y. slice_get y c) s) ∙ e));
+  builders_tell = λ c z e. absurd (none-some _ (sym (ap (λ y. slice_get y c) s) ∙ e));
+  none_beyond = λ c l. refl;
+  members_are = λ j v e. zeros_get n j v (sym (ap (λ y. slice_get y j) k) ∙ e);
+  all_members = ap length k ∙ zeros_length n ∙ w;
+}
 
 module _ (p : Resolved) where
   -- the block of a member is built, and its number noted where it has none
@@ -196,3 +267,35 @@ module _ (p : Resolved) where
       by_told : (d : ℕ) (z : Option ℕ) → (slice_get builders d ≡ Some z) ⊎ ((d ≡ length builders) × (z ≡ None)) → is_told z ≡ has_builder p d
       by_told d z (inl e) = is.builders_tell d z e
       by_told d z (inr e) = ap is_told e.1 ∙ sym (ap (has_builder p) (e.0 ∙ sym at) ∙ has)
+
+  module _ (bases : (c b : ℕ) (x : ClassOf) → slice_get p.classes c ≡ Some x → x.base ≡ Some b → b < c) where
+    -- a class whose base is told has a builder where that has one, or where it has a constructor
+    pub builder_is_told : (blocks : List Block) (builders : List (Option ℕ)) (members : List ℕ) (os : List Origin) (c : ℕ) (x : ClassOf) → IsBuilt p blocks builders members os → c ≡ length builders → slice_get p.classes c ≡ Some x
+        → (has_builder p c ≡ (is_told (base_told builders x.base) || has_own (constructor_of p x))) × (init_code p x.base ≡ init_listed (base_told builders x.base))
+    builder_is_told blocks builders members os c x is at e = by_base x.base refl (has_builder_by_base p bases c x e)
+      where
+        turned : (a b : Bool) → (a || b) ≡ (b || a)
+        turned true true = refl
+        turned true false = refl
+        turned false true = refl
+        turned false false = refl
+
+        told_by : (t : Bool) (b : ℕ) → is_told (cond t (Some b) None) ≡ t
+        told_by true b = refl
+        told_by false b = refl
+
+        init_by : (t : Bool) (b : ℕ) → cond t (i.Init b ∷ []) [] ≡ init_listed (cond t (Some b) None)
+        init_by true b = refl
+        init_by false b = refl
+
+        by_base : (o : Option ℕ) → x.base ≡ o → has_builder p c ≡ (has_own (constructor_of p x) || has_of_base p bases o) → (has_builder p c ≡ (is_told (base_told builders o) || has_own (constructor_of p x))) × (init_code p o ≡ init_listed (base_told builders o))
+        by_base None q h = (h ∙ turned (has_own (constructor_of p x)) false, refl)
+        by_base (Some b) q h =
+            let less = bases c b x e q in
+            let within : b < length builders = omega (arith, less, at) in
+            let there = slice_get-get_or builders b None within in
+            let tells : is_told (unwrap_or (slice_get builders b) None) ≡ has_builder p b = ap (λ z. is_told (unwrap_or z None)) there ∙ is.builders_tell b (get_or builders b None) there in
+            (
+              h ∙ turned (has_own (constructor_of p x)) (has_builder p b) ∙ ap (λ z. z || has_own (constructor_of p x)) (sym (told_by (is_told (unwrap_or (slice_get builders b) None)) b ∙ tells)),
+              ap (λ z. cond z (i.Init b ∷ []) []) (sym tells) ∙ init_by (is_told (unwrap_or (slice_get builders b) None)) b,
+            )

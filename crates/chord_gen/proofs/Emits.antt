@@ -27,6 +27,10 @@ item_step xs k x l e =
     let n : suc k ≡ k + 1 = omega arith in
     drop-cons xs k x l ∙ ap (λ y. y ∷ drop (suc k) xs) (sym e) ∙ ap (λ m. x ∷ drop m xs) n
 
+-- the same where another value would stand for an item that is not there
+pub item_from : {A : Type 0} (xs : List A) (k : ℕ) (d : A) → k < length xs → drop k xs ≡ get_or xs k d ∷ drop (k + 1) xs
+item_from xs k d l = let n : suc k ≡ k + 1 = omega arith in drop-cons xs k d l ∙ ap (λ m. get_or xs k d ∷ drop m xs) n
+
 -- behind the last item there is none
 pub none_behind : {A : Type 0} (xs : List A) (k : ℕ) → length xs ≤ k → drop k xs ≡ []
 none_behind xs k l = drop_of_length-le xs l
