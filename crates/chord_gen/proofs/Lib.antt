@@ -10,3 +10,5 @@ mod Weights
 mod Emits
 mod Listed
 mod BuiltMore
+mod Narrow
+mod LinesTold

@@ -208,14 +208,14 @@ opening_length b =
 
 module _ (sig : Signatures) (p : Resolved) (plan : IsPlanned sig p) where
   -- arguments are as many as their parameters
-  arguments_count : (g : Scope) (args : ExprsOf) (ps : List StaticType) → ExprsAre sig g args ps → argument_count args ≡ length ps
+  pub arguments_count : (g : Scope) (args : ExprsOf) (ps : List StaticType) → ExprsAre sig g args ps → argument_count args ≡ length ps
   arguments_count g NoExprs [] e = refl
   arguments_count g (MoreExprs x rest) (t ∷ ps) e = ap suc (arguments_count g rest ps e.3)
   arguments_count g NoExprs (t ∷ ps) e = absurd e
   arguments_count g (MoreExprs x rest) [] e = absurd e
 
   -- a method of a signature has a number below 16, and at most eight parameters
-  method_right : (c j : ℕ) (m : Signature) (n : ℕ) → sig.methods c j ≡ Some m → n ≡ length m.parameters → (j < 16) × (n ≤ 8)
+  pub method_right : (c j : ℕ) (m : Signature) (n : ℕ) → sig.methods c j ≡ Some m → n ≡ length m.parameters → (j < 16) × (n ≤ 8)
   method_right c j m n e k =
       let q = plan.methods c j m e in
       let within = slice_get_within q.0.methods j q.1 q.3 in
@@ -225,7 +225,7 @@ module _ (sig : Signatures) (p : Resolved) (plan : IsPlanned sig p) where
       (omega (arith, within, few), omega (arith, k, parameters, same))
 
   -- a class that is built is one of the plan's, of at most eight parameters
-  new_right : (c : ℕ) (ps : List StaticType) (n : ℕ) → sig.builders c ≡ Some ps → n ≡ length ps → (c < length p.classes) × (n ≤ 8)
+  pub new_right : (c : ℕ) (ps : List StaticType) (n : ℕ) → sig.builders c ≡ Some ps → n ≡ length ps → (c < length p.classes) × (n ≤ 8)
   new_right c ps n e k =
       let x = plan.classes c ps e in
       let few = plan.few_built c ps e in

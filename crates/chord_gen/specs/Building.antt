@@ -2,14 +2,17 @@
 use Rattle.std.specs.Prelude.{◌≡◌, ◌<◌, ◌≤◌, ℕ, zero, suc, ◌+◌, List, [], ◌∷◌, ◌++◌, map, length, Bool, true, false, cond, Option, Some, None, unwrap_or, slice_get, option_and_then}
 use Rattle.chord_base.specs.Types.{Signatures}
 use Rattle.chord_bodies.specs.declared.body.Body.{Body}
-use Rattle.chord_bodies.specs.Resolved.{BodyOf, LayoutOf, Resolved}
+use Rattle.chord_bodies.specs.declared.plan.ChordPlan.{ChordPlan}
+use Rattle.chord_bodies.specs.Resolved.{BodyOf, ChordOf, ClassOf, LayoutOf, Resolved}
 use Rattle.chord_bodies.specs.BodyView.{view_body}
 use Rattle.chord_bodies.specs.Planned.{IsPlanned}
 use Rattle.chord_code.specs.declared.instruction.Instruction.{Instruction}
 use Rattle.chord_code.specs.declared.instruction.Instruction.TheVariants as i
 use Rattle.chord_source.specs.Laws.{AreWellTyped}
 use Rattle.chord_code.specs.declared.parts.Block.{Block}
-use Rattle.chord_gen.specs.Translation.{has_builder, Origin, OfMain, OfBuilder, OfBody, number_of, block_of}
+use Rattle.chord_code.specs.declared.parts.ChordLine.{ChordLine}
+use Rattle.chord_code.specs.declared.parts.ClassLine.{ClassLine}
+use Rattle.chord_gen.specs.Translation.{has_builder, Origin, OfMain, OfBuilder, OfBody, number_of, block_of, method_line}
 use Rattle.chord_gen.specs.Emitting.{AreNarrowStmts}
 
 -- the source of a plan and of bodies in memory
@@ -66,3 +69,21 @@ base_told builders (Some b) = cond (is_told (unwrap_or (slice_get builders b) No
 -- the blocks of the class of number c: its builder, if it has one, and the bodies of its own chords
 abbrev pub class_origins : Resolved → ℕ → List ℕ → List Origin
 class_origins p c own = cond (has_builder p c) (OfBuilder c ∷ []) [] ++ map OfBody own
+
+-- a chord has at most eight methods, whose numbers fit a line
+pub record ChordFits (chord : ChordPlan) : Type 0 where
+  pub few : length chord.methods.items ≤ 8
+  pub low : (k j : ℕ) → slice_get chord.methods.items k ≡ Some j → j < 16
+
+-- the line of a chord, by the numbers that are told for members
+abbrev pub told_line : List ℕ → ChordOf → ChordLine
+told_line members k = record { block = unwrap_or (slice_get members k.body) 0; methods = k.methods }
+
+-- the line of the class of number c, by the numbers that are told
+abbrev pub told_class : List (Option ℕ) → List ℕ → ℕ → ClassOf → ClassLine
+told_class builders members c x = record {
+  name = x.name;
+  builder = unwrap_or (slice_get builders c) None;
+  methods = map method_line x.methods;
+  chords = map (told_line members) x.chords;
+}
