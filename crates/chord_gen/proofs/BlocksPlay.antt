@@ -22,8 +22,8 @@ use Rattle.chord_code.specs.declared.parts.Block.{Block}
 use Rattle.chord_code.specs.declared.parts.ClassLine.{ClassLine}
 use Rattle.chord_code.specs.declared.parts.Parts.{Parts}
 use Rattle.chord_code.specs.declared.awaited.Awaited.TheVariants.{ForObject}
-use Rattle.chord_code.specs.Slots.{with_first, slots_of}
-use Rattle.chord_code.specs.Machine.{Frame, instr_in, builder_in, builder_by, builder_at, builder_of, makes_object, init_by, enters, next_place, with_stack, with_object, started, body_in, body_in_block, act, step, pops}
+use Rattle.chord_code.specs.Slots.{with_first, first_slots}
+use Rattle.chord_code.specs.Machine.{Frame, instr_in, builder_in, builder_by, builder_of_line, builder_of, makes_object, init_by, enters, next_place, with_stack, with_object, begins_block, body_in, body_in_block, act, step, pops}
 use Rattle.chord_code.specs.Meaning as meaning
 use Rattle.chord_code.specs.Plays.{Play, MakesObject, Plays}
 use Rattle.chord_code.specs.Sound.{HasMethod}
@@ -50,16 +50,16 @@ stands_from code b k e (x ∷ is) pre l =
     (ap (λ o. instr_in o (length pre)) e ∙ ap (λ xs. slice_get xs (length pre)) l ∙ at, subst (λ m. HasAt code b m is) n rest)
 
 -- no more values than there are slots fill them
-enough_slots : (m : ℕ) (xs : List Value) → length xs ≤ m → (vs : List Value) × (slots_of m xs ≡ Some vs)
+enough_slots : (m : ℕ) (xs : List Value) → length xs ≤ m → (vs : List Value) × (first_slots m xs ≡ Some vs)
 enough_slots zero [] h = ([], refl)
 enough_slots zero (x ∷ xs) h = absurd (omega (arith, h))
 enough_slots (suc m) [] h = let q = enough_slots m [] (omega arith) in (NoValue ∷ q.0, ap (with_first NoValue) q.1)
 enough_slots (suc m) (x ∷ xs) h = let q = enough_slots m xs (omega (arith, h)) in (x ∷ q.0, ap (with_first x) q.1)
 
 -- the first slot holds the first value
-first_slot_is : (m : ℕ) (x : Value) (xs vs : List Value) → slots_of m (x ∷ xs) ≡ Some vs → slice_get vs 0 ≡ Some x
+first_slot_is : (m : ℕ) (x : Value) (xs vs : List Value) → first_slots m (x ∷ xs) ≡ Some vs → slice_get vs 0 ≡ Some x
 first_slot_is zero x xs vs e = absurd (none-some _ e)
-first_slot_is (suc m) x xs vs e = by_rest (slots_of m xs) e
+first_slot_is (suc m) x xs vs e = by_rest (first_slots m xs) e
   where
     by_rest : (o : Option (List Value)) → with_first x o ≡ Some vs → slice_get vs 0 ≡ Some x
     by_rest None e = absurd (none-some _ e)
@@ -108,7 +108,7 @@ module _ (p : Resolved) (code : Parts) (is : code ≡ code_of p) (bases : (c b :
 
   -- the builder of a class is the block at the number that is told for it
   builder_by_number : (c : ℕ) (x : ClassOf) → slice_get p.classes c ≡ Some x → builder_of code c ≡ builder_by code (number_of (OfBuilder c) (origins p))
-  builder_by_number c x e = let q = class_there c x e in ap (builder_at code) q.1 ∙ ap (λ (z : ClassLine). builder_by code z.builder) q.2
+  builder_by_number c x e = let q = class_there c x e in ap (builder_of_line code) q.1 ∙ ap (λ (z : ClassLine). builder_by code z.builder) q.2
 
   -- a class without a builder is told none
   builder_is_absent : (c : ℕ) (x : ClassOf) → slice_get p.classes c ≡ Some x → has_builder p c ≡ false → builder_of code c ≡ Some None
@@ -135,7 +135,7 @@ module _ (p : Resolved) (code : Parts) (is : code ≡ code_of p) (bases : (c b :
       plays_on code (here b room (f ∷ below) q [] vs t) (record { top = f; below = below; turns = t }) (k t) (one_step code room (make_object p room) np b (f ∷ below) q [] vs t i.Back at) (h t)
 
   -- the code of a class's own constructor does what that does, and goes back
-  constructor_plays : (room : ℕ) (np : MakerPlays code room (make_object p room)) (n : ℕ) (f : Frame) (below : List Frame) (own : Option BodyOf) (o : Value) (xs vs : List Value) → slots_of (own_slots own) (o ∷ xs) ≡ Some vs → (k : ℕ → Play) → ((t : ℕ) → Plays code (k t) (Some (record { top = f; below = below; turns = t })))
+  constructor_plays : (room : ℕ) (np : MakerPlays code room (make_object p room)) (n : ℕ) (f : Frame) (below : List Frame) (own : Option BodyOf) (o : Value) (xs vs : List Value) → first_slots (own_slots own) (o ∷ xs) ≡ Some vs → (k : ℕ → Play) → ((t : ℕ) → Plays code (k t) (Some (record { top = f; below = below; turns = t })))
       → (q : ℕ) → HasAt code n q (own_code own q ++ i.Back ∷ []) → (t : ℕ) → Plays code (run_constructor room (make_object p room) own o xs k t) (Some (here n room (f ∷ below) q [] vs t))
   constructor_plays room np n f below None o xs vs e k h q at t = builder_goes_back room np n f below k h q vs t at.0
   constructor_plays room np n f below (Some b) o xs vs e k h q at t =
@@ -146,38 +146,38 @@ module _ (p : Resolved) (code : Parts) (is : code ≡ code_of p) (bases : (c b :
 
   -- the builder of a class does what the constructors of the class and of those above it do
   builder_plays : (room : ℕ) (np : MakerPlays code room (make_object p room)) (count c : ℕ) (x : ClassOf) → c < count → slice_get p.classes c ≡ Some x → (n : ℕ) (k : Block) → slice_get code.blocks n ≡ Some k → k ≡ builder_block p (Some x) → (f : Frame) (below : List Frame) (o : Value) (xs : List Value) → length xs ≤ class_arity p x
-      → (then : ℕ → Play) → ((t : ℕ) → Plays code (then t) (Some (record { top = f; below = below; turns = t }))) → (t : ℕ) → Plays code (build p room (make_object p room) (Some x) count o xs then t) (started n room t (f ∷ below) (slots_of (own_slots (constructor_of p x)) (o ∷ xs)))
+      → (then : ℕ → Play) → ((t : ℕ) → Plays code (then t) (Some (record { top = f; below = below; turns = t }))) → (t : ℕ) → Plays code (build p room (make_object p room) (Some x) count o xs then t) (begins_block n room t (f ∷ below) (first_slots (own_slots (constructor_of p x)) (o ∷ xs)))
   builder_plays room np zero c x l e n k there same f below o xs few then h t = absurd (omega (arith, l))
   builder_plays room np (suc count) c x l e n k there same f below o xs few then h t =
       let slots = enough_slots (own_slots (constructor_of p x)) (o ∷ xs) (own_slots_suffice (constructor_of p x) o xs few) in
       let at = has_block n k (builder_block p (Some x)) there same in
-      subst (λ z. Plays code (build p room (make_object p room) (Some x) (suc count) o xs then t) (started n room t (f ∷ below) z)) (sym slots.1)
+      subst (λ z. Plays code (build p room (make_object p room) (Some x) (suc count) o xs then t) (begins_block n room t (f ∷ below) z)) (sym slots.1)
       (by_base slots.0 slots.1
       (λ b y less there2 m kb at2 is2 g then2 h2. builder_plays room np count b y less there2 m kb at2 is2 g (f ∷ below) o [] (omega arith) then2 h2 t)
       x.base refl at)
     where
-      own : (vs : List Value) → slots_of (own_slots (constructor_of p x)) (o ∷ xs) ≡ Some vs → (q : ℕ) → HasAt code n q (own_code (constructor_of p x) q ++ i.Back ∷ []) → (t' : ℕ) → Plays code (run_constructor room (make_object p room) (constructor_of p x) o xs then t') (Some (here n room (f ∷ below) q [] vs t'))
+      own : (vs : List Value) → first_slots (own_slots (constructor_of p x)) (o ∷ xs) ≡ Some vs → (q : ℕ) → HasAt code n q (own_code (constructor_of p x) q ++ i.Back ∷ []) → (t' : ℕ) → Plays code (run_constructor room (make_object p room) (constructor_of p x) o xs then t') (Some (here n room (f ∷ below) q [] vs t'))
       own vs e2 q at t' = constructor_plays room np n f below (constructor_of p x) o xs vs e2 then h q at t'
 
       -- a base with a builder: it begins, and goes back to the own constructor
-      with_base : (vs : List Value) → slots_of (own_slots (constructor_of p x)) (o ∷ xs) ≡ Some vs → (b : ℕ) (y : ClassOf) → b < c → slice_get p.classes b ≡ Some y → has_builder p b ≡ true → HasAt code n 0 (then_code 0 (i.Init b ∷ []) (λ a. own_code (constructor_of p x) a ++ i.Back ∷ []))
-          → ((m : ℕ) (kb : Block) → slice_get code.blocks m ≡ Some kb → kb ≡ builder_block p (Some y) → (g : Frame) (then2 : ℕ → Play) → ((t : ℕ) → Plays code (then2 t) (Some (record { top = g; below = f ∷ below; turns = t }))) → Plays code (build p room (make_object p room) (Some y) count o [] then2 t) (started m room t (g ∷ f ∷ below) (slots_of (own_slots (constructor_of p y)) (o ∷ []))))
+      with_base : (vs : List Value) → first_slots (own_slots (constructor_of p x)) (o ∷ xs) ≡ Some vs → (b : ℕ) (y : ClassOf) → b < c → slice_get p.classes b ≡ Some y → has_builder p b ≡ true → HasAt code n 0 (then_code 0 (i.Init b ∷ []) (λ a. own_code (constructor_of p x) a ++ i.Back ∷ []))
+          → ((m : ℕ) (kb : Block) → slice_get code.blocks m ≡ Some kb → kb ≡ builder_block p (Some y) → (g : Frame) (then2 : ℕ → Play) → ((t : ℕ) → Plays code (then2 t) (Some (record { top = g; below = f ∷ below; turns = t }))) → Plays code (build p room (make_object p room) (Some y) count o [] then2 t) (begins_block m room t (g ∷ f ∷ below) (first_slots (own_slots (constructor_of p y)) (o ∷ []))))
           → Plays code (build p room (make_object p room) (Some y) count o [] (run_constructor room (make_object p room) (constructor_of p x) o xs then) t) (Some (here n room (f ∷ below) 0 [] vs t))
       with_base vs e2 b y less there2 has at ih =
           let base = builder_is_there b y there2 has in
           let m = here n room (f ∷ below) 0 [] vs t in
           let slots : base.block.slots ≡ own_slots (constructor_of p y) = ap (λ (z : Block). z.slots) base.same in
           let then2 = run_constructor room (make_object p room) (constructor_of p x) o xs then in
-          plays_enter code m (started base.number room t (next_place m.top ∷ f ∷ below) (slots_of (own_slots (constructor_of p y)) (o ∷ []))) (build p room (make_object p room) (Some y) count o [] then2 t)
-          (one_step code room (make_object p room) np n (f ∷ below) 0 [] vs t (i.Init b) at.0 ∙ ap (λ z. init_by m z (builder_of code b)) (first_slot_is (own_slots (constructor_of p x)) o xs vs e2) ∙ ap (init_by m (Some o)) base.named ∙ ap (λ z. enters (started base.number room t (next_place m.top ∷ f ∷ below) (slots_of z (o ∷ [])))) slots)
+          plays_enter code m (begins_block base.number room t (next_place m.top ∷ f ∷ below) (first_slots (own_slots (constructor_of p y)) (o ∷ []))) (build p room (make_object p room) (Some y) count o [] then2 t)
+          (one_step code room (make_object p room) np n (f ∷ below) 0 [] vs t (i.Init b) at.0 ∙ ap (λ z. init_by m z (builder_of code b)) (first_slot_is (own_slots (constructor_of p x)) o xs vs e2) ∙ ap (init_by m (Some o)) base.named ∙ ap (λ z. enters (begins_block base.number room t (next_place m.top ∷ f ∷ below) (first_slots z (o ∷ [])))) slots)
           (ih base.number base.block base.there base.same (next_place m.top) then2 (λ t'. own vs e2 1 at.1 t'))
 
-      without : (vs : List Value) → slots_of (own_slots (constructor_of p x)) (o ∷ xs) ≡ Some vs → (z : Option ClassOf) → builds p z count ≡ false → HasAt code n 0 (own_code (constructor_of p x) 0 ++ i.Back ∷ []) → Plays code (build p room (make_object p room) z count o [] (run_constructor room (make_object p room) (constructor_of p x) o xs then) t) (Some (here n room (f ∷ below) 0 [] vs t))
+      without : (vs : List Value) → first_slots (own_slots (constructor_of p x)) (o ∷ xs) ≡ Some vs → (z : Option ClassOf) → builds p z count ≡ false → HasAt code n 0 (own_code (constructor_of p x) 0 ++ i.Back ∷ []) → Plays code (build p room (make_object p room) z count o [] (run_constructor room (make_object p room) (constructor_of p x) o xs then) t) (Some (here n room (f ∷ below) 0 [] vs t))
       without vs e2 z none at =
           subst (λ q. Plays code q (Some (here n room (f ∷ below) 0 [] vs t))) (sym (nothing_is_built p room (make_object p room) z count o [] (run_constructor room (make_object p room) (constructor_of p x) o xs then) t none)) (own vs e2 0 at t)
 
-      by_base : (vs : List Value) → slots_of (own_slots (constructor_of p x)) (o ∷ xs) ≡ Some vs
-          → ((b : ℕ) (y : ClassOf) → b < count → slice_get p.classes b ≡ Some y → (m : ℕ) (kb : Block) → slice_get code.blocks m ≡ Some kb → kb ≡ builder_block p (Some y) → (g : Frame) (then2 : ℕ → Play) → ((t : ℕ) → Plays code (then2 t) (Some (record { top = g; below = f ∷ below; turns = t }))) → Plays code (build p room (make_object p room) (Some y) count o [] then2 t) (started m room t (g ∷ f ∷ below) (slots_of (own_slots (constructor_of p y)) (o ∷ []))))
+      by_base : (vs : List Value) → first_slots (own_slots (constructor_of p x)) (o ∷ xs) ≡ Some vs
+          → ((b : ℕ) (y : ClassOf) → b < count → slice_get p.classes b ≡ Some y → (m : ℕ) (kb : Block) → slice_get code.blocks m ≡ Some kb → kb ≡ builder_block p (Some y) → (g : Frame) (then2 : ℕ → Play) → ((t : ℕ) → Plays code (then2 t) (Some (record { top = g; below = f ∷ below; turns = t }))) → Plays code (build p room (make_object p room) (Some y) count o [] then2 t) (begins_block m room t (g ∷ f ∷ below) (first_slots (own_slots (constructor_of p y)) (o ∷ []))))
           → (base : Option ℕ) → x.base ≡ base → HasAt code n 0 (then_code 0 (init_code p base) (λ a. own_code (constructor_of p x) a ++ i.Back ∷ []))
           → Plays code (build p room (make_object p room) (option_and_then (λ b. slice_get p.classes b) base) count o [] (run_constructor room (make_object p room) (constructor_of p x) o xs then) t) (Some (here n room (f ∷ below) 0 [] vs t))
       by_base vs e2 ih None q at = own vs e2 0 at t
@@ -224,7 +224,7 @@ module _ (p : Resolved) (code : Parts) (is : code ≡ code_of p) (bases : (c b :
             λ o.
                 subst (λ z. Plays code (build p room (make_object p room) (Some x) (length p.classes) (Ref o) xs (k (Ref o)) t) z)
                 (sym (ap (with_object (here b (suc room) below (suc q) (all_pushed xs s) vs t) (Some (builder.number, builder.block.slots)) o) (pushed_are_popped xs s)
-                ∙ ap (λ z. started builder.number room t (with_stack (here b (suc room) below (suc q) (all_pushed xs s) vs t).top (Ref o ∷ s) ∷ below) (slots_of z (Ref o ∷ xs))) slots))
+                ∙ ap (λ z. begins_block builder.number room t (with_stack (here b (suc room) below (suc q) (all_pushed xs s) vs t).top (Ref o ∷ s) ∷ below) (first_slots z (Ref o ∷ xs))) slots))
                 (builder_plays room np (length p.classes) c x within e builder.number builder.block builder.there builder.same (with_stack (here b (suc room) below (suc q) (all_pushed xs s) vs t).top (Ref o ∷ s)) below (Ref o) xs (omega (arith, few)) (k (Ref o)) (λ t'. h (Ref o) t') t),
           )
 
@@ -247,10 +247,10 @@ module _ (p : Resolved) (code : Parts) (is : code ≡ code_of p) (bases : (c b :
   body_plays room n k there b same xs t =
       let slots : k.slots ≡ body.slots_of b = ap (λ (z : Block). z.slots) same in
       let at = has_block n k (body_block (Some b)) there same in
-      let begun : body_in_block code n room xs t ≡ started n room t [] (slots_of (body.slots_of b) xs) = ap (λ o. body_in o n room xs t) there ∙ ap (λ z. started n room t [] (slots_of z xs)) slots in
-      subst (Plays code (run_body room (make_object p room) None b xs t)) (sym begun) (by_slots at (slots_of (body.slots_of b) xs))
+      let begun : body_in_block code n room xs t ≡ begins_block n room t [] (first_slots (body.slots_of b) xs) = ap (λ o. body_in o n room xs t) there ∙ ap (λ z. begins_block n room t [] (first_slots z xs)) slots in
+      subst (Plays code (run_body room (make_object p room) None b xs t)) (sym begun) (by_slots at (first_slots (body.slots_of b) xs))
     where
-      by_slots : HasAt code n 0 (stmts_code false b.stmts 0 ++ i.End ∷ []) → (o : Option (List Value)) → Plays code (on_found o (λ vs. execute_all room (make_object p room) None b.stmts (λ vs'. return_nothing None) vs t)) (started n room t [] o)
+      by_slots : HasAt code n 0 (stmts_code false b.stmts 0 ++ i.End ∷ []) → (o : Option (List Value)) → Plays code (on_found o (λ vs. execute_all room (make_object p room) None b.stmts (λ vs'. return_nothing None) vs t)) (begins_block n room t [] o)
       by_slots at None = tt
       by_slots at (Some vs) =
           let c = stmts_code false b.stmts 0 in
@@ -269,17 +269,17 @@ module _ (p : Resolved) (code : Parts) (is : code ≡ code_of p) (bases : (c b :
 
   -- the chords of a class are the lines of the plan's chords
   chords_behind : (c : ℕ) → meaning.chord_lines code c ≡ map (chord_line p) (class_chords (slice_get p.classes c))
-  chords_behind c = ap meaning.chords_in (class_behind c) ∙ by_class (slice_get p.classes c)
+  chords_behind c = ap meaning.chords_of_line (class_behind c) ∙ by_class (slice_get p.classes c)
     where
-      by_class : (x : Option ClassOf) → meaning.chords_in (option_map (class_line p c) x) ≡ map (chord_line p) (class_chords x)
+      by_class : (x : Option ClassOf) → meaning.chords_of_line (option_map (class_line p c) x) ≡ map (chord_line p) (class_chords x)
       by_class None = refl
       by_class (Some x) = refl
 
   -- the methods of a class are the lines of the plan's methods
-  methods_behind : (c : ℕ) → meaning.methods_at code c ≡ map method_line (class_methods (slice_get p.classes c))
-  methods_behind c = ap meaning.methods_in (class_behind c) ∙ by_class (slice_get p.classes c)
+  methods_behind : (c : ℕ) → meaning.listed_methods code c ≡ map method_line (class_methods (slice_get p.classes c))
+  methods_behind c = ap meaning.methods_of_line (class_behind c) ∙ by_class (slice_get p.classes c)
     where
-      by_class : (x : Option ClassOf) → meaning.methods_in (option_map (class_line p c) x) ≡ map method_line (class_methods x)
+      by_class : (x : Option ClassOf) → meaning.methods_of_line (option_map (class_line p c) x) ≡ map method_line (class_methods x)
       by_class None = refl
       by_class (Some x) = refl
 

@@ -9,7 +9,7 @@ use Rattle.std.proofs.lemmas.Bool.{false≢true}
 use Rattle.chord_bodies.specs.Types.{Signatures, HaveAll, Scope, Extends, ValueDue, ExprIs, StmtIs, StmtsAre, is_true, returns, one_returns, this_in, opening, slot_types, BodyIs}
 use Rattle.chord_bodies.specs.Planned.{Inherits}
 use Rattle.chord_code.specs.Plays.{Good}
-use Rattle.chord_code.specs.Slots.{set_slot, slots_of}
+use Rattle.chord_code.specs.Slots.{set_slot, first_slots}
 use Rattle.chord_source.specs.Continuing.{Continuation, Maker, Leaving, rounds, return_nothing}
 use Rattle.chord_source.specs.Expressions.{evaluate}
 use Rattle.chord_source.specs.Statements.{execute, execute_all, run_body}
@@ -96,10 +96,10 @@ module _ (sig : Signatures) (r : Option StaticType) (law : Inherits sig) (room :
   body_good out b is x xs n i a o =
       let q = slots_open sig law b.parameters b.locals xs a in
       let e : body.slots_of b ≡ suc (length b.parameters + length b.locals) = omega arith in
-      let there : slots_of (body.slots_of b) (x ∷ xs) ≡ Some (x ∷ q.0) = slots_of_from (body.slots_of b) (length b.parameters + length b.locals) x xs q.0 e q.1 in
-      found_good sig r (slots_of (body.slots_of b) (x ∷ xs)) (x ∷ q.0) (λ vs. execute_all room maker out b.stmts (λ ws. return_nothing out) vs n) there
+      let there : first_slots (body.slots_of b) (x ∷ xs) ≡ Some (x ∷ q.0) = slots_of_from (body.slots_of b) (length b.parameters + length b.locals) x xs q.0 e q.1 in
+      found_good sig r (first_slots (body.slots_of b) (x ∷ xs)) (x ∷ q.0) (λ vs. execute_all room maker out b.stmts (λ ws. return_nothing out) vs n) there
       (statements_good (slot_types b) b.result out b.stmts (opening b) is.last is.stmts (λ ws. return_nothing out) (x ∷ q.0) n (i, q.2) o
       (λ f vs1 n1 s1 l1. end_good b.result out (one_returns b.stmts) n1 f is.ends (leaving_with_less sig r b.result out n n1 l1 o)))
     where
-      slots_of_from : (m n : ℕ) (x : Value) (xs vs : List Value) → m ≡ suc n → slots_of n xs ≡ Some vs → slots_of m (x ∷ xs) ≡ Some (x ∷ vs)
+      slots_of_from : (m n : ℕ) (x : Value) (xs vs : List Value) → m ≡ suc n → first_slots n xs ≡ Some vs → first_slots m (x ∷ xs) ≡ Some (x ∷ vs)
       slots_of_from m n x xs vs e f = rw e (rw f refl)

@@ -6,7 +6,7 @@ use Rattle.chord_base.specs.declared.value.Value.{Value}
 use Rattle.chord_base.specs.declared.value.Value.TheVariants.{Unit as NoValue, Int, Flag, Text, Ref}
 use Rattle.chord_base.specs.declared.static_type.StaticType.{StaticType}
 use Rattle.chord_base.specs.declared.static_type.StaticType.TheVariants as ty
-use Rattle.chord_code.specs.Slots.{with_first, set_slot, slots_of}
+use Rattle.chord_code.specs.Slots.{with_first, set_slot, first_slots}
 use Rattle.chord_bodies.specs.Types.{Signatures, fits, Has, HaveAll, Scope, Extends, declared}
 use Rattle.chord_bodies.specs.Planned.{Inherits}
 
@@ -62,16 +62,16 @@ module _ (sig : Signatures) (law : Inherits sig) where
       (w ∷ q.0, ap (with_first w) q.1, (s.0, q.2))
 
   -- there are slots for locals, of which nothing is told yet
-  pub locals_open : (ls : List StaticType) → (vs : List Value) × (slots_of (length ls) [] ≡ Some vs) × SlotsAre sig (map (λ t. None) ls) vs
+  pub locals_open : (ls : List StaticType) → (vs : List Value) × (first_slots (length ls) [] ≡ Some vs) × SlotsAre sig (map (λ t. None) ls) vs
   locals_open [] = ([], refl, tt)
   locals_open (t ∷ ls) = let q = locals_open ls in (NoValue ∷ q.0, ap (with_first NoValue) q.1, (tt, q.2))
 
   -- as many slots are filled alike
-  pub filled_alike : (m n : ℕ) (xs : List Value) (vs : List Value) → m ≡ n → slots_of n xs ≡ Some vs → slots_of m xs ≡ Some vs
-  filled_alike m n xs vs e f = ap (λ z. slots_of z xs) e ∙ f
+  pub filled_alike : (m n : ℕ) (xs : List Value) (vs : List Value) → m ≡ n → first_slots n xs ≡ Some vs → first_slots m xs ≡ Some vs
+  filled_alike m n xs vs e f = ap (λ z. first_slots z xs) e ∙ f
 
   -- a body that begins on values of its parameters' types has slots, which hold what is in scope there
-  pub slots_open : (ps ls : List StaticType) (xs : List Value) → HaveAll sig ps xs → (vs : List Value) × (slots_of (length ps + length ls) xs ≡ Some vs) × SlotsAre sig (map (λ t. Some t) ps ++ map (λ t. None) ls) vs
+  pub slots_open : (ps ls : List StaticType) (xs : List Value) → HaveAll sig ps xs → (vs : List Value) × (first_slots (length ps + length ls) xs ≡ Some vs) × SlotsAre sig (map (λ t. Some t) ps ++ map (λ t. None) ls) vs
   slots_open [] ls [] h =
       let q = locals_open ls in
       let e : length {A = StaticType} [] + length ls ≡ length ls = omega arith in

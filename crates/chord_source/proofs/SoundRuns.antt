@@ -24,7 +24,7 @@ use Rattle.chord_code.specs.declared.parts.Parts.{Parts}
 use Rattle.chord_code.specs.Machine.{IsForward}
 use Rattle.chord_code.specs.Meaning.{code_program}
 use Rattle.chord_code.specs.Plays.{Play, MakesObject, SendsMessage, CallsMethod, PrintsLine, EndsBody, GoesWrong, what_of, ask_of, left_after, Good}
-use Rattle.chord_code.specs.Runs.{sent, IsDueType, BodyIs, AllGood, AreLocal, IsPlan}
+use Rattle.chord_code.specs.Runs.{sent, IsDueType, BodyPlays, AllGood, AreLocal, IsPlan}
 use Rattle.chord_code.specs.Sound.{HasMethod, NamesMethod}
 use Rattle.chord_code.proofs.AllGood.{sent_more}
 use Rattle.chord_code.proofs.Runs.{playing_asks, source_asks, message_kind}
@@ -42,7 +42,7 @@ agrees_in_runs code fwd limits sig src fits local plan q chords sync next = reco
   chords = chords;
   is_sync = sync;
   next = λ h b d s rs past here.
-      source_asks code fwd limits sig src h b s d rs (subst (λ (z : Doing). BodyIs code limits sig src h b z) here ((all_good code fwd limits sig src fits local plan h past).bodies b))
+      source_asks code fwd limits sig src h b s d rs (subst (λ (z : Doing). BodyPlays code limits sig src h b z) here ((all_good code fwd limits sig src fits local plan h past).bodies b))
       ∙ sym (next s d rs);
 }
 
@@ -189,7 +189,7 @@ module _ (sig : Signatures) (p : Resolved) (typed : AreWellTyped sig p) (plan : 
       record { signature = q.0; found = q.1; kind = q.2; arguments = q.3 }
 
   -- what a body is to send is a message of an asynchronous method
-  sends_next : (h : List Entry) (b : ℕ) (o : Object) (j : ℕ) (vs : List Value) (l : ℕ) (d : Doing) → BodyIs code limits sig (play_of p limits) h b d → asked (code_program code limits) d ≡ Some (record { what = Sent o j vs; depth = l }) → NextMessage o j vs false
+  sends_next : (h : List Entry) (b : ℕ) (o : Object) (j : ℕ) (vs : List Value) (l : ℕ) (d : Doing) → BodyPlays code limits sig (play_of p limits) h b d → asked (code_program code limits) d ≡ Some (record { what = Sent o j vs; depth = l }) → NextMessage o j vs false
   sends_next h b o j vs l (Ready s d rs) k e = as_next_message o j vs false (message_kind sig k.kind k.play o j vs k.good (playing_asks code is.forward limits sig (play_of p limits) h b s d rs k (Sent o j vs) l e))
   sends_next h b o j vs l (Waits s d rs q l') k e = absurd (none-some _ e)
   sends_next h b o j vs l (Over x) k e = absurd (none-some _ e)
@@ -197,7 +197,7 @@ module _ (sig : Signatures) (p : Resolved) (typed : AreWellTyped sig p) (plan : 
   sends_next h b o j vs l Unplaced k e = absurd (none-some _ e)
 
   -- what a body is to call is a message of a synchronous method
-  calls_next : (h : List Entry) (b : ℕ) (o : Object) (j : ℕ) (vs : List Value) (l : ℕ) (d : Doing) → BodyIs code limits sig (play_of p limits) h b d → asked (code_program code limits) d ≡ Some (record { what = Called o j vs; depth = l }) → NextMessage o j vs true
+  calls_next : (h : List Entry) (b : ℕ) (o : Object) (j : ℕ) (vs : List Value) (l : ℕ) (d : Doing) → BodyPlays code limits sig (play_of p limits) h b d → asked (code_program code limits) d ≡ Some (record { what = Called o j vs; depth = l }) → NextMessage o j vs true
   calls_next h b o j vs l (Ready s d rs) k e = as_next_message o j vs true (call_has_kind sig k.kind k.play o j vs k.good (playing_asks code is.forward limits sig (play_of p limits) h b s d rs k (Called o j vs) l e))
   calls_next h b o j vs l (Waits s d rs q l') k e = absurd (none-some _ e)
   calls_next h b o j vs l (Over x) k e = absurd (none-some _ e)

@@ -5,7 +5,7 @@ use Rattle.chord_base.specs.Operators.{text_of}
 use Rattle.chord_bodies.specs.Resolved.{BodyOf, StmtOf, StmtsOf, Store, Do, Send, Print, IfThen, IfElse, While, Return, Give, Block, NoStmts, MoreStmts}
 use Rattle.chord_bodies.specs.Resolved as body
 use Rattle.chord_code.specs.Plays.{Play, PrintsLine}
-use Rattle.chord_code.specs.Slots.{slots_of, set_slot}
+use Rattle.chord_code.specs.Slots.{first_slots, set_slot}
 use Rattle.chord_source.specs.Continuing.{Continuation, Maker, Leaving, on_found, branch, send_to, rounds, return_nothing, return_value}
 use Rattle.chord_source.specs.Expressions.{evaluate, evaluate_all}
 
@@ -31,4 +31,4 @@ abbrev mutual
 
 -- a body begins with `this` and its arguments in its first slots and the unit value in all others, and returns at its end
 abbrev pub run_body : ℕ → Maker → Leaving → BodyOf → List Value → ℕ → Play
-run_body room maker out b xs t = on_found (slots_of (body.slots_of b) xs) (λ vs. execute_all room maker out b.stmts (λ ws. return_nothing out) vs t)
+run_body room maker out b xs t = on_found (first_slots (body.slots_of b) xs) (λ vs. execute_all room maker out b.stmts (λ ws. return_nothing out) vs t)
