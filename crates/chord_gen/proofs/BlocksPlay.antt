@@ -34,7 +34,7 @@ use Rattle.chord_source.specs.Objects.{constructor_of, base_class, constructor_a
 use Rattle.chord_source.specs.Source.{chord_body, class_chords, class_methods, plan_is_sync, play_of, source_program}
 use Rattle.chord_source.specs.Laws.{StartFits}
 use Rattle.chord_gen.specs.Emitted.{then_code, stmts_code}
-use Rattle.chord_gen.specs.Translation.{has_own, builds, has_builder, Origin, OfMain, OfBuilder, OfBody, origins, number_of, body_block, init_code, own_code, own_slots, builder_block, block_of, method_line, chord_line, class_line, code_of}
+use Rattle.chord_gen.specs.Translation.{has_own, builds, has_builder, Origin, OfMain, OfBuilder, OfBody, origins, block_number, body_block, init_code, own_code, own_slots, builder_block, block_of, method_line, chord_line, class_line, code_of}
 use Rattle.chord_gen.proofs.Steps.{HasAt, front_at, back_at, here, all_pushed, pushed_are_popped, comes_now, plays_on, plays_end, plays_enter}
 use Rattle.chord_gen.proofs.Follows.{MakerPlays, LeavingPlays, one_step, statements_play}
 use Rattle.chord_gen.proofs.Numbers.{origin_at, body_numbered, builder_numbered, builder_absent, line_at, builds_alike}
@@ -91,7 +91,7 @@ nothing_is_built p room maker (Some x) (suc n) v xs k t e =
 
 module _ (p : Resolved) (code : Parts) (is : code ≡ code_of p) (bases : (c b : ℕ) (x : ClassOf) → slice_get p.classes c ≡ Some x → x.base ≡ Some b → b < c) where
   -- at the number of an origin stands the block that is made from it
-  block_there : (o : Origin) (n : ℕ) → number_of o (origins p) ≡ Some n → (k : Block) × (slice_get code.blocks n ≡ Some k) × (k ≡ block_of p o)
+  block_there : (o : Origin) (n : ℕ) → block_number o (origins p) ≡ Some n → (k : Block) × (slice_get code.blocks n ≡ Some k) × (k ≡ block_of p o)
   block_there o n e = (block_of p o, ap (λ (z : Parts). slice_get z.blocks n) is ∙ slice_get-map (block_of p) (origins p) n ∙ ap (option_map (block_of p)) (origin_at o (origins p) n e), refl)
 
   -- the instructions of a block stand in it
@@ -107,7 +107,7 @@ module _ (p : Resolved) (code : Parts) (is : code ≡ code_of p) (bases : (c b :
   class_there c x e = (class_line p c x, class_behind c ∙ ap (option_map (class_line p c)) e, refl)
 
   -- the builder of a class is the block at the number that is told for it
-  builder_by_number : (c : ℕ) (x : ClassOf) → slice_get p.classes c ≡ Some x → builder_of code c ≡ builder_by code (number_of (OfBuilder c) (origins p))
+  builder_by_number : (c : ℕ) (x : ClassOf) → slice_get p.classes c ≡ Some x → builder_of code c ≡ builder_by code (block_number (OfBuilder c) (origins p))
   builder_by_number c x e = let q = class_there c x e in ap (builder_of_line code) q.1 ∙ ap (λ (z : ClassLine). builder_by code z.builder) q.2
 
   -- a class without a builder is told none
@@ -299,7 +299,7 @@ module _ (p : Resolved) (code : Parts) (is : code ≡ code_of p) (bases : (c b :
             let n = body_numbered p y.body own.0 own.1 own.2 own.3 in
             let there = block_there (OfBody y.body) n.0 n.1 in
             let line : slice_get (meaning.chord_lines code o.class) k ≡ Some (chord_line p y) = ap (λ z. slice_get z k) (chords_behind o.class) ∙ slice_get-map (chord_line p) (class_chords (slice_get p.classes o.class)) k ∙ ap (option_map (chord_line p)) q in
-            let number : unwrap_or (number_of (OfBody y.body) (origins p)) 0 ≡ n.0 = ap (λ z. unwrap_or z 0) n.1 in
+            let number : unwrap_or (block_number (OfBody y.body) (origins p)) 0 ≡ n.0 = ap (λ z. unwrap_or z 0) n.1 in
             let begun : meaning.begins code limits (Chord k o vs) d ≡ body_in_block code n.0 (limits.depth - d) (Ref o ∷ vs) limits.turns =
             ap (meaning.start_line code limits o vs d) line ∙ ap (λ z. body_in_block code z (limits.depth - d) (Ref o ∷ vs) limits.turns) number in
             let played : play_of p limits (Chord k o vs) d ≡ run_body (limits.depth - d) (make_object p (limits.depth - d)) None b (Ref o ∷ vs) limits.turns =

@@ -8,39 +8,40 @@ use Rattle.chord_bodies.specs.View.{view_class_plan}
 use Rattle.chord_bodies.specs.Resolved.{ClassOf, Resolved}
 use Rattle.chord_code.specs.declared.parts.Block.{Block}
 use Rattle.chord_source.specs.Objects.{constructor_of}
-use Rattle.chord_gen.specs.Translation.{has_own, has_builder, Origin, OfMain, OfBuilder, OfBody, is_origin, number_of, origins_from, one_more, block_of, init_code}
-use Rattle.chord_gen.specs.Building.{IsTypedSource, IsBuilt, class_origins, is_told, noted, base_told, init_listed}
+use Rattle.chord_gen.specs.Translation.{has_own, has_builder, Origin, OfMain, OfBuilder, OfBody, is_origin, block_number, origins_from, one_higher, block_of, init_code}
+use Rattle.chord_gen.specs.TypedSource.{IsTypedSource}
+use Rattle.chord_gen.specs.Building.{IsBuilt, class_origins, is_told, numbered_member, base_told, init_listed}
 use Rattle.chord_gen.proofs.Numbers.{has_of_base, has_builder_by_base}
 use Rattle.chord_code.specs.declared.instruction.Instruction.TheVariants as i
 
 -- a number that an origin has, it keeps where one more origin stands behind
-number_kept : (o x : Origin) (os : List Origin) (n : ℕ) → number_of o os ≡ Some n → number_of o (os ++ x ∷ []) ≡ Some n
+number_kept : (o x : Origin) (os : List Origin) (n : ℕ) → block_number o os ≡ Some n → block_number o (os ++ x ∷ []) ≡ Some n
 number_kept o x [] n e = absurd (none-some _ e)
 number_kept o x (y ∷ os) n e = by_first (is_origin o y) e (number_kept o x os)
   where
-    by_first : (b : Bool) → cond b (Some 0) (one_more (number_of o os)) ≡ Some n → ((m : ℕ) → number_of o os ≡ Some m → number_of o (os ++ x ∷ []) ≡ Some m) → cond b (Some 0) (one_more (number_of o (os ++ x ∷ []))) ≡ Some n
+    by_first : (b : Bool) → cond b (Some 0) (one_higher (block_number o os)) ≡ Some n → ((m : ℕ) → block_number o os ≡ Some m → block_number o (os ++ x ∷ []) ≡ Some m) → cond b (Some 0) (one_higher (block_number o (os ++ x ∷ []))) ≡ Some n
     by_first true e h = e
-    by_first false e h = by_number (number_of o os) refl e
+    by_first false e h = by_number (block_number o os) refl e
       where
-        by_number : (z : Option ℕ) → number_of o os ≡ z → one_more z ≡ Some n → one_more (number_of o (os ++ x ∷ [])) ≡ Some n
+        by_number : (z : Option ℕ) → block_number o os ≡ z → one_higher z ≡ Some n → one_higher (block_number o (os ++ x ∷ [])) ≡ Some n
         by_number None w e = absurd (none-some _ e)
-        by_number (Some m) w e = ap one_more (h m w) ∙ e
+        by_number (Some m) w e = ap one_higher (h m w) ∙ e
 
 -- another origin that stands behind gives an origin no number
-number_other : (o x : Origin) (os : List Origin) → is_origin o x ≡ false → number_of o (os ++ x ∷ []) ≡ number_of o os
+number_other : (o x : Origin) (os : List Origin) → is_origin o x ≡ false → block_number o (os ++ x ∷ []) ≡ block_number o os
 number_other o x [] e = rw e refl
-number_other o x (y ∷ os) e = ap (λ z. cond (is_origin o y) (Some 0) (one_more z)) (number_other o x os e)
+number_other o x (y ∷ os) e = ap (λ z. cond (is_origin o y) (Some 0) (one_higher z)) (number_other o x os e)
 
 -- an origin that had no number has that of the length before it
-number_new : (o x : Origin) (os : List Origin) → is_origin o x ≡ true → number_of o os ≡ None → number_of o (os ++ x ∷ []) ≡ Some (length os)
+number_new : (o x : Origin) (os : List Origin) → is_origin o x ≡ true → block_number o os ≡ None → block_number o (os ++ x ∷ []) ≡ Some (length os)
 number_new o x [] e n = rw e refl
 number_new o x (y ∷ os) e n = by_first (is_origin o y) n (number_new o x os e)
   where
-    by_first : (b : Bool) → cond b (Some 0) (one_more (number_of o os)) ≡ None → (number_of o os ≡ None → number_of o (os ++ x ∷ []) ≡ Some (length os)) → cond b (Some 0) (one_more (number_of o (os ++ x ∷ []))) ≡ Some (suc (length os))
+    by_first : (b : Bool) → cond b (Some 0) (one_higher (block_number o os)) ≡ None → (block_number o os ≡ None → block_number o (os ++ x ∷ []) ≡ Some (length os)) → cond b (Some 0) (one_higher (block_number o (os ++ x ∷ []))) ≡ Some (suc (length os))
     by_first true n h = absurd (none-some _ (sym n))
-    by_first false n h = ap one_more (h (by_number (number_of o os) n))
+    by_first false n h = ap one_higher (h (by_number (block_number o os) n))
       where
-        by_number : (z : Option ℕ) → one_more z ≡ None → z ≡ None
+        by_number : (z : Option ℕ) → one_higher z ≡ None → z ≡ None
         by_number None w = refl
         by_number (Some m) w = absurd (none-some _ (sym w))
 
@@ -54,31 +55,31 @@ pub map_count : {A B : Type 0} (f : A → B) (xs : List A) → length (map f xs)
 map_count f [] = refl
 map_count f (x ∷ xs) = ap suc (map_count f xs)
 
--- a number is noted where 0 stands
-pub noted_there : (ms : List ℕ) (j n d : ℕ) → j < length ms → get_or ms j d ≡ 0 → slice_set ms j n ≡ noted ms j n
+-- a number is numbered_member where 0 stands
+pub noted_there : (ms : List ℕ) (j n d : ℕ) → j < length ms → get_or ms j d ≡ 0 → slice_set ms j n ≡ numbered_member ms j n
 noted_there [] j n d l e = absurd (omega arith)
 noted_there (zero ∷ ms) zero n d l e = refl
 noted_there (suc m ∷ ms) zero n d l e = absurd (omega (arith, e))
 noted_there (zero ∷ ms) (suc j) n d l e = ap (λ z. 0 ∷ z) (noted_there ms j n d (omega arith) e)
 noted_there (suc m ∷ ms) (suc j) n d l e = ap (λ z. suc m ∷ z) (noted_there ms j n d (omega arith) e)
 
--- no number is noted where another stands
-pub noted_never : (ms : List ℕ) (j n d : ℕ) → j < length ms → (get_or ms j d ≡ 0 → ⊥) → ms ≡ noted ms j n
+-- no number is numbered_member where another stands
+pub noted_never : (ms : List ℕ) (j n d : ℕ) → j < length ms → (get_or ms j d ≡ 0 → ⊥) → ms ≡ numbered_member ms j n
 noted_never [] j n d l h = refl
 noted_never (zero ∷ ms) zero n d l h = absurd (h refl)
 noted_never (suc m ∷ ms) zero n d l h = refl
 noted_never (zero ∷ ms) (suc j) n d l h = ap (λ z. 0 ∷ z) (noted_never ms j n d (omega arith) h)
 noted_never (suc m ∷ ms) (suc j) n d l h = ap (λ z. suc m ∷ z) (noted_never ms j n d (omega arith) h)
 
--- no number is noted past the end
-pub noted_past : (ms : List ℕ) (j n : ℕ) → length ms ≤ j → ms ≡ noted ms j n
+-- no number is numbered_member past the end
+pub noted_past : (ms : List ℕ) (j n : ℕ) → length ms ≤ j → ms ≡ numbered_member ms j n
 noted_past [] j n l = refl
 noted_past (m ∷ ms) zero n l = absurd (omega arith)
 noted_past (zero ∷ ms) (suc j) n l = ap (λ z. 0 ∷ z) (noted_past ms j n (omega arith))
 noted_past (suc m ∷ ms) (suc j) n l = ap (λ z. suc m ∷ z) (noted_past ms j n (omega arith))
 
--- where a number is noted there are as many
-noted_length : (ms : List ℕ) (j n : ℕ) → length (noted ms j n) ≡ length ms
+-- where a number is numbered_member there are as many
+noted_length : (ms : List ℕ) (j n : ℕ) → length (numbered_member ms j n) ≡ length ms
 noted_length [] j n = refl
 noted_length (zero ∷ ms) zero n = refl
 noted_length (suc m ∷ ms) zero n = refl
@@ -95,8 +96,8 @@ one_deeper : (k j m old n : ℕ) → ((k ≡ j) × (m ≡ in_place old n)) ⊎ (
 one_deeper k j m old n (inl h) = inl (ap suc h.0, h.1)
 one_deeper k j m old n (inr h) = inr ((λ q. h.0 (omega (arith, q))), h.1)
 
--- what stands where a number was noted: at its place that number, unless another stood there, and elsewhere what stood there
-noted_get : (ms : List ℕ) (j n k m : ℕ) → slice_get (noted ms j n) k ≡ Some m → (old : ℕ) × (slice_get ms k ≡ Some old) × (((k ≡ j) × (m ≡ in_place old n)) ⊎ ((k ≡ j → ⊥) × (m ≡ old)))
+-- what stands where a number was numbered_member: at its place that number, unless another stood there, and elsewhere what stood there
+noted_get : (ms : List ℕ) (j n k m : ℕ) → slice_get (numbered_member ms j n) k ≡ Some m → (old : ℕ) × (slice_get ms k ≡ Some old) × (((k ≡ j) × (m ≡ in_place old n)) ⊎ ((k ≡ j → ⊥) × (m ≡ old)))
 noted_get [] j n k m e = absurd (none-some _ e)
 noted_get (zero ∷ ms) zero n zero m e = (0, refl, inl (refl, sym (same_Some _ _ e)))
 noted_get (suc x ∷ ms) zero n zero m e = (suc x, refl, inl (refl, sym (same_Some _ _ e)))
@@ -119,10 +120,10 @@ one_behind (z ∷ xs) x (suc k) y e =
     ]
 
 -- the number of an origin behind the block of `Main` is not 0
-number_is_more : (o : Origin) (os : List Origin) → is_origin o OfMain ≡ false → (n : ℕ) → number_of o (OfMain ∷ os) ≡ Some n → (m : ℕ) × (n ≡ suc m)
-number_is_more o os e n h = by_number (number_of o os) (ap (λ b. cond b (Some 0) (one_more (number_of o os))) (sym e) ∙ h)
+number_is_more : (o : Origin) (os : List Origin) → is_origin o OfMain ≡ false → (n : ℕ) → block_number o (OfMain ∷ os) ≡ Some n → (m : ℕ) × (n ≡ suc m)
+number_is_more o os e n h = by_number (block_number o os) (ap (λ b. cond b (Some 0) (one_higher (block_number o os))) (sym e) ∙ h)
   where
-    by_number : (z : Option ℕ) → one_more z ≡ Some n → (m : ℕ) × (n ≡ suc m)
+    by_number : (z : Option ℕ) → one_higher z ≡ Some n → (m : ℕ) × (n ≡ suc m)
     by_number None w = absurd (none-some _ w)
     by_number (Some m) w = (m, sym (same_Some _ _ w))
 
@@ -163,7 +164,7 @@ origins_step p before all n m k classes x w e h =
     ∙ ap (λ z. before ++ z) (append_assoc first (map OfBody x.own) rest)
     ∙ ap (λ z. before ++ origins_from p n z) (sym (dropped_at classes k x e)) ∙ h
 
--- of no member a number is noted at first
+-- of no member a number is numbered_member at first
 zeros_get : (n k v : ℕ) → slice_get (replicate n 0) k ≡ Some v → v ≡ 0
 zeros_get zero k v e = absurd (none-some _ e)
 zeros_get (suc n) zero v e = sym (same_Some _ _ e)
@@ -187,9 +188,9 @@ main_built p blocks builders members n block b m s k w = record {
 }
 
 module _ (p : Resolved) where
-  -- the block of a member is built, and its number noted where it has none
+  -- the block of a member is built, and its number numbered_member where it has none
   pub body_added : (blocks more : List Block) (builders : List (Option ℕ)) (members noted_members : List ℕ) (os : List Origin) (j number : ℕ) (block : Block) → IsBuilt p blocks builders members os
-      → block ≡ block_of p (OfBody j) → more ≡ blocks ++ block ∷ [] → number ≡ length blocks → noted_members ≡ noted members j number → IsBuilt p more builders noted_members (os ++ OfBody j ∷ [])
+      → block ≡ block_of p (OfBody j) → more ≡ blocks ++ block ∷ [] → number ≡ length blocks → noted_members ≡ numbered_member members j number → IsBuilt p more builders noted_members (os ++ OfBody j ∷ [])
   body_added blocks more builders members noted_members os j number block is b m n k = record {
     blocks_are = m ∙ ap (λ z. z ++ block ∷ []) is.blocks_are ∙ ap (λ z. map (block_of p) os ++ z ∷ []) b ∙ sym (map_behind (block_of p) os (OfBody j));
     begun = (is.begun.0 ++ OfBody j ∷ [], ap (λ z. z ++ OfBody j ∷ []) is.begun.1);
@@ -203,17 +204,17 @@ module _ (p : Resolved) where
       count : number ≡ length os
       count = n ∙ ap length is.blocks_are ∙ map_count (block_of p) os
 
-      same : (i old v : ℕ) (z : Option ℕ) → number_of (OfBody i) os ≡ z → (i == j) ≡ true → old ≡ unwrap_or z 0 → v ≡ in_place old number → v ≡ unwrap_or (number_of (OfBody i) (os ++ OfBody j ∷ [])) 0
+      same : (i old v : ℕ) (z : Option ℕ) → block_number (OfBody i) os ≡ z → (i == j) ≡ true → old ≡ unwrap_or z 0 → v ≡ in_place old number → v ≡ unwrap_or (block_number (OfBody i) (os ++ OfBody j ∷ [])) 0
       same i old v None w q o e =
           e ∙ ap (λ x. in_place x number) o ∙ count ∙ ap (λ z. unwrap_or z 0) (sym (number_new (OfBody i) (OfBody j) os q w))
       same i old v (Some x) w q o e =
-          let s = number_is_more (OfBody i) is.begun.0 refl x (ap (number_of (OfBody i)) (sym is.begun.1) ∙ w) in
+          let s = number_is_more (OfBody i) is.begun.0 refl x (ap (block_number (OfBody i)) (sym is.begun.1) ∙ w) in
           e ∙ ap (λ y. in_place y number) (o ∙ s.1) ∙ sym s.1 ∙ ap (λ z. unwrap_or z 0) (sym (number_kept (OfBody i) (OfBody j) os x w))
 
-      member : (i v : ℕ) → (old : ℕ) × (slice_get members i ≡ Some old) × (((i ≡ j) × (v ≡ in_place old number)) ⊎ ((i ≡ j → ⊥) × (v ≡ old))) → v ≡ unwrap_or (number_of (OfBody i) (os ++ OfBody j ∷ [])) 0
+      member : (i v : ℕ) → (old : ℕ) × (slice_get members i ≡ Some old) × (((i ≡ j) × (v ≡ in_place old number)) ⊎ ((i ≡ j → ⊥) × (v ≡ old))) → v ≡ unwrap_or (block_number (OfBody i) (os ++ OfBody j ∷ [])) 0
       member i v h =
           elim h.2 [
-            | inl q ↦ same i h.0 v (number_of (OfBody i) os) refl (eq-eqb i j q.0) (is.members_are i h.0 h.1) q.1
+            | inl q ↦ same i h.0 v (block_number (OfBody i) os) refl (eq-eqb i j q.0) (is.members_are i h.0 h.1) q.1
             | inr q ↦ q.1 ∙ is.members_are i h.0 h.1 ∙ ap (λ z. unwrap_or z 0) (sym (number_other (OfBody i) (OfBody j) os (ne_eqb i j q.0)))
           ]
 
@@ -234,7 +235,7 @@ module _ (p : Resolved) where
       count : number ≡ length os
       count = n ∙ ap length is.blocks_are ∙ map_count (block_of p) os
 
-      by_place : (d : ℕ) (z : Option ℕ) → (slice_get builders d ≡ Some z) ⊎ ((d ≡ length builders) × (z ≡ Some number)) → z ≡ number_of (OfBuilder d) (os ++ OfBuilder c ∷ [])
+      by_place : (d : ℕ) (z : Option ℕ) → (slice_get builders d ≡ Some z) ⊎ ((d ≡ length builders) × (z ≡ Some number)) → z ≡ block_number (OfBuilder d) (os ++ OfBuilder c ∷ [])
       by_place d z (inl e) = let l = slice_get_within builders d z e in is.builders_are d z e ∙ sym (number_other (OfBuilder d) (OfBuilder c) os (ne_eqb d c (λ q. omega (arith, l, q, at))))
       by_place d z (inr e) =
           let same : d ≡ c = e.0 ∙ sym at in
@@ -260,7 +261,7 @@ module _ (p : Resolved) where
       nothing : List (Option ℕ)
       nothing = None ∷ []
 
-      by_place : (d : ℕ) (z : Option ℕ) → (slice_get builders d ≡ Some z) ⊎ ((d ≡ length builders) × (z ≡ None)) → z ≡ number_of (OfBuilder d) os
+      by_place : (d : ℕ) (z : Option ℕ) → (slice_get builders d ≡ Some z) ⊎ ((d ≡ length builders) × (z ≡ None)) → z ≡ block_number (OfBuilder d) os
       by_place d z (inl e) = is.builders_are d z e
       by_place d z (inr e) = e.1 ∙ sym (is.none_beyond d (let q = e.0 in omega (arith, q)))
 

@@ -14,8 +14,9 @@ use Rattle.chord_code.specs.declared.parts.ClassLine.{ClassLine}
 use Rattle.chord_code.specs.declared.parts.ChordLine.{ChordLine}
 use Rattle.chord_code.specs.declared.parts.Block.{Block}
 use Rattle.chord_code.specs.declared.parts.Parts.{Parts}
-use Rattle.chord_gen.specs.Translation.{OfBuilder, OfBody, origins, number_of, method_line, chord_line, class_line, lines_from}
-use Rattle.chord_gen.specs.Building.{IsTypedSource, IsBuilt, ChordFits, told_line, told_class}
+use Rattle.chord_gen.specs.Translation.{OfBuilder, OfBody, origins, block_number, method_line, chord_line, class_line, lines_from}
+use Rattle.chord_gen.specs.TypedSource.{IsTypedSource}
+use Rattle.chord_gen.specs.Building.{IsBuilt, ChordFits, told_line, told_class}
 use Rattle.chord_gen.proofs.BuiltMore.{dropped_at}
 
 -- equal classes and equal blocks are equal parts
@@ -62,15 +63,15 @@ module _ (p : Resolved) (is : IsTypedSource p) (c : ℕ) (x : ClassPlan) (e : sl
       let class = view_class_plan x in
       let within = slice_get_within p.classes c class e in
       let there = slice_get-get_or builders c None (omega (arith, within, same)) in
-      let builder : unwrap_or (slice_get builders c) None ≡ number_of (OfBuilder c) (origins p) = ap (λ z. unwrap_or z None) there ∙ built.builders_are c (get_or builders c None) there in
+      let builder : unwrap_or (slice_get builders c) None ≡ block_number (OfBuilder c) (origins p) = ap (λ z. unwrap_or z None) there ∙ built.builders_are c (get_or builders c None) there in
       let chords : map (told_line members) class.chords ≡ map (chord_line p) class.chords = map_same (told_line members) (chord_line p) class.chords (λ k y w. line_is k y w) in
       line_of builder ∙ lines_of chords
     where
-      line_of : unwrap_or (slice_get builders c) None ≡ number_of (OfBuilder c) (origins p) → told_class builders members c (view_class_plan x) ≡ record { name = x.name; builder = number_of (OfBuilder c) (origins p); methods = map method_line (view_class_plan x).methods; chords = map (told_line members) (view_class_plan x).chords }
+      line_of : unwrap_or (slice_get builders c) None ≡ block_number (OfBuilder c) (origins p) → told_class builders members c (view_class_plan x) ≡ record { name = x.name; builder = block_number (OfBuilder c) (origins p); methods = map method_line (view_class_plan x).methods; chords = map (told_line members) (view_class_plan x).chords }
       line_of h = ap (λ b. record { name = x.name; builder = b; methods = map method_line (view_class_plan x).methods; chords = map (told_line members) (view_class_plan x).chords }) h
 
-      lines_of : map (told_line members) (view_class_plan x).chords ≡ map (chord_line p) (view_class_plan x).chords → record { name = x.name; builder = number_of (OfBuilder c) (origins p); methods = map method_line (view_class_plan x).methods; chords = map (told_line members) (view_class_plan x).chords } ≡ class_line p c (view_class_plan x)
-      lines_of h = ap (λ cs. record { name = x.name; builder = number_of (OfBuilder c) (origins p); methods = map method_line (view_class_plan x).methods; chords = cs }) h
+      lines_of : map (told_line members) (view_class_plan x).chords ≡ map (chord_line p) (view_class_plan x).chords → record { name = x.name; builder = block_number (OfBuilder c) (origins p); methods = map method_line (view_class_plan x).methods; chords = map (told_line members) (view_class_plan x).chords } ≡ class_line p c (view_class_plan x)
+      lines_of h = ap (λ cs. record { name = x.name; builder = block_number (OfBuilder c) (origins p); methods = map method_line (view_class_plan x).methods; chords = cs }) h
 
       line_is : (k : ℕ) (y : ChordOf) → slice_get (view_class_plan x).chords k ≡ Some y → told_line members y ≡ chord_line p y
       line_is k y w =
@@ -78,7 +79,7 @@ module _ (p : Resolved) (is : IsTypedSource p) (c : ℕ) (x : ClassPlan) (e : sl
           let within = slice_get_within p.bodies y.body ch.body ch.there in
           let all = built.all_members in
           let there = slice_get-get_or members y.body 0 (omega (arith, within, all)) in
-          let number : unwrap_or (slice_get members y.body) 0 ≡ unwrap_or (number_of (OfBody y.body) (origins p)) 0 = ap (λ z. unwrap_or z 0) there ∙ built.members_are y.body (get_or members y.body 0) there in
+          let number : unwrap_or (slice_get members y.body) 0 ≡ unwrap_or (block_number (OfBody y.body) (origins p)) 0 = ap (λ z. unwrap_or z 0) there ∙ built.members_are y.body (get_or members y.body 0) there in
           ap (λ b. record { block = b; methods = y.methods }) number
 
 -- the line of one class more

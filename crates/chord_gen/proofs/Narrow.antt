@@ -12,7 +12,8 @@ use Rattle.chord_bodies.specs.Types.{Scope, ValueDue, ExprIs, ExprsAre, StmtIs, 
 use Rattle.chord_bodies.specs.Planned.{IsPlanned}
 use Rattle.chord_gen.specs.Emitted.{argument_count}
 use Rattle.chord_gen.specs.Emitting.{IsNarrow, AreNarrow, IsNarrowStmt, AreNarrowStmts}
-use Rattle.chord_gen.specs.Building.{source_of, IsTypedSource, AreNarrowBodies}
+use Rattle.chord_gen.specs.TypedSource.{source_of, IsTypedSource}
+use Rattle.chord_gen.specs.Building.{AreNarrowBodies}
 use Rattle.chord_gen.proofs.PartsRight.{arguments_count, method_right, new_right}
 
 module _ (sig : Signatures) (p : Resolved) (plan : IsPlanned sig p) where

@@ -20,7 +20,7 @@ use Rattle.chord_code.specs.Valid.{BuildsBefore, IsRight, Closes, IsBlock, AllLe
 use Rattle.chord_source.specs.Objects.{constructor_of}
 use Rattle.chord_source.specs.Laws.{AreWellTyped}
 use Rattle.chord_gen.specs.Emitted.{stmts_code}
-use Rattle.chord_gen.specs.Translation.{has_builder, builds, Origin, OfMain, OfBuilder, OfBody, origins, number_of, body_block, init_code, own_code, own_slots, builder_block, block_of, method_line, chord_line, class_line, lines_from, code_of}
+use Rattle.chord_gen.specs.Translation.{has_builder, builds, Origin, OfMain, OfBuilder, OfBody, origins, block_number, body_block, init_code, own_code, own_slots, builder_block, block_of, method_line, chord_line, class_line, lines_from, code_of}
 use Rattle.chord_gen.specs.Laws.{TranslationValid}
 use Rattle.chord_gen.proofs.Numbers.{origin_at, builder_numbered, builders_rise, line_at}
 use Rattle.chord_gen.proofs.PartsRight.{RightIn, AllRightIn, both_right, right_higher, map_length, opening_length, statements_part}
@@ -195,11 +195,11 @@ module _ (sig : Signatures) (p : Resolved) (typed : AreWellTyped sig p) (plan : 
       by_origin (Some o) w f = subst (IsBlock (code_of p) b) (same_Some _ _ f) (of_origin o w)
 
   -- the number of an origin is that of a block
-  number_within : (o : Origin) (n : ℕ) → number_of o (origins p) ≡ Some n → n < length (code_of p).blocks
+  number_within : (o : Origin) (n : ℕ) → block_number o (origins p) ≡ Some n → n < length (code_of p).blocks
   number_within o n e = let w = slice_get_within (origins p) n o (origin_at o (origins p) n e) in let m = map_length (block_of p) (origins p) in omega (arith, w, m)
 
   -- the number that is told for a member is that of a block
-  body_within : (o : Option ℕ) (j : ℕ) → number_of (OfBody j) (origins p) ≡ o → unwrap_or o 0 < length (code_of p).blocks
+  body_within : (o : Option ℕ) (j : ℕ) → block_number (OfBody j) (origins p) ≡ o → unwrap_or o 0 < length (code_of p).blocks
   body_within None j e = let m = map_length (block_of p) (origins p) in omega (arith, m)
   body_within (Some n) j e = number_within (OfBody j) n e
 
@@ -251,7 +251,7 @@ module _ (sig : Signatures) (p : Resolved) (typed : AreWellTyped sig p) (plan : 
           let is = plan.chords c k x y e w in
           subst (IsChordLine (code_of p) (class_line p c x)) (same_Some _ _ f)
           (record {
-            block = body_within (number_of (OfBody y.body) (origins p)) y.body refl;
+            block = body_within (block_number (OfBody y.body) (origins p)) y.body refl;
             some = is.some;
             few = is.few;
             there = methods_there c x e y.methods is.body.parameters is.parameters;

@@ -12,18 +12,8 @@ use Rattle.chord_source.specs.Laws.{AreWellTyped}
 use Rattle.chord_code.specs.declared.parts.Block.{Block}
 use Rattle.chord_code.specs.declared.parts.ChordLine.{ChordLine}
 use Rattle.chord_code.specs.declared.parts.ClassLine.{ClassLine}
-use Rattle.chord_gen.specs.Translation.{has_builder, Origin, OfMain, OfBuilder, OfBody, number_of, block_of, method_line}
+use Rattle.chord_gen.specs.Translation.{has_builder, Origin, OfMain, OfBuilder, OfBody, block_number, block_of, method_line}
 use Rattle.chord_gen.specs.Emitting.{AreNarrowStmts}
-
--- the source of a plan and of bodies in memory
-abbrev pub source_of : LayoutOf → List Body → Resolved
-source_of plan bodies = record { classes = plan.classes; bodies = map view_body bodies; main = plan.main }
-
--- some signatures to which each body keeps, and the plan too
-pub record IsTypedSource (p : Resolved) : Type 0 where
-  pub sig : Signatures
-  pub typed : AreWellTyped sig p
-  pub planned : IsPlanned sig p
 
 -- each body names what fits an instruction
 abbrev pub AreNarrowBodies : List Body → Type 0
@@ -43,18 +33,18 @@ pub record IsBuilt (p : Resolved) (blocks : List Block) (builders : List (Option
   pub blocks_are : blocks ≡ map (block_of p) os
   -- the first block is that of `Main`
   pub begun : (more : List Origin) × (os ≡ OfMain ∷ more)
-  pub builders_are : (c : ℕ) (b : Option ℕ) → slice_get builders c ≡ Some b → b ≡ number_of (OfBuilder c) os
+  pub builders_are : (c : ℕ) (b : Option ℕ) → slice_get builders c ≡ Some b → b ≡ block_number (OfBuilder c) os
   pub builders_tell : (c : ℕ) (b : Option ℕ) → slice_get builders c ≡ Some b → is_told b ≡ has_builder p c
-  pub none_beyond : (c : ℕ) → length builders ≤ c → number_of (OfBuilder c) os ≡ None
-  pub members_are : (j n : ℕ) → slice_get members j ≡ Some n → n ≡ unwrap_or (number_of (OfBody j) os) 0
+  pub none_beyond : (c : ℕ) → length builders ≤ c → block_number (OfBuilder c) os ≡ None
+  pub members_are : (j n : ℕ) → slice_get members j ≡ Some n → n ≡ unwrap_or (block_number (OfBody j) os) 0
   pub all_members : length members ≡ length p.bodies
 
--- a number that is noted for a member that has none yet
-abbrev pub noted : List ℕ → ℕ → ℕ → List ℕ
-noted [] j n = []
-noted (zero ∷ ms) zero n = n ∷ ms
-noted (suc m ∷ ms) zero n = suc m ∷ ms
-noted (m ∷ ms) (suc j) n = m ∷ noted ms j n
+-- a number that is numbered_member for a member that has none yet
+abbrev pub numbered_member : List ℕ → ℕ → ℕ → List ℕ
+numbered_member [] j n = []
+numbered_member (zero ∷ ms) zero n = n ∷ ms
+numbered_member (suc m ∷ ms) zero n = suc m ∷ ms
+numbered_member (m ∷ ms) (suc j) n = m ∷ numbered_member ms j n
 
 -- the instruction that runs the builder of a class, if there is one
 abbrev pub init_listed : Option ℕ → List Instruction

@@ -3,6 +3,8 @@
 pub mod Emitted
 -- The code of a source.
 pub mod Translation
+-- Sources that have a code.
+pub mod TypedSource
 -- What the code of a source keeps of it.
 pub mod Laws
 -- The listing of a code.

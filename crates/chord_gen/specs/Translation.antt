@@ -50,14 +50,14 @@ abbrev pub origins : Resolved → List Origin
 origins p = OfMain ∷ origins_from p 0 p.classes
 
 -- one more, if there is a number
-abbrev pub one_more : Option ℕ → Option ℕ
-one_more None = None
-one_more (Some n) = Some (suc n)
+abbrev pub one_higher : Option ℕ → Option ℕ
+one_higher None = None
+one_higher (Some n) = Some (suc n)
 
 -- the first place in a list at which what a block is made from stands
-abbrev pub number_of : Origin → List Origin → Option ℕ
-number_of o [] = None
-number_of o (x ∷ xs) = cond (is_origin o x) (Some 0) (one_more (number_of o xs))
+abbrev pub block_number : Origin → List Origin → Option ℕ
+block_number o [] = None
+block_number o (x ∷ xs) = cond (is_origin o x) (Some 0) (one_higher (block_number o xs))
 
 -- the block of a body: the code of its statements, and `end`
 abbrev pub body_block : Option BodyOf → Block
@@ -99,13 +99,13 @@ method_line m = record { name = m.name; sync = m.is_sync; parameters = m.paramet
 
 -- the line of a chord, with the block of its body
 abbrev pub chord_line : Resolved → ChordOf → ChordLine
-chord_line p k = record { block = unwrap_or (number_of (OfBody k.body) (origins p)) 0; methods = k.methods }
+chord_line p k = record { block = unwrap_or (block_number (OfBody k.body) (origins p)) 0; methods = k.methods }
 
 -- the line of the class of number c
 abbrev pub class_line : Resolved → ℕ → ClassOf → ClassLine
 class_line p c x = record {
   name = x.name;
-  builder = number_of (OfBuilder c) (origins p);
+  builder = block_number (OfBuilder c) (origins p);
   methods = map method_line x.methods;
   chords = map (chord_line p) x.chords;
 }

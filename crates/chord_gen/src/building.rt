@@ -5,7 +5,8 @@ ghost use Rattle.std.specs.Prelude.{◌≡◌, ℕ, ◌<◌, ◌+◌, ◌++◌, 
 ghost use Rattle.chord_bodies.specs.Resolved.{LayoutOf};
 ghost use Rattle.chord_bodies.specs.View.{view_class_plan};
 ghost use Rattle.chord_gen.specs.Translation.{has_own, has_builder, Origin, OfBuilder, OfBody, origins};
-ghost use Rattle.chord_gen.specs.Building.{source_of, IsTypedSource, AreNarrowBodies, IsBuilt, named_body, is_told, noted, base_told, class_origins};
+ghost use Rattle.chord_gen.specs.TypedSource.{source_of, IsTypedSource};
+ghost use Rattle.chord_gen.specs.Building.{AreNarrowBodies, IsBuilt, named_body, is_told, numbered_member, base_told, class_origins};
 
 use crate::blocks::{block_of_body, block_of_builder, own_constructor};
 use crate::built::Built;
@@ -50,7 +51,7 @@ fn add_bodies(
 
 /// Notes the number of a member's block, where it has none yet.
 fn note(members: &mut Vec<u32>, member: u32, number: u32)
-    ensures { members.new.items ≡ noted members.old.items member number }
+    ensures { members.new.items ≡ numbered_member members.old.items member number }
 {
     let place = member as usize;
     if place >= members.len() {

@@ -4,10 +4,11 @@
 ghost use Rattle.std.specs.Prelude.{◌≡◌, IfOk};
 ghost use Rattle.chord_base.specs.Types.{Signatures};
 ghost use Rattle.chord_bodies.specs.Planned.{IsPlanned};
+ghost use Rattle.chord_code.specs.Sound.{IsSoundCode};
 ghost use Rattle.chord_source.specs.Laws.{AreWellTyped};
 ghost use Rattle.chord_gen.specs.Translation.{code_of};
 ghost use Rattle.chord_gen.specs.Laws.{KeepsMeaning};
-ghost use Rattle.chord_gen.specs.Building.{source_of, IsTypedSource};
+ghost use Rattle.chord_gen.specs.TypedSource.{source_of, IsTypedSource};
 
 use crate::building::all_blocks;
 use crate::lines::class_lines;
@@ -30,6 +31,7 @@ pub fn generate(alloc: Global, plan: &Layout, bodies: &[Body]) -> Result<Code, A
     requires typed { IsTypedSource (source_of plan.now bodies.now) }
     ensures code { IfOk result (λ code. code ≡ code_of (source_of plan.now bodies.now)) }
     ensures keeps { IfOk result (λ code. (sig : Signatures) → AreWellTyped sig (source_of plan.now bodies.now) → IsPlanned sig (source_of plan.now bodies.now) → KeepsMeaning code (source_of plan.now bodies.now) sig) }
+    ensures sound { IfOk result (λ code. IsSoundCode code) }
 {
     let built = all_blocks(alloc, plan, bodies)?;
     let classes = class_lines(alloc, plan, bodies, &built)?;

@@ -1,7 +1,7 @@
-//! The code of a source.
-//! Stands on: chord_base (texts, values, the join machine), chord_bodies (resolved bodies, the plan), chord_code (parts, instructions), chord_source (the source's meaning). Used by: nobody.
-//! Promise: specs/Translation.antt says which code a source has; `laws`: it is valid, its runs are the source's, and it is sound in every run.
-//! Not here: which programs keep to their types (chord_classes).
+//! The code of a source: its translation, what that keeps, and its listing.
+//! Stands on: chord_base (texts, values, the join machine), chord_bodies (resolved bodies, the plan), chord_classes (which programs keep to their types), chord_code (parts, instructions, validity), chord_io (sinks), chord_source (the source's meaning), chord_tree (trees), itoa (decimals). Used by: nobody.
+//! Promise: `generate` gives the code that specs/Translation.antt says, which is valid, whose next asks and runs are the source's, and which is sound in every run; `listing` writes its text (specs/Listing.antt) and takes no memory. `laws` says the same of the translation as a definition.
+//! Not here: how a program is checked and resolved in code.
 #![tactic(auto)]
 
 mod blocks;

@@ -6,7 +6,8 @@ ghost use Rattle.chord_bodies.specs.declared.plan.MethodPlan.{MethodPlan as APla
 ghost use Rattle.chord_bodies.specs.declared.plan.ChordPlan.{ChordPlan as AChord};
 ghost use Rattle.chord_bodies.specs.View.{view_method_plan, view_chord_plan, view_class_plan};
 ghost use Rattle.chord_gen.specs.Translation.{method_line, lines_from, origins};
-ghost use Rattle.chord_gen.specs.Building.{source_of, IsTypedSource, IsBuilt, ChordFits, told_line, told_class};
+ghost use Rattle.chord_gen.specs.TypedSource.{source_of, IsTypedSource};
+ghost use Rattle.chord_gen.specs.Building.{IsBuilt, ChordFits, told_line, told_class};
 
 use crate::built::Built;
 use chord_bodies::body::Body;

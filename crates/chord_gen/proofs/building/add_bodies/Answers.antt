@@ -1,6 +1,7 @@
 use Rattle.std.proofs.Common.{◌≡◌, ◌+◌, [], ◌∷◌, ◌++◌, map, drop, get_or, sym, ap, ◌∙◌, subst, append_assoc}
 use Rattle.chord_gen.specs.Translation.{OfBody}
-use Rattle.chord_gen.specs.Building.{source_of, IsBuilt}
+use Rattle.chord_gen.specs.TypedSource.{source_of}
+use Rattle.chord_gen.specs.Building.{IsBuilt}
 use Rattle.chord_gen.proofs.Emits.{item_from, none_behind}
 use Rattle.chord_gen.proofs.BuiltMore.{none_joined}
 use Rattle.chord_gen.proofs.building.add_bodies.Goals as goal

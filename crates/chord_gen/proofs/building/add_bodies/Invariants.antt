@@ -2,7 +2,8 @@ use Rattle.std.proofs.Common.{◌≡◌, ◌++◌, map, drop, List, ℕ}
 use Rattle.std.specs.Prelude.{Option}
 use Rattle.chord_bodies.specs.Resolved.{LayoutOf}
 use Rattle.chord_gen.specs.Translation.{Origin, OfBody}
-use Rattle.chord_gen.specs.Building.{source_of, IsBuilt}
+use Rattle.chord_gen.specs.TypedSource.{source_of}
+use Rattle.chord_gen.specs.Building.{IsBuilt}
 use Rattle.chord_gen.proofs.building.add_bodies.Given as goal
 
 abbrev pub invariant-loop-member : goal.invariant-loop-member

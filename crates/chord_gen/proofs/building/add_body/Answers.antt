@@ -1,4 +1,4 @@
-use Rattle.chord_gen.specs.Building.{source_of}
+use Rattle.chord_gen.specs.TypedSource.{source_of}
 use Rattle.chord_gen.proofs.BuiltMore.{body_added}
 use Rattle.chord_gen.proofs.building.add_body.Goals as goal
 

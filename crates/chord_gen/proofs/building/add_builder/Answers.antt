@@ -5,7 +5,8 @@ use Rattle.chord_code.specs.declared.instruction.Instruction.TheVariants as i
 use Rattle.chord_code.specs.declared.parts.Block.{Block}
 use Rattle.chord_gen.specs.Emitted.{then_code}
 use Rattle.chord_gen.specs.Translation.{has_own, has_builder, OfBuilder, own_code, own_slots, builder_block}
-use Rattle.chord_gen.specs.Building.{source_of, IsBuilt, named_body, is_told, base_told, init_listed}
+use Rattle.chord_gen.specs.TypedSource.{source_of}
+use Rattle.chord_gen.specs.Building.{IsBuilt, named_body, is_told, base_told, init_listed}
 use Rattle.chord_gen.proofs.BuiltMore.{builder_added, no_builder_added, builder_is_told, none_joined}
 use Rattle.chord_gen.proofs.building.add_builder.Goals as goal
 

@@ -3,7 +3,8 @@ use Rattle.std.specs.Prelude.{Option, Some, slice_get}
 use Rattle.chord_bodies.specs.Resolved.{LayoutOf}
 use Rattle.chord_bodies.specs.View.{view_class_plan}
 use Rattle.chord_gen.specs.Translation.{has_builder, Origin, OfBuilder, OfBody}
-use Rattle.chord_gen.specs.Building.{source_of, IsTypedSource, IsBuilt, class_origins}
+use Rattle.chord_gen.specs.TypedSource.{source_of, IsTypedSource}
+use Rattle.chord_gen.specs.Building.{IsBuilt, class_origins}
 use Rattle.chord_gen.proofs.Emits.{ok_gives}
 use Rattle.chord_gen.proofs.building.add_class.Goals as goal
 

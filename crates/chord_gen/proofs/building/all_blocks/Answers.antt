@@ -3,7 +3,8 @@ use Rattle.std.specs.Prelude.{slice_get}
 use Rattle.chord_bodies.specs.BodyView.{view_body}
 use Rattle.chord_bodies.specs.View.{view_class_plan}
 use Rattle.chord_gen.specs.Translation.{OfMain, body_block, origins_from, origins}
-use Rattle.chord_gen.specs.Building.{source_of, class_origins}
+use Rattle.chord_gen.specs.TypedSource.{source_of}
+use Rattle.chord_gen.specs.Building.{class_origins}
 use Rattle.chord_gen.proofs.BuiltMore.{class_item, base_is_low, origins_step, map_count, main_built}
 use Rattle.chord_gen.proofs.building.all_blocks.Goals as goal
 

@@ -1,6 +1,7 @@
 use Rattle.std.proofs.Common.{◌≡◌, ◌++◌, drop, length, List}
 use Rattle.chord_gen.specs.Translation.{Origin, origins_from, origins}
-use Rattle.chord_gen.specs.Building.{source_of, IsBuilt}
+use Rattle.chord_gen.specs.TypedSource.{source_of}
+use Rattle.chord_gen.specs.Building.{IsBuilt}
 use Rattle.chord_gen.proofs.building.all_blocks.Given as goal
 
 abbrev pub invariant-loop-class : goal.invariant-loop-class

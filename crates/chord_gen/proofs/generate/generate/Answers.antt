@@ -1,6 +1,7 @@
 use Rattle.std.proofs.Common.{◌≡◌, map, sym, ap, ◌∙◌, subst}
+use Rattle.chord_code.specs.Sound.{IsSoundCode}
 use Rattle.chord_code.specs.Valid.{IsValid}
-use Rattle.chord_gen.specs.Building.{source_of}
+use Rattle.chord_gen.specs.TypedSource.{source_of}
 use Rattle.chord_gen.specs.Laws.{KeepsMeaning}
 use Rattle.chord_gen.proofs.LinesTold.{parts_are}
 use Rattle.chord_gen.proofs.Narrow.{narrow_bodies}
@@ -26,3 +27,11 @@ returns-clause-keeps c =
     let classes = c.of_items.ensures ∙ c.in_ok-classes.ensures in
     let blocks = c.of_items-2.ensures ∙ c.in_ok-built.ensures.built.blocks_are in
     subst (λ z. KeepsMeaning z p sig) (sym (c.of_parts.ensures ∙ parts_are _ _ _ _ classes blocks)) (translation_keeps sig p typed planned)
+
+pub returns-clause-sound : goal.returns-clause-sound
+returns-clause-sound c =
+    let p = source_of c.args.plan.now c.args.bodies.now in
+    let typed = c.requires.typed in
+    let classes = c.of_items.ensures ∙ c.in_ok-classes.ensures in
+    let blocks = c.of_items-2.ensures ∙ c.in_ok-built.ensures.built.blocks_are in
+    subst IsSoundCode (sym (c.of_parts.ensures ∙ parts_are _ _ _ _ classes blocks)) (translation_keeps typed.sig p typed.typed typed.planned).sound

@@ -1,7 +1,7 @@
 use Rattle.std.proofs.Common.{◌≡◌, ◌∙◌}
 use Rattle.chord_bodies.specs.View.{view_class_plan}
 use Rattle.chord_gen.specs.Translation.{lines_from}
-use Rattle.chord_gen.specs.Building.{source_of}
+use Rattle.chord_gen.specs.TypedSource.{source_of}
 use Rattle.chord_gen.proofs.BuiltMore.{class_item}
 use Rattle.chord_gen.proofs.LinesTold.{methods_fit, chords_fit, class_is_told, lines_step}
 use Rattle.chord_gen.proofs.lines.class_lines.Goals as goal

@@ -1,6 +1,6 @@
 use Rattle.std.proofs.Common.{◌≡◌, ◌++◌, drop}
 use Rattle.chord_gen.specs.Translation.{lines_from}
-use Rattle.chord_gen.specs.Building.{source_of}
+use Rattle.chord_gen.specs.TypedSource.{source_of}
 use Rattle.chord_gen.proofs.lines.class_lines.Given as goal
 
 abbrev pub invariant-loop-number : goal.invariant-loop-number
