@@ -21,7 +21,7 @@ use Rattle.chord_code.specs.declared.parts.Parts.{Parts}
 use Rattle.chord_code.specs.Machine.{IsForward}
 use Rattle.chord_code.specs.Meaning.{code_program}
 use Rattle.chord_code.specs.Plays.{Play, MakesObject, SendsMessage, CallsMethod, PrintsLine, EndsBody, GoesWrong, Good, EndFits, what_of}
-use Rattle.chord_code.specs.Runs.{sent, IsFitMessage, IsDueType, IsPlaying, BodyIs, AllGood}
+use Rattle.chord_code.specs.Runs.{sent, IsFitMessage, IsDueType, IsPlaying, BodyPlays, AllGood}
 use Rattle.chord_code.proofs.Runs.{playing_more, playing_asks, ended_kind, answer_fits}
 
 -- a later entry changes nothing of earlier messages
@@ -57,7 +57,7 @@ playing_later code limits sig src e h b s d rs a n k =
     }
 
 -- a body that does what it did
-pub body_later : (code : Parts) (limits : Limits) (sig : Signatures) (src : Start → ℕ → Play) (e : Entry) (h : List Entry) (b : ℕ) (d : Doing) → AllBelow e.number h → e.number ≡ length h → BodyIs code limits sig src h b d → BodyIs code limits sig src (e ∷ h) b d
+pub body_later : (code : Parts) (limits : Limits) (sig : Signatures) (src : Start → ℕ → Play) (e : Entry) (h : List Entry) (b : ℕ) (d : Doing) → AllBelow e.number h → e.number ≡ length h → BodyPlays code limits sig src h b d → BodyPlays code limits sig src (e ∷ h) b d
 body_later code limits sig src e h b (Ready s d rs) a n k = playing_later code limits sig src e h b s d rs a n k
 body_later code limits sig src e h b (Waits s d rs q l) a n k = (playing_later code limits sig src e h b s d rs a n k.0, k.1, sent_more e q k.1 h a k.2, k.3)
 body_later code limits sig src e h b (Over x) a n k = tt
@@ -74,7 +74,7 @@ trap_fits sig (EndsBody x) o j vs t e = (let z : Ended x ≡ Called o j vs = cc 
 trap_fits sig GoesWrong o j vs t e = (let z : ◌≡◌ {A = Option What} None (Some (Called o j vs)) = e in cc)
 
 -- the end of a body fits the call that it serves
-end_fits : (code : Parts) → IsForward code → (limits : Limits) (sig : Signatures) (src : Start → ℕ → Play) (h : List Entry) (b : ℕ) (x : End) (l q : ℕ) (m : Message) (p : Play) (d : Doing) → BodyIs code limits sig src h b d → asked (code_program code limits) d ≡ Some (record { what = Ended x; depth = l }) → serves (code_program code limits) b h ≡ Some q → sent q h ≡ Some m → IsFitMessage sig m → what_of p ≡ Some (Called m.object m.method m.arguments) → EndFits sig p x
+end_fits : (code : Parts) → IsForward code → (limits : Limits) (sig : Signatures) (src : Start → ℕ → Play) (h : List Entry) (b : ℕ) (x : End) (l q : ℕ) (m : Message) (p : Play) (d : Doing) → BodyPlays code limits sig src h b d → asked (code_program code limits) d ≡ Some (record { what = Ended x; depth = l }) → serves (code_program code limits) b h ≡ Some q → sent q h ≡ Some m → IsFitMessage sig m → what_of p ≡ Some (Called m.object m.method m.arguments) → EndFits sig p x
 end_fits code fwd limits sig src h b (Traps t) l q m p d k e s f fit w = trap_fits sig p m.object m.method m.arguments t w
 end_fits code fwd limits sig src h b (Gives v) l q m p (Ready st dp rs) k e s f fit w =
     let i = playing_asks code fwd limits sig src h b st dp rs k (Ended (Gives v)) l e in
@@ -85,10 +85,10 @@ end_fits code fwd limits sig src h b (Gives v) l q m p Absent k e s f fit w = cc
 end_fits code fwd limits sig src h b (Gives v) l q m p Unplaced k e s f fit w = cc
 
 -- a caller hears the end of the body that serves its call
-pub caller_good : (code : Parts) → IsForward code → (limits : Limits) (sig : Signatures) (src : Start → ℕ → Play) (e : Entry) (h : List Entry) (x : End) (l : ℕ) (b : ℕ) (d : Doing) → AllBelow e.number h → e.number ≡ length h → AllGood code limits sig src h → asked (code_program code limits) (doing (code_program code limits) h e.body) ≡ Some (record { what = Ended x; depth = l }) → BodyIs code limits sig src h b d → BodyIs code limits sig src (e ∷ h) b (answered x (serves (code_program code limits) e.body h) d)
+pub caller_good : (code : Parts) → IsForward code → (limits : Limits) (sig : Signatures) (src : Start → ℕ → Play) (e : Entry) (h : List Entry) (x : End) (l : ℕ) (b : ℕ) (d : Doing) → AllBelow e.number h → e.number ≡ length h → AllGood code limits sig src h → asked (code_program code limits) (doing (code_program code limits) h e.body) ≡ Some (record { what = Ended x; depth = l }) → BodyPlays code limits sig src h b d → BodyPlays code limits sig src (e ∷ h) b (answered x (serves (code_program code limits) e.body h) d)
 caller_good code fwd limits sig src e h x l b d a n all asks k = by_call (serves (code_program code limits) e.body h) refl d k
   where
-    by_call : (c : Option ℕ) → serves (code_program code limits) e.body h ≡ c → (d : Doing) → BodyIs code limits sig src h b d → BodyIs code limits sig src (e ∷ h) b (answered x c d)
+    by_call : (c : Option ℕ) → serves (code_program code limits) e.body h ≡ c → (d : Doing) → BodyPlays code limits sig src h b d → BodyPlays code limits sig src (e ∷ h) b (answered x c d)
     by_call None i d k = body_later code limits sig src e h b d a n k
     by_call (Some c) i (Ready s dp rs) k = body_later code limits sig src e h b (Ready s dp rs) a n k
     by_call (Some c) i (Over y) k = tt
@@ -135,7 +135,7 @@ abbrev pub own_entry : ℕ → ℕ → What → Entry
 own_entry n b w = record { number = n; body = b; what = w }
 
 -- a body after its own entry
-pub own_good : (code : Parts) → IsForward code → (limits : Limits) (sig : Signatures) (src : Start → ℕ → Play) (h : List Entry) (n b : ℕ) (w : What) (l : ℕ) (m : ℕ → Option ℕ) (g : ℕ → Doing) (d : Doing) → AllBelow n h → n ≡ length h → BodyIs code limits sig src h b d → asked (code_program code limits) d ≡ Some (record { what = w; depth = l }) → IsOwn w → BodyIs code limits sig src (own_entry n b w ∷ h) b (own (code_program code limits) n w m g d)
+pub own_good : (code : Parts) → IsForward code → (limits : Limits) (sig : Signatures) (src : Start → ℕ → Play) (h : List Entry) (n b : ℕ) (w : What) (l : ℕ) (m : ℕ → Option ℕ) (g : ℕ → Doing) (d : Doing) → AllBelow n h → n ≡ length h → BodyPlays code limits sig src h b d → asked (code_program code limits) d ≡ Some (record { what = w; depth = l }) → IsOwn w → BodyPlays code limits sig src (own_entry n b w ∷ h) b (own (code_program code limits) n w m g d)
 own_good code fwd limits sig src h n b (Ended x) l m g d a i k e o = tt
 own_good code fwd limits sig src h n b Begun l m g d a i k e o = absurd o
 own_good code fwd limits sig src h n b (Fired c o' ms vs) l m g d a i k e o = absurd o
@@ -177,7 +177,7 @@ message_fits sig r (EndsBody x) w m g e i = (let z : Ended x ≡ w = cc in let y
 message_fits sig r GoesWrong w m g e i = absurd g
 
 -- a message that is a body's next ask has the arguments that its method wants
-asked_fits : (code : Parts) → IsForward code → (limits : Limits) (sig : Signatures) (src : Start → ℕ → Play) (h : List Entry) (b : ℕ) (w : What) (l : ℕ) (m : Message) (d : Doing) → BodyIs code limits sig src h b d → asked (code_program code limits) d ≡ Some (record { what = w; depth = l }) → message_of w ≡ Some m → IsFitMessage sig m
+asked_fits : (code : Parts) → IsForward code → (limits : Limits) (sig : Signatures) (src : Start → ℕ → Play) (h : List Entry) (b : ℕ) (w : What) (l : ℕ) (m : Message) (d : Doing) → BodyPlays code limits sig src h b d → asked (code_program code limits) d ≡ Some (record { what = w; depth = l }) → message_of w ≡ Some m → IsFitMessage sig m
 asked_fits code fwd limits sig src h b w l m (Ready s dp rs) k e i = message_fits sig k.kind k.play w m k.good (playing_asks code fwd limits sig src h b s dp rs k w l e) i
 asked_fits code fwd limits sig src h b w l m (Waits s dp rs q pl) k e i = cc
 asked_fits code fwd limits sig src h b w l m (Over x) k e i = cc
@@ -185,7 +185,7 @@ asked_fits code fwd limits sig src h b w l m Absent k e i = cc
 asked_fits code fwd limits sig src h b w l m Unplaced k e i = cc
 
 -- another body after that entry
-heard_good : (code : Parts) → IsForward code → (limits : Limits) (sig : Signatures) (src : Start → ℕ → Play) (h : List Entry) (n b x : ℕ) (w : What) (l : ℕ) (d : Doing) → AllBelow n h → n ≡ length h → AllGood code limits sig src h → asked (code_program code limits) (doing (code_program code limits) h b) ≡ Some (record { what = w; depth = l }) → BodyIs code limits sig src h x d → BodyIs code limits sig src (own_entry n b w ∷ h) x (heard w (serves (code_program code limits) b h) d)
+heard_good : (code : Parts) → IsForward code → (limits : Limits) (sig : Signatures) (src : Start → ℕ → Play) (h : List Entry) (n b x : ℕ) (w : What) (l : ℕ) (d : Doing) → AllBelow n h → n ≡ length h → AllGood code limits sig src h → asked (code_program code limits) (doing (code_program code limits) h b) ≡ Some (record { what = w; depth = l }) → BodyPlays code limits sig src h x d → BodyPlays code limits sig src (own_entry n b w ∷ h) x (heard w (serves (code_program code limits) b h) d)
 heard_good code fwd limits sig src h n b x (Ended y) l d a i all e k = caller_good code fwd limits sig src (own_entry n b (Ended y)) h y l x d a i all e k
 heard_good code fwd limits sig src h n b x Begun l d a i all e k = body_later code limits sig src (own_entry n b Begun) h x d a i k
 heard_good code fwd limits sig src h n b x (Made c) l d a i all e k = body_later code limits sig src (own_entry n b (Made c)) h x d a i k
@@ -210,7 +210,7 @@ step_own code fwd limits sig src h n b w l a i all e o =
             | inl y ↦
                 (let z = eqb-true b x y in
                 let k = own_good code fwd limits sig src h n b w l (λ q. maker q h) (doing (code_program code limits) h) (doing (code_program code limits) h b) a i (all.bodies b) e o in
-                rw y (subst (λ v. BodyIs code limits sig src (own_entry n b w ∷ h) v (own (code_program code limits) n w (λ q. maker q h) (doing (code_program code limits) h) (doing (code_program code limits) h v))) z k))
+                rw y (subst (λ v. BodyPlays code limits sig src (own_entry n b w ∷ h) v (own (code_program code limits) n w (λ q. maker q h) (doing (code_program code limits) h) (doing (code_program code limits) h v))) z k))
             | inr f ↦ rw f (heard_good code fwd limits sig src h n b x w l (doing (code_program code limits) h x) a i all e (all.bodies x))
           ];
     }

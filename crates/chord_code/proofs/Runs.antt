@@ -19,7 +19,7 @@ use Rattle.chord_code.specs.declared.parts.Parts.{Parts}
 use Rattle.chord_code.specs.Machine.{IsForward}
 use Rattle.chord_code.specs.Meaning.{point_of, begins, code_program, stands, asked_of}
 use Rattle.chord_code.specs.Plays.{Play, MakesObject, SendsMessage, CallsMethod, PrintsLine, EndsBody, GoesWrong, PlaysAt, Good, left_of, left_after, ask_of, EndFits, what_of}
-use Rattle.chord_code.specs.Runs.{sent, IsFitMessage, IsDueType, IsPlaying, BodyIs, AreLocal}
+use Rattle.chord_code.specs.Runs.{sent, IsFitMessage, IsDueType, IsPlaying, BodyPlays, AreLocal}
 use Rattle.chord_code.proofs.Asks.{points_more}
 use Rattle.chord_code.proofs.Plays.{good_left, plays_left, plays_asks, plays_point, asks_exactly}
 
@@ -28,7 +28,7 @@ some_is : {A : Type 0} (o : Option A) (x : A) → o ≡ Some x → IsSome o
 some_is o x e = rw e refl
 
 -- the traces of a good run are defined
-pub good_defined : (code : Parts) → IsForward code → (limits : Limits) (sig : Signatures) (src : Start → ℕ → Play) (h : List Entry) (b : ℕ) (d : Doing) → BodyIs code limits sig src h b d → IsDefined (code_program code limits) d
+pub good_defined : (code : Parts) → IsForward code → (limits : Limits) (sig : Signatures) (src : Start → ℕ → Play) (h : List Entry) (b : ℕ) (d : Doing) → BodyPlays code limits sig src h b d → IsDefined (code_program code limits) d
 good_defined code fwd limits sig src h b (Ready s d rs) k = (let a = plays_asks code fwd limits sig k.kind k.play (stands code limits s d rs) k.good k.plays in some_is (asked_of code limits (stands code limits s d rs)) a.0 a.1)
 good_defined code fwd limits sig src h b (Waits s d rs q l) k = (let a = plays_asks code fwd limits sig k.0.kind k.0.play (stands code limits s d rs) k.0.good k.0.plays in some_is (asked_of code limits (stands code limits s d rs)) a.0 a.1)
 good_defined code fwd limits sig src h b (Over x) k = tt

@@ -20,12 +20,12 @@ use Rattle.chord_code.specs.declared.parts.Parts.{Parts}
 use Rattle.chord_code.specs.Machine.{IsForward}
 use Rattle.chord_code.specs.Meaning.{code_program}
 use Rattle.chord_code.specs.Plays.{Play}
-use Rattle.chord_code.specs.Runs.{IsPlaying, BodyIs, AllGood, AreLocal, IsPlan}
+use Rattle.chord_code.specs.Runs.{IsPlaying, BodyPlays, AllGood, AreLocal, IsPlan}
 use Rattle.chord_code.proofs.Runs.{good_defined, playing_begins}
 use Rattle.chord_code.proofs.AllGood.{own_entry, body_later, step_own}
 
 -- what is known of a new body at each depth is known of it below the place where its caller waits
-placed_good : (code : Parts) (limits : Limits) (sig : Signatures) (src : Start → ℕ → Play) (h : List Entry) (n q : ℕ) (s : Start) (d : Doing) → ((l : ℕ) → IsPlaying code limits sig src h n s l []) → BodyIs code limits sig src h n (placed s q d)
+placed_good : (code : Parts) (limits : Limits) (sig : Signatures) (src : Start → ℕ → Play) (h : List Entry) (n q : ℕ) (s : Start) (d : Doing) → ((l : ℕ) → IsPlaying code limits sig src h n s l []) → BodyPlays code limits sig src h n (placed s q d)
 placed_good code limits sig src h n q s (Waits s' d rs q' l) f = elim (either (q == q')) [ inl y ↦ rw y (f (l + 1)) | inr o ↦ rw o tt ]
 placed_good code limits sig src h n q s (Ready s' d rs) f = tt
 placed_good code limits sig src h n q s Absent f = tt
@@ -33,12 +33,12 @@ placed_good code limits sig src h n q s Unplaced f = tt
 placed_good code limits sig src h n q s (Over x) f = tt
 
 -- what is known of a new body at each depth is known of it below the maker of its call, if there is one
-begun_by_good : (code : Parts) (limits : Limits) (sig : Signatures) (src : Start → ℕ → Play) (h : List Entry) (n q : ℕ) (s : Start) (b : Option ℕ) (g : ℕ → Doing) → ((l : ℕ) → IsPlaying code limits sig src h n s l []) → BodyIs code limits sig src h n (begun_by s q b g)
+begun_by_good : (code : Parts) (limits : Limits) (sig : Signatures) (src : Start → ℕ → Play) (h : List Entry) (n q : ℕ) (s : Start) (b : Option ℕ) (g : ℕ → Doing) → ((l : ℕ) → IsPlaying code limits sig src h n s l []) → BodyPlays code limits sig src h n (begun_by s q b g)
 begun_by_good code limits sig src h n q s None g f = tt
 begun_by_good code limits sig src h n q s (Some b) g f = placed_good code limits sig src h n q s (g b) f
 
 -- what is known of a new body at each depth is known of it as it begins, whether it serves a call or not
-begun_good : (code : Parts) (limits : Limits) (sig : Signatures) (src : Start → ℕ → Play) (h : List Entry) (n : ℕ) (s : Start) (c : Option ℕ) (m : ℕ → Option ℕ) (g : ℕ → Doing) → ((l : ℕ) → IsPlaying code limits sig src h n s l []) → BodyIs code limits sig src h n (begun s c m g)
+begun_good : (code : Parts) (limits : Limits) (sig : Signatures) (src : Start → ℕ → Play) (h : List Entry) (n : ℕ) (s : Start) (c : Option ℕ) (m : ℕ → Option ℕ) (g : ℕ → Doing) → ((l : ℕ) → IsPlaying code limits sig src h n s l []) → BodyPlays code limits sig src h n (begun s c m g)
 begun_good code limits sig src h n s None m g f = f 1
 begun_good code limits sig src h n s (Some q) m g f = begun_by_good code limits sig src h n q s (m q) g f
 
@@ -56,7 +56,7 @@ step_begun code limits sig src fits local plan =
           elim (either (0 == x)) [
             | inl y ↦
                 (let z = eqb-true 0 x y in
-                rw y (subst (λ v. BodyIs code limits sig src (own_entry 0 0 Begun ∷ []) v (Ready Main 1 [])) z (playing_begins code limits sig src fits (own_entry 0 0 Begun ∷ []) 0 Main 1 None local plan.main (inl refl) (omega arith))))
+                rw y (subst (λ v. BodyPlays code limits sig src (own_entry 0 0 Begun ∷ []) v (Ready Main 1 [])) z (playing_begins code limits sig src fits (own_entry 0 0 Begun ∷ []) 0 Main 1 None local plan.main (inl refl) (omega arith))))
             | inr o ↦ rw o tt
           ];
     }
@@ -74,7 +74,7 @@ step_fired code limits sig src fits h n k o ms vs local plan a i all f =
           elim (either (n == x)) [
             | inl y ↦
                 (let z = eqb-true n x y in
-                rw y (subst (λ v. BodyIs code limits sig src (e ∷ h) v (begun (Chord k o vs) (served p (Fired k o ms vs)) (λ q. maker q h) (doing p h))) z
+                rw y (subst (λ v. BodyPlays code limits sig src (e ∷ h) v (begun (Chord k o vs) (served p (Fired k o ms vs)) (λ q. maker q h) (doing p h))) z
                 (begun_good code limits sig src (e ∷ h) n (Chord k o vs) (served p (Fired k o ms vs)) (λ q. maker q h) (doing p h)
                 (λ l. playing_begins code limits sig src fits (e ∷ h) n (Chord k o vs) l r.0 local r.1 r.2 (omega (arith, i))))))
             | inr g ↦ rw g (body_later code limits sig src e h x (doing p h x) a i (all.bodies x))

@@ -22,7 +22,7 @@ use Rattle.chord_code.specs.declared.parts.Parts.{Parts}
 use Rattle.chord_code.specs.declared.awaited.Awaited.{Awaited}
 use Rattle.chord_code.specs.declared.awaited.Awaited.TheVariants.{ForNothing, ForValue, ForObject}
 use Rattle.chord_base.specs.Operators.{Computed, Is, Trapped, Mistyped, compute, negated, denied, text_of, of_ints, unless_zero, joined, compared}
-use Rattle.chord_code.specs.Slots.{with_first, set_slot, slots_of}
+use Rattle.chord_code.specs.Slots.{with_first, set_slot, first_slots}
 use Rattle.chord_code.specs.Machine
 use Rattle.chord_code.specs.Fuel.{weight, comes_to}
 use Rattle.chord_code.specs.Meaning.{Point, At, FailsBy, Lost, point_of, failed, reply, reply_to, point_replied, points, asked_at, asked_of, chord_lines, start_line, begins, stands, code_program}
@@ -89,11 +89,11 @@ first_among f x None a b = tt
 first_among f x (Some xs) a b = (a, b)
 
 -- where the objects of values are among these, so are those of the slots that begin with them
-slots_among : (f : Object → Bool) (n : ℕ) (xs : List Value) → ValuesAmong f xs → ListAmong f (slots_of n xs)
+slots_among : (f : Object → Bool) (n : ℕ) (xs : List Value) → ValuesAmong f xs → ListAmong f (first_slots n xs)
 slots_among f zero [] a = tt
 slots_among f zero (x ∷ xs) a = tt
-slots_among f (suc n) [] a = first_among f a_value.Unit (slots_of n []) tt (slots_among f n [] tt)
-slots_among f (suc n) (x ∷ xs) a = first_among f x (slots_of n xs) a.0 (slots_among f n xs a.1)
+slots_among f (suc n) [] a = first_among f a_value.Unit (first_slots n []) tt (slots_among f n [] tt)
+slots_among f (suc n) (x ∷ xs) a = first_among f x (first_slots n xs) a.0 (slots_among f n xs a.1)
 
 -- where the objects of slots and of a value are among these, so are those of the slots with the value in one of them
 set_among : (f : Object → Bool) (i : ℕ) (v : Value) (xs : List Value) → ValueAmong f v → ValuesAmong f xs → ListAmong f (set_slot i v xs)
@@ -319,7 +319,7 @@ module _ (f : Object → Bool) (code : Parts) (m : Machine.Machine) (here : Mach
   back_among (x ∷ xs) a = a
 
   -- a block that begins in slots of these objects keeps to them
-  enter_among : (k : ℕ) (o : Option (List Value)) → ListAmong f o → DidAmong f (Machine.enters (Machine.started k m.top.room m.turns (Machine.next_place m.top ∷ m.below) o))
+  enter_among : (k : ℕ) (o : Option (List Value)) → ListAmong f o → DidAmong f (Machine.enters (Machine.begins_block k m.top.room m.turns (Machine.next_place m.top ∷ m.below) o))
   enter_among k None a = tt
   enter_among k (Some vs) a = ((tt, a), (here.0, here.1))
 
@@ -328,7 +328,7 @@ module _ (f : Object → Bool) (code : Parts) (m : Machine.Machine) (here : Mach
   init_among None p a = tt
   init_among (Some v) None a = tt
   init_among (Some v) (Some None) a = tt
-  init_among (Some v) (Some (Some b)) a = enter_among b.0 (slots_of b.1 (v ∷ [])) (slots_among f b.1 (v ∷ []) (a, tt))
+  init_among (Some v) (Some (Some b)) a = enter_among b.0 (first_slots b.1 (v ∷ [])) (slots_among f b.1 (v ∷ []) (a, tt))
 
   -- what is popped of the machine's stack keeps to these objects
   popped : (n : ℕ) → PopsAmong f n (Machine.pops n [] m.top.stack)
@@ -393,9 +393,9 @@ run_among f code w (suc n) m a =
 with_object_among : (f : Object → Bool) (m : Machine.Machine) (b : Option (ℕ × ℕ)) (o : Object) (k : ℕ) (p : Option (List Value × List Value)) → MachineAmong f m → f o ≡ true → PopsAmong f k p → StartedAmong f (Machine.with_object m b o p)
 with_object_among f m b o k None a g p = tt
 with_object_among f m None o k (Some (xs, s)) a g p = (((g, p.1), a.0.1), a.1)
-with_object_among f m (Some (b, n)) o k (Some (xs, s)) a g p = by_slots (slots_of n (a_value.Ref o ∷ xs)) (slots_among f n (a_value.Ref o ∷ xs) (g, p.0))
+with_object_among f m (Some (b, n)) o k (Some (xs, s)) a g p = by_slots (first_slots n (a_value.Ref o ∷ xs)) (slots_among f n (a_value.Ref o ∷ xs) (g, p.0))
   where
-    by_slots : (x : Option (List Value)) → ListAmong f x → StartedAmong f (Machine.started b (Machine.pred_of m.top.room) m.turns (Machine.with_stack m.top (a_value.Ref o ∷ s) ∷ m.below) x)
+    by_slots : (x : Option (List Value)) → ListAmong f x → StartedAmong f (Machine.begins_block b (Machine.pred_of m.top.room) m.turns (Machine.with_stack m.top (a_value.Ref o ∷ s) ∷ m.below) x)
     by_slots None l = tt
     by_slots (Some vs) l = ((tt, l), (((g, p.1), a.0.1), a.1))
 
@@ -453,9 +453,9 @@ points_among f code w p (r ∷ rs) a g = points_among f code w (point_replied co
 -- a body that begins in a block keeps to the objects of the values with which it begins
 start_among : (f : Object → Bool) (code : Parts) (b room t : ℕ) (xs : List Value) → ValuesAmong f xs → (o : Option Block) → StartedAmong f (Machine.body_in o b room xs t)
 start_among f code b room t xs a None = tt
-start_among f code b room t xs a (Some block) = by_slots (slots_of block.slots xs) (slots_among f block.slots xs a)
+start_among f code b room t xs a (Some block) = by_slots (first_slots block.slots xs) (slots_among f block.slots xs a)
   where
-    by_slots : (x : Option (List Value)) → ListAmong f x → StartedAmong f (Machine.started b room t [] x)
+    by_slots : (x : Option (List Value)) → ListAmong f x → StartedAmong f (Machine.begins_block b room t [] x)
     by_slots None l = tt
     by_slots (Some vs) l = ((tt, l), tt)
 

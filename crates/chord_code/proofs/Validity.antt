@@ -13,8 +13,8 @@ use Rattle.chord_code.specs.declared.parts.ChordLine.{ChordLine}
 use Rattle.chord_code.specs.declared.parts.ClassLine.{ClassLine}
 use Rattle.chord_code.specs.declared.parts.Parts.{Parts}
 use Rattle.chord_code.specs.Valid.{IsRight, IsChordLine, IsValid, AllLess, line_is_sync, class_is_sync}
-use Rattle.chord_code.specs.Machine.{instr_in, fetch, builder_in, builder_by, builder_at, IsForward}
-use Rattle.chord_code.specs.Meaning.{chords_in, methods_in, chord_lines, methods_of, method_is_sync, code_program}
+use Rattle.chord_code.specs.Machine.{instr_in, fetch, builder_in, builder_by, builder_of_line, IsForward}
+use Rattle.chord_code.specs.Meaning.{chords_of_line, methods_of_line, chord_lines, methods_of, method_is_sync, code_program}
 use Rattle.chord_code.specs.Within.{IsInstructionWithin, IsCodeWithin}
 use Rattle.chord_code.specs.Laws.{ChordsAreRight}
 
@@ -60,7 +60,7 @@ valid_forward code valid =
       inits =
           λ b p c k n e is.
           (let r = (right_at code valid b p (instr.Init c) e).2 in
-          let same : k ≡ r.builder = builder_is code r.line r.builder k n r.line.builder r.has (ap (builder_at code) (sym r.found) ∙ is) in
+          let same : k ≡ r.builder = builder_is code r.line r.builder k n r.line.builder r.has (ap (builder_of_line code) (sym r.found) ∙ is) in
           subst (λ z. z < b) (sym same) r.before);
     }
 
@@ -74,7 +74,7 @@ line_at (x ∷ xs) (suc k) js e = line_at xs k js e
 pub line_valid : (code : Parts) → IsValid code → (c k : ℕ) (js : List ℕ) → slice_get (map methods_of (chord_lines code c)) k ≡ Some js → (class : ClassLine) × (line : ChordLine) × (slice_get code.classes c ≡ Some class) × IsChordLine code class line × (line.methods ≡ js)
 line_valid code valid c k js e = by_class (slice_get code.classes c) refl e
   where
-    by_class : (o : Option ClassLine) → slice_get code.classes c ≡ o → slice_get (map methods_of (chords_in o)) k ≡ Some js → (class : ClassLine) × (line : ChordLine) × (slice_get code.classes c ≡ Some class) × IsChordLine code class line × (line.methods ≡ js)
+    by_class : (o : Option ClassLine) → slice_get code.classes c ≡ o → slice_get (map methods_of (chords_of_line o)) k ≡ Some js → (class : ClassLine) × (line : ChordLine) × (slice_get code.classes c ≡ Some class) × IsChordLine code class line × (line.methods ≡ js)
     by_class None is e = (let z : ◌≡◌ {A = Option (List ℕ)} None (Some js) = e in cc)
     by_class (Some class) is e =
         let l = line_at class.chords k js e in
@@ -103,7 +103,7 @@ valid_few code valid c k j js e h =
 
 -- whether callers wait is told by the class
 sync_same : (code : Parts) (class : ClassLine) (c : ℕ) → slice_get code.classes c ≡ Some class → class_is_sync class ≡ method_is_sync code c
-sync_same code class c e = (let kinds : Option ClassLine → ℕ → Bool = λ o j. line_is_sync (slice_get (methods_in o) j) in sym (ap kinds e))
+sync_same code class c e = (let kinds : Option ClassLine → ℕ → Bool = λ o j. line_is_sync (slice_get (methods_of_line o) j) in sym (ap kinds e))
 
 -- a chord of a valid code has at most one method whose callers wait
 pub valid_one_sync : (code : Parts) (limits : Limits) → IsValid code → HasOneSync (code_program code limits)
@@ -124,7 +124,7 @@ map_length (x ∷ xs) = ap suc (map_length xs)
 pub valid_chords : (code : Parts) → IsValid code → (c : ℕ) → length (map methods_of (chord_lines code c)) ≤ 256
 valid_chords code valid c = by_class (slice_get code.classes c) refl
   where
-    by_class : (o : Option ClassLine) → slice_get code.classes c ≡ o → length (map methods_of (chords_in o)) ≤ 256
+    by_class : (o : Option ClassLine) → slice_get code.classes c ≡ o → length (map methods_of (chords_of_line o)) ≤ 256
     by_class None e = omega arith
     by_class (Some class) e = (let same = map_length class.chords in let few = (valid.classes c class e).few_chords in omega (arith, same, few))
 

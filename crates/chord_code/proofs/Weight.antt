@@ -13,7 +13,7 @@ use Rattle.chord_code.specs.declared.instruction.Instruction.TheVariants as inst
 use Rattle.chord_code.specs.declared.parts.Block.{Block}
 use Rattle.chord_code.specs.declared.parts.Parts.{Parts}
 use Rattle.chord_base.specs.Operators.{Computed, Is, Trapped, Mistyped, compute, negated, denied, text_of}
-use Rattle.chord_code.specs.Slots.{set_slot, slots_of}
+use Rattle.chord_code.specs.Slots.{set_slot, first_slots}
 use Rattle.chord_code.specs.Machine
 use Rattle.chord_code.specs.Meaning.{IsAsked}
 use Rattle.chord_code.specs.Fuel.{entered, items_of, sum_with, cost_with, whole, left, waits, below_sum, total, weight}
@@ -303,7 +303,7 @@ module _ (code : Parts) (m : Machine.Machine) (here : Instruction) (within : sli
   back_lighter (f ∷ fs) e = let h : waits code m.below ≡ suc (left code f.block f.place) + waits code fs = ap (waits code) e in omega arith
 
   -- a block that an `init` enters leaves less to do
-  enter_lighter : (c k : ℕ) (v : Value) (n : ℕ) → Machine.IsForward code → Machine.fetch code m.top.block m.top.place ≡ Some (instr.Init c) → Machine.builder_of code c ≡ Some (Some (k, n)) → (o : Option (List Value)) → Lighter code m (Machine.enters (Machine.started k m.top.room m.turns (Machine.next_place m.top ∷ m.below) o))
+  enter_lighter : (c k : ℕ) (v : Value) (n : ℕ) → Machine.IsForward code → Machine.fetch code m.top.block m.top.place ≡ Some (instr.Init c) → Machine.builder_of code c ≡ Some (Some (k, n)) → (o : Option (List Value)) → Lighter code m (Machine.enters (Machine.begins_block k m.top.room m.turns (Machine.next_place m.top ∷ m.below) o))
   enter_lighter c k v n fwd f e None = tt
   enter_lighter c k v n fwd f e (Some vs) =
       let b = m.top.block in
@@ -319,7 +319,7 @@ module _ (code : Parts) (m : Machine.Machine) (here : Instruction) (within : sli
   init_lighter fwd c f None p e = tt
   init_lighter fwd c f (Some v) None e = tt
   init_lighter fwd c f (Some v) (Some None) e = tt
-  init_lighter fwd c f (Some v) (Some (Some b)) e = enter_lighter c b.0 v b.1 fwd f e (slots_of b.1 (v ∷ []))
+  init_lighter fwd c f (Some v) (Some (Some b)) e = enter_lighter c b.0 v b.1 fwd f e (first_slots b.1 (v ∷ []))
 
   -- each instruction that goes on leaves less to do, and each that asks waits for the answer of its ask
   act_lighter : Machine.IsForward code → (i : Instruction) → Machine.fetch code m.top.block m.top.place ≡ Some i → Lighter code m (Machine.act code (Some i) m)

@@ -18,7 +18,7 @@ use Rattle.chord_code.specs.declared.parts.Parts.{Parts}
 use Rattle.chord_code.specs.declared.awaited.Awaited.{Awaited}
 use Rattle.chord_code.specs.declared.awaited.Awaited.TheVariants.{ForNothing, ForValue, ForObject}
 use Rattle.chord_base.specs.Operators.{Computed, Is, Trapped, Mistyped, compute, negated, denied, text_of}
-use Rattle.chord_code.specs.Slots.{slots_of, set_slot}
+use Rattle.chord_code.specs.Slots.{first_slots, set_slot}
 
 -- a block at work: its place, the room below the depth limit, its stack with the top first, and its slots
 pub record Frame : Type 0 where
@@ -65,13 +65,13 @@ builder_by code None = Some None
 builder_by code (Some b) = builder_in (slice_get code.blocks b) b
 
 -- the builder of a class that may be there
-abbrev pub builder_at : Parts → Option ClassLine → Option (Option (ℕ × ℕ))
-builder_at code None = None
-builder_at code (Some c) = builder_by code c.builder
+abbrev pub builder_of_line : Parts → Option ClassLine → Option (Option (ℕ × ℕ))
+builder_of_line code None = None
+builder_of_line code (Some c) = builder_by code c.builder
 
 -- the builder of the class of this number: a block and its slots; none in it where the class has none
 abbrev pub builder_of : Parts → ℕ → Option (Option (ℕ × ℕ))
-builder_of code c = builder_at code (slice_get code.classes c)
+builder_of code c = builder_of_line code (slice_get code.classes c)
 
 -- the machine with another place, stack, slots or turns
 abbrev pub with_top : Machine → ℕ → List Value → List Value → ℕ → Machine
@@ -203,9 +203,9 @@ goes_back m [] = Bad
 goes_back m (f ∷ fs) = Goes (record { top = f; below = fs; turns = m.turns })
 
 -- a block begins with these values
-abbrev pub started : ℕ → ℕ → ℕ → List Frame → Option (List Value) → Option Machine
-started b room t below None = None
-started b room t below (Some vs) =
+abbrev pub begins_block : ℕ → ℕ → ℕ → List Frame → Option (List Value) → Option Machine
+begins_block b room t below None = None
+begins_block b room t below (Some vs) =
     Some (record { top = record { block = b; place = 0; room = room; stack = []; slots = vs }; below = below; turns = t })
 
 -- a block begins, if its slots suffice
@@ -222,7 +222,7 @@ abbrev pub init_by : Machine → Option Value → Option (Option (ℕ × ℕ)) �
 init_by m None b = Bad
 init_by m (Some v) None = Bad
 init_by m (Some v) (Some None) = Bad
-init_by m (Some v) (Some (Some b)) = enters (started b.0 m.top.room m.turns (next_place m.top ∷ m.below) (slots_of b.1 (v ∷ [])))
+init_by m (Some v) (Some (Some b)) = enters (begins_block b.0 m.top.room m.turns (next_place m.top ∷ m.below) (first_slots b.1 (v ∷ [])))
 
 -- what one instruction comes to
 abbrev pub act : Parts → Option Instruction → Machine → Did
@@ -297,7 +297,7 @@ abbrev pub with_object : Machine → Option (ℕ × ℕ) → Object → Option (
 with_object m b o None = None
 with_object m None o (Some (xs, s)) = Some (pushed m (a_value.Ref o) s)
 with_object m (Some (b, n)) o (Some (xs, s)) =
-    started b (pred_of m.top.room) m.turns (with_stack m.top (a_value.Ref o ∷ s) ∷ m.below) (slots_of n (a_value.Ref o ∷ xs))
+    begins_block b (pred_of m.top.room) m.turns (with_stack m.top (a_value.Ref o ∷ s) ∷ m.below) (first_slots n (a_value.Ref o ∷ xs))
 
 -- the machine once it is with_answer by a value; a call that ended by a trap ends the body, and so the machine does not go on
 abbrev pub with_answer : Machine → Awaited → Value → Option Machine
@@ -309,7 +309,7 @@ with_answer m (ForObject b n) _ = None
 -- a body begins in a block that may be there
 abbrev pub body_in : Option Block → ℕ → ℕ → List Value → ℕ → Option Machine
 body_in None b room xs t = None
-body_in (Some block) b room xs t = started b room t [] (slots_of block.slots xs)
+body_in (Some block) b room xs t = begins_block b room t [] (first_slots block.slots xs)
 
 -- a body begins in block b
 abbrev pub body_in_block : Parts → ℕ → ℕ → List Value → ℕ → Option Machine

@@ -92,13 +92,13 @@ asked_of code limits (FailsBy t) = Some (record { what = Ended (Traps t); depth 
 asked_of code limits Lost = None
 
 -- the chords of a class, and none where there is no such class
-abbrev pub chords_in : Option ClassLine → List ChordLine
-chords_in None = []
-chords_in (Some c) = c.chords
+abbrev pub chords_of_line : Option ClassLine → List ChordLine
+chords_of_line None = []
+chords_of_line (Some c) = c.chords
 
 -- the chords of the class of this number
 abbrev pub chord_lines : Parts → ℕ → List ChordLine
-chord_lines code c = chords_in (slice_get code.classes c)
+chord_lines code c = chords_of_line (slice_get code.classes c)
 
 -- the body of a chord begins on the object and the arguments, if the chord is there
 abbrev pub start_line : Parts → Limits → Object → List Value → ℕ → Option ChordLine → Option Machine
@@ -115,17 +115,17 @@ abbrev pub stands : Parts → Limits → Start → ℕ → List End → Point
 stands code limits s d rs = points code (point_of (begins code limits s d)) rs
 
 -- the methods of a class, and none where there is no such class
-abbrev pub methods_in : Option ClassLine → List MethodLine
-methods_in None = []
-methods_in (Some c) = c.methods
+abbrev pub methods_of_line : Option ClassLine → List MethodLine
+methods_of_line None = []
+methods_of_line (Some c) = c.methods
 
 -- the methods of the class of this number
-abbrev pub methods_at : Parts → ℕ → List MethodLine
-methods_at code c = methods_in (slice_get code.classes c)
+abbrev pub listed_methods : Parts → ℕ → List MethodLine
+listed_methods code c = methods_of_line (slice_get code.classes c)
 
 -- whether callers of a method of a class wait
 abbrev pub method_is_sync : Parts → ℕ → ℕ → Bool
-method_is_sync code c j = line_is_sync (slice_get (methods_at code c) j)
+method_is_sync code c j = line_is_sync (slice_get (listed_methods code c) j)
 
 -- the methods of a chord
 abbrev pub methods_of : ChordLine → List ℕ

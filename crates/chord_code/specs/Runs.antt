@@ -45,18 +45,18 @@ pub record IsPlaying (code : Parts) (limits : Limits) (sig : Signatures) (src : 
   pub due : IsDueType (code_program code limits) sig h b kind
 
 -- what is known of a body: it does what is left of its play
-abbrev pub BodyIs : Parts → Limits → Signatures → (Start → ℕ → Play) → List Entry → ℕ → Doing → Type 0
-BodyIs code limits sig src h b (Ready s d rs) = IsPlaying code limits sig src h b s d rs
-BodyIs code limits sig src h b (Waits s d rs q l) =
+abbrev pub BodyPlays : Parts → Limits → Signatures → (Start → ℕ → Play) → List Entry → ℕ → Doing → Type 0
+BodyPlays code limits sig src h b (Ready s d rs) = IsPlaying code limits sig src h b s d rs
+BodyPlays code limits sig src h b (Waits s d rs q l) =
     (k : IsPlaying code limits sig src h b s d rs) × (m : Message) × (sent q h ≡ Some m) × (what_of k.play ≡ Some (Called m.object m.method m.arguments))
-BodyIs code limits sig src h b (Over x) = Unit {0}
-BodyIs code limits sig src h b Absent = Unit {0}
-BodyIs code limits sig src h b Unplaced = Unit {0}
+BodyPlays code limits sig src h b (Over x) = Unit {0}
+BodyPlays code limits sig src h b Absent = Unit {0}
+BodyPlays code limits sig src h b Unplaced = Unit {0}
 
 -- after a run: each message has its arguments, and each body does what is left of its play
 pub record AllGood (code : Parts) (limits : Limits) (sig : Signatures) (src : Start → ℕ → Play) (h : List Entry) : Type 0 where
   pub messages : (n : ℕ) (m : Message) → sent n h ≡ Some m → IsFitMessage sig m
-  pub bodies : (b : ℕ) → BodyIs code limits sig src h b (doing (code_program code limits) h b)
+  pub bodies : (b : ℕ) → BodyPlays code limits sig src h b (doing (code_program code limits) h b)
 
 -- The local half: a body that begins with what its messages carry does what some good play does.
 pub record AreLocal (code : Parts) (limits : Limits) (sig : Signatures) (src : Start → ℕ → Play) (fits : Start → Option StaticType → Type 0) : Type 0 where

@@ -9,11 +9,11 @@ with_first x None = None
 with_first x (Some xs) = Some (x ∷ xs)
 
 -- the slots with which a block begins, where there are enough for these values: the unit value where nothing was given
-abbrev pub slots_of : ℕ → List Value → Option (List Value)
-slots_of zero [] = Some []
-slots_of zero (x ∷ xs) = None
-slots_of (suc n) [] = with_first a_value.Unit (slots_of n [])
-slots_of (suc n) (x ∷ xs) = with_first x (slots_of n xs)
+abbrev pub first_slots : ℕ → List Value → Option (List Value)
+first_slots zero [] = Some []
+first_slots zero (x ∷ xs) = None
+first_slots (suc n) [] = with_first a_value.Unit (first_slots n [])
+first_slots (suc n) (x ∷ xs) = with_first x (first_slots n xs)
 
 -- the slots with slot i set to a value, where there is one
 abbrev pub set_slot : ℕ → Value → List Value → Option (List Value)

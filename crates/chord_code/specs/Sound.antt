@@ -8,12 +8,12 @@ use Rattle.chord_base.specs.Machine.{IsPast}
 use Rattle.chord_base.specs.Story.{IsSound}
 use Rattle.chord_code.specs.declared.parts.MethodLine.{MethodLine}
 use Rattle.chord_code.specs.declared.parts.Parts.{Parts}
-use Rattle.chord_code.specs.Meaning.{methods_at, code_program}
+use Rattle.chord_code.specs.Meaning.{listed_methods, code_program}
 
 -- the class has this method, with so many parameters
 pub record HasMethod (code : Parts) (class method parameters : ℕ) : Type 0 where
   pub line : MethodLine
-  pub found : slice_get (methods_at code class) method ≡ Some line
+  pub found : slice_get (listed_methods code class) method ≡ Some line
   pub parameters_are : line.parameters ≡ parameters
 
 -- a message names a method of its object's class, and has its parameters

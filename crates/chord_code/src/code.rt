@@ -3,7 +3,7 @@
 
 ghost use Rattle.std.specs.Prelude.{◌≡◌, ℕ, ◌<◌, length, slice_get, Some};
 ghost use Rattle.chord_code.specs.Valid.{IsValid};
-ghost use Rattle.chord_code.specs.Meaning.{chord_lines, methods_at, method_is_sync};
+ghost use Rattle.chord_code.specs.Meaning.{chord_lines, listed_methods, method_is_sync};
 
 use crate::parts::{ChordLine, Parts};
 use std::marker::Model;
@@ -53,7 +53,7 @@ impl Code {
     /// Whether callers of the method wait.
     pub fn is_sync(&self, class: u16, method: u8) -> bool
         requires class { class < length self.now.classes }
-        requires method { method < length (methods_at self.now class) }
+        requires method { method < length (listed_methods self.now class) }
         ensures { result ≡ method_is_sync self.now class method }
     {
         self.parts.classes.items()[class as usize].methods.items()[method as usize].sync

@@ -7,8 +7,8 @@ use Rattle.chord_base.specs.declared.value.Object.{Object}
 use Rattle.chord_base.specs.declared.value.Value.{Value}
 use Rattle.chord_base.specs.declared.value.Value.TheVariants as a_value
 use Rattle.chord_code.specs.declared.parts.Block.{Block}
-use Rattle.chord_code.specs.Slots.{slots_of}
-use Rattle.chord_code.specs.Machine.{Machine, pops, started, body_in, with_object, with_stack, pred_of}
+use Rattle.chord_code.specs.Slots.{first_slots}
+use Rattle.chord_code.specs.Machine.{Machine, pops, begins_block, body_in, with_object, with_stack, pred_of}
 use Rattle.chord_vm.specs.declared.frames.Frames.{Frames}
 use Rattle.chord_vm.specs.Frames.{IsMoved, IsSpacious}
 use Rattle.chord_vm.proofs.Slots.{slots_room, slots_of_fits, pops_fits, pops_split, pops_tail, append_nil}
@@ -25,7 +25,7 @@ moved_more n k from mid from' to between to' v e f m t =
     )
 
 -- the slots of a block, filled from the end of a list
-pub filled : (n k : ℕ) (this : Value) (from from' first to : List Value) → k < n → k ≤ length from → IsMoved k from from' (this ∷ []) first → to ≡ first ++ replicate (n - 1 - k) a_value.Unit → (xs : List Value) × (slots_of n (this ∷ xs) ≡ Some to) × (pops k [] (reverse from) ≡ Some (xs, reverse from'))
+pub filled : (n k : ℕ) (this : Value) (from from' first to : List Value) → k < n → k ≤ length from → IsMoved k from from' (this ∷ []) first → to ≡ first ++ replicate (n - 1 - k) a_value.Unit → (xs : List Value) × (first_slots n (this ∷ xs) ≡ Some to) × (pops k [] (reverse from) ≡ Some (xs, reverse from'))
 filled n k this from from' first to l h m t =
     let p : pops k [] (reverse from) ≡ Some (m.0, reverse from') = m.2 [] ∙ ap (λ z. Some (z, reverse from')) (append_nil m.0) in
     let c : length m.0 ≡ k = pops_length k [] (reverse from) m.0 (reverse from') p ∙ omega arith in
@@ -40,7 +40,7 @@ filled n k this from from' first to l h m t =
     pops_length (suc k) ys [] xs s' e = cc
     pops_length (suc k) ys (x ∷ s) xs s' e = (let r = pops_length k (x ∷ ys) s xs s' e in omega (arith, r))
 
-    slots_fit : (n : ℕ) (xs : List Value) → length xs ≤ n → slots_of n xs ≡ Some (xs ++ replicate (n - length xs) a_value.Unit)
+    slots_fit : (n : ℕ) (xs : List Value) → length xs ≤ n → first_slots n xs ≡ Some (xs ++ replicate (n - length xs) a_value.Unit)
     slots_fit n xs h = slots_of_fits n xs h
 
 -- a list of values that is moved whole
@@ -56,11 +56,11 @@ spacious_block f (Some b) h = (b, refl)
 
 -- where a body begins, its values fit the block
 pub started_room : (b : Block) (n room turns : ℕ) (xs : List Value) → (body_in (Some b) n room xs turns ≡ None → ⊥) → length xs ≤ b.slots
-started_room b n room turns xs h = slots_room b.slots xs (λ e. h (ap (started n room turns []) e))
+started_room b n room turns xs h = slots_room b.slots xs (λ e. h (ap (begins_block n room turns []) e))
 
 -- the machine that begins with these slots
-pub started_is : (b : Block) (n room turns : ℕ) (xs vs : List Value) → slots_of b.slots xs ≡ Some vs → body_in (Some b) n room xs turns ≡ Some (record { top = record { block = n; place = 0; room = room; stack = []; slots = vs }; below = []; turns = turns })
-started_is b n room turns xs vs e = ap (started n room turns []) e
+pub started_is : (b : Block) (n room turns : ℕ) (xs vs : List Value) → first_slots b.slots xs ≡ Some vs → body_in (Some b) n room xs turns ≡ Some (record { top = record { block = n; place = 0; room = room; stack = []; slots = vs }; below = []; turns = turns })
+started_is b n room turns xs vs e = ap (begins_block n room turns []) e
 
 -- one more block
 pub most_more : (blocks : List Block) (i most more : ℕ) (b : Block) → slice_get blocks i ≡ Some b → b.slots ≤ more → most ≤ more → ((j : ℕ) (c : Block) → j < i → slice_get blocks j ≡ Some c → c.slots ≤ most) → (j : ℕ) (c : Block) → j < i + 1 → slice_get blocks j ≡ Some c → c.slots ≤ more
@@ -83,5 +83,5 @@ with_object_fits m b k o n s h =
     let le = with_object_pops m (Some (b, k)) o n s h in
     let p = pops_split s n (length s - n) le (omega (arith, le)) in
     let xs = drop (length s - n) s in
-    let r = slots_room k (a_value.Ref o ∷ xs) (λ e. h (ap (with_object m (Some (b, k)) o) p ∙ ap (started b (pred_of m.top.room) m.turns (with_stack m.top (a_value.Ref o ∷ reverse (take (length s - n) s)) ∷ m.below)) e)) in
+    let r = slots_room k (a_value.Ref o ∷ xs) (λ e. h (ap (with_object m (Some (b, k)) o) p ∙ ap (begins_block b (pred_of m.top.room) m.turns (with_stack m.top (a_value.Ref o ∷ reverse (take (length s - n) s)) ∷ m.below)) e)) in
     omega (arith, r, le, length-drop (length s - n) s)

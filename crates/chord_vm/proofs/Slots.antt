@@ -6,7 +6,7 @@ use Rattle.std.proofs.lemmas.Bool.{cases_lt}
 use Rattle.std.proofs.Math.Seq.{take-length}
 use Rattle.chord_base.specs.declared.value.Value.{Value}
 use Rattle.chord_base.specs.declared.value.Value.TheVariants as a_value
-use Rattle.chord_code.specs.Slots.{set_slot, with_first, slots_of}
+use Rattle.chord_code.specs.Slots.{set_slot, with_first, first_slots}
 use Rattle.chord_code.specs.Machine.{Machine, Goes, Bad, with_top, stores, store_top, pops}
 
 -- a slot that is there is set
@@ -83,12 +83,12 @@ with_first_some : (x : Value) (o : Option (List Value)) (xs : List Value) → o 
 with_first_some x o xs e = ap (with_first x) e
 
 -- the slots with which a block begins without values hold the unit value each
-slots_of_nil : (n : ℕ) → slots_of n [] ≡ Some (replicate n a_value.Unit)
+slots_of_nil : (n : ℕ) → first_slots n [] ≡ Some (replicate n a_value.Unit)
 slots_of_nil zero = refl
 slots_of_nil (suc n) = ap (with_first a_value.Unit) (slots_of_nil n)
 
 -- the slots with which a block begins, where the values fit
-pub slots_of_fits : (n : ℕ) (xs : List Value) → length xs ≤ n → slots_of n xs ≡ Some (xs ++ replicate (n - length xs) a_value.Unit)
+pub slots_of_fits : (n : ℕ) (xs : List Value) → length xs ≤ n → first_slots n xs ≡ Some (xs ++ replicate (n - length xs) a_value.Unit)
 slots_of_fits n [] h = slots_of_nil n ∙ (let e : n ≡ n - 0 = omega arith in ap (λ k. Some (replicate k a_value.Unit)) e)
 slots_of_fits zero (x ∷ xs) h = absurd (omega arith)
 slots_of_fits (suc n) (x ∷ xs) h =
@@ -96,17 +96,17 @@ slots_of_fits (suc n) (x ∷ xs) h =
     ap (with_first x) (slots_of_fits n xs (omega arith)) ∙ ap (λ k. Some (x ∷ (xs ++ replicate k a_value.Unit))) e
 
 -- a block does not begin with more values than it has slots
-slots_of_short : (n : ℕ) (xs : List Value) → n < length xs → slots_of n xs ≡ None
+slots_of_short : (n : ℕ) (xs : List Value) → n < length xs → first_slots n xs ≡ None
 slots_of_short n [] h = absurd (omega arith)
 slots_of_short zero (x ∷ xs) h = refl
 slots_of_short (suc n) (x ∷ xs) h = ap (with_first x) (slots_of_short n xs (omega arith))
 
 -- where a block begins the values fit
-pub slots_room : (n : ℕ) (xs : List Value) → (slots_of n xs ≡ None → ⊥) → length xs ≤ n
+pub slots_room : (n : ℕ) (xs : List Value) → (first_slots n xs ≡ None → ⊥) → length xs ≤ n
 slots_room n xs h = ⊎_elim (λ lt. absurd (h (slots_of_short n xs lt))) (λ le. le) (cases_lt n (length xs))
 
 -- the slots with which a block begins
-pub slots_filled : (n : ℕ) (xs : List Value) → (slots_of n xs ≡ None → ⊥) → slots_of n xs ≡ Some (take n xs ++ replicate (n - length xs) a_value.Unit)
+pub slots_filled : (n : ℕ) (xs : List Value) → (first_slots n xs ≡ None → ⊥) → first_slots n xs ≡ Some (take n xs ++ replicate (n - length xs) a_value.Unit)
 slots_filled n xs h =
     let le = slots_room n xs h in
     slots_of_fits n xs le ∙ ap (λ l. Some (l ++ replicate (n - length xs) a_value.Unit)) (sym (take_all n xs le))

@@ -2,7 +2,7 @@
 #![tactic(auto)]
 
 ghost use Rattle.std.specs.Prelude.{◌≡◌, ◌≢◌, ℕ, ◌+◌, ◌-◌, ◌<◌, ◌≤◌, List, [], ◌∷◌, ◌++◌, IfOk, OnOk, Some, None, length, slice_get, vec_len, vec_capacity, reverse, replicate};
-ghost use Rattle.chord_code.specs.Slots.{slots_of};
+ghost use Rattle.chord_code.specs.Slots.{first_slots};
 ghost use Rattle.chord_code.specs.Machine.{body_in_block, with_answer, with_object, pops};
 ghost use Rattle.chord_vm.specs.Frames.{machine_of, IsSpacious, IsReady, IsMoved, IsRoomFor, laid};
 
@@ -108,7 +108,7 @@ pub(crate) fn fill(slots: &mut Vec<Value>, n: usize, this: Value, from: &mut Vec
     requires some { k ≤ vec_len from.old }
     requires fits { k < n }
     requires room { n ≤ vec_capacity slots.old }
-    ensures moved { (xs : List Value) × (slots_of n (this ∷ xs) ≡ Some slots.new.items) × (pops k [] (reverse from.old.items) ≡ Some (xs, reverse from.new.items)) }
+    ensures moved { (xs : List Value) × (first_slots n (this ∷ xs) ≡ Some slots.new.items) × (pops k [] (reverse from.old.items) ≡ Some (xs, reverse from.new.items)) }
     ensures capacity { vec_capacity slots.new ≡ vec_capacity slots.old }
     ensures from_capacity { vec_capacity from.new ≡ vec_capacity from.old }
     ensures from_len { vec_len from.new + k ≡ vec_len from.old }
@@ -147,9 +147,9 @@ fn lay(slots: &mut Vec<Value>, arguments: &mut Hand<Values>)
 
 /// Fills the slots of a block with `this` and the values of the messages, and the rest with the unit value.
 fn fill_from(slots: &mut Vec<Value>, n: usize, this: Value, arguments: Hand<Values>)
-    requires fits { slots_of n (this ∷ laid arguments) ≢ None }
+    requires fits { first_slots n (this ∷ laid arguments) ≢ None }
     requires room { n ≤ vec_capacity slots.old }
-    ensures filled { slots_of n (this ∷ laid arguments) ≡ Some slots.new.items }
+    ensures filled { first_slots n (this ∷ laid arguments) ≡ Some slots.new.items }
 {
     let mut arguments = arguments;
     slots.truncate(0);

@@ -1,0 +1,14 @@
+mod Steps
+mod Follows
+mod Numbers
+mod BlocksPlay
+mod PartsRight
+mod Valid
+mod Keeps
+mod Patching
+mod Weights
+mod Emits
+mod Listed
+mod BuiltMore
+mod Narrow
+mod LinesTold

@@ -1,0 +1,55 @@
+//! A block's instructions as they are written.
+#![tactic(auto)]
+
+ghost use Rattle.std.specs.Prelude.{◌≡◌, ◌<◌, [], ◌∷◌, ◌++◌, length, OnOk, IfOk, slice_set};
+ghost use Rattle.chord_gen.specs.Emitted.{operator_code};
+
+use chord_base::operation::Operation;
+use chord_code::instruction::Instruction;
+use std::alloc::AllocError;
+
+/// Adds an instruction at the end.
+pub fn put(code: &mut Vec<Instruction>, instruction: Instruction) -> Result<(), AllocError>
+    ensures { OnOk result (code.new.items ≡ code.old.items ++ instruction ∷ []) }
+{
+    code.push(instruction)?;
+    Ok(())
+}
+
+/// The place of the next instruction. A block of 2^32 instructions is taken for too much memory.
+pub fn next_place(code: &Vec<Instruction>) -> Result<u32, AllocError>
+    ensures { IfOk result (λ place. place ≡ length code.now.items) }
+{
+    match u32::try_from(code.len()) {
+        Ok(place) => Ok(place),
+        Err(_) => Err(AllocError),
+    }
+}
+
+/// Writes the instruction at this place anew, once it is known where it leads.
+pub fn patch(code: &mut Vec<Instruction>, place: u32, instruction: Instruction)
+    requires { place < length code.old.items }
+    ensures { code.new.items ≡ slice_set code.old.items place instruction }
+{
+    code[place as usize] = instruction;
+}
+
+/// The instruction of an operator.
+pub fn instruction_of(operation: Operation) -> Instruction
+    ensures { result ≡ operator_code operation }
+{
+    match operation {
+        Operation::Add => Instruction::Add,
+        Operation::Subtract => Instruction::Sub,
+        Operation::Multiply => Instruction::Mul,
+        Operation::Divide => Instruction::Div,
+        Operation::Remainder => Instruction::Rem,
+        Operation::Join => Instruction::Cat,
+        Operation::Equal => Instruction::Eq,
+        Operation::NotEqual => Instruction::Ne,
+        Operation::Less => Instruction::Lt,
+        Operation::Greater => Instruction::Gt,
+        Operation::LessOrEqual => Instruction::Le,
+        Operation::GreaterOrEqual => Instruction::Ge,
+    }
+}

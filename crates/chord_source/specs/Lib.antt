@@ -1,0 +1,15 @@
+-- ## What callers read
+-- What follows a part of a body, and the ways in which it is chosen.
+pub mod Continuing
+-- How expressions are evaluated.
+pub mod Expressions
+-- How statements are executed, and how a body begins.
+pub mod Statements
+-- How `new` makes and builds an object.
+pub mod Objects
+-- The join machine of a source.
+pub mod Source
+-- Bodies that keep to their types never go wrong, and come to an end.
+pub mod Laws
+-- Code that does what a source does, and its runs.
+pub mod Sources

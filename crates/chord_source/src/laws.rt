@@ -1,0 +1,21 @@
+//! What holds of the bodies of a source, as the contracts of functions that do nothing.
+#![tactic(auto)]
+
+ghost use Rattle.chord_source.specs.Laws.{GoodPlays, EachEnds};
+ghost use Rattle.chord_source.specs.Sources.{SoundRuns};
+
+/// A body that keeps to its static types never goes wrong: its messages have the arguments of their methods, and it gives
+/// a value of its result's type.
+pub fn good()
+    ensures { GoodPlays }
+{}
+
+/// A body that keeps to its static types comes to an end after finitely many asks, whatever fits they are answered.
+pub fn ends()
+    ensures { EachEnds }
+{}
+
+/// Any code whose bodies play what those of a source do is sound in every run, and its runs are the source's.
+pub fn runs()
+    ensures { SoundRuns }
+{}
