@@ -101,6 +101,18 @@ module _ {P : Type 0} (entries : P → List Entry) (arguments : P → List value
   pub it : (i : ℕ) (s : Stage) → u.stage i ≡ s → It i s
   it i s e = subst (It i) e (law.stands.messages.stands i)
 
+  -- the claims of a desk on one number are one claim
+  pub same_claim : (c d : Claim) → HasThe c v.claims → HasThe d v.claims → c.number ≡ d.number → c ≡ d
+  same_claim c d a b e = let s : InHand id (Claiming c) ≡ InHand id (Claiming d) = sym (law.stands.hands.holds id v at c.number (Claiming c) (a, refl)) ∙ law.stands.hands.holds id v at c.number (Claiming d) (b, sym e) in cc
+
+  -- the values of claimed members, laid together, are what the claims have
+  pub same_values : (o : Object) (js ms : List ℕ) (vs ws : List value.Value) → AreClaimed v.claims o js ms vs → AreClaimed v.claims o js ms ws → vs ≡ ws
+  same_values o [] [] vs ws a b = a ∙ sym b
+  same_values o [] (i ∷ ms) vs ws a b = absurd a
+  same_values o (j ∷ js) [] vs ws a b = absurd a
+  same_values o (j ∷ js) (i ∷ ms) vs ws a b = let same = same_claim a.0 b.0 a.1 b.1 (a.2 ∙ sym b.2) in
+      a.6.1 ∙ (λ k. (same k).values ++ same_values o js ms a.6.0 b.6.0 a.6.2 b.6.2 k) ∙ sym b.6.1
+
   -- a step that leaves the counter and the flag of the limit alone
   counting_stays : (w : View) → w.spent ≡ v.spent → w.splits ≡ v.splits → Counting n m.count (set m.views id w)
   counting_stays w a b = counts n m.count m.count m.views id v w law.counting at (let c = law.counting.bound in let t = told_set m.views id v w at in let f = ap flag a in omega arith) (λ _. b)

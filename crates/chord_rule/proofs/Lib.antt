@@ -31,3 +31,4 @@ pub mod WaySteps
 pub mod Moves
 pub mod Knowing
 pub mod Moving
+pub mod Seeing

@@ -9,7 +9,7 @@ use Rattle.atomic_table.proofs.Lists.{set_again, set_else}
 use Rattle.chord_base.specs.Meaning.{Program}
 use Rattle.chord_base.specs.Bodies.{doing}
 use Rattle.chord_base.specs.Messages.{Message, message_of, IsCall}
-use Rattle.chord_base.specs.Story.{IsIn}
+use Rattle.chord_base.specs.Story.{IsIn, AllBelow}
 use Rattle.chord_base.specs.declared.value.Object.{Object}
 use Rattle.chord_base.specs.declared.value.Value as value
 use Rattle.chord_base.specs.declared.event.What.TheVariants.{Begun, Fired}
@@ -39,6 +39,7 @@ use Rattle.chord_rule.proofs.Puts.{put}
 use Rattle.chord_rule.proofs.BagSteps.{linked_order}
 use Rattle.chord_rule.proofs.Bridge.{Can, after, counter_step, store_cell, swap_head, store_place, exchange_cell, load_cell}
 use Rattle.chord_rule.proofs.Counting.{count_fits}
+use Rattle.chord_rule.proofs.Lists.{some_is}
 use Rattle.chord_rule.proofs.MessageSteps.{claim_on}
 use Rattle.chord_rule.proofs.Standing as standing
 use Rattle.chord_rule.proofs.Bagging as bagging
@@ -74,19 +75,19 @@ module _ {P : Type 0} (entries : P → List Entry) (arguments : P → List value
   H = Held entries arguments keeps_to p n
 
   -- a step that changes nothing
-  unmoved : (m : Moment P) (u : Unseen) → W m u → (id : ℕ) (v : View) → get_elem? m.views id ≡ some v → W (record m { views = set m.views id v }) u
+  pub unmoved : (m : Moment P) (u : Unseen) → W m u → (id : ℕ) (v : View) → get_elem? m.views id ≡ some v → W (record m { views = set m.views id v }) u
   unmoved m u whole id v at = subst (λ (vs : List View). W (record m { views = vs }) u) (sym (set_again m.views id v at)) whole
 
   -- the draw of a firing
   pub draw_firing_step : (id : ℕ) (me : Me (Option P) View) (k : ℕ) (object : Object) (js ms : List ℕ) (vs : List value.Value) → me.0.gone ≡ false → me.0.spent ≡ false → slice_get (p.chords object.class) k ≡ Some js → AreClaimed me.0.claims object js ms vs
-      → Allows H n id me 0 (λ x. (x + 1) % 2 ^ 64) (draws_firing p k object ms vs (step n 0 1 0 none) me)
-  draw_firing_step id me k object js ms vs live untold chord members = counter_step Unseen W n id me (λ x. (x + 1) % 2 ^ 64) (draws_firing p k object ms vs (step n 0 1 0 none) me)
+      → Allows H n id me 0 (λ x. (x + 1) % 2 ^ 64) (draws_firing p k object ms (step n 0 1 0 none) me)
+  draw_firing_step id me k object js ms vs live untold chord members = counter_step Unseen W n id me (λ x. (x + 1) % 2 ^ 64) (draws_firing p k object ms (step n 0 1 0 none) me)
       (λ m u whole at fits. go m u whole at (dec_le n m.count))
     where
       go : (m : Moment P) (u : Unseen) (whole : W m u) (at : get_elem? m.views id ≡ some me.0) → Dec (n ≤ m.count)
           → (w : View) × (a : Act (Option P)) × (u' : Unseen) × Can n m.homes me.1 a
           × W (record m { count = (m.count + 1) % 2 ^ 64; homes = after m.homes me.1 a; views = set m.views id w }) u'
-          × draws_firing p k object ms vs (step n 0 1 0 none) me m.count (w, carried_after me.1 a)
+          × draws_firing p k object ms (step n 0 1 0 none) me m.count (w, carried_after me.1 a)
       go m u whole at (yes full) = (
         saw_count (was_told me.0) (m.count + 1),
         keeps,
@@ -106,7 +107,12 @@ module _ {P : Type 0} (entries : P → List Entry) (arguments : P → List value
                 (wholes.whole_draw_firing entries arguments keeps_to p n small m u whole id me.0 at live k object js ms vs l chord members),
             (
               refl,
-              (λ _. (refl, standing.desk_below entries arguments keeps_to p n m u whole.agrees.stands l id me.0 at, (u.journal, (wholes.whole_draw_firing entries arguments keeps_to p n small m u whole id me.0 at live k object js ms vs l chord members).agrees.stands.keeping.merged.past))),
+              (λ _. (
+                standing.desk_below entries arguments keeps_to p n m u whole.agrees.stands l id me.0 at,
+                (λ is ws chosen claimed. let same = agreeing.same_values entries arguments keeps_to p n small m u whole.agrees id me.0 at object js ms vs ws members (subst (λ (hs : List ℕ). AreClaimed me.0.claims object hs ms ws) (some_is is js (sym chosen ∙ chord)) claimed) in
+                subst (λ (xs : List value.Value). (w ≡ saw_count (kinds.fired me.0 m.count k object ms xs) (m.count + 1)) × CameNext p (entry m.count m.count (Fired k object ms xs))) same
+                    (refl, (u.journal, (wholes.whole_draw_firing entries arguments keeps_to p n small m u whole id me.0 at live k object js ms vs l chord members).agrees.stands.keeping.merged.past))),
+              )),
               λ k. absurd (omega arith),
             ),
           )
@@ -207,8 +213,8 @@ module _ {P : Type 0} (entries : P → List Entry) (arguments : P → List value
       ))
 
   pub give_step : (id : ℕ) (me : Me (Option P) View) (c : Claim) → me.0.gone ≡ false → c.number < n → HasThe c me.0.claims → c.firing ≡ None
-      → Allows H n id me (1 + c.number) (λ _. word a_cell.Pending c.next) (λ _. unclaims c (step n (1 + c.number) (word a_cell.Pending c.next) 0 none) me (word a_cell.Pending c.next))
-  give_step id me c live low has free = store_cell Unseen W n id me c.number (record { cell = a_cell.Pending; next = c.next }) (unclaims c (step n (1 + c.number) (word a_cell.Pending c.next) 0 none) me (word a_cell.Pending c.next)) low
+      → Allows H n id me (1 + c.number) (λ _. word a_cell.Pending c.next) (λ _. unclaims (step n (1 + c.number) (word a_cell.Pending c.next) 0 none) me (word a_cell.Pending c.next))
+  give_step id me c live low has free = store_cell Unseen W n id me c.number (record { cell = a_cell.Pending; next = c.next }) (unclaims (step n (1 + c.number) (word a_cell.Pending c.next) 0 none) me (word a_cell.Pending c.next)) low
       (λ m u whole at good. let is = standing.claim_word entries arguments keeps_to p n m u whole.agrees.stands id me.0 at c has in (
         (omega arith, (link_low a_cell.Claimed c.next (subst WordFits is good).1).1),
         (
@@ -217,13 +223,13 @@ module _ {P : Type 0} (entries : P → List Entry) (arguments : P → List value
           record u { stage = put u.stage c.number Armed },
           tt,
           wholes.whole_give_back entries arguments keeps_to p n small m u whole id me.0 at live c has free,
-          refl,
+          (λ d there e. let same : c ≡ d = agreeing.same_claim entries arguments keeps_to p n small m u whole.agrees id me.0 at c d has there (omega arith) in λ k. (saw (kinds.unclaimed me.0 (same k).number) (same k).number (a_word a_cell.Pending (same k).next), me.1)),
         ),
       ))
 
   pub consume_step : (id : ℕ) (me : Me (Option P) View) (c : Claim) (f : ℕ) → me.0.gone ≡ false → c.number < n → HasThe c me.0.claims → c.firing ≡ Some f → me.0.emptying ≡ None
-      → Allows H n id me (1 + c.number) (λ _. word a_cell.Consumed c.next) (λ _. consumes entries arguments keeps_to c f (step n (1 + c.number) (word a_cell.Consumed c.next) 0 none) me (word a_cell.Consumed c.next))
-  consume_step id me c f live low has for free = store_cell Unseen W n id me c.number (record { cell = a_cell.Consumed; next = c.next }) (consumes entries arguments keeps_to c f (step n (1 + c.number) (word a_cell.Consumed c.next) 0 none) me (word a_cell.Consumed c.next)) low
+      → Allows H n id me (1 + c.number) (λ _. word a_cell.Consumed c.next) (λ _. consumes entries arguments keeps_to (step n (1 + c.number) (word a_cell.Consumed c.next) 0 none) me (word a_cell.Consumed c.next))
+  consume_step id me c f live low has for free = store_cell Unseen W n id me c.number (record { cell = a_cell.Consumed; next = c.next }) (consumes entries arguments keeps_to (step n (1 + c.number) (word a_cell.Consumed c.next) 0 none) me (word a_cell.Consumed c.next)) low
       (λ m u whole at good. let is = standing.claim_word entries arguments keeps_to p n m u whole.agrees.stands id me.0 at c has in let home = standing.claim_home entries arguments keeps_to p n m u whole.agrees.stands id me.0 at c has in
       let comes = standing.claim_comes entries arguments keeps_to p n m u whole.agrees.stands id me.0 at c home.0 has home.1 in (
         (omega arith, (link_low a_cell.Claimed c.next (subst WordFits is good).1).2),
@@ -233,7 +239,16 @@ module _ {P : Type 0} (entries : P → List Entry) (arguments : P → List value
           record u { stage = put u.stage c.number (InHand id Emptying) },
           (low, home.1),
           wholes.whole_consume entries arguments keeps_to p n small m u whole id me.0 at live c f home.0 has for free home.1,
-          (home.0, refl, refl, comes.values, comes.below f for, comes.task),
+          (λ d g there e firing.
+              let same : c ≡ d = agreeing.same_claim entries arguments keeps_to p n small m u whole.agrees id me.0 at c d has there (omega arith) in
+              let one : f ≡ g = some_is f g (sym for ∙ ap (λ (y : Claim). y.firing) same ∙ firing) in (
+                home.0,
+                ap (λ (y : Claim). saw (kinds.consumed me.0 y.number (entries home.0)) y.number (a_word a_cell.Consumed y.next)) same,
+                ap (λ (y : Claim). (y.number, Some home.0) ∷ me.1) same,
+                comes.values ∙ ap (λ (y : Claim). y.values) same,
+                subst (λ (k : ℕ). AllBelow k (entries home.0)) one (comes.below f for),
+                comes.task,
+              )),
         ),
       ))
 

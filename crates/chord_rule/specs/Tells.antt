@@ -1,5 +1,5 @@
 -- What each step tells: of the step, the desk before, the word found, and the desk after.
-use Rattle.std.specs.Prelude.{◌≡◌, ◌≢◌, ◌⊎◌, ℕ, ◌+◌, ◌*◌, ◌<◌, ◌≤◌, true, List, [], ◌∷◌, Option, Some, None}
+use Rattle.std.specs.Prelude.{◌≡◌, ◌≢◌, ◌⊎◌, ℕ, ◌+◌, ◌*◌, ◌<◌, ◌≤◌, true, List, [], ◌∷◌, Option, Some, None, slice_get}
 use Rattle.atomic_table.specs.Table.{Me, Step}
 use Rattle.chord_base.specs.declared.value.Object.{Object}
 use Rattle.chord_base.specs.declared.value.Value as value
@@ -18,7 +18,7 @@ use Rattle.chord_rule.specs.declared.view.Claim.{Claim}
 use Rattle.chord_rule.specs.declared.view.Duty.{Duty}
 use Rattle.chord_rule.specs.declared.view.View.{View}
 use Rattle.chord_rule.specs.Bags.{IsArmed, head_of}
-use Rattle.chord_rule.specs.Claims.{HasThe, HasClaimOn}
+use Rattle.chord_rule.specs.Claims.{HasThe, HasClaimOn, AreClaimed}
 use Rattle.chord_rule.specs.Duties.{HasDuty}
 use Rattle.chord_rule.specs.Made.{Names, key}
 use Rattle.chord_rule.specs.Parcels.{Begins}
@@ -63,9 +63,10 @@ module _ {S : Type 0} where
   draws p body what s m x w = (w.1 ≡ m.1) × (x < s.slots → (w.0 ≡ saw_count (drew m.0 x body what) (x + 1)) × AllBelow x m.0.kept × ((o : Object) → Names what o → o.number < x) × CameNext p (entry x body what))
       × (s.slots ≤ x → w.0 ≡ saw_count (was_told m.0) (x + 1))
 
-  -- below the limit the desk has the firing, which came next in the run, and whose number is above all that it kept; else it is told
-  abbrev pub draws_firing : Program → ℕ → Object → List ℕ → List value.Value → Step S → Me S View → ℕ → Me S View → Type 0
-  draws_firing p k o ms vs s m x w = (w.1 ≡ m.1) × (x < s.slots → (w.0 ≡ saw_count (fired m.0 x k o ms vs) (x + 1)) × AllBelow x m.0.kept × CameNext p (entry x x (Fired k o ms vs)))
+  -- below the limit the desk has the firing, which came next in the run, with the values of its claims, and whose number is above all that it kept; else it is told
+  abbrev pub draws_firing : Program → ℕ → Object → List ℕ → Step S → Me S View → ℕ → Me S View → Type 0
+  draws_firing p k o ms s m x w = (w.1 ≡ m.1)
+      × (x < s.slots → AllBelow x m.0.kept × ((js : List ℕ) (vs : List value.Value) → slice_get (p.chords o.class) k ≡ Some js → AreClaimed m.0.claims o js ms vs → (w.0 ≡ saw_count (fired m.0 x k o ms vs) (x + 1)) × CameNext p (entry x x (Fired k o ms vs))))
       × (s.slots ≤ x → w.0 ≡ saw_count (was_told m.0) (x + 1))
 
   -- ## Messages
@@ -100,13 +101,13 @@ module _ {S : Type 0} where
   holds s m x w = (w ≡ m) × ((c : Claim) → HasThe c m.0.claims → s.word ≡ 1 + c.number → (x ≡ word a_cell.Claimed c.next) × WordFits (a_word a_cell.Claimed c.next))
 
   -- a claim is given back
-  abbrev pub unclaims : Claim → Step (Option S) → Me (Option S) View → ℕ → Me (Option S) View → Type 0
-  unclaims c s m x w = w ≡ (saw (unclaimed m.0 c.number) c.number (a_word a_cell.Pending c.next), m.1)
+  abbrev pub unclaims : Step (Option S) → Me (Option S) View → ℕ → Me (Option S) View → Type 0
+  unclaims s m x w = (c : Claim) → HasThe c m.0.claims → s.word ≡ 1 + c.number → w ≡ (saw (unclaimed m.0 c.number) c.number (a_word a_cell.Pending c.next), m.1)
 
   -- a message is consumed, and its parcel comes out: it holds the values of the claim, and what was drawn before the firing
-  abbrev pub consumes : (S → List Entry) → (S → List value.Value) → (S → Type 0) → Claim → ℕ → Step (Option S) → Me (Option S) View → ℕ → Me (Option S) View → Type 0
-  consumes entries arguments keeps_to c f s m x w =
-      (q : S) × (w.0 ≡ saw (consumed m.0 c.number (entries q)) c.number (a_word a_cell.Consumed c.next)) × (w.1 ≡ (c.number, Some q) ∷ m.1) × (arguments q ≡ c.values) × AllBelow f (entries q) × keeps_to q
+  abbrev pub consumes : (S → List Entry) → (S → List value.Value) → (S → Type 0) → Step (Option S) → Me (Option S) View → ℕ → Me (Option S) View → Type 0
+  consumes entries arguments keeps_to s m x w = (c : Claim) (f : ℕ) → HasThe c m.0.claims → s.word ≡ 1 + c.number → c.firing ≡ Some f
+      → (q : S) × (w.0 ≡ saw (consumed m.0 c.number (entries q)) c.number (a_word a_cell.Consumed c.next)) × (w.1 ≡ (c.number, Some q) ∷ m.1) × (arguments q ≡ c.values) × AllBelow f (entries q) × keeps_to q
 
   -- the empty slot is home again
   abbrev pub empties : Step (Option S) → Me (Option S) View → ℕ → Me (Option S) View → Type 0
