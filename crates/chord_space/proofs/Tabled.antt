@@ -79,7 +79,7 @@ named_among f (Fired k q ms vs) o a n = receiver_among f q vs o a n
 named_among f (Ended x) o a n = end_among f x o a n
 
 -- in a past each object that an entry names was made before it
-all_made : (p : Program) → IsTame p → HaveMethods p → (h : List Entry) → IsPast p h → AreMade h
+pub all_made : (p : Program) → IsTame p → HaveMethods p → (h : List Entry) → IsPast p h → AreMade h
 all_made p tame methods [] past = tt
 all_made p tame methods (e ∷ h) past = (all_made p tame methods h past.0, λ o names. made_there h o (named_among (was_made h) e.what o (objects_were_made p e h tame methods past) names))
 

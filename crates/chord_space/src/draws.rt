@@ -1,12 +1,13 @@
 //! Entries are drawn: the one step that is an event of the join machine.
-ghost use Rattle.std.specs.Prelude.{◌≡◌, ◌⊎◌, ℕ, ◌<◌, ◌≤◌, true, false, MatchResult, IfErr};
+ghost use Rattle.std.specs.Prelude.{◌≡◌, ◌⊎◌, ℕ, ◌+◌, ◌<◌, ◌≤◌, true, false, MatchResult, IfOk, IsOk};
 ghost use Rattle.chord_base.specs.declared.event.What.TheVariants.{Begun};
 ghost use Rattle.chord_base.specs.declared.value.Object as value;
 ghost use Rattle.chord_base.specs.Bodies.{Asks};
 ghost use Rattle.chord_base.specs.Story.{AllBelow, IsOwn};
-ghost use Rattle.chord_rule.specs.Kinds.{drew, was_told};
+ghost use Rattle.chord_rule.specs.Kinds.{drew, was_told, saw_count};
 ghost use Rattle.chord_rule.specs.Made.{Names};
-ghost use Rattle.chord_space.specs.Desks.{view, program_of, IsDeskOf, IsSameDesk, MayDraw};
+ghost use Rattle.chord_space.specs.Ruled.{IsOfCode};
+ghost use Rattle.chord_space.specs.Desks.{view, code_of, limits_of, program_of, IsDeskOf, IsSameDesk, MayDraw};
 
 use crate::plays::{Draw, Said};
 use crate::space::{Desk, Space, Spent};
@@ -17,13 +18,13 @@ use std::marker::Brand;
 impl<P: Carry> Space<P> {
     // Pairs with every other draw: the counter gives each number once, and numbers are the order of the journal.
     fn step_draw<J: Said>(&self, desk: &mut Desk<P>, body: u32, what: &What) -> u64
-        requires entry { (J.body ≡ body) × (J.what ≡ what.now) }
+        requires entry { (J.body ≡ body) × (J.what ≡ what.now) × (J.parts ≡ code_of self.now) × (J.limits ≡ limits_of self.now) }
         requires desk { IsDeskOf self.now desk.old }
         requires room { (view desk.old).spent ≡ false }
         requires next { MayDraw self.now desk.old body what.now }
         ensures desk { IsSameDesk desk.old desk.new }
-        ensures drawn { result < self.now.events → (view desk.new ≡ drew (view desk.old) result body what.now) × AllBelow result (view desk.old).kept × ((o : value.Object) → Names what.now o → o.number < result) }
-        ensures told { self.now.events ≤ result → view desk.new ≡ was_told (view desk.old) }
+        ensures drawn { result < self.now.events → (view desk.new ≡ saw_count (drew (view desk.old) result body what.now) (result + 1)) × AllBelow result (view desk.old).kept × ((o : value.Object) → Names what.now o → o.number < result) × IsOfCode (code_of self.now) what.now }
+        ensures told { self.now.events ≤ result → view desk.new ≡ saw_count (was_told (view desk.old)) (result + 1) }
     {
         self.table.shared.fetch_add::<Draw<J>>(&mut desk.seat, 0, 1)
     }
@@ -35,8 +36,9 @@ impl<P: Carry> Space<P> {
         requires room { (view desk.old).spent ≡ false }
         requires next { MayDraw self.now desk.old body what.now }
         ensures desk { IsSameDesk desk.old desk.new }
-        ensures drawn { MatchResult result (λ x. (x < self.now.events) × (view desk.new ≡ drew (view desk.old) x body what.now)) (λ _. view desk.new ≡ was_told (view desk.old)) }
-        ensures above { MatchResult result (λ x. AllBelow x (view desk.old).kept × ((o : value.Object) → Names what.now o → o.number < x)) (λ _. view desk.new ≡ was_told (view desk.old)) }
+        ensures drawn { MatchResult result (λ x. (x < self.now.events) × (view desk.new ≡ saw_count (drew (view desk.old) x body what.now) (x + 1))) (λ _. (c : ℕ) × (self.now.events < c) × (view desk.new ≡ saw_count (was_told (view desk.old)) c)) }
+        ensures above { IfOk result (λ x. AllBelow x (view desk.old).kept × ((o : value.Object) → Names what.now o → o.number < x)) }
+        ensures code { IsOk result → IsOfCode (code_of self.now) what.now }
     {
         let found = self.step_draw::<Brand>(desk, body, what);
         if found < self.events as u64 {

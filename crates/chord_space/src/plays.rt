@@ -5,8 +5,9 @@ ghost use Rattle.chord_base.specs.declared.event.What.TheVariants.{Begun};
 ghost use Rattle.chord_base.specs.declared.event.Limits.{Limits};
 ghost use Rattle.chord_base.specs.declared.value.Object.{Object};
 ghost use Rattle.chord_code.specs.declared.parts.Parts.{Parts};
-ghost use Rattle.chord_rule.specs.Kinds.{draws, newcomer, gone, lent_one, united};
+ghost use Rattle.chord_rule.specs.Kinds.{newcomer, gone, lent_one, united};
 ghost use Rattle.chord_rule.specs.Tells.{places, links, arms, posts_out, posts, starts, plays};
+ghost use Rattle.chord_space.specs.Ruled.{draws_of_code};
 ghost use Rattle.chord_space.specs.Desks.{no_parts, no_limits, no_object};
 
 use atomic_table::{Join, Play, Split};
@@ -14,14 +15,22 @@ use chord_code::carry::Carry;
 use chord_rule::view::View;
 use std::marker::{Brand, PhantomData};
 
-/// The entry that a draw makes. Each call picks it.
+/// The entry that a draw makes, and the code and the limits of its run. Each call picks them.
 pub trait Said {
+    ghost parts: { Parts };
+
+    ghost limits: { Limits };
+
     ghost body: { ℕ };
 
     ghost what: { What };
 }
 
 impl Said for Brand {
+    ghost parts = { no_parts };
+
+    ghost limits = { no_limits };
+
     ghost body = { 0 };
 
     ghost what = { Begun };
@@ -59,7 +68,7 @@ pub struct Draw<J> {
 }
 
 impl<P, J: Said> Play<Option<P>, View> for Draw<J> {
-    ghost then = { draws J.body J.what };
+    ghost then = { draws_of_code J.parts J.limits J.body J.what };
 }
 
 /// The place word of a message is set.
