@@ -209,7 +209,11 @@ module _ {P : Type 0} (entries : P → List Entry) (arguments : P → List value
         u,
         tt,
         unmoved m u whole id me.0 at,
-        (refl, (λ c has e. let same : i ≡ c.number = omega arith in let is = ap m.cells same ∙ standing.claim_word entries arguments keeps_to p n m u whole.agrees.stands id me.0 at c has in (ap word_of is, subst WordFits is good))),
+        (
+          refl,
+          (λ c has e. let same : i ≡ c.number = omega arith in let is = ap m.cells same ∙ standing.claim_word entries arguments keeps_to p n m u whole.agrees.stands id me.0 at c has in (ap word_of is, subst WordFits is good)),
+          agreeing.same_claim entries arguments keeps_to p n small m u whole.agrees id me.0 at,
+        ),
       ))
 
   pub give_step : (id : ℕ) (me : Me (Option P) View) (c : Claim) → me.0.gone ≡ false → c.number < n → HasThe c me.0.claims → c.firing ≡ None

@@ -96,9 +96,10 @@ module _ {S : Type 0} where
   abbrev pub claims : Step (Option S) → Me (Option S) View → ℕ → Me (Option S) View → Type 0
   claims s m x w = (i : ℕ) (next : Option ℕ) → s.word ≡ 1 + i → s.first ≡ word a_cell.Pending next → ClaimTells i next s m x w
 
-  -- the cell of a claim is as the claim has it
+  -- the cell of a claim is as the claim has it, and no number is claimed twice
   abbrev pub holds : Step (Option S) → Me (Option S) View → ℕ → Me (Option S) View → Type 0
   holds s m x w = (w ≡ m) × ((c : Claim) → HasThe c m.0.claims → s.word ≡ 1 + c.number → (x ≡ word a_cell.Claimed c.next) × WordFits (a_word a_cell.Claimed c.next))
+      × ((c d : Claim) → HasThe c m.0.claims → HasThe d m.0.claims → c.number ≡ d.number → c ≡ d)
 
   -- a claim is given back
   abbrev pub unclaims : Step (Option S) → Me (Option S) View → ℕ → Me (Option S) View → Type 0

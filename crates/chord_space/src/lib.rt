@@ -5,12 +5,14 @@
 //! Not here: which message to claim and which chord to fire, and what a bag is walked for.
 #![tactic(auto)]
 
+mod claims;
 mod cross;
 mod draws;
 mod firings;
 pub mod laws;
 mod lends;
 mod links;
+mod looks;
 mod plays;
 mod space;
 
