@@ -17,7 +17,7 @@ use Rattle.chord_word.specs.declared.cells.Cell.TheVariants as a_cell
 use Rattle.chord_word.specs.declared.cells.Word.{Word}
 use Rattle.chord_rule.specs.declared.view.Claim.{Claim}
 use Rattle.chord_rule.specs.declared.view.View.{View}
-use Rattle.chord_rule.specs.Moment.{Moment}
+use Rattle.chord_rule.specs.Moment.{Moment, Home}
 use Rattle.chord_rule.specs.Agrees.{Agrees}
 use Rattle.chord_rule.specs.Bags.{head_of, cell_of}
 use Rattle.chord_rule.specs.Claims.{HasThe, HasClaimOn}
@@ -36,6 +36,7 @@ use Rattle.chord_rule.proofs.Bagging as bagging
 use Rattle.chord_rule.proofs.KeySteps.{one_key, same_key}
 use Rattle.chord_rule.proofs.MessageSteps.{claim_on}
 use Rattle.chord_rule.proofs.Puts.{at_inside}
+use Rattle.chord_rule.proofs.Standing as standing
 use Rattle.chord_rule.proofs.WaySteps.{read_bag}
 use Rattle.chord_rule.proofs.Wholes.{whole_claim}
 
@@ -122,3 +123,22 @@ module _ {P : Type 0} (entries : P → List Entry) (arguments : P → List value
       go Spent e = subst IsSettledCell (sym (it Spent e).3) tt
       go Posted e = absurd (let z = sym (it Posted e).4 ∙ b in cc)
       go Played e = absurd (let z = sym (it Played e).4 ∙ b in cc)
+
+  -- alone, with no slot out with it, the desk finds each slot at home
+  pub at_home : v.first ≡ true → v.lent ≡ 0 → v.placing ≡ None → v.emptying ≡ None → v.posting ≡ None → v.starting ≡ None → (i : ℕ) → (y : Option P) × (m.homes i ≡ some y)
+  at_home is_first none_lent placing emptying posting starting i = cases (m.homes i) refl
+    where
+      out : (j : ℕ) (w : View) → get_elem? m.views j ≡ some w → (w.placing ≡ Some i) ⊎ ((w.emptying ≡ Some i) ⊎ ((w.posting ≡ Some i) ⊎ (w.starting ≡ Some i))) → ⊥
+      out j w there o = ⊎_elim
+          (λ (e : w ≡ v). let t = subst (λ (y : View). (y.placing ≡ Some i) ⊎ ((y.emptying ≡ Some i) ⊎ ((y.posting ≡ Some i) ⊎ (y.starting ≡ Some i)))) e o in
+          ⊎_elim (λ z. not_some (sym placing ∙ z)) (λ s. ⊎_elim (λ z. not_some (sym emptying ∙ z)) (λ s. ⊎_elim (λ z. not_some (sym posting ∙ z)) (λ z. not_some (sym starting ∙ z)) s) s) t)
+          (λ (e : w ≡ gone). let t = subst (λ (y : View). (y.placing ≡ Some i) ⊎ ((y.emptying ≡ Some i) ⊎ ((y.posting ≡ Some i) ⊎ (y.starting ≡ Some i)))) e o in
+          ⊎_elim not_some (λ s. ⊎_elim not_some (λ s. ⊎_elim not_some not_some s) s) t)
+          (who is_first none_lent j w there)
+        where
+          not_some : Path (Option ℕ) None (Some i) → ⊥
+          not_some e = cc
+
+      cases : (h : Home P) → m.homes i ≡ h → (y : Option P) × (m.homes i ≡ some y)
+      cases (some y) e = (y, e)
+      cases none e = let o = standing.home_out entries arguments keeps_to p n m u law.stands i e in absurd (out o.0 o.1 o.2 o.3)

@@ -6,6 +6,7 @@
 #![tactic(auto)]
 
 mod claims;
+mod closed;
 mod cross;
 mod draws;
 mod firings;
@@ -16,5 +17,6 @@ mod looks;
 mod plays;
 mod space;
 
+pub use closed::Closed;
 pub use cross::may_cross;
 pub use space::{Desk, Space, Spent};

@@ -18,6 +18,17 @@ use chord_code::carry::Carry;
 use chord_word::{Word, unpack, unpack_head, unpack_place};
 use std::marker::Brand;
 
+/// The lesser of the counter and the limit.
+pub(crate) fn at_most(count: u64, limit: u32) -> u32
+    ensures { result ≡ min count limit }
+{
+    if count < limit as u64 {
+        count as u32
+    } else {
+        limit
+    }
+}
+
 impl<P: Carry> Space<P> {
     /// How many numbers were given: the lesser of the limit and of the counter, which one load reads.
     pub fn look_count(&self, desk: &mut Desk<P>) -> u32
@@ -26,11 +37,7 @@ impl<P: Carry> Space<P> {
         ensures looked { (c : ℕ) × (result ≡ min c self.now.events) × (view desk.new ≡ saw_count (view desk.old) c) }
     {
         let found = self.table.shared.load::<SeeCount>(&mut desk.seat, 0);
-        if found < self.events as u64 {
-            found as u32
-        } else {
-            self.events
-        }
+        at_most(found, self.events)
     }
 
     fn step_look_head<J: Addressed>(
