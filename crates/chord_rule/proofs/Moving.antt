@@ -110,7 +110,7 @@ module _ {P : Type 0} (entries : P → List Entry) (arguments : P → List value
               (λ _. (
                 standing.desk_below entries arguments keeps_to p n m u whole.agrees.stands l id me.0 at,
                 (λ is ws chosen claimed. let same = agreeing.same_values entries arguments keeps_to p n small m u whole.agrees id me.0 at object js ms vs ws members (subst (λ (hs : List ℕ). AreClaimed me.0.claims object hs ms ws) (some_is is js (sym chosen ∙ chord)) claimed) in
-                subst (λ (xs : List value.Value). (w ≡ saw_count (kinds.fired me.0 m.count k object ms xs) (m.count + 1)) × CameNext p (entry m.count m.count (Fired k object ms xs))) same
+                    subst (λ (xs : List value.Value). (w ≡ saw_count (kinds.fired me.0 m.count k object ms xs) (m.count + 1)) × CameNext p (entry m.count m.count (Fired k object ms xs))) same
                     (refl, (u.journal, (wholes.whole_draw_firing entries arguments keeps_to p n small m u whole id me.0 at live k object js ms vs l chord members).agrees.stands.keeping.merged.past))),
               )),
               λ k. absurd (omega arith),
@@ -175,16 +175,20 @@ module _ {P : Type 0} (entries : P → List Entry) (arguments : P → List value
         u,
         tt,
         wholes.whole_saw entries arguments keeps_to p n small m u whole id me.0 at live i,
-        all_tells i next (word_of (m.cells i)) (saw me.0 i (m.cells i), me.1)
-            (refl, (λ s. absurd (ne s)), (λ _. (
-              m.cells i,
-              good,
-              (λ is.
-                  let seen = whole.agrees.looks.seen id me.0 at i next saw_it in let link = (whole.agrees.bags.armed i seen.0).1 ∙ seen.1 (λ down. subst IsConsumed is down) in
-                  ne (ap word_of (same_word_of (m.cells i) next is link))),
-              refl,
-              refl,
-            )), (λ is_first none_lent last. absurd (ne (ap word_of (knowing.remembered_cell entries arguments keeps_to p n small m u whole id me.0 at live is_first none_lent i (a_word a_cell.Pending next) last))))),
+        all_tells i next (word_of (m.cells i)) (saw me.0 i (m.cells i), me.1) (
+          refl,
+          (λ s. absurd (ne s)),
+          (λ _. (
+            m.cells i,
+            good,
+            (λ is.
+                let seen = whole.agrees.looks.seen id me.0 at i next saw_it in let link = (whole.agrees.bags.armed i seen.0).1 ∙ seen.1 (λ down. subst IsConsumed is down) in
+                ne (ap word_of (same_word_of (m.cells i) next is link))),
+            refl,
+            refl,
+          )),
+          (λ is_first none_lent last. absurd (ne (ap word_of (knowing.remembered_cell entries arguments keeps_to p n small m u whole id me.0 at live is_first none_lent i (a_word a_cell.Pending next) last)))),
+        ),
       ))
     where
       same_word_of : (c : Word) (b : Option ℕ) → c.cell ≡ a_cell.Pending → c.next ≡ b → c ≡ a_word a_cell.Pending b

@@ -49,7 +49,7 @@ pub way_room : (n : ℕ) (o : Order) (ws : List Way) → ((w : Way) → HasWay w
 unfolding IsDistinct
 way_room n o ws law w rest is x at = let l = law w (subst (HasWay w) (sym is) (inl refl)) in let p = l.place x at in
     let more = length-le_from_distinct_below (x ∷ numbers_of w.looks) n (above_apart o x w.looks p.2, falls_distinct n l.along o w.looks l.falls)
-        (λ q h. below q (falls_below n l.along o w.looks l.falls q) p.1 (eqb q x) refl h) in
+    (λ q h. below q (falls_below n l.along o w.looks l.falls q) p.1 (eqb q x) refl h) in
     let long = numbers_long w.looks in (p.1, omega (arith, more, long))
   where
     below : (q : ℕ) → (list_any (eqb q) (numbers_of w.looks) ≡ true → q < n) → x < n → (b : Bool) → eqb q x ≡ b → (b || list_any (eqb q) (numbers_of w.looks)) ≡ true → q < n

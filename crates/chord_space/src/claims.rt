@@ -5,7 +5,7 @@ ghost use Rattle.chord_rule.specs.declared.view.Claim.{Claim};
 ghost use Rattle.chord_rule.specs.Claims.{HasThe, HasClaimOn};
 ghost use Rattle.chord_rule.specs.Kinds.{claimed, unclaimed, consumed, emptied, saw};
 ghost use Rattle.chord_rule.specs.Looks.{HasSeen};
-ghost use Rattle.chord_rule.specs.Tells.{a_word, IsNewClaim};
+ghost use Rattle.chord_rule.specs.Tells.{word, a_word, IsNewClaim};
 ghost use Rattle.chord_rule.specs.Ways.{LastSeen};
 ghost use Rattle.chord_word.specs.declared.cells.Cell.TheVariants.{Pending, Claimed, Consumed};
 ghost use Rattle.chord_word.specs.Cells.{WordFits};
@@ -16,6 +16,14 @@ use crate::space::{Desk, Space};
 use chord_code::carry::Carry;
 use chord_word::{Cell, Word, pack, unpack};
 use std::marker::Brand;
+
+/// The word of a message's cell.
+fn message_word(cell: Cell, next: Option<u32>) -> u64
+    requires { WordFits (a_word cell next) }
+    ensures { result ≡ word cell next }
+{
+    pack(&Word { cell, next })
+}
 
 impl<P: Carry> Space<P> {
     /// Claims message i, whose cell the desk saw armed with this next; or gives the cell that the one exchange read, which is not
@@ -32,16 +40,14 @@ impl<P: Carry> Space<P> {
         ensures alone { (view desk.old).first ≡ true → (view desk.old).lent ≡ 0 → LastSeen i (a_word Pending next) (view desk.old).looked.seen → IsOk result }
     {
         let words = &self.table.shared;
-        let pending = pack(&Word {
-            cell: Cell::Pending,
-            next,
-        });
-        let claimed = pack(&Word {
-            cell: Cell::Claimed,
-            next,
-        });
-        let found = words
-            .compare_exchange::<Take>(&mut desk.seat, 1 + i as usize, pending, claimed);
+        let pending = message_word(Cell::Pending, next);
+        let claimed = message_word(Cell::Claimed, next);
+        let found = words.compare_exchange::<Take>(
+            &mut desk.seat,
+            1 + i as usize,
+            pending,
+            claimed,
+        );
         if found == pending {
             return Ok(());
         }
@@ -82,10 +88,7 @@ impl<P: Carry> Space<P> {
         ensures given { (c : Claim) → HasThe c (view desk.old).claims → c.number ≡ i → view desk.new ≡ saw (unclaimed (view desk.old) i) i (a_word Pending c.next) }
     {
         let next = self.claimed_next(desk, i);
-        let word = pack(&Word {
-            cell: Cell::Pending,
-            next,
-        });
+        let word = message_word(Cell::Pending, next);
         self.table
             .shared
             .store::<GiveBack>(&mut desk.seat, 1 + i as usize, word);
@@ -104,10 +107,7 @@ impl<P: Carry> Space<P> {
         ensures task { P.keeps_to result (code_of self.now) (limits_of self.now) }
     {
         let next = self.claimed_next(desk, i);
-        let word = pack(&Word {
-            cell: Cell::Consumed,
-            next,
-        });
+        let word = message_word(Cell::Consumed, next);
         let words = &self.table.shared;
         words.store::<Consume<P, J>>(&mut desk.seat, 1 + i as usize, word);
         let parcel = words.exchange(&mut desk.seat, i as usize, None);

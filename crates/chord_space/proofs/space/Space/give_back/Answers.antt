@@ -32,7 +32,7 @@ store-requires g c = let sized = c.args.self.now.sized in let key = c.args.self.
     let claimed = c.requires.claimed in let claim = claimed.0 in let same = c.claimed_next-next.ensures.desk in
     let has : HasThe claim seat.me.0.claims = subst (λ (v : View). HasThe claim v.claims) (sym same.1) claimed.1 in
     let num = claimed.2 in let low : claim.number < n = omega arith in
-    let stored : word a_cell.Pending claim.next ≡ c.pack-word.result = ap (λ (x : Option ℕ). word a_cell.Pending x) (sym (c.claimed_next-next.ensures.next claim claimed.1 num)) ∙ sym c.pack-word.ensures.value in (
+    let stored : word a_cell.Pending claim.next ≡ c.message_word-word.result = ap (λ (x : Option ℕ). word a_cell.Pending x) (sym (c.claimed_next-next.ensures.next claim claimed.1 num)) ∙ sym c.message_word-word.ensures in (
       same.0.0 ∙ c.requires.desk,
       omega arith,
       subst (λ (y : ℕ × ℕ × ℕ). Allows (Ruled g.P.Carry.entries g.P.Carry.arguments g.P.Carry.keeps_to key.code.value key.limits) y.0 seat.id seat.me y.1 (λ _. y.2) (λ _. unclaims (step y.0 y.1 y.2 0 none) seat.me y.2)) (λ k. ((sized.0 ∙ sym sized.2) k, 1 + num k, stored k))

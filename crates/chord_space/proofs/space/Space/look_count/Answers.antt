@@ -27,8 +27,7 @@ use Rattle.chord_space.proofs.space.Space.look_count.Goals as goal
 
 pub load-found-requires : goal.load-found-requires
 load-found-requires g c = let sized = c.args.self.now.sized in let key = c.args.self.now.table.shared.key in let n : ℕ = key.limits.events in let seat = c.args.desk.now.seat in let live = c.args.desk.now.settled.6 in
-    let keeps : g.row.P.Denot → Type 0 = λ q. g.P.Carry.keeps_to q key.code.value key.limits in let p = code_program key.code.value key.limits in
-    (
+    let keeps : g.row.P.Denot → Type 0 = λ q. g.P.Carry.keeps_to q key.code.value key.limits in let p = code_program key.code.value key.limits in (
       c.requires.desk,
       omega arith,
       subst (λ (y : ℕ). Allows (Ruled g.P.Carry.entries g.P.Carry.arguments g.P.Carry.keeps_to key.code.value key.limits) y seat.id seat.me 0 (λ x. x) (looks_count (step y 0 0 0 none) seat.me)) (sized.0 ∙ sym sized.2)
