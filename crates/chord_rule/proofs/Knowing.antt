@@ -77,7 +77,7 @@ module _ {P : Type 0} (entries : P → List Entry) (arguments : P → List value
   remembered_cell is_first none_lent i c last = (whole.alone.alone v (ap (get_elem? m.views) (sym (law.firsts.leads id v at is_first)) ∙ at) none_lent).cell i c last
 
   -- alone, each desk is the first one, or gone
-  who : v.first ≡ true → v.lent ≡ 0 → (j : ℕ) (w : View) → get_elem? m.views j ≡ some w → (w ≡ v) ⊎ (w ≡ gone)
+  pub who : v.first ≡ true → v.lent ≡ 0 → (j : ℕ) (w : View) → get_elem? m.views j ≡ some w → (w ≡ v) ⊎ (w ≡ gone)
   who is_first none_lent j w there = dite (ℕ_discrete j id) (λ e. inl (some-injective w v (sym there ∙ ap (get_elem? m.views) e ∙ at))) (λ ne. other (λ z. ne (z ∙ sym zero_id)) w.gone refl)
     where
       zero_id : id ≡ 0

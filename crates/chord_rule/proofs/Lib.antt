@@ -32,3 +32,4 @@ pub mod Moves
 pub mod Knowing
 pub mod Moving
 pub mod Seeing
+pub mod Closing

@@ -123,6 +123,11 @@ no_message (Some (Called x j vs)) m k e = ⊎_elim (λ z. z) (λ z. z) k
 
 -- ## What claims say
 
+-- the bag of a method of a chord is one of the chord's bags
+pub has_key : (object : Object) (j : ℕ) (js : List ℕ) → has j js ≡ true → HasNumber (key object j) (keys object js)
+has_key object j [] y = absurd (let z : false ≡ true = y in cc)
+has_key object j (i ∷ js) y = elim (either (j == i)) [ inl q ↦ inl (ap (key object) (eqb-true j i q)) | inr n ↦ inr (has_key object j js (rw n at y)) ]
+
 module _ {P : Type 0} (p : Program) (h : List Entry) (cells : ℕ → Word) (places : ℕ → Option Place) (homes : ℕ → Home P) (o : Order) (views : List View) (stage : ℕ → Stage)
     (past : IsPast p h) (hands : Hands views stage) (messages : Messages h cells places homes o stage) (firings : Firings h stage) where
   abbrev At : ℕ → Stage → Type 0
@@ -346,10 +351,6 @@ module _ {P : Type 0} (p : Program) (h : List Entry) (cells : ℕ → Word) (pla
       let m : Message = record { object = object; method = j; arguments = t.0 } in
       let was = pending_was p h i m past t.2 in let rest = takes_to object js ms t.1 t.4 in
       ((ap to_bag was.0, rest.0), ((pending_shows i m t.2).waiting, rest.1))
-
-  has_key : (object : Object) (j : ℕ) (js : List ℕ) → has j js ≡ true → HasNumber (key object j) (keys object js)
-  has_key object j [] y = absurd (let z : false ≡ true = y in cc)
-  has_key object j (i ∷ js) y = elim (either (j == i)) [ inl q ↦ inl (ap (key object) (eqb-true j i q)) | inr n ↦ inr (has_key object j js (rw n at y)) ]
 
   has_true : (i : ℕ) (ms : List ℕ) → HasNumber i ms → has i ms ≡ true
   has_true i [] k = absurd k

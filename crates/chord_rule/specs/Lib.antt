@@ -60,6 +60,8 @@ pub mod Pending
 pub mod Agrees
 -- the whole rule
 pub mod Whole
+-- when the journal is complete
+pub mod Closing
 -- what the rule says of the journal
 pub mod Laws
 -- ## What only the code's own contracts use

@@ -24,7 +24,9 @@ impl<P: Carry> Space<P> {
     ghost use Rattle.chord_space.specs.Sealed.{IsSealed};
     ghost use Rattle.chord_space.specs.Ends.{parcels, closing_view};
 
-    /// Closes the table with its first desk, which has lent none, has no claim and nothing in flight.
+    /// Closes the table with its first desk, which has lent none, has no claim and nothing in flight. What is closed is the last
+    /// moment of the run under the whole rule. The journal is complete where the desk knew that nothing was left to do (it looked
+    /// at all cells, none of which was woken or ready, and has no duty), and each body that it kept has ended or waits.
     pub fn close(self, desk: Desk<P>) -> Closed<P>
         requires desk { IsDeskOf self desk }
         requires alone { ((view desk).first ≡ true) × ((view desk).lent ≡ 0) }
