@@ -79,11 +79,13 @@ has_right : (d : Duty) (xs ys : List Duty) → HasDuty d ys → HasDuty d (xs ++
 has_right d [] ys h = h
 has_right d (x ∷ xs) ys h = inr (has_right d xs ys h)
 
+-- a duty of two lists together is one of the first, or of the second
 pub has_either : (d : Duty) (xs ys : List Duty) → HasDuty d (xs ++ ys) → HasDuty d xs ⊎ HasDuty d ys
 has_either d [] ys h = inr h
 has_either d (x ∷ xs) ys (inl e) = inl (inl e)
 has_either d (x ∷ xs) ys (inr h) = ⊎_elim (λ a. inl (inr a)) inr (has_either d xs ys h)
 
+-- a duty without its walks was one of those with them
 pub has_reset : (d : Duty) (ds : List Duty) → HasDuty d (map reset_duty ds) → (e : Duty) × HasDuty e ds × (d ≡ reset_duty e)
 has_reset d [] h = absurd h
 has_reset d (e ∷ es) (inl q) = (e, inl refl, q)

@@ -31,7 +31,7 @@ use Rattle.chord_code.proofs.Tame.{code_is_tame}
 use Rattle.chord_code.proofs.Validity.{valid_within, valid_chords_right}
 use Rattle.chord_rule.specs.Made.{Names}
 use Rattle.chord_space.specs.Ruled.{IsOfCode}
-use Rattle.chord_space.proofs.Tabled.{all_made}
+use Rattle.chord_space.proofs.Tabled.{names_made}
 
 module _ (code : Parts) where
   -- an object that is asked for is of a class of the code
@@ -248,7 +248,7 @@ module _ (code : Parts) where
 -- the newest entry of a run of a valid and sound code is of the code
 pub of_code : (code : Parts) (limits : Limits) → IsValid code → IsSoundUnder code limits → (h : List Entry) (e : Entry) → IsPast (code_program code limits) (e ∷ h) → IsOfCode code e.what
 of_code code limits valid sound h e past = record {
-  classes = λ o names. let made = (all_made (code_program code limits) (code_is_tame code limits (valid_within code valid)) (valid_chords_right code limits valid).some (e ∷ h) past).1 o names in
+  classes = λ o names. let made = (names_made (code_program code limits) (code_is_tame code limits (valid_within code valid)) (valid_chords_right code limits valid).some (e ∷ h) past).1 o names in
       made_right code limits h past.0 made.0 o.class made.1 made.3;
   method = sound.methods h e past;
 }

@@ -79,9 +79,9 @@ named_among f (Fired k q ms vs) o a n = receiver_among f q vs o a n
 named_among f (Ended x) o a n = end_among f x o a n
 
 -- in a past each object that an entry names was made before it
-pub all_made : (p : Program) → IsTame p → HaveMethods p → (h : List Entry) → IsPast p h → AreMade h
-all_made p tame methods [] past = tt
-all_made p tame methods (e ∷ h) past = (all_made p tame methods h past.0, λ o names. made_there h o (named_among (was_made h) e.what o (objects_were_made p e h tame methods past) names))
+pub names_made : (p : Program) → IsTame p → HaveMethods p → (h : List Entry) → IsPast p h → AreMade h
+names_made p tame methods [] past = tt
+names_made p tame methods (e ∷ h) past = (names_made p tame methods h past.0, λ o names. made_there h o (named_among (was_made h) e.what o (objects_were_made p e h tame methods past) names))
 
 -- a chord with a method has one
 some_method : (js : List ℕ) → 0 < length js → (j : ℕ) × (has j js ≡ true)
@@ -96,5 +96,5 @@ tabled code limits valid sound some low = let right = valid_chords_right code li
   some_method = λ c k js at. some_method js (right.some c k js at);
   different = right.different;
   few = right.few;
-  made = all_made (code_program code limits) (code_is_tame code limits (valid_within code valid)) right.some;
+  made = names_made (code_program code limits) (code_is_tame code limits (valid_within code valid)) right.some;
 }
