@@ -6,8 +6,6 @@ use mathlib.Core.Path.{Path}
 use lib.ListN.{get_elem?}
 use Rattle.atomic_table.proofs.Lists.{at_set, set_else}
 use Rattle.chord_word.specs.declared.cells.Word.{Word}
-use Rattle.chord_rule.specs.declared.view.Look.{Look}
-use Rattle.chord_rule.specs.declared.view.HeadLook.{HeadLook}
 use Rattle.chord_rule.specs.declared.view.Looked.{Looked}
 use Rattle.chord_rule.specs.declared.view.View.{View}
 use Rattle.chord_rule.specs.Numbers.{flag}

@@ -1,5 +1,5 @@
 -- The closing theorem: where the first desk knows that nothing is left to do, and what it keeps is quiet, the journal is complete.
-use Rattle.std.proofs.Common.{◌≡◌, ◌≢◌, ◌⊎◌, inl, inr, ⊎_elim, ℕ, ◌<◌, ◌≤◌, ◌==◌, true, false, Bool, List, [], ◌∷◌, length, slice_get, refl, sym, ap, ◌∙◌, subst, arith, Option, Some, None}
+use Rattle.std.proofs.Common.{◌≡◌, ◌⊎◌, inl, inr, ⊎_elim, ℕ, ◌<◌, ◌≤◌, ◌==◌, false, List, [], ◌∷◌, length, refl, sym, ap, ◌∙◌, subst, arith, Option, Some, None}
 use Rattle.std.proofs.lemmas.Bool.{eqb-true}
 use mathlib.Core.Logic.{dite}
 use native.Mathlib.Decide.{dec_lt}
@@ -11,7 +11,7 @@ use Rattle.chord_base.specs.Meaning.{Program}
 use Rattle.chord_base.specs.Bodies.{Doing, Absent, Unplaced, Ready, Waits, Over, doing, asked, Asks, heard, serves}
 use Rattle.chord_base.specs.Machine.{Takes, IsFinal, NoneFires}
 use Rattle.chord_base.specs.Messages.{Message, has, pending}
-use Rattle.chord_base.specs.Story.{IsTold, Tells, IsIn}
+use Rattle.chord_base.specs.Story.{IsTold, Tells}
 use Rattle.chord_base.specs.declared.value.Value as value
 use Rattle.chord_base.specs.declared.value.Object.{Object}
 use Rattle.chord_base.specs.declared.event.What.{What}
@@ -25,18 +25,17 @@ use Rattle.chord_word.specs.declared.cells.Word.{Word}
 use Rattle.chord_rule.specs.declared.view.Claim.{Claim}
 use Rattle.chord_rule.specs.declared.view.Duty.{Duty}
 use Rattle.chord_rule.specs.declared.view.View.{View}
-use Rattle.chord_rule.specs.Moment.{Moment, Home, empty_word}
+use Rattle.chord_rule.specs.Moment.{Moment, Home}
 use Rattle.chord_rule.specs.Agrees.{Agrees}
 use Rattle.chord_rule.specs.Bags.{IsStanding, IsArmed, cell_of}
 use Rattle.chord_rule.specs.Claims.{HasThe}
 use Rattle.chord_rule.specs.Closing.{IsQuiet, AreQuiet, IsAsleep, MayClose}
 use Rattle.chord_rule.specs.Duties.{HasDuty, Chosen}
 use Rattle.chord_rule.specs.Hands.{IsUnarmed}
-use Rattle.chord_rule.specs.Keeping.{desk, parcel, at_desk, at_home, kept_at}
+use Rattle.chord_rule.specs.Keeping.{parcel, at_desk, at_home, kept_at}
 use Rattle.chord_rule.specs.Kinds.{gone}
 use Rattle.chord_rule.specs.Made.{IsChord, key, keys}
 use Rattle.chord_rule.specs.Minded.{IsWaiting}
-use Rattle.chord_rule.specs.Numbers.{HasNumber}
 use Rattle.chord_rule.specs.Parcels.{Begins, IsParked}
 use Rattle.chord_rule.specs.Pending.{IsPending}
 use Rattle.chord_rule.specs.StandsFor.{Unseen}

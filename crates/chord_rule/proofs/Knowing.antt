@@ -1,6 +1,6 @@
 -- What a desk knows by the rule: which bag a message is in, what stands in a cell that it remembers, and, alone, that nobody else
 -- has a message in hand.
-use Rattle.std.proofs.Common.{◌≡◌, ◌≢◌, ◌⊎◌, inl, inr, ⊎_elim, ℕ, ◌+◌, ◌<◌, ◌≤◌, Bool, true, false, List, [], ◌∷◌, set, refl, sym, ap, ◌∙◌, subst, arith, Option, Some, None}
+use Rattle.std.proofs.Common.{◌≡◌, ◌≢◌, ◌⊎◌, inl, inr, ⊎_elim, ℕ, ◌<◌, ◌≤◌, Bool, true, false, List, refl, sym, ap, ◌∙◌, subst, arith, Option, Some, None}
 use mathlib.Core.Path.{Path}
 use mathlib.Core.Logic.{dite}
 use mathlib.Core.Option.{some, none, some-injective}
@@ -15,12 +15,11 @@ use Rattle.chord_base.specs.declared.event.Entry.{Entry}
 use Rattle.chord_word.specs.declared.cells.Cell.{Cell}
 use Rattle.chord_word.specs.declared.cells.Cell.TheVariants as a_cell
 use Rattle.chord_word.specs.declared.cells.Word.{Word}
-use Rattle.chord_rule.specs.declared.view.Claim.{Claim}
 use Rattle.chord_rule.specs.declared.view.View.{View}
 use Rattle.chord_rule.specs.Moment.{Moment, Home}
 use Rattle.chord_rule.specs.Agrees.{Agrees}
-use Rattle.chord_rule.specs.Bags.{head_of, cell_of}
-use Rattle.chord_rule.specs.Claims.{HasThe, HasClaimOn}
+use Rattle.chord_rule.specs.Bags.{head_of}
+use Rattle.chord_rule.specs.Claims.{HasThe}
 use Rattle.chord_rule.specs.Hands.{hand, Holds}
 use Rattle.chord_rule.specs.Kinds.{gone}
 use Rattle.chord_rule.specs.Made.{IsMade, IsKey, key}

@@ -6,7 +6,6 @@ use Rattle.atomic_table.proofs.Lists.{at_set}
 use Rattle.chord_word.specs.declared.cells.Word.{Word}
 use Rattle.chord_rule.specs.declared.view.Look.{Look}
 use Rattle.chord_rule.specs.declared.view.View.{View}
-use Rattle.chord_rule.specs.declared.view.Looked.{Looked}
 use Rattle.chord_rule.specs.Bags.{Order, IsArmed, IsConsumed, cell_of}
 use Rattle.chord_rule.specs.Looks.{HasLook, HasSeen, Looks}
 use Rattle.chord_rule.specs.Kinds.{newcomer, gone}

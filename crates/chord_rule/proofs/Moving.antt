@@ -25,7 +25,7 @@ use Rattle.chord_rule.specs.Moment.{Moment, LinkOk}
 use Rattle.chord_rule.specs.Numbers.{HasNumber}
 use Rattle.chord_rule.specs.Kinds.{newcomer, gone, MayGo, entry, drew, was_told, claimed, saw, saw_count, saw_head}
 use Rattle.chord_rule.specs.Bags.{head_of, IsConsumed}
-use Rattle.chord_rule.specs.Made.{IsTabled, key}
+use Rattle.chord_rule.specs.Made.{key}
 use Rattle.chord_rule.specs.Claims.{HasThe, AreClaimed}
 use Rattle.chord_rule.specs.Looks.{HasSeen}
 use Rattle.chord_rule.specs.Parcels.{Begins, IsParked}
@@ -33,7 +33,7 @@ use Rattle.chord_rule.specs.Hands.{hand, IsUnlinked}
 use Rattle.chord_rule.specs.Stages.{Placing, Fresh, Emptying, Claiming, Flying, InHand, Armed, Spent, Unposted, Posting, Posted, Starting, Played}
 use Rattle.chord_rule.specs.Kinds as kinds
 use Rattle.chord_rule.specs.StandsFor.{Unseen}
-use Rattle.chord_rule.specs.Tells.{word, a_word, CameNext, IsNewClaim, ClaimTells, draws, draws_firing, places, links, arms, claims, holds, unclaims, consumes, empties, posts_out, posts, starts, plays}
+use Rattle.chord_rule.specs.Tells.{word, a_word, CameNext, ClaimTells, draws, draws_firing, places, links, arms, claims, holds, unclaims, consumes, empties, posts_out, posts, starts, plays}
 use Rattle.chord_rule.specs.Whole.{Held, Whole}
 use Rattle.chord_rule.proofs.Puts.{put}
 use Rattle.chord_rule.proofs.BagSteps.{linked_order}

@@ -1,35 +1,31 @@
 -- What looks and rests ask of the table.
-use Rattle.std.proofs.Common.{◌≡◌, ◌⊎◌, inl, inr, ⊎_elim, false, ℕ, ◌+◌, ◌*◌, ◌<◌, ◌≤◌, List, [], ◌∷◌, set, refl, sym, ap, ◌∙◌, subst, arith, Option, Some, None}
-use mathlib.Core.Path.{Path}
+use Rattle.std.proofs.Common.{◌≡◌, inl, ⊎_elim, false, ℕ, ◌+◌, ◌*◌, ◌<◌, ◌≤◌, List, [], ◌∷◌, set, refl, sym, ap, ◌∙◌, subst, arith, Option, Some}
 use mathlib.Core.Option.{none, some}
 use lib.ListN.{get_elem?}
-use Rattle.atomic_table.specs.Table.{State, Act, Allows, Me, keeps, step}
+use Rattle.atomic_table.specs.Table.{State, Allows, Me, keeps, step}
 use Rattle.chord_base.specs.Meaning.{Program}
 use Rattle.chord_base.specs.Messages.{Message}
 use Rattle.chord_base.specs.declared.value.Object.{Object}
 use Rattle.chord_base.specs.declared.value.Value as value
 use Rattle.chord_base.specs.declared.event.Entry.{Entry}
-use Rattle.chord_word.specs.declared.cells.Cell.TheVariants as a_cell
 use Rattle.chord_word.specs.declared.cells.Word.{Word}
-use Rattle.chord_word.specs.Cells.{word_of, link_of, WordFits}
-use Rattle.chord_rule.specs.declared.view.Claim.{Claim}
+use Rattle.chord_word.specs.Cells.{word_of, WordFits}
 use Rattle.chord_rule.specs.declared.view.Duty.{Duty}
 use Rattle.chord_rule.specs.declared.view.View.{View}
-use Rattle.chord_rule.specs.Moment.{Moment, Place, word_at_place}
-use Rattle.chord_rule.specs.Bags.{IsArmed, head_of, cell_of}
-use Rattle.chord_rule.specs.Claims.{HasThe}
+use Rattle.chord_rule.specs.Moment.{Moment, Place}
+use Rattle.chord_rule.specs.Bags.{IsArmed, cell_of}
 use Rattle.chord_rule.specs.Duties.{HasDuty, MayRest}
 use Rattle.chord_rule.specs.Kinds.{saw_count, looked_head, looked_cell, rested}
 use Rattle.chord_rule.specs.Made.{key, IsChord}
-use Rattle.chord_rule.specs.Messages.{IsLinked, Stands}
+use Rattle.chord_rule.specs.Messages.{IsLinked}
 use Rattle.chord_rule.specs.StandsFor.{Unseen}
-use Rattle.chord_rule.specs.Stages.{Stage, Vacant, InHand, Armed, Spent, Posted, Played, Fresh, Placing, Flying, Claiming, Emptying, Unposted, Posting, Starting, what_at, message_in}
+use Rattle.chord_rule.specs.Stages.{Stage, Vacant, InHand, Armed, Spent, Posted, Played, Fresh, Placing, Flying, Claiming, Emptying, Unposted, Posting, Starting}
 use Rattle.chord_rule.specs.Tells.{IsLook, looks_count, looks_head, looks_cell, looks_place, rests}
-use Rattle.chord_rule.specs.Ways.{IsAt, IsAlone, HasDutyOn, IsSettledCell, IsLinkedCell, HasWay, HasRoom, WayLaw}
+use Rattle.chord_rule.specs.Ways.{IsAt, HasDutyOn, HasWay, HasRoom, WayLaw}
 use Rattle.chord_rule.specs.declared.view.Way.{Way}
 use Rattle.chord_rule.specs.Whole.{Held, Whole}
 use Rattle.chord_rule.proofs.Agreeing as agreeing
-use Rattle.chord_rule.proofs.Bridge.{Can, after, counter_step, load_cell, load_head, load_place}
+use Rattle.chord_rule.proofs.Bridge.{after, counter_step, load_cell, load_head, load_place}
 use Rattle.chord_rule.proofs.KeySteps.{head_key}
 use Rattle.chord_rule.proofs.Knowing as knowing
 use Rattle.chord_rule.proofs.Lists.{some_is}

@@ -1,5 +1,5 @@
 -- What each kind of step does to the view of the desk that makes it, and to how numbers stand.
-use Rattle.std.specs.Prelude.{not, Bool, true, false, ◌==◌, ◌||◌, ◌-◌, ◌+◌, ◌++◌, ◌≡◌, ◌<◌, ◌≤◌, map, ℕ, List, [], ◌∷◌, Option, Some, None, if◌then◌else◌}
+use Rattle.std.specs.Prelude.{not, Bool, true, false, ◌==◌, ◌||◌, ◌-◌, ◌+◌, ◌++◌, ◌≡◌, map, ℕ, List, [], ◌∷◌, Option, Some, None, if◌then◌else◌}
 use Rattle.std.specs.List.{filter}
 use Rattle.chord_base.specs.declared.event.Entry.{Entry}
 use Rattle.chord_base.specs.declared.event.What.{What}

@@ -1,6 +1,5 @@
 -- Place words.
 use Rattle.std.specs.Prelude.{◌≡◌, ◌<◌, ℕ, Option, Some}
-use Rattle.chord_base.specs.declared.value.Object.{Object}
 use Rattle.chord_rule.specs.Moment.{Place}
 
 -- a place word names an object of the table and one of its bags

@@ -1,8 +1,7 @@
 -- What a run of a valid and sound code says is of the code: an object that is made is of one of its classes.
-use Rattle.std.proofs.Common.{◌≡◌, ◌⊎◌, ⊎_elim, ℕ, zero, suc, ◌<◌, ◌≤◌, Bool, true, false, List, [], ◌∷◌, Option, Some, None, length, slice_get, refl, sym, ap, ◌∙◌, subst, arith}
+use Rattle.std.proofs.Common.{◌≡◌, ⊎_elim, ℕ, zero, suc, ◌<◌, true, false, List, [], ◌∷◌, Option, Some, None, length, slice_get, refl, sym, ap, ◌∙◌, subst}
 use mathlib.Core.Path.{Path}
 use Rattle.std.proofs.lemmas.Option.{slice_get_within}
-use Rattle.chord_base.specs.declared.value.Object.{Object}
 use Rattle.chord_base.specs.declared.value.Value.{Value}
 use Rattle.chord_base.specs.declared.value.Value.TheVariants as a_value
 use Rattle.chord_base.specs.declared.event.End.{End}
@@ -29,7 +28,6 @@ use Rattle.chord_code.specs.Sound.{IsSoundUnder}
 use Rattle.chord_code.specs.Valid.{IsValid}
 use Rattle.chord_code.proofs.Tame.{code_is_tame}
 use Rattle.chord_code.proofs.Validity.{valid_within, valid_chords_right}
-use Rattle.chord_rule.specs.Made.{Names}
 use Rattle.chord_space.specs.Ruled.{IsOfCode}
 use Rattle.chord_space.proofs.Tabled.{names_made}
 

@@ -1,5 +1,5 @@
 -- The next of a message.
-use Rattle.std.proofs.Common.{◌≡◌, ℕ, ◌<◌, ◌≤◌, Option, Some, None, IfSome, arith}
+use Rattle.std.proofs.Common.{ℕ, ◌<◌, ◌≤◌, Option, Some, None, IfSome, arith}
 use Rattle.chord_word.specs.declared.cells.Cell.TheVariants.{Pending}
 use Rattle.chord_word.specs.Cells.{NextFits, link_of}
 use Rattle.chord_rule.specs.Moment.{LinkOk}

@@ -1,6 +1,5 @@
 -- Place words that are read.
-use Rattle.std.proofs.Common.{◌≡◌, ◌⊎◌, inl, ℕ, ◌<◌, Option, Some, None, IsNone, IfSome, refl, sym, ap, ◌∙◌, subst, arith}
-use mathlib.Core.Path.{Path}
+use Rattle.std.proofs.Common.{◌≡◌, inl, ℕ, ◌<◌, Option, Some, None, IsNone, IfSome, refl, sym, subst}
 use Rattle.chord_base.specs.declared.value.Object.{Object}
 use Rattle.chord_word.specs.Places.{PlaceFits, place_word, IsNoPlace}
 use Rattle.chord_rule.specs.Moment.{Place, PlaceOk, word_at_place}

@@ -1,5 +1,5 @@
 -- What a desk has settled between two calls stays where a step leaves it.
-use Rattle.std.proofs.Common.{◌≡◌, ℕ, ◌<◌, Bool, false, Option, None, ap, ◌∙◌, sym, subst}
+use Rattle.std.proofs.Common.{◌≡◌, ℕ, ◌<◌, Bool, false, Option, None, sym, subst}
 use Rattle.chord_word.specs.Cells.{link_of}
 use Rattle.chord_rule.specs.declared.view.View.{View}
 

@@ -1,5 +1,5 @@
 -- The program of a valid and sound code is one that the table takes.
-use Rattle.std.proofs.Common.{◌≡◌, ◌⊎◌, ℕ, ◌<◌, ◌≤◌, Bool, true, false, ◌==◌, ◌||◌, List, [], ◌∷◌, Some, length, slice_get, if◌then◌else◌, refl, sym, ap, ◌∙◌, subst, arith, ⊎_elim, inl, inr}
+use Rattle.std.proofs.Common.{◌≡◌, ◌⊎◌, ℕ, ◌<◌, ◌≤◌, Bool, true, false, ◌==◌, ◌||◌, List, [], ◌∷◌, length, if◌then◌else◌, refl, ap, subst, arith, inl, inr}
 use Rattle.std.proofs.lemmas.Bool.{eqb-true, eq-eqb}
 use Rattle.chord_base.specs.declared.value.Object.{Object}
 use Rattle.chord_base.specs.declared.value.Value as value
@@ -13,17 +13,15 @@ use Rattle.chord_base.specs.declared.event.What.TheVariants.{Begun, Made, Sent, 
 use Rattle.chord_base.specs.Meaning.{Program, HaveMethods}
 use Rattle.chord_base.specs.Messages.{has}
 use Rattle.chord_base.specs.Machine.{IsPast}
-use Rattle.chord_base.specs.Story.{IsIn}
 use Rattle.chord_base.specs.Objects.{ValuesAmong, EndAmong, WhatAmong, IsTame, makes, was_made}
 use Rattle.chord_base.proofs.Objects.{objects_were_made}
-use Rattle.chord_base.proofs.Waits.{either}
 use Rattle.chord_code.specs.declared.parts.Parts.{Parts}
 use Rattle.chord_code.specs.Meaning.{code_program}
 use Rattle.chord_code.specs.Valid.{IsValid}
 use Rattle.chord_code.specs.Sound.{IsSoundCode}
 use Rattle.chord_code.proofs.Tame.{code_is_tame}
 use Rattle.chord_code.proofs.Validity.{valid_within, valid_chords_right}
-use Rattle.chord_rule.specs.Made.{ValueNames, ValuesName, EndNames, Names, IsMade, AreMade, IsTabled}
+use Rattle.chord_rule.specs.Made.{ValuesName, EndNames, Names, IsMade, AreMade, IsTabled}
 
 -- what makes an object of a class is that
 makes_it : (c : ℕ) (w : What) → makes c w ≡ true → w ≡ Made c

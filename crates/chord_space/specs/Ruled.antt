@@ -1,5 +1,5 @@
 -- The rule of a space: that of chord_rule, for the runs of a sound code.
-use Rattle.std.specs.Prelude.{◌≡◌, ◌<◌, ◌≤◌, ℕ, List, length, Option}
+use Rattle.std.specs.Prelude.{◌<◌, ℕ, List, length, Option}
 use Rattle.atomic_table.specs.Table.{State, Me, Step}
 use Rattle.chord_base.specs.declared.event.Entry.{Entry}
 use Rattle.chord_base.specs.declared.event.Limits.{Limits}

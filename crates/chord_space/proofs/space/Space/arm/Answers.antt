@@ -3,7 +3,7 @@ use mathlib.Core.Option.{none}
 use Rattle.atomic_table.specs.Table.{Allows, step}
 use Rattle.chord_code.specs.Meaning.{code_program}
 use Rattle.chord_space.specs.Ruled.{Ruled}
-use Rattle.chord_space.proofs.Under.{under, under_telling, under_split, under_join}
+use Rattle.chord_space.proofs.Under.{under}
 use Rattle.chord_rule.specs.Tells.{arms, word}
 use Rattle.chord_word.specs.declared.cells.Cell.TheVariants as a_cell
 use Rattle.chord_rule.proofs.Moving.{arm_step}

@@ -5,7 +5,6 @@ use Rattle.chord_code.specs.Sound.{IsSoundCode}
 use Rattle.chord_code.specs.Meaning.{code_program}
 use Rattle.chord_rule.specs.Kinds.{newcomer_first}
 use Rattle.chord_space.specs.Ruled.{Ruled}
-use Rattle.chord_space.proofs.Under.{under, under_telling, under_split, under_join}
 use Rattle.chord_rule.proofs.Moves.{opens}
 use Rattle.chord_space.proofs.Tabled.{tabled}
 use Rattle.chord_space.proofs.space.Space.make.Goals as goal

@@ -1,4 +1,4 @@
-use Rattle.std.proofs.Common.{◌≡◌, ◌⊎◌, ℕ, ◌+◌, List, [], ◌∷◌, Option, Some, None, refl, sym, ap, ◌∙◌, subst, arith, ⊎_elim}
+use Rattle.std.proofs.Common.{◌≡◌, ℕ, ◌+◌, List, [], ◌∷◌, Option, Some, None, refl, sym, ap, ◌∙◌, subst, arith, ⊎_elim}
 use mathlib.Core.Option.{none}
 use Rattle.atomic_table.specs.Table.{Me, Allows, step, rest}
 use Rattle.chord_base.specs.declared.event.Entry.{Entry}
@@ -12,7 +12,7 @@ use Rattle.chord_rule.specs.Kinds.{posting, posted, saw}
 use Rattle.chord_rule.specs.Tells.{word, a_word, posts_out, posts}
 use Rattle.chord_word.specs.declared.cells.Cell.TheVariants as a_cell
 use Rattle.chord_space.specs.Ruled.{Ruled}
-use Rattle.chord_space.proofs.Under.{under, under_telling, under_split, under_join}
+use Rattle.chord_space.proofs.Under.{under}
 use Rattle.chord_rule.proofs.Moving.{post_out_step, post_step}
 use Rattle.chord_space.proofs.Slots.{not_both}
 use Rattle.chord_space.proofs.space.Space.post.Goals as goal

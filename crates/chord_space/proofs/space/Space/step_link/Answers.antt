@@ -1,4 +1,4 @@
-use Rattle.std.proofs.Common.{◌≡◌, ◌⊎◌, ℕ, ◌+◌, ◌*◌, ◌%◌, ◌^◌, ◌<◌, List, [], ◌∷◌, Option, Some, None, refl, sym, ap, ◌∙◌, subst, arith, ⊎_elim, inl, inr}
+use Rattle.std.proofs.Common.{◌≡◌, ◌⊎◌, ℕ, ◌+◌, ◌*◌, ◌<◌, List, [], ◌∷◌, Option, Some, None, refl, sym, ap, ◌∙◌, subst, arith, ⊎_elim, inl, inr}
 use mathlib.Core.Option.{none}
 use Rattle.atomic_table.specs.Table.{Me, Allows, step, rest}
 use Rattle.chord_base.specs.declared.event.Entry.{Entry}
@@ -16,7 +16,7 @@ use Rattle.chord_rule.specs.Moment.{LinkOk}
 use Rattle.chord_rule.specs.Numbers.{HasNumber}
 use Rattle.chord_rule.specs.Tells.{places, links}
 use Rattle.chord_space.specs.Ruled.{Ruled}
-use Rattle.chord_space.proofs.Under.{under, under_telling, under_split, under_join}
+use Rattle.chord_space.proofs.Under.{under}
 use Rattle.chord_rule.proofs.Lists.{has_without}
 use Rattle.chord_rule.proofs.Moving.{place_step, link_step}
 use Rattle.chord_space.proofs.Slots.{not_both}

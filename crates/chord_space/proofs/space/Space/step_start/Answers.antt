@@ -14,7 +14,7 @@ use Rattle.chord_rule.specs.Kinds.{firing_started, played, saw}
 use Rattle.chord_rule.specs.Tells.{word, a_word, starts, plays}
 use Rattle.chord_word.specs.declared.cells.Cell.TheVariants as a_cell
 use Rattle.chord_space.specs.Ruled.{Ruled}
-use Rattle.chord_space.proofs.Under.{under, under_telling, under_split, under_join}
+use Rattle.chord_space.proofs.Under.{under}
 use Rattle.chord_rule.proofs.Moving.{start_step, play_step}
 use Rattle.chord_word.specs.declared.cells.Word.{Word}
 use Rattle.chord_rule.proofs.Lists.{some_is}
