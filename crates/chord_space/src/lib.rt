@@ -16,6 +16,8 @@ mod links;
 mod looks;
 mod plays;
 mod space;
+#[cfg(test)]
+mod table_tests;
 
 pub use closed::Closed;
 pub use cross::may_cross;
