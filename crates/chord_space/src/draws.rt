@@ -29,14 +29,15 @@ impl<P: Carry> Space<P> {
         requires room { (view desk.old).spent ≡ false }
         requires next { MayDraw self.now desk.old body what.now }
         ensures desk { IsSameDesk desk.old desk.new }
-        ensures drawn { result < self.now.events → (view desk.new ≡ saw_count (drew (view desk.old) result body what.now) (result + 1)) × AllBelow result (view desk.old).kept × ((o : value.Object) → Names what.now o → o.number < result) × IsOfCode (code_of self.now) what.now }
+        ensures drawn { result < self.now.events → (view desk.new ≡ saw_count (drew (view desk.old) result body what.now) (result + 1)) × AllBelow result (view desk.old).kept × ((o : value.Object) → Names what.now o → o.number < result) × IsOfCode (code_of self.now) what.now × CameNext (program_of self.now) (entry result body what.now) }
         ensures told { self.now.events ≤ result → view desk.new ≡ saw_count (was_told (view desk.old)) (result + 1) }
     {
         self.table.shared.fetch_add::<Draw<J>>(&mut desk.seat, 0, 1)
     }
 
     /// Draws the next number for an entry, which the desk keeps from now on: the next ask of a body by what the desk keeps, or
-    /// the beginning of `Main` by the first desk. `Spent` where the counter had reached the limit on events.
+    /// the beginning of `Main` by the first desk. The entry came next in the run, and is of the code. `Spent` where the counter had
+    /// reached the limit on events.
     pub fn draw(&self, desk: &mut Desk<P>, body: u32, what: &What) -> Result<u32, Spent>
         requires desk { IsDeskOf self.now desk.old }
         requires room { (view desk.old).spent ≡ false }
@@ -45,6 +46,7 @@ impl<P: Carry> Space<P> {
         ensures drawn { MatchResult result (λ x. (x < self.now.events) × (view desk.new ≡ saw_count (drew (view desk.old) x body what.now) (x + 1))) (λ _. (c : ℕ) × (self.now.events < c) × (view desk.new ≡ saw_count (was_told (view desk.old)) c)) }
         ensures above { IfOk result (λ x. AllBelow x (view desk.old).kept × ((o : value.Object) → Names what.now o → o.number < x)) }
         ensures code { IsOk result → IsOfCode (code_of self.now) what.now }
+        ensures came { IfOk result (λ x. CameNext (program_of self.now) (entry x body what.now)) }
     {
         let found = self.step_draw::<Brand>(desk, body, what);
         if found < self.events as u64 {

@@ -1,19 +1,21 @@
-use Rattle.std.proofs.Common.{◌≡◌, ℕ, ◌+◌, ◌%◌, ◌^◌, ◌∙◌, true, false, sym, subst, arith, ⊎_elim}
+use Rattle.std.proofs.Common.{◌≡◌, ℕ, ◌+◌, ◌%◌, ◌^◌, ◌<◌, ◌∙◌, true, false, sym, subst, arith, ⊎_elim}
 use mathlib.Core.Option.{none}
 use Rattle.atomic_table.specs.Table.{Allows, step}
 use Rattle.chord_base.specs.Bodies.{Asks}
-use Rattle.chord_base.specs.Story.{IsOwn}
+use Rattle.chord_base.specs.Story.{IsOwn, AllBelow}
 use Rattle.chord_base.specs.declared.event.Limits.{Limits}
 use Rattle.chord_base.specs.declared.event.What.{What}
 use Rattle.chord_base.specs.declared.event.What.TheVariants.{Begun}
 use Rattle.chord_code.specs.declared.parts.Parts.{Parts}
 use Rattle.chord_code.specs.Meaning.{code_program}
-use Rattle.chord_rule.specs.Kinds.{entry}
+use Rattle.chord_base.specs.declared.value.Object.{Object}
+use Rattle.chord_rule.specs.Kinds.{entry, drew, saw_count}
+use Rattle.chord_rule.specs.Made.{Names}
 use Rattle.chord_rule.specs.Whole.{Held}
-use Rattle.chord_rule.specs.Tells.{draws}
+use Rattle.chord_rule.specs.Tells.{draws, CameNext}
 use Rattle.chord_rule.proofs.Moves.{draw_step}
 use Rattle.chord_rule.proofs.Moving.{begun_step}
-use Rattle.chord_space.specs.Ruled.{Ruled, draws_of_code}
+use Rattle.chord_space.specs.Ruled.{Ruled, IsOfCode, draws_of_code}
 use Rattle.chord_space.proofs.Classes.{of_code}
 use Rattle.chord_space.proofs.Under.{under_telling}
 use Rattle.chord_space.proofs.space.Space.step_draw.Goals as goal
@@ -32,3 +34,10 @@ fetch_add-requires g c = let sized = c.args.self.now.sized in let key = c.args.s
           (under_telling g.P.Carry.entries g.P.Carry.arguments g.P.Carry.keeps_to key.code.value key.limits n seat.id seat.me 0 (λ x. (x + 1) % 2 ^ 64) (draws p body what (step n 0 1 0 none) seat.me) (draws_of_code key.code.value key.limits body what (step n 0 1 0 none) seat.me)
           (λ x w valid sound told. (told, λ low. let came = (told.1 low).3 in of_code key.code.value key.limits valid sound came.0 (entry x body what) came.1)) (⊎_elim own begun c.requires.next)),
     )
+
+pub returns-clause-drawn : goal.returns-clause-drawn
+returns-clause-drawn g c = λ low. let sized = c.args.self.now.sized in let said = c.requires.entry in let told = c.fetch_add.ensures.2 in let old = c.args.desk.now.seat.me.0 in let x = c.fetch_add.result in
+    let inside : x < c.args.self.now.table.shared.table_id.slots = omega arith in let t = told.0.1 inside in
+    subst (λ (y : ℕ × What × Parts × Limits).
+    (c.fetch_add.new.seat.me.0 ≡ saw_count (drew old x y.0 y.1) (x + 1)) × AllBelow x old.kept × ((o : Object) → Names y.1 o → o.number < x) × IsOfCode y.2 y.1 × CameNext (code_program y.2 y.3) (entry x y.0 y.1))
+    (λ i. (said.0 i, said.1 i, said.2 i, said.3 i)) (t.0, t.1, t.2, told.1 inside, t.3)
