@@ -1,19 +1,21 @@
 //! A table by hand: one body begins and ends.
 #![tactic(auto)]
 
-ghost use Rattle.std.specs.Prelude.{◌≡◌, ◌≤◌, ◌<◌, true, [], ◌∷◌, None, IfOk};
+ghost use Rattle.std.specs.Prelude.{◌≡◌, ◌≤◌, ◌<◌, ◌+◌, true, false, [], ◌∷◌, None, IfOk};
 ghost use Rattle.chord_code.specs.declared.instruction.Instruction.TheVariants as instr;
-ghost use Rattle.chord_rule.specs.Kinds.{newcomer_first};
-ghost use Rattle.chord_space.specs.Desks.{view, code_of, IsDeskOf};
+ghost use Rattle.chord_rule.specs.Kinds.{newcomer_first, drew, saw_count};
+ghost use Rattle.chord_base.specs.declared.event.What.TheVariants.{Begun, Made, Sent};
+ghost use Rattle.chord_space.specs.Desks.{view, code_of, limits_of, IsDeskOf, IsSameDesk};
 
 use crate::space::{Desk, Space};
 use chord_base::event::{End, Limits, What};
-use chord_base::value::Value;
+use chord_base::text::Text;
+use chord_base::value::{Object, Value, Values};
 use chord_code::carry::Carry;
 use chord_code::code::Code;
 use chord_code::instruction::Instruction;
 use chord_code::lines::Lines;
-use chord_code::parts::{Block, Parts};
+use chord_code::parts::{Block, ClassLine, MethodLine, Parts};
 use chord_code::valid::valid;
 use chord_word::Cell;
 use std::alloc::Global;
@@ -82,6 +84,94 @@ fn drawn(space: &Space<Letter>, desk: &mut Desk<Letter>) -> u32
         Ok(_) => 2,
         Err(_) => 1,
     }
+}
+
+/// The code of a `Main` that makes an object and sends it a message that no chord takes.
+fn sending(alloc: Global) -> Result<Code, Fail>
+    ensures { IfOk result (λ code. code ≡ record { classes = record { name = 65 ∷ []; builder = None; methods = record { name = 120 ∷ []; sync = false; parameters = 0 } ∷ []; chords = [] } ∷ []; blocks = record { slots = 1; instructions = instr.New 0 0 ∷ instr.Send 0 0 ∷ instr.End ∷ [] } ∷ [] }) }
+{
+    let Ok(class) = Text::of_bytes(alloc, b"A") else {
+        return Err(Fail::from("memory"))
+    };
+    let Ok(method) = Text::of_bytes(alloc, b"x") else {
+        return Err(Fail::from("memory"))
+    };
+    let methods = vec![in alloc;
+        MethodLine {
+            name: method,
+            sync: false,
+            parameters: 0
+        },
+    ]?;
+    let classes = vec![in alloc;
+        ClassLine {
+            name: class,
+            builder: None,
+            methods: Lines::of_items(methods),
+            chords: Lines::of_items(Vec::new(alloc)),
+        },
+    ]?;
+    let instructions = vec![in alloc;
+        Instruction::New(0, 0),
+        Instruction::Send(0, 0),
+        Instruction::End,
+    ]?;
+    let blocks = vec![in alloc;
+        Block {
+            slots: 1,
+            instructions: Lines::of_items(instructions)
+        },
+    ]?;
+    let parts = Parts {
+        classes: Lines::of_items(classes),
+        blocks: Lines::of_items(blocks),
+    };
+    if valid(&parts) {
+        Ok(Code::of_parts(parts))
+    } else {
+        Err(Fail::from("not valid"))
+    }
+}
+
+/// A table of 16 events for that code.
+fn bag_table(alloc: Global) -> Result<(Space<Letter>, Desk<Letter>), Fail>
+    ensures { IfOk result (λ r. (code_of r.0 ≡ record { classes = record { name = 65 ∷ []; builder = None; methods = record { name = 120 ∷ []; sync = false; parameters = 0 } ∷ []; chords = [] } ∷ []; blocks = record { slots = 1; instructions = instr.New 0 0 ∷ instr.Send 0 0 ∷ instr.End ∷ [] } ∷ [] }) × (limits_of r.0 ≡ record { events = 16; turns = 9; depth = 9 }) × (r.0.events ≡ 16) × IsDeskOf r.0 r.1 × (view r.1 ≡ newcomer_first)) }
+{
+    let code = sending(alloc)?;
+    let limits = Limits {
+        events: 16,
+        turns: 9,
+        depth: 9,
+    };
+    Ok(Space::make(alloc, &code, &limits)?)
+}
+
+/// `Main` makes an object and sends it a message: the numbers of the three entries.
+fn sent(
+    alloc: Global,
+    space: &Space<Letter>,
+    desk: &mut Desk<Letter>,
+) -> Result<(u32, u32, u32), Fail>
+    requires code { (code_of space.now ≡ record { classes = record { name = 65 ∷ []; builder = None; methods = record { name = 120 ∷ []; sync = false; parameters = 0 } ∷ []; chords = [] } ∷ []; blocks = record { slots = 1; instructions = instr.New 0 0 ∷ instr.Send 0 0 ∷ instr.End ∷ [] } ∷ [] }) × (limits_of space.now ≡ record { events = 16; turns = 9; depth = 9 }) }
+    requires desk { IsDeskOf space.now desk.old × (view desk.old ≡ newcomer_first) }
+    ensures desk { IsSameDesk desk.old desk.new }
+    ensures sent { IfOk result (λ r. (r.0 ≡ 0) × (r.0 < r.1) × (r.1 < r.2) × (r.2 < space.now.events) × (view desk.new ≡ saw_count (drew (saw_count (drew (saw_count (drew newcomer_first r.0 0 Begun) (r.0 + 1)) r.1 0 (Made 0)) (r.1 + 1)) r.2 0 (Sent (record { number = r.1; class = 0 }) 0 [])) (r.2 + 1))) }
+{
+    let Ok(begun) = space.draw(desk, 0, &What::Begun) else {
+        return Err(Fail::from("spent"))
+    };
+    let Ok(made) = space.draw(desk, 0, &What::Made(0)) else {
+        return Err(Fail::from("spent"))
+    };
+    let object = Object {
+        number: made,
+        class: 0,
+    };
+    let what = What::Sent(object, 0, Values::of_items(Vec::new(alloc)));
+    let Ok(message) = space.draw(desk, 0, &what) else {
+        return Err(Fail::from("spent"))
+    };
+    Ok((begun, made, message))
 }
 
 #[test]
