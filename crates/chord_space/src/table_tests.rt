@@ -17,7 +17,7 @@ use chord_code::instruction::Instruction;
 use chord_code::lines::Lines;
 use chord_code::parts::{Block, ClassLine, MethodLine, Parts};
 use chord_code::valid::valid;
-use chord_word::Cell;
+use chord_word::{Cell, Word};
 use std::alloc::Global;
 use std::test::Fail;
 
@@ -174,6 +174,45 @@ fn sent(
     Ok((begun, made, message))
 }
 
+/// The message is linked in its bag, and armed.
+fn pending(space: &Space<Letter>, desk: &mut Desk<Letter>, begun: u32, made: u32, message: u32)
+    requires code { (code_of space.now ≡ record { classes = record { name = 65 ∷ []; builder = None; methods = record { name = 120 ∷ []; sync = false; parameters = 0 } ∷ []; chords = [] } ∷ []; blocks = record { slots = 1; instructions = instr.New 0 0 ∷ instr.Send 0 0 ∷ instr.End ∷ [] } ∷ [] }) × (limits_of space.now ≡ record { events = 16; turns = 9; depth = 9 }) × (space.now.events ≡ 16) }
+    requires desk { IsDeskOf space.now desk.old }
+    requires sent { (begun ≡ 0) × (begun < made) × (made < message) × (message < 16) × (view desk.old ≡ saw_count (drew (saw_count (drew (saw_count (drew newcomer_first begun 0 Begun) (begun + 1)) made 0 (Made 0)) (made + 1)) message 0 (Sent (record { number = made; class = 0 }) 0 [])) (message + 1)) }
+    ensures desk { IsSameDesk desk.old desk.new }
+    ensures armed { ((view desk.new).first ≡ true) × ((view desk.new).lent ≡ 0) × ((view desk.new).splits ≡ 0) × ((view desk.new).claims ≡ []) × ((view desk.new).flight ≡ None) }
+{
+    let object = Object {
+        number: made,
+        class: 0,
+    };
+    space.link(desk, message, object, 0, Letter { number: 7 });
+    space.arm(desk, message);
+}
+
+/// Whether the desk looks at the message, claims it and gives it back.
+fn claimed(space: &Space<Letter>, desk: &mut Desk<Letter>, message: u32) -> bool
+    requires desk { IsDeskOf space.now desk.old × (message < space.now.events) }
+    requires alone { ((view desk.old).first ≡ true) × ((view desk.old).lent ≡ 0) × ((view desk.old).splits ≡ 0) × ((view desk.old).claims ≡ []) × ((view desk.old).flight ≡ None) }
+    ensures desk { IsSameDesk desk.old desk.new }
+    ensures alone { ((view desk.new).first ≡ true) × ((view desk.new).lent ≡ 0) × ((view desk.new).splits ≡ 0) × ((view desk.new).claims ≡ []) × ((view desk.new).flight ≡ None) }
+{
+    let Word {
+        cell: Cell::Pending,
+        next: None,
+    } = space.look_cell(desk, message)
+    else {
+        return false;
+    };
+    match space.claim(desk, message, None) {
+        Ok(()) => {
+            space.give_back(desk, message);
+            true
+        }
+        Err(_) => false,
+    }
+}
+
 #[test]
 fn main_begins_and_ends(rt: HostRuntime) -> Result<(), Fail> {
     let (space, mut desk) = table(rt.alloc(), 2)?;
@@ -195,5 +234,29 @@ fn spent(rt: HostRuntime) -> Result<(), Fail> {
     let (space, mut desk) = table(rt.alloc(), 1)?;
     assert!(rt; drawn(&space, &mut desk) == 1);
     assert!(rt; space.close(desk).drawn() == 1);
+    Ok(())
+}
+
+#[test]
+fn a_message_by_hand(rt: HostRuntime) -> Result<(), Fail> {
+    let (space, mut desk) = bag_table(rt.alloc())?;
+    let (begun, made, message) = sent(rt.alloc(), &space, &mut desk)?;
+    assert!(rt; begun == 0 && made == 1 && message == 2);
+    pending(&space, &mut desk, begun, made, message);
+    let object = Object {
+        number: made,
+        class: 0,
+    };
+    assert!(rt; space.look_head(&mut desk, object, 0) == Some(message));
+    assert!(rt; claimed(&space, &mut desk, message));
+    assert!(rt; space.look_place(&mut desk, message).is_some());
+    let mut other = space.split(&mut desk);
+    assert!(rt; space.start(&mut other, 4).err() == Some(Cell::Empty));
+    space.join(&mut desk, other);
+    let mut closed = space.close(desk);
+    assert!(rt; closed.drawn() == 3);
+    assert!(rt; closed.parcel(2).is_some());
+    assert!(rt; closed.parcel(2).is_none());
+    assert!(rt; closed.parcel(3).is_none());
     Ok(())
 }
