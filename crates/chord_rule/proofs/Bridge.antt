@@ -273,3 +273,16 @@ module _ {P : Type 0} where
       record { moment = record m { homes = after m.homes me.1 r.1; views = set m.views id r.0 }; ghosts = r.2; shows = shows_look n m s (1 + n + i) id me.1 r.0 r.1 sh; rule = r.4 },
       subst (λ (y : ℕ). then y (r.0, carried_after me.1 r.1)) (sym (sh.heads i low).0) r.5,
     )
+
+    -- a load of the place i
+    pub load_place : (id : ℕ) (me : Me (Option P) View) (i : ℕ) (then : ℕ → Me (Option P) View → Type 0) → i < n
+        → ((m : Moment P) (g : G) → R m g → get_elem? m.views id ≡ some me.0 → PlaceOk (m.places i)
+        → Goes m me (λ w a. record m { homes = after m.homes me.1 a; views = set m.views id w }) (λ w a. then (word_at_place (m.places i)) (w, carried_after me.1 a)))
+        → Allows (HeldBy G R n) n id me (1 + 17 * n + i) (λ x. x) then
+    load_place id me i then low k s h deep at word = let sh = h.shows in let m = h.moment in let r = k m h.ghosts h.rule (found m s id me.0 sh at) (sh.places i low).1 in (
+      r.0,
+      r.1,
+      valid_after n s.homes m.homes me.1 r.1 (sh.deep, sh.homes) r.3,
+      record { moment = record m { homes = after m.homes me.1 r.1; views = set m.views id r.0 }; ghosts = r.2; shows = shows_look n m s (1 + 17 * n + i) id me.1 r.0 r.1 sh; rule = r.4 },
+      subst (λ (y : ℕ). then y (r.0, carried_after me.1 r.1)) (sym (sh.places i low).0) r.5,
+    )

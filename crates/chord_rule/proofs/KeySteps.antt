@@ -17,7 +17,7 @@ use Rattle.chord_rule.proofs.Puts.{put, put_all}
 use Rattle.chord_rule.proofs.Keys.{more_keys}
 use Rattle.chord_rule.proofs.Waiting.{what_is, what_entry, pending_was}
 use Rattle.chord_base.specs.Machine.{Fires, Takes}
-use Rattle.chord_base.specs.Messages.{has, pending}
+use Rattle.chord_base.specs.Messages.{has}
 use Rattle.chord_base.specs.declared.value.Value as value
 use Rattle.chord_rule.specs.Made.{IsTabled}
 use Rattle.chord_rule.specs.Stages.{what_at, message_in}

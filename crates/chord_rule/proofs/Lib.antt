@@ -21,10 +21,15 @@ pub mod DutySteps
 pub mod Counting
 pub mod FirstSteps
 pub mod LookSteps
-pub mod Wholes
+pub mod Agreeing
 pub mod Looking
+pub mod Wholes
 pub mod Laws
 pub mod Bridge
 pub mod AloneSteps
+pub mod WaySteps
 pub mod Moves
+pub mod Knowing
 pub mod Moving
+pub mod Seeing
+pub mod Closing

@@ -6,8 +6,7 @@ use Rattle.atomic_table.proofs.Lists.{at_set}
 use Rattle.chord_word.specs.declared.cells.Word.{Word}
 use Rattle.chord_rule.specs.declared.view.Look.{Look}
 use Rattle.chord_rule.specs.declared.view.View.{View}
-use Rattle.chord_rule.specs.declared.view.Looked.{Looked}
-use Rattle.chord_rule.specs.Bags.{Order, IsArmed, cell_of}
+use Rattle.chord_rule.specs.Bags.{Order, IsArmed, IsConsumed, cell_of}
 use Rattle.chord_rule.specs.Looks.{HasLook, HasSeen, Looks}
 use Rattle.chord_rule.specs.Kinds.{newcomer, gone}
 use Rattle.chord_rule.proofs.Puts.{put, put_all, at_end}
@@ -16,36 +15,37 @@ use Rattle.chord_rule.proofs.Frames.{desks_after}
 module _ (cells : ℕ → Word) (o : Order) (views : List View) (law : Looks cells o views) where
   -- each cell that the desk saw armed is armed, and has the next that it saw
   abbrev Seen : (ℕ → Word) → Order → ℕ → View → Type 0
-  Seen cells' o' j v = (i : ℕ) (next : Option ℕ) → HasSeen v i next → IsArmed (cell_of cells' i) × (o'.next i ≡ next)
+  Seen cells' o' j v = (i : ℕ) (next : Option ℕ) → HasSeen v i next → IsArmed (cell_of cells' i) × ((IsConsumed (cell_of cells' i) → ⊥) → o'.next i ≡ next)
 
   -- a desk more
   pub looks_more : Looks cells o (views ++ newcomer ∷ [])
   looks_more = record { seen = λ j v e i next h. ⊎_elim (λ a. law.seen j v a i next h) (λ t. absurd (subst (λ (y : View). HasSeen y i next) (sym t.1) h).1) (at_end views newcomer v j e) }
 
   module _ (id : ℕ) (v : View) (at : get_elem? views id ≡ some v) where
-    -- what was armed is armed, and keeps its next
-    pub looks_stay : (cells' : ℕ → Word) (o' : Order) (w : View) → ((i : ℕ) → IsArmed (cell_of cells i) → IsArmed (cell_of cells' i) × (o'.next i ≡ o.next i)) → w.looked.seen ≡ v.looked.seen → Looks cells' o' (set views id w)
-    looks_stay cells' o' w armed same = record {
-      seen = desks_after (λ j x. (i : ℕ) (next : Option ℕ) → HasSeen x i next → IsArmed (cell_of cells' i) × (o'.next i ≡ next)) views id w
-          (λ i next h. let s = law.seen id v at i next (h.0, subst (λ (l : List Look). HasLook i h.0 l) same h.1, h.2, h.3) in let a = armed i s.0 in (a.0, a.1 ∙ s.1))
-          (λ j x ne e i next h. let s = law.seen j x e i next h in let a = armed i s.0 in (a.0, a.1 ∙ s.1));
+    -- what was armed is armed, and keeps its next, and what was consumed is consumed
+    pub looks_stay : (cells' : ℕ → Word) (o' : Order) (w : View) → ((i : ℕ) → IsArmed (cell_of cells i) → IsArmed (cell_of cells' i) × (o'.next i ≡ o.next i)) → ((i : ℕ) → IsConsumed (cell_of cells i) → IsConsumed (cell_of cells' i)) → w.looked.seen ≡ v.looked.seen → Looks cells' o' (set views id w)
+    looks_stay cells' o' w armed down same = record {
+      seen = desks_after (Seen cells' o') views id w
+          (λ i next h. let s = law.seen id v at i next (h.0, subst (λ (l : List Look). HasLook i h.0 l) same h.1, h.2, h.3) in let a = armed i s.0 in (a.0, λ up. a.1 ∙ s.1 (λ c. up (down i c))))
+          (λ j x ne e i next h. let s = law.seen j x e i next h in let a = armed i s.0 in (a.0, λ up. a.1 ∙ s.1 (λ c. up (down i c))));
     }
 
-    -- a step that changes no cell, and nothing that the desk saw
+    -- the desk reads and writes nothing in cells
     pub looks_same : (w : View) → w.looked.seen ≡ v.looked.seen → Looks cells o (set views id w)
-    looks_same w same = looks_stay cells o w (λ i a. (a, refl)) same
+    looks_same w same = looks_stay cells o w (λ i a. (a, refl)) (λ i c. c) same
 
-    -- a step that changes one cell, which stays armed if it was
-    pub looks_cell : (i : ℕ) (x : Word) (w : View) → (IsArmed (cell_of cells i) → IsArmed x.cell) → w.looked.seen ≡ v.looked.seen → Looks (put cells i x) o (set views id w)
-    looks_cell i x w armed same = looks_stay (put cells i x) o w (λ k a. (put_all cells i x (λ k c. IsArmed (cell_of cells k) → IsArmed c.cell) k armed (λ ne b. b) a, refl)) same
+    -- one cell changes: if it was armed it is armed, and if it was consumed it is consumed
+    pub looks_cell : (i : ℕ) (x : Word) (w : View) → (IsArmed (cell_of cells i) → IsArmed x.cell) → (IsConsumed (cell_of cells i) → IsConsumed x.cell) → w.looked.seen ≡ v.looked.seen → Looks (put cells i x) o (set views id w)
+    looks_cell i x w armed down same = looks_stay (put cells i x) o w (λ k a. (put_all cells i x (λ k c. IsArmed (cell_of cells k) → IsArmed c.cell) k armed (λ ne b. b) a, refl))
+        (λ k a. put_all cells i x (λ k c. IsConsumed (cell_of cells k) → IsConsumed c.cell) k down (λ ne b. b) a) same
 
     -- a look at the cell i
     pub looks_look : (i : ℕ) (w : View) → (IsArmed (cell_of cells i) → (cells i).next ≡ o.next i) → w.looked.seen ≡ record { number = i; word = cells i } ∷ v.looked.seen → Looks cells o (set views id w)
     looks_look i w next_is seen = record {
-      seen = desks_after (λ j x. (k : ℕ) (next : Option ℕ) → HasSeen x k next → IsArmed (cell_of cells k) × (o.next k ≡ next)) views id w
+      seen = desks_after (Seen cells o) views id w
           (λ k next h. ⊎_elim
           (λ q. let a : IsArmed (cell_of cells i) = subst (λ (y : Word). IsArmed y.cell) q.1 h.2 in
-          (subst (λ (z : ℕ). IsArmed (cell_of cells z)) (sym q.0) a, ap o.next q.0 ∙ sym (next_is a) ∙ sym (ap (λ (y : Word). y.next) q.1) ∙ h.3))
+          (subst (λ (z : ℕ). IsArmed (cell_of cells z)) (sym q.0) a, λ up. ap o.next q.0 ∙ sym (next_is a) ∙ sym (ap (λ (y : Word). y.next) q.1) ∙ h.3))
           (λ r. law.seen id v at k next (h.0, r, h.2, h.3)) (subst (λ (ls : List Look). HasLook k h.0 ls) seen h.1))
           (λ j x ne e k next h. law.seen j x e k next h);
     }

@@ -13,7 +13,8 @@ use Rattle.chord_base.specs.declared.event.What.{What}
 use Rattle.chord_rule.specs.declared.view.View.{View}
 use Rattle.chord_rule.specs.Moment.{Moment, empty_word}
 use Rattle.chord_rule.specs.Keeping.{kept_at, at_desk}
-use Rattle.chord_rule.specs.Kinds.{draws, drew, was_told, entry, newcomer_first, drawn_stage}
+use Rattle.chord_rule.specs.Tells.{draws}
+use Rattle.chord_rule.specs.Kinds.{saw_count, drew, was_told, entry, newcomer_first, drawn_stage}
 use Rattle.chord_rule.specs.Whole.{Held, Whole}
 use Rattle.chord_rule.specs.StandsFor.{Unseen}
 use Rattle.chord_rule.specs.Stages.{Fresh, Placing, Vacant}
@@ -24,44 +25,48 @@ use Rattle.chord_rule.specs.Made.{IsChord, IsTabled}
 use Rattle.chord_rule.specs.Looks.{HasSeen}
 use Rattle.chord_rule.specs.Numbers.{HasNumber}
 use Rattle.chord_rule.specs.Duties.{HasDuty, Chosen, IsNamed, IsCarried}
+use Rattle.chord_rule.specs.Alone.{Remembers}
+use Rattle.chord_rule.specs.Desks.{IsRightDesk}
 use Rattle.chord_rule.specs.Bags.{Order}
+use Rattle.chord_rule.proofs.AloneSteps.{nothing_remembered}
 use Rattle.chord_rule.proofs.HandMoves.{newcomer_none}
-use Rattle.chord_rule.proofs.Wholes.{whole_draw, whole_told, drawn_above}
+use Rattle.chord_rule.proofs.Agreeing.{drawn_above}
+use Rattle.chord_rule.proofs.Wholes.{whole_draw, whole_told}
 use Rattle.chord_rule.proofs.Bridge.{Can, after, counter_step}
 use Rattle.chord_rule.proofs.Counting.{count_fits}
 
 module _ {P : Type 0} (entries : P → List Entry) (arguments : P → List value.Value) (keeps_to : P → Type 0) (p : Program) (n : ℕ) (any : 0 < n) (small : n ≤ 65536) where
   -- the draw of an own entry
-  pub draw_step : (id : ℕ) (me : Me (Option P) View) (body : ℕ) (what : What) → me.0.spent ≡ false → IsOwn what → Asks p me.0.kept body what
-      → Allows (Held entries arguments keeps_to p n) n id me 0 (λ x. (x + 1) % 2 ^ 64) (draws body what (step n 0 1 0 none) me)
-  draw_step id me body what untold own next = counter_step Unseen (Whole entries arguments keeps_to p n) n id me (λ x. (x + 1) % 2 ^ 64) (draws body what (step n 0 1 0 none) me)
+  pub draw_step : (id : ℕ) (me : Me (Option P) View) (body : ℕ) (what : What) → me.0.gone ≡ false → me.0.spent ≡ false → IsOwn what → Asks p me.0.kept body what
+      → Allows (Held entries arguments keeps_to p n) n id me 0 (λ x. (x + 1) % 2 ^ 64) (draws p body what (step n 0 1 0 none) me)
+  draw_step id me body what live untold own next = counter_step Unseen (Whole entries arguments keeps_to p n) n id me (λ x. (x + 1) % 2 ^ 64) (draws p body what (step n 0 1 0 none) me)
       (λ m u whole at fits. go m u whole at (dec_le n m.count))
     where
       go : (m : Moment P) (u : Unseen) (whole : Whole entries arguments keeps_to p n m u) (at : get_elem? m.views id ≡ some me.0) → Dec (n ≤ m.count)
           → (w : View) × (a : Act (Option P)) × (u' : Unseen) × Can n m.homes me.1 a
           × Whole entries arguments keeps_to p n (record m { count = (m.count + 1) % 2 ^ 64; homes = after m.homes me.1 a; views = set m.views id w }) u'
-          × draws body what (step n 0 1 0 none) me m.count (w, carried_after me.1 a)
+          × draws p body what (step n 0 1 0 none) me m.count (w, carried_after me.1 a)
       go m u whole at (yes full) = (
-        was_told me.0,
+        saw_count (was_told me.0) (m.count + 1),
         keeps,
         u,
         tt,
-        subst (λ (x : ℕ). Whole entries arguments keeps_to p n (record m { count = x; views = set m.views id (was_told me.0) }) u) (sym (count_fits n m.count m.views small whole.counting))
-            (whole_told entries arguments keeps_to p n small m u whole id me.0 at any full untold),
+        subst (λ (x : ℕ). Whole entries arguments keeps_to p n (record m { count = x; views = set m.views id (saw_count (was_told me.0) (m.count + 1)) }) u) (sym (count_fits n m.count m.views small whole.agrees.counting))
+            (whole_told entries arguments keeps_to p n small m u whole id me.0 at live any full untold),
         (refl, (λ l. absurd (omega arith)), λ l. refl),
       )
-      go m u whole at (no room) = let l : m.count < n = omega arith in let w : View = drew me.0 m.count body what in let u' : Unseen = record u { journal = entry m.count body what ∷ u.journal; stage = drawn_stage id m.count what u.stage } in (
+      go m u whole at (no room) = let l : m.count < n = omega arith in let w : View = saw_count (drew me.0 m.count body what) (m.count + 1) in let u' : Unseen = record u { journal = entry m.count body what ∷ u.journal; stage = drawn_stage id m.count what u.stage } in (
         w,
         keeps,
         u',
         tt,
-        subst (λ (x : ℕ). Whole entries arguments keeps_to p n (record m { count = x; views = set m.views id w }) u') (sym (count_fits n m.count m.views small whole.counting))
-            (whole_draw entries arguments keeps_to p n small m u whole id me.0 at body what l own next),
+        subst (λ (x : ℕ). Whole entries arguments keeps_to p n (record m { count = x; views = set m.views id w }) u') (sym (count_fits n m.count m.views small whole.agrees.counting))
+            (whole_draw entries arguments keeps_to p n small m u whole id me.0 at live body what l own next),
         (
           refl,
           (λ k.
-              let after = whole_draw entries arguments keeps_to p n small m u whole id me.0 at body what l own next in
-              let above = drawn_above entries arguments keeps_to p n small m u whole id me.0 at body what l u.journal after.stands.keeping.merged.past (let long = whole.stands.keeping.long in omega arith) in (refl, above.0, above.1)),
+              let after = whole_draw entries arguments keeps_to p n small m u whole id me.0 at live body what l own next in
+              let above = drawn_above entries arguments keeps_to p n small m u whole.agrees id me.0 at body what l u.journal after.agrees.stands.keeping.merged.past (let long = whole.agrees.stands.keeping.long in omega arith) in (refl, above.0, above.1, (u.journal, after.agrees.stands.keeping.merged.past))),
           λ k. absurd (omega arith),
         ),
       )
@@ -116,46 +121,55 @@ module _ {P : Type 0} (entries : P → List Entry) (arguments : P → List value
       views = refl;
     };
     rule = record {
-      tabled = tabled;
-      counting = record {
-        bound = omega arith;
-        first = λ v e. let s : newcomer_first.splits ≡ v.splits = ap (λ (u : View). u.splits) (some-injective newcomer_first v e) in (omega arith, omega arith);
-        some = omega arith;
-      };
-      firsts = record { leads = λ j v e first. first_zero j v e; untouched = λ v e a b. refl };
-      stands = record {
-        keeping = record {
-          long = omega arith;
-          merged = record {
-            past = tt;
-            at = λ n. 0;
-            keeps = λ c. sym (nothing c);
-            told = λ c. subst (λ (es : List Entry). IsTold p es) (sym (nothing c)) tt;
+      agrees = record {
+        tabled = tabled;
+        counting = record {
+          bound = omega arith;
+          first = λ v e. let s : newcomer_first.splits ≡ v.splits = ap (λ (u : View). u.splits) (some-injective newcomer_first v e) in (omega arith, omega arith);
+          some = omega arith;
+        };
+        firsts = record { leads = λ j v e first. first_zero j v e; untouched = λ v e a b. refl };
+        stands = record {
+          keeping = record {
+            long = omega arith;
+            merged = record {
+              past = tt;
+              at = λ n. 0;
+              keeps = λ c. sym (nothing c);
+              told = λ c. subst (λ (es : List Entry). IsTold p es) (sym (nothing c)) tt;
+            };
           };
+          hands = record {
+            holds = λ j v e i x h. absurd (newcomer_none i x (subst (λ (u : View). Holds (hand u) i x) (first_alone j v e) h));
+            held = λ i j x e. absurd (cc);
+            kept = λ j v e i k. absurd (let k' = subst (λ (u : View). IsUnlinked (hand u) i) (first_alone j v e) k in ⊎_elim (λ h. newcomer_none i Fresh h) (λ h. newcomer_none i Placing h) k');
+            once = λ j v e. subst (λ (u : View). AreDifferent (numbers u.claims)) (sym (first_alone j v e)) tt;
+          };
+          messages = record { stands = λ i. (tt, record { cell = refl; unplaced = refl; slot = refl; unlinked = refl }) };
+          firings = record { taken = λ i. refl };
+          younger = record { below = λ i j c f q s for home. absurd (cc) };
+          parcels = record { sent = λ i q x home says. absurd (cc); fired = λ i q home is. absurd (cc); task = λ i q home. absurd (cc) };
         };
-        hands = record {
-          holds = λ j v e i x h. absurd (newcomer_none i x (subst (λ (u : View). Holds (hand u) i x) (first_alone j v e) h));
-          held = λ i j x e. absurd (cc);
-          kept = λ j v e i k. absurd (let k' = subst (λ (u : View). IsUnlinked (hand u) i) (first_alone j v e) k in ⊎_elim (λ h. newcomer_none i Fresh h) (λ h. newcomer_none i Placing h) k');
-          once = λ j v e. subst (λ (u : View). AreDifferent (numbers u.claims)) (sym (first_alone j v e)) tt;
+        heads = record { keyed = λ i x s. absurd (cc) };
+        bags = record {
+          heads_lead = λ k is. record { inside = λ y e. absurd (cc); passes = λ i b ne low. absurd (cc) };
+          nexts_lead = λ i k b. absurd (cc);
+          keyed = λ i k b. absurd (cc);
+          ranked = λ i k b. absurd (cc);
+          apart = λ i j k l a b e. absurd (cc);
+          armed = λ i a. absurd a;
         };
-        messages = record { stands = λ i. (tt, record { cell = refl; unplaced = refl; slot = refl; unlinked = refl }) };
-        firings = record { taken = λ i. refl };
-        younger = record { below = λ i j c f q s for home. absurd (cc) };
-        parcels = record { sent = λ i q x home says. absurd (cc); fired = λ i q home is. absurd (cc); task = λ i q home. absurd (cc) };
+        tied = record { duties = λ j v e d h. absurd (subst (λ (u : View). HasDuty d u.duties) (first_alone j v e) h) };
+        duties = λ ks xs c. nobody ks xs c.some c.chosen;
+        looks = record { seen = λ j v e i next h. absurd (subst (λ (y : View). HasSeen y i next) (first_alone j v e) h).1 };
       };
-      heads = record { keyed = λ i x s. absurd (cc) };
-      bags = record {
-        heads_lead = λ k is. record { inside = λ y e. absurd (cc); passes = λ i b ne low. absurd (cc) };
-        nexts_lead = λ i k b. absurd (cc);
-        keyed = λ i k b. absurd (cc);
-        ranked = λ i k b. absurd (cc);
-        apart = λ i j k l a b e. absurd (cc);
-        armed = λ i a. absurd a;
+      desks = record { right = λ j v e. subst (IsRightDesk n 0 (λ i. empty_word) nothing_linked) (sym (first_alone j v e)) (record { armed = λ d h. absurd h; ways = λ w h. absurd h; told = λ here spent. absurd (let z : false ≡ true = spent in cc); ended = λ g. absurd (let z : false ≡ true = g in cc) }) };
+      woken = record { names = λ q i e. absurd (cc) };
+      places = record { within = λ i pl e. absurd (cc) };
+      alone = record {
+        lent = λ v e. ap (λ (y : View). y.lent) (first_alone 0 v e);
+        alone = λ v e lent. subst (λ (y : View). Remembers 0 (λ k. None) (λ i. empty_word) y.looked) (sym (first_alone 0 v e)) (nothing_remembered 0 (λ k. None) (λ i. empty_word));
       };
-      tied = record { duties = λ j v e d h. absurd (subst (λ (u : View). HasDuty d u.duties) (first_alone j v e) h) };
-      duties = λ ks xs c. nobody ks xs c.some c.chosen;
-      looks = record { seen = λ j v e i next h. absurd (subst (λ (y : View). HasSeen y i next) (first_alone j v e) h).1 };
     };
   }
     where

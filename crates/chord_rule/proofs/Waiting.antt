@@ -123,6 +123,11 @@ no_message (Some (Called x j vs)) m k e = ⊎_elim (λ z. z) (λ z. z) k
 
 -- ## What claims say
 
+-- the bag of a method of a chord is one of the chord's bags
+pub has_key : (object : Object) (j : ℕ) (js : List ℕ) → has j js ≡ true → HasNumber (key object j) (keys object js)
+has_key object j [] y = absurd (let z : false ≡ true = y in cc)
+has_key object j (i ∷ js) y = elim (either (j == i)) [ inl q ↦ inl (ap (key object) (eqb-true j i q)) | inr n ↦ inr (has_key object j js (rw n at y)) ]
+
 module _ {P : Type 0} (p : Program) (h : List Entry) (cells : ℕ → Word) (places : ℕ → Option Place) (homes : ℕ → Home P) (o : Order) (views : List View) (stage : ℕ → Stage)
     (past : IsPast p h) (hands : Hands views stage) (messages : Messages h cells places homes o stage) (firings : Firings h stage) where
   -- the number i is in this stage
@@ -359,12 +364,6 @@ module _ {P : Type 0} (p : Program) (h : List Entry) (cells : ℕ → Word) (pla
       let was = pending_was p h i m past t.2 in let rest = takes_to object js ms t.1 t.4 in
       ((ap to_bag was.0, rest.0), ((pending_shows i m t.2).waiting, rest.1))
 
-  -- the bag of one of these methods is one of their bags
-  has_key : (object : Object) (j : ℕ) (js : List ℕ) → has j js ≡ true → HasNumber (key object j) (keys object js)
-  has_key object j [] y = absurd (let z : false ≡ true = y in cc)
-  has_key object j (i ∷ js) y = elim (either (j == i)) [ inl q ↦ inl (ap (key object) (eqb-true j i q)) | inr n ↦ inr (has_key object j js (rw n at y)) ]
-
-  -- a number that is one of these is found among them
   has_true : (i : ℕ) (ms : List ℕ) → HasNumber i ms → has i ms ≡ true
   has_true i [] k = absurd k
   has_true i (x ∷ ms) k = elim (either (i == x)) [

@@ -1,480 +1,420 @@
--- Each kind of step keeps the whole rule: the lemmas on its laws, put together.
-use Rattle.std.proofs.Common.{length, ◌≡◌, ◌≢◌, ◌⊎◌, inl, inr, ⊎_elim, ℕ, ◌+◌, ◌<◌, ◌≤◌, eqb, not, if◌then◌else◌, Bool, true, false, List, [], ◌∷◌, ◌++◌, map, set, slice_get, refl, sym, ap, ◌∙◌, subst, arith, Option, Some, None}
-use Rattle.std.proofs.lemmas.Bool.{eqb-true}
+-- Each kind of step keeps the whole rule: what the words, the desks and the journal say of each other, what holds of each desk,
+-- and what the first desk knows while it is alone, put together.
+use Rattle.std.proofs.Common.{◌≡◌, ◌≢◌, ◌⊎◌, inl, inr, ⊎_elim, ℕ, zero, suc, ◌+◌, ◌<◌, ◌≤◌, if◌then◌else◌, Bool, true, false, List, [], ◌∷◌, ◌++◌, map, set, slice_get, refl, sym, ap, ◌∙◌, subst, arith, Option, Some, None}
 use mathlib.Core.Path.{Path}
-use mathlib.Core.Logic.{dite}
-use mathlib.Core.Option.{some, none, some-injective}
-use native.Mathlib.Decide.{ℕ_discrete}
-use Rattle.atomic_table.proofs.Lists.{at_set, at_longer, set_here, set_else}
+use mathlib.Core.Option.{some, none}
 use lib.ListN.{get_elem?}
+use Rattle.atomic_table.proofs.Lists.{set_here}
 use Rattle.chord_base.specs.Meaning.{Program}
 use Rattle.chord_base.specs.Bodies.{Asks, doing}
-use Rattle.chord_base.specs.Messages.{Message, message_of, has, IsCall}
-use Rattle.chord_base.specs.Story.{IsOwn, IsIn, AllBelow}
-use Rattle.chord_base.specs.Machine.{IsPast}
-use Rattle.chord_rule.specs.Made.{Names}
-use Rattle.chord_rule.proofs.KeySteps.{names_low}
+use Rattle.chord_base.specs.Messages.{Message, message_of, IsCall}
+use Rattle.chord_base.specs.Story.{IsOwn, IsIn}
 use Rattle.chord_base.specs.declared.value.Object.{Object}
 use Rattle.chord_base.specs.declared.value.Value as value
 use Rattle.chord_base.specs.declared.event.What.{What}
 use Rattle.chord_base.specs.declared.event.What.TheVariants.{Begun, Fired}
 use Rattle.chord_base.specs.declared.event.Entry.{Entry}
-use Rattle.chord_word.specs.declared.cells.Cell.TheVariants as a_cell
 use Rattle.chord_word.specs.declared.cells.Cell.{Cell}
+use Rattle.chord_word.specs.declared.cells.Cell.TheVariants as a_cell
 use Rattle.chord_word.specs.declared.cells.Word.{Word}
 use Rattle.chord_rule.specs.declared.view.Claim.{Claim}
 use Rattle.chord_rule.specs.declared.view.Duty.{Duty}
+use Rattle.chord_rule.specs.declared.view.Looked.{Looked}
 use Rattle.chord_rule.specs.declared.view.View.{View}
-use Rattle.chord_rule.specs.Moment.{Moment}
-use Rattle.chord_rule.specs.Numbers.{HasNumber, flag}
-use Rattle.chord_rule.specs.Kinds.{newcomer, gone, MayGo, entry, drew, was_told, claimed}
-use Rattle.chord_rule.specs.Counting.{Counting}
-use Rattle.chord_rule.specs.Bags.{Order, IsStanding, IsArmed, IsConsumed, head_of, cell_of}
-use Rattle.chord_rule.specs.Duties.{HasDuty, DutyLaw, drop_duty, reset_duty, Carries, IsCarried}
-use Rattle.chord_rule.specs.Made.{IsTabled, IsKey, IsChord, key}
+use Rattle.chord_rule.specs.declared.view.Way.{Way}
+use Rattle.chord_rule.specs.Moment.{Moment, Home, Place}
+use Rattle.chord_rule.specs.Numbers.{HasNumber}
+use Rattle.chord_rule.specs.Agrees.{Agrees}
+use Rattle.chord_rule.specs.Alone.{Remembers, AloneLaw}
+use Rattle.chord_rule.specs.Bags.{Order, IsArmed, head_of, cell_of}
 use Rattle.chord_rule.specs.Claims.{HasThe, AreClaimed}
-use Rattle.chord_rule.specs.Parcels.{Begins, IsParked}
-use Rattle.chord_rule.specs.Stages.{Placing, Flying, Claiming, Emptying, Posting, Starting, Stage, InHand, Armed, Spent, Posted, Played, what_at, message_in}
+use Rattle.chord_rule.specs.Desks.{IsRightDesk}
+use Rattle.chord_rule.specs.Duties.{HasDuty, MayRest, start_walk, move_duty, drop_duty}
 use Rattle.chord_rule.specs.Hands.{hand, IsUnlinked}
-use Rattle.chord_rule.specs.Messages.{IsOpen, Stands}
+use Rattle.chord_rule.specs.Messages.{IsOpen}
 use Rattle.chord_rule.specs.Kinds as kinds
+use Rattle.chord_rule.specs.Kinds.{newcomer, gone, MayGo, entry, drew, was_told, claimed, saw, saw_count, saw_head}
+use Rattle.chord_rule.specs.Made.{key, IsKey, IsChord}
+use Rattle.chord_rule.specs.Parcels.{Begins, IsParked}
+use Rattle.chord_rule.specs.Placed.{PlaceLaw}
 use Rattle.chord_rule.specs.StandsFor.{Unseen}
-use Rattle.chord_rule.specs.Whole.{Tied, Whole}
-use Rattle.chord_rule.proofs.Puts.{put, put_else, put_all, at_inside, at_end}
+use Rattle.chord_rule.specs.Stages.{Vacant, Fresh, Placing, Claiming, Emptying, Flying, Unposted, Posting, Starting, Stage, InHand, Armed, Spent, Posted, Played, what_at, message_in}
+use Rattle.chord_rule.specs.Ways.{HasWay, WayLaw, IsLinkedCell, way_begun}
+use Rattle.chord_rule.specs.Whole.{Whole}
+use Rattle.chord_rule.proofs.Agreeing as agreeing
+use Rattle.chord_rule.proofs.AloneSteps.{remembers_count, remembers_head, remembers_cell, remembers_look, remembers_look_head, alone_step, alone_split, alone_join, other_live}
+use Rattle.chord_rule.proofs.BagSteps.{linked_order}
 use Rattle.chord_rule.proofs.Frames.{desks_after}
-use Rattle.chord_rule.proofs.Counting.{counts, told_set}
-use Rattle.chord_rule.proofs.FirstSteps.{firsts_stay, firsts_draw, firsts_told, firsts_split, firsts_join, counting_split, counting_join}
-use Rattle.chord_rule.proofs.BagSteps.{linked_order, cell_step}
-use Rattle.chord_rule.proofs.DutySteps.{has_map, arm_duty, take_duty, stay_duty, link_duty}
-use Rattle.chord_rule.specs.Looks.{Looks}
-use Rattle.chord_rule.proofs.LookSteps.{looks_more, looks_stay, looks_same, looks_cell, looks_join}
-use Rattle.chord_rule.proofs.MessageSteps.{claim_on}
 use Rattle.chord_rule.proofs.Bagging as bagging
-use Rattle.chord_rule.proofs.Standing as standing
+use Rattle.chord_rule.proofs.Looking as looking
+use Rattle.chord_rule.proofs.Looking.{agrees_saw}
+use Rattle.chord_rule.proofs.Lists.{some_is}
+use Rattle.chord_rule.proofs.MessageSteps.{claim_on}
+use Rattle.chord_rule.proofs.Puts.{put, put_here, put_else, put_all, at_inside, at_end}
+use Rattle.chord_rule.proofs.WaySteps.{begun_law, on_law, way_stays}
 
--- a duty is laid down, or was there
-pub has_duty : (d : Duty) (x : ℕ) (ds : List Duty) → HasDuty d ds → HasDuty d (drop_duty x ds) ⊎ (d.message ≡ x)
-has_duty d x [] h = absurd h
-has_duty d x (e ∷ es) h = cases (eqb e.message x) refl h (λ k. has_duty d x es k)
-  where
-    cases : (b : Bool) → eqb e.message x ≡ b → HasDuty d (e ∷ es) → (HasDuty d es → HasDuty d (drop_duty x es) ⊎ (d.message ≡ x)) → HasDuty d (if not b then e ∷ drop_duty x es else drop_duty x es) ⊎ (d.message ≡ x)
-    cases true q k later = ⊎_elim (λ z. inr (ap (λ (y : Duty). y.message) z ∙ eqb-true e.message x q)) later k
-    cases false q k later = ⊎_elim (λ z. inl (inl z)) (λ z. ⊎_elim (λ y. inl (inr y)) inr (later z)) k
+-- a place of a list that is set twice
+set_twice : {A : Type 0} (l : List A) (i : ℕ) (a b : A) → set (set l i a) i b ≡ set l i b
+set_twice [] i a b = refl
+set_twice (x ∷ xs) zero a b = refl
+set_twice (x ∷ xs) (suc i) a b = λ k. x ∷ set_twice xs i a b k
 
--- a duty that is left after some were dropped was there before
-pub was_duty : (d : Duty) (x : ℕ) (ds : List Duty) → HasDuty d (drop_duty x ds) → HasDuty d ds
-was_duty d x [] h = h
-was_duty d x (e ∷ es) h = cases (eqb e.message x) h (λ k. was_duty d x es k)
-  where
-    cases : (b : Bool) → HasDuty d (if not b then e ∷ drop_duty x es else drop_duty x es) → (HasDuty d (drop_duty x es) → HasDuty d es) → HasDuty d (e ∷ es)
-    cases true k later = inr (later k)
-    cases false k later = ⊎_elim inl (λ z. inr (later z)) k
+-- what holds of a desk, after a step of another
+right_stays : (n count count' : ℕ) (cells cells' : ℕ → Word) (o o' : Order) (v : View) → count ≤ count' → ((i : ℕ) → IsArmed (cell_of cells i) → IsArmed (cell_of cells' i))
+    → ((i k : ℕ) → o.bag i ≡ Some k → (o'.bag i ≡ Some k) × (o'.rank i ≡ o.rank i)) → IsRightDesk n count cells o v → IsRightDesk n count' cells' o' v
+right_stays n count count' cells cells' o o' v more armed linked law = record {
+  armed = λ d h. armed d.message (law.armed d h);
+  ways = λ w h. way_stays n o o' w linked (law.ways w h);
+  told = λ here spent. let l = law.told here spent in omega (arith, l, more);
+  ended = law.ended;
+}
 
--- a duty of the first of two lists is one of both joined
-has_left : (d : Duty) (xs ys : List Duty) → HasDuty d xs → HasDuty d (xs ++ ys)
-has_left d [] ys h = absurd h
-has_left d (x ∷ xs) ys (inl e) = inl e
-has_left d (x ∷ xs) ys (inr h) = inr (has_left d xs ys h)
+-- a desk that keeps nothing is as it should be
+right_newcomer : (n count : ℕ) (cells : ℕ → Word) (o : Order) → IsRightDesk n count cells o newcomer
+right_newcomer n count cells o = record { armed = λ d h. absurd h; ways = λ w h. absurd h; told = λ here spent. absurd (let z : false ≡ true = spent in cc); ended = λ e. absurd (let z : false ≡ true = e in cc) }
 
--- a duty of the second of two lists is one of both joined
-has_right : (d : Duty) (xs ys : List Duty) → HasDuty d ys → HasDuty d (xs ++ ys)
-has_right d [] ys h = h
-has_right d (x ∷ xs) ys h = inr (has_right d xs ys h)
-
--- a duty of two joined lists is one of the first or of the second
-has_either : (d : Duty) (xs ys : List Duty) → HasDuty d (xs ++ ys) → HasDuty d xs ⊎ HasDuty d ys
-has_either d [] ys h = inr h
-has_either d (x ∷ xs) ys (inl e) = inl (inl e)
-has_either d (x ∷ xs) ys (inr h) = ⊎_elim (λ a. inl (inr a)) inr (has_either d xs ys h)
-
--- a duty among duties whose walks are dropped is such a one of a duty that was there
-has_reset : (d : Duty) (ds : List Duty) → HasDuty d (map reset_duty ds) → (e : Duty) × HasDuty e ds × (d ≡ reset_duty e)
-has_reset d [] h = absurd h
-has_reset d (e ∷ es) (inl q) = (e, inl refl, q)
-has_reset d (e ∷ es) (inr h) = let r = has_reset d es h in (r.0, inr r.1, r.2)
-
--- a duty whose walks are dropped carries all that it carried
-reset_carries : (o : Order) (d : Duty) (xs : List ℕ) → Carries o d xs → Carries o (reset_duty d) xs
-reset_carries o d xs c = record { on = refl; of = c.of; walks = λ w h. absurd h }
+-- and so is one that was joined
+right_gone : (n count : ℕ) (cells : ℕ → Word) (o : Order) → IsRightDesk n count cells o gone
+right_gone n count cells o = record { armed = λ d h. absurd h; ways = λ w h. absurd h; told = λ here spent. absurd (let z : true ≡ false = here in cc); ended = λ e. refl }
 
 module _ {P : Type 0} (entries : P → List Entry) (arguments : P → List value.Value) (keeps_to : P → Type 0) (p : Program) (n : ℕ) (small : n ≤ 65536) (m : Moment P) (u : Unseen) (whole : Whole entries arguments keeps_to p n m u)
-    (id : ℕ) (v : View) (at : get_elem? m.views id ≡ some v) where
-  -- the number i is in this stage
-  abbrev It : ℕ → Stage → Type 0
-  It i s = Stands s (what_at i u.journal) (m.cells i) (m.places i) (m.homes i) (u.order.bag i) (u.order.next i)
+    (id : ℕ) (v : View) (at : get_elem? m.views id ≡ some v) (here : v.gone ≡ false) where
+  law : Agrees entries arguments keeps_to p n m u
+  law = whole.agrees
 
-  -- each number is in its stage
-  pub it : (i : ℕ) (s : Stage) → u.stage i ≡ s → It i s
-  it i s e = subst (It i) e (whole.stands.messages.stands i)
+  -- what holds of the desk that steps
+  mine : IsRightDesk n m.count m.cells u.order v
+  mine = whole.desks.right id v at
 
-  -- a step that leaves the counter and the flag of the limit alone
-  counting_stays : (w : View) → w.spent ≡ v.spent → w.splits ≡ v.splits → Counting n m.count (set m.views id w)
-  counting_stays w a b = counts n m.count m.count m.views id v w whole.counting at (let c = whole.counting.bound in let t = told_set m.views id v w at in let f = ap flag a in omega arith) (λ _. b)
+  not_gone : (w : View) → w.gone ≡ v.gone → w.gone ≡ true → w ≡ gone
+  not_gone w same e = absurd (let z : true ≡ false = sym e ∙ same ∙ here in cc)
 
-  -- where the desk that steps knows the bags of its duties afterwards, all desks do
-  tied_stays : (w : View) → ((d : Duty) → HasDuty d w.duties → u.order.bag d.message ≡ Some d.bag) → Tied (set m.views id w) u.order.bag
-  tied_stays w mine = record { duties = desks_after (λ j x. (d : Duty) → HasDuty d x.duties → u.order.bag d.message ≡ Some d.bag) m.views id w mine (λ j x ne a. whole.tied.duties j x a) }
+  -- what the desk that steps writes in a cell is remembered
+  abbrev After : Moment P → Unseen → View → Type 0
+  After m' u' w = Agrees entries arguments keeps_to p n (record m' { views = set m.views id w }) u'
 
-  -- a step that leaves the duties keeps that desks know their bags
-  tied_same : (w : View) → w.duties ≡ v.duties → Tied (set m.views id w) u.order.bag
-  tied_same w same = tied_stays w (λ d h. whole.tied.duties id v at d (subst (HasDuty d) same h))
+  saw_too : (m' : Moment P) (u' : Unseen) (w : View) (i : ℕ) (x : Word) → m'.cells i ≡ x → After m' u' w → After m' u' (saw w i x)
+  saw_too m' u' w i x is after = subst (λ (vs : List View). Agrees entries arguments keeps_to p n (record m' { views = vs }) u') (set_twice m.views id w (saw w i x))
+      (subst (λ (y : Word). Agrees entries arguments keeps_to p n (record m' { views = set (set m.views id w) id (saw w i y) }) u') is
+      (agrees_saw entries arguments keeps_to p n small (record m' { views = set m.views id w }) u' after id w (set_here m.views id w (at_inside m.views id v at)) i))
 
-  -- no message begins to stand, and the desk keeps its duties
-  duties_stay : (w : View) (cells : ℕ → Word) → w.duties ≡ v.duties → ((x : ℕ) → IsStanding (cell_of cells x) → IsStanding (cell_of m.cells x)) → ((q x : ℕ) → cell_of m.cells q ≡ a_cell.Woken x → cell_of cells q ≡ a_cell.Woken x) → DutyLaw (IsChord p) cells (set m.views id w) u.order
-  duties_stay w cells same stood woken = stay_duty (IsKey u.journal) (IsChord p) m cells u.order id v w at stood woken (λ e h. subst (HasDuty e) (sym same) h) whole.duties
+  -- and so is what it reads or writes elsewhere
+  looked_too : (m' : Moment P) (u' : Unseen) (w : View) (l : Looked) → l.seen ≡ w.looked.seen → After m' u' w → After m' u' (record w { looked = l })
+  looked_too m' u' w l seen after = subst (λ (vs : List View). Agrees entries arguments keeps_to p n (record m' { views = vs }) u') (set_twice m.views id w (record w { looked = l }))
+      (agreeing.agrees_still entries arguments keeps_to p n small (record m' { views = set m.views id w }) u' after id w (set_here m.views id w (at_inside m.views id v at)) (record w { looked = l }) refl refl refl refl refl refl refl seen)
 
-  -- of one cell that was not woken: it stood, if it stands
-  one_stood : (i : ℕ) (x : Word) → (IsStanding x.cell → IsStanding (cell_of m.cells i)) → (y : ℕ) → IsStanding (cell_of (put m.cells i x) y) → IsStanding (cell_of m.cells y)
-  one_stood i x stood y s = put_all m.cells i x (λ y c. IsStanding c.cell → IsStanding (cell_of m.cells y)) y stood (λ ne t. t) s
-
-  -- a change of one cell that was not woken leaves each woken cell
-  one_woken : (i : ℕ) (x : Word) → ((z : ℕ) → cell_of m.cells i ≡ a_cell.Woken z → ⊥) → (q z : ℕ) → cell_of m.cells q ≡ a_cell.Woken z → cell_of (put m.cells i x) q ≡ a_cell.Woken z
-  one_woken i x not_woken q z e = ap (λ (c : Word). c.cell) (put_else m.cells i x q (λ s. not_woken z (sym (ap (cell_of m.cells) s) ∙ e))) ∙ e
-
-  -- a step that changes nothing but where the desk has looked
-  pub whole_still : (w : View) → hand w ≡ hand v → w.kept ≡ v.kept → w.duties ≡ v.duties → w.spent ≡ v.spent → w.splits ≡ v.splits → w.first ≡ v.first → w.drawn ≡ v.drawn → w.looked.seen ≡ v.looked.seen → Whole entries arguments keeps_to p n (record m { views = set m.views id w }) u
-  whole_still w same kept duties spent splits first drawn looked = record {
-    tabled = whole.tabled;
-    counting = counting_stays w spent splits;
-    firsts = firsts_stay n m.count m.views whole.counting whole.firsts id v at w first drawn splits;
-    stands = standing.stands_still entries arguments keeps_to p n m u whole.stands id v at w same kept;
-    heads = whole.heads;
-    bags = whole.bags;
-    tied = tied_same w duties;
-    looks = looks_same m.cells u.order m.views whole.looks id v at w looked;
-    duties = duties_stay w m.cells duties (λ x s. s) (λ q x e. e);
+  -- what one desk does keeps the whole rule where it keeps its parts
+  pub whole_step : (m' : Moment P) (u' : Unseen) (w : View) → m'.views ≡ set m.views id w → Agrees entries arguments keeps_to p n m' u' → w.first ≡ v.first → w.gone ≡ v.gone → w.lent ≡ v.lent → m.count ≤ m'.count
+      → ((i : ℕ) → IsArmed (cell_of m.cells i) → IsArmed (cell_of m'.cells i)) → ((i k : ℕ) → u.order.bag i ≡ Some k → (u'.order.bag i ≡ Some k) × (u'.order.rank i ≡ u.order.rank i))
+      → ((q i : ℕ) → cell_of m'.cells q ≡ a_cell.Woken i → IsArmed (cell_of m'.cells i)) → PlaceLaw n m'.places → IsRightDesk n m'.count m'.cells u'.order w
+      → (Remembers m.count m.heads m.cells v.looked → Remembers m'.count m'.heads m'.cells w.looked) → Whole entries arguments keeps_to p n m' u'
+  whole_step m' u' w views after first gone_same lent more armed linked woken places right remembers = record {
+    agrees = after;
+    desks = record {
+      right = subst (λ (vs : List View). (j : ℕ) (x : View) → get_elem? vs j ≡ some x → IsRightDesk n m'.count m'.cells u'.order x) (sym views)
+          (desks_after (λ j x. IsRightDesk n m'.count m'.cells u'.order x) m.views id w right (λ j x ne e. right_stays n m.count m'.count m.cells m'.cells u.order u'.order x more armed linked (whole.desks.right j x e)));
+    };
+    woken = record { names = woken };
+    places = places;
+    alone = subst (λ (vs : List View). AloneLaw m'.count m'.heads m'.cells vs) (sym views)
+        (alone_step m.count m.heads m.cells m.views whole.alone law.firsts.leads id v at here m'.count m'.heads m'.cells w first gone_same lent remembers);
   }
+
+  -- a step that leaves the counter, the heads and the cells, and what the desk remembers
+  pub whole_still : (places : ℕ → Option Place) (homes : ℕ → Home P) (stage : ℕ → Stage) (w : View) → w.looked ≡ v.looked → ((d : Duty) → HasDuty d w.duties → HasDuty d v.duties) → w.first ≡ v.first → w.gone ≡ v.gone → w.lent ≡ v.lent → w.spent ≡ v.spent → PlaceLaw n places
+      → After (record m { places = places; homes = homes }) (record u { stage = stage }) w → Whole entries arguments keeps_to p n (record m { places = places; homes = homes; views = set m.views id w }) (record u { stage = stage })
+  whole_still places homes stage w looked duties first gone_same lent spent placed after = whole_step (record m { places = places; homes = homes; views = set m.views id w }) (record u { stage = stage }) w refl after first gone_same lent (omega arith)
+      (λ i a. a) (λ i k b. (b, refl)) whole.woken.names placed
+      (record {
+        armed = λ d h. mine.armed d (duties d h);
+        ways = λ x h. mine.ways x (subst (λ (l : Looked). HasWay x l.ways) looked h);
+        told = λ e s. mine.told (sym gone_same ∙ e) (sym spent ∙ s);
+        ended = not_gone w gone_same;
+      })
+      (λ r. subst (Remembers m.count m.heads m.cells) (sym looked) r)
+
+  -- a step that writes the cell i, and remembers it
+  pub whole_cell : (i : ℕ) (x : Word) (homes : ℕ → Home P) (stage : ℕ → Stage) (w : View) → w.looked ≡ v.looked → (IsArmed (cell_of m.cells i) → IsArmed x.cell) → ((z : ℕ) → x.cell ≡ a_cell.Woken z → IsArmed (cell_of m.cells z))
+      → ((d : Duty) → HasDuty d w.duties → HasDuty d v.duties ⊎ IsArmed (cell_of (put m.cells i x) d.message)) → w.first ≡ v.first → w.gone ≡ v.gone → w.lent ≡ v.lent → w.spent ≡ v.spent
+      → After (record m { cells = put m.cells i x; homes = homes }) (record u { stage = stage }) w
+      → Whole entries arguments keeps_to p n (record m { cells = put m.cells i x; homes = homes; views = set m.views id (saw w i x) }) (record u { stage = stage })
+  whole_cell i x homes stage w looked armed woken duties first gone_same lent spent after =
+      let m' : Moment P = record m { cells = put m.cells i x; homes = homes } in let u' : Unseen = record u { stage = stage } in
+      whole_step (record m' { views = set m.views id (saw w i x) }) u' (saw w i x) refl (saw_too m' u' w i x (put_here m.cells i x) after) first gone_same lent (omega arith)
+      stay (λ k l b. (b, refl))
+      (λ q z e. put_all m.cells i x (λ q c. c.cell ≡ a_cell.Woken z → IsArmed (cell_of (put m.cells i x) z)) q (λ s. stay z (woken z s)) (λ ne s. stay z (whole.woken.names q z s)) e) whole.places
+      (record {
+        armed = λ d h. ⊎_elim (λ k. stay d.message (mine.armed d k)) (λ a. a) (duties d h);
+        ways = λ y h. mine.ways y (subst (λ (l : Looked). HasWay y l.ways) looked h);
+        told = λ e s. mine.told (sym gone_same ∙ e) (sym spent ∙ s);
+        ended = not_gone (saw w i x) gone_same;
+      })
+      (λ r. subst (λ (l : Looked). Remembers m.count m.heads (put m.cells i x) (record l { seen = record { number = i; word = x } ∷ l.seen })) (sym looked) (remembers_cell m.count m.heads m.cells v.looked r i x))
+    where
+      stay : (k : ℕ) → IsArmed (cell_of m.cells k) → IsArmed (cell_of (put m.cells i x) k)
+      stay k a = put_all m.cells i x (λ k c. IsArmed (cell_of m.cells k) → IsArmed c.cell) k armed (λ ne b. b) a
+
+  -- a step that counts up, and remembers it
+  pub whole_count : (journal : List Entry) (stage : ℕ → Stage) (w : View) → w.looked ≡ v.looked → w.duties ≡ v.duties → w.first ≡ v.first → w.gone ≡ v.gone → w.lent ≡ v.lent → (w.spent ≡ true → n ≤ m.count + 1)
+      → After (record m { count = m.count + 1 }) (record u { journal = journal; stage = stage }) w
+      → Whole entries arguments keeps_to p n (record m { count = m.count + 1; views = set m.views id (saw_count w (m.count + 1)) }) (record u { journal = journal; stage = stage })
+  whole_count journal stage w looked duties first gone_same lent spent after =
+      let m' : Moment P = record m { count = m.count + 1 } in let u' : Unseen = record u { journal = journal; stage = stage } in
+      whole_step (record m' { views = set m.views id (saw_count w (m.count + 1)) }) u' (saw_count w (m.count + 1)) refl (looked_too m' u' w (record w.looked { count = Some (m.count + 1) }) refl after) first gone_same lent (omega arith)
+      (λ i a. a) (λ i k b. (b, refl)) whole.woken.names whole.places
+      (record {
+        armed = λ d h. mine.armed d (subst (HasDuty d) duties h);
+        ways = λ x h. mine.ways x (subst (λ (l : Looked). HasWay x l.ways) looked h);
+        told = λ e s. spent s;
+        ended = not_gone (saw_count w (m.count + 1)) gone_same;
+      })
+      (λ r. subst (λ (l : Looked). Remembers (m.count + 1) m.heads m.cells (record l { count = Some (m.count + 1) })) (sym looked) (remembers_count m.count m.heads m.cells v.looked r (m.count + 1)))
+
+  -- ## Draws
 
   -- the desk is told that the limit is reached
-  pub whole_told : 0 < n → n ≤ m.count → v.spent ≡ false → Whole entries arguments keeps_to p n (record m { count = m.count + 1; views = set m.views id (was_told v) }) u
-  whole_told any full untold = let b = whole.counting.bound in let t = told_set m.views id v (was_told v) at in let f : flag v.spent ≡ 0 = ap flag untold in record {
-    tabled = whole.tabled;
-    counting = counts n m.count (m.count + 1) m.views id v (was_told v) whole.counting at (omega arith) (λ _. refl);
-    firsts = firsts_told n m.count m.views whole.counting whole.firsts id v at (m.count + 1) (was_told v) (omega (arith, any, full)) refl refl refl;
-    stands = standing.stands_told entries arguments keeps_to p n m u whole.stands id v at full;
-    heads = whole.heads;
-    bags = whole.bags;
-    tied = tied_same (was_told v) refl;
-    looks = looks_same m.cells u.order m.views whole.looks id v at (was_told v) refl;
-    duties = duties_stay (was_told v) m.cells refl (λ x s. s) (λ q x e. e);
-  }
+  pub whole_told : 0 < n → n ≤ m.count → v.spent ≡ false → Whole entries arguments keeps_to p n (record m { count = m.count + 1; views = set m.views id (saw_count (was_told v) (m.count + 1)) }) u
+  whole_told any full untold = whole_count u.journal u.stage (was_told v) refl refl refl refl refl (λ _. omega arith) (agreeing.agrees_told entries arguments keeps_to p n small m u law id v at any full untold)
+
+  -- where a desk was told so, the limit was reached
+  told_before : v.spent ≡ true → n ≤ m.count + 1
+  told_before s = let l = mine.told here s in omega arith
 
   -- an own entry is drawn
   pub whole_draw : (b : ℕ) (what : What) → m.count < n → IsOwn what → Asks p v.kept b what
-      → Whole entries arguments keeps_to p n (record m { count = m.count + 1; views = set m.views id (drew v m.count b what) }) (record u { journal = entry m.count b what ∷ u.journal; stage = kinds.drawn_stage id m.count what u.stage })
-  whole_draw b what room own asks = let keys = bagging.bag_draw entries arguments keeps_to p n small m u whole.stands whole.heads whole.bags b what room in record {
-    tabled = whole.tabled;
-    counting = counts n m.count (m.count + 1) m.views id v (drew v m.count b what) whole.counting at (omega arith) (λ _. refl);
-    firsts = firsts_draw n m.count m.views whole.counting whole.firsts id v at (m.count + 1) (drew v m.count b what) refl refl;
-    stands = standing.stands_draw entries arguments keeps_to p n m u whole.stands id v at b what room own asks;
-    heads = keys.0;
-    bags = keys.1;
-    tied = tied_same (drew v m.count b what) refl;
-    looks = looks_same m.cells u.order m.views whole.looks id v at (drew v m.count b what) refl;
-    duties = duties_stay (drew v m.count b what) m.cells refl (λ x s. s) (λ q x e. e);
-  }
+      → Whole entries arguments keeps_to p n (record m { count = m.count + 1; views = set m.views id (saw_count (drew v m.count b what) (m.count + 1)) }) (record u { journal = entry m.count b what ∷ u.journal; stage = kinds.drawn_stage id m.count what u.stage })
+  whole_draw b what room own asks = whole_count (entry m.count b what ∷ u.journal) (kinds.drawn_stage id m.count what u.stage) (drew v m.count b what) refl refl refl refl refl told_before
+      (agreeing.agrees_draw entries arguments keeps_to p n small m u law id v at b what room own asks)
 
-  -- what the draw of such a number tells: it is above all that the desk kept, and above each object that the new entry names
-  pub drawn_above : (b : ℕ) (what : What) → m.count < n → (h : List Entry) → IsPast p (entry m.count b what ∷ h) → length h ≡ m.count → AllBelow m.count v.kept × ((o : Object) → Names what o → o.number < m.count)
-  drawn_above b what room h past long = (standing.desk_below entries arguments keeps_to p n m u whole.stands room id v at, λ o names. let l = names_low p (entry m.count b what) h whole.tabled past o names in omega arith)
-
-  -- the first desk begins Main: it has neither drawn nor been split
   pub whole_begun : 0 < n → v.first ≡ true → v.drawn ≡ false → v.splits ≡ 0
-      → Whole entries arguments keeps_to p n (record m { count = m.count + 1; views = set m.views id (drew v m.count 0 Begun) }) (record u { journal = entry m.count 0 Begun ∷ u.journal; stage = u.stage })
-  whole_begun any is_first not_drawn not_split =
-      let none_drawn = whole.firsts.untouched v (ap (get_elem? m.views) (sym (whole.firsts.leads id v at is_first)) ∙ at) not_drawn not_split in
-      let keys = bagging.bag_draw entries arguments keeps_to p n small m u whole.stands whole.heads whole.bags 0 Begun (omega (arith, none_drawn, any)) in record {
-        tabled = whole.tabled;
-        counting = counts n m.count (m.count + 1) m.views id v (drew v m.count 0 Begun) whole.counting at (omega (arith, none_drawn, any)) (λ _. refl);
-        firsts = firsts_draw n m.count m.views whole.counting whole.firsts id v at (m.count + 1) (drew v m.count 0 Begun) refl refl;
-        stands = standing.stands_begun entries arguments keeps_to p n m u whole.stands id v at none_drawn any;
-        heads = keys.0;
-        bags = keys.1;
-        tied = tied_same (drew v m.count 0 Begun) refl;
-        looks = looks_same m.cells u.order m.views whole.looks id v at (drew v m.count 0 Begun) refl;
-        duties = duties_stay (drew v m.count 0 Begun) m.cells refl (λ x s. s) (λ q x e. e);
-      }
+      → Whole entries arguments keeps_to p n (record m { count = m.count + 1; views = set m.views id (saw_count (drew v m.count 0 Begun) (m.count + 1)) }) (record u { journal = entry m.count 0 Begun ∷ u.journal; stage = u.stage })
+  whole_begun any is_first not_drawn not_split = whole_count (entry m.count 0 Begun ∷ u.journal) u.stage (drew v m.count 0 Begun) refl refl refl refl refl told_before
+      (agreeing.agrees_begun entries arguments keeps_to p n small m u law id v at any is_first not_drawn not_split)
 
   -- a firing is drawn with claims on its members
   pub whole_draw_firing : (k : ℕ) (object : Object) (js ms : List ℕ) (vs : List value.Value) → m.count < n → slice_get (p.chords object.class) k ≡ Some js → AreClaimed v.claims object js ms vs
-      → Whole entries arguments keeps_to p n (record m { count = m.count + 1; views = set m.views id (kinds.fired v m.count k object ms vs) })
+      → Whole entries arguments keeps_to p n (record m { count = m.count + 1; views = set m.views id (saw_count (kinds.fired v m.count k object ms vs) (m.count + 1)) })
       (record u { journal = entry m.count m.count (Fired k object ms vs) ∷ u.journal; stage = kinds.fired_stage id m.count ms u.stage })
-  whole_draw_firing k object js ms vs room chord members = let w : View = kinds.fired v m.count k object ms vs in let keys = bagging.bag_draw entries arguments keeps_to p n small m u whole.stands whole.heads whole.bags m.count (Fired k object ms vs) room in record {
-    tabled = whole.tabled;
-    counting = counts n m.count (m.count + 1) m.views id v w whole.counting at (omega arith) (λ _. refl);
-    firsts = firsts_draw n m.count m.views whole.counting whole.firsts id v at (m.count + 1) w refl refl;
-    stands = standing.stands_draw_firing entries arguments keeps_to p n m u whole.stands id v at k object js ms vs room chord members;
-    heads = keys.0;
-    bags = keys.1;
-    tied = tied_same w refl;
-    looks = looks_same m.cells u.order m.views whole.looks id v at w refl;
-    duties = duties_stay w m.cells refl (λ x s. s) (λ q x e. e);
-  }
+  whole_draw_firing k object js ms vs room chord members = whole_count (entry m.count m.count (Fired k object ms vs) ∷ u.journal) (kinds.fired_stage id m.count ms u.stage) (kinds.fired v m.count k object ms vs) refl refl refl refl refl told_before
+      (agreeing.agrees_draw_firing entries arguments keeps_to p n small m u law id v at k object js ms vs room chord members)
+
+  -- ## Messages
 
   -- the place word of a message is set
-  pub whole_place : (i : ℕ) (e : Entry) (x : Message) → IsIn e v.kept → e.number ≡ i → message_of e.what ≡ Some x → HasNumber i v.fresh → v.placing ≡ None
+  pub whole_place : (i : ℕ) (e : Entry) (x : Message) → IsIn e v.kept → e.number ≡ i → message_of e.what ≡ Some x → HasNumber i v.fresh → v.placing ≡ None → x.object.number < n → x.method < 16
       → Whole entries arguments keeps_to p n (record m { places = put m.places i (Some (x.object, x.method)); homes = put m.homes i none; views = set m.views id (kinds.address_set v i) }) (record u { stage = put u.stage i (InHand id Placing) })
-  whole_place i e x is num says has free = record {
-    tabled = whole.tabled;
-    counting = counting_stays (kinds.address_set v i) refl refl;
-    firsts = firsts_stay n m.count m.views whole.counting whole.firsts id v at (kinds.address_set v i) refl refl refl;
-    stands = standing.stands_place entries arguments keeps_to p n m u whole.stands id v at i e x is num says has free;
-    heads = whole.heads;
-    bags = whole.bags;
-    tied = tied_same (kinds.address_set v i) refl;
-    looks = looks_same m.cells u.order m.views whole.looks id v at (kinds.address_set v i) refl;
-    duties = duties_stay (kinds.address_set v i) m.cells refl (λ x s. s) (λ q x e. e);
-  }
+  whole_place i e x is num says has free low few = whole_still (put m.places i (Some (x.object, x.method))) (put m.homes i none) (put u.stage i (InHand id Placing)) (kinds.address_set v i) refl (λ d h. h) refl refl refl refl
+      (record { within = λ j pl e. put_all m.places i (Some (x.object, x.method)) (λ j y. y ≡ Some pl → (pl.0.number < n) × (pl.1 < 16)) j (λ z. let same = some_is (x.object, x.method) pl z in subst (λ (y : Place). (y.0.number < n) × (y.1 < 16)) same (low, few)) (λ ne z. whole.places.within j pl z) e })
+      (agreeing.agrees_place entries arguments keeps_to p n small m u law id v at i e x is num says has free)
 
   -- a message is linked at the head of its bag
-  pub whole_link : IsTabled p → (i : ℕ) (q : P) (e : Entry) (x : Message) → IsIn e v.kept → e.number ≡ i → message_of e.what ≡ Some x → x.method < 16 → v.placing ≡ Some i → v.flight ≡ None
+  pub whole_link : (i : ℕ) (q : P) (e : Entry) (x : Message) → IsIn e v.kept → e.number ≡ i → message_of e.what ≡ Some x → x.method < 16 → v.placing ≡ Some i → v.flight ≡ None
       → MayGo p v.kept (entries q) → ((e : Entry) (x : Message) → IsIn e (entries q) → message_of e.what ≡ Some x → (e.number ≡ i) ⊎ (IsUnlinked (hand v) e.number → ⊥)) → x.arguments ≡ arguments q → ((e : Entry) → IsIn e v.kept → IsCall i e → IsIn e (entries q))
       → ((b : ℕ) → Begins b (entries q) → IsParked p (entries q) (Some i) (doing p (entries q) b)) → keeps_to q
       → (let k = key x.object x.method in let above = m.heads (head_of k) in
-      Whole entries arguments keeps_to p n (record m { heads = put m.heads (head_of k) (Some i); homes = put m.homes i (some (Some q)); views = set m.views id (kinds.flown v i k above (entries q)) }) (record u { stage = put u.stage i (InHand id (Flying k above)); order = linked_order u.order i k above }))
-  whole_link tabled i q e x is num says method placing free may others args call parked task =
+      Whole entries arguments keeps_to p n (record m { heads = put m.heads (head_of k) (Some i); homes = put m.homes i (some (Some q)); views = set m.views id (saw_head (kinds.flown v i k above (entries q)) (head_of k) (Some i)) }) (record u { stage = put u.stage i (InHand id (Flying k above)); order = linked_order u.order i k above }))
+  whole_link i q e x is num says method placing free may others args call parked task =
       let k = key x.object x.method in let above = m.heads (head_of k) in let w : View = kinds.flown v i k above (entries q) in
-      let was = whole.stands.hands.holds id v at i Placing placing in let t = it i (InHand id Placing) was in
-      let there = standing.entry_says entries arguments keeps_to p n m u whole.stands id v at e x i is num says in
-      let linked = bagging.bag_link entries arguments keeps_to p n small m u whole.stands whole.heads whole.bags tabled id i x there method was in
-      let near : (j l : ℕ) → u.order.bag j ≡ Some l → put u.order.bag i (Some k) j ≡ Some l = (λ j l b. put_else u.order.bag i (Some k) j (λ q. let z : Path (Option ℕ) None (Some l) = sym t.5 ∙ sym (ap u.order.bag q) ∙ b in absurd (cc)) ∙ b) in record {
-        tabled = whole.tabled;
-        counting = counting_stays w refl refl;
-        firsts = firsts_stay n m.count m.views whole.counting whole.firsts id v at w refl refl refl;
-        stands = standing.stands_link entries arguments keeps_to p n m u whole.stands id v at i k above q e x is num says refl method placing free may others args call parked task (put m.heads (head_of k) (Some i));
-        heads = linked.0;
-        bags = linked.1;
-        tied = record { duties = desks_after (λ j y. (d : Duty) → HasDuty d y.duties → put u.order.bag i (Some k) d.message ≡ Some d.bag) m.views id w (λ d h. near d.message d.bag (whole.tied.duties id v at d h)) (λ j y ne a d h. near d.message d.bag (whole.tied.duties j y a d h)) };
-        looks = looks_stay m.cells u.order m.views whole.looks id v at m.cells (linked_order u.order i k above) w (λ j a. (a, put_else u.order.next i above j (λ q. subst IsArmed (ap (cell_of m.cells) q ∙ ap (λ (c : Word). c.cell) t.2) a))) refl;
-        duties = link_duty (IsKey u.journal) (IsChord p) m u.order i k above id v w at t.5 (ap (λ (c : Word). c.cell) t.2) (λ e h. h) whole.bags whole.duties;
-      }
+      let m' : Moment P = record m { heads = put m.heads (head_of k) (Some i); homes = put m.homes i (some (Some q)) } in let u' : Unseen = record u { stage = put u.stage i (InHand id (Flying k above)); order = linked_order u.order i k above } in
+      let was = law.stands.hands.holds id v at i Placing placing in let t = agreeing.it entries arguments keeps_to p n small m u law id v at i (InHand id Placing) was in
+      let other : (j l : ℕ) → u.order.bag j ≡ Some l → j ≢ i = (λ j l b q. let z : Path (Option ℕ) None (Some l) = sym t.5 ∙ sym (ap u.order.bag q) ∙ b in cc) in
+      let linked : (j l : ℕ) → u.order.bag j ≡ Some l → (put u.order.bag i (Some k) j ≡ Some l) × (put u.order.rank i u.order.clock j ≡ u.order.rank j) = (λ j l b. (put_else u.order.bag i (Some k) j (other j l b) ∙ b, put_else u.order.rank i u.order.clock j (other j l b))) in
+      whole_step (record m' { views = set m.views id (saw_head w (head_of k) (Some i)) }) u' (saw_head w (head_of k) (Some i)) refl
+      (looked_too m' u' w (saw_head w (head_of k) (Some i)).looked refl (agreeing.agrees_link entries arguments keeps_to p n small m u law id v at law.tabled i q e x is num says method placing free may others args call parked task))
+      refl refl refl (omega arith) (λ j a. a) linked whole.woken.names whole.places
+      (record {
+        armed = mine.armed;
+        ways = λ y h. way_stays n u.order (linked_order u.order i k above) y linked (mine.ways y h);
+        told = mine.told;
+        ended = not_gone (saw_head w (head_of k) (Some i)) refl;
+      })
+      (λ r. remembers_head m.count m.heads m.cells v.looked r (head_of k) (Some i))
 
   -- a linked message is armed
   pub whole_arm : (i : ℕ) → v.flight ≡ Some i
-      → Whole entries arguments keeps_to p n (record m { cells = put m.cells i (record { cell = a_cell.Pending; next = v.above }); views = set m.views id (kinds.armed v i) }) (record u { stage = put u.stage i Armed })
-  whole_arm i flying = let was = whole.stands.hands.holds id v at i (Flying v.bag v.above) (flying, refl, refl) in let t = it i (InHand id (Flying v.bag v.above)) was in record {
-    tabled = whole.tabled;
-    counting = counting_stays (kinds.armed v i) refl refl;
-    firsts = firsts_stay n m.count m.views whole.counting whole.firsts id v at (kinds.armed v i) refl refl refl;
-    stands = standing.stands_arm entries arguments keeps_to p n m u whole.stands id v at i flying;
-    heads = whole.heads;
-    bags = bagging.bag_arm entries arguments keeps_to p n small m u whole.stands whole.heads whole.bags id v at i flying;
-    tied = tied_stays (kinds.armed v i) (λ d h. ⊎_elim (λ e. subst (λ (z : Duty). u.order.bag z.message ≡ Some z.bag) (sym e) t.5) (λ h. whole.tied.duties id v at d h) h);
-    looks = looks_cell m.cells u.order m.views whole.looks id v at i (record { cell = a_cell.Pending; next = v.above }) (kinds.armed v i) (λ _. tt) refl;
-    duties = arm_duty (IsKey u.journal) (IsChord p) m u.order id i v.bag (record { cell = a_cell.Pending; next = v.above }) v (kinds.armed v i) at (ap (λ (c : Word). c.cell) t.3) refl refl whole.duties;
-  }
+      → Whole entries arguments keeps_to p n (record m { cells = put m.cells i (record { cell = a_cell.Pending; next = v.above }); views = set m.views id (saw (kinds.armed v i) i (record { cell = a_cell.Pending; next = v.above })) }) (record u { stage = put u.stage i Armed })
+  whole_arm i flying = let x : Word = record { cell = a_cell.Pending; next = v.above } in whole_cell i x m.homes (put u.stage i Armed) (kinds.armed v i) refl (λ _. tt) (λ z e. absurd (cc))
+      (λ d h. ⊎_elim (λ e. inr (subst (λ (j : ℕ). IsArmed (cell_of (put m.cells i x) j)) (sym (ap (λ (z : Duty). z.message) e)) (subst (λ (c : Word). IsArmed c.cell) (sym (put_here m.cells i x)) tt))) inl h) refl refl refl refl
+      (agreeing.agrees_arm entries arguments keeps_to p n small m u law id v at i flying)
 
   -- a pending message is claimed
   pub whole_claim : (i : ℕ) (next : Option ℕ) (x : Message) → m.cells i ≡ record { cell = a_cell.Pending; next = next } → message_in (what_at i u.journal) ≡ Some x
-      → Whole entries arguments keeps_to p n (record m { cells = put m.cells i (record { cell = a_cell.Claimed; next = next }); views = set m.views id (claimed v (claim_on i next x)) }) (record u { stage = put u.stage i (InHand id (Claiming (claim_on i next x))) })
-  whole_claim i next x is says = let w : View = claimed v (claim_on i next x) in let y : Word = record { cell = a_cell.Claimed; next = next } in record {
-    tabled = whole.tabled;
-    counting = counting_stays w refl refl;
-    firsts = firsts_stay n m.count m.views whole.counting whole.firsts id v at w refl refl refl;
-    stands = standing.stands_claim entries arguments keeps_to p n m u whole.stands id v at i next x is says;
-    heads = whole.heads;
-    bags = bagging.bag_claim entries arguments keeps_to p n small m u whole.stands whole.heads whole.bags i next is;
-    tied = tied_same w refl;
-    looks = looks_cell m.cells u.order m.views whole.looks id v at i (y) w (λ _. tt) refl;
-    duties = duties_stay w (put m.cells i y) refl (one_stood i y (λ _. subst (λ (c : Word). IsStanding c.cell) (sym is) tt))
-        (one_woken i y (λ z e. let t = sym (ap (λ (c : Word). c.cell) is) ∙ e in absurd (cc)));
-  }
+      → Whole entries arguments keeps_to p n (record m { cells = put m.cells i (record { cell = a_cell.Claimed; next = next }); views = set m.views id (saw (claimed v (claim_on i next x)) i (record { cell = a_cell.Claimed; next = next })) }) (record u { stage = put u.stage i (InHand id (Claiming (claim_on i next x))) })
+  whole_claim i next x is says = whole_cell i (record { cell = a_cell.Claimed; next = next }) m.homes (put u.stage i (InHand id (Claiming (claim_on i next x)))) (claimed v (claim_on i next x)) refl (λ _. tt) (λ z e. absurd (cc)) (λ d h. inl h) refl refl refl refl
+      (agreeing.agrees_claim entries arguments keeps_to p n small m u law id v at i next x is says)
 
   -- a claim for no firing is given back
   pub whole_give_back : (c : Claim) → HasThe c v.claims → c.firing ≡ None
-      → Whole entries arguments keeps_to p n (record m { cells = put m.cells c.number (record { cell = a_cell.Pending; next = c.next }); views = set m.views id (kinds.unclaimed v c.number) }) (record u { stage = put u.stage c.number Armed })
-  whole_give_back c has free = let w : View = kinds.unclaimed v c.number in let y : Word = record { cell = a_cell.Pending; next = c.next } in let is = standing.claim_word entries arguments keeps_to p n m u whole.stands id v at c has in record {
-    tabled = whole.tabled;
-    counting = counting_stays w refl refl;
-    firsts = firsts_stay n m.count m.views whole.counting whole.firsts id v at w refl refl refl;
-    stands = standing.stands_give_back entries arguments keeps_to p n m u whole.stands id v at c.number c has refl free;
-    heads = whole.heads;
-    bags = bagging.bag_give_back entries arguments keeps_to p n small m u whole.stands whole.heads whole.bags id v at c has;
-    tied = tied_same w refl;
-    looks = looks_cell m.cells u.order m.views whole.looks id v at c.number (y) w (λ _. tt) refl;
-    duties = duties_stay w (put m.cells c.number y) refl (one_stood c.number y (λ _. subst (λ (c : Word). IsStanding c.cell) (sym is) tt))
-        (one_woken c.number y (λ z e. let t = sym (ap (λ (c : Word). c.cell) is) ∙ e in absurd (cc)));
-  }
+      → Whole entries arguments keeps_to p n (record m { cells = put m.cells c.number (record { cell = a_cell.Pending; next = c.next }); views = set m.views id (saw (kinds.unclaimed v c.number) c.number (record { cell = a_cell.Pending; next = c.next })) }) (record u { stage = put u.stage c.number Armed })
+  whole_give_back c has free = whole_cell c.number (record { cell = a_cell.Pending; next = c.next }) m.homes (put u.stage c.number Armed) (kinds.unclaimed v c.number) refl (λ _. tt) (λ z e. absurd (cc)) (λ d h. inl h) refl refl refl refl
+      (agreeing.agrees_give_back entries arguments keeps_to p n small m u law id v at c has free)
 
   -- a message that is claimed for a firing is consumed
   pub whole_consume : (c : Claim) (f : ℕ) (q : P) → HasThe c v.claims → c.firing ≡ Some f → v.emptying ≡ None → m.homes c.number ≡ some (Some q)
-      → Whole entries arguments keeps_to p n (record m { cells = put m.cells c.number (record { cell = a_cell.Consumed; next = c.next }); homes = put m.homes c.number none; views = set m.views id (kinds.consumed v c.number (entries q)) })
+      → Whole entries arguments keeps_to p n (record m { cells = put m.cells c.number (record { cell = a_cell.Consumed; next = c.next }); homes = put m.homes c.number none; views = set m.views id (saw (kinds.consumed v c.number (entries q)) c.number (record { cell = a_cell.Consumed; next = c.next })) })
       (record u { stage = put u.stage c.number (InHand id Emptying) })
-  whole_consume c f q has for free home = let w : View = kinds.consumed v c.number (entries q) in let y : Word = record { cell = a_cell.Consumed; next = c.next } in let is = standing.claim_word entries arguments keeps_to p n m u whole.stands id v at c has in record {
-    tabled = whole.tabled;
-    counting = counting_stays w refl refl;
-    firsts = firsts_stay n m.count m.views whole.counting whole.firsts id v at w refl refl refl;
-    stands = standing.stands_consume entries arguments keeps_to p n m u whole.stands id v at c.number c f q has refl for free home;
-    heads = whole.heads;
-    bags = bagging.bag_consume entries arguments keeps_to p n small m u whole.stands whole.heads whole.bags id v at c has;
-    tied = tied_stays w (λ d h. whole.tied.duties id v at d (was_duty d c.number v.duties h));
-    looks = looks_cell m.cells u.order m.views whole.looks id v at c.number (y) w (λ _. tt) refl;
-    duties = take_duty (IsKey u.journal) (IsChord p) m u.order id c.number y v w at (subst (λ (c : Word). IsStanding c.cell) (sym is) tt) refl (λ e h. has_duty e c.number v.duties h) whole.duties;
-  }
+  whole_consume c f q has for free home = whole_cell c.number (record { cell = a_cell.Consumed; next = c.next }) (put m.homes c.number none) (put u.stage c.number (InHand id Emptying)) (kinds.consumed v c.number (entries q)) refl (λ _. tt) (λ z e. absurd (cc))
+      (λ d h. inl (agreeing.was_duty d c.number v.duties h)) refl refl refl refl (agreeing.agrees_consume entries arguments keeps_to p n small m u law id v at c f q has for free home)
 
   -- the slot of a consumed message is home again
   pub whole_empty : (i : ℕ) → v.emptying ≡ Some i → Whole entries arguments keeps_to p n (record m { homes = put m.homes i (some None); views = set m.views id (kinds.emptied v) }) (record u { stage = put u.stage i Spent })
-  whole_empty i emptying = record {
-    tabled = whole.tabled;
-    counting = counting_stays (kinds.emptied v) refl refl;
-    firsts = firsts_stay n m.count m.views whole.counting whole.firsts id v at (kinds.emptied v) refl refl refl;
-    stands = standing.stands_empty entries arguments keeps_to p n m u whole.stands id v at i emptying;
-    heads = whole.heads;
-    bags = whole.bags;
-    tied = tied_same (kinds.emptied v) refl;
-    looks = looks_same m.cells u.order m.views whole.looks id v at (kinds.emptied v) refl;
-    duties = duties_stay (kinds.emptied v) m.cells refl (λ x s. s) (λ q x e. e);
-  }
+  whole_empty i emptying = whole_still m.places (put m.homes i (some None)) (put u.stage i Spent) (kinds.emptied v) refl (λ d h. h) refl refl refl refl whole.places (agreeing.agrees_empty entries arguments keeps_to p n small m u law id v at i emptying)
+
+  -- ## Firings
 
   -- the slot of a firing comes out
   pub whole_posting : (f : ℕ) → HasNumber f v.unposted → v.posting ≡ None → Whole entries arguments keeps_to p n (record m { homes = put m.homes f none; views = set m.views id (kinds.posting v f) }) (record u { stage = put u.stage f (InHand id Posting) })
-  whole_posting f has free = record {
-    tabled = whole.tabled;
-    counting = counting_stays (kinds.posting v f) refl refl;
-    firsts = firsts_stay n m.count m.views whole.counting whole.firsts id v at (kinds.posting v f) refl refl refl;
-    stands = standing.stands_posting entries arguments keeps_to p n m u whole.stands id v at f has free;
-    heads = whole.heads;
-    bags = whole.bags;
-    tied = tied_same (kinds.posting v f) refl;
-    looks = looks_same m.cells u.order m.views whole.looks id v at (kinds.posting v f) refl;
-    duties = duties_stay (kinds.posting v f) m.cells refl (λ x s. s) (λ q x e. e);
-  }
+  whole_posting f has free = whole_still m.places (put m.homes f none) (put u.stage f (InHand id Posting)) (kinds.posting v f) refl (λ d h. h) refl refl refl refl whole.places (agreeing.agrees_posting entries arguments keeps_to p n small m u law id v at f has free)
 
   -- a firing is posted
   pub whole_post : (f : ℕ) (q : P) → v.posting ≡ Some f → MayGo p v.kept (entries q) → ((e : Entry) (x : Message) → IsIn e (entries q) → message_of e.what ≡ Some x → IsUnlinked (hand v) e.number → ⊥)
       → Begins f (entries q) → ((e : Entry) → IsIn e (entries q) → e.body ≡ f → e.number ≡ f) → ((b : ℕ) → (b ≡ f → ⊥) → Begins b (entries q) → IsParked p (entries q) None (doing p (entries q) b)) → keeps_to q
-      → Whole entries arguments keeps_to p n (record m { cells = put m.cells f (record { cell = a_cell.Ready; next = None }); homes = put m.homes f (some (Some q)); views = set m.views id (kinds.posted v (entries q)) }) (record u { stage = put u.stage f Posted })
-  whole_post f q posting may others begins only parked task = let w : View = kinds.posted v (entries q) in let y : Word = record { cell = a_cell.Ready; next = None } in let t = it f (InHand id Posting) (whole.stands.hands.holds id v at f Posting posting) in record {
-    tabled = whole.tabled;
-    counting = counting_stays w refl refl;
-    firsts = firsts_stay n m.count m.views whole.counting whole.firsts id v at w refl refl refl;
-    stands = standing.stands_post entries arguments keeps_to p n m u whole.stands id v at f q posting may others begins only parked task;
-    heads = whole.heads;
-    bags = bagging.bag_post entries arguments keeps_to p n small m u whole.stands whole.heads whole.bags id v at f posting;
-    tied = tied_same w refl;
-    looks = looks_cell m.cells u.order m.views whole.looks id v at f (y) w (λ a. absurd (subst (λ (c : Word). IsArmed c.cell) t.1 a)) refl;
-    duties = duties_stay w (put m.cells f y) refl (one_stood f y (λ s. absurd s)) (one_woken f y (λ z e. let q = sym (ap (λ (c : Word). c.cell) t.1) ∙ e in absurd (cc)));
-  }
+      → Whole entries arguments keeps_to p n (record m { cells = put m.cells f (record { cell = a_cell.Ready; next = None }); homes = put m.homes f (some (Some q)); views = set m.views id (saw (kinds.posted v (entries q)) f (record { cell = a_cell.Ready; next = None })) }) (record u { stage = put u.stage f Posted })
+  whole_post f q posting may others begins only parked task = let t = agreeing.it entries arguments keeps_to p n small m u law id v at f (InHand id Posting) (law.stands.hands.holds id v at f Posting posting) in
+      whole_cell f (record { cell = a_cell.Ready; next = None }) (put m.homes f (some (Some q))) (put u.stage f Posted) (kinds.posted v (entries q)) refl (λ a. absurd (subst (λ (c : Word). IsArmed c.cell) t.1 a)) (λ z e. absurd (cc)) (λ d h. inl h) refl refl refl refl
+      (agreeing.agrees_post entries arguments keeps_to p n small m u law id v at f q posting may others begins only parked task)
 
   -- a ready firing is started
   pub whole_start : (f : ℕ) (q : P) → (m.cells f).cell ≡ a_cell.Ready → v.starting ≡ None → m.homes f ≡ some (Some q)
-      → Whole entries arguments keeps_to p n (record m { cells = put m.cells f (record { cell = a_cell.Started; next = None }); homes = put m.homes f none; views = set m.views id (kinds.firing_started v f (entries q)) }) (record u { stage = put u.stage f (InHand id Starting) })
-  whole_start f q is free home = let w : View = kinds.firing_started v f (entries q) in let y : Word = record { cell = a_cell.Started; next = None } in record {
-    tabled = whole.tabled;
-    counting = counting_stays w refl refl;
-    firsts = firsts_stay n m.count m.views whole.counting whole.firsts id v at w refl refl refl;
-    stands = standing.stands_start entries arguments keeps_to p n m u whole.stands id v at f q is free home;
-    heads = whole.heads;
-    bags = bagging.bag_start entries arguments keeps_to p n small m u whole.stands whole.heads whole.bags f is;
-    tied = tied_same w refl;
-    looks = looks_cell m.cells u.order m.views whole.looks id v at f (y) w (λ a. absurd (subst IsArmed is a)) refl;
-    duties = duties_stay w (put m.cells f y) refl (one_stood f y (λ s. absurd s)) (one_woken f y (λ z e. let q = sym is ∙ e in absurd (cc)));
-  }
+      → Whole entries arguments keeps_to p n (record m { cells = put m.cells f (record { cell = a_cell.Started; next = None }); homes = put m.homes f none; views = set m.views id (saw (kinds.firing_started v f (entries q)) f (record { cell = a_cell.Started; next = None })) }) (record u { stage = put u.stage f (InHand id Starting) })
+  whole_start f q is free home = whole_cell f (record { cell = a_cell.Started; next = None }) (put m.homes f none) (put u.stage f (InHand id Starting)) (kinds.firing_started v f (entries q)) refl (λ a. absurd (subst IsArmed is a)) (λ z e. absurd (cc)) (λ d h. inl h) refl refl refl refl
+      (agreeing.agrees_start entries arguments keeps_to p n small m u law id v at f q is free home)
 
   -- the slot of a started firing is home again
   pub whole_play : (f : ℕ) → v.starting ≡ Some f → Whole entries arguments keeps_to p n (record m { homes = put m.homes f (some None); views = set m.views id (kinds.played v) }) (record u { stage = put u.stage f Played })
-  whole_play f starting = record {
-    tabled = whole.tabled;
-    counting = counting_stays (kinds.played v) refl refl;
-    firsts = firsts_stay n m.count m.views whole.counting whole.firsts id v at (kinds.played v) refl refl refl;
-    stands = standing.stands_play entries arguments keeps_to p n m u whole.stands id v at f starting;
-    heads = whole.heads;
-    bags = whole.bags;
-    tied = tied_same (kinds.played v) refl;
-    looks = looks_same m.cells u.order m.views whole.looks id v at (kinds.played v) refl;
-    duties = duties_stay (kinds.played v) m.cells refl (λ x s. s) (λ q x e. e);
-  }
+  whole_play f starting = whole_still m.places (put m.homes f (some None)) (put u.stage f Played) (kinds.played v) refl (λ d h. h) refl refl refl refl whole.places (agreeing.agrees_play entries arguments keeps_to p n small m u law id v at f starting)
 
-  -- a desk is lent
+  -- ## Desks
+
   pub whole_split : v.first ≡ true → v.splits < 65535 → Whole entries arguments keeps_to p n (record m { views = set m.views id (kinds.lent_one v) ++ newcomer ∷ [] }) u
-  whole_split is_first few = let vs : List View = set m.views id (kinds.lent_one v) in record {
-    tabled = whole.tabled;
-    counting = counting_split n m.count m.views whole.counting whole.firsts id v at is_first few;
-    firsts = firsts_split n m.count m.views whole.counting whole.firsts id v at is_first;
-    stands = standing.stands_split entries arguments keeps_to p n m u whole.stands id v at;
-    heads = whole.heads;
-    bags = whole.bags;
-    tied = record { duties = λ j y e d h. ⊎_elim (λ a. (tied_same (kinds.lent_one v) refl).duties j y a d h) (λ t. absurd (subst (λ (z : View). HasDuty d z.duties) (sym t.1) h)) (at_end vs newcomer y j e) };
-    looks = looks_more m.cells u.order vs (looks_same m.cells u.order m.views whole.looks id v at (kinds.lent_one v) refl);
-    duties = λ ks xs c. ⊎_elim inl (λ d. inr (d.0, d.1, d.2, at_longer vs (newcomer ∷ []) d.0 d.1 d.3, d.4, d.5)) (duties_stay (kinds.lent_one v) m.cells refl (λ x s. s) (λ q x e. e) ks xs c);
-  }
-
-  -- a desk is joined
-  pub whole_join : (other : ℕ) (w : View) → v.first ≡ true → other ≢ id → get_elem? m.views other ≡ some w → w.placing ≡ None → w.flight ≡ None → w.claims ≡ [] → w.emptying ≡ None → w.posting ≡ None → w.starting ≡ None
-      → Whole entries arguments keeps_to p n (record m { views = set (set m.views id (kinds.united v w)) other gone }) (record u { stage = λ i. kinds.heir id other (u.stage i) })
-  whole_join other w is_first apart there placing flight claims emptying posting starting = let b : View = kinds.united v w in let vs : List View = set (set m.views id b) other gone in record {
-    tabled = whole.tabled;
-    counting = counting_join n m.count m.views whole.counting whole.firsts id v at other w apart there is_first;
-    firsts = firsts_join n m.count m.views whole.counting whole.firsts id v at other w apart there is_first;
-    stands = standing.stands_join entries arguments keeps_to p n m u whole.stands id other v w at apart there placing flight claims emptying posting starting;
-    heads = whole.heads;
-    bags = whole.bags;
-    tied = record {
-      duties = λ j y e d h. ⊎_elim (λ t. absurd (subst (λ (z : View). HasDuty d z.duties) (sym t.1) h))
-          (λ s. (tied_stays b (λ d h. let r = has_reset d (v.duties ++ w.duties) h in
-          subst (λ (z : Duty). u.order.bag z.message ≡ Some z.bag) (sym r.2) (⊎_elim (λ k. whole.tied.duties id v at r.0 k) (λ k. whole.tied.duties other w there r.0 k) (has_either r.0 v.duties w.duties r.1)))).duties j y s.1 d h)
-          (at_set (set m.views id b) other j gone y e);
+  whole_split is_first few = record {
+    agrees = agreeing.agrees_split entries arguments keeps_to p n small m u law id v at is_first few;
+    desks = record {
+      right = λ j y e. ⊎_elim
+          (λ a. desks_after (λ j x. IsRightDesk n m.count m.cells u.order x) m.views id (kinds.lent_one v) (record { armed = mine.armed; ways = mine.ways; told = mine.told; ended = not_gone (kinds.lent_one v) refl }) (λ j x ne b. whole.desks.right j x b) j y a)
+          (λ t. subst (IsRightDesk n m.count m.cells u.order) t.1 (right_newcomer n m.count m.cells u.order)) (at_end (set m.views id (kinds.lent_one v)) newcomer y j e);
     };
-    looks = looks_join m.cells u.order m.views whole.looks id v at other b refl;
-    duties = λ ks xs c. ⊎_elim inl (λ d. inr (heir xs d (dite (ℕ_discrete d.0 id) inl (λ ne. inr (dite (ℕ_discrete d.0 other) (λ e. inl (ne, e)) (λ ne'. inr (ne, ne'))))))) (whole.duties ks xs record { chord = c.chord; some = c.some; chosen = c.chosen });
+    woken = whole.woken;
+    places = whole.places;
+    alone = alone_split m.count m.heads m.cells m.views whole.alone law.firsts.leads id v at here is_first;
   }
+
+  pub whole_join : (other : ℕ) (w : View) → v.first ≡ true → other ≢ id → get_elem? m.views other ≡ some w → w.gone ≡ false → w.placing ≡ None → w.flight ≡ None → w.claims ≡ [] → w.emptying ≡ None → w.posting ≡ None → w.starting ≡ None
+      → Whole entries arguments keeps_to p n (record m { views = set (set m.views id (kinds.united v w)) other gone }) (record u { stage = λ i. kinds.heir id other (u.stage i) })
+  whole_join other w is_first apart there there_here placing flight claims emptying posting starting = record {
+    agrees = agreeing.agrees_join entries arguments keeps_to p n small m u law id v at other w is_first apart there placing flight claims emptying posting starting;
+    desks = record {
+      right = desks_after (λ j x. IsRightDesk n m.count m.cells u.order x) (set m.views id (kinds.united v w)) other gone (right_gone n m.count m.cells u.order)
+          (λ j x ne e. desks_after (λ j x. IsRightDesk n m.count m.cells u.order x) m.views id (kinds.united v w)
+          (record {
+            armed = λ d h. let r = agreeing.has_reset d (v.duties ++ w.duties) h in
+                subst (λ (z : Duty). IsArmed (cell_of m.cells z.message)) (sym r.2) (⊎_elim (λ k. mine.armed r.0 k) (λ k. (whole.desks.right other w there).armed r.0 k) (agreeing.has_either r.0 v.duties w.duties r.1));
+            ways = λ y h. absurd h;
+            told = mine.told;
+            ended = not_gone (kinds.united v w) refl;
+          })
+          (λ j x ne b. whole.desks.right j x b) j x e);
+    };
+    woken = whole.woken;
+    places = whole.places;
+    alone = alone_join m.count m.heads m.cells m.views whole.alone law.firsts.leads id v at here other w is_first apart there
+        (other_live m.count m.heads m.cells m.views whole.alone law.firsts.leads other w there there_here (λ z. apart (z ∙ sym (law.firsts.leads id v at is_first))));
+  }
+
+  -- ## Looks
+
+  -- what the desk does in its looks and its duties alone keeps the whole rule where it keeps its parts
+  whole_view : (w : View) → After m u w → w.first ≡ v.first → w.gone ≡ v.gone → w.lent ≡ v.lent → w.spent ≡ v.spent → ((d : Duty) → HasDuty d w.duties → IsArmed (cell_of m.cells d.message)) → ((x : Way) → HasWay x w.looked.ways → WayLaw n u.order x)
+      → (Remembers m.count m.heads m.cells v.looked → Remembers m.count m.heads m.cells w.looked) → Whole entries arguments keeps_to p n (record m { views = set m.views id w }) u
+  whole_view w after first gone_same lent spent armed ways remembers = whole_step (record m { views = set m.views id w }) u w refl after first gone_same lent (omega arith)
+      (λ i a. a) (λ i k b. (b, refl)) whole.woken.names whole.places
+      (record { armed = armed; ways = ways; told = λ e s. mine.told (sym gone_same ∙ e) (sym spent ∙ s); ended = not_gone w gone_same }) remembers
+
+  -- what is linked is a number of the table
+  pub linked_below : (i k : ℕ) → u.order.bag i ≡ Some k → i < n
+  linked_below i k b = bagging.linked_low entries arguments keeps_to p n small m u law.stands law.heads law.bags i k (u.stage i) refl b
+
+  -- a look at the counter
+  pub whole_look_count : Whole entries arguments keeps_to p n (record m { views = set m.views id (saw_count v m.count) }) u
+  whole_look_count = whole_view (saw_count v m.count) (agreeing.agrees_still entries arguments keeps_to p n small m u law id v at (saw_count v m.count) refl refl refl refl refl refl refl refl) refl refl refl refl mine.armed mine.ways
+      (λ r. remembers_count m.count m.heads m.cells v.looked r m.count)
+
+  -- a look at the head of the bag k
+  pub whole_look_head : (k : ℕ) → Whole entries arguments keeps_to p n (record m { views = set m.views id (kinds.looked_head v k (m.heads (head_of k))) }) u
+  whole_look_head k = whole_view (kinds.looked_head v k (m.heads (head_of k))) (looking.agrees_look_head entries arguments keeps_to p n small m u law id v at k) refl refl refl refl
+      (λ d h. let r = looking.has_mapped (start_walk k (m.heads (head_of k))) d v.duties h in subst (λ (z : Duty). IsArmed (cell_of m.cells z.message)) (sym r.2) (mine.armed r.0 r.1))
+      (begun_ways k)
+      (λ r. let z = remembers_look_head m.count m.heads m.cells v.looked r (head_of k) in record { counter = z.counter; head = z.head; cell = z.cell })
     where
-      at_both : get_elem? (set (set m.views id (kinds.united v w)) other gone) id ≡ some (kinds.united v w)
-      at_both = set_else (set m.views id (kinds.united v w)) other id gone (λ q. apart (sym q)) ∙ set_here m.views id (kinds.united v w) (at_inside m.views id v at)
+      begun_ways : (k : ℕ) (x : Way) → HasWay x (way_begun k (m.heads (head_of k)) ∷ v.looked.ways) → WayLaw n u.order x
+      begun_ways k x (inl e) = subst (WayLaw n u.order) (sym e) (begun_law (IsKey u.journal) n m.cells m.heads u.order law.bags linked_below law.heads k)
+      begun_ways k x (inr h) = mine.ways x h
 
-      heir : (xs : List ℕ) (d : IsCarried (IsChord p) m.views u.order xs) → (d.0 ≡ id) ⊎ (((d.0 ≢ id) × (d.0 ≡ other)) ⊎ ((d.0 ≢ id) × (d.0 ≢ other))) → IsCarried (IsChord p) (set (set m.views id (kinds.united v w)) other gone) u.order xs
-      heir xs d (inl e) = let same : d.1 ≡ v = some-injective d.1 v (sym d.3 ∙ ap (get_elem? m.views) e ∙ at) in
-          (id, kinds.united v w, reset_duty d.2, at_both, has_map reset_duty d.2 (v.duties ++ w.duties) (has_left d.2 v.duties w.duties (subst (λ (y : View). HasDuty d.2 y.duties) same d.4)), reset_carries u.order d.2 xs d.5)
-      heir xs d (inr (inl e)) = let same : d.1 ≡ w = some-injective d.1 w (sym d.3 ∙ ap (get_elem? m.views) e.1 ∙ there) in
-          (id, kinds.united v w, reset_duty d.2, at_both, has_map reset_duty d.2 (v.duties ++ w.duties) (has_right d.2 v.duties w.duties (subst (λ (y : View). HasDuty d.2 y.duties) same d.4)), reset_carries u.order d.2 xs d.5)
-      heir xs d (inr (inr e)) = (d.0, d.1, d.2, set_else (set m.views id (kinds.united v w)) other d.0 gone e.1 ∙ set_else m.views id d.0 (kinds.united v w) e.0 ∙ d.3, d.4, d.5)
+  -- a linked message has a cell of a linked one
+  pub linked_cell : (i k : ℕ) → u.order.bag i ≡ Some k → IsLinkedCell (m.cells i).cell
+  linked_cell i k b = go (u.stage i) refl
+    where
+      it : (s : Stage) → u.stage i ≡ s → agreeing.It entries arguments keeps_to p n small m u law id v at i s
+      it s e = agreeing.it entries arguments keeps_to p n small m u law id v at i s e
 
-  -- a look, or a rest: the view changes in its looks and duties alone
-  pub whole_view : (w : View) → hand w ≡ hand v → w.kept ≡ v.kept → w.spent ≡ v.spent → w.splits ≡ v.splits → w.first ≡ v.first → w.drawn ≡ v.drawn
-      → ((d : Duty) → HasDuty d w.duties → u.order.bag d.message ≡ Some d.bag) → DutyLaw (IsChord p) m.cells (set m.views id w) u.order → Looks m.cells u.order (set m.views id w) → Whole entries arguments keeps_to p n (record m { views = set m.views id w }) u
-  whole_view w same kept spent splits first drawn tied duties looks = record {
-    tabled = whole.tabled;
-    counting = counting_stays w spent splits;
-    firsts = firsts_stay n m.count m.views whole.counting whole.firsts id v at w first drawn splits;
-    stands = standing.stands_still entries arguments keeps_to p n m u whole.stands id v at w same kept;
-    heads = whole.heads;
-    bags = whole.bags;
-    tied = tied_stays w tied;
-    looks = looks;
-    duties = duties;
-  }
+      linked_open : (c : Cell) → IsOpen c → IsLinkedCell c
+      linked_open a_cell.Pending t = tt
+      linked_open (a_cell.Woken q) t = tt
+      linked_open a_cell.Empty t = tt
+      linked_open a_cell.Claimed t = tt
+      linked_open a_cell.Consumed t = tt
+      linked_open a_cell.Ready t = t
+      linked_open a_cell.Started t = t
 
-  -- a Pending or Woken cell is not consumed
-  open_standing : (c : Cell) → IsOpen c → IsConsumed c → ⊥
-  open_standing a_cell.Pending t a = a
-  open_standing (a_cell.Woken q) t a = a
-  open_standing a_cell.Empty t a = t
-  open_standing a_cell.Claimed t a = t
-  open_standing a_cell.Consumed t a = t
-  open_standing a_cell.Ready t a = t
-  open_standing a_cell.Started t a = t
+      go : (s : Stage) → u.stage i ≡ s → IsLinkedCell (m.cells i).cell
+      go Vacant e = absurd (let z = sym (it Vacant e).1.unlinked ∙ b in cc)
+      go (InHand j Fresh) e = absurd (let z = sym (it (InHand j Fresh) e).1.unlinked ∙ b in cc)
+      go (InHand j Placing) e = absurd (let z = sym (it (InHand j Placing) e).5 ∙ b in cc)
+      go (InHand j (Flying l a)) e = subst (λ (c : Word). IsLinkedCell c.cell) (sym (it (InHand j (Flying l a)) e).3) tt
+      go (InHand j (Claiming c)) e = subst (λ (c : Word). IsLinkedCell c.cell) (sym (it (InHand j (Claiming c)) e).2) tt
+      go (InHand j Emptying) e = subst IsLinkedCell (sym (it (InHand j Emptying) e).3) tt
+      go (InHand j Unposted) e = absurd (let z = sym (it (InHand j Unposted) e).1.unlinked ∙ b in cc)
+      go (InHand j Posting) e = absurd (let z = sym (it (InHand j Posting) e).4 ∙ b in cc)
+      go (InHand j Starting) e = absurd (let z = sym (it (InHand j Starting) e).4 ∙ b in cc)
+      go Armed e = linked_open (m.cells i).cell (it Armed e).3
+      go Spent e = subst IsLinkedCell (sym (it Spent e).3) tt
+      go Posted e = absurd (let z = sym (it Posted e).4 ∙ b in cc)
+      go Played e = absurd (let z = sym (it Played e).4 ∙ b in cc)
 
-  -- a Pending or Woken cell is armed
-  open_armed : (c : Cell) → IsOpen c → IsArmed c
-  open_armed a_cell.Pending t = tt
-  open_armed (a_cell.Woken q) t = tt
-  open_armed a_cell.Empty t = t
-  open_armed a_cell.Claimed t = absurd t
-  open_armed a_cell.Consumed t = absurd t
-  open_armed a_cell.Ready t = t
-  open_armed a_cell.Started t = t
+  -- a look at the cell i
+  pub whole_look_cell : (i : ℕ) → Whole entries arguments keeps_to p n (record m { views = set m.views id (kinds.looked_cell v i (m.cells i)) }) u
+  whole_look_cell i = whole_view (kinds.looked_cell v i (m.cells i)) (looking.agrees_look_cell entries arguments keeps_to p n small m u law id v at i) refl refl refl refl
+      (λ d h. armed (kinds.is_down (m.cells i).cell) d h) (on_law (IsKey u.journal) n m.cells m.heads u.order law.bags linked_below v.looked.ways i (λ k b. linked_cell i k b) mine.ways)
+      (λ r. let z = remembers_look m.count m.heads m.cells v.looked r i in record { counter = z.counter; head = z.head; cell = z.cell })
+    where
+      armed : (b : Bool) (d : Duty) → HasDuty d (if b then map (move_duty i (m.cells i).next) v.duties else v.duties) → IsArmed (cell_of m.cells d.message)
+      armed true d h = let r = looking.has_mapped (move_duty i (m.cells i).next) d v.duties h in subst (λ (z : Duty). IsArmed (cell_of m.cells z.message)) (sym r.2) (mine.armed r.0 r.1)
+      armed false d h = mine.armed d h
 
-  -- a wake, or a rearm: a cell that is armed and free goes between Pending and Woken, and keeps its next
-  pub whole_wake : (i : ℕ) (x : Word) (w : View) → u.stage i ≡ Armed → IsOpen x.cell → x.next ≡ (m.cells i).next → hand w ≡ hand v → w.kept ≡ v.kept → w.spent ≡ v.spent → w.splits ≡ v.splits → w.first ≡ v.first → w.drawn ≡ v.drawn
-      → ((d : Duty) → HasDuty d w.duties → u.order.bag d.message ≡ Some d.bag) → DutyLaw (IsChord p) (put m.cells i x) (set m.views id w) u.order → w.looked.seen ≡ v.looked.seen → Whole entries arguments keeps_to p n (record m { cells = put m.cells i x; views = set m.views id w }) u
-  whole_wake i x w was open_ next same kept spent splits first drawn tied duties looked = let t = it i Armed was in let armed = whole.bags.armed i (open_armed (cell_of m.cells i) t.3) in record {
-    tabled = whole.tabled;
-    counting = counting_stays w spent splits;
-    firsts = firsts_stay n m.count m.views whole.counting whole.firsts id v at w first drawn splits;
-    stands = standing.stands_wake entries arguments keeps_to p n m u whole.stands id v at i x w open_ was same kept;
-    heads = whole.heads;
-    bags = cell_step (IsKey u.journal) m i x u.order (λ c. absurd (open_standing (cell_of m.cells i) t.3 c)) (λ _. (armed.0, next ∙ armed.1)) whole.bags;
-    tied = tied_stays w tied;
-    looks = looks_cell m.cells u.order m.views whole.looks id v at i x w (λ _. open_armed x.cell open_) looked;
-    duties = duties;
-  }
+  -- what an exchange that fails reads in the cell i
+  pub whole_saw : (i : ℕ) → Whole entries arguments keeps_to p n (record m { views = set m.views id (saw v i (m.cells i)) }) u
+  whole_saw i = whole_view (saw v i (m.cells i)) (looking.agrees_saw entries arguments keeps_to p n small m u law id v at i) refl refl refl refl mine.armed mine.ways (λ r. remembers_look m.count m.heads m.cells v.looked r i)
+
+  -- a duty is laid down
+  pub whole_rest : (i : ℕ) → ((d : Duty) → HasDuty d v.duties → d.message ≡ i → MayRest (IsChord p) d) → Whole entries arguments keeps_to p n (record m { views = set m.views id (kinds.rested v i) }) u
+  whole_rest i may = whole_view (kinds.rested v i) (looking.agrees_rest entries arguments keeps_to p n small m u law id v at i may) refl refl refl refl (λ d h. mine.armed d (agreeing.was_duty d i v.duties h)) mine.ways (λ r. r)
+
+  -- the caller q is woken by the message i, on which the desk has a duty
+  pub whole_woken : (q : ℕ) (e : Duty) (next : Option ℕ) → HasDuty e v.duties → m.cells q ≡ record { cell = a_cell.Pending; next = next } → u.stage q ≡ Armed
+      → Whole entries arguments keeps_to p n (record m { cells = put m.cells q (record { cell = a_cell.Woken e.message; next = next }); views = set m.views id (saw (kinds.woke v q e.message) q (record { cell = a_cell.Woken e.message; next = next })) }) u
+  whole_woken q e next has is was = whole_cell q (record { cell = a_cell.Woken e.message; next = next }) m.homes u.stage (kinds.woke v q e.message) refl (λ _. tt)
+      (λ z s. subst (λ (y : ℕ). IsArmed (cell_of m.cells y)) (woken_by e.message z s) (mine.armed e has))
+      (λ d h. inl (agreeing.was_duty d e.message v.duties (agreeing.was_duty d q (drop_duty e.message v.duties) h))) refl refl refl refl
+      (looking.agrees_woken entries arguments keeps_to p n small m u law id v at q e.message next is was)
+    where
+      woken_by : (a b : ℕ) → a_cell.Woken a ≡ a_cell.Woken b → a ≡ b
+      woken_by a b s = cc
+
+  -- the caller q is pending again, with duties on it and on the message that woke it
+  pub whole_rearmed : (q kq i ki : ℕ) (next : Option ℕ) → m.cells q ≡ record { cell = a_cell.Woken i; next = next } → u.stage q ≡ Armed → u.order.bag q ≡ Some kq → u.order.bag i ≡ Some ki
+      → Whole entries arguments keeps_to p n (record m { cells = put m.cells q (record { cell = a_cell.Pending; next = next }); views = set m.views id (saw (kinds.rearmed v q kq i ki) q (record { cell = a_cell.Pending; next = next })) }) u
+  whole_rearmed q kq i ki next is was bq bi = let x : Word = record { cell = a_cell.Pending; next = next } in whole_cell q x m.homes u.stage (kinds.rearmed v q kq i ki) refl (λ _. tt) (λ z e. absurd (cc))
+      (λ d h. ⊎_elim (λ e. inr (subst (λ (j : ℕ). IsArmed (cell_of (put m.cells q x) j)) (sym (ap (λ (z : Duty). z.message) e)) (subst (λ (c : Word). IsArmed c.cell) (sym (put_here m.cells q x)) tt)))
+      (λ k. ⊎_elim (λ e. inr (subst (λ (j : ℕ). IsArmed (cell_of (put m.cells q x) j)) (sym (ap (λ (z : Duty). z.message) e))
+      (put_all m.cells q x (λ j c. IsArmed (cell_of m.cells j) → IsArmed c.cell) i (λ _. tt) (λ ne a. a) (whole.woken.names q i (ap (λ (c : Word). c.cell) is))))) inl k) h) refl refl refl refl
+      (looking.agrees_rearmed entries arguments keeps_to p n small m u law id v at q kq i ki next is was bq bi)

@@ -1,5 +1,5 @@
 -- What each kind of step does to the view of the desk that makes it, and to how numbers stand.
-use Rattle.std.specs.Prelude.{not, Bool, true, false, ◌==◌, ◌||◌, ◌-◌, ◌+◌, ◌++◌, ◌≡◌, ◌<◌, ◌≤◌, map, ℕ, List, [], ◌∷◌, Option, Some, None, if◌then◌else◌}
+use Rattle.std.specs.Prelude.{not, Bool, true, false, ◌==◌, ◌||◌, ◌-◌, ◌+◌, ◌++◌, ◌≡◌, map, ℕ, List, [], ◌∷◌, Option, Some, None, if◌then◌else◌}
 use Rattle.std.specs.List.{filter}
 use Rattle.chord_base.specs.declared.event.Entry.{Entry}
 use Rattle.chord_base.specs.declared.event.What.{What}
@@ -12,15 +12,14 @@ use Rattle.chord_word.specs.declared.cells.Cell.TheVariants as a_cell
 use Rattle.chord_word.specs.declared.cells.Word.{Word}
 use Rattle.chord_rule.specs.declared.view.Claim.{Claim}
 use Rattle.chord_rule.specs.declared.view.View.{View}
+use Rattle.chord_rule.specs.Bags.{head_of}
 use Rattle.chord_rule.specs.Claims.{fired_with}
 use Rattle.chord_rule.specs.Duties.{duty_on, drop_duty, reset_duty, start_walk, move_duty}
-use Rattle.chord_rule.specs.Ways.{on_way}
+use Rattle.chord_rule.specs.Ways.{way_begun, on_way}
 use Rattle.chord_rule.specs.Stages.{Fresh, Claiming, Unposted, Stage, InHand}
-use Rattle.atomic_table.specs.Table.{Me, Step}
 use Rattle.chord_base.specs.Meaning.{Program}
 use Rattle.chord_rule.specs.declared.view.Looked.{Looked}
-use Rattle.chord_base.specs.Story.{kept, together, IsTold, AllBelow}
-use Rattle.chord_rule.specs.Made.{Names}
+use Rattle.chord_base.specs.Story.{kept, together, IsTold}
 
 -- ## Views
 
@@ -49,7 +48,7 @@ was_told v = record v { spent = true }
 
 -- nothing was looked at
 abbrev pub nothing_looked : Looked
-nothing_looked = record { seen = []; ways = [] }
+nothing_looked = record { count = None; heads = []; seen = []; ways = [] }
 
 -- a desk that keeps nothing and has nothing in hand
 abbrev pub newcomer : View
@@ -62,11 +61,6 @@ gone = record newcomer { spent = true; gone = true }
 -- the first desk at the start
 abbrev pub newcomer_first : View
 newcomer_first = record newcomer { first = true }
-
-module _ {S : Type 0} where
-  -- below the limit the desk has the entry, whose number is above all that it kept and above each object that the entry names; else it is told
-  abbrev pub draws : ℕ → What → Step S → Me S View → ℕ → Me S View → Type 0
-  draws body what s m x w = (w.1 ≡ m.1) × (x < s.slots → (w.0 ≡ drew m.0 x body what) × AllBelow x m.0.kept × ((o : Object) → Names what o → o.number < x)) × (s.slots ≤ x → w.0 ≡ was_told m.0)
 
 -- these numbers without x
 abbrev pub without : ℕ → List ℕ → List ℕ
@@ -142,23 +136,31 @@ lent_one v = record v { lent = v.lent + 1; splits = v.splits + 1 }
 abbrev pub united : View → View → View
 united v w = record v { kept = together v.kept w.kept; fresh = v.fresh ++ w.fresh; unposted = v.unposted ++ w.unposted; lent = v.lent - 1; looked = nothing_looked; duties = map reset_duty (v.duties ++ w.duties) }
 
--- a look at the head of the bag k starts its walks
-abbrev pub looked_head : View → ℕ → Option ℕ → View
-looked_head v k h = record v { duties = map (start_walk k h) v.duties; looked = record v.looked { ways = record { bag = k; place = h; looks = [] } ∷ v.looked.ways } }
-
 -- whether a message with this cell stands no longer: it is consumed or woken
 abbrev pub is_down : Cell → Bool
 is_down a_cell.Consumed = true
 is_down (a_cell.Woken q) = true
 is_down _ = false
 
--- a look at the cell i moves the walks that have come to it, where it does not stand
-abbrev pub looked_cell : View → ℕ → Word → View
-looked_cell v i c = record v { duties = if is_down c.cell then map (move_duty i c.next) v.duties else v.duties; looked = record { seen = record { number = i; word = c } ∷ v.looked.seen; ways = on_way i c v.looked.ways } }
+-- what the desk read or wrote in the counter is remembered
+abbrev pub saw_count : View → ℕ → View
+saw_count v c = record v { looked = record v.looked { count = Some c } }
 
--- what the desk read or wrote in the cell i is remembered
+-- what it read or wrote in the head k is remembered
+abbrev pub saw_head : View → ℕ → Option ℕ → View
+saw_head v k x = record v { looked = record v.looked { heads = record { head = k; message = x } ∷ v.looked.heads } }
+
+-- what it read or wrote in the cell i is remembered
 abbrev pub saw : View → ℕ → Word → View
 saw v i c = record v { looked = record v.looked { seen = record { number = i; word = c } ∷ v.looked.seen } }
+
+-- a look at the head of the bag k starts its walks, and a way
+abbrev pub looked_head : View → ℕ → Option ℕ → View
+looked_head v k h = record v { duties = map (start_walk k h) v.duties; looked = record v.looked { heads = record { head = head_of k; message = h } ∷ v.looked.heads; ways = way_begun k h ∷ v.looked.ways } }
+
+-- a look at the cell i moves the walks that have come to it, where it does not stand, and goes on the newest way
+abbrev pub looked_cell : View → ℕ → Word → View
+looked_cell v i c = record v { duties = if is_down c.cell then map (move_duty i c.next) v.duties else v.duties; looked = record v.looked { seen = record { number = i; word = c } ∷ v.looked.seen; ways = on_way i c v.looked.ways } }
 
 -- the duty on i is laid down
 abbrev pub rested : View → ℕ → View

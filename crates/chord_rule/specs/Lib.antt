@@ -44,14 +44,24 @@ pub mod Firsts
 pub mod Heads
 -- what a desk has looked at stays true
 pub mod Looks
+-- what holds of each desk by its view
+pub mod Desks
+-- place words
+pub mod Placed
+-- woken cells
+pub mod Woken
 -- while the first desk has lent no desk, what it read or wrote stands
 pub mod Alone
 -- what the duty law says of pending messages
 pub mod Minded
 -- what the table shows of a pending message
 pub mod Pending
+-- what the words, the desks and the journal say of each other
+pub mod Agrees
 -- the whole rule
 pub mod Whole
+-- when the journal is complete
+pub mod Closing
 -- what the rule says of the journal
 pub mod Laws
 -- ## What only the code's own contracts use

@@ -1,5 +1,5 @@
 -- The ways of a desk through bags.
-use Rattle.std.specs.Prelude.{◌≡◌, ◌⊎◌, ℕ, ◌<◌, Bool, true, false, ◌||◌, if◌then◌else◌, length, List, [], ◌∷◌, Option, Some, None}
+use Rattle.std.specs.Prelude.{◌≡◌, ◌⊎◌, ℕ, ◌<◌, true, if◌then◌else◌, length, List, [], ◌∷◌, Option, Some, None}
 use Rattle.chord_word.specs.declared.cells.Cell.{Cell}
 use Rattle.chord_word.specs.declared.cells.Cell.TheVariants.{Empty, Pending, Claimed, Consumed, Woken}
 use Rattle.chord_word.specs.declared.cells.Word.{Word}
@@ -7,8 +7,10 @@ use Rattle.chord_rule.specs.declared.view.Look.{Look}
 use Rattle.chord_rule.specs.declared.view.Way.{Way}
 use Rattle.chord_rule.specs.declared.view.Duty.{Duty}
 use Rattle.chord_rule.specs.declared.view.View.{View}
-use Rattle.chord_rule.specs.Bags.{Order}
+use Rattle.chord_rule.specs.Bags.{Order, head_of}
 use Rattle.chord_rule.specs.Duties.{HasDuty, at_place}
+use Rattle.chord_rule.specs.Made.{key}
+use Rattle.chord_base.specs.declared.value.Object.{Object}
 
 -- where a walk goes on: an unarmed message has no next yet
 abbrev pub way_onward : Cell → Option ℕ → Option ℕ
@@ -51,6 +53,10 @@ HasDutyOn i ds = (d : Duty) × HasDuty d ds × (d.message ≡ i)
 abbrev pub KnowsBag : View → ℕ → ℕ → Type 0
 KnowsBag v i k = ((w : Way) × HasWay w v.looked.ways × (w.bag ≡ k) × IsRead i w.looks) ⊎ ((d : Duty) × HasDuty d v.duties × (d.message ≡ i) × (d.bag ≡ k))
 
+-- the desk knows that the object was made: it has a duty on a message to it
+abbrev pub KnowsObject : View → Object → Type 0
+KnowsObject v o = (d : Duty) × (j : ℕ) × HasDuty d v.duties × (j < 16) × (d.bag ≡ key o j)
+
 -- what the desk last read or wrote in the cell i
 abbrev pub LastSeen : ℕ → Word → List Look → Type 0
 LastSeen i c [] = ⊥
@@ -82,3 +88,21 @@ pub record IsAlone (v : View) : Type 0 where
 -- what a desk may read next on its newest way: a message below n, which makes at most n
 abbrev pub HasRoom : ℕ → List Way → Type 0
 HasRoom n ws = (w : Way) (rest : List Way) → ws ≡ w ∷ rest → (x : ℕ) → w.place ≡ Some x → (x < n) × (length w.looks < n)
+
+-- each of these looks was at a message that was linked after the r-th
+abbrev pub AllAbove : Order → ℕ → List Look → Type 0
+AllAbove o r [] = Unit {0}
+AllAbove o r (l ∷ ls) = (r < o.rank l.number) × AllAbove o r ls
+
+-- these looks were at messages of the bag k below n, each linked before the one that was looked at before it
+abbrev pub Falls : (n k : ℕ) → Order → List Look → Type 0
+Falls n k o [] = Unit {0}
+Falls n k o (l ∷ ls) = (o.bag l.number ≡ Some k) × (l.number < n) × AllAbove o (o.rank l.number) ls × Falls n k o ls
+
+-- a way goes from message to message of one bag, each linked before the last, and so does the message to which it has come.
+-- The head of its bag is that of this one, so they are one bag where the object of the way's was made.
+pub record WayLaw (n : ℕ) (o : Order) (w : Way) : Type 0 where
+  pub along : ℕ
+  pub headed : head_of along ≡ head_of w.bag
+  pub falls : Falls n along o w.looks
+  pub place : (x : ℕ) → w.place ≡ Some x → (o.bag x ≡ Some along) × (x < n) × AllAbove o (o.rank x) w.looks

@@ -1,39 +1,27 @@
 -- The rule of the table.
-use Rattle.std.specs.Prelude.{◌≡◌, ℕ, List, Option, Some}
-use mathlib.Core.Option.{some}
-use lib.ListN.{get_elem?}
+use Rattle.std.specs.Prelude.{ℕ, List, Option}
 use Rattle.atomic_table.specs.Table.{State}
 use Rattle.chord_base.specs.Meaning.{Program}
 use Rattle.chord_base.specs.declared.event.Entry.{Entry}
 use Rattle.chord_base.specs.declared.value.Value as value
 use Rattle.chord_rule.specs.declared.view.View.{View}
-use Rattle.chord_rule.specs.declared.view.Duty.{Duty}
 use Rattle.chord_rule.specs.Moment.{Moment}
-use Rattle.chord_rule.specs.Counting.{Counting}
-use Rattle.chord_rule.specs.Firsts.{Firsts}
-use Rattle.chord_rule.specs.Bags.{BagLaw}
-use Rattle.chord_rule.specs.Heads.{HeadLaw}
-use Rattle.chord_rule.specs.Duties.{HasDuty, DutyLaw}
-use Rattle.chord_rule.specs.Made.{IsKey, IsChord, IsTabled}
+use Rattle.chord_rule.specs.Placed.{PlaceLaw}
+use Rattle.chord_rule.specs.Agrees.{Agrees}
+use Rattle.chord_rule.specs.Alone.{AloneLaw}
+use Rattle.chord_rule.specs.Desks.{DeskLaw}
 use Rattle.chord_rule.specs.Held.{HeldBy}
-use Rattle.chord_rule.specs.Looks.{Looks}
-use Rattle.chord_rule.specs.StandsFor.{Unseen, StandsFor}
+use Rattle.chord_rule.specs.StandsFor.{Unseen}
+use Rattle.chord_rule.specs.Woken.{WokenLaw}
 
--- a desk knows the bags of its duties
-pub record Tied (views : List View) (bag : ℕ → Option ℕ) : Type 0 where
-  pub duties : (j : ℕ) (v : View) → get_elem? views j ≡ some v → (d : Duty) → HasDuty d v.duties → bag d.message ≡ Some d.bag
-
--- the rule of the table, which holds between any two steps, one field a law
+-- the rule of the table, which holds between any two steps: what its words, its desks and its journal say of each other, what
+-- holds of each desk, and what the first desk knows while it is alone
 pub record Whole {P : Type 0} (entries : P → List Entry) (arguments : P → List value.Value) (keeps_to : P → Type 0) (p : Program) (n : ℕ) (m : Moment P) (u : Unseen) : Type 0 where
-  pub tabled : IsTabled p
-  pub counting : Counting n m.count m.views
-  pub firsts : Firsts m.count m.views
-  pub stands : StandsFor entries arguments keeps_to p n m u
-  pub heads : HeadLaw (IsKey u.journal) m.heads
-  pub bags : BagLaw (IsKey u.journal) m.cells m.heads u.order
-  pub tied : Tied m.views u.order.bag
-  pub duties : DutyLaw (IsChord p) m.cells m.views u.order
-  pub looks : Looks m.cells u.order m.views
+  pub agrees : Agrees entries arguments keeps_to p n m u
+  pub desks : DeskLaw n m.count m.cells u.order m.views
+  pub woken : WokenLaw m.cells
+  pub places : PlaceLaw n m.places
+  pub alone : AloneLaw m.count m.heads m.cells m.views
 
 -- the table shows a moment that meets the whole rule
 abbrev pub Held : {P : Type 0} → (P → List Entry) → (P → List value.Value) → (P → Type 0) → Program → ℕ → State (Option P) View → Type 0

@@ -1,7 +1,6 @@
 -- What is out with a desk: one slot, with what it holds.
 use Rattle.std.proofs.Common.{◌≡◌, ℕ, List, [], ◌∷◌, Option, Some, None, ap, sym, ◌∙◌}
 use mathlib.Core.Path.{Path}
-use Rattle.atomic_table.specs.Table.{rest}
 
 -- what the slot that was taken last holds
 abbrev slot_value : {A : Type 0} → Option A → List (ℕ × Option A) → Option A

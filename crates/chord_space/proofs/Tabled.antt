@@ -1,5 +1,5 @@
 -- The program of a valid and sound code is one that the table takes.
-use Rattle.std.proofs.Common.{◌≡◌, ◌⊎◌, ℕ, ◌<◌, ◌≤◌, Bool, true, false, ◌==◌, ◌||◌, List, [], ◌∷◌, Some, length, slice_get, if◌then◌else◌, refl, sym, ap, ◌∙◌, subst, arith, ⊎_elim, inl, inr}
+use Rattle.std.proofs.Common.{◌≡◌, ◌⊎◌, ℕ, ◌<◌, ◌≤◌, Bool, true, false, ◌==◌, ◌||◌, List, [], ◌∷◌, length, if◌then◌else◌, refl, ap, subst, arith, inl, inr}
 use Rattle.std.proofs.lemmas.Bool.{eqb-true, eq-eqb}
 use Rattle.chord_base.specs.declared.value.Object.{Object}
 use Rattle.chord_base.specs.declared.value.Value as value
@@ -13,17 +13,15 @@ use Rattle.chord_base.specs.declared.event.What.TheVariants.{Begun, Made, Sent, 
 use Rattle.chord_base.specs.Meaning.{Program, HaveMethods}
 use Rattle.chord_base.specs.Messages.{has}
 use Rattle.chord_base.specs.Machine.{IsPast}
-use Rattle.chord_base.specs.Story.{IsIn}
 use Rattle.chord_base.specs.Objects.{ValuesAmong, EndAmong, WhatAmong, IsTame, makes, was_made}
 use Rattle.chord_base.proofs.Objects.{objects_were_made}
-use Rattle.chord_base.proofs.Waits.{either}
 use Rattle.chord_code.specs.declared.parts.Parts.{Parts}
 use Rattle.chord_code.specs.Meaning.{code_program}
 use Rattle.chord_code.specs.Valid.{IsValid}
 use Rattle.chord_code.specs.Sound.{IsSoundCode}
 use Rattle.chord_code.proofs.Tame.{code_is_tame}
 use Rattle.chord_code.proofs.Validity.{valid_within, valid_chords_right}
-use Rattle.chord_rule.specs.Made.{ValueNames, ValuesName, EndNames, Names, IsMade, AreMade, IsTabled}
+use Rattle.chord_rule.specs.Made.{ValuesName, EndNames, Names, IsMade, AreMade, IsTabled}
 
 -- what makes an object of a class is that
 makes_it : (c : ℕ) (w : What) → makes c w ≡ true → w ≡ Made c
@@ -79,9 +77,9 @@ named_among f (Fired k q ms vs) o a n = receiver_among f q vs o a n
 named_among f (Ended x) o a n = end_among f x o a n
 
 -- in a past each object that an entry names was made before it
-all_made : (p : Program) → IsTame p → HaveMethods p → (h : List Entry) → IsPast p h → AreMade h
-all_made p tame methods [] past = tt
-all_made p tame methods (e ∷ h) past = (all_made p tame methods h past.0, λ o names. made_there h o (named_among (was_made h) e.what o (objects_were_made p e h tame methods past) names))
+pub names_made : (p : Program) → IsTame p → HaveMethods p → (h : List Entry) → IsPast p h → AreMade h
+names_made p tame methods [] past = tt
+names_made p tame methods (e ∷ h) past = (names_made p tame methods h past.0, λ o names. made_there h o (named_among (was_made h) e.what o (objects_were_made p e h tame methods past) names))
 
 -- a chord with a method has one
 some_method : (js : List ℕ) → 0 < length js → (j : ℕ) × (has j js ≡ true)
@@ -96,5 +94,5 @@ tabled code limits valid sound some low = let right = valid_chords_right code li
   some_method = λ c k js at. some_method js (right.some c k js at);
   different = right.different;
   few = right.few;
-  made = all_made (code_program code limits) (code_is_tame code limits (valid_within code valid)) right.some;
+  made = names_made (code_program code limits) (code_is_tame code limits (valid_within code valid)) right.some;
 }

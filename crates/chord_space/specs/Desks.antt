@@ -5,12 +5,11 @@ use Rattle.chord_base.specs.Story.{IsOwn}
 use Rattle.chord_base.specs.declared.event.What.{What}
 use Rattle.chord_base.specs.declared.event.What.TheVariants.{Begun}
 use Rattle.chord_base.specs.declared.value.Object.{Object}
-use Rattle.std.specs.Prelude.{◌≡◌, ℕ, ◌<◌, []}
+use Rattle.std.specs.Prelude.{◌≡◌, ℕ, []}
 use Rattle.chord_base.specs.Meaning.{Program}
 use Rattle.chord_base.specs.declared.event.Limits.{Limits}
 use Rattle.chord_code.specs.declared.parts.Parts.{Parts}
 use Rattle.chord_code.specs.Meaning.{code_program}
-use Rattle.chord_word.specs.Cells.{link_of}
 use Rattle.chord_rule.specs.declared.view.View.{View}
 use Rattle.chord_space.specs.declared.space.Space.{Space}
 use Rattle.chord_space.specs.declared.space.Desk.{Desk}

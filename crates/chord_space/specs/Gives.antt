@@ -1,5 +1,5 @@
--- When a desk may give a parcel away: with a message that it links, or with a firing that it posts.
-use Rattle.std.specs.Prelude.{◌≡◌, ◌⊎◌, ℕ, List, Some, None}
+-- When a desk may give a parcel away, with a message that it links or with a firing that it posts, and when it may draw a firing.
+use Rattle.std.specs.Prelude.{◌≡◌, ◌⊎◌, ℕ, List, Some, None, length, slice_get}
 use Rattle.chord_base.specs.declared.value.Object.{Object}
 use Rattle.chord_base.specs.declared.value.Value as value
 use Rattle.chord_base.specs.declared.event.Entry.{Entry}
@@ -7,7 +7,9 @@ use Rattle.chord_base.specs.Meaning.{Program}
 use Rattle.chord_base.specs.Messages.{Message, message_of, IsCall}
 use Rattle.chord_base.specs.Bodies.{doing}
 use Rattle.chord_base.specs.Story.{IsIn}
+use Rattle.chord_rule.specs.declared.view.Claim.{Claim}
 use Rattle.chord_rule.specs.declared.view.View.{View}
+use Rattle.chord_rule.specs.Claims.{AreClaimed}
 use Rattle.chord_rule.specs.Kinds.{MayGo}
 use Rattle.chord_rule.specs.Numbers.{HasNumber}
 use Rattle.chord_rule.specs.Parcels.{Begins, IsParked}
@@ -44,3 +46,11 @@ pub record MayPost (p : Program) (v : View) (f : ℕ) (entries : List Entry) : T
   pub only : (e : Entry) → IsIn e entries → e.body ≡ f → e.number ≡ f
   -- each other body in the parcel that has not ended waits for a call that a body of the parcel serves
   pub parked : (b : ℕ) → (b ≡ f → ⊥) → Begins b entries → IsParked p entries None (doing p entries b)
+
+-- a desk with these claims may draw a firing of the chord of this number on the object: it has claimed exactly the members, one for each method of the chord, in header order, for no firing yet
+pub record MayFire (p : Program) (claims : List Claim) (chord : ℕ) (object : Object) (members : List ℕ) : Type 0 where
+  pub methods : List ℕ
+  pub values : List value.Value
+  pub found : slice_get (p.chords object.class) chord ≡ Some methods
+  pub claimed : AreClaimed claims object methods members values
+  pub exactly : length claims ≡ length members

@@ -1,9 +1,9 @@
 //! Firings are posted with their parcels, and firing_started by whoever finds them ready.
-ghost use Rattle.std.specs.Prelude.{◌≡◌, ◌≢◌, ◌⊎◌, ℕ, ◌<◌, None, OnErr, IfErr, IfOk};
-ghost use Rattle.chord_rule.specs.Kinds.{posting, posted, firing_started, played};
+ghost use Rattle.std.specs.Prelude.{◌≡◌, ◌≢◌, ◌⊎◌, ℕ, ◌<◌, None, Option, IfErr, IfOk};
+ghost use Rattle.chord_rule.specs.Kinds.{posting, posted, firing_started, played, saw};
 ghost use Rattle.chord_rule.specs.Parcels.{Begins};
 ghost use Rattle.chord_word.specs.declared.cells.Cell.TheVariants.{Ready, Started};
-ghost use Rattle.chord_rule.specs.Tells.{word};
+ghost use Rattle.chord_rule.specs.Tells.{word, a_word};
 ghost use Rattle.chord_space.specs.Desks.{view, code_of, limits_of, program_of, IsDeskOf, IsSameDesk};
 ghost use Rattle.chord_space.specs.Gives.{MayPost};
 
@@ -31,7 +31,7 @@ impl<P: Carry> Space<P> {
         requires post { MayPost (program_of self.now) (view desk.old) f (P.entries parcel) }
         requires task { P.keeps_to parcel (code_of self.now) (limits_of self.now) }
         ensures desk { IsSameDesk desk.old desk.new }
-        ensures posted { view desk.new ≡ posted (posting (view desk.old) f) (P.entries parcel) }
+        ensures posted { view desk.new ≡ saw (posted (posting (view desk.old) f) (P.entries parcel)) f (a_word Ready None) }
     {
         let words = &self.table.shared;
         words.load::<TakeSlot>(&mut desk.seat, 1 + f as usize);
@@ -48,10 +48,9 @@ impl<P: Carry> Space<P> {
         requires desk { IsDeskOf self.now desk.old }
         requires bounds { f < self.now.events }
         ensures desk { IsSameDesk desk.old desk.new }
-        ensures started { IfOk result (λ q. view desk.new ≡ played (firing_started (view desk.old) f (P.entries q))) }
+        ensures started { IfOk result (λ q. view desk.new ≡ played (saw (firing_started (view desk.old) f (P.entries q)) f (a_word Started None))) }
         ensures parcel { IfOk result (λ q. Begins f (P.entries q) × P.keeps_to q (code_of self.now) (limits_of self.now)) }
-        ensures refused { IfErr result (λ c. c ≢ Ready) }
-        ensures same { OnErr result (view desk.new ≡ view desk.old) }
+        ensures refused { IfErr result (λ c. (c ≢ Ready) × ((next : Option ℕ) × (view desk.new ≡ saw (view desk.old) f (a_word c next)))) }
     {
         let words = &self.table.shared;
         let ready = firing_word(Cell::Ready);
@@ -77,10 +76,9 @@ impl<P: Carry> Space<P> {
         requires desk { IsDeskOf self.now desk.old }
         requires bounds { f < self.now.events }
         ensures desk { IsSameDesk desk.old desk.new }
-        ensures started { IfOk result (λ q. view desk.new ≡ played (firing_started (view desk.old) f (P.entries q))) }
+        ensures started { IfOk result (λ q. view desk.new ≡ played (saw (firing_started (view desk.old) f (P.entries q)) f (a_word Started None))) }
         ensures parcel { IfOk result (λ q. Begins f (P.entries q) × P.keeps_to q (code_of self.now) (limits_of self.now)) }
-        ensures refused { IfErr result (λ c. c ≢ Ready) }
-        ensures same { OnErr result (view desk.new ≡ view desk.old) }
+        ensures refused { IfErr result (λ c. (c ≢ Ready) × ((next : Option ℕ) × (view desk.new ≡ saw (view desk.old) f (a_word c next)))) }
     {
         self.step_start::<Brand>(desk, f)
     }

@@ -1,7 +1,7 @@
 //! What the rule of the table says of its journal, at any moment between two steps: functions whose contracts are the laws.
 ghost use Rattle.chord_base.specs.declared.event.Limits.{Limits};
 ghost use Rattle.chord_code.specs.declared.parts.Parts.{Parts};
-ghost use Rattle.chord_rule.specs.Laws.{OneIsMinded, TakenShows, ConsumedTaken, ClaimedTaken, CellPending, PendingShows};
+ghost use Rattle.chord_rule.specs.Laws.{OneIsMinded, TakenShows, ConsumedTaken, ClaimedTaken, CellPending, PendingShows, NoneTwice};
 
 use chord_code::carry::Carry;
 
@@ -23,4 +23,10 @@ pub fn taken_messages<P: Carry>()
 pub fn pending_messages<P: Carry>()
     ensures pending { (code : Parts) (limits : Limits) → CellPending P.entries P.arguments (λ q. P.keeps_to q code limits) }
     ensures shows { (code : Parts) (limits : Limits) → PendingShows P.entries P.arguments (λ q. P.keeps_to q code limits) }
+{}
+
+/// No message is taken twice, whatever the order of the steps: two firings that have it as a member are one, which has it once,
+/// and at most one desk has claimed it, once.
+pub fn no_message_twice<P: Carry>()
+    ensures { (code : Parts) (limits : Limits) → NoneTwice P.entries P.arguments (λ q. P.keeps_to q code limits) }
 {}

@@ -23,7 +23,7 @@ impl<P: Carry> Space<P> {
     pub fn join(&self, desk: &mut Desk<P>, other: Desk<P>)
         requires desk { IsDeskOf self.now desk.old × IsDeskOf self.now other }
         requires first { (view desk.old).first ≡ true }
-        requires idle { ((view other).claims ≡ []) × ((view other).flight ≡ None) × ((view other).emptying ≡ None) }
+        requires idle { ((view other).claims ≡ []) × ((view other).flight ≡ None) }
         ensures { IsSameDesk desk.old desk.new × (view desk.new ≡ united (view desk.old) (view other)) }
     {
         let Desk { seat, above: _ } = other;

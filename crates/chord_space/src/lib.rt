@@ -5,14 +5,20 @@
 //! Not here: which message to claim and which chord to fire, and what a bag is walked for.
 #![tactic(auto)]
 
+mod claims;
+mod closed;
 mod cross;
 mod draws;
 mod firings;
 pub mod laws;
 mod lends;
 mod links;
+mod looks;
 mod plays;
 mod space;
+#[cfg(test)]
+mod table_tests;
 
+pub use closed::Closed;
 pub use cross::may_cross;
 pub use space::{Desk, Space, Spent};

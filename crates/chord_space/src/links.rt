@@ -1,6 +1,9 @@
 //! Messages are added to their bags: first linked, with their parcels, and then armed.
 ghost use Rattle.std.specs.Prelude.{◌≡◌, ℕ, ◌<◌, Some, Option};
-ghost use Rattle.chord_rule.specs.Kinds.{address_set, flown, armed};
+ghost use Rattle.chord_rule.specs.Kinds.{address_set, flown, armed, saw, saw_head};
+ghost use Rattle.chord_rule.specs.Tells.{a_word};
+ghost use Rattle.chord_word.specs.declared.cells.Cell.TheVariants.{Pending};
+ghost use Rattle.chord_rule.specs.Bags.{head_of};
 ghost use Rattle.chord_rule.specs.Made.{key};
 ghost use Rattle.chord_space.specs.Desks.{view, code_of, limits_of, program_of, IsDeskOf, IsSameDesk};
 ghost use Rattle.chord_space.specs.Gives.{MayLink};
@@ -29,7 +32,7 @@ impl<P: Carry> Space<P> {
         requires link { MayLink (program_of self.now) (view desk.old) m object method (P.entries parcel) (P.arguments parcel) }
         requires task { P.keeps_to parcel (code_of self.now) (limits_of self.now) }
         ensures desk { IsSameDesk desk.old desk.new }
-        ensures linked { (above : Option ℕ) × (view desk.new ≡ flown (address_set (view desk.old) m) m (key object method) above (P.entries parcel)) }
+        ensures linked { (above : Option ℕ) × (view desk.new ≡ saw_head (flown (address_set (view desk.old) m) m (key object method) above (P.entries parcel)) (head_of (key object method)) (Some m)) }
     {
         let words = &self.table.shared;
         let count = self.events as usize;
@@ -54,7 +57,7 @@ impl<P: Carry> Space<P> {
         requires link { MayLink (program_of self.now) (view desk.old) m object method (P.entries parcel) (P.arguments parcel) }
         requires task { P.keeps_to parcel (code_of self.now) (limits_of self.now) }
         ensures desk { IsSameDesk desk.old desk.new }
-        ensures linked { (above : Option ℕ) × (view desk.new ≡ flown (address_set (view desk.old) m) m (key object method) above (P.entries parcel)) }
+        ensures linked { (above : Option ℕ) × (view desk.new ≡ saw_head (flown (address_set (view desk.old) m) m (key object method) above (P.entries parcel)) (head_of (key object method)) (Some m)) }
     {
         self.step_link::<Brand>(desk, m, object, method, parcel);
     }
@@ -65,7 +68,7 @@ impl<P: Carry> Space<P> {
         requires desk { IsDeskOf self.now desk.old }
         requires flight { ((view desk.old).flight ≡ Some m) × (m < self.now.events) }
         ensures desk { IsSameDesk desk.old desk.new }
-        ensures armed { view desk.new ≡ armed (view desk.old) m }
+        ensures armed { view desk.new ≡ saw (armed (view desk.old) m) m (a_word Pending (view desk.old).above) }
     {
         let word = pack(&Word {
             cell: Cell::Pending,

@@ -1,12 +1,14 @@
 //! What each step tells its caller, and how desks are split and joined. These types are for the proofs alone.
-ghost use Rattle.std.specs.Prelude.{ℕ};
+ghost use Rattle.std.specs.Prelude.{ℕ, List, []};
 ghost use Rattle.chord_base.specs.declared.event.What.{What};
 ghost use Rattle.chord_base.specs.declared.event.What.TheVariants.{Begun};
 ghost use Rattle.chord_base.specs.declared.event.Limits.{Limits};
 ghost use Rattle.chord_base.specs.declared.value.Object.{Object};
 ghost use Rattle.chord_code.specs.declared.parts.Parts.{Parts};
-ghost use Rattle.chord_rule.specs.Kinds.{draws, newcomer, gone, lent_one, united};
-ghost use Rattle.chord_rule.specs.Tells.{places, links, arms, posts_out, posts, starts, plays};
+ghost use Rattle.chord_rule.specs.Kinds.{newcomer, gone, lent_one, united};
+ghost use Rattle.chord_rule.specs.Tells.{draws_firing, places, links, arms, claims, holds, unclaims, consumes, empties, posts_out, posts, starts, plays, looks_count, looks_head, looks_cell, looks_place, rests};
+ghost use Rattle.chord_code.specs.Meaning.{code_program};
+ghost use Rattle.chord_space.specs.Ruled.{draws_of_code};
 ghost use Rattle.chord_space.specs.Desks.{no_parts, no_limits, no_object};
 
 use atomic_table::{Join, Play, Split};
@@ -14,14 +16,22 @@ use chord_code::carry::Carry;
 use chord_rule::view::View;
 use std::marker::{Brand, PhantomData};
 
-/// The entry that a draw makes. Each call picks it.
+/// The entry that a draw makes, and the code and the limits of its run. Each call picks them.
 pub trait Said {
+    ghost parts: { Parts };
+
+    ghost limits: { Limits };
+
     ghost body: { ℕ };
 
     ghost what: { What };
 }
 
 impl Said for Brand {
+    ghost parts = { no_parts };
+
+    ghost limits = { no_limits };
+
     ghost body = { 0 };
 
     ghost what = { Begun };
@@ -53,13 +63,56 @@ impl Governed for Brand {
     ghost limits = { no_limits };
 }
 
+/// The firing that a draw makes, and the code and the limits of its run. Each call picks them.
+pub trait Firing {
+    ghost parts: { Parts };
+
+    ghost limits: { Limits };
+
+    ghost chord: { ℕ };
+
+    ghost object: { Object };
+
+    ghost members: { List ℕ };
+}
+
+impl Firing for Brand {
+    ghost parts = { no_parts };
+
+    ghost limits = { no_limits };
+
+    ghost chord = { 0 };
+
+    ghost object = { no_object };
+
+    ghost members = { [] };
+}
+
+/// The message on which a duty is laid down. Each call picks it.
+pub trait Resting {
+    ghost message: { ℕ };
+}
+
+impl Resting for Brand {
+    ghost message = { 0 };
+}
+
 /// An entry is drawn.
 pub struct Draw<J> {
     of: PhantomData<J>,
 }
 
 impl<P, J: Said> Play<Option<P>, View> for Draw<J> {
-    ghost then = { draws J.body J.what };
+    ghost then = { draws_of_code J.parts J.limits J.body J.what };
+}
+
+/// A firing is drawn.
+pub struct DrawFiring<J> {
+    of: PhantomData<J>,
+}
+
+impl<P, J: Firing> Play<Option<P>, View> for DrawFiring<J> {
+    ghost then = { draws_firing (code_program J.parts J.limits) J.chord J.object J.members };
 }
 
 /// The place word of a message is set.
@@ -83,6 +136,43 @@ pub struct Arm;
 
 impl<P> Play<Option<P>, View> for Arm {
     ghost then = { arms };
+}
+
+/// A message is claimed.
+pub struct Take;
+
+impl<P> Play<Option<P>, View> for Take {
+    ghost then = { claims };
+}
+
+/// The cell of a claim is read.
+pub struct Hold;
+
+impl<P> Play<Option<P>, View> for Hold {
+    ghost then = { holds };
+}
+
+/// A claim is given back.
+pub struct GiveBack;
+
+impl<P> Play<Option<P>, View> for GiveBack {
+    ghost then = { unclaims };
+}
+
+/// A message is consumed.
+pub struct Consume<P, J> {
+    of: PhantomData<(P, J)>,
+}
+
+impl<P: Carry, J: Governed> Play<Option<P>, View> for Consume<P, J> {
+    ghost then = { consumes P.entries P.arguments (λ q. P.keeps_to q J.parts J.limits) };
+}
+
+/// The empty slot of a consumed message is home again.
+pub struct ReturnSlot;
+
+impl<P> Play<Option<P>, View> for ReturnSlot {
+    ghost then = { empties };
 }
 
 /// The slot of a firing comes out.
@@ -115,6 +205,45 @@ pub struct GiveSlot;
 
 impl<P> Play<Option<P>, View> for GiveSlot {
     ghost then = { plays };
+}
+
+/// The counter is looked at.
+pub struct SeeCount;
+
+impl<P> Play<Option<P>, View> for SeeCount {
+    ghost then = { looks_count };
+}
+
+/// The head of a bag is looked at.
+pub struct SeeHead<J> {
+    of: PhantomData<J>,
+}
+
+impl<P, J: Addressed> Play<Option<P>, View> for SeeHead<J> {
+    ghost then = { looks_head J.object J.method };
+}
+
+/// A cell is looked at.
+pub struct SeeCell;
+
+impl<P> Play<Option<P>, View> for SeeCell {
+    ghost then = { looks_cell };
+}
+
+/// A place word is looked at.
+pub struct SeePlace;
+
+impl<P> Play<Option<P>, View> for SeePlace {
+    ghost then = { looks_place };
+}
+
+/// A duty is laid down.
+pub struct LayDown<J> {
+    of: PhantomData<J>,
+}
+
+impl<P, J: Resting> Play<Option<P>, View> for LayDown<J> {
+    ghost then = { rests J.message };
 }
 
 /// The first desk lends a new one.

@@ -1,9 +1,8 @@
 //! The space and its desks.
-ghost use Rattle.std.specs.Prelude.{◌≡◌, ℕ, ◌+◌, ◌*◌, ◌<◌, ◌≤◌, [], None, IfOk};
-ghost use Rattle.chord_code.specs.Meaning.{code_program};
+ghost use Rattle.std.specs.Prelude.{◌≡◌, ℕ, ◌+◌, ◌*◌, ◌<◌, ◌≤◌, false, [], None, IfOk};
 ghost use Rattle.chord_code.specs.Sound.{IsSoundCode};
 ghost use Rattle.chord_rule.specs.Kinds.{newcomer_first};
-ghost use Rattle.chord_rule.specs.Whole.{Held};
+ghost use Rattle.chord_space.specs.Ruled.{Ruled};
 ghost use Rattle.chord_word.specs.Cells.{link_of};
 
 use atomic_table::{Seat, Table, TableRule};
@@ -28,7 +27,7 @@ pub struct Law<P: Carry> {
 }
 
 impl<P: Carry> TableRule<Option<P>, View, Key> for Law<P> {
-    ghost holds = { λ key. Held P.entries P.arguments (λ q. P.keeps_to q key.code.value key.limits) (code_program key.code.value key.limits) key.limits.events };
+    ghost holds = { λ key. Ruled P.entries P.arguments P.keeps_to key.code.value key.limits };
 
     ghost first = { λ _. newcomer_first };
 }
@@ -48,7 +47,7 @@ pub struct Desk<P> {
     pub(crate) seat: Seat<Option<P>, View>,
     // The head that the last link read, as a word: 0 for none, else the number plus 1.
     pub(crate) above: u64,
-    ghost settled: { (seat.me.1 ≡ []) × (above ≡ link_of seat.me.0.above) × (above < 65537) × (seat.me.0.placing ≡ None) × (seat.me.0.posting ≡ None) × (seat.me.0.starting ≡ None) },
+    ghost settled: { (seat.me.1 ≡ []) × (above ≡ link_of seat.me.0.above) × (above < 65537) × (seat.me.0.placing ≡ None) × (seat.me.0.posting ≡ None) × (seat.me.0.starting ≡ None) × (seat.me.0.gone ≡ false) × (seat.me.0.emptying ≡ None) },
 }
 
 /// The counter had reached the limit on events, and the entry was not drawn.

@@ -1,4 +1,4 @@
-use Rattle.std.proofs.Common.{◌≡◌, ◌⊎◌, ℕ, ◌+◌, List, [], ◌∷◌, Option, Some, None, refl, sym, ap, ◌∙◌, subst, arith, ⊎_elim}
+use Rattle.std.proofs.Common.{◌≡◌, ℕ, ◌+◌, List, [], ◌∷◌, Option, Some, None, refl, sym, ap, ◌∙◌, subst, arith, ⊎_elim}
 use mathlib.Core.Option.{none}
 use Rattle.atomic_table.specs.Table.{Me, Allows, step, rest}
 use Rattle.chord_base.specs.declared.event.Entry.{Entry}
@@ -8,9 +8,11 @@ use Rattle.chord_code.specs.Meaning.{code_program}
 use Rattle.chord_word.specs.Cells.{link_of}
 use Rattle.chord_rule.specs.declared.view.View.{View}
 use Rattle.chord_rule.specs.Hands.{hand, IsUnlinked}
-use Rattle.chord_rule.specs.Kinds.{posting, posted}
-use Rattle.chord_rule.specs.Tells.{posts_out, posts}
-use Rattle.chord_rule.specs.Whole.{Held}
+use Rattle.chord_rule.specs.Kinds.{posting, posted, saw}
+use Rattle.chord_rule.specs.Tells.{word, a_word, posts_out, posts}
+use Rattle.chord_word.specs.declared.cells.Cell.TheVariants as a_cell
+use Rattle.chord_space.specs.Ruled.{Ruled}
+use Rattle.chord_space.proofs.Under.{under}
 use Rattle.chord_rule.proofs.Moving.{post_out_step, post_step}
 use Rattle.chord_space.proofs.Slots.{not_both}
 use Rattle.chord_space.proofs.space.Space.post.Goals as goal
@@ -20,8 +22,8 @@ load-requires g c = let sized = c.args.self.now.sized in let key = c.args.self.n
     let keeps : g.row.P.Denot → Type 0 = λ q. g.P.Carry.keeps_to q key.code.value key.limits in let p = code_program key.code.value key.limits in (
       c.requires.desk,
       omega arith,
-      subst (λ (y : ℕ). Allows (Held g.P.Carry.entries g.P.Carry.arguments keeps p n) y seat.id seat.me (1 + f) (λ x. x) (posts_out (step y (1 + f) 0 0 none) seat.me)) (sized.0 ∙ sym sized.2)
-          (post_out_step g.P.Carry.entries g.P.Carry.arguments keeps p n (omega arith) (omega arith) seat.id seat.me f (omega arith) c.requires.post.unposted c.args.desk.now.settled.4),
+      subst (λ (y : ℕ). Allows (Ruled g.P.Carry.entries g.P.Carry.arguments g.P.Carry.keeps_to key.code.value key.limits) y seat.id seat.me (1 + f) (λ x. x) (posts_out (step y (1 + f) 0 0 none) seat.me)) (sized.0 ∙ sym sized.2)
+          (under g.P.Carry.entries g.P.Carry.arguments g.P.Carry.keeps_to key.code.value key.limits n seat.id seat.me (1 + f) (λ x. x) (posts_out (step n (1 + f) 0 0 none) seat.me) (post_out_step g.P.Carry.entries g.P.Carry.arguments keeps p n (omega arith) (omega arith) seat.id seat.me f c.args.desk.now.settled.6 (omega arith) c.requires.post.unposted c.args.desk.now.settled.4)),
     )
 
 pub exchange-requires : goal.exchange-requires
@@ -44,9 +46,9 @@ store-requires g c = let sized = c.args.self.now.sized in let key = c.args.self.
     let others : (e : Entry) (x : Message) → IsIn e (g.P.Carry.entries q) → message_of e.what ≡ Some x → IsUnlinked (hand v) e.number → ⊥ = (λ e x is says un. ⊎_elim (λ h. may.linked e x is says h) (λ s. let z : None ≡ Some e.number = sym settled.3 ∙ s in cc) un) in (
       c.exchange.ensures.0 ∙ c.load.ensures.0 ∙ c.requires.desk,
       omega arith,
-      subst (λ (y : ℕ × ℕ × Me (Option g.row.P.Denot) View). Allows (Held g.P.Carry.entries g.P.Carry.arguments keeps p n) y.0 c.exchange.new.seat.id y.2 (1 + f) (λ _. y.1) (λ _. posts g.P.Carry.entries (step y.0 (1 + f) y.1 0 none) y.2 y.1))
+      subst (λ (y : ℕ × ℕ × Me (Option g.row.P.Denot) View). Allows (Ruled g.P.Carry.entries g.P.Carry.arguments g.P.Carry.keeps_to key.code.value key.limits) y.0 c.exchange.new.seat.id y.2 (1 + f) (λ _. y.1) (λ _. posts g.P.Carry.entries (step y.0 (1 + f) y.1 0 none) y.2 y.1))
           (λ k. ((sized.0 ∙ sym sized.2) k, sym c.firing_word.ensures k, sym me k))
-          (post_step g.P.Carry.entries g.P.Carry.arguments keeps p n (omega arith) (omega arith) c.exchange.new.seat.id v f q (omega arith) refl may.goes others may.begins may.only may.parked c.requires.task),
+          (under g.P.Carry.entries g.P.Carry.arguments g.P.Carry.keeps_to key.code.value key.limits n c.exchange.new.seat.id (v, (f, Some q) ∷ []) (1 + f) (λ _. word a_cell.Ready None) (λ _. posts g.P.Carry.entries (step n (1 + f) (word a_cell.Ready None) 0 none) (v, (f, Some q) ∷ []) (word a_cell.Ready None)) (post_step g.P.Carry.entries g.P.Carry.arguments keeps p n (omega arith) (omega arith) c.exchange.new.seat.id v f q settled.6 (omega arith) refl may.goes others may.begins may.only may.parked c.requires.task)),
     )
 
 pub invariant_of-desk : goal.invariant_of-desk
@@ -56,7 +58,7 @@ invariant_of-desk g c = let f : ℕ = c.args.f in let q : g.row.P.Denot = c.args
     let v : View = posting c.args.desk.now.seat.me.0 f in
     let me : c.exchange.new.seat.me ≡ (v, (f, Some q) ∷ []) = c.exchange.ensures.3 ∙ (λ k. (told.0 k, (f, Some q) ∷ ap rest held k)) in
     let r = c.store.ensures.2 f q (ap (λ (m : Me (Option g.row.P.Denot) View). m.1) me) in
-    let view : c.store.new.seat.me.0 ≡ posted v (g.P.Carry.entries q) = r.0 ∙ ap (λ (m : Me (Option g.row.P.Denot) View). posted m.0 (g.P.Carry.entries q)) me in record {
+    let view : c.store.new.seat.me.0 ≡ saw (posted v (g.P.Carry.entries q)) f (a_word a_cell.Ready None) = r.0 ∙ ap (λ (m : Me (Option g.row.P.Denot) View). saw (posted m.0 (g.P.Carry.entries q)) f (a_word a_cell.Ready None)) me in record {
       settled = (
         r.1,
         settled.1 ∙ sym (ap (λ (w : View). link_of w.above) view),
@@ -64,6 +66,8 @@ invariant_of-desk g c = let f : ℕ = c.args.f in let q : g.row.P.Denot = c.args
         ap (λ (w : View). w.placing) view ∙ settled.3,
         ap (λ (w : View). w.posting) view,
         ap (λ (w : View). w.starting) view ∙ settled.5,
+        ap (λ (w : View). w.gone) view ∙ settled.6,
+        ap (λ (w : View). w.emptying) view ∙ settled.7,
       );
     }
 
@@ -74,4 +78,4 @@ returns-clause-posted g c = let f : ℕ = c.args.f in let q : g.row.P.Denot = c.
     let v : View = posting c.args.desk.now.seat.me.0 f in
     let me : c.exchange.new.seat.me ≡ (v, (f, Some q) ∷ []) = c.exchange.ensures.3 ∙ (λ k. (told.0 k, (f, Some q) ∷ ap rest held k)) in
     let r = c.store.ensures.2 f q (ap (λ (m : Me (Option g.row.P.Denot) View). m.1) me) in
-    r.0 ∙ ap (λ (m : Me (Option g.row.P.Denot) View). posted m.0 (g.P.Carry.entries q)) me
+    r.0 ∙ ap (λ (m : Me (Option g.row.P.Denot) View). saw (posted m.0 (g.P.Carry.entries q)) f (a_word a_cell.Ready None)) me

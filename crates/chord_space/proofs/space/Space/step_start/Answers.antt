@@ -1,4 +1,4 @@
-use Rattle.std.proofs.Common.{◌≡◌, ℕ, ◌+◌, eqb, List, [], ◌∷◌, Option, Some, None, IsSome, refl, sym, ap, ◌∙◌, subst, arith}
+use Rattle.std.proofs.Common.{◌≡◌, ◌≢◌, ℕ, ◌+◌, eqb, List, [], ◌∷◌, Option, Some, None, IsSome, refl, sym, ap, ◌∙◌, subst, arith}
 use mathlib.Core.Option.{none}
 use mathlib.Core.Path.{Path}
 use prog.Atomic.{either}
@@ -10,10 +10,14 @@ use Rattle.chord_word.specs.Cells.{link_of, IsNoCell}
 use Rattle.chord_word.proofs.Packing.{some_cell}
 use Rattle.chord_rule.specs.Parcels.{Begins}
 use Rattle.chord_rule.specs.declared.view.View.{View}
-use Rattle.chord_rule.specs.Kinds.{firing_started, played}
-use Rattle.chord_rule.specs.Tells.{starts, plays}
-use Rattle.chord_rule.specs.Whole.{Held}
+use Rattle.chord_rule.specs.Kinds.{firing_started, played, saw}
+use Rattle.chord_rule.specs.Tells.{word, a_word, starts, plays}
+use Rattle.chord_word.specs.declared.cells.Cell.TheVariants as a_cell
+use Rattle.chord_space.specs.Ruled.{Ruled}
+use Rattle.chord_space.proofs.Under.{under}
 use Rattle.chord_rule.proofs.Moving.{start_step, play_step}
+use Rattle.chord_word.specs.declared.cells.Word.{Word}
+use Rattle.chord_rule.proofs.Lists.{some_is}
 use Rattle.chord_space.proofs.Slots.{out_slot}
 use Rattle.chord_space.proofs.space.Space.step_start.Goals as goal
 
@@ -22,9 +26,9 @@ compare_exchange-found-requires g c = let sized = c.args.self.now.sized in let k
     let p = code_program key.code.value key.limits in let keeps : g.row.P.Denot → Type 0 = λ q. g.P.Carry.keeps_to q key.code.value key.limits in (
       c.requires.desk,
       omega arith,
-      subst (λ (y : ℕ × ℕ × ℕ × Parts × Limits). Allows (Held g.P.Carry.entries g.P.Carry.arguments keeps p n) y.0 seat.id seat.me (1 + f) (λ x. either (eqb x y.1) y.2 x) (starts g.P.Carry.entries (λ q. g.P.Carry.keeps_to q y.3 y.4) (step y.0 (1 + f) y.1 y.2 none) seat.me))
+      subst (λ (y : ℕ × ℕ × ℕ × Parts × Limits). Allows (Ruled g.P.Carry.entries g.P.Carry.arguments g.P.Carry.keeps_to key.code.value key.limits) y.0 seat.id seat.me (1 + f) (λ x. either (eqb x y.1) y.2 x) (starts g.P.Carry.entries (λ q. g.P.Carry.keeps_to q y.3 y.4) (step y.0 (1 + f) y.1 y.2 none) seat.me))
           (λ k. ((sized.0 ∙ sym sized.2) k, sym c.firing_word-ready.ensures k, sym c.firing_word.ensures k, sym governed.0 k, sym governed.1 k))
-          (start_step g.P.Carry.entries g.P.Carry.arguments keeps p n (omega arith) (omega arith) seat.id seat.me f (omega arith) c.args.desk.now.settled.5),
+          (under g.P.Carry.entries g.P.Carry.arguments g.P.Carry.keeps_to key.code.value key.limits n seat.id seat.me (1 + f) (λ x. either (eqb x (word a_cell.Ready None)) (word a_cell.Started None) x) (starts g.P.Carry.entries keeps (step n (1 + f) (word a_cell.Ready None) (word a_cell.Started None) none) seat.me) (start_step g.P.Carry.entries g.P.Carry.arguments keeps p n (omega arith) (omega arith) seat.id seat.me f c.args.desk.now.settled.6 (omega arith) c.args.desk.now.settled.5)),
     )
 
 pub exchange-parcel-requires : goal.exchange-parcel-requires
@@ -37,20 +41,20 @@ load-requires g c = let sized = c.args.self.now.sized in let key = c.args.self.n
     let p = code_program key.code.value key.limits in let keeps : g.row.P.Denot → Type 0 = λ q. g.P.Carry.keeps_to q key.code.value key.limits in
     let told = (c.compare_exchange-found.ensures.2 f refl).0 c.if-found-ready.true in
     let held : c.compare_exchange-found.new.seat.me.1 ≡ (f, Some told.0) ∷ [] = told.2 ∙ ap (λ (xs : List (ℕ × Option g.row.P.Denot)). (f, Some told.0) ∷ xs) c.args.desk.now.settled.0 in
-    let v : View = firing_started c.args.desk.now.seat.me.0 f (g.P.Carry.entries told.0) in
+    let v : View = saw (firing_started c.args.desk.now.seat.me.0 f (g.P.Carry.entries told.0)) f (a_word a_cell.Started None) in
     let seat = c.exchange-parcel.new.seat in
     let me : seat.me ≡ (v, (f, None) ∷ []) = c.exchange-parcel.ensures.3 ∙ (λ k. (told.1 k, (f, None) ∷ ap rest held k)) in (
       c.exchange-parcel.ensures.0 ∙ c.compare_exchange-found.ensures.0 ∙ c.requires.desk,
       omega arith,
-      subst (λ (y : ℕ × Me (Option g.row.P.Denot) View). Allows (Held g.P.Carry.entries g.P.Carry.arguments keeps p n) y.0 seat.id y.1 0 (λ x. x) (plays (step y.0 0 0 0 none) y.1)) (λ k. ((sized.0 ∙ sym sized.2) k, sym me k))
-          (play_step g.P.Carry.entries g.P.Carry.arguments keeps p n (omega arith) (omega arith) seat.id v f refl),
+      subst (λ (y : ℕ × Me (Option g.row.P.Denot) View). Allows (Ruled g.P.Carry.entries g.P.Carry.arguments g.P.Carry.keeps_to key.code.value key.limits) y.0 seat.id y.1 0 (λ x. x) (plays (step y.0 0 0 0 none) y.1)) (λ k. ((sized.0 ∙ sym sized.2) k, sym me k))
+          (under g.P.Carry.entries g.P.Carry.arguments g.P.Carry.keeps_to key.code.value key.limits n seat.id (v, (f, None) ∷ []) 0 (λ x. x) (plays (step n 0 0 0 none) (v, (f, None) ∷ [])) (play_step g.P.Carry.entries g.P.Carry.arguments keeps p n (omega arith) (omega arith) seat.id v f c.args.desk.now.settled.6 refl)),
     )
 
 pub invariant_of-desk : goal.invariant_of-desk
 invariant_of-desk g c = let f : ℕ = c.args.f in let settled = c.args.desk.now.settled in
     let told = (c.compare_exchange-found.ensures.2 f refl).0 c.if-found-ready.true in
     let held : c.compare_exchange-found.new.seat.me.1 ≡ (f, Some told.0) ∷ [] = told.2 ∙ ap (λ (xs : List (ℕ × Option g.row.P.Denot)). (f, Some told.0) ∷ xs) settled.0 in
-    let v : View = firing_started c.args.desk.now.seat.me.0 f (g.P.Carry.entries told.0) in
+    let v : View = saw (firing_started c.args.desk.now.seat.me.0 f (g.P.Carry.entries told.0)) f (a_word a_cell.Started None) in
     let me : c.exchange-parcel.new.seat.me ≡ (v, (f, None) ∷ []) = c.exchange-parcel.ensures.3 ∙ (λ k. (told.1 k, (f, None) ∷ ap rest held k)) in
     let home = c.load.ensures.2 f (ap (λ (m : Me (Option g.row.P.Denot) View). m.0.starting) me) (ap (λ (m : Me (Option g.row.P.Denot) View). m.1) me) in
     let view : c.load.new.seat.me.0 ≡ played v = ap (λ (m : Me (Option g.row.P.Denot) View). m.0) home ∙ ap (λ (m : Me (Option g.row.P.Denot) View). played m.0) me in record {
@@ -61,6 +65,8 @@ invariant_of-desk g c = let f : ℕ = c.args.f in let settled = c.args.desk.now.
         ap (λ (w : View). w.placing) view ∙ settled.3,
         ap (λ (w : View). w.posting) view ∙ settled.4,
         ap (λ (w : View). w.starting) view,
+        ap (λ (w : View). w.gone) view ∙ settled.6,
+        ap (λ (w : View). w.emptying) view ∙ settled.7,
       );
     }
 
@@ -71,12 +77,12 @@ unwrap-requires g c = let f : ℕ = c.args.f in let told = (c.compare_exchange-f
 pub returns-then-found-ready-clause-started : goal.returns-then-found-ready-clause-started
 returns-then-found-ready-clause-started g c = let f : ℕ = c.args.f in let told = (c.compare_exchange-found.ensures.2 f refl).0 c.if-found-ready.true in
     let held : c.compare_exchange-found.new.seat.me.1 ≡ (f, Some told.0) ∷ [] = told.2 ∙ ap (λ (xs : List (ℕ × Option g.row.P.Denot)). (f, Some told.0) ∷ xs) c.args.desk.now.settled.0 in
-    let v : View = firing_started c.args.desk.now.seat.me.0 f (g.P.Carry.entries told.0) in
+    let v : View = saw (firing_started c.args.desk.now.seat.me.0 f (g.P.Carry.entries told.0)) f (a_word a_cell.Started None) in
     let me : c.exchange-parcel.new.seat.me ≡ (v, (f, None) ∷ []) = c.exchange-parcel.ensures.3 ∙ (λ k. (told.1 k, (f, None) ∷ ap rest held k)) in
     let home = c.load.ensures.2 f (ap (λ (m : Me (Option g.row.P.Denot) View). m.0.starting) me) (ap (λ (m : Me (Option g.row.P.Denot) View). m.1) me) in
     let was : Path (Option g.row.P.Denot) (Some told.0) (Some c.unwrap.result) = out_slot f (Some told.0) c.exchange-parcel.result c.compare_exchange-found.new.seat.me.1 c.args.desk.now.seat.me.1 (rest c.compare_exchange-found.new.seat.me.1) told.2 c.exchange-parcel.ensures.2 ∙ c.unwrap.ensures in
     let same : told.0 ≡ c.unwrap.result = (let e = was in cc) in
-    ap (λ (m : Me (Option g.row.P.Denot) View). m.0) home ∙ ap (λ (m : Me (Option g.row.P.Denot) View). played m.0) me ∙ (λ k. played (firing_started c.args.desk.now.seat.me.0 f (g.P.Carry.entries (same k))))
+    ap (λ (m : Me (Option g.row.P.Denot) View). m.0) home ∙ ap (λ (m : Me (Option g.row.P.Denot) View). played m.0) me ∙ (λ k. played (saw (firing_started c.args.desk.now.seat.me.0 f (g.P.Carry.entries (same k))) f (a_word a_cell.Started None)))
 
 pub returns-then-found-ready-clause-parcel : goal.returns-then-found-ready-clause-parcel
 returns-then-found-ready-clause-parcel g c = let f : ℕ = c.args.f in let told = (c.compare_exchange-found.ensures.2 f refl).0 c.if-found-ready.true in let governed = c.requires.governed in
@@ -85,15 +91,17 @@ returns-then-found-ready-clause-parcel g c = let f : ℕ = c.args.f in let told 
     (subst (λ (q : g.row.P.Denot). Begins f (g.P.Carry.entries q)) same told.3, subst (λ (y : g.row.P.Denot × Parts × Limits). g.P.Carry.keeps_to y.0 y.1 y.2) (λ k. (same k, governed.0 k, governed.1 k)) told.4)
 
 pub invariant_of-desk-else-found-ready : goal.invariant_of-desk-else-found-ready
-invariant_of-desk-else-found-ready g c = let settled = c.args.desk.now.settled in let missed = ((c.compare_exchange-found.ensures.2 c.args.f refl).1 c.if-found-ready.false).0 in
-    let view = ap (λ (m : Me (Option g.row.P.Denot) View). m.0) missed in record {
+invariant_of-desk-else-found-ready g c = let settled = c.args.desk.now.settled in let missed = (c.compare_exchange-found.ensures.2 c.args.f refl).1 c.if-found-ready.false in
+    let view = missed.1.4 in record {
       settled = (
-        ap (λ (m : Me (Option g.row.P.Denot) View). m.1) missed ∙ settled.0,
+        missed.0 ∙ settled.0,
         settled.1 ∙ sym (ap (λ (w : View). link_of w.above) view),
         settled.2,
         ap (λ (w : View). w.placing) view ∙ settled.3,
         ap (λ (w : View). w.posting) view ∙ settled.4,
         ap (λ (w : View). w.starting) view ∙ settled.5,
+        ap (λ (w : View). w.gone) view ∙ settled.6,
+        ap (λ (w : View). w.emptying) view ∙ settled.7,
       );
     }
 
@@ -101,5 +109,7 @@ pub unreachable-requires : goal.unreachable-requires
 unreachable-requires g c = let missed = (c.compare_exchange-found.ensures.2 c.args.f refl).1 c.if-found-ready.false in
     some_cell missed.1.0 missed.1.1 (subst IsNoCell missed.1.3 (c.in-None.ensures.none.0 refl))
 
-pub returns-clause-same : goal.returns-clause-same
-returns-clause-same g c = ap (λ (m : Me (Option g.row.P.Denot) View). m.0) ((c.compare_exchange-found.ensures.2 c.args.f refl).1 c.if-found-ready.false).0
+pub returns-clause-refused : goal.returns-clause-refused
+returns-clause-refused g c = let missed = (c.compare_exchange-found.ensures.2 c.args.f refl).1 c.if-found-ready.false in
+    let same : missed.1.0 ≡ c.in-Some.word = some_is missed.1.0 c.in-Some.word (sym (c.unpack.ensures.back missed.1.0 missed.1.1 (sym missed.1.3)) ∙ c.in-Some.is) in
+    subst (λ (w : Word). (w.cell ≢ a_cell.Ready) × ((next : Option ℕ) × (c.compare_exchange-found.new.seat.me.0 ≡ saw c.args.desk.now.seat.me.0 c.args.f (a_word w.cell next)))) same (missed.1.2, (missed.1.0.next, missed.1.4))

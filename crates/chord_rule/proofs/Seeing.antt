@@ -1,0 +1,156 @@
+-- What looks and rests ask of the table.
+use Rattle.std.proofs.Common.{◌≡◌, inl, ⊎_elim, false, ℕ, ◌+◌, ◌*◌, ◌<◌, ◌≤◌, List, [], ◌∷◌, set, refl, sym, ap, ◌∙◌, subst, arith, Option, Some}
+use mathlib.Core.Option.{none, some}
+use lib.ListN.{get_elem?}
+use Rattle.atomic_table.specs.Table.{State, Allows, Me, keeps, step}
+use Rattle.chord_base.specs.Meaning.{Program}
+use Rattle.chord_base.specs.Messages.{Message}
+use Rattle.chord_base.specs.declared.value.Object.{Object}
+use Rattle.chord_base.specs.declared.value.Value as value
+use Rattle.chord_base.specs.declared.event.Entry.{Entry}
+use Rattle.chord_word.specs.declared.cells.Word.{Word}
+use Rattle.chord_word.specs.Cells.{word_of, WordFits}
+use Rattle.chord_rule.specs.declared.view.Duty.{Duty}
+use Rattle.chord_rule.specs.declared.view.View.{View}
+use Rattle.chord_rule.specs.Moment.{Moment, Place}
+use Rattle.chord_rule.specs.Bags.{IsArmed, cell_of}
+use Rattle.chord_rule.specs.Duties.{HasDuty, MayRest}
+use Rattle.chord_rule.specs.Kinds.{saw_count, looked_head, looked_cell, rested}
+use Rattle.chord_rule.specs.Made.{key, IsChord}
+use Rattle.chord_rule.specs.Messages.{IsLinked}
+use Rattle.chord_rule.specs.StandsFor.{Unseen}
+use Rattle.chord_rule.specs.Stages.{Stage, Vacant, InHand, Armed, Spent, Posted, Played, Fresh, Placing, Flying, Claiming, Emptying, Unposted, Posting, Starting}
+use Rattle.chord_rule.specs.Tells.{IsLook, looks_count, looks_head, looks_cell, looks_place, rests}
+use Rattle.chord_rule.specs.Ways.{IsAt, HasDutyOn, HasWay, HasRoom, WayLaw}
+use Rattle.chord_rule.specs.declared.view.Way.{Way}
+use Rattle.chord_rule.specs.Whole.{Held, Whole}
+use Rattle.chord_rule.proofs.Agreeing as agreeing
+use Rattle.chord_rule.proofs.Bridge.{after, counter_step, load_cell, load_head, load_place}
+use Rattle.chord_rule.proofs.KeySteps.{head_key}
+use Rattle.chord_rule.proofs.Knowing as knowing
+use Rattle.chord_rule.proofs.Lists.{some_is}
+use Rattle.chord_rule.proofs.Moving.{unmoved}
+use Rattle.chord_rule.proofs.Puts.{at_inside}
+use Rattle.chord_rule.proofs.WaySteps.{way_room}
+use Rattle.chord_rule.proofs.Wholes as wholes
+use Rattle.atomic_table.proofs.Lists.{set_here}
+
+module _ {P : Type 0} (entries : P → List Entry) (arguments : P → List value.Value) (keeps_to : P → Type 0) (p : Program) (n : ℕ) (any : 0 < n) (small : n ≤ 65536) where
+  abbrev W : Moment P → Unseen → Type 0
+  W = Whole entries arguments keeps_to p n
+
+  abbrev H : State (Option P) View → Type 0
+  H = Held entries arguments keeps_to p n
+
+  -- a look at the counter
+  pub look_count_step : (id : ℕ) (me : Me (Option P) View) → me.0.gone ≡ false → Allows H n id me 0 (λ x. x) (looks_count (step n 0 0 0 none) me)
+  look_count_step id me live = counter_step Unseen W n id me (λ x. x) (looks_count (step n 0 0 0 none) me)
+      (λ m u whole at fits. (saw_count me.0 m.count, keeps, u, tt, wholes.whole_look_count entries arguments keeps_to p n small m u whole id me.0 at live, refl))
+
+  -- the ways of a desk have room
+  room_of : (m : Moment P) (u : Unseen) (id : ℕ) (v w : View) → get_elem? m.views id ≡ some v → W (record m { views = set m.views id w }) u → ((x : Way) → HasWay x w.looked.ways → WayLaw n u.order x)
+  room_of m u id v w at after = (after.desks.right id w (set_here m.views id w (at_inside m.views id v at))).ways
+
+  -- a look at the head of a bag
+  pub look_head_step : (id : ℕ) (me : Me (Option P) View) (o : Object) (j : ℕ) → me.0.gone ≡ false → o.number < n → j < 16
+      → Allows H n id me (1 + n + (16 * o.number + j)) (λ x. x) (looks_head o j (step n (1 + n + (16 * o.number + j)) 0 0 none) me)
+  look_head_step id me o j live low few = load_head Unseen W n id me (16 * o.number + j) (looks_head o j (step n (1 + n + (16 * o.number + j)) 0 0 none) me) (omega arith)
+      (λ m u whole at fits.
+      let h = m.heads (16 * o.number + j) in let w : View = looked_head me.0 (key o j) h in
+      let after : W (record m { views = set m.views id w }) u = subst (λ (k : ℕ). W (record m { views = set m.views id (looked_head me.0 (key o j) (m.heads k)) }) u) (head_key o j (omega (arith, low, small)) few) (wholes.whole_look_head entries arguments keeps_to p n small m u whole id me.0 at live (key o j)) in (
+        w,
+        keeps,
+        u,
+        tt,
+        subst (λ (k : ℕ). W (record m { views = set m.views id (looked_head me.0 (key o j) (m.heads k)) }) u) (head_key o j (omega (arith, low, small)) few) (wholes.whole_look_head entries arguments keeps_to p n small m u whole id me.0 at live (key o j)),
+        (h, refl, fits, refl, way_room n u.order w.looked.ways (room_of m u id me.0 w at after)),
+      ))
+
+  -- a look at a cell
+  pub look_cell_step : (id : ℕ) (me : Me (Option P) View) (i : ℕ) → me.0.gone ≡ false → i < n → Allows H n id me (1 + i) (λ x. x) (looks_cell (step n (1 + i) 0 0 none) me)
+  look_cell_step id me i live low = load_cell Unseen W n id me i (looks_cell (step n (1 + i) 0 0 none) me) low
+      (λ m u whole at good. let w : View = looked_cell me.0 i (m.cells i) in let after = wholes.whole_look_cell entries arguments keeps_to p n small m u whole id me.0 at live i in (
+        w,
+        keeps,
+        u,
+        tt,
+        wholes.whole_look_cell entries arguments keeps_to p n small m u whole id me.0 at live i,
+        (λ j e. let same : i ≡ j = omega arith in subst (λ (k : ℕ). (c : Word) × WordFits c × (word_of (m.cells i) ≡ word_of c) × IsLook n me.0 w k c × (me.1 ≡ me.1)) same (m.cells i, good, refl, tells m u whole at w refl after, refl)),
+      ))
+    where
+      on_way_bag : (m : Moment P) (u : Unseen) (whole : W m u) (at : get_elem? m.views id ≡ some me.0) → (ws : List Way) → ((x : Way) → HasWay x ws → WayLaw n u.order x) → IsAt i ws → (k : ℕ) × (u.order.bag i ≡ Some k)
+      on_way_bag m u whole at [] law t = absurd t
+      on_way_bag m u whole at (w ∷ ws) law t = let l = law w (inl refl) in (l.along, (l.place i t).0)
+
+      duty_bag : (m : Moment P) (u : Unseen) (whole : W m u) (at : get_elem? m.views id ≡ some me.0) → HasDutyOn i me.0.duties → (k : ℕ) × (u.order.bag i ≡ Some k)
+      duty_bag m u whole at d = (d.0.bag, sym (ap u.order.bag d.2) ∙ whole.agrees.tied.duties id me.0 at d.0 d.1)
+
+      tells : (m : Moment P) (u : Unseen) (whole : W m u) (at : get_elem? m.views id ≡ some me.0) (w : View) → w ≡ looked_cell me.0 i (m.cells i) → W (record m { views = set m.views id (looked_cell me.0 i (m.cells i)) }) u → IsLook n me.0 w i (m.cells i)
+      tells m u whole at w is after = let right = whole.desks.right id me.0 at in record {
+        looked = is;
+        room = subst (λ (y : View). HasRoom n y.looked.ways) (sym is) (way_room n u.order (looked_cell me.0 i (m.cells i)).looked.ways (room_of m u id me.0 (looked_cell me.0 i (m.cells i)) at after));
+        linked = λ t. let b = on_way_bag m u whole at me.0.looked.ways right.ways t in wholes.linked_cell entries arguments keeps_to p n small m u whole id me.0 at live i b.0 b.1;
+        armed = λ d. subst (λ (k : ℕ). IsArmed (cell_of m.cells k)) d.2 (right.armed d.0 d.1);
+        alone = λ a t. let b = ⊎_elim (on_way_bag m u whole at me.0.looked.ways right.ways) (duty_bag m u whole at) t in knowing.settled entries arguments keeps_to p n small m u whole id me.0 at live a i b.0 b.1;
+      }
+
+  -- a look at a place word
+  pub look_place_step : (id : ℕ) (me : Me (Option P) View) (i : ℕ) → i < n → Allows H n id me (1 + 17 * n + i) (λ x. x) (looks_place (step n (1 + 17 * n + i) 0 0 none) me)
+  look_place_step id me i low = load_place Unseen W n id me i (looks_place (step n (1 + 17 * n + i) 0 0 none) me) low
+      (λ m u whole at good. (
+        me.0,
+        keeps,
+        u,
+        tt,
+        unmoved entries arguments keeps_to p n any small m u whole id me.0 at,
+        (
+          refl,
+          (λ j e. let same : i ≡ j = omega arith in (
+            m.places i,
+            refl,
+            good,
+            (λ q s. whole.places.within i q s),
+            (λ d h is. let t = placed m u whole at d.message d.bag (whole.agrees.tied.duties id me.0 at d h) in (t.0, ap m.places (same ∙ sym is) ∙ t.1, t.2)),
+            (λ c h is. ap m.places (same ∙ sym is) ∙ (agreeing.it entries arguments keeps_to p n small m u whole.agrees id me.0 at c.number (InHand id (Claiming c)) (whole.agrees.stands.hands.holds id me.0 at c.number (Claiming c) (h, refl))).1.placed),
+          )),
+        ),
+      ))
+    where
+      -- a linked message has a place word, which names its bag
+      placed : (m : Moment P) (u : Unseen) (whole : W m u) (at : get_elem? m.views id ≡ some me.0) (k l : ℕ) → u.order.bag k ≡ Some l → (q : Place) × (m.places k ≡ Some q) × (l ≡ key q.0 q.1)
+      placed m u whole at k l b = go (u.stage k) refl
+        where
+          it : (s : Stage) → u.stage k ≡ s → agreeing.It entries arguments keeps_to p n small m u whole.agrees id me.0 at k s
+          it s e = agreeing.it entries arguments keeps_to p n small m u whole.agrees id me.0 at k s e
+
+          of : (x : Message) → IsLinked x (m.places k) (u.order.bag k) → (q : Place) × (m.places k ≡ Some q) × (l ≡ key q.0 q.1)
+          of x t = ((x.object, x.method), t.placed, some_is l (key x.object x.method) (sym b ∙ t.bagged))
+
+          go : (s : Stage) → u.stage k ≡ s → (q : Place) × (m.places k ≡ Some q) × (l ≡ key q.0 q.1)
+          go Vacant e = absurd (let z = sym (it Vacant e).1.unlinked ∙ b in cc)
+          go (InHand j Fresh) e = absurd (let z = sym (it (InHand j Fresh) e).1.unlinked ∙ b in cc)
+          go (InHand j Placing) e = absurd (let z = sym (it (InHand j Placing) e).5 ∙ b in cc)
+          go (InHand j (Flying a c)) e = let t = it (InHand j (Flying a c)) e in of t.0 t.2
+          go (InHand j (Claiming c)) e = let t = it (InHand j (Claiming c)) e in ((c.object, c.method), t.1.placed, some_is l (key c.object c.method) (sym b ∙ t.1.bagged))
+          go (InHand j Emptying) e = let t = it (InHand j Emptying) e in of t.0 t.2
+          go (InHand j Unposted) e = absurd (let z = sym (it (InHand j Unposted) e).1.unlinked ∙ b in cc)
+          go (InHand j Posting) e = absurd (let z = sym (it (InHand j Posting) e).4 ∙ b in cc)
+          go (InHand j Starting) e = absurd (let z = sym (it (InHand j Starting) e).4 ∙ b in cc)
+          go Armed e = let t = it Armed e in of t.0 t.2
+          go Spent e = let t = it Spent e in of t.0 t.2
+          go Posted e = absurd (let z = sym (it Posted e).4 ∙ b in cc)
+          go Played e = absurd (let z = sym (it Played e).4 ∙ b in cc)
+
+  -- a duty is laid down: each duty on this message in one of its bags may rest
+  pub rest_step : (id : ℕ) (me : Me (Option P) View) (d : Duty) → me.0.gone ≡ false → HasDuty d me.0.duties → ((e : Duty) → HasDuty e me.0.duties → e.message ≡ d.message → e.bag ≡ d.bag → MayRest (IsChord p) e)
+      → Allows H n id me 0 (λ x. x) (rests d.message (step n 0 0 0 none) me)
+  rest_step id me d live has may = counter_step Unseen W n id me (λ x. x) (rests d.message (step n 0 0 0 none) me)
+      (λ m u whole at fits. (
+        rested me.0 d.message,
+        keeps,
+        u,
+        tt,
+        wholes.whole_rest entries arguments keeps_to p n small m u whole id me.0 at live d.message
+            (λ e h is. may e h is (some_is e.bag d.bag (sym (whole.agrees.tied.duties id me.0 at e h) ∙ ap u.order.bag is ∙ whole.agrees.tied.duties id me.0 at d has))),
+        refl,
+      ))

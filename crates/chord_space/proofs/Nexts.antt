@@ -1,0 +1,15 @@
+-- The next of a message.
+use Rattle.std.proofs.Common.{ℕ, ◌<◌, ◌≤◌, Option, Some, None, IfSome, arith}
+use Rattle.chord_word.specs.declared.cells.Cell.TheVariants.{Pending}
+use Rattle.chord_word.specs.Cells.{NextFits, link_of}
+use Rattle.chord_rule.specs.Moment.{LinkOk}
+
+-- a number of the table fits in a word
+pub next_fits : (n : ℕ) (next : Option ℕ) → n ≤ 65536 → IfSome next (λ x. x < n) → NextFits Pending next
+next_fits n None small low = tt
+next_fits n (Some x) small low = (tt, omega arith)
+
+-- and in the word of a head
+pub link_low : (above : Option ℕ) → LinkOk above → link_of above ≤ 65536
+link_low None ok = omega arith
+link_low (Some x) ok = omega arith

@@ -1,0 +1,132 @@
+//! Messages are claimed, and given back or consumed.
+ghost use Rattle.std.specs.Prelude.{◌≡◌, ◌≢◌, ℕ, ◌<◌, true, Option, Some, None, OnOk, IfErr, IfSome, IsOk};
+ghost use Rattle.chord_base.specs.Story.{AllBelow};
+ghost use Rattle.chord_rule.specs.declared.view.Claim.{Claim};
+ghost use Rattle.chord_rule.specs.Claims.{HasThe, HasClaimOn};
+ghost use Rattle.chord_rule.specs.Kinds.{claimed, unclaimed, consumed, emptied, saw};
+ghost use Rattle.chord_rule.specs.Looks.{HasSeen};
+ghost use Rattle.chord_rule.specs.Tells.{word, a_word, IsNewClaim};
+ghost use Rattle.chord_rule.specs.Ways.{LastSeen};
+ghost use Rattle.chord_word.specs.declared.cells.Cell.TheVariants.{Pending, Claimed, Consumed};
+ghost use Rattle.chord_word.specs.Cells.{WordFits};
+ghost use Rattle.chord_space.specs.Desks.{view, code_of, limits_of, IsDeskOf, IsSameDesk};
+
+use crate::plays::{Consume, GiveBack, Governed, Hold, ReturnSlot, Take};
+use crate::space::{Desk, Space};
+use chord_code::carry::Carry;
+use chord_word::{Cell, Word, pack, unpack};
+use std::marker::Brand;
+
+/// The word of a message's cell.
+fn message_word(cell: Cell, next: Option<u32>) -> u64
+    requires { WordFits (a_word cell next) }
+    ensures { result ≡ word cell next }
+{
+    pack(&Word { cell, next })
+}
+
+impl<P: Carry> Space<P> {
+    /// Claims message i, whose cell the desk saw armed with this next; or gives the cell that the one exchange read, which is not
+    /// Pending. On a first desk that has lent none it is Ok where the desk last read or wrote that cell Pending with this next.
+    ///
+    /// Pairs with `arm` and `give_back` of this message: who claims it finds its parcel in its slot. One exchange decides who has it.
+    pub fn claim(&self, desk: &mut Desk<P>, i: u32, next: Option<u32>) -> Result<(), Cell>
+        requires desk { IsDeskOf self.now desk.old }
+        requires bounds { (i < self.now.events) × IfSome next (λ x. x < self.now.events) }
+        requires seen { HasSeen (view desk.old) i next }
+        ensures desk { IsSameDesk desk.old desk.new }
+        ensures claimed { OnOk result ((c : Claim) × IsNewClaim (view desk.old) i next c × (view desk.new ≡ saw (claimed (view desk.old) c) i (a_word Claimed next))) }
+        ensures refused { IfErr result (λ c. (c ≢ Pending) × ((after : Option ℕ) × (view desk.new ≡ saw (view desk.old) i (a_word c after)))) }
+        ensures alone { (view desk.old).first ≡ true → (view desk.old).lent ≡ 0 → LastSeen i (a_word Pending next) (view desk.old).looked.seen → IsOk result }
+    {
+        let words = &self.table.shared;
+        let pending = message_word(Cell::Pending, next);
+        let claimed = message_word(Cell::Claimed, next);
+        let found = words.compare_exchange::<Take>(
+            &mut desk.seat,
+            1 + i as usize,
+            pending,
+            claimed,
+        );
+        if found == pending {
+            return Ok(());
+        }
+        match unpack(found) {
+            Some(word) => Err(word.cell),
+            None => unreachable!(),
+        }
+    }
+
+    // The next of a message that the desk has claimed: nobody else changes its cell.
+    fn claimed_next(&self, desk: &mut Desk<P>, i: u32) -> Option<u32>
+        requires desk { IsDeskOf self.now desk.old }
+        requires bounds { i < self.now.events }
+        requires claimed { HasClaimOn i (view desk.old).claims }
+        ensures desk { IsSameDesk desk.old desk.new × (view desk.new ≡ view desk.old) }
+        ensures next { (c : Claim) → HasThe c (view desk.old).claims → c.number ≡ i → result ≡ c.next }
+        ensures fits { WordFits (a_word Claimed result) }
+        ensures one { (c d : Claim) → HasThe c (view desk.old).claims → HasThe d (view desk.old).claims → c.number ≡ i → d.number ≡ i → c ≡ d }
+    {
+        let found = self
+            .table
+            .shared
+            .load::<Hold>(&mut desk.seat, 1 + i as usize);
+        match unpack(found) {
+            Some(word) => word.next,
+            None => unreachable!(),
+        }
+    }
+
+    /// Gives back the claim on message i, with which no firing was drawn: its word is what it was before the claim.
+    ///
+    /// Pairs with each claim of this message.
+    pub fn give_back(&self, desk: &mut Desk<P>, i: u32)
+        requires desk { IsDeskOf self.now desk.old }
+        requires bounds { i < self.now.events }
+        requires claimed { (c : Claim) × HasThe c (view desk.old).claims × (c.number ≡ i) × (c.firing ≡ None) }
+        ensures desk { IsSameDesk desk.old desk.new }
+        ensures given { (c : Claim) → HasThe c (view desk.old).claims → c.number ≡ i → view desk.new ≡ saw (unclaimed (view desk.old) i) i (a_word Pending c.next) }
+    {
+        let next = self.claimed_next(desk, i);
+        let word = message_word(Cell::Pending, next);
+        self.table
+            .shared
+            .store::<GiveBack>(&mut desk.seat, 1 + i as usize, word);
+    }
+
+    // The first load reads the next, and the last one gives the empty slot back.
+    fn step_consume<J: Governed>(&self, desk: &mut Desk<P>, i: u32) -> P
+        requires governed { (J.parts ≡ code_of self.now) × (J.limits ≡ limits_of self.now) }
+        requires desk { IsDeskOf self.now desk.old }
+        requires bounds { i < self.now.events }
+        requires fired { (c : Claim) × (f : ℕ) × HasThe c (view desk.old).claims × (c.number ≡ i) × (c.firing ≡ Some f) }
+        ensures desk { IsSameDesk desk.old desk.new }
+        ensures taken { (c : Claim) → HasThe c (view desk.old).claims → c.number ≡ i → view desk.new ≡ emptied (saw (consumed (view desk.old) i (P.entries result)) i (a_word Consumed c.next)) }
+        ensures parcel { (c : Claim) → HasThe c (view desk.old).claims → c.number ≡ i → P.arguments result ≡ c.values }
+        ensures below { (c : Claim) (f : ℕ) → HasThe c (view desk.old).claims → c.number ≡ i → c.firing ≡ Some f → AllBelow f (P.entries result) }
+        ensures task { P.keeps_to result (code_of self.now) (limits_of self.now) }
+    {
+        let next = self.claimed_next(desk, i);
+        let word = message_word(Cell::Consumed, next);
+        let words = &self.table.shared;
+        words.store::<Consume<P, J>>(&mut desk.seat, 1 + i as usize, word);
+        let parcel = words.exchange(&mut desk.seat, i as usize, None);
+        words.load::<ReturnSlot>(&mut desk.seat, 0);
+        parcel.unwrap()
+    }
+
+    /// Consumes message i, which the desk has claimed, and with which it has drawn a firing. Its parcel comes with the entries that
+    /// it keeps, all drawn before the firing, and holds the values that the firing's entry has of it. The desk's duty on it is gone.
+    pub fn consume(&self, desk: &mut Desk<P>, i: u32) -> P
+        requires desk { IsDeskOf self.now desk.old }
+        requires bounds { i < self.now.events }
+        requires fired { (c : Claim) × (f : ℕ) × HasThe c (view desk.old).claims × (c.number ≡ i) × (c.firing ≡ Some f) }
+        ensures desk { IsSameDesk desk.old desk.new }
+        ensures taken { (c : Claim) → HasThe c (view desk.old).claims → c.number ≡ i → view desk.new ≡ emptied (saw (consumed (view desk.old) i (P.entries result)) i (a_word Consumed c.next)) }
+        ensures parcel { (c : Claim) → HasThe c (view desk.old).claims → c.number ≡ i → P.arguments result ≡ c.values }
+        ensures below { (c : Claim) (f : ℕ) → HasThe c (view desk.old).claims → c.number ≡ i → c.firing ≡ Some f → AllBelow f (P.entries result) }
+        ensures task { P.keeps_to result (code_of self.now) (limits_of self.now) }
+    {
+        self.step_consume::<Brand>(desk, i)
+    }
+}

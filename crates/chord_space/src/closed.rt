@@ -1,0 +1,90 @@
+//! A table is closed by the first desk once it is alone, and its parcels are taken.
+ghost use Rattle.std.specs.Prelude.{◌≡◌, ℕ, ◌<◌, ◌≤◌, true, [], Some, None, slice_get, slice_set};
+ghost use Rattle.chord_space.specs.Sealed.{AllFilled};
+
+use crate::looks::at_most;
+use crate::space::{Desk, Space};
+use atomic_table::Closed as Slots;
+use chord_code::carry::Carry;
+use std::alloc::Global;
+use std::snapshot::Snapshot;
+
+/// A closed table: how many entries its run has, the parcels that are at home, and what the desk that closed it knew.
+pub struct Closed<P> {
+    pub(crate) slots: Slots<Option<P>, Global>,
+    pub(crate) drawn: u32,
+    pub(crate) events: u32,
+    pub(crate) closing: Snapshot<Desk<P>>,
+    ghost full: { AllFilled slots.slots.filled slots.slots.len },
+    ghost long: { slots.slots.len ≡ events },
+}
+
+impl<P: Carry> Space<P> {
+    ghost use Rattle.chord_space.specs.Desks.{view, code_of, limits_of, IsDeskOf};
+    ghost use Rattle.chord_space.specs.Sealed.{IsSealed};
+    ghost use Rattle.chord_space.specs.Ends.{parcels, closing_view};
+
+    /// Closes the table with its first desk, which has lent none, has no claim and nothing in flight. What is closed is the last
+    /// moment of the run under the whole rule. The journal is complete where the desk knew that nothing was left to do (it looked
+    /// at all cells, none of which was woken or ready, and has no duty), and each body that it kept has ended or waits.
+    pub fn close(self, desk: Desk<P>) -> Closed<P>
+        requires desk { IsDeskOf self desk }
+        requires alone { ((view desk).first ≡ true) × ((view desk).lent ≡ 0) }
+        requires idle { ((view desk).claims ≡ []) × ((view desk).flight ≡ None) }
+        ensures sealed { IsSealed P.entries P.arguments P.keeps_to (code_of self) (limits_of self) desk.seat.id (view desk) (parcels result) result.drawn }
+        ensures view { closing_view result ≡ view desk }
+        ensures events { result.events ≡ self.events }
+    {
+        let closing = Snapshot::of(&desk);
+        let Space { table, events } = self;
+        let Desk { seat, above: _ } = desk;
+        let slots = table.close_with(seat);
+        let drawn = at_most(slots.word(0), events);
+        Closed {
+            slots,
+            drawn,
+            events,
+            closing,
+        }
+    }
+}
+
+impl<P> Closed<P> {
+    ghost use Rattle.chord_space.specs.Ends.{parcels, closing_view};
+
+    /// How many entries the run has.
+    pub fn drawn(&self) -> u32
+        ensures { result ≡ self.now.drawn }
+    {
+        self.drawn
+    }
+
+    /// Takes the parcel of number i that is at home, None exactly where none is.
+    pub fn parcel(&mut self, i: u32) -> Option<P>
+        requires { i < self.old.events }
+        ensures parcel { slice_get (parcels self.old) i ≡ Some result }
+        ensures taken { parcels self.new ≡ slice_set (parcels self.old) i None }
+        ensures rest { (self.new.drawn ≡ self.old.drawn) × (self.new.events ≡ self.old.events) × (closing_view self.new ≡ closing_view self.old) }
+    {
+        let parcel = self.slots.take(i as usize);
+        self.slots.slots.put(i as usize, None);
+        parcel
+    }
+}
+
+impl<P: Drop> Drop for Closed<P> {
+    fn drop(self) {
+        let Closed {
+            mut slots,
+            drawn: _,
+            events: _,
+            closing: _,
+        } = self;
+        let mut i = 0;
+        while i < slots.slot_count() {
+            drop(slots.take(i));
+            i += 1;
+        }
+        slots.free();
+    }
+}
