@@ -76,11 +76,11 @@ module _ (s cs : ℕ) (Q : ℕ → Type 0) where
   right_moved end p q xs e h = subst (λ r. AllRightIn s cs Q end r xs) e h
 
   -- two lists of right instructions are right joined
-  pub both_right : (end p : ℕ) (xs ys : List Instruction) → AllRightIn s cs Q end p xs → AllRightIn s cs Q end (p + length xs) ys → AllRightIn s cs Q end p (xs ++ ys)
-  both_right end p [] ys hx hy = let e : p + 0 ≡ p = omega arith in right_moved end (p + 0) p ys e hy
-  both_right end p (x ∷ xs) ys hx hy =
+  pub joined_right : (end p : ℕ) (xs ys : List Instruction) → AllRightIn s cs Q end p xs → AllRightIn s cs Q end (p + length xs) ys → AllRightIn s cs Q end p (xs ++ ys)
+  joined_right end p [] ys hx hy = let e : p + 0 ≡ p = omega arith in right_moved end (p + 0) p ys e hy
+  joined_right end p (x ∷ xs) ys hx hy =
       let e : p + suc (length xs) ≡ suc p + length xs = omega arith in
-      (hx.0, both_right end (suc p) xs ys hx.1 (right_moved end (p + suc (length xs)) (suc p + length xs) ys e hy))
+      (hx.0, joined_right end (suc p) xs ys hx.1 (right_moved end (p + suc (length xs)) (suc p + length xs) ys e hy))
 
   -- a part whose jumps stay in it, or lead to its end
   abbrev Part : ℕ → List Instruction → Type 0
@@ -90,7 +90,7 @@ module _ (s cs : ℕ) (Q : ℕ → Type 0) where
   two_parts : (p : ℕ) (xs ys : List Instruction) → Part p xs → Part (p + length xs) ys → Part p (xs ++ ys)
   two_parts p xs ys hx hy =
       let n = length-append xs ys in
-      both_right (p + length (xs ++ ys)) p xs ys (right_higher (p + length xs) (p + length (xs ++ ys)) p xs (omega (arith, n)) hx)
+      joined_right (p + length (xs ++ ys)) p xs ys (right_higher (p + length xs) (p + length (xs ++ ys)) p xs (omega (arith, n)) hx)
       (right_higher (p + length xs + length ys) (p + length (xs ++ ys)) (p + length xs) ys (omega (arith, n)) hy)
 
   -- two ways of a test are a part
@@ -104,9 +104,9 @@ module _ (s cs : ℕ) (Q : ℕ → Type 0) where
       let n1 = length-append c tail in
       let n2 = length-append first (i.Jump (a2 + length other) ∷ other) in
       let end = p + length (c ++ tail) in
-      both_right end p c tail (right_higher (p + length c) end p c (omega (arith, n1)) hc) (
+      joined_right end p c tail (right_higher (p + length c) end p c (omega (arith, n1)) hc) (
         (omega arith, omega (arith, n1, n2)),
-        both_right end (suc (p + length c)) first (i.Jump (a2 + length other) ∷ other)
+        joined_right end (suc (p + length c)) first (i.Jump (a2 + length other) ∷ other)
             (right_moved end a1 (suc (p + length c)) first (omega arith) (right_higher (a1 + length first) end a1 first (omega (arith, n1, n2)) (ht a1)))
             ((omega arith, omega (arith, n1, n2)), right_moved end a2 (suc (suc (p + length c) + length first)) other (omega arith) (right_higher (a2 + length other) end a2 other (omega (arith, n1, n2)) (hu a2))),
       )
@@ -119,7 +119,7 @@ module _ (s cs : ℕ) (Q : ℕ → Type 0) where
       let tail : List Instruction = i.Skip (a1 + length first) ∷ first in
       let n1 = length-append c tail in
       let end = p + length (c ++ tail) in
-      both_right end p c tail (right_higher (p + length c) end p c (omega (arith, n1)) hc)
+      joined_right end p c tail (right_higher (p + length c) end p c (omega (arith, n1)) hc)
       ((omega arith, omega (arith, n1)), right_moved end a1 (suc (p + length c)) first (omega arith) (right_higher (a1 + length first) end a1 first (omega (arith, n1)) (ht a1)))
 
 -- the instruction of an operator is right everywhere
@@ -285,9 +285,9 @@ module _ (sig : Signatures) (p : Resolved) (plan : IsPlanned sig p) where
           let end = a + length (i.Jump test ∷ (inner ++ tail)) in
           let cs = length p.classes in (
             (omega arith, omega (arith, n1, n2)),
-            both_right s cs Q end (suc a) inner tail
+            joined_right s cs Q end (suc a) inner tail
                 (right_moved s cs Q end (a + 1) (suc a) inner (omega arith) (right_higher s cs Q (a + 1 + length inner) end (a + 1) inner (omega (arith, n1, n2)) (statement_part b types due x g is.0 is.2 l (a + 1))))
-                (both_right s cs Q end (suc a + length inner) c (i.Again (a + 1) ∷ [])
+                (joined_right s cs Q end (suc a + length inner) c (i.Again (a + 1) ∷ [])
                 (right_moved s cs Q end test (suc a + length inner) c (omega arith) (right_higher s cs Q (test + length c) end test c (omega (arith, n1, n2)) (expression_part e g (Some ty.Bool) is.1 l test)))
                 (omega (arith, some), tt)),
           )

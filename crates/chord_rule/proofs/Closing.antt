@@ -133,7 +133,7 @@ module _ {P : Type 0} (entries : P → List Entry) (arguments : P → List value
   stand i x q c e = go c e
     where
       shows : IsPending m.cells m.views u.order i x
-      shows = waiting.pending_shows p u.journal m.cells m.places m.homes u.order m.views u.stage law.stands.keeping.merged.past law.stands.hands law.stands.messages law.stands.firings i x q
+      shows = waiting.shown_pending p u.journal m.cells m.places m.homes u.order m.views u.stage law.stands.keeping.merged.past law.stands.hands law.stands.messages law.stands.firings i x q
 
       not_waiting : (d : Cell) → cell_of m.cells i ≡ d → (IsWaiting d → ⊥) → ⊥
       not_waiting d e none_waits = none_waits (subst IsWaiting e shows.waiting)

@@ -30,8 +30,8 @@ module _ (IsChord : List ℕ → Type 0) (cells : ℕ → Word) (views : List Vi
       (λ m. inr (x, inl refl, m)) (stands (cell_of cells x) x refl w.0)
 
   -- of waiting messages to the bags of a chord, which has a bag, one is minded
-  pub one_is_minded : (ks xs : List ℕ) → IsChord ks → (k : ℕ) × HasNumber k ks → AreTo bag_of ks xs → AllWaiting cells xs → (x : ℕ) × HasNumber x xs × IsMinded cells views x
-  one_is_minded ks xs chord first to waiting = ⊎_elim
+  pub one_of_keys_minded : (ks xs : List ℕ) → IsChord ks → (k : ℕ) × HasNumber k ks → AreTo bag_of ks xs → AllWaiting cells xs → (x : ℕ) × HasNumber x xs × IsMinded cells views x
+  one_of_keys_minded ks xs chord first to waiting = ⊎_elim
       (λ c. ⊎_elim
       (λ n. (n.1, n.3, inr (inr (inl (n.0, n.2)))))
       (λ d. (d.2.message, d.5.of, inr (inr (inr (d.0, d.1, d.2, d.3, d.4, refl)))))

@@ -25,7 +25,7 @@ use Rattle.chord_rule.specs.Bags.{Order, IsConsumed, IsArmed, cell_of}
 use Rattle.chord_rule.specs.Made.{key, keys, IsChord, IsTabled}
 use Rattle.chord_rule.specs.Numbers.{HasNumber}
 use Rattle.chord_rule.specs.Duties.{DutyLaw}
-use Rattle.chord_rule.proofs.Minding.{one_is_minded}
+use Rattle.chord_rule.proofs.Minding.{one_of_keys_minded}
 use Rattle.chord_rule.specs.Claims.{HasThe, AreClaimed}
 use Rattle.chord_rule.specs.Hands.{Hands, IsUnarmed}
 use Rattle.chord_rule.specs.Minded.{IsWaiting, IsMinded, AreTo, AllWaiting}
@@ -191,8 +191,8 @@ module _ {P : Type 0} (p : Program) (h : List Entry) (cells : ℕ → Word) (pla
   armed_pending i e = let t = stands i Armed e in (t.0, pending_is p h i past (taken i Armed e) ∙ t.1)
 
   -- a message whose cell is Pending is pending
-  pub cell_pending : (i : ℕ) → cell_of cells i ≡ a_cell.Pending → (m : Message) × (pending i h ≡ Some m)
-  cell_pending i e = armed_pending i (pending_armed (stage i) (what_at i h) (cells i) (places i) (homes i) (o.bag i) (o.next i) (messages.stands i) e)
+  pub pending_by_cell : (i : ℕ) → cell_of cells i ≡ a_cell.Pending → (m : Message) × (pending i h ≡ Some m)
+  pending_by_cell i e = armed_pending i (pending_armed (stage i) (what_at i h) (cells i) (places i) (homes i) (o.bag i) (o.next i) (messages.stands i) e)
 
   -- a Pending or Woken cell is that of a message that no firing has taken
   open_waits : (c : Cell) → IsOpen c → IsWaiting c
@@ -247,8 +247,8 @@ module _ {P : Type 0} (p : Program) (h : List Entry) (cells : ℕ → Word) (pla
   pending_stage i m Played e says free = absurd (no_message (what_at i h) m (inr (stands i Played e).0) says)
 
   -- what the table shows of a pending message
-  pub pending_shows : (i : ℕ) (m : Message) → pending i h ≡ Some m → IsPending cells views o i m
-  pending_shows i m q = let t = pending_was p h i m past q in pending_stage i m (stage i) refl t.0 t.1
+  pub shown_pending : (i : ℕ) (m : Message) → pending i h ≡ Some m → IsPending cells views o i m
+  shown_pending i m q = let t = pending_was p h i m past q in pending_stage i m (stage i) refl t.0 t.1
 
   -- ## What cells say of firings
 
@@ -299,8 +299,8 @@ module _ {P : Type 0} (p : Program) (h : List Entry) (cells : ℕ → Word) (pla
   some_took i (Some f) e s = (f, taker_took h i f e)
 
   -- a message whose cell is consumed was taken by a firing
-  pub consumed_taken : (i : ℕ) → IsConsumed (cell_of cells i) → (f : ℕ) × Took h f i
-  consumed_taken i a = some_took i (taker i h) refl (consumed_some i (stage i) refl a)
+  pub taken_when_consumed : (i : ℕ) → IsConsumed (cell_of cells i) → (f : ℕ) × Took h f i
+  taken_when_consumed i a = some_took i (taker i h) refl (consumed_some i (stage i) refl a)
 
   -- a message that a desk has claimed, and drawn a firing with, was taken by that firing
   pub claim_taken : (id : ℕ) (v : View) → get_elem? views id ≡ some v → (c : Claim) (f : ℕ) → HasThe c v.claims → c.firing ≡ Some f → Took h f c.number
@@ -336,8 +336,8 @@ module _ {P : Type 0} (p : Program) (h : List Entry) (cells : ℕ → Word) (pla
   taken_stage i f Played e t = absurd (let z = sym (taken i Played e) ∙ t in cc)
 
   -- what a firing took is consumed, or claimed by a desk that has drawn that firing
-  pub taken_shows : (i f : ℕ) → Took h f i → IsConsumed (cell_of cells i) ⊎ IsClaimedFor f i
-  taken_shows i f t = taken_stage i f (stage i) refl (took_is i f t)
+  pub shown_taken : (i f : ℕ) → Took h f i → IsConsumed (cell_of cells i) ⊎ IsClaimedFor f i
+  shown_taken i f t = taken_stage i f (stage i) refl (took_is i f t)
 
   -- ## One of the pending messages is minded
 
@@ -362,7 +362,7 @@ module _ {P : Type 0} (p : Program) (h : List Entry) (cells : ℕ → Word) (pla
   takes_to object (j ∷ js) (i ∷ ms) vs t =
       let m : Message = record { object = object; method = j; arguments = t.0 } in
       let was = pending_was p h i m past t.2 in let rest = takes_to object js ms t.1 t.4 in
-      ((ap to_bag was.0, rest.0), ((pending_shows i m t.2).waiting, rest.1))
+      ((ap to_bag was.0, rest.0), ((shown_pending i m t.2).waiting, rest.1))
 
   has_true : (i : ℕ) (ms : List ℕ) → HasNumber i ms → has i ms ≡ true
   has_true i [] k = absurd k
@@ -375,5 +375,5 @@ module _ {P : Type 0} (p : Program) (h : List Entry) (cells : ℕ → Word) (pla
   pub minded_fires : IsTabled p → DutyLaw (IsChord p) cells views o → (k : ℕ) (object : Object) → object.number < 65536 → (ms : List ℕ) (vs : List value.Value) → Fires p h k object ms vs → (i : ℕ) × (has i ms ≡ true) × IsMinded cells views i
   minded_fires tabled duty k object low ms vs f =
       let t = takes_to object f.0 ms vs f.2 in let j = tabled.some_method object.class k f.0 f.1 in
-      let r = one_is_minded (IsChord p) cells views o duty target armed_bag (keys object f.0) ms (object, k, f.0, f.1, low, refl) (key object j.0, has_key object j.0 f.0 j.1) t.0 t.1 in
+      let r = one_of_keys_minded (IsChord p) cells views o duty target armed_bag (keys object f.0) ms (object, k, f.0, f.1, low, refl) (key object j.0, has_key object j.0 f.0 j.1) t.0 t.1 in
       (r.0, has_true r.0 ms r.1, r.2)
