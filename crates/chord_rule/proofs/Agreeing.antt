@@ -70,11 +70,13 @@ was_duty d x (e ∷ es) h = cases (eqb e.message x) h (λ k. was_duty d x es k)
     cases true k later = inr (later k)
     cases false k later = ⊎_elim inl (λ z. inr (later z)) k
 
+-- a duty of the first list is one of the two lists together
 has_left : (d : Duty) (xs ys : List Duty) → HasDuty d xs → HasDuty d (xs ++ ys)
 has_left d [] ys h = absurd h
 has_left d (x ∷ xs) ys (inl e) = inl e
 has_left d (x ∷ xs) ys (inr h) = inr (has_left d xs ys h)
 
+-- a duty of the second list is one of the two lists together
 has_right : (d : Duty) (xs ys : List Duty) → HasDuty d ys → HasDuty d (xs ++ ys)
 has_right d [] ys h = h
 has_right d (x ∷ xs) ys h = inr (has_right d xs ys h)
@@ -97,9 +99,11 @@ reset_carries o d xs c = record { on = refl; of = c.of; walks = λ w h. absurd h
 
 module _ {P : Type 0} (entries : P → List Entry) (arguments : P → List value.Value) (keeps_to : P → Type 0) (p : Program) (n : ℕ) (small : n ≤ 65536) (m : Moment P) (u : Unseen) (law : Agrees entries arguments keeps_to p n m u)
     (id : ℕ) (v : View) (at : get_elem? m.views id ≡ some v) where
+  -- what this stage says of the number i holds of its entry, its cell, its place word, its slot, its bag and its next
   abbrev pub It : ℕ → Stage → Type 0
   It i s = Stands s (what_at i u.journal) (m.cells i) (m.places i) (m.homes i) (u.order.bag i) (u.order.next i)
 
+  -- a number stands as its stage says
   pub it : (i : ℕ) (s : Stage) → u.stage i ≡ s → It i s
   it i s e = subst (It i) e (law.stands.messages.stands i)
 
@@ -119,9 +123,11 @@ module _ {P : Type 0} (entries : P → List Entry) (arguments : P → List value
   counting_stays : (w : View) → w.spent ≡ v.spent → w.splits ≡ v.splits → Counting n m.count (set m.views id w)
   counting_stays w a b = counts n m.count m.count m.views id v w law.counting at (let c = law.counting.bound in let t = told_set m.views id v w at in let f = ap flag a in omega arith) (λ _. b)
 
+  -- each desk knows the bags of its duties after a step that links nothing, if the desk that steps does
   tied_stays : (w : View) → ((d : Duty) → HasDuty d w.duties → u.order.bag d.message ≡ Some d.bag) → Tied (set m.views id w) u.order.bag
   tied_stays w mine = record { duties = desks_after (λ j x. (d : Duty) → HasDuty d x.duties → u.order.bag d.message ≡ Some d.bag) m.views id w mine (λ j x ne a. law.tied.duties j x a) }
 
+  -- each desk knows the bags of its duties after a step that links nothing and keeps the duties of the desk that steps
   tied_same : (w : View) → w.duties ≡ v.duties → Tied (set m.views id w) u.order.bag
   tied_same w same = tied_stays w (λ d h. law.tied.duties id v at d (subst (HasDuty d) same h))
 
@@ -133,9 +139,11 @@ module _ {P : Type 0} (entries : P → List Entry) (arguments : P → List value
   one_stood : (i : ℕ) (x : Word) → (IsStanding x.cell → IsStanding (cell_of m.cells i)) → (y : ℕ) → IsStanding (cell_of (put m.cells i x) y) → IsStanding (cell_of m.cells y)
   one_stood i x stood y s = put_all m.cells i x (λ y c. IsStanding c.cell → IsStanding (cell_of m.cells y)) y stood (λ ne t. t) s
 
+  -- where a cell that was not woken is written, each woken cell names the same message as before
   one_woken : (i : ℕ) (x : Word) → ((z : ℕ) → cell_of m.cells i ≡ a_cell.Woken z → ⊥) → (q z : ℕ) → cell_of m.cells q ≡ a_cell.Woken z → cell_of (put m.cells i x) q ≡ a_cell.Woken z
   one_woken i x not_woken q z e = ap (λ (c : Word). c.cell) (put_else m.cells i x q (λ s. not_woken z (sym (ap (cell_of m.cells) s) ∙ e))) ∙ e
 
+  -- the table still agrees where a view keeps all but its ways, what it remembers of the counter and of heads, `lent` and `gone`
   pub agrees_still : (w : View) → hand w ≡ hand v → w.kept ≡ v.kept → w.duties ≡ v.duties → w.spent ≡ v.spent → w.splits ≡ v.splits → w.first ≡ v.first → w.drawn ≡ v.drawn → w.looked.seen ≡ v.looked.seen → Agrees entries arguments keeps_to p n (record m { views = set m.views id w }) u
   agrees_still w same kept duties spent splits first drawn looked = record {
     tabled = law.tabled;
@@ -149,6 +157,7 @@ module _ {P : Type 0} (entries : P → List Entry) (arguments : P → List value
     duties = duties_stay w m.cells duties (λ x s. s) (λ q x e. e);
   }
 
+  -- the table still agrees once the desk is told that the limit is reached
   pub agrees_told : 0 < n → n ≤ m.count → v.spent ≡ false → Agrees entries arguments keeps_to p n (record m { count = m.count + 1; views = set m.views id (was_told v) }) u
   agrees_told any full untold = let b = law.counting.bound in let t = told_set m.views id v (was_told v) at in let f : flag v.spent ≡ 0 = ap flag untold in record {
     tabled = law.tabled;
@@ -162,6 +171,7 @@ module _ {P : Type 0} (entries : P → List Entry) (arguments : P → List value
     duties = duties_stay (was_told v) m.cells refl (λ x s. s) (λ q x e. e);
   }
 
+  -- the table still agrees once an own entry is drawn
   pub agrees_draw : (b : ℕ) (what : What) → m.count < n → IsOwn what → Asks p v.kept b what
       → Agrees entries arguments keeps_to p n (record m { count = m.count + 1; views = set m.views id (drew v m.count b what) }) (record u { journal = entry m.count b what ∷ u.journal; stage = kinds.drawn_stage id m.count what u.stage })
   agrees_draw b what room own asks = let keys = bagging.bag_draw entries arguments keeps_to p n small m u law.stands law.heads law.bags b what room in record {
@@ -197,6 +207,7 @@ module _ {P : Type 0} (entries : P → List Entry) (arguments : P → List value
         duties = duties_stay (drew v m.count 0 Begun) m.cells refl (λ x s. s) (λ q x e. e);
       }
 
+  -- the table still agrees once a firing is drawn with claims on its members
   pub agrees_draw_firing : (k : ℕ) (object : Object) (js ms : List ℕ) (vs : List value.Value) → m.count < n → slice_get (p.chords object.class) k ≡ Some js → AreClaimed v.claims object js ms vs
       → Agrees entries arguments keeps_to p n (record m { count = m.count + 1; views = set m.views id (kinds.fired v m.count k object ms vs) })
       (record u { journal = entry m.count m.count (Fired k object ms vs) ∷ u.journal; stage = kinds.fired_stage id m.count ms u.stage })
@@ -212,6 +223,7 @@ module _ {P : Type 0} (entries : P → List Entry) (arguments : P → List value
     duties = duties_stay w m.cells refl (λ x s. s) (λ q x e. e);
   }
 
+  -- the table still agrees once the place word of a message is set and its slot is out
   pub agrees_place : (i : ℕ) (e : Entry) (x : Message) → IsIn e v.kept → e.number ≡ i → message_of e.what ≡ Some x → HasNumber i v.fresh → v.placing ≡ None
       → Agrees entries arguments keeps_to p n (record m { places = put m.places i (Some (x.object, x.method)); homes = put m.homes i none; views = set m.views id (kinds.address_set v i) }) (record u { stage = put u.stage i (InHand id Placing) })
   agrees_place i e x is num says has free = record {
@@ -226,6 +238,7 @@ module _ {P : Type 0} (entries : P → List Entry) (arguments : P → List value
     duties = duties_stay (kinds.address_set v i) m.cells refl (λ x s. s) (λ q x e. e);
   }
 
+  -- the table still agrees once a message is linked at the head of its bag and its parcel is in its slot
   pub agrees_link : IsTabled p → (i : ℕ) (q : P) (e : Entry) (x : Message) → IsIn e v.kept → e.number ≡ i → message_of e.what ≡ Some x → x.method < 16 → v.placing ≡ Some i → v.flight ≡ None
       → MayGo p v.kept (entries q) → ((e : Entry) (x : Message) → IsIn e (entries q) → message_of e.what ≡ Some x → (e.number ≡ i) ⊎ (IsUnlinked (hand v) e.number → ⊥)) → x.arguments ≡ arguments q → ((e : Entry) → IsIn e v.kept → IsCall i e → IsIn e (entries q))
       → ((b : ℕ) → Begins b (entries q) → IsParked p (entries q) (Some i) (doing p (entries q) b)) → keeps_to q
@@ -248,6 +261,7 @@ module _ {P : Type 0} (entries : P → List Entry) (arguments : P → List value
         duties = link_duty (IsKey u.journal) (IsChord p) m u.order i k above id v w at t.5 (ap (λ (c : Word). c.cell) t.2) (λ e h. h) law.bags law.duties;
       }
 
+  -- the table still agrees once a linked message is armed
   pub agrees_arm : (i : ℕ) → v.flight ≡ Some i
       → Agrees entries arguments keeps_to p n (record m { cells = put m.cells i (record { cell = a_cell.Pending; next = v.above }); views = set m.views id (kinds.armed v i) }) (record u { stage = put u.stage i Armed })
   agrees_arm i flying = let was = law.stands.hands.holds id v at i (Flying v.bag v.above) (flying, refl, refl) in let t = it i (InHand id (Flying v.bag v.above)) was in record {
@@ -262,6 +276,7 @@ module _ {P : Type 0} (entries : P → List Entry) (arguments : P → List value
     duties = arm_duty (IsKey u.journal) (IsChord p) m u.order id i v.bag (record { cell = a_cell.Pending; next = v.above }) v (kinds.armed v i) at (ap (λ (c : Word). c.cell) t.3) refl refl law.duties;
   }
 
+  -- the table still agrees once a pending message is claimed
   pub agrees_claim : (i : ℕ) (next : Option ℕ) (x : Message) → m.cells i ≡ record { cell = a_cell.Pending; next = next } → message_in (what_at i u.journal) ≡ Some x
       → Agrees entries arguments keeps_to p n (record m { cells = put m.cells i (record { cell = a_cell.Claimed; next = next }); views = set m.views id (claimed v (claim_on i next x)) }) (record u { stage = put u.stage i (InHand id (Claiming (claim_on i next x))) })
   agrees_claim i next x is says = let w : View = claimed v (claim_on i next x) in let y : Word = record { cell = a_cell.Claimed; next = next } in record {
@@ -277,6 +292,7 @@ module _ {P : Type 0} (entries : P → List Entry) (arguments : P → List value
         (one_woken i y (λ z e. let t = sym (ap (λ (c : Word). c.cell) is) ∙ e in absurd (cc)));
   }
 
+  -- the table still agrees once a claim for no firing is given back
   pub agrees_give_back : (c : Claim) → HasThe c v.claims → c.firing ≡ None
       → Agrees entries arguments keeps_to p n (record m { cells = put m.cells c.number (record { cell = a_cell.Pending; next = c.next }); views = set m.views id (kinds.unclaimed v c.number) }) (record u { stage = put u.stage c.number Armed })
   agrees_give_back c has free = let w : View = kinds.unclaimed v c.number in let y : Word = record { cell = a_cell.Pending; next = c.next } in let is = standing.claim_word entries arguments keeps_to p n m u law.stands id v at c has in record {
@@ -292,6 +308,7 @@ module _ {P : Type 0} (entries : P → List Entry) (arguments : P → List value
         (one_woken c.number y (λ z e. let t = sym (ap (λ (c : Word). c.cell) is) ∙ e in absurd (cc)));
   }
 
+  -- the table still agrees once a message that is claimed for a firing is consumed and its slot is out
   pub agrees_consume : (c : Claim) (f : ℕ) (q : P) → HasThe c v.claims → c.firing ≡ Some f → v.emptying ≡ None → m.homes c.number ≡ some (Some q)
       → Agrees entries arguments keeps_to p n (record m { cells = put m.cells c.number (record { cell = a_cell.Consumed; next = c.next }); homes = put m.homes c.number none; views = set m.views id (kinds.consumed v c.number (entries q)) })
       (record u { stage = put u.stage c.number (InHand id Emptying) })
@@ -307,6 +324,7 @@ module _ {P : Type 0} (entries : P → List Entry) (arguments : P → List value
     duties = take_duty (IsKey u.journal) (IsChord p) m u.order id c.number y v w at (subst (λ (c : Word). IsStanding c.cell) (sym is) tt) refl (λ e h. has_duty e c.number v.duties h) law.duties;
   }
 
+  -- the table still agrees once the slot of a consumed message is home again
   pub agrees_empty : (i : ℕ) → v.emptying ≡ Some i → Agrees entries arguments keeps_to p n (record m { homes = put m.homes i (some None); views = set m.views id (kinds.emptied v) }) (record u { stage = put u.stage i Spent })
   agrees_empty i emptying = record {
     tabled = law.tabled;
@@ -320,6 +338,7 @@ module _ {P : Type 0} (entries : P → List Entry) (arguments : P → List value
     duties = duties_stay (kinds.emptied v) m.cells refl (λ x s. s) (λ q x e. e);
   }
 
+  -- the table still agrees once the slot of a firing that is not posted is out
   pub agrees_posting : (f : ℕ) → HasNumber f v.unposted → v.posting ≡ None → Agrees entries arguments keeps_to p n (record m { homes = put m.homes f none; views = set m.views id (kinds.posting v f) }) (record u { stage = put u.stage f (InHand id Posting) })
   agrees_posting f has free = record {
     tabled = law.tabled;
@@ -333,6 +352,7 @@ module _ {P : Type 0} (entries : P → List Entry) (arguments : P → List value
     duties = duties_stay (kinds.posting v f) m.cells refl (λ x s. s) (λ q x e. e);
   }
 
+  -- the table still agrees once a firing is posted and its parcel is in its slot
   pub agrees_post : (f : ℕ) (q : P) → v.posting ≡ Some f → MayGo p v.kept (entries q) → ((e : Entry) (x : Message) → IsIn e (entries q) → message_of e.what ≡ Some x → IsUnlinked (hand v) e.number → ⊥)
       → Begins f (entries q) → ((e : Entry) → IsIn e (entries q) → e.body ≡ f → e.number ≡ f) → ((b : ℕ) → (b ≡ f → ⊥) → Begins b (entries q) → IsParked p (entries q) None (doing p (entries q) b)) → keeps_to q
       → Agrees entries arguments keeps_to p n (record m { cells = put m.cells f (record { cell = a_cell.Ready; next = None }); homes = put m.homes f (some (Some q)); views = set m.views id (kinds.posted v (entries q)) }) (record u { stage = put u.stage f Posted })
@@ -348,6 +368,7 @@ module _ {P : Type 0} (entries : P → List Entry) (arguments : P → List value
     duties = duties_stay w (put m.cells f y) refl (one_stood f y (λ s. absurd s)) (one_woken f y (λ z e. let q = sym (ap (λ (c : Word). c.cell) t.1) ∙ e in absurd (cc)));
   }
 
+  -- the table still agrees once a ready firing is started and its slot is out
   pub agrees_start : (f : ℕ) (q : P) → (m.cells f).cell ≡ a_cell.Ready → v.starting ≡ None → m.homes f ≡ some (Some q)
       → Agrees entries arguments keeps_to p n (record m { cells = put m.cells f (record { cell = a_cell.Started; next = None }); homes = put m.homes f none; views = set m.views id (kinds.firing_started v f (entries q)) }) (record u { stage = put u.stage f (InHand id Starting) })
   agrees_start f q is free home = let w : View = kinds.firing_started v f (entries q) in let y : Word = record { cell = a_cell.Started; next = None } in record {
@@ -362,6 +383,7 @@ module _ {P : Type 0} (entries : P → List Entry) (arguments : P → List value
     duties = duties_stay w (put m.cells f y) refl (one_stood f y (λ s. absurd s)) (one_woken f y (λ z e. let q = sym is ∙ e in absurd (cc)));
   }
 
+  -- the table still agrees once the slot of a started firing is home again
   pub agrees_play : (f : ℕ) → v.starting ≡ Some f → Agrees entries arguments keeps_to p n (record m { homes = put m.homes f (some None); views = set m.views id (kinds.played v) }) (record u { stage = put u.stage f Played })
   agrees_play f starting = record {
     tabled = law.tabled;
@@ -434,6 +456,7 @@ module _ {P : Type 0} (entries : P → List Entry) (arguments : P → List value
     duties = duties;
   }
 
+  -- a cell that is armed and free is not consumed
   open_standing : (c : Cell) → IsOpen c → IsConsumed c → ⊥
   open_standing a_cell.Pending t a = a
   open_standing (a_cell.Woken q) t a = a
@@ -443,6 +466,7 @@ module _ {P : Type 0} (entries : P → List Entry) (arguments : P → List value
   open_standing a_cell.Ready t a = t
   open_standing a_cell.Started t a = t
 
+  -- a cell that is armed and free is armed
   open_armed : (c : Cell) → IsOpen c → IsArmed c
   open_armed a_cell.Pending t = tt
   open_armed (a_cell.Woken q) t = tt

@@ -109,15 +109,19 @@ quiet_asks p (Ready s k rs) t = absurd t
 
 module _ {P : Type 0} (entries : P → List Entry) (arguments : P → List value.Value) (keeps_to : P → Type 0) (p : Program) (n : ℕ) (any : 0 < n) (small : n ≤ 65536) (m : Moment P) (u : Unseen) (whole : Whole entries arguments keeps_to p n m u)
     (id : ℕ) (v : View) (at : get_elem? m.views id ≡ some v) (here : v.gone ≡ false) (may : MayClose v) where
+  -- the first part of the rule holds
   law : Agrees entries arguments keeps_to p n m u
   law = whole.agrees
 
+  -- the desk that closes is desk 0
   at_first : get_elem? m.views 0 ≡ some v
   at_first = ap (get_elem? m.views) (sym (law.firsts.leads id v at may.first)) ∙ at
 
+  -- each desk is the one that closes, or gone
   who : (j : ℕ) (w : View) → get_elem? m.views j ≡ some w → (w ≡ v) ⊎ (w ≡ gone)
   who = knowing.who entries arguments keeps_to p n small m u whole id v at here may.first may.lent
 
+  -- the counter is what the desk that closes remembers of it
   count_is : m.count ≡ may.count
   count_is = (whole.alone.alone v at_first may.lent).counter may.count may.counted
 
@@ -166,6 +170,7 @@ module _ {P : Type 0} (entries : P → List Entry) (arguments : P → List value
   chosen o (j ∷ js) (i ∷ ms) vs t =
       let s = stand i (record { object = o; method = j; arguments = t.0 }) t.2 (cell_of m.cells i) refl in (s.0, s.1, chosen o js ms t.1 t.4)
 
+  -- no desk has a duty
   no_duty : (d : Duty) (j : ℕ) (w : View) → get_elem? m.views j ≡ some w → HasDuty d w.duties → ⊥
   no_duty d j w there has = ⊎_elim
       (λ y. subst (HasDuty d) (ap (λ (z : View). z.duties) y ∙ may.duties) has)

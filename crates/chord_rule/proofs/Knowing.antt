@@ -41,6 +41,7 @@ use Rattle.chord_rule.proofs.Wholes.{whole_claim}
 
 module _ {P : Type 0} (entries : P → List Entry) (arguments : P → List value.Value) (keeps_to : P → Type 0) (p : Program) (n : ℕ) (small : n ≤ 65536) (m : Moment P) (u : Unseen) (whole : Whole entries arguments keeps_to p n m u)
     (id : ℕ) (v : View) (at : get_elem? m.views id ≡ some v) (here : v.gone ≡ false) where
+  -- the first part of the rule holds
   law : Agrees entries arguments keeps_to p n m u
   law = whole.agrees
 
@@ -87,6 +88,7 @@ module _ {P : Type 0} (entries : P → List Entry) (arguments : P → List value
       other ne false e = let live = other_live m.count m.heads m.cells m.views whole.alone law.firsts.leads j w there e ne in
           let some_live = live_some m.views j w there live in let lent = whole.alone.lent v (ap (get_elem? m.views) (sym zero_id) ∙ at) in absurd (omega (arith, some_live, lent, none_lent))
 
+  -- the cell of a message that is armed and free is settled
   open_settled : (c : Cell) → IsOpen c → IsSettledCell c
   open_settled a_cell.Pending t = tt
   open_settled (a_cell.Woken q) t = tt

@@ -227,6 +227,7 @@ module _ {P : Type 0} (entries : P → List Entry) (arguments : P → List value
         ),
       ))
 
+  -- the table allows a desk to give back a claim for no firing
   pub give_step : (id : ℕ) (me : Me (Option P) View) (c : Claim) → me.0.gone ≡ false → c.number < n → HasThe c me.0.claims → c.firing ≡ None
       → Allows H n id me (1 + c.number) (λ _. word a_cell.Pending c.next) (λ _. unclaims (step n (1 + c.number) (word a_cell.Pending c.next) 0 none) me (word a_cell.Pending c.next))
   give_step id me c live low has free = store_cell Unseen W n id me c.number (record { cell = a_cell.Pending; next = c.next }) (unclaims (step n (1 + c.number) (word a_cell.Pending c.next) 0 none) me (word a_cell.Pending c.next)) low
@@ -242,6 +243,7 @@ module _ {P : Type 0} (entries : P → List Entry) (arguments : P → List value
         ),
       ))
 
+  -- the table allows a desk to consume a message that it has claimed for a firing
   pub consume_step : (id : ℕ) (me : Me (Option P) View) (c : Claim) (f : ℕ) → me.0.gone ≡ false → c.number < n → HasThe c me.0.claims → c.firing ≡ Some f → me.0.emptying ≡ None
       → Allows H n id me (1 + c.number) (λ _. word a_cell.Consumed c.next) (λ _. consumes entries arguments keeps_to (step n (1 + c.number) (word a_cell.Consumed c.next) 0 none) me (word a_cell.Consumed c.next))
   consume_step id me c f live low has for free = store_cell Unseen W n id me c.number (record { cell = a_cell.Consumed; next = c.next }) (consumes entries arguments keeps_to (step n (1 + c.number) (word a_cell.Consumed c.next) 0 none) me (word a_cell.Consumed c.next)) low
@@ -267,12 +269,14 @@ module _ {P : Type 0} (entries : P → List Entry) (arguments : P → List value
         ),
       ))
 
+  -- the table allows a desk to bring the empty slot of a message that it consumed home
   pub empty_step : (id : ℕ) (v : View) (i : ℕ) → v.gone ≡ false → v.emptying ≡ Some i → Allows H n id (v, (i, None) ∷ []) 0 (λ x. x) (empties (step n 0 0 0 none) (v, (i, None) ∷ []))
   empty_step id v i live is = counter_step Unseen W n id (v, (i, None) ∷ []) (λ x. x) (empties (step n 0 0 0 none) (v, (i, None) ∷ []))
       (λ m u whole at fits. (kinds.emptied v, gives, record u { stage = put u.stage i Spent }, tt, wholes.whole_empty entries arguments keeps_to p n small m u whole id v at live i is, (λ j e q. refl)))
 
   -- ## Firings
 
+  -- the table allows a desk to take out the empty slot of a firing that it has not posted
   pub post_out_step : (id : ℕ) (me : Me (Option P) View) (f : ℕ) → me.0.gone ≡ false → f < n → HasNumber f me.0.unposted → me.0.posting ≡ None → Allows H n id me (1 + f) (λ x. x) (posts_out (step n (1 + f) 0 0 none) me)
   post_out_step id me f live low has free = load_cell Unseen W n id me f (posts_out (step n (1 + f) 0 0 none) me) low
       (λ m u whole at good. (
@@ -284,6 +288,7 @@ module _ {P : Type 0} (entries : P → List Entry) (arguments : P → List value
         (λ j e. let same : f ≡ j = omega arith in (ap (kinds.posting me.0) same, ap (λ (k : ℕ). (k, None) ∷ me.1) same)),
       ))
 
+  -- the table allows a desk to post a firing whose slot it has out, with a parcel that begins it
   pub post_step : (id : ℕ) (v : View) (f : ℕ) (q : P) → v.gone ≡ false → f < n → v.posting ≡ Some f → MayGo p v.kept (entries q) → ((e : Entry) (x : Message) → IsIn e (entries q) → message_of e.what ≡ Some x → IsUnlinked (hand v) e.number → ⊥)
       → Begins f (entries q) → ((e : Entry) → IsIn e (entries q) → e.body ≡ f → e.number ≡ f) → ((b : ℕ) → (b ≡ f → ⊥) → Begins b (entries q) → IsParked p (entries q) None (doing p (entries q) b)) → keeps_to q
       → Allows H n id (v, (f, Some q) ∷ []) (1 + f) (λ _. word a_cell.Ready None) (λ _. posts entries (step n (1 + f) (word a_cell.Ready None) 0 none) (v, (f, Some q) ∷ []) (word a_cell.Ready None))
@@ -293,6 +298,7 @@ module _ {P : Type 0} (entries : P → List Entry) (arguments : P → List value
         (saw (kinds.posted v (entries q)) f (a_word a_cell.Ready None), gives, record u { stage = put u.stage f Posted }, tt, wholes.whole_post entries arguments keeps_to p n small m u whole id v at live f q posting may others begins only parked task, (λ g r e. let same = same_out f g q r e in (λ z. saw (kinds.posted v (entries (same.1 z))) (same.0 z) (a_word a_cell.Ready None), refl))),
       ))
 
+  -- the table allows a desk to start a firing if its cell is ready, and to remember its cell if not
   pub start_step : (id : ℕ) (me : Me (Option P) View) (f : ℕ) → me.0.gone ≡ false → f < n → me.0.starting ≡ None
       → Allows H n id me (1 + f) (λ z. either (eqb z (word a_cell.Ready None)) (word a_cell.Started None) z) (starts entries keeps_to (step n (1 + f) (word a_cell.Ready None) (word a_cell.Started None) none) me)
   start_step id me f live low free = exchange_cell Unseen W n id me f (record { cell = a_cell.Ready; next = None }) (record { cell = a_cell.Started; next = None }) (starts entries keeps_to (step n (1 + f) (word a_cell.Ready None) (word a_cell.Started None) none) me) low

@@ -36,9 +36,11 @@ use Rattle.chord_rule.proofs.Wholes as wholes
 use Rattle.atomic_table.proofs.Lists.{set_here}
 
 module _ {P : Type 0} (entries : P → List Entry) (arguments : P → List value.Value) (keeps_to : P → Type 0) (p : Program) (n : ℕ) (any : 0 < n) (small : n ≤ 65536) where
+  -- the rule at a moment
   abbrev W : Moment P → Unseen → Type 0
   W = Whole entries arguments keeps_to p n
 
+  -- the table shows a moment that meets the rule
   abbrev H : State (Option P) View → Type 0
   H = Held entries arguments keeps_to p n
 

@@ -364,6 +364,7 @@ module _ {P : Type 0} (p : Program) (h : List Entry) (cells : ℕ → Word) (pla
       let was = pending_was p h i m past t.2 in let rest = takes_to object js ms t.1 t.4 in
       ((ap to_bag was.0, rest.0), ((shown_pending i m t.2).waiting, rest.1))
 
+  -- `has` is true of each number in a list
   has_true : (i : ℕ) (ms : List ℕ) → HasNumber i ms → has i ms ≡ true
   has_true i [] k = absurd k
   has_true i (x ∷ ms) k = elim (either (i == x)) [

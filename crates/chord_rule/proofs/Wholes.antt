@@ -79,6 +79,7 @@ right_gone n count cells o = record { armed = λ d h. absurd h; ways = λ w h. a
 
 module _ {P : Type 0} (entries : P → List Entry) (arguments : P → List value.Value) (keeps_to : P → Type 0) (p : Program) (n : ℕ) (small : n ≤ 65536) (m : Moment P) (u : Unseen) (whole : Whole entries arguments keeps_to p n m u)
     (id : ℕ) (v : View) (at : get_elem? m.views id ≡ some v) (here : v.gone ≡ false) where
+  -- the first part of the rule holds
   law : Agrees entries arguments keeps_to p n m u
   law = whole.agrees
 
@@ -86,6 +87,7 @@ module _ {P : Type 0} (entries : P → List Entry) (arguments : P → List value
   mine : IsRightDesk n m.count m.cells u.order v
   mine = whole.desks.right id v at
 
+  -- a view with the `gone` of the desk that steps, which is false, is that of a joined desk if it is gone
   not_gone : (w : View) → w.gone ≡ v.gone → w.gone ≡ true → w ≡ gone
   not_gone w same e = absurd (let z : true ≡ false = sym e ∙ same ∙ here in cc)
 
@@ -93,6 +95,7 @@ module _ {P : Type 0} (entries : P → List Entry) (arguments : P → List value
   abbrev After : Moment P → Unseen → View → Type 0
   After m' u' w = Agrees entries arguments keeps_to p n (record m' { views = set m.views id w }) u'
 
+  -- the table still agrees where the desk also remembers the word of a cell
   saw_too : (m' : Moment P) (u' : Unseen) (w : View) (i : ℕ) (x : Word) → m'.cells i ≡ x → After m' u' w → After m' u' (saw w i x)
   saw_too m' u' w i x is after = subst (λ (vs : List View). Agrees entries arguments keeps_to p n (record m' { views = vs }) u') (set_twice m.views id w (saw w i x))
       (subst (λ (y : Word). Agrees entries arguments keeps_to p n (record m' { views = set (set m.views id w) id (saw w i y) }) u') is
@@ -186,6 +189,7 @@ module _ {P : Type 0} (entries : P → List Entry) (arguments : P → List value
   whole_draw b what room own asks = whole_count (entry m.count b what ∷ u.journal) (kinds.drawn_stage id m.count what u.stage) (drew v m.count b what) refl refl refl refl refl told_before
       (agreeing.agrees_draw entries arguments keeps_to p n small m u law id v at b what room own asks)
 
+  -- the whole rule still holds once the first desk, which has neither drawn nor lent a desk, begins `Main`
   pub whole_begun : 0 < n → v.first ≡ true → v.drawn ≡ false → v.splits ≡ 0
       → Whole entries arguments keeps_to p n (record m { count = m.count + 1; views = set m.views id (saw_count (drew v m.count 0 Begun) (m.count + 1)) }) (record u { journal = entry m.count 0 Begun ∷ u.journal; stage = u.stage })
   whole_begun any is_first not_drawn not_split = whole_count (entry m.count 0 Begun ∷ u.journal) u.stage (drew v m.count 0 Begun) refl refl refl refl refl told_before
@@ -286,6 +290,7 @@ module _ {P : Type 0} (entries : P → List Entry) (arguments : P → List value
 
   -- ## Desks
 
+  -- the whole rule still holds once the first desk lends one
   pub whole_split : v.first ≡ true → v.splits < 65535 → Whole entries arguments keeps_to p n (record m { views = set m.views id (kinds.lent_one v) ++ newcomer ∷ [] }) u
   whole_split is_first few = record {
     agrees = agreeing.agrees_split entries arguments keeps_to p n small m u law id v at is_first few;
@@ -299,6 +304,7 @@ module _ {P : Type 0} (entries : P → List Entry) (arguments : P → List value
     alone = alone_split m.count m.heads m.cells m.views whole.alone law.firsts.leads id v at here is_first;
   }
 
+  -- the whole rule still holds once the first desk takes over from a desk with no slot out, no message in flight and no claim
   pub whole_join : (other : ℕ) (w : View) → v.first ≡ true → other ≢ id → get_elem? m.views other ≡ some w → w.gone ≡ false → w.placing ≡ None → w.flight ≡ None → w.claims ≡ [] → w.emptying ≡ None → w.posting ≡ None → w.starting ≡ None
       → Whole entries arguments keeps_to p n (record m { views = set (set m.views id (kinds.united v w)) other gone }) (record u { stage = λ i. kinds.heir id other (u.stage i) })
   whole_join other w is_first apart there there_here placing flight claims emptying posting starting = record {
