@@ -43,36 +43,44 @@ module _ (code : Parts) where
   DidRight (Machine.Goes m) = Unit {0}
   DidRight Machine.Bad = Unit {0}
 
+  -- what a load comes to is right
   loads_right : (m : Machine.Machine) (o : Option Value) → DidRight (Machine.loads m o)
   loads_right m None = tt
   loads_right m (Some v) = tt
 
+  -- what the value or the trap of an operator comes to is right
   pushes_right : (m : Machine.Machine) (s : List Value) (x : Computed) → DidRight (Machine.pushes m s x)
   pushes_right m s (Is v) = tt
   pushes_right m s (Trapped t) = tt
   pushes_right m s Mistyped = tt
 
+  -- what new slots, if they are there, come to is right
   stores_right : (m : Machine.Machine) (s : List Value) (o : Option (List Value)) → DidRight (Machine.stores m s o)
   stores_right m s None = tt
   stores_right m s (Some vs) = tt
 
+  -- what a store of the value on top comes to is right
   store_top_right : (i : ℕ) (m : Machine.Machine) (s : List Value) → DidRight (Machine.store_top i m s)
   store_top_right i m [] = tt
   store_top_right i m (v ∷ s) = stores_right m s (set_slot i v m.top.slots)
 
+  -- what an operator of the two values on top comes to is right
   operate_right : (op : Operation) (m : Machine.Machine) (s : List Value) → DidRight (Machine.operate op m s)
   operate_right op m [] = tt
   operate_right op m (y ∷ []) = tt
   operate_right op m (y ∷ x ∷ s) = pushes_right m s (compute op x y)
 
+  -- what unary `-` of the value on top comes to is right
   negates_right : (m : Machine.Machine) (s : List Value) → DidRight (Machine.negates m s)
   negates_right m [] = tt
   negates_right m (x ∷ s) = pushes_right m s (negated x)
 
+  -- what `!` of the value on top comes to is right
   denies_right : (m : Machine.Machine) (s : List Value) → DidRight (Machine.denies m s)
   denies_right m [] = tt
   denies_right m (x ∷ s) = pushes_right m s (denied x)
 
+  -- what a jump where the value on top is false comes to is right
   skips_right : (a : ℕ) (m : Machine.Machine) (s : List Value) → DidRight (Machine.skips a m s)
   skips_right a m [] = tt
   skips_right a m (a_value.Flag true ∷ s) = tt
@@ -82,10 +90,12 @@ module _ (code : Parts) where
   skips_right a m (a_value.Text t ∷ s) = tt
   skips_right a m (a_value.Ref o ∷ s) = tt
 
+  -- what a jump back that counts one turn comes to is right
   turns_right : (a : ℕ) (m : Machine.Machine) (s : List Value) (t : ℕ) → DidRight (Machine.turns_to a m s t)
   turns_right a m s zero = tt
   turns_right a m s (suc t) = tt
 
+  -- what a jump back where the value on top is true comes to is right
   again_right : (a : ℕ) (m : Machine.Machine) (s : List Value) → DidRight (Machine.again a m s)
   again_right a m [] = tt
   again_right a m (a_value.Flag true ∷ s) = turns_right a m s m.turns
@@ -95,6 +105,7 @@ module _ (code : Parts) where
   again_right a m (a_value.Text t ∷ s) = tt
   again_right a m (a_value.Ref o ∷ s) = tt
 
+  -- what is right is right with a trap where no room is left below the depth limit
   deeper_right : (room : ℕ) (m : Machine.Machine) (d : Machine.Did) → DidRight d → DidRight (Machine.if_deeper room m d)
   deeper_right zero m d r = tt
   deeper_right (suc room) m d r = r
@@ -107,10 +118,12 @@ module _ (code : Parts) where
       by_line None s = absurd (let z : Path (Option (Option (ℕ × ℕ))) None (Some b) = ap (Machine.builder_at code) (sym s) ∙ e in cc)
       by_line (Some line) s = slice_get_within code.classes c line s
 
+  -- what the making of an object of a class, with its builder in the code, comes to is right
   makes_right : (c n : ℕ) (m : Machine.Machine) (b : Option (Option (ℕ × ℕ))) → Machine.builder_of code c ≡ b → DidRight (Machine.makes_object c n m b)
   makes_right c n m None e = tt
   makes_right c n m (Some b) e = class_there c b e
 
+  -- what the sending of a message comes to is right
   send_right : (j : ℕ) (m : Machine.Machine) (p : Option (List Value × List Value)) → DidRight (Machine.send_by j m p)
   send_right j m None = tt
   send_right j m (Some (xs, [])) = tt
@@ -120,6 +133,7 @@ module _ (code : Parts) where
   send_right j m (Some (xs, a_value.Flag b ∷ s)) = tt
   send_right j m (Some (xs, a_value.Text t ∷ s)) = tt
 
+  -- what a call comes to is right
   call_right : (j : ℕ) (m : Machine.Machine) (p : Option (List Value × List Value)) → DidRight (Machine.call_by j m p)
   call_right j m None = tt
   call_right j m (Some (xs, [])) = tt
@@ -129,30 +143,37 @@ module _ (code : Parts) where
   call_right j m (Some (xs, a_value.Flag b ∷ s)) = tt
   call_right j m (Some (xs, a_value.Text t ∷ s)) = tt
 
+  -- what the print of a text, if there is one, comes to is right
   print_right : (m : Machine.Machine) (s : List Value) (t : Option (List ℕ)) → DidRight (Machine.print_by m s t)
   print_right m s None = tt
   print_right m s (Some t) = tt
 
+  -- what the print of the value on top comes to is right
   print_top_right : (m : Machine.Machine) (s : List Value) → DidRight (Machine.print_top m s)
   print_top_right m [] = tt
   print_top_right m (v ∷ s) = print_right m s (text_of v)
 
+  -- what a drop of the value on top comes to is right
   pop_right : (m : Machine.Machine) (s : List Value) → DidRight (Machine.pop_top m s)
   pop_right m [] = tt
   pop_right m (v ∷ s) = tt
 
+  -- what the end of a body with the value on top comes to is right
   end_right : (m : Machine.Machine) (s : List Value) → DidRight (Machine.end_with m s)
   end_right m [] = tt
   end_right m (v ∷ s) = tt
 
+  -- what a return to the block that waits comes to is right
   back_right : (m : Machine.Machine) (fs : List Machine.Frame) → DidRight (Machine.goes_back m fs)
   back_right m [] = tt
   back_right m (f ∷ fs) = tt
 
+  -- what the beginning of a block, if its slots suffice, comes to is right
   enters_right : (o : Option Machine.Machine) → DidRight (Machine.enters o)
   enters_right None = tt
   enters_right (Some m) = tt
 
+  -- what the beginning of a builder on a value comes to is right
   init_right : (m : Machine.Machine) (v : Option Value) (b : Option (Option (ℕ × ℕ))) → DidRight (Machine.init_by m v b)
   init_right m None b = tt
   init_right m (Some v) None = tt
@@ -194,11 +215,13 @@ module _ (code : Parts) where
   act_right (Some instr.Endv) m = end_right m m.top.stack
   act_right (Some instr.Back) m = back_right m m.below
 
+  -- what an instruction and n more come to is right, if what it comes to is, and what n come to from each machine
   goes_on_right : (n : ℕ) (d : Machine.Did) → ((m : Machine.Machine) → DidRight (Machine.run code n m)) → DidRight d → DidRight (Machine.goes_on (Machine.run code n) d)
   goes_on_right n (Machine.Goes m) r a = r m
   goes_on_right n (Machine.Asking q w) r a = a
   goes_on_right n Machine.Bad r a = a
 
+  -- what at most n instructions come to is right
   run_right : (n : ℕ) (m : Machine.Machine) → DidRight (Machine.run code n m)
   run_right zero m = tt
   run_right (suc n) m = goes_on_right n (Machine.step code m) (run_right n) (act_right (Machine.fetch code m.top.block m.top.place) m)
@@ -208,19 +231,23 @@ module _ (code : Parts) where
   SomeRight None = Unit {0}
   SomeRight (Some a) = AskRight a.what
 
+  -- the ask to which a machine comes is right, if what it comes to is
   asked_at_right : (limits : Limits) (d : Machine.Did) → DidRight d → SomeRight (asked_at limits d)
   asked_at_right limits (Machine.Asking a w) d = d
   asked_at_right limits (Machine.Goes m) d = tt
   asked_at_right limits Machine.Bad d = tt
 
+  -- the next ask of a body that stands at this point is right
   asked_of_right : (limits : Limits) (p : Point) → SomeRight (asked_of code limits p)
   asked_of_right limits (At m) = asked_at_right limits (comes_to code m) (run_right (suc (weight code m)) m)
   asked_of_right limits (FailsBy t) = tt
   asked_of_right limits Lost = tt
 
+  -- the next ask of a body after these answers is right
   next_right : (limits : Limits) (s : Start) (d : ℕ) (rs : List End) → SomeRight ((code_program code limits).next s d rs)
   next_right limits s d rs = asked_of_right limits (stands code limits s d rs)
 
+  -- the next ask of a body, whatever it is doing, is right
   body_right : (limits : Limits) (d : Doing) → SomeRight (asked (code_program code limits) d)
   body_right limits (Ready s k rs) = next_right limits s k rs
   body_right limits (Waits s k rs q l) = tt

@@ -42,6 +42,7 @@ abbrev fits : Start → Option StaticType → Type 0
 fits Main r = r ≡ None
 fits (Chord k o vs) r = ⊥
 
+-- the jumps of the code go forward, but for those of loops
 forward : IsForward ending
 forward = record { jumps = λ b p a e. no_jump b p a e; skips = λ b p a e. no_skip b p a e; inits = λ b p c k n e f. no_init b p c e }
   where
@@ -60,6 +61,7 @@ forward = record { jumps = λ b p a e. no_jump b p a e; skips = λ b p a e. no_s
     no_init zero (suc p) c e = absurd (cc)
     no_init (suc b) p c e = absurd (cc)
 
+-- a body of the code that begins as it may does what its play says, which is good
 local : (limits : Limits) → AreLocal ending limits no_methods plays fits
 local limits = record { plays = go }
   where
@@ -67,6 +69,7 @@ local limits = record { plays = go }
     go Main d r f = (subst (λ (y : Option StaticType). Has no_methods y a_value.Unit) (sym f) tt, (_, record { count = 1; by = refl }))
     go (Chord k o vs) d r f = absurd f
 
+-- `Main` begins as it may, and no chord fires
 plan : (limits : Limits) → IsPlan ending limits no_methods plays fits
 plan limits = record { main = refl; fired = λ h n k o ms vs a all f. absurd (let z = f.1 in cc) }
 

@@ -52,6 +52,7 @@ one_method zero zero = Some signature
 one_method zero (suc j) = None
 one_method (suc c) j = None
 
+-- the signatures of the code: its one method, no builder, and no class that derives from another
 abbrev signatures : Signatures
 signatures = record { methods = one_method; builders = λ c. None; derives = λ c d. false }
 
@@ -70,6 +71,7 @@ abbrev fits : Start → Option StaticType → Type 0
 fits Main r = r ≡ None
 fits (Chord k o vs) r = ⊥
 
+-- the jumps of the code go forward, but for those of loops
 forward : IsForward sending
 forward = record { jumps = λ b p a e. no_jump b p a e; skips = λ b p a e. no_skip b p a e; inits = λ b p c k n e f. no_init b p c e }
   where
@@ -102,6 +104,7 @@ plays_in_room (suc n) turns = (
   (_, record { count = 1; by = refl }, (λ o. (_, record { count = 1; by = refl }, (_, record { count = 1; by = refl })))),
 )
 
+-- a body of the code that begins as it may does what its play says, which is good
 local : (limits : Limits) → AreLocal sending limits signatures (plays limits) fits
 local limits = record { plays = go }
   where
@@ -114,6 +117,7 @@ no_chords : (c k : ℕ) (js : List ℕ) → slice_get (map methods_of (chord_lin
 no_chords zero k js e = let z : Path (Option (List ℕ)) None (Some js) = e in cc
 no_chords (suc c) k js e = let z : Path (Option (List ℕ)) None (Some js) = e in cc
 
+-- `Main` begins as it may, and no chord fires
 plan : (limits : Limits) → IsPlan sending limits signatures (plays limits) fits
 plan limits = record { main = refl; fired = λ h n k o ms vs a all f. absurd (no_chords o.class k f.0 f.1) }
 
@@ -142,6 +146,7 @@ no_call_of_play r (PrintsLine t p) o j vs g e = (let z : Printed t ≡ Called o 
 no_call_of_play r (EndsBody x) o j vs g e = (let z : Ended x ≡ Called o j vs = cc in cc)
 no_call_of_play r GoesWrong o j vs g e = absurd g
 
+-- the next ask of a body that does what is left of its play is no call
 no_call : (limits : Limits) (h : List Entry) (b : ℕ) (d : Doing) (o : Object) (j : ℕ) (vs : List Value) (l : ℕ) → BodyIs sending limits signatures (plays limits) h b d → asked (code_program sending limits) d ≡ Some (record { what = Called o j vs; depth = l }) → ⊥
 no_call limits h b (Ready s k rs) o j vs l is e = no_call_of_play is.kind is.play o j vs is.good (playing_asks sending forward limits signatures (plays limits) h b s k rs is (Called o j vs) l e)
 no_call limits h b (Waits s k rs q m) o j vs l is e = (let z : Path (Option Asked) None (Some (record { what = Called o j vs; depth = l })) = e in cc)
