@@ -23,7 +23,7 @@ use Rattle.chord_gen.specs.Emitted.{stmts_code}
 use Rattle.chord_gen.specs.Translation.{has_builder, builds, Origin, OfMain, OfBuilder, OfBody, origins, block_number, body_block, init_code, own_code, own_slots, builder_block, block_of, method_line, chord_line, class_line, lines_from, code_of}
 use Rattle.chord_gen.specs.Laws.{TranslationValid}
 use Rattle.chord_gen.proofs.Numbers.{origin_at, builder_numbered, builders_rise, line_at}
-use Rattle.chord_gen.proofs.PartsRight.{RightIn, AllRightIn, both_right, right_higher, map_length, opening_length, statements_part}
+use Rattle.chord_gen.proofs.PartsRight.{RightIn, AllRightIn, joined_right, right_higher, map_length, opening_length, statements_part}
 
 -- a builder enters that of its base class alone, if it has one; no other block enters one
 abbrev Entered : Resolved → Origin → ℕ → Type 0
@@ -62,7 +62,7 @@ module _ (sig : Signatures) (p : Resolved) (typed : AreWellTyped sig p) (plan : 
             last = i.End;
             is = refl;
             closes = tt;
-            right = both_right (slots_of b) (length p.classes) Q (length c) 0 c (i.End ∷ [])
+            right = joined_right (slots_of b) (length p.classes) Q (length c) 0 c (i.End ∷ [])
                 (subst (λ z. AllRightIn (slots_of b) (length p.classes) Q z 0 c) zero_end (statements_part sig p plan (slots_of b) Q false (slot_types b) b.result b.stmts (opening b) is.last is.stmts (opening_length b) 0)) (tt, tt);
           }
 
@@ -75,7 +75,7 @@ module _ (sig : Signatures) (p : Resolved) (typed : AreWellTyped sig p) (plan : 
       by_there j (Some b) f =
           let is = typed j b f in
           let code = stmts_code true b.stmts a in
-          both_right (slots_of b) (length p.classes) Q (a + length code) a code (i.Back ∷ []) (statements_part sig p plan (slots_of b) Q true (slot_types b) b.result b.stmts (opening b) is.last is.stmts (opening_length b) a) (tt, tt)
+          joined_right (slots_of b) (length p.classes) Q (a + length code) a code (i.Back ∷ []) (statements_part sig p plan (slots_of b) Q true (slot_types b) b.result b.stmts (opening b) is.last is.stmts (opening_length b) a) (tt, tt)
 
       by_own : (o : Option ℕ) → x.constructor_body ≡ o → AllRightIn (own_slots (option_and_then (λ j. slice_get p.bodies j) o)) (length p.classes) Q (a + length (own_code (option_and_then (λ j. slice_get p.bodies j) o) a)) a (own_code (option_and_then (λ j. slice_get p.bodies j) o) a ++ i.Back ∷ [])
       by_own None f = (tt, tt)
@@ -104,7 +104,7 @@ module _ (sig : Signatures) (p : Resolved) (typed : AreWellTyped sig p) (plan : 
         last = i.Back;
         is = sym (append_assoc init own (i.Back ∷ []));
         closes = tt;
-        right = both_right s cs (Entered p (OfBuilder d)) (length (init ++ own)) 0 init (own ++ i.Back ∷ []) (init_right s d x e x.base refl (length (init ++ own)))
+        right = joined_right s cs (Entered p (OfBuilder d)) (length (init ++ own)) 0 init (own ++ i.Back ∷ []) (init_right s d x e x.base refl (length (init ++ own)))
             (right_higher s cs (Entered p (OfBuilder d)) (0 + length init + length own) (length (init ++ own)) (0 + length init) (own ++ i.Back ∷ []) (omega (arith, n)) (own_right (Entered p (OfBuilder d)) d x e (0 + length init)));
       }
 

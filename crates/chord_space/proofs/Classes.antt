@@ -23,7 +23,7 @@ use Rattle.chord_code.specs.declared.parts.Parts.{Parts}
 use Rattle.chord_code.specs.Fuel.{comes_to, weight}
 use Rattle.chord_code.specs.Machine
 use Rattle.chord_code.specs.Meaning.{Point, At, FailsBy, Lost, asked_at, asked_of, stands, code_program}
-use Rattle.chord_code.specs.Slots.{set_slot, slots_of}
+use Rattle.chord_code.specs.Slots.{set_slot, first_slots}
 use Rattle.chord_code.specs.Sound.{IsSoundUnder}
 use Rattle.chord_code.specs.Valid.{IsValid}
 use Rattle.chord_code.proofs.Tame.{code_is_tame}
@@ -115,7 +115,7 @@ module _ (code : Parts) where
   class_there c b e = by_line (slice_get code.classes c) refl
     where
       by_line : (x : Option ClassLine) → slice_get code.classes c ≡ x → c < length code.classes
-      by_line None s = absurd (let z : Path (Option (Option (ℕ × ℕ))) None (Some b) = ap (Machine.builder_at code) (sym s) ∙ e in cc)
+      by_line None s = absurd (let z : Path (Option (Option (ℕ × ℕ))) None (Some b) = ap (Machine.builder_of_line code) (sym s) ∙ e in cc)
       by_line (Some line) s = slice_get_within code.classes c line s
 
   -- what the making of an object of a class, with its builder in the code, comes to is right
@@ -178,7 +178,7 @@ module _ (code : Parts) where
   init_right m None b = tt
   init_right m (Some v) None = tt
   init_right m (Some v) (Some None) = tt
-  init_right m (Some v) (Some (Some b)) = enters_right (Machine.started b.0 m.top.room m.turns (Machine.next_place m.top ∷ m.below) (slots_of b.1 (v ∷ [])))
+  init_right m (Some v) (Some (Some b)) = enters_right (Machine.begins_block b.0 m.top.room m.turns (Machine.next_place m.top ∷ m.below) (first_slots b.1 (v ∷ [])))
 
   -- what an instruction comes to
   act_right : (i : Option Instruction) (m : Machine.Machine) → DidRight (Machine.act code i m)

@@ -23,7 +23,7 @@ use Rattle.chord_code.specs.declared.parts.Parts.{Parts}
 use Rattle.chord_code.specs.Machine.{IsForward, fetch, body_in_block}
 use Rattle.chord_code.specs.Meaning.{code_program, begins, chord_lines, method_is_sync, methods_of}
 use Rattle.chord_code.specs.Plays.{Play, MakesObject, SendsMessage, CallsMethod, PrintsLine, EndsBody, GoesWrong, Good, Plays, what_of}
-use Rattle.chord_code.specs.Runs.{AreLocal, IsPlan, AllGood, BodyIs, IsFitMessage, sent}
+use Rattle.chord_code.specs.Runs.{AreLocal, IsPlan, AllGood, BodyPlays, IsFitMessage, sent}
 use Rattle.chord_code.specs.Sound.{IsSoundCode, NamesMethod, HasMethod}
 use Rattle.chord_base.specs.Bodies.{Asks}
 use Rattle.chord_base.specs.Messages.{IsCall}
@@ -147,7 +147,7 @@ no_call_of_play r (EndsBody x) o j vs g e = (let z : Ended x ≡ Called o j vs =
 no_call_of_play r GoesWrong o j vs g e = absurd g
 
 -- the next ask of a body that does what is left of its play is no call
-no_call : (limits : Limits) (h : List Entry) (b : ℕ) (d : Doing) (o : Object) (j : ℕ) (vs : List Value) (l : ℕ) → BodyIs sending limits signatures (plays limits) h b d → asked (code_program sending limits) d ≡ Some (record { what = Called o j vs; depth = l }) → ⊥
+no_call : (limits : Limits) (h : List Entry) (b : ℕ) (d : Doing) (o : Object) (j : ℕ) (vs : List Value) (l : ℕ) → BodyPlays sending limits signatures (plays limits) h b d → asked (code_program sending limits) d ≡ Some (record { what = Called o j vs; depth = l }) → ⊥
 no_call limits h b (Ready s k rs) o j vs l is e = no_call_of_play is.kind is.play o j vs is.good (playing_asks sending forward limits signatures (plays limits) h b s k rs is (Called o j vs) l e)
 no_call limits h b (Waits s k rs q m) o j vs l is e = (let z : Path (Option Asked) None (Some (record { what = Called o j vs; depth = l })) = e in cc)
 no_call limits h b Absent o j vs l is e = (let z : Path (Option Asked) None (Some (record { what = Called o j vs; depth = l })) = e in cc)
