@@ -1,0 +1,4 @@
+mod Notes
+mod Lists
+mod ScopePlaces
+mod Growth

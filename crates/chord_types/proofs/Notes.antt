@@ -1,0 +1,45 @@
+-- The least of what was noted, step by step.
+use Rattle.std.proofs.Common.{◌≡◌, ℕ, List, [], ◌∷◌, ◌++◌, refl, sym, ap, subst, ◌∙◌, Option, Some, None, is_some, min, flat_map}
+use Rattle.std.proofs.lemmas.Bool.{false≢true}
+use Rattle.chord_classes.specs.Least.{keys, lesser, least}
+
+-- nothing after a list is the list
+pub no_more : (xs : List ℕ) → xs ++ [] ≡ xs
+no_more [] = refl
+no_more (x ∷ xs) = ap (λ z. x ∷ z) (no_more xs)
+
+-- the least of two joined lists is that of the second after the first
+pub least_append : (before : Option ℕ) (xs ys : List ℕ) → least before (xs ++ ys) ≡ least (least before xs) ys
+least_append before [] ys = refl
+least_append before (x ∷ xs) ys = least_append (lesser before x) xs ys
+
+-- two lists were noted
+pub two : (o p q : Option ℕ) (a b : List ℕ) → p ≡ least o a → q ≡ least p b → q ≡ least o (a ++ b)
+two o p q a b hp hq = hq ∙ ap (λ z. least z b) hp ∙ sym (least_append o a b)
+
+-- three lists were noted
+pub three : (o p q r : Option ℕ) (a b c : List ℕ) → p ≡ least o a → q ≡ least p b → r ≡ least q c → r ≡ least o (a ++ (b ++ c))
+three o p q r a b c hp hq hr = two o p r a (b ++ c) hp (two p q r b c hq hr)
+
+-- four lists were noted
+pub four : (o p q r s : Option ℕ) (a b c d : List ℕ) → p ≡ least o a → q ≡ least p b → r ≡ least q c → s ≡ least r d → s ≡ least o (a ++ (b ++ (c ++ d)))
+four o p q r s a b c d hp hq hr hs = two o p s a (b ++ (c ++ d)) hp (three p q r s b c d hq hr hs)
+
+-- a list and nothing after it were noted
+pub and_nothing : (o p : Option ℕ) (a : List ℕ) → p ≡ least o a → p ≡ least o (a ++ [])
+and_nothing o p a h = h ∙ ap (least o) (sym (no_more a))
+
+some_stays : (m : ℕ) (xs : List ℕ) → least (Some m) xs ≡ None → ⊥
+some_stays m [] h = false≢true (sym (ap is_some h))
+some_stays m (x ∷ xs) h = some_stays (min m x) xs h
+
+-- where nothing was noted in the end, nothing was noted before
+pub nothing_before : (o p : Option ℕ) (xs : List ℕ) → p ≡ least o xs → p ≡ None → o ≡ None
+nothing_before None p xs h e = refl
+nothing_before (Some m) p xs h e = absurd (some_stays m xs (sym h ∙ e))
+
+-- where nothing was noted in the end, there was nothing to note
+pub nothing_there : (o p : Option ℕ) (xs : List ℕ) → p ≡ least o xs → p ≡ None → xs ≡ []
+nothing_there o p [] h e = refl
+nothing_there None p (x ∷ xs) h e = absurd (some_stays x xs (sym h ∙ e))
+nothing_there (Some m) p (x ∷ xs) h e = absurd (some_stays (min m x) xs (sym h ∙ e))

@@ -1,0 +1,11 @@
+-- ## What only the code's own contracts use
+-- Variables, arguments and what calls name, as they lie in memory.
+pub mod Views
+-- Where an expression stands, as it lies in memory.
+pub mod Sites
+-- What a call breaks and gives, by what it names.
+pub mod CallKeys
+-- What is said of an expression that was looked at.
+pub mod Checked
+-- What is said of a statement, an item or a block that was looked at.
+pub mod StmtChecked
