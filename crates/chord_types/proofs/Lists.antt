@@ -1,6 +1,7 @@
 -- Lists by their parts, and calls, operators and arguments of them.
 use Rattle.std.proofs.Common.{◌≡◌, ℕ, zero, suc, ◌+◌, ◌<◌, ◌≤◌, List, [], ◌∷◌, ◌++◌, refl, sym, ap, ◌∙◌, length, map, take, get_or, arith, add-one}
 use Rattle.chord_tree.specs.Tree.{LinkTree, DotTree, MakeLink, MakeDot, MakeActuals, dots, links}
+use Rattle.chord_tree.proofs.Weights.{total}
 use Rattle.chord_tree.specs.Terms.{Term, called, operated, terms, term, CallTerm, OperationTerm}
 
 -- what a function makes of a list with one more at its end
@@ -46,3 +47,11 @@ module _ {X : Type 0} (f : X → DotTree) where
 -- the first operators and one more
 pub links_taken : {X : Type 0} (f : X → LinkTree) (xs : List X) (i : ℕ) (x : X) (t : Term) → i < length xs → x ≡ get_or xs i x → operated (links (map f (take (i + 1) xs))) t ≡ operated (links (f x ∷ [])) (operated (links (map f (take i xs))) t)
 links_taken f xs i x t l e = ap (λ z. operated (links (map f z)) t) (take_step xs i x l e) ∙ ap (λ z. operated (links z) t) (map_end f (take i xs) x) ∙ links_end (map f (take i xs)) (f x) t
+
+total_end : {A : Type 0} (f : A → ℕ) (xs : List A) (x : A) → total (map f (xs ++ (x ∷ []))) ≡ total (map f xs) + f x
+total_end f [] x = omega arith
+total_end f (a ∷ xs) x = let h = total_end f xs x in omega arith
+
+-- what the elements of a list weigh, by its last element
+pub total_ends : {A : Type 0} (f : A → ℕ) (xs front : List A) (x : A) → xs ≡ front ++ (x ∷ []) → total (map f xs) ≡ total (map f front) + f x
+total_ends f xs front x e = ap (λ z. total (map f z)) e ∙ total_end f front x

@@ -1,6 +1,8 @@
 -- The least of what was noted, step by step.
-use Rattle.std.proofs.Common.{◌≡◌, ℕ, List, [], ◌∷◌, ◌++◌, refl, sym, ap, subst, ◌∙◌, Option, Some, None, is_some, min, flat_map}
-use Rattle.std.proofs.lemmas.Bool.{false≢true}
+use Rattle.std.proofs.Common.{◌≡◌, ℕ, List, [], ◌∷◌, ◌++◌, refl, sym, ap, subst, ◌∙◌, Option, Some, None, is_some, min, Bool, true, false, nat_lt, ◌≤◌, ◌<◌, arith, inl, inr}
+use Rattle.std.proofs.lemmas.Bool.{false≢true, lt-ltb}
+use Rattle.std.proofs.lemmas.Bool.Decides.{leb_tells}
+use Rattle.chord_classes.specs.NameRules.{when}
 use Rattle.chord_classes.specs.Least.{keys, lesser, least}
 
 -- nothing after a list is the list
@@ -43,3 +45,11 @@ pub nothing_there : (o p : Option ℕ) (xs : List ℕ) → p ≡ least o xs → 
 nothing_there o p [] h e = refl
 nothing_there None p (x ∷ xs) h e = absurd (some_stays x xs (sym h ∙ e))
 nothing_there (Some m) p (x ∷ xs) h e = absurd (some_stays (min m x) xs (sym h ∙ e))
+
+nothing_by : (b : Bool) (at : ℕ) → keys 24 (when b at) ++ [] ≡ [] → b ≡ false
+nothing_by true at h = cc
+nothing_by false at h = refl
+
+-- a literal of which nothing was noted is short
+pub short_text : (count at : ℕ) → keys 24 (when (nat_lt 1024 count) at) ++ [] ≡ [] → count ≤ 1024
+short_text count at h = elim (leb_tells count 1024) [ inl y ↦ y.1 | inr o ↦ absurd (false≢true (sym (nothing_by (nat_lt 1024 count) at h) ∙ lt-ltb 1024 count (let l = o.1 in omega arith))) ]

@@ -1,9 +1,9 @@
 //! Expressions: what they are resolved to, their types, and what they break.
-#![tactic(none)]
+#![tactic(auto)]
 
 ghost use Rattle.std.specs.Prelude.{◌≡◌, Bool, true, false, map, IfOk};
 ghost use Rattle.chord_tree.specs.Tree.{exprs, dots, links};
-ghost use Rattle.chord_tree.specs.Terms.{Term, term_after, term, started, terms, called, operated, VariableTerm, ThisTerm, NumberTerm, LiteralTerm, BoolTerm, GroupTerm, MinusTerm, NotTerm, OwnCallTerm, NewTerm, Terms};
+ghost use Rattle.chord_tree.specs.Terms.{Term, term_after, term, started, terms, called, operated, GroupTerm, MinusTerm, NotTerm, OwnCallTerm, NewTerm};
 ghost use Rattle.chord_tree.specs.Walk.{Used, Receiver};
 ghost use Rattle.chord_tree.specs.ViewExprs.{see_expr, see_start, see_chain, see_link, see_dot};
 ghost use Rattle.chord_types.specs.Checked.{IsChecked, AreChecked, IsReceiver, GoesOn, Operates, on_dot, on_link};
@@ -11,84 +11,15 @@ ghost use Rattle.chord_types.specs.Views.{see_role};
 ghost use Rattle.chord_types.specs.Sites.{see_site};
 
 use crate::calls::{judge_call, judge_new, judge_on, own_target, target_on};
-use crate::names::{
-    judge_literal, judge_number, judge_this, judge_variable, names_console, slot,
-};
-use crate::operand::{Arguments, Operand, call_of, int_of, text_of, with_link};
+use crate::leaves::{flag, literal, number, this, variable};
+use crate::operand::{Arguments, Operand, call_of, with_link};
 use crate::operators::{judge_minus, judge_not, judge_operation, resolved_operator};
 use crate::site::{Passed, Role, Site};
-use chord_base::static_type::StaticType;
 use chord_bodies::expr as built;
 use chord_classes::least::Least;
 use chord_tree::exprs::{Actuals, Chain, Dot, Expr, Link, Start};
 use chord_tree::names::Name;
 use std::alloc::{AllocError, Global};
-
-/// A variable, or the word `Console` before a dot.
-pub(crate) fn variable(site: &Site, role: Role, name: &Name, breaks: &mut Least) -> Operand
-    ensures { IsReceiver (see_site site.now) (see_role role) (VariableTerm name.now) breaks.old.found breaks.new.found result }
-{
-    let static_type = judge_variable(site, role, name, breaks);
-    Operand {
-        expr: built::Expr::Load(slot(site, name.text.items())),
-        static_type,
-        is_console: names_console(site, name),
-    }
-}
-
-/// `this`
-pub(crate) fn this(site: &Site, role: Role, at: u32, breaks: &mut Least) -> Operand
-    ensures { IsReceiver (see_site site.now) (see_role role) (ThisTerm at) breaks.old.found breaks.new.found result }
-{
-    let static_type = judge_this(site, role, at, breaks);
-    Operand {
-        expr: built::Expr::This,
-        static_type,
-        is_console: false,
-    }
-}
-
-/// A number, directly after `-` or not.
-fn number(site: &Site, role: Role, value: u32, at: u32, minus: bool, breaks: &mut Least) -> Operand
-    ensures { IsReceiver (see_site site.now) (see_role role) (NumberTerm value at minus) breaks.old.found breaks.new.found result }
-{
-    judge_number(value, at, minus, breaks);
-    Operand {
-        expr: built::Expr::Int(int_of(value)),
-        static_type: Some(StaticType::Int),
-        is_console: false,
-    }
-}
-
-/// A text literal.
-fn literal(
-    alloc: Global,
-    site: &Site,
-    role: Role,
-    bytes: &[u8],
-    at: u32,
-    breaks: &mut Least,
-) -> Result<Operand, AllocError>
-    ensures { IfOk result (λ r. IsReceiver (see_site site.now) (see_role role) (LiteralTerm bytes.now at) breaks.old.found breaks.new.found r) }
-{
-    judge_literal(bytes, at, breaks);
-    Ok(Operand {
-        expr: text_of(alloc, bytes)?,
-        static_type: Some(StaticType::Text),
-        is_console: false,
-    })
-}
-
-/// `true` or `false`
-fn flag(site: &Site, role: Role, value: bool, at: u32, breaks: &Least) -> Operand
-    ensures { IsReceiver (see_site site.now) (see_role role) (BoolTerm value at) breaks.now.found breaks.now.found result }
-{
-    Operand {
-        expr: built::Expr::Flag(value),
-        static_type: Some(StaticType::Bool),
-        is_console: false,
-    }
-}
 
 /// An expression, directly after `-` or not.
 #[cycle(exprs)]

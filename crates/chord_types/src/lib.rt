@@ -7,6 +7,7 @@
 mod arguments;
 mod calls;
 mod exprs;
+mod leaves;
 mod names;
 mod operand;
 mod operators;

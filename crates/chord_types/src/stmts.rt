@@ -16,7 +16,8 @@ ghost use Rattle.chord_types.specs.StmtChecked.{IsPlain, IsCondition, IsItemChec
 
 use crate::arguments::fit;
 use crate::calls::{judge_call, judge_on, own_target, target_on};
-use crate::exprs::{arguments, call_on, calls_on, expr, new_object, own_call, this, variable};
+use crate::exprs::{arguments, call_on, calls_on, expr, new_object, own_call};
+use crate::leaves::{this, variable};
 use crate::names::slot;
 use crate::operand::{Arguments, Operand, done, printed};
 use crate::site::{Role, Site};
