@@ -4,5 +4,7 @@ mod Lists
 mod ScopePlaces
 mod Growth
 mod CallNotes
+mod PlainStmts
+mod Items
 mod Terms
 mod Nodes

@@ -27,7 +27,7 @@ use Rattle.chord_types.specs.declared.operand.Arguments.{Arguments}
 use Rattle.chord_types.specs.Views.{see_passed}
 use Rattle.chord_types.specs.CallKeys.{call_keys, call_type, built_keys}
 use Rattle.chord_types.specs.Checked.{IsChecked, AreChecked, IsReceiver, IsAlone, term_breaks, terms_breaks}
-use Rattle.chord_types.proofs.Notes.{two, three, four, and_nothing, nothing_before, no_more}
+use Rattle.chord_types.proofs.Notes.{two, three, four, and_nothing, nothing_before, no_more, append_more}
 use Rattle.chord_types.proofs.Lists.{map_end}
 
 -- `-` and its operand
@@ -185,10 +185,6 @@ are_checked site xs old new args h = record {
   typed = h.typed ∙ all_passed site xs;
   noted = h.noted ∙ ap (least old) (all_breaks site xs);
 }
-
-append_more : (a b c : List ℕ) → a ++ (b ++ c) ≡ (a ++ b) ++ c
-append_more [] b c = refl
-append_more (x ∷ a) b c = ap (λ z. x ∷ z) (append_more a b c)
 
 flat_end : {A : Type 0} (f : A → List ℕ) (xs : List A) (x : A) → flat_map f (xs ++ (x ∷ [])) ≡ flat_map f xs ++ f x
 flat_end f [] x = no_more (f x)

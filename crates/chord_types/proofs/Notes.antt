@@ -6,9 +6,14 @@ use Rattle.chord_classes.specs.NameRules.{when}
 use Rattle.chord_classes.specs.Least.{keys, lesser, least}
 
 -- nothing after a list is the list
-pub no_more : (xs : List ℕ) → xs ++ [] ≡ xs
+pub no_more : {A : Type 0} (xs : List A) → xs ++ [] ≡ xs
 no_more [] = refl
 no_more (x ∷ xs) = ap (λ z. x ∷ z) (no_more xs)
+
+-- joined lists, from either side
+pub append_more : {A : Type 0} (xs ys zs : List A) → xs ++ (ys ++ zs) ≡ (xs ++ ys) ++ zs
+append_more [] ys zs = refl
+append_more (x ∷ xs) ys zs = ap (λ z. x ∷ z) (append_more xs ys zs)
 
 -- the least of two joined lists is that of the second after the first
 pub least_append : (before : Option ℕ) (xs ys : List ℕ) → least before (xs ++ ys) ≡ least (least before xs) ys

@@ -11,6 +11,7 @@ mod leaves;
 mod names;
 mod operand;
 mod operators;
+mod plain;
 mod scope;
 mod site;
 mod stmts;

@@ -1,7 +1,7 @@
 //! Resolved expressions with their types, to which operators and calls are added.
 #![tactic(auto)]
 
-ghost use Rattle.std.specs.Prelude.{◌≡◌, ◌≤◌, [], ◌∷◌, length, map, IfOk, option_map};
+ghost use Rattle.std.specs.Prelude.{◌≡◌, ◌≤◌, [], ◌∷◌, length, map, cond, IfOk, option_map};
 ghost use Rattle.chord_bodies.specs.Resolved as to;
 ghost use Rattle.chord_bodies.specs.View.{view_expr, view_stmt, view_call, view_link, calls_on, links_on, expr_list};
 ghost use Rattle.chord_classes.specs.Types.{type_known, is_sync, result_known};
@@ -196,4 +196,21 @@ pub(crate) fn printed(alloc: Global, arguments: Vec<Expr>) -> Result<Expr, Alloc
     } else {
         Ok(arguments.swap_remove(0))
     }
+}
+
+/// The statement that a call on a receiver ends: a call on `Console` prints.
+pub(crate) fn ended(
+    alloc: Global,
+    table: &Table,
+    is_console: bool,
+    target: Option<Target>,
+    receiver: Expr,
+    arguments: Vec<Expr>,
+) -> Result<Stmt, AllocError>
+    ensures { IfOk result (λ s. view_stmt s ≡ cond is_console (to.Print (printed (expr_list (map view_expr arguments.items)))) (done table.now (option_map see_target target.entry) (view_expr receiver) (expr_list (map view_expr arguments.items)))) }
+{
+    if !is_console {
+        return done(alloc, table, target, receiver, arguments);
+    }
+    Ok(Stmt::Print(printed(alloc, arguments)?))
 }
