@@ -8,3 +8,6 @@ mod PlainStmts
 mod Items
 mod Terms
 mod Nodes
+mod Returning
+mod EnteredMembers
+mod Classes

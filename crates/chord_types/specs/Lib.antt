@@ -1,3 +1,6 @@
+-- ## What callers read
+-- What is answered of a program.
+pub mod Answer
 -- ## What only the code's own contracts use
 -- Variables, arguments and what calls name, as they lie in memory.
 pub mod Views
@@ -9,3 +12,5 @@ pub mod CallKeys
 pub mod Checked
 -- What is said of a statement, an item or a block that was looked at.
 pub mod StmtChecked
+-- What is said of a member that was looked at, and of the parameters that were declared.
+pub mod MemberChecked

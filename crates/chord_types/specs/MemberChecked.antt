@@ -35,9 +35,9 @@ pub record DeclaresAll (old new : Site) (formals : List Formal) : Type 0 where
   pub site : see_site new ≡ declares_all (see_site old) formals
 
 -- a place is where the body of a member begins
-pub record IsEntered (table : List Shape) (own : ℕ) (member : MemberTree) (site : Site) : Type 0 where
-  pub types : site.types.items ≡ formal_statics table (member_formals member)
-  pub site : (class : ClassTree) → see_site site ≡ enter table own class member
+pub record IsEntered (table : List Shape) (own : ℕ) (member : MemberTree) (begin : Site) : Type 0 where
+  pub types : begin.types.items ≡ formal_statics table (member_formals member)
+  pub site : (class : ClassTree) → see_site begin ≡ enter table own class member
 
 -- what a member breaks
 abbrev pub member_breaks : List Shape → ℕ → ClassTree → MemberTree → List ℕ

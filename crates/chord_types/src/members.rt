@@ -1,13 +1,15 @@
 //! Members: their bodies resolved, and what they break.
 #![tactic(auto)]
 
-ghost use Rattle.std.specs.Prelude.{◌≡◌, ◌&&◌, not, IfOk, OnOk, map, flat_map, is_some, option_map};
+ghost use Rattle.std.specs.Prelude.{◌≡◌, ◌+◌, length, ◌&&◌, not, IfOk, OnOk, map, flat_map, is_some, option_map};
 ghost use Rattle.std.specs.Borrow.{Bor};
 ghost use Rattle.chord_tree.specs.declared.names.ValueType as written_types;
 ghost use Rattle.chord_tree.specs.Tree.{ClassTree};
 ghost use Rattle.chord_tree.specs.View.{see_header, see_member};
 ghost use Rattle.chord_tree.specs.ViewStmts.{see_block};
 ghost use Rattle.chord_tree.specs.Walk.{body_of};
+ghost use Rattle.chord_bodies.specs.View.{view_stmt, stmt_list};
+ghost use Rattle.chord_bodies.specs.BodyView.{view_body};
 ghost use Rattle.chord_classes.specs.Types.{type_known};
 ghost use Rattle.chord_classes.specs.Site.{member_formals, headers_due, member_due, has_main, member_in_main};
 ghost use Rattle.chord_classes.specs.ItemRules.{undeclared_formals, undeclared_header, undeclared_member, unreturned, block_surely};
@@ -23,6 +25,7 @@ use crate::site::Site;
 use crate::stmts::block;
 use chord_base::static_type::StaticType;
 use chord_bodies::body::Body;
+use chord_bodies::stmt::Stmt;
 use chord_classes::build::is_main;
 use chord_classes::least::Least;
 use chord_classes::table::Table;
@@ -207,11 +210,35 @@ fn note_unreturned(member: &Member, breaks: &mut Least)
 
 /// The type that is due.
 fn due_known(table: &Table, due: Option<&ValueType>) -> Option<StaticType>
-    ensures { result ≡ option_map (λ (written : Bor written_types.ValueType). type_known table.now written.now) due }
+    ensures { result ≡ option_map (λ (written : Bor written_types.ValueType). type_known table.now written.now) due.entry }
 {
     match due {
         Some(written) => Some(type_known(table, written)),
         None => None,
+    }
+}
+
+/// A body. That it has this number of slots, which is an `u32`, shows that they are few.
+fn made(
+    own: u32,
+    _slots: u32,
+    site: Site,
+    is_constructor: bool,
+    due: Option<StaticType>,
+    parameters: Vec<StaticType>,
+    stmts: Vec<Stmt>,
+) -> Body
+    requires { _slots ≡ 1 + length parameters.items + length site.types.items }
+    ensures { view_body result ≡ record { class = own; is_main = site.entry.in_main; is_constructor = is_constructor; parameters = parameters.items; locals = site.entry.types.items; result = due; stmts = stmt_list (map view_stmt stmts.items) } }
+{
+    Body {
+        class: own,
+        is_main: site.in_main,
+        is_constructor,
+        parameters,
+        locals: site.types,
+        result: due,
+        stmts,
     }
 }
 
@@ -230,16 +257,7 @@ pub(crate) fn member<'a>(
     let stmts = block(alloc, &mut site, body_of(member), breaks)?;
     note_types(table, member, breaks);
     note_unreturned(member, breaks);
-    let is_main = site.in_main;
-    let result = due_known(table, site.due);
-    let Site { types: locals, .. } = site;
-    Ok(Body {
-        class: own,
-        is_main,
-        is_constructor: is_builder(member),
-        parameters,
-        locals,
-        result,
-        stmts,
-    })
+    let due = due_known(table, site.due);
+    let is_builder = is_builder(member);
+    Ok(made(own, site.next, site, is_builder, due, parameters, stmts))
 }

@@ -1,26 +1,52 @@
 //! Whether the body of a method surely returns.
 #![tactic(auto)]
 
-ghost use Rattle.std.specs.Prelude.{◌≡◌, ◌&&◌, [], ◌∷◌};
-ghost use Rattle.chord_tree.specs.Terms.{term};
-ghost use Rattle.chord_tree.specs.Tree.{items};
-ghost use Rattle.chord_tree.specs.ViewExprs.{see_expr};
+ghost use Rattle.std.specs.Prelude.{◌≡◌, ◌&&◌, [], ◌∷◌, map, false};
+ghost use Rattle.chord_tree.specs.Terms.{term, started, called};
+ghost use Rattle.chord_tree.specs.Tree.{items, dots};
+ghost use Rattle.chord_tree.specs.ViewExprs.{see_expr, see_start, see_dot};
 ghost use Rattle.chord_tree.specs.ViewStmts.{see_stmt, see_item, see_block};
 ghost use Rattle.chord_classes.specs.ItemRules.{is_true_word, surely, block_surely, items_surely};
 
-use chord_tree::exprs::{Expr, Start};
+use chord_tree::exprs::{Dot, Expr, Start};
 use chord_tree::stmts::{Block, Item, Stmt};
+
+/// Whether an expression begins with the word `true`.
+fn begins_true(start: &Start) -> bool
+    ensures { result ≡ is_true_word (started (see_start start.now) false) }
+{
+    match start {
+        Start::Variable(_) => false,
+        Start::Call { .. } => false,
+        Start::This { .. } => false,
+        Start::New { .. } => false,
+        Start::Number { .. } => false,
+        Start::Literal { .. } => false,
+        Start::True { .. } => true,
+        Start::False { .. } => false,
+        Start::Group { .. } => false,
+    }
+}
+
+/// Whether a start with calls on it is the word `true`.
+fn is_true_alone(start: &Start, calls: &[Dot]) -> bool
+    ensures { result ≡ is_true_word (called (dots (map see_dot calls.now)) (started (see_start start.now) false)) }
+{
+    match calls.split_last() {
+        None => begins_true(start),
+        Some(_) => false,
+    }
+}
 
 /// Whether an expression is the word `true`.
 fn is_true_word(expr: &Expr) -> bool
     ensures { result ≡ is_true_word (term (see_expr expr.now)) }
 {
     match expr {
-        Expr::Primary { start, calls } => match start {
-            Start::True { at: _ } => calls.is_empty(),
-            _ => false,
-        },
-        _ => false,
+        Expr::Chain(_) => false,
+        Expr::Minus { .. } => false,
+        Expr::Not { .. } => false,
+        Expr::Primary { start, calls } => is_true_alone(start, calls),
     }
 }
 
@@ -30,23 +56,18 @@ fn surely(stmt: &Stmt) -> bool
     ensures { result ≡ surely (see_stmt stmt.now) }
 {
     match stmt {
+        Stmt::Assign { .. } => false,
+        Stmt::Call { .. } => false,
+        Stmt::MethodCall { .. } => false,
+        Stmt::ThisCall { .. } => false,
+        Stmt::New { .. } => false,
         Stmt::Block(block) => block_surely(block),
-        Stmt::IfElse {
-            at: _,
-            bracket: _,
-            test: _,
-            first,
-            second,
-        } => both_surely(first, second),
-        Stmt::While {
-            at: _,
-            bracket: _,
-            test,
-            body: _,
-        } => is_true_word(test),
-        Stmt::Return { at: _ } => true,
-        Stmt::ReturnValue { at: _, value: _ } => true,
-        _ => false,
+        Stmt::Empty => false,
+        Stmt::If { .. } => false,
+        Stmt::IfElse { first, second, .. } => both_surely(first, second),
+        Stmt::While { test, .. } => is_true_word(test),
+        Stmt::Return { .. } => true,
+        Stmt::ReturnValue { .. } => true,
     }
 }
 
@@ -55,7 +76,7 @@ fn surely(stmt: &Stmt) -> bool
 fn both_surely(first: &Stmt, second: &Stmt) -> bool
     ensures { result ≡ (surely (see_stmt first.now) && surely (see_stmt second.now)) }
 {
-    if surely(first) { surely(second) } else { false }
+    surely(first) & surely(second)
 }
 
 /// Whether a statement of a block surely returns.
@@ -63,7 +84,15 @@ fn both_surely(first: &Stmt, second: &Stmt) -> bool
 pub(crate) fn block_surely(block: &Block) -> bool
     ensures { result ≡ block_surely (see_block block.now) }
 {
-    for item in &block.items {
+    items_surely(&block.items)
+}
+
+/// Whether one of the items surely returns.
+#[cycle(returns)]
+fn items_surely(all: &[Item]) -> bool
+    ensures { result ≡ items_surely (items (map see_item all.now)) }
+{
+    'each: for item in all {
         if item_surely(item) {
             return true;
         }
@@ -77,12 +106,7 @@ fn item_surely(item: &Item) -> bool
     ensures { result ≡ items_surely (items (see_item item.now ∷ [])) }
 {
     match item {
-        Item::Local {
-            value_type: _,
-            name: _,
-            assign: _,
-            value: _,
-        } => false,
+        Item::Local { .. } => false,
         Item::Stmt(stmt) => surely(stmt),
     }
 }
