@@ -21,7 +21,8 @@ use Rattle.chord_types.specs.declared.site.Site.{Site}
 use Rattle.chord_types.specs.Sites.{see_site, declares, Declares}
 use Rattle.chord_types.specs.StmtChecked.{IsBlockChecked, block_breaks, behind}
 use Rattle.chord_types.specs.MemberChecked.{DeclaresAll, IsEntered, IsMemberChecked, formal_statics, declares_all, member_breaks}
-use Rattle.chord_types.proofs.Notes.{two, three, nothing_before, least_append, no_more, append_more}
+use Rattle.chord_classes.proofs.Leasts.{noted_two, noted_three, least_append}
+use Rattle.chord_types.proofs.Notes.{nothing_before, nothing_after, append_more}
 use Rattle.chord_types.proofs.Items.{map_append}
 
 -- Of parameters the first were declared, and what is left gives the whole.
@@ -52,7 +53,7 @@ one_declared old new formal h = record { types = h.types; site = h.site }
 -- all parameters were declared
 pub all_declared : (old now : Site) (all rest : List Formal) → rest ≡ [] → AreDeclared old now all rest → DeclaresAll old now all
 all_declared old now all rest e h = record {
-  types = sym (no_more now.types.items) ∙ ap (λ z. now.types.items ++ formal_statics now.table.now z) (sym e) ∙ h.types;
+  types = sym (nothing_after now.types.items) ∙ ap (λ z. now.types.items ++ formal_statics now.table.now z) (sym e) ∙ h.types;
   site = ap (declares_all (see_site now)) (sym e) ∙ h.site;
 }
 
@@ -61,7 +62,7 @@ abbrev with_scope : sites.Site → List sites.Local → ℕ → sites.Site
 with_scope site scope next = record { table = site.table; own = site.own; in_main = site.in_main; due = site.due; scope = scope; next = next }
 
 all_parameters : (site : sites.Site) (formals : List Formal) → declares_all site formals ≡ with_scope site (site.scope ++ parameters site.table site.next formals) (site.next + length formals)
-all_parameters site [] = ap (λ z. with_scope site z site.next) (sym (no_more site.scope)) ∙ ap (with_scope site (site.scope ++ [])) (omega arith)
+all_parameters site [] = ap (λ z. with_scope site z site.next) (sym (nothing_after site.scope)) ∙ ap (with_scope site (site.scope ++ [])) (omega arith)
 all_parameters site (formal ∷ more) =
     let next = declares site formal.value_type formal.name in
     all_parameters next more ∙ ap (λ z. with_scope site z (site.next + 1 + length more)) (sym (append_more site.scope (_ ∷ []) (parameters site.table (site.next + 1) more))) ∙ ap (with_scope site (site.scope ++ parameters site.table site.next (formal ∷ more))) (omega arith)
@@ -87,11 +88,12 @@ pub member_checked : (table : List Shape) (own : ℕ) (member : MemberTree) (fir
     → IsMemberChecked table own member old new body
 member_checked table own member first begin last old mid late new stmts due body e hb ht h hl hn hd hv = record {
   built = λ class n. hv ∙ body_is class (nothing_before mid late (keys 2 (undeclared_member table member)) hl (nothing_before late new (keys 17 (unreturned member)) hn n));
-  noted = λ class. three old mid late new (block_breaks (enter table own class member) (body_of member)) (keys 2 (undeclared_member table member)) (keys 17 (unreturned member)) (h.noted ∙ ap (λ z. least old (block_breaks z (body_of member))) (site_is class)) hl hn;
+  noted = λ class. noted_three old mid late new (block_breaks (enter table own class member) (body_of member)) (keys 2 (undeclared_member table member)) (keys 17 (unreturned member)) (h.noted ∙ ap (λ z. least old (block_breaks z (body_of member))) (site_is class)) hl hn;
 }
   where
     site_is : (class : ClassTree) → see_site begin ≡ enter table own class member
     site_is class = hb ∙ e.site class
+
     body_is : (class : ClassTree) → mid ≡ None → record { class = own; is_main = last.in_main; is_constructor = is_builder member; parameters = first.types.items; locals = last.types.items; result = due; stmts = stmt_list (map view_stmt stmts) } ≡ resolved_member table own class member
     body_is class n =
         let s = site_is class in
@@ -114,6 +116,7 @@ slots_fit table own member first begin last old mid stmts e hb ht h =
   where
     no_class : ClassTree
     no_class = record { public_at = None; name = record { text = []; at = 0 }; base = None; members = []; end = 0 }
+
     map_length : {A B : Type 0} (f : A → B) (xs : List A) → length (map f xs) ≡ length xs
     map_length f [] = refl
     map_length f (x ∷ xs) = let r = map_length f xs in omega arith

@@ -22,7 +22,8 @@ use Rattle.chord_classes.specs.AllNotes.{term_keys, item_keys}
 use Rattle.chord_types.specs.declared.site.Site.{Site}
 use Rattle.chord_types.specs.Sites.{see_site}
 use Rattle.chord_types.specs.StmtChecked.{IsPlain, IsCondition, IsItemChecked, AreItemsChecked, IsBlockChecked, stmt_breaks, block_breaks, items_breaks, item_breaks, resolved_item, item_locals, behind, after_items}
-use Rattle.chord_types.proofs.Notes.{two, and_nothing, nothing_before, least_append, no_more, append_more}
+use Rattle.chord_classes.proofs.Leasts.{noted_two, least_append}
+use Rattle.chord_types.proofs.Notes.{and_nothing, nothing_before, nothing_after, append_more}
 
 -- what a function makes of two joined lists
 pub map_append : {A B : Type 0} (f : A → B) (xs ys : List A) → map f (xs ++ ys) ≡ map f xs ++ map f ys
@@ -46,7 +47,7 @@ pub plain_item : (old : Site) (stmt : StmtTree) (found more : Option ℕ) (made 
 plain_item old stmt found more made e h = record {
   built = h.built;
   noted = h.noted;
-  types = sym (ap (λ z. old.types.items ++ map (type_known old.table.now) z) e ∙ no_more old.types.items);
+  types = sym (ap (λ z. old.types.items ++ map (type_known old.table.now) z) e ∙ nothing_after old.types.items);
   site = nothing_added (see_site old) (stmt_locals stmt) e;
 }
 
@@ -60,7 +61,7 @@ block_item old new block found more inner made h hv = record {
 }
 
 tested : (old mid late : Option ℕ) (a x b : List ℕ) → mid ≡ least old (a ++ x) → late ≡ least mid b → late ≡ least old (a ++ ((x ++ []) ++ b))
-tested old mid late a x b hm hl = two old mid late (a ++ x) b hm hl ∙ ap (least old) (sym (append_more a x b) ∙ ap (λ z. a ++ (z ++ b)) (sym (no_more x)))
+tested old mid late a x b hm hl = noted_two old mid late (a ++ x) b hm hl ∙ ap (least old) (sym (append_more a x b) ∙ ap (λ z. a ++ (z ++ b)) (sym (nothing_after x)))
 
 module _ (old : Site) (at bracket : ℕ) (test : ExprTree) (found mid : Option ℕ) (condition : Expr) where
   abbrev x : List ℕ
@@ -100,7 +101,7 @@ module _ (old : Site) (at bracket : ℕ) (test : ExprTree) (found mid : Option �
         hv ∙ ap (λ z. to.IfElse z (view_stmt one) (view_stmt other)) (h.built earlier) ∙ ap (λ z. to.IfElse (resolved (see_site old) (term test)) z (view_stmt other)) (k.built later)
         ∙ ap (to.IfElse (resolved (see_site old) (term test)) (resolved_stmt (see_site old) first)) (l.built e ∙ ap (λ z. resolved_stmt z second) k.site);
     noted = tested found mid more a x (stmt_breaks (see_site old) first ++ stmt_breaks (after (see_site old) (StmtItem first)) second) h.noted
-        (two mid late more (stmt_breaks (see_site old) first) (stmt_breaks (after (see_site old) (StmtItem first)) second) k.noted (l.noted ∙ ap (λ z. least late (stmt_breaks z second)) k.site));
+        (noted_two mid late more (stmt_breaks (see_site old) first) (stmt_breaks (after (see_site old) (StmtItem first)) second) k.noted (l.noted ∙ ap (λ z. least late (stmt_breaks z second)) k.site));
     types = l.types ∙ ap (λ z. z ++ map (type_known between.table.now) (stmt_locals second)) k.types ∙ ap (λ z. (old.types.items ++ map (type_known old.table.now) (stmt_locals first)) ++ map (type_known z) (stmt_locals second)) (ap (λ (s : sites.Site). s.table) k.site)
         ∙ sym (append_more old.types.items (map (type_known old.table.now) (stmt_locals first)) (map (type_known old.table.now) (stmt_locals second)))
         ∙ ap (λ z. old.types.items ++ z) (sym (map_append (type_known old.table.now) (stmt_locals first) (stmt_locals second)));
@@ -160,9 +161,9 @@ one_less old now next all rest item found0 found more made one h k = record {
 -- all items were looked at
 pub none_left : (old now : Site) (all rest : List ItemTree) (found0 found : Option ℕ) (made : List Stmt) → rest ≡ [] → AreLeft old now all rest found0 found (map view_stmt made) → AreItemsChecked old now all found0 found made
 none_left old now all rest found0 found made e h = record {
-  built = λ n. ap stmt_list (sym (no_more (map view_stmt made)) ∙ ap (λ z. map view_stmt made ++ each_resolved (see_site now) z) (sym e)) ∙ h.built n;
+  built = λ n. ap stmt_list (sym (nothing_after (map view_stmt made)) ∙ ap (λ z. map view_stmt made ++ each_resolved (see_site now) z) (sym e)) ∙ h.built n;
   noted = ap (λ z. least found (items_breaks (see_site now) (items z))) (sym e) ∙ h.noted;
-  types = sym (no_more now.types.items) ∙ ap (λ z. now.types.items ++ map (type_known now.table.now) (items_locals (items z))) (sym e) ∙ h.types;
+  types = sym (nothing_after now.types.items) ∙ ap (λ z. now.types.items ++ map (type_known now.table.now) (items_locals (items z))) (sym e) ∙ h.types;
   site = ap (after_items (see_site now)) (sym e) ∙ h.site;
 }
 
@@ -177,7 +178,7 @@ record Leaves (site left : sites.Site) (count : ℕ) : Type 0 where
   scope : left.scope ≡ site.scope ++ added
 
 leaves : (site : sites.Site) (xs : List ItemTree) → Leaves site (after_items site xs) (length (items_locals (items xs)))
-leaves site [] = record { table = refl; own = refl; in_main = refl; due = refl; next = omega arith; added = []; scope = sym (no_more site.scope) }
+leaves site [] = record { table = refl; own = refl; in_main = refl; due = refl; next = omega arith; added = []; scope = sym (nothing_after site.scope) }
 leaves site (LocalItem written name assign value ∷ xs) =
     let h = leaves (after site (LocalItem written name assign value)) xs in
     let n = h.next in

@@ -27,7 +27,8 @@ use Rattle.chord_types.specs.declared.operand.Arguments.{Arguments}
 use Rattle.chord_types.specs.Views.{see_passed}
 use Rattle.chord_types.specs.CallKeys.{call_keys, call_type, built_keys}
 use Rattle.chord_types.specs.Checked.{IsChecked, AreChecked, IsReceiver, IsAlone, term_breaks, terms_breaks}
-use Rattle.chord_types.proofs.Notes.{two, three, four, and_nothing, nothing_before, no_more, append_more}
+use Rattle.chord_classes.proofs.Leasts.{noted_two, noted_three, noted_four}
+use Rattle.chord_types.proofs.Notes.{and_nothing, nothing_before, nothing_after, append_more}
 use Rattle.chord_types.proofs.Lists.{map_end}
 
 -- `-` and its operand
@@ -37,7 +38,7 @@ pub minus_checked : (site : Site) (at : ℕ) (operand : Term) (old mid new : Opt
 minus_checked site at operand old mid new x made h hk hn hv = record {
   built = λ e. hv ∙ ap to.Negate (h.built (nothing_before mid new (typed_term_keys site Used (MinusTyped at x.static_type)) hn e));
   typed = hk ∙ ap (λ z. judged site Used (MinusTyped at z)) h.typed;
-  noted = two old mid new (term_breaks site Used operand) (term_keys site Used (MinusTerm at operand)) h.noted (hn ∙ ap (λ z. least mid (typed_term_keys site Used (MinusTyped at z))) h.typed);
+  noted = noted_two old mid new (term_breaks site Used operand) (term_keys site Used (MinusTerm at operand)) h.noted (hn ∙ ap (λ z. least mid (typed_term_keys site Used (MinusTyped at z))) h.typed);
 }
 
 -- `!` and its operand
@@ -47,7 +48,7 @@ pub not_checked : (site : Site) (at : ℕ) (operand : Term) (old mid new : Optio
 not_checked site at operand old mid new x made h hk hn hv = record {
   built = λ e. hv ∙ ap to.Deny (h.built (nothing_before mid new (typed_term_keys site Used (NotTyped at x.static_type)) hn e));
   typed = hk ∙ ap (λ z. judged site Used (NotTyped at z)) h.typed;
-  noted = two old mid new (term_breaks site Used operand) (term_keys site Used (NotTerm at operand)) h.noted (hn ∙ ap (λ z. least mid (typed_term_keys site Used (NotTyped at z))) h.typed);
+  noted = noted_two old mid new (term_breaks site Used operand) (term_keys site Used (NotTerm at operand)) h.noted (hn ∙ ap (λ z. least mid (typed_term_keys site Used (NotTyped at z))) h.typed);
 }
 
 group_type : (site : Site) (role : Role) (inner : Option StaticType) → inner ≡ judged site role (GroupTyped inner)
@@ -79,7 +80,7 @@ operation_checked site operator at left right old mid late new x y made h k hk h
       hv ∙ ap (λ z. applied operator z y.static_type (view_expr x.expr) (view_expr y.expr)) h.typed ∙ ap (λ z. applied operator (type_of_term site Used left) z (view_expr x.expr) (view_expr y.expr)) k.typed
       ∙ ap (λ z. applied operator (type_of_term site Used left) (type_of_term site Used right) z (view_expr y.expr)) (h.built earlier) ∙ ap (applied operator (type_of_term site Used left) (type_of_term site Used right) (resolved site left)) (k.built later);
   typed = hk ∙ types (λ z. judged site Used z);
-  noted = three old mid late new (term_breaks site Used left) (term_breaks site Used right) (term_keys site Used (OperationTerm operator at left right)) h.noted k.noted (hn ∙ types (λ z. least late (typed_term_keys site Used z)));
+  noted = noted_three old mid late new (term_breaks site Used left) (term_breaks site Used right) (term_keys site Used (OperationTerm operator at left right)) h.noted k.noted (hn ∙ types (λ z. least late (typed_term_keys site Used z)));
 }
   where
     types : {X : Type 0} (f : TypedTerm → X) → f (OperationTyped operator at x.static_type y.static_type) ≡ f (typed_term site (OperationTerm operator at left right))
@@ -96,7 +97,7 @@ own_checked site role name brackets actuals old mid new args target made a ht hk
     built = λ e. hv ∙ ap (λ z. call_of site.table z to.This (expr_list (map view_expr args.exprs.items))) ht
         ∙ ap (call_of site.table (own_target site name.text) to.This) (a.built (nothing_before mid new (call_keys site role target name.at (map see_passed args.passed.items)) hn e));
     typed = hk ∙ same (λ t ps. call_type site role t name.at ps);
-    noted = two old mid new (terms_breaks site actuals) (term_keys site role (OwnCallTerm name brackets actuals)) a.noted (hn ∙ same (λ t ps. least mid (call_keys site role t name.at ps)));
+    noted = noted_two old mid new (terms_breaks site actuals) (term_keys site role (OwnCallTerm name brackets actuals)) a.noted (hn ∙ same (λ t ps. least mid (call_keys site role t name.at ps)));
   };
   console = hc;
 }
@@ -115,7 +116,7 @@ new_checked site role at name brackets actuals old mid new args class made a hcl
     built = λ e. hv ∙ ap (λ z. to.New z (expr_list (map view_expr args.exprs.items))) hclass
         ∙ ap (to.New (unwrap_or (class_named site.table name.text) 0)) (a.built (nothing_before mid new (typed_term_keys site role (NewTyped name (map see_passed args.passed.items))) hn e));
     typed = hk ∙ ap (λ z. judged site role (NewTyped name z)) a.typed;
-    noted = two old mid new (terms_breaks site actuals) (term_keys site role (NewTerm at name brackets actuals)) a.noted (hn ∙ ap (λ z. least mid (typed_term_keys site role (NewTyped name z))) a.typed);
+    noted = noted_two old mid new (terms_breaks site actuals) (term_keys site role (NewTerm at name brackets actuals)) a.noted (hn ∙ ap (λ z. least mid (typed_term_keys site role (NewTyped name z))) a.typed);
   };
   console = hc;
 }
@@ -142,7 +143,7 @@ call_checked site role receiver dot name brackets actuals start old mid new x ar
         ∙ ap (λ z. call_of site.table (target_on site (type_of_term site Receiver receiver) name.text) z (expr_list (map view_expr args.exprs.items))) (h.checked.built (nothing_before old mid (terms_breaks site actuals) a.noted later))
         ∙ ap (call_of site.table (target_on site (type_of_term site Receiver receiver) name.text) (resolved site receiver)) (a.built later);
     typed = hk ∙ ap (judged site role) same;
-    noted = three start old mid new (term_breaks site Receiver receiver) (terms_breaks site actuals) (term_keys site role (CallTerm receiver dot name brackets actuals)) h.checked.noted a.noted (hn ∙ ap (λ z. least mid (typed_term_keys site role z)) same);
+    noted = noted_three start old mid new (term_breaks site Receiver receiver) (terms_breaks site actuals) (term_keys site role (CallTerm receiver dot name brackets actuals)) h.checked.noted a.noted (hn ∙ ap (λ z. least mid (typed_term_keys site role z)) same);
   };
   console = hc;
 }
@@ -187,7 +188,7 @@ are_checked site xs old new args h = record {
 }
 
 flat_end : {A : Type 0} (f : A → List ℕ) (xs : List A) (x : A) → flat_map f (xs ++ (x ∷ [])) ≡ flat_map f xs ++ f x
-flat_end f [] x = no_more (f x)
+flat_end f [] x = nothing_after (f x)
 flat_end f (a ∷ xs) x = ap (λ z. f a ++ z) (flat_end f xs x) ∙ append_more (f a) (flat_map f xs) (f x)
 
 -- one more argument was looked at
@@ -198,7 +199,7 @@ one_more site xs x old mid new es ps operand first h k hf = record {
   built = λ e. ap (λ z. z ++ (view_expr operand.expr ∷ [])) (h.built (nothing_before mid new (term_breaks site Used (term x)) k.noted e)) ∙ ap (λ z. map (λ x. resolved site (term x)) xs ++ (z ∷ [])) (k.built e) ∙ sym (map_end (λ x. resolved site (term x)) xs x);
   typed = ap (λ z. z ++ (record { first = first; static_type = operand.static_type } ∷ [])) h.typed ∙ ap (λ z. map (one_passed site) xs ++ (record { first = z; static_type = operand.static_type } ∷ [])) hf
       ∙ ap (λ z. map (one_passed site) xs ++ (record { first = first_token (term x); static_type = z } ∷ [])) k.typed ∙ sym (map_end (one_passed site) xs x);
-  noted = two old mid new (flat_map (λ x. term_breaks site Used (term x)) xs) (term_breaks site Used (term x)) h.noted k.noted ∙ ap (least old) (sym (flat_end (λ x. term_breaks site Used (term x)) xs x));
+  noted = noted_two old mid new (flat_map (λ x. term_breaks site Used (term x)) xs) (term_breaks site Used (term x)) h.noted k.noted ∙ ap (least old) (sym (flat_end (λ x. term_breaks site Used (term x)) xs x));
 }
 
 -- the same of equal lists

@@ -6,35 +6,18 @@ use Rattle.chord_classes.specs.NameRules.{when}
 use Rattle.chord_classes.specs.Least.{keys, lesser, least}
 
 -- nothing after a list is the list
-pub no_more : {A : Type 0} (xs : List A) → xs ++ [] ≡ xs
-no_more [] = refl
-no_more (x ∷ xs) = ap (λ z. x ∷ z) (no_more xs)
+pub nothing_after : {A : Type 0} (xs : List A) → xs ++ [] ≡ xs
+nothing_after [] = refl
+nothing_after (x ∷ xs) = ap (λ z. x ∷ z) (nothing_after xs)
 
 -- joined lists, from either side
 pub append_more : {A : Type 0} (xs ys zs : List A) → xs ++ (ys ++ zs) ≡ (xs ++ ys) ++ zs
 append_more [] ys zs = refl
 append_more (x ∷ xs) ys zs = ap (λ z. x ∷ z) (append_more xs ys zs)
 
--- the least of two joined lists is that of the second after the first
-pub least_append : (before : Option ℕ) (xs ys : List ℕ) → least before (xs ++ ys) ≡ least (least before xs) ys
-least_append before [] ys = refl
-least_append before (x ∷ xs) ys = least_append (lesser before x) xs ys
-
--- two lists were noted
-pub two : (o p q : Option ℕ) (a b : List ℕ) → p ≡ least o a → q ≡ least p b → q ≡ least o (a ++ b)
-two o p q a b hp hq = hq ∙ ap (λ z. least z b) hp ∙ sym (least_append o a b)
-
--- three lists were noted
-pub three : (o p q r : Option ℕ) (a b c : List ℕ) → p ≡ least o a → q ≡ least p b → r ≡ least q c → r ≡ least o (a ++ (b ++ c))
-three o p q r a b c hp hq hr = two o p r a (b ++ c) hp (two p q r b c hq hr)
-
--- four lists were noted
-pub four : (o p q r s : Option ℕ) (a b c d : List ℕ) → p ≡ least o a → q ≡ least p b → r ≡ least q c → s ≡ least r d → s ≡ least o (a ++ (b ++ (c ++ d)))
-four o p q r s a b c d hp hq hr hs = two o p s a (b ++ (c ++ d)) hp (three p q r s b c d hq hr hs)
-
 -- a list and nothing after it were noted
 pub and_nothing : (o p : Option ℕ) (a : List ℕ) → p ≡ least o a → p ≡ least o (a ++ [])
-and_nothing o p a h = h ∙ ap (least o) (sym (no_more a))
+and_nothing o p a h = h ∙ ap (least o) (sym (nothing_after a))
 
 some_stays : (m : ℕ) (xs : List ℕ) → least (Some m) xs ≡ None → ⊥
 some_stays m [] h = false≢true (sym (ap is_some h))

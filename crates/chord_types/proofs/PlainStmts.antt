@@ -30,7 +30,8 @@ use Rattle.chord_types.specs.Sites.{see_site, Declares}
 use Rattle.chord_types.specs.CallKeys.{call_keys}
 use Rattle.chord_types.specs.Checked.{IsChecked, AreChecked, IsReceiver, IsAlone, term_breaks, terms_breaks, on_dot}
 use Rattle.chord_types.specs.StmtChecked.{IsPlain, IsCondition, IsItemChecked}
-use Rattle.chord_types.proofs.Notes.{two, three, four, and_nothing, nothing_before}
+use Rattle.chord_classes.proofs.Leasts.{noted_two, noted_three, noted_four}
+use Rattle.chord_types.proofs.Notes.{and_nothing, nothing_before}
 
 none_is_not_some : {X : Type 0} (o : Option X) → not (is_some o) ≡ is_none o
 none_is_not_some None = refl
@@ -42,7 +43,7 @@ pub own_alone : (site : sites.Site) (name : Name) (brackets : ℕ) (actuals : Te
     → view_stmt made ≡ done site.table target to.This (expr_list (map view_expr args.exprs.items)) → IsAlone site (OwnCallTerm name brackets actuals) old new made
 own_alone site name brackets actuals old mid new args target made a ht hn hv = record {
   built = λ e. hv ∙ ap (λ z. done site.table z to.This (expr_list (map view_expr args.exprs.items))) ht ∙ ap (done site.table (own_target site name.text) to.This) (a.built (nothing_before mid new (call_keys site Alone target name.at (map see_passed args.passed.items)) hn e));
-  noted = two old mid new (terms_breaks site actuals) (term_keys site Alone (OwnCallTerm name brackets actuals)) a.noted
+  noted = noted_two old mid new (terms_breaks site actuals) (term_keys site Alone (OwnCallTerm name brackets actuals)) a.noted
       (hn ∙ ap (λ z. least mid (call_keys site Alone z name.at (map see_passed args.passed.items))) ht ∙ ap (λ z. least mid (call_keys site Alone (own_target site name.text) name.at z)) a.typed);
 }
 
@@ -59,7 +60,7 @@ on_alone site receiver dot name brackets actuals start old mid new x args made h
       ∙ ap (λ z. cond (is_console site receiver) (to.Print (printed (expr_list (map view_expr args.exprs.items)))) (done site.table (target_on site z name.text) (view_expr x.expr) (expr_list (map view_expr args.exprs.items)))) h.checked.typed
       ∙ ap (λ z. cond (is_console site receiver) (to.Print (printed (expr_list (map view_expr args.exprs.items)))) (done site.table (target_on site (type_of_term site Receiver receiver) name.text) z (expr_list (map view_expr args.exprs.items)))) (h.checked.built (nothing_before old mid (terms_breaks site actuals) a.noted later))
       ∙ ap (λ z. cond (is_console site receiver) (to.Print (printed z)) (done site.table (target_on site (type_of_term site Receiver receiver) name.text) (resolved site receiver) z)) (a.built later);
-  noted = three start old mid new (term_breaks site Receiver receiver) (terms_breaks site actuals) (term_keys site Alone (CallTerm receiver dot name brackets actuals)) h.checked.noted a.noted
+  noted = noted_three start old mid new (term_breaks site Receiver receiver) (terms_breaks site actuals) (term_keys site Alone (CallTerm receiver dot name brackets actuals)) h.checked.noted a.noted
       (hn ∙ ap (λ z. least mid (typed_term_keys site Alone (typed_call z x.static_type dot name (map see_passed args.passed.items)))) h.console
       ∙ ap (λ z. least mid (typed_term_keys site Alone (typed_call (is_console site receiver) z dot name (map see_passed args.passed.items)))) h.checked.typed
       ∙ ap (λ z. least mid (typed_term_keys site Alone (typed_call (is_console site receiver) (type_of_term site Receiver receiver) dot name z))) a.typed);
@@ -95,7 +96,7 @@ pub assign_plain : (site : sites.Site) (name : Name) (at : ℕ) (value : ExprTre
 assign_plain site name at value old mid late new x there variable slot made h hl hn ht hk hs hv = record {
   built = λ e. hv ∙ ap (λ z. to.Store z (view_expr x.expr)) hs ∙ ap (to.Store (slot_of (variable_named site.scope name.text)))
       (h.built (nothing_before mid late (keys 14 (when (not there) name.at)) hl (nothing_before late new (keys 15 (misfit site.table variable x.static_type at)) hn e)));
-  noted = four old mid late new new (term_breaks site Used (term value)) (keys 14 (when (is_none (variable_named site.scope name.text)) name.at)) (keys 15 (misfit site.table (local_type (variable_named site.scope name.text)) (value_of site value) at)) []
+  noted = noted_four old mid late new new (term_breaks site Used (term value)) (keys 14 (when (is_none (variable_named site.scope name.text)) name.at)) (keys 15 (misfit site.table (local_type (variable_named site.scope name.text)) (value_of site value) at)) []
       h.noted
       (hl ∙ ap (λ z. least mid (keys 14 (when z name.at))) (ap not ht ∙ none_is_not_some (variable_named site.scope name.text)))
       (hn ∙ ap (λ z. least late (keys 15 (misfit site.table z x.static_type at))) hk ∙ ap (λ z. least late (keys 15 (misfit site.table (local_type (variable_named site.scope name.text)) z at))) h.typed)
@@ -109,7 +110,7 @@ pub return_plain : (site : sites.Site) (at : ℕ) (value : ExprTree) (old mid la
     → IsPlain site (ReturnValueStmt at value) old new made
 return_plain site at value old mid late new x gives due made h hl hn hg hd hv = record {
   built = λ e. hv ∙ ap to.Give (h.built (nothing_before mid late (keys 15 (misfit site.table due x.static_type at)) hl (nothing_before late new (keys 18 (when (not gives) at)) hn e)));
-  noted = four old mid late new new (term_breaks site Used (term value)) (keys 15 (misfit site.table (option_and_then (type_written site.table) site.due) (value_of site value) at)) (keys 18 (when (is_none site.due) at)) []
+  noted = noted_four old mid late new new (term_breaks site Used (term value)) (keys 15 (misfit site.table (option_and_then (type_written site.table) site.due) (value_of site value) at)) (keys 18 (when (is_none site.due) at)) []
       h.noted
       (hl ∙ ap (λ z. least mid (keys 15 (misfit site.table z x.static_type at))) hd ∙ ap (λ z. least mid (keys 15 (misfit site.table (option_and_then (type_written site.table) site.due) z at))) h.typed)
       (hn ∙ ap (λ z. least late (keys 18 (when z at))) (ap not hg ∙ none_is_not_some site.due))
@@ -120,7 +121,7 @@ return_plain site at value old mid late new x gives due made h hl hn hg hd hv = 
 pub condition_checked : (site : sites.Site) (at : ℕ) (test : ExprTree) (old mid new : Option ℕ) (x : Operand) → IsChecked site Used (term test) old mid x → new ≡ least mid (keys 15 (when_typed is_bool x.static_type at)) → IsCondition site at test old new x.expr
 condition_checked site at test old mid new x h hn = record {
   built = λ e. h.built (nothing_before mid new (keys 15 (when_typed is_bool x.static_type at)) hn e);
-  noted = two old mid new (term_breaks site Used (term test)) (keys 15 (when_typed is_bool (value_of site test) at)) h.noted (hn ∙ ap (λ z. least mid (keys 15 (when_typed is_bool z at))) h.typed);
+  noted = noted_two old mid new (term_breaks site Used (term test)) (keys 15 (when_typed is_bool (value_of site test) at)) h.noted (hn ∙ ap (λ z. least mid (keys 15 (when_typed is_bool z at))) h.typed);
 }
 
 -- a local with its value
@@ -131,7 +132,7 @@ pub local_item : (before after_it : Site) (written : ValueType) (name : Name) (a
 local_item before after_it written name at value old mid late more new x wanted there slot made h hl hm hn hw ht hs d hv = record {
   built = λ e. hv ∙ ap (λ z. to.Store z (view_expr x.expr)) hs ∙ ap (to.Store before.next)
       (h.built (nothing_before mid late (keys 2 (undeclared_type before.table.now written)) hl (nothing_before late more (keys 15 (misfit before.table.now wanted x.static_type at)) hm (nothing_before more new (keys 20 (when there name.at)) hn e))));
-  noted = four old mid late more new (term_breaks (see_site before) Used (term value)) (keys 2 (undeclared_type before.table.now written)) (keys 15 (misfit before.table.now (type_written before.table.now written) (value_of (see_site before) value) at)) (keys 20 (when (is_some (variable_named before.scope name.text)) name.at))
+  noted = noted_four old mid late more new (term_breaks (see_site before) Used (term value)) (keys 2 (undeclared_type before.table.now written)) (keys 15 (misfit before.table.now (type_written before.table.now written) (value_of (see_site before) value) at)) (keys 20 (when (is_some (variable_named before.scope name.text)) name.at))
       h.noted hl
       (hm ∙ ap (λ z. least late (keys 15 (misfit before.table.now z x.static_type at))) hw ∙ ap (λ z. least late (keys 15 (misfit before.table.now (type_written before.table.now written) z at))) h.typed)
       (hn ∙ ap (λ z. least more (keys 20 (when z name.at))) ht);

@@ -16,26 +16,6 @@ pub surely_split : (item : ItemTree) (more : List ItemTree) → items_surely (it
 surely_split (LocalItem written name assign value) more = refl
 surely_split (StmtItem stmt) more = or_false_or (surely stmt) (items_surely (items more))
 
--- one that holds is enough
-pub or_true : (a b : Bool) → true ≡ a → (a || b) ≡ true
-or_true true b h = refl
-or_true false b h = cc
-
--- one that does not hold leaves the other
-pub or_false : (a b : Bool) → false ≡ a → (a || b) ≡ b
-or_false true b h = cc
-or_false false b h = refl
-
--- where the first holds the other decides
-pub and_true : (a b : Bool) → true ≡ a → (a && b) ≡ b
-and_true true b h = refl
-and_true false b h = cc
-
--- where the first does not hold not both do
-pub and_false : (a b : Bool) → false ≡ a → (a && b) ≡ false
-and_false true b h = cc
-and_false false b h = refl
-
 -- a call is not the word `true`
 pub called_is_no_word : (calls : DotTrees) (receiver : Term) (dot : ℕ) (name : Name) (brackets : ℕ) (actuals : Terms) → is_true_word (called calls (CallTerm receiver dot name brackets actuals)) ≡ false
 called_is_no_word NoDots receiver dot name brackets actuals = refl

@@ -97,8 +97,8 @@ finds_more m n names w finds none updates = record {
 }
 
 -- one name more, which was there
-pub finds_same : (m : Places) (names : List (List ℕ)) (w : List ℕ) → FindsNames m names → is_some (found_place m w) ≡ true → FindsNames m (names ++ (w ∷ []))
-finds_same m names w finds some = record {
+pub finds_there : (m : Places) (names : List (List ℕ)) (w : List ℕ) → FindsNames m names → is_some (found_place m w) ≡ true → FindsNames m (names ++ (w ∷ []))
+finds_there m names w finds some = record {
   each = λ x. finds.each x ∙ same_by (bytes_eq w x) (length names) (name_place names w) (name_place names x) (same_place names w x) (ap is_some (sym (finds.each w)) ∙ some) ∙ sym (place_end names w x);
 }
 

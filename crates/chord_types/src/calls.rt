@@ -100,7 +100,7 @@ pub(crate) fn judge_call(
 }
 
 /// What a call without receiver names; `Main` has no `this`.
-pub(crate) fn own_target<'a>(site: &Site<'a>, name: &[u8]) -> Option<Target<'a>>
+pub(crate) fn own_target<'a>(site: &Site<'_, 'a>, name: &[u8]) -> Option<Target<'a>>
     ensures { option_map see_target result ≡ own_target (see_site site.now) name.now }
 {
     if site.in_main {
@@ -117,7 +117,7 @@ pub(crate) fn own_target<'a>(site: &Site<'a>, name: &[u8]) -> Option<Target<'a>>
 
 /// What a call on a receiver of this type names.
 pub(crate) fn target_on<'a>(
-    site: &Site<'a>,
+    site: &Site<'_, 'a>,
     receiver: Option<StaticType>,
     name: &[u8],
 ) -> Option<Target<'a>>

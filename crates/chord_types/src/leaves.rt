@@ -7,9 +7,7 @@ ghost use Rattle.chord_types.specs.Checked.{IsReceiver};
 ghost use Rattle.chord_types.specs.Views.{see_role};
 ghost use Rattle.chord_types.specs.Sites.{see_site};
 
-use crate::names::{
-    judge_literal, judge_number, judge_this, judge_variable, names_console, slot,
-};
+use crate::names::{judge_literal, judge_number, judge_this, judge_variable, names_console, slot};
 use crate::operand::{Operand, int_of, text_of};
 use crate::site::{Role, Site};
 use chord_base::static_type::StaticType;
@@ -43,7 +41,14 @@ pub(crate) fn this(site: &Site, role: Role, at: u32, breaks: &mut Least) -> Oper
 }
 
 /// A number, directly after `-` or not.
-pub(crate) fn number(site: &Site, role: Role, value: u32, at: u32, minus: bool, breaks: &mut Least) -> Operand
+pub(crate) fn number(
+    site: &Site,
+    role: Role,
+    value: u32,
+    at: u32,
+    minus: bool,
+    breaks: &mut Least,
+) -> Operand
     ensures { IsReceiver (see_site site.now) (see_role role) (NumberTerm value at minus) breaks.old.found breaks.new.found result }
 {
     judge_number(value, at, minus, breaks);

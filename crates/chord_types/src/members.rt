@@ -102,7 +102,7 @@ fn member_due<'a>(member: &'a Member) -> Option<&'a ValueType>
 }
 
 /// Declares parameters, in slots one after another.
-fn declare_all<'a>(site: &mut Site<'a>, formals: &'a [Formal]) -> Result<(), AllocError>
+fn declare_all<'t, 'a>(site: &mut Site<'t, 'a>, formals: &'a [Formal]) -> Result<(), AllocError>
     ensures { OnOk result (DeclaresAll site.old site.new formals.now) }
 {
     for formal in formals {
@@ -112,7 +112,7 @@ fn declare_all<'a>(site: &mut Site<'a>, formals: &'a [Formal]) -> Result<(), All
 }
 
 /// Declares the parameters of headers.
-fn declare_headers<'a>(site: &mut Site<'a>, headers: &'a [Header]) -> Result<(), AllocError>
+fn declare_headers<'t, 'a>(site: &mut Site<'t, 'a>, headers: &'a [Header]) -> Result<(), AllocError>
     ensures { OnOk result (DeclaresAll site.old site.new (flat_map header_formals (map see_header headers.now))) }
 {
     for header in headers {
@@ -122,7 +122,7 @@ fn declare_headers<'a>(site: &mut Site<'a>, headers: &'a [Header]) -> Result<(),
 }
 
 /// Declares the parameters of a member.
-fn declare_formals<'a>(site: &mut Site<'a>, member: &'a Member) -> Result<(), AllocError>
+fn declare_formals<'t, 'a>(site: &mut Site<'t, 'a>, member: &'a Member) -> Result<(), AllocError>
     ensures { OnOk result (DeclaresAll site.old site.new (member_formals (see_member member.now))) }
 {
     match member {
@@ -132,12 +132,12 @@ fn declare_formals<'a>(site: &mut Site<'a>, member: &'a Member) -> Result<(), Al
 }
 
 /// Where the body of a member begins: slot 0 is `this`, and then come the parameters.
-fn enter<'a>(
+fn enter<'t, 'a>(
     alloc: Global,
-    table: &'a Table<'a>,
+    table: &'t Table<'a>,
     own: u32,
     member: &'a Member,
-) -> Result<Site<'a>, AllocError>
+) -> Result<Site<'t, 'a>, AllocError>
     ensures { IfOk result (λ site. IsEntered table.now own (see_member member.now) site) }
 {
     let mut site = Site {
@@ -243,9 +243,9 @@ fn made(
 }
 
 /// A member: its body resolved.
-pub(crate) fn member<'a>(
+pub(crate) fn member<'t, 'a>(
     alloc: Global,
-    table: &'a Table<'a>,
+    table: &'t Table<'a>,
     own: u32,
     member: &'a Member,
     breaks: &mut Least,

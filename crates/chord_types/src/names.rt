@@ -79,12 +79,7 @@ pub(crate) fn judge_variable(
 }
 
 /// Judges `this`, which `Main` has not.
-pub(crate) fn judge_this(
-    site: &Site,
-    role: Role,
-    at: u32,
-    breaks: &mut Least,
-) -> Option<StaticType>
+pub(crate) fn judge_this(site: &Site, role: Role, at: u32, breaks: &mut Least) -> Option<StaticType>
     ensures typed { result ≡ judged (see_site site.now) (see_role role) (ThisTyped at) }
     ensures noted { breaks.new.found ≡ least breaks.old.found (typed_term_keys (see_site site.now) (see_role role) (ThisTyped at)) }
 {

@@ -14,7 +14,6 @@ ghost use Rattle.chord_classes.specs.Resolve.{is_text, applied};
 ghost use Rattle.chord_classes.specs.Least.{least};
 ghost use Rattle.chord_classes.specs.AllNotes.{typed_term_keys};
 
-
 use chord_base::operation::Operation;
 use chord_base::static_type::StaticType;
 use chord_bodies::expr::BinaryOperator;
@@ -98,10 +97,8 @@ fn operator_result(
     match operator {
         Operator::Or | Operator::And => from_bools(left, right),
         Operator::Equal | Operator::NotEqual => comparison_type(table, left, right),
-        Operator::Less
-        | Operator::Greater
-        | Operator::LessOrEqual
-        | Operator::GreaterOrEqual => from_ints(StaticType::Bool, left, right),
+        Operator::Less | Operator::Greater | Operator::LessOrEqual | Operator::GreaterOrEqual =>
+            from_ints(StaticType::Bool, left, right),
         Operator::Plus => sum_of(left, right),
         Operator::Minus | Operator::Times | Operator::Divide | Operator::Remainder => {
             from_ints(StaticType::Int, left, right)

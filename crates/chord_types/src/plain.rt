@@ -70,7 +70,13 @@ pub(crate) fn assign(
     let value = expr(alloc, site, false, value, breaks)?;
     let text = name.text.items();
     breaks.note_if(14, !is_declared(site, text), name.at);
-    fit(site.table, variable_type(site, text), value.static_type, at, breaks);
+    fit(
+        site.table,
+        variable_type(site, text),
+        value.static_type,
+        at,
+        breaks,
+    );
     Ok(built::Stmt::Store(slot(site, text), value.expr))
 }
 
@@ -276,9 +282,9 @@ pub(crate) fn condition(
 }
 
 /// A local with its value.
-pub(crate) fn local<'a>(
+pub(crate) fn local<'t, 'a>(
     alloc: Global,
-    site: &mut Site<'a>,
+    site: &mut Site<'t, 'a>,
     written: &'a ValueType,
     name: &'a Name,
     at: u32,

@@ -34,7 +34,7 @@ pub enum TypeFault {
     Rule(u8, u32),
 }
 
-/// The bodies of a program, by the numbers of their members. Contracts see the list of bodies that they stand for.
+/// The bodies of a program, by the numbers of their members. Contracts see them; what they stand for is `view_body` of each.
 ///
 /// A body tells its slots and their types (`Body::slots`, `Body::slot_type`), and the static type of each of its expressions (`Body::type_of`). Its expressions and statements name each variable by its slot, each call by its class and method, `WriteLine` as `Stmt::Print`, and each `new` by its class.
 #[derive(Drop)]
@@ -43,40 +43,33 @@ pub struct Typed {
 }
 
 impl Model for Typed {
-    ghost use Rattle.std.specs.Prelude.{List, map};
-    ghost use Rattle.chord_bodies.specs.Resolved.{BodyOf};
-    ghost use Rattle.chord_bodies.specs.BodyView.{view_body};
+    ghost use Rattle.std.specs.Prelude.{List};
+    ghost use Rattle.std.specs.Coded.{codes};
+    ghost use Rattle.chord_bodies.specs.declared.body.Body.{Body};
+    ghost use Rattle.chord_bodies.specs.contracts.body.Body as body;
 
-    ghost Value = { List BodyOf };
+    ghost Value = { List Body };
 
-    ghost view = { λ t. map view_body t.bodies.items };
+    ghost coded = { Prim.hlevel (codes, body.the_row.coded) };
+
+    ghost view = { λ t. t.bodies.items };
 }
 
 impl Typed {
-    ghost use Rattle.std.specs.Prelude.{◌≡◌, map, option_map, slice_get};
-    ghost use Rattle.std.specs.Borrow.{Bor};
-    ghost use Rattle.chord_bodies.specs.declared.body.Body as rust_body;
-    ghost use Rattle.chord_bodies.specs.BodyView.{view_body};
+    ghost use Rattle.std.specs.Prelude.{◌≡◌};
 
     /// The bodies, by the numbers of their members.
     pub fn bodies(&self) -> &[Body]
-        ensures { map view_body result.now ≡ self.now }
+        ensures { result.now ≡ self.now }
     {
         self.bodies.as_slice()
-    }
-
-    /// The body of the member of this number.
-    pub fn body(&self, member: usize) -> Option<&Body>
-        ensures { option_map (λ (body : Bor rust_body.Body). view_body body.now) result ≡ slice_get self.now member }
-    {
-        self.bodies.get(member)
     }
 }
 
 /// The bodies of the members of a class, after others.
-fn class_bodies<'a>(
+fn class_bodies<'t, 'a>(
     alloc: Global,
-    table: &'a Table<'a>,
+    table: &'t Table<'a>,
     number: u32,
     members: &'a [Member],
     bodies: &mut Vec<Body>,
@@ -92,16 +85,16 @@ fn class_bodies<'a>(
 }
 
 /// The bodies of classes.
-fn all_bodies<'a>(
+fn all_bodies<'t, 'a>(
     alloc: Global,
-    table: &'a Table<'a>,
+    table: &'t Table<'a>,
     classes: &'a [Class],
     breaks: &mut Least,
 ) -> Result<Vec<Body>, AllocError>
     ensures { IfOk result (λ bodies. AreClassesChecked table.now (map see_class classes.now) breaks.old.found breaks.new.found bodies.items) }
 {
     let mut bodies = Vec::new(alloc);
-    let mut number = 0;
+    let mut number: usize = 0;
     'each: for class in classes {
         let Ok(own) = u32::try_from(number) else {
             return Err(AllocError);
@@ -126,21 +119,35 @@ fn told(program: &Program, breaks: &Least) -> Result<(), TypeFault>
     Err(TypeFault::Rule((key % 32) as u8, (key / 32) as u32))
 }
 
-/// The bodies of a program with all names resolved, or its break among the rules on names and types.
-///
-/// `Rule` comes exactly where one of these rules is broken: C02, C14 to C20 and C22 to C24. It is the one at the least token, and of several there the least rule. Takes time linear in the program, but for the logarithm of a look-up by name and the depth of classes.
-pub fn type_program(alloc: Global, program: &Program) -> Result<Typed, TypeFault>
-    ensures typed { IfOk result (λ typed. typed ≡ bodies_of (tree_of program.now)) }
+/// The bodies of a program with this table, or its break.
+fn typed_by<'t, 'a>(
+    alloc: Global,
+    table: &'t Table<'a>,
+    program: &'a Program,
+) -> Result<Typed, TypeFault>
+    requires { table.now ≡ table_of (tree_of program.now) }
+    ensures typed { IfOk result (λ typed. map view_body typed ≡ bodies_of (tree_of program.now)) }
     ensures free { OnOk result (IsFree is_type_rule (tree_of program.now)) }
     ensures fault { IfErr result (λ fault. IsTypeFault (tree_of program.now) fault) }
 {
-    let Ok(table) = table_of(alloc, program) else {
-        return Err(TypeFault::Memory);
-    };
     let mut breaks = Least::none();
-    let Ok(bodies) = all_bodies(alloc, &table, program.classes(), &mut breaks) else {
+    let Ok(bodies) = all_bodies(alloc, table, program.classes(), &mut breaks) else {
         return Err(TypeFault::Memory);
     };
     told(program, &breaks)?;
     Ok(Typed { bodies })
+}
+
+/// The bodies of a program with all names resolved, or its break among the rules on names and types.
+///
+/// `Rule` comes exactly where one of these rules is broken: C02, C14 to C20 and C22 to C24. It is the one at the least token, and of several there the least rule. Takes time linear in the program, but for the logarithm of a look-up by name and the depth of classes.
+pub fn type_program(alloc: Global, program: &Program) -> Result<Typed, TypeFault>
+    ensures typed { IfOk result (λ typed. map view_body typed ≡ bodies_of (tree_of program.now)) }
+    ensures free { OnOk result (IsFree is_type_rule (tree_of program.now)) }
+    ensures fault { IfErr result (λ fault. IsTypeFault (tree_of program.now) fault) }
+{
+    match table_of(alloc, program) {
+        Ok(table) => typed_by(alloc, &table, program),
+        Err(_) => Err(TypeFault::Memory),
+    }
 }

@@ -36,8 +36,8 @@ pub struct Target<'a> {
 
 /// Where an expression stands: the classes, the number of its class, whether its body is that of `Main`, what `return` is to give, the variables in scope, the next free slot, and the types of the variables that were declared so far, in scope or not.
 #[derive(Drop)]
-pub struct Site<'a> {
-    pub table: &'a Table<'a>,
+pub struct Site<'t, 'a> {
+    pub table: &'t Table<'a>,
     pub own: u32,
     pub in_main: bool,
     pub due: Option<&'a ValueType>,
@@ -46,7 +46,7 @@ pub struct Site<'a> {
     pub types: Vec<StaticType>,
 }
 
-impl<'a> Site<'a> {
+impl<'t, 'a> Site<'t, 'a> {
     ghost use Rattle.std.specs.Prelude.{◌≡◌, ◌+◌, [], ◌∷◌, ◌++◌, OnOk, OnErr, IfOk, option_and_then, is_none, is_some};
     ghost use Rattle.chord_classes.specs.Types.{type_written};
     ghost use Rattle.chord_types.specs.Sites.{see_site, Declares};

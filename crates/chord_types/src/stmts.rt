@@ -8,8 +8,7 @@ ghost use Rattle.chord_tree.specs.ViewStmts.{see_stmt, see_item, see_block};
 ghost use Rattle.chord_types.specs.StmtChecked.{IsItemChecked, AreItemsChecked, IsBlockChecked};
 
 use crate::plain::{
-    assign, call, condition, local, method_call, new_alone, return_nothing, return_value,
-    this_call,
+    assign, call, condition, local, method_call, new_alone, return_nothing, return_value, this_call,
 };
 use crate::site::Site;
 use chord_bodies::stmt as built;
@@ -20,9 +19,9 @@ use std::alloc::{AllocError, Global};
 
 /// A statement.
 #[cycle(stmts)]
-fn stmt<'a>(
+fn stmt<'t, 'a>(
     alloc: Global,
-    site: &mut Site<'a>,
+    site: &mut Site<'t, 'a>,
     stmt: &'a Stmt,
     breaks: &mut Least,
 ) -> Result<built::Stmt, AllocError>
@@ -77,9 +76,9 @@ fn stmt<'a>(
 
 /// `if` without `else`.
 #[cycle(stmts)]
-fn if_then<'a>(
+fn if_then<'t, 'a>(
     alloc: Global,
-    site: &mut Site<'a>,
+    site: &mut Site<'t, 'a>,
     at: u32,
     test: &Expr,
     first: &'a Stmt,
@@ -94,9 +93,9 @@ fn if_then<'a>(
 
 /// `if` with `else`.
 #[cycle(stmts)]
-fn if_else<'a>(
+fn if_else<'t, 'a>(
     alloc: Global,
-    site: &mut Site<'a>,
+    site: &mut Site<'t, 'a>,
     at: u32,
     test: &Expr,
     first: &'a Stmt,
@@ -114,9 +113,9 @@ fn if_else<'a>(
 
 /// `while`
 #[cycle(stmts)]
-fn while_loop<'a>(
+fn while_loop<'t, 'a>(
     alloc: Global,
-    site: &mut Site<'a>,
+    site: &mut Site<'t, 'a>,
     at: u32,
     test: &Expr,
     body: &'a Stmt,
@@ -131,9 +130,9 @@ fn while_loop<'a>(
 
 /// A block, whose locals are in scope up to its end.
 #[cycle(stmts)]
-pub(crate) fn block<'a>(
+pub(crate) fn block<'t, 'a>(
     alloc: Global,
-    site: &mut Site<'a>,
+    site: &mut Site<'t, 'a>,
     block: &'a Block,
     breaks: &mut Least,
 ) -> Result<Vec<built::Stmt>, AllocError>
@@ -147,9 +146,9 @@ pub(crate) fn block<'a>(
 
 /// Items, one after another.
 #[cycle(stmts)]
-fn items<'a>(
+fn items<'t, 'a>(
     alloc: Global,
-    site: &mut Site<'a>,
+    site: &mut Site<'t, 'a>,
     items: &'a [Item],
     breaks: &mut Least,
 ) -> Result<Vec<built::Stmt>, AllocError>
@@ -165,9 +164,9 @@ fn items<'a>(
 
 /// A local or a statement.
 #[cycle(stmts)]
-fn item<'a>(
+fn item<'t, 'a>(
     alloc: Global,
-    site: &mut Site<'a>,
+    site: &mut Site<'t, 'a>,
     item: &'a Item,
     breaks: &mut Least,
 ) -> Result<built::Stmt, AllocError>

@@ -102,7 +102,6 @@ primary-calls_on-requires t c = let e = total_ends weigh_dot c.args.calls.now c.
 pub primary-call_on-requires : goal.primary-call_on-requires
 primary-call_on-requires t c = let e = total_ends weigh_dot c.args.calls.now c.in-Some.front.now c.in-Some.last.now c.in-Some.ensures.cases.0 in (omega arith, tt)
 
-
 pub expr-returns-in-Chain : goal.expr-returns-in-Chain
 expr-returns-in-Chain t c =
     let site = see_site c.args.site.now in
@@ -146,9 +145,9 @@ joined-returns t c =
     let link = see_link (out-Chain c.args.chain.now).link in
     let more = links (map see_link (out-Chain c.args.chain.now).more.items) in
     if_ok c.links_on.result _ _ (λ r h. λ minus.
-        subst (λ z. IsChecked site Used z c.args.breaks.now.found c.links_on.new.breaks.found r) (sym (ap (λ z. term_after z minus) (seen_chain c.args.chain.now) ∙ chain_term first link more minus))
-        (subst (λ z. IsChecked site Used (operated (links (map see_link z)) (on_link (term first) link)) c.args.breaks.now.found c.links_on.new.breaks.found r) c.deref.ensures.value
-        (h (on_link (term first) link) c.args.breaks.now.found (c.in_ok-left.ensures (term first) c.args.breaks.now.found c.in_ok-first.ensures))))
+    subst (λ z. IsChecked site Used z c.args.breaks.now.found c.links_on.new.breaks.found r) (sym (ap (λ z. term_after z minus) (seen_chain c.args.chain.now) ∙ chain_term first link more minus))
+    (subst (λ z. IsChecked site Used (operated (links (map see_link z)) (on_link (term first) link)) c.args.breaks.now.found c.links_on.new.breaks.found r) c.deref.ensures.value
+    (h (on_link (term first) link) c.args.breaks.now.found (c.in_ok-left.ensures (term first) c.args.breaks.now.found c.in_ok-first.ensures))))
     c.links_on.ensures
 
 pub link_on-returns : goal.link_on-returns
@@ -157,8 +156,8 @@ link_on-returns t c = λ before start h.
     let link = out-Link c.args.link.now in
     subst (λ z. IsChecked site Used z start c.judge_operation-static_type.new.breaks.found (record { expr = c.in_ok-with_link.field-0; static_type = c.judge_operation-static_type.result; is_console = false })) (sym (link_term c.args.link.now before))
     (operation_checked site link.operator link.at before (term (see_expr link.operand)) start c.args.breaks.now.found c.expr.new.breaks.found c.judge_operation-static_type.new.breaks.found c.args.left c.in_ok-right.right _ h c.in_ok-right.ensures
-        (c.judge_operation-static_type.ensures.typed site Used refl) (c.judge_operation-static_type.ensures.noted site Used refl)
-        (c.in_ok-with_link.ensures ∙ ap (λ (z : LinkOf). binary z.operator (view_expr c.args.left.expr) z.operand) (viewed_link _) ∙ c.resolved_operator.ensures (view_expr c.args.left.expr) (view_expr c.in_ok-right.right.expr)))
+    (c.judge_operation-static_type.ensures.typed site Used refl) (c.judge_operation-static_type.ensures.noted site Used refl)
+    (c.in_ok-with_link.ensures ∙ ap (λ (z : LinkOf). binary z.operator (view_expr c.args.left.expr) z.operand) (viewed_link _) ∙ c.resolved_operator.ensures (view_expr c.args.left.expr) (view_expr c.in_ok-right.right.expr)))
 
 pub links_on-each-init : goal.links_on-each-init
 links_on-each-init t c = λ u o h. h
@@ -181,8 +180,8 @@ primary-returns-in_ok-receiver-in-Some-2 t c =
     let site = see_site c.args.site.now in
     let whole = dots_last see_dot c.args.calls.now c.in-Some.front.now c.in-Some.last.now (started (see_start c.args.begin.now) c.args.minus) c.in-Some.ensures.cases.0 in
     if_ok c.call_on.result _ _ (λ r h.
-        let all = h _ c.args.breaks.now.found (c.in_ok-receiver-in-Some-2.ensures _ c.args.breaks.now.found c.in_ok-receiver-in-Some.ensures) in
-        subst (λ z. IsChecked site Used z c.args.breaks.now.found c.call_on.new.breaks.found r) (sym whole) all.checked)
+    let all = h _ c.args.breaks.now.found (c.in_ok-receiver-in-Some-2.ensures _ c.args.breaks.now.found c.in_ok-receiver-in-Some.ensures) in
+    subst (λ z. IsChecked site Used z c.args.breaks.now.found c.call_on.new.breaks.found r) (sym whole) all.checked)
     c.call_on.ensures
 
 pub start-returns-in-Variable : goal.start-returns-in-Variable
@@ -239,11 +238,11 @@ own_call-returns t c =
     let role = see_role c.args.role in
     let a = subst (λ z. AreChecked site (terms (exprs (map see_expr z))) c.args.breaks.now.found c.arguments.new.breaks.found c.in_ok-exprs.field-0) c.deref.ensures.value c.in_ok-exprs.ensures in
     own_checked site role c.args.name.now c.args.actuals.now.at _ c.args.breaks.now.found c.arguments.new.breaks.found c.judge_call-static_type.new.breaks.found c.in_ok-exprs.field-0 (option_map see_target c.own_target-target.result) _ a
-        (c.own_target-target.ensures ∙ ap (own_target site) c.items.ensures.bytes)
-        (c.judge_call-static_type.ensures.typed ∙ ap (λ z. call_type site role (option_map see_target c.own_target-target.result) c.args.name.now.at (map see_passed z)) c.deref-2.ensures.value)
-        (c.judge_call-static_type.ensures.noted ∙ ap (λ z. least c.arguments.new.breaks.found (call_keys site role (option_map see_target c.own_target-target.result) c.args.name.now.at (map see_passed z))) c.deref-2.ensures.value)
-        (c.in_ok-call_of.ensures ∙ ap (λ z. call_of site.table (option_map see_target c.own_target-target.result) z (expr_list (map view_expr c.in_ok-exprs.field-0.exprs.items))) viewed_this)
-        refl
+    (c.own_target-target.ensures ∙ ap (own_target site) c.items.ensures.bytes)
+    (c.judge_call-static_type.ensures.typed ∙ ap (λ z. call_type site role (option_map see_target c.own_target-target.result) c.args.name.now.at (map see_passed z)) c.deref-2.ensures.value)
+    (c.judge_call-static_type.ensures.noted ∙ ap (λ z. least c.arguments.new.breaks.found (call_keys site role (option_map see_target c.own_target-target.result) c.args.name.now.at (map see_passed z))) c.deref-2.ensures.value)
+    (c.in_ok-call_of.ensures ∙ ap (λ z. call_of site.table (option_map see_target c.own_target-target.result) z (expr_list (map view_expr c.in_ok-exprs.field-0.exprs.items))) viewed_this)
+    refl
 
 pub new_object-judge_new-static_type-requires : goal.new_object-judge_new-static_type-requires
 new_object-judge_new-static_type-requires t c = c.class_named-class.ensures ∙ ap (class_named c.args.site.now.table.now) c.items.ensures.bytes
@@ -254,11 +253,11 @@ new_object-returns t c =
     let role = see_role c.args.role in
     let a = subst (λ z. AreChecked site (terms (exprs (map see_expr z))) c.args.breaks.now.found c.arguments.new.breaks.found c.in_ok-exprs.field-0) c.deref.ensures.value c.in_ok-exprs.ensures in
     new_checked site role c.args.at c.args.name.now c.args.actuals.now.at _ c.args.breaks.now.found c.arguments.new.breaks.found c.judge_new-static_type.new.breaks.found c.in_ok-exprs.field-0 c.unwrap_or.result _ a
-        (c.unwrap_or.ensures ∙ ap (λ z. unwrap_or z 0) (c.class_named-class.ensures ∙ ap (class_named site.table) c.items.ensures.bytes))
-        (c.judge_new-static_type.ensures.typed ∙ ap (λ z. judged site role (NewTyped c.args.name.now (map see_passed z))) c.deref-2.ensures.value)
-        (c.judge_new-static_type.ensures.noted ∙ ap (λ z. least c.arguments.new.breaks.found (typed_term_keys site role (NewTyped c.args.name.now (map see_passed z)))) c.deref-2.ensures.value)
-        (viewed_new c.unwrap_or.result c.in_ok-exprs.field-0.exprs)
-        refl
+    (c.unwrap_or.ensures ∙ ap (λ z. unwrap_or z 0) (c.class_named-class.ensures ∙ ap (class_named site.table) c.items.ensures.bytes))
+    (c.judge_new-static_type.ensures.typed ∙ ap (λ z. judged site role (NewTyped c.args.name.now (map see_passed z))) c.deref-2.ensures.value)
+    (c.judge_new-static_type.ensures.noted ∙ ap (λ z. least c.arguments.new.breaks.found (typed_term_keys site role (NewTyped c.args.name.now (map see_passed z)))) c.deref-2.ensures.value)
+    (viewed_new c.unwrap_or.result c.in_ok-exprs.field-0.exprs)
+    refl
 
 pub call_on-judge_on-static_type-requires : goal.call_on-judge_on-static_type-requires
 call_on-judge_on-static_type-requires t c = c.target_on-target.ensures ∙ ap (target_on (see_site c.args.site.now) c.args.receiver.static_type) c.items.ensures.bytes
@@ -272,10 +271,10 @@ call_on-returns t c = λ before start h.
     let a = subst (λ z. AreChecked site (terms (exprs (map see_expr z))) c.args.breaks.now.found c.arguments.new.breaks.found c.in_ok-exprs.field-0) c.deref.ensures.value c.in_ok-exprs.ensures in
     subst (λ z. IsReceiver site role z start c.judge_on-static_type.new.breaks.found (record { expr = c.in_ok-call_of.field-0; static_type = c.judge_on-static_type.result; is_console = false })) (sym (dot_term c.args.dot.now before))
     (call_checked site role before d.at d.name (out-Actuals d.actuals).at _ start c.args.breaks.now.found c.arguments.new.breaks.found c.judge_on-static_type.new.breaks.found x c.in_ok-exprs.field-0 _ h a
-        (c.judge_on-static_type.ensures.typed ∙ ap (λ z. judged site role (typed_call x.is_console x.static_type d.at d.name (map see_passed z))) c.deref-2.ensures.value)
-        (c.judge_on-static_type.ensures.noted ∙ ap (λ z. least c.arguments.new.breaks.found (typed_term_keys site role (typed_call x.is_console x.static_type d.at d.name (map see_passed z)))) c.deref-2.ensures.value)
-        (c.in_ok-call_of.ensures ∙ ap (λ z. call_of site.table z (view_expr x.expr) (expr_list (map view_expr c.in_ok-exprs.field-0.exprs.items))) (c.target_on-target.ensures ∙ ap (target_on site x.static_type) c.items.ensures.bytes))
-        refl)
+    (c.judge_on-static_type.ensures.typed ∙ ap (λ z. judged site role (typed_call x.is_console x.static_type d.at d.name (map see_passed z))) c.deref-2.ensures.value)
+    (c.judge_on-static_type.ensures.noted ∙ ap (λ z. least c.arguments.new.breaks.found (typed_term_keys site role (typed_call x.is_console x.static_type d.at d.name (map see_passed z)))) c.deref-2.ensures.value)
+    (c.in_ok-call_of.ensures ∙ ap (λ z. call_of site.table z (view_expr x.expr) (expr_list (map view_expr c.in_ok-exprs.field-0.exprs.items))) (c.target_on-target.ensures ∙ ap (target_on site x.static_type) c.items.ensures.bytes))
+    refl)
 
 pub calls_on-each-init : goal.calls_on-each-init
 calls_on-each-init t c = λ u o h. h

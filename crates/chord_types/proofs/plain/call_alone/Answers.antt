@@ -37,8 +37,8 @@ returns c =
     let x = c.args.receiver in
     let a = subst (λ z. AreChecked site (terms (exprs (map see_expr z))) c.args.breaks.now.found c.arguments.new.breaks.found c.in_ok-exprs.field-0) c.deref.ensures.value c.in_ok-exprs.ensures in
     if_ok c.ended.result _ _ (λ r v. λ before start h.
-        subst (λ z. IsAlone site z start c.judge_on.new.breaks.found r) (sym (dot_term c.args.dot.now before))
-        (on_alone site before d.at d.name (out-Actuals d.actuals).at _ start c.args.breaks.now.found c.arguments.new.breaks.found c.judge_on.new.breaks.found x c.in_ok-exprs.field-0 r h a
-            (c.judge_on.ensures.noted ∙ ap (λ z. least c.arguments.new.breaks.found (typed_term_keys site Alone (typed_call x.is_console x.static_type d.at d.name (map see_passed z)))) c.deref-2.ensures.value)
-            (v ∙ ap (λ z. cond x.is_console (to.Print (printed (expr_list (map view_expr c.in_ok-exprs.field-0.exprs.items)))) (done site.table z (view_expr x.expr) (expr_list (map view_expr c.in_ok-exprs.field-0.exprs.items)))) (c.target_on-target.ensures ∙ ap (target_on site x.static_type) c.items.ensures.bytes))))
+    subst (λ z. IsAlone site z start c.judge_on.new.breaks.found r) (sym (dot_term c.args.dot.now before))
+    (on_alone site before d.at d.name (out-Actuals d.actuals).at _ start c.args.breaks.now.found c.arguments.new.breaks.found c.judge_on.new.breaks.found x c.in_ok-exprs.field-0 r h a
+    (c.judge_on.ensures.noted ∙ ap (λ z. least c.arguments.new.breaks.found (typed_term_keys site Alone (typed_call x.is_console x.static_type d.at d.name (map see_passed z)))) c.deref-2.ensures.value)
+    (v ∙ ap (λ z. cond x.is_console (to.Print (printed (expr_list (map view_expr c.in_ok-exprs.field-0.exprs.items)))) (done site.table z (view_expr x.expr) (expr_list (map view_expr c.in_ok-exprs.field-0.exprs.items)))) (c.target_on-target.ensures ∙ ap (target_on site x.static_type) c.items.ensures.bytes))))
     c.ended.ensures

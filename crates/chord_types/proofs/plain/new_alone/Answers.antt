@@ -33,9 +33,9 @@ returns-in_ok-receiver-in-Some c =
     let site = see_site c.args.site.now in
     let begin = NewTerm c.args.at c.args.name.now (out-Actuals c.args.actuals.now).at (terms (exprs (map see_expr (out-Actuals c.args.actuals.now).arguments.items))) in
     if_ok c.calls_alone.result _ _ (λ r h.
-        new_plain site c.args.at c.args.name.now (see_actuals c.args.actuals.now) (dots (map see_dot c.args.calls.now)) _ _ c.args.breaks.now.found c.calls_alone.new.breaks.found r (seen_actuals c.args.actuals.now)
-        (subst (λ z. IsAlone site z c.args.breaks.now.found c.calls_alone.new.breaks.found r) (sym (dots_last see_dot c.args.calls.now c.in-Some.front.now c.in-Some.last.now begin c.in-Some.ensures.cases.0))
-        (h begin c.args.breaks.now.found c.in_ok-receiver-in-Some.ensures)))
+    new_plain site c.args.at c.args.name.now (see_actuals c.args.actuals.now) (dots (map see_dot c.args.calls.now)) _ _ c.args.breaks.now.found c.calls_alone.new.breaks.found r (seen_actuals c.args.actuals.now)
+    (subst (λ z. IsAlone site z c.args.breaks.now.found c.calls_alone.new.breaks.found r) (sym (dots_last see_dot c.args.calls.now c.in-Some.front.now c.in-Some.last.now begin c.in-Some.ensures.cases.0))
+    (h begin c.args.breaks.now.found c.in_ok-receiver-in-Some.ensures)))
     c.calls_alone.ensures
 
 pub returns-in_ok-object-in-None : goal.returns-in_ok-object-in-None

@@ -32,8 +32,8 @@ returns c =
     let site = see_site c.args.site.now in
     let a = subst (λ z. AreChecked site (terms (exprs (map see_expr z))) c.args.breaks.now.found c.arguments.new.breaks.found c.in_ok-exprs.field-0) c.deref.ensures.value c.in_ok-exprs.ensures in
     if_ok c.done.result _ _ (λ r h.
-        own_alone site c.args.name.now c.args.actuals.now.at _ c.args.breaks.now.found c.arguments.new.breaks.found c.judge_call.new.breaks.found c.in_ok-exprs.field-0 (option_map see_target c.own_target-target.result) r a
-            (c.own_target-target.ensures ∙ ap (own_target site) c.items.ensures.bytes)
-            (c.judge_call.ensures.noted ∙ ap (λ z. least c.arguments.new.breaks.found (call_keys site Alone (option_map see_target c.own_target-target.result) c.args.name.now.at (map see_passed z))) c.deref-2.ensures.value)
-            (h ∙ ap (λ z. done site.table (option_map see_target c.own_target-target.result) z (expr_list (map view_expr c.in_ok-exprs.field-0.exprs.items))) viewed_this))
+    own_alone site c.args.name.now c.args.actuals.now.at _ c.args.breaks.now.found c.arguments.new.breaks.found c.judge_call.new.breaks.found c.in_ok-exprs.field-0 (option_map see_target c.own_target-target.result) r a
+    (c.own_target-target.ensures ∙ ap (own_target site) c.items.ensures.bytes)
+    (c.judge_call.ensures.noted ∙ ap (λ z. least c.arguments.new.breaks.found (call_keys site Alone (option_map see_target c.own_target-target.result) c.args.name.now.at (map see_passed z))) c.deref-2.ensures.value)
+    (h ∙ ap (λ z. done site.table (option_map see_target c.own_target-target.result) z (expr_list (map view_expr c.in_ok-exprs.field-0.exprs.items))) viewed_this))
     c.done.ensures

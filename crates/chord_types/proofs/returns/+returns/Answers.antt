@@ -9,7 +9,6 @@ use Rattle.chord_tree.proofs.Weights.{total, one_of}
 use Rattle.chord_tree.proofs.WeightsStmts.{weigh_item, weigh_stmt, weigh_block, of_block, of_if_else, of_plain, of_braces}
 use Rattle.chord_tree.proofs.Words.{dropped, drop_end}
 use Rattle.chord_classes.specs.ItemRules.{surely, block_surely, items_surely}
-use Rattle.chord_types.proofs.Returning.{surely_split, or_true, or_false, and_true, and_false}
 use Rattle.chord_types.proofs.returns.+returns.Goals as goal
 
 pub surely-block_surely-requires : goal.surely-block_surely-requires

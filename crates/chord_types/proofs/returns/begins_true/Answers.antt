@@ -36,4 +36,3 @@ returns-in-False c = sym (ap (λ z. is_true_word (started z false)) (ap see_star
 
 pub returns-in-Group : goal.returns-in-Group
 returns-in-Group c = sym (ap (λ z. is_true_word (started z false)) (ap see_start c.in-Group.is ∙ seen_start_group _ _))
-

@@ -97,8 +97,8 @@ stmt-returns-in-If t c =
 pub stmt-returns-in-IfElse : goal.stmt-returns-in-IfElse
 stmt-returns-in-IfElse t c =
     let same = ap see_stmt c.in-IfElse.is ∙ seen_stmt_if_else c.in-IfElse.at c.in-IfElse.bracket c.in-IfElse.test c.in-IfElse.first c.in-IfElse.second
-        ∙ ap (λ z. IfElseStmt c.in-IfElse.at c.in-IfElse.bracket (see_expr c.in-IfElse.test) (see_stmt z) (see_stmt c.in-IfElse.second.value)) (sym c.deref-in-IfElse.ensures)
-        ∙ ap (λ z. IfElseStmt c.in-IfElse.at c.in-IfElse.bracket (see_expr c.in-IfElse.test) (see_stmt c.deref-in-IfElse.result.now) (see_stmt z)) (sym c.deref-in-IfElse-2.ensures) in
+    ∙ ap (λ z. IfElseStmt c.in-IfElse.at c.in-IfElse.bracket (see_expr c.in-IfElse.test) (see_stmt z) (see_stmt c.in-IfElse.second.value)) (sym c.deref-in-IfElse.ensures)
+    ∙ ap (λ z. IfElseStmt c.in-IfElse.at c.in-IfElse.bracket (see_expr c.in-IfElse.test) (see_stmt c.deref-in-IfElse.result.now) (see_stmt z)) (sym c.deref-in-IfElse-2.ensures) in
     if_ok c.if_else.result _ _ (λ r h. subst (λ z. IsItemChecked c.args.site.now c.if_else.new.site (StmtItem z) c.args.breaks.now.found c.if_else.new.breaks.found r) (sym same) (h c.in-IfElse.bracket)) c.if_else.ensures
 
 pub stmt-returns-in-While : goal.stmt-returns-in-While
@@ -134,8 +134,8 @@ block-returns t c =
     let b = out-Block c.args.block.now in
     subst (λ z. IsBlockChecked old (record { table = c.items.new.site.table; own = c.items.new.site.own; in_main = c.items.new.site.in_main; due = c.items.new.site.due; scope = c.truncate.new.self; next = c.items.new.site.next; types = c.items.new.site.types }) z c.args.breaks.now.found c.items.new.breaks.found c.in_ok-stmts.stmts.items) (sym (seen_block c.args.block.now))
     (block_checked c.args.site.now c.items.new.site _ (map see_item b.items.items) b.end c.args.breaks.now.found c.items.new.breaks.found c.in_ok-stmts.stmts.items c.len-count.result
-        (subst (λ z. AreItemsChecked c.args.site.now c.items.new.site (map see_item z) c.args.breaks.now.found c.items.new.breaks.found c.in_ok-stmts.stmts.items) c.deref.ensures.value c.in_ok-stmts.ensures)
-        c.len-count.ensures refl refl refl refl refl refl c.truncate.ensures)
+    (subst (λ z. AreItemsChecked c.args.site.now c.items.new.site (map see_item z) c.args.breaks.now.found c.items.new.breaks.found c.in_ok-stmts.stmts.items) c.deref.ensures.value c.in_ok-stmts.ensures)
+    c.len-count.ensures refl refl refl refl refl refl c.truncate.ensures)
 
 pub items-each-init : goal.items-each-init
 items-each-init t c = subst (λ z. AreLeft c.args.site.now c.args.site.now (map see_item c.args.items.now) (map see_item c.args.items.now) c.args.breaks.now.found c.args.breaks.now.found (map view_stmt z)) (sym c.new-stmts.ensures.items) (all_left c.args.site.now (map see_item c.args.items.now) c.args.breaks.now.found)
@@ -146,8 +146,8 @@ items-each-preserved t c =
     let i = c.each.one-index in
     subst (λ z. AreLeft c.args.site.now c.item.new.site (map see_item c.args.items.now) (map see_item (drop (c.each.one-index + 1) c.args.items.now)) c.args.breaks.now.found c.item.new.breaks.found z) (sym (ap (map view_stmt) c.in_ok-push.ensures.items ∙ map_end view_stmt c.each.stmts.items c.in_ok-made.made))
     (one_less c.args.site.now c.each.site c.item.new.site (map see_item xs) (map see_item (drop (i + 1) xs)) (see_item c.one-item.result) c.args.breaks.now.found c.each.breaks.found c.item.new.breaks.found (map view_stmt c.each.stmts.items) c.in_ok-made.made
-        (subst (λ z. AreLeft c.args.site.now c.each.site (map see_item c.args.items.now) (map see_item z) c.args.breaks.now.found c.each.breaks.found (map view_stmt c.each.stmts.items)) (dropped xs i c.one-item.result c.each-test.true c.one-item.is) c.each.invariant)
-        c.in_ok-made.ensures)
+    (subst (λ z. AreLeft c.args.site.now c.each.site (map see_item c.args.items.now) (map see_item z) c.args.breaks.now.found c.each.breaks.found (map view_stmt c.each.stmts.items)) (dropped xs i c.one-item.result c.each-test.true c.one-item.is) c.each.invariant)
+    c.in_ok-made.ensures)
 
 pub items-returns : goal.items-returns
 items-returns t c = none_left c.args.site.now c.each.site (map see_item c.args.items.now) _ c.args.breaks.now.found c.each.breaks.found c.each.stmts.items (ap (map see_item) (drop_end c.args.items.now c.each.one-index c.each-test.false)) c.each.invariant

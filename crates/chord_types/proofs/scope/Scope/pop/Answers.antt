@@ -11,9 +11,9 @@ invariant_of-self-then-eq c =
     let name = c.in-Some.local.name.now in
     let count : c.len.result ≡ length (local_names left) = omega (arith, c.len.ensures, c.pop.new.self.ok.0, names_length left) in
     finds_less c.self.inside.places c.remove.new.self (local_names left) name
-        (subst (FindsNames c.self.inside.places) (ap local_names c.in-Some.ensures.items ∙ names_end left c.in-Some.local) c.self.invariant)
-        (sym (c.copied.ensures ∙ c.get.ensures.value) ∙ compared_same c.copied.result c.len.result (c.if-eq.ensures) ∙ ap Some count)
-        (λ x. btree_map_updates_str name c.self.inside.places c.remove.new.self _ c.remove.ensures.updates x)
+    (subst (FindsNames c.self.inside.places) (ap local_names c.in-Some.ensures.items ∙ names_end left c.in-Some.local) c.self.invariant)
+    (sym (c.copied.ensures ∙ c.get.ensures.value) ∙ compared_same c.copied.result c.len.result (c.if-eq.ensures) ∙ ap Some count)
+    (λ x. btree_map_updates_str name c.self.inside.places c.remove.new.self _ c.remove.ensures.updates x)
 
 pub invariant_of-self-else-eq : goal.invariant_of-self-else-eq
 invariant_of-self-else-eq c =
@@ -21,5 +21,5 @@ invariant_of-self-else-eq c =
     let name = c.in-Some.local.name.now in
     let count : c.len.result ≡ length (local_names left) = omega (arith, c.len.ensures, c.pop.new.self.ok.0, names_length left) in
     finds_others c.self.inside.places (local_names left) name
-        (subst (FindsNames c.self.inside.places) (ap local_names c.in-Some.ensures.items ∙ names_end left c.in-Some.local) c.self.invariant)
-        (λ h. compared_other c.copied.result c.len.result c.if-eq.ensures (c.copied.ensures ∙ c.get.ensures.value ∙ h ∙ ap Some (sym count)))
+    (subst (FindsNames c.self.inside.places) (ap local_names c.in-Some.ensures.items ∙ names_end left c.in-Some.local) c.self.invariant)
+    (λ h. compared_other c.copied.result c.len.result c.if-eq.ensures (c.copied.ensures ∙ c.get.ensures.value ∙ h ∙ ap Some (sym count)))
