@@ -1,0 +1,13 @@
+mod Oks
+mod Notes
+mod Lists
+mod ScopePlaces
+mod Growth
+mod CallNotes
+mod PlainStmts
+mod Items
+mod Terms
+mod Nodes
+mod Returning
+mod EnteredMembers
+mod Classes

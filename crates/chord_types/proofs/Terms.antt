@@ -1,0 +1,22 @@
+-- Terms of what lies in memory: chains, links and calls.
+use Rattle.std.proofs.Common.{◌≡◌, Bool, [], ◌∷◌, map, refl, ap, ◌∙◌}
+use Rattle.chord_tree.specs.declared.exprs.Link.{Link, out-Link}
+use Rattle.chord_tree.specs.declared.exprs.Dot.{Dot, out-Dot}
+use Rattle.chord_tree.specs.declared.exprs.Actuals.{out-Actuals}
+use Rattle.chord_tree.specs.Tree.{ExprTree, LinkTree, LinkTrees, ChainExpr, MakeLink, MakeDot, links, dots, exprs}
+use Rattle.chord_tree.specs.Terms.{Term, term, terms, term_after, operated, called, OperationTerm, CallTerm}
+use Rattle.chord_tree.specs.ViewExprs.{see_expr, see_link, see_dot}
+use Rattle.chord_tree.proofs.SeenExprs.{seen_link, seen_dot, seen_actuals}
+use Rattle.chord_types.specs.Checked.{on_link, on_dot}
+
+-- a chain is its further operators on the first one
+pub chain_term : (first : ExprTree) (link : LinkTree) (more : LinkTrees) (minus : Bool) → term_after (ChainExpr first link more) minus ≡ operated more (on_link (term first) link)
+chain_term first (MakeLink operator at operand) more minus = refl
+
+-- an operator of memory with its operands
+pub link_term : (link : Link) (left : Term) → on_link left (see_link link) ≡ OperationTerm (out-Link link).operator (out-Link link).at left (term (see_expr (out-Link link).operand))
+link_term link left = ap (on_link left) (seen_link link)
+
+-- a call of memory on its receiver
+pub dot_term : (dot : Dot) (receiver : Term) → on_dot receiver (see_dot dot) ≡ CallTerm receiver (out-Dot dot).at (out-Dot dot).name (out-Actuals (out-Dot dot).actuals).at (terms (exprs (map see_expr (out-Actuals (out-Dot dot).actuals).arguments.items)))
+dot_term dot receiver = ap (on_dot receiver) (seen_dot dot ∙ ap (MakeDot (out-Dot dot).at (out-Dot dot).name) (seen_actuals (out-Dot dot).actuals))

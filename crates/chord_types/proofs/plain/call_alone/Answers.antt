@@ -1,0 +1,44 @@
+use Rattle.std.proofs.Common.{map, option_map, is_some, cond, refl, sym, ap, subst, ◌∙◌}
+use Rattle.chord_tree.specs.declared.exprs.Dot.{out-Dot}
+use Rattle.chord_tree.specs.declared.exprs.Actuals.{out-Actuals}
+use Rattle.chord_tree.specs.Tree.{exprs, dots, DotTrees}
+use Rattle.chord_tree.specs.Terms.{term, terms, called, VariableTerm, ThisTerm, OwnCallTerm, NewTerm}
+use Rattle.chord_tree.specs.Walk.{Used, Alone, Receiver}
+use Rattle.chord_tree.specs.ViewExprs.{see_expr, see_dot, see_actuals}
+use Rattle.chord_tree.proofs.SeenExprs.{seen_actuals}
+use Rattle.chord_tree.proofs.Words.{length_zero}
+use Rattle.chord_bodies.specs.Resolved as to
+use Rattle.chord_bodies.specs.View.{view_expr, expr_list}
+use Rattle.chord_bodies.proofs.Viewed.{viewed_store, viewed_give, viewed_this, viewed_do}
+use Rattle.chord_classes.specs.Site.{variable_named}
+use Rattle.chord_classes.specs.TypedTerms.{typed_call, own_target, target_on}
+use Rattle.chord_classes.specs.Typed.{local_type}
+use Rattle.chord_classes.specs.Resolve.{slot_of, done, printed}
+use Rattle.chord_classes.specs.Least.{keys, least}
+use Rattle.chord_classes.specs.AllNotes.{typed_term_keys}
+use Rattle.chord_types.specs.Views.{see_passed, see_target}
+use Rattle.chord_types.specs.Sites.{see_site}
+use Rattle.chord_types.specs.CallKeys.{call_keys}
+use Rattle.chord_types.specs.Checked.{AreChecked, IsAlone, on_dot}
+use Rattle.chord_types.specs.StmtChecked.{IsPlain}
+use Rattle.chord_types.proofs.Oks.{if_ok}
+use Rattle.chord_types.proofs.Lists.{dots_last}
+use Rattle.chord_types.proofs.Terms.{dot_term}
+use Rattle.chord_types.proofs.PlainStmts.{own_alone, on_alone, call_plain, new_plain, method_plain, this_plain, new_ends, assign_plain, return_plain, condition_checked, local_item}
+use Rattle.chord_types.proofs.plain.call_alone.Goals as goal
+
+pub judge_on-requires : goal.judge_on-requires
+judge_on-requires c = c.target_on-target.ensures ∙ ap (target_on (see_site c.args.site.now) c.args.receiver.static_type) c.items.ensures.bytes
+
+pub returns : goal.returns
+returns c =
+    let site = see_site c.args.site.now in
+    let d = out-Dot c.args.dot.now in
+    let x = c.args.receiver in
+    let a = subst (λ z. AreChecked site (terms (exprs (map see_expr z))) c.args.breaks.now.found c.arguments.new.breaks.found c.in_ok-exprs.field-0) c.deref.ensures.value c.in_ok-exprs.ensures in
+    if_ok c.ended.result _ _ (λ r v. λ before start h.
+    subst (λ z. IsAlone site z start c.judge_on.new.breaks.found r) (sym (dot_term c.args.dot.now before))
+    (on_alone site before d.at d.name (out-Actuals d.actuals).at _ start c.args.breaks.now.found c.arguments.new.breaks.found c.judge_on.new.breaks.found x c.in_ok-exprs.field-0 r h a
+    (c.judge_on.ensures.noted ∙ ap (λ z. least c.arguments.new.breaks.found (typed_term_keys site Alone (typed_call x.is_console x.static_type d.at d.name (map see_passed z)))) c.deref-2.ensures.value)
+    (v ∙ ap (λ z. cond x.is_console (to.Print (printed (expr_list (map view_expr c.in_ok-exprs.field-0.exprs.items)))) (done site.table z (view_expr x.expr) (expr_list (map view_expr c.in_ok-exprs.field-0.exprs.items)))) (c.target_on-target.ensures ∙ ap (target_on site x.static_type) c.items.ensures.bytes))))
+    c.ended.ensures

@@ -1,0 +1,184 @@
+//! Statements, items and blocks: what they are resolved to, and what they break.
+#![tactic(auto)]
+
+ghost use Rattle.std.specs.Prelude.{ℕ, IfOk, map};
+ghost use Rattle.chord_tree.specs.Tree.{IfStmt, IfElseStmt, WhileStmt, StmtItem};
+ghost use Rattle.chord_tree.specs.ViewExprs.{see_expr};
+ghost use Rattle.chord_tree.specs.ViewStmts.{see_stmt, see_item, see_block};
+ghost use Rattle.chord_types.specs.StmtChecked.{IsItemChecked, AreItemsChecked, IsBlockChecked};
+
+use crate::plain::{
+    assign, call, condition, local, method_call, new_alone, return_nothing, return_value, this_call,
+};
+use crate::site::Site;
+use chord_bodies::stmt as built;
+use chord_classes::least::Least;
+use chord_tree::exprs::Expr;
+use chord_tree::stmts::{Block, Item, Stmt};
+use std::alloc::{AllocError, Global};
+
+/// A statement.
+#[cycle(stmts)]
+fn stmt<'t, 'a>(
+    alloc: Global,
+    site: &mut Site<'t, 'a>,
+    stmt: &'a Stmt,
+    breaks: &mut Least,
+) -> Result<built::Stmt, AllocError>
+    ensures { IfOk result (λ r. IsItemChecked site.old site.new (StmtItem (see_stmt stmt.now)) breaks.old.found breaks.new.found r) }
+{
+    match stmt {
+        Stmt::Assign {
+            name,
+            assign: at,
+            value,
+        } => assign(alloc, site, name, *at, value, breaks),
+        Stmt::Call {
+            name,
+            actuals,
+            calls,
+        } => call(alloc, site, name, actuals, calls, breaks),
+        Stmt::MethodCall { name, first, calls } => {
+            method_call(alloc, site, name, first, calls, breaks)
+        }
+        Stmt::ThisCall { at, first, calls } => this_call(alloc, site, *at, first, calls, breaks),
+        Stmt::New {
+            at,
+            name,
+            actuals,
+            calls,
+        } => new_alone(alloc, site, *at, name, actuals, calls, breaks),
+        Stmt::Block(inner) => Ok(built::Stmt::Block(block(alloc, site, inner, breaks)?)),
+        Stmt::Empty => Ok(built::Stmt::Block(Vec::new(alloc))),
+        Stmt::If {
+            at,
+            bracket: _,
+            test,
+            first,
+        } => if_then(alloc, site, *at, test, first, breaks),
+        Stmt::IfElse {
+            at,
+            bracket: _,
+            test,
+            first,
+            second,
+        } => if_else(alloc, site, *at, test, first, second, breaks),
+        Stmt::While {
+            at,
+            bracket: _,
+            test,
+            body,
+        } => while_loop(alloc, site, *at, test, body, breaks),
+        Stmt::Return { at } => Ok(return_nothing(site, *at, breaks)),
+        Stmt::ReturnValue { at, value } => return_value(alloc, site, *at, value, breaks),
+    }
+}
+
+/// `if` without `else`.
+#[cycle(stmts)]
+fn if_then<'t, 'a>(
+    alloc: Global,
+    site: &mut Site<'t, 'a>,
+    at: u32,
+    test: &Expr,
+    first: &'a Stmt,
+    breaks: &mut Least,
+) -> Result<built::Stmt, AllocError>
+    ensures { IfOk result (λ r. (bracket : ℕ) → IsItemChecked site.old site.new (StmtItem (IfStmt at bracket (see_expr test.now) (see_stmt first.now))) breaks.old.found breaks.new.found r) }
+{
+    let test = condition(alloc, site, at, test, breaks)?;
+    let first = stmt(alloc, site, first, breaks)?;
+    Ok(built::Stmt::If(test, Box::new(alloc, first)?))
+}
+
+/// `if` with `else`.
+#[cycle(stmts)]
+fn if_else<'t, 'a>(
+    alloc: Global,
+    site: &mut Site<'t, 'a>,
+    at: u32,
+    test: &Expr,
+    first: &'a Stmt,
+    second: &'a Stmt,
+    breaks: &mut Least,
+) -> Result<built::Stmt, AllocError>
+    ensures { IfOk result (λ r. (bracket : ℕ) → IsItemChecked site.old site.new (StmtItem (IfElseStmt at bracket (see_expr test.now) (see_stmt first.now) (see_stmt second.now))) breaks.old.found breaks.new.found r) }
+{
+    let test = condition(alloc, site, at, test, breaks)?;
+    let first = stmt(alloc, site, first, breaks)?;
+    let second = stmt(alloc, site, second, breaks)?;
+    let first = Box::new(alloc, first)?;
+    Ok(built::Stmt::IfElse(test, first, Box::new(alloc, second)?))
+}
+
+/// `while`
+#[cycle(stmts)]
+fn while_loop<'t, 'a>(
+    alloc: Global,
+    site: &mut Site<'t, 'a>,
+    at: u32,
+    test: &Expr,
+    body: &'a Stmt,
+    breaks: &mut Least,
+) -> Result<built::Stmt, AllocError>
+    ensures { IfOk result (λ r. (bracket : ℕ) → IsItemChecked site.old site.new (StmtItem (WhileStmt at bracket (see_expr test.now) (see_stmt body.now))) breaks.old.found breaks.new.found r) }
+{
+    let test = condition(alloc, site, at, test, breaks)?;
+    let body = stmt(alloc, site, body, breaks)?;
+    Ok(built::Stmt::While(test, Box::new(alloc, body)?))
+}
+
+/// A block, whose locals are in scope up to its end.
+#[cycle(stmts)]
+pub(crate) fn block<'t, 'a>(
+    alloc: Global,
+    site: &mut Site<'t, 'a>,
+    block: &'a Block,
+    breaks: &mut Least,
+) -> Result<Vec<built::Stmt>, AllocError>
+    ensures { IfOk result (λ r. IsBlockChecked site.old site.new (see_block block.now) breaks.old.found breaks.new.found r.items) }
+{
+    let count = site.scope.len();
+    let stmts = items(alloc, site, &block.items, breaks)?;
+    site.scope.truncate(count);
+    Ok(stmts)
+}
+
+/// Items, one after another.
+#[cycle(stmts)]
+fn items<'t, 'a>(
+    alloc: Global,
+    site: &mut Site<'t, 'a>,
+    items: &'a [Item],
+    breaks: &mut Least,
+) -> Result<Vec<built::Stmt>, AllocError>
+    ensures { IfOk result (λ r. AreItemsChecked site.old site.new (map see_item items.now) breaks.old.found breaks.new.found r.items) }
+{
+    let mut stmts = Vec::new(alloc);
+    'each: for one in items {
+        let made = item(alloc, site, one, breaks)?;
+        stmts.push(made)?;
+    }
+    Ok(stmts)
+}
+
+/// A local or a statement.
+#[cycle(stmts)]
+fn item<'t, 'a>(
+    alloc: Global,
+    site: &mut Site<'t, 'a>,
+    item: &'a Item,
+    breaks: &mut Least,
+) -> Result<built::Stmt, AllocError>
+    ensures { IfOk result (λ r. IsItemChecked site.old site.new (see_item item.now) breaks.old.found breaks.new.found r) }
+{
+    match item {
+        Item::Local {
+            value_type,
+            name,
+            assign: at,
+            value,
+        } => local(alloc, site, value_type, name, *at, value, breaks),
+        Item::Stmt(inner) => stmt(alloc, site, inner, breaks),
+    }
+}
