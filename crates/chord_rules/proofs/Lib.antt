@@ -1,0 +1,13 @@
+mod Search
+mod Noted
+mod Rooms
+mod NamesInBodies
+mod NamesBefore
+mod Barred
+mod Builders
+mod FirstNamed
+mod Adding
+mod Counted
+mod Grouping
+mod Labels
+mod Splits
