@@ -1,12 +1,13 @@
 -- The labels of all methods, chord by chord.
-use Rattle.std.proofs.Common.{◌≡◌, ℕ, zero, suc, ◌+◌, ◌-◌, ◌<◌, List, [], ◌∷◌, cond, map, length, slice_index, drop, get_or, subst, refl, sym, ap, ◌∙◌, arith}
+use Rattle.std.proofs.lemmas.Bool.{leb-true, leb-false}
+use Rattle.std.proofs.Common.{◌≡◌, ℕ, zero, suc, ◌+◌, ◌-◌, ◌<◌, ◌≤◌, Bool, true, false, nat_le, List, [], ◌∷◌, cond, map, length, slice_index, drop, get_or, subst, refl, sym, ap, ◌∙◌, arith}
 use Rattle.chord_bodies.specs.Resolved.{ChordOf}
 use Rattle.chord_bodies.specs.declared.plan.ChordPlan.{ChordPlan}
 use Rattle.chord_bodies.specs.View.{view_chord_plan}
 use Rattle.chord_rules.proofs.Search.{item_at}
 use Rattle.chord_classes.specs.Table.{among}
 use Rattle.chord_rules.specs.Groups.{label, merged}
-use Rattle.chord_rules.specs.Labels.{numbers, labels_of, merged_all, AreUnder, AllIn}
+use Rattle.chord_rules.specs.Labels.{numbers, labels_of, merged_all, AreUnder, AllIn, above_methods, above_chords}
 
 pub numbers_step : (n i : ℕ) → i < n → numbers i (n - i) ≡ i ∷ numbers (i + 1) (n - (i + 1))
 numbers_step n i l = let e : n - i ≡ suc (n - (i + 1)) = omega arith in ap (numbers i) e
@@ -63,3 +64,33 @@ labels_more n xs i j x old h e l is o =
 
 pub label_of : (n : ℕ) (ks : List ChordOf) (i : ℕ) → i < n → slice_index (labels_of n ks) i ≡ label ks i
 label_of n ks i l = index_numbers (label ks) 0 n i l ∙ ap (label ks) (omega arith)
+
+more_methods : (b : ℕ) (js : List ℕ) → b ≤ above_methods b js
+more_methods b [] = omega arith
+more_methods b (j ∷ js) = by_less (nat_le b j) refl (more_methods (j + 1) js) (more_methods b js)
+  where
+    by_less : (c : Bool) → nat_le b j ≡ c → j + 1 ≤ above_methods (j + 1) js → b ≤ above_methods b js → b ≤ above_methods (cond c (j + 1) b) js
+    by_less true e m k = let l = leb-true b j e in omega (arith, l, m)
+    by_less false e m k = k
+
+under_more : (m n : ℕ) (js : List ℕ) → m ≤ n → AreUnder m js → AreUnder n js
+under_more m n [] l h = tt
+under_more m n (j ∷ js) l h = (let k = h.0 in omega arith, under_more m n js l h.1)
+
+under_methods : (b : ℕ) (js : List ℕ) → AreUnder (above_methods b js) js
+under_methods b [] = tt
+under_methods b (j ∷ js) = (by_less (nat_le b j) refl, under_methods (cond (nat_le b j) (j + 1) b) js)
+  where
+    by_less : (c : Bool) → nat_le b j ≡ c → j < above_methods (cond c (j + 1) b) js
+    by_less true e = let m = more_methods (j + 1) js in omega (arith, m)
+    by_less false e = let l = leb-false b j e in let m = more_methods b js in omega (arith, l, m)
+
+-- the bound of all methods of chords is not below the number that it began with
+pub more_chords : (b : ℕ) (ks : List ChordOf) → b ≤ above_chords b ks
+more_chords b [] = omega arith
+more_chords b (k ∷ ks) = let l = more_methods b k.methods in let m = more_chords (above_methods b k.methods) ks in omega (arith, l, m)
+
+-- all methods of chords are below their bound
+pub under_chords : (b : ℕ) (ks : List ChordOf) → AllIn (above_chords b ks) ks
+under_chords b [] = tt
+under_chords b (k ∷ ks) = (under_more (above_methods b k.methods) (above_chords (above_methods b k.methods) ks) k.methods (more_chords (above_methods b k.methods) ks) (under_methods b k.methods), under_chords (above_methods b k.methods) ks)

@@ -3,6 +3,7 @@ mod Noted
 mod Rooms
 mod NamesInBodies
 mod NamesBefore
+mod MainHeaders
 mod Barred
 mod Builders
 mod FirstNamed
@@ -10,4 +11,5 @@ mod Adding
 mod Counted
 mod Grouping
 mod Labels
-mod Splits
+mod GroupSplits
+mod HeaderSplits

@@ -1,5 +1,5 @@
 -- A loop through a list, one item at a time.
-use Rattle.std.proofs.Common.{◌≡◌, ℕ, zero, suc, ◌+◌, ◌<◌, ◌≤◌, List, [], ◌∷◌, length, drop, get_or, refl, sym, ap, ◌∙◌, arith, add-one}
+use Rattle.std.proofs.Common.{◌≡◌, ℕ, zero, suc, map, ◌+◌, ◌<◌, ◌≤◌, List, [], ◌∷◌, length, drop, get_or, refl, sym, ap, ◌∙◌, arith, add-one}
 
 item_suc : {A : Type 0} (xs : List A) (i : ℕ) (x : A) → i < length xs → x ≡ get_or xs i x → drop i xs ≡ x ∷ drop (suc i) xs
 item_suc [] i x l e = absurd (omega arith)
@@ -24,3 +24,8 @@ step f xs i x r all l e h k = sym h ∙ ap f (sym (item_at xs i x l e)) ∙ k
 -- What a function says of the list from behind its end on is what it says of no items.
 pub ended : {A R : Type 0} (f : List A → R) (xs : List A) (i : ℕ) (all : R) → length xs ≤ i → f (drop i xs) ≡ all → f [] ≡ all
 ended f xs i all l h = ap f (sym (past xs i l)) ∙ h
+
+-- a function on each item keeps the length of a list
+pub map_length : {A B : Type 0} (f : A → B) (xs : List A) → length (map f xs) ≡ length xs
+map_length f [] = refl
+map_length f (x ∷ xs) = ap suc (map_length f xs)

@@ -20,3 +20,9 @@ pub mod Limits
 pub mod Growing
 -- The labels of all methods as a list.
 pub mod Labels
+-- The rule on groups, header by header.
+pub mod SplitHeaders
+-- The plan of a class, part by part.
+pub mod Planning
+-- The rule on `Main`, header by header.
+pub mod Mains

@@ -6,6 +6,7 @@
 
 mod agreement;
 mod chords;
+mod class_plan;
 mod declarations;
 pub mod fault;
 mod first_headers;
@@ -14,7 +15,10 @@ mod groups;
 mod headers;
 mod limits;
 mod locals;
+mod mains;
+mod members;
 mod modifiers;
 mod numbers;
 mod overrides;
 mod own_methods;
+mod splits;

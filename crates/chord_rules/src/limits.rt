@@ -1,18 +1,19 @@
 //! The limits on headers, parameters, methods and chords.
 #![tactic(auto)]
 
-ghost use Rattle.std.specs.Prelude.{◌≡◌, ◌-◌, [], ◌∷◌, map, flat_map, length, drop, nat_le, nat_lt};
-ghost use Rattle.chord_tree.specs.View.{see_class, see_header, see_member};
-ghost use Rattle.chord_classes.specs.Table.{from_base};
+ghost use Rattle.std.specs.Prelude.{◌≡◌, ◌-◌, [], ◌∷◌, map, flat_map, length, drop, nat_le, nat_lt, IfOk, OnOk};
+ghost use Rattle.chord_tree.specs.View.{see_header, see_member};
 ghost use Rattle.chord_classes.specs.NameRules.{when};
 ghost use Rattle.chord_classes.specs.ChordRules.{base_token, formal_tokens, header_tokens, chord_tokens};
 ghost use Rattle.chord_classes.specs.Least.{least, keys};
-ghost use Rattle.chord_rules.specs.Limits.{crowded_formals};
+ghost use Rattle.chord_rules.specs.Limits.{crowded_formals, base_depth};
 
 use crate::headers::has_main;
+use crate::numbers::after;
 use chord_classes::least::Least;
 use chord_classes::table::Table;
 use chord_tree::classes::{Class, Formal, Header, Member};
+use std::alloc::AllocError;
 
 /// How many headers a chord has at most, and how many parameters a header or constructor.
 const MAX_BESIDE: usize = 8;
@@ -64,6 +65,35 @@ pub fn class_past(table: &Table, class: &Class, breaks: &mut Least)
 {
     let past = table.class_count() >= 1024;
     breaks.note_if(4, past, class.name.at);
+}
+
+/// How many classes are above a class with this base.
+pub fn base_depth(depths: &[u32], base: Option<u32>) -> Result<u32, AllocError>
+    ensures { IfOk result (λ depth. depth ≡ base_depth depths.now base) }
+{
+    let Some(class) = base else {
+        return Ok(0);
+    };
+    match depths.get(class as usize) {
+        Some(depth) => after(*depth, 1),
+        None => Ok(1),
+    }
+}
+
+/// C04: notes the base if the class has more than sixteen above it.
+pub fn base_past(
+    depths: &[u32],
+    class: &Class,
+    base: Option<u32>,
+    breaks: &mut Least,
+) -> Result<(), AllocError>
+    ensures { OnOk result (breaks.new.found ≡ least breaks.old.found (keys 4 (base_token class.now.base (nat_lt 16 (base_depth depths.now base))))) }
+{
+    let past = base_depth(depths, base)? > 16;
+    if let Some(name) = &class.base {
+        breaks.note_if(4, past, name.at);
+    }
+    Ok(())
 }
 
 /// C04: notes the first name of a chord where no room is left; that of `Main` counts for none.

@@ -69,17 +69,16 @@ fn header_breaks(
     misfitting(table, base, header, breaks);
 }
 
-/// Notes what headers break of the rules on headers of one name.
+/// Notes what the headers of a class break of the rules on headers of one name.
 pub fn headers_break(
     table: &Table,
     base: Option<u32>,
     firsts: &FirstHeaders,
-    headers: &[Header],
     breaks: &mut Least,
 )
-    ensures { breaks.new.found ≡ least breaks.old.found (flat_map (header_keys (map see_lent firsts.now.all.items) (inherited table.now base)) (map see_header headers.now)) }
+    ensures { breaks.new.found ≡ least breaks.old.found (flat_map (header_keys (map see_lent firsts.now.all.items) (inherited table.now base)) (map see_lent firsts.now.all.items)) }
 {
-    for header in headers {
+    for header in firsts.all.as_slice() {
         header_breaks(table, base, firsts, header, breaks);
     }
 }
