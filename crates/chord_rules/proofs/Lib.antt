@@ -4,6 +4,11 @@ mod Rooms
 mod NamesInBodies
 mod NamesBefore
 mod MainHeaders
+mod ClassPlans
+mod ClassNotes
+mod Tokens
+mod RuleTokens
+mod FirstBreak
 mod Barred
 mod Builders
 mod FirstNamed

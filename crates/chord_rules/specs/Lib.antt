@@ -3,6 +3,8 @@
 pub mod Groups
 -- Where a class overrides a group in part, as a list.
 pub mod Splits
+-- The rules that a layout rests on, and why a program has none.
+pub mod Family
 -- What a class breaks, each break as one number.
 pub mod ClassKeys
 -- ## What only the code's own contracts use
@@ -26,3 +28,5 @@ pub mod SplitHeaders
 pub mod Planning
 -- The rule on `Main`, header by header.
 pub mod Mains
+-- The one pass over the classes: one more class.
+pub mod Passing

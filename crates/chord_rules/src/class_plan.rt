@@ -2,19 +2,19 @@
 #![tactic(auto)]
 
 ghost use Rattle.std.specs.Prelude.{◌≡◌, [], ◌∷◌, ◌++◌, IfOk, map};
-ghost use Rattle.chord_tree.specs.View.{see_header, see_member};
+ghost use Rattle.chord_tree.specs.View.{see_class, see_header, see_member};
 ghost use Rattle.chord_bodies.specs.View.{view_method_plan, view_chord_plan, view_class_plan};
 ghost use Rattle.chord_classes.specs.Table.{methods_at};
 ghost use Rattle.chord_classes.specs.Plan.{method_plan, header_number, header_numbers, spared, chords_without, own_chords, own_builder, base_chords};
 ghost use Rattle.chord_classes.specs.MethodViews.{see_method};
-ghost use Rattle.chord_rules.specs.Planning.{chord_bodies, base_methods};
+ghost use Rattle.chord_rules.specs.Planning.{chord_bodies, base_methods, plan_parts};
 
 use crate::headers::{has_main, is_sync};
 use crate::numbers::{after, among, narrow};
 use chord_bodies::plan::{ChordPlan, ClassPlan, MethodPlan};
 use chord_classes::method::Method;
 use chord_classes::table::Table;
-use chord_tree::classes::{Header, Member};
+use chord_tree::classes::{Class, Header, Member};
 use std::alloc::{AllocError, Global};
 
 fn method_plan(alloc: Global, method: Method) -> Result<MethodPlan, AllocError>
@@ -243,4 +243,30 @@ pub fn base_chords<'a>(plans: &'a [ClassPlan], base: Option<u32>) -> &'a [ChordP
         Some(plan) => plan.chords.as_slice(),
         None => &[],
     }
+}
+
+/// The plan of the class of this number, of its methods, the chords that it inherits, and the number of its first member.
+pub fn class_plan(
+    alloc: Global,
+    table: &Table,
+    number: u32,
+    base: Option<u32>,
+    class: &Class,
+    methods: Vec<MethodPlan>,
+    inherited: Vec<ChordPlan>,
+    first: u32,
+) -> Result<ClassPlan, AllocError>
+    ensures { IfOk result (λ plan. view_class_plan plan ≡ plan_parts (methods_at table.now number) base (see_class class.now) (map view_method_plan methods.items) (map view_chord_plan inherited.items) first) }
+{
+    let mine = own_chords(alloc, table, number, first, &class.members)?;
+    let own = chord_bodies(alloc, &mine)?;
+    let chords = joined(inherited, mine)?;
+    Ok(ClassPlan {
+        name: class.name.text.copied(alloc)?,
+        base,
+        methods,
+        chords,
+        own,
+        constructor_body: own_builder(first, &class.members)?,
+    })
 }

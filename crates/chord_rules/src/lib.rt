@@ -7,6 +7,7 @@
 mod agreement;
 mod chords;
 mod class_plan;
+mod classes;
 mod declarations;
 pub mod fault;
 mod first_headers;
@@ -21,4 +22,5 @@ mod modifiers;
 mod numbers;
 mod overrides;
 mod own_methods;
+pub mod plan;
 mod splits;

@@ -1,0 +1,26 @@
+use Rattle.std.proofs.Common.{◌≡◌, ◌+◌, ◌++◌, ◌∷◌, [], map, drop}
+use Rattle.chord_tree.specs.View.{see_class}
+use Rattle.chord_bodies.specs.View.{view_class_plan}
+use Rattle.chord_classes.specs.Plan.{plans_after}
+use Rattle.chord_classes.specs.ChordRules.{over_plans}
+use Rattle.chord_classes.specs.Least.{least}
+use Rattle.chord_rules.specs.ClassKeys.{class_keys}
+use Rattle.chord_rules.proofs.Search.{step}
+use Rattle.chord_rules.proofs.ClassNotes.{next_class, next_plans}
+use Rattle.chord_rules.proofs.classes.look.Goals as goal
+
+pub loop-class-preserved : goal.loop-class-preserved
+loop-class-preserved c =
+    let before = c.loop-class.progress in
+    let plans = map view_class_plan before.plans.items in
+    let rule = class_keys (map see_class c.args.classes.now) in
+    let class = see_class c.class-item.result in
+    let rest = map see_class (drop (c.loop-class.class-index + 1) c.args.classes.now) in
+    let next = c.in_ok-progress.ensures in
+    record {
+      alike = next.alike;
+      planned = step (λ cs. plans_after before.table plans before.number (map see_class cs)) c.args.classes.now c.loop-class.class-index c.class-item.result _ _ c.loop-class-test.true c.class-item.is
+          (next_plans before.table _ plans _ before.number _ class rest next.table next.plans next.number) c.loop-class.invariant.planned;
+      noted = step (λ cs. least c.loop-class.breaks.found (over_plans rule before.table plans before.number (map see_class cs))) c.args.classes.now c.loop-class.class-index c.class-item.result _ _ c.loop-class-test.true c.class-item.is
+          (next_class rule before.table _ plans _ before.number _ class rest c.loop-class.breaks.found _ next.table next.plans next.number c.in_ok-looked.ensures.noted) c.loop-class.invariant.noted;
+    }
