@@ -1,5 +1,5 @@
 -- Of all that a program is noted to break, the tokens of one rule are those at which the rule is broken.
-use Rattle.std.proofs.Common.{◌≡◌, ℕ, ◌+◌, ◌-◌, List, [], ◌∷◌, ◌++◌, Bool, true, false, cond, nat_eq, flat_map, map, length, drop, refl, sym, ap, ◌∙◌, arith, append_assoc}
+use Rattle.std.proofs.Common.{◌≡◌, ℕ, ◌+◌, ◌-◌, ◌<◌, List, [], ◌∷◌, ◌++◌, Bool, true, false, cond, nat_eq, flat_map, map, length, drop, refl, sym, ap, ◌∙◌, arith, append_assoc}
 use Rattle.std.proofs.lemmas.List.{append-nil}
 use Rattle.std.specs.Prelude.{nat_le, nat_lt}
 use Rattle.chord_tree.specs.Tree.{HeaderTree, MemberTree, ConstructorMember, ChordMember, ClassTree, ProgramTree}
@@ -26,8 +26,8 @@ use Rattle.chord_rules.proofs.Tokens.{tokens_of, tokens_append, tokens_flat, tok
 abbrev of : ℕ → ℕ → List ℕ → List ℕ
 of rule other xs = cond (nat_eq other rule) xs []
 
-two : (r : ℕ) (xs ys as bs : List ℕ) → tokens_of r xs ≡ as → tokens_of r ys ≡ bs → tokens_of r (xs ++ ys) ≡ as ++ bs
-two r xs ys as bs e f = tokens_append r xs ys ∙ ap (λ z. z ++ tokens_of r ys) e ∙ ap (λ z. as ++ z) f
+two : (r : ℕ) (xs ys us vs : List ℕ) → tokens_of r xs ≡ us → tokens_of r ys ≡ vs → tokens_of r (xs ++ ys) ≡ us ++ vs
+two r xs ys us vs e f = tokens_append r xs ys ∙ ap (λ z. z ++ tokens_of r ys) e ∙ ap (λ z. us ++ z) f
 
 -- the tokens of a rule at a header
 abbrev at_header : ℕ → List HeaderTree → List Method → HeaderTree → List ℕ
@@ -46,9 +46,9 @@ at_member r (ChordMember hs body) =
     (of r 21 (flat_map (header_barred (length hs)) hs) ++ (of r 7 (repeated [] hs) ++ (of r 6 (second_sync false hs) ++ of r 8 (repeated_formals [] (flat_map header_formals hs)))))
     ++ (of r 4 (drop 8 (header_tokens hs)) ++ (of r 4 (flat_map crowded_formals hs) ++ of r 4 (drop 256 (block_names body))))
 
-four : (r a b c d : ℕ) (as bs cs ds : List ℕ) → a < 32 → b < 32 → c < 32 → d < 32 → tokens_of r (keys a as ++ (keys b bs ++ (keys c cs ++ keys d ds))) ≡ of r a as ++ (of r b bs ++ (of r c cs ++ of r d ds))
-four r a b c d as bs cs ds la lb lc ld =
-    two r (keys a as) _ _ _ (tokens_keys r a as la) (two r (keys b bs) _ _ _ (tokens_keys r b bs lb) (two r (keys c cs) (keys d ds) _ _ (tokens_keys r c cs lc) (tokens_keys r d ds ld)))
+four : (r a b c d : ℕ) (ks ls ms ns : List ℕ) → a < 32 → b < 32 → c < 32 → d < 32 → tokens_of r (keys a ks ++ (keys b ls ++ (keys c ms ++ keys d ns))) ≡ of r a ks ++ (of r b ls ++ (of r c ms ++ of r d ns))
+four r a b c d ks ls ms ns la lb lc ld =
+    two r (keys a ks) _ _ _ (tokens_keys r a ks la) (two r (keys b ls) _ _ _ (tokens_keys r b ls lb) (two r (keys c ms) (keys d ns) _ _ (tokens_keys r c ms lc) (tokens_keys r d ns ld)))
 
 member_is : (r : ℕ) (m : MemberTree) → tokens_of r (member_keys m) ≡ at_member r m
 member_is r (ConstructorMember modifiers name formals body) =

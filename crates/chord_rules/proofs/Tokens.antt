@@ -35,13 +35,13 @@ cond_cons : (b : Bool) (x : ℕ) (xs : List ℕ) → cond b (x ∷ []) [] ++ con
 cond_cons true x xs = refl
 cond_cons false x xs = refl
 
+no_tokens : (b : Bool) → ◌≡◌ {A = List ℕ} [] (cond b [] [])
+no_tokens true = refl
+no_tokens false = refl
+
 -- the tokens of the numbers of one rule: all if it is this one, else none
 pub tokens_keys : (rule other : ℕ) (xs : List ℕ) → other < 32 → tokens_of rule (keys other xs) ≡ cond (nat_eq other rule) xs []
-tokens_keys rule other [] l = nothing (nat_eq other rule)
-  where
-    nothing : (b : Bool) → [] ≡ cond b [] []
-    nothing true = refl
-    nothing false = refl
+tokens_keys rule other [] l = no_tokens (nat_eq other rule)
 tokens_keys rule other (x ∷ xs) l = ap (λ z. token_of rule (32 * x + other) ++ z) (tokens_keys rule other xs l) ∙ ap (λ z. z ++ cond (nat_eq other rule) xs []) (token_at rule other x l) ∙ cond_cons (nat_eq other rule) x xs
 
 in_token : (b : Bool) (at token : ℕ) (more : List ℕ) → IsIn (cond b (token ∷ []) [] ++ more) at → ((b ≡ true) × (token ≡ at)) ⊎ IsIn more at

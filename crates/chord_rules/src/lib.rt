@@ -14,6 +14,7 @@ mod first_headers;
 mod formals;
 mod groups;
 mod headers;
+pub mod laws;
 mod limits;
 mod locals;
 mod mains;

@@ -1,7 +1,7 @@
 //! The rule on `Main`, and the member that is it.
 #![tactic(auto)]
 
-ghost use Rattle.std.specs.Prelude.{◌≡◌, ◌||◌, IfOk, map, flat_map};
+ghost use Rattle.std.specs.Prelude.{◌≡◌, ◌||◌, IfOk, map, flat_map, unwrap_or};
 ghost use Rattle.chord_tree.specs.View.{see_class, see_header, see_member};
 ghost use Rattle.chord_classes.specs.ChordRules.{is_void, is_right_main, mains_among, member_mains, mains_of, wrong_mains};
 ghost use Rattle.chord_classes.specs.Plan.{main_among, main_in};
@@ -125,8 +125,18 @@ fn main_among(first: u32, members: &[Member]) -> Result<Option<u32>, AllocError>
     Ok(None)
 }
 
+/// The member that is `Main`; where there is none, which is broken, any.
+pub fn main_member(classes: &[Class]) -> Result<u32, AllocError>
+    ensures { IfOk result (λ main. main ≡ unwrap_or (main_in 0 (map see_class classes.now)) 0) }
+{
+    match main_in(classes)? {
+        Some(number) => Ok(number),
+        None => Ok(0),
+    }
+}
+
 /// The first member that is `Main`.
-pub fn main_in(classes: &[Class]) -> Result<Option<u32>, AllocError>
+fn main_in(classes: &[Class]) -> Result<Option<u32>, AllocError>
     ensures { IfOk result (λ found. found ≡ main_in 0 (map see_class classes.now)) }
 {
     let mut number = 0;

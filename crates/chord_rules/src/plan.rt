@@ -10,7 +10,7 @@ ghost use Rattle.chord_rules.specs.Family.{is_layout_rule, IsRuleFault};
 
 use crate::classes::look;
 use crate::fault::RuleFault;
-use crate::mains::{main_in, wrong_mains};
+use crate::mains::{main_member, wrong_mains};
 use chord_bodies::plan::Layout;
 use chord_classes::least::Least;
 use chord_tree::program::Program;
@@ -29,11 +29,10 @@ pub fn plan(alloc: Global, program: &Program) -> Result<Layout, RuleFault>
     let classes = program.classes();
     let plans = look(alloc, classes, &mut breaks)?;
     wrong_mains(classes, program.token_count(), &mut breaks);
-    if let Some(key) = breaks.found {
-        return Err(rule_fault(key));
+    match breaks.found {
+        Some(key) => Err(rule_fault(key)),
+        None => Ok(Layout::new(plans, main_member(classes)?)),
     }
-    let main = main_in(classes)?.unwrap_or(0);
-    Ok(Layout::new(plans, main))
 }
 
 /// The break that a number stands for.
