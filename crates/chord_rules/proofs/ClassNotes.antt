@@ -10,23 +10,23 @@ use Rattle.chord_classes.specs.DeclarationRules.{overriding}
 use Rattle.chord_classes.specs.Least.{least, keys}
 use Rattle.chord_classes.proofs.Leasts.{noted_four, least_append}
 use Rattle.chord_rules.specs.Splits.{split_from, split}
-use Rattle.chord_rules.specs.ClassKeys.{member_keys, header_keys, chord_places, name_keys, place_keys, method_limits, inner_keys, class_keys}
+use Rattle.chord_rules.specs.ClassKeys.{keys_of_member, header_keys, chord_places, name_keys, place_keys, method_limits, inner_keys, class_keys}
 
 -- what a class breaks by its members and their headers, where its parts lie in memory
 pub inner_noted : (done : List Shape) (plans : List ClassOf) (class : ClassTree) (base : Option ℕ) (members others : List MemberTree) (room : ℕ) (chords : List ChordOf) (headers : List HeaderTree) (taken : List ℕ) (o p q r s : Option ℕ)
     → base ≡ base_of done class → members ≡ class.members → others ≡ class.members → room ≡ 256 - length chords → chords ≡ base_chords plans base → headers ≡ headers_of class
     → taken ≡ overridden (inherited done (base_of done class)) (headers_of class)
-    → p ≡ least o (flat_map member_keys members) → q ≡ least p (keys 4 (drop room (chord_tokens others))) → r ≡ least q (flat_map (header_keys headers (inherited done base)) headers)
+    → p ≡ least o (flat_map keys_of_member members) → q ≡ least p (keys 4 (drop room (chord_tokens others))) → r ≡ least q (flat_map (header_keys headers (inherited done base)) headers)
     → s ≡ least r (keys 11 (split_from chords taken (inherited done base) [] (overriding (inherited done base) headers))) → s ≡ least o (inner_keys done plans class)
 inner_noted done plans class base members others room chords headers taken o p q r s b m n l k h t hp hq hr hs =
-    noted_four o p q r s (flat_map member_keys class.members) (keys 4 (chord_places plans (base_of done class) class.members)) (flat_map (header_keys (headers_of class) (inherited done (base_of done class))) (headers_of class)) (keys 11 (split done plans class))
-    (hp ∙ ap (λ z. least o (flat_map member_keys z)) m)
+    noted_four o p q r s (flat_map keys_of_member class.members) (keys 4 (chord_places plans (base_of done class) class.members)) (flat_map (header_keys (headers_of class) (inherited done (base_of done class))) (headers_of class)) (keys 11 (split done plans class))
+    (hp ∙ ap (λ z. least o (flat_map keys_of_member z)) m)
     (hq ∙ ap (λ z. least p (keys 4 (drop z (chord_tokens others)))) (l ∙ ap (λ z. 256 - length z) k ∙ ap (λ z. 256 - length (base_chords plans z)) b) ∙ ap (λ z. least p (keys 4 (chord_places plans (base_of done class) z))) n)
     (hr ∙ ap (λ z. least q (flat_map (header_keys z (inherited done base)) z)) h ∙ ap (λ z. least q (flat_map (header_keys (headers_of class) (inherited done z)) (headers_of class))) b)
     (hs ∙ ap (λ z. least r (keys 11 (split_from z taken (inherited done base) [] (overriding (inherited done base) headers)))) k
-     ∙ ap (λ z. least r (keys 11 (split_from (base_chords plans base) z (inherited done base) [] (overriding (inherited done base) headers)))) t
-     ∙ ap (λ z. least r (keys 11 (split_from (base_chords plans base) (overridden (inherited done (base_of done class)) (headers_of class)) (inherited done base) [] (overriding (inherited done base) z)))) h
-     ∙ ap (λ z. least r (keys 11 (split_from (base_chords plans z) (overridden (inherited done (base_of done class)) (headers_of class)) (inherited done z) [] (overriding (inherited done z) (headers_of class))))) b)
+    ∙ ap (λ z. least r (keys 11 (split_from (base_chords plans base) z (inherited done base) [] (overriding (inherited done base) headers)))) t
+    ∙ ap (λ z. least r (keys 11 (split_from (base_chords plans base) (overridden (inherited done (base_of done class)) (headers_of class)) (inherited done base) [] (overriding (inherited done base) z)))) h
+    ∙ ap (λ z. least r (keys 11 (split_from (base_chords plans z) (overridden (inherited done (base_of done class)) (headers_of class)) (inherited done z) [] (overriding (inherited done z) (headers_of class))))) b)
 
 -- what a class breaks, where its parts lie in memory
 pub class_noted : (classes : List ClassTree) (done : List Shape) (plans others : List ClassOf) (class : ClassTree) (base : Option ℕ) (owner : ℕ) (members : List MemberTree) (o p q r s : Option ℕ)
@@ -37,8 +37,8 @@ pub class_noted : (classes : List ClassTree) (done : List Shape) (plans others :
 class_noted classes done plans others class base owner members o p q r s b n m e hp hq hr hs =
     noted_four o p q r s (name_keys classes done class) (place_keys done class) (keys 4 (method_limits done class)) (inner_keys done plans class) hp hq
     (hr ∙ ap (λ z. least q (keys 4 (drop (16 - length (inherited done base)) (header_tokens (new_headers z (inherited done base) (flat_map member_headers members)))))) n
-     ∙ ap (λ z. least q (keys 4 (drop (16 - length (inherited done base)) (header_tokens (new_headers (length done) (inherited done base) (flat_map member_headers z)))))) m
-     ∙ ap (λ z. least q (keys 4 (drop (16 - length (inherited done z)) (header_tokens (new_headers (length done) (inherited done z) (headers_of class)))))) b)
+    ∙ ap (λ z. least q (keys 4 (drop (16 - length (inherited done base)) (header_tokens (new_headers (length done) (inherited done base) (flat_map member_headers z)))))) m
+    ∙ ap (λ z. least q (keys 4 (drop (16 - length (inherited done z)) (header_tokens (new_headers (length done) (inherited done z) (headers_of class)))))) b)
     (hs ∙ ap (λ z. least r (inner_keys done z class)) e)
 
 -- a class, and then those after it

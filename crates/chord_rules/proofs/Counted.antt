@@ -13,15 +13,15 @@ use Rattle.chord_rules.specs.Growing.{IsCounted}
 use Rattle.chord_rules.proofs.Rooms.{takes_none, takes_both, takes_one}
 
 -- headers, and then others
-pub with_more : (owner : ℕ) (methods : List Method) (headers more : List HeaderTree) → with_headers owner methods (headers ++ more) ≡ with_headers owner (with_headers owner methods headers) more
-with_more owner methods [] more = refl
-with_more owner methods (h ∷ hs) more = with_more owner (cond (is_main h || is_some (method_named methods h.name.text)) methods (methods ++ (method_of owner h ∷ []))) hs more
+pub headers_joined : (owner : ℕ) (methods : List Method) (headers more : List HeaderTree) → with_headers owner methods (headers ++ more) ≡ with_headers owner (with_headers owner methods headers) more
+headers_joined owner methods [] more = refl
+headers_joined owner methods (h ∷ hs) more = headers_joined owner (cond (is_main h || is_some (method_named methods h.name.text)) methods (methods ++ (method_of owner h ∷ []))) hs more
 
 next_by : (b : Bool) (owner : ℕ) (methods grown : List Method) (h : HeaderTree) (hs more : List HeaderTree)
     → (new_headers owner methods (hs ++ more) ≡ new_headers owner methods hs ++ new_headers owner (with_headers owner methods hs) more)
     → (new_headers owner grown (hs ++ more) ≡ new_headers owner grown hs ++ new_headers owner (with_headers owner grown hs) more)
     → cond b (new_headers owner methods (hs ++ more)) (h ∷ new_headers owner grown (hs ++ more))
-        ≡ cond b (new_headers owner methods hs) (h ∷ new_headers owner grown hs) ++ new_headers owner (with_headers owner (cond b methods grown) hs) more
+    ≡ cond b (new_headers owner methods hs) (h ∷ new_headers owner grown hs) ++ new_headers owner (with_headers owner (cond b methods grown) hs) more
 next_by true owner methods grown h hs more e f = e
 next_by false owner methods grown h hs more e f = ap (λ z. h ∷ z) f
 
@@ -42,10 +42,10 @@ pub counted_over : {inherits : List Method} {owner : ℕ} {headers more : List H
 counted_over {inherits} {owner} {headers} {more} {before} {mid} {after} {o} {p} {q} a b =
     let start = inherits ++ map see_method before.own.all.items in
     let moved : TakesRoom (header_tokens (new_headers owner (with_headers owner start headers) more)) mid.room after.room p q =
-        subst (λ z. TakesRoom (header_tokens (new_headers owner z more)) mid.room after.room p q) a.grown.methods b.room in
+    subst (λ z. TakesRoom (header_tokens (new_headers owner z more)) mid.room after.room p q) a.grown.methods b.room in
     record {
       grown = record {
-        methods = b.grown.methods ∙ ap (λ z. with_headers owner z more) a.grown.methods ∙ sym (with_more owner start headers more);
+        methods = b.grown.methods ∙ ap (λ z. with_headers owner z more) a.grown.methods ∙ sym (headers_joined owner start headers more);
         new = λ n. b.grown.new (a.grown.new n);
       };
       room = subst (λ z. TakesRoom z before.room after.room o q) (sym (ap header_tokens (new_more owner start headers more) ∙ tokens_more (new_headers owner start headers) (new_headers owner (with_headers owner start headers) more)))

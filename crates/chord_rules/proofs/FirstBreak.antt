@@ -17,7 +17,7 @@ use Rattle.chord_classes.specs.Breaks.{IsNotAfter, IsBreak}
 use Rattle.chord_classes.specs.Least.{keys, least}
 use Rattle.chord_classes.proofs.Leasts.{IsIn, contains_in, in_contains, in_either, of_key, not_less, is_least, none_noted, noted_two}
 use Rattle.chord_rules.specs.Family.{is_layout_rule}
-use Rattle.chord_rules.specs.ClassKeys.{differing, hiding, misfitting, header_keys, chord_keys, chord_limits, member_keys, name_keys, place_keys, method_limits, chord_places, inner_keys, class_keys, classes_keys, program_keys}
+use Rattle.chord_rules.specs.ClassKeys.{differing, hiding, misfitting, header_keys, chord_keys, chord_limits, keys_of_member, name_keys, place_keys, method_limits, chord_places, inner_keys, class_keys, classes_keys, program_keys}
 use Rattle.chord_rules.specs.FormalNames.{header_formals}
 use Rattle.chord_rules.specs.Bearers.{header_barred}
 use Rattle.chord_rules.specs.Limits.{crowded_formals}
@@ -54,7 +54,7 @@ mine_three a b c ks ls ms la lb lc ma mb mc = mine_both (keys a ks) (keys b ls +
 mine_header : (headers : List HeaderTree) (methods : List Method) (h : HeaderTree) → AreMine (header_keys headers methods h)
 mine_header headers methods h = mine_three 5 9 10 (differing headers h) (hiding methods h) (misfitting methods h) (omega arith) (omega arith) (omega arith) refl refl refl
 
-mine_member : (m : MemberTree) → AreMine (member_keys m)
+mine_member : (m : MemberTree) → AreMine (keys_of_member m)
 mine_member (ConstructorMember modifiers name formals body) =
     mine_four 21 8 4 4 (barred_among OnConstructor modifiers [] modifiers) (repeated_formals [] formals.parameters) (drop 8 (formal_tokens formals.parameters)) (drop 256 (block_names body)) (omega arith) (omega arith) (omega arith) (omega arith) refl refl refl refl
 mine_member (ChordMember hs body) =
@@ -64,19 +64,19 @@ mine_member (ChordMember hs body) =
 
 mine_inner : (done : List Shape) (plans : List ClassOf) (c : ClassTree) → AreMine (inner_keys done plans c)
 mine_inner done plans c =
-    mine_both (flat_map member_keys c.members) (keys 4 (chord_places plans (base_of done c) c.members) ++ (flat_map (header_keys (headers_of c) (inherited done (base_of done c))) (headers_of c) ++ keys 11 (split done plans c))) (mine_flat member_keys mine_member c.members)
+    mine_both (flat_map keys_of_member c.members) (keys 4 (chord_places plans (base_of done c) c.members) ++ (flat_map (header_keys (headers_of c) (inherited done (base_of done c))) (headers_of c) ++ keys 11 (split done plans c))) (mine_flat keys_of_member mine_member c.members)
     (mine_both (keys 4 (chord_places plans (base_of done c) c.members)) (flat_map (header_keys (headers_of c) (inherited done (base_of done c))) (headers_of c) ++ keys 11 (split done plans c)) (mine_keys 4 (chord_places plans (base_of done c) c.members) (omega arith) refl)
-     (mine_both (flat_map (header_keys (headers_of c) (inherited done (base_of done c))) (headers_of c)) (keys 11 (split done plans c))
-      (mine_flat (header_keys (headers_of c) (inherited done (base_of done c))) (mine_header (headers_of c) (inherited done (base_of done c))) (headers_of c)) (mine_keys 11 (split done plans c) (omega arith) refl)))
+    (mine_both (flat_map (header_keys (headers_of c) (inherited done (base_of done c))) (headers_of c)) (keys 11 (split done plans c))
+    (mine_flat (header_keys (headers_of c) (inherited done (base_of done c))) (mine_header (headers_of c) (inherited done (base_of done c))) (headers_of c)) (mine_keys 11 (split done plans c) (omega arith) refl)))
 
 mine_class : (classes : List ClassTree) (done : List Shape) (plans : List ClassOf) (c : ClassTree) → AreMine (class_keys classes done plans c)
 mine_class classes done plans c =
     mine_both (name_keys classes done c) (place_keys done c ++ (keys 4 (method_limits done c) ++ inner_keys done plans c))
     (mine_four 1 3 12 12 (declared_again done c) (base_missing done c) (misnamed_constructors c.name.text c.members) (base_token c.base (base_has classes (base_of done c))) (omega arith) (omega arith) (omega arith) (omega arith) refl refl refl refl)
     (mine_both (place_keys done c) (keys 4 (method_limits done c) ++ inner_keys done plans c)
-     (mine_both (keys 4 (when (nat_le 1024 (length done)) c.name.at)) (keys 4 (base_token c.base (nat_lt 16 (length (from_base done (base_of done c))))))
-      (mine_keys 4 (when (nat_le 1024 (length done)) c.name.at) (omega arith) refl) (mine_keys 4 (base_token c.base (nat_lt 16 (length (from_base done (base_of done c))))) (omega arith) refl))
-     (mine_both (keys 4 (method_limits done c)) (inner_keys done plans c) (mine_keys 4 (method_limits done c) (omega arith) refl) (mine_inner done plans c)))
+    (mine_both (keys 4 (when (nat_le 1024 (length done)) c.name.at)) (keys 4 (base_token c.base (nat_lt 16 (length (from_base done (base_of done c))))))
+    (mine_keys 4 (when (nat_le 1024 (length done)) c.name.at) (omega arith) refl) (mine_keys 4 (base_token c.base (nat_lt 16 (length (from_base done (base_of done c))))) (omega arith) refl))
+    (mine_both (keys 4 (method_limits done c)) (inner_keys done plans c) (mine_keys 4 (method_limits done c) (omega arith) refl) (mine_inner done plans c)))
 
 mine_over : (classes : List ClassTree) (done : List Shape) (plans : List ClassOf) (number : ℕ) (cs : List ClassTree) → AreMine (over_plans (class_keys classes) done plans number cs)
 mine_over classes done plans number [] k h = absurd h
@@ -110,21 +110,46 @@ there : (xs ys : List ℕ) (at : ℕ) → xs ≡ ys → IsIn xs at → Contains 
 there xs ys at e h = contains_in ys at (subst (λ z. IsIn z at) e h)
 
 each_broken : (p : ProgramTree) → OfEach (IsBrokenAt p) (1 ∷ 3 ∷ 4 ∷ 5 ∷ 6 ∷ 7 ∷ 8 ∷ 9 ∷ 10 ∷ 11 ∷ 12 ∷ 13 ∷ 21 ∷ [])
-each_broken p =
-    ((λ at h. C01 at (there (tokens_of 1 (program_keys p)) _ at (tokens_1 p) h)),
-     ((λ at h. C03 at (there (tokens_of 3 (program_keys p)) _ at (tokens_3 p) h)),
-     ((λ at h. C04 at (there (tokens_of 4 (program_keys p)) _ at (tokens_4 p) h)),
-     ((λ at h. C05 at (there (tokens_of 5 (program_keys p)) _ at (tokens_5 p) h)),
-     ((λ at h. C06 at (there (tokens_of 6 (program_keys p)) _ at (tokens_6 p) h)),
-     ((λ at h. C07 at (there (tokens_of 7 (program_keys p)) _ at (tokens_7 p) h)),
-     ((λ at h. C08 at (there (tokens_of 8 (program_keys p)) _ at (tokens_8 p) h)),
-     ((λ at h. C09 at (there (tokens_of 9 (program_keys p)) _ at (tokens_9 p) h)),
-     ((λ at h. C10 at (there (tokens_of 10 (program_keys p)) _ at (tokens_10 p) h)),
-     ((λ at h. C11 at ((splits_listed [] [] 0 p.classes at).0 (there (tokens_of 11 (program_keys p)) (over_plans split [] [] 0 p.classes) at (tokens_11 p) h))),
-     ((λ at h. C12 at (there (tokens_of 12 (program_keys p)) _ at (tokens_12 p) h)),
-     ((λ at h. C13 at (there (tokens_of 13 (program_keys p)) _ at (tokens_13 p) h)),
-     ((λ at h. C21 at (there (tokens_of 21 (program_keys p)) _ at (tokens_21 p) h)),
-     tt)))))))))))))
+each_broken p = (
+  (λ at h. C01 at (there (tokens_of 1 (program_keys p)) _ at (tokens_1 p) h)),
+  (
+    (λ at h. C03 at (there (tokens_of 3 (program_keys p)) _ at (tokens_3 p) h)),
+    (
+      (λ at h. C04 at (there (tokens_of 4 (program_keys p)) _ at (tokens_4 p) h)),
+      (
+        (λ at h. C05 at (there (tokens_of 5 (program_keys p)) _ at (tokens_5 p) h)),
+        (
+          (λ at h. C06 at (there (tokens_of 6 (program_keys p)) _ at (tokens_6 p) h)),
+          (
+            (λ at h. C07 at (there (tokens_of 7 (program_keys p)) _ at (tokens_7 p) h)),
+            (
+              (λ at h. C08 at (there (tokens_of 8 (program_keys p)) _ at (tokens_8 p) h)),
+              (
+                (λ at h. C09 at (there (tokens_of 9 (program_keys p)) _ at (tokens_9 p) h)),
+                (
+                  (λ at h. C10 at (there (tokens_of 10 (program_keys p)) _ at (tokens_10 p) h)),
+                  (
+                    (λ at h. C11 at ((splits_listed [] [] 0 p.classes at).0 (there (tokens_of 11 (program_keys p)) (over_plans split [] [] 0 p.classes) at (tokens_11 p) h))),
+                    (
+                      (λ at h. C12 at (there (tokens_of 12 (program_keys p)) _ at (tokens_12 p) h)),
+                      (
+                        (λ at h. C13 at (there (tokens_of 13 (program_keys p)) _ at (tokens_13 p) h)),
+                        (
+                          (λ at h. C21 at (there (tokens_of 21 (program_keys p)) _ at (tokens_21 p) h)),
+                          tt,
+                        ),
+                      ),
+                    ),
+                  ),
+                ),
+              ),
+            ),
+          ),
+        ),
+      ),
+    ),
+  ),
+)
 
 back : (xs ys : List ℕ) (at : ℕ) → xs ≡ ys → Contains ys at → IsIn xs at
 back xs ys at e h = subst (λ z. IsIn z at) (sym e) (in_contains ys at h)

@@ -103,12 +103,12 @@ module _ (chords : List ChordOf) (taken : List ℕ) (methods : List Method) wher
   of_list before [] at (k, l, e) = absurd (omega arith)
   of_list before (h ∷ hs) at c = elim (Contains-append_cases (when (not (any_labelled chords taken methods h before) && any_spared chords taken methods (header_number methods h) (length methods)) h.name.at) (split_from chords taken methods (before ++ (h ∷ [])) hs) at c) [
     | inl a ↦ (
-      let w = in_when (not (any_labelled chords taken methods h before) && any_spared chords taken methods (header_number methods h) (length methods)) h.name.at at a in
-      let p = and_is (not (any_labelled chords taken methods h before)) (any_spared chords taken methods (header_number methods h) (length methods)) w.0 in
-      record { ahead = []; header = h; rest = hs; are = refl; token = w.1; alone = ap (any_labelled chords taken methods h) (append-nil before) ∙ not_is _ p.0; some = p.1 })
+        let w = in_when (not (any_labelled chords taken methods h before) && any_spared chords taken methods (header_number methods h) (length methods)) h.name.at at a in
+        let p = and_is (not (any_labelled chords taken methods h before)) (any_spared chords taken methods (header_number methods h) (length methods)) w.0 in
+        record { ahead = []; header = h; rest = hs; are = refl; token = w.1; alone = ap (any_labelled chords taken methods h) (append-nil before) ∙ not_is _ p.0; some = p.1 })
     | inr b ↦ (
-      let r = of_list (before ++ (h ∷ [])) hs at b in
-      record { ahead = h ∷ r.ahead; header = r.header; rest = r.rest; are = ap (λ z. h ∷ z) r.are; token = r.token; alone = ap (any_labelled chords taken methods r.header) (sym (append_assoc before (h ∷ []) r.ahead)) ∙ r.alone; some = r.some })
+        let r = of_list (before ++ (h ∷ [])) hs at b in
+        record { ahead = h ∷ r.ahead; header = r.header; rest = r.rest; are = ap (λ z. h ∷ z) r.are; token = r.token; alone = ap (any_labelled chords taken methods r.header) (sym (append_assoc before (h ∷ []) r.ahead)) ∙ r.alone; some = r.some })
   ]
 
   to_list : (before ahead : List HeaderTree) (h : HeaderTree) (rest : List HeaderTree) (at : ℕ) → h.name.at ≡ at → any_labelled chords taken methods h (before ++ ahead) ≡ false
@@ -128,9 +128,16 @@ listed_split done plans class at c =
     let r = of_list chords taken methods [] (overriding methods (headers_of class)) at c in
     let s = spared_at chords taken methods (header_number methods r.header) (length methods) r.some in
     record {
-      before = r.ahead; header = r.header; rest = r.rest; are = r.are; token = r.token;
+      before = r.ahead;
+      header = r.header;
+      rest = r.rest;
+      are = r.are;
+      token = r.token;
       first = λ other a g. false≢true (sym r.alone ∙ at_labelled chords taken methods r.header other r.ahead a g);
-      missing = s.0; within = s.1; grouped = s.2; spared = s.3;
+      missing = s.0;
+      within = s.1;
+      grouped = s.2;
+      spared = s.3;
     }
 
 split_listed : (done : List Shape) (plans : List ClassOf) (class : ClassTree) (at : ℕ) → IsSplit done plans class at → Contains (split done plans class) at
@@ -140,8 +147,8 @@ split_listed done plans class at s =
     let taken = overridden methods (headers_of class) in
     subst (λ z. Contains (split_from chords taken methods [] z) at) (sym s.are)
     (to_list chords taken methods [] s.before s.header s.rest at s.token
-     (false_of (any_labelled chords taken methods s.header s.before) (λ t. (let r = labelled_at chords taken methods s.header s.before t in s.first r.0 r.1 r.2)))
-     (at_spared chords taken methods (header_number methods s.header) (length methods) s.missing s.within s.grouped s.spared))
+    (false_of (any_labelled chords taken methods s.header s.before) (λ t. (let r = labelled_at chords taken methods s.header s.before t in s.first r.0 r.1 r.2)))
+    (at_spared chords taken methods (header_number methods s.header) (length methods) s.missing s.within s.grouped s.spared))
 
 listed_among : (done : List Shape) (plans : List ClassOf) (number : ℕ) (cs : List ClassTree) (at : ℕ) → Contains (over_plans split done plans number cs) at → SplitAmong done plans number cs at
 listed_among done plans number [] at (k, l, e) = absurd (omega arith)

@@ -40,17 +40,19 @@ map_among f x (y ∷ ys) h = elim (or_is (nat_eq x y) (among x ys) h) [
   | inr m ↦ or_right (nat_eq (f x) (f y)) (among (f x) (map f ys)) (map_among f x ys m)
 ]
 
-pub chain : {ks : List ChordOf} {i j k : ℕ} → Grouped ks i j → Grouped ks j k → Grouped ks i k
-chain itself q = q
-chain (through l p) q = through l (chain p q)
+-- methods that are linked with one that others are linked with are linked with those
+pub chained : {ks : List ChordOf} {i j k : ℕ} → Grouped ks i j → Grouped ks j k → Grouped ks i k
+chained itself q = q
+chained (through l p) q = through l (chained p q)
 
 linked_back : {ks : List ChordOf} {i j : ℕ} → Linked ks i j → Linked ks j i
 linked_back (here a b) = here b a
 linked_back (later l) = later (linked_back l)
 
-pub back : {ks : List ChordOf} {i j : ℕ} → Grouped ks i j → Grouped ks j i
-back itself = itself
-back (through l p) = chain (back p) (through (linked_back l) itself)
+-- linked both ways
+pub turned_round : {ks : List ChordOf} {i j : ℕ} → Grouped ks i j → Grouped ks j i
+turned_round itself = itself
+turned_round (through l p) = chained (turned_round p) (through (linked_back l) itself)
 
 -- what is grouped by some chords is grouped by more
 pub wider : {k : ChordOf} {ks : List ChordOf} {i j : ℕ} → Grouped ks i j → Grouped (k ∷ ks) i j
@@ -83,7 +85,7 @@ joined : (k : ChordOf) (ks : List ChordOf) → ((i j : ℕ) → label ks i ≡ l
 joined k ks ih i j a b =
     let x = among_map (label ks) (label ks i) k.methods a in
     let y = among_map (label ks) (label ks j) k.methods b in
-    chain (wider (ih i x.0 x.2)) (through (here x.1 y.1) (wider (back (ih j y.0 y.2))))
+    chained (wider (ih i x.0 x.2)) (through (here x.1 y.1) (wider (turned_round (ih j y.0 y.2))))
 
 label_step : (k : ChordOf) (h : ℕ) (t : List ℕ) (ks : List ChordOf) → k.methods ≡ h ∷ t → ((i j : ℕ) → label ks i ≡ label ks j → Grouped ks i j) → (i j : ℕ)
     → merged (h ∷ t) (label ks) (label ks i) ≡ merged (h ∷ t) (label ks) (label ks j) → Grouped (k ∷ ks) i j

@@ -101,7 +101,7 @@ module _ (chords : List ChordOf) (taken : List ℕ) (methods : List Method) (cou
     one_header : (over : Bool) (found : Option Found) (h : HeaderTree) (more : List HeaderTree) (seen : List ℕ) (before : List HeaderTree) → method_named methods h.name.text ≡ found → AreSeen seen before
         → ((others : List ℕ) (ahead : List HeaderTree) → AreSeen others ahead → splits_from kept taken methods others more ≡ split_from chords taken methods ahead (overriding methods more))
         → splits_at kept taken (length methods) seen (cond over (option_map (λ (f : Found). f.number) found) None) h.name.at ++ splits_from kept taken methods (seen_with_number kept seen (cond over (option_map (λ (f : Found). f.number) found) None)) more
-            ≡ split_from chords taken methods before (cond (over && is_some found) (h ∷ overriding methods more) (overriding methods more))
+        ≡ split_from chords taken methods before (cond (over && is_some found) (h ∷ overriding methods more) (overriding methods more))
     one_header false found h more seen before e s ih = ih seen before s
     one_header true None h more seen before e s ih = ih seen before s
     one_header true (Some f) h more seen before e s ih =
@@ -110,9 +110,9 @@ module _ (chords : List ChordOf) (taken : List ℕ) (methods : List Method) (cou
         let here : kept f.number ≡ label chords (header_number methods h) = label_of count chords f.number within ∙ ap (label chords) (sym number) in
         ap (λ z. when (not z && spared_below kept taken (kept f.number) (length methods)) h.name.at ++ splits_from kept taken methods (with_label seen (kept f.number)) more) (ap (λ z. among z seen) here ∙ s h)
         ∙ ap (λ z. when (not (any_labelled chords taken methods h before) && z) h.name.at ++ splits_from kept taken methods (with_label seen (kept f.number)) more)
-            (spared_same (length methods) f.number few within ∙ ap (λ z. any_spared chords taken methods z (length methods)) (sym number))
+        (spared_same (length methods) f.number few within ∙ ap (λ z. any_spared chords taken methods z (length methods)) (sym number))
         ∙ ap (λ z. when (not (any_labelled chords taken methods h before) && any_spared chords taken methods (header_number methods h) (length methods)) h.name.at ++ z)
-            (ih (with_label seen (kept f.number)) (before ++ (h ∷ [])) (seen_more seen before h (kept f.number) here s))
+        (ih (with_label seen (kept f.number)) (before ++ (h ∷ [])) (seen_more seen before h (kept f.number) here s))
 
     -- the first headers of groups that are not overridden whole, by labels that were seen
     pub splits_same : (headers : List HeaderTree) (seen : List ℕ) (before : List HeaderTree) → AreSeen seen before → splits_from kept taken methods seen headers ≡ split_from chords taken methods before (overriding methods headers)

@@ -4,11 +4,12 @@ use Rattle.std.proofs.Common.{◌≡◌, ℕ, zero, suc, ◌+◌, ◌-◌, ◌<�
 use Rattle.chord_bodies.specs.Resolved.{ChordOf}
 use Rattle.chord_bodies.specs.declared.plan.ChordPlan.{ChordPlan}
 use Rattle.chord_bodies.specs.View.{view_chord_plan}
-use Rattle.chord_rules.proofs.Search.{item_at}
+use Rattle.chord_rules.proofs.Search.{item_here}
 use Rattle.chord_classes.specs.Table.{among}
 use Rattle.chord_rules.specs.Groups.{label, merged}
 use Rattle.chord_rules.specs.Labels.{numbers, labels_of, merged_all, AreUnder, AllIn, above_methods, above_chords}
 
+-- the first of the numbers that are left, and the others
 pub numbers_step : (n i : ℕ) → i < n → numbers i (n - i) ≡ i ∷ numbers (i + 1) (n - (i + 1))
 numbers_step n i l = let e : n - i ≡ suc (n - (i + 1)) = omega arith in ap (numbers i) e
 
@@ -44,6 +45,7 @@ same : (xs : List ℕ) → xs ≡ map (label []) xs
 same [] = refl
 same (x ∷ xs) = ap (λ z. x ∷ z) (same xs)
 
+-- without chords each method has its own number as its label
 pub no_chords : (n : ℕ) → numbers 0 n ≡ labels_of n []
 no_chords n = same (numbers 0 n)
 
@@ -56,12 +58,13 @@ all_drop n (x ∷ xs) (suc i) h = all_drop n xs i h.1
 pub labels_more : (n : ℕ) (xs : List ChordPlan) (i j : ℕ) (x : ChordPlan) (old : List ℕ) → AllIn n (map view_chord_plan xs) → j ≡ i + 1 → i < length xs → x ≡ get_or xs i x
     → old ≡ labels_of n (map view_chord_plan (drop j xs)) → merged_all x.methods.items old ≡ labels_of n (map view_chord_plan (drop i xs))
 labels_more n xs i j x old h e l is o =
-    let at = item_at xs i x l is in
+    let at = item_here xs i x l is in
     let below = subst (λ z. AllIn n (map view_chord_plan z)) at (all_drop n xs i h) in
     ap (merged_all x.methods.items) (o ∙ ap (λ z. labels_of n (map view_chord_plan (drop z xs))) e)
     ∙ merge_labels n (view_chord_plan x) (map view_chord_plan (drop (i + 1) xs)) below.0
     ∙ ap (λ z. labels_of n (map view_chord_plan z)) (sym at)
 
+-- the label of one of the first methods
 pub label_of : (n : ℕ) (ks : List ChordOf) (i : ℕ) → i < n → slice_index (labels_of n ks) i ≡ label ks i
 label_of n ks i l = index_numbers (label ks) 0 n i l ∙ ap (label ks) (omega arith)
 

@@ -50,6 +50,7 @@ named_from n x (y ∷ ys) = last_in x y ys ∙ ap (λ z. bytes_eq y x || z) (nam
 pub named_place : (x : List ℕ) (names : List (List ℕ)) → named_in x (reverse names) ≡ is_some (name_place names x)
 named_place x names = named_from 0 x names
 
+-- names and one more, turned round
 pub reverse_push : (names : List (List ℕ)) (x : List ℕ) → reverse (names ++ (x ∷ [])) ≡ x ∷ reverse names
 reverse_push names x = reverse-append names (x ∷ [])
 
@@ -62,6 +63,7 @@ next_formal names after name formal rest o p e f h =
     (h ∙ ap (λ z. least o (keys 8 (when z formal.name.at))) (ap (λ z. is_some (name_place names z)) f ∙ sym (named_place formal.name.text names)))
     ∙ ap (λ z. least p (keys 8 (repeated_formals z rest))) (sym (ap reverse (e ∙ ap (λ z. names ++ (z ∷ [])) f) ∙ reverse_push names formal.name.text))
 
+-- a name, and then those of the parameters after it
 pub next_names : (names after : List (List ℕ)) (name : List ℕ) (formal : Formal) (rest : List Formal) → after ≡ names ++ (name ∷ []) → name ≡ formal.name.text → names ++ formal_names (formal ∷ rest) ≡ after ++ formal_names rest
 next_names names after name formal rest e f =
     sym (ap (λ z. z ++ formal_names rest) (e ∙ ap (λ z. names ++ (z ∷ [])) f) ∙ append_assoc names (formal.name.text ∷ []) (formal_names rest))
@@ -77,6 +79,7 @@ repeated_more names (x ∷ xs) ys =
     ∙ ap (λ z. (here ++ repeated_formals z xs) ++ repeated_formals (reverse ((names ++ (x.name.text ∷ [])) ++ formal_names xs)) ys) (reverse_push names x.name.text)
     ∙ ap (λ z. (here ++ repeated_formals (x.name.text ∷ reverse names) xs) ++ repeated_formals (reverse z) ys) (append_assoc names (x.name.text ∷ []) (formal_names xs))
 
+-- parameters, and then others
 pub next_formals : (names after : List (List ℕ)) (xs ys : List Formal) (o p : Option ℕ) → after ≡ names ++ formal_names xs → p ≡ least o (keys 8 (repeated_formals (reverse names) xs))
     → least o (keys 8 (repeated_formals (reverse names) (xs ++ ys))) ≡ least p (keys 8 (repeated_formals (reverse after) ys))
 next_formals names after xs ys o p e h =

@@ -19,15 +19,15 @@ use Rattle.chord_rules.specs.FormalNames.{header_formals}
 use Rattle.chord_rules.specs.Bearers.{header_barred}
 use Rattle.chord_rules.specs.Limits.{crowded_formals}
 use Rattle.chord_rules.specs.Splits.{split}
-use Rattle.chord_rules.specs.ClassKeys.{differing, hiding, misfitting, header_keys, constructor_keys, chord_keys, chord_limits, member_keys, name_keys, place_keys, method_limits, chord_places, inner_keys, class_keys, classes_keys, program_keys}
-use Rattle.chord_rules.proofs.Tokens.{tokens_of, tokens_append, tokens_flat, tokens_keys}
+use Rattle.chord_rules.specs.ClassKeys.{differing, hiding, misfitting, header_keys, constructor_keys, chord_keys, chord_limits, keys_of_member, name_keys, place_keys, method_limits, chord_places, inner_keys, class_keys, classes_keys, program_keys}
+use Rattle.chord_rules.proofs.Tokens.{tokens_of, tokens_joined, tokens_flat, tokens_keys}
 
 -- a list, if two rules are one
 abbrev of : ℕ → ℕ → List ℕ → List ℕ
 of rule other xs = cond (nat_eq other rule) xs []
 
 two : (r : ℕ) (xs ys us vs : List ℕ) → tokens_of r xs ≡ us → tokens_of r ys ≡ vs → tokens_of r (xs ++ ys) ≡ us ++ vs
-two r xs ys us vs e f = tokens_append r xs ys ∙ ap (λ z. z ++ tokens_of r ys) e ∙ ap (λ z. us ++ z) f
+two r xs ys us vs e f = tokens_joined r xs ys ∙ ap (λ z. z ++ tokens_of r ys) e ∙ ap (λ z. us ++ z) f
 
 -- the tokens of a rule at a header
 abbrev at_header : ℕ → List HeaderTree → List Method → HeaderTree → List ℕ
@@ -50,14 +50,14 @@ four : (r a b c d : ℕ) (ks ls ms ns : List ℕ) → a < 32 → b < 32 → c < 
 four r a b c d ks ls ms ns la lb lc ld =
     two r (keys a ks) _ _ _ (tokens_keys r a ks la) (two r (keys b ls) _ _ _ (tokens_keys r b ls lb) (two r (keys c ms) (keys d ns) _ _ (tokens_keys r c ms lc) (tokens_keys r d ns ld)))
 
-member_is : (r : ℕ) (m : MemberTree) → tokens_of r (member_keys m) ≡ at_member r m
+member_is : (r : ℕ) (m : MemberTree) → tokens_of r (keys_of_member m) ≡ at_member r m
 member_is r (ConstructorMember modifiers name formals body) =
     four r 21 8 4 4 (barred_among OnConstructor modifiers [] modifiers) (repeated_formals [] formals.parameters) (drop 8 (formal_tokens formals.parameters)) (drop 256 (block_names body)) (omega arith) (omega arith) (omega arith) (omega arith)
 member_is r (ChordMember hs body) =
     two r (chord_keys hs) (chord_limits hs body) _ _
     (four r 21 7 6 8 (flat_map (header_barred (length hs)) hs) (repeated [] hs) (second_sync false hs) (repeated_formals [] (flat_map header_formals hs)) (omega arith) (omega arith) (omega arith) (omega arith))
     (two r (keys 4 (drop 8 (header_tokens hs))) _ _ _ (tokens_keys r 4 (drop 8 (header_tokens hs)) (omega arith))
-     (two r (keys 4 (flat_map crowded_formals hs)) (keys 4 (drop 256 (block_names body))) _ _ (tokens_keys r 4 (flat_map crowded_formals hs) (omega arith)) (tokens_keys r 4 (drop 256 (block_names body)) (omega arith))))
+    (two r (keys 4 (flat_map crowded_formals hs)) (keys 4 (drop 256 (block_names body))) _ _ (tokens_keys r 4 (flat_map crowded_formals hs) (omega arith)) (tokens_keys r 4 (drop 256 (block_names body)) (omega arith))))
 
 -- the tokens of a rule at a class
 abbrev at_class : ℕ → List ClassTree → List Shape → List ClassOf → ClassTree → List ℕ
@@ -73,13 +73,13 @@ class_is r classes done plans c =
     two r (name_keys classes done c) _ _ _
     (four r 1 3 12 12 (declared_again done c) (base_missing done c) (misnamed_constructors c.name.text c.members) (base_token c.base (base_has classes (base_of done c))) (omega arith) (omega arith) (omega arith) (omega arith))
     (two r (place_keys done c) _ _ _
-     (two r (keys 4 (when (nat_le 1024 (length done)) c.name.at)) (keys 4 (base_token c.base (nat_lt 16 (length (from_base done (base_of done c)))))) _ _ (tokens_keys r 4 _ (omega arith)) (tokens_keys r 4 _ (omega arith)))
-     (two r (keys 4 (method_limits done c)) _ _ _ (tokens_keys r 4 (method_limits done c) (omega arith))
-      (two r (flat_map member_keys c.members) _ _ _ (tokens_flat r member_keys (at_member r) (member_is r) c.members)
-       (two r (keys 4 (chord_places plans (base_of done c) c.members)) _ _ _ (tokens_keys r 4 (chord_places plans (base_of done c) c.members) (omega arith))
-        (two r (flat_map (header_keys (headers_of c) (inherited done (base_of done c))) (headers_of c)) (keys 11 (split done plans c)) _ _
-         (tokens_flat r (header_keys (headers_of c) (inherited done (base_of done c))) (at_header r (headers_of c) (inherited done (base_of done c))) (header_is r (headers_of c) (inherited done (base_of done c))) (headers_of c))
-         (tokens_keys r 11 (split done plans c) (omega arith)))))))
+    (two r (keys 4 (when (nat_le 1024 (length done)) c.name.at)) (keys 4 (base_token c.base (nat_lt 16 (length (from_base done (base_of done c)))))) _ _ (tokens_keys r 4 _ (omega arith)) (tokens_keys r 4 _ (omega arith)))
+    (two r (keys 4 (method_limits done c)) _ _ _ (tokens_keys r 4 (method_limits done c) (omega arith))
+    (two r (flat_map keys_of_member c.members) _ _ _ (tokens_flat r keys_of_member (at_member r) (member_is r) c.members)
+    (two r (keys 4 (chord_places plans (base_of done c) c.members)) _ _ _ (tokens_keys r 4 (chord_places plans (base_of done c) c.members) (omega arith))
+    (two r (flat_map (header_keys (headers_of c) (inherited done (base_of done c))) (headers_of c)) (keys 11 (split done plans c)) _ _
+    (tokens_flat r (header_keys (headers_of c) (inherited done (base_of done c))) (at_header r (headers_of c) (inherited done (base_of done c))) (header_is r (headers_of c) (inherited done (base_of done c))) (headers_of c))
+    (tokens_keys r 11 (split done plans c) (omega arith)))))))
 
 -- the tokens of a rule over the classes of a program
 tokens_over : (r : ℕ) (f g : List Shape → List ClassOf → ClassTree → List ℕ) → ((done : List Shape) (plans : List ClassOf) (c : ClassTree) → tokens_of r (f done plans c) ≡ g done plans c)
@@ -152,11 +152,11 @@ class_12 classes done plans c = class_is 12 classes done plans c ∙ alone (wron
 class_4 : (classes : List ClassTree) (done : List Shape) (plans : List ClassOf) (c : ClassTree) → tokens_of 4 (class_keys classes done plans c) ≡ limits_passed done plans c
 class_4 classes done plans c =
     class_is 4 classes done plans c ∙ append_assoc (when (nat_le 1024 (length done)) c.name.at) (base_token c.base (nat_lt 16 (length (from_base done (base_of done c)))))
-        (method_limits done c ++ (flat_map (at_member 4) c.members ++ (chord_places plans (base_of done c) c.members ++ (flat_map (at_header 4 (headers_of c) (inherited done (base_of done c))) (headers_of c) ++ []))))
+    (method_limits done c ++ (flat_map (at_member 4) c.members ++ (chord_places plans (base_of done c) c.members ++ (flat_map (at_header 4 (headers_of c) (inherited done (base_of done c))) (headers_of c) ++ []))))
     ∙ ap (λ z. when (nat_le 1024 (length done)) c.name.at ++ (base_token c.base (nat_lt 16 (length (from_base done (base_of done c)))) ++ (method_limits done c ++ (z ++ (chord_places plans (base_of done c) c.members ++ (flat_map (at_header 4 (headers_of c) (inherited done (base_of done c))) (headers_of c) ++ []))))))
-        (flat_same (at_member 4) member_limits said c.members)
+    (flat_same (at_member 4) member_limits said c.members)
     ∙ ap (λ z. when (nat_le 1024 (length done)) c.name.at ++ (base_token c.base (nat_lt 16 (length (from_base done (base_of done c)))) ++ (method_limits done c ++ (flat_map member_limits c.members ++ (chord_places plans (base_of done c) c.members ++ (z ++ []))))))
-        (no_header 4 (headers_of c) (inherited done (base_of done c)) (λ h. refl))
+    (no_header 4 (headers_of c) (inherited done (base_of done c)) (λ h. refl))
     ∙ ap (λ z. when (nat_le 1024 (length done)) c.name.at ++ (base_token c.base (nat_lt 16 (length (from_base done (base_of done c)))) ++ (method_limits done c ++ (flat_map member_limits c.members ++ z)))) (append-nil (chord_places plans (base_of done c) c.members))
   where
     said : (m : MemberTree) → at_member 4 m ≡ member_limits m

@@ -16,14 +16,14 @@ tokens_of rule [] = []
 tokens_of rule (key ∷ more) = token_of rule key ++ tokens_of rule more
 
 -- the tokens of two lists joined
-pub tokens_append : (rule : ℕ) (xs ys : List ℕ) → tokens_of rule (xs ++ ys) ≡ tokens_of rule xs ++ tokens_of rule ys
-tokens_append rule [] ys = refl
-tokens_append rule (x ∷ xs) ys = ap (λ z. token_of rule x ++ z) (tokens_append rule xs ys) ∙ sym (append_assoc (token_of rule x) (tokens_of rule xs) (tokens_of rule ys))
+pub tokens_joined : (rule : ℕ) (xs ys : List ℕ) → tokens_of rule (xs ++ ys) ≡ tokens_of rule xs ++ tokens_of rule ys
+tokens_joined rule [] ys = refl
+tokens_joined rule (x ∷ xs) ys = ap (λ z. token_of rule x ++ z) (tokens_joined rule xs ys) ∙ sym (append_assoc (token_of rule x) (tokens_of rule xs) (tokens_of rule ys))
 
 -- the tokens of lists laid together
 pub tokens_flat : {A : Type 0} (rule : ℕ) (f g : A → List ℕ) → ((x : A) → tokens_of rule (f x) ≡ g x) → (xs : List A) → tokens_of rule (flat_map f xs) ≡ flat_map g xs
 tokens_flat rule f g e [] = refl
-tokens_flat rule f g e (x ∷ xs) = tokens_append rule (f x) (flat_map f xs) ∙ ap (λ z. z ++ tokens_of rule (flat_map f xs)) (e x) ∙ ap (λ z. g x ++ z) (tokens_flat rule f g e xs)
+tokens_flat rule f g e (x ∷ xs) = tokens_joined rule (f x) (flat_map f xs) ∙ ap (λ z. z ++ tokens_of rule (flat_map f xs)) (e x) ∙ ap (λ z. g x ++ z) (tokens_flat rule f g e xs)
 
 token_at : (rule other at : ℕ) → other < 32 → token_of rule (32 * at + other) ≡ cond (nat_eq other rule) (at ∷ []) []
 token_at rule other at l =

@@ -49,9 +49,9 @@ abbrev pub chord_limits : List HeaderTree → BlockTree → List ℕ
 chord_limits headers body = keys 4 (drop 8 (header_tokens headers)) ++ (keys 4 (flat_map crowded_formals headers) ++ keys 4 (drop 256 (block_names body)))
 
 -- what a member breaks
-abbrev pub member_keys : MemberTree → List ℕ
-member_keys (ConstructorMember modifiers name formals body) = constructor_keys modifiers formals.parameters body
-member_keys (ChordMember headers body) = chord_keys headers ++ chord_limits headers body
+abbrev pub keys_of_member : MemberTree → List ℕ
+keys_of_member (ConstructorMember modifiers name formals body) = constructor_keys modifiers formals.parameters body
+keys_of_member (ChordMember headers body) = chord_keys headers ++ chord_limits headers body
 
 -- what a class breaks of the rules on names of classes, bases and constructors
 abbrev pub name_keys : List ClassTree → List Shape → ClassTree → List ℕ
@@ -74,7 +74,7 @@ chord_places plans base members = drop (256 - length (base_chords plans base)) (
 -- what a class breaks by its members and their headers
 abbrev pub inner_keys : List Shape → List ClassOf → ClassTree → List ℕ
 inner_keys done plans class =
-    flat_map member_keys class.members ++ (keys 4 (chord_places plans (base_of done class) class.members)
+    flat_map keys_of_member class.members ++ (keys 4 (chord_places plans (base_of done class) class.members)
     ++ (flat_map (header_keys (headers_of class) (inherited done (base_of done class))) (headers_of class) ++ keys 11 (split done plans class)))
 
 -- what a class breaks, after those declared before it

@@ -21,11 +21,13 @@ module _ (chords : List ChordOf) (taken : List ℕ) (methods : List Method) wher
   any_labelled header [] = false
   any_labelled header (other ∷ more) = nat_eq (label chords (header_number methods header)) (label chords (header_number methods other)) || any_labelled header more
 
+  -- the first headers of groups that are not overridden whole, behind others
   abbrev pub split_from : List HeaderTree → List HeaderTree → List ℕ
   split_from before [] = []
   split_from before (header ∷ more) =
       when (not (any_labelled header before) && any_spared (header_number methods header) (length methods)) header.name.at ++ split_from (before ++ (header ∷ [])) more
 
+-- the first overriding headers of the groups of its base that a class overrides in part
 abbrev pub split : List Shape → List ClassOf → ClassTree → List ℕ
 split done plans class =
     split_from (base_chords plans (base_of done class)) (overridden (inherited done (base_of done class)) (headers_of class)) (inherited done (base_of done class)) [] (overriding (inherited done (base_of done class)) (headers_of class))

@@ -28,7 +28,10 @@ fn same_written(left: &ValueType, right: &ValueType) -> bool
 {
     match left {
         ValueType::Basic { basic, at: _ } => match right {
-            ValueType::Basic { basic: other, at: _ } => same_basic(*basic, *other),
+            ValueType::Basic {
+                basic: other,
+                at: _,
+            } => same_basic(*basic, *other),
             ValueType::Class(_) => false,
         },
         ValueType::Class(name) => match right {
@@ -110,7 +113,10 @@ pub fn may_override(header: &Header, found: Option<Found>) -> bool
     if !same_result(&method.header.result_type, &header.result_type) {
         return false;
     }
-    if !same_parameters(&method.header.formals.parameters, &header.formals.parameters) {
+    if !same_parameters(
+        &method.header.formals.parameters,
+        &header.formals.parameters,
+    ) {
         return false;
     }
     if !may_be_overridden(method.header) {

@@ -36,12 +36,7 @@ use std::alloc::{AllocError, Global};
 const MAX_CHORDS: usize = 256;
 
 /// Notes what a class breaks of the rules on names of classes, bases and constructors.
-fn names_break(
-    classes: &[Class],
-    table: &Table,
-    class: &Class,
-    breaks: &mut Least,
-)
+fn names_break(classes: &[Class], table: &Table, class: &Class, breaks: &mut Least)
     ensures { breaks.new.found ≡ least breaks.old.found (name_keys (map see_class classes.now) table.now (see_class class.now)) }
 {
     declared_again(table, class, breaks);
@@ -123,7 +118,15 @@ fn class_breaks<'a>(
     names_break(classes, table, class, breaks);
     places_break(table, &progress.depths, class, breaks)?;
     let own = own_methods(alloc, table, base, owner, &class.members, breaks)?;
-    inner_breaks(alloc, table, &progress.plans, class, &firsts, &taken, breaks)?;
+    inner_breaks(
+        alloc,
+        table,
+        &progress.plans,
+        class,
+        &firsts,
+        &taken,
+        breaks,
+    )?;
     Ok(Looked { own, taken })
 }
 
@@ -168,7 +171,9 @@ fn with_class<'a>(
     let inherited = chords_without(alloc, &taken, base_chords(&plans, base))?;
     depths.push(base_depth(&depths, base)?)?;
     let table = table.with(class, base, own, first_builder(&class.members))?;
-    let plan = class_plan(alloc, &table, owner, base, class, methods, inherited, number)?;
+    let plan = class_plan(
+        alloc, &table, owner, base, class, methods, inherited, number,
+    )?;
     plans.push(plan)?;
     let number = after(number, member_count(class))?;
     Ok(Progress {

@@ -53,7 +53,12 @@ fn first(joined: &[u32]) -> u32
 }
 
 /// Labels that stand in a list become its first.
-fn relabel(alloc: Global, labels: &[u32], joined: &[u32], first: u32) -> Result<Vec<u32>, AllocError>
+fn relabel(
+    alloc: Global,
+    labels: &[u32],
+    joined: &[u32],
+    first: u32,
+) -> Result<Vec<u32>, AllocError>
     ensures { IfOk result (λ v. v.items ≡ map (relabelled joined.now first) labels.now) }
 {
     let mut changed = Vec::new(alloc);

@@ -5,7 +5,7 @@ ghost use Rattle.std.specs.Prelude.{◌≡◌, ◌++◌, OnOk, map, flat_map};
 ghost use Rattle.chord_tree.specs.View.{see_header, see_member};
 ghost use Rattle.chord_tree.specs.ViewStmts.{see_block};
 ghost use Rattle.chord_classes.specs.Least.{least};
-ghost use Rattle.chord_rules.specs.ClassKeys.{constructor_keys, chord_keys, chord_limits, member_keys};
+ghost use Rattle.chord_rules.specs.ClassKeys.{constructor_keys, chord_keys, chord_limits, keys_of_member};
 
 use crate::chords::{repeated_methods, second_synchronous};
 use crate::formals::{formals_again, headers_again};
@@ -36,11 +36,7 @@ fn constructor_breaks(
 }
 
 /// Notes what a chord breaks as a whole.
-fn chord_breaks(
-    alloc: Global,
-    headers: &[Header],
-    breaks: &mut Least,
-) -> Result<(), AllocError>
+fn chord_breaks(alloc: Global, headers: &[Header], breaks: &mut Least) -> Result<(), AllocError>
     ensures { OnOk result (breaks.new.found ≡ least breaks.old.found (chord_keys (map see_header headers.now))) }
 {
     headers_barred(headers, breaks);
@@ -75,7 +71,7 @@ fn whole_chord_breaks(
 
 /// Notes what a member breaks.
 fn member_breaks(alloc: Global, member: &Member, breaks: &mut Least) -> Result<(), AllocError>
-    ensures { OnOk result (breaks.new.found ≡ least breaks.old.found (member_keys (see_member member.now))) }
+    ensures { OnOk result (breaks.new.found ≡ least breaks.old.found (keys_of_member (see_member member.now))) }
 {
     match member {
         Member::Constructor {
@@ -95,7 +91,7 @@ pub fn members_break(
     members: &[Member],
     breaks: &mut Least,
 ) -> Result<(), AllocError>
-    ensures { OnOk result (breaks.new.found ≡ least breaks.old.found (flat_map member_keys (map see_member members.now))) }
+    ensures { OnOk result (breaks.new.found ≡ least breaks.old.found (flat_map keys_of_member (map see_member members.now))) }
 {
     for member in members {
         member_breaks(alloc, member, breaks)?;

@@ -68,8 +68,10 @@ fn is_barred(bearer: Bearer, seen: Seen, open_access: bool, keyword: ModifierKey
         ModifierKeyword::Protected => seen.access,
         ModifierKeyword::Private => seen.access,
         ModifierKeyword::Static => seen.of_static | (seen.of_virtual | !bears_static(bearer)),
-        ModifierKeyword::Virtual => seen.of_virtual | (seen.of_static | (!bears_virtual(bearer) | !open_access)),
-        ModifierKeyword::Override => seen.of_virtual | (seen.of_static | (!bears_virtual(bearer) | !open_access)),
+        ModifierKeyword::Virtual => seen.of_virtual
+            | (seen.of_static | (!bears_virtual(bearer) | !open_access)),
+        ModifierKeyword::Override => seen.of_virtual
+            | (seen.of_static | (!bears_virtual(bearer) | !open_access)),
     }
 }
 
@@ -78,12 +80,30 @@ fn seen_with(seen: Seen, keyword: ModifierKeyword) -> Seen
     ensures { result ≡ seen_with seen keyword }
 {
     match keyword {
-        ModifierKeyword::Public => Seen { access: true, ..seen },
-        ModifierKeyword::Protected => Seen { access: true, ..seen },
-        ModifierKeyword::Private => Seen { access: true, ..seen },
-        ModifierKeyword::Static => Seen { of_static: true, ..seen },
-        ModifierKeyword::Virtual => Seen { of_virtual: true, ..seen },
-        ModifierKeyword::Override => Seen { of_virtual: true, ..seen },
+        ModifierKeyword::Public => Seen {
+            access: true,
+            ..seen
+        },
+        ModifierKeyword::Protected => Seen {
+            access: true,
+            ..seen
+        },
+        ModifierKeyword::Private => Seen {
+            access: true,
+            ..seen
+        },
+        ModifierKeyword::Static => Seen {
+            of_static: true,
+            ..seen
+        },
+        ModifierKeyword::Virtual => Seen {
+            of_virtual: true,
+            ..seen
+        },
+        ModifierKeyword::Override => Seen {
+            of_virtual: true,
+            ..seen
+        },
     }
 }
 

@@ -70,12 +70,7 @@ fn header_breaks(
 }
 
 /// Notes what the headers of a class break of the rules on headers of one name.
-pub fn headers_break(
-    table: &Table,
-    base: Option<u32>,
-    firsts: &FirstHeaders,
-    breaks: &mut Least,
-)
+pub fn headers_break(table: &Table, base: Option<u32>, firsts: &FirstHeaders, breaks: &mut Least)
     ensures { breaks.new.found ≡ least breaks.old.found (flat_map (header_keys (map see_lent firsts.now.all.items) (inherited table.now base)) (map see_lent firsts.now.all.items)) }
 {
     for header in firsts.all.as_slice() {

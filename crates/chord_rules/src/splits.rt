@@ -57,12 +57,7 @@ pub fn overridden(
 }
 
 /// Whether one of the first methods has this label, and is not overridden.
-fn any_spared(
-    labels: &[u32],
-    taken: &[u32],
-    label: u32,
-    count: usize,
-) -> Result<bool, AllocError>
+fn any_spared(labels: &[u32], taken: &[u32], label: u32, count: usize) -> Result<bool, AllocError>
     ensures { IfOk result (λ spared. spared ≡ spared_below (slice_index labels.now) taken.now label count) }
 {
     let mut left = count;

@@ -5,7 +5,7 @@ use Rattle.chord_classes.specs.Plan.{plans_after}
 use Rattle.chord_classes.specs.ChordRules.{over_plans}
 use Rattle.chord_classes.specs.Least.{least}
 use Rattle.chord_rules.specs.ClassKeys.{class_keys}
-use Rattle.chord_rules.proofs.Search.{step}
+use Rattle.chord_rules.proofs.Search.{item_by_item}
 use Rattle.chord_rules.proofs.ClassNotes.{next_class, next_plans}
 use Rattle.chord_rules.proofs.classes.look.Goals as goal
 
@@ -19,8 +19,8 @@ loop-class-preserved c =
     let next = c.in_ok-progress.ensures in
     record {
       alike = next.alike;
-      planned = step (λ cs. plans_after before.table plans before.number (map see_class cs)) c.args.classes.now c.loop-class.class-index c.class-item.result _ _ c.loop-class-test.true c.class-item.is
+      planned = item_by_item (λ cs. plans_after before.table plans before.number (map see_class cs)) c.args.classes.now c.loop-class.class-index c.class-item.result _ _ c.loop-class-test.true c.class-item.is
           (next_plans before.table _ plans _ before.number _ class rest next.table next.plans next.number) c.loop-class.invariant.planned;
-      noted = step (λ cs. least c.loop-class.breaks.found (over_plans rule before.table plans before.number (map see_class cs))) c.args.classes.now c.loop-class.class-index c.class-item.result _ _ c.loop-class-test.true c.class-item.is
+      noted = item_by_item (λ cs. least c.loop-class.breaks.found (over_plans rule before.table plans before.number (map see_class cs))) c.args.classes.now c.loop-class.class-index c.class-item.result _ _ c.loop-class-test.true c.class-item.is
           (next_class rule before.table _ plans _ before.number _ class rest c.loop-class.breaks.found _ next.table next.plans next.number c.in_ok-looked.ensures.noted) c.loop-class.invariant.noted;
     }

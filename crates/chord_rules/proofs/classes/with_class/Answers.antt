@@ -19,13 +19,13 @@ returns c =
     let table = c.in_ok-table.ensures in
     let methods = ap (λ z. methods_at z c.in_ok-owner.owner) table ∙ ap (methods_at (done ++ (shape_of done class ∷ []))) owner ∙ last_methods done (shape_of done class) in
     let own = c.in_ok-methods.ensures
-        ∙ ap (λ z. base_methods (map view_class_plan z) c.base_of-base.result ++ map method_plan (map see_method c.deref-2.result.now)) c.deref.ensures.value
-        ∙ ap (λ z. base_methods plans c.base_of-base.result ++ map method_plan (map see_method z)) c.deref-2.ensures.value
-        ∙ ap (λ z. base_methods plans z ++ map method_plan (map see_method c.args.looked.own.all.items)) base
-        ∙ methods_planned done plans class c.args.looked.own.all.items c.requires.alike.methods c.requires.own in
+    ∙ ap (λ z. base_methods (map view_class_plan z) c.base_of-base.result ++ map method_plan (map see_method c.deref-2.result.now)) c.deref.ensures.value
+    ∙ ap (λ z. base_methods plans c.base_of-base.result ++ map method_plan (map see_method z)) c.deref-2.ensures.value
+    ∙ ap (λ z. base_methods plans z ++ map method_plan (map see_method c.args.looked.own.all.items)) base
+    ∙ methods_planned done plans class c.args.looked.own.all.items c.requires.alike.methods c.requires.own in
     let chords = c.in_ok-inherited.ensures
-        ∙ ap (λ z. chords_without z (map view_chord_plan c.base_chords.result.now)) (c.deref-3.ensures.value ∙ c.requires.taken)
-        ∙ ap (chords_without _) (c.base_chords.ensures ∙ ap (λ z. base_chords (map view_class_plan z) c.base_of-base.result) c.deref-4.ensures.value ∙ ap (base_chords plans) base) in
+    ∙ ap (λ z. chords_without z (map view_chord_plan c.base_chords.result.now)) (c.deref-3.ensures.value ∙ c.requires.taken)
+    ∙ ap (chords_without _) (c.base_chords.ensures ∙ ap (λ z. base_chords (map view_class_plan z) c.base_of-base.result) c.deref-4.ensures.value ∙ ap (base_chords plans) base) in
     let plan = c.in_ok-plan.ensures ∙ plan_by_parts done plans c.args.progress.number class _ _ _ _ methods base own chords in
     let after = ap (map view_class_plan) c.in_ok-push-2.ensures.items ∙ map_end view_class_plan c.args.progress.plans.items c.in_ok-plan.plan ∙ ap (λ z. plans ++ (z ∷ [])) plan in
     record {

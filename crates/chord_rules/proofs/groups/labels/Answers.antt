@@ -1,14 +1,14 @@
 use Rattle.std.proofs.Common.{map, ◌≡◌, ◌-◌, ◌+◌, length, sym, ap, ◌∙◌, arith}
 use Rattle.chord_rules.specs.Labels.{labels_of, merged_all}
 use Rattle.chord_bodies.specs.View.{view_chord_plan}
-use Rattle.chord_rules.proofs.Search.{past}
+use Rattle.chord_rules.proofs.Search.{behind_end}
 use Rattle.chord_rules.proofs.Labels.{no_chords, labels_more}
 use Rattle.chord_rules.proofs.groups.labels.Goals as goal
 
 pub loop-left-init : goal.loop-left-init
 loop-left-init c = record {
   within = omega arith;
-  so_far = c.in_ok-found.ensures ∙ no_chords c.args.count ∙ ap (λ z. labels_of c.args.count (map view_chord_plan z)) (sym (past c.args.chords.now (length c.args.chords.now) (omega arith)));
+  so_far = c.in_ok-found.ensures ∙ no_chords c.args.count ∙ ap (λ z. labels_of c.args.count (map view_chord_plan z)) (sym (behind_end c.args.chords.now (length c.args.chords.now) (omega arith)));
 }
 
 pub loop-left-preserved : goal.loop-left-preserved

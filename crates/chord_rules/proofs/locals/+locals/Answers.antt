@@ -5,7 +5,7 @@ use Rattle.chord_tree.proofs.SeenStmts.{seen_stmt_assign, seen_stmt_call, seen_s
 use Rattle.chord_tree.proofs.Weights.{total, one_of}
 use Rattle.chord_tree.proofs.WeightsStmts.{weigh_item, weigh_stmt, of_block, of_if, of_if_else, of_while, of_plain, of_braces}
 use Rattle.chord_classes.specs.ChordRules.{block_names, items_names, stmt_names}
-use Rattle.chord_rules.proofs.Search.{item_at, past}
+use Rattle.chord_rules.proofs.Search.{item_here, behind_end}
 use Rattle.chord_rules.proofs.Rooms.{takes_none, takes_both, takes_one, takes_as}
 use Rattle.chord_rules.proofs.NamesInBodies.{item_and_more, stmt_item}
 use Rattle.chord_rules.proofs.locals.+locals.Goals as goal
@@ -18,10 +18,10 @@ items_past-each-init t c = λ over p h. h
 
 pub items_past-each-preserved : goal.items_past-each-preserved
 items_past-each-preserved t c = λ over p h. c.each.invariant over p
-    (takes_as (ap (λ z. items_names (items (map see_item z))) (item_at c.args.list.now _ _ c.each-test.true c.item-item.is) ∙ item_and_more (see_item c.item-item.result) (items (map see_item (drop (c.each.item-index + 1) c.args.list.now)))) (takes_both c.item_past.ensures h))
+    (takes_as (ap (λ z. items_names (items (map see_item z))) (item_here c.args.list.now _ _ c.each-test.true c.item-item.is) ∙ item_and_more (see_item c.item-item.result) (items (map see_item (drop (c.each.item-index + 1) c.args.list.now)))) (takes_both c.item_past.ensures h))
 
 pub items_past-returns : goal.items_past-returns
-items_past-returns t c = c.each.invariant _ _ (takes_as (ap (λ z. items_names (items (map see_item z))) (past c.args.list.now _ c.each-test.false)) takes_none)
+items_past-returns t c = c.each.invariant _ _ (takes_as (ap (λ z. items_names (items (map see_item z))) (behind_end c.args.list.now _ c.each-test.false)) takes_none)
 
 pub item_past-returns-in-Local : goal.item_past-returns-in-Local
 item_past-returns-in-Local t c =

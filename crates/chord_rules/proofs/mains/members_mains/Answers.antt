@@ -6,7 +6,7 @@ use Rattle.chord_rules.proofs.MainHeaders.{mains_in}
 use Rattle.chord_classes.specs.Least.{least, keys}
 use Rattle.chord_rules.specs.Mains.{wrong_from, some_main}
 use Rattle.chord_rules.proofs.MainHeaders.{next_mains, next_seen}
-use Rattle.chord_rules.proofs.Search.{step}
+use Rattle.chord_rules.proofs.Search.{item_by_item}
 use Rattle.chord_rules.proofs.mains.members_mains.Goals as goal
 
 pub loop-member-preserved : goal.loop-member-preserved
@@ -17,8 +17,8 @@ loop-member-preserved c =
     let after = c.headers_mains-seen.ensures.seen ∙ ap (λ z. seen || some_main z) (mains_in (see_member c.member-item.result) (map see_header c.headers_of.result.now) c.headers_of.ensures) in
     let noted = c.headers_mains-seen.ensures.noted ∙ ap (λ z. least c.loop-member.breaks.found (keys 13 (wrong_from seen z))) (mains_in (see_member c.member-item.result) (map see_header c.headers_of.result.now) c.headers_of.ensures) in
     record {
-      noted = step (λ xs. least c.loop-member.breaks.found (keys 13 (wrong_from seen (flat_map member_mains (map see_member xs))))) c.args.members.now c.loop-member.member-index c.member-item.result _ _ c.loop-member-test.true c.member-item.is
+      noted = item_by_item (λ xs. least c.loop-member.breaks.found (keys 13 (wrong_from seen (flat_map member_mains (map see_member xs))))) c.args.members.now c.loop-member.member-index c.member-item.result _ _ c.loop-member-test.true c.member-item.is
           (next_mains seen c.headers_mains-seen.result here rest c.loop-member.breaks.found _ after noted) c.loop-member.invariant.noted;
-      some = step (λ xs. seen || some_main (flat_map member_mains (map see_member xs))) c.args.members.now c.loop-member.member-index c.member-item.result _ _ c.loop-member-test.true c.member-item.is
+      some = item_by_item (λ xs. seen || some_main (flat_map member_mains (map see_member xs))) c.args.members.now c.loop-member.member-index c.member-item.result _ _ c.loop-member-test.true c.member-item.is
           (next_seen seen c.headers_mains-seen.result here rest after) c.loop-member.invariant.some;
     }
