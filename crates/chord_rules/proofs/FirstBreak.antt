@@ -207,9 +207,9 @@ pub is_free : (p : ProgramTree) (o : Option ℕ) → o ≡ least None (program_k
 is_free p o e f s l m b = none_noted (program_keys p) (32 * l + s) (sym e ∙ f) (key_of s l (program_keys p) (noted p s l m b))
 
 -- what the classes are noted to break, and then `Main`, is what the program is noted to break
-pub program_noted : (p : ProgramTree) (classes : List ClassTree) (end : ℕ) (o q r : Option ℕ) → classes ≡ p.classes → end ≡ length (spelling p) → o ≡ None
-    → q ≡ least o (over_plans (class_keys classes) [] [] 0 classes) → r ≡ least q (keys 13 (wrong_mains (mains_of classes) end)) → r ≡ least None (program_keys p)
-program_noted p classes end o q r c e n hq hr =
+pub program_noted : (p : ProgramTree) (classes : List ClassTree) (end : ℕ) (q r : Option ℕ) → classes ≡ p.classes → end ≡ length (spelling p)
+    → q ≡ least None (over_plans (class_keys classes) [] [] 0 classes) → r ≡ least q (keys 13 (wrong_mains (mains_of classes) end)) → r ≡ least None (program_keys p)
+program_noted p classes end q r c e hq hr =
     noted_two None q r (classes_keys p) (keys 13 (wrong_mains (mains_of p.classes) (length (spelling p))))
-    (hq ∙ ap (λ z. least z (over_plans (class_keys classes) [] [] 0 classes)) n ∙ ap (λ z. least None (over_plans (class_keys z) [] [] 0 z)) c)
+    (hq ∙ ap (λ z. least None (over_plans (class_keys z) [] [] 0 z)) c)
     (hr ∙ ap (λ z. least q (keys 13 (wrong_mains (mains_of z) end))) c ∙ ap (λ z. least q (keys 13 (wrong_mains (mains_of p.classes) z))) e)

@@ -6,7 +6,9 @@ mod NamesBefore
 mod MainHeaders
 mod ClassPlans
 mod ClassNotes
+mod Within
 mod Tokens
+mod Stopping
 mod RuleTokens
 mod FirstBreak
 mod Barred

@@ -1,6 +1,8 @@
 -- The one pass over the classes: one more class.
-use Rattle.std.specs.Prelude.{◌≡◌, ◌+◌, [], ◌∷◌, ◌++◌, map, length}
+use Rattle.std.specs.Prelude.{◌≡◌, ℕ, ◌+◌, List, [], ◌∷◌, ◌++◌, map, length}
 use Rattle.chord_tree.specs.Tree.{ClassTree}
+use Rattle.chord_tree.specs.Node.{IsNumbered}
+use Rattle.chord_tree.specs.ClassNodes.{node_classes}
 use Rattle.chord_bodies.specs.View.{view_class_plan}
 use Rattle.chord_classes.specs.Table.{shape_of}
 use Rattle.chord_classes.specs.Plan.{class_plan}
@@ -13,3 +15,7 @@ pub record IsNext (before : Progress) (class : ClassTree) (next : Progress) : Ty
   pub plans : map view_class_plan next.plans.items ≡ map view_class_plan before.plans.items ++ (class_plan before.table (map view_class_plan before.plans.items) before.number class ∷ [])
   pub number : next.number ≡ before.number + length class.members
   pub alike : AreAlike next.table (map view_class_plan next.plans.items) next.depths.items
+
+-- Each number in classes is the place of its token, where the first stands at some place.
+abbrev pub ClassesNumbered : List ClassTree → Type 0
+ClassesNumbered classes = (at : ℕ) × IsNumbered (node_classes classes) at

@@ -1,7 +1,7 @@
 //! The one pass over the classes of a program: what each breaks, and its plan.
 #![tactic(auto)]
 
-ghost use Rattle.std.specs.Prelude.{◌≡◌, ◌-◌, [], IfOk, OnOk, map, length};
+ghost use Rattle.std.specs.Prelude.{◌≡◌, ◌-◌, [], None, IfOk, OnOk, map, length};
 ghost use Rattle.chord_tree.specs.View.{see_class};
 ghost use Rattle.chord_tree.specs.Walk.{headers_of};
 ghost use Rattle.chord_bodies.specs.View.{view_chord_plan, view_class_plan};
@@ -13,7 +13,7 @@ ghost use Rattle.chord_classes.specs.Least.{least};
 ghost use Rattle.chord_rules.specs.ClassKeys.{name_keys, place_keys, inner_keys, class_keys};
 ghost use Rattle.chord_rules.specs.FirstHeaders.{see_lent};
 ghost use Rattle.chord_rules.specs.Planning.{AreAlike, depths_of};
-ghost use Rattle.chord_rules.specs.Passing.{IsNext};
+ghost use Rattle.chord_rules.specs.Passing.{IsNext, ClassesNumbered};
 
 use crate::class_plan::{base_chords, chords_without, class_plan, method_plans};
 use crate::declarations::{base_built, base_missing, declared_again, misnamed_constructors};
@@ -184,14 +184,19 @@ fn with_class<'a>(
     })
 }
 
-/// The plans of classes; notes what they break.
+/// The plans of classes, if they break no rule; notes the least break of the first class that breaks one.
+///
+/// It goes no further: all that a later class breaks stands behind that, and the classes before are within the limits,
+/// so that no look-up is long and no list that a class inherits.
 pub fn look<'a>(
     alloc: Global,
     classes: &'a [Class],
     breaks: &mut Least,
 ) -> Result<Vec<ClassPlan>, AllocError>
-    ensures plans { IfOk result (λ plans. map view_class_plan plans.items ≡ plans_after [] [] 0 (map see_class classes.now)) }
-    ensures noted { OnOk result (breaks.new.found ≡ least breaks.old.found (over_plans (class_keys (map see_class classes.now)) [] [] 0 (map see_class classes.now))) }
+    requires none { breaks.old.found ≡ None }
+    requires numbered { ClassesNumbered (map see_class classes.now) }
+    ensures plans { IfOk result (λ plans. breaks.new.found ≡ None → map view_class_plan plans.items ≡ plans_after [] [] 0 (map see_class classes.now)) }
+    ensures noted { OnOk result (breaks.new.found ≡ least None (over_plans (class_keys (map see_class classes.now)) [] [] 0 (map see_class classes.now))) }
 {
     let mut progress = Progress {
         table: Table::new(alloc),
@@ -201,6 +206,9 @@ pub fn look<'a>(
     };
     for class in classes {
         let looked = class_breaks(alloc, classes, &progress, class, breaks)?;
+        if breaks.found.is_some() {
+            return Ok(progress.plans);
+        }
         progress = with_class(alloc, progress, class, looked)?;
     }
     Ok(progress.plans)
