@@ -1,0 +1,7 @@
+use Rattle.std.proofs.Common.{◌≡◌, drop}
+use Rattle.chord_classes.specs.Table.{has_word}
+use Rattle.chord_classes.specs.ChordRules.{static_word}
+use Rattle.chord_rules.proofs.headers.is_static.Given as goal
+
+abbrev pub invariant-loop-modifier : goal.invariant-loop-modifier
+invariant-loop-modifier l = has_word static_word (drop l.modifier-index l.modifier-items) ≡ has_word static_word l.modifier-items

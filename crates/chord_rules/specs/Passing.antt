@@ -1,0 +1,21 @@
+-- The one pass over the classes: one more class.
+use Rattle.std.specs.Prelude.{◌≡◌, ℕ, ◌+◌, List, [], ◌∷◌, ◌++◌, map, length}
+use Rattle.chord_tree.specs.Tree.{ClassTree}
+use Rattle.chord_tree.specs.Node.{IsNumbered}
+use Rattle.chord_tree.specs.ClassNodes.{node_classes}
+use Rattle.chord_bodies.specs.View.{view_class_plan}
+use Rattle.chord_classes.specs.Table.{shape_of}
+use Rattle.chord_classes.specs.Plan.{class_plan}
+use Rattle.chord_rules.specs.declared.classes.Progress.{Progress}
+use Rattle.chord_rules.specs.Planning.{AreAlike}
+
+-- The pass went on by one class.
+pub record IsNext (before : Progress) (class : ClassTree) (next : Progress) : Type 0 where
+  pub table : next.table ≡ before.table ++ (shape_of before.table class ∷ [])
+  pub plans : map view_class_plan next.plans.items ≡ map view_class_plan before.plans.items ++ (class_plan before.table (map view_class_plan before.plans.items) before.number class ∷ [])
+  pub number : next.number ≡ before.number + length class.members
+  pub alike : AreAlike next.table (map view_class_plan next.plans.items) next.depths.items
+
+-- Each number in classes is the place of its token, where the first stands at some place.
+abbrev pub ClassesNumbered : List ClassTree → Type 0
+ClassesNumbered classes = (at : ℕ) × IsNumbered (node_classes classes) at
