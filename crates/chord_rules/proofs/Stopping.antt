@@ -16,7 +16,7 @@ use Rattle.chord_classes.proofs.Leasts.{IsIn, in_either, least_append, is_least}
 use Rattle.chord_classes.proofs.Facts.{none_some}
 use Rattle.chord_rules.specs.ClassKeys.{class_keys}
 use Rattle.chord_rules.specs.Passing.{ClassesNumbered}
-use Rattle.chord_rules.proofs.Within.{BaseWithin, AreKeys, members_within, class_within_keys}
+use Rattle.chord_rules.proofs.Within.{BaseWithin, AreKeys, noted_within_members, class_within_keys}
 
 base_within : (lo hi : ℕ) (base : Option Name) (at : ℕ) → lo ≤ at → at + size (node_base base) ≤ hi → IsNumbered (node_base base) at → BaseWithin lo hi base
 base_within lo hi None at l u h = tt
@@ -28,7 +28,7 @@ class_keys_within classes done plans c at h =
     let e = h.1.1.0 in
     class_within_keys at (at + size (node_class c)) classes done plans c (omega (arith, e), omega (arith, e))
     (base_within at (at + size (node_class c)) c.base _ (omega arith) (omega arith) h.1.1.1.0)
-    (members_within at (at + size (node_class c)) c.members _ (omega arith) (omega arith) h.1.1.1.1.1.0)
+    (noted_within_members at (at + size (node_class c)) c.members _ (omega arith) (omega arith) h.1.1.1.1.1.0)
 
 -- what classes break stands behind their first token
 later_keys : (classes : List ClassTree) (done : List Shape) (plans : List ClassOf) (number : ℕ) (cs : List ClassTree) (at : ℕ) → IsNumbered (node_classes cs) at → (k : ℕ) → IsIn (over_plans (class_keys classes) done plans number cs) k → 32 * at ≤ k

@@ -219,9 +219,9 @@ module _ (lo hi : ℕ) where
       ((record { modifiers = modifiers_within x.modifiers at l (omega arith) h.0; named = a.named; formals = a.formals_are }, a.headers), a.block)
 
   -- the members of a class lie there
-  pub members_within : (ms : List MemberTree) (at : ℕ) → lo ≤ at → at + size (node_members ms) ≤ hi → IsNumbered (node_members ms) at → MembersWithin lo hi ms
-  members_within [] at l u h = tt
-  members_within (m ∷ ms) at l u h = (member_within m at l (omega arith) h.0, members_within ms (at + size (node_member m)) (omega arith) (omega arith) h.1.0)
+  pub noted_within_members : (ms : List MemberTree) (at : ℕ) → lo ≤ at → at + size (node_members ms) ≤ hi → IsNumbered (node_members ms) at → MembersWithin lo hi ms
+  noted_within_members [] at l u h = tt
+  noted_within_members (m ∷ ms) at l u h = (member_within m at l (omega arith) h.0, noted_within_members ms (at + size (node_member m)) (omega arith) (omega arith) h.1.0)
 
   when_within : (b : Bool) (at : ℕ) → (lo ≤ at) × (at < hi) → AreWithin lo hi (when b at)
   when_within true at r = one_within at r.0 r.1 none_within

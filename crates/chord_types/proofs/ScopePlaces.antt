@@ -90,8 +90,8 @@ last_place : (names : List (List ℕ)) (w : List ℕ) → name_place (names ++ (
 last_place names w = place_end names w w ∙ ap (λ z. or_place (name_place names w) (cond z (Some (length names)) None)) (is_itself w)
 
 -- one name more, which was not there
-pub finds_more : (m n : Places) (names : List (List ℕ)) (w : List ℕ) → FindsNames m names → found_place m w ≡ None → ((x : List ℕ) → found_place n x ≡ update bytes_eq (found_place m) w (Some (length names)) x) → FindsNames n (names ++ (w ∷ []))
-finds_more m n names w finds none updates = record {
+pub places_more : (m n : Places) (names : List (List ℕ)) (w : List ℕ) → FindsNames m names → found_place m w ≡ None → ((x : List ℕ) → found_place n x ≡ update bytes_eq (found_place m) w (Some (length names)) x) → FindsNames n (names ++ (w ∷ []))
+places_more m n names w finds none updates = record {
   each = λ x. updates x ∙ ap (cond (bytes_eq w x) (Some (length names))) (finds.each x)
       ∙ more_by (bytes_eq w x) w x (length names) (name_place names w) (name_place names x) (same_place names w x) (sym (finds.each w) ∙ none) ∙ sym (place_end names w x);
 }
