@@ -1,50 +1,66 @@
 -- Each status by its row: from the headline to the statuses one by one.
-use Rattle.std.proofs.Common.{◌≡◌, ℕ, List, Option, Some, None, refl, sym, ◌∙◌, inl, inr, arith, true, false}
+use Rattle.std.proofs.Common.{◌≡◌, ℕ, List, Option, Some, None, refl, sym, ap, subst, ◌∙◌, inl, inr, arith, true, false}
 use Rattle.std.specs.Prelude.{◌⊎◌, Bool, if◌then◌else◌}
 use Rattle.chord_base.specs.Meaning.{Program}
 use Rattle.chord_base.specs.Printed.{has_failed, main_ended, status_of}
 use Rattle.chord_base.specs.declared.event.Entry.{Entry}
+use Rattle.chord_classes.specs.Breaks.{KeepsEveryRule}
+use Rattle.chord_classes.specs.Rules.{Broken}
 use Rattle.chord_lexer.proofs.Chains.{not_both, one_list}
-use Rattle.chord_lexer.specs.declared.token.Token.{Token}
 use Rattle.chord_parser.proofs.Whole.{never_tall, not_wrong}
 use Rattle.chord_parser.specs.declared.parser.ParseFault.TheVariants as parser
+use Rattle.chord_tree.proofs.BackClasses.{only_one}
 use Rattle.chord_tree.specs.Program.{token_kinds}
+use Rattle.chord_tree.specs.Tree.{ProgramTree}
 use Rattle.chord_run.specs.Answers.{Answers, AnswersSource, IsSilence, IsSilent}
 use Rattle.chord_run.specs.Command.{Requested}
 use Rattle.chord_run.specs.Due.{HasStatus, IsDue, IsRefusalDue, IsRunDue, IsTextDue, IsTextOf}
-use Rattle.chord_run.specs.Refusals.{IsAnsweredBy, IsCause}
+use Rattle.chord_run.specs.Refusals.{IsAnsweredBy, IsBroken, IsCause}
 use Rattle.chord_run.specs.Rows.{CutsShort, Fills, Finishes, Refuses, Succeeds, WritesText}
-use Rattle.chord_run.specs.Sources.{IsAccepted, IsGrammatical}
+use Rattle.chord_run.specs.Sources.{IsAccepted, IsProgramOf}
 use Rattle.chord_run.specs.Written.{Due}
 use Rattle.chord_run.specs.declared.command.Mode.{Mode}
 use Rattle.chord_run.specs.declared.command.Mode.TheVariants.{Run}
 use Rattle.chord_run.specs.declared.command.Request.{Request}
 use Rattle.chord_run.specs.declared.refusal.Refusal.{Refusal}
-use Rattle.chord_run.specs.declared.refusal.Refusal.TheVariants.{Long, Bad, Syntax, Tall, Unbuilt}
+use Rattle.chord_run.specs.declared.refusal.Refusal.TheVariants.{Long, Bad, Syntax, Tall, Rule, Unbuilt}
 use Rattle.chord_run.specs.declared.report.Report.{Report}
 
--- a program spells the tokens of a source, so none of them fits no program
-pub syntax_not_grammatical :
-    (source : List ℕ) (tokens : List Token) (k : ℕ) → IsAnsweredBy source (parser.At k) → IsGrammatical source tokens → ⊥
-syntax_not_grammatical source tokens k a g =
-    let same = one_list source a.tokens tokens a.read g.read in
-    not_wrong (token_kinds a.tokens) g.program a.answer.0 g.is_program (rw same g.spelled) a.answer.2
+-- a source has one program
+pub one_program : (source : List ℕ) (p q : ProgramTree) → IsProgramOf source p → IsProgramOf source q → p ≡ q
+one_program source p q a b =
+    let same : a.tokens ≡ b.tokens = one_list source a.tokens b.tokens a.read b.read in
+    only_one p q a.is_program b.is_program (a.spelled ∙ ap token_kinds same ∙ sym b.spelled)
 
--- nor is one of them too deep
-pub tall_not_grammatical :
-    (source : List ℕ) (tokens : List Token) (k : ℕ) → IsAnsweredBy source (parser.Tall k) → IsGrammatical source tokens → ⊥
-tall_not_grammatical source tokens k a g =
-    let same = one_list source a.tokens tokens a.read g.read in
-    never_tall (token_kinds a.tokens) g.program a.answer.0 g.is_program g.not_tall (rw same g.spelled) a.answer.2
+-- a source with a program has no token that fits none
+pub syntax_not_program :
+    (source : List ℕ) (program : ProgramTree) (k : ℕ) → IsAnsweredBy source (parser.At k) → IsProgramOf source program → ⊥
+syntax_not_program source program k a g =
+    let same = one_list source a.tokens g.tokens a.read g.read in
+    not_wrong (token_kinds a.tokens) program a.answer.0 g.is_program (rw same g.spelled) a.answer.2
+
+-- nor one that is too deep
+pub tall_not_program :
+    (source : List ℕ) (program : ProgramTree) (k : ℕ) → IsAnsweredBy source (parser.Tall k) → IsProgramOf source program → ⊥
+tall_not_program source program k a g =
+    let same = one_list source a.tokens g.tokens a.read g.read in
+    never_tall (token_kinds a.tokens) program a.answer.0 g.is_program g.not_tall (rw same g.spelled) a.answer.2
+
+-- a source whose program breaks a rule has none that keeps all
+pub broken_not_kept :
+    (source : List ℕ) (program : ProgramTree) (rule k : ℕ) → IsBroken source rule k → IsProgramOf source program → KeepsEveryRule program → ⊥
+broken_not_kept source program rule k b g kept =
+    kept rule k refl (subst (λ z. Broken z rule k) (one_program source b.program program b.of_source g) b.first.broken)
 
 -- a source with a cause of a refusal is not accepted
 pub cause_refuses : (source : List ℕ) (refusal : Refusal) → IsCause source refusal → IsAccepted source → ⊥
-cause_refuses source Long long a = let s = a.1.grammatical.short in omega arith
-cause_refuses source (Bad k) bad a = not_both source a.1.tokens k a.1.grammatical.read bad.1
-cause_refuses source (Syntax k) c a = syntax_not_grammatical source a.1.tokens k c a.1.grammatical
-cause_refuses source (Tall k) c a = tall_not_grammatical source a.1.tokens k c a.1.grammatical
+cause_refuses source Long long a = let s = a.1.of_source.short in omega arith
+cause_refuses source (Bad k) bad a = not_both source a.1.of_source.tokens k a.1.of_source.read bad.1
+cause_refuses source (Syntax k) c a = syntax_not_program source a.1.program k c a.1.of_source
+cause_refuses source (Tall k) c a = tall_not_program source a.1.program k c a.1.of_source
+cause_refuses source (Rule r k) c a = broken_not_kept source a.1.program r k c a.1.of_source a.1.kept
 cause_refuses source Unbuilt other a =
-    let same = one_list source other.tokens a.1.tokens other.grammatical.read a.1.grammatical.read in
+    let same = one_program source other.program a.1.program other.of_source a.1.of_source in
     other.other a.0 (rw same a.1.small)
 
 -- the status of a journal by whether a body has failed and whether `Main` has ended

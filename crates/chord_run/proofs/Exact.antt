@@ -17,7 +17,7 @@ use Rattle.chord_run.specs.Answers.{Answers, IsSilence}
 use Rattle.chord_run.specs.Command.{Requests}
 use Rattle.chord_run.specs.Due.{HasStatus, IsDue, IsFull, IsRefusalDue, text_due}
 use Rattle.chord_run.specs.Chosen.{AreApart, Chosen}
-use Rattle.chord_run.specs.Refusals.{IsLine, IsTokenAt, token_start, with_position}
+use Rattle.chord_run.specs.Refusals.{IsLine, IsTokenAt, rule_front, token_start, with_position}
 use Rattle.chord_run.specs.Positions.{position_of}
 use Rattle.chord_run.specs.Rows.{AreSpecified, IsExact}
 use Rattle.chord_run.specs.SmallForm.{IsSmallForm, StandInHead, body}
@@ -25,12 +25,12 @@ use Rattle.chord_run.specs.Sources.{IsMachine}
 use Rattle.chord_run.specs.Written.{Due, IsWritten}
 use Rattle.chord_run.specs.declared.command.Request.{Request}
 use Rattle.chord_run.specs.declared.refusal.Refusal.{Refusal}
-use Rattle.chord_run.specs.declared.refusal.Refusal.TheVariants.{Long, Bad, Syntax, Tall, Unbuilt}
+use Rattle.chord_run.specs.declared.refusal.Refusal.TheVariants.{Long, Bad, Syntax, Tall, Rule, Unbuilt}
 use Rattle.chord_run.specs.declared.report.Report.{Report}
-use Rattle.chord_run.proofs.Causes.{no_text}
+use Rattle.chord_run.proofs.Causes.{no_text, one_program}
 use Rattle.chord_run.proofs.Complete.{one_request}
 use Rattle.chord_run.proofs.LineByLine.{form_lines, head_stands, line_is_no_tail, line_unique}
-use Rattle.chord_tree.specs.Program.{token_kinds}
+use Rattle.chord_tree.specs.Program.{spelling}
 
 -- the lines of `Main` are known by their kinds
 one_body : (n : Chosen) → AreApart n → (ls ms : List SmallLine) → body n ls ≡ body n ms → ls ≡ ms
@@ -75,8 +75,8 @@ one_form kinds ls ms a b =
 -- a source has at most one machine
 pub one_machine : (source : List ℕ) (limits : Limits) (p q : Program) → IsMachine source limits p → IsMachine source limits q → p ≡ q
 one_machine source limits p q a b =
-    let tokens = one_list source a.1.tokens b.1.tokens a.1.grammatical.read b.1.grammatical.read in
-    let same : a.0 ≡ b.0 = one_form (token_kinds a.1.tokens) a.0 b.0 a.1.small (rw tokens b.1.small) in
+    let one = one_program source a.1.program b.1.program a.1.of_source b.1.of_source in
+    let same : a.0 ≡ b.0 = one_form (spelling a.1.program) a.0 b.0 a.1.small (rw one b.1.small) in
     a.2 ∙ ap small_program same ∙ sym b.2
 
 -- a token of a source begins at one byte
@@ -95,6 +95,9 @@ one_line source (Syntax k) l m a b =
 one_line source (Tall k) l m a b =
     let same = one_start source k a.0 b.0 a.1.1 b.1.1 in
     a.2 ∙ ap (λ byte. with_position (codes "refused tall ") (position_of (after_byte_order_mark source) byte)) same ∙ sym b.2
+one_line source (Rule r k) l m a b =
+    let same = one_start source k a.0 b.0 a.1.1 b.1.1 in
+    a.2 ∙ ap (λ byte. with_position (rule_front r) (position_of (after_byte_order_mark source) byte)) same ∙ sym b.2
 one_line source Unbuilt l m a b = a ∙ sym b
 
 -- what is due was written whole, so the status is the one that is due

@@ -4,30 +4,40 @@ use Rattle.std.proofs.lemmas.Bool.{cases_lt}
 use Rattle.chord_lexer.proofs.Fronts.{read_or_refused}
 use Rattle.chord_lexer.specs.Reading.{IsRead}
 use Rattle.chord_lexer.specs.declared.token.Token.{Token}
+use Rattle.chord_classes.specs.Breaks.{KeepsEveryRule}
 use Rattle.chord_parser.proofs.Programs.{each_is_answered}
 use Rattle.chord_parser.specs.Laws.{AreOfNotTall}
-use Rattle.chord_tree.specs.Program.{token_kinds}
+use Rattle.chord_tree.specs.Program.{spelling, token_kinds}
+use Rattle.chord_tree.specs.Tree.{ProgramTree}
 use Rattle.chord_run.specs.Laws.{IsAcceptedOrHasCause}
 use Rattle.chord_run.specs.Refusals.{IsCause}
-use Rattle.chord_run.specs.Sources.{IsAccepted, IsGrammatical, IsShort}
+use Rattle.chord_run.specs.Sources.{IsAccepted, IsProgramOf, IsShort}
 use Rattle.chord_run.specs.declared.refusal.Refusal.{Refusal}
-use Rattle.chord_run.specs.declared.refusal.Refusal.TheVariants.{Long, Bad, Syntax, Tall, Unbuilt}
+use Rattle.chord_run.specs.declared.refusal.Refusal.TheVariants.{Long, Bad, Syntax, Tall, Rule, Unbuilt}
+use Rattle.chord_run.proofs.FirstBreak.{broken_or_kept}
 use Rattle.chord_run.proofs.SmallOrNot.{small_or_not}
 
 -- the source is accepted, or it has a cause of a refusal
 abbrev IsSettled : List ℕ → Type 0
 IsSettled source = IsAccepted source ⊎ ((refusal : Refusal) × IsCause source refusal)
 
--- a source whose tokens a program spells is small, or unbuilt
-grammatical_settled : (source : List ℕ) (tokens : List Token) → IsGrammatical source tokens → IsSettled source
-grammatical_settled source tokens g = elim (small_or_not (token_kinds tokens)) [
-  | inl s ↦ inl (s.0, record { tokens = tokens; grammatical = g; small = s.1 })
-  | inr n ↦ inr (Unbuilt, record { tokens = tokens; grammatical = g; other = λ lines s. n (lines, s) })
+-- a source whose program breaks no rule is small, or unbuilt
+kept_settled : (source : List ℕ) (program : ProgramTree) → IsProgramOf source program → KeepsEveryRule program → IsSettled source
+kept_settled source program g kept = elim (small_or_not (spelling program)) [
+  | inl s ↦ inl (s.0, record { program = program; of_source = g; kept = kept; small = s.1 })
+  | inr n ↦ inr (Unbuilt, record { program = program; of_source = g; kept = kept; other = λ lines s. n (lines, s) })
+]
+
+-- a source with a program is refused by a rule, or is small, or unbuilt
+program_settled : (source : List ℕ) (program : ProgramTree) → IsProgramOf source program → IsSettled source
+program_settled source program g = elim (broken_or_kept program) [
+  | inl b ↦ inr (Rule b.0 b.1.0, record { program = program; of_source = g; first = b.1.1 })
+  | inr kept ↦ kept_settled source program g kept
 ]
 
 -- a source of not too many bytes whose tokens are of a program without a tall token
 not_tall_settled : (source : List ℕ) (tokens : List Token) → IsShort source → IsRead source tokens → AreOfNotTall (token_kinds tokens) → IsSettled source
-not_tall_settled source tokens short read f = grammatical_settled source tokens (record { short = short; read = read; program = f.0; is_program = f.1; not_tall = f.2; spelled = f.3 })
+not_tall_settled source tokens short read f = program_settled source f.0 (record { short = short; tokens = tokens; read = read; is_program = f.1; not_tall = f.2; spelled = f.3 })
 
 -- a source of not too many bytes that reads as tokens
 read_settled : (source : List ℕ) (tokens : List Token) → IsShort source → IsRead source tokens → IsSettled source

@@ -11,4 +11,6 @@ pub mod Prefixes
 pub mod Calls
 pub mod LineByLine
 pub mod SmallOrNot
+pub mod FirstBreak
+pub mod Verdicts
 pub mod Exhaustive

@@ -26,5 +26,7 @@ pub mod Positions
 pub mod Laws
 -- ## What only the code's own contracts use
 
+-- what is found of the rules of a program
+pub mod Verdicts
 -- what the private functions of the top call report
 pub mod Reports

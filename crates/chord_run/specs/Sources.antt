@@ -2,6 +2,7 @@
 use Rattle.std.specs.Prelude.{◌≡◌, ℕ, ◌≤◌, List, length}
 use Rattle.chord_base.specs.Meaning.{Program}
 use Rattle.chord_base.specs.declared.event.Limits.{Limits}
+use Rattle.chord_classes.specs.Breaks.{KeepsEveryRule}
 use Rattle.chord_lexer.specs.Reading.{IsRead}
 use Rattle.chord_lexer.specs.declared.token.Token.{Token}
 use Rattle.chord_lists.specs.Small.{small_program}
@@ -15,20 +16,21 @@ use Rattle.chord_tree.specs.Tree.{ProgramTree}
 abbrev pub IsShort : List ℕ → Type 0
 IsShort source = length source ≤ 1048576
 
--- a source reads as these tokens, which a program spells that has no token deeper than 200
-pub record IsGrammatical (source : List ℕ) (tokens : List Token) : Type 0 where
+-- the program of a source: the source reads as tokens, whose kinds the program spells, and no token of it is deeper than 200
+pub record IsProgramOf (source : List ℕ) (program : ProgramTree) : Type 0 where
   pub short : IsShort source
+  pub tokens : List Token
   pub read : IsRead source tokens
-  pub program : ProgramTree
   pub is_program : IsProgram program
   pub not_tall : IsNotTall program
   pub spelled : spelling program ≡ token_kinds tokens
 
--- a source is small, with these lines: it is grammatical, and its tokens, as kinds, are the small form's
+-- a source is small, with these lines: its program breaks no rule, and spells the small form
 pub record IsSmall (source : List ℕ) (lines : List SmallLine) : Type 0 where
-  pub tokens : List Token
-  pub grammatical : IsGrammatical source tokens
-  pub small : IsSmallForm (token_kinds tokens) lines
+  pub program : ProgramTree
+  pub of_source : IsProgramOf source program
+  pub kept : KeepsEveryRule program
+  pub small : IsSmallForm (spelling program) lines
 
 -- a source is accepted: it is small
 abbrev pub IsAccepted : List ℕ → Type 0

@@ -4,14 +4,18 @@
 ghost use Rattle.std.specs.Prelude.{◌≡◌, ◌≤◌, IfErr, IfOk, length};
 ghost use Rattle.chord_lexer.specs.Reading.{IsRead, after_byte_order_mark};
 ghost use Rattle.chord_run.specs.Refusals.{IsFrontFault, token_start};
-ghost use Rattle.chord_run.specs.Sources.{IsShort, IsSmall};
+ghost use Rattle.chord_run.specs.Sources.{IsProgramOf, IsShort, IsSmall};
+ghost use Rattle.chord_tree.specs.Program.{spelling, token_kinds};
+ghost use Rattle.chord_tree.specs.View.{tree_of};
 
 use crate::refusal::Refusal;
+use crate::rules::first_break;
 use crate::small::small_of;
 use chord_lexer::lexer::{LexFault, lex, unmarked};
 use chord_lexer::token::Token;
 use chord_lists::small::Small;
 use chord_parser::parser::{ParseFault, parse};
+use chord_tree::program::Program;
 use std::alloc::Global;
 
 /// Why a source has no lines.
@@ -45,11 +49,7 @@ fn small_program(alloc: Global, source: &[u8], tokens: &[Token]) -> Result<Small
     ensures fault { IfErr result (λ fault. IsFrontFault source.now fault) }
 {
     match parse(alloc, tokens) {
-        Ok(_program) => match small_of(alloc, tokens) {
-            Ok(Some(small)) => Ok(small),
-            Ok(None) => Err(FrontFault::Refused(Refusal::Unbuilt, 0)),
-            Err(_) => Err(FrontFault::Memory),
-        },
+        Ok(program) => checked_program(alloc, source, tokens, &program),
         Err(ParseFault::Memory) => Err(FrontFault::Memory),
         Err(ParseFault::At(k)) => {
             Err(FrontFault::Refused(Refusal::Syntax(k), start_byte(source, tokens, k)))
@@ -57,6 +57,34 @@ fn small_program(alloc: Global, source: &[u8], tokens: &[Token]) -> Result<Small
         Err(ParseFault::Tall(k)) => {
             Err(FrontFault::Refused(Refusal::Tall(k), start_byte(source, tokens, k)))
         }
+    }
+}
+
+/// The lines of a small source that reads as the tokens of this program, where the program breaks no rule.
+fn checked_program(
+    alloc: Global,
+    source: &[u8],
+    tokens: &[Token],
+    program: &Program,
+) -> Result<Small, FrontFault>
+    requires read { IsRead source.now tokens.now }
+    requires few { length tokens.now ≤ 1048576 }
+    requires spelled { spelling (tree_of program.now) ≡ token_kinds tokens.now }
+    requires of_source { IsProgramOf source.now (tree_of program.now) }
+    ensures small { IfOk result (λ small. IsSmall source.now small) }
+    ensures fault { IfErr result (λ fault. IsFrontFault source.now fault) }
+{
+    match first_break(alloc, program) {
+        Err(_) => Err(FrontFault::Memory),
+        Ok(Some(found)) => Err(FrontFault::Refused(
+            Refusal::Rule(found.rule, found.token),
+            start_byte(source, tokens, found.token),
+        )),
+        Ok(None) => match small_of(alloc, tokens) {
+            Ok(Some(small)) => Ok(small),
+            Ok(None) => Err(FrontFault::Refused(Refusal::Unbuilt, 0)),
+            Err(_) => Err(FrontFault::Memory),
+        },
     }
 }
 

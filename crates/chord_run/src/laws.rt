@@ -3,6 +3,8 @@
 
 ghost use Rattle.chord_run.specs.Laws.{AcceptedHasMachine, CauseHasLine, HasOneCause, HasOneLine, HasOneMachine, IsAcceptedOrHasCause, MachineIsOfAccepted, RefusedIsNotAccepted};
 
+use chord_classes::laws::breaks;
+
 /// A source is accepted exactly where it has a join machine, and within its limits it has one at most. It is accepted or has
 /// a cause of a refusal, and not both. It has at most one cause, which has one line.
 pub fn sources()
@@ -14,4 +16,7 @@ pub fn sources()
     ensures line { HasOneLine }
     ensures exhaustive { IsAcceptedOrHasCause }
     ensures apart { RefusedIsNotAccepted }
-{}
+{
+    // a program has at most one first break
+    breaks();
+}

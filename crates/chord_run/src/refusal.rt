@@ -4,7 +4,7 @@
 ghost use Rattle.std.specs.Prelude.{◌≡◌, IfOk};
 ghost use Rattle.chord_lexer.specs.Reading.{after_byte_order_mark};
 ghost use Rattle.chord_run.specs.Positions.{position_of};
-ghost use Rattle.chord_run.specs.Refusals.{IsLine, IsWithin, PointsAt, with_position};
+ghost use Rattle.chord_run.specs.Refusals.{IsLine, IsWithin, PointsAt, rule_front, with_position};
 
 use crate::position::{Position, position_at};
 use chord_lexer::lexer::unmarked;
@@ -23,7 +23,10 @@ pub enum Refusal {
     Syntax(u32),
     /// Its tokens up to this one begin some program, and this one is deeper than 200; none before it is.
     Tall(u32),
-    /// It is a program of the language that is not built yet.
+    /// Its program breaks this rule, 1 to 24, at this token, counted from 0; none at an earlier token, and no lesser one there.
+    /// Where the token is the number of tokens, the rule is broken at the end of the text.
+    Rule(u8, u32),
+    /// Its program breaks no rule, and is not built yet.
     Unbuilt,
 }
 
@@ -43,7 +46,20 @@ pub fn line_of(
         Refusal::Bad(_) => pointing_line(alloc, b"refused byte ", source, byte),
         Refusal::Syntax(_) => pointing_line(alloc, b"refused syntax ", source, byte),
         Refusal::Tall(_) => pointing_line(alloc, b"refused tall ", source, byte),
+        Refusal::Rule(rule, _) => rule_line(alloc, rule, source, byte),
     }
+}
+
+/// The line of a refusal by a rule, which has two digits.
+fn rule_line(alloc: Global, rule: u8, source: &[u8], byte: u32) -> Result<Vec<u8>, AllocError>
+    requires { IsWithin source.now byte }
+    ensures { IfOk result (λ line. line.items ≡ with_position (rule_front rule) (position_of (after_byte_order_mark source.now) byte)) }
+{
+    let mut front = Vec::from_slice(alloc, b"refused C")?;
+    front.push(b'0' + rule / 10)?;
+    front.push(b'0' + rule % 10)?;
+    front.push(b' ')?;
+    pointing_line(alloc, &front, source, byte)
 }
 
 /// A line that ends with the place of a byte.

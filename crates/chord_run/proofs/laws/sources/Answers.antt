@@ -15,7 +15,7 @@ pub returns-clause-of_accepted : goal.returns-clause-of_accepted
 returns-clause-of_accepted c = machine_is_of_accepted
 
 pub returns-clause-cause : goal.returns-clause-cause
-returns-clause-cause c = one_cause
+returns-clause-cause c = one_cause c.breaks.ensures
 
 pub returns-clause-some_line : goal.returns-clause-some_line
 returns-clause-some_line c = cause_has_line
