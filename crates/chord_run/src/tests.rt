@@ -208,7 +208,7 @@ struct Refused {
     refusal: Refusal,
 }
 
-const REFUSED: [Refused; 12] = [
+const REFUSED: [Refused; 17] = [
     Refused {
         name: "empty input",
         source: "",
@@ -279,8 +279,39 @@ const REFUSED: [Refused; 12] = [
         name: "one class for both names",
         source: "class A { public string G() & public async P(string s) { return s; } }
             class A { static void Main() { A b = new A(); } }",
-        written: "refused unbuilt\n",
-        refusal: Refusal::Unbuilt,
+        written: "refused C01 2:19\n",
+        refusal: Refusal::Rule(1, 23),
+    },
+    Refused {
+        name: "no Main: the end of the text",
+        source: "class P { }",
+        written: "refused C13 1:12\n",
+        refusal: Refusal::Rule(13, 4),
+    },
+    Refused {
+        name: "an unknown name before a second Main",
+        source: "class Q { static void Main() { int x = y; } static void Main() { } }",
+        written: "refused C14 1:40\n",
+        refusal: Refusal::Rule(14, 12),
+    },
+    Refused {
+        name: "a wrong Main before an unknown name",
+        source: "class P { void Main() { int x = y; } }",
+        written: "refused C13 1:16\n",
+        refusal: Refusal::Rule(13, 4),
+    },
+    Refused {
+        name: "an argument of another type",
+        source: "class A { public string G() & public async P(string s) { return s; } }
+            class Q { static void Main() { A b = new A(); b.P(1); } }",
+        written: "refused C15 2:63\n",
+        refusal: Refusal::Rule(15, 43),
+    },
+    Refused {
+        name: "the syntax goes before the rules",
+        source: "class Console { } }",
+        written: "refused syntax 1:19\n",
+        refusal: Refusal::Syntax(4),
     },
 ];
 
