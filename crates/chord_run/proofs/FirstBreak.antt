@@ -11,8 +11,7 @@ use Rattle.chord_classes.specs.DeclarationRules.{declared_again, base_missing, p
 use Rattle.chord_classes.specs.Least.{keys, least}
 use Rattle.chord_classes.specs.OverrideRules.{in_classes, differing_headers, missing_override, wrong_override}
 use Rattle.chord_classes.specs.Rules.{Broken, C01, C02, C03, C04, C05, C06, C07, C08, C09, C10, C11, C12, C13, C14, C15, C16, C17, C18, C19, C20, C21, C22, C23, C24, in_program, limits_in, notes_02, notes_14, notes_15, notes_16, notes_17, notes_18, notes_19, notes_20, notes_22, notes_23, notes_24}
-use Rattle.chord_rules.proofs.GroupSplits.{splits_listed}
-use Rattle.chord_rules.specs.Splits.{split}
+use Rattle.chord_rules.specs.Splits.{SplitsAreListed, split}
 
 -- the tokens at which each rule is broken, from the first rule on
 abbrev broken_at : ProgramTree → List (List ℕ)
@@ -67,35 +66,35 @@ abbrev all_numbers : ProgramTree → List ℕ
 all_numbers p = numbered 1 (broken_at p)
 
 -- each list of a program is of its rule
-all_broken : (p : ProgramTree) → AllBroken p 1 (broken_at p)
-all_broken p = (C01, (C02, (C03, (C04, (C05, (C06, (C07, (C08, (C09, (C10, (λ at h. C11 at ((splits_listed [] [] 0 p.classes at).0 h), (C12, (C13, (C14, (C15, (C16, (C17, (C18, (C19, (C20, (C21, (C22, (C23, (C24, tt))))))))))))))))))))))))
+all_broken : SplitsAreListed → (p : ProgramTree) → AllBroken p 1 (broken_at p)
+all_broken listed p = (C01, (C02, (C03, (C04, (C05, (C06, (C07, (C08, (C09, (C10, (λ at h. C11 at ((listed [] [] 0 p.classes at).0 h), (C12, (C13, (C14, (C15, (C16, (C17, (C18, (C19, (C20, (C21, (C22, (C23, (C24, tt))))))))))))))))))))))))
 
 -- a break is among the numbers
-is_numbered : (p : ProgramTree) (rule at : ℕ) → Broken p rule at → IsIn (all_numbers p) (32 * at + rule) × (rule < 32)
-is_numbered p rule at (C01 k h) = (among_numbered 1 (broken_at p) 0 1 _ k refl refl h, omega arith)
-is_numbered p rule at (C02 k h) = (among_numbered 1 (broken_at p) 1 2 _ k refl refl h, omega arith)
-is_numbered p rule at (C03 k h) = (among_numbered 1 (broken_at p) 2 3 _ k refl refl h, omega arith)
-is_numbered p rule at (C04 k h) = (among_numbered 1 (broken_at p) 3 4 _ k refl refl h, omega arith)
-is_numbered p rule at (C05 k h) = (among_numbered 1 (broken_at p) 4 5 _ k refl refl h, omega arith)
-is_numbered p rule at (C06 k h) = (among_numbered 1 (broken_at p) 5 6 _ k refl refl h, omega arith)
-is_numbered p rule at (C07 k h) = (among_numbered 1 (broken_at p) 6 7 _ k refl refl h, omega arith)
-is_numbered p rule at (C08 k h) = (among_numbered 1 (broken_at p) 7 8 _ k refl refl h, omega arith)
-is_numbered p rule at (C09 k h) = (among_numbered 1 (broken_at p) 8 9 _ k refl refl h, omega arith)
-is_numbered p rule at (C10 k h) = (among_numbered 1 (broken_at p) 9 10 _ k refl refl h, omega arith)
-is_numbered p rule at (C11 k h) = (among_numbered 1 (broken_at p) 10 11 _ k refl refl ((splits_listed [] [] 0 p.classes k).1 h), omega arith)
-is_numbered p rule at (C12 k h) = (among_numbered 1 (broken_at p) 11 12 _ k refl refl h, omega arith)
-is_numbered p rule at (C13 k h) = (among_numbered 1 (broken_at p) 12 13 _ k refl refl h, omega arith)
-is_numbered p rule at (C14 k h) = (among_numbered 1 (broken_at p) 13 14 _ k refl refl h, omega arith)
-is_numbered p rule at (C15 k h) = (among_numbered 1 (broken_at p) 14 15 _ k refl refl h, omega arith)
-is_numbered p rule at (C16 k h) = (among_numbered 1 (broken_at p) 15 16 _ k refl refl h, omega arith)
-is_numbered p rule at (C17 k h) = (among_numbered 1 (broken_at p) 16 17 _ k refl refl h, omega arith)
-is_numbered p rule at (C18 k h) = (among_numbered 1 (broken_at p) 17 18 _ k refl refl h, omega arith)
-is_numbered p rule at (C19 k h) = (among_numbered 1 (broken_at p) 18 19 _ k refl refl h, omega arith)
-is_numbered p rule at (C20 k h) = (among_numbered 1 (broken_at p) 19 20 _ k refl refl h, omega arith)
-is_numbered p rule at (C21 k h) = (among_numbered 1 (broken_at p) 20 21 _ k refl refl h, omega arith)
-is_numbered p rule at (C22 k h) = (among_numbered 1 (broken_at p) 21 22 _ k refl refl h, omega arith)
-is_numbered p rule at (C23 k h) = (among_numbered 1 (broken_at p) 22 23 _ k refl refl h, omega arith)
-is_numbered p rule at (C24 k h) = (among_numbered 1 (broken_at p) 23 24 _ k refl refl h, omega arith)
+is_numbered : SplitsAreListed → (p : ProgramTree) (rule at : ℕ) → Broken p rule at → IsIn (all_numbers p) (32 * at + rule) × (rule < 32)
+is_numbered listed p rule at (C01 k h) = (among_numbered 1 (broken_at p) 0 1 _ k refl refl h, omega arith)
+is_numbered listed p rule at (C02 k h) = (among_numbered 1 (broken_at p) 1 2 _ k refl refl h, omega arith)
+is_numbered listed p rule at (C03 k h) = (among_numbered 1 (broken_at p) 2 3 _ k refl refl h, omega arith)
+is_numbered listed p rule at (C04 k h) = (among_numbered 1 (broken_at p) 3 4 _ k refl refl h, omega arith)
+is_numbered listed p rule at (C05 k h) = (among_numbered 1 (broken_at p) 4 5 _ k refl refl h, omega arith)
+is_numbered listed p rule at (C06 k h) = (among_numbered 1 (broken_at p) 5 6 _ k refl refl h, omega arith)
+is_numbered listed p rule at (C07 k h) = (among_numbered 1 (broken_at p) 6 7 _ k refl refl h, omega arith)
+is_numbered listed p rule at (C08 k h) = (among_numbered 1 (broken_at p) 7 8 _ k refl refl h, omega arith)
+is_numbered listed p rule at (C09 k h) = (among_numbered 1 (broken_at p) 8 9 _ k refl refl h, omega arith)
+is_numbered listed p rule at (C10 k h) = (among_numbered 1 (broken_at p) 9 10 _ k refl refl h, omega arith)
+is_numbered listed p rule at (C11 k h) = (among_numbered 1 (broken_at p) 10 11 _ k refl refl ((listed [] [] 0 p.classes k).1 h), omega arith)
+is_numbered listed p rule at (C12 k h) = (among_numbered 1 (broken_at p) 11 12 _ k refl refl h, omega arith)
+is_numbered listed p rule at (C13 k h) = (among_numbered 1 (broken_at p) 12 13 _ k refl refl h, omega arith)
+is_numbered listed p rule at (C14 k h) = (among_numbered 1 (broken_at p) 13 14 _ k refl refl h, omega arith)
+is_numbered listed p rule at (C15 k h) = (among_numbered 1 (broken_at p) 14 15 _ k refl refl h, omega arith)
+is_numbered listed p rule at (C16 k h) = (among_numbered 1 (broken_at p) 15 16 _ k refl refl h, omega arith)
+is_numbered listed p rule at (C17 k h) = (among_numbered 1 (broken_at p) 16 17 _ k refl refl h, omega arith)
+is_numbered listed p rule at (C18 k h) = (among_numbered 1 (broken_at p) 17 18 _ k refl refl h, omega arith)
+is_numbered listed p rule at (C19 k h) = (among_numbered 1 (broken_at p) 18 19 _ k refl refl h, omega arith)
+is_numbered listed p rule at (C20 k h) = (among_numbered 1 (broken_at p) 19 20 _ k refl refl h, omega arith)
+is_numbered listed p rule at (C21 k h) = (among_numbered 1 (broken_at p) 20 21 _ k refl refl h, omega arith)
+is_numbered listed p rule at (C22 k h) = (among_numbered 1 (broken_at p) 21 22 _ k refl refl h, omega arith)
+is_numbered listed p rule at (C23 k h) = (among_numbered 1 (broken_at p) 22 23 _ k refl refl h, omega arith)
+is_numbered listed p rule at (C24 k h) = (among_numbered 1 (broken_at p) 23 24 _ k refl refl h, omega arith)
 
 -- of two breaks the one with the lesser number is not after the other
 lesser_first : (r k s l : ℕ) → 32 * k + r ≤ 32 * l + s → r < 32 → s < 32 → IsNotAfter r k s l
@@ -110,10 +109,10 @@ least_told ks = told (least None ks)
     told (Some k) = inl (k, refl)
 
 -- the least number is that of the first break
-first_of_least : (p : ProgramTree) (k : ℕ) → least None (all_numbers p) ≡ Some k → (r : ℕ) × ((at : ℕ) × IsBreak every_rule p r at)
-first_of_least p k e =
+first_of_least : SplitsAreListed → (p : ProgramTree) (k : ℕ) → least None (all_numbers p) ≡ Some k → (r : ℕ) × ((at : ℕ) × IsBreak every_rule p r at)
+first_of_least listed p k e =
     let found = is_least (all_numbers p) k e in
-    let x : HasNumber p k 25 = of_numbered p 1 (broken_at p) k (all_broken p) found.0 in (
+    let x : HasNumber p k 25 = of_numbered p 1 (broken_at p) k (all_broken listed p) found.0 in (
       x.rule,
       (
         x.at,
@@ -121,7 +120,7 @@ first_of_least p k e =
           is_mine = refl;
           broken = x.broken;
           first = λ s l mine b.
-              let n = is_numbered p s l b in
+              let n = is_numbered listed p s l b in
               let h = not_less (all_numbers p) k (32 * l + s) found.1 n.0 in
               let f = x.few in
               let g = x.number_is in
@@ -131,8 +130,8 @@ first_of_least p k e =
     )
 
 -- a program breaks some rule first, or it breaks none
-pub broken_or_kept : (p : ProgramTree) → ((r : ℕ) × ((k : ℕ) × IsBreak every_rule p r k)) ⊎ KeepsEveryRule p
-broken_or_kept p = elim (least_told (all_numbers p)) [
-  | inl h ↦ inl (first_of_least p h.0 h.1)
-  | inr e ↦ inr (λ rule at mine b. none_noted (all_numbers p) (32 * at + rule) e (is_numbered p rule at b).0)
+pub broken_or_kept : SplitsAreListed → (p : ProgramTree) → ((r : ℕ) × ((k : ℕ) × IsBreak every_rule p r k)) ⊎ KeepsEveryRule p
+broken_or_kept listed p = elim (least_told (all_numbers p)) [
+  | inl h ↦ inl (first_of_least listed p h.0 h.1)
+  | inr e ↦ inr (λ rule at mine b. none_noted (all_numbers p) (32 * at + rule) e (is_numbered listed p rule at b).0)
 ]

@@ -4,6 +4,7 @@
 ghost use Rattle.chord_run.specs.Laws.{AcceptedHasMachine, CauseHasLine, HasOneCause, HasOneLine, HasOneMachine, IsAcceptedOrHasCause, MachineIsOfAccepted, RefusedIsNotAccepted};
 
 use chord_classes::laws::breaks;
+use chord_rules::laws::splits;
 
 /// A source is accepted exactly where it has a join machine, and within its limits it has one at most. It is accepted or has
 /// a cause of a refusal, and not both. It has at most one cause, which has one line.
@@ -19,4 +20,6 @@ pub fn sources()
 {
     // a program has at most one first break
     breaks();
+    // the one rule that is no list has one
+    splits();
 }

@@ -4,7 +4,7 @@
 ghost use Rattle.std.specs.Prelude.{◌≤◌, IfOk, length};
 ghost use Rattle.chord_classes.specs.Breaks.{every_rule};
 ghost use Rattle.chord_classes.specs.Rules.{is_type_rule};
-ghost use Rattle.chord_rules.specs.Faults.{is_class_rule};
+ghost use Rattle.chord_rules.specs.Family.{is_layout_rule};
 ghost use Rattle.chord_run.specs.Verdicts.{IsEarlier, IsFirstOf, IsVerdict};
 ghost use Rattle.chord_tree.specs.Program.{spelling};
 ghost use Rattle.chord_tree.specs.View.{tree_of};
@@ -13,8 +13,7 @@ use chord_classes::laws::breaks;
 use chord_rules::fault::RuleFault;
 use chord_rules::plan::plan;
 use chord_tree::program::Program;
-use chord_types::fault::TypeFault;
-use chord_types::program::type_program;
+use chord_types::program::{TypeFault, type_program};
 use std::alloc::{AllocError, Global};
 
 /// A rule by its number, and the token, counted from 0, at which a program breaks it.
@@ -30,15 +29,14 @@ pub fn first_break(alloc: Global, program: &Program) -> Result<Option<Break>, Al
     ensures { IfOk result (λ found. IsVerdict every_rule (tree_of program.now) found) }
 {
     let of_types = first_of_types(alloc, program)?;
-    let of_classes = first_of_classes(alloc, program)?;
+    let of_layout = first_of_layout(alloc, program)?;
     // the earlier break of two families of rules is that of all
     breaks();
-    Ok(first_of_both(of_types, of_classes))
+    Ok(first_of_both(of_types, of_layout))
 }
 
 /// The first break of the rules on names and types.
 fn first_of_types(alloc: Global, program: &Program) -> Result<Option<Break>, AllocError>
-    requires few { length (spelling (tree_of program.now)) ≤ 1048576 }
     ensures { IfOk result (λ found. IsVerdict is_type_rule (tree_of program.now) found) }
 {
     match type_program(alloc, program) {
@@ -49,9 +47,9 @@ fn first_of_types(alloc: Global, program: &Program) -> Result<Option<Break>, All
 }
 
 /// The first break of all other rules.
-fn first_of_classes(alloc: Global, program: &Program) -> Result<Option<Break>, AllocError>
+fn first_of_layout(alloc: Global, program: &Program) -> Result<Option<Break>, AllocError>
     requires few { length (spelling (tree_of program.now)) ≤ 1048576 }
-    ensures { IfOk result (λ found. IsVerdict is_class_rule (tree_of program.now) found) }
+    ensures { IfOk result (λ found. IsVerdict is_layout_rule (tree_of program.now) found) }
 {
     match plan(alloc, program) {
         Ok(_layout) => Ok(None),

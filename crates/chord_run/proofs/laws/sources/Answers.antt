@@ -24,7 +24,7 @@ pub returns-clause-line : goal.returns-clause-line
 returns-clause-line c = one_line
 
 pub returns-clause-exhaustive : goal.returns-clause-exhaustive
-returns-clause-exhaustive c = accepted_or_cause
+returns-clause-exhaustive c = accepted_or_cause c.splits.ensures
 
 pub returns-clause-apart : goal.returns-clause-apart
 returns-clause-apart c = cause_refuses
