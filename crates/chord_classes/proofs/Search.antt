@@ -19,5 +19,5 @@ past (a ∷ xs) zero l = absurd (omega arith)
 past (a ∷ xs) (suc i) l = past xs i (omega arith)
 
 -- What a function says of the list from here on is said in two steps: of the item and of what follows it.
-pub step : {A R : Type 0} (f : List A → R) (xs : List A) (i : ℕ) (x : A) (r all : R) → i < length xs → x ≡ get_or xs i x → f (x ∷ drop (i + 1) xs) ≡ r → f (drop i xs) ≡ all → r ≡ all
-step f xs i x r all l e h k = sym h ∙ ap f (sym (item_at xs i x l e)) ∙ k
+pub search_step : {A R : Type 0} (f : List A → R) (xs : List A) (i : ℕ) (x : A) (r all : R) → i < length xs → x ≡ get_or xs i x → f (x ∷ drop (i + 1) xs) ≡ r → f (drop i xs) ≡ all → r ≡ all
+search_step f xs i x r all l e h k = sym h ∙ ap f (sym (item_at xs i x l e)) ∙ k

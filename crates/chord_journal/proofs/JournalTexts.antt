@@ -21,8 +21,8 @@ no_header bytes none count rest few is =
     absurd (cc)
 
 -- where no line is read, none stands there
-pub no_entry : (place : ℕ) (bytes : List ℕ) → place < 65536 → entry_at place bytes ≡ None → HasNoEntry place bytes
-no_entry place bytes low none e rest right is =
+pub no_entry_text : (place : ℕ) (bytes : List ℕ) → place < 65536 → entry_at place bytes ≡ None → HasNoEntry place bytes
+no_entry_text place bytes low none e rest right is =
     let read = entry_again place e rest right low in
     let other = ap (λ b. entry_at place b) is in
     absurd (cc)
@@ -204,7 +204,7 @@ wrong_once bytes j k wrong other =
 pub wrong_line : (bytes : List ℕ) (count : ℕ) (es : List Entry) (rest : List ℕ) (place : ℕ) → BeginsWithLines bytes count es rest → length es ≡ place → place < count →
     entry_at place rest ≡ None → IsWrongAt bytes (place + 1)
 wrong_line bytes count es rest place begun long less none =
-    rw (add-one place) (count, es, rest, begun, long, inl (less, no_entry place rest (omega (arith, less, begun.counted)) none))
+    rw (add-one place) (count, es, rest, begun, long, inl (less, no_entry_text place rest (omega (arith, less, begun.counted)) none))
 
 -- right lines with nothing behind them are the text, where they are all
 pub whole_text : (bytes : List ℕ) (count : ℕ) (es : List Entry) (rest : List ℕ) → BeginsWithLines bytes count es rest → length es ≡ count → rest ≡ [] →

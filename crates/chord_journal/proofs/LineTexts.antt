@@ -17,7 +17,7 @@ use Rattle.chord_base.specs.declared.event.Entry.{Entry}
 use Rattle.chord_journal.specs.Text.{byte_text, object_text, value_text, values_text, numbers_text, message_text, firing_text, trap_text, end_text, what_text, entry_text, header_text}
 use Rattle.chord_journal.specs.Typed.{AreTypedValues, IsTypedEnd, IsTypedWhat}
 use Rattle.chord_journal.specs.Wrong.{IsEntryAt}
-use Rattle.chord_journal.specs.Reading.{Read, ◌>>=◌, on, after, decimal_at, text_at, object_at, value_at, values_at, numbers_at, sending_at, calling_at, made_at, printed_at, ended_at, firing_at, end_at, what_at, entry_at, header_at}
+use Rattle.chord_journal.specs.Reading.{Read, ◌>>=◌, on, after_text, decimal_at, text_at, object_at, value_at, values_at, numbers_at, sending_at, calling_at, made_at, printed_at, ended_at, firing_at, end_at, what_at, entry_at, header_at}
 use Rattle.chord_journal.proofs.Binds.{bound, same_read, passed, guarded}
 use Rattle.chord_journal.proofs.Fronts.{after_takes}
 use Rattle.chord_journal.proofs.Numbers.{number_again, number_takes}
@@ -126,7 +126,7 @@ IsMessageRead bytes o j vs rest = (bytes ≡ message_text o j vs ++ rest) × IsM
 
 -- an object, a blank, a method and values that were read one after another are a message that was read
 message_takes : (bytes : List ℕ) (o : Object × List ℕ) (blank : List ℕ) (j : ℕ × List ℕ) (vs : List value.Value × List ℕ) →
-    object_at bytes ≡ Some o → after (codes " ") o.1 ≡ Some blank → decimal_at 16 blank ≡ Some j → values_at 8 j.1 ≡ Some vs → IsMessageRead bytes o.0 j.0 vs.0 vs.1
+    object_at bytes ≡ Some o → after_text (codes " ") o.1 ≡ Some blank → decimal_at 16 blank ≡ Some j → values_at 8 j.1 ≡ Some vs → IsMessageRead bytes o.0 j.0 vs.0 vs.1
 message_takes bytes o blank j vs first second third fourth =
     let (text₁, object) = object_takes bytes o.0 o.1 first in
     let text₂ = after_takes (codes " ") o.1 blank second in
@@ -150,14 +150,14 @@ with_blank made o blank = decimal_at 16 blank >>= with_method made o
 
 -- what is read of a message behind its object: a blank, its method and its values
 abbrev with_object : (Object → ℕ → List value.Value → What) → Object × List ℕ → Read What
-with_object made o = after (codes " ") o.1 >>= with_blank made o.0
+with_object made o = after_text (codes " ") o.1 >>= with_blank made o.0
 
 -- what is read behind `sent ` is an asynchronous message
 sending_takes : (bytes : List ℕ) (w : What) (rest : List ℕ) → sending_at bytes ≡ Some (w, rest) → IsWhatRead (codes "sent " ++ bytes) w rest
 unfolding sending_at
 sending_takes bytes w rest read =
     let (o, first, read₁) = bound (object_at bytes) (with_object Sent) (w, rest) read in
-    let (blank, second, read₂) = bound (after (codes " ") o.1) (with_blank Sent o.0) (w, rest) read₁ in
+    let (blank, second, read₂) = bound (after_text (codes " ") o.1) (with_blank Sent o.0) (w, rest) read₁ in
     let (j, third, read₃) = bound (decimal_at 16 blank) (with_method Sent o.0) (w, rest) read₂ in
     let (vs, fourth, is) = bound (values_at 8 j.1) (as_message Sent o.0 j.0) (w, rest) read₃ in
     let (same, left) = same_read (Sent o.0 j.0 vs.0) w vs.1 rest is in
@@ -170,7 +170,7 @@ calling_takes : (bytes : List ℕ) (w : What) (rest : List ℕ) → calling_at b
 unfolding calling_at
 calling_takes bytes w rest read =
     let (o, first, read₁) = bound (object_at bytes) (with_object Called) (w, rest) read in
-    let (blank, second, read₂) = bound (after (codes " ") o.1) (with_blank Called o.0) (w, rest) read₁ in
+    let (blank, second, read₂) = bound (after_text (codes " ") o.1) (with_blank Called o.0) (w, rest) read₁ in
     let (j, third, read₃) = bound (decimal_at 16 blank) (with_method Called o.0) (w, rest) read₂ in
     let (vs, fourth, is) = bound (values_at 8 j.1) (as_message Called o.0 j.0) (w, rest) read₃ in
     let (same, left) = same_read (Called o.0 j.0 vs.0) w vs.1 rest is in
@@ -221,7 +221,7 @@ with_next k o next = decimal_at 9 next >>= with_count k o
 
 -- what is read of a firing behind its object: a blank, the count of its members, its members and its values
 abbrev with_target : ℕ → Object × List ℕ → Read What
-with_target k o = after (codes " ") o.1 >>= with_next k o.0
+with_target k o = after_text (codes " ") o.1 >>= with_next k o.0
 
 -- what is read of a firing behind the blank that follows its chord: its object and all that follows it
 abbrev with_space : ℕ → List ℕ → Read What
@@ -229,16 +229,16 @@ with_space k blank = object_at blank >>= with_target k
 
 -- what is read of a firing behind its chord: a blank, its object and all that follows it
 abbrev with_chord : ℕ × List ℕ → Read What
-with_chord k = after (codes " ") k.1 >>= with_space k.0
+with_chord k = after_text (codes " ") k.1 >>= with_space k.0
 
 -- what is read behind `fired ` is a firing
 firing_takes : (bytes : List ℕ) (w : What) (rest : List ℕ) → firing_at bytes ≡ Some (w, rest) → IsWhatRead (codes "fired " ++ bytes) w rest
 unfolding firing_at
 firing_takes bytes w rest read =
     let (k, first, read₁) = bound (decimal_at 256 bytes) with_chord (w, rest) read in
-    let (blank, second, read₂) = bound (after (codes " ") k.1) (with_space k.0) (w, rest) read₁ in
+    let (blank, second, read₂) = bound (after_text (codes " ") k.1) (with_space k.0) (w, rest) read₁ in
     let (o, third, read₃) = bound (object_at blank) (with_target k.0) (w, rest) read₂ in
-    let (next, fourth, read₄) = bound (after (codes " ") o.1) (with_next k.0 o.0) (w, rest) read₃ in
+    let (next, fourth, read₄) = bound (after_text (codes " ") o.1) (with_next k.0 o.0) (w, rest) read₃ in
     let (count, fifth, read₅) = bound (decimal_at 9 next) (with_count k.0 o.0) (w, rest) read₄ in
     let (ms, tested, read₆) = bound (if count.0 == 0 then None else numbers_at count.0 count.1) (with_members k.0 o.0) (w, rest) read₅ in
     let (some, sixth) = passed (count.0 == 0) (numbers_at count.0 count.1) ms tested in
@@ -280,7 +280,7 @@ firing_takes bytes w rest read =
 followed : {A R : Type 0} (word bytes : List ℕ) (part : List ℕ → Read A) (other : Read A) (y : A × List ℕ) → on word bytes part other ≡ Some y →
     ((front : List ℕ) → bytes ≡ word ++ front → part front ≡ Some y → R) → (other ≡ Some y → R) → R
 followed {A} {R} word bytes part other y read here there =
-    elim (after word bytes) as (λ o. after word bytes ≡ o → (elim o [ Some front ↦ part front | None ↦ other ]) ≡ Some y → R) [
+    elim (after_text word bytes) as (λ o. after_text word bytes ≡ o → (elim o [ Some front ↦ part front | None ↦ other ]) ≡ Some y → R) [
       | Some front ↦ λ is found. here front (after_takes word bytes front is) found
       | None ↦ λ is found. there found
     ] refl read
@@ -367,7 +367,7 @@ as_entry number body what rest = Some (record { number = number; body = body; wh
 
 -- what is read of a line behind what happened: the end of the line
 abbrev with_what : ℕ → ℕ → What × List ℕ → Read Entry
-with_what number body what = after (codes "\n") what.1 >>= as_entry number body what.0
+with_what number body what = after_text (codes "\n") what.1 >>= as_entry number body what.0
 
 -- what is read of a line behind the blank that follows its body: what happened, and the end of the line
 abbrev with_gap : ℕ → ℕ → List ℕ → Read Entry
@@ -375,7 +375,7 @@ with_gap number body next = what_at next >>= with_what number body
 
 -- what is read of a line behind its body: a blank, what happened, and the end of the line
 abbrev with_body : ℕ → ℕ × List ℕ → Read Entry
-with_body number body = after (codes " ") body.1 >>= with_gap number body.0
+with_body number body = after_text (codes " ") body.1 >>= with_gap number body.0
 
 -- what is read of a line behind the blank that follows its number: its body and all that follows it
 abbrev behind_number : ℕ → List ℕ → Read Entry
@@ -383,7 +383,7 @@ behind_number number blank = decimal_at 65536 blank >>= with_body number
 
 -- what is read of a line behind its number, which is that of its place: a blank, its body and all that follows it
 abbrev with_number : ℕ → ℕ × List ℕ → Read Entry
-with_number place number = (if number.0 == place then after (codes " ") number.1 else None) >>= behind_number number.0
+with_number place number = (if number.0 == place then after_text (codes " ") number.1 else None) >>= behind_number number.0
 
 -- what is read is the line of an entry
 pub entry_takes : (place : ℕ) (bytes : List ℕ) (e : Entry) (rest : List ℕ) → entry_at place bytes ≡ Some (e, rest) →
@@ -391,12 +391,12 @@ pub entry_takes : (place : ℕ) (bytes : List ℕ) (e : Entry) (rest : List ℕ)
 unfolding entry_at
 entry_takes place bytes e rest read =
     let (number, first, read₁) = bound (decimal_at 65536 bytes) (with_number place) (e, rest) read in
-    let (blank, tested, read₂) = bound (if number.0 == place then after (codes " ") number.1 else None) (behind_number number.0) (e, rest) read₁ in
-    let (here, second) = guarded (number.0 == place) (after (codes " ") number.1) blank tested in
+    let (blank, tested, read₂) = bound (if number.0 == place then after_text (codes " ") number.1 else None) (behind_number number.0) (e, rest) read₁ in
+    let (here, second) = guarded (number.0 == place) (after_text (codes " ") number.1) blank tested in
     let (body, third, read₃) = bound (decimal_at 65536 blank) (with_body number.0) (e, rest) read₂ in
-    let (next, fourth, read₄) = bound (after (codes " ") body.1) (with_gap number.0 body.0) (e, rest) read₃ in
+    let (next, fourth, read₄) = bound (after_text (codes " ") body.1) (with_gap number.0 body.0) (e, rest) read₃ in
     let (what, fifth, read₅) = bound (what_at next) (with_what number.0 body.0) (e, rest) read₄ in
-    let (behind, sixth, is) = bound (after (codes "\n") what.1) (as_entry number.0 body.0 what.0) (e, rest) read₅ in
+    let (behind, sixth, is) = bound (after_text (codes "\n") what.1) (as_entry number.0 body.0 what.0) (e, rest) read₅ in
     let (same, left) = same_read (record { number = number.0; body = body.0; what = what.0 }) e behind rest is in
     let (text₁, low) = number_takes 65536 bytes number.0 number.1 (omega arith) first in
     let text₂ = after_takes (codes " ") number.1 blank second in
@@ -426,9 +426,9 @@ pub header_takes : (bytes : List ℕ) (count : ℕ) (rest : List ℕ) → header
     (bytes ≡ header_text count ++ rest) × (count ≤ 65536)
 unfolding header_at
 header_takes bytes count rest read =
-    let (front, first, read₁) = bound (after (codes "journal 1 ") bytes) after_word (count, rest) read in
+    let (front, first, read₁) = bound (after_text (codes "journal 1 ") bytes) after_word (count, rest) read in
     let (number, second, read₂) = bound (decimal_at 65537 front) after_count (count, rest) read₁ in
-    let (behind, third, is) = bound (after (codes "\n") number.1) (as_header number.0) (count, rest) read₂ in
+    let (behind, third, is) = bound (after_text (codes "\n") number.1) (as_header number.0) (count, rest) read₂ in
     let (same, left) = same_read number.0 count behind rest is in
     let text₁ = after_takes (codes "journal 1 ") bytes front first in
     let (text₂, low) = number_takes 65537 front number.0 number.1 (omega arith) second in
@@ -441,7 +441,7 @@ header_takes bytes count rest read =
     as_header count rest = Some (count, rest)
 
     after_count : ℕ × List ℕ → Read ℕ
-    after_count count = after (codes "\n") count.1 >>= as_header count.0
+    after_count count = after_text (codes "\n") count.1 >>= as_header count.0
 
     after_word : List ℕ → Read ℕ
     after_word front = decimal_at 65537 front >>= after_count

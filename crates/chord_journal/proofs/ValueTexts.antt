@@ -11,7 +11,7 @@ use Rattle.chord_base.specs.declared.value.Value as value
 use Rattle.chord_base.specs.declared.value.Value.TheVariants as a_value
 use Rattle.chord_journal.specs.Text.{byte_text, object_text, value_text, values_text, numbers_text}
 use Rattle.chord_journal.specs.Typed.{IsTypedValue, AreTypedValues}
-use Rattle.chord_journal.specs.Reading.{Read, ◌>>=◌, after, decimal_at, int_at, text_at, object_at, value_at, begins_digit, begins_blank, next_value_at, values_at, next_number_at, numbers_at}
+use Rattle.chord_journal.specs.Reading.{Read, ◌>>=◌, after_text, decimal_at, int_at, text_at, object_at, value_at, begins_digit, begins_blank, next_value_at, values_at, next_number_at, numbers_at}
 use Rattle.chord_journal.proofs.Binds.{bound, same_read, by_branch}
 use Rattle.chord_journal.proofs.Fronts.{after_takes}
 use Rattle.chord_journal.proofs.Numbers.{number_again, number_takes, int_again, int_takes}
@@ -36,9 +36,9 @@ object_again o rest within none =
 pub object_takes : (bytes : List ℕ) (o : Object) (rest : List ℕ) → object_at bytes ≡ Some (o, rest) → (bytes ≡ object_text o ++ rest) × IsObjectWithin o
 unfolding object_at
 object_takes bytes o rest read =
-    let (front, first, read₁) = bound (after (codes "o") bytes) after_o (o, rest) read in
+    let (front, first, read₁) = bound (after_text (codes "o") bytes) after_o (o, rest) read in
     let (number, second, read₂) = bound (decimal_at 65536 front) after_number (o, rest) read₁ in
-    let (dot, third, read₃) = bound (after (codes ".") number.1) (after_dot number.0) (o, rest) read₂ in
+    let (dot, third, read₃) = bound (after_text (codes ".") number.1) (after_dot number.0) (o, rest) read₂ in
     let (class, fourth, is) = bound (decimal_at 1024 dot) (made number.0) (o, rest) read₃ in
     let (same, left) = same_read (record { number = number.0; class = class.0 }) o class.1 rest is in
     let whole₁ = after_takes (codes "o") bytes front first in
@@ -56,7 +56,7 @@ object_takes bytes o rest read =
     after_dot number dot = decimal_at 1024 dot >>= made number
 
     after_number : ℕ × List ℕ → Read Object
-    after_number number = after (codes ".") number.1 >>= after_dot number.0
+    after_number number = after_text (codes ".") number.1 >>= after_dot number.0
 
     after_o : List ℕ → Read Object
     after_o front = decimal_at 65536 front >>= after_number
@@ -144,7 +144,7 @@ behind_blank v = codes " " ++ value_text v
 -- what is read behind a blank is a value
 next_value_takes : (bytes : List ℕ) (v : value.Value) (more : List ℕ) → next_value_at bytes ≡ Some (v, more) → (bytes ≡ behind_blank v ++ more) × IsGood v
 next_value_takes bytes v more read =
-    let (front, first, second) = bound (after (codes " ") bytes) value_at (v, more) read in
+    let (front, first, second) = bound (after_text (codes " ") bytes) value_at (v, more) read in
     let blank = after_takes (codes " ") bytes front first in
     let (text, within, typed) = value_takes front v more second in
     (blank ∙ ap (λ b. 32 ∷ b) text, (within, typed))
@@ -204,7 +204,7 @@ numbers_takes (suc count) bytes ns rest read =
     let (n, first, second) = bound (next_number_at bytes) then_numbers (ns, rest) read in
     let (ms, third, is) = bound (numbers_at count n.1) (put_number n.0) (ns, rest) second in
     let (all, left) = same_read (n.0 ∷ ms.0) ns ms.1 rest is in
-    let (front, blank, number) = bound (after (codes " ") bytes) (decimal_at 65536) n first in
+    let (front, blank, number) = bound (after_text (codes " ") bytes) (decimal_at 65536) n first in
     let (text, less) = number_takes 65536 front n.0 n.1 (omega arith) number in
     let (others, counted, within) = numbers_takes count n.1 ms.0 ms.1 third in
     let whole : bytes ≡ numbers_text (n.0 ∷ ms.0) ++ rest =

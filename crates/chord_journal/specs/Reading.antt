@@ -35,10 +35,10 @@ ReadsAs view (Ok x) read = read ≡ Some (view x)
 ReadsAs view (Err e) read = Fails e read
 
 -- the bytes behind this text, if it stands at the front
-abbrev pub after : List ℕ → List ℕ → Option (List ℕ)
-after [] bytes = Some bytes
-after (c ∷ cs) [] = None
-after (c ∷ cs) (b ∷ bytes) = if b == c then after cs bytes else None
+abbrev pub after_text : List ℕ → List ℕ → Option (List ℕ)
+after_text [] bytes = Some bytes
+after_text (c ∷ cs) [] = None
+after_text (c ∷ cs) (b ∷ bytes) = if b == c then after_text cs bytes else None
 
 -- digits that are a decimal: at least one, and no zero before another
 abbrev pub is_decimal : List ℕ → Bool
@@ -68,9 +68,9 @@ int_at (b ∷ bytes) = if b == 45 then negative_at bytes else decimal_at 2147483
 -- an object
 unfoldable pub object_at : List ℕ → Read Object
 object_at bytes = do
-  front ← after (codes "o") bytes
+  front ← after_text (codes "o") bytes
   number ← decimal_at 65536 front
-  dot ← after (codes ".") number.1
+  dot ← after_text (codes ".") number.1
   class ← decimal_at 1024 dot
   Some (record { number = number.0; class = class.0 }, class.1)
 
@@ -132,7 +132,7 @@ begins_blank (b ∷ bytes) = b == 32
 
 -- a value behind a blank
 abbrev pub next_value_at : List ℕ → Read value.Value
-next_value_at bytes = after (codes " ") bytes >>= value_at
+next_value_at bytes = after_text (codes " ") bytes >>= value_at
 
 -- the values that stand there, each behind a blank, and no more than so many
 abbrev pub values_at : ℕ → List ℕ → Read (List value.Value)
@@ -140,7 +140,7 @@ values_at most bytes = many begins_blank next_value_at most bytes
 
 -- a number below 65,536 behind a blank
 abbrev pub next_number_at : List ℕ → Read ℕ
-next_number_at bytes = after (codes " ") bytes >>= decimal_at 65536
+next_number_at bytes = after_text (codes " ") bytes >>= decimal_at 65536
 
 -- so many numbers, each behind a blank
 unfoldable pub numbers_at : ℕ → List ℕ → Read (List ℕ)
@@ -151,7 +151,7 @@ numbers_at (suc count) bytes = next_number_at bytes >>= (λ n. numbers_at count 
 unfoldable pub sending_at : List ℕ → Read What
 sending_at bytes = do
   object ← object_at bytes
-  blank ← after (codes " ") object.1
+  blank ← after_text (codes " ") object.1
   method ← decimal_at 16 blank
   values ← values_at 8 method.1
   Some (Sent object.0 method.0 values.0, values.1)
@@ -160,7 +160,7 @@ sending_at bytes = do
 unfoldable pub calling_at : List ℕ → Read What
 calling_at bytes = do
   object ← object_at bytes
-  blank ← after (codes " ") object.1
+  blank ← after_text (codes " ") object.1
   method ← decimal_at 16 blank
   values ← values_at 8 method.1
   Some (Called object.0 method.0 values.0, values.1)
@@ -169,9 +169,9 @@ calling_at bytes = do
 unfoldable pub firing_at : List ℕ → Read What
 firing_at bytes = do
   chord ← decimal_at 256 bytes
-  blank ← after (codes " ") chord.1
+  blank ← after_text (codes " ") chord.1
   object ← object_at blank
-  next ← after (codes " ") object.1
+  next ← after_text (codes " ") object.1
   count ← decimal_at 9 next
   members ← (if count.0 == 0 then None else numbers_at count.0 count.1)
   values ← values_at 64 members.1
@@ -179,7 +179,7 @@ firing_at bytes = do
 
 -- what stands behind a text if it is at the front, and something else if it is not
 abbrev pub on : {A : Type 0} → List ℕ → List ℕ → (List ℕ → Read A) → Read A → Read A
-on text bytes part other = elim (after text bytes) [ Some rest ↦ part rest | None ↦ other ]
+on text bytes part other = elim (after_text text bytes) [ Some rest ↦ part rest | None ↦ other ]
 
 -- an end: a trap, or a value
 unfoldable pub end_at : List ℕ → Read End
@@ -218,17 +218,17 @@ what_at bytes =
 unfoldable pub entry_at : ℕ → List ℕ → Read Entry
 entry_at place bytes = do
   number ← decimal_at 65536 bytes
-  blank ← (if number.0 == place then after (codes " ") number.1 else None)
+  blank ← (if number.0 == place then after_text (codes " ") number.1 else None)
   body ← decimal_at 65536 blank
-  next ← after (codes " ") body.1
+  next ← after_text (codes " ") body.1
   what ← what_at next
-  rest ← after (codes "\n") what.1
+  rest ← after_text (codes "\n") what.1
   Some (record { number = number.0; body = body.0; what = what.0 }, rest)
 
 -- the header: how many entries there are
 unfoldable pub header_at : List ℕ → Read ℕ
 header_at bytes = do
-  front ← after (codes "journal 1 ") bytes
+  front ← after_text (codes "journal 1 ") bytes
   count ← decimal_at 65537 front
-  rest ← after (codes "\n") count.1
+  rest ← after_text (codes "\n") count.1
   Some (count.0, rest)

@@ -3,7 +3,7 @@ ghost use Rattle.std.specs.Prelude.{◌≡◌, ℕ, ◌<◌, ◌≤◌, None, If
 ghost use Rattle.std.specs.List.{prefix_len};
 ghost use Rattle.std.specs.Char.{is_ascii_digit};
 ghost use Rattle.chord_journal.specs.Reading.{ReadsAs, decimal_at, negative_at, value_if_below, int_at, byte_at, text_at, object_at};
-ghost use Rattle.chord_journal.specs.Reading.{after as after_lem, is_decimal as is_plain_lem, begins_digit as begins_digit_lem, digit_of as digit_of_lem};
+ghost use Rattle.chord_journal.specs.Reading.{after_text as after_lem, is_decimal as is_plain_lem, begins_digit as begins_digit_lem, digit_of as digit_of_lem};
 ghost use Rattle.chord_journal.specs.declared.parts.LineFault.TheVariants as faults;
 
 use arrayvec::ArrayVec;
@@ -29,7 +29,7 @@ impl<T: Drop> From<AllocFailed<T>> for LineFault {
 }
 
 /// The bytes behind a text.
-pub fn after<'a>(bytes: &'a [u8], text: &[u8]) -> Result<&'a [u8], LineFault>
+pub fn after_text<'a>(bytes: &'a [u8], text: &[u8]) -> Result<&'a [u8], LineFault>
     ensures read { ReadsAs (λ rest. rest.now) result (after_lem text.now bytes.now) }
     ensures wrong { OnErr result (after_lem text.now bytes.now ≡ None) }
 {
@@ -126,9 +126,9 @@ fn read_negative(bytes: &[u8]) -> Result<(i32, &[u8]), LineFault>
 pub fn read_object(bytes: &[u8]) -> Result<(Object, &[u8]), LineFault>
     ensures { ReadsAs (λ x. (x.0, x.1.now)) result (object_at bytes.now) }
 {
-    let rest = after(bytes, b"o")?;
+    let rest = after_text(bytes, b"o")?;
     let (number, rest) = read_number(rest, 65_536)?;
-    let rest = after(rest, b".")?;
+    let rest = after_text(rest, b".")?;
     let (class, rest) = read_number(rest, 1024)?;
     let class = class as u16;
     Ok((Object { number, class }, rest))

@@ -8,7 +8,7 @@ use Rattle.chord_tree.specs.Tree.{ProgramTree}
 use Rattle.chord_parser.specs.declared.parser.ParseFault.{ParseFault}
 use Rattle.chord_parser.specs.declared.parser.ParseFault.TheVariants as answers
 use Rattle.chord_parser.specs.Answers.{start, IsAnswer}
-use Rattle.chord_parser.proofs.Whole.{IsFound, not_wrong, never_tall}
+use Rattle.chord_parser.proofs.Whole.{IsWholeFound, not_wrong, never_tall}
 use Rattle.chord_parser.specs.Exact.{BeginsThrough, IsWrong, IsTall}
 use Rattle.chord_parser.proofs.Prefix.{one_prefix, alike, DepthAt}
 
@@ -121,9 +121,9 @@ tall_only ks (answers.At j) h k a = absurd (not_wrong_and_tall ks h.0 a.0 h.2 a.
 tall_only ks (answers.Tall j) h k a = let e = one_tall ks h.0 a.0 h.2 a.2 in let x = h.1 in let y = a.1 in let z : j ≡ k = omega arith in inr (ap answers.Tall z)
 
 -- tokens of a program are not refused
-pub found_not_at : (ks : List Kind) (t : ProgramTree) → IsFound ks t → (k : ℕ) → IsAnswer ks (answers.At k) → ⊥
+pub found_not_at : (ks : List Kind) (t : ProgramTree) → IsWholeFound ks t → (k : ℕ) → IsAnswer ks (answers.At k) → ⊥
 found_not_at ks t f k a = not_wrong ks t a.0 f.program f.spelled a.2
 
 -- tokens of a program have no tall one
-pub found_not_tall : (ks : List Kind) (t : ProgramTree) → IsFound ks t → (k : ℕ) → IsAnswer ks (answers.Tall k) → ⊥
+pub found_not_tall : (ks : List Kind) (t : ProgramTree) → IsWholeFound ks t → (k : ℕ) → IsAnswer ks (answers.Tall k) → ⊥
 found_not_tall ks t f k a = never_tall ks t a.0 f.program f.not_tall f.spelled a.2

@@ -135,19 +135,19 @@ meanings =
     ∷ IsPrimary ∷ Is node_start ∷ IsOptional grammar.Optional_actuals (λ a. node_actuals a ▸ End) ∷ []
 
 -- the node stands for what its symbol is for
-abbrev pub Stands : Symbol → Node → Type 0
-Stands (Terminal c) n = IsToken c n
-Stands (Nonterminal x) n = get_or meanings x (λ m. ⊥) n
+abbrev pub StandsFor : Symbol → Node → Type 0
+StandsFor (Terminal c) n = IsToken c n
+StandsFor (Nonterminal x) n = get_or meanings x (λ m. ⊥) n
 
 infixr 20 ◌&◌
 -- the nodes stand for what these symbols are for, one for each
 pub data AllStand : List Symbol → Nodes → Type 0 where
   nothing : AllStand [] End
-  ◌&◌ : {p : Symbol} {ps : List Symbol} {n : Node} {ns : Nodes} → Stands p n → AllStand ps ns → AllStand (p ∷ ps) (n ▸ ns)
+  ◌&◌ : {p : Symbol} {ps : List Symbol} {n : Node} {ns : Nodes} → StandsFor p n → AllStand ps ns → AllStand (p ∷ ps) (n ▸ ns)
 
 -- what has nodes of this right side stands for what its nonterminal is for
 abbrev pub Gives : Symbol → List Symbol → Type 0
-Gives head side = (ns : Nodes) → AllStand side ns → Stands head (Made head ns)
+Gives head side = (ns : Nodes) → AllStand side ns → StandsFor head (Made head ns)
 
 infixr 20 ◌⊳◌
 -- it is so for each of these productions
@@ -169,9 +169,9 @@ rule_gives g i l = one_gives g i l
 module _ (rules : AllGive productions) where
   mutual
     -- a node that the grammar derives stands for what its symbol is for
-    pub stands : {p : Symbol} {d : ℕ} {n : Node} {w : List Spelled} → Fits p d n w → (at : ℕ) → IsNumbered n at → Stands p n
+    pub stands : {p : Symbol} {d : ℕ} {n : Node} {w : List Spelled} → Fits p d n w → (at : ℕ) → IsNumbered n at → StandsFor p n
     stands (leaf {c} {at = number} {k} e) at m = subst (λ z. IsToken z (Leaf k number)) e (subst (λ z. IsToken (terminal_of k) (Leaf k z)) (sym m) (is_token k at))
-    stands (made {x} {ns} i l h a f) at m = subst (λ y. Stands (Nonterminal y) (Made (Nonterminal y) ns)) h (rule_gives rules i l ns (all_stand f at m))
+    stands (made {x} {ns} i l h a f) at m = subst (λ y. StandsFor (Nonterminal y) (Made (Nonterminal y) ns)) h (rule_gives rules i l ns (all_stand f at m))
 
     -- and so do nodes side by side
     pub all_stand : {ps : List Symbol} {d : ℕ} {ns : Nodes} {w : List Spelled} → FitAll ps d ns w → (at : ℕ) → AllNumbered ns at → AllStand ps ns

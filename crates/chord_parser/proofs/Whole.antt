@@ -51,13 +51,13 @@ stopped ks (faults.At n) h = let o = by_kinds start ks n (exact (h [])) in (wron
 stopped ks (faults.Tall n) h = let o = exact (h []) in (tall_within ks n o, o)
 
 -- the tokens are those of the program, none of them too deep
-pub record IsFound (ks : List Kind) (t : ProgramTree) : Type 0 where
+pub record IsWholeFound (ks : List Kind) (t : ProgramTree) : Type 0 where
   pub program : IsProgram t
   pub spelled : spelling t ≡ ks
   pub not_tall : IsNotTall t
 
 -- where all is read, the tokens are those of the program
-pub found : (count : ℕ) (ts : List Token) (rest : List Kind) (t : ProgramTree) → count ≡ length ts → rest ≡ [] → Reads count Whole_program 0 (token_kinds ts) rest (node_program t) → IsFound (token_kinds ts) t
+pub found : (count : ℕ) (ts : List Token) (rest : List Kind) (t : ProgramTree) → count ≡ length ts → rest ≡ [] → Reads count Whole_program 0 (token_kinds ts) rest (node_program t) → IsWholeFound (token_kinds ts) t
 unfolding nonterminal_count
 found count ts rest t e h r =
     let r' : Reads count Whole_program 0 (token_kinds ts) [] (node_program t) = subst (λ z. Reads count Whole_program 0 (token_kinds ts) z (node_program t)) h r in
@@ -102,7 +102,7 @@ only_memory ks (answers.At k) h t a l e = absurd (not_wrong ks t h.0 a e h.2)
 only_memory ks (answers.Tall k) h t a l e = absurd (never_tall ks t h.0 a l e h.2)
 
 -- tokens have one program at most
-pub the_one : (ks : List Kind) (u : ProgramTree) → IsFound ks u → (t : ProgramTree) → IsProgram t → spelling t ≡ ks → u ≡ t
+pub the_one : (ks : List Kind) (u : ProgramTree) → IsWholeFound ks u → (t : ProgramTree) → IsProgram t → spelling t ≡ ks → u ≡ t
 the_one ks u f t a e = only_one u t f.program a (f.spelled ∙ sym e)
 
 -- the kinds of a program's tokens are those that it spells

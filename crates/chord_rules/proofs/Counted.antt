@@ -10,7 +10,7 @@ use Rattle.chord_classes.specs.Least.{least, keys}
 use Rattle.chord_rules.specs.declared.own_methods.Grown.{Grown}
 use Rattle.chord_rules.specs.Limits.{TakesRoom}
 use Rattle.chord_rules.specs.Growing.{IsCounted}
-use Rattle.chord_rules.proofs.Rooms.{takes_none, takes_both, takes_one}
+use Rattle.chord_rules.proofs.Rooms.{takes_none, rooms_taken, takes_one}
 
 -- headers, and then others
 pub headers_joined : (owner : ℕ) (methods : List Method) (headers more : List HeaderTree) → with_headers owner methods (headers ++ more) ≡ with_headers owner (with_headers owner methods headers) more
@@ -49,7 +49,7 @@ counted_over {inherits} {owner} {headers} {more} {before} {mid} {after} {o} {p} 
         new = λ n. b.grown.new (a.grown.new n);
       };
       room = subst (λ z. TakesRoom z before.room after.room o q) (sym (ap header_tokens (new_more owner start headers more) ∙ tokens_more (new_headers owner start headers) (new_headers owner (with_headers owner start headers) more)))
-          (takes_both a.room moved);
+          (rooms_taken a.room moved);
     }
 
 -- no header adds nothing

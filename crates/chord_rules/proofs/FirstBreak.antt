@@ -18,7 +18,7 @@ use Rattle.chord_classes.specs.Least.{keys, least}
 use Rattle.chord_classes.proofs.Leasts.{IsIn, contains_in, in_contains, in_either, of_key, not_less, is_least, none_noted, noted_two}
 use Rattle.chord_rules.specs.Family.{is_layout_rule}
 use Rattle.chord_rules.specs.ClassKeys.{differing, hiding, misfitting, header_keys, chord_keys, chord_limits, keys_of_member, name_keys, place_keys, method_limits, chord_places, inner_keys, class_keys, classes_keys, program_keys}
-use Rattle.chord_rules.specs.FormalNames.{header_formals}
+use Rattle.chord_rules.specs.FormalNames.{formals_of_header}
 use Rattle.chord_rules.specs.Bearers.{header_barred}
 use Rattle.chord_rules.specs.Limits.{crowded_formals}
 use Rattle.chord_rules.specs.Splits.{split}
@@ -59,7 +59,7 @@ mine_member (ConstructorMember modifiers name formals body) =
     mine_four 21 8 4 4 (barred_among OnConstructor modifiers [] modifiers) (repeated_formals [] formals.parameters) (drop 8 (formal_tokens formals.parameters)) (drop 256 (block_names body)) (omega arith) (omega arith) (omega arith) (omega arith) refl refl refl refl
 mine_member (ChordMember hs body) =
     mine_both (chord_keys hs) (chord_limits hs body)
-    (mine_four 21 7 6 8 (flat_map (header_barred (length hs)) hs) (repeated [] hs) (second_sync false hs) (repeated_formals [] (flat_map header_formals hs)) (omega arith) (omega arith) (omega arith) (omega arith) refl refl refl refl)
+    (mine_four 21 7 6 8 (flat_map (header_barred (length hs)) hs) (repeated [] hs) (second_sync false hs) (repeated_formals [] (flat_map formals_of_header hs)) (omega arith) (omega arith) (omega arith) (omega arith) refl refl refl refl)
     (mine_three 4 4 4 (drop 8 (header_tokens hs)) (flat_map crowded_formals hs) (drop 256 (block_names body)) (omega arith) (omega arith) (omega arith) refl refl refl)
 
 mine_inner : (done : List Shape) (plans : List ClassOf) (c : ClassTree) → AreMine (inner_keys done plans c)

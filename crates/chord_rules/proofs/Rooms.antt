@@ -30,8 +30,8 @@ takes_none {room} {o} = record { left = omega arith; noted = nothing room }
     nothing (suc n) = refl
 
 -- names, and then others, take room for both
-pub takes_both : {names others : List ℕ} {room mid over : ℕ} {o p q : Option ℕ} → TakesRoom names room mid o p → TakesRoom others mid over p q → TakesRoom (names ++ others) room over o q
-takes_both {names} {others} {room} {mid} {over} {o} {p} {q} a b = record {
+pub rooms_taken : {names others : List ℕ} {room mid over : ℕ} {o p q : Option ℕ} → TakesRoom names room mid o p → TakesRoom others mid over p q → TakesRoom (names ++ others) room over o q
+rooms_taken {names} {others} {room} {mid} {over} {o} {p} {q} a b = record {
   left = (let e = a.left in let f = b.left in let g = length-append names others in omega (arith, e, f, g));
   noted = b.noted ∙ sym (next_rooms room mid names others o p a.left a.noted);
 }

@@ -15,7 +15,7 @@ use Rattle.chord_classes.specs.DeclarationRules.{declared_again, base_missing, r
 use Rattle.chord_classes.specs.ChordRules.{repeated, repeated_in, repeated_methods, second_sync, crowded_in, second_synchronous, formal_tokens, header_tokens, block_names, member_limits, limits_passed, chord_tokens, base_token, misnamed_constructors, base_has, wrong_constructors, over_plans, mains_of, wrong_mains}
 use Rattle.chord_classes.specs.Rules.{limits_in}
 use Rattle.chord_classes.specs.Least.{keys}
-use Rattle.chord_rules.specs.FormalNames.{header_formals}
+use Rattle.chord_rules.specs.FormalNames.{formals_of_header}
 use Rattle.chord_rules.specs.Bearers.{header_barred}
 use Rattle.chord_rules.specs.Limits.{crowded_formals}
 use Rattle.chord_rules.specs.Splits.{split}
@@ -43,7 +43,7 @@ abbrev at_member : ℕ → MemberTree → List ℕ
 at_member r (ConstructorMember modifiers name formals body) =
     of r 21 (barred_among OnConstructor modifiers [] modifiers) ++ (of r 8 (repeated_formals [] formals.parameters) ++ (of r 4 (drop 8 (formal_tokens formals.parameters)) ++ of r 4 (drop 256 (block_names body))))
 at_member r (ChordMember hs body) =
-    (of r 21 (flat_map (header_barred (length hs)) hs) ++ (of r 7 (repeated [] hs) ++ (of r 6 (second_sync false hs) ++ of r 8 (repeated_formals [] (flat_map header_formals hs)))))
+    (of r 21 (flat_map (header_barred (length hs)) hs) ++ (of r 7 (repeated [] hs) ++ (of r 6 (second_sync false hs) ++ of r 8 (repeated_formals [] (flat_map formals_of_header hs)))))
     ++ (of r 4 (drop 8 (header_tokens hs)) ++ (of r 4 (flat_map crowded_formals hs) ++ of r 4 (drop 256 (block_names body))))
 
 four : (r a b c d : ℕ) (ks ls ms ns : List ℕ) → a < 32 → b < 32 → c < 32 → d < 32 → tokens_of r (keys a ks ++ (keys b ls ++ (keys c ms ++ keys d ns))) ≡ of r a ks ++ (of r b ls ++ (of r c ms ++ of r d ns))
@@ -55,7 +55,7 @@ member_is r (ConstructorMember modifiers name formals body) =
     four r 21 8 4 4 (barred_among OnConstructor modifiers [] modifiers) (repeated_formals [] formals.parameters) (drop 8 (formal_tokens formals.parameters)) (drop 256 (block_names body)) (omega arith) (omega arith) (omega arith) (omega arith)
 member_is r (ChordMember hs body) =
     two r (chord_keys hs) (chord_limits hs body) _ _
-    (four r 21 7 6 8 (flat_map (header_barred (length hs)) hs) (repeated [] hs) (second_sync false hs) (repeated_formals [] (flat_map header_formals hs)) (omega arith) (omega arith) (omega arith) (omega arith))
+    (four r 21 7 6 8 (flat_map (header_barred (length hs)) hs) (repeated [] hs) (second_sync false hs) (repeated_formals [] (flat_map formals_of_header hs)) (omega arith) (omega arith) (omega arith) (omega arith))
     (two r (keys 4 (drop 8 (header_tokens hs))) _ _ _ (tokens_keys r 4 (drop 8 (header_tokens hs)) (omega arith))
     (two r (keys 4 (flat_map crowded_formals hs)) (keys 4 (drop 256 (block_names body))) _ _ (tokens_keys r 4 (flat_map crowded_formals hs) (omega arith)) (tokens_keys r 4 (drop 256 (block_names body)) (omega arith))))
 
@@ -183,7 +183,7 @@ class_8 classes done plans c = class_is 8 classes done plans c ∙ of_members _ 
   where
     said : (m : MemberTree) → at_member 8 m ≡ repeated_formals [] (member_formals m)
     said (ConstructorMember modifiers name formals body) = append-nil (repeated_formals [] formals.parameters)
-    said (ChordMember hs body) = append-nil (repeated_formals [] (flat_map header_formals hs))
+    said (ChordMember hs body) = append-nil (repeated_formals [] (flat_map formals_of_header hs))
 
 class_21 : (classes : List ClassTree) (done : List Shape) (plans : List ClassOf) (c : ClassTree) → tokens_of 21 (class_keys classes done plans c) ≡ modifiers_barred done c
 class_21 classes done plans c = class_is 21 classes done plans c ∙ of_members _ _ (modifiers_barred done c) (flat_same (at_member 21) barred_in said c.members) (no_header 21 (headers_of c) (inherited done (base_of done c)) (λ h. refl))

@@ -22,8 +22,8 @@ pub item_by_item : {A R : Type 0} (f : List A → R) (xs : List A) (i : ℕ) (x 
 item_by_item f xs i x r all l e h k = sym h ∙ ap f (sym (item_here xs i x l e)) ∙ k
 
 -- What a function says of the list from behind its end on is what it says of no items.
-pub ended : {A R : Type 0} (f : List A → R) (xs : List A) (i : ℕ) (all : R) → length xs ≤ i → f (drop i xs) ≡ all → f [] ≡ all
-ended f xs i all l h = ap f (sym (behind_end xs i l)) ∙ h
+pub search_ended : {A R : Type 0} (f : List A → R) (xs : List A) (i : ℕ) (all : R) → length xs ≤ i → f (drop i xs) ≡ all → f [] ≡ all
+search_ended f xs i all l h = ap f (sym (behind_end xs i l)) ∙ h
 
 -- a function on each item keeps the length of a list
 pub map_length : {A B : Type 0} (f : A → B) (xs : List A) → length (map f xs) ≡ length xs

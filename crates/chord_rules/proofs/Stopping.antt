@@ -44,9 +44,9 @@ least_stays [] k f = refl
 least_stays (x ∷ xs) k f = let l = f x (inl refl) in let e : min k x ≡ k = omega (arith, l) in ap (λ z. least (Some z) xs) e ∙ least_stays xs k (λ y i. f y (inr i))
 
 -- after a class that breaks a rule the least is that of all classes
-pub stopped : (classes : List ClassTree) (done : List Shape) (plans : List ClassOf) (number : ℕ) (c : ClassTree) (rest : List ClassTree) (o p : Option ℕ) (k : ℕ) → ClassesNumbered (c ∷ rest) → o ≡ None → p ≡ least o (class_keys classes done plans c) → p ≡ Some k
+pub classes_stopped : (classes : List ClassTree) (done : List Shape) (plans : List ClassOf) (number : ℕ) (c : ClassTree) (rest : List ClassTree) (o p : Option ℕ) (k : ℕ) → ClassesNumbered (c ∷ rest) → o ≡ None → p ≡ least o (class_keys classes done plans c) → p ≡ Some k
     → least o (over_plans (class_keys classes) done plans number (c ∷ rest)) ≡ p
-stopped classes done plans number c rest o p k numbered n hp hk =
+classes_stopped classes done plans number c rest o p k numbered n hp hk =
     let at = numbered.0 in
     let later = over_plans (class_keys classes) (done ++ (shape_of done c ∷ [])) (plans ++ (class_plan done plans number c ∷ [])) (number + length c.members) rest in
     let here = is_least (class_keys classes done plans c) k (ap (λ z. least z (class_keys classes done plans c)) (sym n) ∙ sym hp ∙ hk) in

@@ -22,7 +22,7 @@ use Rattle.chord_classes.specs.Plan.{base_chords, overridden, class_plan}
 use Rattle.chord_classes.specs.OverrideRules.{overrides, first_named, differs_from, unless_main, agree}
 use Rattle.chord_classes.specs.DeclarationRules.{Bearer, OnConstructor, InHeader, is_barred, barred_among, repeated_formals, declared_again, base_missing, overriding}
 use Rattle.chord_classes.specs.Least.{least, keys}
-use Rattle.chord_rules.specs.FormalNames.{header_formals}
+use Rattle.chord_rules.specs.FormalNames.{formals_of_header}
 use Rattle.chord_rules.specs.Bearers.{header_barred}
 use Rattle.chord_rules.specs.Limits.{crowded_formals}
 use Rattle.chord_rules.specs.Splits.{any_spared, any_labelled, split_from, split}
@@ -260,9 +260,9 @@ module _ (lo hi : ℕ) where
   joined_formals [] gs v w = w
   joined_formals (f ∷ fs) gs v w = (v.0, joined_formals fs gs v.1 w)
 
-  all_formals : (hs : List HeaderTree) → HeadersWithin lo hi hs → FormalsWithin lo hi (flat_map header_formals hs)
+  all_formals : (hs : List HeaderTree) → HeadersWithin lo hi hs → FormalsWithin lo hi (flat_map formals_of_header hs)
   all_formals [] w = tt
-  all_formals (h ∷ hs) w = joined_formals h.formals.parameters (flat_map header_formals hs) w.0.formals (all_formals hs w.1)
+  all_formals (h ∷ hs) w = joined_formals h.formals.parameters (flat_map formals_of_header hs) w.0.formals (all_formals hs w.1)
 
   crowded_within : (hs : List HeaderTree) → HeadersWithin lo hi hs → AreWithin lo hi (flat_map crowded_formals hs)
   crowded_within [] w = none_within
@@ -360,7 +360,7 @@ module _ (lo hi : ℕ) where
       (both_keys (keys_within 4 (omega arith) (drop_within 8 (formal_tokens formals.parameters) (formals_tokens formals.parameters w.2))) (keys_within 4 (omega arith) (drop_within 256 (block_names body) w.3))))
   member_keys_within (ChordMember hs body) w =
       both_keys (both_keys (keys_within 21 (omega arith) (headers_barred_within (length hs) hs w.0)) (both_keys (keys_within 7 (omega arith) (methods_within [] hs w.0))
-      (both_keys (keys_within 6 (omega arith) (sync_within false hs w.0)) (keys_within 8 (omega arith) (repeated_within [] (flat_map header_formals hs) (all_formals hs w.0))))))
+      (both_keys (keys_within 6 (omega arith) (sync_within false hs w.0)) (keys_within 8 (omega arith) (repeated_within [] (flat_map formals_of_header hs) (all_formals hs w.0))))))
       (both_keys (keys_within 4 (omega arith) (drop_within 8 (header_tokens hs) (headers_tokens hs w.0))) (both_keys (keys_within 4 (omega arith) (crowded_within hs w.0)) (keys_within 4 (omega arith) (drop_within 256 (block_names body) w.1))))
 
   members_keys : (ms : List MemberTree) → MembersWithin lo hi ms → AreKeys lo hi (flat_map keys_of_member ms)

@@ -13,7 +13,7 @@ use Rattle.chord_classes.specs.Plan.{base_chords}
 use Rattle.chord_classes.specs.DeclarationRules.{declared_again, base_missing, repeated_formals, barred_among, OnConstructor}
 use Rattle.chord_classes.specs.ChordRules.{repeated, second_sync, formal_tokens, block_names, header_tokens, new_headers, chord_tokens, base_token, misnamed_constructors, base_has, over_plans, mains_of, wrong_mains}
 use Rattle.chord_classes.specs.Least.{keys}
-use Rattle.chord_rules.specs.FormalNames.{header_formals}
+use Rattle.chord_rules.specs.FormalNames.{formals_of_header}
 use Rattle.chord_rules.specs.Bearers.{header_barred}
 use Rattle.chord_rules.specs.Limits.{crowded_formals}
 use Rattle.chord_rules.specs.Splits.{split}
@@ -42,7 +42,7 @@ constructor_keys modifiers formals body =
 -- what a chord breaks as a whole
 abbrev pub chord_keys : List HeaderTree → List ℕ
 chord_keys headers =
-    keys 21 (flat_map (header_barred (length headers)) headers) ++ (keys 7 (repeated [] headers) ++ (keys 6 (second_sync false headers) ++ keys 8 (repeated_formals [] (flat_map header_formals headers))))
+    keys 21 (flat_map (header_barred (length headers)) headers) ++ (keys 7 (repeated [] headers) ++ (keys 6 (second_sync false headers) ++ keys 8 (repeated_formals [] (flat_map formals_of_header headers))))
 
 -- the limits that a chord passes
 abbrev pub chord_limits : List HeaderTree → BlockTree → List ℕ

@@ -8,5 +8,5 @@ abbrev pub formal_names : List Formal → List (List ℕ)
 formal_names formals = map (λ (formal : Formal). formal.name.text) formals
 
 -- the parameters of a header
-abbrev pub header_formals : HeaderTree → List Formal
-header_formals header = header.formals.parameters
+abbrev pub formals_of_header : HeaderTree → List Formal
+formals_of_header header = header.formals.parameters

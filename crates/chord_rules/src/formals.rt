@@ -5,7 +5,7 @@ ghost use Rattle.std.specs.Prelude.{◌≡◌, IfOk, OnOk, [], ◌++◌, map, re
 ghost use Rattle.chord_tree.specs.View.{see_header};
 ghost use Rattle.chord_classes.specs.DeclarationRules.{repeated_formals};
 ghost use Rattle.chord_classes.specs.Least.{least, keys};
-ghost use Rattle.chord_rules.specs.FormalNames.{formal_names, header_formals};
+ghost use Rattle.chord_rules.specs.FormalNames.{formal_names, formals_of_header};
 
 use chord_classes::least::Least;
 use chord_classes::names::Names;
@@ -36,7 +36,7 @@ pub fn headers_again(
     headers: &[Header],
     breaks: &mut Least,
 ) -> Result<(), AllocError>
-    ensures { OnOk result (breaks.new.found ≡ least breaks.old.found (keys 8 (repeated_formals [] (flat_map header_formals (map see_header headers.now))))) }
+    ensures { OnOk result (breaks.new.found ≡ least breaks.old.found (keys 8 (repeated_formals [] (flat_map formals_of_header (map see_header headers.now))))) }
 {
     let mut names = Names::new(alloc);
     for header in headers {

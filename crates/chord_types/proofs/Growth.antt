@@ -10,7 +10,7 @@ use Rattle.chord_bodies.specs.Resolved.{ExprOf}
 use Rattle.chord_bodies.specs.Resolved as to
 use Rattle.chord_bodies.specs.View.{LinkOf, CallOf, view_expr, view_call, view_link, calls_on, links_on, binary}
 use Rattle.chord_bodies.proofs.Viewed.{viewed_calls, viewed_chain}
-use Rattle.chord_types.proofs.Lists.{map_end}
+use Rattle.chord_types.proofs.Lists.{map_last}
 
 calls_end : (head : ExprOf) (cs : List CallOf) (c : CallOf) → calls_on head (cs ++ (c ∷ [])) ≡ calls_on (calls_on head cs) (c ∷ [])
 calls_end head [] c = refl
@@ -24,12 +24,12 @@ links_more head (k ∷ ks) l = links_more (binary k.operator head k.operand) ks 
 pub call_added : (first : Box Expr Global) (begin : Box Call Global) (old new : Vec Call Global) (call : Call) (receiver : Expr) → receiver ≡ expr.Calls first begin old → new.items ≡ old.items ++ (call ∷ [])
     → view_expr (expr.Calls first begin new) ≡ calls_on (view_expr receiver) (view_call call ∷ [])
 call_added first begin old new call receiver e h =
-    viewed_calls first begin new ∙ ap (λ z. calls_on (view_expr first.value) (view_call begin.value ∷ map view_call z)) h ∙ ap (λ z. calls_on (view_expr first.value) (view_call begin.value ∷ z)) (map_end view_call old.items call)
+    viewed_calls first begin new ∙ ap (λ z. calls_on (view_expr first.value) (view_call begin.value ∷ map view_call z)) h ∙ ap (λ z. calls_on (view_expr first.value) (view_call begin.value ∷ z)) (map_last view_call old.items call)
     ∙ calls_end (view_expr first.value) (view_call begin.value ∷ map view_call old.items) (view_call call) ∙ ap (λ z. calls_on z (view_call call ∷ [])) (sym (viewed_calls first begin old) ∙ sym (ap view_expr e))
 
 -- one more operator on operators
 pub link_added : (first : Box Expr Global) (begin : Box Link Global) (old new : Vec Link Global) (link : Link) (left : Expr) → left ≡ expr.Chain first begin old → new.items ≡ old.items ++ (link ∷ [])
     → view_expr (expr.Chain first begin new) ≡ links_on (view_expr left) (view_link link ∷ [])
 link_added first begin old new link left e h =
-    viewed_chain first begin new ∙ ap (λ z. links_on (view_expr first.value) (view_link begin.value ∷ map view_link z)) h ∙ ap (λ z. links_on (view_expr first.value) (view_link begin.value ∷ z)) (map_end view_link old.items link)
+    viewed_chain first begin new ∙ ap (λ z. links_on (view_expr first.value) (view_link begin.value ∷ map view_link z)) h ∙ ap (λ z. links_on (view_expr first.value) (view_link begin.value ∷ z)) (map_last view_link old.items link)
     ∙ links_more (view_expr first.value) (view_link begin.value ∷ map view_link old.items) (view_link link) ∙ ap (λ z. links_on z (view_link link ∷ [])) (sym (viewed_chain first begin old) ∙ sym (ap view_expr e))

@@ -21,7 +21,7 @@ use Rattle.chord_classes.specs.Least.{keys, least}
 use Rattle.chord_classes.specs.AllNotes.{term_keys, item_keys}
 use Rattle.chord_types.specs.declared.site.Site.{Site}
 use Rattle.chord_types.specs.Sites.{see_site}
-use Rattle.chord_types.specs.StmtChecked.{IsPlain, IsCondition, IsItemChecked, AreItemsChecked, IsBlockChecked, stmt_breaks, block_breaks, items_breaks, item_breaks, resolved_item, item_locals, behind, after_items}
+use Rattle.chord_types.specs.StmtChecked.{IsPlainStmt, IsCondition, IsItemChecked, AreItemsChecked, IsBlockChecked, stmt_breaks, block_breaks, items_breaks, item_breaks, resolved_item, item_locals, behind, after_items}
 use Rattle.chord_classes.proofs.Leasts.{noted_two, least_append}
 use Rattle.chord_types.proofs.Notes.{and_nothing, nothing_before, nothing_after, append_more}
 
@@ -43,7 +43,7 @@ nothing_added : (site : sites.Site) (locals : List ValueType) → locals ≡ [] 
 nothing_added site locals e = let l = ap length e in ap (with_next site) (omega arith)
 
 -- a statement without locals leaves its place
-pub plain_item : (old : Site) (stmt : StmtTree) (found more : Option ℕ) (made : Stmt) → stmt_locals stmt ≡ [] → IsPlain (see_site old) stmt found more made → IsItemChecked old old (StmtItem stmt) found more made
+pub plain_item : (old : Site) (stmt : StmtTree) (found more : Option ℕ) (made : Stmt) → stmt_locals stmt ≡ [] → IsPlainStmt (see_site old) stmt found more made → IsItemChecked old old (StmtItem stmt) found more made
 plain_item old stmt found more made e h = record {
   built = h.built;
   noted = h.noted;
@@ -159,8 +159,8 @@ one_less old now next all rest item found0 found more made one h k = record {
     same_table (StmtItem stmt) e = ap (λ (s : sites.Site). s.table) e
 
 -- all items were looked at
-pub none_left : (old now : Site) (all rest : List ItemTree) (found0 found : Option ℕ) (made : List Stmt) → rest ≡ [] → AreLeft old now all rest found0 found (map view_stmt made) → AreItemsChecked old now all found0 found made
-none_left old now all rest found0 found made e h = record {
+pub no_items_left : (old now : Site) (all rest : List ItemTree) (found0 found : Option ℕ) (made : List Stmt) → rest ≡ [] → AreLeft old now all rest found0 found (map view_stmt made) → AreItemsChecked old now all found0 found made
+no_items_left old now all rest found0 found made e h = record {
   built = λ n. ap stmt_list (sym (nothing_after (map view_stmt made)) ∙ ap (λ z. map view_stmt made ++ each_resolved (see_site now) z) (sym e)) ∙ h.built n;
   noted = ap (λ z. least found (items_breaks (see_site now) (items z))) (sym e) ∙ h.noted;
   types = sym (nothing_after now.types.items) ∙ ap (λ z. now.types.items ++ map (type_known now.table.now) (items_locals (items z))) (sym e) ∙ h.types;
@@ -220,5 +220,5 @@ scope_grows old mid all found more made h =
     omega arith
 
 -- a statement without locals that memory stands for
-pub seen_plain : (old : Site) (seen stmt : StmtTree) (found more : Option ℕ) (made : Stmt) → seen ≡ stmt → stmt_locals stmt ≡ [] → IsPlain (see_site old) stmt found more made → IsItemChecked old old (StmtItem seen) found more made
+pub seen_plain : (old : Site) (seen stmt : StmtTree) (found more : Option ℕ) (made : Stmt) → seen ≡ stmt → stmt_locals stmt ≡ [] → IsPlainStmt (see_site old) stmt found more made → IsItemChecked old old (StmtItem seen) found more made
 seen_plain old seen stmt found more made e n h = subst (λ z. IsItemChecked old old (StmtItem z) found more made) (sym e) (plain_item old stmt found more made n h)

@@ -5,9 +5,9 @@ use Rattle.chord_tree.proofs.Weights.{total}
 use Rattle.chord_tree.specs.Terms.{Term, called, operated, terms, term, CallTerm, OperationTerm}
 
 -- what a function makes of a list with one more at its end
-pub map_end : {A B : Type 0} (f : A → B) (xs : List A) (x : A) → map f (xs ++ (x ∷ [])) ≡ map f xs ++ (f x ∷ [])
-map_end f [] x = refl
-map_end f (a ∷ xs) x = ap (λ z. f a ∷ z) (map_end f xs x)
+pub map_last : {A B : Type 0} (f : A → B) (xs : List A) (x : A) → map f (xs ++ (x ∷ [])) ≡ map f xs ++ (f x ∷ [])
+map_last f [] x = refl
+map_last f (a ∷ xs) x = ap (λ z. f a ∷ z) (map_last f xs x)
 
 take_suc : {A : Type 0} (xs : List A) (i : ℕ) (x : A) → i < length xs → x ≡ get_or xs i x → take (suc i) xs ≡ take i xs ++ (x ∷ [])
 take_suc [] i x l e = absurd (omega arith)
@@ -38,15 +38,15 @@ links_end (MakeLink operator at operand ∷ ls) l t = links_end ls l (OperationT
 module _ {X : Type 0} (f : X → DotTree) where
   -- the first calls and one more
   pub dots_taken : (xs : List X) (i : ℕ) (x : X) (t : Term) → i < length xs → x ≡ get_or xs i x → called (dots (map f (take (i + 1) xs))) t ≡ called (dots (f x ∷ [])) (called (dots (map f (take i xs))) t)
-  dots_taken xs i x t l e = ap (λ z. called (dots (map f z)) t) (take_step xs i x l e) ∙ ap (λ z. called (dots z) t) (map_end f (take i xs) x) ∙ dots_end (map f (take i xs)) (f x) t
+  dots_taken xs i x t l e = ap (λ z. called (dots (map f z)) t) (take_step xs i x l e) ∙ ap (λ z. called (dots z) t) (map_last f (take i xs) x) ∙ dots_end (map f (take i xs)) (f x) t
 
   -- all calls, by the last of them
   pub dots_last : (xs front : List X) (x : X) (t : Term) → xs ≡ front ++ (x ∷ []) → called (dots (map f xs)) t ≡ called (dots (f x ∷ [])) (called (dots (map f front)) t)
-  dots_last xs front x t e = ap (λ z. called (dots (map f z)) t) e ∙ ap (λ z. called (dots z) t) (map_end f front x) ∙ dots_end (map f front) (f x) t
+  dots_last xs front x t e = ap (λ z. called (dots (map f z)) t) e ∙ ap (λ z. called (dots z) t) (map_last f front x) ∙ dots_end (map f front) (f x) t
 
 -- the first operators and one more
 pub links_taken : {X : Type 0} (f : X → LinkTree) (xs : List X) (i : ℕ) (x : X) (t : Term) → i < length xs → x ≡ get_or xs i x → operated (links (map f (take (i + 1) xs))) t ≡ operated (links (f x ∷ [])) (operated (links (map f (take i xs))) t)
-links_taken f xs i x t l e = ap (λ z. operated (links (map f z)) t) (take_step xs i x l e) ∙ ap (λ z. operated (links z) t) (map_end f (take i xs) x) ∙ links_end (map f (take i xs)) (f x) t
+links_taken f xs i x t l e = ap (λ z. operated (links (map f z)) t) (take_step xs i x l e) ∙ ap (λ z. operated (links z) t) (map_last f (take i xs) x) ∙ links_end (map f (take i xs)) (f x) t
 
 total_end : {A : Type 0} (f : A → ℕ) (xs : List A) (x : A) → total (map f (xs ++ (x ∷ []))) ≡ total (map f xs) + f x
 total_end f [] x = omega arith

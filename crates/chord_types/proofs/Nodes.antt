@@ -29,7 +29,7 @@ use Rattle.chord_types.specs.CallKeys.{call_keys, call_type, built_keys}
 use Rattle.chord_types.specs.Checked.{IsChecked, AreChecked, IsReceiver, IsAlone, term_breaks, terms_breaks}
 use Rattle.chord_classes.proofs.Leasts.{noted_two, noted_three, noted_four}
 use Rattle.chord_types.proofs.Notes.{and_nothing, nothing_before, nothing_after, append_more}
-use Rattle.chord_types.proofs.Lists.{map_end}
+use Rattle.chord_types.proofs.Lists.{map_last}
 
 -- `-` and its operand
 pub minus_checked : (site : Site) (at : ℕ) (operand : Term) (old mid new : Option ℕ) (x made : Operand) → IsChecked site Used operand old mid x
@@ -196,9 +196,9 @@ pub one_more : (site : Site) (xs : List ExprTree) (x : ExprTree) (old mid new : 
     → AreAll site xs old mid es ps → IsChecked site Used (term x) mid new operand → first ≡ first_token (term x)
     → AreAll site (xs ++ (x ∷ [])) old new (es ++ (view_expr operand.expr ∷ [])) (ps ++ (record { first = first; static_type = operand.static_type } ∷ []))
 one_more site xs x old mid new es ps operand first h k hf = record {
-  built = λ e. ap (λ z. z ++ (view_expr operand.expr ∷ [])) (h.built (nothing_before mid new (term_breaks site Used (term x)) k.noted e)) ∙ ap (λ z. map (λ x. resolved site (term x)) xs ++ (z ∷ [])) (k.built e) ∙ sym (map_end (λ x. resolved site (term x)) xs x);
+  built = λ e. ap (λ z. z ++ (view_expr operand.expr ∷ [])) (h.built (nothing_before mid new (term_breaks site Used (term x)) k.noted e)) ∙ ap (λ z. map (λ x. resolved site (term x)) xs ++ (z ∷ [])) (k.built e) ∙ sym (map_last (λ x. resolved site (term x)) xs x);
   typed = ap (λ z. z ++ (record { first = first; static_type = operand.static_type } ∷ [])) h.typed ∙ ap (λ z. map (one_passed site) xs ++ (record { first = z; static_type = operand.static_type } ∷ [])) hf
-      ∙ ap (λ z. map (one_passed site) xs ++ (record { first = first_token (term x); static_type = z } ∷ [])) k.typed ∙ sym (map_end (one_passed site) xs x);
+      ∙ ap (λ z. map (one_passed site) xs ++ (record { first = first_token (term x); static_type = z } ∷ [])) k.typed ∙ sym (map_last (one_passed site) xs x);
   noted = noted_two old mid new (flat_map (λ x. term_breaks site Used (term x)) xs) (term_breaks site Used (term x)) h.noted k.noted ∙ ap (least old) (sym (flat_end (λ x. term_breaks site Used (term x)) xs x));
 }
 

@@ -29,7 +29,7 @@ use Rattle.chord_types.specs.Views.{see_passed}
 use Rattle.chord_types.specs.Sites.{see_site, Declares}
 use Rattle.chord_types.specs.CallKeys.{call_keys}
 use Rattle.chord_types.specs.Checked.{IsChecked, AreChecked, IsReceiver, IsAlone, term_breaks, terms_breaks, on_dot}
-use Rattle.chord_types.specs.StmtChecked.{IsPlain, IsCondition, IsItemChecked}
+use Rattle.chord_types.specs.StmtChecked.{IsPlainStmt, IsCondition, IsItemChecked}
 use Rattle.chord_classes.proofs.Leasts.{noted_two, noted_three, noted_four}
 use Rattle.chord_types.proofs.Notes.{and_nothing, nothing_before}
 
@@ -68,20 +68,20 @@ on_alone site receiver dot name brackets actuals start old mid new x args made h
 
 -- a call without receiver and the calls on it, as a statement
 pub call_plain : (site : sites.Site) (name : Name) (actuals : ActualsTree) (calls : DotTrees) (at : ℕ) (args : ExprTrees) (old new : Option ℕ) (made : Stmt)
-    → actuals ≡ MakeActuals at args → IsAlone site (called calls (OwnCallTerm name at (terms args))) old new made → IsPlain site (CallStmt name actuals calls) old new made
-call_plain site name actuals calls at args old new made e h = subst (λ z. IsPlain site (CallStmt name z calls) old new made) (sym e) (record { built = h.built; noted = and_nothing old new (term_breaks site Alone (called calls (OwnCallTerm name at (terms args)))) h.noted })
+    → actuals ≡ MakeActuals at args → IsAlone site (called calls (OwnCallTerm name at (terms args))) old new made → IsPlainStmt site (CallStmt name actuals calls) old new made
+call_plain site name actuals calls at args old new made e h = subst (λ z. IsPlainStmt site (CallStmt name z calls) old new made) (sym e) (record { built = h.built; noted = and_nothing old new (term_breaks site Alone (called calls (OwnCallTerm name at (terms args)))) h.noted })
 
 -- `new` and the calls on it, as a statement
 pub new_plain : (site : sites.Site) (at : ℕ) (name : Name) (actuals : ActualsTree) (calls : DotTrees) (brackets : ℕ) (args : ExprTrees) (old new : Option ℕ) (made : Stmt)
-    → actuals ≡ MakeActuals brackets args → IsAlone site (called calls (NewTerm at name brackets (terms args))) old new made → IsPlain site (NewStmt at name actuals calls) old new made
-new_plain site at name actuals calls brackets args old new made e h = subst (λ z. IsPlain site (NewStmt at name z calls) old new made) (sym e) (record { built = h.built; noted = and_nothing old new (term_breaks site Alone (called calls (NewTerm at name brackets (terms args)))) h.noted })
+    → actuals ≡ MakeActuals brackets args → IsAlone site (called calls (NewTerm at name brackets (terms args))) old new made → IsPlainStmt site (NewStmt at name actuals calls) old new made
+new_plain site at name actuals calls brackets args old new made e h = subst (λ z. IsPlainStmt site (NewStmt at name z calls) old new made) (sym e) (record { built = h.built; noted = and_nothing old new (term_breaks site Alone (called calls (NewTerm at name brackets (terms args)))) h.noted })
 
 -- calls on a variable, as a statement
-pub method_plain : (site : sites.Site) (name : Name) (first : DotTree) (calls : DotTrees) (old new : Option ℕ) (made : Stmt) → IsAlone site (called calls (on_dot (VariableTerm name) first)) old new made → IsPlain site (MethodCallStmt name first calls) old new made
+pub method_plain : (site : sites.Site) (name : Name) (first : DotTree) (calls : DotTrees) (old new : Option ℕ) (made : Stmt) → IsAlone site (called calls (on_dot (VariableTerm name) first)) old new made → IsPlainStmt site (MethodCallStmt name first calls) old new made
 method_plain site name (MakeDot dot method (MakeActuals at args)) calls old new made h = record { built = h.built; noted = and_nothing old new (term_breaks site Alone (called calls (on_dot (VariableTerm name) (MakeDot dot method (MakeActuals at args))))) h.noted }
 
 -- calls on `this`, as a statement
-pub this_plain : (site : sites.Site) (at : ℕ) (first : DotTree) (calls : DotTrees) (old new : Option ℕ) (made : Stmt) → IsAlone site (called calls (on_dot (ThisTerm at) first)) old new made → IsPlain site (ThisCallStmt at first calls) old new made
+pub this_plain : (site : sites.Site) (at : ℕ) (first : DotTree) (calls : DotTrees) (old new : Option ℕ) (made : Stmt) → IsAlone site (called calls (on_dot (ThisTerm at) first)) old new made → IsPlainStmt site (ThisCallStmt at first calls) old new made
 this_plain site at (MakeDot dot method (MakeActuals brackets args)) calls old new made h = record { built = h.built; noted = and_nothing old new (term_breaks site Alone (called calls (on_dot (ThisTerm at) (MakeDot dot method (MakeActuals brackets args))))) h.noted }
 
 -- an object that is made and dropped
@@ -92,7 +92,7 @@ new_ends site at name brackets args old new x made h hv = record { built = λ e.
 pub assign_plain : (site : sites.Site) (name : Name) (at : ℕ) (value : ExprTree) (old mid late new : Option ℕ) (x : Operand) (there : Bool) (variable : Option StaticType) (slot : ℕ) (made : Stmt)
     → IsChecked site Used (term value) old mid x → late ≡ least mid (keys 14 (when (not there) name.at)) → new ≡ least late (keys 15 (misfit site.table variable x.static_type at))
     → there ≡ is_some (variable_named site.scope name.text) → variable ≡ local_type (variable_named site.scope name.text) → slot ≡ slot_of (variable_named site.scope name.text) → view_stmt made ≡ to.Store slot (view_expr x.expr)
-    → IsPlain site (AssignStmt name at value) old new made
+    → IsPlainStmt site (AssignStmt name at value) old new made
 assign_plain site name at value old mid late new x there variable slot made h hl hn ht hk hs hv = record {
   built = λ e. hv ∙ ap (λ z. to.Store z (view_expr x.expr)) hs ∙ ap (to.Store (slot_of (variable_named site.scope name.text)))
       (h.built (nothing_before mid late (keys 14 (when (not there) name.at)) hl (nothing_before late new (keys 15 (misfit site.table variable x.static_type at)) hn e)));
@@ -107,7 +107,7 @@ assign_plain site name at value old mid late new x there variable slot made h hl
 pub return_plain : (site : sites.Site) (at : ℕ) (value : ExprTree) (old mid late new : Option ℕ) (x : Operand) (gives : Bool) (due : Option StaticType) (made : Stmt)
     → IsChecked site Used (term value) old mid x → late ≡ least mid (keys 15 (misfit site.table due x.static_type at)) → new ≡ least late (keys 18 (when (not gives) at))
     → gives ≡ is_some site.due → due ≡ option_and_then (type_written site.table) site.due → view_stmt made ≡ to.Give (view_expr x.expr)
-    → IsPlain site (ReturnValueStmt at value) old new made
+    → IsPlainStmt site (ReturnValueStmt at value) old new made
 return_plain site at value old mid late new x gives due made h hl hn hg hd hv = record {
   built = λ e. hv ∙ ap to.Give (h.built (nothing_before mid late (keys 15 (misfit site.table due x.static_type at)) hl (nothing_before late new (keys 18 (when (not gives) at)) hn e)));
   noted = noted_four old mid late new new (term_breaks site Used (term value)) (keys 15 (misfit site.table (option_and_then (type_written site.table) site.due) (value_of site value) at)) (keys 18 (when (is_none site.due) at)) []

@@ -48,7 +48,7 @@ item_locals (LocalItem written name assign value) = written ∷ []
 item_locals (StmtItem stmt) = stmt_locals stmt
 
 -- a statement that declares nothing was looked at
-pub record IsPlain (site : sites.Site) (stmt : StmtTree) (old new : Option ℕ) (made : Stmt) : Type 0 where
+pub record IsPlainStmt (site : sites.Site) (stmt : StmtTree) (old new : Option ℕ) (made : Stmt) : Type 0 where
   pub built : new ≡ None → view_stmt made ≡ resolved_stmt site stmt
   pub noted : new ≡ least old (stmt_breaks site stmt)
 

@@ -12,7 +12,7 @@ ghost use Rattle.chord_classes.specs.ItemRules.{undeclared_type};
 ghost use Rattle.chord_classes.specs.Least.{keys, least};
 ghost use Rattle.chord_types.specs.Checked.{IsAlone, EndsAlone, on_dot};
 ghost use Rattle.chord_types.specs.Sites.{see_site};
-ghost use Rattle.chord_types.specs.StmtChecked.{IsPlain, IsCondition, IsItemChecked};
+ghost use Rattle.chord_types.specs.StmtChecked.{IsPlainStmt, IsCondition, IsItemChecked};
 
 use crate::arguments::fit;
 use crate::calls::{judge_call, judge_on, own_target, target_on};
@@ -65,7 +65,7 @@ pub(crate) fn assign(
     value: &Expr,
     breaks: &mut Least,
 ) -> Result<built::Stmt, AllocError>
-    ensures { IfOk result (λ r. IsPlain (see_site site.now) (AssignStmt name.now at (see_expr value.now)) breaks.old.found breaks.new.found r) }
+    ensures { IfOk result (λ r. IsPlainStmt (see_site site.now) (AssignStmt name.now at (see_expr value.now)) breaks.old.found breaks.new.found r) }
 {
     let value = expr(alloc, site, false, value, breaks)?;
     let text = name.text.items();
@@ -82,7 +82,7 @@ pub(crate) fn assign(
 
 /// `return` without a value.
 pub(crate) fn return_nothing(site: &Site, at: u32, breaks: &mut Least) -> built::Stmt
-    ensures { IsPlain (see_site site.now) (ReturnStmt at) breaks.old.found breaks.new.found result }
+    ensures { IsPlainStmt (see_site site.now) (ReturnStmt at) breaks.old.found breaks.new.found result }
 {
     breaks.note_if(18, site.gives(), at);
     built::Stmt::Return
@@ -96,7 +96,7 @@ pub(crate) fn return_value(
     value: &Expr,
     breaks: &mut Least,
 ) -> Result<built::Stmt, AllocError>
-    ensures { IfOk result (λ r. IsPlain (see_site site.now) (ReturnValueStmt at (see_expr value.now)) breaks.old.found breaks.new.found r) }
+    ensures { IfOk result (λ r. IsPlainStmt (see_site site.now) (ReturnValueStmt at (see_expr value.now)) breaks.old.found breaks.new.found r) }
 {
     let value = expr(alloc, site, false, value, breaks)?;
     fit(site.table, site.due_type(), value.static_type, at, breaks);
@@ -191,7 +191,7 @@ pub(crate) fn call(
     calls: &[Dot],
     breaks: &mut Least,
 ) -> Result<built::Stmt, AllocError>
-    ensures { IfOk result (λ r. IsPlain (see_site site.now) (CallStmt name.now (see_actuals actuals.now) (dots (map see_dot calls.now))) breaks.old.found breaks.new.found r) }
+    ensures { IfOk result (λ r. IsPlainStmt (see_site site.now) (CallStmt name.now (see_actuals actuals.now) (dots (map see_dot calls.now))) breaks.old.found breaks.new.found r) }
 {
     match calls.split_last() {
         None => own_call_alone(alloc, site, name, actuals, breaks),
@@ -211,7 +211,7 @@ pub(crate) fn method_call(
     calls: &[Dot],
     breaks: &mut Least,
 ) -> Result<built::Stmt, AllocError>
-    ensures { IfOk result (λ r. IsPlain (see_site site.now) (MethodCallStmt name.now (see_dot first.now) (dots (map see_dot calls.now))) breaks.old.found breaks.new.found r) }
+    ensures { IfOk result (λ r. IsPlainStmt (see_site site.now) (MethodCallStmt name.now (see_dot first.now) (dots (map see_dot calls.now))) breaks.old.found breaks.new.found r) }
 {
     let receiver = variable(site, Role::Receiver, name, breaks);
     first_then(alloc, site, receiver, first, calls, breaks)
@@ -226,7 +226,7 @@ pub(crate) fn this_call(
     calls: &[Dot],
     breaks: &mut Least,
 ) -> Result<built::Stmt, AllocError>
-    ensures { IfOk result (λ r. IsPlain (see_site site.now) (ThisCallStmt at (see_dot first.now) (dots (map see_dot calls.now))) breaks.old.found breaks.new.found r) }
+    ensures { IfOk result (λ r. IsPlainStmt (see_site site.now) (ThisCallStmt at (see_dot first.now) (dots (map see_dot calls.now))) breaks.old.found breaks.new.found r) }
 {
     let receiver = this(site, Role::Receiver, at, breaks);
     first_then(alloc, site, receiver, first, calls, breaks)
@@ -242,7 +242,7 @@ pub(crate) fn new_alone(
     calls: &[Dot],
     breaks: &mut Least,
 ) -> Result<built::Stmt, AllocError>
-    ensures { IfOk result (λ r. IsPlain (see_site site.now) (NewStmt at name.now (see_actuals actuals.now) (dots (map see_dot calls.now))) breaks.old.found breaks.new.found r) }
+    ensures { IfOk result (λ r. IsPlainStmt (see_site site.now) (NewStmt at name.now (see_actuals actuals.now) (dots (map see_dot calls.now))) breaks.old.found breaks.new.found r) }
 {
     match calls.split_last() {
         None => {

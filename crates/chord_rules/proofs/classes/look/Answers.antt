@@ -9,7 +9,7 @@ use Rattle.chord_rules.specs.ClassKeys.{class_keys}
 use Rattle.chord_rules.specs.Passing.{ClassesNumbered}
 use Rattle.chord_rules.proofs.Search.{item_by_item, item_here}
 use Rattle.chord_rules.proofs.ClassNotes.{next_class, next_plans}
-use Rattle.chord_rules.proofs.Stopping.{stopped, numbered_rest, no_some}
+use Rattle.chord_rules.proofs.Stopping.{classes_stopped, numbered_rest, no_some}
 use Rattle.chord_rules.proofs.classes.look.Goals as goal
 
 pub loop-class-preserved : goal.loop-class-preserved
@@ -40,5 +40,5 @@ returns-then-is_some-clause-noted c =
     let here = item_here c.args.classes.now c.loop-class.class-index c.class-item.result c.loop-class-test.true c.class-item.is in
     let found = there_is_some c.class_breaks.new.breaks.found (sym c.is_some.ensures ∙ c.if-is_some.true) in
     item_by_item (λ cs. least c.loop-class.breaks.found (over_plans (class_keys classes) before.table plans before.number (map see_class cs))) c.args.classes.now c.loop-class.class-index c.class-item.result _ _ c.loop-class-test.true c.class-item.is
-    (stopped classes before.table plans before.number class rest c.loop-class.breaks.found c.class_breaks.new.breaks.found found.0 (subst (λ cs. ClassesNumbered (map see_class cs)) here c.loop-class.invariant.numbered)
+    (classes_stopped classes before.table plans before.number class rest c.loop-class.breaks.found c.class_breaks.new.breaks.found found.0 (subst (λ cs. ClassesNumbered (map see_class cs)) here c.loop-class.invariant.numbered)
     c.loop-class.invariant.none c.in_ok-looked.ensures.noted found.1) c.loop-class.invariant.noted

@@ -6,7 +6,7 @@ use Rattle.chord_tree.proofs.Weights.{total, one_of}
 use Rattle.chord_tree.proofs.WeightsStmts.{weigh_item, weigh_stmt, of_block, of_if, of_if_else, of_while, of_plain, of_braces}
 use Rattle.chord_classes.specs.ChordRules.{block_names, items_names, stmt_names}
 use Rattle.chord_rules.proofs.Search.{item_here, behind_end}
-use Rattle.chord_rules.proofs.Rooms.{takes_none, takes_both, takes_one, takes_as}
+use Rattle.chord_rules.proofs.Rooms.{takes_none, rooms_taken, takes_one, takes_as}
 use Rattle.chord_rules.proofs.NamesInBodies.{item_and_more, stmt_item}
 use Rattle.chord_rules.proofs.locals.+locals.Goals as goal
 
@@ -18,7 +18,7 @@ items_past-each-init t c = λ over p h. h
 
 pub items_past-each-preserved : goal.items_past-each-preserved
 items_past-each-preserved t c = λ over p h. c.each.invariant over p
-    (takes_as (ap (λ z. items_names (items (map see_item z))) (item_here c.args.list.now _ _ c.each-test.true c.item-item.is) ∙ item_and_more (see_item c.item-item.result) (items (map see_item (drop (c.each.item-index + 1) c.args.list.now)))) (takes_both c.item_past.ensures h))
+    (takes_as (ap (λ z. items_names (items (map see_item z))) (item_here c.args.list.now _ _ c.each-test.true c.item-item.is) ∙ item_and_more (see_item c.item-item.result) (items (map see_item (drop (c.each.item-index + 1) c.args.list.now)))) (rooms_taken c.item_past.ensures h))
 
 pub items_past-returns : goal.items_past-returns
 items_past-returns t c = c.each.invariant _ _ (takes_as (ap (λ z. items_names (items (map see_item z))) (behind_end c.args.list.now _ c.each-test.false)) takes_none)
@@ -70,7 +70,7 @@ pub stmt_past-returns-in-ReturnValue : goal.stmt_past-returns-in-ReturnValue
 stmt_past-returns-in-ReturnValue t c = takes_as (ap stmt_names (ap see_stmt c.in-ReturnValue.is ∙ seen_stmt_return_value c.in-ReturnValue.at c.in-ReturnValue.value)) takes_none
 
 pub both_past-returns : goal.both_past-returns
-both_past-returns t c = takes_both c.stmt_past.ensures c.stmt_past-2.ensures
+both_past-returns t c = rooms_taken c.stmt_past.ensures c.stmt_past-2.ensures
 
 pub block_past-items_past-requires : goal.block_past-items_past-requires
 block_past-items_past-requires t c = let e = of_braces c.args.block.now in let f = ap (λ z. total (map weigh_item z)) c.deref.ensures.value in (omega arith, tt)

@@ -20,7 +20,7 @@ use Rattle.chord_types.specs.Views.{see_passed, see_target}
 use Rattle.chord_types.specs.Sites.{see_site}
 use Rattle.chord_types.specs.CallKeys.{call_keys}
 use Rattle.chord_types.specs.Checked.{AreChecked, IsAlone, on_dot}
-use Rattle.chord_types.specs.StmtChecked.{IsPlain}
+use Rattle.chord_types.specs.StmtChecked.{IsPlainStmt}
 use Rattle.chord_types.proofs.Oks.{if_ok}
 use Rattle.chord_types.proofs.Lists.{dots_last}
 use Rattle.chord_types.proofs.Terms.{dot_term}

@@ -6,7 +6,7 @@ use Rattle.chord_tree.specs.ViewExprs.{see_expr, see_start, see_dot, see_link}
 use Rattle.chord_tree.proofs.SeenExprs.{seen_chain, seen_chained, seen_minus, seen_not, seen_primary, seen_start_variable, seen_start_call, seen_start_this, seen_start_new, seen_start_number, seen_start_literal, seen_start_true, seen_start_false, seen_start_group}
 use Rattle.chord_tree.proofs.Words.{length_zero}
 use Rattle.chord_classes.specs.ItemRules.{is_true_word}
-use Rattle.chord_types.proofs.Lists.{map_end}
+use Rattle.chord_types.proofs.Lists.{map_last}
 use Rattle.chord_types.proofs.Returning.{chain_is_no_word, dots_are_no_word}
 use Rattle.chord_types.proofs.returns.is_true_alone.Goals as goal
 
@@ -16,4 +16,4 @@ returns-in-None c = c.begins_true.ensures ∙ ap (λ z. is_true_word (called (do
 pub returns-in-Some : goal.returns-in-Some
 returns-in-Some c =
     sym (ap (λ z. is_true_word (called (dots (map see_dot z)) (started (see_start c.args.start.now) false))) c.in-Some.ensures.cases.0
-    ∙ ap (λ z. is_true_word (called (dots z) (started (see_start c.args.start.now) false))) (map_end see_dot _ _) ∙ dots_are_no_word (map see_dot c.in-Some.field-0.1.now) (see_dot c.in-Some.field-0.0.now) (started (see_start c.args.start.now) false))
+    ∙ ap (λ z. is_true_word (called (dots z) (started (see_start c.args.start.now) false))) (map_last see_dot _ _) ∙ dots_are_no_word (map see_dot c.in-Some.field-0.1.now) (see_dot c.in-Some.field-0.0.now) (started (see_start c.args.start.now) false))

@@ -11,11 +11,11 @@ use Rattle.chord_bodies.specs.declared.stmt.Stmt.TheVariants as stmt
 use Rattle.chord_bodies.specs.Resolved as to
 use Rattle.chord_bodies.specs.View.{view_expr, view_stmt, stmt_list}
 use Rattle.chord_bodies.proofs.Viewed.{viewed_block, viewed_if, viewed_if_else, viewed_while}
-use Rattle.chord_types.specs.StmtChecked.{IsPlain, IsItemChecked, IsBlockChecked, AreItemsChecked}
+use Rattle.chord_types.specs.StmtChecked.{IsPlainStmt, IsItemChecked, IsBlockChecked, AreItemsChecked}
 use Rattle.chord_types.specs.Sites.{see_site}
 use Rattle.chord_types.proofs.Oks.{if_ok}
-use Rattle.chord_types.proofs.Lists.{map_end}
-use Rattle.chord_types.proofs.Items.{AreLeft, plain_item, block_item, if_item, if_else_item, while_item, all_left, one_less, none_left, block_checked, scope_grows, seen_plain}
+use Rattle.chord_types.proofs.Lists.{map_last}
+use Rattle.chord_types.proofs.Items.{AreLeft, plain_item, block_item, if_item, if_else_item, while_item, all_left, one_less, no_items_left, block_checked, scope_grows, seen_plain}
 use Rattle.chord_types.proofs.stmts.+stmts.Goals as goal
 
 pub stmt-block-requires : goal.stmt-block-requires
@@ -144,13 +144,13 @@ pub items-each-preserved : goal.items-each-preserved
 items-each-preserved t c =
     let xs = c.args.items.now in
     let i = c.each.one-index in
-    subst (λ z. AreLeft c.args.site.now c.item.new.site (map see_item c.args.items.now) (map see_item (drop (c.each.one-index + 1) c.args.items.now)) c.args.breaks.now.found c.item.new.breaks.found z) (sym (ap (map view_stmt) c.in_ok-push.ensures.items ∙ map_end view_stmt c.each.stmts.items c.in_ok-made.made))
+    subst (λ z. AreLeft c.args.site.now c.item.new.site (map see_item c.args.items.now) (map see_item (drop (c.each.one-index + 1) c.args.items.now)) c.args.breaks.now.found c.item.new.breaks.found z) (sym (ap (map view_stmt) c.in_ok-push.ensures.items ∙ map_last view_stmt c.each.stmts.items c.in_ok-made.made))
     (one_less c.args.site.now c.each.site c.item.new.site (map see_item xs) (map see_item (drop (i + 1) xs)) (see_item c.one-item.result) c.args.breaks.now.found c.each.breaks.found c.item.new.breaks.found (map view_stmt c.each.stmts.items) c.in_ok-made.made
     (subst (λ z. AreLeft c.args.site.now c.each.site (map see_item c.args.items.now) (map see_item z) c.args.breaks.now.found c.each.breaks.found (map view_stmt c.each.stmts.items)) (dropped xs i c.one-item.result c.each-test.true c.one-item.is) c.each.invariant)
     c.in_ok-made.ensures)
 
 pub items-returns : goal.items-returns
-items-returns t c = none_left c.args.site.now c.each.site (map see_item c.args.items.now) _ c.args.breaks.now.found c.each.breaks.found c.each.stmts.items (ap (map see_item) (drop_end c.args.items.now c.each.one-index c.each-test.false)) c.each.invariant
+items-returns t c = no_items_left c.args.site.now c.each.site (map see_item c.args.items.now) _ c.args.breaks.now.found c.each.breaks.found c.each.stmts.items (ap (map see_item) (drop_end c.args.items.now c.each.one-index c.each-test.false)) c.each.invariant
 
 pub item-returns-in-Local : goal.item-returns-in-Local
 item-returns-in-Local t c =
