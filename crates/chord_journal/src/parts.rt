@@ -3,7 +3,7 @@ ghost use Rattle.std.specs.Prelude.{◌≡◌, ℕ, ◌<◌, ◌≤◌, None, If
 ghost use Rattle.std.specs.List.{prefix_len};
 ghost use Rattle.std.specs.Char.{is_ascii_digit};
 ghost use Rattle.chord_journal.specs.Reading.{ReadsAs, decimal_at, negative_at, value_if_below, int_at, byte_at, text_at, object_at};
-ghost use Rattle.chord_journal.specs.Reading.{after_text as after_lem, is_decimal as is_plain_lem, begins_digit as begins_digit_lem, digit_of as digit_of_lem};
+ghost use Rattle.chord_journal.specs.Reading as reading;
 ghost use Rattle.chord_journal.specs.declared.parts.LineFault.TheVariants as faults;
 
 use arrayvec::ArrayVec;
@@ -29,9 +29,9 @@ impl<T: Drop> From<AllocFailed<T>> for LineFault {
 }
 
 /// The bytes behind a text.
-pub fn after_text<'a>(bytes: &'a [u8], text: &[u8]) -> Result<&'a [u8], LineFault>
-    ensures read { ReadsAs (λ rest. rest.now) result (after_lem text.now bytes.now) }
-    ensures wrong { OnErr result (after_lem text.now bytes.now ≡ None) }
+pub fn after<'a>(bytes: &'a [u8], text: &[u8]) -> Result<&'a [u8], LineFault>
+    ensures read { ReadsAs (λ rest. rest.now) result (reading.after_text text.now bytes.now) }
+    ensures wrong { OnErr result (reading.after_text text.now bytes.now ≡ None) }
 {
     match bytes.strip_prefix(text) {
         Some(rest) => Ok(rest),
@@ -56,7 +56,7 @@ pub fn read_number(bytes: &[u8], bound: u32) -> Result<(u32, &[u8]), LineFault>
 
 /// Whether digits are a decimal: at least one, and no zero before another.
 fn is_decimal(digits: &[u8]) -> bool
-    ensures { result ≡ is_plain_lem digits.now }
+    ensures { result ≡ reading.is_decimal digits.now }
 {
     match digits {
         [] => false,
@@ -126,9 +126,9 @@ fn read_negative(bytes: &[u8]) -> Result<(i32, &[u8]), LineFault>
 pub fn read_object(bytes: &[u8]) -> Result<(Object, &[u8]), LineFault>
     ensures { ReadsAs (λ x. (x.0, x.1.now)) result (object_at bytes.now) }
 {
-    let rest = after_text(bytes, b"o")?;
+    let rest = after(bytes, b"o")?;
     let (number, rest) = read_number(rest, 65_536)?;
-    let rest = after_text(rest, b".")?;
+    let rest = after(rest, b".")?;
     let (class, rest) = read_number(rest, 1024)?;
     let class = class as u16;
     Ok((Object { number, class }, rest))
@@ -156,7 +156,7 @@ pub fn read_text(alloc: Global, bytes: &[u8]) -> Result<(Text, &[u8]), LineFault
 
 /// Whether a hexadecimal digit stands at the front.
 fn begins_digit(bytes: &[u8]) -> bool
-    ensures { result ≡ begins_digit_lem bytes.now }
+    ensures { result ≡ reading.begins_digit bytes.now }
 {
     match bytes {
         [first, ..] => digit_of(*first).is_some(),
@@ -180,7 +180,7 @@ fn read_byte(bytes: &[u8]) -> Result<(u8, &[u8]), LineFault>
 
 /// The number that a hexadecimal digit in lower case stands for.
 fn digit_of(byte: u8) -> Option<u8>
-    ensures digit { result ≡ digit_of_lem byte }
+    ensures digit { result ≡ reading.digit_of byte }
     ensures below { IfSome result (λ d. d < 16) }
 {
     match byte {

@@ -1,6 +1,7 @@
 //! Reading values and numbers that stand behind blanks.
 ghost use Rattle.std.specs.Prelude.{◌≡◌, ℕ, ◌≤◌};
-ghost use Rattle.chord_journal.specs.Reading.{ReadsAs, value_at, next_value_at, values_at, next_number_at, numbers_at, begins_blank as begins_blank_lem};
+ghost use Rattle.chord_journal.specs.Reading.{ReadsAs, value_at, next_value_at, values_at, next_number_at, numbers_at};
+ghost use Rattle.chord_journal.specs.Reading as reading;
 
 use crate::parts::{LineFault, after, read_int, read_number, read_object, read_text};
 use chord_base::members::Members;
@@ -34,7 +35,7 @@ pub fn read_value(alloc: Global, bytes: &[u8]) -> Result<(Value, &[u8]), LineFau
 
 /// Whether a blank stands at the front.
 fn begins_blank(bytes: &[u8]) -> bool
-    ensures { result ≡ begins_blank_lem bytes.now }
+    ensures { result ≡ reading.begins_blank bytes.now }
 {
     match bytes {
         [first, ..] => *first == b' ',
