@@ -132,7 +132,7 @@ entry_before (x ∷ es) e zero l = refl
 entry_before (x ∷ es) e (suc n) l = entry_before es e n (omega (arith, l))
 
 -- a pending message is the entry of its number
-pending_entry : (h : List Entry) (n : ℕ) (m : Message) → AreWithin h → pending n h ≡ Some m
+pub pending_entry : (h : List Entry) (n : ℕ) (m : Message) → AreWithin h → pending n h ≡ Some m
     → (e : Entry) × (slice_get (reverse h) n ≡ Some e) × (message_of e.what ≡ Some m)
 pending_entry [] n m w s = let z : ◌≡◌ {A = Option Message} None (Some m) = s in cc
 pending_entry (x ∷ h) n m w s =
