@@ -1,7 +1,8 @@
 -- What a firing makes of the bodies of a run of a code.
-use Rattle.std.proofs.Common.{◌≡◌, ℕ, zero, suc, ◌<◌, ◌≤◌, Bool, true, false, ◌==◌, List, [], ◌∷◌, ◌++◌, length, Option, Some, None, refl, sym, ap, ◌∙◌, subst, arith, inl, inr, set, reverse, length-append}
+use Rattle.std.proofs.Common.{◌≡◌, ℕ, suc, ◌<◌, ◌≤◌, Bool, true, false, ◌==◌, List, [], ◌∷◌, ◌++◌, length, Option, Some, None, refl, sym, ap, ◌∙◌, subst, arith, inl, inr, set, reverse, length-append}
 use Rattle.std.specs.Prelude.{slice_get}
 use Rattle.std.proofs.lemmas.Option.{slice_get_within}
+use Rattle.std.proofs.lemmas.List.{length-set}
 use Rattle.std.proofs.lemmas.Bool.{eq-eqb, eqb-true, eqb-false, ne_eqb}
 use Rattle.chord_base.specs.declared.value.Object.{Object}
 use Rattle.chord_base.specs.declared.value.Value.{Value}
@@ -35,9 +36,11 @@ use Rattle.chord_lists.proofs.Laying.{takes_held}
 
 -- ---- what a firing takes
 
+-- the arguments of all messages that a firing takes are held, and they are its values
 pub firing_held : (code : Parts) (limits : Limits) (bodies : CodeBodies) (h : List Entry) (k : ℕ) (o : Object) (ms : List ℕ) (vs : List Value) → StandsAfter code limits bodies h → Fires (code_program code limits) h k o ms vs → AllHeld bodies.tags.items ms × (held_values bodies.tags.items ms ≡ vs)
 firing_held code limits bodies h k o ms vs s f = takes_held bodies.tags.items h o f.0 ms vs s.held f.2
 
+-- the messages that a firing takes are different
 pub firing_different : (code : Parts) (limits : Limits) (h : List Entry) (k : ℕ) (o : Object) (ms : List ℕ) (vs : List Value) → IsValid code → Fires (code_program code limits) h k o ms vs → AreDifferent ms
 firing_different code limits h k o ms vs valid f = members_differ (code_program code limits) h k o f.0 ms vs f.1 (valid_different code valid o.class k f.0 f.1) f
 
@@ -87,6 +90,7 @@ pub record IsCaller (code : Parts) (limits : Limits) (bodies : CodeBodies) (n k 
   pub member : has call ms ≡ true
   pub tagged : call < length bodies.tags.items
 
+-- the call that a firing serves is that of a task that waits for it, in which the new body may begin
 pub caller : (code : Parts) (limits : Limits) (bodies : CodeBodies) (h : List Entry) (n k : ℕ) (o : Object) (ms : List ℕ) (vs : List Value) (call : ℕ) → IsSound (code_program code limits) → StandsAfter code limits bodies h → length h ≡ n → (f : Fires (code_program code limits) h k o ms vs) → served_among ((code_program code limits).is_sync o.class) f.0 ms ≡ Some call → IsCaller code limits bodies n k o ms vs call
 caller code limits bodies h n k o ms vs call sound s so_long f serves =
     let p = code_program code limits in
@@ -118,6 +122,7 @@ pub record IsOverAt (code : Parts) (limits : Limits) (bodies : CodeBodies) (at n
   pub over : task.top ≡ None
   pub may : MayResume code task.limits task n k o ms vs
 
+-- a place of a task that is over has a task without a body
 pub over_task : (tasks : List Task) (i : ℕ) → over_at tasks i ≡ true → (t : Task) × (slice_get tasks i ≡ Some t) × (t.top ≡ None)
 unfolding over_at
 over_task tasks i e = by_task (slice_get tasks i) refl e
@@ -130,6 +135,7 @@ over_task tasks i e = by_task (slice_get tasks i) refl e
     by_task None g r = (let z : false ≡ true = r in cc)
     by_task (Some t) g r = (t, g, by_top t.top r)
 
+-- a firing that serves no call may begin in a task that is over
 pub over_again : (code : Parts) (limits : Limits) (bodies : CodeBodies) (h : List Entry) (at n k : ℕ) (o : Object) (ms : List ℕ) (vs : List Value) → IsSound (code_program code limits) → StandsAfter code limits bodies h → length h ≡ n → (f : Fires (code_program code limits) h k o ms vs) → served_among ((code_program code limits).is_sync o.class) f.0 ms ≡ None → over_at bodies.tasks.items at ≡ true → IsOverAt code limits bodies at n k o ms vs
 over_again code limits bodies h at n k o ms vs sound s so_long f serves over =
     let t = over_task bodies.tasks.items at over in
@@ -156,9 +162,11 @@ fired_pending n k o ms vs h q m e =
       | inr f ↦ elim (either (has q ms)) [ inl y ↦ none_some m (rw (f, y) at e) | inr g ↦ (rw (f, g) at e, g) ]
     ]
 
+-- a message that a firing does not take is pending after it if it was before
 others_pending : (n k : ℕ) (o : Object) (ms : List ℕ) (vs : List Value) (h : List Entry) (q : ℕ) → (n == q) ≡ false → has q ms ≡ false → pending q (fired n k o ms vs ∷ h) ≡ pending q h
 others_pending n k o ms vs h q a b = rw (a, b) refl
 
+-- after a firing the bodies stand, wherever the new body began, if the tasks keep what they did and the rest waits on
 pub stands_fired : (code : Parts) (limits : Limits) (before after : CodeBodies) (between : List Tag) (h : List Entry) (n k at : ℕ) (o : Object) (ms : List ℕ) (vs : List Value) → IsRunOfLength (code_program code limits) n h → StandsAfter code limits before h → Fires (code_program code limits) h k o ms vs → EmptiedAll ms before.tags.items between → after.tags.items ≡ between ++ bare_tag at ∷ [] → ((j : ℕ) → grown (views before.tasks.items) at (fired n k o ms vs) j ≡ views after.tasks.items j) → ((i : ℕ) (t : Task) → slice_get after.tasks.items i ≡ Some t → IsTaskOf code limits t) → AreReady after.tasks.items (reverse after.ready.items) → ((q : ℕ) → has q ms ≡ false → Awaits before.tasks.items q (home before.tags.items q) → Awaits after.tasks.items q (home before.tags.items q)) → length after.tasks.items ≤ suc (length h) → StandsAfter code limits after (fired n k o ms vs ∷ h)
 stands_fired code limits before after between h n k at o ms vs played s f emptied tags grows tasks ready awaits few =
     let p = code_program code limits in
@@ -207,6 +215,7 @@ stands_fired code limits before after between h n k at o ms vs played s f emptie
       few = few;
     }
 
+-- a task that begins a body is put on the list of the ready ones
 ready_above : (tasks : List Task) (at : ℕ) (t : Task) (ready : List ℕ) → AreReady tasks ready → AreReady (set tasks at t) (at ∷ ready)
 unfolding ready_at
 ready_above tasks at t ready a =
@@ -232,13 +241,7 @@ fired_above code limits before after between h n k o ms vs call t played s f c e
     subst (λ z. Awaits z q (home before.tags.items q)) (sym tasks)
     (awaits_set xs at t c.task q (home before.tags.items q) c.there
     (λ w. let z : true ≡ false = sym c.member ∙ ap (λ i. has i ms) (sym (one_call q call c.task w c.waits)) ∙ out in cc) a))
-    (let i = ap length tasks in let l = length_set xs at t in let m = s.few in omega (arith, i, l, m))
-  where
-    length_set : (xs : List Task) (i : ℕ) (x : Task) → length (set xs i x) ≡ length xs
-    length_set [] zero x = refl
-    length_set [] (suc i) x = refl
-    length_set (y ∷ xs) zero x = refl
-    length_set (y ∷ xs) (suc i) x = ap suc (length_set xs i x)
+    (let i = ap length tasks in let l = length-set xs at t in let m = s.few in omega (arith, i, l, m))
 
 -- the new body is in a task that was over
 pub fired_over : (code : Parts) (limits : Limits) (before after : CodeBodies) (between : List Tag) (h : List Entry) (at n k : ℕ) (o : Object) (ms : List ℕ) (vs : List Value) (t : Task) → IsRunOfLength (code_program code limits) n h → StandsAfter code limits before h → Fires (code_program code limits) h k o ms vs → (c : IsOverAt code limits before at n k o ms vs) → EmptiedAll ms before.tags.items between → IsTaskOf code limits t → (view_of t).past ≡ fired n k o ms vs ∷ (view_of c.task).past → after.tasks.items ≡ set before.tasks.items at t → reverse after.ready.items ≡ at ∷ reverse before.ready.items → after.tags.items ≡ between ++ bare_tag at ∷ [] → StandsAfter code limits after (fired n k o ms vs ∷ h)
@@ -252,14 +255,9 @@ fired_over code limits before after between h at n k o ms vs t played s f c empt
     subst (λ z. Awaits z q (home before.tags.items q)) (sym tasks)
     (awaits_set xs at t c.task q (home before.tags.items q) c.there
     (λ w. let z : false ≡ true = sym (ap (body_waits q) c.over) ∙ w in cc) a))
-    (let i = ap length tasks in let l = length_set xs at t in let m = s.few in omega (arith, i, l, m))
-  where
-    length_set : (xs : List Task) (i : ℕ) (x : Task) → length (set xs i x) ≡ length xs
-    length_set [] zero x = refl
-    length_set [] (suc i) x = refl
-    length_set (y ∷ xs) zero x = refl
-    length_set (y ∷ xs) (suc i) x = ap suc (length_set xs i x)
+    (let i = ap length tasks in let l = length-set xs at t in let m = s.few in omega (arith, i, l, m))
 
+-- one more task keeps its one entry, and the others what they kept
 views_new : (tasks : List Task) (t : Task) (e : Entry) → (view_of t).past ≡ e ∷ [] → (j : ℕ) → grown (views tasks) (length tasks) e j ≡ views (tasks ++ t ∷ []) j
 views_new tasks t e p j =
     elim (either (length tasks == j)) [
@@ -271,6 +269,7 @@ views_new tasks t e p j =
       | inr o ↦ rw (o, before_end tasks t j (eqb-false (length tasks) j o))
     ]
 
+-- one more task of the code beside those that are
 tasks_more : (code : Parts) (limits : Limits) (tasks : List Task) (t : Task) → IsTaskOf code limits t → ((i : ℕ) (x : Task) → slice_get tasks i ≡ Some x → IsTaskOf code limits x) → (i : ℕ) (x : Task) → slice_get (tasks ++ t ∷ []) i ≡ Some x → IsTaskOf code limits x
 tasks_more code limits tasks t k f i x e =
     elim (either (length tasks == i)) [
@@ -280,6 +279,7 @@ tasks_more code limits tasks t k f i x e =
       | inr o ↦ f i x (sym (before_end tasks t i (eqb-false (length tasks) i o)) ∙ e)
     ]
 
+-- one more task is put on the list of the ready ones
 ready_new : (tasks : List Task) (t : Task) (ready : List ℕ) → AreReady tasks ready → AreReady (tasks ++ t ∷ []) (length tasks ∷ ready)
 unfolding ready_at
 ready_new tasks t ready a =

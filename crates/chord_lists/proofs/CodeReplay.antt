@@ -45,6 +45,7 @@ pub record AsksIn (tasks : List Task) (at b n : ℕ) : Type 0 where
   pub ready : is_ready_of task ≡ true
   pub known : b < n
 
+-- a body that asks in a run asks in its home, and its task may go on
 pub asks_in : (code : Parts) (limits : Limits) (bodies : CodeBodies) (h : List Entry) (b : ℕ) (a : Asked) → StandsAfter code limits bodies h → asked (code_program code limits) (doing (code_program code limits) h b) ≡ Some a → AsksIn bodies.tasks.items (home bodies.tags.items b) b (length h)
 asks_in code limits bodies h b a s e = by_task (slice_get bodies.tasks.items (home bodies.tags.items b)) refl (place_knows p (views bodies.tasks.items) h b (stands_merged code limits bodies h s))
   where
@@ -64,6 +65,7 @@ asks_in code limits bodies h b a s e = by_task (slice_get bodies.tasks.items (ho
         let r = asks_ready code limits t b a (s.tasks (home bodies.tags.items b) t g) (ap (asked (code_program code limits)) same ∙ e) in
         record { task = t; there = g; top = r.0; ready = r.1; known = known }
 
+-- the place of a task that may go on may go on
 pub ready_there : (tasks : List Task) (i : ℕ) (t : Task) → slice_get tasks i ≡ Some t → is_ready_of t ≡ true → ready_at tasks i ≡ true
 unfolding ready_at
 ready_there tasks i t g r = ap ready_in g ∙ r
@@ -74,12 +76,14 @@ entry_asks_in code limits bodies h e s o f =
     let a = own_asks (code_program code limits) h e.number e.body e.what o f.comes in
     asks_in code limits bodies h e.body (record { what = e.what; depth = a.0 }) s a.1
 
+-- entries of the same number, body and word are one
 same_entry : (x y : Entry) → x.number ≡ y.number → x.body ≡ y.body → x.what ≡ y.what → x ≡ y
 same_entry x y n b w =
     ap (λ i. record { number = i; body = x.body; what = x.what }) n
     ∙ ap (λ i. record { number = y.number; body = i; what = x.what }) b
     ∙ ap (λ i. record { number = y.number; body = y.body; what = i }) w
 
+-- two next asks of one body are one
 same_ask : (p : Program) (h : List Entry) (b : ℕ) (v w : What) → Asks p h b v → Asks p h b w → v ≡ w
 same_ask p h b v w x y = ap (λ (a : Asked). a.what) (one_some (record { what = v; depth = x.0 }) (record { what = w; depth = y.0 }) (asked p (doing p h b)) x.1 y.1)
 

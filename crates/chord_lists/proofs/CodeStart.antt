@@ -21,6 +21,7 @@ use Rattle.chord_lists.proofs.Spots.{one_some, none_some}
 pub main_begins : (code : Parts) (limits : Limits) → IsSound (code_program code limits) → MainBegins code limits
 main_begins code limits s = s.is_defined main_begun 0 (tt, record { numbered = refl; comes = (refl, refl) })
 
+-- no message is pending when `Main` has just begun
 none_pending : (i : ℕ) (m : Message) → pending i main_begun ≡ Some m → ⊥
 none_pending i m e =
     elim (either (0 == i)) [
@@ -32,14 +33,17 @@ none_pending i m e =
 abbrev pub first_tag : Tag
 first_tag = record { task = 0; held = None }
 
+-- the one task keeps the one entry
 first_keeps : (t : Task) → (view_of t).past ≡ main_begun → (i : ℕ) → kept (λ n. home (first_tag ∷ []) n == i) main_begun ≡ views (t ∷ []) i
 first_keeps t e zero = sym e
 first_keeps t e (suc i) = elim (either (0 == suc i)) [ inl y ↦ (let f = eqb-true 0 (suc i) y in absurd (omega (arith, f))) | inr o ↦ rw o refl ]
 
+-- the one task is one of the code
 first_task : (code : Parts) (limits : Limits) (t : Task) → IsTaskOf code limits t → (i : ℕ) (u : Task) → slice_get (t ∷ []) i ≡ Some u → IsTaskOf code limits u
 first_task code limits t k zero u e = subst (λ (v : Task). IsTaskOf code limits v) (one_some t u (Some t) refl e) k
 first_task code limits t k (suc i) u e = none_some u e
 
+-- the one task stands in the list of the ready ones
 first_ready : (t : Task) → AreReady (t ∷ []) (0 ∷ [])
 unfolding ready_at
 first_ready t = record { all = λ i e. by_place i e }
@@ -48,10 +52,12 @@ first_ready t = record { all = λ i e. by_place i e }
     by_place zero e = refl
     by_place (suc i) e = (let z : false ≡ true = e in cc)
 
+-- nothing is held when `Main` has just begun
 none_held : (q : ℕ) (a : Args) {A : Type 0} → held_at (first_tag ∷ []) q ≡ Some a → A
 none_held zero a e = none_some a e
 none_held (suc q) a e = none_some a e
 
+-- a task in which `Main` has just begun stands after that entry
 pub started : (code : Parts) (limits : Limits) (bodies : CodeBodies) (t : Task) → IsSound (code_program code limits) → IsTaskOf code limits t → (view_of t).past ≡ main_begun → bodies.tasks.items ≡ t ∷ [] → bodies.ready.items ≡ 0 ∷ [] → bodies.tags.items ≡ first_tag ∷ [] → StandsAfter code limits bodies main_begun
 started code limits bodies t sound k past tasks ready tags =
     record {

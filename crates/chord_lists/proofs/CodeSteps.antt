@@ -1,6 +1,7 @@
 -- What an entry makes of the bodies of a run of a code.
-use Rattle.std.proofs.Common.{◌≡◌, ◌≢◌, ℕ, zero, suc, ◌+◌, ◌<◌, ◌≤◌, Bool, true, false, ◌==◌, List, [], ◌∷◌, ◌++◌, length, Option, Some, None, refl, sym, ap, ◌∙◌, subst, arith, ◌⊎◌, inl, inr, set, reverse, length-append}
+use Rattle.std.proofs.Common.{◌≡◌, ℕ, ◌<◌, ◌≤◌, Bool, true, false, ◌==◌, List, [], ◌∷◌, ◌++◌, length, Option, Some, None, refl, sym, ap, ◌∙◌, subst, arith, inl, inr, set, reverse, length-append}
 use Rattle.std.specs.Prelude.{slice_get, if◌then◌else◌}
+use Rattle.std.proofs.lemmas.List.{length-set}
 use Rattle.std.proofs.lemmas.Bool.{eq-eqb, eqb-true, eqb-false}
 use Rattle.chord_base.specs.declared.value.Object.{Object}
 use Rattle.chord_base.specs.declared.value.Value.{Value}
@@ -18,7 +19,6 @@ use Rattle.chord_base.specs.Machine.{IsPast, MayFollow}
 use Rattle.chord_base.specs.Story.{IsMerged, IsTold, IsOwn, IsDefined, HasKind, IsSound, AllBelow, kept, grown}
 use Rattle.chord_base.specs.Bounds.{AreWithin, IsWhatWithin, IsObjectWithin, IsValueWithin, AreValuesWithin, IsEndWithin}
 use Rattle.chord_base.specs.Objects.{ValueAmong, ValuesAmong, EndAmong, WhatAmong, makes, was_made}
-use Rattle.chord_base.specs.Meaning.{HaveMethods}
 use Rattle.chord_base.proofs.Objects.{objects_were_made}
 use Rattle.chord_base.proofs.Waits.{either}
 use Rattle.chord_base.proofs.Merge.{asked_placed, placed_seen}
@@ -42,10 +42,11 @@ use Rattle.chord_lists.specs.declared.code_bodies.Tag.{Tag}
 use Rattle.chord_lists.specs.declared.code_bodies.CodeBodies.{CodeBodies}
 use Rattle.chord_lists.specs.CodeStands.{past_of, views, home_in, home, held_in, held_at, ready_in, ready_at, AreReady, Awaits, IsHeld, StandsAfter, MayTurn, Turned, twice, tag_of, IsTagged, WentAt}
 use Rattle.chord_lists.proofs.Spots.{set_same, set_other, end_at, before_end, one_some, none_some}
-use Rattle.chord_lists.proofs.CodeTasks.{not_both, call_waits}
+use Rattle.chord_lists.proofs.CodeTasks.{ready_not_waiting, call_waits}
 
 -- ---- the run in its tasks
 
+-- what a place keeps tells each later entry as the next ask of its body
 pub told_at : (code : Parts) (limits : Limits) (tasks : List Task) → ((i : ℕ) (t : Task) → slice_get tasks i ≡ Some t → IsTaskOf code limits t) → (i : ℕ) (o : Option Task) → slice_get tasks i ≡ o → IsTold (code_program code limits) (past_of o)
 told_at code limits tasks f i None e = tt
 told_at code limits tasks f i (Some t) e = (f i t e).task.told
@@ -60,6 +61,7 @@ stands_merged code limits bodies h s =
       told = λ i. told_at code limits bodies.tasks.items s.tasks i (slice_get bodies.tasks.items i) refl;
     }
 
+-- a place keeps the past of its task
 view_at : (tasks : List Task) (i : ℕ) (t : Task) → slice_get tasks i ≡ Some t → views tasks i ≡ (view_of t).past
 view_at tasks i t e = ap past_of e
 
@@ -85,6 +87,7 @@ note_defined code limits bodies h i w t sound s g a = λ c top b.
     let e_is : e ∷ (view_of t).past ≡ record { number = length h; body = c; what = w } ∷ (view_of t).past = rw body_is in
     subst (λ (l : List Entry). IsDefined p (doing p l b)) (grown_is ∙ e_is) d
 
+-- in a sound program each task may note its next ask as the next entry
 pub may_turn : (code : Parts) (limits : Limits) (bodies : CodeBodies) (h : List Entry) (n i : ℕ) (t : Task) → IsSound (code_program code limits) → StandsAfter code limits bodies h → length h ≡ n → slice_get bodies.tasks.items i ≡ Some t → MayTurn (code_program code limits) (view_of t) n
 may_turn code limits bodies h n i t sound s so_long g =
     subst (λ k. MayTurn (code_program code limits) (view_of t) k) so_long (record {
@@ -94,6 +97,7 @@ may_turn code limits bodies h n i t sound s so_long g =
 
 -- ---- bounds
 
+-- an object that was made in a run within bounds is within its bounds
 made_within : (h : List Entry) (o : Object) → AreWithin h → length h ≤ 65536 → was_made h o ≡ true → IsObjectWithin o
 made_within [] o w l m = (let z : false ≡ true = m in cc)
 made_within (e ∷ h) o w l m =
@@ -111,6 +115,7 @@ made_within (e ∷ h) o w l m =
     here (Fired c o' ms vs) i k n = (let z : false ≡ true = k in cc)
     here (Ended x') i k n = (let z : false ≡ true = k in cc)
 
+-- a value of objects that were made is within its bounds
 value_within : (h : List Entry) (v : Value) → AreWithin h → length h ≤ 65536 → ValueAmong (was_made h) v → IsValueWithin v
 value_within h (a_value.Ref o) w l a = made_within h o w l a
 value_within h a_value.Unit w l a = tt
@@ -118,10 +123,12 @@ value_within h (a_value.Int n) w l a = tt
 value_within h (a_value.Flag b) w l a = tt
 value_within h (a_value.Text t) w l a = tt
 
+-- so are all values of a list
 values_within : (h : List Entry) (vs : List Value) → AreWithin h → length h ≤ 65536 → ValuesAmong (was_made h) vs → AreValuesWithin vs
 values_within h [] w l a = tt
 values_within h (v ∷ vs) w l a = (value_within h v w l a.0, values_within h vs w l a.1)
 
+-- so is an end
 end_within : (h : List Entry) (x : End) → AreWithin h → length h ≤ 65536 → EndAmong (was_made h) x → IsEndWithin x
 end_within h (Gives v) w l a = value_within h v w l a
 end_within h (Traps t) w l a = tt
@@ -144,6 +151,7 @@ asked_next p Absent a e = none_some a e
 asked_next p Unplaced a e = none_some a e
 asked_next p (Over x) a e = none_some a e
 
+-- a body's own ask takes no messages
 own_members : (w : What) → IsOwn w → members_of w ≡ []
 own_members (Made c) o = refl
 own_members (Sent o' j vs) o = refl
@@ -155,6 +163,7 @@ own_members (Fired k o' ms vs) o = absurd o
 
 -- ---- where the entries stand
 
+-- what is kept depends on the numbers of the entries alone
 pub kept_same : (f g : ℕ → Bool) (n : ℕ) (h : List Entry) → AllBelow n h → ((i : ℕ) → i < n → f i ≡ g i) → kept f h ≡ kept g h
 kept_same f g n [] a s = refl
 kept_same f g n (e ∷ h) a s =
@@ -168,6 +177,7 @@ pub record OneMore (tags after : List Tag) (n at : ℕ) : Type 0 where
   pub old : (i : ℕ) → i < n → home after i ≡ home tags i
   pub here : home after n ≡ at
 
+-- with one more entry and its tag each place keeps what it kept, and its home the entry too
 pub keeps_more : (p : Program) (tags after : List Tag) (v : ℕ → List Entry) (h : List Entry) (e : Entry) (at : ℕ) → IsPast p h → e.number ≡ length h → OneMore tags after (length h) at → ((i : ℕ) → kept (λ n. home tags n == i) h ≡ v i) → (i : ℕ) → kept (λ n. home after n == i) (e ∷ h) ≡ grown v at e i
 keeps_more p tags after v h e at past number m keeps i =
     let old : kept (λ n. home after n == i) h ≡ v i =
@@ -176,6 +186,7 @@ keeps_more p tags after v h e at past number m keeps i =
     let there : home after e.number ≡ at = ap (home after) number ∙ m.here in
     elim (either (at == i)) [ inl y ↦ rw (there, y, old) | inr o ↦ rw (there, o, old) ]
 
+-- a task that has one more entry is set: the places keep what they kept and that entry
 pub views_set : (tasks : List Task) (i : ℕ) (t u : Task) (e : Entry) → slice_get tasks i ≡ Some u → (view_of t).past ≡ e ∷ (view_of u).past → (j : ℕ) → grown (views tasks) i e j ≡ views (set tasks i t) j
 views_set tasks i t u e s p j =
     elim (either (i == j)) [
@@ -187,6 +198,7 @@ views_set tasks i t u e s p j =
       | inr o ↦ rw (o, set_other tasks i j t (eqb-false i j o))
     ]
 
+-- a task of the code is set in the place of another
 pub tasks_set : (code : Parts) (limits : Limits) (tasks : List Task) (i : ℕ) (t u : Task) → slice_get tasks i ≡ Some u → IsTaskOf code limits t → ((j : ℕ) (x : Task) → slice_get tasks j ≡ Some x → IsTaskOf code limits x) → (j : ℕ) (x : Task) → slice_get (set tasks i t) j ≡ Some x → IsTaskOf code limits x
 tasks_set code limits tasks i t u s k f j x e =
     elim (either (i == j)) [
@@ -241,6 +253,7 @@ more_home tags m at e =
       here = ap home_in (end_at tags m) ∙ e;
     }
 
+-- one more tag leaves what is held of the entries before it
 more_held : (tags : List Tag) (m : Tag) (n : ℕ) (vs : List Value) → n < length tags → IsHeld tags n vs → IsHeld (tags ++ m ∷ []) n vs
 more_held tags m n vs l k = (k.0, ap held_in (before_end tags m n (λ d. omega (arith, d, l))) ∙ k.1, k.2, k.3)
 
@@ -284,12 +297,14 @@ sync_called p (Printed t) m e k s = none_some m e
 sync_called p (Fired c o ms vs) m e k s = none_some m e
 sync_called p (Ended x) m e k s = none_some m e
 
+-- the past of a task after its turn: the entry has the number and the body on top
 pub noted_body : (code : Parts) (limits : Limits) (t t' : Task) (n : ℕ) (w : What) (u : Turned code limits t t' n w) → (view_of t').past ≡ record { number = n; body = u.next.body; what = w } ∷ (view_of t).past
 noted_body code limits t t' n w u =
     let z : Some u.noted.0 ≡ Some u.next.body = sym u.noted.1 ∙ u.next.on_top in
     let b : u.noted.0 ≡ u.next.body = cc in
     rw b at u.noted.2
 
+-- a task noted its next ask and the entry was tagged: the entry may follow, and the bodies stand after it
 pub went_at : (code : Parts) (limits : Limits) (before after : CodeBodies) (h : List Entry) (n at : ℕ) (t t' : Task) (w : What) (turn : Turn) → IsValid code → IsSound (code_program code limits) → n < 65536 → IsRunOfLength (code_program code limits) n h → StandsAfter code limits before h → slice_get before.tasks.items at ≡ Some t → is_ready_of t ≡ true → Turned code limits t t' n w → IsTagged at w before.tags.items after.tags.items turn → after.tasks.items ≡ set before.tasks.items at t' → after.ready.items ≡ before.ready.items → WentAt (code_program code limits) before.tasks.items at (StandsAfter code limits after) h turn
 went_at code limits before after h n at t t' w turn valid sound room played s g r u tagged tasks ready =
     let p = code_program code limits in
@@ -343,7 +358,7 @@ went_at code limits before after h n at t t' w turn valid sound room played s g 
                             (let old : pending q h ≡ Some m = rw (o, own_members w u.next.own) at is in
                             let l = pending_under p h q m s.past old in
                             let k = s.calls q m old sync in
-                            subst (λ j. Awaits (set before.tasks.items at t') q j) (sym (one.old q l)) (awaits_set before.tasks.items at t' t q (home before.tags.items q) g (not_both q t r) k))
+                            subst (λ j. Awaits (set before.tasks.items at t') q j) (sym (one.old q l)) (awaits_set before.tasks.items at t' t q (home before.tags.items q) g (ready_not_waiting q t r) k))
                       ]);
                   held =
                       λ q m is.
@@ -365,7 +380,7 @@ went_at code limits before after h n at t t' w turn valid sound room played s g 
                             (x.0, rw (o, own_members w u.next.own) x.1))
                       ];
                   tagged = ap length tagged.tags ∙ length-append before.tags.items (tag_of at w ∷ []) ∙ omega (arith, s.tagged);
-                  few = (let i = ap length tasks in let k = length_set before.tasks.items at t' in omega (arith, i, k, s.few));
+                  few = (let i = ap length tasks in let k = length-set before.tasks.items at t' in omega (arith, i, k, s.few));
                 };
             no_firing = own_members w u.next.own;
           };
@@ -373,9 +388,3 @@ went_at code limits before after h n at t t' w turn valid sound room played s g 
       top = (t, g, u.next.on_top);
       is = tagged.is;
     }
-  where
-    length_set : (xs : List Task) (i : ℕ) (x : Task) → length (set xs i x) ≡ length xs
-    length_set [] zero x = refl
-    length_set [] (suc i) x = refl
-    length_set (y ∷ xs) zero x = refl
-    length_set (y ∷ xs) (suc i) x = ap suc (length_set xs i x)

@@ -27,21 +27,24 @@ use Rattle.chord_lists.specs.CodeStands.{MayTurn, Turned}
 
 -- ---- ready and waiting tasks
 
-goes_not_waits : (q : ℕ) (n : Next) → may_go n ≡ true → waits_on q n ≡ true → ⊥
-goes_not_waits q nexts.Runs g w = (let z : false ≡ true = w in cc)
-goes_not_waits q (nexts.Gave x) g w = (let z : false ≡ true = w in cc)
-goes_not_waits q (nexts.Ends x y) g w = (let z : false ≡ true = w in cc)
-goes_not_waits q (nexts.Fails x) g w = (let z : false ≡ true = w in cc)
-goes_not_waits q (nexts.Waits x) g w = (let z : false ≡ true = g in cc)
+-- a body that may go on waits for no call
+may_go_not_waits : (q : ℕ) (n : Next) → may_go n ≡ true → waits_on q n ≡ true → ⊥
+may_go_not_waits q nexts.Runs g w = (let z : false ≡ true = w in cc)
+may_go_not_waits q (nexts.Gave x) g w = (let z : false ≡ true = w in cc)
+may_go_not_waits q (nexts.Ends x y) g w = (let z : false ≡ true = w in cc)
+may_go_not_waits q (nexts.Fails x) g w = (let z : false ≡ true = w in cc)
+may_go_not_waits q (nexts.Waits x) g w = (let z : false ≡ true = g in cc)
 
-top_not_both : (q : ℕ) (o : Option Body) → body_may_go o ≡ true → body_waits q o ≡ true → ⊥
-top_not_both q None g w = (let z : false ≡ true = w in cc)
-top_not_both q (Some b) g w = goes_not_waits q b.next g w
+-- neither does a body on top, if there is one
+top_ready_not_waiting : (q : ℕ) (o : Option Body) → body_may_go o ≡ true → body_waits q o ≡ true → ⊥
+top_ready_not_waiting q None g w = (let z : false ≡ true = w in cc)
+top_ready_not_waiting q (Some b) g w = may_go_not_waits q b.next g w
 
 -- a task that may go on waits for no call
-pub not_both : (q : ℕ) (t : Task) → is_ready_of t ≡ true → waits_of q t ≡ true → ⊥
-not_both q t g w = top_not_both q t.top g w
+pub ready_not_waiting : (q : ℕ) (t : Task) → is_ready_of t ≡ true → waits_of q t ≡ true → ⊥
+ready_not_waiting q t g w = top_ready_not_waiting q t.top g w
 
+-- a body waits for one call
 waits_one : (q c : ℕ) (n : Next) → waits_on q n ≡ true → waits_on c n ≡ true → q ≡ c
 waits_one q c nexts.Runs v w = (let z : false ≡ true = w in cc)
 waits_one q c (nexts.Gave x) v w = (let z : false ≡ true = w in cc)
@@ -49,6 +52,7 @@ waits_one q c (nexts.Ends x y) v w = (let z : false ≡ true = w in cc)
 waits_one q c (nexts.Fails x) v w = (let z : false ≡ true = w in cc)
 waits_one q c (nexts.Waits x) v w = sym (eqb-true x q v) ∙ eqb-true x c w
 
+-- so does the body on top, if there is one
 top_one : (q c : ℕ) (o : Option Body) → body_waits q o ≡ true → body_waits c o ≡ true → q ≡ c
 top_one q c None v w = (let z : false ≡ true = w in cc)
 top_one q c (Some b) v w = waits_one q c b.next v w
@@ -57,10 +61,12 @@ top_one q c (Some b) v w = waits_one q c b.next v w
 pub one_call : (q c : ℕ) (t : Task) → waits_of q t ≡ true → waits_of c t ≡ true → q ≡ c
 one_call q c t v w = top_one q c t.top v w
 
+-- the body on top is this one or is not
 top_is : (o : Option ℕ) (b : ℕ) → (o ≡ Some b) ⊎ (o ≡ Some b → ⊥)
 top_is None b = inr (λ e. let z : ◌≡◌ {A = Option ℕ} None (Some b) = e in cc)
 top_is (Some c) b = elim (either (c == b)) [ inl y ↦ inl (ap Some (eqb-true c b y)) | inr o ↦ inr (λ e. let z : c ≡ b = cc in eqb-false c b o z) ]
 
+-- there is no ask where there is none
 none_asks : (a : Asked) → ◌≡◌ {A = Option Asked} None (Some a) → ⊥
 none_asks a e = cc
 
@@ -75,7 +81,7 @@ asks_ready code limits t b a k e =
       | inr n ↦ absurd (none_asks a (sym (k.task.quiet b n) ∙ e))
     ]
 
--- ---- a task may_go on
+-- ---- a task goes on
 
 -- a task whose ask was given and which has its room may note it
 abbrev pub may_note : (code : Parts) (limits : Limits) (t r : Task) (n : ℕ) (w : What) → MayTurn (code_program code limits) (view_of t) n → IsTaskOf code limits r → view_of r ≡ view_of t → HasGiven r w → IsReserved code r → MayNote code limits r n × IsNext (code_program code limits) (view_of t) w
@@ -92,6 +98,7 @@ may_note code limits t r n w may k v g room =
       next,
     )
 
+-- the task after its next ask became an entry
 pub turned : (code : Parts) (limits : Limits) (t r t' : Task) (n : ℕ) (w : What) (may : MayTurn (code_program code limits) (view_of t) n) (k : IsTaskOf code limits r) (v : view_of r ≡ view_of t) (g : HasGiven r w) (room : IsReserved code r) → IsTaskOf code limits t' × task_noted (view_of r) n w (view_of t') × (is_end w ≡ false → (view_of t').top ≡ (view_of r).top) → Turned code limits t t' n w
 turned code limits t r t' n w may k v g room x =
     record {
@@ -101,6 +108,7 @@ turned code limits t r t' n w may k v g room x =
       top = subst (λ (u : TaskView). (is_end w ≡ false → (view_of t').top ≡ u.top)) v x.2;
     }
 
+-- an ask that is there is one
 pub some_given : (o : Option What) → (o ≡ None → ⊥) → (w : What) × (o ≡ Some w)
 some_given None n = absurd (n refl)
 some_given (Some w) n = (w, refl)
@@ -112,6 +120,7 @@ newest_at es e h i =
     let long : length es - 1 ≡ length (reverse h) = (let l = ap length parts in let k = length-append (reverse h) (e ∷ []) in omega (arith, l, k)) in
     ap (λ l. slice_get l (length es - 1)) parts ∙ ap (slice_get (reverse h ++ e ∷ [])) long ∙ end_at (reverse h) e
 
+-- the last item of a past is its newest entry
 pub newest_is : (t task : Task) (e x : Entry) (h xs : List Entry) → task ≡ t → (view_of t).past ≡ e ∷ h → xs ≡ task.past.items → Some x ≡ slice_get xs (length xs - 1) → x ≡ e
 newest_is t task e x h xs same past is last =
     let items : xs ≡ t.past.items = is ∙ ap (λ (z : Task). z.past.items) same in

@@ -13,8 +13,9 @@ use Rattle.chord_code.specs.declared.parts.Parts.{Parts}
 use Rattle.chord_task.specs.declared.task.Task.{Task}
 use Rattle.chord_lists.specs.declared.code_bodies.Tag.{Tag}
 use Rattle.chord_lists.specs.declared.code_bodies.CodeBodies.{CodeBodies}
-use Rattle.chord_lists.specs.CodeStands.{views, home_in, home, left_in, AreLeft, AreInOrder, IsLeft, HasNewest, IsNewestTaken, StandsAfter}
+use Rattle.chord_lists.specs.CodeStands.{views, home_in, home, left_in, AreLeft, NumbersArePlaces, IsLeft, HasNewest, IsNewestTaken, StandsAfter}
 use Rattle.chord_lists.proofs.Spots.{set_same, set_other, end_at, before_end, one_some}
+use Rattle.chord_task.proofs.Tasks.{no_length}
 use Rattle.chord_lists.proofs.CodeSteps.{kept_same}
 
 -- what is taken from the places so far, newest first, and what is left there
@@ -23,7 +24,8 @@ pub record Gathering (pasts : List (Vec Entry Global)) (tags : List Tag) (entrie
   pub is : h ≡ entries ++ rest
   pub left : IsLeft pasts tags rest
 
-order_below : (h : List Entry) (n : ℕ) → AreInOrder h → length h ≤ n → AllBelow n h
+-- entries numbered by their places have numbers below their count
+order_below : (h : List Entry) (n : ℕ) → NumbersArePlaces h → length h ≤ n → AllBelow n h
 order_below [] n o l = tt
 order_below (e ∷ h) n o l = (omega (arith, o.0, l), order_below h n o.1 (omega (arith, l)))
 
@@ -36,18 +38,21 @@ pub record Newest (pasts : List (Vec Entry Global)) (tags : List Tag) (tag : Tag
   pub there : slice_get pasts tag.task ≡ Some place
   pub newest : reverse place.items ≡ entry ∷ kept (λ n. home tags n == tag.task) others
 
+-- a place that has an entry left is there
 left_some : (o : Option (Vec Entry Global)) (e : Entry) (es : List Entry) → left_in o ≡ e ∷ es → (v : Vec Entry Global) × (o ≡ Some v) × (reverse v.items ≡ e ∷ es)
 left_some None e es i = cc
 left_some (Some v) e es i = (v, refl, i)
 
-kept_old : (tags : List Tag) (tag : Tag) (h : List Entry) (i : ℕ) → AreInOrder h → length h ≤ length tags → kept (λ n. home (tags ++ tag ∷ []) n == i) h ≡ kept (λ n. home tags n == i) h
+-- one more tag changes nothing of what is kept of the entries before it
+kept_old : (tags : List Tag) (tag : Tag) (h : List Entry) (i : ℕ) → NumbersArePlaces h → length h ≤ length tags → kept (λ n. home (tags ++ tag ∷ []) n == i) h ≡ kept (λ n. home tags n == i) h
 kept_old tags tag h i o l =
     kept_same (λ n. home (tags ++ tag ∷ []) n == i) (λ n. home tags n == i) (length tags) h (order_below h (length tags) o l)
     (λ n k. ap (λ x. home_in x == i) (before_end tags tag n (λ d. omega (arith, d, k))))
 
-pub newest : (pasts : List (Vec Entry Global)) (tags : List Tag) (tag : Tag) (rest : List Entry) → IsLeft pasts (tags ++ tag ∷ []) rest → Newest pasts tags tag rest
-newest pasts tags tag [] s = (let l = s.tagged in let k = length-append tags (tag ∷ []) in absurd (omega (arith, l, k)))
-newest pasts tags tag (e ∷ g) s =
+-- the last tag names the place whose last entry is the newest one that is left
+pub newest_left : (pasts : List (Vec Entry Global)) (tags : List Tag) (tag : Tag) (rest : List Entry) → IsLeft pasts (tags ++ tag ∷ []) rest → Newest pasts tags tag rest
+newest_left pasts tags tag [] s = (let l = s.tagged in let k = length-append tags (tag ∷ []) in absurd (omega (arith, l, k)))
+newest_left pasts tags tag (e ∷ g) s =
     let long : length g ≡ length tags = (let l = s.tagged in let k = length-append tags (tag ∷ []) in omega (arith, l, k)) in
     let number : e.number ≡ length tags = s.in_order.0 ∙ long in
     let here : home (tags ++ tag ∷ []) e.number ≡ tag.task = ap (home (tags ++ tag ∷ [])) number ∙ ap home_in (end_at tags tag) in
@@ -62,6 +67,7 @@ newest pasts tags tag (e ∷ g) s =
       newest = there.2 ∙ ap (λ l. e ∷ l) (kept_old tags tag g tag.task s.in_order.1 (omega (arith, long)));
     }
 
+-- the last item is the first of the list turned round
 reverse_last : (xs ys : List Entry) (x y : Entry) → reverse (xs ++ x ∷ []) ≡ y ∷ ys → (x ≡ y) × (reverse xs ≡ ys)
 reverse_last xs ys x y e =
     let i : x ∷ reverse xs ≡ y ∷ ys = sym (reverse-append xs (x ∷ [])) ∙ e in
@@ -70,14 +76,14 @@ reverse_last xs ys x y e =
 -- there is one
 pub has_newest : (pasts : List (Vec Entry Global)) (tags : List Tag) (tag : Tag) (rest : List Entry) → IsLeft pasts (tags ++ tag ∷ []) rest → HasNewest pasts tag.task
 has_newest pasts tags tag rest s =
-    let k = newest pasts tags tag rest s in
+    let k = newest_left pasts tags tag rest s in
     (k.place, k.there, λ none. let z : [] ≡ k.entry ∷ kept (λ n. home tags n == tag.task) k.others = sym (ap reverse none) ∙ k.newest in cc)
 
--- the newest entry may_go
-pub taken : (pasts after : List (Vec Entry Global)) (tags : List Tag) (tag : Tag) (entries h : List Entry) (x : Entry) (v : Vec Entry Global) (g : Gathering pasts (tags ++ tag ∷ []) entries h) → after ≡ set pasts tag.task v → (newest pasts tags tag g.rest g.left).place.items ≡ v.items ++ x ∷ [] → Gathering after tags (entries ++ x ∷ []) h
-taken pasts after tags tag entries h x v g a p =
+-- the newest entry goes to what was taken
+pub gathered_one : (pasts after : List (Vec Entry Global)) (tags : List Tag) (tag : Tag) (entries h : List Entry) (x : Entry) (v : Vec Entry Global) (g : Gathering pasts (tags ++ tag ∷ []) entries h) → after ≡ set pasts tag.task v → (newest_left pasts tags tag g.rest g.left).place.items ≡ v.items ++ x ∷ [] → Gathering after tags (entries ++ x ∷ []) h
+gathered_one pasts after tags tag entries h x v g a p =
     let s = g.left in
-    let k = newest pasts tags tag g.rest s in
+    let k = newest_left pasts tags tag g.rest s in
     let last = reverse_last v.items (kept (λ n. home tags n == tag.task) k.others) x k.entry (ap reverse (sym p) ∙ k.newest) in
     let left : IsLeft pasts (tags ++ tag ∷ []) (k.entry ∷ k.others) = subst (λ z. IsLeft pasts (tags ++ tag ∷ []) z) k.is s in
     let long : length k.others ≡ length tags = (let l = left.tagged in let m = length-append tags (tag ∷ []) in omega (arith, l, m)) in
@@ -111,22 +117,19 @@ taken pasts after tags tag entries h x v g a p =
     append_one [] x ys = refl
     append_one (z ∷ xs) x ys = ap (λ l. z ∷ l) (append_one xs x ys)
 
+-- taking the newest entry of the place that the last tag names goes on as it should
 pub taken_newest : (pasts after : List (Vec Entry Global)) (tags : List Tag) (tag : Tag) (entries h : List Entry) (x : Entry) → Gathering pasts (tags ++ tag ∷ []) entries h → IsNewestTaken pasts tag.task x after → Gathering after tags (entries ++ x ∷ []) h
 taken_newest pasts after tags tag entries h x g t =
-    let k = newest pasts tags tag g.rest g.left in
+    let k = newest_left pasts tags tag g.rest g.left in
     let e : k.place ≡ t.place = one_some k.place t.place (slice_get pasts tag.task) k.there t.there in
-    taken pasts after tags tag entries h x t.left g t.is (ap (λ (z : Vec Entry Global). z.items) e ∙ t.last)
+    gathered_one pasts after tags tag entries h x t.left g t.is (ap (λ (z : Vec Entry Global). z.items) e ∙ t.last)
 
--- all is taken
+-- where no tag is left, all entries were taken
 pub all_taken : (pasts : List (Vec Entry Global)) (tags : List Tag) (entries h : List Entry) → Gathering pasts tags entries h → tags ≡ [] → entries ≡ h
 all_taken pasts tags entries h g none =
     let long : length g.rest ≡ 0 = sym g.left.tagged ∙ ap length none in
     let e : g.rest ≡ [] = no_length g.rest long in
     sym (append-nil entries) ∙ ap (λ z. entries ++ z) (sym e) ∙ sym g.is
-  where
-    no_length : (xs : List Entry) → length xs ≡ 0 → xs ≡ []
-    no_length [] e = refl
-    no_length (x ∷ xs) e = absurd (omega (arith, e))
 
 -- the pasts of tasks
 pub pasts_left : (tasks : List Task) (i : ℕ) → left_in (slice_get (map (λ (t : Task). t.past) tasks) i) ≡ views tasks i
@@ -134,7 +137,8 @@ pasts_left [] i = refl
 pasts_left (t ∷ tasks) zero = refl
 pasts_left (t ∷ tasks) (suc i) = pasts_left tasks i
 
-past_in_order : (p : Program) (h : List Entry) → IsPast p h → AreInOrder h
+-- the entries of a run are numbered by their places
+past_in_order : (p : Program) (h : List Entry) → IsPast p h → NumbersArePlaces h
 past_in_order p [] r = tt
 past_in_order p (e ∷ h) r = (r.1.numbered, past_in_order p h r.0)
 

@@ -38,22 +38,27 @@ use Rattle.chord_lists.proofs.CodeOver.{none_asks}
 
 -- ---- the entries of a run
 
+-- an older part of a run is a run
 pub past_tail : (p : Program) (xs ys : List Entry) → IsPast p (xs ++ ys) → IsPast p ys
 past_tail p [] ys r = r
 past_tail p (x ∷ xs) ys r = past_tail p xs ys r.0
 
+-- an older part of a history within bounds is within bounds
 pub within_tail : (xs ys : List Entry) → AreWithin (xs ++ ys) → AreWithin ys
 within_tail [] ys w = w
 within_tail (x ∷ xs) ys w = within_tail xs ys w.0
 
+-- a list is its first items and the rest
 take_drop : (es : List Entry) (k : ℕ) → es ≡ take k es ++ drop k es
 take_drop es zero = refl
 take_drop [] (suc k) = refl
 take_drop (e ∷ es) (suc k) = ap (λ l. e ∷ l) (take_drop es k)
 
+-- a list turned round is its rest turned round, and then its first items turned round
 reverse_parts : (es : List Entry) (k : ℕ) → reverse es ≡ reverse (drop k es) ++ reverse (take k es)
 reverse_parts es k = ap reverse (take_drop es k) ∙ reverse-append (take k es) (drop k es)
 
+-- as many items are taken as there are
 take_all : (es : List Entry) (k : ℕ) → k ≤ length es → length (take k es) ≡ k
 take_all es zero l = refl
 take_all [] (suc k) l = absurd (omega (arith, l))
@@ -63,9 +68,11 @@ take_all (e ∷ es) (suc k) l = ap suc (take_all es k (omega (arith, l)))
 more_is : (es : List Entry) (k : ℕ) (x : Entry) → k < length es → x ≡ get_or es k x → reverse (take (k + 1) es) ≡ x ∷ reverse (take k es)
 more_is es k x l is = ap reverse (take_more es k x l) ∙ reverse-append (take k es) (get_or es k x ∷ []) ∙ ap (λ e. e ∷ reverse (take k es)) (sym is)
 
+-- an entry and those before it are within bounds if all are
 within_next : (es : List Entry) (k : ℕ) (x : Entry) → k < length es → x ≡ get_or es k x → AreWithin (reverse es) → AreWithin (x ∷ reverse (take k es))
 within_next es k x l is w = subst AreWithin (more_is es k x l is) (within_tail (reverse (drop (k + 1) es)) (reverse (take (k + 1) es)) (subst AreWithin (reverse_parts es (k + 1)) w))
 
+-- an entry has the number of its place
 pub number_at : (es : List Entry) (k : ℕ) (x : Entry) → k < length es → x ≡ get_or es k x → AreWithin (reverse es) → x.number ≡ k
 number_at es k x l is w = (within_next es k x l is w).1 ∙ length-reverse (take k es) ∙ take_all es k (omega (arith, l))
 
@@ -77,6 +84,7 @@ pub record NextEntry (p : Program) (es : List Entry) (k : ℕ) (x : Entry) : Typ
   pub within : AreWithin (x ∷ reverse (take k es))
   pub number : x.number ≡ k
 
+-- of a run, the entry of a place may follow those before it
 pub next_entry : (p : Program) (es : List Entry) (k : ℕ) (x : Entry) → k < length es → x ≡ get_or es k x → IsPast p (reverse es) → AreWithin (reverse es) → NextEntry p es k x
 next_entry p es k x l is r w =
     let more = more_is es k x l is in
@@ -111,6 +119,7 @@ first_begun p e some r = by_what e.what refl r.1.comes
     by_what (Printed t) i c = nothing_asked (Printed t) c
     by_what (Ended x) i c = nothing_asked (Ended x) c
 
+-- a run begins with the entry that begins `Main`
 pub begun_first : (p : Program) (es : List Entry) → 0 < length es → HaveMethods p → IsPast p (reverse es) → main_begun ≡ reverse (take 1 es)
 begun_first p [] l some r = absurd (omega (arith, l))
 begun_first p (e ∷ es) l some r = sym (first_begun p e some (past_tail p (reverse es) (e ∷ []) (subst (IsPast p) (reverse_parts (e ∷ es) 1) r)))
@@ -122,6 +131,7 @@ abbrev pub early : ℕ → (ℕ → Option Message) → ℕ → Option Message
 early zero f i = None
 early (suc k) f i = if k == i then f k else early k f i
 
+-- a bound above all messages takes none away
 early_all : (k : ℕ) (f : ℕ → Option Message) (i : ℕ) → (k ≤ i → f i ≡ None) → early k f i ≡ f i
 early_all zero f i n = sym (n (omega arith))
 early_all (suc k) f i n =
@@ -130,6 +140,7 @@ early_all (suc k) f i n =
       | inr o ↦ rw o (early_all k f i (λ l. n (let d = eqb-false k i o in omega (arith, l, d))))
     ]
 
+-- an empty bag lists the messages below number 0
 pub lists_early : (index : Header → List ℕ) (f : ℕ → Option Message) → ((k : Header) → index k ≡ []) → Lists (early 0 f) 0 index
 lists_early index f e = lists_none (λ i. None) 0 index (λ i. refl) e
 
@@ -145,6 +156,7 @@ lists_noted f n old new m s e p =
     let next : suc n ≡ n + 1 = omega arith in
     subst (λ k. Lists (early k f) k new) next (subst (λ x. Lists (λ i. if n == i then x else early n f i) (suc n) new) (sym e) (lists_more (early n f) n old new m s p))
 
+-- no message is pending of a number that no entry has yet
 pending_past : (h : List Entry) (i : ℕ) → AreWithin h → length h ≤ i → pending i h ≡ None
 pending_past h i w l = by_pending (pending i h) refl
   where
@@ -185,8 +197,9 @@ lists_next tags es n e old new a g (Some x) i p s =
     let m = is_held tags es n x e a i g in
     lists_noted (λ j. pending j (reverse es)) n old new m.0 s m.1 (subst (λ o. IsNoted n o old new) m.2 p)
 
-pub stands_marked : (code : Parts) (limits : Limits) (bodies : CodeBodies) (h : List Entry) → StandsAfter code limits bodies h → AreWithin h → AreTagged bodies.tags.items h
-stands_marked code limits bodies h s w = record { within = w; held = s.held; only = s.only; tagged = s.tagged }
+-- where the bodies stand, the tags hold the arguments of exactly the pending messages
+pub stands_tagged : (code : Parts) (limits : Limits) (bodies : CodeBodies) (h : List Entry) → StandsAfter code limits bodies h → AreWithin h → AreTagged bodies.tags.items h
+stands_tagged code limits bodies h s w = record { within = w; held = s.held; only = s.only; tagged = s.tagged }
 
 -- ---- chords
 
@@ -200,6 +213,7 @@ all_taken h n index o (j ∷ js) s a =
     let m = t.0 in
     (has.0 ∷ r.0, m.arguments ++ r.1, (m.arguments, r.1, t.1 ∙ ap Some (message_to m o j t.2), refl, r.2))
 
+-- a chord to each of whose methods a message is in the bag may fire
 pub can_fire : (p : Program) (h : List Entry) (n : ℕ) (index : Header → List ℕ) → Lists (λ i. pending i h) n index → FiresAt p index → CanFire p h
 can_fire p h n index s f =
     let t = all_taken h n index f.0 f.2 s f.4 in
@@ -221,6 +235,7 @@ none_can p es n index some w s f k o ms vs fires = by_methods fires.0 ms (some o
 
 -- ---- the answer
 
+-- the entry that begins `Main` may follow no entry
 pub begun_follows : (p : Program) → (e : Entry) × MayFollow p [] e
 begun_follows p = (record { number = 0; body = 0; what = Begun }, record { numbered = refl; comes = (refl, refl) })
 
@@ -242,6 +257,7 @@ fire_follows p h f = (fired (length h) f.0 f.1 f.2 f.3, record { numbered = refl
 pub nothing_follows : (code : Parts) (limits : Limits) (bodies : CodeBodies) (h : List Entry) → StandsAfter code limits bodies h → 0 < length h → ((i : ℕ) → ready_at bodies.tasks.items i ≡ false) → NoneFires (code_program code limits) h → IsFinal (code_program code limits) h
 nothing_follows code limits bodies h s some none f = final_when (code_program code limits) h s.past some (none_asks code limits bodies h s none) f
 
+-- a list without items is empty, turned round too
 pub no_entries : (es : List Entry) → length es ≡ 0 → reverse es ≡ []
 no_entries [] e = refl
 no_entries (x ∷ es) e = absurd (omega (arith, e))

@@ -1,6 +1,6 @@
 -- The arguments of messages are taken one after another.
 use Rattle.std.proofs.Common.{◌≡◌, ℕ, zero, suc, ◌<◌, true, false, ◌==◌, ◌||◌, List, [], ◌∷◌, ◌++◌, length, Some, refl, sym, ap, ◌∙◌, arith, inl, inr, take, get_or, length-append}
-use Rattle.std.proofs.lemmas.List.{append-nil}
+use Rattle.std.proofs.lemmas.List.{append-nil, append_assoc}
 use Rattle.std.proofs.lemmas.Bool.{eq-eqb, eqb-true, eqb-false, ne_eqb}
 use Rattle.chord_base.specs.declared.value.Object.{Object}
 use Rattle.chord_base.specs.declared.value.Value.{Value}
@@ -9,14 +9,14 @@ use Rattle.chord_base.specs.Messages.{Message, has, pending, AreDifferent}
 use Rattle.chord_base.specs.Machine.{Takes}
 use Rattle.chord_base.proofs.Waits.{either}
 use Rattle.chord_task.specs.declared.args.Args.{Args}
-use Rattle.chord_task.specs.Arguments.{firsts, AreTwice}
+use Rattle.chord_task.specs.Arguments.{for_entry, AreTwice}
 use Rattle.chord_vm.specs.Frames.{laid}
 use Rattle.chord_lists.specs.declared.code_bodies.Tag.{Tag}
 use Rattle.chord_lists.specs.CodeStands.{held_at, IsHeld, IsHeldAt, AllHeld, first_in, held_values, Emptied, EmptiedAll}
 
 -- what was taken so far, of the first messages
 pub record Laying (before : List Tag) (ns : List ℕ) (hand : List Args) (tags : List Tag) : Type 0 where
-  pub values : laid (firsts hand) ≡ held_values before ns
+  pub values : laid (for_entry hand) ≡ held_values before ns
   pub twice : AreTwice hand
   pub so_many : length hand ≡ length ns
   pub emptied : EmptiedAll ns before tags
@@ -25,19 +25,15 @@ pub record Laying (before : List Tag) (ns : List ℕ) (hand : List Args) (tags :
 pub none_laid : (before : List Tag) → Laying before [] [] before
 none_laid before = record { values = refl; twice = tt; so_many = refl; emptied = record { held = λ i. refl; homes = λ i. refl; tagged = refl } }
 
-append_assoc : (xs ys zs : List Value) → xs ++ (ys ++ zs) ≡ (xs ++ ys) ++ zs
-append_assoc [] ys zs = refl
-append_assoc (x ∷ xs) ys zs = ap (λ l. x ∷ l) (append_assoc xs ys zs)
-
 -- the values of one more message come last
 values_more : (tags : List Tag) (ns : List ℕ) (n : ℕ) → held_values tags (ns ++ n ∷ []) ≡ held_values tags ns ++ first_in (held_at tags n)
 values_more tags [] n = append-nil (first_in (held_at tags n))
-values_more tags (i ∷ ns) n = ap (λ l. first_in (held_at tags i) ++ l) (values_more tags ns n) ∙ append_assoc (first_in (held_at tags i)) (held_values tags ns) (first_in (held_at tags n))
+values_more tags (i ∷ ns) n = ap (λ l. first_in (held_at tags i) ++ l) (values_more tags ns n) ∙ sym (append_assoc (first_in (held_at tags i)) (held_values tags ns) (first_in (held_at tags n)))
 
 -- the values of one more item of a hand come last
-laid_more : (xs : List Args) (a : Args) → laid (firsts (xs ++ a ∷ [])) ≡ laid (firsts xs) ++ a.first
+laid_more : (xs : List Args) (a : Args) → laid (for_entry (xs ++ a ∷ [])) ≡ laid (for_entry xs) ++ a.first
 laid_more [] a = append-nil a.first
-laid_more (x ∷ xs) a = ap (λ l. x.first ++ l) (laid_more xs a) ∙ append_assoc x.first (laid (firsts xs)) a.first
+laid_more (x ∷ xs) a = ap (λ l. x.first ++ l) (laid_more xs a) ∙ sym (append_assoc x.first (laid (for_entry xs)) a.first)
 
 -- one more item whose arguments are held twice
 twice_more : (xs : List Args) (a : Args) → AreTwice xs → a.second ≡ a.first → AreTwice (xs ++ a ∷ [])
@@ -91,12 +87,13 @@ not_before (n ∷ ns) (suc k) l d =
     has_at (n ∷ ns) zero l = rw (eq-eqb n n refl) refl
     has_at (n ∷ ns) (suc k) l = (let r = has_at ns k (omega (arith, l)) in elim (either (get_or ns k 0 == n)) [ inl y ↦ rw y refl | inr o ↦ rw (o, r) refl ])
 
+-- of messages whose arguments are all held, those of each are held
 pub held_there : (tags : List Tag) (ns : List ℕ) (k : ℕ) → k < length ns → AllHeld tags ns → IsHeldAt tags (get_or ns k 0)
 held_there tags [] k l a = absurd (omega (arith, l))
 held_there tags (n ∷ ns) zero l a = a.0
 held_there tags (n ∷ ns) (suc k) l a = held_there tags ns k (omega (arith, l)) a.1
 
--- what a firing takes is held, and is what is held_values together
+-- what a firing takes is held, and it is its values
 pub takes_held : (tags : List Tag) (h : List Entry) (o : Object) (js ms : List ℕ) (vs : List Value) → ((q : ℕ) (m : Message) → pending q h ≡ Some m → IsHeld tags q m.arguments) → Takes h o js ms vs → AllHeld tags ms × (held_values tags ms ≡ vs)
 takes_held tags h o [] [] vs f t = (tt, sym t)
 takes_held tags h o [] (i ∷ ms) vs f t = absurd t

@@ -33,6 +33,7 @@ abbrev pub past_of : Option Task → List Entry
 past_of None = []
 past_of (Some t) = (view_of t).past
 
+-- what each place keeps, by its number
 abbrev pub views : List Task → ℕ → List Entry
 views tasks i = past_of (slice_get tasks i)
 
@@ -41,6 +42,7 @@ abbrev pub home_in : Option Tag → ℕ
 home_in None = 0
 home_in (Some m) = m.task
 
+-- the task that keeps the entry of this number
 abbrev pub home : List Tag → ℕ → ℕ
 home tags n = home_in (slice_get tags n)
 
@@ -49,11 +51,13 @@ abbrev pub held_in : Option Tag → Option Args
 held_in None = None
 held_in (Some m) = m.held
 
+-- what is held of the message of this number
 abbrev pub held_at : List Tag → ℕ → Option Args
 held_at tags n = held_in (slice_get tags n)
 
 -- ## Ready tasks
 
+-- whether a task, if there is one, may go on
 abbrev pub ready_in : Option Task → Bool
 ready_in None = false
 ready_in (Some t) = is_ready_of t
@@ -67,6 +71,7 @@ abbrev pub over_in : Option Task → Bool
 over_in None = false
 over_in (Some t) = is_none (view_of t).top
 
+-- whether the task of this place has no body left
 unfoldable pub over_at : List Task → ℕ → Bool
 over_at tasks i = over_in (slice_get tasks i)
 
@@ -86,6 +91,7 @@ IsHeld tags n vs = (a : Args) × (held_at tags n ≡ Some a) × (a.first ≡ vs)
 
 -- ## The whole
 
+-- what the bodies are after a history: its entries stand in the pasts of tasks, each where its tag says; each pending call has its caller, and each pending message its arguments
 pub record StandsAfter (code : Parts) (limits : Limits) (bodies : CodeBodies) (h : List Entry) : Type 0 where
   pub past : IsPast (code_program code limits) h
   pub keeps : (i : ℕ) → kept (λ n. home bodies.tags.items n == i) h ≡ views bodies.tasks.items i
@@ -97,7 +103,7 @@ pub record StandsAfter (code : Parts) (limits : Limits) (bodies : CodeBodies) (h
   pub tagged : length bodies.tags.items ≡ length h
   pub few : length bodies.tasks.items ≤ length h
 
--- ## A task may_go on
+-- ## A task goes on
 
 -- the next ask of the body on top may become the entry of this number
 pub record MayTurn (p : Program) (t : TaskView) (n : ℕ) : Type 0 where
@@ -127,6 +133,7 @@ twice m = record { first = m.arguments; second = m.arguments }
 abbrev pub tag_of : ℕ → What → Tag
 tag_of at w = record { task = at; held = option_map twice (message_of w) }
 
+-- what an entry with this message, or none, is to the engine
 abbrev pub turn_by : Option Message → Turn
 turn_by None = a_turn.Plain
 turn_by (Some m) = a_turn.Message m.object m.method
@@ -135,7 +142,7 @@ turn_by (Some m) = a_turn.Message m.object m.method
 abbrev pub turn_of : What → Turn
 turn_of w = turn_by (message_of w)
 
--- the entry was tagged
+-- an entry of this task got its tag, and the engine is told what it is
 pub record IsTagged (at : ℕ) (w : What) (before after : List Tag) (turn : Turn) : Type 0 where
   pub tags : after ≡ before ++ tag_of at w ∷ []
   pub is : turn ≡ turn_of w
@@ -160,13 +167,13 @@ abbrev pub AreLeft : List Task → List (Vec Entry) → Type 0
 AreLeft tasks pasts = (i : ℕ) → left_in (slice_get pasts i) ≡ views tasks i
 
 -- each entry has the number of its place
-abbrev pub AreInOrder : List Entry → Type 0
-AreInOrder [] = Unit {0}
-AreInOrder (e ∷ h) = (e.number ≡ length h) × AreInOrder h
+abbrev pub NumbersArePlaces : List Entry → Type 0
+NumbersArePlaces [] = Unit {0}
+NumbersArePlaces (e ∷ h) = (e.number ≡ length h) × NumbersArePlaces h
 
 -- the places have the entries of this history, each where its tag says
 pub record IsLeft (pasts : List (Vec Entry)) (tags : List Tag) (h : List Entry) : Type 0 where
-  pub in_order : AreInOrder h
+  pub in_order : NumbersArePlaces h
   pub tagged : length tags ≡ length h
   pub keeps : (i : ℕ) → kept (λ n. home tags n == i) h ≡ left_in (slice_get pasts i)
 
@@ -188,15 +195,17 @@ pub record IsNewestTaken (before : List (Vec Entry)) (at : ℕ) (e : Entry) (aft
 abbrev pub IsHeldAt : List Tag → ℕ → Type 0
 IsHeldAt tags n = (a : Args) × (held_at tags n ≡ Some a) × (a.second ≡ a.first)
 
+-- the arguments of each of these messages are held, twice
 abbrev pub AllHeld : List Tag → List ℕ → Type 0
 AllHeld tags [] = Unit {0}
 AllHeld tags (n ∷ ns) = IsHeldAt tags n × AllHeld tags ns
 
+-- the arguments that are held, and none where none are
 abbrev pub first_in : Option Args → List Value
 first_in None = []
 first_in (Some a) = a.first
 
--- the arguments of these messages held_values together
+-- the arguments of these messages, one after another
 abbrev pub held_values : List Tag → List ℕ → List Value
 held_values tags [] = []
 held_values tags (n ∷ ns) = first_in (held_at tags n) ++ held_values tags ns

@@ -8,7 +8,7 @@ ghost use Rattle.chord_base.specs.Bodies.{served_among};
 ghost use Rattle.chord_base.specs.Messages.{AreDifferent};
 ghost use Rattle.chord_code.specs.Meaning.{code_program, method_is_sync};
 ghost use Rattle.chord_vm.specs.Frames.{laid};
-ghost use Rattle.chord_task.specs.Arguments.{firsts, AreTwice};
+ghost use Rattle.chord_task.specs.Arguments.{for_entry, AreTwice};
 ghost use Rattle.chord_task.specs.declared.task.Task.{Task as T};
 ghost use Rattle.chord_task.specs.Standing.{view_of, IsTaskOf, is_ready_of};
 ghost use Rattle.chord_lists.specs.Engine.{main_begun, IsRunOfLength, MayGoOn, Went, MayBegin, Began, Ends};
@@ -84,12 +84,7 @@ fn tag_message(
 }
 
 /// Marks an entry of this task.
-fn tag_entry(
-    alloc: Global,
-    tags: &mut Vec<Tag>,
-    at: u32,
-    what: &What,
-) -> Result<Turn, AllocError>
+fn tag_entry(alloc: Global, tags: &mut Vec<Tag>, at: u32, what: &What) -> Result<Turn, AllocError>
     ensures { IfOk result (λ turn. IsTagged at what.now tags.old.items tags.new.items turn) }
 {
     match what {
@@ -356,7 +351,7 @@ fn take_all_held(tags: &mut Vec<Tag>, members: &[u32]) -> Hand<Args>
     requires held { AllHeld tags.old.items members.now }
     requires different { AreDifferent members.now }
     requires few { length members.now ≤ 8 }
-    ensures values { laid (firsts result) ≡ held_values tags.old.items members.now }
+    ensures values { laid (for_entry result) ≡ held_values tags.old.items members.now }
     ensures twice { AreTwice result }
     ensures rest { EmptiedAll members.now tags.old.items tags.new.items }
 {

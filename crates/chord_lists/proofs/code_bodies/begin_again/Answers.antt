@@ -7,7 +7,7 @@ use Rattle.chord_base.specs.Bodies.{served_among}
 use Rattle.chord_code.specs.Meaning.{code_program}
 use Rattle.chord_task.specs.declared.task.Task.{Task}
 use Rattle.chord_task.specs.Standing.{view_of, IsTaskOf, MayResume}
-use Rattle.chord_task.specs.Arguments.{firsts}
+use Rattle.chord_task.specs.Arguments.{for_entry}
 use Rattle.chord_vm.specs.Frames.{laid}
 use Rattle.chord_lists.specs.Engine.{fired}
 use Rattle.chord_lists.specs.CodeStands.{held_values}
@@ -41,7 +41,7 @@ pub resume-requires-clause-few : goal.resume-requires-clause-few
 resume-requires-clause-few c =
     let m = c.requires.may in
     let held = firing_held c.args.code.now c.args.limits.now c.args.bodies.now m.0 c.args.chord c.args.object c.args.members m.1 m.3 m.4 in
-    let first : laid (firsts c.take_all_held-arguments.result) ≡ m.1 = c.take_all_held-arguments.ensures.values ∙ ap (held_values c.args.bodies.now.tags.items) c.items.ensures.numbers ∙ held.1 in
+    let first : laid (for_entry c.take_all_held-arguments.result) ≡ m.1 = c.take_all_held-arguments.ensures.values ∙ ap (held_values c.args.bodies.now.tags.items) c.items.ensures.numbers ∙ held.1 in
     let few = m.5.3.few_values in
     let l = ap length first in
     omega (arith, few, l)
@@ -69,8 +69,8 @@ resume-requires-clause-may c =
     let there : slice_get c.args.bodies.now.tasks.items c.args.at ≡ Some k.task = k.there in
     let e : c.index_mut-task.result.now ≡ k.task = c.index_mut-task.ensures.value ∙ get_or_from_slice_get c.args.bodies.now.tasks.items c.args.at k.task c.index_mut-task.result.now there in
     let held = firing_held code limits c.args.bodies.now m.0 c.args.chord c.args.object c.args.members m.1 m.3 m.4 in
-    let first : laid (firsts c.take_all_held-arguments.result) ≡ m.1 = c.take_all_held-arguments.ensures.values ∙ ap (held_values c.args.bodies.now.tags.items) c.items.ensures.numbers ∙ held.1 in
-    subst (λ (t : Task). MayResume code t.limits t c.args.number c.args.chord c.args.object c.args.members (laid (firsts c.take_all_held-arguments.result))) (sym e)
+    let first : laid (for_entry c.take_all_held-arguments.result) ≡ m.1 = c.take_all_held-arguments.ensures.values ∙ ap (held_values c.args.bodies.now.tags.items) c.items.ensures.numbers ∙ held.1 in
+    subst (λ (t : Task). MayResume code t.limits t c.args.number c.args.chord c.args.object c.args.members (laid (for_entry c.take_all_held-arguments.result))) (sym e)
     (subst (λ (vs : List Value). MayResume code k.task.limits k.task c.args.number c.args.chord c.args.object c.args.members vs) (sym first) k.may)
 
 pub returns : goal.returns
@@ -83,7 +83,7 @@ returns c =
     let there : slice_get c.args.bodies.now.tasks.items c.args.at ≡ Some k.task = k.there in
     let e : c.index_mut-task.result.now ≡ k.task = c.index_mut-task.ensures.value ∙ get_or_from_slice_get c.args.bodies.now.tasks.items c.args.at k.task c.index_mut-task.result.now there in
     let held = firing_held code limits c.args.bodies.now h c.args.chord c.args.object c.args.members vs s f in
-    let first : laid (firsts c.take_all_held-arguments.result) ≡ vs = c.take_all_held-arguments.ensures.values ∙ ap (held_values c.args.bodies.now.tags.items) c.items.ensures.numbers ∙ held.1 in
+    let first : laid (for_entry c.take_all_held-arguments.result) ≡ vs = c.take_all_held-arguments.ensures.values ∙ ap (held_values c.args.bodies.now.tags.items) c.items.ensures.numbers ∙ held.1 in
     let past : (view_of c.resume.new.self).past ≡ fired c.args.number c.args.chord c.args.object c.args.members vs ∷ (view_of k.task).past =
     c.resume.ensures.past ∙ ap (λ (z : List Value). fired c.args.number c.args.chord c.args.object c.args.members z ∷ (view_of c.index_mut-task.result.now).past) first
     ∙ ap (λ (t : Task). fired c.args.number c.args.chord c.args.object c.args.members vs ∷ (view_of t).past) e

@@ -6,7 +6,7 @@ use Rattle.chord_base.specs.declared.event.Entry.{Entry}
 use Rattle.chord_base.specs.Bodies.{served_among}
 use Rattle.chord_code.specs.Meaning.{code_program}
 use Rattle.chord_task.specs.Standing.{view_of, IsTaskOf, MayResume}
-use Rattle.chord_task.specs.Arguments.{firsts}
+use Rattle.chord_task.specs.Arguments.{for_entry}
 use Rattle.chord_vm.specs.Frames.{laid}
 use Rattle.chord_lists.specs.Engine.{fired}
 use Rattle.chord_lists.specs.CodeStands.{held_values}
@@ -38,7 +38,7 @@ pub resume-requires-clause-few : goal.resume-requires-clause-few
 resume-requires-clause-few c =
     let m = c.requires.may in
     let held = firing_held c.args.code.now c.args.limits.now c.args.bodies.now m.0 c.args.chord c.args.object c.args.members m.1 m.3 m.4 in
-    let first : laid (firsts c.take_all_held-arguments.result) ≡ m.1 = c.take_all_held-arguments.ensures.values ∙ ap (held_values c.args.bodies.now.tags.items) c.items.ensures.numbers ∙ held.1 in
+    let first : laid (for_entry c.take_all_held-arguments.result) ≡ m.1 = c.take_all_held-arguments.ensures.values ∙ ap (held_values c.args.bodies.now.tags.items) c.items.ensures.numbers ∙ held.1 in
     let few = m.5.3.few_values in
     let l = ap length first in
     omega (arith, few, l)
@@ -51,7 +51,7 @@ resume-requires-clause-may c =
     let limits = c.args.limits.now in
     let serves = ap (λ js. served_among ((code_program code limits).is_sync c.args.object.class) js c.args.members) (one_some f.0 c.requires.call.methods (slice_get ((code_program code limits).chords c.args.object.class) c.args.chord) f.1 c.requires.call.chord) ∙ c.requires.call.is in
     let held = firing_held code limits c.args.bodies.now m.0 c.args.chord c.args.object c.args.members m.1 m.3 m.4 in
-    let first : laid (firsts c.take_all_held-arguments.result) ≡ m.1 = c.take_all_held-arguments.ensures.values ∙ ap (held_values c.args.bodies.now.tags.items) c.items.ensures.numbers ∙ held.1 in
+    let first : laid (for_entry c.take_all_held-arguments.result) ≡ m.1 = c.take_all_held-arguments.ensures.values ∙ ap (held_values c.args.bodies.now.tags.items) c.items.ensures.numbers ∙ held.1 in
     let t = c.in_ok-task.task in
     let spare = c.in_ok-task.ensures in
     subst (λ (vs : List Value). MayResume code t.limits t c.args.number c.args.chord c.args.object c.args.members vs) (sym first)
@@ -63,7 +63,7 @@ returns c =
     let code = c.args.code.now in
     let limits = c.args.limits.now in
     let held = firing_held code limits c.args.bodies.now h c.args.chord c.args.object c.args.members vs s f in
-    let first : laid (firsts c.take_all_held-arguments.result) ≡ vs = c.take_all_held-arguments.ensures.values ∙ ap (held_values c.args.bodies.now.tags.items) c.items.ensures.numbers ∙ held.1 in
+    let first : laid (for_entry c.take_all_held-arguments.result) ≡ vs = c.take_all_held-arguments.ensures.values ∙ ap (held_values c.args.bodies.now.tags.items) c.items.ensures.numbers ∙ held.1 in
     let spare = c.in_ok-task.ensures in
     let past : (view_of c.resume.new.self).past ≡ fired c.args.number c.args.chord c.args.object c.args.members vs ∷ [] =
     c.resume.ensures.past ∙ ap (λ (z : List Value). fired c.args.number c.args.chord c.args.object c.args.members z ∷ (view_of c.in_ok-task.task).past) first

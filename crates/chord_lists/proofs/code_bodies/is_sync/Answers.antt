@@ -1,9 +1,8 @@
-use Rattle.std.proofs.Common.{◌≡◌, ◌∙◌, sym, ap, arith, Some, None, Option}
+use Rattle.std.proofs.Common.{◌≡◌, ◌∙◌, sym, ap, arith, None}
 use Rattle.std.specs.Prelude.{slice_get}
-use Rattle.chord_code.specs.declared.parts.ClassLine.{ClassLine}
 use Rattle.chord_code.specs.Valid.{line_is_sync}
 use Rattle.chord_code.specs.Meaning.{methods_in}
-use Rattle.chord_lists.proofs.Spots.{got, past_end}
+use Rattle.chord_lists.proofs.Spots.{past_end}
 use Rattle.chord_lists.proofs.code_bodies.is_sync.Goals as goal
 
 pub returns-in-None : goal.returns-in-None

@@ -1,5 +1,4 @@
 use Rattle.std.proofs.Common.{◌≡◌, ◌+◌, ◌<◌, ◌∷◌, length, drop, get_or, arith, sym, ◌∙◌, add-one, drop-cons, false, ℕ, Bool}
-use Rattle.std.specs.Prelude.{slice_get}
 use Rattle.chord_base.specs.Bodies.{served_among}
 use Rattle.chord_code.specs.Meaning.{method_is_sync}
 use Rattle.chord_lists.proofs.code_bodies.served_by.Goals as goal

@@ -1,6 +1,5 @@
-use Rattle.std.proofs.Common.{rules, ◌≡◌, ◌≤◌, ◌∙◌, sym, ap, arith, length, [], refl}
+use Rattle.std.proofs.Common.{rules, ◌≤◌, ◌∙◌, ap, arith, length, []}
 use Rattle.chord_code.specs.declared.parts.Parts.{Parts}
-use Rattle.chord_code.specs.Meaning.{chord_lines}
 use Rattle.chord_lists.proofs.Spots.{got, past_end}
 use Rattle.chord_lists.proofs.CodeChords.{lines_there, lines_absent, lines_count, lines_few}
 use Rattle.chord_lists.proofs.code_play.CodePlayPlayable.count.Goals as goal
