@@ -4,3 +4,14 @@ pub mod Engines
 pub mod Playing
 pub mod Runs
 pub mod Standing
+pub mod CodeTasks
+pub mod Spots
+pub mod CodeChords
+pub mod CodeSteps
+pub mod Gathering
+pub mod CodeStart
+pub mod CodeOver
+pub mod Laying
+pub mod CodeFiring
+pub mod CodeReplay
+pub mod Going

@@ -22,7 +22,7 @@ use Rattle.chord_base.specs.Machine.{NoneFires}
 use Rattle.chord_base.proofs.Waits.{either}
 use Rattle.chord_lists.specs.declared.small.SmallLine.{SmallLine}
 use Rattle.chord_lists.specs.declared.small.SmallLine.TheVariants.{Put, Print, PrintGet}
-use Rattle.chord_lists.specs.Small.{small_chords, small_program, small_main, small_lines, asked_at}
+use Rattle.chord_lists.specs.Small.{small_chords, small_program, small_main, small_lines, small_asked}
 use Rattle.chord_lists.specs.Engine.{main_begun}
 use Rattle.chord_lists.specs.States.{PendingPut, first, put_message, call_message, find_put, IsStack, IsQuiet, Playing, Calling, Serving, Got, Done, is_sent, is_fired}
 
@@ -106,7 +106,7 @@ count_more f e h = sum_by-cons (λ x. cond (f x.what) 1 0) e h
 -- while `Main` plays its lines, its next ask is that of the lines that are left
 main_asks : (ls rest : List SmallLine) (stack : List PendingPut) (h : List Entry) (w : What) → Playing ls rest stack h → small_lines first rest [] ≡ Some w → Asks (small_program ls) h 0 w
 main_asks ls rest stack h w s e =
-    (1, rw s.main (ap (asked_at 1) (ap (small_main ls) (sym (append-nil s.answers)) ∙ s.lines [] ∙ e)))
+    (1, rw s.main (ap (small_asked 1) (ap (small_main ls) (sym (append-nil s.answers)) ∙ s.lines [] ∙ e)))
 
 -- another body than `Main` is not body 0
 pub other_main : (b : ℕ) → b ≢ 0 → (0 == b) ≡ false
@@ -151,7 +151,7 @@ call_step ls rest stack h s =
       past = (s.past, record { numbered = refl; comes = main_asks ls (PrintGet ∷ rest) stack h (Called first 0 []) s refl });
       begun = omega (arith, s.begun);
       answers = s.answers;
-      place = ask_depth (asked_at 1 (small_main ls s.answers));
+      place = ask_depth (small_asked 1 (small_main ls s.answers));
       main = rw s.main;
       lines = s.lines;
       quiet = λ b n. rw (other_main b n) (s.quiet b n);

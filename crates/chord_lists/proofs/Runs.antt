@@ -21,7 +21,7 @@ use Rattle.chord_base.specs.Machine.{NoneFires}
 use Rattle.chord_base.proofs.Waits.{either}
 use Rattle.chord_lists.specs.declared.small.SmallLine.{SmallLine}
 use Rattle.chord_lists.specs.declared.small.SmallLine.TheVariants.{Put, Print, PrintGet}
-use Rattle.chord_lists.specs.Small.{small_chords, small_program, small_main, small_lines, asked_at}
+use Rattle.chord_lists.specs.Small.{small_chords, small_program, small_main, small_lines, small_asked}
 use Rattle.chord_lists.specs.Engine.{main_begun}
 use Rattle.chord_lists.specs.States.{PendingPut, first, put_message, call_message, find_put, IsQuiet, Playing, Calling, Serving, Got, Done, is_sent, is_fired, count_sent, count_fired, is_over, is_over_at}
 use Rattle.chord_lists.proofs.Playing.{begun_past, begin_step, put_step, print_step, call_step, fire_step, fire_top, end_step, shown_step, end_main, done_final, parked, none_fires, without_put, is_main, quiet_asks, found_put, the_chord, other_main}
@@ -65,7 +65,7 @@ entry_is : (e : Entry) (n b : ℕ) (w : What) → e.number ≡ n → e.body ≡ 
 entry_is e n b w x y z = rw (← x, ← y, ← z) refl
 
 -- an ask at a place of some depth says what it was made of
-at_depth_is : (d : ℕ) (o : Option What) (w : What) (l : ℕ) → asked_at d o ≡ Some (record { what = w; depth = l }) → o ≡ Some w
+at_depth_is : (d : ℕ) (o : Option What) (w : What) (l : ℕ) → small_asked d o ≡ Some (record { what = w; depth = l }) → o ≡ Some w
 at_depth_is d None w l e = let x : ◌≡◌ {A = Option Asked} None (Some (record { what = w; depth = l })) = e in cc
 at_depth_is d (Some v) w l e =
     let x : ◌≡◌ {A = Asked} (record { what = v; depth = d }) (record { what = w; depth = l }) = cc in

@@ -15,6 +15,7 @@ use Rattle.chord_base.specs.Messages.{Message, message_of, members_of, has, pend
 use Rattle.chord_base.specs.Machine.{MayFollow, Fires}
 use Rattle.chord_base.specs.Bounds.{AreWithin, IsWhatWithin}
 use Rattle.chord_base.proofs.Waits.{either}
+use Rattle.chord_task.proofs.Standing.{entry}
 use Rattle.chord_lists.specs.declared.small.SmallLine.{SmallLine}
 use Rattle.chord_lists.specs.declared.small.SmallLine.TheVariants.{Put, Print, PrintGet}
 use Rattle.chord_lists.specs.declared.play.Stage.{Stage}
@@ -37,10 +38,6 @@ lines_past [] zero l = refl
 lines_past [] (suc i) l = refl
 lines_past (x ∷ ls) zero l = absurd (omega (arith, l))
 lines_past (x ∷ ls) (suc i) l = lines_past ls i (omega (arith, l))
-
--- an entry of this number
-abbrev pub entry : ℕ → ℕ → What → Entry
-entry n b w = record { number = n; body = b; what = w }
 
 -- the bodies after one more entry
 made : (ls : List SmallLine) (bodies : SmallBodies) (n b : ℕ) (w : What) (stage : Stage) (h : List Entry) → IsRunOfLength (small_program ls) n h
@@ -132,7 +129,7 @@ entry_before (x ∷ es) e zero l = refl
 entry_before (x ∷ es) e (suc n) l = entry_before es e n (omega (arith, l))
 
 -- a pending message is the entry of its number
-pending_entry : (h : List Entry) (n : ℕ) (m : Message) → AreWithin h → pending n h ≡ Some m
+pub pending_entry : (h : List Entry) (n : ℕ) (m : Message) → AreWithin h → pending n h ≡ Some m
     → (e : Entry) × (slice_get (reverse h) n ≡ Some e) × (message_of e.what ≡ Some m)
 pending_entry [] n m w s = let z : ◌≡◌ {A = Option Message} None (Some m) = s in cc
 pending_entry (x ∷ h) n m w s =

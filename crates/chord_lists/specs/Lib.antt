@@ -14,3 +14,7 @@ pub mod Engine
 pub mod States
 -- what the bodies of a small program keep
 pub mod Stages
+-- what the bodies of a run of a code are
+pub mod CodeStands
+-- whether a run of a code may go on
+pub mod CodeGoes

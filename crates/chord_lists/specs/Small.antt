@@ -42,13 +42,13 @@ small_main ls (Gives (a_value.Ref b) ∷ rs) = small_lines b ls rs
 small_main ls _ = None
 
 -- an ask, if there is one, at a place of this depth
-abbrev pub asked_at : ℕ → Option What → Option Asked
-asked_at d None = None
-asked_at d (Some w) = Some (record { what = w; depth = d })
+abbrev pub small_asked : ℕ → Option What → Option Asked
+small_asked d None = None
+small_asked d (Some w) = Some (record { what = w; depth = d })
 
 -- what a body asks next: `Main` as above, and the body of the chord ends at once with its one argument
 abbrev pub small_next : List SmallLine → Start → ℕ → List End → Option Asked
-small_next ls Main d rs = asked_at d (small_main ls rs)
+small_next ls Main d rs = small_asked d (small_main ls rs)
 small_next ls (Chord k o (v ∷ [])) d [] = Some (record { what = Ended (Gives v); depth = d })
 small_next ls _ d rs = None
 

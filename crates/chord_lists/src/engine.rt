@@ -92,7 +92,7 @@ pub trait Playable {
 }
 
 /// A chord of the object that is enabled.
-fn find_chord<P: Playable>(program: &P, bag: &Bag, object: Object) -> Option<u16>
+pub fn find_chord<P: Playable>(program: &P, bag: &Bag, object: Object) -> Option<u16>
     ensures some { IfSome result (λ k. (js : List ℕ) × (slice_get ((P.program program.now).chords object.class) k ≡ Some js) × HasMessages object js (numbers_of bag.now)) }
     ensures none { IfNone result ((k : ℕ) (js : List ℕ) → slice_get ((P.program program.now).chords object.class) k ≡ Some js → LacksAMessage object js (numbers_of bag.now)) }
 {

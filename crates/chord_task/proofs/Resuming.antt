@@ -29,7 +29,7 @@ use Rattle.chord_task.specs.declared.task.Task.{Task}
 use Rattle.chord_task.specs.Stacks.{IsTask, TopWaitsFor, FitsCall}
 use Rattle.chord_vm.specs.Frames.{laid}
 use Rattle.chord_task.specs.declared.args.Args.{Args}
-use Rattle.chord_task.specs.Arguments.{MayBeList, firsts, seconds, AreTwice}
+use Rattle.chord_task.specs.Arguments.{MayBeList, for_entry, for_body, AreTwice}
 use Rattle.chord_task.specs.Standing.{body_number, view_of, NextIs, IsUp, IsParked, IsTop, AreParked, IsBodyStack, HasRoomFor, IsTaskOf, MayResume, room_of, may_go, body_may_go, is_ready_of, IsRoomier, IsRoomierTop}
 use Rattle.chord_task.proofs.Stacks.{task_resume, task_spare, begun_ready}
 use Rattle.chord_task.proofs.Standing.{entry, parked_more, all_parked, parked_under}
@@ -267,12 +267,12 @@ task_roomier code limits t past below (Some b) (Some b') spare values i k g p q 
     }
 
 -- arguments that are held twice are the same for the entry and for the body
-twice_same : (as_ : List Args) → AreTwice as_ → seconds as_ ≡ firsts as_
+twice_same : (as_ : List Args) → AreTwice as_ → for_body as_ ≡ for_entry as_
 twice_same [] t = refl
-twice_same (a ∷ as_) t = ap (λ z. z ∷ seconds as_) t.0 ∙ ap (λ z. a.first ∷ z) (twice_same as_ t.1)
+twice_same (a ∷ as_) t = ap (λ z. z ∷ for_body as_) t.0 ∙ ap (λ z. a.first ∷ z) (twice_same as_ t.1)
 
 -- the body begins as the meaning of the code has it
-pub begun_same : (code : Parts) (limits l : Limits) (b depth room : ℕ) (this : Value) (xs : List (List Value)) (as_ : List Args) → l ≡ limits → limits.depth - depth ≡ room → xs ≡ seconds as_ → AreTwice as_ → body_in_block code b (l.depth - depth) (this ∷ laid xs) l.turns ≡ body_in_block code b room (this ∷ laid (firsts as_)) limits.turns
+pub begun_same : (code : Parts) (limits l : Limits) (b depth room : ℕ) (this : Value) (xs : List (List Value)) (as_ : List Args) → l ≡ limits → limits.depth - depth ≡ room → xs ≡ for_body as_ → AreTwice as_ → body_in_block code b (l.depth - depth) (this ∷ laid xs) l.turns ≡ body_in_block code b room (this ∷ laid (for_entry as_)) limits.turns
 begun_same code limits l b depth room this xs as_ e d s t =
     ap (λ (x : Limits). body_in_block code b (x.depth - depth) (this ∷ laid xs) x.turns) e
     ∙ ap (λ r. body_in_block code b r (this ∷ laid xs) limits.turns) d

@@ -183,9 +183,9 @@ no_length [] e = refl
 no_length (x ∷ xs) e = absurd (omega (arith, e))
 
 -- what follows from an answer that is there
-pub on_ok : {A B : Type 0} (P Q : Type 0) (r : Result A B) → (P → Q) → OnOk r P → OnOk r Q
-on_ok P Q (Ok x) f p = f p
-on_ok P Q (Err e) f p = tt
+pub on_ok_follows : {A B : Type 0} (P Q : Type 0) (r : Result A B) → (P → Q) → OnOk r P → OnOk r Q
+on_ok_follows P Q (Ok x) f p = f p
+on_ok_follows P Q (Err e) f p = tt
 
 -- a task without a body, with room for one
 pub spare_task : (code : Parts) (limits : Limits) (t : Task) → IsForward code → t.limits ≡ limits → t.top ≡ None → t.past.items ≡ [] → t.below.items ≡ [] → IsResumable code t → HasRoomFor code t.limits t.spare → MayBeList t.values → IsTaskOf code limits t

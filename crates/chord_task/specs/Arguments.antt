@@ -5,14 +5,14 @@ use Rattle.chord_base.specs.declared.value.Value.{Value}
 use Rattle.chord_task.specs.declared.args.Args.{Args}
 
 -- the arguments for the entry of a firing, message by message
-abbrev pub firsts : List Args → List (List Value)
-firsts [] = []
-firsts (a ∷ as_) = a.first ∷ firsts as_
+abbrev pub for_entry : List Args → List (List Value)
+for_entry [] = []
+for_entry (a ∷ as_) = a.first ∷ for_entry as_
 
 -- the arguments for its body, message by message
-abbrev pub seconds : List Args → List (List Value)
-seconds [] = []
-seconds (a ∷ as_) = a.second ∷ seconds as_
+abbrev pub for_body : List Args → List (List Value)
+for_body [] = []
+for_body (a ∷ as_) = a.second ∷ for_body as_
 
 -- each message's arguments are held twice
 abbrev pub AreTwice : List Args → Type 0

@@ -3,7 +3,7 @@
 
 ghost use Rattle.std.specs.Prelude.{◌≡◌, ℕ, ◌+◌, ◌≤◌, List, [], ◌++◌, length, None, Some, vec_len, vec_capacity};
 ghost use Rattle.chord_vm.specs.Frames.{laid};
-ghost use Rattle.chord_task.specs.Arguments.{firsts, seconds, IsList};
+ghost use Rattle.chord_task.specs.Arguments.{for_entry, for_body, IsList};
 
 use chord_base::hand::Hand;
 use chord_base::value::{Value, Values};
@@ -26,9 +26,9 @@ pub struct Parted {
 /// Moves the first arguments of each message to the end of a list, and the second ones to a hand.
 fn part(arguments: &mut Hand<Args>, values: &mut Vec<Value>, hand: &mut Hand<Values>)
     requires few { length arguments.old + length hand.old ≤ 8 }
-    requires room { vec_len values.old + length (laid (firsts arguments.old)) ≤ vec_capacity values.old }
-    ensures values { values.new.items ≡ values.old.items ++ laid (firsts arguments.old) }
-    ensures hand { hand.new ≡ hand.old ++ seconds arguments.old }
+    requires room { vec_len values.old + length (laid (for_entry arguments.old)) ≤ vec_capacity values.old }
+    ensures values { values.new.items ≡ values.old.items ++ laid (for_entry arguments.old) }
+    ensures hand { hand.new ≡ hand.old ++ for_body arguments.old }
 {
     match arguments.take_first() {
         None => {}
@@ -43,9 +43,9 @@ fn part(arguments: &mut Hand<Args>, values: &mut Vec<Value>, hand: &mut Hand<Val
 /// Parts the arguments of a firing. The list of the entry's values is one that was reserved.
 pub(crate) fn part_all(list: &mut Option<Vec<Value>>, arguments: Hand<Args>) -> Parted
     requires list { IsList list.old }
-    requires few { length (laid (firsts arguments)) ≤ 64 }
-    ensures entry { result.entry ≡ laid (firsts arguments) }
-    ensures body { result.body ≡ seconds arguments }
+    requires few { length (laid (for_entry arguments)) ≤ 64 }
+    ensures entry { result.entry ≡ laid (for_entry arguments) }
+    ensures body { result.body ≡ for_body arguments }
     ensures list { list.new ≡ None }
 {
     let _full = arguments.is_full();

@@ -9,7 +9,7 @@ ghost use Rattle.chord_code.specs.declared.parts.Parts.{Parts};
 ghost use Rattle.chord_code.specs.Meaning.{code_program, chord_lines};
 ghost use Rattle.chord_vm.specs.declared.frames.Frames.{Frames as TheFrames};
 ghost use Rattle.chord_vm.specs.Frames.{laid, what_of_ask};
-ghost use Rattle.chord_task.specs.Arguments.{firsts, AreTwice, MayBeList, IsList};
+ghost use Rattle.chord_task.specs.Arguments.{for_entry, AreTwice, MayBeList, IsList};
 ghost use Rattle.chord_task.specs.Stacks.{task_noted, task_begun, IsNext};
 ghost use Rattle.chord_task.specs.Standing.{view_of, IsTaskOf, HasGiven, IsReserved, IsResumable, MayNote, MayResume, is_ready_of, waits_of, room_of, given_by, IsRoomierTop, HasRoomFor, IsSpareOf, IsReadyFor, MainBegins, CanNote};
 
@@ -309,11 +309,11 @@ impl Task {
         arguments: Hand<Args>,
     )
         requires task { IsTaskOf code.now self.old.limits self.old }
-        requires may { MayResume code.now self.old.limits self.old number chord object members.now (laid (firsts arguments)) }
-        requires few { length (laid (firsts arguments)) ≤ 64 }
+        requires may { MayResume code.now self.old.limits self.old number chord object members.now (laid (for_entry arguments)) }
+        requires few { length (laid (for_entry arguments)) ≤ 64 }
         requires twice { AreTwice arguments }
         ensures task { IsTaskOf code.now self.old.limits self.new }
-        ensures past { task_begun (view_of self.old) number chord object members.now (laid (firsts arguments)) (view_of self.new) }
+        ensures past { task_begun (view_of self.old) number chord object members.now (laid (for_entry arguments)) (view_of self.new) }
         ensures top { (view_of self.new).top ≡ Some number }
     {
         let depth = depth_over(self.limits.depth, &self.top);

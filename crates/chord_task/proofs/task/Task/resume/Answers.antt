@@ -8,7 +8,7 @@ use Rattle.chord_code.specs.Machine.{body_in_block}
 use Rattle.chord_code.specs.declared.parts.ChordLine.{ChordLine}
 use Rattle.chord_vm.specs.Frames.{IsRoomFor, laid}
 use Rattle.chord_vm.specs.declared.frames.Frames.{Frames}
-use Rattle.chord_task.specs.Arguments.{firsts}
+use Rattle.chord_task.specs.Arguments.{for_entry}
 use Rattle.chord_task.specs.Standing.{room_of}
 use Rattle.chord_task.proofs.Standing.{entry}
 use Rattle.chord_task.proofs.Resuming.{opening, task_resumed, spacious_at, with_top, begun_same}
@@ -17,14 +17,14 @@ use Rattle.chord_task.proofs.task.Task.resume.Goals as goal
 pub line_of-requires : goal.line_of-requires
 line_of-requires c =
     let limits = c.args.self.now.limits in
-    let vs = laid (firsts c.args.arguments) in
+    let vs = laid (for_entry c.args.arguments) in
     let o = opening c.args.code.now limits c.args.self.now c.args.number c.args.chord c.args.object c.args.members.now vs c.requires.task c.requires.may in
     λ e. let z : None ≡ Some o.line = sym e ∙ o.found in cc
 
 pub begin-requires-clause-fits : goal.begin-requires-clause-fits
 begin-requires-clause-fits c =
     let limits = c.args.self.now.limits in
-    let vs = laid (firsts c.args.arguments) in
+    let vs = laid (for_entry c.args.arguments) in
     let o = opening c.args.code.now limits c.args.self.now c.args.number c.args.chord c.args.object c.args.members.now vs c.requires.task c.requires.may in
     let z : Some o.line ≡ Some c.line_of.result.now = sym o.found ∙ c.line_of.ensures in
     let l : o.line ≡ c.line_of.result.now = cc in
@@ -39,7 +39,7 @@ begin-requires-clause-fits c =
 pub begin-requires-clause-space : goal.begin-requires-clause-space
 begin-requires-clause-space c =
     let limits = c.args.self.now.limits in
-    let vs = laid (firsts c.args.arguments) in
+    let vs = laid (for_entry c.args.arguments) in
     let o = opening c.args.code.now limits c.args.self.now c.args.number c.args.chord c.args.object c.args.members.now vs c.requires.task c.requires.may in
     let z : Some o.line ≡ Some c.line_of.result.now = sym o.found ∙ c.line_of.ensures in
     let l : o.line ≡ c.line_of.result.now = cc in
@@ -53,7 +53,7 @@ begin-requires-clause-space c =
 pub returns-in-Some-replace-clause-task : goal.returns-in-Some-replace-clause-task
 returns-in-Some-replace-clause-task c =
     let limits = c.args.self.now.limits in
-    let vs = laid (firsts c.args.arguments) in
+    let vs = laid (for_entry c.args.arguments) in
     let o = opening c.args.code.now limits c.args.self.now c.args.number c.args.chord c.args.object c.args.members.now vs c.requires.task c.requires.may in
     let r = c.requires.may.room in
     let y : Some r.frames ≡ Some c.in-Some.frames = sym r.spare ∙ sym c.take.ensures.value ∙ c.in-Some.is in
@@ -72,7 +72,7 @@ returns-in-Some-replace-clause-task c =
 pub returns-in_default-clause-task : goal.returns-in_default-clause-task
 returns-in_default-clause-task c =
     let limits = c.args.self.now.limits in
-    let vs = laid (firsts c.args.arguments) in
+    let vs = laid (for_entry c.args.arguments) in
     let o = opening c.args.code.now limits c.args.self.now c.args.number c.args.chord c.args.object c.args.members.now vs c.requires.task c.requires.may in
     let r = c.requires.may.room in
     let y : Some r.frames ≡ Some c.in-Some.frames = sym r.spare ∙ sym c.take.ensures.value ∙ c.in-Some.is in

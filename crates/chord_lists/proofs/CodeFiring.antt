@@ -1,0 +1,307 @@
+-- What a firing makes of the bodies of a run of a code.
+use Rattle.std.proofs.Common.{◌≡◌, ℕ, suc, ◌<◌, ◌≤◌, Bool, true, false, ◌==◌, List, [], ◌∷◌, ◌++◌, length, Option, Some, None, refl, sym, ap, ◌∙◌, subst, arith, inl, inr, set, reverse, length-append}
+use Rattle.std.specs.Prelude.{slice_get}
+use Rattle.std.proofs.lemmas.Option.{slice_get_within}
+use Rattle.std.proofs.lemmas.List.{length-set}
+use Rattle.std.proofs.lemmas.Bool.{eq-eqb, eqb-true, eqb-false, ne_eqb}
+use Rattle.chord_base.specs.declared.value.Object.{Object}
+use Rattle.chord_base.specs.declared.value.Value.{Value}
+use Rattle.chord_base.specs.declared.event.Entry.{Entry}
+use Rattle.chord_base.specs.declared.event.Limits.{Limits}
+use Rattle.chord_base.specs.Messages.{Message, has, pending, AreDifferent}
+use Rattle.chord_base.specs.Bodies.{doing, served_among, or_none}
+use Rattle.chord_base.specs.Machine.{Takes, Fires}
+use Rattle.chord_base.specs.Story.{IsDefined, IsSound, AllBelow, grown}
+use Rattle.chord_base.proofs.Waits.{either}
+use Rattle.chord_base.proofs.Merged.{merged_fire, merged_story}
+use Rattle.chord_base.proofs.Firings.{members_differ}
+use Rattle.chord_code.specs.declared.parts.Parts.{Parts}
+use Rattle.chord_code.specs.Meaning.{code_program}
+use Rattle.chord_code.specs.Valid.{IsValid}
+use Rattle.chord_code.proofs.Validity.{valid_different}
+use Rattle.chord_task.specs.declared.task.Task.{Task}
+use Rattle.chord_task.specs.Stacks.{FitsCall, BeginsDefined}
+use Rattle.chord_task.specs.declared.body.Body.{Body}
+use Rattle.std.specs.Prelude.{is_none}
+use Rattle.chord_task.specs.Standing.{body_number, body_waits, HasRoomIf, view_of, IsTaskOf, waits_of, MayResume, IsResumable}
+use Rattle.chord_task.proofs.Asking.{waits_yes}
+use Rattle.chord_lists.specs.Engine.{IsRunOfLength, fired}
+use Rattle.chord_lists.specs.declared.code_bodies.Tag.{Tag}
+use Rattle.chord_lists.specs.declared.code_bodies.CodeBodies.{CodeBodies}
+use Rattle.chord_lists.specs.CodeStands.{past_of, views, home_in, home, held_in, held_at, ready_in, ready_at, over_in, over_at, AreReady, Awaits, AllHeld, held_values, EmptiedAll, StandsAfter}
+use Rattle.chord_lists.proofs.Spots.{set_other, end_at, before_end, past_end, one_some, none_some, has_first, has_later}
+use Rattle.chord_lists.proofs.CodeTasks.{one_call, resumable}
+use Rattle.chord_lists.proofs.CodeSteps.{stands_merged, task_below, keeps_more, views_set, tasks_set, awaits_set, pending_under}
+use Rattle.chord_lists.proofs.Laying.{takes_held}
+
+-- ---- what a firing takes
+
+-- the arguments of all messages that a firing takes are held, and they are its values
+pub firing_held : (code : Parts) (limits : Limits) (bodies : CodeBodies) (h : List Entry) (k : ℕ) (o : Object) (ms : List ℕ) (vs : List Value) → StandsAfter code limits bodies h → Fires (code_program code limits) h k o ms vs → AllHeld bodies.tags.items ms × (held_values bodies.tags.items ms ≡ vs)
+firing_held code limits bodies h k o ms vs s f = takes_held bodies.tags.items h o f.0 ms vs s.held f.2
+
+-- the messages that a firing takes are different
+pub firing_different : (code : Parts) (limits : Limits) (h : List Entry) (k : ℕ) (o : Object) (ms : List ℕ) (vs : List Value) → IsValid code → Fires (code_program code limits) h k o ms vs → AreDifferent ms
+firing_different code limits h k o ms vs valid f = members_differ (code_program code limits) h k o f.0 ms vs f.1 (valid_different code valid o.class k f.0 f.1) f
+
+-- the call that a firing serves is one of its members, and it is pending
+served_member : (sync : ℕ → Bool) (h : List Entry) (o : Object) (js ms : List ℕ) (vs : List Value) (q : ℕ) → Takes h o js ms vs → served_among sync js ms ≡ Some q → (has q ms ≡ true) × ((m : Message) × (pending q h ≡ Some m) × (m.object ≡ o) × (sync m.method ≡ true))
+served_member sync h o [] ms vs q t e = none_some q e
+served_member sync h o (j ∷ js) [] vs q t e = absurd t
+served_member sync h o (j ∷ js) (i ∷ ms) vs q t e =
+    elim (either (sync j)) [
+      | inl y ↦
+          (let z : Some i ≡ Some q = rw y at e in
+          let w : i ≡ q = cc in
+          (subst (λ x. has q (x ∷ ms) ≡ true) (sym w) (has_first q ms), (record { object = o; method = j; arguments = t.0 }, subst (λ d. pending d h ≡ Some (record { object = o; method = j; arguments = t.0 })) w t.2, refl, y)))
+      | inr d ↦ (let r = served_member sync h o js ms t.1 q t.4 (rw d at e) in (has_later q i ms r.0, r.1))
+    ]
+
+-- in a sound program a task that begins the body of a firing stays defined
+fire_defined : (code : Parts) (limits : Limits) (bodies : CodeBodies) (h : List Entry) (n i k : ℕ) (o : Object) (ms : List ℕ) (vs : List Value) (t : Task) → IsSound (code_program code limits) → StandsAfter code limits bodies h → length h ≡ n → Fires (code_program code limits) h k o ms vs → views bodies.tasks.items i ≡ (view_of t).past → BeginsDefined (code_program code limits) (view_of t) n k o ms vs
+fire_defined code limits bodies h n i k o ms vs t sound s so_long f here = λ b.
+    let p = code_program code limits in
+    let v = views bodies.tasks.items in
+    let e = fired (length h) k o ms vs in
+    let m = merged_fire p v h i k o ms vs (stands_merged code limits bodies h s) f in
+    let d : IsDefined p (doing p (grown v i e i) b) = (merged_story p (grown v i e) (e ∷ h) sound m i).is_defined b in
+    let grown_is : grown v i e i ≡ e ∷ (view_of t).past = rw (eq-eqb i i refl, here) in
+    let e_is : e ∷ (view_of t).past ≡ fired n k o ms vs ∷ (view_of t).past = rw so_long in
+    subst (λ (l : List Entry). IsDefined p (doing p l b)) (grown_is ∙ e_is) d
+
+-- what a firing needs of the task in which it begins a body
+pub may_resume : (code : Parts) (limits : Limits) (bodies : CodeBodies) (h : List Entry) (n i k : ℕ) (o : Object) (ms : List ℕ) (vs : List Value) (t : Task) (call : Option ℕ) → IsSound (code_program code limits) → StandsAfter code limits bodies h → length h ≡ n → (f : Fires (code_program code limits) h k o ms vs) → served_among ((code_program code limits).is_sync o.class) f.0 ms ≡ call → IsTaskOf code limits t → views bodies.tasks.items i ≡ (view_of t).past → FitsCall (code_program code limits) (view_of t) call → IsResumable code t → MayResume code t.limits t n k o ms vs
+may_resume code limits bodies h n i k o ms vs t call sound s so_long f serves task here fits room =
+    let p = code_program code limits in
+    subst (λ l. MayResume code l t n k o ms vs) (sym task.limited) (record {
+      may = subst (λ z. FitsCall p (view_of t) (served_among (p.is_sync o.class) (or_none z) ms)) (sym f.1) (subst (λ z. FitsCall p (view_of t) z) (sym serves) fits);
+      begins = fire_defined code limits bodies h n i k o ms vs t sound s so_long f here;
+      above = subst (λ z. AllBelow z (view_of t).past) so_long (subst (λ (l : List Entry). AllBelow (length h) l) here (task_below code limits bodies h i s));
+      room = room;
+    })
+
+-- the task whose call a firing serves
+pub record IsCaller (code : Parts) (limits : Limits) (bodies : CodeBodies) (n k : ℕ) (o : Object) (ms : List ℕ) (vs : List Value) (call : ℕ) : Type 0 where
+  pub task : Task
+  pub there : slice_get bodies.tasks.items (home bodies.tags.items call) ≡ Some task
+  pub is : IsTaskOf code limits task
+  pub waits : waits_of call task ≡ true
+  pub may : MayResume code task.limits task n k o ms vs
+  pub member : has call ms ≡ true
+  pub tagged : call < length bodies.tags.items
+
+-- the call that a firing serves is that of a task that waits for it, in which the new body may begin
+pub caller : (code : Parts) (limits : Limits) (bodies : CodeBodies) (h : List Entry) (n k : ℕ) (o : Object) (ms : List ℕ) (vs : List Value) (call : ℕ) → IsSound (code_program code limits) → StandsAfter code limits bodies h → length h ≡ n → (f : Fires (code_program code limits) h k o ms vs) → served_among ((code_program code limits).is_sync o.class) f.0 ms ≡ Some call → IsCaller code limits bodies n k o ms vs call
+caller code limits bodies h n k o ms vs call sound s so_long f serves =
+    let p = code_program code limits in
+    let m = served_member (p.is_sync o.class) h o f.0 ms vs call f.2 serves in
+    let x = m.1 in
+    let a = s.calls call x.0 x.1 (ap (λ (d : Object). p.is_sync d.class x.0.method) x.2 ∙ x.3) in
+    let l = pending_under p h call x.0 s.past x.1 in
+    let k' = s.tasks (home bodies.tags.items call) a.0 a.1 in
+    record {
+      task = a.0;
+      there = a.1;
+      is = k';
+      waits = a.2;
+      may = may_resume code limits bodies h n (home bodies.tags.items call) k o ms vs a.0 (Some call) sound s so_long f serves k' (ap past_of a.1) (waits_yes code limits a.0 call k' a.2) (resumable code limits a.0 call k' a.2);
+      member = m.0;
+      tagged = omega (arith, l, s.tagged);
+    }
+
+-- a firing that serves no call may begin in a task without entries
+pub may_begin : (code : Parts) (limits : Limits) (bodies : CodeBodies) (h : List Entry) (n k : ℕ) (o : Object) (ms : List ℕ) (vs : List Value) (t : Task) → IsSound (code_program code limits) → StandsAfter code limits bodies h → length h ≡ n → (f : Fires (code_program code limits) h k o ms vs) → served_among ((code_program code limits).is_sync o.class) f.0 ms ≡ None → IsTaskOf code limits t → (view_of t).top ≡ None → (view_of t).past ≡ [] → IsResumable code t → MayResume code t.limits t n k o ms vs
+may_begin code limits bodies h n k o ms vs t sound s so_long f serves task top none room =
+    may_resume code limits bodies h n (length bodies.tasks.items) k o ms vs t None sound s so_long f serves task (ap past_of (past_end bodies.tasks.items (length bodies.tasks.items) (omega arith)) ∙ sym none) top room
+
+-- a task that is over, in which a firing that serves no call may begin
+pub record IsOverAt (code : Parts) (limits : Limits) (bodies : CodeBodies) (at n k : ℕ) (o : Object) (ms : List ℕ) (vs : List Value) : Type 0 where
+  pub task : Task
+  pub there : slice_get bodies.tasks.items at ≡ Some task
+  pub is : IsTaskOf code limits task
+  pub over : task.top ≡ None
+  pub may : MayResume code task.limits task n k o ms vs
+
+-- a place of a task that is over has a task without a body
+pub over_task : (tasks : List Task) (i : ℕ) → over_at tasks i ≡ true → (t : Task) × (slice_get tasks i ≡ Some t) × (t.top ≡ None)
+unfolding over_at
+over_task tasks i e = by_task (slice_get tasks i) refl e
+  where
+    by_top : (x : Option Body) → is_none (body_number x) ≡ true → x ≡ None
+    by_top None r = refl
+    by_top (Some b) r = (let z : false ≡ true = r in cc)
+
+    by_task : (x : Option Task) → slice_get tasks i ≡ x → over_in x ≡ true → (t : Task) × (slice_get tasks i ≡ Some t) × (t.top ≡ None)
+    by_task None g r = (let z : false ≡ true = r in cc)
+    by_task (Some t) g r = (t, g, by_top t.top r)
+
+-- a firing that serves no call may begin in a task that is over
+pub over_again : (code : Parts) (limits : Limits) (bodies : CodeBodies) (h : List Entry) (at n k : ℕ) (o : Object) (ms : List ℕ) (vs : List Value) → IsSound (code_program code limits) → StandsAfter code limits bodies h → length h ≡ n → (f : Fires (code_program code limits) h k o ms vs) → served_among ((code_program code limits).is_sync o.class) f.0 ms ≡ None → over_at bodies.tasks.items at ≡ true → IsOverAt code limits bodies at n k o ms vs
+over_again code limits bodies h at n k o ms vs sound s so_long f serves over =
+    let t = over_task bodies.tasks.items at over in
+    let is = s.tasks at t.0 t.1 in
+    record {
+      task = t.0;
+      there = t.1;
+      is = is;
+      over = t.2;
+      may = may_resume code limits bodies h n at k o ms vs t.0 None sound s so_long f serves is (ap past_of t.1) (ap body_number t.2) (subst (λ (x : Option Body). HasRoomIf code t.0 x) t.2 is.room);
+    }
+
+-- ---- the bodies after a firing
+
+-- the tag of an entry that is no message
+abbrev pub bare_tag : ℕ → Tag
+bare_tag at = record { task = at; held = None }
+
+-- a firing is no message, and its members are pending no longer
+fired_pending : (n k : ℕ) (o : Object) (ms : List ℕ) (vs : List Value) (h : List Entry) (q : ℕ) (m : Message) → pending q (fired n k o ms vs ∷ h) ≡ Some m → (pending q h ≡ Some m) × (has q ms ≡ false)
+fired_pending n k o ms vs h q m e =
+    elim (either (n == q)) [
+      | inl y ↦ none_some m (rw y at e)
+      | inr f ↦ elim (either (has q ms)) [ inl y ↦ none_some m (rw (f, y) at e) | inr g ↦ (rw (f, g) at e, g) ]
+    ]
+
+-- a message that a firing does not take is pending after it if it was before
+others_pending : (n k : ℕ) (o : Object) (ms : List ℕ) (vs : List Value) (h : List Entry) (q : ℕ) → (n == q) ≡ false → has q ms ≡ false → pending q (fired n k o ms vs ∷ h) ≡ pending q h
+others_pending n k o ms vs h q a b = rw (a, b) refl
+
+-- after a firing the bodies stand, wherever the new body began, if the tasks keep what they did and the rest waits on
+pub stands_fired : (code : Parts) (limits : Limits) (before after : CodeBodies) (between : List Tag) (h : List Entry) (n k at : ℕ) (o : Object) (ms : List ℕ) (vs : List Value) → IsRunOfLength (code_program code limits) n h → StandsAfter code limits before h → Fires (code_program code limits) h k o ms vs → EmptiedAll ms before.tags.items between → after.tags.items ≡ between ++ bare_tag at ∷ [] → ((j : ℕ) → grown (views before.tasks.items) at (fired n k o ms vs) j ≡ views after.tasks.items j) → ((i : ℕ) (t : Task) → slice_get after.tasks.items i ≡ Some t → IsTaskOf code limits t) → AreReady after.tasks.items (reverse after.ready.items) → ((q : ℕ) → has q ms ≡ false → Awaits before.tasks.items q (home before.tags.items q) → Awaits after.tasks.items q (home before.tags.items q)) → length after.tasks.items ≤ suc (length h) → StandsAfter code limits after (fired n k o ms vs ∷ h)
+stands_fired code limits before after between h n k at o ms vs played s f emptied tags grows tasks ready awaits few =
+    let p = code_program code limits in
+    let e = fired n k o ms vs in
+    let tag : Tag = bare_tag at in
+    let long : length between ≡ length h = emptied.tagged ∙ s.tagged in
+    let homes : (i : ℕ) → i < length h → home after.tags.items i ≡ home before.tags.items i =
+    λ i l. ap (λ z. home z i) tags ∙ ap home_in (before_end between tag i (λ d. omega (arith, d, l, long))) ∙ emptied.homes i
+    in
+    let here : home after.tags.items (length h) ≡ at = subst (λ i. home after.tags.items i ≡ at) long (ap (λ z. home z (length between)) tags ∙ ap home_in (end_at between tag)) in
+    record {
+      past = (s.past, record { numbered = sym played.so_long; comes = (refl, f) });
+      keeps = λ i. keeps_more p before.tags.items after.tags.items (views before.tasks.items) h e at s.past (sym played.so_long) (record { old = homes; here = here }) s.keeps i ∙ grows i;
+      tasks = tasks;
+      ready = ready;
+      calls =
+          λ q m is sync.
+          let old = fired_pending n k o ms vs h q m is in
+          let l = pending_under p h q m s.past old.0 in
+          subst (λ j. Awaits after.tasks.items q j) (sym (homes q l)) (awaits q old.1 (s.calls q m old.0 sync));
+      held =
+          λ q m is.
+          let old = fired_pending n k o ms vs h q m is in
+          let l = pending_under p h q m s.past old.0 in
+          let a = s.held q m old.0 in
+          let left : held_at between q ≡ held_at before.tags.items q = emptied.held q ∙ rw old.1 refl in
+          (a.0, ap (λ z. held_at z q) tags ∙ ap held_in (before_end between tag q (λ d. omega (arith, d, l, long))) ∙ left ∙ a.1, a.2, a.3);
+      only =
+          λ q a is.
+          elim (either (length between == q)) [
+            | inl y ↦
+                (let i = eqb-true (length between) q y in
+                let bare : held_at after.tags.items q ≡ None = ap (λ z. held_at z q) tags ∙ subst (λ j. held_at (between ++ tag ∷ []) j ≡ None) i (ap held_in (end_at between tag)) in
+                none_some a (sym bare ∙ is))
+            | inr y ↦
+                (let old : held_at between q ≡ Some a = sym (ap (λ z. held_at z q) tags ∙ ap held_in (before_end between tag q (eqb-false (length between) q y))) ∙ is in
+                elim (either (has q ms)) [
+                  | inl g ↦ none_some a (sym (emptied.held q ∙ rw g refl) ∙ old)
+                  | inr g ↦
+                      (let x = s.only q a (sym (emptied.held q ∙ rw g refl) ∙ old) in
+                      let apart : (n == q) ≡ false = ne_eqb n q (λ d. eqb-false (length between) q y (omega (arith, d, long, played.so_long))) in
+                      (x.0, others_pending n k o ms vs h q apart g ∙ x.1))
+                ])
+          ];
+      tagged = ap length tags ∙ length-append between (tag ∷ []) ∙ omega (arith, long);
+      few = few;
+    }
+
+-- a task that begins a body is put on the list of the ready ones
+ready_above : (tasks : List Task) (at : ℕ) (t : Task) (ready : List ℕ) → AreReady tasks ready → AreReady (set tasks at t) (at ∷ ready)
+unfolding ready_at
+ready_above tasks at t ready a =
+    record {
+      all =
+          λ j e.
+          elim (either (at == j)) [
+            | inl y ↦ subst (λ z. has z (at ∷ ready) ≡ true) (eqb-true at j y) (has_first at ready)
+            | inr o ↦ has_later j at ready (a.all j (sym (ap ready_in (set_other tasks at j t (eqb-false at j o))) ∙ e))
+          ];
+    }
+
+-- the new body is above its caller
+pub fired_above : (code : Parts) (limits : Limits) (before after : CodeBodies) (between : List Tag) (h : List Entry) (n k : ℕ) (o : Object) (ms : List ℕ) (vs : List Value) (call : ℕ) (t : Task) → IsRunOfLength (code_program code limits) n h → StandsAfter code limits before h → Fires (code_program code limits) h k o ms vs → (c : IsCaller code limits before n k o ms vs call) → EmptiedAll ms before.tags.items between → IsTaskOf code limits t → (view_of t).past ≡ fired n k o ms vs ∷ (view_of c.task).past → after.tasks.items ≡ set before.tasks.items (home before.tags.items call) t → reverse after.ready.items ≡ home before.tags.items call ∷ reverse before.ready.items → after.tags.items ≡ between ++ bare_tag (home before.tags.items call) ∷ [] → StandsAfter code limits after (fired n k o ms vs ∷ h)
+fired_above code limits before after between h n k o ms vs call t played s f c emptied task past tasks ready tags =
+    let at = home before.tags.items call in
+    let xs = before.tasks.items in
+    stands_fired code limits before after between h n k at o ms vs played s f emptied tags
+    (λ j. views_set xs at t c.task (fired n k o ms vs) c.there past j ∙ ap (λ z. views z j) (sym tasks))
+    (subst (λ z. (i : ℕ) (x : Task) → slice_get z i ≡ Some x → IsTaskOf code limits x) (sym tasks) (tasks_set code limits xs at t c.task c.there task s.tasks))
+    (subst (λ z. AreReady z (reverse after.ready.items)) (sym tasks) (subst (λ (z : List ℕ). AreReady (set xs at t) z) (sym ready) (ready_above xs at t (reverse before.ready.items) s.ready)))
+    (λ q out a.
+    subst (λ z. Awaits z q (home before.tags.items q)) (sym tasks)
+    (awaits_set xs at t c.task q (home before.tags.items q) c.there
+    (λ w. let z : true ≡ false = sym c.member ∙ ap (λ i. has i ms) (sym (one_call q call c.task w c.waits)) ∙ out in cc) a))
+    (let i = ap length tasks in let l = length-set xs at t in let m = s.few in omega (arith, i, l, m))
+
+-- the new body is in a task that was over
+pub fired_over : (code : Parts) (limits : Limits) (before after : CodeBodies) (between : List Tag) (h : List Entry) (at n k : ℕ) (o : Object) (ms : List ℕ) (vs : List Value) (t : Task) → IsRunOfLength (code_program code limits) n h → StandsAfter code limits before h → Fires (code_program code limits) h k o ms vs → (c : IsOverAt code limits before at n k o ms vs) → EmptiedAll ms before.tags.items between → IsTaskOf code limits t → (view_of t).past ≡ fired n k o ms vs ∷ (view_of c.task).past → after.tasks.items ≡ set before.tasks.items at t → reverse after.ready.items ≡ at ∷ reverse before.ready.items → after.tags.items ≡ between ++ bare_tag at ∷ [] → StandsAfter code limits after (fired n k o ms vs ∷ h)
+fired_over code limits before after between h at n k o ms vs t played s f c emptied task past tasks ready tags =
+    let xs = before.tasks.items in
+    stands_fired code limits before after between h n k at o ms vs played s f emptied tags
+    (λ j. views_set xs at t c.task (fired n k o ms vs) c.there past j ∙ ap (λ z. views z j) (sym tasks))
+    (subst (λ z. (i : ℕ) (x : Task) → slice_get z i ≡ Some x → IsTaskOf code limits x) (sym tasks) (tasks_set code limits xs at t c.task c.there task s.tasks))
+    (subst (λ z. AreReady z (reverse after.ready.items)) (sym tasks) (subst (λ (z : List ℕ). AreReady (set xs at t) z) (sym ready) (ready_above xs at t (reverse before.ready.items) s.ready)))
+    (λ q out a.
+    subst (λ z. Awaits z q (home before.tags.items q)) (sym tasks)
+    (awaits_set xs at t c.task q (home before.tags.items q) c.there
+    (λ w. let z : false ≡ true = sym (ap (body_waits q) c.over) ∙ w in cc) a))
+    (let i = ap length tasks in let l = length-set xs at t in let m = s.few in omega (arith, i, l, m))
+
+-- one more task keeps its one entry, and the others what they kept
+views_new : (tasks : List Task) (t : Task) (e : Entry) → (view_of t).past ≡ e ∷ [] → (j : ℕ) → grown (views tasks) (length tasks) e j ≡ views (tasks ++ t ∷ []) j
+views_new tasks t e p j =
+    elim (either (length tasks == j)) [
+      | inl y ↦
+          (let i = eqb-true (length tasks) j y in
+          let none : slice_get tasks j ≡ None = past_end tasks j (omega (arith, i)) in
+          let here : slice_get (tasks ++ t ∷ []) j ≡ Some t = subst (λ z. slice_get (tasks ++ t ∷ []) z ≡ Some t) i (end_at tasks t) in
+          rw (y, none, here) (sym p))
+      | inr o ↦ rw (o, before_end tasks t j (eqb-false (length tasks) j o))
+    ]
+
+-- one more task of the code beside those that are
+tasks_more : (code : Parts) (limits : Limits) (tasks : List Task) (t : Task) → IsTaskOf code limits t → ((i : ℕ) (x : Task) → slice_get tasks i ≡ Some x → IsTaskOf code limits x) → (i : ℕ) (x : Task) → slice_get (tasks ++ t ∷ []) i ≡ Some x → IsTaskOf code limits x
+tasks_more code limits tasks t k f i x e =
+    elim (either (length tasks == i)) [
+      | inl y ↦
+          (let here : slice_get (tasks ++ t ∷ []) i ≡ Some t = subst (λ z. slice_get (tasks ++ t ∷ []) z ≡ Some t) (eqb-true (length tasks) i y) (end_at tasks t) in
+          subst (λ (z : Task). IsTaskOf code limits z) (one_some t x (slice_get (tasks ++ t ∷ []) i) here e) k)
+      | inr o ↦ f i x (sym (before_end tasks t i (eqb-false (length tasks) i o)) ∙ e)
+    ]
+
+-- one more task is put on the list of the ready ones
+ready_new : (tasks : List Task) (t : Task) (ready : List ℕ) → AreReady tasks ready → AreReady (tasks ++ t ∷ []) (length tasks ∷ ready)
+unfolding ready_at
+ready_new tasks t ready a =
+    record {
+      all =
+          λ j e.
+          elim (either (length tasks == j)) [
+            | inl y ↦ subst (λ z. has z (length tasks ∷ ready) ≡ true) (eqb-true (length tasks) j y) (has_first (length tasks) ready)
+            | inr o ↦ has_later j (length tasks) ready (a.all j (sym (ap ready_in (before_end tasks t j (eqb-false (length tasks) j o))) ∙ e))
+          ];
+    }
+
+-- the new body has a task of its own
+pub fired_alone : (code : Parts) (limits : Limits) (before after : CodeBodies) (between : List Tag) (h : List Entry) (n k : ℕ) (o : Object) (ms : List ℕ) (vs : List Value) (t : Task) → IsRunOfLength (code_program code limits) n h → StandsAfter code limits before h → Fires (code_program code limits) h k o ms vs → EmptiedAll ms before.tags.items between → IsTaskOf code limits t → (view_of t).past ≡ fired n k o ms vs ∷ [] → after.tasks.items ≡ before.tasks.items ++ t ∷ [] → reverse after.ready.items ≡ length before.tasks.items ∷ reverse before.ready.items → after.tags.items ≡ between ++ bare_tag (length before.tasks.items) ∷ [] → StandsAfter code limits after (fired n k o ms vs ∷ h)
+fired_alone code limits before after between h n k o ms vs t played s f emptied task past tasks ready tags =
+    let xs = before.tasks.items in
+    stands_fired code limits before after between h n k (length xs) o ms vs played s f emptied tags
+    (λ j. views_new xs t (fired n k o ms vs) past j ∙ ap (λ z. views z j) (sym tasks))
+    (subst (λ z. (i : ℕ) (x : Task) → slice_get z i ≡ Some x → IsTaskOf code limits x) (sym tasks) (tasks_more code limits xs t task s.tasks))
+    (subst (λ z. AreReady z (reverse after.ready.items)) (sym tasks) (subst (λ (z : List ℕ). AreReady (xs ++ t ∷ []) z) (sym ready) (ready_new xs t (reverse before.ready.items) s.ready)))
+    (λ q out a.
+    subst (λ z. Awaits z q (home before.tags.items q)) (sym tasks)
+    (let l = slice_get_within xs (home before.tags.items q) a.0 a.1 in
+    (a.0, before_end xs t (home before.tags.items q) (λ d. omega (arith, d, l)) ∙ a.1, a.2)))
+    (let i = ap length tasks in let l = length-append xs (t ∷ []) in let m = s.few in omega (arith, i, l, m))

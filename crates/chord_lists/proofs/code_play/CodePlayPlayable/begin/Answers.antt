@@ -1,0 +1,14 @@
+use Rattle.std.proofs.Common.{◌∙◌, sym, ap, length}
+use Rattle.std.specs.Prelude.{slice_get}
+use Rattle.chord_base.proofs.Taken.{takes_lengths}
+use Rattle.chord_code.specs.Meaning.{code_program}
+use Rattle.chord_lists.proofs.Spots.{one_some}
+use Rattle.chord_lists.proofs.code_play.CodePlayPlayable.begin.Goals as goal
+
+pub served_by-served-requires : goal.served_by-served-requires
+served_by-served-requires c =
+    let m = c.requires.may in
+    let f = m.4 in
+    let p = code_program c.args.self.now.code.now c.args.self.now.limits.now in
+    let same = one_some f.0 c.methods-methods.result.now (slice_get (p.chords c.args.object.class) c.args.chord) f.1 c.methods-methods.ensures.value in
+    ap length (sym same) ∙ takes_lengths m.0 c.args.object f.0 c.args.members m.1 f.2 ∙ ap length (sym c.items.ensures.numbers)

@@ -1,0 +1,534 @@
+//! The bodies of a run of a code: tasks, where each entry stands, and what the pending messages carry.
+#![tactic(auto)]
+
+ghost use Rattle.std.specs.Prelude.{◌^◌, ◌≡◌, ◌<◌, ◌≤◌, ℕ, ◌++◌, ◌∷◌, [], List, reverse, length, IfOk, OnOk, IfSome, IfNone, Some, None, true, false, slice_get};
+ghost use Rattle.chord_base.specs.Story.{IsOwn, IsSound};
+ghost use Rattle.chord_base.specs.declared.event.Entry.{Entry};
+ghost use Rattle.chord_base.specs.Bodies.{served_among};
+ghost use Rattle.chord_base.specs.Messages.{AreDifferent};
+ghost use Rattle.chord_code.specs.Meaning.{code_program, method_is_sync};
+ghost use Rattle.chord_vm.specs.Frames.{laid};
+ghost use Rattle.chord_task.specs.Arguments.{for_entry, AreTwice};
+ghost use Rattle.chord_task.specs.declared.task.Task.{Task as T};
+ghost use Rattle.chord_task.specs.Standing.{view_of, IsTaskOf, is_ready_of};
+ghost use Rattle.chord_lists.specs.Engine.{main_begun, IsRunOfLength, MayGoOn, Went, MayBegin, Began, Ends};
+ghost use Rattle.chord_lists.specs.CodeStands.{StandsAfter, AreReady, ready_at, over_at, MayTurn, HasTurned, IsNewest, IsTagged, WentAt, AreLeft, IsLeft, HasNewest, IsNewestTaken, IsHeldAt, AllHeld, held_values, Emptied, EmptiedAll, home, Serves, MayReplay, Replayed};
+
+use crate::engine::Turn;
+use chord_base::event::{Entry, Limits, What};
+use chord_base::hand::Hand;
+use chord_base::journal::Journal;
+use chord_base::members::Members;
+use chord_base::value::{Object, Values};
+use chord_code::code::Code;
+use chord_task::args::Args;
+use chord_task::task::Task;
+use std::alloc::{AllocError, Global};
+
+/// What is kept of an entry: the task in whose past it stands, and the arguments of a message that no firing has taken.
+#[derive(Drop)]
+pub struct Tag {
+    pub task: u32,
+    pub held: Option<Args>,
+}
+
+/// The bodies of a run of a code: the tasks, the places of those that may go on, and a tag for each entry.
+///
+/// Each task that may go on stands in `ready`. One that stands there and may not is passed over. In `over` stand places of
+/// tasks that had no body left when they were put there: a firing that serves no call begins in one of them, if it has none still.
+#[derive(Drop)]
+pub struct CodeBodies {
+    pub tasks: Vec<Task>,
+    pub ready: Vec<u32>,
+    pub tags: Vec<Tag>,
+    pub over: Vec<u32>,
+}
+
+/// The next ask of the task becomes the entry of this number.
+fn take_turn(
+    alloc: Global,
+    code: &Code,
+    limits: &Limits,
+    task: &mut Task,
+    number: u32,
+) -> Result<(), AllocError>
+    requires task { IsTaskOf code.now limits.now task.old }
+    requires ready { is_ready_of task.old ≡ true }
+    requires may { MayTurn (code_program code.now limits.now) (view_of task.old) number }
+    ensures { IfOk result (λ _. HasTurned code.now limits.now task.old task.new number) }
+{
+    task.prepare(alloc, code, limits)?;
+    task.reserve(alloc, code)?;
+    task.note(number);
+    Ok(())
+}
+
+/// Marks a message of this task: its arguments are held twice.
+fn tag_message(
+    alloc: Global,
+    tags: &mut Vec<Tag>,
+    at: u32,
+    object: Object,
+    method: u8,
+    arguments: &Values,
+) -> Result<Turn, AllocError>
+    ensures { IfOk result (λ turn. (turn ≡ Turn.Message object method) × (tags.new.items ≡ tags.old.items ++ record { task = at; held = Some (record { first = arguments.now; second = arguments.now }) } ∷ [])) }
+{
+    let first = arguments.copied(alloc)?;
+    let second = arguments.copied(alloc)?;
+    tags.push(Tag {
+        task: at,
+        held: Some(Args { first, second }),
+    })?;
+    Ok(Turn::Message(object, method))
+}
+
+/// Marks an entry of this task.
+fn tag_entry(alloc: Global, tags: &mut Vec<Tag>, at: u32, what: &What) -> Result<Turn, AllocError>
+    ensures { IfOk result (λ turn. IsTagged at what.now tags.old.items tags.new.items turn) }
+{
+    match what {
+        What::Sent(object, method, arguments) => {
+            tag_message(alloc, tags, at, *object, *method, arguments)
+        }
+        What::Called(object, method, arguments) => {
+            tag_message(alloc, tags, at, *object, *method, arguments)
+        }
+        _ => {
+            tags.push(Tag {
+                task: at,
+                held: None,
+            })?;
+            Ok(Turn::Plain)
+        }
+    }
+}
+
+/// Marks the newest entry of the task of this place.
+fn tag_newest(
+    alloc: Global,
+    tasks: &[Task],
+    tags: &mut Vec<Tag>,
+    at: u32,
+) -> Result<Turn, AllocError>
+    requires { IsNewest tasks.now at }
+    ensures { IfOk result (λ turn. (t : T) (e : Entry) (h : List Entry) → slice_get tasks.now at ≡ Some t → (view_of t).past ≡ e ∷ h → IsTagged at e.what tags.old.items tags.new.items turn) }
+{
+    match tasks.get(at as usize) {
+        None => unreachable!(),
+        Some(task) => match task.past.last() {
+            None => unreachable!(),
+            Some(entry) => {
+                let turn = tag_entry(alloc, tags, at, &entry.what)?;
+                Ok(turn)
+            }
+        },
+    }
+}
+
+/// Whether the task of this place may go on.
+fn goes_at(tasks: &[Task], at: u32) -> bool
+    ensures { result ≡ ready_at tasks.now at }
+{
+    match tasks.get(at as usize) {
+        None => false,
+        Some(task) => task.is_ready(),
+    }
+}
+
+/// The place of a task that may go on. It stays on top of the list.
+pub fn next_ready(tasks: &[Task], ready: &mut Vec<u32>) -> Result<Option<u32>, AllocError>
+    requires { AreReady tasks.now (reverse ready.old.items) }
+    ensures ready { IfOk result (λ _. AreReady tasks.now (reverse ready.new.items)) }
+    ensures some { IfOk result (λ place. IfSome place (λ at. ready_at tasks.now at ≡ true)) }
+    ensures none { IfOk result (λ place. IfNone place ((i : ℕ) → ready_at tasks.now i ≡ false)) }
+{
+    while let Some(at) = ready.pop() {
+        if goes_at(tasks, at) {
+            ready.push(at)?;
+            return Ok(Some(at));
+        }
+    }
+    Ok(None)
+}
+
+/// Whether the task of this place has no body left.
+fn is_over_at(tasks: &[Task], at: u32) -> bool
+    ensures { result ≡ over_at tasks.now at }
+{
+    match tasks.get(at as usize) {
+        None => false,
+        Some(task) => task.over(),
+    }
+}
+
+/// Keeps the place of a task that has no body left.
+fn keep_over(tasks: &[Task], over: &mut Vec<u32>, at: u32) -> Result<(), AllocError> {
+    if is_over_at(tasks, at) {
+        over.push(at)?;
+    }
+    Ok(())
+}
+
+/// The place of a task that has no body left.
+fn next_over(tasks: &[Task], over: &mut Vec<u32>) -> Option<u32>
+    ensures { IfSome result (λ at. over_at tasks.now at ≡ true) }
+{
+    while let Some(at) = over.pop() {
+        if is_over_at(tasks, at) {
+            return Some(at);
+        }
+    }
+    None
+}
+
+/// The task of this place makes the entry of this number.
+fn make(
+    alloc: Global,
+    code: &Code,
+    limits: &Limits,
+    bodies: &mut CodeBodies,
+    at: u32,
+    number: u32,
+) -> Result<Turn, AllocError>
+    requires room { number < 65536 }
+    requires sound { IsSound (code_program code.now limits.now) }
+    requires ready { ready_at bodies.old.tasks.items at ≡ true }
+    requires may { MayGoOn (code_program code.now limits.now) (StandsAfter code.now limits.now bodies.old) number }
+    ensures { IfOk result (λ turn. (h : List Entry) → IsRunOfLength (code_program code.now limits.now) number h → StandsAfter code.now limits.now bodies.old h → WentAt (code_program code.now limits.now) bodies.old.tasks.items at (StandsAfter code.now limits.now bodies.new) h turn) }
+{
+    let _parts = code.parts();
+    take_turn(alloc, code, limits, &mut bodies.tasks[at as usize], number)?;
+    let turn = tag_newest(alloc, &bodies.tasks, &mut bodies.tags, at)?;
+    keep_over(&bodies.tasks, &mut bodies.over, at)?;
+    Ok(turn)
+}
+
+/// The bodies of a run in which `Main` has just begun.
+pub fn begin_run(alloc: Global, code: &Code, limits: &Limits) -> Result<CodeBodies, AllocError>
+    requires sound { IsSound (code_program code.now limits.now) }
+    ensures { IfOk result (λ bodies. StandsAfter code.now limits.now bodies main_begun) }
+{
+    let main = Task::main(alloc, code, limits)?;
+    let mut tasks = Vec::new(alloc);
+    tasks.push(main)?;
+    let mut ready = Vec::new(alloc);
+    ready.push(0)?;
+    let mut tags = Vec::new(alloc);
+    tags.push(Tag {
+        task: 0,
+        held: None,
+    })?;
+    Ok(CodeBodies {
+        tasks,
+        ready,
+        tags,
+        over: Vec::new(alloc),
+    })
+}
+
+/// Some body makes the entry of this number.
+pub fn go_on(
+    alloc: Global,
+    code: &Code,
+    limits: &Limits,
+    bodies: &mut CodeBodies,
+    number: u32,
+) -> Result<Turn, AllocError>
+    requires room { number < 65536 }
+    requires sound { IsSound (code_program code.now limits.now) }
+    requires may { MayGoOn (code_program code.now limits.now) (StandsAfter code.now limits.now bodies.old) number }
+    ensures { IfOk result (λ turn. Went (code_program code.now limits.now) (StandsAfter code.now limits.now bodies.old) (StandsAfter code.now limits.now bodies.new) number turn) }
+{
+    match next_ready(&bodies.tasks, &mut bodies.ready)? {
+        None => Ok(Turn::Over),
+        Some(at) => {
+            let turn = make(alloc, code, limits, bodies, at, number)?;
+            Ok(turn)
+        }
+    }
+}
+
+/// What the tasks did.
+fn pasts_of(alloc: Global, tasks: Vec<Task>) -> Result<Vec<Vec<Entry>>, AllocError>
+    ensures { IfOk result (λ pasts. AreLeft tasks.items pasts.items) }
+{
+    let mut pasts = Vec::new(alloc);
+    for task in tasks {
+        pasts.push(task.into_past())?;
+    }
+    Ok(pasts)
+}
+
+/// Takes the newest entry of this past.
+fn take_newest(pasts: &mut Vec<Vec<Entry>>, at: u32) -> Entry
+    requires { HasNewest pasts.old.items at }
+    ensures { IsNewestTaken pasts.old.items at result pasts.new.items }
+{
+    match pasts[at as usize].pop() {
+        None => unreachable!(),
+        Some(entry) => entry,
+    }
+}
+
+/// The entries of all pasts in the order of their numbers: the tag of each says in which of them it is the newest.
+fn gather(alloc: Global, pasts: Vec<Vec<Entry>>, tags: Vec<Tag>) -> Result<Vec<Entry>, AllocError>
+    requires { (h : List Entry) × IsLeft pasts.items tags.items h }
+    ensures { IfOk result (λ entries. (h : List Entry) → IsLeft pasts.items tags.items h → reverse entries.items ≡ h) }
+{
+    let mut pasts = pasts;
+    let mut tags = tags;
+    let mut entries = Vec::new(alloc);
+    while let Some(tag) = tags.pop() {
+        let entry = take_newest(&mut pasts, tag.task);
+        entries.push(entry)?;
+    }
+    entries.reverse();
+    Ok(entries)
+}
+
+/// The journal of all that the bodies did.
+pub fn journal_of(
+    alloc: Global,
+    code: &Code,
+    limits: &Limits,
+    bodies: CodeBodies,
+) -> Result<Journal, AllocError>
+    requires { Ends (code_program code.now limits.now) (StandsAfter code.now limits.now bodies) }
+    ensures { IfOk result (λ journal. (h : List Entry) → StandsAfter code.now limits.now bodies h → journal ≡ reverse h) }
+{
+    let CodeBodies {
+        tasks,
+        ready: _,
+        tags,
+        over: _,
+    } = bodies;
+    let pasts = pasts_of(alloc, tasks)?;
+    let entries = gather(alloc, pasts, tags)?;
+    Ok(Journal::of_entries(entries))
+}
+
+/// Whether callers of this method of the class wait.
+fn is_sync(code: &Code, class: u16, method: u8) -> bool
+    ensures { result ≡ method_is_sync code.now class method }
+{
+    match code.parts().classes.items().get(class as usize) {
+        None => false,
+        Some(line) => match line.methods.items().get(method as usize) {
+            None => false,
+            Some(method) => method.sync,
+        },
+    }
+}
+
+/// The call that a firing of these methods and members serves.
+pub fn served_by(code: &Code, class: u16, methods: &[u8], numbers: &[u32]) -> Option<u32>
+    requires { length methods.now ≡ length numbers.now }
+    ensures { result ≡ served_among (method_is_sync code.now class) methods.now numbers.now }
+{
+    for (i, method) in methods.iter().enumerate() {
+        if is_sync(code, class, *method) {
+            return Some(numbers[i]);
+        }
+    }
+    None
+}
+
+/// Takes the arguments of the message of this number.
+fn take_held(tags: &mut Vec<Tag>, number: u32) -> Args
+    requires { IsHeldAt tags.old.items number }
+    ensures { Emptied number tags.old.items result tags.new.items }
+{
+    let tag = &mut tags[number as usize];
+    match tag.held.take() {
+        None => unreachable!(),
+        Some(arguments) => arguments,
+    }
+}
+
+/// Takes the arguments of these messages.
+fn take_all_held(tags: &mut Vec<Tag>, members: &[u32]) -> Hand<Args>
+    requires held { AllHeld tags.old.items members.now }
+    requires different { AreDifferent members.now }
+    requires few { length members.now ≤ 8 }
+    ensures values { laid (for_entry result) ≡ held_values tags.old.items members.now }
+    ensures twice { AreTwice result }
+    ensures rest { EmptiedAll members.now tags.old.items tags.new.items }
+{
+    let mut hand = Hand::new();
+    for number in members {
+        hand.put(take_held(tags, *number));
+    }
+    hand
+}
+
+/// The task that keeps the entry of this number.
+fn home_of(tags: &[Tag], number: u32) -> u32
+    requires { number < length tags.now }
+    ensures { result ≡ home tags.now number }
+{
+    match tags.get(number as usize) {
+        None => unreachable!(),
+        Some(tag) => tag.task,
+    }
+}
+
+/// Begins the body of a firing above the caller that it serves.
+fn begin_above(
+    alloc: Global,
+    code: &Code,
+    limits: &Limits,
+    bodies: &mut CodeBodies,
+    number: u32,
+    chord: u16,
+    object: Object,
+    members: Members,
+    call: u32,
+) -> Result<(), AllocError>
+    requires room { number < 65536 }
+    requires sound { IsSound (code_program code.now limits.now) }
+    requires may { MayBegin (code_program code.now limits.now) (StandsAfter code.now limits.now bodies.old) number chord object members }
+    requires call { Serves (code_program code.now limits.now) chord object members (Some call) }
+    ensures { IfOk result (λ _. Began (code_program code.now limits.now) (StandsAfter code.now limits.now bodies.old) (StandsAfter code.now limits.now bodies.new) number chord object members) }
+{
+    let at = home_of(&bodies.tags, call);
+    let _parts = code.parts();
+    let arguments = take_all_held(&mut bodies.tags, members.items());
+    let task = &mut bodies.tasks[at as usize];
+    task.resume(code, number, chord, object, &members, arguments);
+    bodies.ready.push(at)?;
+    bodies.tags.push(Tag {
+        task: at,
+        held: None,
+    })?;
+    Ok(())
+}
+
+/// The place of one more task.
+fn place_after(tasks: &[Task]) -> u32
+    requires { length tasks.now < 2 ^ 32 }
+    ensures { result ≡ length tasks.now }
+{
+    tasks.len() as u32
+}
+
+/// Begins the body of a firing that serves no caller in a task of its own.
+fn begin_alone(
+    alloc: Global,
+    code: &Code,
+    limits: &Limits,
+    bodies: &mut CodeBodies,
+    number: u32,
+    chord: u16,
+    object: Object,
+    members: Members,
+) -> Result<(), AllocError>
+    requires room { number < 65536 }
+    requires sound { IsSound (code_program code.now limits.now) }
+    requires may { MayBegin (code_program code.now limits.now) (StandsAfter code.now limits.now bodies.old) number chord object members }
+    requires call { Serves (code_program code.now limits.now) chord object members None }
+    ensures { IfOk result (λ _. Began (code_program code.now limits.now) (StandsAfter code.now limits.now bodies.old) (StandsAfter code.now limits.now bodies.new) number chord object members) }
+{
+    let at = place_after(&bodies.tasks);
+    let _parts = code.parts();
+    let arguments = take_all_held(&mut bodies.tags, members.items());
+    let mut task = Task::spare(alloc, code, limits)?;
+    task.resume(code, number, chord, object, &members, arguments);
+    bodies.tasks.push(task)?;
+    bodies.ready.push(at)?;
+    bodies.tags.push(Tag {
+        task: at,
+        held: None,
+    })?;
+    Ok(())
+}
+
+/// Begins the body of a firing that serves no caller in a task that is over.
+fn begin_again(
+    alloc: Global,
+    code: &Code,
+    limits: &Limits,
+    bodies: &mut CodeBodies,
+    number: u32,
+    chord: u16,
+    object: Object,
+    members: Members,
+    at: u32,
+) -> Result<(), AllocError>
+    requires room { number < 65536 }
+    requires sound { IsSound (code_program code.now limits.now) }
+    requires may { MayBegin (code_program code.now limits.now) (StandsAfter code.now limits.now bodies.old) number chord object members }
+    requires call { Serves (code_program code.now limits.now) chord object members None }
+    requires over { over_at bodies.old.tasks.items at ≡ true }
+    ensures { IfOk result (λ _. Began (code_program code.now limits.now) (StandsAfter code.now limits.now bodies.old) (StandsAfter code.now limits.now bodies.new) number chord object members) }
+{
+    let _parts = code.parts();
+    let arguments = take_all_held(&mut bodies.tags, members.items());
+    let task = &mut bodies.tasks[at as usize];
+    task.resume(code, number, chord, object, &members, arguments);
+    bodies.ready.push(at)?;
+    bodies.tags.push(Tag {
+        task: at,
+        held: None,
+    })?;
+    Ok(())
+}
+
+/// Begins the body of a firing that serves this call, if it serves one.
+pub fn begin_body(
+    alloc: Global,
+    code: &Code,
+    limits: &Limits,
+    bodies: &mut CodeBodies,
+    number: u32,
+    chord: u16,
+    object: Object,
+    members: Members,
+    served: Option<u32>,
+) -> Result<(), AllocError>
+    requires room { number < 65536 }
+    requires sound { IsSound (code_program code.now limits.now) }
+    requires may { MayBegin (code_program code.now limits.now) (StandsAfter code.now limits.now bodies.old) number chord object members }
+    requires call { Serves (code_program code.now limits.now) chord object members served }
+    ensures { IfOk result (λ _. Began (code_program code.now limits.now) (StandsAfter code.now limits.now bodies.old) (StandsAfter code.now limits.now bodies.new) number chord object members) }
+{
+    match served {
+        Some(call) => {
+            begin_above(
+                alloc, code, limits, bodies, number, chord, object, members, call,
+            )?;
+            Ok(())
+        }
+        None => match next_over(&bodies.tasks, &mut bodies.over) {
+            Some(at) => {
+                begin_again(
+                    alloc, code, limits, bodies, number, chord, object, members, at,
+                )?;
+                Ok(())
+            }
+            None => {
+                begin_alone(alloc, code, limits, bodies, number, chord, object, members)?;
+                Ok(())
+            }
+        },
+    }
+}
+
+/// The body of this entry makes it again.
+pub fn repeat(
+    alloc: Global,
+    code: &Code,
+    limits: &Limits,
+    bodies: &mut CodeBodies,
+    entry: &Entry,
+) -> Result<(), AllocError>
+    requires room { entry.now.number < 65536 }
+    requires sound { IsSound (code_program code.now limits.now) }
+    requires own { IsOwn entry.now.what }
+    requires may { MayReplay (code_program code.now limits.now) (StandsAfter code.now limits.now bodies.old) entry.now }
+    ensures { IfOk result (λ _. Replayed (code_program code.now limits.now) (StandsAfter code.now limits.now bodies.old) (StandsAfter code.now limits.now bodies.new) entry.now) }
+{
+    let at = home_of(&bodies.tags, entry.body);
+    let _ = make(alloc, code, limits, bodies, at, entry.number)?;
+    Ok(())
+}

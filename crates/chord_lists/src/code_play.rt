@@ -1,0 +1,135 @@
+//! Plays a code.
+#![tactic(auto)]
+
+ghost use Rattle.chord_base.specs.Story.{IsSound};
+ghost use Rattle.chord_code.specs.Meaning.{code_program};
+ghost use Rattle.chord_code.proofs.SoundProp.{sound_prop};
+
+use crate::code_bodies::{CodeBodies, begin_body, begin_run, go_on, journal_of, repeat, served_by};
+use crate::engine::{Playable, Turn};
+use chord_base::event::{Entry, Limits, What};
+use chord_base::journal::Journal;
+use chord_base::members::Members;
+use chord_base::value::Object;
+use chord_code::code::Code;
+use std::alloc::{AllocError, Global};
+
+/// A code under limits, and sound under them.
+#[derive(Drop)]
+pub struct CodePlay<'a> {
+    pub code: &'a Code,
+    pub limits: &'a Limits,
+    ghost sound: { IsSound (code_program code.now limits.now) } by { sound_prop (code_program code.now limits.now) },
+}
+
+impl<'a> CodePlay<'a> {
+    ghost use Rattle.std.specs.Prelude.{◌≡◌, ◌<◌, IfOk};
+    ghost use Rattle.chord_code.specs.Meaning.{code_program};
+    ghost use Rattle.chord_lists.specs.CodeStands.{StandsAfter, MayReplay, Replayed};
+
+    /// The bodies make this entry again.
+    pub fn replay(
+        &self,
+        alloc: Global,
+        bodies: &mut CodeBodies,
+        entry: &Entry,
+    ) -> Result<(), AllocError>
+        requires later { 0 < entry.now.number }
+        requires room { entry.now.number < 65536 }
+        requires may { MayReplay (code_program self.now.code.now self.now.limits.now) (StandsAfter self.now.code.now self.now.limits.now bodies.old) entry.now }
+        ensures { IfOk result (λ _. Replayed (code_program self.now.code.now self.now.limits.now) (StandsAfter self.now.code.now self.now.limits.now bodies.old) (StandsAfter self.now.code.now self.now.limits.now bodies.new) entry.now) }
+    {
+        match &entry.what {
+            What::Begun => unreachable!(),
+            What::Fired(chord, object, members, _) => {
+                self.begin(
+                    alloc,
+                    bodies,
+                    entry.number,
+                    *chord,
+                    *object,
+                    members.copied(),
+                )?;
+                Ok(())
+            }
+            _ => {
+                repeat(alloc, self.code, self.limits, bodies, entry)?;
+                Ok(())
+            }
+        }
+    }
+}
+
+impl<'a> Playable for CodePlay<'a> {
+    ghost use Rattle.chord_code.specs.Meaning.{code_program};
+    ghost use Rattle.chord_lists.specs.CodeStands.{StandsAfter};
+
+    type Bodies = CodeBodies;
+
+    ghost program = { λ s. code_program s.code.now s.limits.now };
+
+    ghost stands = { λ s. StandsAfter s.code.now s.limits.now };
+
+    fn start(&self, alloc: Global) -> Result<CodeBodies, AllocError> {
+        let _parts = self.code.parts();
+        let bodies = begin_run(alloc, self.code, self.limits)?;
+        Ok(bodies)
+    }
+
+    fn go_on(
+        &self,
+        alloc: Global,
+        bodies: &mut CodeBodies,
+        number: u32,
+    ) -> Result<Turn, AllocError> {
+        let turn = go_on(alloc, self.code, self.limits, bodies, number)?;
+        Ok(turn)
+    }
+
+    fn begin(
+        &self,
+        alloc: Global,
+        bodies: &mut CodeBodies,
+        number: u32,
+        chord: u16,
+        object: Object,
+        members: Members,
+    ) -> Result<(), AllocError> {
+        let methods = self.methods(object.class, chord);
+        let served = served_by(self.code, object.class, methods, members.items());
+        begin_body(
+            alloc,
+            self.code,
+            self.limits,
+            bodies,
+            number,
+            chord,
+            object,
+            members,
+            served,
+        )?;
+        Ok(())
+    }
+
+    fn count(&self, class: u16) -> u16 {
+        match self.code.parts().classes.items().get(class as usize) {
+            None => 0,
+            Some(line) => line.chords.items().len() as u16,
+        }
+    }
+
+    fn methods(&self, class: u16, chord: u16) -> &[u8] {
+        match self.code.parts().classes.items().get(class as usize) {
+            None => unreachable!(),
+            Some(line) => match line.chords.items().get(chord as usize) {
+                None => unreachable!(),
+                Some(line) => line.methods.items(),
+            },
+        }
+    }
+
+    fn journal(&self, alloc: Global, bodies: CodeBodies) -> Result<Journal, AllocError> {
+        let journal = journal_of(alloc, self.code, self.limits, bodies)?;
+        Ok(journal)
+    }
+}

@@ -1,0 +1,158 @@
+//! Plays a code, and tells of a run of it whether it may go on.
+#![tactic(auto)]
+
+ghost use Rattle.std.specs.Prelude.{◌≡◌, ℕ, ◌<◌, ◌≤◌, ◌⊎◌, List, length, reverse, slice_get, true, false, Some, IfOk};
+ghost use Rattle.chord_base.specs.declared.event.Entry.{Entry};
+ghost use Rattle.chord_base.specs.declared.value.Object.{Object};
+ghost use Rattle.chord_base.specs.Bounds.{AreWithin, IsJournal};
+ghost use Rattle.chord_base.specs.Machine.{IsRun, IsComplete, MayFollow, NoneFires};
+ghost use Rattle.chord_base.specs.Messages.{Message, message_of, pending};
+ghost use Rattle.chord_code.specs.Meaning.{code_program};
+ghost use Rattle.chord_code.specs.Sound.{IsSoundCode};
+ghost use Rattle.chord_lists.specs.Bag.{HasMessages, LacksAMessage, Lists, numbers_of};
+ghost use Rattle.chord_lists.specs.CodeStands.{StandsAfter};
+ghost use Rattle.chord_lists.specs.CodeGoes.{IsNoted, message_by, AreTagged, CanFire, FiresAt, LacksAt};
+
+use crate::bag::Bag;
+use crate::code_bodies::{CodeBodies, Tag, next_ready};
+use crate::code_play::CodePlay;
+use crate::engine::{self, Playable, find_chord};
+use chord_base::event::{Entry, Limits, What};
+use chord_base::journal::Journal;
+use chord_code::code::Code;
+use std::alloc::{AllocError, Global};
+
+/// Plays a sound code: the journal of a complete run, or of a run of exactly `limits.events` entries.
+pub fn play(alloc: Global, code: &Code, limits: &Limits) -> Result<Journal, AllocError>
+    requires some { 1 ≤ limits.now.events }
+    requires bound { limits.now.events ≤ 65536 }
+    requires shallow { 1 ≤ limits.now.depth }
+    requires deep { limits.now.depth ≤ 256 }
+    requires sound { IsSoundCode code.now }
+    ensures run { IfOk result (λ journal. IsRun (code_program code.now limits.now) journal) }
+    ensures whole { IfOk result (λ journal. IsComplete (code_program code.now limits.now) journal ⊎ (length journal ≡ limits.now.events)) }
+    ensures few { IfOk result (λ journal. length journal ≤ limits.now.events) }
+    ensures short { IfOk result (λ journal. length journal < limits.now.events → IsComplete (code_program code.now limits.now) journal) }
+{
+    let program = CodePlay { code, limits };
+    engine::play(alloc, &program, limits)
+}
+
+/// The bodies after the run of these entries.
+fn bodies_after<'a>(
+    alloc: Global,
+    program: &CodePlay<'a>,
+    entries: &[Entry],
+) -> Result<CodeBodies, AllocError>
+    requires some { 0 < length entries.now }
+    requires run { IsRun (code_program program.now.code.now program.now.limits.now) entries.now }
+    requires within { IsJournal entries.now }
+    ensures { IfOk result (λ bodies. StandsAfter program.now.code.now program.now.limits.now bodies (reverse entries.now)) }
+{
+    let mut bodies = program.start(alloc)?;
+    for i in 1..entries.len() {
+        program.replay(alloc, &mut bodies, &entries[i])?;
+    }
+    Ok(bodies)
+}
+
+/// Notes the entry, if it is a message.
+fn note_entry(alloc: Global, bag: &mut Bag, entry: &Entry) -> Result<(), AllocError>
+    ensures { IfOk result (λ _. IsNoted entry.now.number (message_of entry.now.what) (numbers_of bag.old) (numbers_of bag.new)) }
+{
+    match &entry.what {
+        What::Sent(object, method, _) => {
+            bag.note(alloc, *object, *method, entry.number)?;
+            Ok(())
+        }
+        What::Called(object, method, _) => {
+            bag.note(alloc, *object, *method, entry.number)?;
+            Ok(())
+        }
+        _ => Ok(()),
+    }
+}
+
+/// Notes the entry, if it is a message whose arguments are held.
+fn note_pending(alloc: Global, bag: &mut Bag, tag: &Tag, entry: &Entry) -> Result<(), AllocError>
+    ensures { IfOk result (λ _. IsNoted entry.now.number (message_by tag.now.held entry.now.what) (numbers_of bag.old) (numbers_of bag.new)) }
+{
+    match &tag.held {
+        None => Ok(()),
+        Some(_) => {
+            note_entry(alloc, bag, entry)?;
+            Ok(())
+        }
+    }
+}
+
+/// The pending messages, by what they are to.
+fn pending_bag(alloc: Global, tags: &[Tag], entries: &[Entry]) -> Result<Bag, AllocError>
+    requires { AreTagged tags.now (reverse entries.now) }
+    ensures { IfOk result (λ bag. Lists (λ i. pending i (reverse entries.now)) (length entries.now) (numbers_of bag)) }
+{
+    let mut bag = Bag::new(alloc);
+    for i in 0..entries.len() {
+        note_pending(alloc, &mut bag, &tags[i], &entries[i])?;
+    }
+    Ok(bag)
+}
+
+/// Whether a chord of the object to which this entry is a message has all its messages.
+fn fires_at<'a>(program: &CodePlay<'a>, bag: &Bag, entry: &Entry) -> bool
+    ensures yes { result ≡ true → FiresAt (code_program program.now.code.now program.now.limits.now) (numbers_of bag.now) }
+    ensures no { result ≡ false → LacksAt (code_program program.now.code.now program.now.limits.now) (numbers_of bag.now) entry.now }
+{
+    match &entry.what {
+        What::Sent(object, _, _) => find_chord(program, bag, *object).is_some(),
+        What::Called(object, _, _) => find_chord(program, bag, *object).is_some(),
+        _ => false,
+    }
+}
+
+/// Whether a chord has all its messages.
+fn fires<'a>(program: &CodePlay<'a>, bag: &Bag, entries: &[Entry]) -> bool
+    requires within { AreWithin (reverse entries.now) }
+    requires lists { Lists (λ i. pending i (reverse entries.now)) (length entries.now) (numbers_of bag.now) }
+    ensures yes { result ≡ true → CanFire (code_program program.now.code.now program.now.limits.now) (reverse entries.now) }
+    ensures no { result ≡ false → NoneFires (code_program program.now.code.now program.now.limits.now) (reverse entries.now) }
+{
+    let _parts = program.code.parts();
+    for entry in entries {
+        if fires_at(program, bag, entry) {
+            return true;
+        }
+    }
+    false
+}
+
+/// Whether an entry may follow the run of a code that a journal tells. If none may, the run is complete.
+///
+/// The run is made again, entry by entry, in the time in which it was made.
+pub fn may_go_on(
+    alloc: Global,
+    code: &Code,
+    limits: &Limits,
+    journal: &Journal,
+) -> Result<bool, AllocError>
+    requires shallow { 1 ≤ limits.now.depth }
+    requires deep { limits.now.depth ≤ 256 }
+    requires sound { IsSoundCode code.now }
+    requires run { IsRun (code_program code.now limits.now) journal.now }
+    ensures yes { IfOk result (λ yes. yes ≡ true → (e : Entry) × MayFollow (code_program code.now limits.now) (reverse journal.now) e) }
+    ensures no { IfOk result (λ yes. yes ≡ false → IsComplete (code_program code.now limits.now) journal.now) }
+{
+    let program = CodePlay { code, limits };
+    let entries = journal.entries();
+    if entries.is_empty() {
+        return Ok(true);
+    }
+    let mut bodies = bodies_after(alloc, &program, entries)?;
+    match next_ready(&bodies.tasks, &mut bodies.ready)? {
+        Some(_) => Ok(true),
+        None => {
+            let bag = pending_bag(alloc, &bodies.tags, entries)?;
+            Ok(fires(&program, &bag, entries))
+        }
+    }
+}
