@@ -89,11 +89,13 @@ mine_program p = mine_both (classes_keys p) (keys 13 (wrong_mains (mains_of p.cl
 
 -- What holds of each of some numbers holds of one that is among them.
 
-abbrev OfEach : (ℕ → Type 0) → List ℕ → Type 0
+-- something holds of each of some numbers
+abbrev pub OfEach : (ℕ → Type 0) → List ℕ → Type 0
 OfEach P [] = Unit {0}
 OfEach P (x ∷ xs) = P x × OfEach P xs
 
-of_one : (P : ℕ → Type 0) (r : ℕ) (xs : List ℕ) → OfEach P xs → among r xs ≡ true → P r
+-- what holds of each of some numbers holds of one that is among them
+pub of_one : (P : ℕ → Type 0) (r : ℕ) (xs : List ℕ) → OfEach P xs → among r xs ≡ true → P r
 of_one P r [] all h = absurd (false≢true h)
 of_one P r (x ∷ xs) all h = by_first (nat_eq r x) refl h (λ m. of_one P r xs all.1 m)
   where

@@ -11,6 +11,7 @@ mod Tokens
 mod Stopping
 mod RuleTokens
 mod FirstBreak
+mod Joining
 mod Barred
 mod Builders
 mod FirstNamed

@@ -25,3 +25,5 @@ mod overrides;
 mod own_methods;
 pub mod plan;
 mod splits;
+#[cfg(test)]
+mod tests;
