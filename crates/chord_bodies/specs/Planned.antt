@@ -7,9 +7,9 @@ use Rattle.chord_bodies.specs.Resolved.{BodyOf, ClassOf, ChordOf, MethodOf, Reso
 use Rattle.chord_bodies.specs.Types.{Signature, Signatures}
 
 -- the parameters of these methods of a class, laid together
-abbrev pub laid : Signatures → ℕ → List ℕ → List StaticType → Type 0
-laid sig c [] ts = ts ≡ []
-laid sig c (j ∷ js) ts = (m : Signature) × (rest : List StaticType) × (sig.methods c j ≡ Some m) × (ts ≡ m.parameters ++ rest) × laid sig c js rest
+abbrev pub AreConcatenated : Signatures → ℕ → List ℕ → List StaticType → Type 0
+AreConcatenated sig c [] ts = ts ≡ []
+AreConcatenated sig c (j ∷ js) ts = (m : Signature) × (rest : List StaticType) × (sig.methods c j ≡ Some m) × (ts ≡ m.parameters ++ rest) × AreConcatenated sig c js rest
 
 -- one of two facts, by whether callers wait
 abbrev pub if_sync : Bool → Type 0 → Type 0 → Type 0
@@ -36,7 +36,7 @@ pub record ChordIs (sig : Signatures) (p : Resolved) (c : ℕ) (k : ChordOf) : T
   pub few : length k.methods ≤ 8
   pub different : AreDifferent k.methods
   pub one_sync : OneSync (λ j. is_sync_in (sig.methods c j)) k.methods
-  pub parameters : laid sig c k.methods body.parameters
+  pub parameters : AreConcatenated sig c k.methods body.parameters
   pub result : gives sig c k.methods body.result
 
 -- A class has the methods of the classes that it derives from, by the same numbers and with the same signatures; deriving is reflexive and transitive.

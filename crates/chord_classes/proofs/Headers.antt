@@ -16,7 +16,7 @@ use Rattle.chord_base.specs.declared.static_type.StaticType.{StaticType}
 use Rattle.chord_base.specs.declared.static_type.StaticType.TheVariants as ty
 use Rattle.chord_bodies.specs.Types.{Signature, Signatures}
 use Rattle.chord_base.specs.Meaning.{NoneSync, OneSync}
-use Rattle.chord_bodies.specs.Planned.{laid, gives, if_sync, is_sync_in}
+use Rattle.chord_bodies.specs.Planned.{AreConcatenated, gives, if_sync, is_sync_in}
 use Rattle.chord_classes.specs.ChordRules.{counts_sync, second_sync}
 use Rattle.chord_classes.specs.Table.{Method, Found, Shape, formal_types, is_main, method_of, method_from, method_named, with_headers, class_named, base_of, methods_in, methods_at, inherited, shape_of, shapes_after, table_of}
 use Rattle.chord_classes.specs.Types.{basic_type, type_known, is_sync, result_known, signature, signatures}
@@ -316,7 +316,7 @@ map_twice table (f ∷ fs) = ap (λ z. type_known table f.value_type ∷ z) (map
 
 -- the parameters of a chord are those of its methods laid together
 pub laid_is : (table : List Shape) (class : ℕ) (headers : List HeaderTree) → Every (HeaderKept table (methods_at table class)) headers
-    → laid (signatures table) class (chord_methods table class headers) (formals_types table (flat_map (λ (h : HeaderTree). h.formals.parameters) headers))
+    → AreConcatenated (signatures table) class (chord_methods table class headers) (formals_types table (flat_map (λ (h : HeaderTree). h.formals.parameters) headers))
 laid_is table class [] k = refl
 laid_is table class (x ∷ xs) k = (
   signature table (method_of 0 x),
@@ -339,7 +339,7 @@ gives_is table class [] k = refl
 gives_is table class (x ∷ xs) k = (signature table (method_of 0 x), number_is table class x k.0, given_by table class x.result_type (headers_due xs) (chord_methods table class xs) (gives_is table class xs k.1))
 
 -- parameters are laid together in a deriving class as in its base
-pub laid_along : (sig : Signatures) (d c : ℕ) → Inherits sig → sig.derives d c ≡ true → (js : List ℕ) (ts : List StaticType) → laid sig c js ts → laid sig d js ts
+pub laid_along : (sig : Signatures) (d c : ℕ) → Inherits sig → sig.derives d c ≡ true → (js : List ℕ) (ts : List StaticType) → AreConcatenated sig c js ts → AreConcatenated sig d js ts
 laid_along sig d c i h [] ts l = l
 laid_along sig d c i h (j ∷ js) ts l = (l.0, l.1, i.inherits d c j l.0 h l.2, l.3, laid_along sig d c i h js l.1 l.4)
 
@@ -393,12 +393,12 @@ one_sync_is table class (x ∷ xs) main k seen h =
         or_false false = refl
 
 -- in a class that derives from another, too
-none_along : (sig : Signatures) (d c : ℕ) → Inherits sig → sig.derives d c ≡ true → (js : List ℕ) (ts : List StaticType) → laid sig c js ts → NoneSync (λ j. is_sync_in (sig.methods c j)) js → NoneSync (λ j. is_sync_in (sig.methods d j)) js
+none_along : (sig : Signatures) (d c : ℕ) → Inherits sig → sig.derives d c ≡ true → (js : List ℕ) (ts : List StaticType) → AreConcatenated sig c js ts → NoneSync (λ j. is_sync_in (sig.methods c j)) js → NoneSync (λ j. is_sync_in (sig.methods d j)) js
 none_along sig d c i h [] ts l n = tt
 none_along sig d c i h (j ∷ js) ts l n = (ap is_sync_in (i.inherits d c j l.0 h l.2) ∙ sym (ap is_sync_in l.2) ∙ n.0, none_along sig d c i h js l.1 l.4 n.1)
 
 -- at most one method is synchronous in a deriving class as in its base
-pub one_sync_along : (sig : Signatures) (d c : ℕ) → Inherits sig → sig.derives d c ≡ true → (js : List ℕ) (ts : List StaticType) → laid sig c js ts → OneSync (λ j. is_sync_in (sig.methods c j)) js → OneSync (λ j. is_sync_in (sig.methods d j)) js
+pub one_sync_along : (sig : Signatures) (d c : ℕ) → Inherits sig → sig.derives d c ≡ true → (js : List ℕ) (ts : List StaticType) → AreConcatenated sig c js ts → OneSync (λ j. is_sync_in (sig.methods c j)) js → OneSync (λ j. is_sync_in (sig.methods d j)) js
 one_sync_along sig d c i h [] ts l n = tt
 one_sync_along sig d c i h (j ∷ js) ts l n =
     let same = ap is_sync_in (i.inherits d c j l.0 h l.2) ∙ sym (ap is_sync_in l.2) in

@@ -4,7 +4,7 @@ use Rattle.chord_tree.specs.Tree.{BlockTree, HeaderTree, ChordMember, ClassTree,
 use Rattle.chord_tree.specs.Program.{IsProgram}
 use Rattle.chord_bodies.specs.Resolved.{BodyOf, ClassOf, ChordOf}
 use Rattle.chord_bodies.specs.Types.{Signatures, BodyIs}
-use Rattle.chord_bodies.specs.Planned.{laid, gives, ChordIs}
+use Rattle.chord_bodies.specs.Planned.{AreConcatenated, gives, ChordIs}
 pub use Rattle.chord_bodies.specs.Planned.{Inherits, IsBuilder, IsPlanned}
 use Rattle.chord_classes.specs.Table.{Shape, methods_at, derives, table_of}
 use Rattle.chord_classes.specs.Types.{signatures_of}
@@ -27,7 +27,7 @@ chord_methods table class headers = header_numbers (methods_at table class) head
 
 -- The body of a chord has the parameters of the chord's methods laid together, and gives the result of the synchronous one: in the class of its text and in each that derives from it.
 pub record ChordKept (sig : Signatures) (class : ℕ) (methods : List ℕ) (body : BodyOf) : Type 0 where
-  pub parameters : laid sig class methods body.parameters
+  pub parameters : AreConcatenated sig class methods body.parameters
   pub result : gives sig class methods body.result
 
 -- This holds of each chord but that of `Main`, where headers of one name agree.

@@ -87,8 +87,8 @@ falls_to n m (i ∷ ns) f l = (omega (arith, f.0, l), f.1)
 -- ---- what the lists say
 
 -- nothing is not something
-none_some : {A : Type 0} (x : A) → ◌≡◌ {A = Option A} None (Some x) → ⊥
-none_some x e = cc
+nothing_some : {A : Type 0} (x : A) → ◌≡◌ {A = Option A} None (Some x) → ⊥
+nothing_some x e = cc
 
 -- true is not false
 true_false : true ≡ false → ⊥
@@ -106,7 +106,7 @@ without_all ms held n = if has n ms then None else held n
 pub held_before : (held : ℕ → Option Message) (i n : ℕ) (m : Message) → without i held n ≡ Some m → (n ≢ i) × (held n ≡ Some m)
 held_before held i n m e =
     elim (either (n == i)) [
-      | inl y ↦ absurd (none_some m (rw y at e))
+      | inl y ↦ absurd (nothing_some m (rw y at e))
       | inr o ↦ (eqb-false n i o, rw o at e)
     ]
 
@@ -125,7 +125,7 @@ lists_none held n index none empty =
     record {
       falls = λ k. rw (empty k) tt;
       there = λ k i e. (let z : false ≡ true = sym (ap (has i) (empty k)) ∙ e in cc);
-      listed = λ i m e. absurd (none_some m (sym (none i) ∙ e));
+      listed = λ i m e. absurd (nothing_some m (sym (none i) ∙ e));
     }
 
 -- ---- an entry that is no message
@@ -144,7 +144,7 @@ lists_on held n index s =
       listed =
           λ i m e.
           elim (either (n == i)) [
-            | inl y ↦ absurd (none_some m (rw y at e))
+            | inl y ↦ absurd (nothing_some m (rw y at e))
             | inr o ↦ s.listed i m (rw o at e)
           ];
     }

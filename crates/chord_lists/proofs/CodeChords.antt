@@ -9,7 +9,7 @@ use Rattle.chord_code.specs.declared.parts.Parts.{Parts}
 use Rattle.chord_code.specs.Meaning.{code_program, chord_lines, chords_in, methods_of}
 use Rattle.chord_code.specs.Valid.{IsValid}
 use Rattle.chord_code.proofs.Validity.{valid_chords}
-use Rattle.chord_lists.proofs.Spots.{one_some, none_some}
+use Rattle.chord_lists.proofs.Spots.{one_some, nothing_some}
 
 -- a class that is there has the chords of its line
 pub lines_there : (code : Parts) (classes : List ClassLine) (lines : List ChordLine) (c : ℕ) (line : ClassLine) → classes ≡ code.classes → slice_get classes c ≡ Some line → lines ≡ line.chords → chord_lines code c ≡ lines
@@ -29,7 +29,7 @@ lines_few code c lines valid e = (let n = lines_count code (record { events = 0;
 
 -- a mapped list has at each place what the line there is mapped to
 methods_at_line : (lines : List ChordLine) (k : ℕ) (line : ChordLine) → slice_get lines k ≡ Some line → slice_get (map methods_of lines) k ≡ Some line.methods
-methods_at_line [] k line e = none_some line e
+methods_at_line [] k line e = nothing_some line e
 methods_at_line (x ∷ lines) zero line e = ap (λ (z : ChordLine). Some z.methods) (one_some x line (Some x) refl e)
 methods_at_line (x ∷ lines) (suc k) line e = methods_at_line lines k line e
 

@@ -29,7 +29,7 @@ use Rattle.chord_lists.specs.Engine.{IsRunOfLength, fired}
 use Rattle.chord_lists.specs.declared.code_bodies.Tag.{Tag}
 use Rattle.chord_lists.specs.declared.code_bodies.CodeBodies.{CodeBodies}
 use Rattle.chord_lists.specs.CodeStands.{past_of, views, home_in, home, held_in, held_at, ready_in, ready_at, over_in, over_at, AreReady, Awaits, AllHeld, held_values, EmptiedAll, StandsAfter}
-use Rattle.chord_lists.proofs.Spots.{set_other, end_at, before_end, past_end, one_some, none_some, has_first, has_later}
+use Rattle.chord_lists.proofs.Spots.{set_other, end_at, before_end, past_end, one_some, nothing_some, has_first, has_later}
 use Rattle.chord_lists.proofs.CodeTasks.{one_call, resumable}
 use Rattle.chord_lists.proofs.CodeSteps.{stands_merged, task_below, keeps_more, views_set, tasks_set, awaits_set, pending_under}
 use Rattle.chord_lists.proofs.Laying.{takes_held}
@@ -46,7 +46,7 @@ firing_different code limits h k o ms vs valid f = members_differ (code_program 
 
 -- the call that a firing serves is one of its members, and it is pending
 served_member : (sync : ℕ → Bool) (h : List Entry) (o : Object) (js ms : List ℕ) (vs : List Value) (q : ℕ) → Takes h o js ms vs → served_among sync js ms ≡ Some q → (has q ms ≡ true) × ((m : Message) × (pending q h ≡ Some m) × (m.object ≡ o) × (sync m.method ≡ true))
-served_member sync h o [] ms vs q t e = none_some q e
+served_member sync h o [] ms vs q t e = nothing_some q e
 served_member sync h o (j ∷ js) [] vs q t e = absurd t
 served_member sync h o (j ∷ js) (i ∷ ms) vs q t e =
     elim (either (sync j)) [
@@ -158,8 +158,8 @@ bare_tag at = record { task = at; held = None }
 fired_pending : (n k : ℕ) (o : Object) (ms : List ℕ) (vs : List Value) (h : List Entry) (q : ℕ) (m : Message) → pending q (fired n k o ms vs ∷ h) ≡ Some m → (pending q h ≡ Some m) × (has q ms ≡ false)
 fired_pending n k o ms vs h q m e =
     elim (either (n == q)) [
-      | inl y ↦ none_some m (rw y at e)
-      | inr f ↦ elim (either (has q ms)) [ inl y ↦ none_some m (rw (f, y) at e) | inr g ↦ (rw (f, g) at e, g) ]
+      | inl y ↦ nothing_some m (rw y at e)
+      | inr f ↦ elim (either (has q ms)) [ inl y ↦ nothing_some m (rw (f, y) at e) | inr g ↦ (rw (f, g) at e, g) ]
     ]
 
 -- a message that a firing does not take is pending after it if it was before
@@ -200,11 +200,11 @@ stands_fired code limits before after between h n k at o ms vs played s f emptie
             | inl y ↦
                 (let i = eqb-true (length between) q y in
                 let bare : held_at after.tags.items q ≡ None = ap (λ z. held_at z q) tags ∙ subst (λ j. held_at (between ++ tag ∷ []) j ≡ None) i (ap held_in (end_at between tag)) in
-                none_some a (sym bare ∙ is))
+                nothing_some a (sym bare ∙ is))
             | inr y ↦
                 (let old : held_at between q ≡ Some a = sym (ap (λ z. held_at z q) tags ∙ ap held_in (before_end between tag q (eqb-false (length between) q y))) ∙ is in
                 elim (either (has q ms)) [
-                  | inl g ↦ none_some a (sym (emptied.held q ∙ rw g refl) ∙ old)
+                  | inl g ↦ nothing_some a (sym (emptied.held q ∙ rw g refl) ∙ old)
                   | inr g ↦
                       (let x = s.only q a (sym (emptied.held q ∙ rw g refl) ∙ old) in
                       let apart : (n == q) ≡ false = ne_eqb n q (λ d. eqb-false (length between) q y (omega (arith, d, long, played.so_long))) in

@@ -23,7 +23,7 @@ use Rattle.chord_lists.specs.Engine.{fired}
 use Rattle.chord_lists.specs.declared.engine.Turn.{Turn}
 use Rattle.chord_lists.specs.declared.code_bodies.CodeBodies.{CodeBodies}
 use Rattle.chord_lists.specs.CodeStands.{past_of, views, home, ready_in, ready_at, StandsAfter, WentAt}
-use Rattle.chord_lists.proofs.Spots.{one_some, none_some}
+use Rattle.chord_lists.proofs.Spots.{one_some, nothing_some}
 use Rattle.chord_lists.proofs.CodeTasks.{asks_ready}
 use Rattle.chord_lists.proofs.CodeSteps.{stands_merged}
 
@@ -59,7 +59,7 @@ asks_in code limits bodies h b a s e = by_task (slice_get bodies.tasks.items (ho
 
     by_task : (o : Option Task) → slice_get bodies.tasks.items (home bodies.tags.items b) ≡ o → (doing (code_program code limits) (past_of o) b ≡ Unplaced) ⊎ (doing (code_program code limits) (past_of o) b ≡ doing (code_program code limits) h b) → AsksIn bodies.tasks.items (home bodies.tags.items b) b (length h)
     by_task None g (inl u) = (let z : Absent ≡ Unplaced = u in cc)
-    by_task None g (inr same) = none_some a (ap (asked (code_program code limits)) same ∙ e)
+    by_task None g (inr same) = nothing_some a (ap (asked (code_program code limits)) same ∙ e)
     by_task (Some t) g (inl u) = absurd ((s.tasks (home bodies.tags.items b) t g).task.placed b u)
     by_task (Some t) g (inr same) =
         let r = asks_ready code limits t b a (s.tasks (home bodies.tags.items b) t g) (ap (asked (code_program code limits)) same ∙ e) in

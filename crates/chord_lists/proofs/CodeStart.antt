@@ -15,7 +15,7 @@ use Rattle.chord_lists.specs.Engine.{main_begun}
 use Rattle.chord_lists.specs.declared.code_bodies.Tag.{Tag}
 use Rattle.chord_lists.specs.declared.code_bodies.CodeBodies.{CodeBodies}
 use Rattle.chord_lists.specs.CodeStands.{views, home, held_at, ready_in, ready_at, AreReady, StandsAfter}
-use Rattle.chord_lists.proofs.Spots.{one_some, none_some}
+use Rattle.chord_lists.proofs.Spots.{one_some, nothing_some}
 
 -- Main begins in a sound program
 pub main_begins : (code : Parts) (limits : Limits) → IsSound (code_program code limits) → MainBegins code limits
@@ -25,8 +25,8 @@ main_begins code limits s = s.is_defined main_begun 0 (tt, record { numbered = r
 none_pending : (i : ℕ) (m : Message) → pending i main_begun ≡ Some m → ⊥
 none_pending i m e =
     elim (either (0 == i)) [
-      | inl y ↦ none_some m (rw y at e)
-      | inr o ↦ none_some m (rw o at e)
+      | inl y ↦ nothing_some m (rw y at e)
+      | inr o ↦ nothing_some m (rw o at e)
     ]
 
 -- the tag of `Main`'s first entry
@@ -41,7 +41,7 @@ first_keeps t e (suc i) = elim (either (0 == suc i)) [ inl y ↦ (let f = eqb-tr
 -- the one task is one of the code
 first_task : (code : Parts) (limits : Limits) (t : Task) → IsTaskOf code limits t → (i : ℕ) (u : Task) → slice_get (t ∷ []) i ≡ Some u → IsTaskOf code limits u
 first_task code limits t k zero u e = subst (λ (v : Task). IsTaskOf code limits v) (one_some t u (Some t) refl e) k
-first_task code limits t k (suc i) u e = none_some u e
+first_task code limits t k (suc i) u e = nothing_some u e
 
 -- the one task stands in the list of the ready ones
 first_ready : (t : Task) → AreReady (t ∷ []) (0 ∷ [])
@@ -54,8 +54,8 @@ first_ready t = record { all = λ i e. by_place i e }
 
 -- nothing is held when `Main` has just begun
 none_held : (q : ℕ) (a : Args) {A : Type 0} → held_at (first_tag ∷ []) q ≡ Some a → A
-none_held zero a e = none_some a e
-none_held (suc q) a e = none_some a e
+none_held zero a e = nothing_some a e
+none_held (suc q) a e = nothing_some a e
 
 -- a task in which `Main` has just begun stands after that entry
 pub started : (code : Parts) (limits : Limits) (bodies : CodeBodies) (t : Task) → IsSound (code_program code limits) → IsTaskOf code limits t → (view_of t).past ≡ main_begun → bodies.tasks.items ≡ t ∷ [] → bodies.ready.items ≡ 0 ∷ [] → bodies.tags.items ≡ first_tag ∷ [] → StandsAfter code limits bodies main_begun

@@ -41,7 +41,7 @@ use Rattle.chord_lists.specs.declared.engine.Turn.{Turn}
 use Rattle.chord_lists.specs.declared.code_bodies.Tag.{Tag}
 use Rattle.chord_lists.specs.declared.code_bodies.CodeBodies.{CodeBodies}
 use Rattle.chord_lists.specs.CodeStands.{past_of, views, home_in, home, held_in, held_at, ready_in, ready_at, AreReady, Awaits, IsHeld, StandsAfter, MayTurn, Turned, twice, tag_of, IsTagged, WentAt}
-use Rattle.chord_lists.proofs.Spots.{set_same, set_other, end_at, before_end, one_some, none_some}
+use Rattle.chord_lists.proofs.Spots.{set_same, set_other, end_at, before_end, one_some, nothing_some}
 use Rattle.chord_lists.proofs.CodeTasks.{ready_not_waiting, call_waits}
 
 -- ---- the run in its tasks
@@ -146,10 +146,10 @@ what_within h (Fired c o' ms vs) o w l a k = absurd o
 -- what a body asks is what the program's meaning says
 asked_next : (p : Program) (d : Doing) (a : Asked) → asked p d ≡ Some a → (s : Start) × (k : ℕ) × (rs : List End) × (p.next s k rs ≡ Some a)
 asked_next p (Ready s k rs) a e = (s, k, rs, e)
-asked_next p (Waits s k rs q l) a e = none_some a e
-asked_next p Absent a e = none_some a e
-asked_next p Unplaced a e = none_some a e
-asked_next p (Over x) a e = none_some a e
+asked_next p (Waits s k rs q l) a e = nothing_some a e
+asked_next p Absent a e = nothing_some a e
+asked_next p Unplaced a e = nothing_some a e
+asked_next p (Over x) a e = nothing_some a e
 
 -- a body's own ask takes no messages
 own_members : (w : What) → IsOwn w → members_of w ≡ []
@@ -234,13 +234,13 @@ ready_task tasks i e = by_task (slice_get tasks i) refl e
 
 -- a pending message has a number below that of the next entry
 pub pending_under : (p : Program) (h : List Entry) (n : ℕ) (m : Message) → IsPast p h → pending n h ≡ Some m → n < length h
-pending_under p [] n m past e = none_some m e
+pending_under p [] n m past e = nothing_some m e
 pending_under p (x ∷ h) n m past e =
     elim (either (x.number == n)) [
       | inl y ↦ (let k = eqb-true x.number n y in omega (arith, k, past.1.numbered))
       | inr o ↦
           elim (either (has n (members_of x.what))) [
-            | inl y ↦ none_some m (rw (o, y) at e)
+            | inl y ↦ nothing_some m (rw (o, y) at e)
             | inr a ↦ (let l = pending_under p h n m past.0 (rw (o, a) at e) in omega (arith, l))
           ]
     ]
@@ -271,7 +271,7 @@ only_new tags at w q a e is = by_message (message_of w) refl
         let here : held_at (tags ++ tag_of at w ∷ []) q ≡ None =
         subst (λ j. held_at (tags ++ tag_of at w ∷ []) j ≡ None) e (ap held_in (end_at tags (tag_of at w)) ∙ ap (λ o. Rattle.std.specs.Prelude.option_map twice o) i)
         in
-        none_some a (sym here ∙ is)
+        nothing_some a (sym here ∙ is)
 
 -- ---- a task makes an entry
 
@@ -291,11 +291,11 @@ sync_called p (Called o j vs) m e k s = (let z : record { object = o; method = j
 sync_called p (Sent o j vs) m e k s =
     (let z : record { object = o; method = j; arguments = vs } ≡ m = cc in
     let y : true ≡ false = sym s ∙ sym (ap (λ (x : Message). p.is_sync x.object.class x.method) z) ∙ k in cc)
-sync_called p Begun m e k s = none_some m e
-sync_called p (Made c) m e k s = none_some m e
-sync_called p (Printed t) m e k s = none_some m e
-sync_called p (Fired c o ms vs) m e k s = none_some m e
-sync_called p (Ended x) m e k s = none_some m e
+sync_called p Begun m e k s = nothing_some m e
+sync_called p (Made c) m e k s = nothing_some m e
+sync_called p (Printed t) m e k s = nothing_some m e
+sync_called p (Fired c o ms vs) m e k s = nothing_some m e
+sync_called p (Ended x) m e k s = nothing_some m e
 
 -- the past of a task after its turn: the entry has the number and the body on top
 pub noted_body : (code : Parts) (limits : Limits) (t t' : Task) (n : ℕ) (w : What) (u : Turned code limits t t' n w) → (view_of t').past ≡ record { number = n; body = u.next.body; what = w } ∷ (view_of t).past

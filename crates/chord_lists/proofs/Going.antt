@@ -32,7 +32,7 @@ use Rattle.chord_lists.specs.CodeGoes.{IsNoted, message_by, AreTagged, CanFire, 
 use Rattle.chord_lists.proofs.Bags.{lists_none, lists_on, lists_more, message_to}
 use Rattle.chord_lists.proofs.Taking.{lacks_fires}
 use Rattle.chord_lists.proofs.Standing.{pending_entry}
-use Rattle.chord_lists.proofs.Spots.{one_some, none_some}
+use Rattle.chord_lists.proofs.Spots.{one_some, nothing_some}
 use Rattle.chord_lists.proofs.CodeSteps.{stands_merged, ready_task}
 use Rattle.chord_lists.proofs.CodeOver.{none_asks}
 
@@ -103,12 +103,12 @@ pub first_begun : (p : Program) (e : Entry) → HaveMethods p → IsPast p (e �
 first_begun p e some r = by_what e.what refl r.1.comes
   where
     nothing_asked : (w : What) → Asks p [] e.body w → e ∷ [] ≡ main_begun
-    nothing_asked w a = none_some (record { what = w; depth = a.0 }) a.1
+    nothing_asked w a = nothing_some (record { what = w; depth = a.0 }) a.1
 
     none_taken : (o : Object) (js ms : List ℕ) (vs : List Value) → 0 < length js → Takes [] o js ms vs → ⊥
     none_taken o [] ms vs l t = omega (arith, l)
     none_taken o (j ∷ js) [] vs l t = t
-    none_taken o (j ∷ js) (i ∷ ms) vs l t = none_some (record { object = o; method = j; arguments = t.0 }) t.2
+    none_taken o (j ∷ js) (i ∷ ms) vs l t = nothing_some (record { object = o; method = j; arguments = t.0 }) t.2
 
     by_what : (w : What) → e.what ≡ w → Comes p [] e.number e.body w → e ∷ [] ≡ main_begun
     by_what Begun i c = ap (λ n. record { number = n; body = e.body; what = e.what } ∷ []) r.1.numbered ∙ ap (λ b. record { number = 0; body = b; what = e.what } ∷ []) c.1 ∙ ap (λ w. record { number = 0; body = 0; what = w } ∷ []) i
@@ -178,7 +178,7 @@ not_held tags h n a e = by_pending (pending n h) refl
   where
     by_pending : (o : Option Message) → pending n h ≡ o → pending n h ≡ None
     by_pending None i = i
-    by_pending (Some m) i = (let k = a.held n m i in none_some k.0 (sym e ∙ k.1))
+    by_pending (Some m) i = (let k = a.held n m i in nothing_some k.0 (sym e ∙ k.1))
 
 -- and one whose arguments are held is
 pub is_held : (tags : List Tag) (es : List Entry) (n : ℕ) (x : Args) (e : Entry) → AreTagged tags (reverse es) → held_at tags n ≡ Some x → slice_get es n ≡ Some e → (m : Message) × (pending n (reverse es) ≡ Some m) × (message_of e.what ≡ Some m)

@@ -52,8 +52,8 @@ pub one_some : {A : Type 0} (x y : A) (o : Option A) → o ≡ Some x → o ≡ 
 one_some x y o e f = (let z : Some x ≡ Some y = sym e ∙ f in cc)
 
 -- nothing is not something
-pub none_some : {A : Type 0} {B : Type 0} (x : A) → ◌≡◌ {A = Option A} None (Some x) → B
-none_some x e = cc
+pub nothing_some : {A : Type 0} {B : Type 0} (x : A) → ◌≡◌ {A = Option A} None (Some x) → B
+nothing_some x e = cc
 
 -- a number is among a list that it begins
 pub has_first : (n : ℕ) (ns : List ℕ) → has n (n ∷ ns) ≡ true

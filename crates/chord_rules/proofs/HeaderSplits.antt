@@ -134,6 +134,6 @@ none_overriding methods (h ∷ hs) e = by_found (overrides h) (method_named meth
     by_found true (Some f) e ih = cc
 
 -- a list of no length is empty
-pub no_length : (xs : List ℕ) → nat_eq (length xs) 0 ≡ true → xs ≡ []
-no_length [] h = refl
-no_length (x ∷ xs) h = absurd (let e = eqb-true (suc (length xs)) 0 h in omega (arith, e))
+pub no_header_length : (xs : List ℕ) → nat_eq (length xs) 0 ≡ true → xs ≡ []
+no_header_length [] h = refl
+no_header_length (x ∷ xs) h = absurd (let e = eqb-true (suc (length xs)) 0 h in omega (arith, e))

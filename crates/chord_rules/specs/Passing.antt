@@ -10,7 +10,7 @@ use Rattle.chord_rules.specs.declared.classes.Progress.{Progress}
 use Rattle.chord_rules.specs.Planning.{AreAlike}
 
 -- The pass went on by one class.
-pub record IsNext (before : Progress) (class : ClassTree) (next : Progress) : Type 0 where
+pub record IsNextClass (before : Progress) (class : ClassTree) (next : Progress) : Type 0 where
   pub table : next.table ≡ before.table ++ (shape_of before.table class ∷ [])
   pub plans : map view_class_plan next.plans.items ≡ map view_class_plan before.plans.items ++ (class_plan before.table (map view_class_plan before.plans.items) before.number class ∷ [])
   pub number : next.number ≡ before.number + length class.members

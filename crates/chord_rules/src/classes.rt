@@ -13,7 +13,7 @@ ghost use Rattle.chord_classes.specs.Least.{least};
 ghost use Rattle.chord_rules.specs.ClassKeys.{name_keys, place_keys, inner_keys, class_keys};
 ghost use Rattle.chord_rules.specs.FirstHeaders.{see_lent};
 ghost use Rattle.chord_rules.specs.Planning.{AreAlike, depths_of};
-ghost use Rattle.chord_rules.specs.Passing.{IsNext, ClassesNumbered};
+ghost use Rattle.chord_rules.specs.Passing.{IsNextClass, ClassesNumbered};
 
 use crate::class_plan::{base_chords, chords_without, class_plan, method_plans};
 use crate::declarations::{base_built, base_missing, declared_again, misnamed_constructors};
@@ -156,7 +156,7 @@ fn with_class<'a>(
     requires alike { AreAlike progress.table (map view_class_plan progress.plans.items) progress.depths.items }
     requires own { IsGrown (inherited progress.table (base_of progress.table (see_class class.now))) (length progress.table) (headers_of (see_class class.now)) [] looked.own.all.items }
     requires taken { looked.taken.items ≡ overridden (inherited progress.table (base_of progress.table (see_class class.now))) (headers_of (see_class class.now)) }
-    ensures { IfOk result (λ next. IsNext progress.entry (see_class class.now) next) }
+    ensures { IfOk result (λ next. IsNextClass progress.entry (see_class class.now) next) }
 {
     let Progress {
         table,

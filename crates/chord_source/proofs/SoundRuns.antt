@@ -19,7 +19,7 @@ use Rattle.chord_base.specs.declared.static_type.StaticType.{StaticType}
 use Rattle.chord_base.specs.Types.{Signature, Signatures, HaveAll}
 use Rattle.chord_base.specs.Agreement.{AgreeInRuns}
 use Rattle.chord_bodies.specs.Resolved.{MethodOf, ClassOf, ChordOf, Resolved}
-use Rattle.chord_bodies.specs.Planned.{laid, gives, if_sync, is_sync_in, ChordIs, IsPlanned}
+use Rattle.chord_bodies.specs.Planned.{AreConcatenated, gives, if_sync, is_sync_in, ChordIs, IsPlanned}
 use Rattle.chord_code.specs.declared.parts.Parts.{Parts}
 use Rattle.chord_code.specs.Machine.{IsForward}
 use Rattle.chord_code.specs.Meaning.{code_program}
@@ -108,7 +108,7 @@ module _ (sig : Signatures) (p : Resolved) (typed : AreWellTyped sig p) (plan : 
 
   module _ (h : List Entry) (all : AllGood code limits sig (play_of p limits) h) (o : Object) where
     -- the arguments of the messages that a chord takes have the types of its methods' parameters, joined
-    arguments_have : (js ms : List ℕ) (vs : List Value) (ts : List StaticType) → laid sig o.class js ts → Takes h o js ms vs → HaveAll sig ts vs
+    arguments_have : (js ms : List ℕ) (vs : List Value) (ts : List StaticType) → AreConcatenated sig o.class js ts → Takes h o js ms vs → HaveAll sig ts vs
     arguments_have [] [] vs ts l t = subst (λ z. HaveAll sig z vs) (sym l) (subst (HaveAll sig []) (sym t) tt)
     arguments_have [] (i ∷ ms) vs ts l t = absurd t
     arguments_have (j ∷ js) [] vs ts l t = absurd t
@@ -157,7 +157,7 @@ module _ (sig : Signatures) (p : Resolved) (typed : AreWellTyped sig p) (plan : 
     firing_fits n k ms vs below f =
         let y = chord_of_plan k f.0 f.1 in
         let ch = chord_is_planned k y.0 (slice_get p.classes o.class) refl y.1 in
-        let values : HaveAll sig ch.body.parameters vs = arguments_have f.0 ms vs ch.body.parameters (subst (λ z. laid sig o.class z ch.body.parameters) y.2 ch.parameters) f.2 in
+        let values : HaveAll sig ch.body.parameters vs = arguments_have f.0 ms vs ch.body.parameters (subst (λ z. AreConcatenated sig o.class z ch.body.parameters) y.2 ch.parameters) f.2 in
         let body : chord_body p (slice_get (class_chords (slice_get p.classes o.class)) k) ≡ Some ch.body = ap (chord_body p) y.1 ∙ ch.there in
         (ch.body.result, (ch.body, body, values, refl), due (due_of_firing f.0 ms vs ch.body.result (subst (λ z. gives sig o.class z ch.body.result) y.2 ch.result) f.2))
       where

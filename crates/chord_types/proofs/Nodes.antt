@@ -192,10 +192,10 @@ flat_end f [] x = nothing_after (f x)
 flat_end f (a ∷ xs) x = ap (λ z. f a ++ z) (flat_end f xs x) ∙ append_more (f a) (flat_map f xs) (f x)
 
 -- one more argument was looked at
-pub one_more : (site : Site) (xs : List ExprTree) (x : ExprTree) (old mid new : Option ℕ) (es : List ExprOf) (ps : List Passed) (operand : Operand) (first : ℕ)
+pub one_more_checked : (site : Site) (xs : List ExprTree) (x : ExprTree) (old mid new : Option ℕ) (es : List ExprOf) (ps : List Passed) (operand : Operand) (first : ℕ)
     → AreAll site xs old mid es ps → IsChecked site Used (term x) mid new operand → first ≡ first_token (term x)
     → AreAll site (xs ++ (x ∷ [])) old new (es ++ (view_expr operand.expr ∷ [])) (ps ++ (record { first = first; static_type = operand.static_type } ∷ []))
-one_more site xs x old mid new es ps operand first h k hf = record {
+one_more_checked site xs x old mid new es ps operand first h k hf = record {
   built = λ e. ap (λ z. z ++ (view_expr operand.expr ∷ [])) (h.built (nothing_before mid new (term_breaks site Used (term x)) k.noted e)) ∙ ap (λ z. map (λ x. resolved site (term x)) xs ++ (z ∷ [])) (k.built e) ∙ sym (map_last (λ x. resolved site (term x)) xs x);
   typed = ap (λ z. z ++ (record { first = first; static_type = operand.static_type } ∷ [])) h.typed ∙ ap (λ z. map (one_passed site) xs ++ (record { first = z; static_type = operand.static_type } ∷ [])) hf
       ∙ ap (λ z. map (one_passed site) xs ++ (record { first = first_token (term x); static_type = z } ∷ [])) k.typed ∙ sym (map_last (one_passed site) xs x);

@@ -7,7 +7,7 @@ use Rattle.chord_rules.specs.Labels.{AllIn, above_chords}
 use Rattle.chord_rules.specs.Splits.{split_from}
 use Rattle.chord_rules.specs.SplitHeaders.{splits_from}
 use Rattle.chord_rules.proofs.Labels.{more_chords, under_chords}
-use Rattle.chord_rules.proofs.HeaderSplits.{none_overriding, no_length, all_splits}
+use Rattle.chord_rules.proofs.HeaderSplits.{none_overriding, no_header_length, all_splits}
 use Rattle.chord_rules.proofs.splits.splits.Goals as goal
 
 pub labels-requires : goal.labels-requires
@@ -17,7 +17,7 @@ pub returns-then-is_empty : goal.returns-then-is_empty
 returns-then-is_empty c =
     let methods = inherited c.args.table.now c.args.base in
     let headers = map see_lent c.args.firsts.now.all.items in
-    let none = none_overriding methods headers (sym c.requires ∙ no_length c.args.taken.now (sym c.is_empty.ensures ∙ c.if-is_empty.true)) in
+    let none = none_overriding methods headers (sym c.requires ∙ no_header_length c.args.taken.now (sym c.is_empty.ensures ∙ c.if-is_empty.true)) in
     ap (λ z. least c.args.breaks.now.found (keys 11 (split_from (map view_chord_plan c.args.chords.now) c.args.taken.now methods [] z))) (sym none)
 
 pub returns : goal.returns

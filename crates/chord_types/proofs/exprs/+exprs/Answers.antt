@@ -27,7 +27,7 @@ use Rattle.chord_tree.proofs.Words.{length_zero}
 use Rattle.chord_types.proofs.Oks.{if_ok}
 use Rattle.chord_types.proofs.Terms.{chain_term, link_term, dot_term}
 use Rattle.chord_types.proofs.Lists.{map_last, take_step, take_all, dots_taken, dots_last, links_taken, total_ends}
-use Rattle.chord_types.proofs.Nodes.{AreAll, none_yet, minus_checked, not_checked, group_checked, operation_checked, own_checked, new_checked, call_checked, are_checked, one_more, moved}
+use Rattle.chord_types.proofs.Nodes.{AreAll, none_yet, minus_checked, not_checked, group_checked, operation_checked, own_checked, new_checked, call_checked, are_checked, one_more_checked, moved}
 use Rattle.chord_types.proofs.exprs.+exprs.Goals as goal
 
 pub expr-joined-requires : goal.expr-joined-requires
@@ -301,7 +301,7 @@ arguments-each-preserved t c =
     let site = see_site c.args.site.now in
     let xs = c.args.actuals.now in
     let i = c.each.actual-index in
-    let m = one_more site (map see_expr (take i xs)) (see_expr c.actual-item.result) c.args.breaks.now.found c.each.breaks.found c.expr.new.breaks.found (map view_expr c.each.exprs.items) (map see_passed c.each.passed.items) c.in_ok-argument.argument c.first_token.result c.each.invariant c.in_ok-argument.ensures c.first_token.ensures in
+    let m = one_more_checked site (map see_expr (take i xs)) (see_expr c.actual-item.result) c.args.breaks.now.found c.each.breaks.found c.expr.new.breaks.found (map view_expr c.each.exprs.items) (map see_passed c.each.passed.items) c.in_ok-argument.argument c.first_token.result c.each.invariant c.in_ok-argument.ensures c.first_token.ensures in
     moved (sym (ap (map see_expr) (take_step xs i c.actual-item.result c.each-test.true c.actual-item.is) ∙ map_last see_expr (take i xs) c.actual-item.result))
     (sym (ap (map view_expr) c.in_ok-push.ensures.items ∙ map_last view_expr c.each.exprs.items c.in_ok-argument.argument.expr))
     (sym (ap (map see_passed) c.in_ok-push-2.ensures.items ∙ map_last see_passed c.each.passed.items (record { first = c.first_token.result; static_type = c.in_ok-argument.argument.static_type }))) m
