@@ -30,10 +30,12 @@ pub record AreDeclared (old now : Site) (all rest : List Formal) : Type 0 where
   pub types : now.types.items ++ formal_statics now.table.now rest ≡ old.types.items ++ formal_statics old.table.now all
   pub site : declares_all (see_site now) rest ≡ declares_all (see_site old) all
 
+-- the place behind two joined lists of parameters is the one behind the second list, from the place behind the first
 declares_all_append : (site : sites.Site) (xs ys : List Formal) → declares_all site (xs ++ ys) ≡ declares_all (declares_all site xs) ys
 declares_all_append site [] ys = refl
 declares_all_append site (x ∷ xs) ys = declares_all_append (declares site x.value_type x.name) xs ys
 
+-- declarations of parameters leave the table of classes as it is
 same_table : (site : sites.Site) (xs : List Formal) → (declares_all site xs).table ≡ site.table
 same_table site [] = refl
 same_table site (x ∷ xs) = same_table (declares site x.value_type x.name) xs
@@ -61,6 +63,7 @@ all_declared old now all rest e h = record {
 abbrev with_scope : sites.Site → List sites.Local → ℕ → sites.Site
 with_scope site scope next = record { table = site.table; own = site.own; in_main = site.in_main; due = site.due; scope = scope; next = next }
 
+-- the place behind parameters has them at the end of its scope, and its next slot is as many further on
 all_parameters : (site : sites.Site) (formals : List Formal) → declares_all site formals ≡ with_scope site (site.scope ++ parameters site.table site.next formals) (site.next + length formals)
 all_parameters site [] = ap (λ z. with_scope site z site.next) (sym (nothing_after site.scope)) ∙ ap (with_scope site (site.scope ++ [])) (omega arith)
 all_parameters site (formal ∷ more) =
@@ -75,6 +78,7 @@ entered table own member begin new h htable hown hmain hdue hscope hnext htypes 
   site = λ class. h.site ∙ all_parameters (see_site begin) (member_formals member) ∙ rw (htable, hown, hmain, hdue, hscope, hnext) refl;
 }
 
+-- a function of what an option borrows is that function of the option once it is read
 due_twice : (f : ValueType → StaticType) (due : Option (Bor ValueType)) → option_map (λ (written : Bor ValueType). f written.now) due ≡ option_map f (option_map (λ (written : Bor ValueType). written.now) due)
 due_twice f None = refl
 due_twice f (Some written) = refl
@@ -121,6 +125,7 @@ slots_fit table own member first begin last old mid stmts e hb ht h =
     map_length f [] = refl
     map_length f (x ∷ xs) = let r = map_length f xs in omega arith
 
+-- the keys of two joined lists of tokens are the keys of the first and then those of the second
 keys_append : (rule : ℕ) (xs ys : List ℕ) → keys rule (xs ++ ys) ≡ keys rule xs ++ keys rule ys
 keys_append rule [] ys = refl
 keys_append rule (x ∷ xs) ys = ap (λ z. (32 * x + rule) ∷ z) (keys_append rule xs ys)

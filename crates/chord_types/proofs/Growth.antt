@@ -12,10 +12,12 @@ use Rattle.chord_bodies.specs.View.{LinkOf, CallOf, view_expr, view_call, view_l
 use Rattle.chord_bodies.proofs.Viewed.{viewed_calls, viewed_chain}
 use Rattle.chord_types.proofs.Lists.{map_last}
 
+-- calls on an expression and one more are that one on what the others give
 calls_end : (head : ExprOf) (cs : List CallOf) (c : CallOf) → calls_on head (cs ++ (c ∷ [])) ≡ calls_on (calls_on head cs) (c ∷ [])
 calls_end head [] c = refl
 calls_end head (d ∷ ds) c = calls_end (to.Call head d.class d.method d.result d.arguments) ds c
 
+-- operators on an expression and one more are that one on what the others give
 links_more : (head : ExprOf) (ls : List LinkOf) (l : LinkOf) → links_on head (ls ++ (l ∷ [])) ≡ links_on (links_on head ls) (l ∷ [])
 links_more head [] l = refl
 links_more head (k ∷ ks) l = links_more (binary k.operator head k.operand) ks l

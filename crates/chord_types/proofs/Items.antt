@@ -39,6 +39,7 @@ length_append (x ∷ xs) ys = let h = length_append xs ys in omega arith
 abbrev with_next : sites.Site → ℕ → sites.Site
 with_next site next = record { table = site.table; own = site.own; in_main = site.in_main; due = site.due; scope = site.scope; next = next }
 
+-- a place whose next slot is moved on by no locals is the same place
 nothing_added : (site : sites.Site) (locals : List ValueType) → locals ≡ [] → site ≡ with_next site (site.next + length locals)
 nothing_added site locals e = let l = ap length e in ap (with_next site) (omega arith)
 
@@ -60,13 +61,16 @@ block_item old new block found more inner made h hv = record {
   site = h.site;
 }
 
+-- the least after two lists and then after a third is the least after all three
 tested : (old mid late : Option ℕ) (a x b : List ℕ) → mid ≡ least old (a ++ x) → late ≡ least mid b → late ≡ least old (a ++ ((x ++ []) ++ b))
 tested old mid late a x b hm hl = noted_two old mid late (a ++ x) b hm hl ∙ ap (least old) (sym (append_more a x b) ∙ ap (λ z. a ++ (z ++ b)) (sym (nothing_after x)))
 
 module _ (old : Site) (at bracket : ℕ) (test : ExprTree) (found mid : Option ℕ) (condition : Expr) where
+  -- the key of the condition, where its type is there and is not `bool`
   abbrev x : List ℕ
   x = keys 15 (when_typed is_bool (value_of (see_site old) test) at)
 
+  -- what the expression of the condition breaks
   abbrev a : List ℕ
   a = over_value after term_keys item_keys (see_site old) test
 
@@ -113,6 +117,7 @@ abbrev pub each_resolved : sites.Site → List ItemTree → List StmtOf
 each_resolved site [] = []
 each_resolved site (item ∷ more) = resolved_item site item ∷ each_resolved (after site item) more
 
+-- what items are resolved to one by one is, as a list, what they are resolved to together
 all_resolved_items : (site : sites.Site) (xs : List ItemTree) → stmt_list (each_resolved site xs) ≡ resolved_items site (items xs)
 all_resolved_items site [] = refl
 all_resolved_items site (LocalItem written name assign value ∷ xs) = ap (to.MoreStmts (resolved_item site (LocalItem written name assign value))) (all_resolved_items (after site (LocalItem written name assign value)) xs)
@@ -123,6 +128,7 @@ breaks_split : (site : sites.Site) (item : ItemTree) (more : List ItemTree) → 
 breaks_split site (LocalItem written name assign value) more = append_more (over_value after term_keys item_keys site value) (item_keys site (LocalItem written name assign value)) (items_breaks (after site (LocalItem written name assign value)) (items more))
 breaks_split site (StmtItem stmt) more = refl
 
+-- the locals of items are those of the first and then those of the others
 locals_split : (item : ItemTree) (more : List ItemTree) → items_locals (items (item ∷ more)) ≡ item_locals item ++ items_locals (items more)
 locals_split (LocalItem written name assign value) more = refl
 locals_split (StmtItem stmt) more = refl
@@ -177,6 +183,7 @@ record Leaves (site left : sites.Site) (count : ℕ) : Type 0 where
   added : List sites.Local
   scope : left.scope ≡ site.scope ++ added
 
+-- items change of a place only its scope, which they extend, and its next slot, by the number of their locals
 leaves : (site : sites.Site) (xs : List ItemTree) → Leaves site (after_items site xs) (length (items_locals (items xs)))
 leaves site [] = record { table = refl; own = refl; in_main = refl; due = refl; next = omega arith; added = []; scope = sym (nothing_after site.scope) }
 leaves site (LocalItem written name assign value ∷ xs) =
@@ -189,6 +196,7 @@ leaves site (StmtItem stmt ∷ xs) =
     let l = length_append (stmt_locals stmt) (items_locals (items xs)) in
     record { table = h.table; own = h.own; in_main = h.in_main; due = h.due; next = omega arith; added = h.added; scope = h.scope }
 
+-- of two joined lists, as many elements as the first has are the first
 take_first : {A : Type 0} (xs ys : List A) → take (length xs) (xs ++ ys) ≡ xs
 take_first [] ys = refl
 take_first (x ∷ xs) ys = ap (λ z. x ∷ z) (take_first xs ys)

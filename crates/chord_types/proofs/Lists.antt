@@ -9,6 +9,7 @@ pub map_last : {A B : Type 0} (f : A → B) (xs : List A) (x : A) → map f (xs 
 map_last f [] x = refl
 map_last f (a ∷ xs) x = ap (λ z. f a ∷ z) (map_last f xs x)
 
+-- the first elements of a list and the next one are one more of its first elements
 take_suc : {A : Type 0} (xs : List A) (i : ℕ) (x : A) → i < length xs → x ≡ get_or xs i x → take (suc i) xs ≡ take i xs ++ (x ∷ [])
 take_suc [] i x l e = absurd (omega arith)
 take_suc (a ∷ xs) zero x l e = ap (λ z. z ∷ []) (sym e)
@@ -48,6 +49,7 @@ module _ {X : Type 0} (f : X → DotTree) where
 pub links_taken : {X : Type 0} (f : X → LinkTree) (xs : List X) (i : ℕ) (x : X) (t : Term) → i < length xs → x ≡ get_or xs i x → operated (links (map f (take (i + 1) xs))) t ≡ operated (links (f x ∷ [])) (operated (links (map f (take i xs))) t)
 links_taken f xs i x t l e = ap (λ z. operated (links (map f z)) t) (take_step xs i x l e) ∙ ap (λ z. operated (links z) t) (map_last f (take i xs) x) ∙ links_end (map f (take i xs)) (f x) t
 
+-- what the elements of a list and one more weigh is what they weigh and what that one does
 total_end : {A : Type 0} (f : A → ℕ) (xs : List A) (x : A) → total (map f (xs ++ (x ∷ []))) ≡ total (map f xs) + f x
 total_end f [] x = omega arith
 total_end f (a ∷ xs) x = let h = total_end f xs x in omega arith

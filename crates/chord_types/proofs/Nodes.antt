@@ -51,6 +51,7 @@ not_checked site at operand old mid new x made h hk hn hv = record {
   noted = noted_two old mid new (term_breaks site Used operand) (term_keys site Used (NotTerm at operand)) h.noted (hn ∙ ap (λ z. least mid (typed_term_keys site Used (NotTyped at z))) h.typed);
 }
 
+-- an expression in brackets has the static type of the one inside
 group_type : (site : Site) (role : Role) (inner : Option StaticType) → inner ≡ judged site role (GroupTyped inner)
 group_type site role None = refl
 group_type site role (Some t) = refl
@@ -167,14 +168,17 @@ pub record AreAll (site : Site) (xs : List ExprTree) (old new : Option ℕ) (es 
 pub none_yet : (site : Site) (old : Option ℕ) → AreAll site [] old old [] []
 none_yet site old = record { built = λ e. refl; typed = refl; noted = refl }
 
+-- what arguments are resolved to one by one is, as a list, what they are resolved to together
 all_built : (site : Site) (xs : List ExprTree) → expr_list (map (λ x. resolved site (term x)) xs) ≡ all_resolved site (terms (exprs xs))
 all_built site [] = refl
 all_built site (x ∷ xs) = ap (to.MoreExprs (resolved site (term x))) (all_built site xs)
 
+-- what is looked at of arguments one by one is what is looked at of them together
 all_passed : (site : Site) (xs : List ExprTree) → map (one_passed site) xs ≡ passed site (terms (exprs xs))
 all_passed site [] = refl
 all_passed site (x ∷ xs) = ap (λ z. one_passed site x ∷ z) (all_passed site xs)
 
+-- what arguments break one by one is what they break together
 all_breaks : (site : Site) (xs : List ExprTree) → flat_map (λ x. term_breaks site Used (term x)) xs ≡ terms_breaks site (terms (exprs xs))
 all_breaks site [] = refl
 all_breaks site (x ∷ xs) = ap (λ z. term_breaks site Used (term x) ++ z) (all_breaks site xs)
@@ -187,6 +191,7 @@ are_checked site xs old new args h = record {
   noted = h.noted ∙ ap (least old) (all_breaks site xs);
 }
 
+-- what a function makes of the elements of a list and one more, laid together, ends with what it makes of that one
 flat_end : {A : Type 0} (f : A → List ℕ) (xs : List A) (x : A) → flat_map f (xs ++ (x ∷ [])) ≡ flat_map f xs ++ f x
 flat_end f [] x = nothing_after (f x)
 flat_end f (a ∷ xs) x = ap (λ z. f a ++ z) (flat_end f xs x) ∙ append_more (f a) (flat_map f xs) (f x)

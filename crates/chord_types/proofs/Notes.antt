@@ -19,6 +19,7 @@ append_more (x ∷ xs) ys zs = ap (λ z. x ∷ z) (append_more xs ys zs)
 pub and_nothing : (o p : Option ℕ) (a : List ℕ) → p ≡ least o a → p ≡ least o (a ++ [])
 and_nothing o p a h = h ∙ ap (least o) (sym (nothing_after a))
 
+-- where something was noted before, something is noted in the end
 some_stays : (m : ℕ) (xs : List ℕ) → least (Some m) xs ≡ None → ⊥
 some_stays m [] h = false≢true (sym (ap is_some h))
 some_stays m (x ∷ xs) h = some_stays (min m x) xs h
@@ -34,6 +35,7 @@ nothing_there o p [] h e = refl
 nothing_there None p (x ∷ xs) h e = absurd (some_stays x xs (sym h ∙ e))
 nothing_there (Some m) p (x ∷ xs) h e = absurd (some_stays (min m x) xs (sym h ∙ e))
 
+-- a condition of which nothing is noted is false
 nothing_by : (b : Bool) (at : ℕ) → keys 24 (when b at) ++ [] ≡ [] → b ≡ false
 nothing_by true at h = cc
 nothing_by false at h = refl

@@ -33,6 +33,7 @@ use Rattle.chord_types.specs.StmtChecked.{IsPlainStmt, IsCondition, IsItemChecke
 use Rattle.chord_classes.proofs.Leasts.{noted_two, noted_three, noted_four}
 use Rattle.chord_types.proofs.Notes.{and_nothing, nothing_before}
 
+-- an option is none exactly where it is not some
 none_is_not_some : {X : Type 0} (o : Option X) → not (is_some o) ≡ is_none o
 none_is_not_some None = refl
 none_is_not_some (Some x) = refl

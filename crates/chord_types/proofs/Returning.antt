@@ -7,6 +7,7 @@ use Rattle.chord_tree.specs.Tree.{ExprTree, LinkTree, LinkTrees, DotTree, DotTre
 use Rattle.chord_tree.specs.Terms.{Term, Terms, CallTerm, OperationTerm, term, terms, called, operated}
 use Rattle.chord_classes.specs.ItemRules.{is_true_word, surely, items_surely}
 
+-- `false` between the two parts of an `or` changes nothing
 or_false_or : (a b : Bool) → (a || b) ≡ ((a || false) || b)
 or_false_or true b = refl
 or_false_or false b = refl

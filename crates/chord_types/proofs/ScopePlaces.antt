@@ -22,14 +22,17 @@ Places = BTreeMap (Bor (List ℕ)) ℕ
 abbrev pub found_place : Places → List ℕ → Option ℕ
 found_place places name = get_by (λ k. slice_cmp nat_cmp name k.now) places
 
+-- the first of two places if it is there, else the second
 abbrev or_place : Option ℕ → Option ℕ → Option ℕ
 or_place (Some j) others = Some j
 or_place None others = others
 
+-- where the place among later names is one among the earlier of them or the last, so is the place with a name in front
 push_by : (b : Bool) (number : ℕ) (others others' last last' : Option ℕ) → others ≡ or_place others' last' → last' ≡ last → cond b (Some number) others ≡ or_place (cond b (Some number) others') last
 push_by true number others others' last last' h e = refl
 push_by false number others others' last last' h e = h ∙ ap (or_place others') e
 
+-- the first place of a name among names and one more is that among them, else the last if that is the name, from any number on
 place_push : (number : ℕ) (names : List (List ℕ)) (w x : List ℕ) → name_place_from number (names ++ (w ∷ [])) x ≡ or_place (name_place_from number names x) (cond (bytes_eq w x) (Some (number + length names)) None)
 place_push number [] w x = ap (λ z. cond (bytes_eq w x) (Some z) None) (omega arith)
 place_push number (y ∷ ys) w x =
@@ -39,9 +42,11 @@ place_push number (y ∷ ys) w x =
 place_end : (names : List (List ℕ)) (w x : List ℕ) → name_place (names ++ (w ∷ [])) x ≡ or_place (name_place names x) (cond (bytes_eq w x) (Some (length names)) None)
 place_end names w x = place_push 0 names w x ∙ ap (λ z. or_place (name_place names x) (cond (bytes_eq w x) (Some z) None)) (omega arith)
 
+-- equal options that are there hold equal values
 some_is : {X : Type 0} {x y : X} → ◌≡◌ {A = Option X} (Some x) (Some y) → x ≡ y
 some_is e = cc
 
+-- a place with a name in front is below the end, if each place among the later names is
 below_by : (b : Bool) (n i count : ℕ) (others : Option ℕ) → (others ≡ Some i → i < n + 1 + count) → cond b (Some n) others ≡ Some i → i < n + suc count
 below_by true n i count others f h = let e = some_is h in omega arith
 below_by false n i count others f h = let l = f h in omega arith
@@ -51,33 +56,40 @@ place_below : (n : ℕ) (names : List (List ℕ)) (x : List ℕ) (i : ℕ) → n
 place_below n [] x i h = cc
 place_below n (y ∷ ys) x i h = below_by (bytes_eq y x) n i (length ys) (name_place_from (n + 1) ys x) (place_below (n + 1) ys x i) h
 
+-- a place or none is that place
 or_none : (o : Option ℕ) → or_place o None ≡ o
 or_none None = refl
 or_none (Some i) = refl
 
+-- where a name had no place, to give it one is to add one behind the places that others have
 more_by : (b : Bool) (w x : List ℕ) (count : ℕ) (at_w at_x : Option ℕ) → (b ≡ true → at_w ≡ at_x) → at_w ≡ None → cond b (Some count) at_x ≡ or_place at_x (cond b (Some count) None)
 more_by true w x count at_w None e h = refl
 more_by true w x count None (Some j) e h = absurd (false≢true (ap is_some (e refl)))
 more_by true w x count (Some i) (Some j) e h = absurd (false≢true (sym (ap is_some h)))
 more_by false w x count at_w at_x e h = sym (or_none at_x)
 
+-- where a name had a place, one more of that name changes no first place
 same_by : (b : Bool) (count : ℕ) (at_w at_x : Option ℕ) → (b ≡ true → at_w ≡ at_x) → is_some at_w ≡ true → at_x ≡ or_place at_x (cond b (Some count) None)
 same_by b count at_w (Some j) e h = refl
 same_by true count at_w None e h = absurd (false≢true (sym (ap is_some (e refl)) ∙ h))
 same_by false count at_w None e h = refl
 
+-- where a name had no place, what is left without its new place are the places before
 less_by : (b : Bool) (count : ℕ) (at_w at_x : Option ℕ) → (b ≡ true → at_w ≡ at_x) → at_w ≡ None → cond b None (or_place at_x (cond b (Some count) None)) ≡ at_x
 less_by true count at_w at_x e h = sym h ∙ e refl
 less_by false count at_w at_x e h = or_none at_x
 
+-- where all places before are below the last and the first place is the last, there was none before
 none_before : (o : Option ℕ) (count : ℕ) → ((i : ℕ) → o ≡ Some i → i < count) → or_place o (Some count) ≡ Some count → o ≡ None
 none_before None count l h = refl
 none_before (Some i) count l h = let b = l i refl in let e = some_is h in absurd (omega arith)
 
+-- where the first place is not the last, there was one before
 some_before : (o : Option ℕ) (count : ℕ) → (or_place o (Some count) ≡ Some count → ⊥) → is_some o ≡ true
 some_before None count h = absurd (h refl)
 some_before (Some i) count h = refl
 
+-- a name equals itself, byte by byte
 is_itself : (w : List ℕ) → bytes_eq w w ≡ true
 is_itself w = (bytes_decides w w).1 refl
 
@@ -130,11 +142,13 @@ pub compared_other : (o : Option ℕ) (n : ℕ) → false ≡ option_eq nat_eq o
 compared_other None n h e = cc
 compared_other (Some m) n h e = false≢true (h ∙ eq-eqb m n (some_is e))
 
+-- where the variable stands at a place among the later ones, it stands at its place with one in front
 there_by : (b : Bool) (n i : ℕ) (local : Local) (more : List Local) (others : Option ℕ) (variable : Option sites.Local) → (others ≡ Some i → (k : ℕ) × (i ≡ n + 1 + k) × (option_map see_local (slice_get more k) ≡ variable)) → cond b (Some n) others ≡ Some i
     → (k : ℕ) × (i ≡ n + k) × (option_map see_local (slice_get (local ∷ more) k) ≡ cond b (Some (see_local local)) variable)
 there_by true n i local more others variable f h = (0, sym (some_is h) ∙ omega arith, refl)
 there_by false n i local more others variable f h = let r = f h in let e = r.1 in (suc r.0, omega arith, r.2)
 
+-- the variable at the place of a name is the one of that name, from any number on
 there_from : (n : ℕ) (locals : List Local) (x : List ℕ) (i : ℕ) → name_place_from n (local_names locals) x ≡ Some i → (k : ℕ) × (i ≡ n + k) × (option_map see_local (slice_get locals k) ≡ sites.variable_named (map see_local locals) x)
 there_from n [] x i h = cc
 there_from n (local ∷ more) x i h = there_by (bytes_eq local.name.now x) n i local more (name_place_from (n + 1) (local_names more) x) (sites.variable_named (map see_local more) x) (there_from (n + 1) more x i) h
@@ -143,10 +157,12 @@ there_from n (local ∷ more) x i h = there_by (bytes_eq local.name.now x) n i l
 pub variable_there : (locals : List Local) (x : List ℕ) (i : ℕ) → name_place (local_names locals) x ≡ Some i → option_map see_local (slice_get locals i) ≡ sites.variable_named (map see_local locals) x
 variable_there locals x i h = let r = there_from 0 locals x i h in ap (λ z. option_map see_local (slice_get locals z)) (r.1 ∙ omega arith) ∙ r.2
 
+-- where without a place there is no variable among the later ones, there is none with one in front
 absent_by : (b : Bool) (n : ℕ) (local : sites.Local) (others : Option ℕ) (variable : Option sites.Local) → (others ≡ None → variable ≡ None) → cond b (Some n) others ≡ None → cond b (Some local) variable ≡ None
 absent_by true n local others variable f h = cc
 absent_by false n local others variable f h = f h
 
+-- no variable has a name that has no place, from any number on
 absent_from : (n : ℕ) (locals : List Local) (x : List ℕ) → name_place_from n (local_names locals) x ≡ None → sites.variable_named (map see_local locals) x ≡ None
 absent_from n [] x h = refl
 absent_from n (local ∷ more) x h = absent_by (bytes_eq local.name.now x) n (see_local local) (name_place_from (n + 1) (local_names more) x) (sites.variable_named (map see_local more) x) (absent_from (n + 1) more x) h
