@@ -15,6 +15,7 @@ use Rattle.chord_classes.specs.declared.method.OwnMethod.{OwnMethod}
 use Rattle.chord_classes.specs.MethodViews.{see_method, see_own, see_builder}
 use Rattle.chord_classes.specs.Entries.{AreNew, IsEntry, IsGrown, AreEntries, shapes_of}
 
+-- what a function makes of a list with one more at its end
 map_end : {A B : Type 0} (f : A → B) (xs : List A) (x : A) → map f (xs ++ (x ∷ [])) ≡ map f xs ++ (f x ∷ [])
 map_end f [] x = refl
 map_end f (a ∷ xs) x = ap (λ z. f a ∷ z) (map_end f xs x)
@@ -28,27 +29,33 @@ abbrev pub first_of_two : Option Found → Option Found → Option Found
 first_of_two None others = others
 first_of_two (Some found) others = Some found
 
+-- where what is found of the later methods counts one further, so does what is found with one in front
 shifted_by : (b : Bool) (j : ℕ) (m : Method) (rest rest' : Option Found) → rest ≡ option_map (counted_from 1) rest'
     → cond b (Some (record { number = j + 1; method = m })) rest ≡ option_map (counted_from 1) (cond b (Some (record { number = j; method = m })) rest')
 shifted_by true j m rest rest' h = ap (λ z. Some (record { number = z; method = m })) (omega arith)
 shifted_by false j m rest rest' h = h
 
+-- from one number further on, a method is found with its number one further
 shifted : (j : ℕ) (ms : List Method) (x : List ℕ) → method_from (j + 1) ms x ≡ option_map (counted_from 1) (method_from j ms x)
 shifted j [] x = refl
 shifted j (m ∷ ms) x = shifted_by (bytes_eq m.name x) j m _ _ (shifted (j + 1) ms x)
 
+-- what is found, counted from 0 on, is as it was found
 shift_none : (o : Option Found) → option_map (counted_from 0) o ≡ o
 shift_none None = refl
 shift_none (Some f) = ap (λ z. Some (record { number = z; method = f.method })) (omega arith)
 
+-- to count one further and then k further is to count k + 1 further
 shift_more : (k : ℕ) (o : Option Found) → option_map (counted_from k) (option_map (counted_from 1) o) ≡ option_map (counted_from (suc k)) o
 shift_more k None = refl
 shift_more k (Some f) = ap (λ z. Some (record { number = z; method = f.method })) (omega arith)
 
+-- where what is found among all is found among the first or the others, it is so with one method in front
 append_by : (b : Bool) (f : Found) (all rest others others' : Option Found) → all ≡ first_of_two rest others → others ≡ others' → cond b (Some f) all ≡ first_of_two (cond b (Some f) rest) others'
 append_by true f all rest others others' h e = refl
 append_by false f all rest others others' h e = h ∙ ap (first_of_two rest) e
 
+-- the first method of a name among two lists joined, from any number on
 append_from : (j : ℕ) (xs ys : List Method) (x : List ℕ) → method_from j (xs ++ ys) x ≡ first_of_two (method_from j xs x) (option_map (counted_from (length xs)) (method_from j ys x))
 append_from j [] ys x = sym (shift_none (method_from j ys x))
 append_from j (m ∷ ms) ys x =
@@ -85,6 +92,7 @@ pub own_found_there : (found : Option OwnMethod) (o : Option Found) → option_m
 own_found_there None o e = ap is_some e
 own_found_there (Some own) o e = ap is_some e
 
+-- a method that brings in a name that was not there has that name
 same_name : (xs : List Method) (m : Method) (x : List ℕ) → is_some (method_named xs x) ≡ false → is_some (method_named (xs ++ (m ∷ [])) x) ≡ true → m.name ≡ x
 same_name xs m x lacks has = by_last (bytes_eq m.name x) refl (sym (named_in_either xs (m ∷ []) x ∙ ap (λ z. z || is_some (method_named (m ∷ []) x)) lacks) ∙ has)
   where
@@ -92,18 +100,22 @@ same_name xs m x lacks has = by_last (bytes_eq m.name x) refl (sym (named_in_eit
     by_last true e h = (bytes_decides m.name x).0 e
     by_last false e h = absurd (false≢true h)
 
+-- what is not there is none
 no_some : (o : Option Found) → is_some o ≡ false → o ≡ None
 no_some None h = refl
 no_some (Some f) h = absurd (false≢true (sym h))
 
+-- the first part of an `or` that is false is false
 first_false : (a b : Bool) → (a || b) ≡ false → a ≡ false
 first_false true b h = absurd (false≢true (sym h))
 first_false false b h = refl
 
+-- the second part of an `or` that is false is false
 second_false : (a b : Bool) → (a || b) ≡ false → b ≡ false
 second_false true b h = absurd (false≢true (sym h))
 second_false false b h = h
 
+-- a method at the end of the second of two lists joined stands at the end of both
 joined_end : (xs ys : List Method) (m : Method) → xs ++ (ys ++ (m ∷ [])) ≡ (xs ++ ys) ++ (m ∷ [])
 joined_end [] ys m = refl
 joined_end (x ∷ xs) ys m = ap (λ z. x ∷ z) (joined_end xs ys m)

@@ -5,6 +5,7 @@ use Rattle.chord_classes.specs.NameRules.{when}
 use Rattle.chord_classes.specs.ChordRules.{builder_token, misnamed_constructors}
 use Rattle.chord_rules.specs.Constructors.{misnamed_from}
 
+-- where a constructor stands before members, the rule is broken at each constructor among them
 behind_one : (class : List ℕ) (members : List MemberTree) → misnamed_from class true members ≡ flat_map builder_token members
 behind_one class [] = refl
 behind_one class (ConstructorMember modifiers name formals body ∷ more) = ap (λ z. name.at ∷ z) (behind_one class more)

@@ -33,6 +33,7 @@ past_end [] x (suc i) l = refl
 past_end (y ∷ ys) x zero l = absurd (omega arith)
 past_end (y ∷ ys) x (suc i) l = past_end ys x i (omega arith)
 
+-- the number of a class that is found is below the first number plus the number of classes
 class_within : (n : ℕ) (shapes : List Shape) (x : List ℕ) (p : ℕ) → class_from n shapes x ≡ Some p → p < n + length shapes
 class_within n [] x p h = absurd (none_some h)
 class_within n (s ∷ ss) x p h = by_same (bytes_eq s.name x) h (λ e. class_within (n + 1) ss x p e)
@@ -74,6 +75,7 @@ pub base_planned : (done : List Shape) (plans : List ClassOf) (base : Option ℕ
 base_planned done plans None h = refl
 base_planned done plans (Some p) h = h p
 
+-- what a function makes of two lists joined is what it makes of the first and then of the second
 map_joined : {A B : Type 0} (f : A → B) (xs ys : List A) → map f (xs ++ ys) ≡ map f xs ++ map f ys
 map_joined f [] ys = refl
 map_joined f (x ∷ xs) ys = ap (λ z. f x ∷ z) (map_joined f xs ys)

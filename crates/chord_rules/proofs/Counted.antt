@@ -17,6 +17,7 @@ pub headers_joined : (owner : ℕ) (methods : List Method) (headers more : List 
 headers_joined owner methods [] more = refl
 headers_joined owner methods (h ∷ hs) more = headers_joined owner (cond (is_main h || is_some (method_named methods h.name.text)) methods (methods ++ (method_of owner h ∷ []))) hs more
 
+-- where the headers of new methods of two lists joined are those of the first and of the second, they are so with one header in front
 next_by : (b : Bool) (owner : ℕ) (methods grown : List Method) (h : HeaderTree) (hs more : List HeaderTree)
     → (new_headers owner methods (hs ++ more) ≡ new_headers owner methods hs ++ new_headers owner (with_headers owner methods hs) more)
     → (new_headers owner grown (hs ++ more) ≡ new_headers owner grown hs ++ new_headers owner (with_headers owner grown hs) more)

@@ -28,32 +28,40 @@ use Rattle.chord_rules.proofs.RuleTokens.{tokens_1, tokens_3, tokens_4, tokens_5
 
 -- Each number that is noted is one of these rules.
 
+-- each of these keys is one of a layout rule
 abbrev AreMine : List ℕ → Type 0
 AreMine ks = (k : ℕ) → IsIn ks k → is_layout_rule (k % 32) ≡ true
 
+-- keys of a layout rule are of layout rules
 mine_keys : (r : ℕ) (xs : List ℕ) → r < 32 → is_layout_rule r ≡ true → AreMine (keys r xs)
 mine_keys r xs l m k h =
     let s = of_key r xs k h in
     let e : k % 32 ≡ r = (let f = s.1 in omega (arith, f)) in
     ap is_layout_rule e ∙ m
 
+-- two joined lists of keys of layout rules are of layout rules
 mine_both : (xs ys : List ℕ) → AreMine xs → AreMine ys → AreMine (xs ++ ys)
 mine_both xs ys a b k h = elim (in_either xs ys k h) [ inl i ↦ a k i | inr i ↦ b k i ]
 
+-- lists of keys of layout rules, laid together, are of layout rules
 mine_flat : {A : Type 0} (f : A → List ℕ) → ((x : A) → AreMine (f x)) → (xs : List A) → AreMine (flat_map f xs)
 mine_flat f m [] k h = absurd h
 mine_flat f m (x ∷ xs) k h = elim (in_either (f x) (flat_map f xs) k h) [ inl i ↦ m x k i | inr i ↦ mine_flat f m xs k i ]
 
+-- the keys of four layout rules, joined, are of layout rules
 mine_four : (a b c d : ℕ) (ks ls ms ns : List ℕ) → a < 32 → b < 32 → c < 32 → d < 32 → is_layout_rule a ≡ true → is_layout_rule b ≡ true → is_layout_rule c ≡ true → is_layout_rule d ≡ true → AreMine (keys a ks ++ (keys b ls ++ (keys c ms ++ keys d ns)))
 mine_four a b c d ks ls ms ns la lb lc ld ma mb mc md =
     mine_both (keys a ks) (keys b ls ++ (keys c ms ++ keys d ns)) (mine_keys a ks la ma) (mine_both (keys b ls) (keys c ms ++ keys d ns) (mine_keys b ls lb mb) (mine_both (keys c ms) (keys d ns) (mine_keys c ms lc mc) (mine_keys d ns ld md)))
 
+-- the keys of three layout rules, joined, are of layout rules
 mine_three : (a b c : ℕ) (ks ls ms : List ℕ) → a < 32 → b < 32 → c < 32 → is_layout_rule a ≡ true → is_layout_rule b ≡ true → is_layout_rule c ≡ true → AreMine (keys a ks ++ (keys b ls ++ keys c ms))
 mine_three a b c ks ls ms la lb lc ma mb mc = mine_both (keys a ks) (keys b ls ++ keys c ms) (mine_keys a ks la ma) (mine_both (keys b ls) (keys c ms) (mine_keys b ls lb mb) (mine_keys c ms lc mc))
 
+-- what a header is noted to break are layout rules
 mine_header : (headers : List HeaderTree) (methods : List Method) (h : HeaderTree) → AreMine (header_keys headers methods h)
 mine_header headers methods h = mine_three 5 9 10 (differing headers h) (hiding methods h) (misfitting methods h) (omega arith) (omega arith) (omega arith) refl refl refl
 
+-- what a member is noted to break are layout rules
 mine_member : (m : MemberTree) → AreMine (keys_of_member m)
 mine_member (ConstructorMember modifiers name formals body) =
     mine_four 21 8 4 4 (barred_among OnConstructor modifiers [] modifiers) (repeated_formals [] formals.parameters) (drop 8 (formal_tokens formals.parameters)) (drop 256 (block_names body)) (omega arith) (omega arith) (omega arith) (omega arith) refl refl refl refl
@@ -62,6 +70,7 @@ mine_member (ChordMember hs body) =
     (mine_four 21 7 6 8 (flat_map (header_barred (length hs)) hs) (repeated [] hs) (second_sync false hs) (repeated_formals [] (flat_map formals_of_header hs)) (omega arith) (omega arith) (omega arith) (omega arith) refl refl refl refl)
     (mine_three 4 4 4 (drop 8 (header_tokens hs)) (flat_map crowded_formals hs) (drop 256 (block_names body)) (omega arith) (omega arith) (omega arith) refl refl refl)
 
+-- what a class is noted to break by its members and their headers are layout rules
 mine_inner : (done : List Shape) (plans : List ClassOf) (c : ClassTree) → AreMine (inner_keys done plans c)
 mine_inner done plans c =
     mine_both (flat_map keys_of_member c.members) (keys 4 (chord_places plans (base_of done c) c.members) ++ (flat_map (header_keys (headers_of c) (inherited done (base_of done c))) (headers_of c) ++ keys 11 (split done plans c))) (mine_flat keys_of_member mine_member c.members)
@@ -69,6 +78,7 @@ mine_inner done plans c =
     (mine_both (flat_map (header_keys (headers_of c) (inherited done (base_of done c))) (headers_of c)) (keys 11 (split done plans c))
     (mine_flat (header_keys (headers_of c) (inherited done (base_of done c))) (mine_header (headers_of c) (inherited done (base_of done c))) (headers_of c)) (mine_keys 11 (split done plans c) (omega arith) refl)))
 
+-- what a class is noted to break are layout rules
 mine_class : (classes : List ClassTree) (done : List Shape) (plans : List ClassOf) (c : ClassTree) → AreMine (class_keys classes done plans c)
 mine_class classes done plans c =
     mine_both (name_keys classes done c) (place_keys done c ++ (keys 4 (method_limits done c) ++ inner_keys done plans c))
@@ -78,12 +88,14 @@ mine_class classes done plans c =
     (mine_keys 4 (when (nat_le 1024 (length done)) c.name.at) (omega arith) refl) (mine_keys 4 (base_token c.base (nat_lt 16 (length (from_base done (base_of done c))))) (omega arith) refl))
     (mine_both (keys 4 (method_limits done c)) (inner_keys done plans c) (mine_keys 4 (method_limits done c) (omega arith) refl) (mine_inner done plans c)))
 
+-- what classes are noted to break, one after the other, are layout rules
 mine_over : (classes : List ClassTree) (done : List Shape) (plans : List ClassOf) (number : ℕ) (cs : List ClassTree) → AreMine (over_plans (class_keys classes) done plans number cs)
 mine_over classes done plans number [] k h = absurd h
 mine_over classes done plans number (c ∷ cs) k h =
     mine_both (class_keys classes done plans c) (over_plans (class_keys classes) (done ++ (shape_of done c ∷ [])) (plans ++ (class_plan done plans number c ∷ [])) (number + length c.members) cs) (mine_class classes done plans c)
     (mine_over classes (done ++ (shape_of done c ∷ [])) (plans ++ (class_plan done plans number c ∷ [])) (number + length c.members) cs) k h
 
+-- what a program is noted to break are layout rules
 mine_program : (p : ProgramTree) → AreMine (program_keys p)
 mine_program p = mine_both (classes_keys p) (keys 13 (wrong_mains (mains_of p.classes) (length (spelling p)))) (mine_over p.classes [] [] 0 p.classes) (mine_keys 13 (wrong_mains (mains_of p.classes) (length (spelling p))) (omega arith) refl)
 
@@ -105,12 +117,15 @@ of_one P r (x ∷ xs) all h = by_first (nat_eq r x) refl h (λ m. of_one P r xs 
 
 -- The tokens of a rule are those at which it is broken.
 
+-- a program breaks a rule at each token at which that is noted
 abbrev IsBrokenAt : ProgramTree → ℕ → Type 0
 IsBrokenAt p r = (at : ℕ) → IsIn (tokens_of r (program_keys p)) at → Broken p r at
 
+-- what is in a list is contained in a list equal to it
 there : (xs ys : List ℕ) (at : ℕ) → xs ≡ ys → IsIn xs at → Contains ys at
 there xs ys at e h = contains_in ys at (subst (λ z. IsIn z at) e h)
 
+-- each layout rule is broken at the tokens at which that is noted
 each_broken : (p : ProgramTree) → OfEach (IsBrokenAt p) (1 ∷ 3 ∷ 4 ∷ 5 ∷ 6 ∷ 7 ∷ 8 ∷ 9 ∷ 10 ∷ 11 ∷ 12 ∷ 13 ∷ 21 ∷ [])
 each_broken p = (
   (λ at h. C01 at (there (tokens_of 1 (program_keys p)) _ at (tokens_1 p) h)),
@@ -153,6 +168,7 @@ each_broken p = (
   ),
 )
 
+-- what a list contains is in a list equal to it
 back : (xs ys : List ℕ) (at : ℕ) → xs ≡ ys → Contains ys at → IsIn xs at
 back xs ys at e h = subst (λ z. IsIn z at) (sym e) (in_contains ys at h)
 
@@ -183,13 +199,16 @@ noted p r at_ m (C22 at h) = absurd (false≢true m)
 noted p r at_ m (C23 at h) = absurd (false≢true m)
 noted p r at_ m (C24 at h) = absurd (false≢true m)
 
+-- the number of a rule is below 32
 abbrev IsSmall : ℕ → Type 0
 IsSmall r = r < 32
 
+-- the number of a layout rule is below 32
 small : (r : ℕ) → is_layout_rule r ≡ true → r < 32
 small r m = of_one IsSmall r (1 ∷ 3 ∷ 4 ∷ 5 ∷ 6 ∷ 7 ∷ 8 ∷ 9 ∷ 10 ∷ 11 ∷ 12 ∷ 13 ∷ 21 ∷ [])
     (omega arith, (omega arith, (omega arith, (omega arith, (omega arith, (omega arith, (omega arith, (omega arith, (omega arith, (omega arith, (omega arith, (omega arith, (omega arith, tt))))))))))))) m
 
+-- a break whose key is at most that of rule s at token l comes before that one, or is that one
 not_after : (k s l : ℕ) → s < 32 → k ≤ 32 * l + s → IsNotAfter (k % 32) (k / 32) s l
 not_after k s l a h = elim (leb_tells l (k / 32)) [ inl t ↦ (let u = t.1 in inr (omega arith, omega arith)) | inr t ↦ inl t.1 ]
 

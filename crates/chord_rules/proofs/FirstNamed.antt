@@ -16,18 +16,22 @@ record IsFirst (hs : List (Bor Header)) (n i : ℕ) (o : Option HeaderTree) : Ty
   is : i ≡ n + k
   found : o ≡ option_map see_lent (slice_get hs k)
 
+-- where without a place there is no header among the later ones, there is none with one in front
 unnamed_by : (b : Bool) (n : ℕ) (found : HeaderTree) (others : Option ℕ) (all : Option HeaderTree) → (others ≡ None → all ≡ None) → cond b (Some n) others ≡ None → cond b (Some found) all ≡ None
 unnamed_by true n found others all f h = absurd (none_some (sym h))
 unnamed_by false n found others all f h = f h
 
+-- no header has a name that has no place, from any number on
 unnamed_from : (n : ℕ) (hs : List (Bor Header)) (x : List ℕ) → name_place_from n (names_of_headers hs) x ≡ None → first_named (map see_lent hs) x ≡ None
 unnamed_from n [] x h = refl
 unnamed_from n (y ∷ ys) x h = unnamed_by (bytes_eq y.now.name.text x) n (see_lent y) (name_place_from (n + 1) (names_of_headers ys) x) (first_named (map see_lent ys) x) (unnamed_from (n + 1) ys x) h
 
+-- where the header stands at a place among the later ones, it stands at its place with one in front
 named_by : (b : Bool) (n i : ℕ) (y : Bor Header) (ys : List (Bor Header)) (others : Option ℕ) (all : Option HeaderTree) → (others ≡ Some i → IsFirst ys (n + 1) i all) → cond b (Some n) others ≡ Some i → IsFirst (y ∷ ys) n i (cond b (Some (see_lent y)) all)
 named_by true n i y ys others all f h = record { k = 0; is = sym (same_some h) ∙ omega arith; found = refl }
 named_by false n i y ys others all f h = let r = f h in let e = r.is in record { k = suc r.k; is = omega arith; found = r.found }
 
+-- the first header of a name stands at the name's first place, from any number on
 named_from : (n : ℕ) (hs : List (Bor Header)) (x : List ℕ) (i : ℕ) → name_place_from n (names_of_headers hs) x ≡ Some i → IsFirst hs n i (first_named (map see_lent hs) x)
 named_from n [] x i h = absurd (none_some h)
 named_from n (y ∷ ys) x i h = named_by (bytes_eq y.now.name.text x) n i y ys (name_place_from (n + 1) (names_of_headers ys) x) (first_named (map see_lent ys) x) (named_from (n + 1) ys x i) h

@@ -16,44 +16,55 @@ use Rattle.chord_rules.specs.Groups.{label}
 use Rattle.chord_rules.specs.Splits.{any_spared, any_labelled, split_from, split, SplitsAreListed}
 use Rattle.chord_rules.proofs.Grouping.{label_grouped, grouped_label}
 
+-- one part of an `or` that is true is true
 or_is : (b c : Bool) → (b || c) ≡ true → (b ≡ true) ⊎ (c ≡ true)
 or_is true c h = inl refl
 or_is false c h = inr h
 
+-- an `or` whose first part is true is true
 or_left : (b c : Bool) → b ≡ true → (b || c) ≡ true
 or_left b c h = ap (λ z. z || c) h
 
+-- an `or` whose second part is true is true
 or_right : (b c : Bool) → c ≡ true → (b || c) ≡ true
 or_right true c h = refl
 or_right false c h = h
 
+-- both parts of an `and` that is true are true
 and_is : (b c : Bool) → (b && c) ≡ true → (b ≡ true) × (c ≡ true)
 and_is true c h = (refl, h)
 and_is false c h = absurd (false≢true h)
 
+-- an `and` of two parts that are true is true
 and_of : (b c : Bool) → b ≡ true → c ≡ true → (b && c) ≡ true
 and_of b c h k = rw (h, k) refl
 
+-- a condition whose negation is true is false
 not_is : (b : Bool) → not b ≡ true → b ≡ false
 not_is false h = refl
 not_is true h = absurd (false≢true h)
 
+-- the negation of a condition that is false is true
 is_not : (b : Bool) → b ≡ false → not b ≡ true
 is_not b h = ap not h
 
+-- a condition that is not true is false
 false_of : (b : Bool) → (b ≡ true → ⊥) → b ≡ false
 false_of true f = absurd (f refl)
 false_of false f = refl
 
+-- where a token is noted by a condition, the condition is true and the token is its own
 in_when : (b : Bool) (x at : ℕ) → Contains (when b x) at → (b ≡ true) × (x ≡ at)
 in_when true x at (zero, l, e) = (refl, e)
 in_when true x at (suc k, l, e) = absurd (omega arith)
 in_when false x at (k, l, e) = absurd (omega arith)
 
+-- a condition that is true notes its token
 when_in : (b : Bool) (x at : ℕ) → b ≡ true → x ≡ at → Contains (when b x) at
 when_in b x at h e = subst (λ z. Contains (when b x) z) e (subst (λ z. Contains (when z x) x) (sym h) (0, omega arith, refl))
 
 module _ (chords : List ChordOf) (taken : List ℕ) (methods : List Method) where
+  -- where one of the first n methods has this label and is not overridden, one of them is of this group and is not
   spared_at : (i n : ℕ) → any_spared chords taken methods i n ≡ true → (m : ℕ) × (m < n) × Grouped chords i m × (among m taken ≡ false)
   spared_at i zero h = absurd (false≢true h)
   spared_at i (suc n) h = elim (or_is (nat_eq (label chords i) (label chords n) && not (among n taken)) (any_spared chords taken methods i n) h) [
@@ -61,6 +72,7 @@ module _ (chords : List ChordOf) (taken : List ℕ) (methods : List Method) wher
     | inr b ↦ (let r = spared_at i n b in let l = r.1 in (r.0, omega arith, r.2, r.3))
   ]
 
+  -- where one of the first n methods is of this group and is not overridden, one of them has this label and is not
   at_spared : (i n m : ℕ) → m < n → Grouped chords i m → among m taken ≡ false → any_spared chords taken methods i n ≡ true
   at_spared i zero m l g f = absurd (omega arith)
   at_spared i (suc n) m l g f = elim (below m n l) [
@@ -75,6 +87,7 @@ module _ (chords : List ChordOf) (taken : List ℕ) (methods : List Method) wher
       below (suc m) zero l = absurd (omega arith)
       below (suc m) (suc n) l = elim (below m n (omega arith)) [ inl e ↦ inl (ap suc e) | inr k ↦ inr (omega arith) ]
 
+  -- where one of these headers has the label of this one, one of them is of its group
   labelled_at : (h : HeaderTree) (hs : List HeaderTree) → any_labelled chords taken methods h hs ≡ true → (other : HeaderTree) × IsAmong other hs × Grouped chords (header_number methods h) (header_number methods other)
   labelled_at h [] t = absurd (false≢true t)
   labelled_at h (x ∷ xs) t = elim (or_is (nat_eq (label chords (header_number methods h)) (label chords (header_number methods x))) (any_labelled chords taken methods h xs) t) [
@@ -82,11 +95,13 @@ module _ (chords : List ChordOf) (taken : List ℕ) (methods : List Method) wher
     | inr b ↦ (let r = labelled_at h xs b in (r.0, inr r.1, r.2))
   ]
 
+  -- where one of these headers is of the group of this one, one of them has its label
   at_labelled : (h other : HeaderTree) (hs : List HeaderTree) → IsAmong other hs → Grouped chords (header_number methods h) (header_number methods other) → any_labelled chords taken methods h hs ≡ true
   at_labelled h other [] a g = absurd a
   at_labelled h other (x ∷ xs) (inl e) g = or_left (nat_eq (label chords (header_number methods h)) (label chords (header_number methods x))) _ (eq-eqb _ _ (grouped_label g ∙ ap (λ z. label chords (header_number methods z)) e))
   at_labelled h other (x ∷ xs) (inr k) g = or_right (nat_eq (label chords (header_number methods h)) (label chords (header_number methods x))) _ (at_labelled h other xs k g)
 
+  -- one of these headers has this token and another label than all before it, and a method of its label is not overridden
   record Split (before headers : List HeaderTree) (at : ℕ) : Type 0 where
     ahead : List HeaderTree
     header : HeaderTree
@@ -96,9 +111,11 @@ module _ (chords : List ChordOf) (taken : List ℕ) (methods : List Method) wher
     alone : any_labelled chords taken methods header (before ++ ahead) ≡ false
     some : any_spared chords taken methods (header_number methods header) (length methods) ≡ true
 
+  -- a header has another label than those before it, and a method of its label is not overridden
   here_is : List HeaderTree → HeaderTree → Bool
   here_is before h = not (any_labelled chords taken methods h before) && any_spared chords taken methods (header_number methods h) (length methods)
 
+  -- each token of the list is that of a header which is the first of its label, where a method of that label is not overridden
   of_list : (before headers : List HeaderTree) (at : ℕ) → Contains (split_from chords taken methods before headers) at → Split before headers at
   of_list before [] at (k, l, e) = absurd (omega arith)
   of_list before (h ∷ hs) at c = elim (Contains-append_cases (when (not (any_labelled chords taken methods h before) && any_spared chords taken methods (header_number methods h) (length methods)) h.name.at) (split_from chords taken methods (before ++ (h ∷ [])) hs) at c) [
@@ -111,6 +128,7 @@ module _ (chords : List ChordOf) (taken : List ℕ) (methods : List Method) wher
         record { ahead = h ∷ r.ahead; header = r.header; rest = r.rest; are = ap (λ z. h ∷ z) r.are; token = r.token; alone = ap (any_labelled chords taken methods r.header) (sym (append_assoc before (h ∷ []) r.ahead)) ∙ r.alone; some = r.some })
   ]
 
+  -- the token of a header which is the first of its label is in the list, where a method of that label is not overridden
   to_list : (before ahead : List HeaderTree) (h : HeaderTree) (rest : List HeaderTree) (at : ℕ) → h.name.at ≡ at → any_labelled chords taken methods h (before ++ ahead) ≡ false
       → any_spared chords taken methods (header_number methods h) (length methods) ≡ true → Contains (split_from chords taken methods before (ahead ++ (h ∷ rest))) at
   to_list before [] h rest at t a s =
@@ -120,6 +138,7 @@ module _ (chords : List ChordOf) (taken : List ℕ) (methods : List Method) wher
       Contains-append_right (when (not (any_labelled chords taken methods x before) && any_spared chords taken methods (header_number methods x) (length methods)) x.name.at) (split_from chords taken methods (before ++ (x ∷ [])) (xs ++ (h ∷ rest))) at
       (to_list (before ++ (x ∷ [])) xs h rest at t (ap (any_labelled chords taken methods h) (append_assoc before (x ∷ []) xs) ∙ a) s)
 
+-- each token that is listed for a class is one at which it overrides a group in part
 listed_split : (done : List Shape) (plans : List ClassOf) (class : ClassTree) (at : ℕ) → Contains (split done plans class) at → IsSplit done plans class at
 listed_split done plans class at c =
     let methods = inherited done (base_of done class) in
@@ -140,6 +159,7 @@ listed_split done plans class at c =
       spared = s.3;
     }
 
+-- each token at which a class overrides a group in part is listed for it
 split_listed : (done : List Shape) (plans : List ClassOf) (class : ClassTree) (at : ℕ) → IsSplit done plans class at → Contains (split done plans class) at
 split_listed done plans class at s =
     let methods = inherited done (base_of done class) in
@@ -150,6 +170,7 @@ split_listed done plans class at s =
     (false_of (any_labelled chords taken methods s.header s.before) (λ t. (let r = labelled_at chords taken methods s.header s.before t in s.first r.0 r.1 r.2)))
     (at_spared chords taken methods (header_number methods s.header) (length methods) s.missing s.within s.grouped s.spared))
 
+-- each token that is listed over classes is one at which a class among them overrides a group in part
 listed_among : (done : List Shape) (plans : List ClassOf) (number : ℕ) (cs : List ClassTree) (at : ℕ) → Contains (over_plans split done plans number cs) at → SplitAmong done plans number cs at
 listed_among done plans number [] at (k, l, e) = absurd (omega arith)
 listed_among done plans number (c ∷ cs) at h = elim (Contains-append_cases (split done plans c) (over_plans split (done ++ (shape_of done c ∷ [])) (plans ++ (class_plan done plans number c ∷ [])) (number + length c.members) cs) at h) [
@@ -157,6 +178,7 @@ listed_among done plans number (c ∷ cs) at h = elim (Contains-append_cases (sp
   | inr b ↦ inr (listed_among (done ++ (shape_of done c ∷ [])) (plans ++ (class_plan done plans number c ∷ [])) (number + length c.members) cs at b)
 ]
 
+-- each token at which a class among these overrides a group in part is listed over them
 among_listed : (done : List Shape) (plans : List ClassOf) (number : ℕ) (cs : List ClassTree) (at : ℕ) → SplitAmong done plans number cs at → Contains (over_plans split done plans number cs) at
 among_listed done plans number [] at h = absurd h
 among_listed done plans number (c ∷ cs) at (inl s) =

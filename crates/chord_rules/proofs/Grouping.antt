@@ -7,20 +7,25 @@ use Rattle.chord_classes.specs.Table.{among}
 use Rattle.chord_classes.specs.DeclarationRules.{Linked, here, later, Grouped, itself, through}
 use Rattle.chord_rules.specs.Groups.{label, merged, LabelsGroup}
 
+-- a condition is true or false
 bool_is : (b : Bool) → (b ≡ true) ⊎ (b ≡ false)
 bool_is true = inl refl
 bool_is false = inr refl
 
+-- no condition is both true and false
 not_both : {b : Bool} → b ≡ true → b ≡ false → ⊥
 not_both t f = false≢true (sym f ∙ t)
 
+-- an `or` whose first part is true is true
 or_left : (b c : Bool) → b ≡ true → (b || c) ≡ true
 or_left b c h = ap (λ z. z || c) h
 
+-- an `or` whose second part is true is true
 or_right : (b c : Bool) → c ≡ true → (b || c) ≡ true
 or_right true c h = refl
 or_right false c h = h
 
+-- one part of an `or` that is true is true
 or_is : (b c : Bool) → (b || c) ≡ true → (b ≡ true) ⊎ (c ≡ true)
 or_is true c h = inl refl
 or_is false c h = inr h
@@ -33,6 +38,7 @@ among_map f v (y ∷ ys) h = elim (or_is (nat_eq v (f y)) (among v (map f ys)) h
   | inr m ↦ let r = among_map f v ys m in (r.0, or_right (nat_eq r.0 y) (among r.0 ys) r.1, r.2)
 ]
 
+-- what a function makes of one of some numbers is among what it makes of all of them
 map_among : (f : ℕ → ℕ) (x : ℕ) (k : List ℕ) → among x k ≡ true → among (f x) (map f k) ≡ true
 map_among f x [] h = absurd (false≢true h)
 map_among f x (y ∷ ys) h = elim (or_is (nat_eq x y) (among x ys) h) [
@@ -45,6 +51,7 @@ pub chained : {ks : List ChordOf} {i j k : ℕ} → Grouped ks i j → Grouped k
 chained itself q = q
 chained (through l p) q = through l (chained p q)
 
+-- methods that are linked are linked the other way round
 linked_back : {ks : List ChordOf} {i j : ℕ} → Linked ks i j → Linked ks j i
 linked_back (here a b) = here b a
 linked_back (later l) = later (linked_back l)
@@ -63,13 +70,16 @@ wider (through l p) = through (later l) (wider p)
 merged_in : (j : ℕ) (js : List ℕ) (f : ℕ → ℕ) (v : ℕ) → among v (map f (j ∷ js)) ≡ true → merged (j ∷ js) f v ≡ f j
 merged_in j js f v h = ap (λ z. cond z (f j) v) h
 
+-- a label that is not among those of a chord's methods stays
 merged_out : (j : ℕ) (js : List ℕ) (f : ℕ → ℕ) (v : ℕ) → among v (map f (j ∷ js)) ≡ false → merged (j ∷ js) f v ≡ v
 merged_out j js f v h = ap (λ z. cond z (f j) v) h
 
+-- after a chord, any two of its methods have one label
 one_label : (k : List ℕ) (f : ℕ → ℕ) (i j : ℕ) → among i k ≡ true → among j k ≡ true → merged k f (f i) ≡ merged k f (f j)
 one_label [] f i j a b = absurd (false≢true a)
 one_label (h ∷ t) f i j a b = merged_in h t f (f i) (map_among f i (h ∷ t) a) ∙ sym (merged_in h t f (f j) (map_among f j (h ∷ t) b))
 
+-- linked methods have one label
 linked_label : {ks : List ChordOf} {i j : ℕ} → Linked ks i j → label ks i ≡ label ks j
 linked_label (here {k = k} {ks = ks} {i = i} {j = j} a b) = one_label k.methods (label ks) i j a b
 linked_label (later {k = k} {ks = ks} l) = ap (merged k.methods (label ks)) (linked_label l)
@@ -87,6 +97,7 @@ joined k ks ih i j a b =
     let y = among_map (label ks) (label ks j) k.methods b in
     chained (wider (ih i x.0 x.2)) (through (here x.1 y.1) (wider (turned_round (ih j y.0 y.2))))
 
+-- methods that have one label after a chord with methods are grouped, if those with one label before it are
 label_step : (k : ChordOf) (h : ℕ) (t : List ℕ) (ks : List ChordOf) → k.methods ≡ h ∷ t → ((i j : ℕ) → label ks i ≡ label ks j → Grouped ks i j) → (i j : ℕ)
     → merged (h ∷ t) (label ks) (label ks i) ≡ merged (h ∷ t) (label ks) (label ks j) → Grouped (k ∷ ks) i j
 label_step k h t ks is ih i j e =
@@ -103,6 +114,7 @@ label_step k h t ks is ih i j e =
       ]
     ]
 
+-- methods that have one label after a chord are grouped, if those with one label before it are
 label_by : (k : ChordOf) (methods : List ℕ) (ks : List ChordOf) → k.methods ≡ methods → ((i j : ℕ) → label ks i ≡ label ks j → Grouped ks i j) → (i j : ℕ)
     → merged methods (label ks) (label ks i) ≡ merged methods (label ks) (label ks j) → Grouped (k ∷ ks) i j
 label_by k [] ks is ih i j e = wider (ih i j e)

@@ -25,6 +25,7 @@ number_within j (m ∷ ms) x f h = by_same (bytes_eq m.name x) h (λ e. number_w
     by_same true e more = let same : j ≡ f.number = ap (λ (z : Found). z.number) (same_some e) in omega (arith, same)
     by_same false e more = let less = more e in omega (arith, less)
 
+-- whether two numbers are equal does not depend on their order
 turned : (m n : ℕ) → nat_eq m n ≡ nat_eq n m
 turned m n = by_same (nat_eq m n) (nat_eq n m) refl refl
   where
@@ -34,14 +35,17 @@ turned m n = by_same (nat_eq m n) (nat_eq n m) refl refl
     by_same true false e f = absurd (false≢true (sym f ∙ eq-eqb n m (sym (eqb-true m n e))))
     by_same false true e f = absurd (false≢true (sym e ∙ eq-eqb m n (sym (eqb-true n m f))))
 
+-- an `or` whose second part is `false` is its first part
 or_none : (b : Bool) → (b || false) ≡ b
 or_none true = refl
 or_none false = refl
 
+-- an `or` whose second part is an `or` is that of the first two parts and the third
 or_join : (a b c d : Bool) → b ≡ (c || d) → (a || b) ≡ ((a || c) || d)
 or_join true b c d h = refl
 or_join false b c d h = h
 
+-- a number is among numbers and one more exactly if it is among them or is that one
 among_end : (v : ℕ) (xs : List ℕ) (x : ℕ) → among v (xs ++ (x ∷ [])) ≡ (among v xs || nat_eq v x)
 among_end v [] x = or_none (nat_eq v x)
 among_end v (y ∷ ys) x = or_join (nat_eq v y) (among v (ys ++ (x ∷ []))) (among v ys) (nat_eq v x) (among_end v ys x)
@@ -64,6 +68,7 @@ module _ (chords : List ChordOf) (taken : List ℕ) (methods : List Method) (cou
   abbrev AreSeen : List ℕ → List HeaderTree → Type 0
   AreSeen seen before = (header : HeaderTree) → among (label chords (header_number methods header)) seen ≡ any_labelled chords taken methods header before
 
+  -- one of some headers and one more has the label of this one exactly if one of them has it or that one has
   labelled_end : (header : HeaderTree) (before : List HeaderTree) (h : HeaderTree)
       → any_labelled chords taken methods header (before ++ (h ∷ [])) ≡ (any_labelled chords taken methods header before || nat_eq (label chords (header_number methods header)) (label chords (header_number methods h)))
   labelled_end header [] h = or_none _
@@ -83,6 +88,7 @@ module _ (chords : List ChordOf) (taken : List ℕ) (methods : List Method) (cou
       by_same false e = ap (λ z. among v seen || z) e ∙ or_none (among v seen)
       by_same true e = ap (λ z. among v seen || z) e ∙ or_true (among v seen) (ap (λ z. among z seen) (eqb-true v x e) ∙ h)
 
+  -- a label is among labels to which one was added exactly if it is among them or is that one
   with_label_among : (v x : ℕ) (seen : List ℕ) → among v (with_label seen x) ≡ (among v seen || nat_eq v x)
   with_label_among v x seen = by_there (among x seen) refl
     where
@@ -90,6 +96,7 @@ module _ (chords : List ChordOf) (taken : List ℕ) (methods : List Method) (cou
       by_there true e = sym (among_again v x seen e)
       by_there false e = among_end v seen x
 
+  -- the labels that were seen and that of one more header are those of the headers before and of that one
   seen_more : (seen : List ℕ) (before : List HeaderTree) (h : HeaderTree) (x : ℕ) → x ≡ label chords (header_number methods h) → AreSeen seen before → AreSeen (with_label seen x) (before ++ (h ∷ []))
   seen_more seen before h x e s header =
       with_label_among (label chords (header_number methods header)) x seen
@@ -98,6 +105,7 @@ module _ (chords : List ChordOf) (taken : List ℕ) (methods : List Method) (cou
       ∙ sym (labelled_end header before h)
 
   module _ (few : length methods ≤ count) where
+    -- where the list by labels is that by headers for the later headers, it is so with one header in front
     one_header : (over : Bool) (found : Option Found) (h : HeaderTree) (more : List HeaderTree) (seen : List ℕ) (before : List HeaderTree) → method_named methods h.name.text ≡ found → AreSeen seen before
         → ((others : List ℕ) (ahead : List HeaderTree) → AreSeen others ahead → splits_from kept taken methods others more ≡ split_from chords taken methods ahead (overriding methods more))
         → splits_at kept taken (length methods) seen (cond over (option_map (λ (f : Found). f.number) found) None) h.name.at ++ splits_from kept taken methods (seen_with_number kept seen (cond over (option_map (λ (f : Found). f.number) found) None)) more

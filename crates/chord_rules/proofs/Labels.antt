@@ -13,24 +13,29 @@ use Rattle.chord_rules.specs.Labels.{numbers, labels_of, merged_all, AreUnder, A
 pub numbers_step : (n i : ℕ) → i < n → numbers i (n - i) ≡ i ∷ numbers (i + 1) (n - (i + 1))
 numbers_step n i l = let e : n - i ≡ suc (n - (i + 1)) = omega arith in ap (numbers i) e
 
+-- item j of what a function makes of the numbers from a on is what it makes of a + j
 index_numbers : (f : ℕ → ℕ) (a n j : ℕ) → j < n → slice_index (map f (numbers a n)) j ≡ f (a + j)
 index_numbers f a zero j l = absurd (omega arith)
 index_numbers f a (suc n) zero l = ap f (omega arith)
 index_numbers f a (suc n) (suc j) l = index_numbers f (a + 1) n j (omega arith) ∙ ap f (omega arith)
 
+-- the label v after a chord whose methods have these labels
 abbrev by_list : List ℕ → ℕ → ℕ
 by_list [] v = v
 by_list (x ∷ xs) v = cond (among v (x ∷ xs)) x v
 
+-- the label after a chord is the one by the list of its methods' labels
 merged_list : (k : List ℕ) (f : ℕ → ℕ) (v : ℕ) → merged k f v ≡ by_list (map f k) v
 merged_list [] f v = refl
 merged_list (j ∷ js) f v = refl
 
+-- what a function makes of numbers below n stands at their places in the list of what it makes of the first n numbers
 same_map : (f : ℕ → ℕ) (n : ℕ) (k : List ℕ) → AreUnder n k → map (λ j. slice_index (map f (numbers 0 n)) j) k ≡ map f k
 same_map f n [] h = refl
 same_map f n (j ∷ js) h =
     ap (λ z. z ∷ map (λ i. slice_index (map f (numbers 0 n)) i) js) (index_numbers f 0 n j h.0 ∙ ap f (omega arith)) ∙ ap (λ z. f j ∷ z) (same_map f n js h.1)
 
+-- to map by one function and then by one that equals another is to map by the first and that other at once
 map_twice : (f g : ℕ → ℕ) (h : ℕ → ℕ) → ((v : ℕ) → f v ≡ h v) → (xs : List ℕ) → map f (map g xs) ≡ map (λ i. h (g i)) xs
 map_twice f g h e [] = refl
 map_twice f g h e (x ∷ xs) = ap (λ z. z ∷ map f (map g xs)) (e (g x)) ∙ ap (λ z. h (g x) ∷ z) (map_twice f g h e xs)
@@ -41,6 +46,7 @@ merge_labels n k ks h =
     map_twice (merged k.methods (λ i. slice_index (labels_of n ks) i)) (label ks) (merged k.methods (label ks))
     (λ v. merged_list k.methods (λ i. slice_index (labels_of n ks) i) v ∙ ap (λ z. by_list z v) (same_map (label ks) n k.methods h) ∙ sym (merged_list k.methods (label ks) v)) (numbers 0 n)
 
+-- without chords, the labels of numbers are these numbers
 same : (xs : List ℕ) → xs ≡ map (label []) xs
 same [] = refl
 same (x ∷ xs) = ap (λ z. x ∷ z) (same xs)
@@ -49,6 +55,7 @@ same (x ∷ xs) = ap (λ z. x ∷ z) (same xs)
 pub no_chords : (n : ℕ) → numbers 0 n ≡ labels_of n []
 no_chords n = same (numbers 0 n)
 
+-- the methods of the chords from a place on are among the first n, if those of all chords are
 all_drop : (n : ℕ) (xs : List ChordPlan) (i : ℕ) → AllIn n (map view_chord_plan xs) → AllIn n (map view_chord_plan (drop i xs))
 all_drop n xs zero h = h
 all_drop n [] (suc i) h = h
@@ -68,6 +75,7 @@ labels_more n xs i j x old h e l is o =
 pub label_of : (n : ℕ) (ks : List ChordOf) (i : ℕ) → i < n → slice_index (labels_of n ks) i ≡ label ks i
 label_of n ks i l = index_numbers (label ks) 0 n i l ∙ ap (label ks) (omega arith)
 
+-- the bound of methods is not below the number that it began with
 more_methods : (b : ℕ) (js : List ℕ) → b ≤ above_methods b js
 more_methods b [] = omega arith
 more_methods b (j ∷ js) = by_less (nat_le b j) refl (more_methods (j + 1) js) (more_methods b js)
@@ -76,10 +84,12 @@ more_methods b (j ∷ js) = by_less (nat_le b j) refl (more_methods (j + 1) js) 
     by_less true e m k = let l = leb-true b j e in omega (arith, l, m)
     by_less false e m k = k
 
+-- numbers below a bound are below each bound that is not less
 under_more : (m n : ℕ) (js : List ℕ) → m ≤ n → AreUnder m js → AreUnder n js
 under_more m n [] l h = tt
 under_more m n (j ∷ js) l h = (let k = h.0 in omega arith, under_more m n js l h.1)
 
+-- methods are below their bound
 under_methods : (b : ℕ) (js : List ℕ) → AreUnder (above_methods b js) js
 under_methods b [] = tt
 under_methods b (j ∷ js) = (by_less (nat_le b j) refl, under_methods (cond (nat_le b j) (j + 1) b) js)

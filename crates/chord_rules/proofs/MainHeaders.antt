@@ -9,10 +9,12 @@ use Rattle.chord_classes.specs.Least.{least, keys}
 use Rattle.chord_rules.specs.Mains.{some_main, wrong_from}
 use Rattle.chord_rules.proofs.Noted.{then_noted}
 
+-- an `or` whose second part is `false` is its first part
 or_false : (b : Bool) → (b || false) ≡ b
 or_false true = refl
 or_false false = refl
 
+-- an `or` whose second part is `true` is true
 or_true : (b : Bool) → (b || true) ≡ true
 or_true true = refl
 or_true false = refl
@@ -30,10 +32,12 @@ pub next_mains : (seen after : Bool) (xs ys : List MainAt) (o p : Option ℕ) �
 next_mains seen after xs ys o p e h =
     ap (λ z. least o (keys 13 z)) (wrong_joined seen xs ys) ∙ then_noted 13 o p (wrong_from seen xs) (wrong_from (seen || some_main xs) ys) h ∙ ap (λ z. least p (keys 13 (wrong_from z ys))) (sym e)
 
+-- there is a header named `Main` in two lists joined exactly if there is one in the first or in the second
 some_joined : (xs ys : List MainAt) → some_main (xs ++ ys) ≡ (some_main xs || some_main ys)
 some_joined [] ys = refl
 some_joined (x ∷ xs) ys = refl
 
+-- an `or` whose second part is an `or` is that of the first two parts and the third
 or_join : (a b c : Bool) → (a || (b || c)) ≡ ((a || b) || c)
 or_join true b c = refl
 or_join false b c = refl
@@ -42,6 +46,7 @@ or_join false b c = refl
 pub next_seen : (seen after : Bool) (xs ys : List MainAt) → after ≡ (seen || some_main xs) → (seen || some_main (xs ++ ys)) ≡ (after || some_main ys)
 next_seen seen after xs ys e = ap (λ z. seen || z) (some_joined xs ys) ∙ or_join seen (some_main xs) (some_main ys) ∙ ap (λ z. z || some_main ys) (sym e)
 
+-- behind a header named `Main` all others are wrong
 behind_one : (xs : List MainAt) → wrong_from true xs ≡ map (λ (main : MainAt). main.at) xs
 behind_one [] = refl
 behind_one (x ∷ xs) = ap (λ z. x.at ∷ z) (behind_one xs)

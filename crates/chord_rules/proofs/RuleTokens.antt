@@ -26,6 +26,7 @@ use Rattle.chord_rules.proofs.Tokens.{tokens_of, tokens_joined, tokens_flat, tok
 abbrev of : ℕ → ℕ → List ℕ → List ℕ
 of rule other xs = cond (nat_eq other rule) xs []
 
+-- the tokens of a rule in two lists joined are those in the first and then those in the second
 two : (r : ℕ) (xs ys us vs : List ℕ) → tokens_of r xs ≡ us → tokens_of r ys ≡ vs → tokens_of r (xs ++ ys) ≡ us ++ vs
 two r xs ys us vs e f = tokens_joined r xs ys ∙ ap (λ z. z ++ tokens_of r ys) e ∙ ap (λ z. us ++ z) f
 
@@ -33,6 +34,7 @@ two r xs ys us vs e f = tokens_joined r xs ys ∙ ap (λ z. z ++ tokens_of r ys)
 abbrev at_header : ℕ → List HeaderTree → List Method → HeaderTree → List ℕ
 at_header r headers methods h = of r 5 (differing headers h) ++ (of r 9 (hiding methods h) ++ of r 10 (misfitting methods h))
 
+-- the tokens of a rule in what a header is noted to break are those at the header
 header_is : (r : ℕ) (headers : List HeaderTree) (methods : List Method) (h : HeaderTree) → tokens_of r (header_keys headers methods h) ≡ at_header r headers methods h
 header_is r headers methods h =
     two r (keys 5 (differing headers h)) _ _ _ (tokens_keys r 5 (differing headers h) (omega arith))
@@ -46,10 +48,12 @@ at_member r (ChordMember hs body) =
     (of r 21 (flat_map (header_barred (length hs)) hs) ++ (of r 7 (repeated [] hs) ++ (of r 6 (second_sync false hs) ++ of r 8 (repeated_formals [] (flat_map formals_of_header hs)))))
     ++ (of r 4 (drop 8 (header_tokens hs)) ++ (of r 4 (flat_map crowded_formals hs) ++ of r 4 (drop 256 (block_names body))))
 
+-- the tokens of a rule in the keys of four rules are the tokens of those of the four that are this rule
 four : (r a b c d : ℕ) (ks ls ms ns : List ℕ) → a < 32 → b < 32 → c < 32 → d < 32 → tokens_of r (keys a ks ++ (keys b ls ++ (keys c ms ++ keys d ns))) ≡ of r a ks ++ (of r b ls ++ (of r c ms ++ of r d ns))
 four r a b c d ks ls ms ns la lb lc ld =
     two r (keys a ks) _ _ _ (tokens_keys r a ks la) (two r (keys b ls) _ _ _ (tokens_keys r b ls lb) (two r (keys c ms) (keys d ns) _ _ (tokens_keys r c ms lc) (tokens_keys r d ns ld)))
 
+-- the tokens of a rule in what a member is noted to break are those at the member
 member_is : (r : ℕ) (m : MemberTree) → tokens_of r (keys_of_member m) ≡ at_member r m
 member_is r (ConstructorMember modifiers name formals body) =
     four r 21 8 4 4 (barred_among OnConstructor modifiers [] modifiers) (repeated_formals [] formals.parameters) (drop 8 (formal_tokens formals.parameters)) (drop 256 (block_names body)) (omega arith) (omega arith) (omega arith) (omega arith)
@@ -68,6 +72,7 @@ at_class r classes done plans c =
     ++ (flat_map (at_member r) c.members ++ (of r 4 (chord_places plans (base_of done c) c.members)
     ++ (flat_map (at_header r (headers_of c) (inherited done (base_of done c))) (headers_of c) ++ of r 11 (split done plans c))))))
 
+-- the tokens of a rule in what a class is noted to break are those at the class
 class_is : (r : ℕ) (classes : List ClassTree) (done : List Shape) (plans : List ClassOf) (c : ClassTree) → tokens_of r (class_keys classes done plans c) ≡ at_class r classes done plans c
 class_is r classes done plans c =
     two r (name_keys classes done c) _ _ _
@@ -94,14 +99,17 @@ over_both : (f : List Shape → ClassTree → List ℕ) (done : List Shape) (pla
 over_both f done plans number [] = refl
 over_both f done plans number (c ∷ cs) = ap (λ z. f done c ++ z) (over_both f (done ++ (shape_of done c ∷ [])) (plans ++ (class_plan done plans number c ∷ [])) (number + length c.members) cs)
 
+-- a rule that has no tokens at any class has none over classes
 over_none : (done : List Shape) (plans : List ClassOf) (number : ℕ) (cs : List ClassTree) → over_plans (λ d p c. []) done plans number cs ≡ []
 over_none done plans number [] = refl
 over_none done plans number (c ∷ cs) = over_none (done ++ (shape_of done c ∷ [])) (plans ++ (class_plan done plans number c ∷ [])) (number + length c.members) cs
 
+-- a function that makes nothing of each element makes nothing of a list
 flat_none : {A : Type 0} (f : A → List ℕ) → ((x : A) → f x ≡ []) → (xs : List A) → flat_map f xs ≡ []
 flat_none f e [] = refl
 flat_none f e (x ∷ xs) = ap (λ z. z ++ flat_map f xs) (e x) ∙ flat_none f e xs
 
+-- functions that make the same of each element make the same of a list
 flat_same : {A : Type 0} (f g : A → List ℕ) → ((x : A) → f x ≡ g x) → (xs : List A) → flat_map f xs ≡ flat_map g xs
 flat_same f g e [] = refl
 flat_same f g e (x ∷ xs) = ap (λ z. z ++ flat_map f xs) (e x) ∙ ap (λ z. g x ++ z) (flat_same f g e xs)
@@ -118,9 +126,11 @@ of_members ms hs rule m h = ap (λ z. z ++ (hs ++ [])) m ∙ ap (λ z. rule ++ (
 of_headers : (ms hs rule : List ℕ) → ms ≡ [] → hs ≡ rule → ms ++ (hs ++ []) ≡ rule
 of_headers ms hs rule m h = ap (λ z. z ++ (hs ++ [])) m ∙ append-nil hs ∙ h
 
+-- a rule that has no tokens at any header has none at those of a class
 no_header : (r : ℕ) (headers : List HeaderTree) (methods : List Method) → ((h : HeaderTree) → at_header r headers methods h ≡ []) → flat_map (at_header r headers methods) headers ≡ []
 no_header r headers methods e = flat_none (at_header r headers methods) e headers
 
+-- a rule that has no tokens at any member has none at those of a class
 no_member : (r : ℕ) (ms : List MemberTree) → ((m : MemberTree) → at_member r m ≡ []) → flat_map (at_member r) ms ≡ []
 no_member r ms e = flat_none (at_member r) e ms
 
@@ -133,6 +143,7 @@ class_1 classes done plans c = class_is 1 classes done plans c ∙ ap (λ z. z +
     silent (ConstructorMember modifiers name formals body) = refl
     silent (ChordMember hs body) = refl
 
+-- the tokens of C03 in what a class is noted to break are those at which it breaks C03
 class_3 : (classes : List ClassTree) (done : List Shape) (plans : List ClassOf) (c : ClassTree) → tokens_of 3 (class_keys classes done plans c) ≡ base_missing done c
 class_3 classes done plans c = class_is 3 classes done plans c ∙ ap (λ z. z ++ (flat_map (at_member 3) c.members ++ (flat_map (at_header 3 (headers_of c) (inherited done (base_of done c))) (headers_of c) ++ []))) (append-nil (base_missing done c))
     ∙ alone (base_missing done c) _ _ (no_member 3 c.members silent) (no_header 3 (headers_of c) (inherited done (base_of done c)) (λ h. refl))
@@ -141,6 +152,7 @@ class_3 classes done plans c = class_is 3 classes done plans c ∙ ap (λ z. z +
     silent (ConstructorMember modifiers name formals body) = refl
     silent (ChordMember hs body) = refl
 
+-- the tokens of C12 in what a class is noted to break are those at which it breaks C12
 class_12 : (classes : List ClassTree) (done : List Shape) (plans : List ClassOf) (c : ClassTree) → tokens_of 12 (class_keys classes done plans c) ≡ wrong_constructors classes done c
 class_12 classes done plans c = class_is 12 classes done plans c ∙ alone (wrong_constructors classes done c) _ _ (no_member 12 c.members silent) (no_header 12 (headers_of c) (inherited done (base_of done c)) (λ h. refl))
   where
@@ -171,6 +183,7 @@ class_6 classes done plans c = class_is 6 classes done plans c ∙ of_members _ 
     said (ConstructorMember modifiers name formals body) = refl
     said (ChordMember hs body) = append-nil (second_sync false hs ++ []) ∙ append-nil (second_sync false hs)
 
+-- the tokens of C07 in what a class is noted to break are those at which it breaks C07
 class_7 : (classes : List ClassTree) (done : List Shape) (plans : List ClassOf) (c : ClassTree) → tokens_of 7 (class_keys classes done plans c) ≡ repeated_methods done c
 class_7 classes done plans c = class_is 7 classes done plans c ∙ of_members _ _ (repeated_methods done c) (flat_same (at_member 7) repeated_in said c.members) (no_header 7 (headers_of c) (inherited done (base_of done c)) (λ h. refl))
   where
@@ -178,6 +191,7 @@ class_7 classes done plans c = class_is 7 classes done plans c ∙ of_members _ 
     said (ConstructorMember modifiers name formals body) = refl
     said (ChordMember hs body) = append-nil (repeated [] hs ++ []) ∙ append-nil (repeated [] hs)
 
+-- the tokens of C08 in what a class is noted to break are those at which it breaks C08
 class_8 : (classes : List ClassTree) (done : List Shape) (plans : List ClassOf) (c : ClassTree) → tokens_of 8 (class_keys classes done plans c) ≡ parameter_again done c
 class_8 classes done plans c = class_is 8 classes done plans c ∙ of_members _ _ (parameter_again done c) (flat_same (at_member 8) (λ m. repeated_formals [] (member_formals m)) said c.members) (no_header 8 (headers_of c) (inherited done (base_of done c)) (λ h. refl))
   where
@@ -185,6 +199,7 @@ class_8 classes done plans c = class_is 8 classes done plans c ∙ of_members _ 
     said (ConstructorMember modifiers name formals body) = append-nil (repeated_formals [] formals.parameters)
     said (ChordMember hs body) = append-nil (repeated_formals [] (flat_map formals_of_header hs))
 
+-- the tokens of C21 in what a class is noted to break are those at which it breaks C21
 class_21 : (classes : List ClassTree) (done : List Shape) (plans : List ClassOf) (c : ClassTree) → tokens_of 21 (class_keys classes done plans c) ≡ modifiers_barred done c
 class_21 classes done plans c = class_is 21 classes done plans c ∙ of_members _ _ (modifiers_barred done c) (flat_same (at_member 21) barred_in said c.members) (no_header 21 (headers_of c) (inherited done (base_of done c)) (λ h. refl))
   where
@@ -202,6 +217,7 @@ class_5 classes done plans c =
     silent (ConstructorMember modifiers name formals body) = refl
     silent (ChordMember hs body) = refl
 
+-- the tokens of C09 in what a class is noted to break are those at which it breaks C09
 class_9 : (classes : List ClassTree) (done : List Shape) (plans : List ClassOf) (c : ClassTree) → tokens_of 9 (class_keys classes done plans c) ≡ missing_override done c
 class_9 classes done plans c =
     class_is 9 classes done plans c ∙ of_headers _ _ (missing_override done c) (no_member 9 c.members silent)
@@ -211,6 +227,7 @@ class_9 classes done plans c =
     silent (ConstructorMember modifiers name formals body) = refl
     silent (ChordMember hs body) = refl
 
+-- the tokens of C10 in what a class is noted to break are those at which it breaks C10
 class_10 : (classes : List ClassTree) (done : List Shape) (plans : List ClassOf) (c : ClassTree) → tokens_of 10 (class_keys classes done plans c) ≡ wrong_override done c
 class_10 classes done plans c =
     class_is 10 classes done plans c ∙ of_headers _ _ (wrong_override done c) (no_member 10 c.members silent) refl
@@ -229,6 +246,7 @@ class_11 classes done plans c =
     silent (ConstructorMember modifiers name formals body) = refl
     silent (ChordMember hs body) = refl
 
+-- no class is noted to break C13
 class_13 : (classes : List ClassTree) (done : List Shape) (plans : List ClassOf) (c : ClassTree) → tokens_of 13 (class_keys classes done plans c) ≡ []
 class_13 classes done plans c =
     class_is 13 classes done plans c ∙ of_members _ _ [] (no_member 13 c.members silent) (no_header 13 (headers_of c) (inherited done (base_of done c)) (λ h. refl))
@@ -245,6 +263,7 @@ by_classes r p rule n e =
     (tokens_keys r 13 (wrong_mains (mains_of p.classes) (length (spelling p))) (omega arith) ∙ ap (λ z. cond z (wrong_mains (mains_of p.classes) (length (spelling p))) []) n)
     ∙ append-nil (in_classes rule p)
 
+-- the tokens of a rule other than that on `Main`, which may look at plans
 by_plans : (r : ℕ) (p : ProgramTree) (rule : List Shape → List ClassOf → ClassTree → List ℕ) → nat_eq 13 r ≡ false → ((done : List Shape) (plans : List ClassOf) (c : ClassTree) → tokens_of r (class_keys p.classes done plans c) ≡ rule done plans c) → tokens_of r (program_keys p) ≡ over_plans rule [] [] 0 p.classes
 by_plans r p rule n e =
     two r (classes_keys p) (keys 13 (wrong_mains (mains_of p.classes) (length (spelling p)))) _ _ (tokens_over r (class_keys p.classes) rule e [] [] 0 p.classes)

@@ -1,6 +1,7 @@
 -- A loop through a list, one item at a time.
 use Rattle.std.proofs.Common.{◌≡◌, ℕ, zero, suc, map, ◌+◌, ◌<◌, ◌≤◌, List, [], ◌∷◌, length, drop, get_or, refl, sym, ap, ◌∙◌, arith, add-one}
 
+-- what is left of a list from a place on is the item there, and what is left from the next place on
 item_suc : {A : Type 0} (xs : List A) (i : ℕ) (x : A) → i < length xs → x ≡ get_or xs i x → drop i xs ≡ x ∷ drop (suc i) xs
 item_suc [] i x l e = absurd (omega arith)
 item_suc (a ∷ xs) zero x l e = ap (λ z. z ∷ xs) (sym e)

@@ -18,6 +18,7 @@ use Rattle.chord_rules.specs.ClassKeys.{class_keys}
 use Rattle.chord_rules.specs.Passing.{ClassesNumbered}
 use Rattle.chord_rules.proofs.Within.{BaseWithin, AreKeys, noted_within_members, class_within_keys}
 
+-- the name of a base lies between two bounds if the tokens of its node do
 base_within : (lo hi : ℕ) (base : Option Name) (at : ℕ) → lo ≤ at → at + size (node_base base) ≤ hi → IsNumbered (node_base base) at → BaseWithin lo hi base
 base_within lo hi None at l u h = tt
 base_within lo hi (Some x) at l u h = let e = h.1.0 in (omega (arith, e), omega (arith, e))
@@ -59,6 +60,7 @@ classes_stopped classes done plans number c rest o p k numbered n hp hk =
 pub numbered_rest : (c : ClassTree) (cs : List ClassTree) → ClassesNumbered (c ∷ cs) → ClassesNumbered cs
 numbered_rest c cs h = (h.0 + size (node_class c), h.1.1.0)
 
+-- the classes of a numbered tree of usings and classes are numbered
 of_classes : (usings : List UsingTree) (cs : List ClassTree) → IsNumbered (node_all_classes usings cs) 0 → ClassesNumbered cs
 of_classes usings [] h = (0, tt)
 of_classes usings (c ∷ cs) h = (0 + size (node_usings usings), (h.1.0, (h.1.1.0, tt)))

@@ -25,16 +25,19 @@ pub tokens_flat : {A : Type 0} (rule : ℕ) (f g : A → List ℕ) → ((x : A) 
 tokens_flat rule f g e [] = refl
 tokens_flat rule f g e (x ∷ xs) = tokens_joined rule (f x) (flat_map f xs) ∙ ap (λ z. z ++ tokens_of rule (flat_map f xs)) (e x) ∙ ap (λ z. g x ++ z) (tokens_flat rule f g e xs)
 
+-- the key of a rule at a token has that token if the rule is this one, and none if it is another
 token_at : (rule other at : ℕ) → other < 32 → token_of rule (32 * at + other) ≡ cond (nat_eq other rule) (at ∷ []) []
 token_at rule other at l =
     let e : (32 * at + other) % 32 ≡ other = omega arith in
     let f : (32 * at + other) / 32 ≡ at = omega arith in
     ap (λ z. cond (nat_eq z rule) ((32 * at + other) / 32 ∷ []) []) e ∙ ap (λ z. cond (nat_eq other rule) (z ∷ []) []) f
 
+-- a token and then others, each on one condition, are all of them on that condition
 cond_cons : (b : Bool) (x : ℕ) (xs : List ℕ) → cond b (x ∷ []) [] ++ cond b xs [] ≡ cond b (x ∷ xs) []
 cond_cons true x xs = refl
 cond_cons false x xs = refl
 
+-- no tokens on a condition are no tokens
 no_tokens : (b : Bool) → ◌≡◌ {A = List ℕ} [] (cond b [] [])
 no_tokens true = refl
 no_tokens false = refl
@@ -44,6 +47,7 @@ pub tokens_keys : (rule other : ℕ) (xs : List ℕ) → other < 32 → tokens_o
 tokens_keys rule other [] l = no_tokens (nat_eq other rule)
 tokens_keys rule other (x ∷ xs) l = ap (λ z. token_of rule (32 * x + other) ++ z) (tokens_keys rule other xs l) ∙ ap (λ z. z ++ cond (nat_eq other rule) xs []) (token_at rule other x l) ∙ cond_cons (nat_eq other rule) x xs
 
+-- what is in a token on a condition and more is that token, where the condition is true, or is in the rest
 in_token : (b : Bool) (at token : ℕ) (more : List ℕ) → IsIn (cond b (token ∷ []) [] ++ more) at → ((b ≡ true) × (token ≡ at)) ⊎ IsIn more at
 in_token true at token more (inl e) = inl (refl, e)
 in_token true at token more (inr h) = inr h
@@ -60,6 +64,7 @@ key_of rule at (k ∷ ks) h = elim (in_token (nat_eq (k % 32) rule) at (k / 32) 
     whole : (k rule at : ℕ) → k % 32 ≡ rule → k / 32 ≡ at → k ≡ 32 * at + rule
     whole k rule at e f = omega (arith, e, f)
 
+-- what is in a list is in it behind a token on a condition
 more_tokens : (b : Bool) (token at : ℕ) (more : List ℕ) → IsIn more at → IsIn (cond b (token ∷ []) [] ++ more) at
 more_tokens true token at more h = inr h
 more_tokens false token at more h = h

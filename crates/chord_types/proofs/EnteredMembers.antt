@@ -78,7 +78,7 @@ entered table own member begin new h htable hown hmain hdue hscope hnext htypes 
   site = λ class. h.site ∙ all_parameters (see_site begin) (member_formals member) ∙ rw (htable, hown, hmain, hdue, hscope, hnext) refl;
 }
 
--- a function of what an option borrows is that function of the option once it is read
+-- to map what an option borrows is to read that first and then to map it
 due_twice : (f : ValueType → StaticType) (due : Option (Bor ValueType)) → option_map (λ (written : Bor ValueType). f written.now) due ≡ option_map f (option_map (λ (written : Bor ValueType). written.now) due)
 due_twice f None = refl
 due_twice f (Some written) = refl

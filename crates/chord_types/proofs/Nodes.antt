@@ -191,7 +191,7 @@ are_checked site xs old new args h = record {
   noted = h.noted ∙ ap (least old) (all_breaks site xs);
 }
 
--- what a function makes of the elements of a list and one more, laid together, ends with what it makes of that one
+-- what a function makes of a list and one element more, laid together, is what it makes of the list and then of that element
 flat_end : {A : Type 0} (f : A → List ℕ) (xs : List A) (x : A) → flat_map f (xs ++ (x ∷ [])) ≡ flat_map f xs ++ f x
 flat_end f [] x = nothing_after (f x)
 flat_end f (a ∷ xs) x = ap (λ z. f a ++ z) (flat_end f xs x) ∙ append_more (f a) (flat_map f xs) (f x)

@@ -74,7 +74,7 @@ same_by b count at_w (Some j) e h = refl
 same_by true count at_w None e h = absurd (false≢true (sym (ap is_some (e refl)) ∙ h))
 same_by false count at_w None e h = refl
 
--- where a name had no place, what is left without its new place are the places before
+-- where a name had no place, to give it one and take it away again leaves the places before
 less_by : (b : Bool) (count : ℕ) (at_w at_x : Option ℕ) → (b ≡ true → at_w ≡ at_x) → at_w ≡ None → cond b None (or_place at_x (cond b (Some count) None)) ≡ at_x
 less_by true count at_w at_x e h = sym h ∙ e refl
 less_by false count at_w at_x e h = or_none at_x
