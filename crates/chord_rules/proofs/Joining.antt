@@ -9,7 +9,6 @@ use Rattle.chord_rules.specs.Family.{is_layout_rule, PassesJoin, PlanRulesKept}
 use Rattle.chord_rules.proofs.FirstBreak.{of_one}
 
 -- what is not after something that is not after a third is not after the third
-
 first_on : (r k s l t m : ℕ) → IsNotAfter r k s l → IsNotAfter s l t m → IsNotAfter r k t m
 first_on r k s l t m (inl a) (inl b) = inl (omega (arith, a, b))
 first_on r k s l t m (inl a) (inr b) = let e : l ≡ m = b.0 in inl (omega (arith, a, e))
@@ -17,7 +16,6 @@ first_on r k s l t m (inr a) (inl b) = let e : k ≡ l = a.0 in inl (omega (arit
 first_on r k s l t m (inr a) (inr b) = let e : k ≡ l = a.0 in let f : l ≡ m = b.0 in let g : r ≤ s = a.1 in let h : s ≤ t = b.1 in inr (omega (arith, e, f), omega (arith, g, h))
 
 -- two breaks of which none is after the other are one
-
 same_place : (r k s l : ℕ) → IsNotAfter r k s l → IsNotAfter s l r k → (r ≡ s) × (k ≡ l)
 same_place r k s l (inl a) (inl b) = absurd (circle a b)
   where
@@ -61,13 +59,13 @@ of_a_pass p r k_ (C23 at h) = inl refl
 of_a_pass p r k_ (C24 at h) = inl refl
 
 module _ (p : ProgramTree) (mine others : ℕ → Bool) (covers : (r k : ℕ) → Broken p r k → (mine r ≡ true) ⊎ (others r ≡ true)) where
+
   -- the first break of a family is not after a break of it, nor after one of the other family that it is not after
   by_family : (r k t m : ℕ) → IsBreak mine p r k → Broken p t m → (others t ≡ true → IsNotAfter r k t m) → (mine t ≡ true) ⊎ (others t ≡ true) → IsNotAfter r k t m
   by_family r k t m b x f (inl y) = b.first t m y x
   by_family r k t m b x f (inr y) = f y
 
   -- where no rule of either family is broken, none is
-
   either_pass : (r k : ℕ) → Broken p r k → IsFree mine p → IsFree others p → (mine r ≡ true) ⊎ (others r ≡ true) → ⊥
   either_pass r k x free none (inl y) = free r k y x
   either_pass r k x free none (inr y) = none r k y x
@@ -82,7 +80,6 @@ module _ (p : ProgramTree) (mine others : ℕ → Bool) (covers : (r k : ℕ) �
   }
 
 -- of two, one or the other
-
 turned_over : {A B : Type 0} → A ⊎ B → B ⊎ A
 turned_over (inl a) = inr a
 turned_over (inr b) = inl b
@@ -92,7 +89,6 @@ pub passes_join : PassesJoin
 passes_join p = (families_join p is_type_rule is_layout_rule (of_a_pass p), families_join p is_layout_rule is_type_rule (λ r k x. turned_over (of_a_pass p r k x)))
 
 -- the rule is one that a layout rests on
-
 abbrev IsLayoutRule : ℕ → Type 0
 IsLayoutRule r = is_layout_rule r ≡ true
 
