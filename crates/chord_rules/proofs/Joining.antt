@@ -59,7 +59,6 @@ of_a_pass p r k_ (C23 at h) = inl refl
 of_a_pass p r k_ (C24 at h) = inl refl
 
 module _ (p : ProgramTree) (mine others : ℕ → Bool) (covers : (r k : ℕ) → Broken p r k → (mine r ≡ true) ⊎ (others r ≡ true)) where
-
   -- the first break of a family is not after a break of it, nor after one of the other family that it is not after
   by_family : (r k t m : ℕ) → IsBreak mine p r k → Broken p t m → (others t ≡ true → IsNotAfter r k t m) → (mine t ≡ true) ⊎ (others t ≡ true) → IsNotAfter r k t m
   by_family r k t m b x f (inl y) = b.first t m y x
