@@ -1,8 +1,6 @@
 -- The code of the tests is sound: its `Main` ends at once.
-use Rattle.std.proofs.Common.{◌≡◌, ◌⊎◌, inl, ℕ, zero, suc, ◌<◌, ◌≤◌, Bool, true, false, List, [], ◌∷◌, Option, Some, None, refl, sym, ap, ◌∙◌, subst, arith, slice_get}
+use Rattle.std.proofs.Common.{◌≡◌, ℕ, zero, suc, ◌<◌, false, List, [], ◌∷◌, Option, Some, None, refl, sym, ap, subst}
 use Rattle.std.proofs.lemmas.Bool.{eq-eqb}
-use mathlib.Core.Path.{Path}
-use Rattle.chord_base.specs.declared.value.Value.{Value}
 use Rattle.chord_base.specs.declared.value.Value.TheVariants as a_value
 use Rattle.chord_base.specs.declared.event.End.TheVariants.{Gives}
 use Rattle.chord_base.specs.declared.event.Entry.{Entry}
@@ -19,7 +17,7 @@ use Rattle.chord_code.specs.Machine.{IsForward, fetch}
 use Rattle.chord_code.specs.declared.parts.Parts.{Parts}
 use Rattle.chord_code.specs.Meaning.{code_program, begins}
 use Rattle.chord_code.specs.Plays.{Play, EndsBody, GoesWrong, Good, Plays}
-use Rattle.chord_code.specs.Runs.{AreLocal, IsPlan, AllGood, sent}
+use Rattle.chord_code.specs.Runs.{AreLocal, IsPlan}
 use Rattle.chord_code.specs.Sound.{IsSoundCode, NamesMethod}
 use Rattle.chord_code.proofs.Sound.{all_good, all_defined}
 use Rattle.chord_code.specs.declared.instruction.Instruction.TheVariants as instr

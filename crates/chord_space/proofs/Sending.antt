@@ -1,5 +1,5 @@
 -- The code of the tests is sound: its `Main` makes an object, sends it one message and ends.
-use Rattle.std.proofs.Common.{◌≡◌, ◌⊎◌, inl, inr, ℕ, zero, suc, ◌+◌, ◌-◌, ◌<◌, ◌≤◌, Bool, true, false, List, [], ◌∷◌, length, Option, Some, None, refl, sym, ap, ◌∙◌, subst, arith, slice_get, map}
+use Rattle.std.proofs.Common.{◌≡◌, inl, inr, ℕ, zero, suc, ◌+◌, ◌-◌, ◌<◌, true, false, List, [], ◌∷◌, length, Option, Some, None, refl, sym, ap, ◌∙◌, subst, slice_get, map}
 use Rattle.std.proofs.lemmas.Bool.{eq-eqb}
 use mathlib.Core.Path.{Path}
 use Rattle.chord_base.specs.declared.value.Object.{Object}
@@ -17,13 +17,13 @@ use Rattle.chord_base.specs.Machine.{IsPast, Comes}
 use Rattle.chord_base.specs.Meaning.{Start, Main, Chord, Asked}
 use Rattle.chord_base.specs.Messages.{Message, message_of}
 use Rattle.chord_base.specs.Story.{HasKind}
-use Rattle.chord_base.specs.Types.{Signature, Signatures, Has, HaveAll}
+use Rattle.chord_base.specs.Types.{Signature, Signatures, HaveAll}
 use Rattle.chord_code.specs.declared.instruction.Instruction.TheVariants as instr
 use Rattle.chord_code.specs.declared.parts.Parts.{Parts}
 use Rattle.chord_code.specs.Machine.{IsForward, fetch, body_in_block}
 use Rattle.chord_code.specs.Meaning.{code_program, begins, chord_lines, method_is_sync, methods_of}
 use Rattle.chord_code.specs.Plays.{Play, MakesObject, SendsMessage, CallsMethod, PrintsLine, EndsBody, GoesWrong, Good, Plays, what_of}
-use Rattle.chord_code.specs.Runs.{AreLocal, IsPlan, AllGood, BodyPlays, IsFitMessage, sent}
+use Rattle.chord_code.specs.Runs.{AreLocal, IsPlan, AllGood, BodyPlays, IsFitMessage}
 use Rattle.chord_code.specs.Sound.{IsSoundCode, NamesMethod, HasMethod}
 use Rattle.chord_base.specs.Bodies.{Asks}
 use Rattle.chord_base.specs.Messages.{IsCall}
