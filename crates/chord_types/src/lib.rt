@@ -18,3 +18,5 @@ mod returns;
 mod scope;
 mod site;
 mod stmts;
+#[cfg(test)]
+mod tests;
