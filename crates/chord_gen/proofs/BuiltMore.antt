@@ -1,7 +1,7 @@
 -- What was built, block by block.
-use Rattle.std.proofs.Common.{◌≡◌, ℕ, zero, suc, ◌+◌, ◌<◌, ◌≤◌, ◌==◌, ◌⊎◌, List, [], ◌∷◌, ◌++◌, Bool, true, false, cond, ◌||◌, Option, Some, None, inl, inr, length, map, get_or, refl, sym, ◌∙◌, ap, subst, arith, length-append, append_assoc, slice_get, slice_set, drop}
+use Rattle.std.proofs.Common.{◌≡◌, ℕ, zero, suc, ◌+◌, ◌<◌, ◌≤◌, ◌==◌, ◌⊎◌, List, [], ◌∷◌, ◌++◌, Bool, true, false, cond, ◌||◌, Option, Some, None, inl, inr, length, map, get_or, refl, sym, ◌∙◌, ap, arith, length-append, append_assoc, slice_get, slice_set, drop}
 use Rattle.std.specs.Prelude.{unwrap_or, option_map, replicate}
-use Rattle.std.proofs.lemmas.Bool.{false≢true, eqb-true, eq-eqb, ne_eqb, eqb-false}
+use Rattle.std.proofs.lemmas.Bool.{eq-eqb, ne_eqb}
 use Rattle.std.proofs.lemmas.Option.{none-some, same_Some, slice_get_within, slice_get-get_or, slice_get-map}
 use Rattle.chord_bodies.specs.declared.plan.ClassPlan.{ClassPlan}
 use Rattle.chord_bodies.specs.View.{view_class_plan}
@@ -295,8 +295,7 @@ module _ (p : Resolved) where
             let less = bases c b x e q in
             let within : b < length builders = omega (arith, less, at) in
             let there = slice_get-get_or builders b None within in
-            let tells : is_told (unwrap_or (slice_get builders b) None) ≡ has_builder p b = ap (λ z. is_told (unwrap_or z None)) there ∙ is.builders_tell b (get_or builders b None) there in
-            (
+            let tells : is_told (unwrap_or (slice_get builders b) None) ≡ has_builder p b = ap (λ z. is_told (unwrap_or z None)) there ∙ is.builders_tell b (get_or builders b None) there in (
               h ∙ turned (has_own (constructor_of p x)) (has_builder p b) ∙ ap (λ z. z || has_own (constructor_of p x)) (sym (told_by (is_told (unwrap_or (slice_get builders b) None)) b ∙ tells)),
               ap (λ z. cond z (i.Init b ∷ []) []) (sym tells) ∙ init_by (is_told (unwrap_or (slice_get builders b) None)) b,
             )

@@ -1,5 +1,5 @@
 -- The lines of classes, by the numbers that are told.
-use Rattle.std.proofs.Common.{◌≡◌, ℕ, zero, suc, ◌+◌, ◌<◌, ◌≤◌, List, [], ◌∷◌, ◌++◌, length, map, drop, get_or, Option, Some, None, refl, sym, ap, ◌∙◌, subst, arith, slice_get, append_assoc}
+use Rattle.std.proofs.Common.{◌≡◌, ℕ, zero, suc, ◌+◌, ◌<◌, ◌≤◌, List, [], ◌∷◌, ◌++◌, length, map, drop, get_or, Option, Some, None, refl, sym, ap, ◌∙◌, arith, slice_get, append_assoc}
 use Rattle.std.specs.Prelude.{option_map, unwrap_or}
 use Rattle.std.proofs.lemmas.Option.{none-some, same_Some, slice_get-map, slice_get_within, slice_get-get_or}
 use Rattle.chord_base.specs.Types.{Signatures}
@@ -11,7 +11,6 @@ use Rattle.chord_bodies.specs.View.{view_class_plan, view_method_plan, view_chor
 use Rattle.chord_bodies.specs.Resolved.{ClassOf, ChordOf, Resolved}
 use Rattle.chord_bodies.specs.Planned.{laid, ChordIs, IsPlanned}
 use Rattle.chord_code.specs.declared.parts.ClassLine.{ClassLine}
-use Rattle.chord_code.specs.declared.parts.ChordLine.{ChordLine}
 use Rattle.chord_code.specs.declared.parts.Block.{Block}
 use Rattle.chord_code.specs.declared.parts.Parts.{Parts}
 use Rattle.chord_gen.specs.Translation.{OfBuilder, OfBody, origins, block_number, method_line, chord_line, class_line, lines_from}

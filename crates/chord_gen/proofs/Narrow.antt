@@ -1,8 +1,8 @@
 -- Bodies that keep to their types name what fits an instruction.
-use Rattle.std.proofs.Common.{◌≡◌, ℕ, ◌<◌, ◌≤◌, List, [], ◌∷◌, length, map, Option, Some, refl, sym, ap, ◌∙◌, subst, arith, slice_get}
+use Rattle.std.proofs.Common.{List, [], ◌∷◌, Option, Some, ap, ◌∙◌, arith}
 use Rattle.std.specs.Prelude.{option_map}
 use Rattle.std.proofs.lemmas.Option.{slice_get-map}
-use Rattle.chord_base.specs.Types.{Signature, Signatures}
+use Rattle.chord_base.specs.Types.{Signatures}
 use Rattle.chord_base.specs.declared.static_type.StaticType.{StaticType}
 use Rattle.chord_base.specs.declared.static_type.StaticType.TheVariants as ty
 use Rattle.chord_bodies.specs.declared.body.Body.{Body}

@@ -1,14 +1,11 @@
 -- What the code does while it builds blocks.
-use Rattle.std.specs.Prelude.{◌≡◌, ◌<◌, ◌≤◌, ℕ, zero, suc, ◌+◌, List, [], ◌∷◌, ◌++◌, map, length, Bool, true, false, cond, Option, Some, None, unwrap_or, slice_get, option_and_then}
-use Rattle.chord_base.specs.Types.{Signatures}
+use Rattle.std.specs.Prelude.{◌≡◌, ◌<◌, ◌≤◌, ℕ, zero, suc, List, [], ◌∷◌, ◌++◌, map, length, Bool, true, false, cond, Option, Some, None, unwrap_or, slice_get, option_and_then}
 use Rattle.chord_bodies.specs.declared.body.Body.{Body}
 use Rattle.chord_bodies.specs.declared.plan.ChordPlan.{ChordPlan}
-use Rattle.chord_bodies.specs.Resolved.{BodyOf, ChordOf, ClassOf, LayoutOf, Resolved}
+use Rattle.chord_bodies.specs.Resolved.{BodyOf, ChordOf, ClassOf, Resolved}
 use Rattle.chord_bodies.specs.BodyView.{view_body}
-use Rattle.chord_bodies.specs.Planned.{IsPlanned}
 use Rattle.chord_code.specs.declared.instruction.Instruction.{Instruction}
 use Rattle.chord_code.specs.declared.instruction.Instruction.TheVariants as i
-use Rattle.chord_source.specs.Laws.{AreWellTyped}
 use Rattle.chord_code.specs.declared.parts.Block.{Block}
 use Rattle.chord_code.specs.declared.parts.ChordLine.{ChordLine}
 use Rattle.chord_code.specs.declared.parts.ClassLine.{ClassLine}

@@ -151,7 +151,14 @@ pub fn all_blocks(alloc: Global, plan: &Layout, bodies: &[Body]) -> Result<Built
     let mut members = vec![in alloc; 0; bodies.len()]?;
     blocks.push(block_of_body(alloc, bodies, plan.main())?)?;
     for class in plan.classes() {
-        add_class(alloc, bodies, &mut blocks, &mut builders, &mut members, class)?;
+        add_class(
+            alloc,
+            bodies,
+            &mut blocks,
+            &mut builders,
+            &mut members,
+            class,
+        )?;
     }
     Ok(Built {
         blocks,

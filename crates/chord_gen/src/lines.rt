@@ -96,11 +96,7 @@ fn chord_lines(
 }
 
 /// The line of a chord.
-fn line_of_chord(
-    alloc: Global,
-    members: &[u32],
-    chord: &ChordPlan,
-) -> Result<ChordLine, AllocError>
+fn line_of_chord(alloc: Global, members: &[u32], chord: &ChordPlan) -> Result<ChordLine, AllocError>
     requires fits { ChordFits chord.now }
     ensures { IfOk result (λ line. line ≡ told_line members.now (view_chord_plan chord.now)) }
 {

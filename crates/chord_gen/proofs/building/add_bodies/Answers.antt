@@ -1,4 +1,4 @@
-use Rattle.std.proofs.Common.{◌≡◌, ◌+◌, [], ◌∷◌, ◌++◌, map, drop, get_or, sym, ap, ◌∙◌, subst, append_assoc}
+use Rattle.std.proofs.Common.{◌+◌, [], ◌∷◌, ◌++◌, map, drop, get_or, sym, ap, ◌∙◌, subst, append_assoc}
 use Rattle.chord_gen.specs.Translation.{OfBody}
 use Rattle.chord_gen.specs.TypedSource.{source_of}
 use Rattle.chord_gen.specs.Building.{IsBuilt}

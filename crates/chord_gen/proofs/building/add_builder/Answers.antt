@@ -1,8 +1,6 @@
-use Rattle.std.proofs.Common.{◌≡◌, [], ◌∷◌, ◌++◌, ◌||◌, Bool, true, false, cond, length, refl, sym, ap, ◌∙◌, subst}
-use Rattle.std.specs.Prelude.{Some}
+use Rattle.std.proofs.Common.{◌≡◌, [], ◌∷◌, ◌++◌, ◌||◌, true, false, cond, length, refl, sym, ap, ◌∙◌, subst}
 use Rattle.chord_bodies.specs.View.{view_class_plan}
 use Rattle.chord_code.specs.declared.instruction.Instruction.TheVariants as i
-use Rattle.chord_code.specs.declared.parts.Block.{Block}
 use Rattle.chord_gen.specs.Emitted.{then_code}
 use Rattle.chord_gen.specs.Translation.{has_own, has_builder, OfBuilder, own_code, own_slots, builder_block}
 use Rattle.chord_gen.specs.TypedSource.{source_of}

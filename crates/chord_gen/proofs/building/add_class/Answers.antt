@@ -1,4 +1,4 @@
-use Rattle.std.proofs.Common.{◌≡◌, List, [], ◌∷◌, ◌++◌, cond, map, length, ℕ, sym, ap, ◌∙◌, subst, append_assoc}
+use Rattle.std.proofs.Common.{◌≡◌, List, [], ◌∷◌, ◌++◌, cond, map, length, ℕ, subst, append_assoc}
 use Rattle.std.specs.Prelude.{Option, Some, slice_get}
 use Rattle.chord_bodies.specs.Resolved.{LayoutOf}
 use Rattle.chord_bodies.specs.View.{view_class_plan}

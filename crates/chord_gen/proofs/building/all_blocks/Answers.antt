@@ -1,4 +1,4 @@
-use Rattle.std.proofs.Common.{◌≡◌, ◌+◌, [], ◌∷◌, ◌++◌, length, map, refl, sym, ap, ◌∙◌}
+use Rattle.std.proofs.Common.{◌≡◌, ◌+◌, [], ◌∷◌, ◌++◌, length, map, sym, ap, ◌∙◌}
 use Rattle.std.specs.Prelude.{slice_get}
 use Rattle.chord_bodies.specs.BodyView.{view_body}
 use Rattle.chord_bodies.specs.View.{view_class_plan}
@@ -12,8 +12,7 @@ pub loop-class-init : goal.loop-class-init
 loop-class-init c =
     let p = source_of c.args.plan.now c.args.bodies.now in
     let block = c.in_ok-block_of_body.field-0 in
-    let none : length c.new-builders.result.items ≡ 0 = ap length c.new-builders.ensures.items in
-    (
+    let none : length c.new-builders.result.items ≡ 0 = ap length c.new-builders.ensures.items in (
       OfMain ∷ [],
       main_built p c.push.new.self.items c.new-builders.result.items c.in_ok-members.members.items (length c.args.bodies.now) block
           (c.in_ok-block_of_body.ensures ∙ ap (λ z. body_block (slice_get (map view_body c.args.bodies.now) z)) c.main.ensures)
@@ -34,8 +33,7 @@ loop-class-preserved c =
     let h = c.loop-class.invariant in
     let n = length c.loop-class.builders.items in
     let class = view_class_plan c.class-item.result in
-    let there = class_item c.classes-class-items.result.now p.classes c.loop-class.class-index c.class-item.result c.classes-class-items.ensures c.loop-class-test.true c.class-item.is in
-    (
+    let there = class_item c.classes-class-items.result.now p.classes c.loop-class.class-index c.class-item.result c.classes-class-items.ensures c.loop-class-test.true c.class-item.is in (
       h.0 ++ class_origins p n class.own,
       c.in_ok-add_class.ensures.built c.args.plan.now h.0 c.requires.typed (ap (slice_get p.classes) h.3 ∙ there) h.1,
       origins_step p h.0 (origins p) n (length c.add_class.new.builders.items) c.loop-class.class-index p.classes class c.in_ok-add_class.ensures.next there h.2,

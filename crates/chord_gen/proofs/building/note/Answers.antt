@@ -1,4 +1,4 @@
-use Rattle.std.proofs.Common.{◌≡◌, ◌<◌, length, arith, sym, ◌∙◌}
+use Rattle.std.proofs.Common.{arith, sym, ◌∙◌}
 use Rattle.chord_gen.proofs.BuiltMore.{noted_there, noted_never, noted_past}
 use Rattle.chord_gen.proofs.building.note.Goals as goal
 

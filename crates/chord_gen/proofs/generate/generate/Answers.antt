@@ -1,4 +1,4 @@
-use Rattle.std.proofs.Common.{◌≡◌, map, sym, ap, ◌∙◌, subst}
+use Rattle.std.proofs.Common.{sym, ◌∙◌, subst}
 use Rattle.chord_code.specs.Sound.{IsSoundCode}
 use Rattle.chord_code.specs.Valid.{IsValid}
 use Rattle.chord_gen.specs.TypedSource.{source_of}

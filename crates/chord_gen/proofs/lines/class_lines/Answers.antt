@@ -1,4 +1,4 @@
-use Rattle.std.proofs.Common.{◌≡◌, ◌∙◌}
+use Rattle.std.proofs.Common.{◌∙◌}
 use Rattle.chord_bodies.specs.View.{view_class_plan}
 use Rattle.chord_gen.specs.Translation.{lines_from}
 use Rattle.chord_gen.specs.TypedSource.{source_of}
