@@ -25,5 +25,3 @@ mod overrides;
 mod own_methods;
 pub mod plan;
 mod splits;
-#[cfg(test)]
-mod tests;
