@@ -23,6 +23,9 @@ use chord_code::code::Code;
 use std::alloc::{AllocError, Global};
 
 /// Plays a sound code: the journal of a complete run, or of a run of exactly `limits.events` entries.
+///
+/// `limits.events` is 1 to 65,536, `limits.depth` 1 to 256. A journal of fewer entries is complete. The cost of an entry does
+/// not grow with the entries and tasks so far. Fails where no memory is found.
 pub fn play(alloc: Global, code: &Code, limits: &Limits) -> Result<Journal, AllocError>
     requires some { 1 ≤ limits.now.events }
     requires bound { limits.now.events ≤ 65536 }
@@ -128,7 +131,8 @@ fn fires<'a>(program: &CodePlay<'a>, bag: &Bag, entries: &[Entry]) -> bool
 
 /// Whether an entry may follow the run of a code that a journal tells. If none may, the run is complete.
 ///
-/// The run is made again, entry by entry, in the time in which it was made.
+/// `limits.depth` is 1 to 256. The run is made again, entry by entry, in the time in which it was made. Fails where no memory
+/// is found.
 pub fn may_go_on(
     alloc: Global,
     code: &Code,

@@ -1,7 +1,7 @@
-//! The engine of one thread, and small programs as what it plays: one object, one chord, and lines that put, get and print.
+//! The engine of one thread, and what it plays: a code, or a small program (one object, one chord, and lines that put, get and print).
 //! Stands on: chord_base (entries, the join machine, its laws), chord_code (codes), chord_task (the bodies of a code), chord_vm (frames). Used by: chord_run.
-//! Promise: `play` gives a complete run of a program, or a run of exactly as many entries as are allowed (`play_small` is it for
-//! small programs), and `is_complete` tells which of the two a run of a small program is.
+//! Promise: `code_run::play` and `play_small` give a complete run of the program, or a run of exactly as many entries as are
+//! allowed; `code_run::may_go_on` and `is_complete` tell of such a run which of the two it is.
 //! What a small program means stands in `specs/Small.antt`. Not here: the reading of sources (chord_run).
 #![tactic(auto)]
 
