@@ -1,6 +1,7 @@
 #!/usr/bin/env python3
 """How many instructions the two passes of the rules take a token, beside the parser's on the same source in the same run, by valgrind: for 1,000 classes in about
-a mebibyte, and for one body in which 256 locals are used 10,000 times. Neither source breaks a rule, and the program refuses both after the passes."""
+a mebibyte, and for one body in which 256 locals are used 10,000 times. Then whether the cost of a token stays as it is where a source doubles: chords of eight
+headers, classes in chains of sixteen, and classes in one chain of bases, which passes the limit."""
 
 import os
 import re
@@ -34,12 +35,32 @@ def many_locals():
     return f'class P {{ static void Main() {{\n{locals_}{uses}}} }}\n'.encode()
 
 
+MAIN = 'class P { static void Main() { } }\n'
+
+
+def chords_of_eight(count):
+    """A class of chords of eight headers each, all of the same eight methods."""
+    header = ' & '.join(f'async m{i}(int a{i})' for i in range(8))
+    return ('class A {\n' + f'{header} {{ }}\n' * count + '}\n' + MAIN).encode()
+
+
+def chains_of_sixteen(count):
+    """Classes that stand sixteen above each other, each with a method of its own that calls the first one's."""
+    classes = [f'class C{i}{"" if i % 17 == 0 else f" : C{i - 1}"} {{ public async m{i}() {{ m{i - i % 17}(); }} }}\n' for i in range(count)]
+    return ''.join([*classes, MAIN]).encode()
+
+
+def one_chain(count):
+    """Classes of which each has the one before as its base."""
+    return ''.join(['class C0 { }\n', *(f'class C{i} : C{i - 1} {{ }}\n' for i in range(1, count)), MAIN]).encode()
+
+
 def counted(program, source):
     """The instructions that each function takes with those that it calls, by the last part of its name."""
     with tempfile.TemporaryDirectory() as work:
         ran = subprocess.run(['valgrind', '--tool=callgrind', f'--callgrind-out-file={work}/out', program, 'run', '--one'], input=source, stdout=subprocess.PIPE,
                              stderr=subprocess.PIPE, check=False)
-        assert ran.stdout == UNBUILT, ran.stdout[:200]
+        assert ran.stdout == UNBUILT or ran.stdout.startswith(b'refused C04 '), ran.stdout[:200]
         listed = subprocess.run(['callgrind_annotate', '--inclusive=yes', '--threshold=100', f'{work}/out'], stdout=subprocess.PIPE, text=True, check=True,
                                 env={**os.environ, 'LC_ALL': 'C'}).stdout
     found = {}
@@ -57,6 +78,12 @@ def main():
         took = counted(program, source)
         for label, function in PASSES.items():
             common.tell(f'{label}, {name}', took[function] / tokens, took[PARSER] / tokens, 'instructions a token', f'{len(source)} bytes')
+    for name, made, count in [('chords of eight headers', chords_of_eight, 128), ('chains of sixteen', chains_of_sixteen, 512), ('one chain of bases', one_chain, 20_000)]:
+        small, large = made(count), made(2 * count)
+        few, many = counted(program, small), counted(program, large)
+        for label, function in PASSES.items():
+            common.tell(f'{label}, {name}', many[function] / len(TOKEN.findall(large)), few[function] / len(TOKEN.findall(small)), 'instructions a token',
+                        f'{2 * count} beside {count}')
 
 
 if __name__ == '__main__':
