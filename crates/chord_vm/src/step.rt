@@ -291,13 +291,7 @@ fn again(frames: &mut Frames, to: usize, asked: &mut Option<Ask>) -> Step
 
 /// `send`.
 #[inline(never)]
-fn send(
-    alloc: Global,
-    frames: &mut Frames,
-    method: u8,
-    n: usize,
-    asked: &mut Option<Ask>,
-) -> Step
+fn send(alloc: Global, frames: &mut Frames, method: u8, n: usize, asked: &mut Option<Ask>) -> Step
     requires few { n ≤ 8 }
     requires fits { frames.old.top.place + 1 < 2 ^ 64 }
     requires sound { send_by method (machine_of frames.old) (pops n [] (machine_of frames.old).top.stack) ≢ Bad }
@@ -317,13 +311,7 @@ fn send(
 
 /// `call`. The operands are looked at before the depth.
 #[inline(never)]
-fn call(
-    alloc: Global,
-    frames: &mut Frames,
-    method: u8,
-    n: usize,
-    asked: &mut Option<Ask>,
-) -> Step
+fn call(alloc: Global, frames: &mut Frames, method: u8, n: usize, asked: &mut Option<Ask>) -> Step
     requires few { n ≤ 8 }
     requires fits { frames.old.top.place + 1 < 2 ^ 64 }
     requires sound { call_by method (machine_of frames.old) (pops n [] (machine_of frames.old).top.stack) ≢ Bad }
@@ -346,13 +334,7 @@ fn call(
 
 /// `new`. The arguments stay on the stack until the object is there.
 #[inline(never)]
-fn make(
-    parts: &Parts,
-    frames: &mut Frames,
-    class: u16,
-    n: u32,
-    asked: &mut Option<Ask>,
-) -> Step
+fn make(parts: &Parts, frames: &mut Frames, class: u16, n: u32, asked: &mut Option<Ask>) -> Step
     requires fits { frames.old.top.place + 1 < 2 ^ 64 }
     requires sound { if_deeper frames.old.top.room (machine_of frames.old) (makes_object class n (machine_of frames.old) (builder_of parts.now class)) ≢ Bad }
     ensures { IfOk result (λ goes_on. WentOn (if_deeper frames.old.top.room (machine_of frames.old) (makes_object class n (machine_of frames.old) (builder_of parts.now class))) goes_on asked.new frames.new) }
@@ -372,12 +354,7 @@ fn make(
 
 /// `init`: the builder of the base class begins.
 #[inline(never)]
-fn init(
-    alloc: Global,
-    parts: &Parts,
-    frames: &mut Frames,
-    class: u16,
-) -> Result<(), AllocError>
+fn init(alloc: Global, parts: &Parts, frames: &mut Frames, class: u16) -> Result<(), AllocError>
     requires fits { frames.old.top.place + 1 < 2 ^ 64 }
     requires sound { init_by (machine_of frames.old) (slice_get frames.old.top.slots.items 0) (builder_of parts.now class) ≢ Bad }
     ensures { OnOk result (init_by (machine_of frames.old) (slice_get frames.old.top.slots.items 0) (builder_of parts.now class) ≡ Goes (machine_of frames.new)) }
