@@ -9,7 +9,7 @@ use Rattle.chord_bodies.specs.declared.plan.ChordPlan.{ChordPlan}
 use Rattle.chord_bodies.specs.declared.plan.MethodPlan.{MethodPlan}
 use Rattle.chord_bodies.specs.View.{view_class_plan, view_method_plan, view_chord_plan}
 use Rattle.chord_bodies.specs.Resolved.{ClassOf, ChordOf, Resolved}
-use Rattle.chord_bodies.specs.Planned.{laid, ChordIs, IsPlanned}
+use Rattle.chord_bodies.specs.Planned.{AreConcatenated, ChordIs, IsPlanned}
 use Rattle.chord_code.specs.declared.parts.ClassLine.{ClassLine}
 use Rattle.chord_code.specs.declared.parts.ChordLine.{ChordLine}
 use Rattle.chord_code.specs.declared.parts.Block.{Block}
@@ -32,7 +32,7 @@ map_same f g [] h = refl
 map_same f g (x ∷ xs) h = ap (λ y. y ∷ map f xs) (h 0 x refl) ∙ ap (λ ys. g x ∷ ys) (map_same f g xs (λ k y e. h (suc k) y e))
 
 -- the methods of a chord have numbers below 16
-laid_low : (sig : Signatures) (p : Resolved) → IsPlanned sig p → (c : ℕ) (js : List ℕ) (ts : List StaticType) → laid sig c js ts → (i j : ℕ) → slice_get js i ≡ Some j → j < 16
+laid_low : (sig : Signatures) (p : Resolved) → IsPlanned sig p → (c : ℕ) (js : List ℕ) (ts : List StaticType) → AreConcatenated sig c js ts → (i j : ℕ) → slice_get js i ≡ Some j → j < 16
 laid_low sig p plan c [] ts l i j e = absurd (none-some _ e)
 laid_low sig p plan c (k ∷ js) ts l (suc i) j e = laid_low sig p plan c js l.1 l.4 i j e
 laid_low sig p plan c (k ∷ js) ts l zero j e =

@@ -12,6 +12,7 @@ use Rattle.chord_bodies.specs.Planned.{IsPlanned}
 use Rattle.chord_code.specs.declared.instruction.Instruction.{Instruction}
 use Rattle.chord_code.specs.declared.instruction.Instruction.TheVariants as i
 use Rattle.chord_gen.specs.Emitted.{argument_count, operator_code, ways_code, way_code, expr_code, exprs_code, return_code, stmt_code, stmts_code}
+use Rattle.chord_gen.proofs.Emits.{mapped_length}
 
 -- an instruction at place p of a part with s slots names what is there, and its jumps stay at or before the end; Q tells which builders may be entered
 abbrev pub RightIn : ℕ → ℕ → (ℕ → Type 0) → ℕ → ℕ → Instruction → Type 0
@@ -191,19 +192,14 @@ stmt_length sig types due Return g d is = ap length is.1
 stmt_length sig types due (Give e) g d is = ap length is.5
 stmt_length sig types due (StmtBlock xs) g d is = ap length is.3
 
--- a list that is mapped is as long
-pub map_length : {A B : Type 0} (f : A → B) (xs : List A) → length (map f xs) ≡ length xs
-map_length f [] = refl
-map_length f (x ∷ xs) = ap suc (map_length f xs)
-
 -- a body begins in as many slots as it has
 pub opening_length : (b : BodyOf) → length (opening b) ≡ slots_of b
 opening_length b =
     let some : StaticType → Option StaticType = λ t. Some t in
     let none : StaticType → Option StaticType = λ t. None in
     let n = length-append (map some b.parameters) (map none b.locals) in
-    let ps = map_length some b.parameters in
-    let ls = map_length none b.locals in
+    let ps = mapped_length some b.parameters in
+    let ls = mapped_length none b.locals in
     omega (arith, n, ps, ls)
 
 module _ (sig : Signatures) (p : Resolved) (plan : IsPlanned sig p) where

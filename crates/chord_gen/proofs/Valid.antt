@@ -9,7 +9,7 @@ use Rattle.chord_base.specs.Types.{Signature, Signatures}
 use Rattle.chord_base.specs.declared.static_type.StaticType.{StaticType}
 use Rattle.chord_bodies.specs.Resolved.{BodyOf, ClassOf, ChordOf, MethodOf, Resolved, slots_of}
 use Rattle.chord_bodies.specs.Types.{opening, slot_types}
-use Rattle.chord_bodies.specs.Planned.{laid, is_sync_in, IsPlanned}
+use Rattle.chord_bodies.specs.Planned.{AreConcatenated, is_sync_in, IsPlanned}
 use Rattle.chord_code.specs.declared.instruction.Instruction.{Instruction}
 use Rattle.chord_code.specs.declared.instruction.Instruction.TheVariants as i
 use Rattle.chord_code.specs.declared.parts.MethodLine.{MethodLine}
@@ -23,7 +23,8 @@ use Rattle.chord_gen.specs.Emitted.{stmts_code}
 use Rattle.chord_gen.specs.Translation.{has_builder, builds, Origin, OfMain, OfBuilder, OfBody, origins, block_number, body_block, init_code, own_code, own_slots, builder_block, block_of, method_line, chord_line, class_line, lines_from, code_of}
 use Rattle.chord_gen.specs.Laws.{TranslationValid}
 use Rattle.chord_gen.proofs.Numbers.{origin_at, builder_numbered, builders_rise, line_at}
-use Rattle.chord_gen.proofs.PartsRight.{RightIn, AllRightIn, joined_right, right_higher, map_length, opening_length, statements_part}
+use Rattle.chord_gen.proofs.PartsRight.{RightIn, AllRightIn, joined_right, right_higher, opening_length, statements_part}
+use Rattle.chord_gen.proofs.Emits.{mapped_length}
 
 -- a builder enters that of its base class alone, if it has one; no other block enters one
 abbrev Entered : Resolved → Origin → ℕ → Type 0
@@ -196,21 +197,21 @@ module _ (sig : Signatures) (p : Resolved) (typed : AreWellTyped sig p) (plan : 
 
   -- the number of an origin is that of a block
   number_within : (o : Origin) (n : ℕ) → block_number o (origins p) ≡ Some n → n < length (code_of p).blocks
-  number_within o n e = let w = slice_get_within (origins p) n o (origin_at o (origins p) n e) in let m = map_length (block_of p) (origins p) in omega (arith, w, m)
+  number_within o n e = let w = slice_get_within (origins p) n o (origin_at o (origins p) n e) in let m = mapped_length (block_of p) (origins p) in omega (arith, w, m)
 
   -- the number that is told for a member is that of a block
   body_within : (o : Option ℕ) (j : ℕ) → block_number (OfBody j) (origins p) ≡ o → unwrap_or o 0 < length (code_of p).blocks
-  body_within None j e = let m = map_length (block_of p) (origins p) in omega (arith, m)
+  body_within None j e = let m = mapped_length (block_of p) (origins p) in omega (arith, m)
   body_within (Some n) j e = number_within (OfBody j) n e
 
   -- the methods of a chord are among those of its class
-  methods_there : (c : ℕ) (x : ClassOf) → slice_get p.classes c ≡ Some x → (js : List ℕ) (ts : List StaticType) → laid sig c js ts → AllLess (length (class_line p c x).methods) js
+  methods_there : (c : ℕ) (x : ClassOf) → slice_get p.classes c ≡ Some x → (js : List ℕ) (ts : List StaticType) → AreConcatenated sig c js ts → AllLess (length (class_line p c x).methods) js
   methods_there c x e [] ts l = tt
   methods_there c x e (j ∷ js) ts l =
       let q = plan.methods c j l.0 l.2 in
       let same : q.0 ≡ x = same_Some _ _ (sym q.2 ∙ e) in
       let within = slice_get_within x.methods j q.1 (ap (λ (z : ClassOf). slice_get z.methods j) (sym same) ∙ q.3) in
-      let m = map_length method_line x.methods in
+      let m = mapped_length method_line x.methods in
       (omega (arith, within, m), methods_there c x e js l.1 l.4)
 
   -- the line of a class tells of each number whether its method's callers wait as the signatures do
@@ -235,8 +236,8 @@ module _ (sig : Signatures) (p : Resolved) (typed : AreWellTyped sig p) (plan : 
   class_valid : (c : ℕ) (x : ClassOf) → slice_get p.classes c ≡ Some x → IsClassLine (code_of p) (class_line p c x)
   class_valid c x e = record {
     builder = λ b f. number_within (OfBuilder c) b f;
-    few_methods = (let m = map_length method_line x.methods in let few = plan.few_methods c x e in omega (arith, m, few));
-    few_chords = (let m = map_length (chord_line p) x.chords in let few = plan.few_chords c x e in omega (arith, m, few));
+    few_methods = (let m = mapped_length method_line x.methods in let few = plan.few_methods c x e in omega (arith, m, few));
+    few_chords = (let m = mapped_length (chord_line p) x.chords in let few = plan.few_chords c x e in omega (arith, m, few));
     few_parameters = λ j m f. by_method j m (slice_get x.methods j) refl (sym (slice_get-map method_line x.methods j) ∙ f);
     chords = λ k line f. by_chord k line (slice_get x.chords k) refl (sym (slice_get-map (chord_line p) x.chords k) ∙ f);
   }
@@ -262,7 +263,7 @@ module _ (sig : Signatures) (p : Resolved) (typed : AreWellTyped sig p) (plan : 
   -- the code of a source is valid
   all_valid : IsValid (code_of p)
   all_valid = record {
-    main = (let m = map_length (block_of p) (origins p) in omega (arith, m));
+    main = (let m = mapped_length (block_of p) (origins p) in omega (arith, m));
     few = (let n = lines_length 0 p.classes in let few = plan.few in omega (arith, n, few));
     classes = λ c line e. by_class c line (slice_get p.classes c) refl (sym (line_at p c) ∙ e);
     blocks = block_valid;

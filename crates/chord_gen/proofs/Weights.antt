@@ -34,48 +34,48 @@ abbrev pub link_step : Link-F ℕ ℕ ℕ → ℕ
 link_step link = link.operand + 2
 
 -- the weight of a call, where its arguments are weighed
-abbrev pub call_step : Call-F ℕ ℕ ℕ → ℕ
-call_step call = in_all call.arguments.items + 2
+abbrev pub arguments_step : Call-F ℕ ℕ ℕ → ℕ
+arguments_step call = in_all call.arguments.items + 2
 
 -- the weight of an expression
 abbrev pub expr_size : Expr → ℕ
-expr_size = fold-Expr ℕ ℕ ℕ expr_step call_step link_step
+expr_size = fold-Expr ℕ ℕ ℕ expr_step arguments_step link_step
 
 -- the weight of an operator and its operand
 abbrev pub link_size : Link → ℕ
-link_size = fold-Link ℕ ℕ ℕ expr_step call_step link_step
+link_size = fold-Link ℕ ℕ ℕ expr_step arguments_step link_step
 
 -- the weight of a call
 abbrev pub call_size : Call → ℕ
-call_size = fold-Call ℕ ℕ ℕ expr_step call_step link_step
+call_size = fold-Call ℕ ℕ ℕ expr_step arguments_step link_step
 
 -- the weight of a negation
 pub size_negate : (operand : Box Expr Global) → expr_size (expr.Negate operand) ≡ expr_size operand.value + 1
-size_negate operand = ap expr_size (sym (expr.rolls-Negate operand)) ∙ fold-roll-Expr ℕ ℕ ℕ expr_step call_step link_step (nodes.Negate operand)
+size_negate operand = ap expr_size (sym (expr.rolls-Negate operand)) ∙ fold-roll-Expr ℕ ℕ ℕ expr_step arguments_step link_step (nodes.Negate operand)
 
 -- the weight of a denial
 pub size_deny : (operand : Box Expr Global) → expr_size (expr.Deny operand) ≡ expr_size operand.value + 1
-size_deny operand = ap expr_size (sym (expr.rolls-Deny operand)) ∙ fold-roll-Expr ℕ ℕ ℕ expr_step call_step link_step (nodes.Deny operand)
+size_deny operand = ap expr_size (sym (expr.rolls-Deny operand)) ∙ fold-roll-Expr ℕ ℕ ℕ expr_step arguments_step link_step (nodes.Deny operand)
 
 -- the weight of a chain of operators
 pub size_chain : (first : Box Expr Global) (link : Box Link Global) (more : Vec Link Global) → expr_size (expr.Chain first link more) ≡ expr_size first.value + link_size link.value + in_all (map link_size more.items) + 3
-size_chain first link more = ap expr_size (sym (expr.rolls-Chain first link more)) ∙ fold-roll-Expr ℕ ℕ ℕ expr_step call_step link_step (nodes.Chain first link more)
+size_chain first link more = ap expr_size (sym (expr.rolls-Chain first link more)) ∙ fold-roll-Expr ℕ ℕ ℕ expr_step arguments_step link_step (nodes.Chain first link more)
 
 -- the weight of a new object
 pub size_new : (class : ℕ) (arguments : Vec Expr Global) → expr_size (expr.New class arguments) ≡ in_all (map expr_size arguments.items) + 2
-size_new class arguments = ap expr_size (sym (expr.rolls-New class arguments)) ∙ fold-roll-Expr ℕ ℕ ℕ expr_step call_step link_step (nodes.New class arguments)
+size_new class arguments = ap expr_size (sym (expr.rolls-New class arguments)) ∙ fold-roll-Expr ℕ ℕ ℕ expr_step arguments_step link_step (nodes.New class arguments)
 
 -- the weight of a chain of calls
 pub size_calls : (first : Box Expr Global) (call : Box Call Global) (more : Vec Call Global) → expr_size (expr.Calls first call more) ≡ expr_size first.value + call_size call.value + in_all (map call_size more.items) + 3
-size_calls first call more = ap expr_size (sym (expr.rolls-Calls first call more)) ∙ fold-roll-Expr ℕ ℕ ℕ expr_step call_step link_step (nodes.Calls first call more)
+size_calls first call more = ap expr_size (sym (expr.rolls-Calls first call more)) ∙ fold-roll-Expr ℕ ℕ ℕ expr_step arguments_step link_step (nodes.Calls first call more)
 
 -- the weight of an operator and its operand by that of the operand
 pub size_link : (link : Link) → link_size link ≡ expr_size (out-Link link).operand + 2
-size_link link = fold_out-Link ℕ ℕ ℕ expr_step call_step link_step link
+size_link link = fold_out-Link ℕ ℕ ℕ expr_step arguments_step link_step link
 
 -- the weight of a call by those of its arguments
 pub size_call : (call : Call) → call_size call ≡ in_all (map expr_size (out-Call call).arguments.items) + 2
-size_call call = fold_out-Call ℕ ℕ ℕ expr_step call_step link_step call
+size_call call = fold_out-Call ℕ ℕ ℕ expr_step arguments_step link_step call
 
 -- one of a list weighs no more than all
 pub one_in_all : {A : Type 0} (f : A → ℕ) (xs : List A) (i : ℕ) (x : A) → i < length xs → x ≡ get_or xs i x → f x ≤ in_all (map f xs)
