@@ -6,18 +6,18 @@ use Rattle.chord_base.specs.declared.event.Limits.{Limits}
 use Rattle.chord_code.specs.declared.parts.ChordLine.{ChordLine}
 use Rattle.chord_code.specs.declared.parts.ClassLine.{ClassLine}
 use Rattle.chord_code.specs.declared.parts.Parts.{Parts}
-use Rattle.chord_code.specs.Meaning.{code_program, chord_lines, chords_in, methods_of}
+use Rattle.chord_code.specs.Meaning.{code_program, chord_lines, chords_of_line, methods_of}
 use Rattle.chord_code.specs.Valid.{IsValid}
 use Rattle.chord_code.proofs.Validity.{valid_chords}
 use Rattle.chord_lists.proofs.Spots.{one_some, nothing_some}
 
 -- a class that is there has the chords of its line
 pub lines_there : (code : Parts) (classes : List ClassLine) (lines : List ChordLine) (c : ℕ) (line : ClassLine) → classes ≡ code.classes → slice_get classes c ≡ Some line → lines ≡ line.chords → chord_lines code c ≡ lines
-lines_there code classes lines c line same found is = ap (λ z. chords_in (slice_get z c)) (sym same) ∙ ap chords_in found ∙ sym is
+lines_there code classes lines c line same found is = ap (λ z. chords_of_line (slice_get z c)) (sym same) ∙ ap chords_of_line found ∙ sym is
 
 -- a class that is not there has no chords
 pub lines_absent : (code : Parts) (classes : List ClassLine) (c : ℕ) → classes ≡ code.classes → slice_get classes c ≡ None → chord_lines code c ≡ []
-lines_absent code classes c same none = ap (λ z. chords_in (slice_get z c)) (sym same) ∙ ap chords_in none
+lines_absent code classes c same none = ap (λ z. chords_of_line (slice_get z c)) (sym same) ∙ ap chords_of_line none
 
 -- the number of its lines is that of its chords
 pub lines_count : (code : Parts) (limits : Limits) (c : ℕ) (lines : List ChordLine) → chord_lines code c ≡ lines → length lines ≡ length ((code_program code limits).chords c)
