@@ -1,6 +1,6 @@
 #!/usr/bin/env python3
-"""How many instructions lexing and parsing take a byte, for a source of numbers and operators and for one of classes and calls, beside `wc -w` of the same
-bytes, by valgrind. The program refuses both sources after the parser, and what it takes for a source of a few bytes is not counted."""
+"""How many instructions lexing, parsing and the passes of the rules take a byte, for a source of numbers and operators and for one of classes and calls, beside `wc -w` of the same
+bytes, by valgrind. Both sources break a rule, and what it takes for a source of a few bytes is not counted."""
 
 import common
 
@@ -23,7 +23,7 @@ class Total {
   public int Wait() & async done(int s) { return s; }
 }
 '''
-UNBUILT = b'refused unbuilt\n'
+LOCALS = 256
 
 
 def numbers():
@@ -34,9 +34,13 @@ def numbers():
 
 def main():
     program = common.program()
-    few = common.instructions([program, 'run', '--one'], b'class P { }', UNBUILT)
-    for name, source in [('numbers and operators', numbers()), ('classes and calls', (CLASSES * (900_000 // len(CLASSES))).encode())]:
-        ours = common.instructions([program, 'run', '--one'], source, UNBUILT) - few
+    few = common.instructions([program, 'run', '--one'], b'class P { }', b'refused C13 1:12\n')
+    sources = [
+        ('numbers and operators', numbers(), f'refused C04 {LOCALS + 2}:5\n'),
+        ('classes and calls', (CLASSES * (900_000 // len(CLASSES))).encode(), f'refused C01 {CLASSES.count(chr(10)) + 1}:7\n'),
+    ]
+    for name, source, refusal in sources:
+        ours = common.instructions([program, 'run', '--one'], source, refusal.encode()) - few
         theirs = common.instructions(['wc', '-w'], source)
         common.tell(name, ours / len(source), theirs / len(source), 'instructions a byte', f'{len(source)} bytes')
 

@@ -1,5 +1,5 @@
 #!/usr/bin/env python3
-"""Does the built program answer each case of cases/*.tsv as its row says?
+"""Does the built program answer each case of cases/*.tsv as its row says, and print of each program of examples/ the lines beside it?
 
     tools/check-cases.py          asks the program that ./build or the gate made
     tools/check-cases.py --try    asks the toolchain's runner, which needs no proof
@@ -47,6 +47,13 @@ def rows(path):
                 yield number, words.decode().split(), int(status), unescaped(written), unescaped(source)
 
 
+def examples():
+    """The programs of examples/ that have their lines beside them, each as a case that ends with status 0."""
+    for path in sorted(glob.glob(f'{TOP}/examples/*.lines')):
+        with open(path, 'rb') as lines, open(path.removesuffix('.lines') + '.cs', 'rb') as source:
+            yield os.path.relpath(source.name, TOP), ['run', '--one'], 0, lines.read(), source.read()
+
+
 def answer(program, words, source):
     """The status of the program and what it writes."""
     ran = subprocess.run([program, *words], input=source, stdout=subprocess.PIPE, stderr=subprocess.PIPE, timeout=SECONDS, check=False)
@@ -79,6 +86,7 @@ def main():
         print(f'cases: {PROGRAM} is not there: ./build makes it', file=sys.stderr)
         return 1
     cases = [(f'{os.path.relpath(path, TOP)}:{row[0]}', *row[1:]) for path in sorted(glob.glob(f'{TOP}/cases/*.tsv')) for row in rows(path)]
+    cases += examples()
     answers = tried_answers(cases) if is_tried else built_answers(cases)
     failed = 0
     for (_, _, status, written, _), (place, got) in zip(cases, answers):

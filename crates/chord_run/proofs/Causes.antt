@@ -23,7 +23,7 @@ use Rattle.chord_run.specs.declared.command.Mode.{Mode}
 use Rattle.chord_run.specs.declared.command.Mode.TheVariants.{Run}
 use Rattle.chord_run.specs.declared.command.Request.{Request}
 use Rattle.chord_run.specs.declared.refusal.Refusal.{Refusal}
-use Rattle.chord_run.specs.declared.refusal.Refusal.TheVariants.{Long, Bad, Syntax, Tall, Rule, Unbuilt}
+use Rattle.chord_run.specs.declared.refusal.Refusal.TheVariants.{Long, Bad, Syntax, Tall, Rule}
 use Rattle.chord_run.specs.declared.report.Report.{Report}
 
 -- a source has one program
@@ -56,12 +56,9 @@ broken_not_kept source program rule k b g kept =
 pub cause_refuses : (source : List ℕ) (refusal : Refusal) → IsCause source refusal → IsAccepted source → ⊥
 cause_refuses source Long long a = let s = a.1.of_source.short in omega arith
 cause_refuses source (Bad k) bad a = not_both source a.1.of_source.tokens k a.1.of_source.read bad.1
-cause_refuses source (Syntax k) c a = syntax_not_program source a.1.program k c a.1.of_source
-cause_refuses source (Tall k) c a = tall_not_program source a.1.program k c a.1.of_source
-cause_refuses source (Rule r k) c a = broken_not_kept source a.1.program r k c a.1.of_source a.1.kept
-cause_refuses source Unbuilt other a =
-    let same = one_program source other.program a.1.program other.of_source a.1.of_source in
-    other.other a.0 (rw same a.1.small)
+cause_refuses source (Syntax k) c a = syntax_not_program source a.0 k c a.1.of_source
+cause_refuses source (Tall k) c a = tall_not_program source a.0 k c a.1.of_source
+cause_refuses source (Rule r k) c a = broken_not_kept source a.0 r k c a.1.of_source a.1.kept
 
 -- the status of a journal by whether a body has failed and whether `Main` has ended
 abbrev status_by : Bool → Bool → ℕ

@@ -1,5 +1,5 @@
 -- Answers are exact: a source has one machine, a refusal has one line, and what was taken whole comes with the status that is due.
-use Rattle.std.proofs.Common.{◌≡◌, ℕ, List, [], ◌∷◌, Option, Some, None, refl, sym, ap, subst, ◌∙◌, inl, inr, codes}
+use Rattle.std.proofs.Common.{◌≡◌, ℕ, List, Option, Some, None, refl, sym, ap, subst, ◌∙◌, inl, inr, codes}
 use Rattle.std.specs.Prelude.{◌⊎◌, length}
 use Rattle.chord_base.specs.Machine.{IsComplete}
 use Rattle.chord_base.specs.Meaning.{Program}
@@ -10,74 +10,28 @@ use Rattle.chord_io.specs.Pieces.{Took}
 use Rattle.chord_io.proofs.Joined.{not_whole}
 use Rattle.chord_lexer.proofs.Chains.{one_list}
 use Rattle.chord_lexer.specs.Reading.{after_byte_order_mark}
-use Rattle.chord_lexer.specs.declared.token.Kind.{Kind}
-use Rattle.chord_lists.specs.Small.{small_program}
-use Rattle.chord_lists.specs.declared.small.SmallLine.{SmallLine}
+use Rattle.chord_classes.specs.Plan.{resolved_program}
 use Rattle.chord_run.specs.Answers.{Answers, IsSilence}
 use Rattle.chord_run.specs.Command.{Requests}
 use Rattle.chord_run.specs.Due.{HasStatus, IsDue, IsFull, IsRefusalDue, text_due}
-use Rattle.chord_run.specs.Chosen.{AreApart, Chosen}
 use Rattle.chord_run.specs.Refusals.{IsLine, IsTokenAt, rule_front, token_start, with_position}
 use Rattle.chord_run.specs.Positions.{position_of}
 use Rattle.chord_run.specs.Rows.{AreSpecified, IsExact}
-use Rattle.chord_run.specs.SmallForm.{IsSmallForm, StandInHead, body}
 use Rattle.chord_run.specs.Sources.{IsMachine}
 use Rattle.chord_run.specs.Written.{Due, IsWritten}
 use Rattle.chord_run.specs.declared.command.Request.{Request}
 use Rattle.chord_run.specs.declared.refusal.Refusal.{Refusal}
-use Rattle.chord_run.specs.declared.refusal.Refusal.TheVariants.{Long, Bad, Syntax, Tall, Rule, Unbuilt}
+use Rattle.chord_run.specs.declared.refusal.Refusal.TheVariants.{Long, Bad, Syntax, Tall, Rule}
 use Rattle.chord_run.specs.declared.report.Report.{Report}
 use Rattle.chord_run.proofs.Causes.{no_text, one_program}
 use Rattle.chord_run.proofs.Complete.{one_request}
-use Rattle.chord_run.proofs.LineByLine.{form_lines, head_stands, line_is_no_tail, line_unique}
-use Rattle.chord_tree.specs.Program.{spelling}
-
--- the lines of `Main` are known by their kinds
-one_body : (n : Chosen) → AreApart n → (ls ms : List SmallLine) → body n ls ≡ body n ms → ls ≡ ms
-one_body n apart [] [] e = refl
-one_body n apart [] (m ∷ ms) e = absurd (line_is_no_tail n m (body n ms) (sym e))
-one_body n apart (l ∷ ls) [] e = absurd (line_is_no_tail n l (body n ls) e)
-one_body n apart (l ∷ ls) (m ∷ ms) e =
-    let first = line_unique n apart l m (body n ls) (body n ms) e in
-    let later = one_body n apart ls ms first.1 in
-    cc
-
--- the chosen names, one by one
-abbrev chosen_names : (buffer get put parameter program variable : List ℕ) → Chosen
-chosen_names buffer get put parameter program variable = record {
-  buffer = buffer;
-  get = get;
-  put = put;
-  parameter = parameter;
-  program = program;
-  variable = variable;
-}
-
--- the chosen names are known by the kinds
-pub one_chosen : (kinds : List Kind) (n m : Chosen) → StandInHead n kinds → StandInHead m kinds → n ≡ m
-one_chosen kinds n m a b =
-    let buffer : n.buffer ≡ m.buffer = (let x = a.buffer in let y = b.buffer in cc) in
-    let get : n.get ≡ m.get = (let x = a.get in let y = b.get in cc) in
-    let put : n.put ≡ m.put = (let x = a.put in let y = b.put in cc) in
-    let parameter : n.parameter ≡ m.parameter = (let x = a.parameter in let y = b.parameter in cc) in
-    let program : n.program ≡ m.program = (let x = a.program in let y = b.program in cc) in
-    let variable : n.variable ≡ m.variable = (let x = a.variable in let y = b.variable in cc) in
-    let same : chosen_names n.buffer n.get n.put n.parameter n.program n.variable ≡ m = rw (buffer, get, put, parameter, program, variable) refl in
-    same
-
--- kinds are the small form with at most one list of lines
-one_form : (kinds : List Kind) (ls ms : List SmallLine) → IsSmallForm kinds ls → IsSmallForm kinds ms → ls ≡ ms
-one_form kinds ls ms a b =
-    let same = one_chosen kinds a.chosen b.chosen (head_stands a.chosen kinds _ a.is) (head_stands b.chosen kinds _ b.is) in
-    let lines_are = sym (form_lines a.chosen kinds _ a.is) ∙ form_lines b.chosen kinds _ b.is in
-    one_body a.chosen a.apart ls ms (lines_are ∙ ap (λ n. body n ms) (sym same))
+use Rattle.chord_source.specs.Source.{source_program}
 
 -- a source has at most one machine
 pub one_machine : (source : List ℕ) (limits : Limits) (p q : Program) → IsMachine source limits p → IsMachine source limits q → p ≡ q
 one_machine source limits p q a b =
-    let one = one_program source a.1.program b.1.program a.1.of_source b.1.of_source in
-    let same : a.0 ≡ b.0 = one_form (spelling a.1.program) a.0 b.0 a.1.small (rw one b.1.small) in
-    a.2 ∙ ap small_program same ∙ sym b.2
+    let same = one_program source a.0 b.0 a.1.of_source b.1.of_source in
+    a.2 ∙ ap (λ program. source_program (resolved_program program) limits) same ∙ sym b.2
 
 -- a token of a source begins at one byte
 one_start : (source : List ℕ) (k i j : ℕ) → IsTokenAt source k i → IsTokenAt source k j → i ≡ j
@@ -98,7 +52,6 @@ one_line source (Tall k) l m a b =
 one_line source (Rule r k) l m a b =
     let same = one_start source k a.0 b.0 a.1.1 b.1.1 in
     a.2 ∙ ap (λ byte. with_position (rule_front r) (position_of (after_byte_order_mark source) byte)) same ∙ sym b.2
-one_line source Unbuilt l m a b = a ∙ sym b
 
 -- what is due was written whole, so the status is the one that is due
 whole_is_due :

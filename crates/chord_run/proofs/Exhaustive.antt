@@ -4,36 +4,27 @@ use Rattle.std.proofs.lemmas.Bool.{cases_lt}
 use Rattle.chord_lexer.proofs.Fronts.{read_or_refused}
 use Rattle.chord_lexer.specs.Reading.{IsRead}
 use Rattle.chord_lexer.specs.declared.token.Token.{Token}
-use Rattle.chord_classes.specs.Breaks.{KeepsEveryRule}
 use Rattle.chord_parser.proofs.Programs.{each_is_answered}
 use Rattle.chord_parser.specs.Laws.{AreOfNotTall}
-use Rattle.chord_tree.specs.Program.{spelling, token_kinds}
+use Rattle.chord_tree.specs.Program.{token_kinds}
 use Rattle.chord_tree.specs.Tree.{ProgramTree}
 use Rattle.chord_rules.specs.Splits.{SplitsAreListed}
 use Rattle.chord_run.specs.Laws.{IsAcceptedOrHasCause}
 use Rattle.chord_run.specs.Refusals.{IsCause}
 use Rattle.chord_run.specs.Sources.{IsAccepted, IsProgramOf, IsShort}
 use Rattle.chord_run.specs.declared.refusal.Refusal.{Refusal}
-use Rattle.chord_run.specs.declared.refusal.Refusal.TheVariants.{Long, Bad, Syntax, Tall, Rule, Unbuilt}
+use Rattle.chord_run.specs.declared.refusal.Refusal.TheVariants.{Long, Bad, Syntax, Tall, Rule}
 use Rattle.chord_run.proofs.FirstBreak.{broken_or_kept}
-use Rattle.chord_run.proofs.SmallOrNot.{small_or_not}
 
 -- the source is accepted, or it has a cause of a refusal
 abbrev IsSettled : List ℕ → Type 0
 IsSettled source = IsAccepted source ⊎ ((refusal : Refusal) × IsCause source refusal)
 
--- a source whose program breaks no rule is small, or unbuilt
-kept_settled : (source : List ℕ) (program : ProgramTree) → IsProgramOf source program → KeepsEveryRule program → IsSettled source
-kept_settled source program g kept = elim (small_or_not (spelling program)) [
-  | inl s ↦ inl (s.0, record { program = program; of_source = g; kept = kept; small = s.1 })
-  | inr n ↦ inr (Unbuilt, record { program = program; of_source = g; kept = kept; other = λ lines s. n (lines, s) })
-]
-
--- a source with a program is refused by a rule, or is small, or unbuilt
+-- a source with a program is refused by a rule, or accepted
 program_settled : SplitsAreListed → (source : List ℕ) (program : ProgramTree) → IsProgramOf source program → IsSettled source
 program_settled listed source program g = elim (broken_or_kept listed program) [
   | inl b ↦ inr (Rule b.0 b.1.0, record { program = program; of_source = g; first = b.1.1 })
-  | inr kept ↦ kept_settled source program g kept
+  | inr kept ↦ inl (program, record { of_source = g; kept = kept })
 ]
 
 -- a source of not too many bytes whose tokens are of a program without a tall token

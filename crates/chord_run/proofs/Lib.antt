@@ -7,10 +7,7 @@ pub mod Lines
 pub mod Answering
 pub mod Arguments
 pub mod Breaks
-pub mod Prefixes
-pub mod Calls
-pub mod LineByLine
-pub mod SmallOrNot
 pub mod FirstBreak
-pub mod Verdicts
+pub mod Compiled
+pub mod Statuses
 pub mod Exhaustive

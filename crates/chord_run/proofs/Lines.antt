@@ -2,17 +2,18 @@
 use Rattle.std.proofs.Common.{ℕ, List, arith, codes, length, refl}
 use Rattle.chord_lexer.specs.Reading.{IsRead, after_byte_order_mark}
 use Rattle.chord_lexer.specs.declared.token.Token.{Token}
-use Rattle.chord_lists.specs.Small.{small_program}
+use Rattle.chord_classes.specs.Plan.{resolved_program}
 use Rattle.chord_run.specs.Laws.{AcceptedHasMachine, CauseHasLine, MachineIsOfAccepted}
 use Rattle.chord_run.specs.Positions.{position_of}
 use Rattle.chord_run.specs.Refusals.{IsTokenAt, IsWithin, rule_front, token_start, with_position}
 use Rattle.chord_run.specs.Sources.{IsShort}
-use Rattle.chord_run.specs.declared.refusal.Refusal.TheVariants.{Long, Bad, Syntax, Tall, Rule, Unbuilt}
+use Rattle.chord_run.specs.declared.refusal.Refusal.TheVariants.{Long, Bad, Syntax, Tall, Rule}
 use Rattle.chord_run.proofs.Starts.{points_at_token}
+use Rattle.chord_source.specs.Source.{source_program}
 
 -- an accepted source has a machine
 pub accepted_has_machine : AcceptedHasMachine
-accepted_has_machine source limits a = (small_program a.0, (a.0, a.1, refl))
+accepted_has_machine source limits a = (source_program (resolved_program a.0) limits, (a.0, a.1, refl))
 
 -- a source with a machine is accepted
 pub machine_is_of_accepted : MachineIsOfAccepted
@@ -31,4 +32,3 @@ cause_has_line source (Bad k) c = (with_position (codes "refused byte ") (positi
 cause_has_line source (Syntax k) c = (let b = refusing_byte source c.tokens k c.short c.read in (with_position (codes "refused syntax ") (position_of (after_byte_order_mark source) b.0), (b.0, b.1, refl)))
 cause_has_line source (Tall k) c = (let b = refusing_byte source c.tokens k c.short c.read in (with_position (codes "refused tall ") (position_of (after_byte_order_mark source) b.0), (b.0, b.1, refl)))
 cause_has_line source (Rule r k) c = (let b = refusing_byte source c.of_source.tokens k c.of_source.short c.of_source.read in (with_position (rule_front r) (position_of (after_byte_order_mark source) b.0), (b.0, b.1, refl)))
-cause_has_line source Unbuilt c = (codes "refused unbuilt\n", refl)

@@ -8,8 +8,8 @@ use Rattle.chord_tree.specs.Program.{token_kinds}
 use Rattle.chord_run.specs.Refusals.{IsAnsweredBy, IsBroken, IsCause}
 use Rattle.chord_run.specs.Sources.{IsShort}
 use Rattle.chord_run.specs.declared.refusal.Refusal.{Refusal}
-use Rattle.chord_run.specs.declared.refusal.Refusal.TheVariants.{Long, Bad, Syntax, Tall, Rule, Unbuilt}
-use Rattle.chord_run.proofs.Causes.{broken_not_kept, one_program, syntax_not_program, tall_not_program}
+use Rattle.chord_run.specs.declared.refusal.Refusal.TheVariants.{Long, Bad, Syntax, Tall, Rule}
+use Rattle.chord_run.proofs.Causes.{one_program, syntax_not_program, tall_not_program}
 
 -- a source has not too many bytes where it is short
 not_long : (source : List ℕ) (refusal : Refusal) → IsCause source Long → IsShort source → Long ≡ refusal
@@ -55,34 +55,23 @@ one_cause joins source Long (Bad k) a b = not_long source (Bad k) a b.0
 one_cause joins source Long (Syntax k) a b = not_long source (Syntax k) a b.short
 one_cause joins source Long (Tall k) a b = not_long source (Tall k) a b.short
 one_cause joins source Long (Rule s k) a b = not_long source (Rule s k) a b.of_source.short
-one_cause joins source Long Unbuilt a b = not_long source Unbuilt a b.of_source.short
 one_cause joins source (Bad j) Long a b = sym (not_long source (Bad j) b a.0)
 one_cause joins source (Bad j) (Bad k) a b = ap Bad (one_place source j k a.1 b.1)
 one_cause joins source (Bad j) (Syntax k) a b = absurd (not_both source b.tokens j b.read a.1)
 one_cause joins source (Bad j) (Tall k) a b = absurd (not_both source b.tokens j b.read a.1)
 one_cause joins source (Bad j) (Rule s k) a b = absurd (not_both source b.of_source.tokens j b.of_source.read a.1)
-one_cause joins source (Bad j) Unbuilt a b = absurd (not_both source b.of_source.tokens j b.of_source.read a.1)
 one_cause joins source (Syntax j) Long a b = sym (not_long source (Syntax j) b a.short)
 one_cause joins source (Syntax j) (Bad k) a b = absurd (not_both source a.tokens k a.read b.1)
 one_cause joins source (Syntax j) (Syntax k) a b = ap Syntax (one_syntax source j k a b)
 one_cause joins source (Syntax j) (Tall k) a b = absurd (syntax_is_not_tall source j k a b)
 one_cause joins source (Syntax j) (Rule s k) a b = absurd (syntax_not_program source b.program j a b.of_source)
-one_cause joins source (Syntax j) Unbuilt a b = absurd (syntax_not_program source b.program j a b.of_source)
 one_cause joins source (Tall j) Long a b = sym (not_long source (Tall j) b a.short)
 one_cause joins source (Tall j) (Bad k) a b = absurd (not_both source a.tokens k a.read b.1)
 one_cause joins source (Tall j) (Syntax k) a b = absurd (syntax_is_not_tall source k j b a)
 one_cause joins source (Tall j) (Tall k) a b = ap Tall (one_tall source j k a b)
 one_cause joins source (Tall j) (Rule s k) a b = absurd (tall_not_program source b.program j a b.of_source)
-one_cause joins source (Tall j) Unbuilt a b = absurd (tall_not_program source b.program j a b.of_source)
 one_cause joins source (Rule r j) Long a b = sym (not_long source (Rule r j) b a.of_source.short)
 one_cause joins source (Rule r j) (Bad k) a b = absurd (not_both source a.of_source.tokens k a.of_source.read b.1)
 one_cause joins source (Rule r j) (Syntax k) a b = absurd (syntax_not_program source a.program k b a.of_source)
 one_cause joins source (Rule r j) (Tall k) a b = absurd (tall_not_program source a.program k b a.of_source)
 one_cause joins source (Rule r j) (Rule s k) a b = let same = one_broken joins source r j s k a b in ap (λ z. Rule z j) same.0 ∙ ap (λ z. Rule s z) same.1
-one_cause joins source (Rule r j) Unbuilt a b = absurd (broken_not_kept source b.program r j a b.of_source b.kept)
-one_cause joins source Unbuilt Long a b = sym (not_long source Unbuilt b a.of_source.short)
-one_cause joins source Unbuilt (Bad k) a b = absurd (not_both source a.of_source.tokens k a.of_source.read b.1)
-one_cause joins source Unbuilt (Syntax k) a b = absurd (syntax_not_program source a.program k b a.of_source)
-one_cause joins source Unbuilt (Tall k) a b = absurd (tall_not_program source a.program k b a.of_source)
-one_cause joins source Unbuilt (Rule s k) a b = absurd (broken_not_kept source a.program s k b a.of_source a.kept)
-one_cause joins source Unbuilt Unbuilt a b = refl

@@ -14,10 +14,6 @@ pub mod Written
 pub mod Command
 -- which sources are accepted, and what the join machine of each is
 pub mod Sources
--- small sources: the programs that are run today
-pub mod SmallForm
--- the names that a small source chooses
-pub mod Chosen
 -- why a source is refused, and the line that says so
 pub mod Refusals
 -- the line and the column of a byte
@@ -26,7 +22,7 @@ pub mod Positions
 pub mod Laws
 -- ## What only the code's own contracts use
 
--- what is found of the rules of a program
-pub mod Verdicts
+-- what is found of a program: its code, or its first break
+pub mod Compiled
 -- what the private functions of the top call report
 pub mod Reports

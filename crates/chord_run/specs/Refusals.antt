@@ -1,22 +1,20 @@
 -- Why a source is refused, and the line that says so.
 use Rattle.std.specs.Prelude.{◌≡◌, ℕ, ◌+◌, ◌/◌, ◌%◌, ◌<◌, ◌≤◌, ◌++◌, List, [], ◌∷◌, codes, decimal, length, slice_get, unwrap_or, option_map}
-use Rattle.chord_classes.specs.Breaks.{IsBreak, KeepsEveryRule, every_rule}
+use Rattle.chord_classes.specs.Breaks.{IsBreak, every_rule}
 use Rattle.chord_lexer.specs.Reading.{IsRead, IsRefused, after_byte_order_mark}
 use Rattle.chord_lexer.specs.declared.token.Token.{Token}
-use Rattle.chord_lists.specs.declared.small.SmallLine.{SmallLine}
 use Rattle.chord_run.specs.Positions.{position_of}
 use Rattle.chord_parser.specs.Answers.{IsAnswer}
 use Rattle.chord_parser.specs.declared.parser.ParseFault.{ParseFault}
 use Rattle.chord_parser.specs.declared.parser.ParseFault.TheVariants as parser
-use Rattle.chord_run.specs.SmallForm.{IsSmallForm}
 use Rattle.chord_run.specs.Sources.{IsProgramOf, IsShort}
-use Rattle.chord_tree.specs.Program.{spelling, token_kinds}
+use Rattle.chord_tree.specs.Program.{token_kinds}
 use Rattle.chord_tree.specs.Tree.{ProgramTree}
 use Rattle.chord_run.specs.declared.front.FrontFault.{FrontFault}
 use Rattle.chord_run.specs.declared.front.FrontFault.TheVariants.{Memory, Refused}
 use Rattle.chord_run.specs.declared.position.Position.{Position}
 use Rattle.chord_run.specs.declared.refusal.Refusal.{Refusal}
-use Rattle.chord_run.specs.declared.refusal.Refusal.TheVariants.{Long, Bad, Syntax, Tall, Rule, Unbuilt}
+use Rattle.chord_run.specs.declared.refusal.Refusal.TheVariants.{Long, Bad, Syntax, Tall, Rule}
 
 -- a source of at most 1,048,576 bytes reads as tokens that the parser answers so
 pub record IsAnsweredBy (source : List ℕ) (fault : ParseFault) : Type 0 where
@@ -31,22 +29,14 @@ pub record IsBroken (source : List ℕ) (rule k : ℕ) : Type 0 where
   pub of_source : IsProgramOf source program
   pub first : IsBreak every_rule program rule k
 
--- the program of a source breaks no rule, and does not spell the small form
-pub record IsUnbuilt (source : List ℕ) : Type 0 where
-  pub program : ProgramTree
-  pub of_source : IsProgramOf source program
-  pub kept : KeepsEveryRule program
-  pub other : (lines : List SmallLine) → IsSmallForm (spelling program) lines → ⊥
-
 -- the cause of a refusal: too many bytes; a byte at which nothing begins; a token with which no program goes on; a token that
--- is too deep; a rule that the program breaks; a program that breaks none and is not small
+-- is too deep; a rule that the program breaks
 abbrev pub IsCause : List ℕ → Refusal → Type 0
 IsCause source Long = 1048576 < length source
 IsCause source (Bad k) = IsShort source × IsRefused source k
 IsCause source (Syntax k) = IsAnsweredBy source (parser.At k)
 IsCause source (Tall k) = IsAnsweredBy source (parser.Tall k)
 IsCause source (Rule r k) = IsBroken source r k
-IsCause source Unbuilt = IsUnbuilt source
 
 -- the byte at which token k begins; where k is the number of tokens, the end of the text
 abbrev pub token_start : List Token → ℕ → ℕ → ℕ
@@ -70,7 +60,6 @@ PointsAt source (Bad k) byte = IsWithin source byte × (byte ≡ k)
 PointsAt source (Syntax k) byte = IsWithin source byte × IsTokenAt source k byte
 PointsAt source (Tall k) byte = IsWithin source byte × IsTokenAt source k byte
 PointsAt source (Rule r k) byte = IsWithin source byte × IsTokenAt source k byte
-PointsAt source Unbuilt byte = Unit {0}
 
 -- a line that ends with a place: its line, `:` and its column
 abbrev pub with_position : List ℕ → Position → List ℕ
@@ -95,7 +84,6 @@ IsLine source (Bad k) line = PointsIn source (Bad k) (codes "refused byte ") lin
 IsLine source (Syntax k) line = PointsIn source (Syntax k) (codes "refused syntax ") line
 IsLine source (Tall k) line = PointsIn source (Tall k) (codes "refused tall ") line
 IsLine source (Rule r k) line = PointsIn source (Rule r k) (rule_front r) line
-IsLine source Unbuilt line = line ≡ codes "refused unbuilt\n"
 
 -- what a fault of the front says: of a refusal its cause, and the byte at which it points
 abbrev pub IsFrontFault : List ℕ → FrontFault → Type 0

@@ -1,6 +1,7 @@
 -- What the private functions of the top call report: a run, a refusal, or that memory ran out.
 use Rattle.std.specs.Prelude.{◌≡◌, ℕ, List, Option, None, Some}
 use Rattle.chord_base.specs.Meaning.{Program}
+use Rattle.chord_base.specs.Printed.{lines}
 use Rattle.chord_base.specs.declared.event.Entry.{Entry}
 use Rattle.chord_run.specs.Answers.{WritesNothing}
 use Rattle.chord_run.specs.Due.{HasStatus, text_due}
@@ -23,6 +24,12 @@ pub record ReportsRun (request : Request) (program : Program) (report : Report) 
   pub status : ℕ
   pub has_status : HasStatus program request.limits.events journal status
   pub written : IsWritten (record { status = status; text = text_due request journal }) report.status before after
+
+-- the report has this journal, and its text, which is due with this status, was written
+pub record ReportsPlayed (journal : List Entry) (due : ℕ) (report : Report) (before after : Option (List ℕ)) : Type 0 where
+  pub reported : report.journal ≡ Some journal
+  pub refusal : report.refusal ≡ None
+  pub written : IsWritten (record { status = due; text = lines journal }) report.status before after
 
 -- the report has a refusal, and what is due for it was written
 pub record ReportsRefusal (source : List ℕ) (refusal : Refusal) (report : Report) (before after : Option (List ℕ)) : Type 0 where

@@ -3,12 +3,11 @@ use Rattle.std.specs.Prelude.{◌≡◌, ℕ, ◌≤◌, List, length}
 use Rattle.chord_base.specs.Meaning.{Program}
 use Rattle.chord_base.specs.declared.event.Limits.{Limits}
 use Rattle.chord_classes.specs.Breaks.{KeepsEveryRule}
+use Rattle.chord_classes.specs.Plan.{resolved_program}
 use Rattle.chord_lexer.specs.Reading.{IsRead}
 use Rattle.chord_lexer.specs.declared.token.Token.{Token}
-use Rattle.chord_lists.specs.Small.{small_program}
-use Rattle.chord_lists.specs.declared.small.SmallLine.{SmallLine}
 use Rattle.chord_parser.specs.Answers.{IsNotTall}
-use Rattle.chord_run.specs.SmallForm.{IsSmallForm}
+use Rattle.chord_source.specs.Source.{source_program}
 use Rattle.chord_tree.specs.Program.{IsProgram, spelling, token_kinds}
 use Rattle.chord_tree.specs.Tree.{ProgramTree}
 
@@ -25,18 +24,15 @@ pub record IsProgramOf (source : List ℕ) (program : ProgramTree) : Type 0 wher
   pub not_tall : IsNotTall program
   pub spelled : spelling program ≡ token_kinds tokens
 
--- a source is small, with these lines: its program breaks no rule, and spells the small form
-pub record IsSmall (source : List ℕ) (lines : List SmallLine) : Type 0 where
-  pub program : ProgramTree
+-- a source is accepted as this program: that is its program, and breaks no rule
+pub record IsAcceptedAs (source : List ℕ) (program : ProgramTree) : Type 0 where
   pub of_source : IsProgramOf source program
   pub kept : KeepsEveryRule program
-  pub small : IsSmallForm (spelling program) lines
 
--- a source is accepted: it is small
+-- a source is accepted: it has a program, which breaks no rule
 abbrev pub IsAccepted : List ℕ → Type 0
-IsAccepted source = (lines : List SmallLine) × IsSmall source lines
+IsAccepted source = (program : ProgramTree) × IsAcceptedAs source program
 
--- the join machine of a source within these limits on turns and depth: what the program of its lines means, which meets
--- neither limit
+-- the join machine of a source within these limits on turns and depth: what its program means, with all names resolved
 abbrev pub IsMachine : List ℕ → Limits → Program → Type 0
-IsMachine source limits program = (lines : List SmallLine) × IsSmall source lines × (program ≡ small_program lines)
+IsMachine source limits machine = (program : ProgramTree) × IsAcceptedAs source program × (machine ≡ source_program (resolved_program program) limits)

@@ -33,6 +33,7 @@ pub struct Request {
 pub fn request_of(arguments: &[String]) -> Option<Request>
     ensures some { IfSome result (λ request. Requests (argument_bytes arguments.now) request) }
     ensures none { IfNone result ((request : asked.Request) → Requests (argument_bytes arguments.now) request → ⊥) }
+    ensures depth { IfSome result (λ request. (1 ≤ request.limits.depth) × (request.limits.depth ≤ 256)) }
     ensures events { IfSome result (λ request. (1 ≤ request.limits.events) × (request.limits.events ≤ 65536)) }
 {
     match arguments {

@@ -26,8 +26,6 @@ pub enum Refusal {
     /// Its program breaks this rule, 1 to 24, at this token, counted from 0; none at an earlier token, and no lesser one there.
     /// Where the token is the number of tokens, the rule is broken at the end of the text.
     Rule(u8, u32),
-    /// Its program breaks no rule, and is not built yet.
-    Unbuilt,
 }
 
 /// The line of a refusal that points at this byte, with its end.
@@ -42,7 +40,6 @@ pub fn line_of(
 {
     match refusal {
         Refusal::Long => Vec::from_slice(alloc, b"refused long\n"),
-        Refusal::Unbuilt => Vec::from_slice(alloc, b"refused unbuilt\n"),
         Refusal::Bad(_) => pointing_line(alloc, b"refused byte ", source, byte),
         Refusal::Syntax(_) => pointing_line(alloc, b"refused syntax ", source, byte),
         Refusal::Tall(_) => pointing_line(alloc, b"refused tall ", source, byte),

@@ -200,6 +200,141 @@ fn runs(rt: HostRuntime) -> Result<(), Fail> {
     Ok(())
 }
 
+/// A program, and what its run prints.
+struct Played {
+    name: &'static str,
+    source: &'static str,
+    written: &'static str,
+    status: u8,
+    /// The number of entries of its journal.
+    entries: usize,
+}
+
+const PLAYED: [Played; 8] = [
+    Played {
+        name: "empty Main",
+        source: "class P { static void Main() { } }
+",
+        written: "",
+        status: 0,
+        entries: 2,
+    },
+    Played {
+        name: "a group overridden whole",
+        source: "class A {
+  public virtual async a() & public virtual async b() { Console.WriteLine(\"A\"); }
+}
+class B : A {
+  public override async a() & public override async b() { Console.WriteLine(\"B\"); }
+}
+class Q { static void Main() { A x = new B(); x.a(); x.b(); } }
+",
+        written: "B\n",
+        status: 0,
+        entries: 8,
+    },
+    Played {
+        name: "a division by 0 in a method ends its caller",
+        source: "class A { public int Div(int a, int b) { return a / b; } }
+class Q { static void Main() { A a = new A(); Console.WriteLine(\"before\"); Console.WriteLine(a.Div(1, 0)); Console.WriteLine(\"after\"); } }
+",
+        written: "before\n",
+        status: 8,
+        entries: 7,
+    },
+    Played {
+        name: "the turns of a body are used up",
+        source: "class P { static void Main() { while (true) {} } }
+",
+        written: "",
+        status: 8,
+        entries: 2,
+    },
+    Played {
+        name: "calls too deep",
+        source: "class A { public int Go(int n) { return Go(n + 1); } }
+class P { static void Main() { new A().Go(1); } }
+",
+        written: "",
+        status: 8,
+        entries: 768,
+    },
+    Played {
+        name: "objects too deep",
+        source: "class A { public A() { new A(); } }
+class P { static void Main() { new A(); } }
+",
+        written: "",
+        status: 8,
+        entries: 257,
+    },
+    Played {
+        name: "a trap of an asynchronous body changes no other",
+        source: "class A { public async Bad(int n) { Console.WriteLine(1 / n); } }
+class P { static void Main() { A a = new A(); a.Bad(0); } }
+",
+        written: "",
+        status: 8,
+        entries: 6,
+    },
+    Played {
+        name: "a lock of readers and writers",
+        source: "class Lock {
+  public Lock() { idle(); }
+  public void Shared() & async idle() { held(1); }
+  public void Shared() & async held(int n) { held(n + 1); }
+  public void ReleaseShared() & async held(int n) {
+    if (n == 1) idle(); else held(n - 1);
+  }
+  public void Exclusive() & async idle() { }
+  public void ReleaseExclusive() { idle(); }
+}
+class Total {
+  public Total(int n) { sum(0, n); }
+  public async Add(int v) & async sum(int s, int n) {
+    if (n == 1) done(s + v); else sum(s + v, n - 1);
+  }
+  public int Wait() & async done(int s) { return s; }
+}
+class Work {
+  public async Reader(Lock k, Total t) { k.Shared(); k.ReleaseShared(); t.Add(1); }
+  public async Writer(Lock k, Total t) { k.Exclusive(); k.ReleaseExclusive(); t.Add(1); }
+}
+class Program {
+  static void Main() {
+    Lock k = new Lock(); Total t = new Total(4); Work w = new Work();
+    w.Reader(k, t); w.Reader(k, t); w.Writer(k, t); w.Reader(k, t);
+    Console.WriteLine(t.Wait());
+  }
+}
+",
+        written: "4\n",
+        status: 0,
+        entries: 70,
+    },
+];
+
+#[test]
+fn programs(rt: HostRuntime) -> Result<(), Fail> {
+    for case in &PLAYED {
+        let alloc = rt.alloc();
+        let bytes = Vec::from_slice(alloc, case.source.as_bytes())?;
+        let source = MemSource::new(bytes, 4096, Vec::new(alloc));
+        let mut sink = MemSink::new(alloc, 100, 4096, Vec::new(alloc))?;
+        let report = answer(&rt, alloc, "run --one", source, &mut sink)?;
+        let name = case.name;
+        assert_eq!(rt; sink.taken(), case.written.as_bytes(), "{name}");
+        assert_eq!(rt; report.status, case.status, "{name}");
+        assert_eq!(rt; report.refusal, None, "{name}");
+        let entries = match &report.journal {
+            Some(journal) => journal.entries().len(),
+            None => 0,
+        };
+        assert_eq!(rt; entries, case.entries, "{name}");
+    }
+    Ok(())
+}
+
 /// A source that is refused.
 struct Refused {
     name: &'static str,
@@ -208,7 +343,7 @@ struct Refused {
     refusal: Refusal,
 }
 
-const REFUSED: [Refused; 17] = [
+const REFUSED: [Refused; 16] = [
     Refused {
         name: "empty input",
         source: "",
@@ -268,12 +403,6 @@ const REFUSED: [Refused; 17] = [
         source: "\u{FEFF}class P\r\n{\r\n\r  @",
         written: "refused byte 4:3\n",
         refusal: Refusal::Bad(15),
-    },
-    Refused {
-        name: "not small",
-        source: "class P { static void Main() { } }",
-        written: "refused unbuilt\n",
-        refusal: Refusal::Unbuilt,
     },
     Refused {
         name: "one class for both names",

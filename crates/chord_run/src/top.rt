@@ -1,33 +1,34 @@
 //! The top call: reads a source, runs it, and writes its lines.
 #![tactic(auto)]
 
-ghost use Rattle.std.specs.Prelude.{◌≡◌, ◌≤◌, ◌⊎◌, ℕ, List, None, Some, length};
+ghost use Rattle.std.specs.Prelude.{◌≡◌, ◌<◌, ◌≤◌, ◌⊎◌, IfOk, None, Some, length};
 ghost use Rattle.chord_base.specs.Machine.{IsComplete, IsRun};
 ghost use Rattle.chord_io.specs.Faults.{Rose};
-ghost use Rattle.chord_lists.specs.Small.{small_program};
-ghost use Rattle.chord_lists.specs.declared.small.SmallLine as small;
+ghost use Rattle.chord_code.specs.Meaning.{code_program};
+ghost use Rattle.chord_code.specs.Sound.{IsSoundCode};
 ghost use Rattle.chord_run.specs.Answers.{Answers, AnswersSource, IsSilence, IsSilent};
 ghost use Rattle.chord_run.specs.Command.{AreAccepted, Requested, Requests, argument_bytes};
 ghost use Rattle.chord_run.specs.Due.{HasStatus, MakesRun, source_contents};
 ghost use Rattle.chord_run.specs.Refusals.{PointsAt};
-ghost use Rattle.chord_run.specs.Reports.{ReportsNoMemory, ReportsRefusal, ReportsRun};
+ghost use Rattle.chord_run.specs.Reports.{ReportsNoMemory, ReportsPlayed, ReportsRefusal, ReportsRun};
 ghost use Rattle.chord_run.specs.Rows.{AreSpecified, CutsShort, Fills, Finishes, IsExact, NoneFailed, Refuses, RefusesOthers, RunsAccepted, Succeeds};
 ghost use Rattle.chord_run.specs.Sources.{IsShort};
 ghost use Rattle.chord_run.specs.declared.command.Request as asked;
 
 use crate::command::{Mode, Request, request_of};
-use crate::front::{FrontFault, small_source};
+use crate::front::{FrontFault, code_of};
 use crate::refusal::{Refusal, line_of};
 use crate::report::{
     AT_LIMIT, NO_MEMORY, OTHER_ARGUMENTS, READ_FAULT, REFUSED, Report, WRITE_FAULT,
 };
+use chord_base::agreement::same_runs;
+use chord_base::event::Limits;
 use chord_base::journal::Journal;
+use chord_code::code::Code;
 use chord_io::{Failed, ReadFault, Sink, Source, read_all, write_all};
 use chord_journal::write_lines;
-use chord_lists::complete::is_complete;
-use chord_lists::play::play_small;
-use chord_lists::small::Small;
-use std::alloc::Global;
+use chord_lists::code_run::{may_go_on, play};
+use std::alloc::{AllocError, Global};
 use std::sync::Wait;
 use std::thread::Threads;
 
@@ -125,16 +126,20 @@ fn answer_source<K: Sink>(alloc: Global, source: &[u8], request: &Request, sink:
     requires short { IsShort source.now }
     requires some { 1 ≤ request.now.limits.events }
     requires bound { request.now.limits.events ≤ 65536 }
+    requires shallow { 1 ≤ request.now.limits.depth }
+    requires deep { request.now.limits.depth ≤ 256 }
     ensures answered { ReportsNoMemory result (K.taken sink.old) (K.taken sink.new)
         ⊎ AnswersSource request.now source.now result (K.taken sink.old) (K.taken sink.new) }
     ensures not_silent { result.status ≡ 2 → ⊥ }
     ensures fault { result.status ≡ 5 → Rose (K.faults sink.old) (K.faults sink.new) }
 {
-    match small_source(alloc, source) {
+    // a run of the code is one of the source
+    same_runs();
+    match code_of(alloc, source) {
         Err(FrontFault::Memory) => Report::silent(NO_MEMORY),
         Err(FrontFault::Refused(refusal, byte)) => refuse(alloc, source, refusal, byte, sink),
-        Ok(small) => match request.mode {
-            Mode::Run => run(alloc, &small, request, sink),
+        Ok(code) => match request.mode {
+            Mode::Run => run(alloc, &code, request, sink),
         },
     }
 }
@@ -161,36 +166,62 @@ fn refuse<K: Sink>(
     }
 }
 
-/// Plays a small source, and writes the lines of its journal.
-fn run<K: Sink>(alloc: Global, small: &Small, request: &Request, sink: &mut K) -> Report
+/// Plays the code of a source, and writes the lines of its journal.
+fn run<K: Sink>(alloc: Global, code: &Code, request: &Request, sink: &mut K) -> Report
     requires some { 1 ≤ request.now.limits.events }
     requires bound { request.now.limits.events ≤ 65536 }
+    requires shallow { 1 ≤ request.now.limits.depth }
+    requires deep { request.now.limits.depth ≤ 256 }
+    requires sound { IsSoundCode code.now }
     ensures answered { ReportsNoMemory result (K.taken sink.old) (K.taken sink.new)
-        ⊎ ReportsRun request.now (small_program small.now) result (K.taken sink.old) (K.taken sink.new) }
+        ⊎ ReportsRun request.now (code_program code.now request.now.limits) result (K.taken sink.old) (K.taken sink.new) }
+    ensures not_silent { result.status ≡ 2 → ⊥ }
     ensures fault { result.status ≡ 5 → Rose (K.faults sink.old) (K.faults sink.new) }
 {
-    match play_small(alloc, small, &request.limits) {
+    let Ok(journal) = play(alloc, code, &request.limits) else {
+        return Report::silent(NO_MEMORY);
+    };
+    // whether an entry may follow takes memory, so it is decided before the first write
+    match due_status(alloc, code, &request.limits, &journal) {
         Err(_) => Report::silent(NO_MEMORY),
-        Ok(journal) => {
-            let due = due_status(&journal);
-            match write_lines(&journal, sink) {
-                Ok(()) => Report::played(due, journal),
-                Err(Failed) => Report::played(WRITE_FAULT, journal),
-            }
-        }
+        Ok(due) => write_run(journal, due, sink),
     }
 }
 
-/// The status of a run of a small program: the journal's where it is complete, and 6 where it may go on.
-fn due_status(journal: &Journal) -> u8
-    ensures gives { (program : List small.SmallLine) (events : ℕ) → IsRun (small_program program) journal.now
-        → IsComplete (small_program program) journal.now ⊎ (length journal.now ≡ events) → length journal.now ≤ events
-        → HasStatus (small_program program) events journal.now result }
-    ensures no_fault { result ≡ 5 → ⊥ }
+/// Writes the lines of a journal, whose status is this one.
+fn write_run<K: Sink>(journal: Journal, due: u8, sink: &mut K) -> Report
+    ensures played { ReportsPlayed journal due result (K.taken sink.old) (K.taken sink.new) }
+    ensures fault { result.status ≡ 5 → (due ≡ 5) ⊎ Rose (K.faults sink.old) (K.faults sink.new) }
 {
-    if is_complete(journal) {
-        journal.status()
-    } else {
-        AT_LIMIT
+    match write_lines(&journal, sink) {
+        Ok(()) => Report::played(due, journal),
+        Err(Failed) => Report::played(WRITE_FAULT, journal),
+    }
+}
+
+/// The status of a run of a code: the journal's where the run is complete, and 6 where it may go on.
+///
+/// A run of fewer entries than are allowed is complete; one of as many is made again to see whether an entry may follow.
+fn due_status(
+    alloc: Global,
+    code: &Code,
+    limits: &Limits,
+    journal: &Journal,
+) -> Result<u8, AllocError>
+    requires shallow { 1 ≤ limits.now.depth }
+    requires deep { limits.now.depth ≤ 256 }
+    requires sound { IsSoundCode code.now }
+    requires run { IsRun (code_program code.now limits.now) journal.now }
+    requires few { length journal.now ≤ limits.now.events }
+    requires whole { length journal.now < limits.now.events → IsComplete (code_program code.now limits.now) journal.now }
+    ensures gives { IfOk result (λ status. HasStatus (code_program code.now limits.now) limits.now.events journal.now status) }
+    ensures no_fault { IfOk result (λ status. (status ≡ 2 → ⊥) × (status ≡ 5 → ⊥)) }
+{
+    if journal.entries().len() < limits.events as usize {
+        return Ok(journal.status());
+    }
+    match may_go_on(alloc, code, limits, journal)? {
+        true => Ok(AT_LIMIT),
+        false => Ok(journal.status()),
     }
 }

@@ -1,28 +1,19 @@
-use Rattle.std.proofs.Common.{sym, ap, ◌∙◌, inl, inr}
+use Rattle.std.proofs.Common.{sym, ◌∙◌, inl, inr, arith}
 use Rattle.chord_run.proofs.top.run.Goals as goal
 
-pub returns-in-Ok-write_lines-clause-answered : goal.returns-in-Ok-write_lines-clause-answered
-returns-in-Ok-write_lines-clause-answered g c =
-    inr (record {
-      journal = c.in-Ok.journal;
-      reported = ap (λ r. r.journal) c.played.ensures;
-      refusal = ap (λ r. r.refusal) c.played.ensures;
-      status = c.due_status-due.result;
-      has_status = c.due_status-due.ensures.gives c.args.small.now c.args.request.now.limits.events c.in-Ok.ensures.run c.in-Ok.ensures.whole c.in-Ok.ensures.few;
-      written = inl (ap (λ r. r.status) c.played.ensures, c.in-Ok-write_lines.ensures.whole);
-    })
+pub returns-in-Ok-due_status-clause-answered : goal.returns-in-Ok-due_status-clause-answered
+returns-in-Ok-due_status-clause-answered g c =
+    let p = c.write_run.ensures.played in
+    inr (record { journal = c.in-Ok.journal; reported = p.reported; refusal = p.refusal; status = c.in-Ok-due_status.due; has_status = c.in-Ok-due_status.ensures.gives; written = p.written })
 
-pub returns-in-Ok-write_lines-clause-fault : goal.returns-in-Ok-write_lines-clause-fault
-returns-in-Ok-write_lines-clause-fault g c five =
-    absurd (c.due_status-due.ensures.no_fault (sym (ap (λ r. r.status) c.played.ensures) ∙ five))
+pub returns-in-Ok-due_status-clause-not_silent : goal.returns-in-Ok-due_status-clause-not_silent
+returns-in-Ok-due_status-clause-not_silent g c two = elim c.write_run.ensures.played.written [
+  | inl w ↦ c.in-Ok-due_status.ensures.no_fault.0 (sym w.0 ∙ two)
+  | inr w ↦ omega (arith, w.0, two)
+]
 
-pub returns-in-Err-write_lines-clause-answered : goal.returns-in-Err-write_lines-clause-answered
-returns-in-Err-write_lines-clause-answered g c =
-    inr (record {
-      journal = c.in-Ok.journal;
-      reported = ap (λ r. r.journal) c.played-in-Err-write_lines.ensures;
-      refusal = ap (λ r. r.refusal) c.played-in-Err-write_lines.ensures;
-      status = c.due_status-due.result;
-      has_status = c.due_status-due.ensures.gives c.args.small.now c.args.request.now.limits.events c.in-Ok.ensures.run c.in-Ok.ensures.whole c.in-Ok.ensures.few;
-      written = inr (ap (λ r. r.status) c.played-in-Err-write_lines.ensures, c.in-Err-write_lines.ensures.prefix);
-    })
+pub returns-in-Ok-due_status-clause-fault : goal.returns-in-Ok-due_status-clause-fault
+returns-in-Ok-due_status-clause-fault g c five = elim (c.write_run.ensures.fault five) [
+  | inl due ↦ absurd (c.in-Ok-due_status.ensures.no_fault.1 due)
+  | inr rose ↦ rose
+]
