@@ -1,5 +1,5 @@
 #!/usr/bin/env python3
-"""Plays small programs of n puts and n gets, for n and for twice n: the ratio is near 2 where the engine is linear."""
+"""Plays programs of n puts and n gets, for n and for twice n: the ratio is near 2 where the engine is linear."""
 
 import common
 

@@ -31,7 +31,7 @@ use Rattle.chord_lists.specs.CodeStands.{past_of, views, held_at, ready_at, Stan
 use Rattle.chord_lists.specs.CodeGoes.{IsNoted, message_by, AreTagged, CanFire, FiresAt, LacksAt}
 use Rattle.chord_lists.proofs.Bags.{lists_none, lists_on, lists_more, message_to}
 use Rattle.chord_lists.proofs.Taking.{lacks_fires}
-use Rattle.chord_lists.proofs.Standing.{pending_entry}
+use Rattle.chord_lists.proofs.PendingEntries.{pending_entry}
 use Rattle.chord_lists.proofs.Spots.{one_some, nothing_some}
 use Rattle.chord_lists.proofs.CodeSteps.{stands_merged, ready_task}
 use Rattle.chord_lists.proofs.CodeOver.{none_asks}

@@ -1,9 +1,7 @@
 pub mod Bags
 pub mod Taking
 pub mod Engines
-pub mod Playing
-pub mod Runs
-pub mod Standing
+pub mod PendingEntries
 pub mod CodeTasks
 pub mod Spots
 pub mod CodeChords
