@@ -9,7 +9,7 @@ use Rattle.chord_bodies.specs.declared.body.Body.{Body}
 use Rattle.chord_classes.specs.Breaks.{IsBreak, KeepsEveryRule, every_rule}
 use Rattle.chord_classes.specs.Plan.{main_of, plan_of, resolved_program}
 use Rattle.chord_classes.specs.Resolve.{bodies_of}
-use Rattle.chord_classes.specs.Rules.{IsFree, is_type_rule}
+use Rattle.chord_classes.specs.Rules.{is_type_rule}
 use Rattle.chord_code.specs.Meaning.{code_program}
 use Rattle.chord_code.specs.Sound.{IsSoundCode}
 use Rattle.chord_code.specs.declared.parts.Parts.{Parts}

@@ -1,5 +1,5 @@
 -- Answers are exact: a source has one machine, a refusal has one line, and what was taken whole comes with the status that is due.
-use Rattle.std.proofs.Common.{◌≡◌, ℕ, List, Option, Some, None, refl, sym, ap, subst, ◌∙◌, inl, inr, codes}
+use Rattle.std.proofs.Common.{◌≡◌, ℕ, List, Option, Some, None, sym, ap, subst, ◌∙◌, inl, inr, codes}
 use Rattle.std.specs.Prelude.{◌⊎◌, length}
 use Rattle.chord_base.specs.Machine.{IsComplete}
 use Rattle.chord_base.specs.Meaning.{Program}

@@ -1,5 +1,5 @@
 -- A status of a run of a code is that of the same run of its source.
-use Rattle.std.proofs.Common.{◌≡◌, ◌≤◌, ◌∷◌, ℕ, List, inl, inr, reverse}
+use Rattle.std.proofs.Common.{◌∷◌, ℕ, List, inl, inr, reverse}
 use Rattle.chord_base.specs.Agreement.{AgreeInRuns, SameRuns}
 use Rattle.chord_base.specs.Meaning.{Program}
 use Rattle.chord_base.specs.declared.event.Entry.{Entry}
