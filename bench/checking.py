@@ -1,6 +1,6 @@
 #!/usr/bin/env python3
-"""How many instructions the two passes of the rules take a token, beside the parser's on the same source in the same run, by valgrind: for 1,000 classes in about
-a mebibyte, and for one body in which 256 locals are used 10,000 times. Then whether the cost of a token stays as it is where a source doubles: chords of eight
+"""How many instructions a token takes behind the parser, beside the parser's on the same source in the same run, by valgrind: in the pass over chords and the
+plan, and in all else up to the code (names, types, the generator); for 1,000 classes in about a mebibyte, and for one body in which 256 locals are used 10,000 times. Then whether the cost of a token stays as it is where a source doubles: chords of eight
 headers, classes in chains of sixteen, and classes in one chain of bases, which passes the limit."""
 
 import os
@@ -11,8 +11,8 @@ import tempfile
 import common
 
 TOKEN = re.compile(rb'[A-Za-z_0-9]+|[{}();.,:+*&]|=')
-PASSES = {'names and types': 'type_program', 'chords and the plan': 'plan'}
-PARSER = 'parse'
+# The compiler makes one function of the calls from the tokens to the code, but for these two.
+WHOLE, PARSER, PLAN = 'code_of_tokens', 'class_of', 'plan'
 METHODS = 15
 
 
@@ -70,18 +70,24 @@ def counted(program, source):
     return found
 
 
+def passes(took):
+    """What each pass takes."""
+    return {'chords and the plan': took[PLAN], 'names, types and the code': took[WHOLE] - took[PARSER] - took[PLAN]}
+
+
 def main():
     program = common.program()
     for name, source in [('1,000 classes', many_classes()), ('256 locals', many_locals())]:
         tokens = len(TOKEN.findall(source))
         took = counted(program, source)
-        for label, function in PASSES.items():
-            common.tell(f'{label}, {name}', took[function] / tokens, took[PARSER] / tokens, 'instructions a token', f'{len(source)} bytes')
+        for label, count in passes(took).items():
+            common.tell(f'{label}, {name}', count / tokens, took[PARSER] / tokens, 'instructions a token', f'{len(source)} bytes')
     for name, made, count in [('chords of eight headers', chords_of_eight, 128), ('chains of sixteen', chains_of_sixteen, 512), ('one chain of bases', one_chain, 20_000)]:
         small, large = made(count), made(2 * count)
         few, many = counted(program, small), counted(program, large)
-        for label, function in PASSES.items():
-            common.tell(f'{label}, {name}', many[function] / len(TOKEN.findall(large)), few[function] / len(TOKEN.findall(small)), 'instructions a token',
+        few, many = passes(few), passes(many)
+        for label in few:
+            common.tell(f'{label}, {name}', many[label] / len(TOKEN.findall(large)), few[label] / len(TOKEN.findall(small)), 'instructions a token',
                         f'{2 * count} beside {count}')
 
 
