@@ -1,5 +1,6 @@
 #!/usr/bin/env python3
-"""Does the built program answer each case of cases/*.tsv as its row says, and print of each program of examples/ the lines beside it?
+"""Does the built program answer each case of cases/*.tsv as its row says, accept what keeps each limit and refuse what passes it (tools/limits.py), and print of
+each program of examples/ the lines beside it?
 
     tools/check-cases.py          asks the program that ./build or the gate made
     tools/check-cases.py --try    asks the toolchain's runner, which needs no proof
@@ -11,6 +12,9 @@ import re
 import subprocess
 import sys
 import tempfile
+
+sys.dont_write_bytecode = True
+import limits
 
 TOP = os.path.dirname(os.path.dirname(os.path.realpath(__file__)))
 PROGRAM = f'{TOP}/crates/chord_prog/out/chord_prog'
@@ -86,7 +90,7 @@ def main():
         print(f'cases: {PROGRAM} is not there: ./build makes it', file=sys.stderr)
         return 1
     cases = [(f'{os.path.relpath(path, TOP)}:{row[0]}', *row[1:]) for path in sorted(glob.glob(f'{TOP}/cases/*.tsv')) for row in rows(path)]
-    cases += examples()
+    cases += [*limits.cases(), *examples()]
     answers = tried_answers(cases) if is_tried else built_answers(cases)
     failed = 0
     for (_, _, status, written, _), (place, got) in zip(cases, answers):
