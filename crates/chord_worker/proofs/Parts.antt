@@ -118,14 +118,15 @@ kept_nothing (e ∷ h) = kept_nothing h
 kept_some : (place : ℕ → ℕ) (g : ℕ → Bool) (c : ℕ) (h : List Entry) → kept (λ n. place n == c) (kept (λ n. g (place n)) h) ≡ (if g c then kept (λ n. place n == c) h else [])
 kept_some place g c [] = elim (either (g c)) [ inl y ↦ rw y refl | inr o ↦ rw o refl ]
 kept_some place g c (e ∷ h) =
+    let before = kept_some place g c h in
     elim (either (place e.number == c)) [
       | inl s ↦
           (let q : g (place e.number) ≡ g c = ap g (eqb-true (place e.number) c s) in
           elim (either (g c)) [
-            | inl y ↦ rw (q, y, s) (ap (λ (t : List Entry). e ∷ t) (rw y at kept_some place g c h))
-            | inr o ↦ rw (q, o) (rw o at kept_some place g c h)
+            | inl y ↦ rw (q, y, s) (ap (λ (t : List Entry). e ∷ t) (rw y at before))
+            | inr o ↦ rw (q, o) (rw o at before)
           ])
-      | inr n ↦ elim (either (g (place e.number))) [ inl y ↦ rw (y, n) (kept_some place g c h) | inr o ↦ rw (o, n) (kept_some place g c h) ]
+      | inr n ↦ elim (either (g (place e.number))) [ inl y ↦ rw (y, n) before | inr o ↦ rw (o, n) before ]
     ]
 
 -- ## Parts
