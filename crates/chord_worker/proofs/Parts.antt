@@ -110,7 +110,7 @@ pub left_is : (f : ℕ → Bool) (h : List Entry) → left_by (kept f h) h ≡ k
 left_is f h = kept_agree (λ n. not (among (kept f h) n)) (λ n. not (f n)) h (λ e i. ap not (among_is f h e i))
 
 -- nothing is kept by a test that nothing passes
-kept_nothing : (h : List Entry) → kept (λ n. false) h ≡ []
+pub kept_nothing : (h : List Entry) → kept (λ n. false) h ≡ []
 kept_nothing [] = refl
 kept_nothing (e ∷ h) = kept_nothing h
 
@@ -132,7 +132,7 @@ kept_some place g c (e ∷ h) =
 -- ## Parts
 
 -- a truth value as 1 or 0
-flag_is : (b : Bool) → ((if b then 1 else 0) == 1) ≡ b
+pub flag_is : (b : Bool) → ((if b then 1 else 0) == 1) ≡ b
 flag_is true = refl
 flag_is false = refl
 

@@ -2,5 +2,10 @@
 
 -- ## What callers read
 
+-- a worker at rest
+pub mod Resting
+
+-- ## What only the code's own contracts use
+
 -- entries that are made of parts
 pub mod Parted

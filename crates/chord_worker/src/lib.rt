@@ -4,3 +4,7 @@
 //! may go on, and each other body that it keeps has ended or waits.
 //! Not here: threads, who plays when, and when a run is over.
 #![tactic(auto)]
+
+mod worker;
+
+pub use worker::{Gate, Worker};
