@@ -7,5 +7,7 @@ pub mod Resting
 
 -- ## What only the code's own contracts use
 
+-- a task while it is played
+pub mod Playing
 -- entries that are made of parts
 pub mod Parted
