@@ -25,7 +25,7 @@ use Rattle.chord_task.specs.Stacks.{TaskView, IsTask}
 use Rattle.chord_task.specs.Standing.{view_of, body_number, may_go, body_may_go, is_ready_of, IsTop, IsBodyStack, IsTaskOf}
 use Rattle.chord_worker.specs.Parted.{IsParted, with_part, two}
 use Rattle.chord_worker.specs.Resting.{left_of, MayBePlayed, IsInMemory}
-use Rattle.chord_worker.proofs.Parts.{kept_agree, kept_nothing, flag_is, in_below, part_goes, part_asks, parts_quiet, part_drawn, some_place}
+use Rattle.chord_worker.proofs.Parts.{kept_agree, kept_nothing, flag_is, in_below, part_goes, part_asks, parts_quiet, part_drawn, some_place, whole_told}
 
 -- ## Two parts
 
@@ -137,6 +137,7 @@ module _ (code : Parts) (limits : Limits) (es : List Entry) (spent : Bool) (done
   pub task_done : is_ready_of t ≡ false → IsInMemory code limits es spent (done ++ t.past.items) None
   task_done over = record {
     rises = m.rises;
+    told = m.told;
     played = tt;
     held = IsPermutation-trans (done ++ t.past.items) (left_by (view_of t).past es ++ (view_of t).past) es
         (IsPermutation-append done (left_by (view_of t).past es) t.past.items (view_of t).past m.held (IsPermutation-reverse t.past.items))
@@ -167,6 +168,7 @@ module _ (code : Parts) (limits : Limits) (es : List Entry) (spent : Bool) (done
     pub noted : (t' : Task) → IsTaskOf code limits t' → (view_of t').past ≡ entry n b w ∷ (view_of t).past → IsInMemory code limits (entry n b w ∷ es) spent done (Some t')
     noted t' is past = record {
       rises = (below, m.rises);
+      told = whole_told p (grown (two (left_by (view_of t).past es) (view_of t).past) 1 (entry n b w)) (entry n b w ∷ es) noted_parts;
       played = (is, subst (MayGo p (entry n b w ∷ es)) (sym past) (part_goes p (grown (two (left_by (view_of t).past es) (view_of t).past) 1 (entry n b w)) (entry n b w ∷ es) noted_parts 1));
       held = subst (IsPermutation done) (sym same) m.held;
       quiet = λ s. subst (AreQuiet p) (sym same) (m.quiet s);

@@ -129,6 +129,11 @@ kept_some place g c (e ∷ h) =
       | inr n ↦ elim (either (g (place e.number))) [ inl y ↦ rw (y, n) before | inr o ↦ rw (o, n) before ]
     ]
 
+-- a test that all pass keeps all
+pub all_kept : (h : List Entry) → kept (λ n. true) h ≡ h
+all_kept [] = refl
+all_kept (e ∷ h) = ap (λ (t : List Entry). e ∷ t) (all_kept h)
+
 -- ## Parts
 
 -- a truth value as 1 or 0
@@ -153,6 +158,10 @@ module _ (p : Program) (part : ℕ → List Entry) (es : List Entry) (m : IsPart
   pub some_told : (g : ℕ → Bool) → IsTold p (kept (λ n. g (m.at n)) es)
   some_told g = subst (IsTold p) (kept_agree (λ n. (if g (m.at n) then 1 else 0) == 1) (λ n. g (m.at n)) es (λ e i. flag_is (g (m.at e.number))))
       (union_told p m.at (λ c. if g c then 1 else 0) es m.rises parted_told 1)
+
+  -- the whole is told
+  pub whole_told : IsTold p es
+  whole_told = subst (IsTold p) (all_kept es) (some_told (λ c. true))
 
   -- some parts may go
   pub some_go : (g : ℕ → Bool) → MayGo p es (kept (λ n. g (m.at n)) es)

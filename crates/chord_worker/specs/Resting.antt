@@ -2,7 +2,7 @@
 use Rattle.std.specs.Prelude.{◌≡◌, Bool, true, false, List, [], Option, Some, None, IsPermutation}
 use Rattle.chord_base.specs.declared.event.Entry.{Entry}
 use Rattle.chord_base.specs.declared.event.Limits.{Limits}
-use Rattle.chord_base.specs.Story.{IsRising}
+use Rattle.chord_base.specs.Story.{IsRising, IsTold}
 use Rattle.chord_code.specs.declared.parts.Parts.{Parts}
 use Rattle.chord_code.specs.Meaning.{code_program}
 use Rattle.chord_rule.specs.declared.view.View.{View}
@@ -28,6 +28,7 @@ MayBePlayed code limits es (Some t) = IsTaskOf code limits t × MayGo (code_prog
 -- what a desk keeps is in memory: the past of a task, and the entries of what is done. What is done is quiet, unless the run is full
 pub record IsInMemory (code : Parts) (limits : Limits) (kept : List Entry) (spent : Bool) (done : List Entry) (task : Option Task) : Type 0 where
   pub rises : IsRising kept
+  pub told : IsTold (code_program code limits) kept
   pub played : MayBePlayed code limits kept task
   pub held : IsPermutation done (left_of task kept)
   pub quiet : spent ≡ false → AreQuiet (code_program code limits) (left_of task kept)
@@ -44,9 +45,16 @@ pub record IsFree (v : View) : Type 0 where
   pub fresh : v.fresh ≡ []
 
 -- a task in stock has no body, and room for one
+pub record IsStockTask (code : Parts) (limits : Limits) (t : Task) : Type 0 where
+  pub task : IsTaskOf code limits t
+  pub past : (view_of t).past ≡ []
+  pub top : (view_of t).top ≡ None
+  pub room : IsResumable code t
+
+-- there is no task in stock, or it is one
 abbrev pub IsStock : Parts → Limits → Option Task → Type 0
 IsStock code limits None = Unit {0}
-IsStock code limits (Some t) = IsTaskOf code limits t × ((view_of t).past ≡ []) × ((view_of t).top ≡ None) × IsResumable code t
+IsStock code limits (Some t) = IsStockTask code limits t
 
 -- the worker is at rest
 pub record IsAtRest (s : Space Parcel) (w : Worker) : Type 0 where

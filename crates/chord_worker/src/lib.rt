@@ -6,6 +6,7 @@
 #![tactic(auto)]
 
 mod playing;
+mod step;
 mod worker;
 
 pub use worker::{Gate, Worker};

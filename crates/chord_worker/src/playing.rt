@@ -7,7 +7,7 @@ ghost use Rattle.chord_space.specs.Desks.{view, code_of, limits_of, program_of, 
 ghost use Rattle.chord_task.specs.Standing.{view_of, IsTaskOf, is_ready_of};
 ghost use Rattle.chord_vm.specs.Frames.{what_of_ask};
 ghost use Rattle.chord_worker.specs.Playing.{IsReadyTo, IsNoted, WasTold};
-ghost use Rattle.chord_worker.specs.Resting.{IsInMemory, IsStock};
+ghost use Rattle.chord_worker.specs.Resting.{IsInMemory, IsStock, IsStockTask};
 
 use chord_base::event::{Limits, What};
 use chord_code::code::Code;
@@ -46,25 +46,22 @@ pub(crate) fn ready_ask(
     Ok(ask)
 }
 
-/// Sees to a task in stock.
-pub(crate) fn see_to_stock(
+/// The task in stock, or a new one.
+pub(crate) fn stocked(
     alloc: Global,
     code: &Code,
     limits: &Limits,
-    stock: &mut Option<Task>,
-) -> Result<(), AllocError>
-    requires { IsStock code.now limits.now stock.old }
-    ensures { OnOk result (IsStock code.now limits.now stock.new × ((t : Task) × (stock.new ≡ Some t))) }
+    stock: Option<Task>,
+) -> Result<Task, AllocError>
+    requires { IsStock code.now limits.now stock }
+    ensures { IfOk result (λ t. IsStockTask code.now limits.now t) }
 {
-    match stock.take() {
+    match stock {
         None => {
-            *stock = Some(Task::spare(alloc, code, limits)?);
-            Ok(())
+            let task = Task::spare(alloc, code, limits)?;
+            Ok(task)
         }
-        Some(task) => {
-            *stock = Some(task);
-            Ok(())
-        }
+        Some(task) => Ok(task),
     }
 }
 
