@@ -133,20 +133,34 @@ module _ (code : Parts) (limits : Limits) (es : List Entry) (spent : Bool) (done
   pub asks_at_desk : (b : ℕ) (w : What) → Asks p (view_of t).past b w → Asks p es b w
   asks_at_desk b w a = part_asks p (two (left_by (view_of t).past es) (view_of t).past) es parts_of 1 b w a
 
+  -- what was done and the past of the task are all, in another order
+  all_done : IsPermutation (done ++ t.past.items) es
+  all_done = IsPermutation-trans (done ++ t.past.items) (left_by (view_of t).past es ++ (view_of t).past) es
+      (IsPermutation-append done (left_by (view_of t).past es) t.past.items (view_of t).past m.held (IsPermutation-reverse t.past.items))
+      (gone_and_left p es (view_of t).past m.played.1)
+
   -- the past of a task that may not go on is done
   pub task_done : is_ready_of t ≡ false → IsInMemory code limits es spent (done ++ t.past.items) None
   task_done over = record {
     rises = m.rises;
     told = m.told;
     played = tt;
-    held = IsPermutation-trans (done ++ t.past.items) (left_by (view_of t).past es ++ (view_of t).past) es
-        (IsPermutation-append done (left_by (view_of t).past es) t.past.items (view_of t).past m.held (IsPermutation-reverse t.past.items))
-        (gone_and_left p es (view_of t).past m.played.1);
+    held = all_done;
     quiet = λ s. parts_quiet p (two (left_by (view_of t).past es) (view_of t).past) es parts_of
         (λ c. elim (either (c == 0)) [
           | inl y ↦ rw y (m.quiet s)
           | inr o ↦ elim (either (c == 1)) [ inl y ↦ rw (o, y) (task_quiet code limits t m.played.0 over) | inr z ↦ rw (o, z) (λ b. tt) ]
         ]);
+  }
+
+  -- where the run is full, the past of any task is done
+  pub task_laid : IsInMemory code limits es true (done ++ t.past.items) None
+  task_laid = record {
+    rises = m.rises;
+    told = m.told;
+    played = tt;
+    held = all_done;
+    quiet = λ s. let z : true ≡ false = s in absurd (cc);
   }
 
   module _ (n b : ℕ) (w : What) (below : AllBelow n es) (own : IsOwn w) (asks : Asks p (view_of t).past b w) where

@@ -7,6 +7,8 @@ pub mod Resting
 
 -- ## What only the code's own contracts use
 
+-- messages that are sent off
+pub mod Sending
 -- a task while it is played
 pub mod Playing
 -- entries that are made of parts

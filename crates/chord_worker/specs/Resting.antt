@@ -59,6 +59,7 @@ IsStock code limits (Some t) = IsStockTask code limits t
 -- the worker is at rest
 pub record IsAtRest (s : Space Parcel) (w : Worker) : Type 0 where
   pub desk : IsDeskOf s w.desk
+  pub told : w.spent ≡ (view w.desk).spent
   pub free : IsFree (view w.desk)
   pub duties : (view w.desk).spent ≡ false → (view w.desk).duties ≡ []
   pub memory : IsInMemory (code_of s) (limits_of s) (view w.desk).kept (view w.desk).spent w.done.items w.task

@@ -1,5 +1,5 @@
 //! A worker plays its task to the next ask, and does what follows from it.
-ghost use Rattle.std.specs.Prelude.{◌≡◌, ℕ, Bool, true, false, List, Some, None, OnOk};
+ghost use Rattle.std.specs.Prelude.{◌≡◌, ℕ, Bool, true, false, List, ◌++◌, Some, None, OnOk};
 ghost use Rattle.chord_base.specs.declared.event.Entry.{Entry as AnEntry};
 ghost use Rattle.chord_base.specs.declared.event.Limits.{Limits as TheLimits};
 ghost use Rattle.chord_base.specs.Story.{IsSound};
@@ -20,13 +20,24 @@ impl Worker {
     /// The task is played on if it may go on; else what it did is done.
     pub(crate) fn settle(&mut self, task: Task) -> Result<(), AllocError>
         requires none { self.old.task ≡ None }
-        ensures same { (self.new.desk ≡ self.old.desk) × (self.new.spare ≡ self.old.spare) }
+        ensures same { (self.new.desk ≡ self.old.desk) × (self.new.spare ≡ self.old.spare) × (self.new.spent ≡ self.old.spent) }
         ensures settled { OnOk result ((code : Parts) (limits : TheLimits) (kept : List AnEntry) (spent : Bool) → IsInMemory code limits kept spent self.old.done.items (Some task) → IsInMemory code limits kept spent self.new.done.items self.new.task × MayContinue self.new.task) }
     {
         if task.is_ready() {
             self.task = Some(task);
             return Ok(());
         }
+        let mut past = task.into_past();
+        self.done.append(&mut past)?;
+        Ok(())
+    }
+
+    /// The limit on events is reached: what the task did is done.
+    pub(crate) fn lay_down(&mut self, task: Task) -> Result<(), AllocError>
+        ensures same { (self.new.desk ≡ self.old.desk) × (self.new.spare ≡ self.old.spare) × (self.new.task ≡ self.old.task) × (self.new.spent ≡ true) }
+        ensures done { OnOk result (self.new.done.items ≡ self.old.done.items ++ task.past.items) }
+    {
+        self.spent = true;
         let mut past = task.into_past();
         self.done.append(&mut past)?;
         Ok(())
@@ -48,6 +59,7 @@ impl Worker {
         ensures desk { IsDeskOf space.now self.new.desk }
         ensures rest { OnOk result (IsAtRest space.now self.new) }
         ensures role { OnOk result (IsSameRole (view self.old.desk) (view self.new.desk)) }
+        ensures over { OnOk result (self.new.spent ≡ true → self.new.task ≡ None) }
     {
         let mut task = task;
         match draw_own(space, &mut self.desk, &mut task, what) {
@@ -56,7 +68,7 @@ impl Worker {
                 Ok(())
             }
             Err(_) => {
-                self.task = Some(task);
+                self.lay_down(task)?;
                 Ok(())
             }
         }

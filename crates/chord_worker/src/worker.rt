@@ -21,4 +21,6 @@ pub struct Worker {
     pub(crate) spare: Option<Task>,
     /// The entries of what is done.
     pub(crate) done: Vec<Entry>,
+    /// Whether it was told that the limit on events is reached.
+    pub(crate) spent: bool,
 }
