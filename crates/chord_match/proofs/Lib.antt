@@ -1,0 +1,5 @@
+pub mod Lists
+pub mod Growing
+pub mod Knowing
+pub mod Chords
+pub mod Finds
