@@ -6,8 +6,14 @@
 pub mod Seen
 -- what each answer of a search says
 pub mod Findings
+-- what each answer of an attempt to fire says
+pub mod Fires
 
 -- ## What only the code's own contracts use
 
 -- what is known while a chord is looked for
 pub mod Searching
+-- members are claimed one after another
+pub mod Claiming
+-- members are consumed one after another
+pub mod Consuming

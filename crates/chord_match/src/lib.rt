@@ -5,7 +5,10 @@
 //! Not here: who calls them, and what is done with a firing.
 #![tactic(auto)]
 
+mod claiming;
+mod handing;
 pub mod nexts;
 mod search;
 
+pub use handing::{Firing, fire};
 pub use search::{Finding, find};
