@@ -1,6 +1,5 @@
 -- What a search for a chord answers, from what is known of the bags.
-use Rattle.std.proofs.Common.{zero, suc, map, replicate, ◌≡◌, ◌≢◌, ◌⊎◌, inl, inr, ℕ, ◌+◌, ◌<◌, ◌≤◌, Bool, true, false, ◌||◌, ◌==◌, List, [], ◌∷◌, length, slice_get, slice_index_or, refl, sym, ap, ◌∙◌, subst, arith, Option, Some, None, if◌then◌else◌}
-use mathlib.Core.Path.{Path}
+use Rattle.std.proofs.Common.{zero, suc, map, replicate, ◌≡◌, ◌≢◌, ◌⊎◌, inl, inr, ℕ, ◌<◌, Bool, true, false, ◌==◌, List, [], ◌∷◌, length, slice_get, slice_index_or, refl, sym, ap, ◌∙◌, subst, Option, Some, None, if◌then◌else◌}
 use Rattle.std.proofs.lemmas.Bool.{eqb-true, eq-eqb}
 use Rattle.std.proofs.lemmas.Option.{slice_get_within}
 use Rattle.chord_base.specs.Meaning.{Program}
@@ -31,7 +30,7 @@ use Rattle.chord_match.specs.declared.search.Own.{Own}
 use Rattle.chord_match.specs.declared.search.Verdict.TheVariants as a_verdict
 use Rattle.chord_match.specs.Seen.{Grows, AreMatched}
 use Rattle.chord_match.specs.Searching.{WasTold, WasToldIf, Searching, IsStuck, AreStuck, IsThrough}
-use Rattle.chord_match.specs.Findings.{IsChordWith, IsLacking, IsHeldUp, IsMatch, IsLeft, IsBusyWith, IsHeldBy, read_so}
+use Rattle.chord_match.specs.Findings.{IsLacking, IsHeldUp, IsMatch, IsLeft, IsHeldBy, read_so}
 use Rattle.chord_match.proofs.Growing.{duty_is_kept, key_cancels, grows_refl}
 
 -- a bag of a chord is that of one of its methods

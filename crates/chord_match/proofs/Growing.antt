@@ -1,6 +1,5 @@
 -- What was read and answered stays so while the desk looks on.
-use Rattle.std.proofs.Common.{◌≡◌, ◌≢◌, inl, inr, ⊎_elim, ℕ, ◌+◌, ◌*◌, ◌^◌, ◌<◌, true, false, List, [], ◌∷◌, ◌++◌, length, append_assoc, refl, sym, ap, ◌∙◌, subst, arith, Option, Some, None}
-use mathlib.Core.Path.{Path}
+use Rattle.std.proofs.Common.{◌≡◌, inl, inr, ℕ, List, [], ◌∷◌, ◌++◌, append_assoc, refl, sym, ap, ◌∙◌, subst, arith, Option}
 use Rattle.chord_base.specs.declared.value.Object.{Object}
 use Rattle.chord_word.specs.declared.cells.Cell.TheVariants.{Pending}
 use Rattle.chord_word.specs.declared.cells.Word.{Word}
@@ -13,10 +12,10 @@ use Rattle.chord_rule.specs.Looks.{HasLook, HasSeen}
 use Rattle.chord_rule.specs.Made.{key}
 use Rattle.chord_rule.specs.Ways.{HasWay, IsRead, KnowsBag}
 use Rattle.chord_bag.specs.declared.walk.Sought.{Sought}
-use Rattle.chord_bag.specs.declared.walk.Sought.TheVariants.{Found, Bare, Busy}
-use Rattle.chord_bag.specs.Reads.{IsOnlyLooks, with_looks, messages_and_bags, IsLast}
+use Rattle.chord_bag.specs.declared.walk.Sought.TheVariants.{Found}
+use Rattle.chord_bag.specs.Reads.{with_looks, messages_and_bags}
 use Rattle.chord_bag.specs.Seeking.{IsSought}
-use Rattle.chord_match.specs.Seen.{Grows, Answered, IsReady, AreReady, IsMember, AreMatched}
+use Rattle.chord_match.specs.Seen.{Grows, Answered, IsReady, IsMember}
 
 -- a way that was gone before is still one
 pub has_way_right : (x : Way) (us vs : List Way) → HasWay x vs → HasWay x (us ++ vs)
@@ -94,8 +93,13 @@ key_cancels o i j e = omega (arith, e)
 -- what was found on the newest way was seen, and is known to be in its bag
 pub found_ready : (n k : ℕ) (v w : View) (i : ℕ) (next : Option ℕ) → IsSought n k v w (Found i next) → HasSeen w i next × KnowsBag w i k
 found_ready n k v w i next s = (
-  (record { cell = Pending; next = next }, subst (λ (z : List Look). HasLook i (record { cell = Pending; next = next }) z) (sym s.seen)
-  (has_look_left i (record { cell = Pending; next = next }) s.way.looks v.looked.seen (subst (λ (z : List Look). HasLook i (record { cell = Pending; next = next }) z) (sym s.answer.1) (inl (refl, refl)))), tt, refl),
+  (
+    record { cell = Pending; next = next },
+    subst (λ (z : List Look). HasLook i (record { cell = Pending; next = next }) z) (sym s.seen)
+        (has_look_left i (record { cell = Pending; next = next }) s.way.looks v.looked.seen (subst (λ (z : List Look). HasLook i (record { cell = Pending; next = next }) z) (sym s.answer.1) (inl (refl, refl)))),
+    tt,
+    refl,
+  ),
   inl (s.way, subst (λ (z : List Way). HasWay s.way z) (sym s.more) (inl refl), s.bag, subst (λ (z : List Look). IsRead i z) (sym s.answer.1) (inl refl)),
 )
 

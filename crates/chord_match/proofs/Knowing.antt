@@ -1,11 +1,10 @@
 -- What is known of the bags of one object grows while a chord is looked for.
-use Rattle.std.proofs.Common.{◌≡◌, ◌≢◌, ◌⊎◌, inl, inr, ℕ, ◌<◌, true, List, [], ◌∷◌, ◌++◌, length, append_assoc, append-nil, slice_index_or, slice_set, refl, sym, ap, ◌∙◌, subst, Option, Some, None}
+use Rattle.std.proofs.Common.{◌≡◌, ◌≢◌, inl, inr, ℕ, ◌<◌, List, [], ◌∷◌, ◌++◌, length, append_assoc, append-nil, slice_index_or, slice_set, refl, sym, ap, ◌∙◌, subst, Option, Some, None}
 use mathlib.Core.Path.{Path}
 use mathlib.Core.Logic.{dite}
 use native.Mathlib.Decide.{ℕ_discrete}
 use Rattle.std.proofs.lemmas.Bool.{eq-eqb}
 use Rattle.std.proofs.lemmas.List.{get_or-set_same, get_or-set_other}
-use Rattle.chord_base.specs.Messages.{has}
 use Rattle.chord_base.specs.declared.value.Object.{Object}
 use Rattle.chord_base.proofs.Pending.{has_more}
 use Rattle.chord_rule.specs.declared.view.View.{View}
@@ -21,7 +20,7 @@ use Rattle.chord_match.specs.declared.search.Step.{Step}
 use Rattle.chord_match.specs.declared.search.Step.TheVariants as a_step
 use Rattle.chord_match.specs.declared.search.Outcome.TheVariants as an_outcome
 use Rattle.chord_match.specs.Seen.{Grows, AreReady, AreMatched}
-use Rattle.chord_match.specs.Searching.{SaysOf, WasTold, WasToldIf, Searching, KeepsKnown, Moves, MovesTo, Learned, IsStuckAt, Picked, IsStuck, IsGathered, Gathered, IsOutcome}
+use Rattle.chord_match.specs.Searching.{SaysOf, WasTold, WasToldIf, Searching, KeepsKnown, Moves, Learned, IsStuckAt, Picked, IsStuck, IsGathered, Gathered, IsOutcome}
 use Rattle.chord_match.proofs.Growing.{grows_refl, grows_trans, sought_grows, answered_on, seen_on, duty_on, knows_on, ready_on, member_on, key_cancels, found_ready, answered}
 
 -- nothing is forgotten where nothing is done
@@ -61,35 +60,39 @@ module _ (n : ℕ) where
 
   -- a bag of which something is known is not sought again
   pub learned_before : (u : View) (o : Object) (j : ℕ) (known : List (Option Sought)) (s : Sought) → slice_index_or known j None ≡ Some s → Learned n u u o j known known s
-  learned_before u o j known s e = record { told = λ v own t. record {
-    moves = record { stands = t; grows = grows_refl u; kept = keeps_refl known };
-    tells = subst (λ (z : Option Sought). WasToldIf n v u (key o j) z) e (t.cached j);
-    here = e;
-  } }
+  learned_before u o j known s e = record {
+    told = λ v own t. record {
+      moves = record { stands = t; grows = grows_refl u; kept = keeps_refl known };
+      tells = subst (λ (z : Option Sought). WasToldIf n v u (key o j) z) e (t.cached j);
+      here = e;
+    };
+  }
 
   -- what a seek answered is known from now on, and of the other bags what was known
   pub learned_now : (u w : View) (o : Object) (j : ℕ) (known : List (Option Sought)) (s : Sought) → slice_index_or known j None ≡ None → j < length known → IsSought n (key o j) u w s → Learned n u w o j known (slice_set known j (Some s)) s
-  learned_now u w o j known s e low f = record { told = λ v own t. record {
-    moves = record {
-      stands = record {
-        grows = grows_trans v u w t.grows g;
-        read = t.read;
-        below = t.below;
-        next_below = t.next_below;
-        duty = duty_on v u w g own.message (key o own.method) t.duty;
-        cached = λ q. dite (ℕ_discrete q j)
-            (λ same. subst (λ (z : Option Sought). WasToldIf n v w (key o q) z) (sym (ap (λ (z : ℕ). slice_index_or (slice_set known j (Some s)) z None) same ∙ here)) (subst (λ (z : ℕ). WasTold n v w (key o z) s) (sym same) (told_new v u w (key o j) s t.grows f)))
-            (λ ne. subst (λ (z : Option Sought). WasToldIf n v w (key o q) z) (sym (get_or-set_other known j q (Some s) None ne))
-            (told_on v u w (key o q) (slice_index_or known q None) g (f.others (key o q) (λ z. ne (key_cancels o q j z))) (t.cached q)));
+  learned_now u w o j known s e low f = record {
+    told = λ v own t. record {
+      moves = record {
+        stands = record {
+          grows = grows_trans v u w t.grows g;
+          read = t.read;
+          below = t.below;
+          next_below = t.next_below;
+          duty = duty_on v u w g own.message (key o own.method) t.duty;
+          cached = λ q. dite (ℕ_discrete q j)
+              (λ same. subst (λ (z : Option Sought). WasToldIf n v w (key o q) z) (sym (ap (λ (z : ℕ). slice_index_or (slice_set known j (Some s)) z None) same ∙ here)) (subst (λ (z : ℕ). WasTold n v w (key o z) s) (sym same) (told_new v u w (key o j) s t.grows f)))
+              (λ ne. subst (λ (z : Option Sought). WasToldIf n v w (key o q) z) (sym (get_or-set_other known j q (Some s) None ne))
+              (told_on v u w (key o q) (slice_index_or known q None) g (f.others (key o q) (λ z. ne (key_cancels o q j z))) (t.cached q)));
+        };
+        grows = g;
+        kept = λ q x is. dite (ℕ_discrete q j)
+            (λ same. let z : Path (Option Sought) None (Some x) = sym e ∙ ap (λ (y : ℕ). slice_index_or known y None) (sym same) ∙ is in absurd (cc))
+            (λ ne. get_or-set_other known j q (Some s) None ne ∙ is);
       };
-      grows = g;
-      kept = λ q x is. dite (ℕ_discrete q j)
-          (λ same. let z : Path (Option Sought) None (Some x) = sym e ∙ ap (λ (y : ℕ). slice_index_or known y None) (sym same) ∙ is in absurd (cc))
-          (λ ne. get_or-set_other known j q (Some s) None ne ∙ is);
+      tells = told_new v u w (key o j) s t.grows f;
+      here = here;
     };
-    tells = told_new v u w (key o j) s t.grows f;
-    here = here;
-  } }
+  }
     where
       g : Grows u w
       g = sought_grows n (key o j) u w s f
@@ -136,16 +139,25 @@ module _ (n : ℕ) where
   gathered_more v u x w o own j js a b c ms ms' xs xs' i next s p t = record { moves = moves_trans v u x w o own a b c p.moves t.moves; gathered = on s t.gathered }
     where
       on : (s : Step) → IsGathered n v w o own js c (ms ++ i ∷ []) ms' (xs ++ next ∷ []) xs' s → IsGathered n v w o own (j ∷ js) c ms ms' xs xs' s
-      on a_step.All g = (i ∷ g.0, next ∷ g.1, g.2 ∙ append_assoc ms (i ∷ []) g.0, g.3 ∙ append_assoc xs (next ∷ []) g.1,
-          (member_on v x w t.moves.grows o own.message own.method own.next j i next p.picked.0, g.4), (ready_on v x w t.moves.grows n o j i next p.picked.1, g.5))
+      on a_step.All g = (
+        i ∷ g.0,
+        next ∷ g.1,
+        g.2 ∙ append_assoc ms (i ∷ []) g.0,
+        g.3 ∙ append_assoc xs (next ∷ []) g.1,
+        (member_on v x w t.moves.grows o own.message own.method own.next j i next p.picked.0, g.4),
+        (ready_on v x w t.moves.grows n o j i next p.picked.1, g.5),
+      )
       on (a_step.Stuck q) g = (g.0, has_more g.0 j js g.1, g.2)
 
   -- the members of a chord are those that were gathered
   pub outcome_whole : (v u w : View) (o : Object) (own : Own) (js : List ℕ) (a b : List (Option Sought)) (ms ms' : List ℕ) (xs xs' : List (Option ℕ)) → ms ≡ [] → xs ≡ [] → Gathered n v u w o own js a b ms ms' xs xs' a_step.All
       → IsOutcome n v u w o own js a b (an_outcome.Whole ms' xs')
-  outcome_whole v u w o own js a b ms ms' xs xs' e f g = record { moves = g.moves; comes =
-      let t = g.gathered in let x : ms' ≡ t.0 = t.2 ∙ ap (λ (z : List ℕ). z ++ t.0) e in let y : xs' ≡ t.1 = t.3 ∙ ap (λ (z : List (Option ℕ)). z ++ t.1) f in
-      (subst (λ (z : List ℕ × List (Option ℕ)). AreMatched v w o own.message own.method own.next js z.0 z.1) (λ i. (sym x i, sym y i)) t.4, subst (λ (z : List ℕ × List (Option ℕ)). AreReady n w o js z.0 z.1) (λ i. (sym x i, sym y i)) t.5) }
+  outcome_whole v u w o own js a b ms ms' xs xs' e f g = record {
+    moves = g.moves;
+    comes =
+        let t = g.gathered in let x : ms' ≡ t.0 = t.2 ∙ ap (λ (z : List ℕ). z ++ t.0) e in let y : xs' ≡ t.1 = t.3 ∙ ap (λ (z : List (Option ℕ)). z ++ t.1) f in
+        (subst (λ (z : List ℕ × List (Option ℕ)). AreMatched v w o own.message own.method own.next js z.0 z.1) (λ i. (sym x i, sym y i)) t.4, subst (λ (z : List ℕ × List (Option ℕ)). AreReady n w o js z.0 z.1) (λ i. (sym x i, sym y i)) t.5);
+  }
 
   -- a chord has no members where one of its methods has none
   pub outcome_stuck : (v u w : View) (o : Object) (own : Own) (js : List ℕ) (a b : List (Option Sought)) (ms ms' : List ℕ) (xs xs' : List (Option ℕ)) (q : Option ℕ) → Gathered n v u w o own js a b ms ms' xs xs' (a_step.Stuck q)

@@ -1,5 +1,5 @@
 -- Members are claimed one after another.
-use Rattle.std.specs.Prelude.{◌≡◌, ◌≢◌, ℕ, ◌<◌, ◌≤◌, true, false, List, ◌++◌, length, slice_get, slice_index_or, Option, Some, None}
+use Rattle.std.specs.Prelude.{◌≡◌, ◌≢◌, ℕ, ◌<◌, ◌≤◌, true, false, List, ◌∷◌, ◌++◌, length, slice_get, slice_index_or, Option, Some, None}
 use Rattle.chord_base.specs.Meaning.{Program}
 use Rattle.chord_base.specs.Story.{AllBelow}
 use Rattle.chord_base.specs.declared.event.What.TheVariants.{Fired}
@@ -12,6 +12,7 @@ use Rattle.chord_rule.specs.declared.view.Look.{Look}
 use Rattle.chord_rule.specs.declared.view.Looked.{Looked}
 use Rattle.chord_rule.specs.declared.view.View.{View}
 use Rattle.chord_rule.specs.Claims.{HasThe, AreClaimed}
+use Rattle.chord_rule.specs.Coming.{IsPlace}
 use Rattle.chord_rule.specs.Kinds.{entry, fired}
 use Rattle.chord_rule.specs.Looks.{HasLook}
 use Rattle.chord_rule.specs.Numbers.{HasNumber}
@@ -49,6 +50,7 @@ pub record IsDrawn (p : Program) (v w : View) (o : Object) (chord : ℕ) (ms : L
   pub apart : (q r : ℕ) → q < r → r < length ms → slice_index_or ms q 0 ≢ slice_index_or ms r 0
   pub below : AllBelow f v.kept
   pub came : CameNext p (entry f f (Fired chord o ms values))
+  pub place : IsPlace p (entry f f (Fired chord o ms values) ∷ v.kept)
   pub drawn : w ≡ fired (with_claims v claims w.looked) f chord o ms values
 
 -- the desk as it was, but for what it read and wrote, and that it was told

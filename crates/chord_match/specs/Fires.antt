@@ -8,9 +8,11 @@ use Rattle.chord_base.specs.declared.value.Object.{Object}
 use Rattle.chord_base.specs.declared.value.Value as value
 use Rattle.chord_word.specs.declared.cells.Cell.TheVariants.{Pending}
 use Rattle.chord_word.specs.declared.cells.Word.{Word}
+use Rattle.chord_rule.specs.declared.view.Claim.{Claim}
 use Rattle.chord_rule.specs.declared.view.Duty.{Duty}
 use Rattle.chord_rule.specs.declared.view.Look.{Look}
 use Rattle.chord_rule.specs.declared.view.View.{View}
+use Rattle.chord_rule.specs.Coming.{IsPlace, ComesWithMessage}
 use Rattle.chord_rule.specs.Duties.{drop_duty}
 use Rattle.chord_rule.specs.Kinds.{entry}
 use Rattle.chord_rule.specs.Looks.{HasLook}
@@ -69,6 +71,17 @@ module _ {P : Type 0} where
   abbrev pub firing_entry : (P → List value.Value) → Object → ℕ → List ℕ → ℕ → List P → Entry
   firing_entry arguments o chord ms f qs = entry f f (what.Fired chord o ms (laid_together arguments qs))
 
+-- these entries come with the parcel of the message i, to the method j of the object, to a desk that keeps those
+abbrev pub IsComing : Program → Object → List Entry → ℕ → ℕ → List Entry → Type 0
+IsComing p o es j i ps = (c : Claim) × (c.number ≡ i) × (c.object ≡ o) × (c.method ≡ j) × ComesWithMessage p es c ps
+
+module _ {P : Type 0} where
+  -- so come those of these parcels, one after another, each with the member for one method
+  abbrev pub AreComing : Program → (P → List Entry) → Object → List Entry → List ℕ → List ℕ → List P → Type 0
+  AreComing p entries o es [] [] [] = Unit {0}
+  AreComing p entries o es (j ∷ js) (i ∷ ms) (q ∷ qs) = IsComing p o es j i (entries q) × AreComing p entries o (together es (entries q)) js ms qs
+  AreComing p entries o es _ _ _ = ⊥
+
 -- the firing f was drawn, and its parcels are handed out, one for each member in header order
 pub record IsFired {P : Type 0} (entries : P → List Entry) (arguments : P → List value.Value) (keeps_to : P → Type 0) (p : Program) (n : ℕ) (v w : View) (o : Object) (chord : ℕ) (ms : List ℕ) (f : ℕ) (qs : List P) : Type 0 where
   pub methods : List ℕ
@@ -80,6 +93,9 @@ pub record IsFired {P : Type 0} (entries : P → List Entry) (arguments : P → 
   pub came : CameNext p (firing_entry arguments o chord ms f qs)
   pub each : length qs ≡ length ms
   pub older : AreOlder entries keeps_to f qs
+  -- what the desk kept with the firing's entry is a place of the run, and each parcel's entries come from another one
+  pub place : IsPlace p (firing_entry arguments o chord ms f qs ∷ v.kept)
+  pub coming : AreComing p entries o (firing_entry arguments o chord ms f qs ∷ v.kept) methods ms qs
   -- the desk keeps the firing's entry and what the parcels keep; it has no claim, and no duty on a member
   pub view : w ≡ record v { kept = all_together (firing_entry arguments o chord ms f qs ∷ v.kept) (map entries qs); claims = []; unposted = f ∷ v.unposted; drawn = true; duties = drop_duties ms v.duties; looked = w.looked }
 

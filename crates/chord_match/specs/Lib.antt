@@ -8,7 +8,6 @@ pub mod Seen
 pub mod Findings
 -- what each answer of an attempt to fire says
 pub mod Fires
-
 -- ## What only the code's own contracts use
 
 -- what is known while a chord is looked for

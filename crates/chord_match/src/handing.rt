@@ -35,11 +35,11 @@ fn hand_out<P: Carry + Drop>(
     hand: &mut Hand<P>,
 )
     requires desk { IsDeskOf space.now desk.old }
-    requires consuming { (f : ℕ) × (us : List value.Value) × Consuming space.now.events (view desk.old) members.now f us }
+    requires consuming { (o : Object) × (js : List ℕ) × (f : ℕ) × (us : List value.Value) × Consuming space.now.events (view desk.old) o js members.now f us }
     requires room { length hand.old + length members.now ≤ 8 }
     ensures desk { IsSameDesk desk.old desk.new }
-    ensures handed { (f : ℕ) (us : List value.Value) → Consuming space.now.events (view desk.old) members.now f us
-        → (qs : List P) × (hand.new ≡ hand.old ++ qs) × Handed P.entries P.arguments (λ q. P.keeps_to q (code_of space.now) (limits_of space.now)) (view desk.old) (view desk.new) members.now f us qs }
+    ensures handed { (o : Object) (js : List ℕ) (f : ℕ) (us : List value.Value) → Consuming space.now.events (view desk.old) o js members.now f us
+        → (qs : List P) × (hand.new ≡ hand.old ++ qs) × Handed P.entries P.arguments (λ q. P.keeps_to q (code_of space.now) (limits_of space.now)) (program_of space.now) (view desk.old) (view desk.new) o js members.now f us qs }
 {
     if let Some((i, rest)) = members.split_first() {
         let parcel = space.consume(desk, *i);

@@ -169,7 +169,16 @@ fn one_chord<P: Carry>(
 {
     let mut members = Members::new();
     let mut nexts = Nexts::new();
-    match gather(space, desk, object, own, methods, known, &mut members, &mut nexts) {
+    match gather(
+        space,
+        desk,
+        object,
+        own,
+        methods,
+        known,
+        &mut members,
+        &mut nexts,
+    ) {
         Step::All => Outcome::Whole(members, nexts),
         Step::Stuck(busy) => Outcome::Stuck(busy),
     }
@@ -251,7 +260,14 @@ fn find_more<P: Carry>(
 {
     chords_are_right(code);
     let mut known = [None; 16];
-    match through(space, desk, object, own, lines_of(code, object.class), &mut known) {
+    match through(
+        space,
+        desk,
+        object,
+        own,
+        lines_of(code, object.class),
+        &mut known,
+    ) {
         Verdict::Match(chord, members, nexts) => Finding::Match(chord, members, nexts),
         Verdict::Without(Some(i)) => Finding::Busy(i),
         Verdict::Without(None) => {

@@ -1,9 +1,7 @@
-use Rattle.std.proofs.Common.{rules, ◌≡◌, ℕ, List, [], ◌∷◌, ◌++◌, Option, None, length, true, inl, refl, ◌∙◌, sym, subst, ap, arith}
+use Rattle.std.proofs.Common.{rules, ◌≡◌, ℕ, List, Option, length, true, ◌∙◌, sym, subst, ap, arith}
 use Rattle.chord_base.specs.Messages.{has}
-use Rattle.std.proofs.lemmas.Bool.{eq-eqb}
 use Rattle.chord_space.specs.Desks.{view}
 use Rattle.chord_match.specs.declared.search.Pick.{Pick}
-use Rattle.chord_match.specs.declared.search.Pick.TheVariants as a_pick
 use Rattle.chord_match.specs.declared.search.Step.TheVariants as a_step
 use Rattle.chord_match.specs.Searching.{Picked, Gathered}
 use Rattle.chord_base.proofs.Pending.{has_more}
@@ -28,11 +26,22 @@ gather-requires g s c =
     let nexts = ap length c.push-in-Take.ensures ∙ one_longer c.args.nexts.now c.in-Take.next in
     let d = c.decreases in
     let l = split.1 in
-    λ κs o. (search rules, (o, (
-      c.pick_member.ensures.desk.0 ∙ c.requires.desk, (
-      c.requires.bounds, (
-      (λ j h. c.requires.methods j (subst (λ (z : List ℕ). has j z ≡ true) (sym split.0) (has_more j c.in-Some.method.now c.in-Some.rest.now h))),
-      (omega (arith, l, members, room), omega (arith, l, nexts, room)))))))
+    λ κs o. (
+      search rules,
+      (
+        o,
+        (
+          c.pick_member.ensures.desk.0 ∙ c.requires.desk,
+          (
+            c.requires.bounds,
+            (
+              (λ j h. c.requires.methods j (subst (λ (z : List ℕ). has j z ≡ true) (sym split.0) (has_more j c.in-Some.method.now c.in-Some.rest.now h))),
+              (omega (arith, l, members, room), omega (arith, l, nexts, room)),
+            ),
+          ),
+        ),
+      ),
+    )
 
 pub returns-in-Take-clause-gathered : goal.returns-in-Take-clause-gathered
 returns-in-Take-clause-gathered g s c v t =

@@ -1,4 +1,4 @@
-use Rattle.std.proofs.Common.{inr, subst, ap, ◌∙◌}
+use Rattle.std.proofs.Common.{inr, subst, ap}
 use Rattle.chord_word.specs.declared.cells.Cell.{Cell}
 use Rattle.chord_rule.specs.Made.{key}
 use Rattle.chord_rule.specs.Kinds.{is_down}
