@@ -40,15 +40,19 @@ pub still_alone : (v u : View) → IsOnlyLooks v u → IsAlone v → IsAlone u
 still_alone v u o a = record { first = ap (λ (z : View). z.first) o.frame ∙ a.first; lent = ap (λ (z : View). z.lent) o.frame ∙ a.lent; claims = ap (λ (z : View). z.claims) o.frame ∙ a.claims; flight = ap (λ (z : View). z.flight) o.frame ∙ a.flight }
 
 module _ (n k : ℕ) (v u : View) (i : ℕ) (busy : Option ℕ) (s : Going n k v u (Some i) busy) where
+  -- the way is the newest one
   more : (c : Word) → (looked_cell u i c).looked.ways ≡ gone_on s.way i c ∷ v.looked.ways
   more c = went i c u.looked.ways s.way v.looked.ways s.more s.at
 
+  -- what it read was seen
   seen : (c : Word) → (looked_cell u i c).looked.seen ≡ (gone_on s.way i c).looks ++ v.looked.seen
   seen c = ap (λ (ls : List Look). record { number = i; word = c } ∷ ls) s.seen
 
+  -- the ends of other bags are left
   others : (c : Word) → KeepsEnds k v.duties (looked_cell u i c).duties
   others c = keeps_on k k v.duties u.duties (after_cell i c u.duties) refl s.others (cell_keeps k i c u.duties)
 
+  -- looks and walks alone change
   only : (c : Word) → IsOnlyLooks v (looked_cell u i c)
   only c = only_more v u (after_cell i c u.duties) (looked_cell u i c).looked s.only (cell_keeps_messages i c u.duties)
 
@@ -126,6 +130,6 @@ starts n k v w head is room = subst (λ (z : View). Going n k v z head None) (sy
 }
 
 -- a walk that has come to its end
-pub at_end : (n k : ℕ) (v w : View) (busy : Option ℕ) → Going n k v w None busy → IsSought n k v w (ended busy)
-at_end n k v w None s = record { way = s.way; more = s.more; seen = s.seen; bag = s.bag; answer = (s.at, s.going.0); below = tt; walked = subst (λ (z : ℕ). AllAt z None w.duties) s.bag (subst (λ (z : Option ℕ). AllAt s.way.bag z w.duties) s.at s.going.1); others = s.others; only = s.only; alone = λ _. tt }
-at_end n k v w (Some i) s = record { way = s.way; more = s.more; seen = s.seen; bag = s.bag; answer = inr (s.at, s.passed, s.going.0); below = s.going.1; walked = tt; others = s.others; only = s.only; alone = λ a. let e : Path (Option ℕ) (Some i) None = s.alone a in absurd (cc) }
+pub walk_ended : (n k : ℕ) (v w : View) (busy : Option ℕ) → Going n k v w None busy → IsSought n k v w (ended busy)
+walk_ended n k v w None s = record { way = s.way; more = s.more; seen = s.seen; bag = s.bag; answer = (s.at, s.going.0); below = tt; walked = subst (λ (z : ℕ). AllAt z None w.duties) s.bag (subst (λ (z : Option ℕ). AllAt s.way.bag z w.duties) s.at s.going.1); others = s.others; only = s.only; alone = λ _. tt }
+walk_ended n k v w (Some i) s = record { way = s.way; more = s.more; seen = s.seen; bag = s.bag; answer = inr (s.at, s.passed, s.going.0); below = s.going.1; walked = tt; others = s.others; only = s.only; alone = λ a. let e : Path (Option ℕ) (Some i) None = s.alone a in absurd (cc) }

@@ -5,7 +5,7 @@ use Rattle.chord_bag.specs.declared.walk.Sought.{Sought}
 use Rattle.chord_bag.specs.declared.walk.Turn.{Turn}
 use Rattle.chord_bag.specs.Seeking.{IsSought}
 use Rattle.chord_bag.specs.Walking.{Going, ComesToTurn}
-use Rattle.chord_bag.proofs.Turning.{starts, room_left, low, at_end}
+use Rattle.chord_bag.proofs.Turning.{starts, room_left, low, walk_ended}
 use Rattle.chord_bag.proofs.walk.seek.Goals as goal
 
 pub loop-place-init : goal.loop-place-init
@@ -36,7 +36,7 @@ loop-place-preserved g c =
 pub returns-clause-sought : goal.returns-clause-sought
 returns-clause-sought g c =
     let n = c.args.space.now.events in let k = key c.args.object c.args.method in let v = view c.args.desk.now in let u = view c.loop-place.desk in
-    subst (λ (s : Sought). IsSought n k v u s) (sym c.at_end.ensures) (at_end n k v u c.loop-place.busy (subst (λ (x : Option ℕ). Going n k v u x c.loop-place.busy) c.in_default.is c.loop-place.invariant.2))
+    subst (λ (s : Sought). IsSought n k v u s) (sym c.at_end.ensures) (walk_ended n k v u c.loop-place.busy (subst (λ (x : Option ℕ). Going n k v u x c.loop-place.busy) c.in_default.is c.loop-place.invariant.2))
 
 pub returns-in-Over-clause-sought : goal.returns-in-Over-clause-sought
 returns-in-Over-clause-sought g c =
