@@ -112,24 +112,16 @@ made_from Rules = None
 made_from Code = None
 made_from (Load k) = Some k
 
--- whether an engine can play what is requested: a run without `--one` waits for the engine with workers
-abbrev pub can_play : Mode → Bool → Bool
-can_play Run one = one
-can_play Rules one = true
-can_play Code one = true
-can_play (Load k) one = one
-
 -- ## What is requested
 
 -- the bytes of each argument
 abbrev pub argument_bytes : List (String Global) → List (List ℕ)
 argument_bytes arguments = map string_bytes arguments
 
--- the arguments request this: the command takes them, this is what they say, and an engine can play it
+-- the arguments request this: the command takes them, and this is what they say
 pub record Requests (arguments : List (List ℕ)) (request : Request) : Type 0 where
   pub taken : AreTaken arguments
   pub says : Says (matches_of the_command arguments) request
-  pub playable : can_play request.mode request.one ≡ true
 
 -- the bounds of what is requested, on which the rest of the call stands
 pub record IsBounded (request : Request) : Type 0 where
@@ -137,6 +129,8 @@ pub record IsBounded (request : Request) : Type 0 where
   pub few : request.limits.events ≤ 65536
   pub shallow : 1 ≤ request.limits.depth
   pub deep : request.limits.depth ≤ 256
+  pub busy : 1 ≤ request.workers
+  pub crowded : request.workers ≤ 64
   pub made : IfSome (made_from request.mode) (λ k. (1 ≤ k) × (k ≤ 60))
 
 -- the arguments are accepted: they request something

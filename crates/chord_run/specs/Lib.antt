@@ -8,6 +8,8 @@ pub mod Rows
 pub mod Answers
 -- what is due for a source: a status and a text
 pub mod Due
+-- the closed table of a run that workers made
+pub mod Tables
 -- what one call reads and writes
 pub mod Written
 -- what the arguments of the command line request

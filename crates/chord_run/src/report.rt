@@ -5,6 +5,8 @@ ghost use Rattle.std.specs.Prelude.{◌≡◌, None, Some};
 
 use crate::refusal::Refusal;
 use chord_base::journal::Journal;
+use chord_space::Closed;
+use chord_task::parcel::Parcel;
 
 /// The mode makes no run, the source is accepted, and what is due was written.
 pub const DONE: u8 = 0;
@@ -37,39 +39,44 @@ pub struct Report {
     pub journal: Option<Journal>,
     /// Why the source was refused, where it was and the status is none of 2, 3 and 7.
     pub refusal: Option<Refusal>,
+    /// The closed table of the run, where there is a journal and workers made it.
+    pub table: Option<Closed<Parcel>>,
 }
 
 impl Report {
     /// A report of a call that has neither a journal nor a refusal to tell of.
     pub fn silent(status: u8) -> Report
-        ensures { result ≡ record { status = status; journal = None; refusal = None } }
+        ensures { result ≡ record { status = status; journal = None; refusal = None; table = None } }
     {
         Report {
             status,
             journal: None,
             refusal: None,
+            table: None,
         }
     }
 
     /// A report of a refused source.
     pub fn refused(status: u8, refusal: Refusal) -> Report
-        ensures { result ≡ record { status = status; journal = None; refusal = Some refusal } }
+        ensures { result ≡ record { status = status; journal = None; refusal = Some refusal; table = None } }
     {
         Report {
             status,
             journal: None,
             refusal: Some(refusal),
+            table: None,
         }
     }
 
     /// A report of a run.
-    pub fn played(status: u8, journal: Journal) -> Report
-        ensures { result ≡ record { status = status; journal = Some journal; refusal = None } }
+    pub fn played(status: u8, journal: Journal, table: Option<Closed<Parcel>>) -> Report
+        ensures { result ≡ record { status = status; journal = Some journal; refusal = None; table = table } }
     {
         Report {
             status,
             journal: Some(journal),
             refusal: None,
+            table,
         }
     }
 }

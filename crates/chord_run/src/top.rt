@@ -15,18 +15,19 @@ ghost use Rattle.chord_run.specs.Refusals.{PointsAt};
 ghost use Rattle.chord_run.specs.Reports.{ReportsCode, ReportsNoMemory, ReportsPlayed, ReportsRefusal, ReportsRun, ReportsText};
 ghost use Rattle.chord_run.specs.Rows.{AreSpecified, CutsShort, Fills, Finishes, IsExact, NoneFailed, Refuses, RefusesOthers, RunsAccepted, Succeeds};
 ghost use Rattle.chord_run.specs.Sources.{IsShort};
+ghost use Rattle.chord_run.specs.Tables.{HasTable};
 ghost use Rattle.chord_run.specs.declared.command.Request as asked;
 
 use crate::command::{Mode, Request, made_from, request_of};
-use crate::engine::journal_of;
+use crate::engine::{Played, play_code};
 use crate::front::{FrontFault, code_of};
 use crate::load::load_source;
 use crate::output::write_due;
 use crate::refusal::{Refusal, line_of};
-use crate::words::WordsFault;
 use crate::report::{
     AT_LIMIT, DONE, NO_MEMORY, OTHER_ARGUMENTS, READ_FAULT, REFUSED, Report, WRITE_FAULT,
 };
+use crate::words::WordsFault;
 use chord_base::agreement::same_runs;
 use chord_base::event::Limits;
 use chord_base::journal::Journal;
@@ -34,27 +35,20 @@ use chord_code::code::Code;
 use chord_gen::listing::listing;
 use chord_io::{Failed, ReadFault, Sink, Source, read_all, write_all};
 use chord_lists::code_run::may_go_on;
+use chord_pool::Gate;
 use std::alloc::{AllocError, Global};
 use std::sync::Wait;
 use std::thread::Threads;
 
-/// Called at the start of each body of a run with workers, on the thread that plays it.
-///
-/// A gate has no answer and changes no result. Runs of one thread call none.
-pub trait Gate {
-    /// The body of this number begins.
-    fn started(&self, body: u32);
-}
-
 /// Reads a source, does with it what the arguments request, and writes what is due: of a run the lines of its journal, of a
 /// refusal its line.
 pub fn chord<R: Threads + Wait + Sync, S: Source, K: Sink, G: Gate + Sync>(
-    _rt: &R,
+    rt: &R,
     alloc: Global,
     arguments: &[String],
     source: &mut S,
     sink: &mut K,
-    _gate: &G,
+    gate: &G,
 ) -> Report
     // The headline: either nothing is written, or the arguments requested something, and for its source what is due is
     // written: the text of the journal in the report, which is a complete run of the source's join machine or a run of as many
@@ -84,6 +78,10 @@ pub fn chord<R: Threads + Wait + Sync, S: Source, K: Sink, G: Gate + Sync>(
     // With 2, 3 and 7 nothing is written, and the report has neither a journal nor a refusal.
     ensures silent { IsSilent result.status → IsSilence result (K.taken sink.old) (K.taken sink.new) }
 
+    // The report has the closed table of a run that workers made: as many draws on the table gave a number as the journal has
+    // entries, and each entry that the desk which closed it kept stands in the journal.
+    ensures table { (request : asked.Request) → Requests (argument_bytes arguments.now) request → HasTable request.one result.journal result.table }
+
     // Each cause has its status, where the contents of source and sink are specified: what was due and was written whole is
     // never followed by 5.
     ensures exactly { (request : asked.Request) → Requests (argument_bytes arguments.now) request
@@ -98,16 +96,19 @@ pub fn chord<R: Threads + Wait + Sync, S: Source, K: Sink, G: Gate + Sync>(
         → NoneFailed (S.faults source.old) (S.faults source.new) (K.faults sink.old) (K.faults sink.new)
         → RefusesOthers (source_contents request (S.left source.old)) result.status }
 {
-    answer(alloc, arguments, source, sink)
+    answer(rt, alloc, arguments, source, sink, gate)
 }
 
-/// What `chord` does, without a thread.
-fn answer<S: Source, K: Sink>(
+/// What `chord` does.
+fn answer<R: Threads + Wait + Sync, S: Source, K: Sink, G: Gate + Sync>(
+    rt: &R,
     alloc: Global,
     arguments: &[String],
     source: &mut S,
     sink: &mut K,
+    gate: &G,
 ) -> Report
+    ensures table { (request : asked.Request) → Requests (argument_bytes arguments.now) request → HasTable request.one result.journal result.table }
     ensures not_accepted { result.status ≡ 2 → AreAccepted (argument_bytes arguments.now) → ⊥ }
     ensures accepted { (result.status ≡ 2) ⊎ (result.status ≡ 7) ⊎ AreAccepted (argument_bytes arguments.now) }
     ensures unread { result.status ≡ 2 → S.left source.new ≡ S.left source.old }
@@ -119,18 +120,21 @@ fn answer<S: Source, K: Sink>(
     match request_of(alloc, arguments) {
         Err(WordsFault::Refused) => Report::silent(OTHER_ARGUMENTS),
         Err(WordsFault::Memory) => Report::silent(NO_MEMORY),
-        Ok(request) => answer_request(alloc, &request, source, sink),
+        Ok(request) => answer_request(rt, alloc, &request, source, sink, gate),
     }
 }
 
 /// Does what is requested, with the source that the request is about.
-fn answer_request<S: Source, K: Sink>(
+fn answer_request<R: Threads + Wait + Sync, S: Source, K: Sink, G: Gate + Sync>(
+    rt: &R,
     alloc: Global,
     request: &Request,
     source: &mut S,
     sink: &mut K,
+    gate: &G,
 ) -> Report
     requires { IsBounded request.now }
+    ensures table { HasTable request.now.one result.journal result.table }
     ensures answered { IsSilence result (K.taken sink.old) (K.taken sink.new)
         ⊎ AnswersContents request.now (source_contents request.now (S.left source.old)) result (K.taken sink.old) (K.taken sink.new) }
     ensures not_silent { result.status ≡ 2 → ⊥ }
@@ -138,16 +142,24 @@ fn answer_request<S: Source, K: Sink>(
     ensures write_fault { result.status ≡ 5 → Rose (K.faults sink.old) (K.faults sink.new) }
 {
     match made_from(request.mode) {
-        Some(k) => answer_made(alloc, k, request, sink),
-        None => answer_read(alloc, request, source, sink),
+        Some(k) => answer_made(rt, alloc, k, request, sink, gate),
+        None => answer_read(rt, alloc, request, source, sink, gate),
     }
 }
 
 /// Makes the source from its number, and does what is requested with it.
-fn answer_made<K: Sink>(alloc: Global, k: u32, request: &Request, sink: &mut K) -> Report
+fn answer_made<R: Threads + Wait + Sync, K: Sink, G: Gate + Sync>(
+    rt: &R,
+    alloc: Global,
+    k: u32,
+    request: &Request,
+    sink: &mut K,
+    gate: &G,
+) -> Report
     requires bounded { IsBounded request.now }
     requires from_one { 1 ≤ k }
     requires to_sixty { k ≤ 60 }
+    ensures table { HasTable request.now.one result.journal result.table }
     ensures answered { IsSilence result (K.taken sink.old) (K.taken sink.new)
         ⊎ AnswersContents request.now (Some (load_text k)) result (K.taken sink.old) (K.taken sink.new) }
     ensures not_silent { result.status ≡ 2 → ⊥ }
@@ -155,19 +167,22 @@ fn answer_made<K: Sink>(alloc: Global, k: u32, request: &Request, sink: &mut K) 
     ensures fault { result.status ≡ 5 → Rose (K.faults sink.old) (K.faults sink.new) }
 {
     match load_source(alloc, k) {
-        Ok(bytes) => answer_source(alloc, &bytes, request, sink),
+        Ok(bytes) => answer_source(rt, alloc, &bytes, request, sink, gate),
         Err(_) => Report::silent(NO_MEMORY),
     }
 }
 
 /// Reads the source, and does what is requested with it, or refuses one that is too long.
-fn answer_read<S: Source, K: Sink>(
+fn answer_read<R: Threads + Wait + Sync, S: Source, K: Sink, G: Gate + Sync>(
+    rt: &R,
     alloc: Global,
     request: &Request,
     source: &mut S,
     sink: &mut K,
+    gate: &G,
 ) -> Report
     requires bounded { IsBounded request.now }
+    ensures table { HasTable request.now.one result.journal result.table }
     ensures answered { IsSilence result (K.taken sink.old) (K.taken sink.new)
         ⊎ AnswersContents request.now (S.left source.old) result (K.taken sink.old) (K.taken sink.new) }
     ensures not_silent { result.status ≡ 2 → ⊥ }
@@ -178,14 +193,22 @@ fn answer_read<S: Source, K: Sink>(
         Err(ReadFault::Failed) => Report::silent(READ_FAULT),
         Err(ReadFault::Memory) => Report::silent(NO_MEMORY),
         Err(ReadFault::TooLong) => refuse(alloc, b"", Refusal::Long, 0, sink),
-        Ok(bytes) => answer_source(alloc, &bytes, request, sink),
+        Ok(bytes) => answer_source(rt, alloc, &bytes, request, sink, gate),
     }
 }
 
 /// Does what is requested with a source of at most 1,048,576 bytes, or refuses it.
-fn answer_source<K: Sink>(alloc: Global, source: &[u8], request: &Request, sink: &mut K) -> Report
+fn answer_source<R: Threads + Wait + Sync, K: Sink, G: Gate + Sync>(
+    rt: &R,
+    alloc: Global,
+    source: &[u8],
+    request: &Request,
+    sink: &mut K,
+    gate: &G,
+) -> Report
     requires short { IsShort source.now }
     requires bounded { IsBounded request.now }
+    ensures table { HasTable request.now.one result.journal result.table }
     ensures answered { ReportsNoMemory result (K.taken sink.old) (K.taken sink.new)
         ⊎ AnswersSource request.now source.now result (K.taken sink.old) (K.taken sink.new) }
     ensures not_silent { result.status ≡ 2 → ⊥ }
@@ -197,29 +220,38 @@ fn answer_source<K: Sink>(alloc: Global, source: &[u8], request: &Request, sink:
     match code_of(alloc, source) {
         Err(FrontFault::Memory) => Report::silent(NO_MEMORY),
         Err(FrontFault::Refused(refusal, byte)) => refuse(alloc, source, refusal, byte, sink),
-        Ok(code) => answer_code(alloc, &code, request, sink),
+        Ok(code) => answer_code(rt, alloc, &code, request, sink, gate),
     }
 }
 
 /// Does what is requested with the code of an accepted source.
-fn answer_code<K: Sink>(alloc: Global, code: &Code, request: &Request, sink: &mut K) -> Report
+fn answer_code<R: Threads + Wait + Sync, K: Sink, G: Gate + Sync>(
+    rt: &R,
+    alloc: Global,
+    code: &Code,
+    request: &Request,
+    sink: &mut K,
+    gate: &G,
+) -> Report
     requires bounded { IsBounded request.now }
     requires sound { IsSoundCode code.now }
+    ensures table { HasTable request.now.one result.journal result.table }
     ensures answered { ReportsNoMemory result (K.taken sink.old) (K.taken sink.new)
         ⊎ ReportsCode request.now code.now result (K.taken sink.old) (K.taken sink.new) }
     ensures not_silent { result.status ≡ 2 → ⊥ }
     ensures fault { result.status ≡ 5 → Rose (K.faults sink.old) (K.faults sink.new) }
 {
     match request.mode {
-        Mode::Run => run(alloc, code, request, sink),
+        Mode::Run => run(rt, alloc, code, request, sink, gate),
         Mode::Rules => accept(sink),
         Mode::Code => list(code, sink),
-        Mode::Load(_) => run(alloc, code, request, sink),
+        Mode::Load(_) => run(rt, alloc, code, request, sink, gate),
     }
 }
 
 /// Says that the source is accepted.
 fn accept<K: Sink>(sink: &mut K) -> Report
+    ensures table { (result.journal ≡ None) × (result.table ≡ None) }
     ensures written { ReportsText (codes "ok\n") result (K.taken sink.old) (K.taken sink.new) }
     ensures fault { result.status ≡ 5 → Rose (K.faults sink.old) (K.faults sink.new) }
 {
@@ -231,6 +263,7 @@ fn accept<K: Sink>(sink: &mut K) -> Report
 
 /// Writes the listing of a code.
 fn list<K: Sink>(code: &Code, sink: &mut K) -> Report
+    ensures table { (result.journal ≡ None) × (result.table ≡ None) }
     ensures written { ReportsText (listing_text code.now) result (K.taken sink.old) (K.taken sink.new) }
     ensures fault { result.status ≡ 5 → Rose (K.faults sink.old) (K.faults sink.new) }
 {
@@ -249,6 +282,7 @@ fn refuse<K: Sink>(
     sink: &mut K,
 ) -> Report
     requires { PointsAt source.now refusal byte }
+    ensures table { (result.journal ≡ None) × (result.table ≡ None) }
     ensures answered { ReportsNoMemory result (K.taken sink.old) (K.taken sink.new)
         ⊎ ReportsRefusal source.now refusal result (K.taken sink.old) (K.taken sink.new) }
     ensures fault { result.status ≡ 5 → Rose (K.faults sink.old) (K.faults sink.new) }
@@ -263,32 +297,42 @@ fn refuse<K: Sink>(
 }
 
 /// Plays the code of a source, and writes what is due for its journal.
-fn run<K: Sink>(alloc: Global, code: &Code, request: &Request, sink: &mut K) -> Report
+fn run<R: Threads + Wait + Sync, K: Sink, G: Gate + Sync>(
+    rt: &R,
+    alloc: Global,
+    code: &Code,
+    request: &Request,
+    sink: &mut K,
+    gate: &G,
+) -> Report
     requires bounded { IsBounded request.now }
     requires sound { IsSoundCode code.now }
+    ensures table { HasTable request.now.one result.journal result.table }
     ensures answered { ReportsNoMemory result (K.taken sink.old) (K.taken sink.new)
         ⊎ ReportsRun request.now (code_program code.now request.now.limits) result (K.taken sink.old) (K.taken sink.new) }
     ensures not_silent { result.status ≡ 2 → ⊥ }
     ensures fault { result.status ≡ 5 → Rose (K.faults sink.old) (K.faults sink.new) }
 {
-    let Ok(journal) = journal_of(alloc, code, &request.limits) else {
+    let Ok(played) = play_code(rt, alloc, code, request, gate) else {
         return Report::silent(NO_MEMORY);
     };
     // whether an entry may follow takes memory, so it is decided before the first write
-    match due_status(alloc, code, &request.limits, &journal) {
+    match due_status(alloc, code, &request.limits, &played.journal) {
         Err(_) => Report::silent(NO_MEMORY),
-        Ok(due) => write_run(journal, request, due, sink),
+        Ok(due) => write_run(played, request, due, sink),
     }
 }
 
-/// Writes what is due for a journal, whose status is this one.
-fn write_run<K: Sink>(journal: Journal, request: &Request, due: u8, sink: &mut K) -> Report
-    ensures played { ReportsPlayed request.now journal due result (K.taken sink.old) (K.taken sink.new) }
+/// Writes what is due for the journal of a run, whose status is this one.
+fn write_run<K: Sink>(played: Played, request: &Request, due: u8, sink: &mut K) -> Report
+    ensures played { ReportsPlayed request.now played.journal due result (K.taken sink.old) (K.taken sink.new) }
+    ensures table { result.table ≡ played.table }
     ensures fault { result.status ≡ 5 → (due ≡ 5) ⊎ Rose (K.faults sink.old) (K.faults sink.new) }
 {
+    let Played { journal, table } = played;
     match write_due(&journal, request, sink) {
-        Ok(()) => Report::played(due, journal),
-        Err(Failed) => Report::played(WRITE_FAULT, journal),
+        Ok(()) => Report::played(due, journal, table),
+        Err(Failed) => Report::played(WRITE_FAULT, journal, table),
     }
 }
 

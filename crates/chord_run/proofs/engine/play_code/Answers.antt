@@ -1,0 +1,8 @@
+use Rattle.std.proofs.Common.{Some, refl, sym, subst}
+use Rattle.chord_run.specs.Tables.{HasTable}
+use Rattle.chord_run.proofs.engine.play_code.Goals as goal
+
+pub returns-in_ok-journal-in-false-clause-table : goal.returns-in_ok-journal-in-false-clause-table
+returns-in_ok-journal-in-false-clause-table g c =
+    let run = c.in_ok-journal-in-false in
+    subst (λ one. HasTable one (Some run.journal) (Some run.closed)) (sym c.in-false.is) (run.closed, refl, record { drawn = (run.ensures).closed.0; kept = (run.ensures).closed.1 })
