@@ -155,7 +155,7 @@ fn answer_made<K: Sink>(alloc: Global, k: u32, request: &Request, sink: &mut K) 
     ensures fault { result.status ≡ 5 → Rose (K.faults sink.old) (K.faults sink.new) }
 {
     match load_source(alloc, k) {
-        Ok(bytes) => answer_source(alloc, &bytes, request, sink),
+        Ok(made) => answer_source(alloc, &made, request, sink),
         Err(_) => Report::silent(NO_MEMORY),
     }
 }
