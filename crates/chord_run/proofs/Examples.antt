@@ -1,10 +1,7 @@
 -- What some lists of words request, computed from the definitions.
-use Rattle.std.proofs.Common.{◌≡◌, ℕ, List, [], ◌∷◌, Option, Some, None, codes, refl, sym, ◌∙◌, true, false}
+use Rattle.std.proofs.Common.{◌≡◌, Option, Some, None, refl}
 use Rattle.clap.proofs.OnLiterals.{clap_on_literals}
-use Rattle.chord_run.specs.Command.{AreAccepted, AreTaken, Requests}
-use Rattle.chord_run.specs.Examples.{HasExamples, HasRefusedExamples, on_one_thread}
-use Rattle.chord_run.specs.declared.command.Request.{Request}
-use Rattle.chord_run.specs.declared.command.Mode.TheVariants.{Run, Rules, Code, Load}
+use Rattle.chord_run.specs.Examples.{HasExamples, HasRefusedExamples}
 
 -- no answer is some answer
 none_is_some : {X : Type 0} {x : X} → ◌≡◌ {A = Option X} None (Some x) → ⊥

@@ -1,8 +1,8 @@
 -- What some lists of words request, as they are written on the command line.
-use Rattle.std.specs.Prelude.{◌≡◌, ℕ, Bool, true, false, List, [], ◌∷◌, codes, length}
+use Rattle.std.specs.Prelude.{ℕ, Bool, true, false, [], ◌∷◌, codes}
 use Rattle.chord_run.specs.Command.{AreAccepted, AreTaken, Requests}
 use Rattle.chord_run.specs.declared.command.Mode.{Mode}
-use Rattle.chord_run.specs.declared.command.Mode.TheVariants.{Run, Rules, Code, Load}
+use Rattle.chord_run.specs.declared.command.Mode.TheVariants.{Run, Rules, Load}
 use Rattle.chord_run.specs.declared.command.Request.{Request}
 
 -- what is requested of one thread

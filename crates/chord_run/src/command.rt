@@ -15,6 +15,7 @@ use std::alloc::Global;
 
 /// The events that a run may have at least and at most; the most where the arguments name no number.
 const LEAST_EVENTS: u32 = 16;
+
 const MOST_EVENTS: u32 = 65_536;
 
 /// The turns that a body may have at most; as many where the arguments name no number.
@@ -25,6 +26,7 @@ const DEPTH: u32 = 256;
 
 /// The workers of a run at most, and where the arguments name no number.
 const MOST_WORKERS: u32 = 64;
+
 const DEFAULT_WORKERS: u32 = 4;
 
 /// The largest number from which a source is made.

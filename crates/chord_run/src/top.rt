@@ -23,10 +23,10 @@ use crate::front::{FrontFault, code_of};
 use crate::load::load_source;
 use crate::output::write_due;
 use crate::refusal::{Refusal, line_of};
-use crate::words::WordsFault;
 use crate::report::{
     AT_LIMIT, DONE, NO_MEMORY, OTHER_ARGUMENTS, READ_FAULT, REFUSED, Report, WRITE_FAULT,
 };
+use crate::words::WordsFault;
 use chord_base::agreement::same_runs;
 use chord_base::event::Limits;
 use chord_base::journal::Journal;
