@@ -17,11 +17,7 @@ use chord_journal::{write_counts, write_lines, write_text};
 /// # Errors
 ///
 /// `Failed` where the sink failed, which its count of faults shows. A proper prefix of what is due was written.
-pub fn write_due<K: Sink>(
-    journal: &Journal,
-    request: &Request,
-    sink: &mut K,
-) -> Result<(), Failed>
+pub fn write_due<K: Sink>(journal: &Journal, request: &Request, sink: &mut K) -> Result<(), Failed>
     ensures whole { OnOk result (Took (K.taken sink.old) (text_due request.now journal.now) (K.taken sink.new)) }
     ensures prefix { OnErr result (TookProperPrefix (K.taken sink.old) (text_due request.now journal.now) (K.taken sink.new)) }
     ensures failed { OnErr result (Rose (K.faults sink.old) (K.faults sink.new)) }

@@ -23,10 +23,10 @@ use crate::front::{FrontFault, code_of};
 use crate::load::load_source;
 use crate::output::write_due;
 use crate::refusal::{Refusal, line_of};
-use crate::words::WordsFault;
 use crate::report::{
     AT_LIMIT, DONE, NO_MEMORY, OTHER_ARGUMENTS, READ_FAULT, REFUSED, Report, WRITE_FAULT,
 };
+use crate::words::WordsFault;
 use chord_base::agreement::same_runs;
 use chord_base::event::Limits;
 use chord_base::journal::Journal;
@@ -155,7 +155,7 @@ fn answer_made<K: Sink>(alloc: Global, k: u32, request: &Request, sink: &mut K) 
     ensures fault { result.status ≡ 5 → Rose (K.faults sink.old) (K.faults sink.new) }
 {
     match load_source(alloc, k) {
-        Ok(bytes) => answer_source(alloc, &bytes, request, sink),
+        Ok(made) => answer_source(alloc, &made, request, sink),
         Err(_) => Report::silent(NO_MEMORY),
     }
 }
