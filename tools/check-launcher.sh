@@ -46,7 +46,7 @@ expect() {
     fi
 }
 said() {
-    grep -q "$1" "$work/said" || { echo "launcher: standard error does not say \`$1\`" >&2; failed=1; }
+    grep -qF -- "$1" "$work/said" || { echo "launcher: standard error does not say \`$1\`" >&2; failed=1; }
 }
 
 echo 4 > "$work/ends"
@@ -61,6 +61,38 @@ expect 'a build' 0 '' build
 said '1 of 2 functions'
 expect 'built and fresh' 6 'built with run --one: input' chord run --one
 [ -s "$work/said" ] && { echo "launcher: a built program is started with words of its own" >&2; failed=1; }
+# status 2: the program has written nothing, and the launcher says which word it was
+echo 2 > "$work/ends"
+refused() {
+    wanted=$1
+    shift
+    echo input | "$work/top/chord" "$@" >"$work/written" 2>"$work/said"
+    ended=$?
+    [ "$ended" -eq 2 ] || { echo "launcher: $*: status $ended, not 2" >&2; failed=1; }
+    said "chord: $wanted; ./chord help says what there is"
+}
+mkdir -p "$work/top/crates/chord_prog/out"
+printf '#!/bin/sh\nexit 2\n' > "$work/top/crates/chord_prog/out/chord_prog"
+refused 'no mode is given'
+refused 'no mode is given' --one
+refused 'there is no mode `walk`' walk
+refused '`run` takes no number, and not `3`' run 3
+refused '`run` wants `--one` today, since there is no run with workers yet' run
+refused '`load` wants a number from 1 to 60, not `61`' load 61 --one
+refused '`load` wants a number from 1 to 60, not ``' load --one
+refused '`5` is one word too many' load 4 5 --one
+refused 'there is no option `--evens`' run --one --evens
+refused '`--one` is given twice' run --one --one
+refused '`--events` is given twice' run --events 16 --one --events=16
+refused '`--workers` wants a number from 1 to 64 in at most seven digits, not `0`' run --workers 0
+refused '`--events` wants a number from 16 to 65536 in at most seven digits, not `00000016`' run --one --events=00000016
+refused '`--turns` wants a number from 1 to 1000000 in at most seven digits, not ``' run --one --turns
+refused '`run` takes no number, and not `--one`' run -- --one
+for word in run rules code load --one --journal --workers --events --turns; do
+    echo input | "$work/top/chord" help 2>"$work/said" | grep -q -- "^  $word " || { echo "launcher: help does not name $word" >&2; failed=1; }
+done
+[ "$("$work/top/chord" help | wc -l)" -le 26 ] || { echo 'launcher: help is longer than a screen' >&2; failed=1; }
 touch -d '+1 minute' "$work/top/crates/chord_prog/src/main.rt"
+echo 6 > "$work/ends"
 expect 'older than the sources' 6 'tried with rules: input' chord rules
 exit $failed

@@ -1,5 +1,5 @@
 -- What a search for a chord answers, from what is known of the bags.
-use Rattle.std.proofs.Common.{zero, suc, map, replicate, ◌≡◌, ◌≢◌, ◌⊎◌, inl, inr, ℕ, ◌<◌, Bool, true, false, ◌==◌, List, [], ◌∷◌, length, slice_get, slice_index_or, refl, sym, ap, ◌∙◌, subst, Option, Some, None, if◌then◌else◌}
+use Rattle.std.proofs.Common.{◌||◌, ne_eqb, zero, suc, map, replicate, ◌≡◌, ◌≢◌, ◌⊎◌, inl, inr, ℕ, ◌<◌, Bool, true, false, ◌==◌, List, [], ◌∷◌, length, slice_get, slice_index_or, refl, sym, ap, ◌∙◌, subst, Option, Some, None, if◌then◌else◌}
 use Rattle.std.proofs.lemmas.Bool.{eqb-true, eq-eqb}
 use Rattle.std.proofs.lemmas.Option.{slice_get_within}
 use Rattle.chord_base.specs.Meaning.{Program}
@@ -32,6 +32,14 @@ use Rattle.chord_match.specs.Seen.{HasSought, AreMatched}
 use Rattle.chord_match.specs.Searching.{WasTold, WasToldIf, Searching, IsStuck, AreStuck, IsThrough}
 use Rattle.chord_match.specs.Findings.{IsLacking, IsHeldUp, IsMatch, IsLeft, IsHeldBy, read_so}
 use Rattle.chord_match.proofs.Growing.{duty_is_kept, key_cancels}
+
+-- the own message is the member for its own method
+own_member : (v w : View) (o : Object) (m method : ℕ) (next : Option ℕ) (js ms : List ℕ) (xs : List (Option ℕ)) → AreMatched v w o m method next js ms xs → has method js ≡ true → HasNumber m ms
+own_member v w o m method next [] ms xs t h = absurd (let z : false ≡ true = h in cc)
+own_member v w o m method next (j ∷ js) [] xs t h = absurd t
+own_member v w o m method next (j ∷ js) (i ∷ is) [] t h = absurd t
+own_member v w o m method next (j ∷ js) (i ∷ is) (x ∷ xs) (inl q, t) h = inl (sym q.1)
+own_member v w o m method next (j ∷ js) (i ∷ is) (x ∷ xs) (inr q, t) h = inr (own_member v w o m method next js is xs t (subst (λ (b : Bool). (b || has method js) ≡ true) (ne_eqb method j (λ e. q.0 (sym e))) h))
 
 -- a bag of a chord is that of one of its methods
 has_keys : (o : Object) (js : List ℕ) (x : ℕ) → HasNumber x (keys o js) → (j : ℕ) × (has j js ≡ true) × (x ≡ key o j)
@@ -85,6 +93,7 @@ module _ (n : ℕ) (p : Program) (o : Object) (own : Own) (u w : View) (known : 
       sought = subst (λ (z : View). HasSought z w) read t.stands.sought;
       seen = record { methods = r.0; is_chord = here; ready = r.4; object = (d.0, own.method, d.1, few, d.3) };
       chord = (here, r.2);
+      own = own_member u w o own.message own.method own.next r.0 ms xs r.3 r.2;
       matched = subst (λ (z : View). AreMatched z w o own.message own.method own.next r.0 ms xs) read r.3;
     }
 

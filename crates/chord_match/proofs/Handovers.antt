@@ -20,8 +20,9 @@ use Rattle.chord_rule.specs.Tells.{CameNext}
 use Rattle.chord_rule.proofs.Lists.{dropped_has, fired_has}
 use Rattle.chord_match.specs.Claiming.{IsDrawn}
 use Rattle.chord_match.specs.Consuming.{AreFired, AreApart, Consuming, handed_over, Handed}
-use Rattle.chord_match.specs.Fires.{all_together, drop_duties, AreComing, IsFired}
+use Rattle.chord_match.specs.Fires.{all_together, drop_duties, AreComing, IsFired, firing_entry}
 use Rattle.chord_match.proofs.Lists.{has_first}
+use Rattle.chord_match.proofs.Unions.{all_are_place}
 
 -- dropped claims are no more than before
 drop_fewer : (i : ℕ) (cs : List Claim) → length (drop_claim i cs) ≤ length cs
@@ -161,8 +162,18 @@ module _ {P : Type 0} (entries : P → List Entry) (arguments : P → List value
     came = subst (λ (vs : List value.Value). CameNext p (entry f f (Fired chord o ms vs))) h.arguments_are t.came;
     each = h.each;
     older = h.older;
-    place = subst (λ (vs : List value.Value). IsPlace p (entry f f (Fired chord o ms vs) ∷ v.kept)) h.arguments_are t.place;
-    coming = subst (λ (vs : List value.Value). AreComing p entries o (entry f f (Fired chord o ms vs) ∷ v.kept) t.methods ms qs) h.arguments_are (subst (λ (z : View). AreComing p entries o z.kept t.methods ms qs) t.drawn h.coming);
-    view = h.frame ∙ ap (λ (z : View). handed_over z (all_together z.kept (map entries qs)) (drop_duties ms z.duties) w.looked) t.drawn
-        ∙ ap (λ (vs : List value.Value). record v { kept = all_together (entry f f (Fired chord o ms vs) ∷ v.kept) (map entries qs); claims = []; unposted = f ∷ v.unposted; drawn = true; duties = drop_duties ms v.duties; looked = w.looked }) h.arguments_are;
+    place = place;
+    coming = coming;
+    stays = subst (IsPlace p) (sym (ap (λ (z : View). z.kept) after)) (all_are_place p entries o (firing_entry arguments o chord ms f qs ∷ v.kept) t.methods ms qs place coming);
+    view = after;
   }
+    where
+      place : IsPlace p (firing_entry arguments o chord ms f qs ∷ v.kept)
+      place = subst (λ (vs : List value.Value). IsPlace p (entry f f (Fired chord o ms vs) ∷ v.kept)) h.arguments_are t.place
+
+      coming : AreComing p entries o (firing_entry arguments o chord ms f qs ∷ v.kept) t.methods ms qs
+      coming = subst (λ (vs : List value.Value). AreComing p entries o (entry f f (Fired chord o ms vs) ∷ v.kept) t.methods ms qs) h.arguments_are (subst (λ (z : View). AreComing p entries o z.kept t.methods ms qs) t.drawn h.coming)
+
+      after : w ≡ record v { kept = all_together (firing_entry arguments o chord ms f qs ∷ v.kept) (map entries qs); claims = []; unposted = f ∷ v.unposted; drawn = true; duties = drop_duties ms v.duties; looked = w.looked }
+      after = h.frame ∙ ap (λ (z : View). handed_over z (all_together z.kept (map entries qs)) (drop_duties ms z.duties) w.looked) t.drawn
+          ∙ ap (λ (vs : List value.Value). record v { kept = all_together (entry f f (Fired chord o ms vs) ∷ v.kept) (map entries qs); claims = []; unposted = f ∷ v.unposted; drawn = true; duties = drop_duties ms v.duties; looked = w.looked }) h.arguments_are

@@ -4,4 +4,5 @@ pub mod Knowing
 pub mod Chords
 pub mod Finds
 pub mod Claims
+pub mod Unions
 pub mod Handovers

@@ -8,6 +8,7 @@ use Rattle.chord_word.specs.declared.cells.Cell.TheVariants.{Pending, Claimed, C
 use Rattle.chord_rule.specs.declared.view.View.{View}
 use Rattle.chord_rule.specs.Kinds.{looked_cell, rested}
 use Rattle.chord_rule.specs.Made.{key}
+use Rattle.chord_rule.specs.Numbers.{HasNumber}
 use Rattle.chord_rule.specs.Ways.{IsAlone}
 use Rattle.chord_bag.specs.declared.walk.Sought.TheVariants as a_sought
 use Rattle.chord_match.specs.declared.search.Finding.{Finding}
@@ -38,6 +39,8 @@ pub record IsMatch (p : Program) (n : ℕ) (v w : View) (m : ℕ) (o : Object) (
   -- the desk saw the members so that it may fire the chord
   pub seen : AreSeen n p w o k ms xs
   pub chord : IsChordWith p o method k seen.methods
+  -- m is one of the members
+  pub own : HasNumber m ms
   -- each was read pending with its next, in the bag of its method
   pub matched : AreMatched (read_so v m Pending next) w o m method next seen.methods ms xs
 

@@ -96,6 +96,8 @@ pub record IsFired {P : Type 0} (entries : P → List Entry) (arguments : P → 
   -- what the desk kept with the firing's entry is a place of the run, and each parcel's entries come from another one
   pub place : IsPlace p (firing_entry arguments o chord ms f qs ∷ v.kept)
   pub coming : AreComing p entries o (firing_entry arguments o chord ms f qs ∷ v.kept) methods ms qs
+  -- what the desk then keeps is a place of the run
+  pub stays : IsPlace p w.kept
   -- the desk keeps the firing's entry and what the parcels keep; it has no claim, and no duty on a member
   pub view : w ≡ record v { kept = all_together (firing_entry arguments o chord ms f qs ∷ v.kept) (map entries qs); claims = []; unposted = f ∷ v.unposted; drawn = true; duties = drop_duties ms v.duties; looked = w.looked }
 

@@ -8,6 +8,7 @@ pub mod Answering
 pub mod Numbers
 pub mod Commands
 pub mod Loads
+pub mod Examples
 pub mod Breaks
 pub mod FirstBreak
 pub mod Compiled

@@ -61,8 +61,8 @@ abbrev pub is_number : List ℕ → Bool
 is_number text = nat_lt 0 (length text) && (nat_le (length text) 7 && all_ascii_digits text)
 
 -- the number that a text says
-abbrev pub number_of : List ℕ → Option ℕ
-number_of text = cond (is_number text) (Some (digits_value 10 text)) None
+abbrev pub number_said : List ℕ → Option ℕ
+number_said text = cond (is_number text) (Some (digits_value 10 text)) None
 
 -- a number where it is not below the one bound and not above the other
 abbrev pub within : ℕ → ℕ → ℕ → Option ℕ
@@ -70,7 +70,7 @@ within low high n = cond (nat_le low n && nat_le n high) (Some n) None
 
 -- the number that a text says, where it is within these bounds
 abbrev pub number_within : ℕ → ℕ → List ℕ → Option ℕ
-number_within low high text = option_and_then (within low high) (number_of text)
+number_within low high text = option_and_then (within low high) (number_said text)
 
 -- the value of an option: where it is not given, this one
 abbrev pub value_within : ℕ → ℕ → ℕ → Option (List ℕ) → Option ℕ
@@ -78,9 +78,9 @@ value_within otherwise low high None = Some otherwise
 value_within otherwise low high (Some text) = number_within low high text
 
 -- a mode that takes no K
-abbrev pub alone : Mode → Option (List ℕ) → Option Mode
-alone found None = Some found
-alone found (Some k) = None
+abbrev pub without_k : Mode → Option (List ℕ) → Option Mode
+without_k found None = Some found
+without_k found (Some k) = None
 
 -- the mode `load`, which takes K, a number from 1 to 60
 abbrev pub load_of : Option (List ℕ) → Option Mode
@@ -89,8 +89,8 @@ load_of k = option_and_then (λ text. option_map Load (number_within 1 60 text))
 -- the mode of a name and K
 abbrev pub mode_of : Option (List ℕ) → List ℕ → Option Mode
 mode_of k name =
-    cond (bytes_eq name (codes "run")) (alone Run k) (cond (bytes_eq name (codes "rules")) (alone Rules k)
-    (cond (bytes_eq name (codes "code")) (alone Code k) (cond (bytes_eq name (codes "load")) (load_of k) None)))
+    cond (bytes_eq name (codes "run")) (without_k Run k) (cond (bytes_eq name (codes "rules")) (without_k Rules k)
+    (cond (bytes_eq name (codes "code")) (without_k Code k) (cond (bytes_eq name (codes "load")) (load_of k) None)))
 
 -- the limits of a run: 16 to 65,536 events and 1 to 1,000,000 turns of a body, the most where they are not given, and the depth 256
 abbrev pub limits_of : Option (List ℕ) → Option (List ℕ) → Option Limits

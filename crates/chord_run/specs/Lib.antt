@@ -14,6 +14,8 @@ pub mod Tables
 pub mod Written
 -- what the arguments of the command line request
 pub mod Command
+-- what some lists of words request
+pub mod Examples
 -- the source that `load` makes from a number
 pub mod Load
 -- which sources are accepted, and what the join machine of each is

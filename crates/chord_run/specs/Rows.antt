@@ -92,8 +92,8 @@ pub record NoneFailed (read_before read_after write_before write_after : ℕ) : 
 
 -- an accepted source has a status of its mode, or the call ran out of memory
 abbrev pub RunsAccepted : Mode → Option (List ℕ) → ℕ → Type 0
-RunsAccepted mode None status = Unit {0}
-RunsAccepted mode (Some source) status = IsAccepted source → IsStatusOf mode status ⊎ (status ≡ 7)
+RunsAccepted asked None status = Unit {0}
+RunsAccepted asked (Some source) status = IsAccepted source → IsStatusOf asked status ⊎ (status ≡ 7)
 
 -- every other source is refused, or the call ran out of memory
 abbrev pub RefusesOthers : Option (List ℕ) → ℕ → Type 0

@@ -131,11 +131,11 @@ fn mode_of(k: Option<&str>, name: &str) -> Option<Mode>
     ensures { result ≡ words.mode_of (option_map (λ s. s.now) k.entry) name.now }
 {
     if name == "run" {
-        alone(Mode::Run, k)
+        without_k(Mode::Run, k)
     } else if name == "rules" {
-        alone(Mode::Rules, k)
+        without_k(Mode::Rules, k)
     } else if name == "code" {
-        alone(Mode::Code, k)
+        without_k(Mode::Code, k)
     } else if name == "load" {
         load_of(k)
     } else {
@@ -144,8 +144,8 @@ fn mode_of(k: Option<&str>, name: &str) -> Option<Mode>
 }
 
 /// A mode that takes no K.
-fn alone(mode: Mode, k: Option<&str>) -> Option<Mode>
-    ensures { result ≡ words.alone mode (option_map (λ s. s.now) k.entry) }
+fn without_k(mode: Mode, k: Option<&str>) -> Option<Mode>
+    ensures { result ≡ words.without_k mode (option_map (λ s. s.now) k.entry) }
 {
     match k {
         None => Some(mode),
@@ -185,7 +185,7 @@ fn value_within(otherwise: u32, low: u32, high: u32, text: Option<&str>) -> Opti
 fn number_within(low: u32, high: u32, text: &str) -> Option<u32>
     ensures { result ≡ words.number_within low high text.now }
 {
-    let number = number_of(text)?;
+    let number = number_said(text)?;
     if low <= number && number <= high {
         Some(number)
     } else {
@@ -194,8 +194,8 @@ fn number_within(low: u32, high: u32, text: &str) -> Option<u32>
 }
 
 /// The number that a text of one to seven decimal digits says.
-fn number_of(text: &str) -> Option<u32>
-    ensures { result ≡ words.number_of text.now }
+fn number_said(text: &str) -> Option<u32>
+    ensures { result ≡ words.number_said text.now }
 {
     if !is_number(text.as_bytes()) {
         return None;

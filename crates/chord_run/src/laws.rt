@@ -1,6 +1,7 @@
-//! What holds of each source, as the contract of a function that does nothing.
+//! What holds of each source, and of some command lines, as the contracts of functions that do nothing.
 #![tactic(auto)]
 
+ghost use Rattle.chord_run.specs.Examples.{HasExamples, HasRefusedExamples};
 ghost use Rattle.chord_run.specs.Laws.{AcceptedHasMachine, CauseHasLine, HasOneCause, HasOneLine, HasOneMachine, IsAcceptedOrHasCause, MachineIsOfAccepted, RefusedIsNotAccepted};
 
 use chord_classes::laws::breaks;
@@ -23,3 +24,9 @@ pub fn sources()
     // the one rule that is no list has one
     splits();
 }
+
+/// What some command lines request, and some that request nothing: what the definition says of words that are written out.
+pub fn words()
+    ensures accepted { HasExamples }
+    ensures refused { HasRefusedExamples }
+{}

@@ -167,7 +167,7 @@ fn answer_made<R: Threads + Wait + Sync, K: Sink, G: Gate + Sync>(
     ensures fault { result.status ≡ 5 → Rose (K.faults sink.old) (K.faults sink.new) }
 {
     match load_source(alloc, k) {
-        Ok(bytes) => answer_source(rt, alloc, &bytes, request, sink, gate),
+        Ok(made) => answer_source(rt, alloc, &made, request, sink, gate),
         Err(_) => Report::silent(NO_MEMORY),
     }
 }

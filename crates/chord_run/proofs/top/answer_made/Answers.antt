@@ -1,4 +1,4 @@
-use Rattle.std.proofs.Common.{inl, inr, sym, ◌∙◌}
+use Rattle.std.proofs.Common.{sym, ◌∙◌}
 use Rattle.chord_run.proofs.Answering.{contents_answered}
 use Rattle.chord_run.proofs.top.answer_made.Goals as goal
 

@@ -1,7 +1,7 @@
-use Rattle.std.proofs.Common.{refl, rules, sym, ap, ◌∙◌}
+use Rattle.std.proofs.Common.{sym, ap, ◌∙◌}
 use Rattle.chord_run.specs.Command.{is_number}
 use Rattle.chord_run.proofs.Numbers.{number_parsed}
-use Rattle.chord_run.proofs.command.number_of.Goals as goal
+use Rattle.chord_run.proofs.command.number_said.Goals as goal
 
 pub returns : goal.returns
 returns c =
