@@ -11,14 +11,16 @@ none_is_some e = cc
 pub accepted_examples : HasExamples
 unfolding clap_on_literals
 accepted_examples = record {
-  run = record { taken = refl; says = record { mode = refl; limits = refl; workers = refl; one = refl; journal = refl }; playable = refl };
-  turned = record { taken = refl; says = record { mode = refl; limits = refl; workers = refl; one = refl; journal = refl }; playable = refl };
-  behind = record { taken = refl; says = record { mode = refl; limits = refl; workers = refl; one = refl; journal = refl }; playable = refl };
-  journal = record { taken = refl; says = record { mode = refl; limits = refl; workers = refl; one = refl; journal = refl }; playable = refl };
-  attached = record { taken = refl; says = record { mode = refl; limits = refl; workers = refl; one = refl; journal = refl }; playable = refl };
-  apart = record { taken = refl; says = record { mode = refl; limits = refl; workers = refl; one = refl; journal = refl }; playable = refl };
-  workers = record { taken = refl; says = record { mode = refl; limits = refl; workers = refl; one = refl; journal = refl }; playable = refl };
-  load = record { taken = refl; says = record { mode = refl; limits = refl; workers = refl; one = refl; journal = refl }; playable = refl };
+  shared = record { taken = refl; says = record { mode = refl; limits = refl; workers = refl; one = refl; journal = refl } };
+  eight = record { taken = refl; says = record { mode = refl; limits = refl; workers = refl; one = refl; journal = refl } };
+  run = record { taken = refl; says = record { mode = refl; limits = refl; workers = refl; one = refl; journal = refl } };
+  turned = record { taken = refl; says = record { mode = refl; limits = refl; workers = refl; one = refl; journal = refl } };
+  behind = record { taken = refl; says = record { mode = refl; limits = refl; workers = refl; one = refl; journal = refl } };
+  journal = record { taken = refl; says = record { mode = refl; limits = refl; workers = refl; one = refl; journal = refl } };
+  attached = record { taken = refl; says = record { mode = refl; limits = refl; workers = refl; one = refl; journal = refl } };
+  apart = record { taken = refl; says = record { mode = refl; limits = refl; workers = refl; one = refl; journal = refl } };
+  workers = record { taken = refl; says = record { mode = refl; limits = refl; workers = refl; one = refl; journal = refl } };
+  load = record { taken = refl; says = record { mode = refl; limits = refl; workers = refl; one = refl; journal = refl } };
 }
 
 -- the words that are not

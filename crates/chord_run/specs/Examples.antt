@@ -10,8 +10,14 @@ abbrev pub on_one_thread : Mode → ℕ → ℕ → ℕ → Bool → Request
 on_one_thread asked events turns workers journal =
     record { mode = asked; limits = record { events = events; turns = turns; depth = 256 }; workers = workers; one = true; journal = journal }
 
--- `run --one`, the same the other way round and behind `--`, each option in both its forms, and `load 1`
+-- what is requested of as many workers
+abbrev pub of_workers : Mode → ℕ → Request
+of_workers asked workers = record (on_one_thread asked 65536 1000000 workers false) { one = false }
+
+-- `run` alone, which four workers make, and eight; `run --one`, the same the other way round and behind `--`, each option in both its forms, and `load 1`
 pub record HasExamples : Type 0 where
+  pub shared : Requests (codes "run" ∷ []) (of_workers Run 4)
+  pub eight : Requests (codes "run" ∷ codes "--workers=8" ∷ []) (of_workers Run 8)
   pub run : Requests (codes "run" ∷ codes "--one" ∷ []) (on_one_thread Run 65536 1000000 4 false)
   pub turned : Requests (codes "--one" ∷ codes "run" ∷ []) (on_one_thread Run 65536 1000000 4 false)
   pub behind : Requests (codes "--one" ∷ codes "--" ∷ codes "run" ∷ []) (on_one_thread Run 65536 1000000 4 false)
