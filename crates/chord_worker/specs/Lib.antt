@@ -9,6 +9,8 @@ pub mod Resting
 
 -- messages that are sent off
 pub mod Sending
+-- a firing that was drawn, before its body begins
+pub mod Firing
 -- a task while it is played
 pub mod Playing
 -- entries that are made of parts
