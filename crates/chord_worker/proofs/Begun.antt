@@ -127,7 +127,7 @@ module _ (p : Program) (es : List Entry) (rises : IsRising es) (told : IsTold p 
     told = λ c. elim (either (c == 0)) [ inl y ↦ rw y told | inr z ↦ rw z (subst (IsTold p) (empty (c == 1)) tt) ];
   }
     where
-      empty : (b : Bool) → [] ≡ (if b then [] else [])
+      empty : (b : Bool) → ◌≡◌ {A = List Entry} [] (if b then [] else [])
       empty true = refl
       empty false = refl
 

@@ -24,6 +24,24 @@ use Rattle.chord_vm.specs.Frames.{laid}
 use Rattle.chord_worker.specs.Beginning.{first_of, first_task, arguments_in}
 use Rattle.chord_worker.proofs.Fitting.{letter_alone}
 
+-- the parcels to these methods for these members have no task, so that the firing serves no call
+pub record HasNone (sync : ℕ → Bool) (es : List Entry) (js ms : List ℕ) (qs : List Parcel) : Type 0 where
+  pub task : first_task qs ≡ None
+  pub all : all_together es (map entries_of qs) ≡ es
+  pub serves : served_among sync js ms ≡ None
+
+-- one of the parcels has a task, which came with the call that the firing serves
+pub record HasCaller (code : Parts) (limits : Limits) (sync : ℕ → Bool) (f : ℕ) (es : List Entry) (js ms : List ℕ) (qs : List Parcel) : Type 0 where
+  pub caller : Task
+  pub claim : Claim
+  pub task : first_task qs ≡ Some caller
+  pub all : all_together es (map entries_of qs) ≡ together es (view_of caller).past
+  pub serves : served_among sync js ms ≡ Some claim.number
+  pub comes : ComesWithMessage (code_program code limits) es claim (view_of caller).past
+  pub is_task : IsTaskOf code limits caller
+  pub left : (view_of caller).top ≢ None
+  pub below : AllBelow f (view_of caller).past
+
 -- the values of a firing are those in the parcels
 pub values_in : (qs : List Parcel) → laid_together arguments_of qs ≡ laid (for_entry (arguments_in qs))
 values_in [] = refl
@@ -52,26 +70,8 @@ module _ (code : Parts) (limits : Limits) where
         absurd (letter_alone code limits sound one t task.0 es c coming.4 task.1
         (ap (λ (x : Object). p.is_sync x.class c.method) coming.2 ∙ ap sync coming.3 ∙ plain))
 
-    -- parcels to asynchronous methods have no tasks
-    pub record HasNone (es : List Entry) (js ms : List ℕ) (qs : List Parcel) : Type 0 where
-      pub task : first_task qs ≡ None
-      pub all : all_together es (map entries_of qs) ≡ es
-      pub serves : served_among sync js ms ≡ None
-
-    -- one of the parcels has a task, which came with the call that the firing serves
-    pub record HasCaller (es : List Entry) (js ms : List ℕ) (qs : List Parcel) : Type 0 where
-      pub caller : Task
-      pub claim : Claim
-      pub task : first_task qs ≡ Some caller
-      pub all : all_together es (map entries_of qs) ≡ together es (view_of caller).past
-      pub serves : served_among sync js ms ≡ Some claim.number
-      pub comes : ComesWithMessage p es claim (view_of caller).past
-      pub is_task : IsTaskOf code limits caller
-      pub left : (view_of caller).top ≢ None
-      pub below : AllBelow f (view_of caller).past
-
     -- one parcel without a task more
-    none_more : (es : List Entry) (j i : ℕ) (q : Parcel) (js ms : List ℕ) (qs : List Parcel) → sync j ≡ false → q.task ≡ None → HasNone es js ms qs → HasNone es (j ∷ js) (i ∷ ms) (q ∷ qs)
+    none_more : (es : List Entry) (j i : ℕ) (q : Parcel) (js ms : List ℕ) (qs : List Parcel) → sync j ≡ false → q.task ≡ None → HasNone sync es js ms qs → HasNone sync es (j ∷ js) (i ∷ ms) (q ∷ qs)
     none_more es j i q js ms qs plain none k = record {
       task = ap (λ x. first_of x (first_task qs)) none ∙ k.task;
       all = ap (λ x. all_together (together es (past_in x)) (map entries_of qs)) none ∙ k.all;
@@ -79,7 +79,7 @@ module _ (code : Parts) (limits : Limits) where
     }
 
     -- and where another one has a task
-    caller_more : (es : List Entry) (j i : ℕ) (q : Parcel) (js ms : List ℕ) (qs : List Parcel) → sync j ≡ false → q.task ≡ None → HasCaller es js ms qs → HasCaller es (j ∷ js) (i ∷ ms) (q ∷ qs)
+    caller_more : (es : List Entry) (j i : ℕ) (q : Parcel) (js ms : List ℕ) (qs : List Parcel) → sync j ≡ false → q.task ≡ None → HasCaller code limits sync f es js ms qs → HasCaller code limits sync f es (j ∷ js) (i ∷ ms) (q ∷ qs)
     caller_more es j i q js ms qs plain none k = record {
       caller = k.caller;
       claim = k.claim;
@@ -97,7 +97,7 @@ module _ (code : Parts) (limits : Limits) where
     same_rest es js ms q qs none coming = subst (λ (x : Option Task). AreComing p entries_of o (together es (past_in x)) js ms qs) none coming
 
     -- parcels to asynchronous methods
-    letters : (es : List Entry) (js ms : List ℕ) (qs : List Parcel) → NoneSync sync js → AreOlder entries_of (λ q. IsParcelOf q code limits) f qs → AreComing p entries_of o es js ms qs → HasNone es js ms qs
+    letters : (es : List Entry) (js ms : List ℕ) (qs : List Parcel) → NoneSync sync js → AreOlder entries_of (λ q. IsParcelOf q code limits) f qs → AreComing p entries_of o es js ms qs → HasNone sync es js ms qs
     letters es [] [] [] plain older coming = record { task = refl; all = refl; serves = refl }
     letters es [] [] (q ∷ qs) plain older coming = absurd coming
     letters es [] (i ∷ ms) qs plain older coming = absurd coming
@@ -108,8 +108,8 @@ module _ (code : Parts) (limits : Limits) where
         none_more es j i q js ms qs plain.0 none (letters es js ms qs plain.1 older.2 (same_rest es js ms q qs none coming.1))
 
     -- the parcel to the synchronous method has a task
-    of_call : (es : List Entry) (j i : ℕ) (q : Parcel) (js ms : List ℕ) (qs : List Parcel) → sync j ≡ true → AllBelow f (entries_of q) → IsComing p o es j i (entries_of q) → HasNone (together es (entries_of q)) js ms qs
-        → (x : Option Task) → q.task ≡ x → TaskIn code limits x → HasCaller es (j ∷ js) (i ∷ ms) (q ∷ qs)
+    of_call : (es : List Entry) (j i : ℕ) (q : Parcel) (js ms : List ℕ) (qs : List Parcel) → sync j ≡ true → AllBelow f (entries_of q) → IsComing p o es j i (entries_of q) → HasNone sync (together es (entries_of q)) js ms qs
+        → (x : Option Task) → q.task ≡ x → TaskIn code limits x → HasCaller code limits sync f es (j ∷ js) (i ∷ ms) (q ∷ qs)
     of_call es j i q js ms qs waits below coming rest None is task =
         let c = coming.0 in
         let e = coming.4.call (ap (λ (x : Object). p.is_sync x.class c.method) coming.2 ∙ ap sync coming.3 ∙ waits) in
@@ -127,7 +127,7 @@ module _ (code : Parts) (limits : Limits) where
     }
 
     -- of the parcels of a chord's members at most one has a task
-    pub one_caller : (es : List Entry) (js ms : List ℕ) (qs : List Parcel) → OneSync sync js → AreOlder entries_of (λ q. IsParcelOf q code limits) f qs → AreComing p entries_of o es js ms qs → HasNone es js ms qs ⊎ HasCaller es js ms qs
+    pub one_caller : (es : List Entry) (js ms : List ℕ) (qs : List Parcel) → OneSync sync js → AreOlder entries_of (λ q. IsParcelOf q code limits) f qs → AreComing p entries_of o es js ms qs → HasNone sync es js ms qs ⊎ HasCaller code limits sync f es js ms qs
     one_caller es [] [] [] only older coming = inl (record { task = refl; all = refl; serves = refl })
     one_caller es [] [] (q ∷ qs) only older coming = absurd coming
     one_caller es [] (i ∷ ms) qs only older coming = absurd coming
