@@ -1,5 +1,5 @@
 -- A firing's body begins in the task of the caller that it serves or in one in stock; then it is played, or posted.
-use Rattle.std.proofs.Common.{◌≡◌, ◌≢◌, ◌⊎◌, inl, inr, ⊎_elim, ℕ, ◌+◌, ◌-◌, ◌<◌, ◌≤◌, length, Bool, true, false, ◌==◌, List, [], ◌∷◌, map, slice_get, Option, Some, None, refl, sym, ap, ◌∙◌, subst, arith}
+use Rattle.std.proofs.Common.{◌≡◌, ◌≢◌, ◌⊎◌, inl, inr, ⊎_elim, ℕ, ◌+◌, ◌-◌, ◌<◌, ◌≤◌, length, Bool, true, false, ◌==◌, List, [], ◌∷◌, ◌++◌, map, slice_get, Option, Some, None, refl, sym, ap, ◌∙◌, subst, arith}
 use Rattle.std.specs.Prelude.{IsPermutation, is_some}
 use Rattle.std.proofs.lemmas.Bool.{eq-eqb, eqb-true}
 use mathlib.Core.Path.{Path}
@@ -18,6 +18,7 @@ use Rattle.chord_base.specs.Story.{AllBelow, IsDefined, IsIn, IsSound, IsTold, t
 use Rattle.chord_base.proofs.Merge.{IsSeen}
 use Rattle.chord_base.proofs.Waits.{either}
 use Rattle.chord_code.specs.declared.parts.Parts.{Parts}
+use Rattle.chord_code.specs.Laws.{ChordsAreRight}
 use Rattle.chord_code.specs.Meaning.{code_program}
 use Rattle.chord_match.specs.Fires.{all_together, drop_duties, laid_together}
 use Rattle.chord_rule.specs.declared.view.View.{View}
@@ -219,14 +220,20 @@ module _ (s : Space Parcel) (w : Worker) (v : View) (o : Object) (k : ℕ) (ms :
   pub stock_left : (x : Option Task) → (x ≡ w.spare) ⊎ (x ≡ None) → IsStock (code_of s) (limits_of s) x
   stock_left x = ⊎_elim (λ e. subst (IsStock (code_of s) (limits_of s)) (sym (e ∙ fired.spare)) fired.is_stock) (λ e. subst (IsStock (code_of s) (limits_of s)) (sym e) tt)
 
-  module _ (one : HasOneSync (program_of s)) (code : Parts) (same : code ≡ code_of s) (t : Task) (is : t ≡ caller_or (first_task qs) fired.stock) (arguments : List Args) (unpacked : arguments ≡ arguments_in qs) where
+  module _ (code : Parts) (same : code ≡ code_of s) (law : (l : Limits) → ChordsAreRight (code_program code l)) (caller : Option Task) (is_caller : caller ≡ first_task qs) (t : Task) (taken : (stock : Task) → w.spare ≡ Some stock → t ≡ caller_or caller stock)
+      (none arguments : List Args) (is_none : none ≡ []) (unpacked : arguments ≡ none ++ arguments_in qs) where
+    -- the arguments are those in the parcels
+    arguments_are : arguments ≡ arguments_in qs
+    arguments_are = unpacked ∙ ap (λ (xs : List Args). xs ++ arguments_in qs) is_none
+
     -- the values of the arguments are those of the firing
     values_are : values ≡ laid (for_entry arguments)
-    values_are = values_in qs ∙ ap (λ (xs : List Args). laid (for_entry xs)) (sym unpacked)
+    values_are = values_in qs ∙ ap (λ (xs : List Args). laid (for_entry xs)) (sym arguments_are)
 
     -- the firing's body fits the task
     fits_task : Fits t
-    fits_task = subst Fits (sym is) (fitted one)
+    fits_task = subst Fits (sym (taken fired.stock fired.spare ∙ ap (λ (x : Option Task). caller_or x fired.stock) is_caller))
+        (fitted (subst (λ (c : Parts). ChordsAreRight (code_program c (limits_of s))) same (law (limits_of s))).one_sync)
 
     -- the task is of this code under its own limits
     pub task_is : IsTaskOf code t.limits t
@@ -240,15 +247,15 @@ module _ (s : Space Parcel) (w : Worker) (v : View) (o : Object) (k : ℕ) (ms :
 
     -- the arguments are held twice
     pub twice : AreTwice arguments
-    twice = subst AreTwice (sym unpacked) (held_twice (code_of s) (limits_of s) f qs fired.fired.older)
+    twice = subst AreTwice (sym arguments_are) (held_twice (code_of s) (limits_of s) f qs fired.fired.older)
 
     -- the firing has no more values than an entry may have
     pub few_values : ((l : Limits) (h : List Entry) → IsPast (code_program code l) h → length h ≤ 65536 → AreWithin h) → s.events ≤ 65536 → length (laid (for_entry arguments)) ≤ 64
-    few_values law most =
+    few_values bounds most =
         let came = fired.fired.came in
         let number = came.1.1.numbered in
         let low = fired.fired.low in
-        let within = law (limits_of s) (newest ∷ came.0) (subst (λ (c : Parts). IsPast (code_program c (limits_of s)) (newest ∷ came.0)) (sym same) came.1) (omega (arith, number, low, most)) in
+        let within = bounds (limits_of s) (newest ∷ came.0) (subst (λ (c : Parts). IsPast (code_program c (limits_of s)) (newest ∷ came.0)) (sym same) came.1) (omega (arith, number, low, most)) in
         subst (λ (vs : List value.Value). length vs ≤ 64) values_are within.3.few_values
 
     -- the body has begun in it

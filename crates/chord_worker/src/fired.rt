@@ -78,7 +78,6 @@ fn no_arguments(alloc: Global) -> Args
 }
 
 impl Worker {
-    #[tactic(none)]
     /// A body that has begun is played, if nothing else is; else it is posted with its task.
     fn take_on<G: Gate>(
         &mut self,
@@ -107,7 +106,6 @@ impl Worker {
         space.post(&mut self.desk, number, parcel);
     }
 
-    #[tactic(none)]
     /// The parcels of a firing's members are handed over: the arguments go to the firing's body, which begins in the task of the
     /// caller that it serves, or in the one in stock. A worker that has no task plays the body itself; else the body is posted
     /// with its task. Takes no memory.

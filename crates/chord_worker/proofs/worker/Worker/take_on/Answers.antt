@@ -9,17 +9,11 @@ use Rattle.chord_task.specs.Standing.{IsTaskOf}
 use Rattle.chord_worker.proofs.Beginning.{may_post, no_task, rest_played, rest_posted, role_posted}
 use Rattle.chord_worker.proofs.worker.Worker.take_on.Goals as goal
 
-pub returns-then-is_none-clause-desk : goal.returns-then-is_none-clause-desk
-returns-then-is_none-clause-desk g c = c.requires.begun.1.desk
-
 pub returns-then-is_none-clause-rest : goal.returns-then-is_none-clause-rest
 returns-then-is_none-clause-rest g c = rest_played _ _ _ _ _ c.requires.begun.1 (no_task c.args.self.now.task c.if-is_none.ensures)
 
 pub returns-then-is_none-clause-role : goal.returns-then-is_none-clause-role
 returns-then-is_none-clause-role g c = record { first = refl; lent = refl; splits = refl; drawn = λ e. e }
-
-pub returns-then-is_none-clause-told : goal.returns-then-is_none-clause-told
-returns-then-is_none-clause-told g c = c.requires.begun.1.told
 
 pub packed-parcel-requires-clause-task : goal.packed-parcel-requires-clause-task
 packed-parcel-requires-clause-task g c =
@@ -27,15 +21,6 @@ packed-parcel-requires-clause-task g c =
 
 pub packed-parcel-requires-clause-left : goal.packed-parcel-requires-clause-left
 packed-parcel-requires-clause-left g c = λ e. let z : Some c.args.number ≡ None = sym c.requires.begun.1.top ∙ e in cc
-
-pub packed-parcel-requires-clause-twice : goal.packed-parcel-requires-clause-twice
-packed-parcel-requires-clause-twice g c = c.no_arguments.ensures
-
-pub post-requires-clause-desk : goal.post-requires-clause-desk
-post-requires-clause-desk g c = c.requires.begun.1.desk
-
-pub post-requires-clause-bounds : goal.post-requires-clause-bounds
-post-requires-clause-bounds g c = c.requires.begun.1.low
 
 pub post-requires-clause-post : goal.post-requires-clause-post
 post-requires-clause-post g c = subst (MayPost (program_of c.args.space.now) (view c.args.self.now.desk) c.args.number) (sym c.packed-parcel.ensures.entries) (may_post _ _ _ _ _ c.requires.begun.1)
@@ -53,5 +38,3 @@ returns-clause-rest g c = rest_posted _ _ _ _ _ c.requires.begun.1 c.post.new.de
 pub returns-clause-role : goal.returns-clause-role
 returns-clause-role g c = role_posted _ _ _ _ _ c.requires.begun.1 c.post.new.desk c.post.ensures.desk _ c.packed-parcel.ensures.entries _ c.post.ensures.posted
 
-pub returns-clause-told : goal.returns-clause-told
-returns-clause-told g c = c.requires.begun.1.told
