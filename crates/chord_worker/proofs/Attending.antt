@@ -4,6 +4,10 @@ use Rattle.std.proofs.lemmas.Bool.{eq-eqb, eqb-true, eqb-false, ne_eqb}
 use mathlib.Core.Path.{Path}
 use Rattle.chord_base.specs.declared.value.Object.{Object}
 use Rattle.chord_base.specs.declared.event.Entry.{Entry}
+use Rattle.chord_base.specs.declared.event.Limits.{Limits}
+use Rattle.chord_code.specs.declared.parts.Parts.{Parts}
+use Rattle.chord_task.specs.declared.task.Task.{Task}
+use Rattle.chord_worker.proofs.Memory.{task_laid}
 use Rattle.chord_base.specs.Meaning.{Program}
 use Rattle.chord_base.specs.Messages.{has}
 use Rattle.chord_base.proofs.Waits.{either}
@@ -23,7 +27,7 @@ use Rattle.chord_space.specs.Desks.{view, code_of, limits_of, IsDeskOf, IsSameDe
 use Rattle.chord_task.specs.declared.parcel.Parcel.{Parcel}
 use Rattle.chord_worker.specs.declared.worker.Worker.{Worker}
 use Rattle.chord_worker.specs.Resting.{IsFree, IsInMemory, MayContinue, IsStock, IsAtRest, IsSameRole}
-use Rattle.chord_worker.specs.Sending.{Minds}
+use Rattle.chord_worker.specs.Sending.{Minds, IsLaidDown}
 
 -- ## The one duty
 
@@ -159,3 +163,30 @@ module _ (s : Space Parcel) (w w' : Worker) (m k : ℕ) (minds : Minds s w m k) 
       splits = ap (λ (z : View). z.splits) laid;
       drawn = λ e. ap (λ (z : View). z.drawn) laid ∙ e;
     }
+
+-- a lost member leaves looks alone
+pub lost_looks : (v w : View) → w ≡ record v { looked = w.looked } → IsOnlyLooks v w
+lost_looks v w same =
+    let ds : w.duties ≡ v.duties = ap (λ (z : View). z.duties) same in
+    record { frame = same ∙ ap (λ (es : List Duty). record v { duties = es; looked = w.looked }) (sym ds); duties = ap messages_and_bags ds }
+
+-- what a worker has in memory is so where the run is full, and its task is laid down
+laid_down : (code : Parts) (limits : Limits) (es : List Entry) (spent : Bool) (done done' : List Entry) (t : Option Task) → IsInMemory code limits es spent done t → IsLaidDown done t done' → IsInMemory code limits es true done' None
+laid_down code limits es spent done done' None m l = subst (λ (x : List Entry). IsInMemory code limits es true x None) (sym l) record { rises = m.rises; told = m.told; played = tt; held = m.held; quiet = λ e. let z : true ≡ false = e in absurd (cc) }
+laid_down code limits es spent done done' (Some t) m l = subst (λ (x : List Entry). IsInMemory code limits es true x None) (sym l) (task_laid code limits es spent done t m)
+
+module _ (s : Space Parcel) (w w' : Worker) (m k : ℕ) (minds : Minds s w m k) (same : IsSameDesk w.desk w'.desk) (view_is : view w'.desk ≡ record (view w.desk) { looked = (view w'.desk).looked; spent = true })
+    (task : w'.task ≡ None) (spent : w'.spent ≡ true) (stock : w'.spare ≡ w.spare) (done : IsLaidDown w.done.items w.task w'.done.items) where
+  -- where the limit is reached, the worker is at rest once its task is laid down
+  pub refused : IsAtRest s w'
+  refused = record {
+    desk = same.0 ∙ minds.desk;
+    told = spent ∙ sym (ap (λ (z : View). z.spent) view_is);
+    free = subst IsFree (sym view_is) (record { claims = minds.free.claims; flight = minds.free.flight; fresh = minds.free.fresh });
+    duties = λ e. let z : true ≡ false = sym (ap (λ (z : View). z.spent) view_is) ∙ e in absurd (cc);
+    memory = subst (λ (z : View). IsInMemory (code_of s) (limits_of s) z.kept z.spent w'.done.items w'.task) (sym view_is)
+        (subst (λ (x : Option Task). IsInMemory (code_of s) (limits_of s) (view w.desk).kept true w'.done.items x) (sym task)
+        (laid_down (code_of s) (limits_of s) (view w.desk).kept false w.done.items w'.done.items w.task minds.memory done));
+    goes_on = subst MayContinue (sym task) tt;
+    stock = subst (IsStock (code_of s) (limits_of s)) (sym (stock ∙ minds.spare)) minds.is_stock;
+  }
