@@ -1,15 +1,11 @@
 -- A walk through a bag on its way.
 use Rattle.std.specs.Prelude.{◌≡◌, ℕ, ◌+◌, ◌<◌, List, [], ◌∷◌, ◌++◌, length, Option, Some, None}
-use Rattle.chord_word.specs.declared.cells.Cell.{Cell}
-use Rattle.chord_word.specs.declared.cells.Cell.TheVariants.{Empty, Pending, Claimed}
-use Rattle.chord_word.specs.declared.cells.Word.{Word}
+use Rattle.chord_word.specs.declared.cells.Cell.TheVariants.{Claimed}
 use Rattle.chord_rule.specs.declared.view.Duty.{Duty}
 use Rattle.chord_rule.specs.declared.view.View.{View}
 use Rattle.chord_rule.specs.declared.view.Way.{Way}
 use Rattle.chord_rule.specs.Kinds.{is_down}
 use Rattle.chord_rule.specs.Ways.{IsAlone, HasRoom}
-use Rattle.chord_bag.specs.declared.walk.Sought.{Sought}
-use Rattle.chord_bag.specs.declared.walk.Sought.TheVariants.{Found, Bare, Busy}
 use Rattle.chord_bag.specs.declared.walk.Turn.{Turn}
 use Rattle.chord_bag.specs.declared.walk.Turn.TheVariants.{Over, On}
 use Rattle.chord_bag.specs.Reads.{AllRead, HasRead, AllAt, KeepsEnds, IsOnlyLooks, is_passed}
@@ -38,22 +34,6 @@ pub record Going (n k : ℕ) (v w : View) (place busy : Option ℕ) : Type 0 whe
   pub others : KeepsEnds k v.duties w.duties
   pub only : IsOnlyLooks v w
   pub alone : IsAlone v → busy ≡ None
-
--- what a cell that was read says of the walk
-abbrev pub by_cell : ℕ → Option ℕ → Option ℕ → Cell → Turn
-by_cell i busy next Pending = Over (Found i next)
-by_cell i busy next Empty = Over (Busy i)
-by_cell i busy next Claimed = On next (Some i)
-by_cell i busy next _ = On next busy
-
--- what a word that was read says of the walk
-abbrev pub decided : ℕ → Option ℕ → Word → Turn
-decided i busy word = by_cell i busy word.next word.cell
-
--- the answer of a whole way without a pending message
-abbrev pub ended : Option ℕ → Sought
-ended None = Bare
-ended (Some i) = Busy i
 
 -- the walk is over with this answer, or goes on
 abbrev pub ComesToTurn : ℕ → ℕ → View → View → Turn → Type 0

@@ -3,12 +3,12 @@ ghost use Rattle.std.specs.Prelude.{◌≡◌, ℕ, ◌<◌, ◌+◌, Some, None
 ghost use Rattle.chord_rule.specs.Made.{key};
 ghost use Rattle.chord_space.specs.Desks.{view, IsDeskOf, IsSameDesk};
 ghost use Rattle.chord_bag.specs.Seeking.{IsSought};
-ghost use Rattle.chord_bag.specs.Walking.{IsTurn, decided, ended};
+ghost use Rattle.chord_bag.specs.Walking.{IsTurn};
 
 use chord_base::value::Object;
 use chord_code::carry::Carry;
 use chord_space::{Desk, Space};
-use chord_word::{Cell, Word};
+use chord_word::Cell;
 
 /// What a walk through a bag came to.
 #[derive(Clone, Copy, Debug, PartialEq, Eq, Drop)]
@@ -28,23 +28,8 @@ enum Turn {
     On(Option<u32>, Option<u32>),
 }
 
-// What the word of message i says of the walk. A claimed message may be given back, so a walk that found no pending one
-// tells of it; behind a message that is not armed nothing can be read.
-fn decide(i: u32, busy: Option<u32>, word: &Word) -> Turn
-    ensures { result ≡ decided i busy word.now }
-{
-    match word.cell {
-        Cell::Pending => Turn::Over(Sought::Found(i, word.next)),
-        Cell::Empty => Turn::Over(Sought::Busy(i)),
-        Cell::Claimed => Turn::On(word.next, Some(i)),
-        Cell::Consumed => Turn::On(word.next, busy),
-        Cell::Woken(_) => Turn::On(word.next, busy),
-        Cell::Ready => Turn::On(word.next, busy),
-        Cell::Started => Turn::On(word.next, busy),
-    }
-}
-
-// One look, at the message to which the walk has come.
+// One look, at the message to which the walk has come. A claimed message may be given back, so a walk that finds no pending
+// one tells of it; behind a message that is not armed nothing can be read.
 fn look_on<P: Carry>(space: &Space<P>, desk: &mut Desk<P>, i: u32, busy: Option<u32>) -> Turn
     requires desk { IsDeskOf space.now desk.old }
     requires bounds { i < space.now.events }
@@ -52,16 +37,11 @@ fn look_on<P: Carry>(space: &Space<P>, desk: &mut Desk<P>, i: u32, busy: Option<
     ensures turned { IsTurn space.now.events (view desk.old) (view desk.new) i busy result }
 {
     let word = space.look_cell(desk, i);
-    decide(i, busy, &word)
-}
-
-// The answer of a whole way without a pending message.
-fn at_end(busy: Option<u32>) -> Sought
-    ensures { result ≡ ended busy }
-{
-    match busy {
-        Some(i) => Sought::Busy(i),
-        None => Sought::Bare,
+    match word.cell {
+        Cell::Pending => Turn::Over(Sought::Found(i, word.next)),
+        Cell::Empty => Turn::Over(Sought::Busy(i)),
+        Cell::Claimed => Turn::On(word.next, Some(i)),
+        _ => Turn::On(word.next, busy),
     }
 }
 
@@ -89,5 +69,8 @@ pub fn seek<P: Carry>(space: &Space<P>, desk: &mut Desk<P>, object: Object, meth
             }
         }
     }
-    at_end(busy)
+    match busy {
+        Some(i) => Sought::Busy(i),
+        None => Sought::Bare,
+    }
 }

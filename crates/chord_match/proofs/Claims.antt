@@ -25,7 +25,7 @@ use Rattle.chord_rule.specs.Ways.{KnowsBag}
 use Rattle.chord_match.specs.declared.claiming.Missed.{Missed}
 use Rattle.chord_match.specs.declared.claiming.Missed.TheVariants.{Lost, Spent}
 use Rattle.chord_match.specs.Seen.{IsReady, AreReady, AreSeen}
-use Rattle.chord_match.specs.Fires.{AreLastPending, IsLost, IsFull}
+use Rattle.chord_match.specs.Fires.{AreLastPending, IsLost, IsRefused}
 use Rattle.chord_match.specs.Claiming.{ClaimAt, Taking, IsDrawn, missed_by, IsWhy, IsMissed}
 use Rattle.chord_match.proofs.Growing.{has_look_left}
 use Rattle.chord_match.proofs.Lists.{below_more, has_at, different_at}
@@ -87,8 +87,8 @@ module _ (n : ℕ) (p : Program) (v : View) (o : Object) (chord : ℕ) (ms : Lis
 
   module _ (right : ChordsAreRight p) (small : o.number < 65536) (c : Claim) (new : IsNewClaim v member_at next_at c) where
     -- the claim is to the object, and to the method of each member that is this message
-    pub claim_bagged : (q : ℕ) → q < length ms → member_at ≡ slice_index_or ms q 0 → (c.object ≡ o) × (c.method ≡ slice_index_or t.seen.methods q 0)
-    claim_bagged q l e =
+    pub claim_matches : (q : ℕ) → q < length ms → member_at ≡ slice_index_or ms q 0 → (c.object ≡ o) × (c.method ≡ slice_index_or t.seen.methods q 0)
+    claim_matches q l e =
         let j : ℕ = slice_index_or t.seen.methods q 0 in
         let few = right.few o.class chord j t.seen.methods t.seen.is_chord (has_at t.seen.methods q (let m = methods_long in omega (arith, l, m))) in
         new.bagged o j small few t.seen.object (subst (λ (z : ℕ). KnowsBag v z (key o j)) (sym e) (ready_at n v o t.seen.methods ms xs t.seen.ready q l).known)
@@ -97,7 +97,7 @@ module _ (n : ℕ) (p : Program) (v : View) (o : Object) (chord : ℕ) (ms : Lis
     pub later_apart : (q : ℕ) → at < q → q < length ms → member_at ≢ slice_index_or ms q 0
     later_apart q g l e =
         different_at t.seen.methods (right.different o.class chord t.seen.methods t.seen.is_chord) at q g (let m = methods_long in omega (arith, l, m))
-        (sym (claim_bagged at low refl).1 ∙ (claim_bagged q l e).1)
+        (sym (claim_matches at low refl).1 ∙ (claim_matches q l e).1)
 
     -- one member more is claimed
     pub taking_more : (z : Word) → Taking n p (saw (claimed v c) member_at z) o chord ms xs (at + 1)
@@ -105,7 +105,7 @@ module _ (n : ℕ) (p : Program) (v : View) (o : Object) (chord : ℕ) (ms : Lis
       seen = record { methods = t.seen.methods; is_chord = t.seen.is_chord; ready = ready_claim n v c member_at z o t.seen.methods ms xs t.seen.ready; object = t.seen.object };
       most = omega (arith, low);
       claimed = λ q l. ⊎_elim
-          (λ same. subst (λ (y : ℕ). ClaimAt (c ∷ v.claims) o (slice_index_or t.seen.methods y 0) (slice_index_or ms y 0)) (sym same) (let is = claim_bagged at low refl in (c, inl refl, new.numbered, is.0, is.1, new.unfired)))
+          (λ same. subst (λ (y : ℕ). ClaimAt (c ∷ v.claims) o (slice_index_or t.seen.methods y 0) (slice_index_or ms y 0)) (sym same) (let is = claim_matches at low refl in (c, inl refl, new.numbered, is.0, is.1, new.unfired)))
           (λ less. let r = t.claimed q less in (r.0, inr r.1, r.2, r.3, r.4, r.5)) (below_more q at l);
       apart = λ q r l m. ⊎_elim
           (λ same e. new.free (let k = t.claimed q (omega (arith, l, same)) in (k.0, k.1, k.2 ∙ e ∙ ap (λ (y : ℕ). slice_index_or ms y 0) same)))
@@ -228,5 +228,5 @@ lost_all n v w ms xs i free m = record {
 }
 
 -- the journal is full, and nothing is claimed
-pub full_all : (n : ℕ) (v w : View) (ms : List ℕ) (xs : List (Option ℕ)) → v.claims ≡ [] → IsMissed n v w ms xs 0 Spent → IsFull n v w
-full_all n v w ms xs free m = record { same = m.frame; claims = ap (λ (z : View). z.claims) m.frame ∙ free; counter = m.why }
+pub refused_all : (n : ℕ) (v w : View) (ms : List ℕ) (xs : List (Option ℕ)) → v.claims ≡ [] → IsMissed n v w ms xs 0 Spent → IsRefused n v w
+refused_all n v w ms xs free m = record { same = m.frame; claims = ap (λ (z : View). z.claims) m.frame ∙ free; counter = m.why }

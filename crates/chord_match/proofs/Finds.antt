@@ -28,10 +28,10 @@ use Rattle.chord_bag.proofs.Turning.{still_alone, only_more}
 use Rattle.chord_bag.proofs.Walks.{cell_keeps_messages}
 use Rattle.chord_match.specs.declared.search.Own.{Own}
 use Rattle.chord_match.specs.declared.search.Verdict.TheVariants as a_verdict
-use Rattle.chord_match.specs.Seen.{Grows, AreMatched}
+use Rattle.chord_match.specs.Seen.{HasSought, AreMatched}
 use Rattle.chord_match.specs.Searching.{WasTold, WasToldIf, Searching, IsStuck, AreStuck, IsThrough}
 use Rattle.chord_match.specs.Findings.{IsLacking, IsHeldUp, IsMatch, IsLeft, IsHeldBy, read_so}
-use Rattle.chord_match.proofs.Growing.{duty_is_kept, key_cancels, grows_refl}
+use Rattle.chord_match.proofs.Growing.{duty_is_kept, key_cancels}
 
 -- a bag of a chord is that of one of its methods
 has_keys : (o : Object) (js : List ℕ) (x : ℕ) → HasNumber x (keys o js) → (j : ℕ) × (has j js ≡ true) × (x ≡ key o j)
@@ -82,7 +82,7 @@ module _ (n : ℕ) (p : Program) (o : Object) (own : Own) (u w : View) (known : 
     pub is_match : own.method < 16 → (k : ℕ) (ms : List ℕ) (xs : List (Option ℕ)) → IsThrough n u w o own jss known (a_verdict.Match k ms xs) → IsMatch p n v w own.message o own.method k ms xs
     is_match few k ms xs t = let r = t.verdict in let here = ap (λ (z : List (List ℕ)). slice_get z k) (sym same) ∙ r.1 in let d = t.stands.duty in record {
       next = own.next;
-      grows = subst (λ (z : View). Grows z w) read t.stands.grows;
+      sought = subst (λ (z : View). HasSought z w) read t.stands.sought;
       seen = record { methods = r.0; is_chord = here; ready = r.4; object = (d.0, own.method, d.1, few, d.3) };
       chord = (here, r.2);
       matched = subst (λ (z : View). AreMatched z w o own.message own.method own.next r.0 ms xs) read r.3;
@@ -92,7 +92,7 @@ module _ (n : ℕ) (p : Program) (o : Object) (own : Own) (u w : View) (known : 
     pub is_left : IsThrough n u w o own jss known (a_verdict.Without None) → IsLeft p v w own.message o own.method
     is_left t = record {
       next = own.next;
-      grows = subst (λ (z : View). Grows z w) read t.stands.grows;
+      sought = subst (λ (z : View). HasSought z w) read t.stands.sought;
       lacking = λ k js c. let x = within k js c.0 in subst (λ (z : View). IsLacking z w o own.method js) read (lacking n u w o own known t.stands js (t.verdict k js x.1 x.0 c.1));
     }
 
@@ -101,7 +101,7 @@ module _ (n : ℕ) (p : Program) (o : Object) (own : Own) (u w : View) (known : 
     is_busy i t = record {
       one = inr record {
         next = own.next;
-        grows = subst (λ (z : View). Grows z w) read t.stands.grows;
+        sought = subst (λ (z : View). HasSought z w) read t.stands.sought;
         each = λ k js c. let x = within k js c.0 in let r = t.verdict.0 k js x.1 x.0 c.1 in either_way js r.0 r.1;
         one = let r = t.verdict.1 in (r.0, r.1, (ap (λ (z : List (List ℕ)). slice_get z r.0) (sym same) ∙ r.3, r.4), subst (λ (z : View). IsHeldUp z w o own.method r.1 i) read one.0);
       };
@@ -154,12 +154,13 @@ all_none (suc n) (suc q) = all_none n q
 
 -- nothing is known at first
 pub stands_first : (n : ℕ) (v : View) (o : Object) (own : Own) → Searching n v v o own [] → Searching n v v o own (replicate 16 None)
-stands_first n v o own t = record { grows = t.grows; read = t.read; below = t.below; next_below = t.next_below; duty = t.duty; cached = λ q. subst (λ (z : Option Sought). WasToldIf n v v (key o q) z) (sym (all_none 16 q)) tt }
+stands_first n v o own t = record { sought = t.sought; listed = λ k h. let r = t.listed k h in let z : Path (Option Sought) None (Some r.1) = r.3 in absurd (cc); read = t.read; below = t.below; next_below = t.next_below; duty = t.duty; cached = λ q. subst (λ (z : Option Sought). WasToldIf n v v (key o q) z) (sym (all_none 16 q)) tt }
 
 -- m was read pending
 pub stands_read : (n : ℕ) (v u : View) (o : Object) (own : Own) → IsLook n v u own.message (record { cell = Pending; next = own.next }) → own.message < n → (d : Duty) × HasDuty d v.duties × (d.message ≡ own.message) × (d.bag ≡ key o own.method) → Searching n u u o own []
 stands_read n v u o own look low d = record {
-  grows = grows_refl u;
+  sought = record { grows = record { ways = []; looks = []; more_ways = refl; more_seen = refl; only = record { frame = refl; duties = refl } }; once = tt };
+  listed = λ k h. let z : false ≡ true = h in absurd (cc);
   read = (record { cell = Pending; next = own.next }, subst (λ (z : View). HasLook own.message (record { cell = Pending; next = own.next }) z.looked.seen) (sym look.looked) (inl (refl, refl)), tt, refl);
   below = low;
   next_below = look.within tt;

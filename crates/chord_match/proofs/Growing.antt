@@ -46,7 +46,7 @@ pub grows_refl : (v : View) → Grows v v
 grows_refl v = record { ways = []; looks = []; more_ways = refl; more_seen = refl; only = record { frame = refl; duties = refl } }
 
 -- what was read and then read on was read
-pub grows_trans : (u v w : View) → Grows u v → Grows v w → Grows u w
+abbrev pub grows_trans : (u v w : View) → Grows u v → Grows v w → Grows u w
 grows_trans u v w a b = record {
   ways = b.ways ++ a.ways;
   looks = b.looks ++ a.looks;
@@ -56,7 +56,7 @@ grows_trans u v w a b = record {
 }
 
 -- a seek makes looks and a way alone
-pub sought_grows : (n k : ℕ) (v w : View) (s : Sought) → IsSought n k v w s → Grows v w
+abbrev pub sought_grows : (n k : ℕ) (v w : View) (s : Sought) → IsSought n k v w s → Grows v w
 sought_grows n k v w s f = record { ways = f.way ∷ []; looks = f.way.looks; more_ways = f.more; more_seen = f.seen; only = f.only }
 
 module _ (v u w : View) (g : Grows u w) where

@@ -1,12 +1,14 @@
 -- What is known of the bags of one object grows while a chord is looked for.
-use Rattle.std.proofs.Common.{◌≡◌, ◌≢◌, inl, inr, ℕ, ◌<◌, List, [], ◌∷◌, ◌++◌, length, append_assoc, append-nil, slice_index_or, slice_set, refl, sym, ap, ◌∙◌, subst, Option, Some, None}
+use Rattle.std.proofs.Common.{◌⊎◌, true, false, ◌==◌, ◌||◌, ◌≡◌, ◌≢◌, inl, inr, ℕ, ◌<◌, List, [], ◌∷◌, ◌++◌, length, append_assoc, append-nil, slice_index_or, slice_set, refl, sym, ap, ◌∙◌, subst, Option, Some, None}
 use mathlib.Core.Path.{Path}
 use mathlib.Core.Logic.{dite}
 use native.Mathlib.Decide.{ℕ_discrete}
-use Rattle.std.proofs.lemmas.Bool.{eq-eqb}
+use Rattle.std.proofs.lemmas.Bool.{eq-eqb, eqb-true}
 use Rattle.std.proofs.lemmas.List.{get_or-set_same, get_or-set_other}
+use Rattle.chord_base.specs.Messages.{has}
 use Rattle.chord_base.specs.declared.value.Object.{Object}
 use Rattle.chord_base.proofs.Pending.{has_more}
+use Rattle.chord_base.proofs.Waits.{either}
 use Rattle.chord_rule.specs.declared.view.View.{View}
 use Rattle.chord_rule.specs.Made.{key}
 use Rattle.chord_bag.specs.declared.walk.Sought.{Sought}
@@ -19,7 +21,7 @@ use Rattle.chord_match.specs.declared.search.Pick.TheVariants as a_pick
 use Rattle.chord_match.specs.declared.search.Step.{Step}
 use Rattle.chord_match.specs.declared.search.Step.TheVariants as a_step
 use Rattle.chord_match.specs.declared.search.Outcome.TheVariants as an_outcome
-use Rattle.chord_match.specs.Seen.{Grows, AreReady, AreMatched}
+use Rattle.chord_match.specs.Seen.{bags_of, Grows, AreReady, AreMatched}
 use Rattle.chord_match.specs.Searching.{SaysOf, WasTold, WasToldIf, Searching, KeepsKnown, Moves, Learned, IsStuckAt, Picked, IsStuck, IsGathered, Gathered, IsOutcome}
 use Rattle.chord_match.proofs.Growing.{grows_refl, grows_trans, sought_grows, answered_on, seen_on, duty_on, knows_on, ready_on, member_on, key_cancels, found_ready, answered}
 
@@ -74,22 +76,21 @@ module _ (n : ℕ) where
     told = λ v own t. record {
       moves = record {
         stands = record {
-          grows = grows_trans v u w t.grows g;
+          sought = record { grows = grows_trans v u w t.sought.grows g; once = (new_bag v own t, t.sought.once) };
+          listed = λ k h. newest_or_before v own t k (either (k == f.way.bag)) h;
           read = t.read;
           below = t.below;
           next_below = t.next_below;
           duty = duty_on v u w g own.message (key o own.method) t.duty;
           cached = λ q. dite (ℕ_discrete q j)
-              (λ same. subst (λ (z : Option Sought). WasToldIf n v w (key o q) z) (sym (ap (λ (z : ℕ). slice_index_or (slice_set known j (Some s)) z None) same ∙ here)) (subst (λ (z : ℕ). WasTold n v w (key o z) s) (sym same) (told_new v u w (key o j) s t.grows f)))
+              (λ same. subst (λ (z : Option Sought). WasToldIf n v w (key o q) z) (sym (ap (λ (z : ℕ). slice_index_or (slice_set known j (Some s)) z None) same ∙ here)) (subst (λ (z : ℕ). WasTold n v w (key o z) s) (sym same) (told_new v u w (key o j) s t.sought.grows f)))
               (λ ne. subst (λ (z : Option Sought). WasToldIf n v w (key o q) z) (sym (get_or-set_other known j q (Some s) None ne))
               (told_on v u w (key o q) (slice_index_or known q None) g (f.others (key o q) (λ z. ne (key_cancels o q j z))) (t.cached q)));
         };
         grows = g;
-        kept = λ q x is. dite (ℕ_discrete q j)
-            (λ same. let z : Path (Option Sought) None (Some x) = sym e ∙ ap (λ (y : ℕ). slice_index_or known y None) (sym same) ∙ is in absurd (cc))
-            (λ ne. get_or-set_other known j q (Some s) None ne ∙ is);
+        kept = kept;
       };
-      tells = told_new v u w (key o j) s t.grows f;
+      tells = told_new v u w (key o j) s t.sought.grows f;
       here = here;
     };
   }
@@ -100,11 +101,32 @@ module _ (n : ℕ) where
       here : slice_index_or (slice_set known j (Some s)) j None ≡ Some s
       here = get_or-set_same known j (Some s) None low
 
+      kept : KeepsKnown known (slice_set known j (Some s))
+      kept q x is = dite (ℕ_discrete q j)
+          (λ same. let z : Path (Option Sought) None (Some x) = sym e ∙ ap (λ (y : ℕ). slice_index_or known y None) (sym same) ∙ is in absurd (cc))
+          (λ ne. get_or-set_other known j q (Some s) None ne ∙ is)
+
+      -- the bag was not sought before, since nothing was known of it
+      new_bag : (v : View) (own : Own) (t : Searching n v u o own known) → has f.way.bag (bags_of t.sought.grows.ways) ≡ false
+      new_bag v own t = elim (either (has f.way.bag (bags_of t.sought.grows.ways))) [
+        | inl y ↦ never v own t (t.listed f.way.bag y)
+        | inr z ↦ z
+      ]
+        where
+          never : (v : View) (own : Own) (t : Searching n v u o own known) → (q : ℕ) × (x : Sought) × (f.way.bag ≡ key o q) × (slice_index_or known q None ≡ Some x) → has f.way.bag (bags_of t.sought.grows.ways) ≡ false
+          never v own t r = let same = key_cancels o j r.0 (sym f.bag ∙ r.2) in let z : Path (Option Sought) None (Some r.1) = sym e ∙ ap (λ (q : ℕ). slice_index_or known q None) same ∙ r.3 in absurd (cc)
+
+      -- a bag that was sought is this one, or was sought before
+      newest_or_before : (v : View) (own : Own) (t : Searching n v u o own known) (k : ℕ) → ((k == f.way.bag) ≡ true) ⊎ ((k == f.way.bag) ≡ false) → ((k == f.way.bag) || has k (bags_of t.sought.grows.ways)) ≡ true
+          → (q : ℕ) × (x : Sought) × (k ≡ key o q) × (slice_index_or (slice_set known j (Some s)) q None ≡ Some x)
+      newest_or_before v own t k (inl y) h = (j, s, eqb-true k f.way.bag y ∙ f.bag, here)
+      newest_or_before v own t k (inr z) h = let r = t.listed k (rw z at h) in (r.0, r.1, r.2, kept r.0 r.1 r.3)
+
   -- the member for its own method is the own message
   pub picked_own : (v u : View) (o : Object) (own : Own) (j : ℕ) (known : List (Option Sought)) → j ≡ own.method → Searching n v u o own known → Picked n v u u o own j known known (a_pick.Take own.message own.next)
   picked_own v u o own j known e t = record {
     moves = record { stands = t; grows = grows_refl u; kept = keeps_refl known };
-    picked = (inl (e, refl, refl), record { seen = seen_on v v u t.grows own.message own.next t.read; known = inr (t.duty.0, t.duty.1, t.duty.2, t.duty.3 ∙ ap (key o) (sym e)); below = t.below; next_below = t.next_below });
+    picked = (inl (e, refl, refl), record { seen = seen_on v v u t.sought.grows own.message own.next t.read; known = inr (t.duty.0, t.duty.1, t.duty.2, t.duty.3 ∙ ap (key o) (sym e)); below = t.below; next_below = t.next_below });
   }
 
   module _ (v u w : View) (o : Object) (own : Own) (j : ℕ) (known known' : List (Option Sought)) where

@@ -12,7 +12,7 @@ use Rattle.chord_rule.specs.Ways.{IsAlone}
 use Rattle.chord_bag.specs.declared.walk.Sought.TheVariants as a_sought
 use Rattle.chord_match.specs.declared.search.Finding.{Finding}
 use Rattle.chord_match.specs.declared.search.Finding.TheVariants.{Match, Left, Taken, Busy}
-use Rattle.chord_match.specs.Seen.{Grows, Answered, AreMatched, AreSeen}
+use Rattle.chord_match.specs.Seen.{HasSought, Answered, AreMatched, AreSeen}
 
 -- a chord of the object's class with the method
 abbrev pub IsChordWith : Program → Object → ℕ → ℕ → List ℕ → Type 0
@@ -31,26 +31,26 @@ module _ (v w : View) (o : Object) (method : ℕ) where
 abbrev pub read_so : View → ℕ → Cell → Option ℕ → View
 read_so v m c next = looked_cell v m (record { cell = c; next = next })
 
--- m was read pending, and since then, by the ways of seeks alone, a message was found for each other method of a chord with m, in the bag of that method
+-- m was read pending, and since then bags were sought, none of them twice, and a message was found for each other method of a chord with m, in the bag of that method
 pub record IsMatch (p : Program) (n : ℕ) (v w : View) (m : ℕ) (o : Object) (method k : ℕ) (ms : List ℕ) (xs : List (Option ℕ)) : Type 0 where
   pub next : Option ℕ
-  pub grows : Grows (read_so v m Pending next) w
+  pub sought : HasSought (read_so v m Pending next) w
   -- the desk saw the members so that it may fire the chord
   pub seen : AreSeen n p w o k ms xs
   pub chord : IsChordWith p o method k seen.methods
   -- each was read pending with its next, in the bag of its method
   pub matched : AreMatched (read_so v m Pending next) w o m method next seen.methods ms xs
 
--- m was read pending, and since then each chord with m had another method whose bag was bare
+-- m was read pending, and since then bags were sought, none of them twice, and each chord with m had another method whose bag was bare
 pub record IsLeft (p : Program) (v u : View) (m : ℕ) (o : Object) (method : ℕ) : Type 0 where
   pub next : Option ℕ
-  pub grows : Grows (read_so v m Pending next) u
+  pub sought : HasSought (read_so v m Pending next) u
   pub lacking : (k : ℕ) (js : List ℕ) → IsChordWith p o method k js → IsLacking (read_so v m Pending next) u o method js
 
--- m was read pending, and since then each chord with m had another method whose bag was bare or busy, and i is the message of a busy one
+-- m was read pending, and since then bags were sought, none of them twice, and each chord with m had another method whose bag was bare or busy, and i is the message of a busy one
 pub record IsBusyWith (p : Program) (v w : View) (m : ℕ) (o : Object) (method i : ℕ) : Type 0 where
   pub next : Option ℕ
-  pub grows : Grows (read_so v m Pending next) w
+  pub sought : HasSought (read_so v m Pending next) w
   pub each : (k : ℕ) (js : List ℕ) → IsChordWith p o method k js → IsLacking (read_so v m Pending next) w o method js ⊎ ((x : ℕ) × IsHeldUp (read_so v m Pending next) w o method js x)
   pub one : (k : ℕ) × (js : List ℕ) × IsChordWith p o method k js × IsHeldUp (read_so v m Pending next) w o method js i
 

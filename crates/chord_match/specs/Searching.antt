@@ -21,7 +21,7 @@ use Rattle.chord_match.specs.declared.search.Outcome.{Outcome}
 use Rattle.chord_match.specs.declared.search.Outcome.TheVariants as an_outcome
 use Rattle.chord_match.specs.declared.search.Verdict.{Verdict}
 use Rattle.chord_match.specs.declared.search.Verdict.TheVariants as a_verdict
-use Rattle.chord_match.specs.Seen.{Grows, Answered, IsReady, AreReady, IsMember, AreMatched}
+use Rattle.chord_match.specs.Seen.{Grows, HasSought, bags_of, Answered, IsReady, AreReady, IsMember, AreMatched}
 
 -- what an answer for the bag k, which was given since v, still says now
 abbrev pub SaysOf : View → View → ℕ → Sought → Type 0
@@ -42,7 +42,9 @@ WasToldIf n v w k (Some s) = WasTold n v w k s
 
 -- the own message was seen, and since v these bags were sought
 pub record Searching (n : ℕ) (v u : View) (o : Object) (own : Own) (known : List (Option Sought)) : Type 0 where
-  pub grows : Grows v u
+  pub sought : HasSought v u
+  -- of each bag that was sought something is known
+  pub listed : (k : ℕ) → has k (bags_of sought.grows.ways) ≡ true → (q : ℕ) × (s : Sought) × (k ≡ key o q) × (slice_index_or known q None ≡ Some s)
   pub read : HasSeen v own.message own.next
   pub below : own.message < n
   pub next_below : (x : ℕ) → own.next ≡ Some x → x < n

@@ -1,6 +1,7 @@
 -- What a desk has read and been answered since a moment, and which members of a chord it has seen.
 use Rattle.std.specs.Prelude.{◌≡◌, ◌≢◌, ◌⊎◌, ℕ, ◌<◌, List, [], ◌∷◌, ◌++◌, slice_get, Option, Some}
 use Rattle.chord_base.specs.Meaning.{Program}
+use Rattle.chord_base.specs.Messages.{AreDifferent}
 use Rattle.chord_base.specs.declared.value.Object.{Object}
 use Rattle.chord_rule.specs.declared.view.Look.{Look}
 use Rattle.chord_rule.specs.declared.view.View.{View}
@@ -20,6 +21,16 @@ pub record Grows (u w : View) : Type 0 where
   pub more_ways : w.looked.ways ≡ ways ++ u.looked.ways
   pub more_seen : w.looked.seen ≡ looks ++ u.looked.seen
   pub only : IsOnlyLooks u w
+
+-- the bags of these ways
+abbrev pub bags_of : List Way → List ℕ
+bags_of [] = []
+bags_of (w ∷ ws) = w.bag ∷ bags_of ws
+
+-- from one view to another bags were sought, none of them twice
+pub record HasSought (u w : View) : Type 0 where
+  pub grows : Grows u w
+  pub once : AreDifferent (bags_of grows.ways)
 
 -- since v a way of the bag k was gone, with this answer
 abbrev pub Answered : View → View → ℕ → Sought → Type 0

@@ -7,7 +7,7 @@ use Rattle.chord_match.specs.declared.claiming.Missed.{Missed}
 use Rattle.chord_match.specs.Claiming.{IsMissed}
 use Rattle.chord_match.specs.Consuming.{Consuming, Handed}
 use Rattle.chord_match.specs.Fires.{IsFired}
-use Rattle.chord_match.proofs.Claims.{taking_first, ready_at, lost_all, full_all}
+use Rattle.chord_match.proofs.Claims.{taking_first, ready_at, lost_all, refused_all}
 use Rattle.chord_match.proofs.Handovers.{drawn_consuming, is_fired}
 use Rattle.chord_match.proofs.handing.fire.Goals as goal
 
@@ -48,4 +48,4 @@ returns-in-Err-Lost-clause-firing g c =
 pub returns-in-Err-Spent-clause-firing : goal.returns-in-Err-Spent-clause-firing
 returns-in-Err-Spent-clause-firing g c =
     let n = c.args.space.now.events in let v = view c.args.desk.now in let w = view c.take_from.new.desk in
-    full_all n v w c.args.members.now c.args.nexts.now c.requires.free (subst (λ (x : Missed). IsMissed n v w c.args.members.now c.args.nexts.now 0 x) c.in-Err-Spent.field-0-is c.in-Err-Spent.ensures.taken)
+    refused_all n v w c.args.members.now c.args.nexts.now c.requires.free (subst (λ (x : Missed). IsMissed n v w c.args.members.now c.args.nexts.now 0 x) c.in-Err-Spent.field-0-is c.in-Err-Spent.ensures.taken)
