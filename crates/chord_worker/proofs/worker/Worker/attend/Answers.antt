@@ -25,7 +25,7 @@ returns-in-Busy-clause-again g c = λ e.
     let m = c.args.message.number in
     still_minds c.args.space.now c.args.self.now (record c.args.self.now { desk = c.find.new.desk }) _ _ c.requires.minds c.find.ensures.desk refl
     (⊎_elim
-    (λ t. subst (IsOnlyLooks v) (sym t.2) (cell_looks v m (record { cell = a_cell.Claimed; next = t.1 })))
+    (λ t. subst (IsOnlyLooks v) (sym t.1.1) (cell_looks v m (record { cell = a_cell.Claimed; next = t.1.0 })))
     (λ b. looks_on _ _ _ (cell_looks v m (record { cell = a_cell.Pending; next = b.next })) b.sought.grows.only)
     c.in-Busy.ensures.finding.one)
 

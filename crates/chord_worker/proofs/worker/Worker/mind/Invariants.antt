@@ -7,3 +7,4 @@ use Rattle.chord_worker.proofs.worker.Worker.mind.Given as goal
 
 abbrev pub invariant-loop : goal.invariant-loop
 invariant-loop g l = (goal.iterator-loop g).can_next l.iterator' × (goal.iterator-loop g).is_finite l.iterator'
+    × Minds l.fn.space l.self l.fn.message.number (key l.fn.message.object l.fn.message.method) × IsSameRole (view l.fn.self.desk) (view l.self.desk)

@@ -1,5 +1,8 @@
 use Rattle.std.proofs.Common.{◌≡◌, true, false, refl, sym, ap, ◌∙◌, subst}
 use Rattle.chord_rule.specs.declared.view.View.{View}
+use Rattle.chord_rule.specs.Made.{key}
+use Rattle.chord_match.specs.Findings.{read_so}
+use Rattle.chord_word.specs.declared.cells.Cell.TheVariants.{Pending}
 use Rattle.chord_space.specs.declared.space.Desk.{Desk}
 use Rattle.chord_space.specs.Desks.{view, IsSameDesk}
 use Rattle.chord_task.specs.declared.parcel.Parcel.{Parcel}
@@ -10,7 +13,9 @@ pub begin_fired-requires-clause-fired : goal.begin_fired-requires-clause-fired
 begin_fired-requires-clause-fired g c =
     let m = c.requires.minds in
     let found = c.requires.found.1 in
-    let fired = c.in-Fired.ensures.firing in (
+    let fired = c.in-Fired.ensures.firing in
+    let before = read_so c.requires.found.0 c.args.message.number Pending found.next in
+    let member = minded_member before (view c.args.self.now.desk) c.args.message.object c.args.message.number c.args.message.method found.next found.seen.methods c.args.members c.args.nexts found.matched found.chord.1 in (
       view c.args.self.now.desk,
       record {
         desk = c.fire.ensures.desk.0 ∙ m.desk;
@@ -22,7 +27,7 @@ begin_fired-requires-clause-fired g c =
         stock = m.stock;
         spare = m.spare;
         is_stock = m.is_stock;
-        duties = ap (λ (z : View). z.duties) fired.view ∙ duty_goes _ _ _ _ m.duty (minded_member _ _ _ _ _ _ _ _ _ found.matched found.chord.1);
+        duties = ap (λ (z : View). z.duties) fired.view ∙ duty_goes (view c.args.self.now.desk).duties c.args.message.number (key c.args.message.object c.args.message.method) c.args.members m.duty member;
         fired = fired;
       },
     )
