@@ -1,7 +1,7 @@
 -- A firing's body begins in the task of the caller that it serves or in one in stock; then it is played, or posted.
-use Rattle.std.proofs.Common.{◌≡◌, ◌≢◌, ◌⊎◌, inl, inr, ⊎_elim, ℕ, ◌+◌, ◌-◌, ◌<◌, ◌≤◌, length, Bool, true, false, ◌==◌, List, [], ◌∷◌, ◌++◌, map, slice_get, Option, Some, None, refl, sym, ap, ◌∙◌, subst, arith}
+use Rattle.std.proofs.Common.{◌≡◌, ◌⊎◌, inl, inr, ⊎_elim, ℕ, ◌+◌, ◌-◌, ◌≤◌, length, Bool, true, false, ◌==◌, List, [], ◌∷◌, ◌++◌, map, Option, Some, None, refl, sym, ap, ◌∙◌, subst, arith}
 use Rattle.std.specs.Prelude.{IsPermutation, is_some}
-use Rattle.std.proofs.lemmas.Bool.{eq-eqb, eqb-true}
+use Rattle.std.proofs.lemmas.Bool.{eq-eqb}
 use mathlib.Core.Path.{Path}
 use Rattle.chord_base.specs.declared.event.End.{End}
 use Rattle.chord_base.specs.declared.event.Entry.{Entry}
@@ -14,7 +14,7 @@ use Rattle.chord_base.specs.Bounds.{AreWithin}
 use Rattle.chord_base.specs.Machine.{IsPast}
 use Rattle.chord_base.specs.Messages.{maker}
 use Rattle.chord_base.specs.Bodies.{Doing, Absent, Unplaced, Ready, Waits, Over, placed, begun_by, begun, served_among, or_none, served, doing}
-use Rattle.chord_base.specs.Story.{AllBelow, IsDefined, IsIn, IsSound, IsTold, together}
+use Rattle.chord_base.specs.Story.{AllBelow, IsDefined, IsIn, IsSound, IsTold}
 use Rattle.chord_base.proofs.Merge.{IsSeen}
 use Rattle.chord_base.proofs.Waits.{either}
 use Rattle.chord_code.specs.declared.parts.Parts.{Parts}
@@ -47,7 +47,7 @@ use Rattle.chord_word.specs.declared.cells.Word.{Word}
 use Rattle.chord_worker.specs.declared.worker.Worker.{Worker}
 use Rattle.chord_worker.specs.Beginning.{first_task, arguments_in, caller_or, HasBoth, FitsFiring, HasBegun}
 use Rattle.chord_worker.specs.Firing.{HasFired}
-use Rattle.chord_worker.specs.Resting.{IsFree, IsInMemory, IsStock, IsAtRest, IsSameRole, left_of}
+use Rattle.chord_worker.specs.Resting.{IsInMemory, IsStock, IsAtRest, IsSameRole}
 use Rattle.chord_worker.proofs.Begun.{alone_both, alone_defined, called_both, called_defined}
 use Rattle.chord_worker.proofs.Fitting.{comes_waiting}
 use Rattle.chord_worker.proofs.Given.{one_top}

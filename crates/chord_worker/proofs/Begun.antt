@@ -1,5 +1,5 @@
 -- The entry of a firing that was drawn, and the past of the caller that came: the past of the task in which its body begins.
-use Rattle.std.proofs.Common.{◌≡◌, ◌≢◌, ◌⊎◌, inl, inr, ⊎_elim, ℕ, ◌<◌, Bool, true, false, not, ◌==◌, List, [], ◌∷◌, Option, Some, None, refl, sym, ap, ◌∙◌, subst, arith, if◌then◌else◌, le-ltb}
+use Rattle.std.proofs.Common.{◌≡◌, inl, inr, ℕ, ◌<◌, Bool, true, false, not, ◌==◌, List, [], ◌∷◌, refl, sym, ap, ◌∙◌, subst, arith, if◌then◌else◌, le-ltb}
 use Rattle.std.proofs.lemmas.Bool.{eq-eqb, eqb-true, eqb-false, ne_eqb}
 use Rattle.chord_base.specs.declared.event.Entry.{Entry}
 use Rattle.chord_base.specs.declared.event.What.TheVariants.{Fired}
@@ -7,7 +7,7 @@ use Rattle.chord_base.specs.declared.value.Object.{Object}
 use Rattle.chord_base.specs.declared.value.Value as value
 use Rattle.chord_base.specs.Meaning.{Program}
 use Rattle.chord_base.specs.Bodies.{doing}
-use Rattle.chord_base.specs.Story.{kept, grown, insert, together, moved_into, AllBelow, IsDefined, IsIn, IsMerged, IsRising, IsSound, IsStory, IsTold}
+use Rattle.chord_base.specs.Story.{kept, grown, insert, together, moved_into, AllBelow, IsDefined, IsIn, IsRising, IsSound, IsStory, IsTold}
 use Rattle.chord_base.proofs.Merged.{merged_story}
 use Rattle.chord_base.proofs.Places.{kept_below}
 use Rattle.chord_base.proofs.Together.{moving_keeps_places}

@@ -1,12 +1,10 @@
 -- What stands in the parcels of a firing's members: their values, and one task at most, that of the caller.
-use Rattle.std.proofs.Common.{◌≡◌, ◌≢◌, ◌⊎◌, inl, inr, ⊎_elim, ℕ, ◌≤◌, Bool, true, false, List, [], ◌∷◌, ◌++◌, map, length, slice_get, Option, Some, None, refl, sym, ap, ◌∙◌, subst, arith, if◌then◌else◌}
-use mathlib.Core.Path.{Path}
+use Rattle.std.proofs.Common.{◌≡◌, ◌≢◌, ◌⊎◌, inl, inr, ⊎_elim, ℕ, Bool, true, false, List, [], ◌∷◌, ◌++◌, map, Option, Some, None, refl, sym, ap, ◌∙◌, subst}
 use Rattle.chord_base.specs.declared.event.Entry.{Entry}
 use Rattle.chord_base.specs.declared.event.Limits.{Limits}
 use Rattle.chord_base.specs.declared.value.Object.{Object}
 use Rattle.chord_base.specs.declared.value.Value as value
 use Rattle.chord_base.specs.Meaning.{Program, NoneSync, OneSync, HasOneSync}
-use Rattle.chord_base.specs.Messages.{IsCall}
 use Rattle.chord_base.specs.Bodies.{served_among}
 use Rattle.chord_base.specs.Story.{IsIn, IsSound, AllBelow, together}
 use Rattle.chord_base.proofs.Waits.{either}

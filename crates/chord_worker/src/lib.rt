@@ -7,6 +7,7 @@
 
 mod fired;
 mod messages;
+mod minding;
 mod playing;
 mod step;
 mod worker;

@@ -1,4 +1,4 @@
-use Rattle.std.proofs.Common.{◌≡◌, ℕ, ◌+◌, ◌≤◌, length, sym, ap, ◌∙◌, Some, None, arith}
+use Rattle.std.proofs.Common.{◌≡◌, length, sym, ap, ◌∙◌, Some, None, arith}
 use Rattle.chord_worker.proofs.Beginning.{task_is, may_resume, twice, few_values, begun_there}
 use Rattle.chord_worker.proofs.worker.Worker.begin_fired.Goals as goal
 

@@ -1,5 +1,4 @@
-use Rattle.std.proofs.Common.{◌≡◌, ℕ, List, refl, sym, ap, ◌∙◌, subst, Some, None}
-use Rattle.chord_base.specs.declared.event.Entry.{Entry}
+use Rattle.std.proofs.Common.{◌≡◌, refl, sym, ◌∙◌, subst, Some, None}
 use Rattle.chord_base.specs.declared.event.Limits.{Limits}
 use Rattle.chord_code.specs.declared.parts.Parts.{Parts}
 use Rattle.chord_space.specs.Desks.{view, code_of, limits_of, program_of}
