@@ -1,0 +1,6 @@
+-- What the pool gives its callers, in the order in which it is to be read.
+
+-- ## What only the code's own contracts use
+
+-- the entries that the parcels at home keep
+pub mod Homes
