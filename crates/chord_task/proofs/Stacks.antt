@@ -1,6 +1,6 @@
 -- What a stack of bodies is after one more entry: that the clauses of a task can be met, for every program.
-use Rattle.std.proofs.Common.{◌≡◌, ℕ, ◌+◌, true, false, ◌==◌, List, [], ◌∷◌, ◌++◌, Option, Some, None, refl, sym, ap, ◌∙◌, subst, inl, inr}
-use Rattle.std.proofs.lemmas.Bool.{eq-eqb, eqb-true, eqb-false}
+use Rattle.std.proofs.Common.{◌≡◌, ℕ, ◌+◌, ◌<◌, arith, true, false, ◌==◌, List, [], ◌∷◌, ◌++◌, Option, Some, None, refl, sym, ap, ◌∙◌, subst, inl, inr}
+use Rattle.std.proofs.lemmas.Bool.{eq-eqb, eqb-true, eqb-false, ne_eqb}
 use Rattle.chord_base.specs.declared.value.Object.{Object}
 use Rattle.chord_base.specs.declared.value.Value as value
 use Rattle.chord_base.specs.declared.event.End.{End}
@@ -16,7 +16,7 @@ use Rattle.chord_base.proofs.Waits.{either, WaitsOn}
 use Rattle.chord_base.proofs.Local.{waits_for, answered_same, other_body, call_answered}
 use Rattle.chord_base.proofs.Places.{below_rises, told_waits}
 use Rattle.chord_base.proofs.Merged.{own_tells}
-use Rattle.chord_task.specs.Stacks.{TaskView, IsTask, IsNext, TopWaitsFor}
+use Rattle.chord_task.specs.Stacks.{TaskView, IsServedThere, IsTask, IsNext, TopWaitsFor}
 
 -- a stack after one more entry, with this body on top
 abbrev pub after : TaskView → ℕ → ℕ → What → Option ℕ → TaskView
@@ -60,6 +60,30 @@ own_placed p n w m f Absent o r e = absurd r
 own_placed p n w m f Unplaced o r e = absurd r
 own_placed p n w m f (Over x) o r e = absurd r
 
+-- a body that serves a call has its entry there
+serves_below : (p : Program) (n c q : ℕ) (h : List Entry) → AllBelow n h → serves p c h ≡ Some q → c < n
+serves_below p n c q [] l s = cc
+serves_below p n c q (e ∷ h) l s =
+    elim (either (e.number == c)) [
+      | inl y ↦ subst (λ z. z < n) (eqb-true e.number c y) l.0
+      | inr o ↦ serves_below p n c q h l.1 (let z : serves p c (e ∷ h) ≡ serves p c h = rw o refl in sym z ∙ s)
+    ]
+
+-- what a body serves it serves after one more entry too
+still_serves : (p : Program) (e : Entry) (c q : ℕ) (h : List Entry) → AllBelow e.number h → serves p c h ≡ Some q → serves p c (e ∷ h) ≡ Some q
+still_serves p e c q h l s =
+    let under = serves_below p e.number c q h l s in
+    let o : (e.number == c) ≡ false = ne_eqb e.number c (λ z. omega (arith, z, under)) in
+    rw o s
+
+-- a call that a body waits for is served there after one more entry too
+served_more : (p : Program) (e : Entry) (h : List Entry) (d : Doing) → AllBelow e.number h → IsServedThere p h d → IsServedThere p (e ∷ h) d
+served_more p e h (Waits s k rs q l) a (c, f) = (c, still_serves p e c q h a f)
+served_more p e h (Ready s k rs) a w = tt
+served_more p e h Absent a w = tt
+served_more p e h Unplaced a w = tt
+served_more p e h (Over x) a w = tt
+
 -- no end: the top body stays on top
 pub task_note : (p : Program) (t : TaskView) (n : ℕ) (w : What) (a : IsNext p t w) → is_end w ≡ false → IsTask p t → AllBelow n t.past → IsTask p (after t n a.body w t.top)
 task_note p t n w a no_end k l =
@@ -77,6 +101,12 @@ task_note p t n w a no_end k l =
                 own_placed p n w _ (doing p t.past) (doing p t.past c) a.own
                 (subst (λ i. IsReady (doing p t.past i)) (eqb-true a.body c y) (asked_ready p (doing p t.past a.body) _ a.asks.1)) (rw y at u)
             | inr o ↦ k.placed c (sym (same c o) ∙ u)
+          ];
+      below =
+          λ c d.
+          elim (either (a.body == c)) [
+            | inl y ↦ absurd (d (a.on_top ∙ ap Some (eqb-true a.body c y)))
+            | inr o ↦ subst (λ z. IsServedThere p (e ∷ t.past) z) (sym (same c o)) (served_more p e t.past (doing p t.past c) l (k.below c d))
           ];
     }
 
@@ -109,6 +139,18 @@ task_end p t n x a top f k l =
           elim (either (a.body == c)) [
             | inl y ↦ (let z : Over x ≡ Unplaced = rw y at u in cc)
             | inr o ↦ answered_placed x (serves p a.body t.past) (doing p t.past c) (k.placed c) (rw o at u)
+          ];
+      below =
+          λ c d.
+          elim (either (a.body == c)) [
+            | inl y ↦ rw y tt
+            | inr o ↦
+                elim (either (waits_for (serves p a.body t.past) (doing p t.past c))) [
+                  | inl y ↦ absurd (d (f c y))
+                  | inr z ↦
+                      rw (o, answered_same x (serves p a.body t.past) (doing p t.past c) z)
+                      (served_more p (record { number = n; body = a.body; what = Ended x }) t.past (doing p t.past c) l (k.below c (other_top t a.body c a.on_top o)))
+                ]
           ];
     }
 
@@ -144,6 +186,19 @@ task_resume p t n k o ms vs q s w i l =
             | inl y ↦ (let z : Ready (Chord k o vs) (w.place + 1) [] ≡ Unplaced = sym ready ∙ rw y at u in cc)
             | inr z ↦ i.placed c (rw z at u)
           ];
+      below =
+          λ c d.
+          elim (either (n == c)) [
+            | inl y ↦ absurd (d (ap Some (eqb-true n c y)))
+            | inr z ↦
+                rw z
+                (elim (either (w.body == c)) [
+                  | inl y ↦
+                      subst (λ j. IsServedThere p (record { number = n; body = n; what = Fired k o ms vs } ∷ t.past) (doing p t.past j)) (eqb-true w.body c y)
+                      (subst (λ v. IsServedThere p (record { number = n; body = n; what = Fired k o ms vs } ∷ t.past) v) (sym w.is) (n, let a : (n == n) ≡ true = eq-eqb n n refl in rw a s))
+                  | inr v ↦ served_more p (record { number = n; body = n; what = Fired k o ms vs }) t.past (doing p t.past c) l (i.below c (other_top t w.body c w.on_top v))
+                ])
+          ];
     }
 
 -- a firing that serves no call, in a task that is over
@@ -165,6 +220,12 @@ task_spare p t n k o ms vs s e i l =
           elim (either (n == c)) [
             | inl y ↦ (let z : Ready (Chord k o vs) 1 [] ≡ Unplaced = sym ready ∙ rw y at u in cc)
             | inr z ↦ i.placed c (rw z at u)
+          ];
+      below =
+          λ c d.
+          elim (either (n == c)) [
+            | inl y ↦ absurd (d (ap Some (eqb-true n c y)))
+            | inr z ↦ rw z (served_more p (record { number = n; body = n; what = Fired k o ms vs }) t.past (doing p t.past c) l (i.below c (λ f. let a : ◌≡◌ {A = Option ℕ} None (Some c) = sym e ∙ f in cc)))
           ];
     }
 

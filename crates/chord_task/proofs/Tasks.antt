@@ -18,7 +18,7 @@ use Rattle.chord_code.specs.Meaning.{code_program, stands}
 use Rattle.chord_task.specs.declared.body.Next.TheVariants as nexts
 use Rattle.chord_task.specs.declared.body.Body.{Body}
 use Rattle.chord_task.specs.declared.task.Task.{Task}
-use Rattle.chord_task.specs.Stacks.{IsTask, task_noted}
+use Rattle.chord_task.specs.Stacks.{IsServedThere, IsTask, task_noted}
 use Rattle.chord_task.specs.Arguments.{MayBeList}
 use Rattle.chord_task.specs.Standing.{body_number, view_of, NextIs, IsTop, IsBodyStack, IsResumable, HasRoomIf, HasRoomFor, IsTaskOf, given_of, given_by, answer_of, MayAnswer, AnsweredWith, CalledBack, IsReadyFor, MayNote}
 use Rattle.chord_task.proofs.Standing.{entry, noted_answer_fits}
@@ -200,6 +200,7 @@ spare_task code limits t forward limited top past below room kept list =
             told = subst (λ (h : List Entry). IsTold p h) (sym none) tt;
             quiet = λ b d. ap (λ (h : List Entry). asks_of p (doing p h b)) none;
             placed = λ b u. let z : Absent ≡ Unplaced = sym (ap (λ (h : List Entry). doing p h b) none) ∙ u in cc;
+            below = λ b u. subst (λ (h : List Entry). IsServedThere p h (doing p h b)) (sym none) tt;
           };
       is_defined = λ b. subst (λ (h : List Entry). StaysDefinedAt p (doing p h b)) (sym none) tt;
       stack = subst (λ z. IsBodyStack code limits (view_of t).past z (reverse t.below.items)) (sym top) (ap reverse below);

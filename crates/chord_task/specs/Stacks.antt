@@ -7,7 +7,7 @@ use Rattle.chord_base.specs.declared.event.Entry.{Entry}
 use Rattle.chord_base.specs.declared.event.What.{What}
 use Rattle.chord_base.specs.declared.event.What.TheVariants.{Fired}
 use Rattle.chord_base.specs.Meaning.{Program, Start}
-use Rattle.chord_base.specs.Bodies.{Unplaced, Waits, served, doing, asked, Asks}
+use Rattle.chord_base.specs.Bodies.{Doing, Absent, Unplaced, Ready, Waits, Over, served, serves, doing, asked, Asks}
 use Rattle.chord_base.specs.Story.{IsTold, IsOwn, IsDefined}
 
 -- a stack of bodies: what they did, the newest entry first, and the body on top
@@ -15,11 +15,20 @@ pub record TaskView : Type 0 where
   pub past : List Entry
   pub top : Option ℕ
 
--- only the body on top may ask, and each body's call is in the past
+-- a body that waits, waits for a call that a body of these entries serves
+abbrev pub IsServedThere : Program → List Entry → Doing → Type 0
+IsServedThere p h (Waits s d rs q l) = (c : ℕ) × (serves p c h ≡ Some q)
+IsServedThere p h (Ready s d rs) = Unit {0}
+IsServedThere p h Absent = Unit {0}
+IsServedThere p h Unplaced = Unit {0}
+IsServedThere p h (Over x) = Unit {0}
+
+-- only the body on top may ask, each body's call is in the past, and each body below waits for a call that a body of the past serves
 pub record IsTask (p : Program) (t : TaskView) : Type 0 where
   pub told : IsTold p t.past
   pub quiet : (b : ℕ) → (t.top ≡ Some b → ⊥) → asked p (doing p t.past b) ≡ None
   pub placed : (b : ℕ) → doing p t.past b ≡ Unplaced → ⊥
+  pub below : (b : ℕ) → (t.top ≡ Some b → ⊥) → IsServedThere p t.past (doing p t.past b)
 
 -- the next ask of the body on top
 pub record IsNext (p : Program) (t : TaskView) (w : What) : Type 0 where
