@@ -109,11 +109,11 @@ module _ (code : Parts) (limits : Limits) (id : ℕ) (v : View) (slots : List (O
   keeps_to q = IsParcelOf q code limits
 
   -- the first part of the rule holds
-  abbrev law : Agrees entries_of arguments_of keeps_to (code_program code limits) limits.events s.moment s.unseen
+  abbrev pub law : Agrees entries_of arguments_of keeps_to (code_program code limits) limits.events s.moment s.unseen
   law = s.rule.agrees
 
   -- the place of each entry
-  abbrev place : ℕ → ℕ
+  abbrev pub place : ℕ → ℕ
   place = law.stands.keeping.merged.at
 
   -- what the places keep
@@ -121,11 +121,11 @@ module _ (code : Parts) (limits : Limits) (id : ℕ) (v : View) (slots : List (O
   keeps = law.stands.keeping.merged.keeps
 
   -- the desk that closes is desk 0
-  at_first : get_elem? s.moment.views 0 ≡ some v
+  pub at_first : get_elem? s.moment.views 0 ≡ some v
   at_first = ap (get_elem? s.moment.views) (sym (law.firsts.leads id v s.desk first)) ∙ s.desk
 
   -- what it keeps
-  desk_entries : kept (λ k. place k == desk 0) s.unseen.journal ≡ v.kept
+  pub desk_entries : kept (λ k. place k == desk 0) s.unseen.journal ≡ v.kept
   desk_entries = keeps (desk 0) ∙ desk_keeps entries_of s.moment.views s.moment.homes 0 ∙ ap at_desk at_first
 
   -- each desk is the one that closes, or keeps nothing

@@ -1,2 +1,4 @@
 pub mod Gathering
 pub mod Homes
+pub mod Journals
+pub mod Ended

@@ -12,6 +12,7 @@ ghost use Rattle.chord_pool.specs.Homes.{slot_items, home_items};
 use chord_base::event::{Entry, Limits};
 use chord_base::journal::Journal;
 use chord_code::code::Code;
+use chord_code::laws::entries_are_within;
 use chord_journal::gather;
 use chord_space::{Closed, Desk, Space};
 use chord_task::parcel::Parcel;
@@ -58,4 +59,39 @@ fn take_homes(
         take_home(closed, i, entries)?;
     }
     Ok(())
+}
+
+/// Closes the table with its first desk, which has lent none, and has no claim and nothing in flight. The entries that it keeps,
+/// in whatever order they are handed over, and those of the parcels at home are gathered: they are the run.
+///
+/// # Errors
+///
+/// `AllocError` where there is no memory for the entries side by side, or for sorting them.
+pub(crate) fn finish(
+    alloc: Global,
+    space: Space<Parcel>,
+    code: &Code,
+    limits: &Limits,
+    desk: Desk<Parcel>,
+    entries: Vec<Entry>,
+) -> Result<(Journal, Closed<Parcel>), AllocError>
+    requires code { (code_of space ≡ code.now) × (limits_of space ≡ limits.now) }
+    requires desk { IsDeskOf space desk }
+    requires alone { ((view desk).first ≡ true) × ((view desk).lent ≡ 0) }
+    requires idle { ((view desk).claims ≡ []) × ((view desk).flight ≡ None) }
+    requires held { IsPermutation entries.items (view desk).kept }
+    ensures run { IfOk result (λ r. IsRun (code_program code.now limits.now) r.0) }
+    ensures whole { IfOk result (λ r. MayClose (view desk) → AreQuiet (code_program code.now limits.now) (view desk).kept → IsComplete (code_program code.now limits.now) r.0) }
+    ensures full { IfOk result (λ r. (view desk).spent ≡ true → length r.0 ≡ limits.now.events) }
+    ensures counted { IfOk result (λ r. (c : ℕ) → (view desk).looked.count ≡ Some c → length r.0 ≡ min c limits.now.events) }
+    ensures few { IfOk result (λ r. length r.0 ≤ limits.now.events) }
+    ensures closed { IfOk result (λ r. (r.1.drawn ≡ length r.0) × ((e : Entry) → IsIn e (closing_view r.1).kept → IsIn e r.0)) }
+{
+    entries_are_within(code);
+    let mut entries = entries;
+    let mut closed = space.close(desk);
+    take_homes(&mut closed, limits.events, &mut entries)?;
+    let journal = gather(alloc, entries)?;
+    let _within = journal.entries();
+    Ok((journal, closed))
 }
