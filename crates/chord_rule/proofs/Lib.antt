@@ -28,6 +28,7 @@ pub mod Laws
 pub mod Bridge
 pub mod AloneSteps
 pub mod WaySteps
+pub mod Coming
 pub mod Moves
 pub mod Knowing
 pub mod Moving

@@ -34,6 +34,9 @@ use Rattle.chord_rule.proofs.Agreeing.{drawn_above}
 use Rattle.chord_rule.proofs.Wholes.{whole_draw, whole_told}
 use Rattle.chord_rule.proofs.Bridge.{Can, after, counter_step}
 use Rattle.chord_rule.proofs.Counting.{count_fits}
+use Rattle.chord_rule.proofs.Coming.{desk_place}
+use Rattle.chord_rule.proofs.Puts.{at_inside}
+use Rattle.atomic_table.proofs.Lists.{set_here}
 
 module _ {P : Type 0} (entries : P → List Entry) (arguments : P → List value.Value) (keeps_to : P → Type 0) (p : Program) (n : ℕ) (any : 0 < n) (small : n ≤ 65536) where
   -- the draw of an own entry
@@ -66,7 +69,7 @@ module _ {P : Type 0} (entries : P → List Entry) (arguments : P → List value
           refl,
           (λ k.
               let after = whole_draw entries arguments keeps_to p n small m u whole id me.0 at live body what l own next in
-              let above = drawn_above entries arguments keeps_to p n small m u whole.agrees id me.0 at body what l u.journal after.agrees.stands.keeping.merged.past (let long = whole.agrees.stands.keeping.long in omega arith) in (refl, above.0, above.1, (u.journal, after.agrees.stands.keeping.merged.past))),
+              let above = drawn_above entries arguments keeps_to p n small m u whole.agrees id me.0 at body what l u.journal after.agrees.stands.keeping.merged.past (let long = whole.agrees.stands.keeping.long in omega arith) in (refl, above.0, above.1, (u.journal, after.agrees.stands.keeping.merged.past), desk_place entries arguments keeps_to p n _ u' after.agrees.stands id w (set_here m.views id w (at_inside m.views id me.0 at)))),
           λ k. absurd (omega arith),
         ),
       )

@@ -5,7 +5,7 @@ use native.Mathlib.Decide.{dec_le}
 use lib.ListN.{get_elem?}
 use prog.Atomic.{either}
 use Rattle.atomic_table.specs.Table.{State, Act, Allows, Splits, Joins, Me, carried_after, keeps, takes, gives, step}
-use Rattle.atomic_table.proofs.Lists.{set_again, set_else}
+use Rattle.atomic_table.proofs.Lists.{set_again, set_else, set_here}
 use Rattle.chord_base.specs.Meaning.{Program}
 use Rattle.chord_base.specs.Bodies.{doing}
 use Rattle.chord_base.specs.Messages.{Message, message_of, IsCall}
@@ -33,9 +33,9 @@ use Rattle.chord_rule.specs.Hands.{hand, IsUnlinked}
 use Rattle.chord_rule.specs.Stages.{Placing, Fresh, Emptying, Claiming, Flying, InHand, Armed, Spent, Unposted, Posting, Posted, Starting, Played}
 use Rattle.chord_rule.specs.Kinds as kinds
 use Rattle.chord_rule.specs.StandsFor.{Unseen}
-use Rattle.chord_rule.specs.Tells.{word, a_word, CameNext, ClaimTells, draws, draws_firing, places, links, arms, claims, holds, unclaims, consumes, empties, posts_out, posts, starts, plays}
+use Rattle.chord_rule.specs.Tells.{word, a_word, CameNext, ClaimTells, draws, draws_firing, places, links, arms, claims, holds, unclaims, consumes, empties, posts_out, posts, starts, plays, finds_place}
 use Rattle.chord_rule.specs.Whole.{Held, Whole}
-use Rattle.chord_rule.proofs.Puts.{put}
+use Rattle.chord_rule.proofs.Puts.{put, at_inside}
 use Rattle.chord_rule.proofs.BagSteps.{linked_order}
 use Rattle.chord_rule.proofs.Bridge.{Can, after, counter_step, store_cell, swap_head, store_place, exchange_cell, load_cell}
 use Rattle.chord_rule.proofs.Counting.{count_fits}
@@ -46,6 +46,8 @@ use Rattle.chord_rule.proofs.Bagging as bagging
 use Rattle.chord_rule.proofs.Agreeing as agreeing
 use Rattle.chord_rule.proofs.Knowing as knowing
 use Rattle.chord_rule.proofs.Wholes as wholes
+use Rattle.chord_rule.proofs.Coming as coming
+use Rattle.chord_rule.specs.Coming.{IsPlace, ComesWithMessage, ComesWithFiring}
 
 -- a next that fits in a cell fits in a claimed, a pending and a consumed one
 link_low : (c : Cell) (next : Option ℕ) → NextFits c next → NextFits a_cell.Claimed next × NextFits a_cell.Pending next × NextFits a_cell.Consumed next
@@ -113,8 +115,9 @@ module _ {P : Type 0} (entries : P → List Entry) (arguments : P → List value
               (λ _. (
                 standing.desk_below entries arguments keeps_to p n m u whole.agrees.stands l id me.0 at,
                 (λ is ws chosen claimed. let same = agreeing.same_values entries arguments keeps_to p n small m u whole.agrees id me.0 at object js ms vs ws members (subst (λ (hs : List ℕ). AreClaimed me.0.claims object hs ms ws) (some_is is js (sym chosen ∙ chord)) claimed) in
-                    subst (λ (xs : List value.Value). (w ≡ saw_count (kinds.fired me.0 m.count k object ms xs) (m.count + 1)) × CameNext p (entry m.count m.count (Fired k object ms xs))) same
-                    (refl, (u.journal, (wholes.whole_draw_firing entries arguments keeps_to p n small m u whole id me.0 at live k object js ms vs l chord members).agrees.stands.keeping.merged.past))),
+                    subst (λ (xs : List value.Value). (w ≡ saw_count (kinds.fired me.0 m.count k object ms xs) (m.count + 1)) × CameNext p (entry m.count m.count (Fired k object ms xs)) × IsPlace p (entry m.count m.count (Fired k object ms xs) ∷ me.0.kept)) same
+                    (refl, (u.journal, (wholes.whole_draw_firing entries arguments keeps_to p n small m u whole id me.0 at live k object js ms vs l chord members).agrees.stands.keeping.merged.past),
+                    coming.desk_place entries arguments keeps_to p n _ u' (wholes.whole_draw_firing entries arguments keeps_to p n small m u whole id me.0 at live k object js ms vs l chord members).agrees.stands id w (set_here m.views id w (at_inside m.views id me.0 at)))),
               )),
               λ k. absurd (omega arith),
             ),
@@ -245,8 +248,8 @@ module _ {P : Type 0} (entries : P → List Entry) (arguments : P → List value
 
   -- the table allows a desk to consume a message that it has claimed for a firing
   pub consume_step : (id : ℕ) (me : Me (Option P) View) (c : Claim) (f : ℕ) → me.0.gone ≡ false → c.number < n → HasThe c me.0.claims → c.firing ≡ Some f → me.0.emptying ≡ None
-      → Allows H n id me (1 + c.number) (λ _. word a_cell.Consumed c.next) (λ _. consumes entries arguments keeps_to (step n (1 + c.number) (word a_cell.Consumed c.next) 0 none) me (word a_cell.Consumed c.next))
-  consume_step id me c f live low has for free = store_cell Unseen W n id me c.number (record { cell = a_cell.Consumed; next = c.next }) (consumes entries arguments keeps_to (step n (1 + c.number) (word a_cell.Consumed c.next) 0 none) me (word a_cell.Consumed c.next)) low
+      → Allows H n id me (1 + c.number) (λ _. word a_cell.Consumed c.next) (λ _. consumes p entries arguments keeps_to (step n (1 + c.number) (word a_cell.Consumed c.next) 0 none) me (word a_cell.Consumed c.next))
+  consume_step id me c f live low has for free = store_cell Unseen W n id me c.number (record { cell = a_cell.Consumed; next = c.next }) (consumes p entries arguments keeps_to (step n (1 + c.number) (word a_cell.Consumed c.next) 0 none) me (word a_cell.Consumed c.next)) low
       (λ m u whole at good. let is = standing.claim_word entries arguments keeps_to p n m u whole.agrees.stands id me.0 at c has in let home = standing.claim_home entries arguments keeps_to p n m u whole.agrees.stands id me.0 at c has in
       let comes = standing.claim_comes entries arguments keeps_to p n m u whole.agrees.stands id me.0 at c home.0 has home.1 in (
         (omega arith, (link_low a_cell.Claimed c.next (subst WordFits is good).1).2),
@@ -265,6 +268,7 @@ module _ {P : Type 0} (entries : P → List Entry) (arguments : P → List value
                 comes.values ∙ ap (λ (y : Claim). y.values) same,
                 subst (λ (k : ℕ). AllBelow k (entries home.0)) one (comes.below f for),
                 comes.task,
+                subst (λ (y : Claim). ComesWithMessage p me.0.kept y (entries home.0)) same (coming.comes_with_message entries arguments keeps_to p n m u whole.agrees.stands whole.agrees.tabled.sound id me.0 at c home.0 has home.1),
               )),
         ),
       ))
@@ -300,8 +304,8 @@ module _ {P : Type 0} (entries : P → List Entry) (arguments : P → List value
 
   -- the table allows a desk to start a firing if its cell is ready, and to remember its cell if not
   pub start_step : (id : ℕ) (me : Me (Option P) View) (f : ℕ) → me.0.gone ≡ false → f < n → me.0.starting ≡ None
-      → Allows H n id me (1 + f) (λ z. either (eqb z (word a_cell.Ready None)) (word a_cell.Started None) z) (starts entries keeps_to (step n (1 + f) (word a_cell.Ready None) (word a_cell.Started None) none) me)
-  start_step id me f live low free = exchange_cell Unseen W n id me f (record { cell = a_cell.Ready; next = None }) (record { cell = a_cell.Started; next = None }) (starts entries keeps_to (step n (1 + f) (word a_cell.Ready None) (word a_cell.Started None) none) me) low
+      → Allows H n id me (1 + f) (λ z. either (eqb z (word a_cell.Ready None)) (word a_cell.Started None) z) (starts p entries keeps_to (step n (1 + f) (word a_cell.Ready None) (word a_cell.Started None) none) me)
+  start_step id me f live low free = exchange_cell Unseen W n id me f (record { cell = a_cell.Ready; next = None }) (record { cell = a_cell.Started; next = None }) (starts p entries keeps_to (step n (1 + f) (word a_cell.Ready None) (word a_cell.Started None) none) me) low
       (omega arith, tt) (omega arith, tt)
       (λ m u whole at is.
       let ready : (m.cells f).cell ≡ a_cell.Ready = ap (λ (c : Word). c.cell) is in
@@ -311,7 +315,7 @@ module _ {P : Type 0} (entries : P → List Entry) (arguments : P → List value
         record u { stage = put u.stage f (InHand id Starting) },
         (low, home.1),
         wholes.whole_start entries arguments keeps_to p n small m u whole id me.0 at live f home.0 ready free home.1,
-        (λ j e. let same : f ≡ j = omega arith in ((λ _. (home.0, ap (λ (k : ℕ). saw (kinds.firing_started me.0 k (entries home.0)) k (a_word a_cell.Started None)) same, ap (λ (k : ℕ). (k, Some home.0) ∷ me.1) same, subst (λ (k : ℕ). Begins k (entries home.0)) same comes.0.begins, comes.1)), (λ ne. absurd (ne refl)))),
+        (λ j e. let same : f ≡ j = omega arith in ((λ _. (home.0, ap (λ (k : ℕ). saw (kinds.firing_started me.0 k (entries home.0)) k (a_word a_cell.Started None)) same, ap (λ (k : ℕ). (k, Some home.0) ∷ me.1) same, comes.1, subst (λ (k : ℕ). ComesWithFiring p me.0.kept k (entries home.0)) same (coming.comes_with_firing entries arguments keeps_to p n m u whole.agrees.stands id me.0 at f home.0 ready home.1))), (λ ne. absurd (ne refl)))),
       ))
       (λ m u whole at good ne. (
         saw me.0 f (m.cells f),
@@ -331,6 +335,11 @@ module _ {P : Type 0} (entries : P → List Entry) (arguments : P → List value
       (λ m u whole at fits. (kinds.played v, gives, record u { stage = put u.stage f Played }, tt, wholes.whole_play entries arguments keeps_to p n small m u whole id v at live f is, (λ j e q. refl)))
 
   -- ## Desks
+
+  -- a look at the counter tells the desk that what it keeps is a place of the run
+  pub find_place_step : (id : ℕ) (me : Me (Option P) View) → me.0.gone ≡ false → Allows H n id me 0 (λ x. x) (finds_place p (step n 0 0 0 none) me)
+  find_place_step id me live = counter_step Unseen W n id me (λ x. x) (finds_place p (step n 0 0 0 none) me)
+      (λ m u whole at fits. (me.0, keeps, u, tt, unmoved m u whole id me.0 at, (refl, coming.desk_place entries arguments keeps_to p n m u whole.agrees.stands id me.0 at)))
 
   -- the first desk lends one
   pub split_step : (id : ℕ) (v : View) → v.gone ≡ false → v.first ≡ true → v.splits < 65535 → Splits H id v (kinds.lent_one v) newcomer
@@ -370,7 +379,7 @@ module _ {P : Type 0} (entries : P → List Entry) (arguments : P → List value
           (λ k.
               let after = wholes.whole_begun entries arguments keeps_to p n small m u whole id me.0 at live any is_first not_drawn not_split in
               let above = agreeing.drawn_above entries arguments keeps_to p n small m u whole.agrees id me.0 at 0 Begun (omega (arith, none_drawn, any)) u.journal after.agrees.stands.keeping.merged.past (let long = whole.agrees.stands.keeping.long in omega arith) in
-              (refl, above.0, above.1, (u.journal, after.agrees.stands.keeping.merged.past))),
+              (refl, above.0, above.1, (u.journal, after.agrees.stands.keeping.merged.past), coming.desk_place entries arguments keeps_to p n _ u' after.agrees.stands id w (set_here m.views id w (at_inside m.views id me.0 at)))),
           λ k. absurd (omega (arith, none_drawn, any, k)),
         ),
       ))

@@ -563,6 +563,10 @@ module _ {P : Type 0} (entries : P → List Entry) (arguments : P → List value
     pub below : (f : ℕ) → c.firing ≡ Some f → AllBelow f (entries q)
     pub task : keeps_to q
 
+  -- the journal has the message that a desk has claimed
+  pub claim_says : (id : ℕ) (v : View) → get_elem? m.views id ≡ some v → (c : Claim) → HasThe c v.claims → message_in (what_at c.number u.journal) ≡ Some (claimed_message c)
+  claim_says id v at c has = (it c.number (InHand id (Claiming c)) (law.hands.holds id v at c.number (Claiming c) (has, refl))).0
+
   -- the parcel of a message that a desk has claimed comes so
   pub claim_comes : (id : ℕ) (v : View) → get_elem? m.views id ≡ some v → (c : Claim) (q : P) → HasThe c v.claims → m.homes c.number ≡ some (Some q) → Comes c q
   claim_comes id v at c q has home =

@@ -20,12 +20,14 @@ pub mod Duties
 pub mod Ways
 -- what each kind of step does to the view of its desk, and to how numbers stand
 pub mod Kinds
--- what each step tells its caller
-pub mod Tells
 -- each entry of the run is kept in exactly one place
 pub mod Keeping
 -- what a parcel at home holds
 pub mod Parcels
+-- what comes to a desk, and what it keeps, are places of the run
+pub mod Coming
+-- what each step tells its caller
+pub mod Tells
 -- what desks have in hand: each number at most one desk, for one thing
 pub mod Hands
 -- what there is of a number by how it stands: entry, cell, place word, slot, bag

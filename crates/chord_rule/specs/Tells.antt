@@ -19,9 +19,9 @@ use Rattle.chord_rule.specs.declared.view.Duty.{Duty}
 use Rattle.chord_rule.specs.declared.view.View.{View}
 use Rattle.chord_rule.specs.Bags.{IsArmed, head_of}
 use Rattle.chord_rule.specs.Claims.{HasThe, HasClaimOn, AreClaimed}
+use Rattle.chord_rule.specs.Coming.{IsPlace, ComesWithMessage, ComesWithFiring}
 use Rattle.chord_rule.specs.Duties.{HasDuty}
 use Rattle.chord_rule.specs.Made.{Names, key}
-use Rattle.chord_rule.specs.Parcels.{Begins}
 use Rattle.chord_rule.specs.Ways.{HasDutyOn, KnowsBag, KnowsObject, LastSeen, IsAt, IsAlone, IsLinkedCell, IsSettledCell, HasRoom}
 use Rattle.chord_rule.specs.Kinds.{entry, drew, was_told, claimed, fired, address_set, flown, armed, unclaimed, consumed, emptied, posting, posted, firing_started, played, saw, saw_count, saw_head, looked_head, looked_cell, rested}
 
@@ -60,13 +60,13 @@ pub record IsLook (n : ℕ) (v w : View) (i : ℕ) (c : Word) : Type 0 where
 module _ {S : Type 0} where
   -- below the limit the desk has the entry, which came next in the run, and whose number is above all that it kept and above each object that the entry names; else it is told
   abbrev pub draws : Program → ℕ → What → Step S → Me S View → ℕ → Me S View → Type 0
-  draws p body what s m x w = (w.1 ≡ m.1) × (x < s.slots → (w.0 ≡ saw_count (drew m.0 x body what) (x + 1)) × AllBelow x m.0.kept × ((o : Object) → Names what o → o.number < x) × CameNext p (entry x body what))
+  draws p body what s m x w = (w.1 ≡ m.1) × (x < s.slots → (w.0 ≡ saw_count (drew m.0 x body what) (x + 1)) × AllBelow x m.0.kept × ((o : Object) → Names what o → o.number < x) × CameNext p (entry x body what) × IsPlace p (entry x body what ∷ m.0.kept))
       × (s.slots ≤ x → w.0 ≡ saw_count (was_told m.0) (x + 1))
 
   -- below the limit the desk has the firing, which came next in the run, with the values of its claims, and whose number is above all that it kept; else it is told
   abbrev pub draws_firing : Program → ℕ → Object → List ℕ → Step S → Me S View → ℕ → Me S View → Type 0
   draws_firing p k o ms s m x w = (w.1 ≡ m.1)
-      × (x < s.slots → AllBelow x m.0.kept × ((js : List ℕ) (vs : List value.Value) → slice_get (p.chords o.class) k ≡ Some js → AreClaimed m.0.claims o js ms vs → (w.0 ≡ saw_count (fired m.0 x k o ms vs) (x + 1)) × CameNext p (entry x x (Fired k o ms vs))))
+      × (x < s.slots → AllBelow x m.0.kept × ((js : List ℕ) (vs : List value.Value) → slice_get (p.chords o.class) k ≡ Some js → AreClaimed m.0.claims o js ms vs → (w.0 ≡ saw_count (fired m.0 x k o ms vs) (x + 1)) × CameNext p (entry x x (Fired k o ms vs)) × IsPlace p (entry x x (Fired k o ms vs) ∷ m.0.kept)))
       × (s.slots ≤ x → w.0 ≡ saw_count (was_told m.0) (x + 1))
 
   -- ## Messages
@@ -106,9 +106,9 @@ module _ {S : Type 0} where
   unclaims s m x w = (c : Claim) → HasThe c m.0.claims → s.word ≡ 1 + c.number → w ≡ (saw (unclaimed m.0 c.number) c.number (a_word a_cell.Pending c.next), m.1)
 
   -- a message is consumed, and its parcel comes out: it holds the values of the claim, and what was drawn before the firing
-  abbrev pub consumes : (S → List Entry) → (S → List value.Value) → (S → Type 0) → Step (Option S) → Me (Option S) View → ℕ → Me (Option S) View → Type 0
-  consumes entries arguments keeps_to s m x w = (c : Claim) (f : ℕ) → HasThe c m.0.claims → s.word ≡ 1 + c.number → c.firing ≡ Some f
-      → (q : S) × (w.0 ≡ saw (consumed m.0 c.number (entries q)) c.number (a_word a_cell.Consumed c.next)) × (w.1 ≡ (c.number, Some q) ∷ m.1) × (arguments q ≡ c.values) × AllBelow f (entries q) × keeps_to q
+  abbrev pub consumes : Program → (S → List Entry) → (S → List value.Value) → (S → Type 0) → Step (Option S) → Me (Option S) View → ℕ → Me (Option S) View → Type 0
+  consumes p entries arguments keeps_to s m x w = (c : Claim) (f : ℕ) → HasThe c m.0.claims → s.word ≡ 1 + c.number → c.firing ≡ Some f
+      → (q : S) × (w.0 ≡ saw (consumed m.0 c.number (entries q)) c.number (a_word a_cell.Consumed c.next)) × (w.1 ≡ (c.number, Some q) ∷ m.1) × (arguments q ≡ c.values) × AllBelow f (entries q) × keeps_to q × ComesWithMessage p m.0.kept c (entries q)
 
   -- the empty slot is home again
   abbrev pub empties : Step (Option S) → Me (Option S) View → ℕ → Me (Option S) View → Type 0
@@ -125,9 +125,9 @@ module _ {S : Type 0} where
   posts entries s m x w = (f : ℕ) (q : S) → m.1 ≡ (f, Some q) ∷ [] → (w.0 ≡ saw (posted m.0 (entries q)) f (a_word a_cell.Ready None)) × (w.1 ≡ [])
 
   -- where the word was that of a ready firing, it is started, and its parcel comes out; else it was not ready
-  abbrev pub starts : (S → List Entry) → (S → Type 0) → Step (Option S) → Me (Option S) View → ℕ → Me (Option S) View → Type 0
-  starts entries keeps_to s m x w = (f : ℕ) → s.word ≡ 1 + f
-      → (x ≡ s.first → (q : S) × (w.0 ≡ saw (firing_started m.0 f (entries q)) f (a_word a_cell.Started None)) × (w.1 ≡ (f, Some q) ∷ m.1) × Begins f (entries q) × keeps_to q)
+  abbrev pub starts : Program → (S → List Entry) → (S → Type 0) → Step (Option S) → Me (Option S) View → ℕ → Me (Option S) View → Type 0
+  starts p entries keeps_to s m x w = (f : ℕ) → s.word ≡ 1 + f
+      → (x ≡ s.first → (q : S) × (w.0 ≡ saw (firing_started m.0 f (entries q)) f (a_word a_cell.Started None)) × (w.1 ≡ (f, Some q) ∷ m.1) × keeps_to q × ComesWithFiring p m.0.kept f (entries q))
       × (x ≢ s.first → (w.1 ≡ m.1) × ((c : Word) × WordFits c × (c.cell ≢ a_cell.Ready) × (x ≡ word_of c) × (w.0 ≡ saw m.0 f c)))
 
   -- its empty slot is home again
@@ -135,6 +135,10 @@ module _ {S : Type 0} where
   plays s m x w = (f : ℕ) → m.0.starting ≡ Some f → m.1 ≡ (f, None) ∷ [] → w ≡ (played m.0, [])
 
   -- ## Looks
+
+  -- what the desk keeps is a place of the run
+  abbrev pub finds_place : Program → Step S → Me S View → ℕ → Me S View → Type 0
+  finds_place p s m x w = (w ≡ m) × IsPlace p m.0.kept
 
   -- the counter
   abbrev pub looks_count : Step (Option S) → Me (Option S) View → ℕ → Me (Option S) View → Type 0

@@ -3,13 +3,14 @@ ghost use Rattle.std.specs.Prelude.{◌≡◌, ◌≢◌, ℕ, ◌<◌, true, Op
 ghost use Rattle.chord_base.specs.Story.{AllBelow};
 ghost use Rattle.chord_rule.specs.declared.view.Claim.{Claim};
 ghost use Rattle.chord_rule.specs.Claims.{HasThe, HasClaimOn};
+ghost use Rattle.chord_rule.specs.Coming.{ComesWithMessage};
 ghost use Rattle.chord_rule.specs.Kinds.{claimed, unclaimed, consumed, emptied, saw};
 ghost use Rattle.chord_rule.specs.Looks.{HasSeen};
 ghost use Rattle.chord_rule.specs.Tells.{word, a_word, IsNewClaim};
 ghost use Rattle.chord_rule.specs.Ways.{LastSeen};
 ghost use Rattle.chord_word.specs.declared.cells.Cell.TheVariants.{Pending, Claimed, Consumed};
 ghost use Rattle.chord_word.specs.Cells.{WordFits};
-ghost use Rattle.chord_space.specs.Desks.{view, code_of, limits_of, IsDeskOf, IsSameDesk};
+ghost use Rattle.chord_space.specs.Desks.{view, code_of, limits_of, program_of, IsDeskOf, IsSameDesk};
 
 use crate::plays::{Consume, GiveBack, Governed, Hold, ReturnSlot, Take};
 use crate::space::{Desk, Space};
@@ -104,6 +105,7 @@ impl<P: Carry> Space<P> {
         ensures taken { (c : Claim) → HasThe c (view desk.old).claims → c.number ≡ i → view desk.new ≡ emptied (saw (consumed (view desk.old) i (P.entries result)) i (a_word Consumed c.next)) }
         ensures parcel { (c : Claim) → HasThe c (view desk.old).claims → c.number ≡ i → P.arguments result ≡ c.values }
         ensures below { (c : Claim) (f : ℕ) → HasThe c (view desk.old).claims → c.number ≡ i → c.firing ≡ Some f → AllBelow f (P.entries result) }
+        ensures comes { (c : Claim) → HasThe c (view desk.old).claims → c.number ≡ i → ComesWithMessage (program_of self.now) (view desk.old).kept c (P.entries result) }
         ensures task { P.keeps_to result (code_of self.now) (limits_of self.now) }
     {
         let next = self.claimed_next(desk, i);
@@ -116,7 +118,8 @@ impl<P: Carry> Space<P> {
     }
 
     /// Consumes message i, which the desk has claimed, and with which it has drawn a firing. Its parcel comes with the entries that
-    /// it keeps, all drawn before the firing, and holds the values that the firing's entry has of it. The desk's duty on it is gone.
+    /// it keeps, all drawn before the firing, and holds the values that the firing's entry has of it: these entries and what the desk
+    /// kept are two places of the run, and each body in the parcel waits or has ended. The desk's duty on the message is gone.
     pub fn consume(&self, desk: &mut Desk<P>, i: u32) -> P
         requires desk { IsDeskOf self.now desk.old }
         requires bounds { i < self.now.events }
@@ -125,6 +128,7 @@ impl<P: Carry> Space<P> {
         ensures taken { (c : Claim) → HasThe c (view desk.old).claims → c.number ≡ i → view desk.new ≡ emptied (saw (consumed (view desk.old) i (P.entries result)) i (a_word Consumed c.next)) }
         ensures parcel { (c : Claim) → HasThe c (view desk.old).claims → c.number ≡ i → P.arguments result ≡ c.values }
         ensures below { (c : Claim) (f : ℕ) → HasThe c (view desk.old).claims → c.number ≡ i → c.firing ≡ Some f → AllBelow f (P.entries result) }
+        ensures comes { (c : Claim) → HasThe c (view desk.old).claims → c.number ≡ i → ComesWithMessage (program_of self.now) (view desk.old).kept c (P.entries result) }
         ensures task { P.keeps_to result (code_of self.now) (limits_of self.now) }
     {
         self.step_consume::<Brand>(desk, i)

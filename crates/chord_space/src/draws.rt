@@ -1,5 +1,5 @@
 //! Entries and firings are drawn: the one step that is an event of the join machine.
-ghost use Rattle.std.specs.Prelude.{◌≡◌, ◌⊎◌, ℕ, ◌+◌, ◌<◌, ◌≤◌, true, false, List, Some, slice_get, MatchResult, IfOk, IfErr, IsOk};
+ghost use Rattle.std.specs.Prelude.{◌≡◌, ◌⊎◌, ℕ, ◌+◌, ◌<◌, ◌≤◌, true, false, List, ◌∷◌, Some, slice_get, MatchResult, IfOk, IfErr, IsOk};
 ghost use Rattle.chord_base.specs.declared.event.What.TheVariants.{Begun, Fired};
 ghost use Rattle.chord_base.specs.declared.value.Value.{Value};
 ghost use Rattle.chord_base.specs.declared.value.Object as value;
@@ -7,6 +7,7 @@ ghost use Rattle.chord_base.specs.Bodies.{Asks};
 ghost use Rattle.chord_base.specs.Story.{AllBelow, IsOwn};
 ghost use Rattle.chord_rule.specs.Kinds.{entry, drew, fired, was_told, saw_count};
 ghost use Rattle.chord_rule.specs.Claims.{AreClaimed};
+ghost use Rattle.chord_rule.specs.Coming.{IsPlace};
 ghost use Rattle.chord_rule.specs.Made.{Names};
 ghost use Rattle.chord_rule.specs.Tells.{CameNext};
 ghost use Rattle.chord_space.specs.Gives.{MayFire};
@@ -29,15 +30,15 @@ impl<P: Carry> Space<P> {
         requires room { (view desk.old).spent ≡ false }
         requires next { MayDraw self.now desk.old body what.now }
         ensures desk { IsSameDesk desk.old desk.new }
-        ensures drawn { result < self.now.events → (view desk.new ≡ saw_count (drew (view desk.old) result body what.now) (result + 1)) × AllBelow result (view desk.old).kept × ((o : value.Object) → Names what.now o → o.number < result) × IsOfCode (code_of self.now) what.now × CameNext (program_of self.now) (entry result body what.now) }
+        ensures drawn { result < self.now.events → (view desk.new ≡ saw_count (drew (view desk.old) result body what.now) (result + 1)) × AllBelow result (view desk.old).kept × ((o : value.Object) → Names what.now o → o.number < result) × IsOfCode (code_of self.now) what.now × CameNext (program_of self.now) (entry result body what.now) × IsPlace (program_of self.now) (entry result body what.now ∷ (view desk.old).kept) }
         ensures told { self.now.events ≤ result → view desk.new ≡ saw_count (was_told (view desk.old)) (result + 1) }
     {
         self.table.shared.fetch_add::<Draw<J>>(&mut desk.seat, 0, 1)
     }
 
     /// Draws the next number for an entry, which the desk keeps from now on: the next ask of a body by what the desk keeps, or
-    /// the beginning of `Main` by the first desk. The entry came next in the run, and is of the code. `Spent` where the counter had
-    /// reached the limit on events.
+    /// the beginning of `Main` by the first desk. The entry came next in the run, and is of the code; what the desk keeps is a
+    /// place of the run. `Spent` where the counter had reached the limit on events.
     pub fn draw(&self, desk: &mut Desk<P>, body: u32, what: &What) -> Result<u32, Spent>
         requires desk { IsDeskOf self.now desk.old }
         requires room { (view desk.old).spent ≡ false }
@@ -47,6 +48,7 @@ impl<P: Carry> Space<P> {
         ensures above { IfOk result (λ x. AllBelow x (view desk.old).kept × ((o : value.Object) → Names what.now o → o.number < x)) }
         ensures code { IsOk result → IsOfCode (code_of self.now) what.now }
         ensures came { IfOk result (λ x. CameNext (program_of self.now) (entry x body what.now)) }
+        ensures place { IfOk result (λ x. IsPlace (program_of self.now) (entry x body what.now ∷ (view desk.old).kept)) }
     {
         let found = self.step_draw::<Brand>(desk, body, what);
         if found < self.events as u64 {
@@ -70,7 +72,7 @@ impl<P: Carry> Space<P> {
         requires members { MayFire (program_of self.now) (view desk.old).claims chord object members.now }
         ensures desk { IsSameDesk desk.old desk.new }
         ensures drawn { result < self.now.events → AllBelow result (view desk.old).kept × ((js : List ℕ) (vs : List Value) → slice_get ((program_of self.now).chords object.class) chord ≡ Some js → AreClaimed (view desk.old).claims object js members.now vs
-            → (view desk.new ≡ saw_count (fired (view desk.old) result chord object members.now vs) (result + 1)) × CameNext (program_of self.now) (entry result result (Fired chord object members.now vs))) }
+            → (view desk.new ≡ saw_count (fired (view desk.old) result chord object members.now vs) (result + 1)) × CameNext (program_of self.now) (entry result result (Fired chord object members.now vs)) × IsPlace (program_of self.now) (entry result result (Fired chord object members.now vs) ∷ (view desk.old).kept)) }
         ensures told { self.now.events ≤ result → view desk.new ≡ saw_count (was_told (view desk.old)) (result + 1) }
     {
         self.table
@@ -93,7 +95,7 @@ impl<P: Carry> Space<P> {
         requires members { MayFire (program_of self.now) (view desk.old).claims chord object members.now }
         ensures desk { IsSameDesk desk.old desk.new }
         ensures drawn { IfOk result (λ f. (f < self.now.events) × AllBelow f (view desk.old).kept × ((js : List ℕ) (vs : List Value) → slice_get ((program_of self.now).chords object.class) chord ≡ Some js → AreClaimed (view desk.old).claims object js members.now vs
-            → (view desk.new ≡ saw_count (fired (view desk.old) f chord object members.now vs) (f + 1)) × CameNext (program_of self.now) (entry f f (Fired chord object members.now vs)))) }
+            → (view desk.new ≡ saw_count (fired (view desk.old) f chord object members.now vs) (f + 1)) × CameNext (program_of self.now) (entry f f (Fired chord object members.now vs)) × IsPlace (program_of self.now) (entry f f (Fired chord object members.now vs) ∷ (view desk.old).kept))) }
         ensures told { IfErr result (λ _. (c : ℕ) × (self.now.events < c) × (view desk.new ≡ saw_count (was_told (view desk.old)) c)) }
     {
         let number = self.step_draw_firing::<Brand>(desk, chord, object, members);

@@ -1,7 +1,7 @@
 //! Firings are posted with their parcels, and firing_started by whoever finds them ready.
 ghost use Rattle.std.specs.Prelude.{◌≡◌, ◌≢◌, ◌⊎◌, ℕ, ◌<◌, None, Option, IfErr, IfOk};
 ghost use Rattle.chord_rule.specs.Kinds.{posting, posted, firing_started, played, saw};
-ghost use Rattle.chord_rule.specs.Parcels.{Begins};
+ghost use Rattle.chord_rule.specs.Coming.{ComesWithFiring};
 ghost use Rattle.chord_word.specs.declared.cells.Cell.TheVariants.{Ready, Started};
 ghost use Rattle.chord_rule.specs.Tells.{word, a_word};
 ghost use Rattle.chord_space.specs.Desks.{view, code_of, limits_of, program_of, IsDeskOf, IsSameDesk};
@@ -49,7 +49,8 @@ impl<P: Carry> Space<P> {
         requires bounds { f < self.now.events }
         ensures desk { IsSameDesk desk.old desk.new }
         ensures started { IfOk result (λ q. view desk.new ≡ played (saw (firing_started (view desk.old) f (P.entries q)) f (a_word Started None))) }
-        ensures parcel { IfOk result (λ q. Begins f (P.entries q) × P.keeps_to q (code_of self.now) (limits_of self.now)) }
+        ensures parcel { IfOk result (λ q. P.keeps_to q (code_of self.now) (limits_of self.now)) }
+        ensures comes { IfOk result (λ q. ComesWithFiring (program_of self.now) (view desk.old).kept f (P.entries q)) }
         ensures refused { IfErr result (λ c. (c ≢ Ready) × ((next : Option ℕ) × (view desk.new ≡ saw (view desk.old) f (a_word c next)))) }
     {
         let words = &self.table.shared;
@@ -71,13 +72,15 @@ impl<P: Carry> Space<P> {
         }
     }
 
-    /// Starts firing f, whose parcel comes with its entries; or gives the cell that the one exchange read, which is not Ready.
+    /// Starts firing f, whose parcel comes with its entries: the firing's own, and those of bodies that have ended or wait. Or gives
+    /// the cell that the one exchange read, which is not Ready.
     pub fn start(&self, desk: &mut Desk<P>, f: u32) -> Result<P, Cell>
         requires desk { IsDeskOf self.now desk.old }
         requires bounds { f < self.now.events }
         ensures desk { IsSameDesk desk.old desk.new }
         ensures started { IfOk result (λ q. view desk.new ≡ played (saw (firing_started (view desk.old) f (P.entries q)) f (a_word Started None))) }
-        ensures parcel { IfOk result (λ q. Begins f (P.entries q) × P.keeps_to q (code_of self.now) (limits_of self.now)) }
+        ensures parcel { IfOk result (λ q. P.keeps_to q (code_of self.now) (limits_of self.now)) }
+        ensures comes { IfOk result (λ q. ComesWithFiring (program_of self.now) (view desk.old).kept f (P.entries q)) }
         ensures refused { IfErr result (λ c. (c ≢ Ready) × ((next : Option ℕ) × (view desk.new ≡ saw (view desk.old) f (a_word c next)))) }
     {
         self.step_start::<Brand>(desk, f)

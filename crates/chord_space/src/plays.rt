@@ -6,7 +6,7 @@ ghost use Rattle.chord_base.specs.declared.event.Limits.{Limits};
 ghost use Rattle.chord_base.specs.declared.value.Object.{Object};
 ghost use Rattle.chord_code.specs.declared.parts.Parts.{Parts};
 ghost use Rattle.chord_rule.specs.Kinds.{newcomer, gone, lent_one, united};
-ghost use Rattle.chord_rule.specs.Tells.{draws_firing, places, links, arms, claims, holds, unclaims, consumes, empties, posts_out, posts, starts, plays, looks_count, looks_head, looks_cell, looks_place, rests};
+ghost use Rattle.chord_rule.specs.Tells.{draws_firing, places, links, arms, claims, holds, unclaims, consumes, empties, posts_out, posts, starts, plays, finds_place, looks_count, looks_head, looks_cell, looks_place, rests};
 ghost use Rattle.chord_code.specs.Meaning.{code_program};
 ghost use Rattle.chord_space.specs.Ruled.{draws_of_code};
 ghost use Rattle.chord_space.specs.Desks.{no_parts, no_limits, no_object};
@@ -165,7 +165,7 @@ pub struct Consume<P, J> {
 }
 
 impl<P: Carry, J: Governed> Play<Option<P>, View> for Consume<P, J> {
-    ghost then = { consumes P.entries P.arguments (λ q. P.keeps_to q J.parts J.limits) };
+    ghost then = { consumes (code_program J.parts J.limits) P.entries P.arguments (λ q. P.keeps_to q J.parts J.limits) };
 }
 
 /// The empty slot of a consumed message is home again.
@@ -197,7 +197,7 @@ pub struct Start<P, J> {
 }
 
 impl<P: Carry, J: Governed> Play<Option<P>, View> for Start<P, J> {
-    ghost then = { starts P.entries (λ q. P.keeps_to q J.parts J.limits) };
+    ghost then = { starts (code_program J.parts J.limits) P.entries (λ q. P.keeps_to q J.parts J.limits) };
 }
 
 /// The empty slot of a started firing is home again.
@@ -244,6 +244,15 @@ pub struct LayDown<J> {
 
 impl<P, J: Resting> Play<Option<P>, View> for LayDown<J> {
     ghost then = { rests J.message };
+}
+
+/// What a desk keeps is found to be a place of the run.
+pub struct FindPlace<J> {
+    of: PhantomData<J>,
+}
+
+impl<P, J: Governed> Play<Option<P>, View> for FindPlace<J> {
+    ghost then = { finds_place (code_program J.parts J.limits) };
 }
 
 /// The first desk lends a new one.

@@ -9,6 +9,7 @@ use Rattle.chord_word.specs.declared.cells.Cell.TheVariants as a_cell
 use Rattle.chord_word.specs.Cells.{link_of}
 use Rattle.chord_rule.specs.declared.view.Claim.{Claim}
 use Rattle.chord_rule.specs.declared.view.View.{View}
+use Rattle.chord_rule.specs.Coming.{ComesWithMessage}
 use Rattle.chord_rule.specs.Claims.{HasThe}
 use Rattle.chord_base.specs.Story.{AllBelow}
 use Rattle.chord_rule.specs.Kinds as kinds
@@ -30,8 +31,8 @@ store-requires g c = let sized = c.args.self.now.sized in let key = c.args.self.
     let stored : word a_cell.Consumed claim.next ≡ c.message_word-word.result = ap (λ (x : Option ℕ). word a_cell.Consumed x) (sym (c.claimed_next-next.ensures.next claim claimed.2 num)) ∙ sym c.message_word-word.ensures in (
       same.0.0 ∙ c.requires.desk,
       omega arith,
-      subst (λ (y : ℕ × ℕ × ℕ × Parts × Limits). Allows (Ruled g.P.Carry.entries g.P.Carry.arguments g.P.Carry.keeps_to key.code.value key.limits) y.0 seat.id seat.me y.1 (λ _. y.2) (λ _. consumes g.P.Carry.entries g.P.Carry.arguments (λ q. g.P.Carry.keeps_to q y.3 y.4) (step y.0 y.1 y.2 0 none) seat.me y.2)) (λ k. ((sized.0 ∙ sym sized.2) k, 1 + num k, stored k, sym governed.0 k, sym governed.1 k))
-          (under g.P.Carry.entries g.P.Carry.arguments g.P.Carry.keeps_to key.code.value key.limits n seat.id seat.me (1 + claim.number) (λ _. word a_cell.Consumed claim.next) (λ _. consumes g.P.Carry.entries g.P.Carry.arguments keeps (step n (1 + claim.number) (word a_cell.Consumed claim.next) 0 none) seat.me (word a_cell.Consumed claim.next))
+      subst (λ (y : ℕ × ℕ × ℕ × Parts × Limits). Allows (Ruled g.P.Carry.entries g.P.Carry.arguments g.P.Carry.keeps_to key.code.value key.limits) y.0 seat.id seat.me y.1 (λ _. y.2) (λ _. consumes (code_program y.3 y.4) g.P.Carry.entries g.P.Carry.arguments (λ q. g.P.Carry.keeps_to q y.3 y.4) (step y.0 y.1 y.2 0 none) seat.me y.2)) (λ k. ((sized.0 ∙ sym sized.2) k, 1 + num k, stored k, sym governed.0 k, sym governed.1 k))
+          (under g.P.Carry.entries g.P.Carry.arguments g.P.Carry.keeps_to key.code.value key.limits n seat.id seat.me (1 + claim.number) (λ _. word a_cell.Consumed claim.next) (λ _. consumes p g.P.Carry.entries g.P.Carry.arguments keeps (step n (1 + claim.number) (word a_cell.Consumed claim.next) 0 none) seat.me (word a_cell.Consumed claim.next))
           (consume_step g.P.Carry.entries g.P.Carry.arguments keeps p n (omega arith) (omega arith) seat.id seat.me claim claimed.1 live low has claimed.4 d.settled.7)),
     )
 
@@ -127,3 +128,14 @@ returns-clause-task g c = let claimed = c.requires.fired in let claim = claimed.
     let was : Path (Option g.row.P.Denot) (Some told.0) (Some c.unwrap.result) = out_slot i (Some told.0) c.exchange-parcel.result c.store.new.seat.me.1 [] (rest c.store.new.seat.me.1) held c.exchange-parcel.ensures.2 ∙ c.unwrap.ensures in
     let it : told.0 ≡ c.unwrap.result = (let e = was in cc) in
     let governed = c.requires.governed in subst (λ (y : g.row.P.Denot × Parts × Limits). g.P.Carry.keeps_to y.0 y.1 y.2) (λ k. (it k, governed.0 k, governed.1 k)) told.5
+
+pub returns-clause-comes : goal.returns-clause-comes
+returns-clause-comes g c = let claimed = c.requires.fired in let claim = claimed.0 in let f = claimed.1 in let same = c.claimed_next-next.ensures.desk in let i : ℕ = c.args.i in let d = c.claimed_next-next.new.desk in let settled = d.settled in let num = claimed.3 in
+    let has : HasThe claim d.seat.me.0.claims = subst (λ (v : View). HasThe claim v.claims) (sym same.1) claimed.2 in
+    let told = c.store.ensures.2 claim f has (ap (λ (k : ℕ). 1 + k) (sym num)) claimed.4 in
+    let held : c.store.new.seat.me.1 ≡ (i, Some told.0) ∷ [] = told.2 ∙ (λ k. (num k, Some told.0) ∷ settled.0 k) in
+    let was : Path (Option g.row.P.Denot) (Some told.0) (Some c.unwrap.result) = out_slot i (Some told.0) c.exchange-parcel.result c.store.new.seat.me.1 [] (rest c.store.new.seat.me.1) held c.exchange-parcel.ensures.2 ∙ c.unwrap.ensures in
+    let it : told.0 ≡ c.unwrap.result = (let e = was in cc) in
+    let governed = c.requires.governed in
+    λ other there number. let one : claim ≡ other = c.claimed_next-next.ensures.one claim other claimed.2 there num number in
+    subst (λ (y : g.row.P.Denot × Parts × Limits × View × Claim). ComesWithMessage (code_program y.1 y.2) y.3.kept y.4 (g.P.Carry.entries y.0)) (λ k. (it k, governed.0 k, governed.1 k, same.1 k, one k)) told.6

@@ -1,4 +1,4 @@
-use Rattle.std.proofs.Common.{◌≡◌, ℕ, ◌+◌, ◌%◌, ◌^◌, ◌<◌, ◌∙◌, true, false, sym, subst, arith, ⊎_elim}
+use Rattle.std.proofs.Common.{◌≡◌, ℕ, ◌+◌, ◌%◌, ◌^◌, ◌<◌, ◌∙◌, ◌∷◌, true, false, sym, subst, arith, ⊎_elim}
 use mathlib.Core.Option.{none}
 use Rattle.atomic_table.specs.Table.{Allows, step}
 use Rattle.chord_base.specs.Bodies.{Asks}
@@ -11,6 +11,7 @@ use Rattle.chord_code.specs.Meaning.{code_program}
 use Rattle.chord_base.specs.declared.value.Object.{Object}
 use Rattle.chord_rule.specs.Kinds.{entry, drew, saw_count}
 use Rattle.chord_rule.specs.Made.{Names}
+use Rattle.chord_rule.specs.Coming.{IsPlace}
 use Rattle.chord_rule.specs.Whole.{Held}
 use Rattle.chord_rule.specs.Tells.{draws, CameNext}
 use Rattle.chord_rule.proofs.Moves.{draw_step}
@@ -39,5 +40,5 @@ pub returns-clause-drawn : goal.returns-clause-drawn
 returns-clause-drawn g c = λ low. let sized = c.args.self.now.sized in let said = c.requires.entry in let told = c.fetch_add.ensures.2 in let old = c.args.desk.now.seat.me.0 in let x = c.fetch_add.result in
     let inside : x < c.args.self.now.table.shared.table_id.slots = omega arith in let t = told.0.1 inside in
     subst (λ (y : ℕ × What × Parts × Limits).
-    (c.fetch_add.new.seat.me.0 ≡ saw_count (drew old x y.0 y.1) (x + 1)) × AllBelow x old.kept × ((o : Object) → Names y.1 o → o.number < x) × IsOfCode y.2 y.1 × CameNext (code_program y.2 y.3) (entry x y.0 y.1))
-    (λ i. (said.0 i, said.1 i, said.2 i, said.3 i)) (t.0, t.1, t.2, told.1 inside, t.3)
+    (c.fetch_add.new.seat.me.0 ≡ saw_count (drew old x y.0 y.1) (x + 1)) × AllBelow x old.kept × ((o : Object) → Names y.1 o → o.number < x) × IsOfCode y.2 y.1 × CameNext (code_program y.2 y.3) (entry x y.0 y.1) × IsPlace (code_program y.2 y.3) (entry x y.0 y.1 ∷ old.kept))
+    (λ i. (said.0 i, said.1 i, said.2 i, said.3 i)) (t.0, t.1, t.2, told.1 inside, t.3, t.4)

@@ -8,7 +8,7 @@ use Rattle.chord_code.specs.declared.parts.Parts.{Parts}
 use Rattle.chord_code.specs.Meaning.{code_program}
 use Rattle.chord_word.specs.Cells.{link_of, IsNoCell}
 use Rattle.chord_word.proofs.Packing.{some_cell}
-use Rattle.chord_rule.specs.Parcels.{Begins}
+use Rattle.chord_rule.specs.Coming.{ComesWithFiring}
 use Rattle.chord_rule.specs.declared.view.View.{View}
 use Rattle.chord_rule.specs.Kinds.{firing_started, played, saw}
 use Rattle.chord_rule.specs.Tells.{word, a_word, starts, plays}
@@ -26,9 +26,9 @@ compare_exchange-found-requires g c = let sized = c.args.self.now.sized in let k
     let p = code_program key.code.value key.limits in let keeps : g.row.P.Denot → Type 0 = λ q. g.P.Carry.keeps_to q key.code.value key.limits in (
       c.requires.desk,
       omega arith,
-      subst (λ (y : ℕ × ℕ × ℕ × Parts × Limits). Allows (Ruled g.P.Carry.entries g.P.Carry.arguments g.P.Carry.keeps_to key.code.value key.limits) y.0 seat.id seat.me (1 + f) (λ x. either (eqb x y.1) y.2 x) (starts g.P.Carry.entries (λ q. g.P.Carry.keeps_to q y.3 y.4) (step y.0 (1 + f) y.1 y.2 none) seat.me))
+      subst (λ (y : ℕ × ℕ × ℕ × Parts × Limits). Allows (Ruled g.P.Carry.entries g.P.Carry.arguments g.P.Carry.keeps_to key.code.value key.limits) y.0 seat.id seat.me (1 + f) (λ x. either (eqb x y.1) y.2 x) (starts (code_program y.3 y.4) g.P.Carry.entries (λ q. g.P.Carry.keeps_to q y.3 y.4) (step y.0 (1 + f) y.1 y.2 none) seat.me))
           (λ k. ((sized.0 ∙ sym sized.2) k, sym c.firing_word-ready.ensures k, sym c.firing_word.ensures k, sym governed.0 k, sym governed.1 k))
-          (under g.P.Carry.entries g.P.Carry.arguments g.P.Carry.keeps_to key.code.value key.limits n seat.id seat.me (1 + f) (λ x. either (eqb x (word a_cell.Ready None)) (word a_cell.Started None) x) (starts g.P.Carry.entries keeps (step n (1 + f) (word a_cell.Ready None) (word a_cell.Started None) none) seat.me) (start_step g.P.Carry.entries g.P.Carry.arguments keeps p n (omega arith) (omega arith) seat.id seat.me f c.args.desk.now.settled.6 (omega arith) c.args.desk.now.settled.5)),
+          (under g.P.Carry.entries g.P.Carry.arguments g.P.Carry.keeps_to key.code.value key.limits n seat.id seat.me (1 + f) (λ x. either (eqb x (word a_cell.Ready None)) (word a_cell.Started None) x) (starts p g.P.Carry.entries keeps (step n (1 + f) (word a_cell.Ready None) (word a_cell.Started None) none) seat.me) (start_step g.P.Carry.entries g.P.Carry.arguments keeps p n (omega arith) (omega arith) seat.id seat.me f c.args.desk.now.settled.6 (omega arith) c.args.desk.now.settled.5)),
     )
 
 pub exchange-parcel-requires : goal.exchange-parcel-requires
@@ -88,7 +88,13 @@ pub returns-then-found-ready-clause-parcel : goal.returns-then-found-ready-claus
 returns-then-found-ready-clause-parcel g c = let f : ℕ = c.args.f in let told = (c.compare_exchange-found.ensures.2 f refl).0 c.if-found-ready.true in let governed = c.requires.governed in
     let was : Path (Option g.row.P.Denot) (Some told.0) (Some c.unwrap.result) = out_slot f (Some told.0) c.exchange-parcel.result c.compare_exchange-found.new.seat.me.1 c.args.desk.now.seat.me.1 (rest c.compare_exchange-found.new.seat.me.1) told.2 c.exchange-parcel.ensures.2 ∙ c.unwrap.ensures in
     let same : told.0 ≡ c.unwrap.result = (let e = was in cc) in
-    (subst (λ (q : g.row.P.Denot). Begins f (g.P.Carry.entries q)) same told.3, subst (λ (y : g.row.P.Denot × Parts × Limits). g.P.Carry.keeps_to y.0 y.1 y.2) (λ k. (same k, governed.0 k, governed.1 k)) told.4)
+    subst (λ (y : g.row.P.Denot × Parts × Limits). g.P.Carry.keeps_to y.0 y.1 y.2) (λ k. (same k, governed.0 k, governed.1 k)) told.3
+
+pub returns-then-found-ready-clause-comes : goal.returns-then-found-ready-clause-comes
+returns-then-found-ready-clause-comes g c = let f : ℕ = c.args.f in let told = (c.compare_exchange-found.ensures.2 f refl).0 c.if-found-ready.true in let governed = c.requires.governed in
+    let was : Path (Option g.row.P.Denot) (Some told.0) (Some c.unwrap.result) = out_slot f (Some told.0) c.exchange-parcel.result c.compare_exchange-found.new.seat.me.1 c.args.desk.now.seat.me.1 (rest c.compare_exchange-found.new.seat.me.1) told.2 c.exchange-parcel.ensures.2 ∙ c.unwrap.ensures in
+    let same : told.0 ≡ c.unwrap.result = (let e = was in cc) in
+    subst (λ (y : g.row.P.Denot × Parts × Limits). ComesWithFiring (code_program y.1 y.2) c.args.desk.now.seat.me.0.kept f (g.P.Carry.entries y.0)) (λ k. (same k, governed.0 k, governed.1 k)) told.4
 
 pub invariant_of-desk-else-found-ready : goal.invariant_of-desk-else-found-ready
 invariant_of-desk-else-found-ready g c = let settled = c.args.desk.now.settled in let missed = (c.compare_exchange-found.ensures.2 c.args.f refl).1 c.if-found-ready.false in
