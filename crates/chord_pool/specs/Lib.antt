@@ -2,5 +2,7 @@
 
 -- ## What only the code's own contracts use
 
+-- workers of one run
+pub mod Players
 -- the entries that the parcels at home keep
 pub mod Homes

@@ -5,3 +5,7 @@
 #![tactic(auto)]
 
 mod closing;
+mod player;
+mod run;
+mod shared;
+mod threads;
