@@ -2,3 +2,4 @@ pub mod Gathering
 pub mod Homes
 pub mod Journals
 pub mod Ended
+pub mod Handing

@@ -23,7 +23,7 @@ pub(crate) struct Player {
 
 /// Looks at the cell of number i, and starts its firing where it is ready. Whether it plays it now.
 fn try_start<'a, G: Gate>(run: &Run<'a>, worker: &mut Worker, i: u32, gate: &G) -> bool
-    requires run { IsOneRun run.now }
+    requires run { IsOneRun run.now.space.now run.now.code.now run.now.limits.now }
     requires worker { IsFit run.now.space.now worker.old }
     requires idle { worker.old.task ≡ None }
     requires bounds { i < run.now.space.now.events }
@@ -52,7 +52,7 @@ fn sweep<'a, G: Gate>(
     below: u32,
     gate: &G,
 ) -> Option<u32>
-    requires run { IsOneRun run.now }
+    requires run { IsOneRun run.now.space.now run.now.code.now run.now.limits.now }
     requires worker { IsFit run.now.space.now worker.old }
     requires idle { worker.old.task ≡ None }
     requires bounds { below ≤ run.now.space.now.events }
@@ -70,7 +70,7 @@ fn sweep<'a, G: Gate>(
 
 /// Looks for a firing from where the last look ended, all round. Whether it plays one now.
 fn find_work<'a, G: Gate>(run: &Run<'a>, worker: &mut Worker, place: &mut u32, gate: &G) -> bool
-    requires run { IsOneRun run.now }
+    requires run { IsOneRun run.now.space.now run.now.code.now run.now.limits.now }
     requires worker { IsFit run.now.space.now worker.old }
     requires idle { worker.old.task ≡ None }
     ensures worker { IsFit run.now.space.now worker.new }
@@ -95,7 +95,7 @@ fn find_work<'a, G: Gate>(run: &Run<'a>, worker: &mut Worker, place: &mut u32, g
 impl Player {
     /// One step of the task. Whether the worker goes on.
     fn advance<'a, G: Gate>(&mut self, alloc: Global, run: &Run<'a>, gate: &G) -> bool
-        requires run { IsOneRun run.now }
+        requires run { IsOneRun run.now.space.now run.now.code.now run.now.limits.now }
         requires worker { IsFit run.now.space.now self.old.worker }
         requires task { self.old.worker.task ≢ None }
         requires sane { self.old.failed ≡ false }
@@ -124,7 +124,7 @@ impl Player {
 
     /// Looks for a firing to play. Whether the worker goes on: it does while it finds one, or another is at work.
     fn idle<'a, G: Gate>(&mut self, run: &Run<'a>, gate: &G, pause: &Backoff) -> bool
-        requires run { IsOneRun run.now }
+        requires run { IsOneRun run.now.space.now run.now.code.now run.now.limits.now }
         requires worker { IsFit run.now.space.now self.old.worker }
         requires idle { self.old.worker.task ≡ None }
         requires sane { self.old.failed ≡ false }
@@ -154,7 +154,7 @@ impl Player {
         gate: &G,
         pause: &Backoff,
     ) -> bool
-        requires run { IsOneRun run.now }
+        requires run { IsOneRun run.now.space.now run.now.code.now run.now.limits.now }
         requires may { MayPlay run.now.space.now self.old }
         requires sane { self.old.failed ≡ false }
         ensures may { MayPlay run.now.space.now self.new }
@@ -184,7 +184,7 @@ pub(crate) fn work<'a, R: Wait, G: Gate>(
     player: Player,
     gate: &G,
 ) -> Player
-    requires run { IsOneRun run.now }
+    requires run { IsOneRun run.now.space.now run.now.code.now run.now.limits.now }
     requires may { MayPlay run.now.space.now player }
     ensures played { HasPlayed run.now.space.now result }
     ensures on { PlaysOn player result }

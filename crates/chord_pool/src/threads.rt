@@ -44,7 +44,7 @@ fn all<'a, R: Threads + Wait + Sync, G: Gate + Sync>(
     players: Vec<Player>,
     gate: &G,
 ) -> Vec<Player>
-    requires run { IsOneRun run.now }
+    requires run { IsOneRun run.now.space.now run.now.code.now run.now.limits.now }
     requires may { MayAllPlay run.now.space.now players.items }
     ensures played { HaveAllPlayed run.now.space.now result.items }
     ensures count { length result.items ≡ length players.items }
@@ -54,16 +54,17 @@ fn all<'a, R: Threads + Wait + Sync, G: Gate + Sync>(
     let Some(one) = last(run, &mut players) else {
         return players;
     };
+    let (space, code, limits, shared) = (run.space, run.code, run.limits, run.shared);
     let (one, others) = join(
         rt,
         move || -> Player
-            requires { IsOneRun run.now × MayPlay run.now.space.now one }
-            ensures { HasPlayed run.entry.now.space.now result }
-        { work(rt, alloc, run, one, gate) },
+            requires { IsOneRun space.now code.now limits.now × MayPlay space.now one }
+            ensures { HasPlayed space.entry.now result }
+        { work(rt, alloc, &Run { space, code, limits, shared }, one, gate) },
         move || -> Vec<Player>
-            requires { IsSync R.row × IsOneRun run.now × MayAllPlay run.now.space.now players.items }
-            ensures { HaveAllPlayed run.entry.now.space.now result.items × (length result.items ≡ length players.items) × (vec_capacity players ≤ vec_capacity result) }
-        { all(rt, alloc, run, players, gate) },
+            requires { IsSync R.row × IsOneRun space.now code.now limits.now × MayAllPlay space.now players.items }
+            ensures { HaveAllPlayed space.entry.now result.items × (length result.items ≡ length players.items) × (vec_capacity players ≤ vec_capacity result) }
+        { all(rt, alloc, &Run { space, code, limits, shared }, players, gate) },
     );
     back(others, one)
 }
@@ -77,21 +78,22 @@ pub(crate) fn share<'a, R: Threads + Wait + Sync, G: Gate + Sync>(
     others: Vec<Player>,
     gate: &G,
 ) -> (Player, Vec<Player>)
-    requires run { IsOneRun run.now }
+    requires run { IsOneRun run.now.space.now run.now.code.now run.now.limits.now }
     requires main { MayPlay run.now.space.now main }
     requires others { MayAllPlay run.now.space.now others.items }
     ensures main { HasPlayed run.now.space.now result.0 × PlaysOn main result.0 }
     ensures others { HaveAllPlayed run.now.space.now result.1.items × (length result.1.items ≡ length others.items) }
 {
+    let (space, code, limits, shared) = (run.space, run.code, run.limits, run.shared);
     join(
         rt,
         move || -> Player
-            requires { IsOneRun run.now × MayPlay run.now.space.now main }
-            ensures { HasPlayed run.entry.now.space.now result × PlaysOn main result }
-        { work(rt, alloc, run, main, gate) },
+            requires { IsOneRun space.now code.now limits.now × MayPlay space.now main }
+            ensures { HasPlayed space.entry.now result × PlaysOn main result }
+        { work(rt, alloc, &Run { space, code, limits, shared }, main, gate) },
         move || -> Vec<Player>
-            requires { IsSync R.row × IsOneRun run.now × MayAllPlay run.now.space.now others.items }
-            ensures { HaveAllPlayed run.entry.now.space.now result.items × (length result.items ≡ length others.items) }
-        { all(rt, alloc, run, others, gate) },
+            requires { IsSync R.row × IsOneRun space.now code.now limits.now × MayAllPlay space.now others.items }
+            ensures { HaveAllPlayed space.entry.now result.items × (length result.items ≡ length others.items) }
+        { all(rt, alloc, &Run { space, code, limits, shared }, others, gate) },
     )
 }
