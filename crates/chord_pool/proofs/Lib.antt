@@ -3,3 +3,4 @@ pub mod Homes
 pub mod Journals
 pub mod Ended
 pub mod Handing
+pub mod Crews

@@ -4,5 +4,7 @@
 
 -- workers of one run
 pub mod Players
+-- when the first worker may close the table
+pub mod Ending
 -- the entries that the parcels at home keep
 pub mod Homes

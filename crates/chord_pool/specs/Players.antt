@@ -53,3 +53,19 @@ MayAllPlay s (x ∷ xs) = MayPlay s x × MayAllPlay s xs
 abbrev pub HaveAllPlayed : Space Parcel → List Player → Type 0
 HaveAllPlayed s [] = Unit {0}
 HaveAllPlayed s (x ∷ xs) = HasPlayed s x × HaveAllPlayed s xs
+
+-- the first worker, and the others that it has hired: each may go on
+pub record IsCrew (s : Space Parcel) (main : Worker) (others : List Player) : Type 0 where
+  pub settled : IsSettled s main
+  pub first : (view main.desk).first ≡ true
+  pub drawn : (view main.desk).drawn ≡ true
+  pub lent : (view main.desk).lent ≡ length others
+  pub all : MayAllPlay s others
+
+-- the first worker, and others that have come back from their threads
+pub record IsBack (s : Space Parcel) (main : Worker) (others : List Player) : Type 0 where
+  pub stopped : HasStopped s main
+  pub first : (view main.desk).first ≡ true
+  pub drawn : (view main.desk).drawn ≡ true
+  pub lent : (view main.desk).lent ≡ length others
+  pub all : HaveAllPlayed s others

@@ -5,7 +5,13 @@
 #![tactic(auto)]
 
 mod closing;
+mod crew;
+mod ending;
 mod player;
+mod pool;
 mod run;
 mod shared;
 mod threads;
+
+pub use chord_worker::Gate;
+pub use pool::play;
