@@ -4,3 +4,4 @@ pub mod Journals
 pub mod Ended
 pub mod Handing
 pub mod Crews
+pub mod Endings

@@ -1,0 +1,46 @@
+-- What the first worker knows of the cells that it looked at, and when it may close.
+use Rattle.std.proofs.Common.{◌≡◌, ◌≢◌, inl, inr, ⊎_elim, ℕ, ◌+◌, ◌<◌, true, false, List, [], Option, Some, None, min, refl, sym, ap, ◌∙◌, subst, arith}
+use mathlib.Core.Logic.{dite}
+use mathlib.Core.Path.{Path}
+use native.Mathlib.Decide.{ℕ_discrete}
+use Rattle.chord_rule.specs.declared.view.View.{View}
+use Rattle.chord_rule.specs.Closing.{IsAsleep, MayClose}
+use Rattle.chord_rule.specs.Hands.{IsUnarmed}
+use Rattle.chord_rule.specs.Numbers.{HasNumber}
+use Rattle.chord_rule.specs.Ways.{LastSeen}
+use Rattle.chord_space.specs.declared.space.Space.{Space}
+use Rattle.chord_space.specs.Desks.{view}
+use Rattle.chord_task.specs.declared.parcel.Parcel.{Parcel}
+use Rattle.chord_word.specs.declared.cells.Word.{Word}
+use Rattle.chord_worker.specs.declared.worker.Worker.{Worker}
+use Rattle.chord_worker.specs.Resting.{IsSameRole, IsSeen}
+use Rattle.chord_pool.specs.Players.{IsFit}
+use Rattle.chord_pool.specs.Ending.{AreAwake}
+
+-- the role of a desk stays over two steps
+pub role_stays : (u v w : View) → IsSameRole u v → IsSameRole v w → IsSameRole u w
+role_stays u v w a b = record { first = b.first ∙ a.first; lent = b.lent ∙ a.lent; splits = b.splits ∙ a.splits; drawn = λ d. b.drawn (a.drawn d) }
+
+-- one more cell was looked at, and need not be looked after
+pub awake_more : (i : ℕ) (v w : View) (x : Word) → AreAwake i v.looked.seen → IsSeen v w i x → (IsAsleep x.cell → ⊥) → AreAwake (i + 1) w.looked.seen
+awake_more i v w x was look awake k low = dite (ℕ_discrete k i)
+    (λ e. (x, subst (LastSeen k x) (sym look.seen) (inl (e, refl)), awake))
+    (λ ne. let r = was k (omega (arith, low, ne)) in (r.0, subst (LastSeen k r.0) (sym look.seen) (inr (ne, r.1)), r.2))
+
+-- the first worker, alone and with nothing to play, may close where it looked at the counter, which is below the limit, and at each cell below
+pub may_close : (s : Space Parcel) (w : Worker) (n c count : ℕ) → IsFit s w → (view w.desk).first ≡ true → (view w.desk).drawn ≡ true → (view w.desk).lent ≡ 0
+    → (view w.desk).looked.count ≡ Some c → count ≡ min c n → count ≢ n → AreAwake count (view w.desk).looked.seen → MayClose (view w.desk)
+may_close s w n c count fit first drawn lent counted least below awake = record {
+  first = first;
+  begun = drawn;
+  lent = lent;
+  duties = fit.rest.duties fit.room;
+  claims = fit.rest.free.claims;
+  in_hand = λ i. ⊎_elim (λ h. subst (HasNumber i) fit.rest.free.fresh h) (⊎_elim (λ h. not_some i (sym w.desk.settled.3 ∙ h)) (λ h. not_some i (sym fit.rest.free.flight ∙ h)));
+  count = c;
+  counted = counted;
+  seen = λ i l. awake i (omega (arith, l, least, below));
+}
+  where
+    not_some : (i : ℕ) → Path (Option ℕ) None (Some i) → ⊥
+    not_some i e = cc
