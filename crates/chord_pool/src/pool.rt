@@ -42,7 +42,7 @@ fn play_all<'a, R: Threads + Wait + Sync, G: Gate + Sync>(
     requires workers { (1 ≤ workers) × (workers ≤ 64) }
     ensures over { IfOk result (λ last. IsOver run.now.space.now last) }
 {
-    let mut main = Worker::main(alloc, run.space, run.code, run.limits, desk, gate)?;
+    let mut main = Worker::main(alloc, run.space, run.code, run.limits, desk)?;
     let others = hire(alloc, run.space, &mut main, workers)?;
     let main = Player {
         worker: main,

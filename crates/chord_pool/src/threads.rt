@@ -90,7 +90,10 @@ pub(crate) fn share<'a, R: Threads + Wait + Sync, G: Gate + Sync>(
         move || -> Player
             requires { IsOneRun space.now code.now limits.now × MayPlay space.now main }
             ensures { HasPlayed space.entry.now result × PlaysOn main result }
-        { work(rt, alloc, &Run { space, code, limits, shared }, main, gate) },
+        {
+            gate.started(0);
+            work(rt, alloc, &Run { space, code, limits, shared }, main, gate)
+        },
         move || -> Vec<Player>
             requires { IsSync R.row × IsOneRun space.now code.now limits.now × MayAllPlay space.now others.items }
             ensures { HaveAllPlayed space.entry.now result.items × (length result.items ≡ length others.items) }
