@@ -1,14 +1,14 @@
--- One more worker is hired.
+-- The crew of a run: at the beginning, with one more worker, and back from its threads.
 use Rattle.std.proofs.Common.{◌≡◌, ◌≢◌, ◌+◌, ℕ, true, false, List, [], ◌∷◌, ◌++◌, length, length-append, None, sym, ap, ◌∙◌, arith}
 use Rattle.chord_rule.specs.declared.view.View.{View}
-use Rattle.chord_rule.specs.Kinds.{lent_one}
+use Rattle.chord_rule.specs.Kinds.{lent_one, newcomer_first}
 use Rattle.chord_space.specs.declared.space.Space.{Space}
 use Rattle.chord_space.specs.Desks.{view}
 use Rattle.chord_task.specs.declared.parcel.Parcel.{Parcel}
 use Rattle.chord_worker.specs.declared.worker.Worker.{Worker}
-use Rattle.chord_worker.specs.Resting.{IsAtRest}
+use Rattle.chord_worker.specs.Resting.{IsAtRest, IsSameRole}
 use Rattle.chord_pool.specs.declared.player.Player.{Player}
-use Rattle.chord_pool.specs.Players.{IsSettled, IsCrew}
+use Rattle.chord_pool.specs.Players.{IsSettled, HasPlayed, PlaysOn, HaveAllPlayed, IsCrew, IsBack}
 use Rattle.chord_pool.proofs.Handing.{may_more}
 
 -- the first worker has lent one desk more, to a worker with nothing to play
@@ -30,3 +30,27 @@ hired s main after others one crew splits rest task lent one_rest one_task =
       omega (arith, count, long, splits),
       long,
     )
+
+-- at the beginning the first worker is a crew of its own
+pub begins : (s : Space Parcel) (v : View) (main : Worker) → v ≡ newcomer_first → IsAtRest s main → IsSameRole v (view main.desk) → (view main.desk).drawn ≡ true → ((view main.desk).spent ≡ true → main.task ≡ None) → IsCrew s main [] × ((view main.desk).splits ≡ 0)
+begins s v main new rest role drawn over = (
+  record {
+    settled = record { rest = rest; over = over };
+    first = role.first ∙ ap (λ (x : View). x.first) new;
+    drawn = drawn;
+    lent = role.lent ∙ ap (λ (x : View). x.lent) new;
+    all = tt;
+  },
+  role.splits ∙ ap (λ (x : View). x.splits) new,
+)
+
+-- the crew has come back from its threads
+pub come_back : (s : Space Parcel) (main back : Player) (others backs : List Player) → IsCrew s main.worker others → HasPlayed s back → PlaysOn main back → HaveAllPlayed s backs → length backs ≡ length others → back.failed ≡ false → IsBack s back.worker backs
+come_back s main back others backs crew played on all count sane =
+    let role = on sane in record {
+      stopped = played sane;
+      first = role.first ∙ crew.first;
+      drawn = role.drawn crew.drawn;
+      lent = role.lent ∙ crew.lent ∙ sym count;
+      all = all;
+    }

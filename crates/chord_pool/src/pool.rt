@@ -1,5 +1,5 @@
 //! Many threads play one run.
-ghost use Rattle.std.specs.Prelude.{◌≡◌, ◌⊎◌, ℕ, ◌<◌, ◌≤◌, IfOk, length};
+ghost use Rattle.std.specs.Prelude.{◌≡◌, ◌⊎◌, ℕ, ◌<◌, ◌≤◌, false, [], IfOk, length};
 ghost use Rattle.chord_base.specs.declared.event.Entry.{Entry};
 ghost use Rattle.chord_base.specs.Machine.{IsRun, IsComplete};
 ghost use Rattle.chord_base.specs.Story.{IsIn};
@@ -8,8 +8,8 @@ ghost use Rattle.chord_code.specs.Sound.{IsSoundCode};
 ghost use Rattle.chord_rule.specs.Kinds.{newcomer_first};
 ghost use Rattle.chord_space.specs.Desks.{view, code_of, limits_of, IsDeskOf};
 ghost use Rattle.chord_space.specs.Ends.{closing_view};
-ghost use Rattle.chord_pool.specs.Players.{IsOneRun};
-ghost use Rattle.chord_pool.specs.Ending.{IsOver};
+ghost use Rattle.chord_pool.specs.Players.{IsOneRun, IsCrew, IsBack};
+ghost use Rattle.chord_pool.specs.Ending.{IsLast, IsOver};
 
 use crate::closing::finish;
 use crate::crew::{hire, take_all};
@@ -28,6 +28,53 @@ use std::alloc::{AllocError, Global};
 use std::sync::Wait;
 use std::thread::Threads;
 
+/// The first worker, which has taken in those that have come back.
+///
+/// # Errors
+///
+/// `AllocError` where one of them met want of memory, and where there is no memory for their entries side by side.
+fn taken_in(
+    space: &Space<Parcel>,
+    main: Player,
+    others: Vec<Player>,
+) -> Result<Worker, AllocError>
+    requires back { main.failed ≡ false → IsBack space.now main.worker others.items }
+    ensures last { IfOk result (λ last. IsLast space.now last) }
+{
+    if main.failed {
+        return Err(AllocError);
+    }
+    let mut last = main.worker;
+    take_all(space, &mut last, others)?;
+    Ok(last)
+}
+
+/// The first worker and those that it hires play, each at a thread, and it takes them in.
+fn play_together<'a, R: Threads + Wait + Sync, G: Gate + Sync>(
+    rt: &R,
+    alloc: Global,
+    run: &Run<'a>,
+    main: Worker,
+    workers: u32,
+    gate: &G,
+) -> Result<Worker, AllocError>
+    requires run { IsOneRun run.now.space.now run.now.code.now run.now.limits.now }
+    requires main { IsCrew run.now.space.now main [] × ((view main.desk).splits ≡ 0) }
+    requires workers { (1 ≤ workers) × (workers ≤ 64) }
+    ensures last { IfOk result (λ last. IsLast run.now.space.now last) }
+{
+    let mut main = main;
+    let others = hire(alloc, run.space, &mut main, workers)?;
+    let main = Player {
+        worker: main,
+        failed: false,
+        place: 0,
+    };
+    let (main, others) = share(rt, alloc, run, main, others, gate);
+    let last = taken_in(run.space, main, others)?;
+    Ok(last)
+}
+
 /// All workers play, until the first one is alone and the run is over.
 fn play_all<'a, R: Threads + Wait + Sync, G: Gate + Sync>(
     rt: &R,
@@ -42,19 +89,8 @@ fn play_all<'a, R: Threads + Wait + Sync, G: Gate + Sync>(
     requires workers { (1 ≤ workers) × (workers ≤ 64) }
     ensures over { IfOk result (λ last. IsOver run.now.space.now last) }
 {
-    let mut main = Worker::main(alloc, run.space, run.code, run.limits, desk)?;
-    let others = hire(alloc, run.space, &mut main, workers)?;
-    let main = Player {
-        worker: main,
-        failed: false,
-        place: 0,
-    };
-    let (main, others) = share(rt, alloc, run, main, others, gate);
-    if main.failed {
-        return Err(AllocError);
-    }
-    let mut last = main.worker;
-    take_all(run.space, &mut last, others)?;
+    let main = Worker::main(alloc, run.space, run.code, run.limits, desk)?;
+    let last = play_together(rt, alloc, run, main, workers, gate)?;
     let last = play_alone(rt, alloc, run, last, gate)?;
     Ok(last)
 }
