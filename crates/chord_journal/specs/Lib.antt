@@ -4,6 +4,8 @@
 
 -- the text of a journal: a header, and a line for each entry
 pub mod Text
+-- how many entries of each kind a journal has
+pub mod Counts
 -- what the types of an entry's parts hold of them
 pub mod Typed
 -- the least line of bytes that keeps them from being the text of a journal

@@ -65,7 +65,7 @@ asks_seen : (p : Program) (h : List Entry) (b : ℕ) (w : What) → Asks p h b w
 asks_seen p h b w a e = let z : asked p Absent ≡ Some _ = sym (ap (asked p) e) ∙ a.1 in cc
 
 -- a body that does anything in a history that is told has its first entry there
-begins_there : (p : Program) (h : List Entry) (b : ℕ) → IsTold p h → (doing p h b ≡ Absent) ⊎ Begins b h
+pub begins_there : (p : Program) (h : List Entry) (b : ℕ) → IsTold p h → (doing p h b ≡ Absent) ⊎ Begins b h
 begins_there p [] b t = inl refl
 begins_there p (e ∷ h) b t = elim (either (e.body == b)) [
   | inl y ↦ inr (own_begins (begins_there p h b t.0) e.what (eqb-true e.body b y) t.2)

@@ -1,16 +1,17 @@
 -- What a desk keeps, and what comes to it, are places of the run.
-use Rattle.std.proofs.Common.{◌≡◌, ◌⊎◌, inl, inr, ℕ, ◌+◌, ◌*◌, true, false, List, [], ◌∷◌, Option, Some, None, refl, sym, ap, ◌∙◌, subst, arith}
+use Rattle.std.proofs.Common.{◌≡◌, ◌⊎◌, inl, inr, ⊎_elim, ℕ, ◌+◌, ◌*◌, ◌==◌, Bool, true, false, List, [], ◌∷◌, Option, Some, None, refl, sym, ap, ◌∙◌, subst, arith}
 use mathlib.Core.Path.{Path}
 use mathlib.Core.Option.{some}
 use lib.ListN.{get_elem?}
 use Rattle.chord_base.specs.Meaning.{Program}
 use Rattle.chord_base.specs.Machine.{IsPast}
 use Rattle.chord_base.specs.Messages.{Message, message_of, IsCall}
-use Rattle.chord_base.specs.Story.{IsIn, IsSound, HasKind}
+use Rattle.chord_base.specs.Story.{IsIn, IsSound, HasKind, kept}
 use Rattle.chord_base.specs.declared.value.Value as value
 use Rattle.chord_base.specs.declared.event.What.{What}
 use Rattle.chord_base.specs.declared.event.What.TheVariants.{Begun, Made, Sent, Called, Printed, Fired, Ended}
 use Rattle.chord_base.specs.declared.event.Entry.{Entry}
+use Rattle.chord_base.proofs.Waits.{either}
 use Rattle.chord_word.specs.declared.cells.Cell.TheVariants as a_cell
 use Rattle.chord_rule.specs.declared.view.Claim.{Claim}
 use Rattle.chord_rule.specs.declared.view.View.{View}
@@ -42,6 +43,14 @@ called p e (Made c) x is kind says sync = (let z : Path (Option Message) None (S
 called p e (Printed t) x is kind says sync = (let z : Path (Option Message) None (Some x) = says in cc)
 called p e (Fired k o ms vs) x is kind says sync = (let z : Path (Option Message) None (Some x) = says in cc)
 called p e (Ended y) x is kind says sync = (let z : Path (Option Message) None (Some x) = says in cc)
+
+-- an entry of a history that is kept in a place is an entry of the history
+kept_there : (keep : ℕ → Bool) (h : List Entry) (e : Entry) → IsIn e (kept keep h) → IsIn e h
+kept_there keep [] e there = absurd there
+kept_there keep (x ∷ h) e there = elim (either (keep x.number)) [
+  | inl y ↦ ⊎_elim (λ same. inl same) (λ k. inr (kept_there keep h e k)) (rw y at there)
+  | inr o ↦ inr (kept_there keep h e (rw o at there))
+]
 
 module _ {P : Type 0} (entries : P → List Entry) (arguments : P → List value.Value) (keeps_to : P → Type 0) (p : Program) (n : ℕ) (m : Moment P) (u : Unseen) (law : StandsFor entries arguments keeps_to p n m u) where
   -- what a desk keeps is a place of the run
@@ -82,6 +91,13 @@ module _ {P : Type 0} (entries : P → List Entry) (arguments : P → List value
       let sent = law.parcels.sent c.number q (claimed_message c) home says in record {
         places = parcel_place id v at c.number q home;
         parked = sent.parked;
+        sent = λ plain e there call.
+            let inside : IsIn e u.journal = kept_there (λ k. law.keeping.merged.at k == parcel c.number) u.journal e (subst (IsIn e) (sym (law.keeping.merged.keeps (parcel c.number) ∙ parcel_keeps entries m.views m.homes c.number ∙ ap (at_home entries) home)) there) in
+            let what : what_at c.number u.journal ≡ Some (Called call.1.0 call.1.1 call.1.2) = subst (λ (k : ℕ). what_at k u.journal ≡ Some (Called call.1.0 call.1.1 call.1.2)) call.0 ((waiting.what_is p u.journal e law.keeping.merged.past inside).0 ∙ ap Some call.1.3) in
+            let message : ◌≡◌ {A = Option Message} (Some (record { object = call.1.0; method = call.1.1; arguments = call.1.2 })) (Some (claimed_message c)) = sym (ap message_in what) ∙ says in
+            let same : record { object = call.1.0; method = call.1.1; arguments = call.1.2 } ≡ claimed_message c = cc in
+            let kind : HasKind p (Called call.1.0 call.1.1 call.1.2) = subst (HasKind p) call.1.3 (in_run p sound u.journal law.keeping.merged.past e inside) in
+            let z : true ≡ false = sym kind ∙ ap (λ (y : Message). p.is_sync y.object.class y.method) same ∙ plain in cc;
         call = λ sync. let t = call_in sound c.number (claimed_message c) (what_at c.number u.journal) refl says sync in (t.0, sent.call t.0 t.1 t.2, t.2);
       }
 

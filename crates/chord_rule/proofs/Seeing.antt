@@ -93,6 +93,7 @@ module _ {P : Type 0} (entries : P → List Entry) (arguments : P → List value
         room = subst (λ (y : View). HasRoom n y.looked.ways) (sym is) (way_room n u.order (looked_cell me.0 i (m.cells i)).looked.ways (room_of m u id me.0 (looked_cell me.0 i (m.cells i)) at after));
         linked = λ t. let b = on_way_bag m u whole at me.0.looked.ways right.ways t in wholes.linked_cell entries arguments keeps_to p n small m u whole id me.0 at live i b.0 b.1;
         armed = λ d. subst (λ (k : ℕ). IsArmed (cell_of m.cells k)) d.2 (right.armed d.0 d.1);
+        within = λ a x e. wholes.next_below entries arguments keeps_to p n small m u whole id me.0 at live i x a e;
         alone = λ a t. let b = ⊎_elim (on_way_bag m u whole at me.0.looked.ways right.ways) (duty_bag m u whole at) t in knowing.settled entries arguments keeps_to p n small m u whole id me.0 at live a i b.0 b.1;
       }
 

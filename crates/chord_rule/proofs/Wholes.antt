@@ -361,6 +361,10 @@ module _ {P : Type 0} (entries : P → List Entry) (arguments : P → List value
       begun_ways k x (inl e) = subst (WayLaw n u.order) (sym e) (begun_law (IsKey u.journal) n m.cells m.heads u.order law.bags linked_below law.heads k)
       begun_ways k x (inr h) = mine.ways x h
 
+  -- the next of an armed message is a number of the table
+  pub next_below : (i x : ℕ) → IsArmed (cell_of m.cells i) → (m.cells i).next ≡ Some x → x < n
+  next_below i x a e = let b = law.bags.armed i a in linked_below x b.0.0 ((law.bags.nexts_lead i b.0.0 b.0.1).inside x (sym b.1 ∙ e)).0
+
   -- a linked message has a cell of a linked one
   pub linked_cell : (i k : ℕ) → u.order.bag i ≡ Some k → IsLinkedCell (m.cells i).cell
   linked_cell i k b = go (u.stage i) refl

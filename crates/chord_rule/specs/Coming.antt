@@ -1,5 +1,5 @@
 -- What comes to a desk, and what the desk keeps: places of one run.
-use Rattle.std.specs.Prelude.{◌≡◌, ◌≢◌, ℕ, true, List, Some, None}
+use Rattle.std.specs.Prelude.{◌≡◌, ◌≢◌, ℕ, true, false, List, Some, None}
 use Rattle.chord_base.specs.Meaning.{Program}
 use Rattle.chord_base.specs.Messages.{IsCall}
 use Rattle.chord_base.specs.Bodies.{doing}
@@ -27,11 +27,12 @@ pub record ArePlaces (p : Program) (es fs : List Entry) : Type 0 where
   pub is : view place ≡ es
   pub other_is : view other ≡ fs
 
--- these entries come with the parcel of a claimed message to a desk that keeps those: each body among them that has not ended waits for the message, or for a call that one of them serves; a call comes with its own entry
+-- these entries come with the parcel of a claimed message to a desk that keeps those: each body among them that has not ended waits for the message, or for a call that one of them serves; a call comes with its own entry, and no other message with an entry of a call of its number
 pub record ComesWithMessage (p : Program) (kept : List Entry) (c : Claim) (es : List Entry) : Type 0 where
   pub places : ArePlaces p kept es
   pub parked : (b : ℕ) → Begins b es → IsParked p es (Some c.number) (doing p es b)
   pub call : p.is_sync c.object.class c.method ≡ true → (e : Entry) × IsIn e es × IsCall c.number e
+  pub sent : p.is_sync c.object.class c.method ≡ false → (e : Entry) → IsIn e es → IsCall c.number e → ⊥
 
 -- these entries come with the parcel of a ready firing to a desk that keeps those: the firing's entry, as the only one of its body, and bodies that have ended or wait for a call that one of them serves
 pub record ComesWithFiring (p : Program) (kept : List Entry) (f : ℕ) (es : List Entry) : Type 0 where

@@ -54,6 +54,8 @@ pub record IsLook (n : ℕ) (v w : View) (i : ℕ) (c : Word) : Type 0 where
   pub linked : IsAt i v.looked.ways → IsLinkedCell c.cell
   -- a message with a duty is armed
   pub armed : HasDutyOn i v.duties → IsArmed c.cell
+  -- the next of an armed message is a number of the table
+  pub within : IsArmed c.cell → (x : ℕ) → c.next ≡ Some x → x < n
   -- alone, no other desk has it in hand
   pub alone : IsAlone v → IsAt i v.looked.ways ⊎ HasDutyOn i v.duties → IsSettledCell c.cell
 

@@ -20,7 +20,7 @@ use Rattle.chord_run.specs.Rows.{CutsShort, Fills, Finishes, Refuses, Succeeds, 
 use Rattle.chord_run.specs.Sources.{IsAccepted, IsProgramOf}
 use Rattle.chord_run.specs.Written.{Due}
 use Rattle.chord_run.specs.declared.command.Mode.{Mode}
-use Rattle.chord_run.specs.declared.command.Mode.TheVariants.{Run}
+use Rattle.chord_run.specs.declared.command.Mode.TheVariants.{Run, Rules, Code, Load}
 use Rattle.chord_run.specs.declared.command.Request.{Request}
 use Rattle.chord_run.specs.declared.refusal.Refusal.{Refusal}
 use Rattle.chord_run.specs.declared.refusal.Refusal.TheVariants.{Long, Bad, Syntax, Tall, Rule}
@@ -90,9 +90,12 @@ status_not_one journal one = elim (status_cases journal) [
   | inr (inr a) ↦ omega arith
 ]
 
--- no mode without a run is there today
-pub no_text : (mode : Mode) (source text : List ℕ) → IsTextOf mode source text → ⊥
-no_text Run source text x = x
+-- the text of a mode that makes no run is due for an accepted source alone
+pub text_accepted : (mode : Mode) (source text : List ℕ) → IsTextOf mode source text → IsAccepted source
+text_accepted Run source text x = absurd x
+text_accepted Rules source text x = x.0
+text_accepted Code source text x = (x.program, x.accepted)
+text_accepted (Load k) source text x = absurd x
 
 -- what is due is due for the journal of the report, or for its refusal, or it is the text of a mode that makes no run
 pub due_cases : (request : Request) (source : List ℕ) (j : Option (List Entry)) (r : Option Refusal) (due : Due) → IsDue request source j r due → ((journal : List Entry) × (j ≡ Some journal) × IsRunDue request source journal due) ⊎ (((refusal : Refusal) × (r ≡ Some refusal) × IsRefusalDue source refusal due) ⊎ ((j ≡ None) × (r ≡ None) × IsTextDue request source due))

@@ -1,5 +1,5 @@
 -- What the two passes find of a program is what is found of all rules, and a program without a break has its code.
-use Rattle.std.proofs.Common.{◌≡◌, List, inl, inr, map, refl, subst, sym}
+use Rattle.std.proofs.Common.{◌≡◌, ◌∙◌, List, ap, inl, inr, map, refl, subst, sym}
 use Rattle.chord_base.specs.Agreement.{AgreeInRuns}
 use Rattle.chord_base.specs.Types.{Signatures}
 use Rattle.chord_bodies.specs.BodyView.{view_body}
@@ -14,6 +14,7 @@ use Rattle.chord_code.specs.Meaning.{code_program}
 use Rattle.chord_code.specs.Sound.{IsSoundCode}
 use Rattle.chord_code.specs.declared.parts.Parts.{Parts}
 use Rattle.chord_gen.specs.Laws.{KeepsMeaning}
+use Rattle.chord_gen.specs.Translation.{code_of}
 use Rattle.chord_gen.specs.TypedSource.{IsTypedSource, source_of}
 use Rattle.chord_rules.specs.Family.{PassesJoin, is_layout_rule}
 use Rattle.chord_run.specs.Compiled.{IsCompiled, IsEarlier}
@@ -34,9 +35,10 @@ pub source_is : (p : ProgramTree) (layout : LayoutOf) (bodies : List Body) → l
 source_is p layout bodies planned typed = rw (planned, typed) refl
 
 -- where a program breaks no rule, and the code of its source is sound and keeps its meaning, that is the program's code
-pub has_code : (p : ProgramTree) (source : Resolved) (code : Parts) → source ≡ resolved_program p → IsTypedSource source → ((sig : Signatures) → AreWellTyped sig source → IsPlanned sig source → KeepsMeaning code source sig) → IsSoundCode code → KeepsEveryRule p → IsCompiled p code
-has_code p source code same t keeps sound kept = record {
+pub has_code : (p : ProgramTree) (source : Resolved) (code : Parts) → source ≡ resolved_program p → IsTypedSource source → ((sig : Signatures) → AreWellTyped sig source → IsPlanned sig source → KeepsMeaning code source sig) → code ≡ code_of source → IsSoundCode code → KeepsEveryRule p → IsCompiled p code
+has_code p source code same t keeps is sound kept = record {
   kept = kept;
+  is_code = is ∙ ap code_of same;
   sound = sound;
   runs = λ limits shallow deep. subst (λ z. AgreeInRuns (code_program code limits) (source_program z limits)) same ((keeps t.sig t.typed t.planned).runs limits shallow deep);
 }

@@ -5,7 +5,9 @@ pub mod Exact
 pub mod OneCause
 pub mod Lines
 pub mod Answering
-pub mod Arguments
+pub mod Numbers
+pub mod Commands
+pub mod Loads
 pub mod Breaks
 pub mod FirstBreak
 pub mod Compiled

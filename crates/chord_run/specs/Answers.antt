@@ -12,6 +12,12 @@ pub record AnswersSource (request : Request) (source : List ℕ) (report : Repor
   pub is_due : IsDue request source report.journal report.refusal due
   pub written : IsWritten due report.status before after
 
+-- a source with these contents, where they are specified, is answered
+pub record AnswersContents (request : Request) (contents : Option (List ℕ)) (report : Report) (before after : Option (List ℕ)) : Type 0 where
+  pub source : List ℕ
+  pub given : IsGiven contents source
+  pub answered : AnswersSource request source report before after
+
 -- the arguments request something, and the source that the request is about is answered
 pub record Answers (arguments : List (List ℕ)) (left : Option (List ℕ)) (report : Report) (before after : Option (List ℕ)) : Type 0 where
   pub request : Request

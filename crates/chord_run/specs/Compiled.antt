@@ -7,6 +7,7 @@ use Rattle.chord_classes.specs.Plan.{resolved_program}
 use Rattle.chord_code.specs.Meaning.{code_program}
 use Rattle.chord_code.specs.Sound.{IsSoundCode}
 use Rattle.chord_code.specs.declared.parts.Parts.{Parts}
+use Rattle.chord_gen.specs.Translation.{code_of}
 use Rattle.chord_run.specs.Sources.{IsAcceptedAs}
 use Rattle.chord_run.specs.declared.compile.Break.{Break}
 use Rattle.chord_run.specs.declared.compile.CompileFault.{CompileFault}
@@ -14,9 +15,11 @@ use Rattle.chord_run.specs.declared.compile.CompileFault.TheVariants as fault
 use Rattle.chord_source.specs.Source.{source_program}
 use Rattle.chord_tree.specs.Tree.{ProgramTree}
 
--- the code of a program: the program breaks no rule, and the code is sound and has the program's runs
+-- the code of a program: the program breaks no rule, and the code is the one that its translation gives, is sound and has the
+-- program's runs
 pub record IsCompiled (program : ProgramTree) (code : Parts) : Type 0 where
   pub kept : KeepsEveryRule program
+  pub is_code : code ≡ code_of (resolved_program program)
   pub sound : IsSoundCode code
   pub runs : (limits : Limits) → 1 ≤ limits.depth → limits.depth ≤ 256 → AgreeInRuns (code_program code limits) (source_program (resolved_program program) limits)
 

@@ -1,38 +1,80 @@
 -- What is due for a source that a request is about: a status and a text.
-use Rattle.std.specs.Prelude.{◌≡◌, ℕ, ◌≤◌, ◌⊎◌, List, length, reverse, Option, Some, None}
+use Rattle.std.specs.Prelude.{◌≡◌, ℕ, ◌≤◌, ◌⊎◌, Bool, true, false, List, [], ◌++◌, codes, length, reverse, Option, Some, None}
 use Rattle.chord_base.specs.Machine.{IsRun, IsComplete, MayFollow}
 use Rattle.chord_base.specs.Meaning.{Program}
 use Rattle.chord_base.specs.Printed.{lines, status_of}
 use Rattle.chord_base.specs.declared.event.Entry.{Entry}
+use Rattle.chord_classes.specs.Plan.{resolved_program}
+use Rattle.chord_gen.specs.Listing.{listing_text}
+use Rattle.chord_gen.specs.Translation.{code_of}
+use Rattle.chord_journal.specs.Counts.{counts_text}
+use Rattle.chord_journal.specs.Text.{journal_text}
+use Rattle.chord_run.specs.Command.{made_from}
+use Rattle.chord_run.specs.Load.{load_text}
 use Rattle.chord_run.specs.Refusals.{IsCause, IsLine}
-use Rattle.chord_run.specs.Sources.{IsMachine}
+use Rattle.chord_run.specs.Sources.{IsAccepted, IsAcceptedAs, IsMachine}
 use Rattle.chord_run.specs.Written.{Due}
 use Rattle.chord_run.specs.declared.command.Mode.{Mode}
-use Rattle.chord_run.specs.declared.command.Mode.TheVariants.{Run}
+use Rattle.chord_run.specs.declared.command.Mode.TheVariants.{Run, Rules, Code, Load}
 use Rattle.chord_run.specs.declared.command.Request.{Request}
 use Rattle.chord_run.specs.declared.refusal.Refusal.{Refusal}
+use Rattle.chord_tree.specs.Tree.{ProgramTree}
 
 -- ## By the request
 
--- the contents of the source that a request is about: of a run, those that are left to read
-abbrev pub source_contents : Request → Option (List ℕ) → Option (List ℕ)
-source_contents request left = left
+-- the contents of a source: of one that is made from a number its text, else those that are left to read
+abbrev pub contents_by : Option ℕ → Option (List ℕ) → Option (List ℕ)
+contents_by None left = left
+contents_by (Some k) left = Some (load_text k)
 
--- the text that is due for a journal: of a run, the journal's lines
+-- the contents of the source that a request is about
+abbrev pub source_contents : Request → Option (List ℕ) → Option (List ℕ)
+source_contents request left = contents_by (made_from request.mode) left
+
+-- the line of counts of a journal, where the source was made from a number
+abbrev pub summary_due : Option ℕ → List Entry → List ℕ
+summary_due None journal = []
+summary_due (Some k) journal = counts_text journal
+
+-- the text of a journal, where it is requested
+abbrev pub journal_due : Bool → List Entry → List ℕ
+journal_due false journal = []
+journal_due true journal = journal_text journal
+
+-- the text that is due for a journal: its lines, then of `load` its line of counts, then the journal's text if it is requested
 abbrev pub text_due : Request → List Entry → List ℕ
-text_due request journal = lines journal
+text_due request journal = lines journal ++ (summary_due (made_from request.mode) journal ++ journal_due request.journal journal)
 
 -- the mode makes a run
 abbrev pub MakesRun : Mode → Type 0
 MakesRun Run = Unit {0}
+MakesRun Rules = ⊥
+MakesRun Code = ⊥
+MakesRun (Load k) = Unit {0}
 
--- the text that is due for an accepted source in a mode that makes no run
+-- the listing of the code of an accepted source
+pub record IsListing (source text : List ℕ) : Type 0 where
+  pub program : ProgramTree
+  pub accepted : IsAcceptedAs source program
+  pub text_is : text ≡ listing_text (code_of (resolved_program program))
+
+-- the text that is due for an accepted source in a mode that makes no run: of `rules` the line `ok`, of `code` the listing
 abbrev pub IsTextOf : Mode → List ℕ → List ℕ → Type 0
 IsTextOf Run source text = ⊥
+IsTextOf Rules source text = IsAccepted source × (text ≡ codes "ok\n")
+IsTextOf Code source text = IsListing source text
+IsTextOf (Load k) source text = ⊥
 
--- the status of an accepted source in this mode: of a run 0, 4, 6 or 8
+-- the status of a run: 0, 4, 6 or 8
+abbrev pub IsRunStatus : ℕ → Type 0
+IsRunStatus status = (status ≡ 0) ⊎ (status ≡ 4) ⊎ (status ≡ 6) ⊎ (status ≡ 8)
+
+-- the status of an accepted source in this mode: that of a run, or 0 where the mode makes none
 abbrev pub IsStatusOf : Mode → ℕ → Type 0
-IsStatusOf Run status = (status ≡ 0) ⊎ (status ≡ 4) ⊎ (status ≡ 6) ⊎ (status ≡ 8)
+IsStatusOf Run status = IsRunStatus status
+IsStatusOf Rules status = status ≡ 0
+IsStatusOf Code status = status ≡ 0
+IsStatusOf (Load k) status = IsRunStatus status
 
 -- ## A journal
 

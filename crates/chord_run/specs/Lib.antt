@@ -12,6 +12,8 @@ pub mod Due
 pub mod Written
 -- what the arguments of the command line request
 pub mod Command
+-- the source that `load` makes from a number
+pub mod Load
 -- which sources are accepted, and what the join machine of each is
 pub mod Sources
 -- why a source is refused, and the line that says so

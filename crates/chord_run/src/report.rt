@@ -6,6 +6,9 @@ ghost use Rattle.std.specs.Prelude.{◌≡◌, None, Some};
 use crate::refusal::Refusal;
 use chord_base::journal::Journal;
 
+/// The mode makes no run, the source is accepted, and what is due was written.
+pub const DONE: u8 = 0;
+
 /// The source is refused, and the refusal's line was written.
 pub const REFUSED: u8 = 1;
 
@@ -37,7 +40,7 @@ pub struct Report {
 }
 
 impl Report {
-    /// A report of a call that wrote nothing.
+    /// A report of a call that has neither a journal nor a refusal to tell of.
     pub fn silent(status: u8) -> Report
         ensures { result ≡ record { status = status; journal = None; refusal = None } }
     {

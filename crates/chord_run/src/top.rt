@@ -1,33 +1,39 @@
 //! The top call: reads a source, runs it, and writes its lines.
 #![tactic(auto)]
 
-ghost use Rattle.std.specs.Prelude.{◌≡◌, ◌<◌, ◌≤◌, ◌⊎◌, IfOk, None, Some, length};
+ghost use Rattle.std.specs.Prelude.{◌≡◌, ◌<◌, ◌≤◌, ◌⊎◌, IfOk, None, Some, codes, length};
 ghost use Rattle.chord_base.specs.Machine.{IsComplete, IsRun};
 ghost use Rattle.chord_io.specs.Faults.{Rose};
 ghost use Rattle.chord_code.specs.Meaning.{code_program};
 ghost use Rattle.chord_code.specs.Sound.{IsSoundCode};
-ghost use Rattle.chord_run.specs.Answers.{Answers, AnswersSource, IsSilence, IsSilent};
-ghost use Rattle.chord_run.specs.Command.{AreAccepted, Requested, Requests, argument_bytes};
+ghost use Rattle.chord_gen.specs.Listing.{listing_text};
+ghost use Rattle.chord_run.specs.Answers.{Answers, AnswersContents, AnswersSource, IsSilence, IsSilent};
+ghost use Rattle.chord_run.specs.Command.{AreAccepted, IsBounded, Requested, Requests, argument_bytes};
 ghost use Rattle.chord_run.specs.Due.{HasStatus, MakesRun, source_contents};
+ghost use Rattle.chord_run.specs.Load.{load_text};
 ghost use Rattle.chord_run.specs.Refusals.{PointsAt};
-ghost use Rattle.chord_run.specs.Reports.{ReportsNoMemory, ReportsPlayed, ReportsRefusal, ReportsRun};
+ghost use Rattle.chord_run.specs.Reports.{ReportsCode, ReportsNoMemory, ReportsPlayed, ReportsRefusal, ReportsRun, ReportsText};
 ghost use Rattle.chord_run.specs.Rows.{AreSpecified, CutsShort, Fills, Finishes, IsExact, NoneFailed, Refuses, RefusesOthers, RunsAccepted, Succeeds};
 ghost use Rattle.chord_run.specs.Sources.{IsShort};
 ghost use Rattle.chord_run.specs.declared.command.Request as asked;
 
-use crate::command::{Mode, Request, request_of};
+use crate::command::{Mode, Request, made_from, request_of};
+use crate::engine::journal_of;
 use crate::front::{FrontFault, code_of};
+use crate::load::load_source;
+use crate::output::write_due;
 use crate::refusal::{Refusal, line_of};
+use crate::words::WordsFault;
 use crate::report::{
-    AT_LIMIT, NO_MEMORY, OTHER_ARGUMENTS, READ_FAULT, REFUSED, Report, WRITE_FAULT,
+    AT_LIMIT, DONE, NO_MEMORY, OTHER_ARGUMENTS, READ_FAULT, REFUSED, Report, WRITE_FAULT,
 };
 use chord_base::agreement::same_runs;
 use chord_base::event::Limits;
 use chord_base::journal::Journal;
 use chord_code::code::Code;
+use chord_gen::listing::listing;
 use chord_io::{Failed, ReadFault, Sink, Source, read_all, write_all};
-use chord_journal::write_lines;
-use chord_lists::code_run::{may_go_on, play};
+use chord_lists::code_run::may_go_on;
 use std::alloc::{AllocError, Global};
 use std::sync::Wait;
 use std::thread::Threads;
@@ -62,7 +68,7 @@ pub fn chord<R: Threads + Wait + Sync, S: Source, K: Sink, G: Gate + Sync>(
     ensures status_1 { result.status ≡ 1 → Requested (argument_bytes arguments.now) (λ request.
         Refuses request (S.left source.old) result (K.taken sink.old) (K.taken sink.new)) }
     ensures status_2 { result.status ≡ 2 → AreAccepted (argument_bytes arguments.now) → ⊥ }
-    ensures status_2_exactly { (result.status ≡ 2) ⊎ AreAccepted (argument_bytes arguments.now) }
+    ensures status_2_exactly { (result.status ≡ 2) ⊎ (result.status ≡ 7) ⊎ AreAccepted (argument_bytes arguments.now) }
     ensures status_2_unread { result.status ≡ 2 → S.left source.new ≡ S.left source.old }
     ensures status_3 { result.status ≡ 3 → Rose (S.faults source.old) (S.faults source.new) }
     ensures status_4 { result.status ≡ 4 → Requested (argument_bytes arguments.now) (λ request.
@@ -103,34 +109,87 @@ fn answer<S: Source, K: Sink>(
     sink: &mut K,
 ) -> Report
     ensures not_accepted { result.status ≡ 2 → AreAccepted (argument_bytes arguments.now) → ⊥ }
-    ensures accepted { (result.status ≡ 2) ⊎ AreAccepted (argument_bytes arguments.now) }
+    ensures accepted { (result.status ≡ 2) ⊎ (result.status ≡ 7) ⊎ AreAccepted (argument_bytes arguments.now) }
     ensures unread { result.status ≡ 2 → S.left source.new ≡ S.left source.old }
     ensures read_fault { result.status ≡ 3 → Rose (S.faults source.old) (S.faults source.new) }
     ensures write_fault { result.status ≡ 5 → Rose (K.faults sink.old) (K.faults sink.new) }
     ensures headline { IsSilence result (K.taken sink.old) (K.taken sink.new)
         ⊎ Answers (argument_bytes arguments.now) (S.left source.old) result (K.taken sink.old) (K.taken sink.new) }
 {
-    let Some(request) = request_of(arguments) else {
-        return Report::silent(OTHER_ARGUMENTS);
-    };
+    match request_of(alloc, arguments) {
+        Err(WordsFault::Refused) => Report::silent(OTHER_ARGUMENTS),
+        Err(WordsFault::Memory) => Report::silent(NO_MEMORY),
+        Ok(request) => answer_request(alloc, &request, source, sink),
+    }
+}
+
+/// Does what is requested, with the source that the request is about.
+fn answer_request<S: Source, K: Sink>(
+    alloc: Global,
+    request: &Request,
+    source: &mut S,
+    sink: &mut K,
+) -> Report
+    requires { IsBounded request.now }
+    ensures answered { IsSilence result (K.taken sink.old) (K.taken sink.new)
+        ⊎ AnswersContents request.now (source_contents request.now (S.left source.old)) result (K.taken sink.old) (K.taken sink.new) }
+    ensures not_silent { result.status ≡ 2 → ⊥ }
+    ensures read_fault { result.status ≡ 3 → Rose (S.faults source.old) (S.faults source.new) }
+    ensures write_fault { result.status ≡ 5 → Rose (K.faults sink.old) (K.faults sink.new) }
+{
+    match made_from(request.mode) {
+        Some(k) => answer_made(alloc, k, request, sink),
+        None => answer_read(alloc, request, source, sink),
+    }
+}
+
+/// Makes the source from its number, and does what is requested with it.
+fn answer_made<K: Sink>(alloc: Global, k: u32, request: &Request, sink: &mut K) -> Report
+    requires bounded { IsBounded request.now }
+    requires from_one { 1 ≤ k }
+    requires to_sixty { k ≤ 60 }
+    ensures answered { IsSilence result (K.taken sink.old) (K.taken sink.new)
+        ⊎ AnswersContents request.now (Some (load_text k)) result (K.taken sink.old) (K.taken sink.new) }
+    ensures not_silent { result.status ≡ 2 → ⊥ }
+    ensures no_read_fault { result.status ≡ 3 → ⊥ }
+    ensures fault { result.status ≡ 5 → Rose (K.faults sink.old) (K.faults sink.new) }
+{
+    match load_source(alloc, k) {
+        Ok(bytes) => answer_source(alloc, &bytes, request, sink),
+        Err(_) => Report::silent(NO_MEMORY),
+    }
+}
+
+/// Reads the source, and does what is requested with it, or refuses one that is too long.
+fn answer_read<S: Source, K: Sink>(
+    alloc: Global,
+    request: &Request,
+    source: &mut S,
+    sink: &mut K,
+) -> Report
+    requires bounded { IsBounded request.now }
+    ensures answered { IsSilence result (K.taken sink.old) (K.taken sink.new)
+        ⊎ AnswersContents request.now (S.left source.old) result (K.taken sink.old) (K.taken sink.new) }
+    ensures not_silent { result.status ≡ 2 → ⊥ }
+    ensures read_fault { result.status ≡ 3 → Rose (S.faults source.old) (S.faults source.new) }
+    ensures write_fault { result.status ≡ 5 → Rose (K.faults sink.old) (K.faults sink.new) }
+{
     match read_all(alloc, source) {
         Err(ReadFault::Failed) => Report::silent(READ_FAULT),
         Err(ReadFault::Memory) => Report::silent(NO_MEMORY),
         Err(ReadFault::TooLong) => refuse(alloc, b"", Refusal::Long, 0, sink),
-        Ok(bytes) => answer_source(alloc, &bytes, &request, sink),
+        Ok(bytes) => answer_source(alloc, &bytes, request, sink),
     }
 }
 
 /// Does what is requested with a source of at most 1,048,576 bytes, or refuses it.
 fn answer_source<K: Sink>(alloc: Global, source: &[u8], request: &Request, sink: &mut K) -> Report
     requires short { IsShort source.now }
-    requires some { 1 ≤ request.now.limits.events }
-    requires bound { request.now.limits.events ≤ 65536 }
-    requires shallow { 1 ≤ request.now.limits.depth }
-    requires deep { request.now.limits.depth ≤ 256 }
+    requires bounded { IsBounded request.now }
     ensures answered { ReportsNoMemory result (K.taken sink.old) (K.taken sink.new)
         ⊎ AnswersSource request.now source.now result (K.taken sink.old) (K.taken sink.new) }
     ensures not_silent { result.status ≡ 2 → ⊥ }
+    ensures no_read_fault { result.status ≡ 3 → ⊥ }
     ensures fault { result.status ≡ 5 → Rose (K.faults sink.old) (K.faults sink.new) }
 {
     // a run of the code is one of the source
@@ -138,9 +197,46 @@ fn answer_source<K: Sink>(alloc: Global, source: &[u8], request: &Request, sink:
     match code_of(alloc, source) {
         Err(FrontFault::Memory) => Report::silent(NO_MEMORY),
         Err(FrontFault::Refused(refusal, byte)) => refuse(alloc, source, refusal, byte, sink),
-        Ok(code) => match request.mode {
-            Mode::Run => run(alloc, &code, request, sink),
-        },
+        Ok(code) => answer_code(alloc, &code, request, sink),
+    }
+}
+
+/// Does what is requested with the code of an accepted source.
+fn answer_code<K: Sink>(alloc: Global, code: &Code, request: &Request, sink: &mut K) -> Report
+    requires bounded { IsBounded request.now }
+    requires sound { IsSoundCode code.now }
+    ensures answered { ReportsNoMemory result (K.taken sink.old) (K.taken sink.new)
+        ⊎ ReportsCode request.now code.now result (K.taken sink.old) (K.taken sink.new) }
+    ensures not_silent { result.status ≡ 2 → ⊥ }
+    ensures fault { result.status ≡ 5 → Rose (K.faults sink.old) (K.faults sink.new) }
+{
+    match request.mode {
+        Mode::Run => run(alloc, code, request, sink),
+        Mode::Rules => accept(sink),
+        Mode::Code => list(code, sink),
+        Mode::Load(_) => run(alloc, code, request, sink),
+    }
+}
+
+/// Says that the source is accepted.
+fn accept<K: Sink>(sink: &mut K) -> Report
+    ensures written { ReportsText (codes "ok\n") result (K.taken sink.old) (K.taken sink.new) }
+    ensures fault { result.status ≡ 5 → Rose (K.faults sink.old) (K.faults sink.new) }
+{
+    match write_all(sink, b"ok\n") {
+        Ok(()) => Report::silent(DONE),
+        Err(Failed) => Report::silent(WRITE_FAULT),
+    }
+}
+
+/// Writes the listing of a code.
+fn list<K: Sink>(code: &Code, sink: &mut K) -> Report
+    ensures written { ReportsText (listing_text code.now) result (K.taken sink.old) (K.taken sink.new) }
+    ensures fault { result.status ≡ 5 → Rose (K.faults sink.old) (K.faults sink.new) }
+{
+    match listing(code, sink) {
+        Ok(()) => Report::silent(DONE),
+        Err(Failed) => Report::silent(WRITE_FAULT),
     }
 }
 
@@ -166,34 +262,31 @@ fn refuse<K: Sink>(
     }
 }
 
-/// Plays the code of a source, and writes the lines of its journal.
+/// Plays the code of a source, and writes what is due for its journal.
 fn run<K: Sink>(alloc: Global, code: &Code, request: &Request, sink: &mut K) -> Report
-    requires some { 1 ≤ request.now.limits.events }
-    requires bound { request.now.limits.events ≤ 65536 }
-    requires shallow { 1 ≤ request.now.limits.depth }
-    requires deep { request.now.limits.depth ≤ 256 }
+    requires bounded { IsBounded request.now }
     requires sound { IsSoundCode code.now }
     ensures answered { ReportsNoMemory result (K.taken sink.old) (K.taken sink.new)
         ⊎ ReportsRun request.now (code_program code.now request.now.limits) result (K.taken sink.old) (K.taken sink.new) }
     ensures not_silent { result.status ≡ 2 → ⊥ }
     ensures fault { result.status ≡ 5 → Rose (K.faults sink.old) (K.faults sink.new) }
 {
-    let Ok(journal) = play(alloc, code, &request.limits) else {
+    let Ok(journal) = journal_of(alloc, code, &request.limits) else {
         return Report::silent(NO_MEMORY);
     };
     // whether an entry may follow takes memory, so it is decided before the first write
     match due_status(alloc, code, &request.limits, &journal) {
         Err(_) => Report::silent(NO_MEMORY),
-        Ok(due) => write_run(journal, due, sink),
+        Ok(due) => write_run(journal, request, due, sink),
     }
 }
 
-/// Writes the lines of a journal, whose status is this one.
-fn write_run<K: Sink>(journal: Journal, due: u8, sink: &mut K) -> Report
-    ensures played { ReportsPlayed journal due result (K.taken sink.old) (K.taken sink.new) }
+/// Writes what is due for a journal, whose status is this one.
+fn write_run<K: Sink>(journal: Journal, request: &Request, due: u8, sink: &mut K) -> Report
+    ensures played { ReportsPlayed request.now journal due result (K.taken sink.old) (K.taken sink.new) }
     ensures fault { result.status ≡ 5 → (due ≡ 5) ⊎ Rose (K.faults sink.old) (K.faults sink.new) }
 {
-    match write_lines(&journal, sink) {
+    match write_due(&journal, request, sink) {
         Ok(()) => Report::played(due, journal),
         Err(Failed) => Report::played(WRITE_FAULT, journal),
     }

@@ -1,7 +1,7 @@
 //! Parcels: a message's arguments, and the task that waits for it.
 #![tactic(auto)]
 
-ghost use Rattle.std.specs.Prelude.{◌≡◌, []};
+ghost use Rattle.std.specs.Prelude.{◌≡◌, ◌≢◌, [], None};
 ghost use Rattle.chord_task.specs.Standing.{view_of, IsTaskOf};
 ghost use Rattle.chord_task.specs.Parcels.{entries_of, arguments_of, IsParcelOf};
 
@@ -28,9 +28,10 @@ impl Carry for Parcel {
     ghost keeps_to = { IsParcelOf };
 }
 
-/// A parcel with a task.
+/// A parcel with a task that has a body left.
 pub fn packed(code: &Code, limits: &Limits, arguments: Args, task: Task) -> Parcel
     requires task { IsTaskOf code.now limits.now task }
+    requires left { (view_of task).top ≢ None }
     requires twice { arguments.second ≡ arguments.first }
     ensures keeps { IsParcelOf result code.now limits.now }
     ensures entries { entries_of result ≡ (view_of task).past }

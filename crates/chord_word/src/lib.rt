@@ -1,5 +1,5 @@
 //! The words of the shared table: what one 64-bit word says of a message, a bag or a place, and back.
-//! Stands on: chord_base (objects). Used by: chord_rule, chord_space.
+//! Stands on: chord_base (objects). Used by: many crates.
 //! Promise: packing and unpacking are exact in both directions; `unpack` refuses just the words that are no cell (specs/Cells.antt).
 //! Not here: which word stands where in the table, and who may change it (chord_space).
 #![tactic(auto)]

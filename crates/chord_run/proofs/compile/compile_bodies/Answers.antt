@@ -16,7 +16,7 @@ returns-in-Ok-generate-clause-code c =
     let same = source_is p c.in-Ok.layout c.args.bodies.now c.in-Ok.ensures.planned c.requires.typed in
     has_code p _ c.in-Ok-generate.code same
     (subst IsTypedSource (sym same) (c.accepted.ensures p c.requires.grammatical c.requires.free (c.plan_rules.ensures p c.in-Ok.ensures.free)))
-    c.in-Ok-generate.ensures.keeps c.in-Ok-generate.ensures.sound ((c.passes.ensures p).0.accepted c.requires.free c.in-Ok.ensures.free)
+    c.in-Ok-generate.ensures.keeps c.in-Ok-generate.ensures.code c.in-Ok-generate.ensures.sound ((c.passes.ensures p).0.accepted c.requires.free c.in-Ok.ensures.free)
 
 pub returns-in-Err-Rule-clause-fault : goal.returns-in-Err-Rule-clause-fault
 returns-in-Err-Rule-clause-fault c =

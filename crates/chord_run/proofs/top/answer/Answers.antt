@@ -1,18 +1,5 @@
-use Rattle.std.proofs.Common.{refl, inl, inr, arith}
-use Rattle.chord_run.proofs.Answering.{long_answers, source_of}
+use Rattle.chord_run.proofs.Answering.{request_answered}
 use Rattle.chord_run.proofs.top.answer.Goals as goal
 
-pub returns-in-Err-TooLong-clause-headline : goal.returns-in-Err-TooLong-clause-headline
-returns-in-Err-TooLong-clause-headline g c =
-    let t = c.in-Err-TooLong.ensures.too_long (rw c.in-Err-TooLong.field-0-is refl) in
-    let s = source_of (g.S.Source.left c.args.source.now) _ t.0 t.2 in
-    elim c.refuse.ensures.answered [
-      | inl u ↦ inl (record { silent = inr (inr u.status_is); nothing = u.nothing })
-      | inr r ↦ inr (record {
-        request = c.in-Some.request;
-        requested = c.in-Some.ensures.some;
-        source = s.0;
-        given = s.1;
-        answered = long_answers c.in-Some.request _ s.0 c.refuse.result _ _ (s.2 (omega (arith, t.1))) r;
-      })
-    ]
+pub returns-in-Ok-clause-headline : goal.returns-in-Ok-clause-headline
+returns-in-Ok-clause-headline g c = request_answered _ _ c.in-Ok.request c.answer_request.result _ _ c.in-Ok.ensures.requested c.answer_request.ensures.answered

@@ -1,0 +1,160 @@
+-- One look after another.
+use Rattle.std.proofs.Common.{◌≡◌, ◌≢◌, inl, inr, ℕ, ◌+◌, ◌<◌, Bool, true, ◌||◌, List, ◌∷◌, ◌++◌, map, refl, sym, ap, ◌∙◌, subst, arith, Option, Some, None, if◌then◌else◌}
+use mathlib.Core.Path.{Path}
+use Rattle.std.proofs.lemmas.Bool.{eq-eqb}
+use Rattle.chord_word.specs.declared.cells.Cell.{Cell}
+use Rattle.chord_word.specs.declared.cells.Cell.TheVariants.{Empty, Pending, Claimed, Consumed, Woken, Ready, Started}
+use Rattle.chord_word.specs.declared.cells.Word.{Word}
+use Rattle.chord_rule.specs.declared.view.Duty.{Duty}
+use Rattle.chord_rule.specs.declared.view.Look.{Look}
+use Rattle.chord_rule.specs.declared.view.Looked.{Looked}
+use Rattle.chord_rule.specs.declared.view.View.{View}
+use Rattle.chord_rule.specs.declared.view.Way.{Way}
+use Rattle.chord_rule.specs.Duties.{at_place, move_duty}
+use Rattle.chord_rule.specs.Kinds.{is_down, looked_head, looked_cell}
+use Rattle.chord_rule.specs.Bags.{IsArmed}
+use Rattle.chord_rule.specs.Tells.{IsLook}
+use Rattle.chord_rule.specs.Ways.{way_onward, way_begun, gone_on, on_way, IsAt, IsLinkedCell, IsSettledCell, IsAlone, HasRoom}
+use Rattle.chord_bag.specs.declared.walk.Sought.{Sought}
+use Rattle.chord_bag.specs.declared.walk.Sought.TheVariants.{Found, Bare, Busy}
+use Rattle.chord_bag.specs.declared.walk.Turn.{Turn}
+use Rattle.chord_bag.specs.declared.walk.Turn.TheVariants.{Over, On}
+use Rattle.chord_bag.specs.Reads.{AllAt, KeepsEnds, IsOnlyLooks, with_looks, is_claimed, after_cell, messages_and_bags}
+use Rattle.chord_bag.specs.Seeking.{IsSought}
+use Rattle.chord_bag.specs.Walking.{Going, IsGoing, IsTurn, ComesToTurn, gone_so_far}
+use Rattle.chord_bag.proofs.Walks.{all_start, all_move, head_keeps, cell_keeps, keeps_on, head_keeps_messages, cell_keeps_messages}
+
+-- what comes after a look that read this cell
+abbrev pub by_cell : ℕ → Option ℕ → Option ℕ → Cell → Turn
+by_cell i busy next Pending = Over (Found i next)
+by_cell i busy next Empty = Over (Busy i)
+by_cell i busy next Claimed = On next (Some i)
+by_cell i busy next _ = On next busy
+
+-- the answer of a whole way without a pending message
+abbrev pub ended : Option ℕ → Sought
+ended None = Bare
+ended (Some i) = Busy i
+
+-- the newest way has come to i, and goes on
+went : (i : ℕ) (c : Word) (vs : List Way) (x : Way) (ws : List Way) → vs ≡ x ∷ ws → x.place ≡ Some i → on_way i c vs ≡ gone_on x i c ∷ ws
+went i c vs x ws e a = ap (on_way i c) e ∙ ap (λ (y : Way). y ∷ ws) here
+  where
+    t : at_place i x.place ≡ true
+    t = ap (at_place i) a ∙ eq-eqb i i refl
+
+    here : (if at_place i x.place then gone_on x i c else x) ≡ gone_on x i c
+    here = rw t refl
+
+-- looks change only looks and walks
+pub only_more : (v u : View) (ds : List Duty) (l : Looked) → IsOnlyLooks v u → messages_and_bags ds ≡ messages_and_bags u.duties → IsOnlyLooks v (with_looks u ds l)
+only_more v u ds l o e = record { frame = ap (λ (z : View). with_looks z ds l) o.frame; duties = e ∙ o.duties }
+
+-- a desk that was alone before looks still is
+pub still_alone : (v u : View) → IsOnlyLooks v u → IsAlone v → IsAlone u
+still_alone v u o a = record { first = ap (λ (z : View). z.first) o.frame ∙ a.first; lent = ap (λ (z : View). z.lent) o.frame ∙ a.lent; claims = ap (λ (z : View). z.claims) o.frame ∙ a.claims; flight = ap (λ (z : View). z.flight) o.frame ∙ a.flight }
+
+module _ (n k : ℕ) (v u : View) (i : ℕ) (busy : Option ℕ) (s : Going n k v u (Some i) busy) where
+  -- the way is the newest one
+  more : (c : Word) → (looked_cell u i c).looked.ways ≡ gone_on s.way i c ∷ v.looked.ways
+  more c = went i c u.looked.ways s.way v.looked.ways s.more s.at
+
+  -- what it read was seen
+  seen : (c : Word) → (looked_cell u i c).looked.seen ≡ (gone_on s.way i c).looks ++ v.looked.seen
+  seen c = ap (λ (ls : List Look). record { number = i; word = c } ∷ ls) s.seen
+
+  -- the ends of other bags are left
+  others : (c : Word) → KeepsEnds k v.duties (looked_cell u i c).duties
+  others c = keeps_on k k v.duties u.duties (after_cell i c u.duties) refl s.others (cell_keeps k i c u.duties)
+
+  -- looks and walks alone change
+  only : (c : Word) → IsOnlyLooks v (looked_cell u i c)
+  only c = only_more v u (after_cell i c u.duties) (looked_cell u i c).looked s.only (cell_keeps_messages i c u.duties)
+
+  -- the message to which the walk has come is below n
+  pub low : i < n
+  low = (s.room s.way v.looked.ways s.more i s.at).0
+
+  -- the walk goes past what is down
+  down : (next : Option ℕ) (c : Cell) → is_down c ≡ true → way_onward c next ≡ next → (w : View) → w ≡ looked_cell u i (record { cell = c; next = next }) → w.duties ≡ map (move_duty i next) u.duties → HasRoom n w.looked.ways → Going n k v w next busy
+  down next c d e w is moved room = record {
+    way = gone_on s.way i word;
+    more = ap (λ (z : View). z.looked.ways) is ∙ more word;
+    seen = ap (λ (z : View). z.looked.seen) is ∙ seen word;
+    bag = s.bag;
+    at = e;
+    passed = (ap (λ (b : Bool). b || is_claimed c) d, s.passed);
+    going = on busy s.going;
+    room = room;
+    others = subst (λ (z : View). KeepsEnds k v.duties z.duties) (sym is) (others word);
+    only = subst (λ (z : View). IsOnlyLooks v z) (sym is) (only word);
+    alone = s.alone;
+  }
+    where
+      word : Word
+      word = record { cell = c; next = next }
+
+      on : (b : Option ℕ) → IsGoing n s.way u.duties b → IsGoing n (gone_on s.way i word) w.duties b
+      on None g = ((d, g.0), subst (λ (z : Option ℕ). AllAt s.way.bag z w.duties) (sym e) (subst (λ (z : List Duty). AllAt s.way.bag next z) (sym moved) (all_move s.way.bag i next u.duties (subst (λ (z : Option ℕ). AllAt s.way.bag z u.duties) s.at g.1))))
+      on (Some j) g = (inr g.0, g.1)
+
+  -- what comes after a look that read this cell
+  pub turned : (next : Option ℕ) (c : Cell) → IsLinkedCell c → (IsArmed c → (x : ℕ) → next ≡ Some x → x < n) → (IsAlone u → IsSettledCell c) → HasRoom n (looked_cell u i (record { cell = c; next = next })).looked.ways
+      → ComesToTurn n k v (looked_cell u i (record { cell = c; next = next })) (by_cell i busy next c)
+  turned next Pending l inside a room = let c : Word = record { cell = Pending; next = next } in
+      record { way = gone_on s.way i c; more = more c; seen = seen c; bag = s.bag; answer = (s.way.looks, refl, s.passed); below = (low, inside tt); walked = tt; others = others c; only = only c; alone = λ _. tt }
+  turned next Empty l inside a room = let c : Word = record { cell = Empty; next = next } in
+      record { way = gone_on s.way i c; more = more c; seen = seen c; bag = s.bag; answer = inl (next, (s.way.looks, refl, s.passed)); below = low; walked = tt; others = others c; only = only c; alone = λ q. a (still_alone v u s.only q) }
+  turned next Claimed l inside a room = let c : Word = record { cell = Claimed; next = next } in
+      record { way = gone_on s.way i c; more = more c; seen = seen c; bag = s.bag; at = refl; passed = (refl, s.passed); going = (inl (refl, refl), low); room = room; others = others c; only = only c; alone = λ q. absurd (a (still_alone v u s.only q)) }
+  turned next Consumed l inside a room = down next Consumed refl refl (looked_cell u i (record { cell = Consumed; next = next })) refl refl room
+  turned next (Woken q) l inside a room = down next (Woken q) refl refl (looked_cell u i (record { cell = Woken q; next = next })) refl refl room
+  turned next Ready l inside a room = absurd l
+  turned next Started l inside a room = absurd l
+
+  -- the way is longer by one look
+  pub longer : (c : Word) → gone_so_far (looked_cell u i c).looked.ways ≡ gone_so_far u.looked.ways + 1
+  longer c = let e = ap gone_so_far (more c) in let f = ap gone_so_far s.more in omega (arith, e, f)
+
+  -- there is room for the look
+  pub room_left : gone_so_far u.looked.ways < n
+  room_left = let r = (s.room s.way v.looked.ways s.more i s.at).1 in let f = ap gone_so_far s.more in omega (arith, r, f)
+
+-- a look that read this cell, whatever walk had come there
+pub one_turn : (n i : ℕ) (busy : Option ℕ) (word : Word) (u w : View) (c : Cell) → IsLook n u w i word → word.cell ≡ c → IsTurn n u w i busy (by_cell i busy word.next c)
+one_turn n i busy word u w c look is = subst (λ (z : View). IsTurn n u z i busy (by_cell i busy word.next c)) (sym look.looked) (subst (λ (z : Cell). IsTurn n u (looked_cell u i word) i busy (by_cell i busy word.next z)) is record {
+  comes = λ k v s. let at : IsAt i u.looked.ways = subst (λ (ws : List Way). IsAt i ws) (sym s.more) s.at in
+      turned n k v u i busy s word.next word.cell (look.linked at) look.within (λ a. look.alone a (inl at)) (subst (λ (z : View). HasRoom n z.looked.ways) look.looked look.room);
+  longer = λ k v s. longer n k v u i busy s word;
+})
+
+-- past a cell that is neither pending, unarmed nor claimed the walk goes on
+pub goes_past : (i : ℕ) (busy next : Option ℕ) (c : Cell) → c ≢ Pending → c ≢ Empty → c ≢ Claimed → by_cell i busy next c ≡ On next busy
+goes_past i busy next Pending a b d = absurd (a refl)
+goes_past i busy next Empty a b d = absurd (b refl)
+goes_past i busy next Claimed a b d = absurd (d refl)
+goes_past i busy next Consumed a b d = refl
+goes_past i busy next (Woken q) a b d = refl
+goes_past i busy next Ready a b d = refl
+goes_past i busy next Started a b d = refl
+
+-- a look at a head begins a way
+pub starts : (n k : ℕ) (v w : View) (head : Option ℕ) → w ≡ looked_head v k head → HasRoom n w.looked.ways → Going n k v w head None
+starts n k v w head is room = subst (λ (z : View). Going n k v z head None) (sym is) record {
+  way = way_begun k head;
+  more = refl;
+  seen = refl;
+  bag = refl;
+  at = refl;
+  passed = tt;
+  going = (tt, all_start k head v.duties);
+  room = subst (λ (z : View). HasRoom n z.looked.ways) is room;
+  others = head_keeps k head v.duties;
+  only = record { frame = refl; duties = head_keeps_messages k head v.duties };
+  alone = λ _. refl;
+}
+
+-- a walk that has come to its end
+pub walk_ended : (n k : ℕ) (v w : View) (busy : Option ℕ) → Going n k v w None busy → IsSought n k v w (ended busy)
+walk_ended n k v w None s = record { way = s.way; more = s.more; seen = s.seen; bag = s.bag; answer = (s.at, s.going.0); below = tt; walked = subst (λ (z : ℕ). AllAt z None w.duties) s.bag (subst (λ (z : Option ℕ). AllAt s.way.bag z w.duties) s.at s.going.1); others = s.others; only = s.only; alone = λ _. tt }
+walk_ended n k v w (Some i) s = record { way = s.way; more = s.more; seen = s.seen; bag = s.bag; answer = inr (s.at, s.passed, s.going.0); below = s.going.1; walked = tt; others = s.others; only = s.only; alone = λ a. let e : Path (Option ℕ) (Some i) None = s.alone a in absurd (cc) }

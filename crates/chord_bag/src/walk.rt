@@ -1,0 +1,76 @@
+//! A message that can be claimed is looked for in one bag.
+ghost use Rattle.std.specs.Prelude.{◌≡◌, ℕ, ◌<◌, ◌+◌, Some, None};
+ghost use Rattle.chord_rule.specs.Made.{key};
+ghost use Rattle.chord_space.specs.Desks.{view, IsDeskOf, IsSameDesk};
+ghost use Rattle.chord_bag.specs.Seeking.{IsSought};
+ghost use Rattle.chord_bag.specs.Walking.{IsTurn};
+
+use chord_base::value::Object;
+use chord_code::carry::Carry;
+use chord_space::{Desk, Space};
+use chord_word::Cell;
+
+/// What a walk through a bag came to.
+#[derive(Clone, Copy, Debug, PartialEq, Eq, Drop)]
+pub enum Sought {
+    /// A message that was pending, with its next as it was read.
+    Found(u32, Option<u32>),
+    /// Each message on the whole way was consumed or woken.
+    Bare,
+    /// No message on the way was pending, and this one is in another desk's hand: it is not armed yet, or it is claimed.
+    Busy(u32),
+}
+
+/// What comes after a look: the walk is over, or it goes on at this place, and this message was read claimed on the way.
+#[derive(Drop)]
+enum Turn {
+    Over(Sought),
+    On(Option<u32>, Option<u32>),
+}
+
+// One look, at the message to which the walk has come. A claimed message may be given back, so a walk that finds no pending
+// one tells of it; behind a message that is not armed nothing can be read.
+fn look_on<P: Carry>(space: &Space<P>, desk: &mut Desk<P>, i: u32, busy: Option<u32>) -> Turn
+    requires desk { IsDeskOf space.now desk.old }
+    requires bounds { i < space.now.events }
+    ensures desk { IsSameDesk desk.old desk.new }
+    ensures turned { IsTurn space.now.events (view desk.old) (view desk.new) i busy result }
+{
+    let word = space.look_cell(desk, i);
+    match word.cell {
+        Cell::Pending => Turn::Over(Sought::Found(i, word.next)),
+        Cell::Empty => Turn::Over(Sought::Busy(i)),
+        Cell::Claimed => Turn::On(word.next, Some(i)),
+        _ => Turn::On(word.next, busy),
+    }
+}
+
+/// Goes through the bag of this object and method, from its head over the nexts, to the first message that is pending, or that
+/// is not armed; a bag's messages are all different, so the walk ends. The one way that it went tells its answer. On a first
+/// desk that has lent none and has nothing in hand it is never Busy. On a desk without a claim, what was read claimed is
+/// claimed by another.
+///
+/// Messages of one kind in a bag of their own, claimed by an exchange where they stand, are from Turon and Russo, "Scalable Join
+/// Patterns" (OOPSLA 2011); there the bag is a queue that is walked in the same way.
+pub fn seek<P: Carry>(space: &Space<P>, desk: &mut Desk<P>, object: Object, method: u8) -> Sought
+    requires desk { IsDeskOf space.now desk.old }
+    requires bounds { (object.number < space.now.events) × (object.class < 1024) × (method < 16) }
+    ensures desk { IsSameDesk desk.old desk.new }
+    ensures sought { IsSought space.now.events (key object method) (view desk.old) (view desk.new) result }
+{
+    let mut place = space.look_head(desk, object, method);
+    let mut busy = None;
+    while let Some(i) = place {
+        match look_on(space, desk, i, busy) {
+            Turn::Over(sought) => return sought,
+            Turn::On(next, claimed) => {
+                place = next;
+                busy = claimed;
+            }
+        }
+    }
+    match busy {
+        Some(i) => Sought::Busy(i),
+        None => Sought::Bare,
+    }
+}

@@ -1,0 +1,18 @@
+-- A pen that holds nothing writes the counts, and is finished.
+use Rattle.std.proofs.lemmas.Result.{on_ok_weaker, on_err_weaker}
+use Rattle.chord_journal.proofs.counts.write_counts.Goals as goal
+
+pub returns-clause-whole : goal.returns-clause-whole
+returns-clause-whole g c =
+    let written = rw (c.new-pen.ensures, c.entries.ensures.entries) at c.put_counts.ensures in
+    on_ok_weaker c.finish.result (λ whole. whole _ _ _ written) c.finish.ensures.whole
+
+pub returns-clause-prefix : goal.returns-clause-prefix
+returns-clause-prefix g c =
+    let written = rw (c.new-pen.ensures, c.entries.ensures.entries) at c.put_counts.ensures in
+    on_err_weaker c.finish.result (λ front. front _ _ _ written) c.finish.ensures.prefix
+
+pub returns-clause-failed : goal.returns-clause-failed
+returns-clause-failed g c =
+    let written = rw (c.new-pen.ensures, c.entries.ensures.entries) at c.put_counts.ensures in
+    on_err_weaker c.finish.result (λ failed. failed _ _ _ written) c.finish.ensures.failed

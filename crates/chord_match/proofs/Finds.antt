@@ -1,0 +1,180 @@
+-- What a search for a chord answers, from what is known of the bags.
+use Rattle.std.proofs.Common.{zero, suc, map, replicate, ◌≡◌, ◌≢◌, ◌⊎◌, inl, inr, ℕ, ◌<◌, Bool, true, false, ◌==◌, List, [], ◌∷◌, length, slice_get, slice_index_or, refl, sym, ap, ◌∙◌, subst, Option, Some, None, if◌then◌else◌}
+use Rattle.std.proofs.lemmas.Bool.{eqb-true, eq-eqb}
+use Rattle.std.proofs.lemmas.Option.{slice_get_within}
+use Rattle.chord_base.specs.Meaning.{Program}
+use Rattle.chord_base.specs.Messages.{has}
+use Rattle.chord_base.specs.declared.value.Object.{Object}
+use Rattle.chord_base.proofs.Pending.{has_more}
+use Rattle.chord_code.specs.Laws.{ChordsAreRight}
+use Rattle.chord_word.specs.declared.cells.Cell.{Cell}
+use Rattle.chord_word.specs.declared.cells.Cell.TheVariants.{Empty, Pending, Claimed, Consumed, Woken, Ready, Started}
+use Rattle.chord_word.specs.declared.cells.Word.{Word}
+use Rattle.chord_rule.specs.declared.view.Duty.{Duty}
+use Rattle.chord_rule.specs.declared.view.View.{View}
+use Rattle.chord_rule.specs.Bags.{IsArmed}
+use Rattle.chord_rule.specs.Duties.{HasDuty, MayRest, move_duty}
+use Rattle.chord_rule.specs.Kinds.{is_down, looked_cell}
+use Rattle.chord_rule.specs.Looks.{HasLook}
+use Rattle.chord_rule.specs.Made.{key, keys, IsChord}
+use Rattle.chord_rule.specs.Numbers.{HasNumber}
+use Rattle.chord_rule.specs.Tells.{IsLook}
+use Rattle.chord_rule.specs.Ways.{IsAlone, IsSettledCell}
+use Rattle.chord_rule.proofs.KeySteps.{same_key}
+use Rattle.chord_bag.specs.declared.walk.Sought.{Sought}
+use Rattle.chord_bag.specs.declared.walk.Sought.TheVariants as a_sought
+use Rattle.chord_bag.specs.Reads.{IsOnlyLooks, after_cell}
+use Rattle.chord_bag.proofs.Turning.{still_alone, only_more}
+use Rattle.chord_bag.proofs.Walks.{cell_keeps_messages}
+use Rattle.chord_match.specs.declared.search.Own.{Own}
+use Rattle.chord_match.specs.declared.search.Verdict.TheVariants as a_verdict
+use Rattle.chord_match.specs.Seen.{HasSought, AreMatched}
+use Rattle.chord_match.specs.Searching.{WasTold, WasToldIf, Searching, IsStuck, AreStuck, IsThrough}
+use Rattle.chord_match.specs.Findings.{IsLacking, IsHeldUp, IsMatch, IsLeft, IsHeldBy, read_so}
+use Rattle.chord_match.proofs.Growing.{duty_is_kept, key_cancels}
+
+-- a bag of a chord is that of one of its methods
+has_keys : (o : Object) (js : List ℕ) (x : ℕ) → HasNumber x (keys o js) → (j : ℕ) × (has j js ≡ true) × (x ≡ key o j)
+has_keys o [] x h = absurd h
+has_keys o (j ∷ js) x (inl q) = (j, rw (eq-eqb j j refl) refl, q)
+has_keys o (j ∷ js) x (inr h) = let r = has_keys o js x h in (r.0, has_more r.0 j js r.1, r.2)
+
+-- the bag of a method of a chord is one of its bags
+key_has : (o : Object) (js : List ℕ) (j : ℕ) → has j js ≡ true → HasNumber (key o j) (keys o js)
+key_has o [] j y = absurd (let z : false ≡ true = y in cc)
+key_has o (i ∷ js) j y = cases (j == i) refl (key_has o js j)
+  where
+    cases : (b : Bool) → (j == i) ≡ b → (has j js ≡ true → HasNumber (key o j) (keys o js)) → HasNumber (key o j) (keys o (i ∷ js))
+    cases true e k = inl (ap (key o) (eqb-true j i e))
+    cases false e k = inr (k (rw e at y))
+
+module _ (n : ℕ) (v w : View) (o : Object) (own : Own) (known : List (Option Sought)) (s : Searching n v w o own known) where
+  -- what was told of a bag
+  told_at : (j : ℕ) (x : Sought) → slice_index_or known j None ≡ Some x → WasTold n v w (key o j) x
+  told_at j x e = subst (λ (z : Option Sought). WasToldIf n v w (key o j) z) e (s.cached j)
+
+  -- a chord that is stuck by a bare bag
+  lacking : (js : List ℕ) → IsStuck own js known None → IsLacking v w o own.method js
+  lacking js t = (t.0, t.1, t.2.0, (told_at t.0 a_sought.Bare t.2.1).answered)
+
+  -- a chord that is stuck by a message in another hand
+  held_up : (js : List ℕ) (i : ℕ) → IsStuck own js known (Some i) → IsHeldUp v w o own.method js i × (i < n) × (IsAlone v → ⊥)
+  held_up js i t = let r = told_at t.0 (a_sought.Busy i) t.2.1 in ((t.0, t.1, t.2.0, r.answered), r.below, r.says)
+
+-- p's chords are those that were gone through
+module _ (n : ℕ) (p : Program) (o : Object) (own : Own) (u w : View) (known : List (Option Sought)) (jss : List (List ℕ)) (same : jss ≡ p.chords o.class) where
+  -- a chord of the class is one of those that were gone through
+  within : (k : ℕ) (js : List ℕ) → slice_get (p.chords o.class) k ≡ Some js → (slice_get jss k ≡ Some js) × (k < length jss)
+  within k js e = let here : slice_get jss k ≡ Some js = ap (λ (z : List (List ℕ)). slice_get z k) same ∙ e in (here, slice_get_within jss k js here)
+
+  -- where each chord has a bare bag, the duty may be laid down
+  pub may_rest : ChordsAreRight p → o.number < 65536 → own.method < 16 → Searching n u w o own known → AreStuck own jss (length jss) known None → (e : Duty) → HasDuty e w.duties → e.bag ≡ key o own.method → MayRest (IsChord p) e
+  may_rest right low few t s e h b = inr (λ ks c i.
+      let q = has_keys c.0 c.2 e.bag (subst (λ (z : List ℕ). HasNumber e.bag z) c.5 i) in
+      let same_one = same_key o c.0 own.method q.0 low few c.4 (right.few c.0.class c.1 q.0 c.2 c.3 q.1) (sym b ∙ q.2) in
+      let x = within c.1 c.2 (subst (λ (z : Object). slice_get (p.chords z.class) c.1 ≡ Some c.2) (sym same_one.0) c.3) in
+      let r = s c.1 c.2 x.1 x.0 (subst (λ (z : ℕ). has z c.2 ≡ true) (sym same_one.1) q.1) in
+      let a = told_at n u w o own known t r.0 a_sought.Bare r.2.1 in
+      (record { bag = key o r.0; place = None }, a.says e h, subst (λ (z : Object). HasNumber (key z r.0) ks) (sym same_one.0) (subst (λ (z : List ℕ). HasNumber (key c.0 r.0) z) (sym c.5) (key_has c.0 c.2 r.0 r.1)), (λ z. r.2.0 (key_cancels o r.0 own.method (z ∙ b))), refl))
+
+  module _ (v : View) (only : IsOnlyLooks v u) (read : u ≡ read_so v own.message Pending own.next) where
+    -- the first chord with all members is a match
+    pub is_match : own.method < 16 → (k : ℕ) (ms : List ℕ) (xs : List (Option ℕ)) → IsThrough n u w o own jss known (a_verdict.Match k ms xs) → IsMatch p n v w own.message o own.method k ms xs
+    is_match few k ms xs t = let r = t.verdict in let here = ap (λ (z : List (List ℕ)). slice_get z k) (sym same) ∙ r.1 in let d = t.stands.duty in record {
+      next = own.next;
+      sought = subst (λ (z : View). HasSought z w) read t.stands.sought;
+      seen = record { methods = r.0; is_chord = here; ready = r.4; object = (d.0, own.method, d.1, few, d.3) };
+      chord = (here, r.2);
+      matched = subst (λ (z : View). AreMatched z w o own.message own.method own.next r.0 ms xs) read r.3;
+    }
+
+    -- where each chord has a bare bag, nothing is left to do
+    pub is_left : IsThrough n u w o own jss known (a_verdict.Without None) → IsLeft p v w own.message o own.method
+    is_left t = record {
+      next = own.next;
+      sought = subst (λ (z : View). HasSought z w) read t.stands.sought;
+      lacking = λ k js c. let x = within k js c.0 in subst (λ (z : View). IsLacking z w o own.method js) read (lacking n u w o own known t.stands js (t.verdict k js x.1 x.0 c.1));
+    }
+
+    -- the first message in another hand is told
+    pub is_busy : (i : ℕ) → IsThrough n u w o own jss known (a_verdict.Without (Some i)) → IsHeldBy p n v w own.message o own.method i
+    is_busy i t = record {
+      one = inr record {
+        next = own.next;
+        sought = subst (λ (z : View). HasSought z w) read t.stands.sought;
+        each = λ k js c. let x = within k js c.0 in let r = t.verdict.0 k js x.1 x.0 c.1 in either_way js r.0 r.1;
+        one = let r = t.verdict.1 in (r.0, r.1, (ap (λ (z : List (List ℕ)). slice_get z r.0) (sym same) ∙ r.3, r.4), subst (λ (z : View). IsHeldUp z w o own.method r.1 i) read one.0);
+      };
+      below = one.1;
+      alone = λ a. one.2 (still_alone v u only a);
+    }
+      where
+        one : IsHeldUp u w o own.method t.verdict.1.1 i × (i < n) × (IsAlone u → ⊥)
+        one = held_up n u w o own known t.stands t.verdict.1.1 i t.verdict.1.5
+
+        either_way : (js : List ℕ) (b : Option ℕ) → IsStuck own js known b → IsLacking (read_so v own.message Pending own.next) w o own.method js ⊎ ((x : ℕ) × IsHeldUp (read_so v own.message Pending own.next) w o own.method js x)
+        either_way js None s = inl (subst (λ (z : View). IsLacking z w o own.method js) read (lacking n u w o own known t.stands js s))
+        either_way js (Some x) s = inr (x, subst (λ (z : View). IsHeldUp z w o own.method js x) read (held_up n u w o own known t.stands js x s).0)
+
+-- ## The own message
+
+-- a look at m that finds it down marks the duty as off
+off_marked : (m : ℕ) (next : Option ℕ) (ds : List Duty) (e : Duty) → HasDuty e (map (move_duty m next) ds) → e.message ≡ m → e.off ≡ true
+off_marked m next [] e h q = absurd h
+off_marked m next (d ∷ ds) e (inl h) q = ap (λ (z : Duty). z.off) h ∙ (let same : d.message ≡ m = sym (ap (λ (z : Duty). z.message) h) ∙ q in let t : (d.message == m) ≡ true = eq-eqb d.message m same in rw t refl)
+off_marked m next (d ∷ ds) e (inr h) q = off_marked m next ds e h q
+
+-- a look changes only looks and walks
+pub look_only : (v : View) (m : ℕ) (c : Word) → IsOnlyLooks v (looked_cell v m c)
+look_only v m c = only_more v v (after_cell m c v.duties) (looked_cell v m c).looked (record { frame = refl; duties = refl }) (cell_keeps_messages m c v.duties)
+
+-- the duty that was on m still is
+pub duty_stays : (v w : View) (m k : ℕ) → IsOnlyLooks v w → (d : Duty) × HasDuty d v.duties × (d.message ≡ m) × (d.bag ≡ k) → (d : Duty) × HasDuty d w.duties × (d.message ≡ m) × (d.bag ≡ k)
+duty_stays v w m k o t = let r = duty_is_kept t.0 v.duties w.duties o.duties t.1 in (r.0, r.1, r.2 ∙ t.2, r.3 ∙ t.3)
+
+-- m is down: its duty may be laid down
+pub down_rests : (p : Program) (v w : View) (m k : ℕ) (c : Word) → w ≡ looked_cell v m c → is_down c.cell ≡ true → (d : Duty) × HasDuty d v.duties × (d.message ≡ m) × (d.bag ≡ k)
+    → (d : Duty) × HasDuty d w.duties × (d.message ≡ m) × ((e : Duty) → HasDuty e w.duties → e.message ≡ m → e.bag ≡ d.bag → MayRest (IsChord p) e)
+down_rests p v w m k c is down t =
+    let r = duty_stays v w m k (subst (λ (z : View). IsOnlyLooks v z) (sym is) (look_only v m c)) t in
+    (r.0, r.1, r.2, (λ e h q b. inl (off_marked m c.next v.duties e (subst (λ (z : List Duty). HasDuty e z) (ap (λ (z : View). z.duties) is ∙ moved) h) q)))
+  where
+    moved : (if is_down c.cell then map (move_duty m c.next) v.duties else v.duties) ≡ map (move_duty m c.next) v.duties
+    moved = rw down refl
+
+-- of a bag nothing is known
+abbrev nothing : Option Sought
+nothing = None
+
+-- so of each bag at first
+all_none : (n q : ℕ) → slice_index_or (replicate n nothing) q nothing ≡ nothing
+all_none zero q = refl
+all_none (suc n) zero = refl
+all_none (suc n) (suc q) = all_none n q
+
+-- nothing is known at first
+pub stands_first : (n : ℕ) (v : View) (o : Object) (own : Own) → Searching n v v o own [] → Searching n v v o own (replicate 16 None)
+stands_first n v o own t = record { sought = t.sought; listed = λ k h. let r = t.listed k h in let z : Path (Option Sought) None (Some r.1) = r.3 in absurd (cc); read = t.read; below = t.below; next_below = t.next_below; duty = t.duty; cached = λ q. subst (λ (z : Option Sought). WasToldIf n v v (key o q) z) (sym (all_none 16 q)) tt }
+
+-- m was read pending
+pub stands_read : (n : ℕ) (v u : View) (o : Object) (own : Own) → IsLook n v u own.message (record { cell = Pending; next = own.next }) → own.message < n → (d : Duty) × HasDuty d v.duties × (d.message ≡ own.message) × (d.bag ≡ key o own.method) → Searching n u u o own []
+stands_read n v u o own look low d = record {
+  sought = record { grows = record { ways = []; looks = []; more_ways = refl; more_seen = refl; only = record { frame = refl; duties = refl } }; once = tt };
+  listed = λ k h. let z : false ≡ true = h in absurd (cc);
+  read = (record { cell = Pending; next = own.next }, subst (λ (z : View). HasLook own.message (record { cell = Pending; next = own.next }) z.looked.seen) (sym look.looked) (inl (refl, refl)), tt, refl);
+  below = low;
+  next_below = look.within tt;
+  duty = duty_stays v u own.message (key o own.method) (subst (λ (z : View). IsOnlyLooks v z) (sym look.looked) (look_only v own.message (record { cell = Pending; next = own.next }))) d;
+  cached = λ q. tt;
+}
+
+-- m was read neither pending nor down, so it is claimed, and by another desk
+pub claimed_by_another : (p : Program) (n : ℕ) (v w : View) (m : ℕ) (o : Object) (method : ℕ) (next : Option ℕ) (c : Cell) → m < n → w ≡ read_so v m c next → IsArmed c → (IsAlone v → IsSettledCell c) → c ≢ Pending → c ≢ Consumed → ((q : ℕ) → c ≢ Woken q)
+    → IsHeldBy p n v w m o method m
+claimed_by_another p n v w m o method next Claimed low is armed alone a b d = record { one = inl (refl, (next, is)); below = low; alone = alone }
+claimed_by_another p n v w m o method next Pending low is armed alone a b d = absurd (a refl)
+claimed_by_another p n v w m o method next Consumed low is armed alone a b d = absurd (b refl)
+claimed_by_another p n v w m o method next (Woken q) low is armed alone a b d = absurd (d q refl)
+claimed_by_another p n v w m o method next Empty low is armed alone a b d = absurd armed
+claimed_by_another p n v w m o method next Ready low is armed alone a b d = absurd armed
+claimed_by_another p n v w m o method next Started low is armed alone a b d = absurd armed

@@ -1,0 +1,108 @@
+-- What was read and answered stays so while the desk looks on.
+use Rattle.std.proofs.Common.{◌≡◌, inl, inr, ℕ, List, [], ◌∷◌, ◌++◌, append_assoc, refl, sym, ap, ◌∙◌, subst, arith, Option}
+use Rattle.chord_base.specs.declared.value.Object.{Object}
+use Rattle.chord_word.specs.declared.cells.Cell.TheVariants.{Pending}
+use Rattle.chord_word.specs.declared.cells.Word.{Word}
+use Rattle.chord_rule.specs.declared.view.Duty.{Duty}
+use Rattle.chord_rule.specs.declared.view.Look.{Look}
+use Rattle.chord_rule.specs.declared.view.View.{View}
+use Rattle.chord_rule.specs.declared.view.Way.{Way}
+use Rattle.chord_rule.specs.Duties.{HasDuty}
+use Rattle.chord_rule.specs.Looks.{HasLook, HasSeen}
+use Rattle.chord_rule.specs.Made.{key}
+use Rattle.chord_rule.specs.Ways.{HasWay, IsRead, KnowsBag}
+use Rattle.chord_bag.specs.declared.walk.Sought.{Sought}
+use Rattle.chord_bag.specs.declared.walk.Sought.TheVariants.{Found}
+use Rattle.chord_bag.specs.Reads.{with_looks, messages_and_bags}
+use Rattle.chord_bag.specs.Seeking.{IsSought}
+use Rattle.chord_match.specs.Seen.{Grows, Answered, IsReady, IsMember}
+
+-- a way that was gone before is still one
+pub has_way_right : (x : Way) (us vs : List Way) → HasWay x vs → HasWay x (us ++ vs)
+has_way_right x [] vs h = h
+has_way_right x (a ∷ us) vs h = inr (has_way_right x us vs h)
+
+-- a look that was made before is still one
+pub has_look_right : (i : ℕ) (c : Word) (us vs : List Look) → HasLook i c vs → HasLook i c (us ++ vs)
+has_look_right i c [] vs h = h
+has_look_right i c (a ∷ us) vs h = inr (has_look_right i c us vs h)
+
+-- a newer look is one of all
+pub has_look_left : (i : ℕ) (c : Word) (us vs : List Look) → HasLook i c us → HasLook i c (us ++ vs)
+has_look_left i c [] vs h = absurd h
+has_look_left i c (a ∷ us) vs (inl q) = inl q
+has_look_left i c (a ∷ us) vs (inr h) = inr (has_look_left i c us vs h)
+
+-- a duty has its message and its bag for good
+pub duty_is_kept : (d : Duty) (ds es : List Duty) → messages_and_bags es ≡ messages_and_bags ds → HasDuty d ds → (e : Duty) × HasDuty e es × (e.message ≡ d.message) × (e.bag ≡ d.bag)
+duty_is_kept d [] es n h = absurd h
+duty_is_kept d (x ∷ ds) [] n h = let z : ◌≡◌ {A = List (ℕ × ℕ)} [] ((x.message, x.bag) ∷ messages_and_bags ds) = n in absurd (cc)
+duty_is_kept d (x ∷ ds) (y ∷ es) n (inl q) = let p : ◌≡◌ {A = ℕ × ℕ} (y.message, y.bag) (x.message, x.bag) = cc in
+    (y, inl refl, ap (λ (z : ℕ × ℕ). z.0) p ∙ sym (ap (λ (z : Duty). z.message) q), ap (λ (z : ℕ × ℕ). z.1) p ∙ sym (ap (λ (z : Duty). z.bag) q))
+duty_is_kept d (x ∷ ds) (y ∷ es) n (inr h) = let p : ◌≡◌ {A = List (ℕ × ℕ)} (messages_and_bags es) (messages_and_bags ds) = cc in let r = duty_is_kept d ds es p h in (r.0, inr r.1, r.2, r.3)
+
+-- where nothing was done, nothing is new
+pub grows_refl : (v : View) → Grows v v
+grows_refl v = record { ways = []; looks = []; more_ways = refl; more_seen = refl; only = record { frame = refl; duties = refl } }
+
+-- what was read and then read on was read
+abbrev pub grows_trans : (u v w : View) → Grows u v → Grows v w → Grows u w
+grows_trans u v w a b = record {
+  ways = b.ways ++ a.ways;
+  looks = b.looks ++ a.looks;
+  more_ways = b.more_ways ∙ ap (λ (z : List Way). b.ways ++ z) a.more_ways ∙ sym (append_assoc b.ways a.ways u.looked.ways);
+  more_seen = b.more_seen ∙ ap (λ (z : List Look). b.looks ++ z) a.more_seen ∙ sym (append_assoc b.looks a.looks u.looked.seen);
+  only = record { frame = b.only.frame ∙ ap (λ (z : View). with_looks z w.duties w.looked) a.only.frame; duties = b.only.duties ∙ a.only.duties };
+}
+
+-- a seek makes looks and a way alone
+abbrev pub sought_grows : (n k : ℕ) (v w : View) (s : Sought) → IsSought n k v w s → Grows v w
+sought_grows n k v w s f = record { ways = f.way ∷ []; looks = f.way.looks; more_ways = f.more; more_seen = f.seen; only = f.only }
+
+module _ (v u w : View) (g : Grows u w) where
+  -- an answer stays given
+  pub answered_on : (k : ℕ) (s : Sought) → Answered v u k s → Answered v w k s
+  answered_on k s a = (a.0, g.ways ++ a.1, g.more_ways ∙ ap (λ (z : List Way). g.ways ++ z) a.2 ∙ sym (append_assoc g.ways a.1 v.looked.ways), has_way_right a.0 g.ways a.1 a.3, a.4, a.5)
+
+  -- what was seen was seen
+  pub seen_on : (i : ℕ) (next : Option ℕ) → HasSeen u i next → HasSeen w i next
+  seen_on i next a = (a.0, subst (λ (z : List Look). HasLook i a.0 z) (sym g.more_seen) (has_look_right i a.0 g.looks u.looked.seen a.1), a.2, a.3)
+
+  -- a duty stays, with its bag
+  pub duty_on : (i k : ℕ) → (d : Duty) × HasDuty d u.duties × (d.message ≡ i) × (d.bag ≡ k) → (d : Duty) × HasDuty d w.duties × (d.message ≡ i) × (d.bag ≡ k)
+  duty_on i k t = let r = duty_is_kept t.0 u.duties w.duties g.only.duties t.1 in (r.0, r.1, r.2 ∙ t.2, r.3 ∙ t.3)
+
+  -- what bag a message is in stays known
+  pub knows_on : (i k : ℕ) → KnowsBag u i k → KnowsBag w i k
+  knows_on i k (inl t) = inl (t.0, subst (λ (z : List Way). HasWay t.0 z) (sym g.more_ways) (has_way_right t.0 g.ways u.looked.ways t.1), t.2, t.3)
+  knows_on i k (inr t) = inr (duty_on i k t)
+
+  -- a member that may be claimed still may
+  pub ready_on : (n : ℕ) (o : Object) (j i : ℕ) (next : Option ℕ) → IsReady n u o j i next → IsReady n w o j i next
+  ready_on n o j i next r = record { seen = seen_on i next r.seen; known = knows_on i (key o j) r.known; below = r.below; next_below = r.next_below }
+
+  -- a member stays one
+  pub member_on : (o : Object) (m method : ℕ) (own : Option ℕ) (j i : ℕ) (next : Option ℕ) → IsMember v u o m method own j i next → IsMember v w o m method own j i next
+  member_on o m method own j i next (inl t) = inl t
+  member_on o m method own j i next (inr t) = inr (t.0, answered_on (key o j) (Found i next) t.1)
+
+-- two methods of one object have two bags
+pub key_cancels : (o : Object) (i j : ℕ) → key o i ≡ key o j → i ≡ j
+key_cancels o i j e = omega (arith, e)
+
+-- what was found on the newest way was seen, and is known to be in its bag
+pub found_ready : (n k : ℕ) (v w : View) (i : ℕ) (next : Option ℕ) → IsSought n k v w (Found i next) → HasSeen w i next × KnowsBag w i k
+found_ready n k v w i next s = (
+  (
+    record { cell = Pending; next = next },
+    subst (λ (z : List Look). HasLook i (record { cell = Pending; next = next }) z) (sym s.seen)
+        (has_look_left i (record { cell = Pending; next = next }) s.way.looks v.looked.seen (subst (λ (z : List Look). HasLook i (record { cell = Pending; next = next }) z) (sym s.answer.1) (inl (refl, refl)))),
+    tt,
+    refl,
+  ),
+  inl (s.way, subst (λ (z : List Way). HasWay s.way z) (sym s.more) (inl refl), s.bag, subst (λ (z : List Look). IsRead i z) (sym s.answer.1) (inl refl)),
+)
+
+-- a seek gives an answer
+pub answered : (n k : ℕ) (v u w : View) (s : Sought) → Grows v u → IsSought n k u w s → Answered v w k s
+answered n k v u w s g f = (f.way, f.way ∷ g.ways, f.more ∙ ap (λ (z : List Way). f.way ∷ z) g.more_ways, inl refl, f.bag, f.answer)

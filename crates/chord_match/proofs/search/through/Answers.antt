@@ -1,0 +1,54 @@
+use Rattle.std.proofs.Common.{◌≡◌, ◌+◌, ℕ, List, Option, Some, map, slice_get, sym, ap, ◌∙◌, subst}
+use Rattle.chord_code.specs.Meaning.{methods_of}
+use Rattle.chord_space.specs.Desks.{view}
+use Rattle.chord_space.specs.declared.space.Desk.{Desk}
+use Rattle.chord_rule.specs.declared.view.View.{View}
+use Rattle.chord_bag.specs.declared.walk.Sought.{Sought}
+use Rattle.chord_match.specs.declared.search.Outcome.{Outcome}
+use Rattle.chord_match.specs.Searching.{Searching, IsOutcome, AreStuck}
+use Rattle.chord_match.proofs.Chords.{line_at, all_lines, are_kept, are_skipped, are_more}
+use Rattle.chord_match.proofs.search.through.Goals.{then-has_method+in-Stuck, else-has_method}
+use Rattle.chord_match.proofs.search.through.Goals as goal
+
+pub one_chord-requires-clause-methods : goal.one_chord-requires-clause-methods
+one_chord-requires-clause-methods g c =
+    c.requires.lines.1 c.loop-at.at c.items-methods.result.now (line_at c.args.lines.now c.loop-at.at c.index-lines-at.result c.index-lines-at.is c.loop-at-test.true ∙ ap (λ (z : List ℕ). Some z) (ap methods_of c.index-lines-at.is ∙ sym c.items-methods.ensures.numbers))
+
+pub returns-in-Whole-clause-through : goal.returns-in-Whole-clause-through
+returns-in-Whole-clause-through g c v t =
+    let s = (c.loop-at.invariant.2 v t).0 in
+    let o = subst (λ (z : Outcome). IsOutcome c.args.space.now.events v (view c.loop-at.desk) (view c.one_chord.new.desk) c.args.object c.args.own.now c.items-methods.result.now c.loop-at.known c.one_chord.new.known z) c.in-Whole.is (c.one_chord.ensures.outcome v s) in
+    let here : slice_get (map methods_of c.args.lines.now) c.loop-at.at ≡ Some c.items-methods.result.now = line_at c.args.lines.now c.loop-at.at c.index-lines-at.result c.index-lines-at.is c.loop-at-test.true ∙ ap (λ (z : List ℕ). Some z) (ap methods_of c.index-lines-at.is ∙ sym c.items-methods.ensures.numbers) in
+    record { stands = o.moves.stands; verdict = (c.items-methods.result.now, here, sym c.has_method.ensures ∙ c.if-has_method.true, o.comes.0, o.comes.1) }
+
+pub loop-at-preserved : goal.loop-at-preserved
+loop-at-preserved g c =
+    let here : slice_get (map methods_of c.args.lines.now) c.loop-at.at ≡ Some c.items-methods.result.now = line_at c.args.lines.now c.loop-at.at c.index-lines-at.result c.index-lines-at.is c.loop-at-test.true ∙ ap (λ (z : List ℕ). Some z) (ap methods_of c.index-lines-at.is ∙ sym c.items-methods.ensures.numbers) in
+    let i = c.loop-at.invariant in
+    elim c.if-has_method.branch [
+      | then-has_method+in-Stuck w ↦ (
+        ap (λ (d : Desk g.row.P.Denot). d.seat.table_id) w.desk-is ∙ w.one_chord.ensures.desk.0 ∙ i.0,
+        (ap (λ (d : Desk g.row.P.Denot). d.seat.table_id) w.desk-is ∙ w.one_chord.ensures.desk.0 ∙ i.1.0, ap (λ (d : Desk g.row.P.Denot). d.seat.id) w.desk-is ∙ w.one_chord.ensures.desk.1 ∙ i.1.1),
+        λ v t. let s = i.2 v t in
+            let o = subst (λ (z : Outcome). IsOutcome c.args.space.now.events v (view c.loop-at.desk) (view w.one_chord.new.desk) c.args.object c.args.own.now c.items-methods.result.now c.loop-at.known w.one_chord.new.known z) w.in-Stuck.is (w.one_chord.ensures.outcome v s.0) in
+            let more = are_more c.args.own.now (map methods_of c.args.lines.now) c.loop-at.at c.items-methods.result.now w.one_chord.new.known c.loop-at.busy w.in-Stuck.more here (sym c.has_method.ensures ∙ w.if-has_method.true) o.comes
+            (are_kept c.args.own.now (map methods_of c.args.lines.now) c.loop-at.at c.loop-at.known w.one_chord.new.known c.loop-at.busy o.moves.kept s.1) in (
+              subst (λ (z : View × List (Option Sought)). Searching c.args.space.now.events v z.0 c.args.object c.args.own.now z.1) (λ k. (view (sym w.desk-is k), sym w.known-is k)) o.moves.stands,
+              subst (λ (z : List (Option Sought) × Option ℕ). AreStuck c.args.own.now (map methods_of c.args.lines.now) (c.loop-at.at + 1) z.0 z.1) (λ k. (sym w.known-is k, sym (w.busy-is ∙ w.first-busy.ensures) k)) more,
+            ),
+      )
+      | else-has_method w ↦ (
+        ap (λ (d : Desk g.row.P.Denot). d.seat.table_id) w.desk-is ∙ i.0,
+        (ap (λ (d : Desk g.row.P.Denot). d.seat.table_id) w.desk-is ∙ i.1.0, ap (λ (d : Desk g.row.P.Denot). d.seat.id) w.desk-is ∙ i.1.1),
+        λ v t. let s = i.2 v t in (
+          subst (λ (z : View × List (Option Sought)). Searching c.args.space.now.events v z.0 c.args.object c.args.own.now z.1) (λ k. (view (sym w.desk-is k), sym w.known-is k)) s.0,
+          subst (λ (z : List (Option Sought) × Option ℕ). AreStuck c.args.own.now (map methods_of c.args.lines.now) (c.loop-at.at + 1) z.0 z.1) (λ k. (sym w.known-is k, sym w.busy-is k))
+              (are_skipped c.args.own.now (map methods_of c.args.lines.now) c.loop-at.at c.items-methods.result.now c.loop-at.known c.loop-at.busy here (sym c.has_method.ensures ∙ w.if-has_method.false) s.1),
+        ),
+      )
+    ]
+
+pub returns-clause-through : goal.returns-clause-through
+returns-clause-through g c v t =
+    let s = c.loop-at.invariant.2 v t in
+    record { stands = s.0; verdict = all_lines c.args.own.now c.args.lines.now c.loop-at.at c.loop-at.known c.loop-at.busy c.loop-at-test.false c.loop-at.auto.at-end s.1 }

@@ -1,0 +1,77 @@
+-- Members are claimed one after another.
+use Rattle.std.specs.Prelude.{◌≡◌, ◌≢◌, ℕ, ◌<◌, ◌≤◌, true, false, List, ◌∷◌, ◌++◌, length, slice_get, slice_index_or, Option, Some, None}
+use Rattle.chord_base.specs.Meaning.{Program}
+use Rattle.chord_base.specs.Story.{AllBelow}
+use Rattle.chord_base.specs.declared.event.What.TheVariants.{Fired}
+use Rattle.chord_base.specs.declared.value.Object.{Object}
+use Rattle.chord_base.specs.declared.value.Value as value
+use Rattle.chord_word.specs.declared.cells.Cell.TheVariants.{Pending}
+use Rattle.chord_word.specs.declared.cells.Word.{Word}
+use Rattle.chord_rule.specs.declared.view.Claim.{Claim}
+use Rattle.chord_rule.specs.declared.view.Look.{Look}
+use Rattle.chord_rule.specs.declared.view.Looked.{Looked}
+use Rattle.chord_rule.specs.declared.view.View.{View}
+use Rattle.chord_rule.specs.Claims.{HasThe, AreClaimed}
+use Rattle.chord_rule.specs.Coming.{IsPlace}
+use Rattle.chord_rule.specs.Kinds.{entry, fired}
+use Rattle.chord_rule.specs.Looks.{HasLook}
+use Rattle.chord_rule.specs.Numbers.{HasNumber}
+use Rattle.chord_rule.specs.Tells.{CameNext}
+use Rattle.chord_match.specs.declared.claiming.Missed.{Missed}
+use Rattle.chord_match.specs.declared.claiming.Missed.TheVariants.{Lost, Spent}
+use Rattle.chord_match.specs.Fires.{AreLastPending}
+use Rattle.chord_match.specs.Seen.{AreSeen}
+
+-- the desk has claimed i, for this object and method and for no firing yet
+abbrev pub ClaimAt : List Claim → Object → ℕ → ℕ → Type 0
+ClaimAt cs o j i = (c : Claim) × HasThe c cs × (c.number ≡ i) × (c.object ≡ o) × (c.method ≡ j) × (c.firing ≡ None)
+
+-- the first so many members are claimed, all different, and the others may be
+pub record Taking (n : ℕ) (p : Program) (v : View) (o : Object) (chord : ℕ) (ms : List ℕ) (xs : List (Option ℕ)) (at : ℕ) : Type 0 where
+  pub seen : AreSeen n p v o chord ms xs
+  pub most : at ≤ length ms
+  pub claimed : (q : ℕ) → q < at → ClaimAt v.claims o (slice_index_or seen.methods q 0) (slice_index_or ms q 0)
+  pub apart : (q r : ℕ) → q < r → r < at → slice_index_or ms q 0 ≢ slice_index_or ms r 0
+  pub many : length v.claims ≡ at
+  pub room : v.spent ≡ false
+
+-- the desk with other claims and looks
+abbrev pub with_claims : View → List Claim → Looked → View
+with_claims v cs l = record v { claims = cs; looked = l }
+
+-- the firing was drawn with claims on exactly the members
+pub record IsDrawn (p : Program) (v w : View) (o : Object) (chord : ℕ) (ms : List ℕ) (f : ℕ) : Type 0 where
+  pub claims : List Claim
+  pub methods : List ℕ
+  pub values : List value.Value
+  pub is_chord : slice_get (p.chords o.class) chord ≡ Some methods
+  pub claimed : AreClaimed claims o methods ms values
+  pub many : length claims ≡ length ms
+  pub apart : (q r : ℕ) → q < r → r < length ms → slice_index_or ms q 0 ≢ slice_index_or ms r 0
+  pub below : AllBelow f v.kept
+  pub came : CameNext p (entry f f (Fired chord o ms values))
+  pub place : IsPlace p (entry f f (Fired chord o ms values) ∷ v.kept)
+  pub drawn : w ≡ fired (with_claims v claims w.looked) f chord o ms values
+
+-- the desk as it was, but for what it read and wrote, and that it was told
+abbrev pub missed_by : View → Missed → Looked → View
+missed_by v (Lost i) l = record v { looked = l }
+missed_by v Spent l = record v { looked = l; spent = true }
+
+-- a member was read not pending, or the counter had passed the limit
+abbrev pub IsWhy : ℕ → List ℕ → Looked → List Look → Missed → Type 0
+IsWhy n ms l ls (Lost i) = HasNumber i ms × (i < n) × ((c : Word) × HasLook i c ls × (c.cell ≢ Pending))
+IsWhy n ms l ls Spent = (c : ℕ) × (n < c) × (l.count ≡ Some c)
+
+-- no member was lost
+abbrev pub IsNotLost : Missed → Type 0
+IsNotLost (Lost i) = ⊥
+IsNotLost Spent = Unit {0}
+
+-- nothing was fired, and what was claimed from place `at` on was given back
+pub record IsMissed (n : ℕ) (v w : View) (ms : List ℕ) (xs : List (Option ℕ)) (at : ℕ) (x : Missed) : Type 0 where
+  pub frame : w ≡ missed_by v x w.looked
+  pub looks : List Look
+  pub more : w.looked.seen ≡ looks ++ v.looked.seen
+  pub why : IsWhy n ms w.looked looks x
+  pub alone : v.first ≡ true → v.lent ≡ 0 → AreLastPending v ms xs at → IsNotLost x

@@ -1,0 +1,322 @@
+//! For a message that a desk has a duty on, messages are looked for that one chord takes together with it.
+ghost use Rattle.std.specs.Prelude.{◌≡◌, ℕ, ◌<◌, ◌≤◌, ◌+◌, List, [], length, map, slice_get, true, Some, None};
+ghost use Rattle.chord_base.specs.Messages.{has};
+ghost use Rattle.chord_bag.specs.Reads.{IsOnlyLooks};
+ghost use Rattle.chord_code.specs.Meaning.{chord_lines, methods_of};
+ghost use Rattle.chord_rule.specs.declared.view.View.{View};
+ghost use Rattle.chord_rule.specs.declared.view.Duty.{Duty};
+ghost use Rattle.chord_rule.specs.Duties.{HasDuty};
+ghost use Rattle.chord_rule.specs.Made.{key};
+ghost use Rattle.chord_space.specs.Desks.{view, code_of, program_of, IsDeskOf, IsSameDesk};
+ghost use Rattle.chord_word.specs.declared.cells.Cell.TheVariants.{Pending};
+ghost use Rattle.chord_match.specs.Findings.{IsFinding, read_so};
+ghost use Rattle.chord_match.specs.Searching.{Searching, Learned, Picked, Gathered, IsOutcome, IsThrough, firstly};
+
+use crate::nexts::Nexts;
+use chord_bag::{Sought, seek};
+use chord_base::members::Members;
+use chord_base::value::Object;
+use chord_code::carry::Carry;
+use chord_code::code::Code;
+use chord_code::laws::chords_are_right;
+use chord_code::parts::ChordLine;
+use chord_space::{Desk, Space};
+use chord_word::Cell;
+
+/// What a desk found for a message that it has a duty on.
+#[derive(Drop)]
+pub enum Finding {
+    /// The number of a chord of the object's class, a pending message for each of its methods in header order, and their nexts.
+    Match(u16, Members, Nexts),
+    /// No chord with the message has all its others, or the message is a caller that is woken: the duty is laid down.
+    Left,
+    /// A firing took the message: the duty is laid down.
+    Taken,
+    /// This message is in another desk's hand, and without it nothing can be said: the duty stays.
+    Busy(u32),
+}
+
+/// The message for which a chord is looked for.
+#[derive(Clone, Copy, Drop)]
+pub struct Own {
+    pub message: u32,
+    pub method: u8,
+    pub next: Option<u32>,
+}
+
+/// The member for one method, or why there is none: a message in another hand, or a bare bag.
+#[derive(Drop)]
+enum Pick {
+    Take(u32, Option<u32>),
+    Stuck(Option<u32>),
+}
+
+/// Whether there is a member for each method, or why not.
+#[derive(Drop)]
+enum Step {
+    All,
+    Stuck(Option<u32>),
+}
+
+/// The members of a chord, or why there are none.
+#[derive(Drop)]
+enum Outcome {
+    Whole(Members, Nexts),
+    Stuck(Option<u32>),
+}
+
+/// A chord with its members, or why there is none.
+#[derive(Drop)]
+enum Verdict {
+    Match(u16, Members, Nexts),
+    Without(Option<u32>),
+}
+
+// What is known of a bag; it is sought if nothing is. What was once bare is not sought again: only so is it still known to be
+// bare when the duty is laid down.
+fn ask<P: Carry>(
+    space: &Space<P>,
+    desk: &mut Desk<P>,
+    object: Object,
+    method: u8,
+    known: &mut [Option<Sought>; 16],
+) -> Sought
+    requires desk { IsDeskOf space.now desk.old }
+    requires bounds { (object.number < space.now.events) × (object.class < 1024) × (method < 16) }
+    ensures desk { IsSameDesk desk.old desk.new }
+    ensures learned { Learned space.now.events (view desk.old) (view desk.new) object method known.old known.new result }
+{
+    match known[method as usize] {
+        Some(sought) => sought,
+        None => {
+            let sought = seek(space, desk, object, method);
+            known[method as usize] = Some(sought);
+            sought
+        }
+    }
+}
+
+// The member for one method: for its own method the message itself.
+fn pick_member<P: Carry>(
+    space: &Space<P>,
+    desk: &mut Desk<P>,
+    object: Object,
+    own: &Own,
+    method: u8,
+    known: &mut [Option<Sought>; 16],
+) -> Pick
+    requires desk { IsDeskOf space.now desk.old }
+    requires bounds { (object.number < space.now.events) × (object.class < 1024) × (method < 16) }
+    ensures desk { IsSameDesk desk.old desk.new }
+    ensures picked { (v : View) → Searching space.now.events v (view desk.old) object own.now known.old → Picked space.now.events v (view desk.old) (view desk.new) object own.now method known.old known.new result }
+{
+    if method == own.method {
+        Pick::Take(own.message, own.next)
+    } else {
+        match ask(space, desk, object, method, known) {
+            Sought::Found(i, next) => Pick::Take(i, next),
+            Sought::Bare => Pick::Stuck(None),
+            Sought::Busy(i) => Pick::Stuck(Some(i)),
+        }
+    }
+}
+
+// A member for each of these methods, up to the first that has none.
+fn gather<P: Carry>(
+    space: &Space<P>,
+    desk: &mut Desk<P>,
+    object: Object,
+    own: &Own,
+    methods: &[u8],
+    known: &mut [Option<Sought>; 16],
+    members: &mut Members,
+    nexts: &mut Nexts,
+) -> Step
+    requires desk { IsDeskOf space.now desk.old }
+    requires bounds { (object.number < space.now.events) × (object.class < 1024) }
+    requires methods { (j : ℕ) → has j methods.now ≡ true → j < 16 }
+    requires room { (length members.old + length methods.now ≤ 8) × (length nexts.old + length methods.now ≤ 8) }
+    ensures desk { IsSameDesk desk.old desk.new }
+    ensures gathered { (v : View) → Searching space.now.events v (view desk.old) object own.now known.old → Gathered space.now.events v (view desk.old) (view desk.new) object own.now methods.now known.old known.new members.old members.new nexts.old nexts.new result }
+{
+    let Some((method, rest)) = methods.split_first() else {
+        return Step::All;
+    };
+    match pick_member(space, desk, object, own, *method, known) {
+        Pick::Take(i, next) => {
+            members.push(i);
+            nexts.push(next);
+            gather(space, desk, object, own, rest, known, members, nexts)
+        }
+        Pick::Stuck(busy) => Step::Stuck(busy),
+    }
+}
+
+// The members of one chord.
+fn one_chord<P: Carry>(
+    space: &Space<P>,
+    desk: &mut Desk<P>,
+    object: Object,
+    own: &Own,
+    methods: &[u8],
+    known: &mut [Option<Sought>; 16],
+) -> Outcome
+    requires desk { IsDeskOf space.now desk.old }
+    requires bounds { (object.number < space.now.events) × (object.class < 1024) }
+    requires methods { ((j : ℕ) → has j methods.now ≡ true → j < 16) × (length methods.now ≤ 8) }
+    ensures desk { IsSameDesk desk.old desk.new }
+    ensures outcome { (v : View) → Searching space.now.events v (view desk.old) object own.now known.old → IsOutcome space.now.events v (view desk.old) (view desk.new) object own.now methods.now known.old known.new result }
+{
+    let mut members = Members::new();
+    let mut nexts = Nexts::new();
+    match gather(
+        space,
+        desk,
+        object,
+        own,
+        methods,
+        known,
+        &mut members,
+        &mut nexts,
+    ) {
+        Step::All => Outcome::Whole(members, nexts),
+        Step::Stuck(busy) => Outcome::Stuck(busy),
+    }
+}
+
+// Of two messages in other hands the first.
+fn first(busy: Option<u32>, more: Option<u32>) -> Option<u32>
+    ensures { result ≡ firstly busy more }
+{
+    match busy {
+        Some(i) => Some(i),
+        None => more,
+    }
+}
+
+fn has_method(methods: &[u8], method: u8) -> bool
+    ensures { result ≡ has method methods.now }
+{
+    let Some((first, rest)) = methods.split_first() else {
+        return false;
+    };
+    method == *first || has_method(rest, method)
+}
+
+// The first chord with the message that has its members.
+fn through<P: Carry>(
+    space: &Space<P>,
+    desk: &mut Desk<P>,
+    object: Object,
+    own: &Own,
+    lines: &[ChordLine],
+    known: &mut [Option<Sought>; 16],
+) -> Verdict
+    requires desk { IsDeskOf space.now desk.old }
+    requires bounds { (object.number < space.now.events) × (object.class < 1024) }
+    requires lines { (length lines.now ≤ 256) × ((k : ℕ) (js : List ℕ) → slice_get (map methods_of lines.now) k ≡ Some js → ((j : ℕ) → has j js ≡ true → j < 16) × (length js ≤ 8)) }
+    ensures desk { IsSameDesk desk.old desk.new }
+    ensures through { (v : View) → Searching space.now.events v (view desk.old) object own.now known.old → IsThrough space.now.events v (view desk.new) object own.now (map methods_of lines.now) known.new result }
+{
+    let mut busy = None;
+    for at in 0..lines.len() {
+        let methods = lines[at].methods.items();
+        if has_method(methods, own.method) {
+            match one_chord(space, desk, object, own, methods, known) {
+                Outcome::Whole(members, nexts) => {
+                    return Verdict::Match(at as u16, members, nexts);
+                }
+                Outcome::Stuck(more) => busy = first(busy, more),
+            }
+        }
+    }
+    Verdict::Without(busy)
+}
+
+// The chords of a class; of one that is not there, none.
+fn lines_of(code: &Code, class: u16) -> &[ChordLine]
+    ensures { result.now ≡ chord_lines code.now class }
+{
+    match code.parts().classes.items().get(class as usize) {
+        Some(line) => line.chords.items(),
+        None => &[],
+    }
+}
+
+// The own message was read pending.
+fn find_more<P: Carry>(
+    space: &Space<P>,
+    desk: &mut Desk<P>,
+    code: &Code,
+    object: Object,
+    own: &Own,
+) -> Finding
+    requires desk { IsDeskOf space.now desk.old }
+    requires code { code.now ≡ code_of space.now }
+    requires bounds { (object.number < space.now.events) × (object.class < 1024) × (own.now.method < 16) }
+    requires read { Searching space.now.events (view desk.old) (view desk.old) object own.now [] }
+    ensures desk { IsSameDesk desk.old desk.new }
+    ensures finding { (v : View) → IsOnlyLooks v (view desk.old) → view desk.old ≡ read_so v own.now.message Pending own.now.next → IsFinding (program_of space.now) space.now.events v (view desk.new) own.now.message object own.now.method result }
+{
+    chords_are_right(code);
+    let mut known = [None; 16];
+    match through(
+        space,
+        desk,
+        object,
+        own,
+        lines_of(code, object.class),
+        &mut known,
+    ) {
+        Verdict::Match(chord, members, nexts) => Finding::Match(chord, members, nexts),
+        Verdict::Without(Some(i)) => Finding::Busy(i),
+        Verdict::Without(None) => {
+            space.rest(desk, own.message);
+            Finding::Left
+        }
+    }
+}
+
+/// Looks for a chord with message m, to this method of this object, on which the desk has a duty: looks at m, and then seeks
+/// the bags of the other methods of each chord with m's method, none of them twice. `Match` goes before `Busy`, and `Busy` before
+/// `Left`. The duty is laid down with `Left` and `Taken` alone. On a first desk that has lent none and has nothing in hand it is
+/// never Busy. On a desk without a claim, what was read claimed is claimed by another.
+///
+/// That the one who adds a message has to look for a chord with it, and may stop where one bag is empty, is from Turon and Russo,
+/// "Scalable Join Patterns" (OOPSLA 2011).
+pub fn find<P: Carry>(
+    space: &Space<P>,
+    desk: &mut Desk<P>,
+    code: &Code,
+    m: u32,
+    object: Object,
+    method: u8,
+) -> Finding
+    requires desk { IsDeskOf space.now desk.old }
+    requires code { code.now ≡ code_of space.now }
+    requires bounds { (m < space.now.events) × (object.number < space.now.events) × (object.class < 1024) × (method < 16) }
+    requires duty { (d : Duty) × HasDuty d (view desk.old).duties × (d.message ≡ m) × (d.bag ≡ key object method) }
+    ensures desk { IsSameDesk desk.old desk.new }
+    ensures finding { IsFinding (program_of space.now) space.now.events (view desk.old) (view desk.new) m object method result }
+{
+    let word = space.look_cell(desk, m);
+    match word.cell {
+        Cell::Pending => {
+            let own = Own {
+                message: m,
+                method,
+                next: word.next,
+            };
+            find_more(space, desk, code, object, &own)
+        }
+        Cell::Consumed => {
+            space.rest(desk, m);
+            Finding::Taken
+        }
+        Cell::Woken(_) => {
+            space.rest(desk, m);
+            Finding::Left
+        }
+        _ => Finding::Busy(m),
+    }
+}

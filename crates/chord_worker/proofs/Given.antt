@@ -1,0 +1,64 @@
+-- A task that gave an ask, and the entry that this becomes.
+use Rattle.std.proofs.Common.{◌≡◌, ℕ, Bool, true, false, List, ◌∷◌, Option, Some, None, refl, sym, ◌∙◌, subst}
+use mathlib.Core.Path.{Path}
+use Rattle.chord_base.specs.declared.event.Entry.{Entry}
+use Rattle.chord_base.specs.declared.event.Limits.{Limits}
+use Rattle.chord_base.specs.declared.event.What.{What}
+use Rattle.chord_base.specs.Meaning.{Program}
+use Rattle.chord_base.specs.Bodies.{doing, Asks}
+use Rattle.chord_base.specs.Story.{IsSound, IsDefined, AllBelow}
+use Rattle.chord_code.specs.declared.parts.Parts.{Parts}
+use Rattle.chord_code.specs.Meaning.{code_program}
+use Rattle.chord_rule.specs.Coming.{IsPlace}
+use Rattle.chord_rule.specs.Kinds.{entry}
+use Rattle.chord_task.specs.declared.body.Body.{Body}
+use Rattle.chord_task.specs.declared.body.Next.{Next}
+use Rattle.chord_task.specs.declared.body.Next.TheVariants as nexts
+use Rattle.chord_task.specs.declared.task.Task.{Task}
+use Rattle.chord_task.specs.Stacks.{TaskView, IsNext, StaysDefined}
+use Rattle.chord_task.specs.Standing.{view_of, may_go, body_may_go, given_of, given_by}
+use Rattle.chord_worker.specs.Playing.{IsReadyTo}
+use Rattle.chord_worker.specs.Resting.{IsInMemory}
+use Rattle.chord_worker.proofs.Memory.{asks_at_desk, noted_defined, noted_below}
+
+-- what gave an ask may go on
+given_goes : (n : Next) (w : What) → given_of n ≡ Some w → may_go n ≡ true
+given_goes nexts.Runs w e = refl
+given_goes (nexts.Gave x) w e = refl
+given_goes (nexts.Ends x y) w e = refl
+given_goes (nexts.Fails x) w e = refl
+given_goes (nexts.Waits q) w e = let z : Path (Option What) None (Some w) = e in cc
+
+-- a body that gave an ask may go on
+pub given_ready : (x : Option Body) (w : What) → given_by x ≡ Some w → body_may_go x ≡ true
+given_ready None w e = let z : Path (Option What) None (Some w) = e in cc
+given_ready (Some b) w e = given_goes b.next w e
+
+-- what the body on top asks next is the ask of the body of that number
+pub next_asks : (p : Program) (v : TaskView) (w : What) (n : IsNext p v w) (b : ℕ) → v.top ≡ Some b → Asks p v.past b w
+next_asks p v w n b top =
+    let same : Some n.body ≡ Some b = sym n.on_top ∙ top in
+    let k : n.body ≡ b = cc in subst (λ (i : ℕ). Asks p v.past i w) k n.asks
+
+-- a body on top is the one of this number
+pub one_top : (x : Option ℕ) (b c : ℕ) → x ≡ Some b → x ≡ Some c → b ≡ c
+one_top x b c e f = let same : Some b ≡ Some c = sym e ∙ f in cc
+
+module _ (code : Parts) (limits : Limits) (es : List Entry) (done : List Entry) (t : Task) (m : IsInMemory code limits es false done (Some t)) (w : What) (ready : IsReadyTo code limits t w) (b : ℕ) (top : (view_of t).top ≡ Some b) where
+  -- what the task asks next, by the number of the body on top
+  pub asks_next : Asks (code_program code limits) (view_of t).past b w
+  asks_next = next_asks (code_program code limits) (view_of t) w ready.next b top
+
+  -- the desk may draw it
+  pub may_draw : Asks (code_program code limits) es b w
+  may_draw = asks_at_desk code limits es false done t m b w asks_next
+
+  module _ (sound : IsSound (code_program code limits)) (n : ℕ) (below : AllBelow n es) (place : IsPlace (code_program code limits) (entry n b w ∷ es)) where
+    -- what its bodies do with it is defined
+    pub noted_stays : StaysDefined (code_program code limits) (view_of t) n w
+    noted_stays c at i = subst (λ (k : ℕ). IsDefined (code_program code limits) (doing (code_program code limits) (entry n k w ∷ (view_of t).past) i)) (one_top (view_of t).top b c top at)
+        (noted_defined code limits es false done t m n b w below ready.next.own asks_next sound place.run place.view place.merged place.place place.is i)
+
+    -- its numbers are below that of the entry
+    pub noted_above : AllBelow n (view_of t).past
+    noted_above = noted_below code limits es false done t m n b w below ready.next.own asks_next

@@ -1,0 +1,74 @@
+-- A worker at rest: what its desk keeps is what it has in memory, its task may go on, and every other body that it keeps has ended or waits.
+use Rattle.std.specs.Prelude.{◌≡◌, Bool, true, false, List, [], Option, Some, None, IsPermutation}
+use Rattle.chord_base.specs.declared.event.Entry.{Entry}
+use Rattle.chord_base.specs.declared.event.Limits.{Limits}
+use Rattle.chord_base.specs.Story.{IsRising, IsTold}
+use Rattle.chord_code.specs.declared.parts.Parts.{Parts}
+use Rattle.chord_code.specs.Meaning.{code_program}
+use Rattle.chord_rule.specs.declared.view.View.{View}
+use Rattle.chord_rule.specs.Closing.{AreQuiet}
+use Rattle.chord_rule.specs.Kinds.{left_by, MayGo}
+use Rattle.chord_space.specs.declared.space.Space.{Space}
+use Rattle.chord_space.specs.Desks.{view, code_of, limits_of, IsDeskOf}
+use Rattle.chord_task.specs.declared.parcel.Parcel.{Parcel}
+use Rattle.chord_task.specs.declared.task.Task.{Task}
+use Rattle.chord_task.specs.Standing.{view_of, IsTaskOf, IsResumable, is_ready_of}
+use Rattle.chord_worker.specs.declared.worker.Worker.{Worker}
+
+-- of what a desk keeps, what is not of the past of the task
+abbrev pub left_of : Option Task → List Entry → List Entry
+left_of None es = es
+left_of (Some t) es = left_by (view_of t).past es
+
+-- the task, if there is one, is of the code under the limits, and its past is a part of what the desk keeps that may go
+abbrev pub MayBePlayed : Parts → Limits → List Entry → Option Task → Type 0
+MayBePlayed code limits es None = Unit {0}
+MayBePlayed code limits es (Some t) = IsTaskOf code limits t × MayGo (code_program code limits) es (view_of t).past
+
+-- what a desk keeps is in memory: the past of a task, and the entries of what is done. What is done is quiet, unless the run is full
+pub record IsInMemory (code : Parts) (limits : Limits) (kept : List Entry) (spent : Bool) (done : List Entry) (task : Option Task) : Type 0 where
+  pub rises : IsRising kept
+  pub told : IsTold (code_program code limits) kept
+  pub played : MayBePlayed code limits kept task
+  pub held : IsPermutation done (left_of task kept)
+  pub quiet : spent ≡ false → AreQuiet (code_program code limits) (left_of task kept)
+
+-- the task, if there is one, may go on
+abbrev pub MayContinue : Option Task → Type 0
+MayContinue None = Unit {0}
+MayContinue (Some t) = is_ready_of t ≡ true
+
+-- the desk has nothing in hand, but for firings that it plays itself
+pub record IsFree (v : View) : Type 0 where
+  pub claims : v.claims ≡ []
+  pub flight : v.flight ≡ None
+  pub fresh : v.fresh ≡ []
+
+-- a task in stock has no body, and room for one
+pub record IsStockTask (code : Parts) (limits : Limits) (t : Task) : Type 0 where
+  pub task : IsTaskOf code limits t
+  pub past : (view_of t).past ≡ []
+  pub top : (view_of t).top ≡ None
+  pub room : IsResumable code t
+
+-- there is no task in stock, or it is one
+abbrev pub IsStock : Parts → Limits → Option Task → Type 0
+IsStock code limits None = Unit {0}
+IsStock code limits (Some t) = IsStockTask code limits t
+
+-- the worker is at rest
+pub record IsAtRest (s : Space Parcel) (w : Worker) : Type 0 where
+  pub desk : IsDeskOf s w.desk
+  pub told : w.spent ≡ (view w.desk).spent
+  pub free : IsFree (view w.desk)
+  pub duties : (view w.desk).spent ≡ false → (view w.desk).duties ≡ []
+  pub memory : IsInMemory (code_of s) (limits_of s) (view w.desk).kept (view w.desk).spent w.done.items w.task
+  pub goes_on : MayContinue w.task
+  pub stock : IsStock (code_of s) (limits_of s) w.spare
+
+-- both views are of one desk, which was neither split nor joined, and no draw is forgotten
+pub record IsSameRole (v w : View) : Type 0 where
+  pub first : w.first ≡ v.first
+  pub lent : w.lent ≡ v.lent
+  pub splits : w.splits ≡ v.splits
+  pub drawn : v.drawn ≡ true → w.drawn ≡ true

@@ -1,0 +1,87 @@
+//! A task is played to its next ask, which becomes an entry of the run.
+ghost use Rattle.std.specs.Prelude.{◌≡◌, ◌<◌, ℕ, true, false, List, Some, None, IfOk, OnOk, MatchResult};
+ghost use Rattle.chord_base.specs.declared.event.Entry.{Entry as AnEntry};
+ghost use Rattle.chord_base.specs.Story.{IsSound};
+ghost use Rattle.chord_code.specs.declared.parts.Parts.{Parts};
+ghost use Rattle.chord_space.specs.Desks.{view, code_of, limits_of, program_of, IsDeskOf, IsSameDesk};
+ghost use Rattle.chord_task.specs.Standing.{view_of, IsTaskOf, is_ready_of};
+ghost use Rattle.chord_vm.specs.Frames.{what_of_ask};
+ghost use Rattle.chord_worker.specs.Playing.{IsReadyTo, IsNoted, WasTold};
+ghost use Rattle.chord_worker.specs.Resting.{IsInMemory, IsStock, IsStockTask};
+
+use chord_base::event::{Limits, What};
+use chord_code::code::Code;
+use chord_space::{Desk, Space, Spent};
+use chord_task::parcel::Parcel;
+use chord_task::task::Task;
+use chord_vm::ask::Ask;
+use std::alloc::{AllocError, Global};
+
+/// The number of the body on top.
+fn top_number(task: &Task) -> u32
+    requires { is_ready_of task.now ≡ true }
+    ensures { (view_of task.now).top ≡ Some result }
+{
+    match &task.top {
+        None => unreachable!(),
+        Some(body) => body.number,
+    }
+}
+
+/// The task comes to its next ask, and takes the room that its entry and a firing after it need.
+pub(crate) fn ready_ask(
+    alloc: Global,
+    code: &Code,
+    limits: &Limits,
+    task: &mut Task,
+) -> Result<Ask, AllocError>
+    requires task { IsTaskOf code.now limits.now task.old }
+    requires ready { is_ready_of task.old ≡ true }
+    ensures task { IfOk result (λ ask. IsTaskOf code.now limits.now task.new) }
+    ensures same { IfOk result (λ ask. view_of task.new ≡ view_of task.old) }
+    ensures ready { IfOk result (λ ask. IsReadyTo code.now limits.now task.new (what_of_ask ask)) }
+{
+    let ask = task.ask(alloc, code, limits)?;
+    task.reserve(alloc, code)?;
+    Ok(ask)
+}
+
+/// The task in stock, or a new one.
+pub(crate) fn stocked(
+    alloc: Global,
+    code: &Code,
+    limits: &Limits,
+    stock: Option<Task>,
+) -> Result<Task, AllocError>
+    requires { IsStock code.now limits.now stock }
+    ensures { IfOk result (λ t. IsStockTask code.now limits.now t) }
+{
+    match stock {
+        None => {
+            let task = Task::spare(alloc, code, limits)?;
+            Ok(task)
+        }
+        Some(task) => Ok(task),
+    }
+}
+
+/// Draws the ask of the task as an entry of the desk, and notes it in the task.
+pub(crate) fn draw_own(
+    space: &Space<Parcel>,
+    desk: &mut Desk<Parcel>,
+    task: &mut Task,
+    what: &What,
+) -> Result<u32, Spent>
+    requires desk { IsDeskOf space.now desk.old }
+    requires room { (view desk.old).spent ≡ false }
+    requires memory { (done : List AnEntry) × IsInMemory (code_of space.now) (limits_of space.now) (view desk.old).kept false done (Some task.old) }
+    requires ready { IsReadyTo (code_of space.now) (limits_of space.now) task.old what.now }
+    requires sound { IsSound (program_of space.now) }
+    ensures desk { IsSameDesk desk.old desk.new }
+    ensures drawn { MatchResult result (λ n. (n < space.now.events) × IsNoted (code_of space.now) (limits_of space.now) (view desk.old) (view desk.new) task.old task.new n what.now) (λ _. WasTold (view desk.old) (view desk.new) task.old task.new) }
+{
+    let body = top_number(task);
+    let number = space.draw(desk, body, what)?;
+    task.note(number);
+    Ok(number)
+}

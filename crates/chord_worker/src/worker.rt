@@ -1,0 +1,26 @@
+//! A worker: its desk, the task that it plays, and what is done.
+use chord_base::event::Entry;
+use chord_space::Desk;
+use chord_task::parcel::Parcel;
+use chord_task::task::Task;
+
+/// Is told of each body that begins to be played.
+pub trait Gate {
+    /// The body of this number begins.
+    fn started(&self, body: u32);
+}
+
+/// A desk of the shared table, and what is played at it.
+#[derive(Drop)]
+pub struct Worker {
+    /// The desk with which it makes its steps.
+    pub(crate) desk: Desk<Parcel>,
+    /// What it plays: the body on top may go on.
+    pub(crate) task: Option<Task>,
+    /// Room for the body of a firing that serves no call.
+    pub(crate) spare: Option<Task>,
+    /// The entries of what is done.
+    pub(crate) done: Vec<Entry>,
+    /// Whether it was told that the limit on events is reached.
+    pub(crate) spent: bool,
+}
