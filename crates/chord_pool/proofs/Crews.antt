@@ -1,5 +1,5 @@
 -- The crew of a run: at the beginning, with one more worker, and back from its threads.
-use Rattle.std.proofs.Common.{◌≡◌, ◌≢◌, ◌+◌, ℕ, true, false, List, [], ◌∷◌, ◌++◌, length, length-append, None, sym, ap, ◌∙◌, arith}
+use Rattle.std.proofs.Common.{◌≡◌, ◌+◌, true, false, List, [], ◌∷◌, ◌++◌, length, length-append, None, sym, ap, ◌∙◌, arith}
 use Rattle.chord_rule.specs.declared.view.View.{View}
 use Rattle.chord_rule.specs.Kinds.{lent_one, newcomer_first}
 use Rattle.chord_space.specs.declared.space.Space.{Space}
@@ -8,7 +8,7 @@ use Rattle.chord_task.specs.declared.parcel.Parcel.{Parcel}
 use Rattle.chord_worker.specs.declared.worker.Worker.{Worker}
 use Rattle.chord_worker.specs.Resting.{IsAtRest, IsSameRole}
 use Rattle.chord_pool.specs.declared.player.Player.{Player}
-use Rattle.chord_pool.specs.Players.{IsSettled, HasPlayed, PlaysOn, HaveAllPlayed, IsCrew, IsBack}
+use Rattle.chord_pool.specs.Players.{HasPlayed, PlaysOn, HaveAllPlayed, IsCrew, IsBack}
 use Rattle.chord_pool.proofs.Handing.{may_more}
 
 -- the first worker has lent one desk more, to a worker with nothing to play

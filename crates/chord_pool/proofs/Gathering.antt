@@ -1,7 +1,7 @@
 -- The entries of the closing desk and of the parcels at home are the entries of the run, in some order.
-use Rattle.std.proofs.Common.{◌≡◌, ◌⊎◌, inl, inr, ⊎_elim, ℕ, zero, suc, ◌+◌, ◌*◌, ◌<◌, ◌≤◌, ◌==◌, ◌||◌, Bool, true, false, List, [], ◌∷◌, ◌++◌, length, min, reverse, refl, sym, ap, ◌∙◌, subst, arith, eq-eqb, ne_eqb, Option, Some, None}
+use Rattle.std.proofs.Common.{◌≡◌, ◌⊎◌, inl, inr, ⊎_elim, ℕ, zero, suc, ◌*◌, ◌<◌, ◌≤◌, ◌==◌, ◌||◌, Bool, true, false, List, [], ◌∷◌, ◌++◌, refl, sym, ap, ◌∙◌, subst, arith, eq-eqb, ne_eqb, Option, Some, None}
 use Rattle.std.proofs.lemmas.Bool.{eqb-true}
-use Rattle.std.proofs.lemmas.List.Sorted.{IsPermutation-refl, IsPermutation-cons, IsPermutation-middle, IsPermutation-trans, IsPermutation-append, IsPermutation-append_comm, IsPermutation-reverse, IsPermutation-sym}
+use Rattle.std.proofs.lemmas.List.Sorted.{IsPermutation-refl, IsPermutation-cons, IsPermutation-middle, IsPermutation-trans, IsPermutation-append, IsPermutation-append_comm, IsPermutation-reverse}
 use Rattle.std.specs.Prelude.{slice_get}
 use Rattle.std.specs.List.Sorted.{IsPermutation}
 use mathlib.Core.Logic.{dite}
@@ -11,7 +11,6 @@ use native.Mathlib.Decide.{ℕ_discrete, dec_lt}
 use lib.ListN.{get_elem?}
 use Rattle.chord_base.specs.declared.event.Entry.{Entry}
 use Rattle.chord_base.specs.declared.event.Limits.{Limits}
-use Rattle.chord_base.specs.Meaning.{Program}
 use Rattle.chord_base.specs.Story.{IsIn, kept}
 use Rattle.chord_base.proofs.Merged.{past_below}
 use Rattle.chord_base.proofs.Waits.{either}
@@ -21,7 +20,7 @@ use Rattle.chord_rule.specs.declared.view.View.{View}
 use Rattle.chord_rule.specs.Agrees.{Agrees}
 use Rattle.chord_rule.specs.Keeping.{desk, parcel, at_desk, at_home, kept_at}
 use Rattle.chord_rule.specs.Kinds.{gone}
-use Rattle.chord_rule.specs.Moment.{Home, empty_word}
+use Rattle.chord_rule.specs.Moment.{Home}
 use Rattle.chord_rule.specs.Stages.{what_at}
 use Rattle.chord_rule.proofs.Keeping.{desk_keeps, parcel_keeps}
 use Rattle.chord_rule.proofs.KeepSteps.{place_of}

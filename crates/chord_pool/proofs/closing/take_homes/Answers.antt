@@ -1,8 +1,6 @@
-use Rattle.std.proofs.Common.{arith, ◌∙◌, ap, sym, ◌++◌, slice_get}
+use Rattle.std.proofs.Common.{arith, ◌∙◌, ap, slice_get}
 use Rattle.chord_space.specs.Ends.{parcels}
-use Rattle.chord_pool.specs.Homes.{slot_items}
 use Rattle.chord_pool.proofs.Homes.{set_other, more_items}
-use Rattle.chord_pool.proofs.Gathering.{gathered}
 use Rattle.chord_pool.proofs.closing.take_homes.Goals as goal
 
 pub loop-i-preserved : goal.loop-i-preserved

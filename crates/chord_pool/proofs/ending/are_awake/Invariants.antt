@@ -1,5 +1,5 @@
 -- The cells so far were last neither woken nor ready, and the worker has nothing to play.
-use Rattle.std.proofs.Common.{◌≡◌, ◌≤◌, None}
+use Rattle.std.proofs.Common.{◌≡◌, None}
 use Rattle.chord_space.specs.Desks.{view}
 use Rattle.chord_worker.specs.Resting.{IsSameRole}
 use Rattle.chord_pool.specs.Players.{IsFit}

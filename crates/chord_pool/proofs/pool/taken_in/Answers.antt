@@ -1,4 +1,3 @@
-use Rattle.std.proofs.Common.{refl}
 use Rattle.chord_pool.proofs.pool.taken_in.Goals as goal
 
 pub take_all-requires : goal.take_all-requires
