@@ -18,8 +18,7 @@ pub hired : (s : Space Parcel) (main after : Worker) (others : List Player) (one
 hired s main after others one crew splits rest task lent one_rest one_task =
     let long : length (others ++ one ∷ []) ≡ length others + 1 = length-append others (one ∷ []) in
     let more : (view after.desk).lent ≡ (view main.desk).lent + 1 = ap (λ (v : View). v.lent) lent in
-    let count : (view after.desk).splits ≡ (view main.desk).splits + 1 = ap (λ (v : View). v.splits) lent in
-    (
+    let count : (view after.desk).splits ≡ (view main.desk).splits + 1 = ap (λ (v : View). v.splits) lent in (
       record {
         settled = record { rest = rest; over = λ told. task ∙ crew.settled.over (sym (ap (λ (v : View). v.spent) lent) ∙ told) };
         first = ap (λ (v : View). v.first) lent ∙ crew.first;

@@ -58,8 +58,8 @@ ended_as s w desk code limits count Whole over same code_is limits_are whole ful
     ⊎_elim
     (λ told. inr (full (ap (λ (d : Desk Parcel). (view d).spent) same ∙ told)))
     (⊎_elim
-        (λ saw. inr (counted saw.0 (ap (λ (d : Desk Parcel). (view d).looked.count) same ∙ saw.1) ∙ (let z = saw.2 in omega (arith, z, n))))
-        (λ done. inl (whole (subst (λ (d : Desk Parcel). MayClose (view d)) (sym same) done.1) (quiet done.0))))
+    (λ saw. inr (counted saw.0 (ap (λ (d : Desk Parcel). (view d).looked.count) same ∙ saw.1) ∙ (let z = saw.2 in omega (arith, z, n))))
+    (λ done. inl (whole (subst (λ (d : Desk Parcel). MayClose (view d)) (sym same) done.1) (quiet done.0))))
     over.why
   where
     quiet : (view w.desk).spent ≡ false → AreQuiet (code_program code limits) (view desk).kept

@@ -167,9 +167,9 @@ module _ (code : Parts) (limits : Limits) (id : ℕ) (v : View) (slots : List (O
       let there : IsIn e (kept_at entries_of s.moment.views s.moment.homes c) = subst (IsIn e) (keeps c) (in_kept (λ k. place k == c) s.unseen.journal e i (eq-eqb c c refl)) in
       ⊎_elim
       (λ t. subst IsKeeper (sym t.1) (by_desk e t.0 (get_elem? s.moment.views t.0) refl
-          (subst (IsIn e) (ap (kept_at entries_of s.moment.views s.moment.homes) t.1 ∙ desk_keeps entries_of s.moment.views s.moment.homes t.0) there)))
+      (subst (IsIn e) (ap (kept_at entries_of s.moment.views s.moment.homes) t.1 ∙ desk_keeps entries_of s.moment.views s.moment.homes t.0) there)))
       (λ t. subst IsKeeper (sym t.1) (by_home e t.0 (s.moment.homes t.0) refl
-          (subst (IsIn e) (ap (kept_at entries_of s.moment.views s.moment.homes) t.1 ∙ parcel_keeps entries_of s.moment.views s.moment.homes t.0) there)))
+      (subst (IsIn e) (ap (kept_at entries_of s.moment.views s.moment.homes) t.1 ∙ parcel_keeps entries_of s.moment.views s.moment.homes t.0) there)))
       (place_of c)
 
   -- a slot of the table has in memory what its place keeps

@@ -60,11 +60,37 @@ fn all<'a, R: Threads + Wait + Sync, G: Gate + Sync>(
         move || -> Player
             requires { IsOneRun space.now code.now limits.now × MayPlay space.now one }
             ensures { HasPlayed space.entry.now result }
-        { work(rt, alloc, &Run { space, code, limits, shared }, one, gate) },
+        {
+            work(
+                rt,
+                alloc,
+                &Run {
+                    space,
+                    code,
+                    limits,
+                    shared,
+                },
+                one,
+                gate,
+            )
+        },
         move || -> Vec<Player>
             requires { IsSync R.row × IsOneRun space.now code.now limits.now × MayAllPlay space.now players.items }
             ensures { HaveAllPlayed space.entry.now result.items × (length result.items ≡ length players.items) × (vec_capacity players ≤ vec_capacity result) }
-        { all(rt, alloc, &Run { space, code, limits, shared }, players, gate) },
+        {
+            all(
+                rt,
+                alloc,
+                &Run {
+                    space,
+                    code,
+                    limits,
+                    shared,
+                },
+                players,
+                gate,
+            )
+        },
     );
     back(others, one)
 }
@@ -92,11 +118,35 @@ pub(crate) fn share<'a, R: Threads + Wait + Sync, G: Gate + Sync>(
             ensures { HasPlayed space.entry.now result × PlaysOn main result }
         {
             gate.started(0);
-            work(rt, alloc, &Run { space, code, limits, shared }, main, gate)
+            work(
+                rt,
+                alloc,
+                &Run {
+                    space,
+                    code,
+                    limits,
+                    shared,
+                },
+                main,
+                gate,
+            )
         },
         move || -> Vec<Player>
             requires { IsSync R.row × IsOneRun space.now code.now limits.now × MayAllPlay space.now others.items }
             ensures { HaveAllPlayed space.entry.now result.items × (length result.items ≡ length others.items) }
-        { all(rt, alloc, &Run { space, code, limits, shared }, others, gate) },
+        {
+            all(
+                rt,
+                alloc,
+                &Run {
+                    space,
+                    code,
+                    limits,
+                    shared,
+                },
+                others,
+                gate,
+            )
+        },
     )
 }

@@ -5,8 +5,7 @@ use Rattle.chord_pool.proofs.ending.are_awake.Goals as goal
 
 pub loop-i-preserved : goal.loop-i-preserved
 loop-i-preserved g c =
-    let was = c.loop-i.invariant in let now = c.if-not-is_awake.ensures in let look = now.seen refl in
-    (
+    let was = c.loop-i.invariant in let now = c.if-not-is_awake.ensures in let look = now.seen refl in (
       now.worker,
       now.idle refl,
       role_stays (view c.args.worker.now.desk) (view c.loop-i.worker.desk) (view c.is_awake.new.worker.desk) was.2 now.role,

@@ -15,4 +15,4 @@ returns-clause-short g c =
     let ended = c.in_ok-ended.ensures in λ less.
     ⊎_elim (λ complete. complete) (λ full. absurd (omega (arith, less, full)))
     (ended_as c.in_ok-space.space c.in_ok-last.last c.into_parts-desk.result.0 c.args.code.now c.args.limits.now (length c.in_ok-ended.ended.0) (IsComplete (code_program c.args.code.now c.args.limits.now) c.in_ok-ended.ended.0)
-        c.in_ok-last.ensures.over c.into_parts-desk.ensures.desk c.in_ok-space.ensures.0 c.in_ok-space.ensures.1 ended.whole ended.full ended.counted)
+    c.in_ok-last.ensures.over c.into_parts-desk.ensures.desk c.in_ok-space.ensures.0 c.in_ok-space.ensures.1 ended.whole ended.full ended.counted)
