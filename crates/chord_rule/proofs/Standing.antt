@@ -76,7 +76,7 @@ kept_in f (x ∷ h) e i = cases (f x.number) refl i (λ k. kept_in f h e k)
     cases false y k later = let t = later k in (inr t.0, t.1)
 
 -- an entry whose number passes a test is kept by it
-in_kept : (f : ℕ → Bool) (h : List Entry) (e : Entry) → IsIn e h → f e.number ≡ true → IsIn e (kept f h)
+pub in_kept : (f : ℕ → Bool) (h : List Entry) (e : Entry) → IsIn e h → f e.number ≡ true → IsIn e (kept f h)
 in_kept f [] e i y = absurd i
 in_kept f (x ∷ h) e i y = cases (f x.number) refl i (λ k. in_kept f h e k y)
   where

@@ -1,0 +1,55 @@
+-- The crew of a run: at the beginning, with one more worker, and back from its threads.
+use Rattle.std.proofs.Common.{◌≡◌, ◌+◌, true, false, List, [], ◌∷◌, ◌++◌, length, length-append, None, sym, ap, ◌∙◌, arith}
+use Rattle.chord_rule.specs.declared.view.View.{View}
+use Rattle.chord_rule.specs.Kinds.{lent_one, newcomer_first}
+use Rattle.chord_space.specs.declared.space.Space.{Space}
+use Rattle.chord_space.specs.Desks.{view}
+use Rattle.chord_task.specs.declared.parcel.Parcel.{Parcel}
+use Rattle.chord_worker.specs.declared.worker.Worker.{Worker}
+use Rattle.chord_worker.specs.Resting.{IsAtRest, IsSameRole}
+use Rattle.chord_pool.specs.declared.player.Player.{Player}
+use Rattle.chord_pool.specs.Players.{HasPlayed, PlaysOn, HaveAllPlayed, IsCrew, IsBack}
+use Rattle.chord_pool.proofs.Handing.{may_more}
+
+-- the first worker has lent one desk more, to a worker with nothing to play
+pub hired : (s : Space Parcel) (main after : Worker) (others : List Player) (one : Player) → IsCrew s main others → (view main.desk).splits ≡ length others
+    → IsAtRest s after → after.task ≡ main.task → view after.desk ≡ lent_one (view main.desk) → IsAtRest s one.worker → one.worker.task ≡ None
+    → IsCrew s after (others ++ one ∷ []) × ((view after.desk).splits ≡ length (others ++ one ∷ [])) × (length (others ++ one ∷ []) ≡ length others + 1)
+hired s main after others one crew splits rest task lent one_rest one_task =
+    let long : length (others ++ one ∷ []) ≡ length others + 1 = length-append others (one ∷ []) in
+    let more : (view after.desk).lent ≡ (view main.desk).lent + 1 = ap (λ (v : View). v.lent) lent in
+    let count : (view after.desk).splits ≡ (view main.desk).splits + 1 = ap (λ (v : View). v.splits) lent in (
+      record {
+        settled = record { rest = rest; over = λ told. task ∙ crew.settled.over (sym (ap (λ (v : View). v.spent) lent) ∙ told) };
+        first = ap (λ (v : View). v.first) lent ∙ crew.first;
+        drawn = ap (λ (v : View). v.drawn) lent ∙ crew.drawn;
+        lent = (let was = crew.lent in omega (arith, more, long, was));
+        all = may_more s others one crew.all (λ sane. record { rest = one_rest; over = λ told. one_task });
+      },
+      omega (arith, count, long, splits),
+      long,
+    )
+
+-- at the beginning the first worker is a crew of its own
+pub begins : (s : Space Parcel) (v : View) (main : Worker) → v ≡ newcomer_first → IsAtRest s main → IsSameRole v (view main.desk) → (view main.desk).drawn ≡ true → ((view main.desk).spent ≡ true → main.task ≡ None) → IsCrew s main [] × ((view main.desk).splits ≡ 0)
+begins s v main new rest role drawn over = (
+  record {
+    settled = record { rest = rest; over = over };
+    first = role.first ∙ ap (λ (x : View). x.first) new;
+    drawn = drawn;
+    lent = role.lent ∙ ap (λ (x : View). x.lent) new;
+    all = tt;
+  },
+  role.splits ∙ ap (λ (x : View). x.splits) new,
+)
+
+-- the crew has come back from its threads
+pub come_back : (s : Space Parcel) (main back : Player) (others backs : List Player) → IsCrew s main.worker others → HasPlayed s back → PlaysOn main back → HaveAllPlayed s backs → length backs ≡ length others → back.failed ≡ false → IsBack s back.worker backs
+come_back s main back others backs crew played on all count sane =
+    let role = on sane in record {
+      stopped = played sane;
+      first = role.first ∙ crew.first;
+      drawn = role.drawn crew.drawn;
+      lent = role.lent ∙ crew.lent ∙ sym count;
+      all = all;
+    }

@@ -1,0 +1,70 @@
+-- What the first worker knows of the cells that it looked at, and when it may close.
+use Rattle.std.proofs.Common.{◌≡◌, ◌≢◌, ◌⊎◌, inl, inr, ⊎_elim, ℕ, ◌+◌, true, false, Option, Some, None, min, refl, sym, ap, ◌∙◌, subst, arith}
+use mathlib.Core.Logic.{dite}
+use mathlib.Core.Path.{Path}
+use native.Mathlib.Decide.{ℕ_discrete}
+use Rattle.chord_rule.specs.declared.view.View.{View}
+use Rattle.chord_rule.specs.Closing.{IsAsleep, MayClose, AreQuiet}
+use Rattle.chord_rule.specs.Numbers.{HasNumber}
+use Rattle.chord_rule.specs.Ways.{LastSeen}
+use Rattle.chord_base.specs.declared.event.Limits.{Limits}
+use Rattle.chord_code.specs.declared.parts.Parts.{Parts}
+use Rattle.chord_code.specs.Meaning.{code_program}
+use Rattle.chord_space.specs.declared.space.Desk.{Desk}
+use Rattle.chord_space.specs.declared.space.Space.{Space}
+use Rattle.chord_space.specs.Desks.{view, events, code_of, limits_of}
+use Rattle.chord_task.specs.declared.task.Task.{Task}
+use Rattle.chord_task.specs.declared.parcel.Parcel.{Parcel}
+use Rattle.chord_word.specs.declared.cells.Word.{Word}
+use Rattle.chord_worker.specs.declared.worker.Worker.{Worker}
+use Rattle.chord_worker.specs.Resting.{IsSameRole, IsSeen, left_of}
+use Rattle.chord_pool.specs.Players.{IsFit}
+use Rattle.chord_pool.specs.Ending.{AreAwake, IsOver}
+
+-- the role of a desk stays over two steps
+pub role_stays : (u v w : View) → IsSameRole u v → IsSameRole v w → IsSameRole u w
+role_stays u v w a b = record { first = b.first ∙ a.first; lent = b.lent ∙ a.lent; splits = b.splits ∙ a.splits; drawn = λ d. b.drawn (a.drawn d) }
+
+-- one more cell was looked at, and need not be looked after
+pub awake_more : (i : ℕ) (v w : View) (x : Word) → AreAwake i v.looked.seen → IsSeen v w i x → (IsAsleep x.cell → ⊥) → AreAwake (i + 1) w.looked.seen
+awake_more i v w x was look awake k low = dite (ℕ_discrete k i)
+    (λ e. (x, subst (LastSeen k x) (sym look.seen) (inl (e, refl)), awake))
+    (λ ne. let r = was k (omega (arith, low, ne)) in (r.0, subst (LastSeen k r.0) (sym look.seen) (inr (ne, r.1)), r.2))
+
+-- the first worker, alone and with nothing to play, may close where it looked at the counter, which is below the limit, and at each cell below
+pub may_close : (s : Space Parcel) (w : Worker) (n c count : ℕ) → IsFit s w → (view w.desk).first ≡ true → (view w.desk).drawn ≡ true → (view w.desk).lent ≡ 0
+    → (view w.desk).looked.count ≡ Some c → count ≡ min c n → count ≢ n → AreAwake count (view w.desk).looked.seen → MayClose (view w.desk)
+may_close s w n c count fit first drawn lent counted least below awake = record {
+  first = first;
+  begun = drawn;
+  lent = lent;
+  duties = fit.rest.duties fit.room;
+  claims = fit.rest.free.claims;
+  in_hand = λ i. ⊎_elim (λ h. subst (HasNumber i) fit.rest.free.fresh h) (⊎_elim (λ h. not_some i (sym w.desk.settled.3 ∙ h)) (λ h. not_some i (sym fit.rest.free.flight ∙ h)));
+  count = c;
+  counted = counted;
+  seen = λ i l. awake i (omega (arith, l, least, below));
+}
+  where
+    not_some : (i : ℕ) → Path (Option ℕ) None (Some i) → ⊥
+    not_some i e = cc
+
+-- once the run is over and closed, its journal is complete, or has as many entries as are allowed
+pub ended_as : (s : Space Parcel) (w : Worker) (desk : Desk Parcel) (code : Parts) (limits : Limits) (count : ℕ) (Whole : Type 0) → IsOver s w → desk ≡ w.desk → code_of s ≡ code → limits_of s ≡ limits
+    → (MayClose (view desk) → AreQuiet (code_program code limits) (view desk).kept → Whole) → ((view desk).spent ≡ true → count ≡ limits.events) → ((c : ℕ) → (view desk).looked.count ≡ Some c → count ≡ min c limits.events)
+    → Whole ⊎ (count ≡ limits.events)
+ended_as s w desk code limits count Whole over same code_is limits_are whole full counted =
+    let n : events s ≡ limits.events = sym s.sized.0 ∙ ap (λ (l : Limits). l.events) limits_are in
+    ⊎_elim
+    (λ told. inr (full (ap (λ (d : Desk Parcel). (view d).spent) same ∙ told)))
+    (⊎_elim
+    (λ saw. inr (counted saw.0 (ap (λ (d : Desk Parcel). (view d).looked.count) same ∙ saw.1) ∙ (let z = saw.2 in omega (arith, z, n))))
+    (λ done. inl (whole (subst (λ (d : Desk Parcel). MayClose (view d)) (sym same) done.1) (quiet done.0))))
+    over.why
+  where
+    quiet : (view w.desk).spent ≡ false → AreQuiet (code_program code limits) (view desk).kept
+    quiet room =
+        subst (λ (d : Desk Parcel). AreQuiet (code_program code limits) (view d).kept) (sym same)
+        (subst (λ (l : Limits). AreQuiet (code_program code l) (view w.desk).kept) limits_are
+        (subst (λ (x : Parts). AreQuiet (code_program x (limits_of s)) (view w.desk).kept) code_is
+        (subst (λ (t : Option Task). AreQuiet (code_program (code_of s) (limits_of s)) (left_of t (view w.desk).kept)) over.last.task (over.last.rest.memory.quiet room))))

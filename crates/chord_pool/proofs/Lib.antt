@@ -1,0 +1,7 @@
+pub mod Gathering
+pub mod Homes
+pub mod Journals
+pub mod Ended
+pub mod Handing
+pub mod Crews
+pub mod Endings

@@ -1,0 +1,9 @@
+-- The worker has found nothing so far.
+use Rattle.std.proofs.Common.{◌≡◌, None}
+use Rattle.chord_space.specs.Desks.{view}
+use Rattle.chord_worker.specs.Resting.{IsSameRole}
+use Rattle.chord_pool.specs.Players.{IsFit}
+use Rattle.chord_pool.proofs.player.sweep.Given as goal
+
+abbrev pub invariant-loop-i : goal.invariant-loop-i
+invariant-loop-i g l = IsFit l.run.space.now l.worker × (l.worker.task ≡ None) × IsSameRole (view l.fn.worker.desk) (view l.worker.desk)

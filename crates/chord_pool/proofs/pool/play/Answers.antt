@@ -1,0 +1,18 @@
+use Rattle.std.proofs.Common.{length, ⊎_elim, arith}
+use Rattle.chord_base.specs.Machine.{IsComplete}
+use Rattle.chord_code.specs.Meaning.{code_program}
+use Rattle.chord_pool.proofs.Endings.{ended_as}
+use Rattle.chord_pool.proofs.pool.play.Goals as goal
+
+pub returns-clause-whole : goal.returns-clause-whole
+returns-clause-whole g c =
+    let ended = c.in_ok-ended.ensures in
+    ended_as c.in_ok-space.space c.in_ok-last.last c.into_parts-desk.result.0 c.args.code.now c.args.limits.now (length c.in_ok-ended.ended.0) (IsComplete (code_program c.args.code.now c.args.limits.now) c.in_ok-ended.ended.0)
+    c.in_ok-last.ensures.over c.into_parts-desk.ensures.desk c.in_ok-space.ensures.0 c.in_ok-space.ensures.1 ended.whole ended.full ended.counted
+
+pub returns-clause-short : goal.returns-clause-short
+returns-clause-short g c =
+    let ended = c.in_ok-ended.ensures in λ less.
+    ⊎_elim (λ complete. complete) (λ full. absurd (omega (arith, less, full)))
+    (ended_as c.in_ok-space.space c.in_ok-last.last c.into_parts-desk.result.0 c.args.code.now c.args.limits.now (length c.in_ok-ended.ended.0) (IsComplete (code_program c.args.code.now c.args.limits.now) c.in_ok-ended.ended.0)
+    c.in_ok-last.ensures.over c.into_parts-desk.ensures.desk c.in_ok-space.ensures.0 c.in_ok-space.ensures.1 ended.whole ended.full ended.counted)

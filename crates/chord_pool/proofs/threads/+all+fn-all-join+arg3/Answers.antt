@@ -1,0 +1,19 @@
+use Rattle.std.proofs.Common.{◌∷◌, [], ◌∙◌, length, length-append, ap, sym, subst, arith}
+use Rattle.chord_pool.specs.Players.{HaveAllPlayed}
+use Rattle.chord_pool.proofs.Handing.{played_more}
+use Rattle.chord_pool.proofs.threads.+all+fn-all-join+arg3.Goals as goal
+
+pub back-requires : goal.back-requires
+back-requires g t c = let others = c.join-one.ensures.second in record { room = omega (arith, others.1, others.2, c.in-Some.ensures.room) }
+
+pub returns-clause-played : goal.returns-clause-played
+returns-clause-played g t c =
+    let s = c.args.run.now.space.now in
+    subst (HaveAllPlayed s) (sym c.back.ensures.items) (played_more s c.join-one.result.1.items c.join-one.result.0 c.join-one.ensures.second.0 c.join-one.ensures.first)
+
+pub returns-clause-count : goal.returns-clause-count
+returns-clause-count g t c =
+    ap length c.back.ensures.items ∙ length-append c.join-one.result.1.items (c.join-one.result.0 ∷ []) ∙ (let others = c.join-one.ensures.second.1 in let all = ap length c.in-Some.ensures.items in let ends = length-append c.last.new.players.items (c.in-Some.one ∷ []) in omega (arith, others, all, ends))
+
+pub returns-clause-room : goal.returns-clause-room
+returns-clause-room g t c = let others = c.join-one.ensures.second.2 in let room = c.back.ensures.room in let same = c.in-Some.ensures.room in omega (arith, others, room, same)

@@ -1,0 +1,7 @@
+use Rattle.chord_pool.proofs.threads.share.Goals as goal
+
+pub returns-clause-main : goal.returns-clause-main
+returns-clause-main g c = c.join.ensures.first
+
+pub returns-clause-others : goal.returns-clause-others
+returns-clause-others g c = c.join.ensures.second

@@ -1,0 +1,33 @@
+-- When the first worker may close the table.
+use Rattle.std.specs.Prelude.{◌≡◌, ◌<◌, ◌⊎◌, ℕ, true, false, List, Some, None, min}
+use Rattle.chord_rule.specs.declared.view.Look.{Look}
+use Rattle.chord_rule.specs.declared.view.View.{View}
+use Rattle.chord_rule.specs.Closing.{IsAsleep, MayClose}
+use Rattle.chord_rule.specs.Ways.{LastSeen}
+use Rattle.chord_space.specs.declared.space.Space.{Space}
+use Rattle.chord_space.specs.Desks.{view, events}
+use Rattle.chord_task.specs.declared.parcel.Parcel.{Parcel}
+use Rattle.chord_word.specs.declared.cells.Word.{Word}
+use Rattle.chord_worker.specs.declared.worker.Worker.{Worker}
+use Rattle.chord_worker.specs.Resting.{IsAtRest}
+
+-- each cell below the count was looked at, and was last neither woken nor ready
+abbrev pub AreAwake : ℕ → List Look → Type 0
+AreAwake count looks = (i : ℕ) → i < count → (x : Word) × LastSeen i x looks × (IsAsleep x.cell → ⊥)
+
+-- the worker looked at the counter, which had reached the limit
+abbrev pub SawLimit : ℕ → View → Type 0
+SawLimit n v = (c : ℕ) × (v.looked.count ≡ Some c) × (min c n ≡ n)
+
+-- the first worker is alone and at rest, with nothing to play
+pub record IsLast (s : Space Parcel) (w : Worker) : Type 0 where
+  pub rest : IsAtRest s w
+  pub task : w.task ≡ None
+  pub first : (view w.desk).first ≡ true
+  pub drawn : (view w.desk).drawn ≡ true
+  pub lent : (view w.desk).lent ≡ 0
+
+-- the run is over: the first worker was told that it is full, or saw it, or knows that nothing is left to do
+pub record IsOver (s : Space Parcel) (w : Worker) : Type 0 where
+  pub last : IsLast s w
+  pub why : ((view w.desk).spent ≡ true) ⊎ (SawLimit (events s) (view w.desk) ⊎ (((view w.desk).spent ≡ false) × MayClose (view w.desk)))

@@ -1,0 +1,70 @@
+-- Workers of one run: which of them may draw, which have nothing to play, and how they are handed to threads and come back.
+use Rattle.std.specs.Prelude.{◌≡◌, false, true, List, [], ◌∷◌, length, None}
+use Rattle.chord_base.specs.declared.event.Limits.{Limits}
+use Rattle.chord_code.specs.declared.parts.Parts.{Parts}
+use Rattle.chord_code.specs.Sound.{IsSoundCode}
+use Rattle.chord_space.specs.declared.space.Space.{Space}
+use Rattle.chord_space.specs.Desks.{view, code_of, limits_of}
+use Rattle.chord_task.specs.declared.parcel.Parcel.{Parcel}
+use Rattle.chord_worker.specs.declared.worker.Worker.{Worker}
+use Rattle.chord_worker.specs.Resting.{IsAtRest, IsSameRole}
+use Rattle.chord_pool.specs.declared.player.Player.{Player}
+
+-- the code and the limits are those of the space, and the code is sound
+pub record IsOneRun (s : Space Parcel) (code : Parts) (limits : Limits) : Type 0 where
+  pub code_is : code_of s ≡ code
+  pub limits_are : limits_of s ≡ limits
+  pub sound : IsSoundCode code
+
+-- the worker is at rest, and was not told that the limit is reached
+pub record IsFit (s : Space Parcel) (w : Worker) : Type 0 where
+  pub rest : IsAtRest s w
+  pub room : (view w.desk).spent ≡ false
+
+-- the worker is at rest, and one that was told that the limit is reached has nothing to play
+pub record IsSettled (s : Space Parcel) (w : Worker) : Type 0 where
+  pub rest : IsAtRest s w
+  pub over : (view w.desk).spent ≡ true → w.task ≡ None
+
+-- the worker is at rest, and has nothing to play
+pub record HasStopped (s : Space Parcel) (w : Worker) : Type 0 where
+  pub rest : IsAtRest s w
+  pub task : w.task ≡ None
+
+-- a player that has not failed may go on
+abbrev pub MayPlay : Space Parcel → Player → Type 0
+MayPlay s x = x.failed ≡ false → IsSettled s x.worker
+
+-- a player that has not failed has nothing to play
+abbrev pub HasPlayed : Space Parcel → Player → Type 0
+HasPlayed s x = x.failed ≡ false → HasStopped s x.worker
+
+-- it plays at the same desk, unless it fails
+abbrev pub PlaysOn : Player → Player → Type 0
+PlaysOn x y = y.failed ≡ false → IsSameRole (view x.worker.desk) (view y.worker.desk)
+
+-- each of these may go on
+abbrev pub MayAllPlay : Space Parcel → List Player → Type 0
+MayAllPlay s [] = Unit {0}
+MayAllPlay s (x ∷ xs) = MayPlay s x × MayAllPlay s xs
+
+-- each of these that has not failed has nothing to play
+abbrev pub HaveAllPlayed : Space Parcel → List Player → Type 0
+HaveAllPlayed s [] = Unit {0}
+HaveAllPlayed s (x ∷ xs) = HasPlayed s x × HaveAllPlayed s xs
+
+-- the first worker, and the others that it has hired: each may go on
+pub record IsCrew (s : Space Parcel) (main : Worker) (others : List Player) : Type 0 where
+  pub settled : IsSettled s main
+  pub first : (view main.desk).first ≡ true
+  pub drawn : (view main.desk).drawn ≡ true
+  pub lent : (view main.desk).lent ≡ length others
+  pub all : MayAllPlay s others
+
+-- the first worker, and others that have come back from their threads
+pub record IsBack (s : Space Parcel) (main : Worker) (others : List Player) : Type 0 where
+  pub stopped : HasStopped s main
+  pub first : (view main.desk).first ≡ true
+  pub drawn : (view main.desk).drawn ≡ true
+  pub lent : (view main.desk).lent ≡ length others
+  pub all : HaveAllPlayed s others

@@ -1,0 +1,79 @@
+//! The first worker hires the others, and takes them in when they have come back.
+ghost use Rattle.std.specs.Prelude.{◌≡◌, ℕ, ◌+◌, ◌<◌, ◌≤◌, [], ◌∷◌, List, IfOk, length};
+ghost use Rattle.chord_pool.specs.declared.player.Player.{Player as ThePlayer};
+ghost use Rattle.chord_space.specs.Desks.{view};
+ghost use Rattle.chord_pool.specs.Players.{MayPlay, HasPlayed, IsCrew, IsBack};
+
+use crate::player::Player;
+use chord_space::Space;
+use chord_task::parcel::Parcel;
+use chord_worker::Worker;
+use std::alloc::{AllocError, Global};
+
+/// One more worker, with a desk of its own.
+fn hire_one(
+    alloc: Global,
+    space: &Space<Parcel>,
+    main: &mut Worker,
+    others: &mut Vec<Player>,
+) -> Result<(), AllocError>
+    requires crew { IsCrew space.now main.old others.old.items × ((view main.old.desk).splits ≡ length others.old.items) × (length others.old.items < 65535) }
+    ensures crew { IfOk result (λ _. IsCrew space.now main.new others.new.items × ((view main.new.desk).splits ≡ length others.new.items) × (length others.new.items ≡ length others.old.items + 1)) }
+{
+    let worker = main.hired(alloc, space);
+    others.push(Player {
+        worker,
+        failed: false,
+        place: 0,
+    })?;
+    Ok(())
+}
+
+/// As many workers as there are to be beside the first one.
+pub(crate) fn hire(
+    alloc: Global,
+    space: &Space<Parcel>,
+    main: &mut Worker,
+    workers: u32,
+) -> Result<Vec<Player>, AllocError>
+    requires crew { IsCrew space.now main.old [] × ((view main.old.desk).splits ≡ 0) }
+    requires few { (1 ≤ workers) × (workers ≤ 64) }
+    ensures crew { IfOk result (λ others. IsCrew space.now main.new others.items) }
+{
+    let mut others = Vec::new(alloc);
+    for _ in 1..workers {
+        hire_one(alloc, space, main, &mut others)?;
+    }
+    Ok(others)
+}
+
+/// Takes in one that has come back.
+fn take_one(space: &Space<Parcel>, main: &mut Worker, player: Player) -> Result<(), AllocError>
+    requires back { (rest : List ThePlayer) × IsBack space.now main.old (player ∷ rest) }
+    ensures back { IfOk result (λ _. (rest : List ThePlayer) → IsBack space.now main.old (player ∷ rest) → IsBack space.now main.new rest) }
+{
+    if player.failed {
+        return Err(AllocError);
+    }
+    main.take_in(space, player.worker)?;
+    Ok(())
+}
+
+/// Takes in all that have come back.
+///
+/// # Errors
+///
+/// `AllocError` where one of them met want of memory, and where there is no memory for their entries side by side.
+pub(crate) fn take_all(
+    space: &Space<Parcel>,
+    main: &mut Worker,
+    others: Vec<Player>,
+) -> Result<(), AllocError>
+    requires back { IsBack space.now main.old others.items }
+    ensures back { IfOk result (λ _. IsBack space.now main.new []) }
+{
+    for player in others {
+        take_one(space, main, player)?;
+    }
+    Ok(())
+}

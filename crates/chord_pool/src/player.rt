@@ -1,0 +1,203 @@
+//! A worker at its thread: it plays what it has, and looks for more.
+ghost use Rattle.std.specs.Prelude.{◌≡◌, ◌≢◌, ℕ, ◌<◌, ◌≤◌, true, false, None, Some, is_some, OnOk, IfSome};
+ghost use Rattle.chord_space.specs.Desks.{view};
+ghost use Rattle.chord_worker.specs.Resting.{IsAtRest, IsSameRole};
+ghost use Rattle.chord_pool.specs.Players.{IsOneRun, IsFit, IsSettled, HasStopped, MayPlay, HasPlayed, PlaysOn};
+
+use crate::run::Run;
+use chord_word::Cell;
+use chord_worker::{Gate, Worker};
+use crossbeam_utils::Backoff;
+use std::alloc::Global;
+use std::sync::Wait;
+
+/// A worker, and what has become of it.
+#[derive(Drop)]
+pub(crate) struct Player {
+    pub worker: Worker,
+    /// It met want of memory, or was told that another one did.
+    pub failed: bool,
+    /// The number from which it goes on to look for a firing.
+    pub place: u32,
+}
+
+/// Looks at the cell of number i, and starts its firing where it is ready. Whether it plays it now.
+fn try_start<'a, G: Gate>(run: &Run<'a>, worker: &mut Worker, i: u32, gate: &G) -> bool
+    requires run { IsOneRun run.now.space.now run.now.code.now run.now.limits.now }
+    requires worker { IsFit run.now.space.now worker.old }
+    requires idle { worker.old.task ≡ None }
+    requires bounds { i < run.now.space.now.events }
+    ensures worker { IsFit run.now.space.now worker.new }
+    ensures role { IsSameRole (view worker.old.desk) (view worker.new.desk) }
+    ensures task { result ≡ is_some worker.new.task }
+{
+    match worker.look(run.space, i) {
+        Cell::Ready => {
+            run.shared.begin();
+            let started = worker.start(run.space, run.code, run.limits, i, gate);
+            if !started {
+                run.shared.end();
+            }
+            started
+        }
+        _ => false,
+    }
+}
+
+/// Looks through the cells of these numbers for a firing that is ready, and starts the first. Its number.
+fn sweep<'a, G: Gate>(
+    run: &Run<'a>,
+    worker: &mut Worker,
+    from: u32,
+    below: u32,
+    gate: &G,
+) -> Option<u32>
+    requires run { IsOneRun run.now.space.now run.now.code.now run.now.limits.now }
+    requires worker { IsFit run.now.space.now worker.old }
+    requires idle { worker.old.task ≡ None }
+    requires bounds { below ≤ run.now.space.now.events }
+    ensures worker { IsFit run.now.space.now worker.new }
+    ensures role { IsSameRole (view worker.old.desk) (view worker.new.desk) }
+    ensures task { is_some result ≡ is_some worker.new.task }
+{
+    for i in from..below {
+        if try_start(run, worker, i, gate) {
+            return Some(i);
+        }
+    }
+    None
+}
+
+/// Looks for a firing from where the last look ended, all round. Whether it plays one now.
+fn find_work<'a, G: Gate>(run: &Run<'a>, worker: &mut Worker, place: &mut u32, gate: &G) -> bool
+    requires run { IsOneRun run.now.space.now run.now.code.now run.now.limits.now }
+    requires worker { IsFit run.now.space.now worker.old }
+    requires idle { worker.old.task ≡ None }
+    ensures worker { IsFit run.now.space.now worker.new }
+    ensures role { IsSameRole (view worker.old.desk) (view worker.new.desk) }
+    ensures task { result ≡ is_some worker.new.task }
+{
+    let count = worker.count(run.space);
+    let from = if *place < count { *place } else { 0 };
+    if let Some(i) = sweep(run, worker, from, count, gate) {
+        *place = i;
+        return true;
+    }
+    match sweep(run, worker, 0, from, gate) {
+        None => false,
+        Some(i) => {
+            *place = i;
+            true
+        }
+    }
+}
+
+impl Player {
+    /// One step of the task. Whether the worker goes on.
+    fn advance<'a, G: Gate>(&mut self, alloc: Global, run: &Run<'a>, gate: &G) -> bool
+        requires run { IsOneRun run.now.space.now run.now.code.now run.now.limits.now }
+        requires worker { IsFit run.now.space.now self.old.worker }
+        requires task { self.old.worker.task ≢ None }
+        requires sane { self.old.failed ≡ false }
+        ensures may { MayPlay run.now.space.now self.new }
+        ensures on { PlaysOn self.old self.new }
+        ensures sane { result ≡ true → self.new.failed ≡ false }
+        ensures failed { result ≡ false → self.new.failed ≡ true }
+    {
+        match self
+            .worker
+            .step(alloc, run.space, run.code, run.limits, gate)
+        {
+            Ok(()) => {
+                if !self.worker.has_task() {
+                    run.shared.end();
+                }
+                true
+            }
+            Err(_) => {
+                self.failed = true;
+                run.shared.stop();
+                false
+            }
+        }
+    }
+
+    /// Looks for a firing to play. Whether the worker goes on: it does while it finds one, or another is at work.
+    fn idle<'a, G: Gate>(&mut self, run: &Run<'a>, gate: &G, pause: &Backoff) -> bool
+        requires run { IsOneRun run.now.space.now run.now.code.now run.now.limits.now }
+        requires worker { IsFit run.now.space.now self.old.worker }
+        requires idle { self.old.worker.task ≡ None }
+        requires sane { self.old.failed ≡ false }
+        ensures may { MayPlay run.now.space.now self.new }
+        ensures on { PlaysOn self.old self.new }
+        ensures sane { result ≡ true → self.new.failed ≡ false }
+        ensures stops { result ≡ false → HasPlayed run.now.space.now self.new }
+    {
+        // Read before the look: what is posted later is posted by a worker that is at work now, or by one of those whose work
+        // this look finds.
+        let live = run.shared.is_live();
+        if find_work(run, &mut self.worker, &mut self.place, gate) {
+            pause.reset();
+            return true;
+        }
+        if live {
+            pause.snooze();
+        }
+        live
+    }
+
+    /// One round: a step of the task, or a look for another. Whether the worker goes on.
+    fn round<'a, G: Gate>(
+        &mut self,
+        alloc: Global,
+        run: &Run<'a>,
+        gate: &G,
+        pause: &Backoff,
+    ) -> bool
+        requires run { IsOneRun run.now.space.now run.now.code.now run.now.limits.now }
+        requires may { MayPlay run.now.space.now self.old }
+        requires sane { self.old.failed ≡ false }
+        ensures may { MayPlay run.now.space.now self.new }
+        ensures on { PlaysOn self.old self.new }
+        ensures sane { result ≡ true → self.new.failed ≡ false }
+        ensures stops { result ≡ false → HasPlayed run.now.space.now self.new }
+    {
+        if self.worker.is_spent() {
+            return false;
+        }
+        if run.shared.has_stopped() {
+            self.failed = true;
+            return false;
+        }
+        if self.worker.has_task() {
+            return self.advance(alloc, run, gate);
+        }
+        self.idle(run, gate, pause)
+    }
+}
+
+/// A worker plays until no work is left, or the run is full, or one of the workers met want of memory.
+pub(crate) fn work<'a, R: Wait, G: Gate>(
+    rt: &R,
+    alloc: Global,
+    run: &Run<'a>,
+    player: Player,
+    gate: &G,
+) -> Player
+    requires run { IsOneRun run.now.space.now run.now.code.now run.now.limits.now }
+    requires may { MayPlay run.now.space.now player }
+    ensures played { HasPlayed run.now.space.now result }
+    ensures on { PlaysOn player result }
+{
+    let mut player = player;
+    let pause = Backoff::new();
+    for _ in rt.forever() {
+        if player.failed {
+            return player;
+        }
+        if !player.round(alloc, run, gate, &pause) {
+            return player;
+        }
+    }
+    unreachable!()
+}

@@ -1,0 +1,152 @@
+//! The workers of a run go to threads of their own, and come back.
+ghost use Rattle.std.specs.Prelude.{◌≡◌, ℕ, ◌<◌, ◌≤◌, ◌++◌, ◌∷◌, [], IfSome, IfNone, option_to_list, length, vec_capacity};
+ghost use Rattle.std.specs.Thread.{IsSync};
+ghost use Rattle.chord_pool.specs.Players.{IsOneRun, MayPlay, HasPlayed, PlaysOn, MayAllPlay, HaveAllPlayed};
+
+use crate::player::{Player, work};
+use crate::run::Run;
+use chord_worker::Gate;
+use std::alloc::Global;
+use std::sync::Wait;
+use std::thread::{Threads, join};
+
+/// The last of them.
+fn last<'a>(run: &Run<'a>, players: &mut Vec<Player>) -> Option<Player>
+    requires may { MayAllPlay run.now.space.now players.old.items }
+    ensures may { IfSome result (λ one. MayPlay run.now.space.now one × MayAllPlay run.now.space.now players.new.items) }
+    ensures items { players.old.items ≡ players.new.items ++ option_to_list result }
+    ensures none { IfNone result (HaveAllPlayed run.now.space.now players.new.items) }
+    ensures fewer { IfSome result (λ _. length players.new.items < length players.old.items) }
+    ensures room { IfSome result (λ _. length players.new.items < vec_capacity players.new) × (vec_capacity players.new ≡ vec_capacity players.old) }
+{
+    let _space = run.space;
+    players.pop()
+}
+
+/// The player stands behind the others.
+fn back(players: Vec<Player>, one: Player) -> Vec<Player>
+    requires room { length players.items < vec_capacity players }
+    ensures items { result.items ≡ players.items ++ one ∷ [] }
+    ensures room { vec_capacity players ≤ vec_capacity result }
+{
+    let mut players = players;
+    match players.push(one) {
+        Ok(()) => players,
+        Err(_) => unreachable!(),
+    }
+}
+
+/// Each plays at a thread of its own, until all have come back.
+fn all<'a, R: Threads + Wait + Sync, G: Gate + Sync>(
+    rt: &R,
+    alloc: Global,
+    run: &Run<'a>,
+    players: Vec<Player>,
+    gate: &G,
+) -> Vec<Player>
+    requires run { IsOneRun run.now.space.now run.now.code.now run.now.limits.now }
+    requires may { MayAllPlay run.now.space.now players.items }
+    ensures played { HaveAllPlayed run.now.space.now result.items }
+    ensures count { length result.items ≡ length players.items }
+    ensures room { vec_capacity players ≤ vec_capacity result }
+{
+    let mut players = players;
+    let Some(one) = last(run, &mut players) else {
+        return players;
+    };
+    let (space, code, limits, shared) = (run.space, run.code, run.limits, run.shared);
+    let (one, others) = join(
+        rt,
+        move || -> Player
+            requires { IsOneRun space.now code.now limits.now × MayPlay space.now one }
+            ensures { HasPlayed space.entry.now result }
+        {
+            work(
+                rt,
+                alloc,
+                &Run {
+                    space,
+                    code,
+                    limits,
+                    shared,
+                },
+                one,
+                gate,
+            )
+        },
+        move || -> Vec<Player>
+            requires { IsSync R.row × IsOneRun space.now code.now limits.now × MayAllPlay space.now players.items }
+            ensures { HaveAllPlayed space.entry.now result.items × (length result.items ≡ length players.items) × (vec_capacity players ≤ vec_capacity result) }
+        {
+            all(
+                rt,
+                alloc,
+                &Run {
+                    space,
+                    code,
+                    limits,
+                    shared,
+                },
+                players,
+                gate,
+            )
+        },
+    );
+    back(others, one)
+}
+
+/// The worker that plays `Main` is the first at a thread, and the others are beside it.
+pub(crate) fn share<'a, R: Threads + Wait + Sync, G: Gate + Sync>(
+    rt: &R,
+    alloc: Global,
+    run: &Run<'a>,
+    main: Player,
+    others: Vec<Player>,
+    gate: &G,
+) -> (Player, Vec<Player>)
+    requires run { IsOneRun run.now.space.now run.now.code.now run.now.limits.now }
+    requires main { MayPlay run.now.space.now main }
+    requires others { MayAllPlay run.now.space.now others.items }
+    ensures main { HasPlayed run.now.space.now result.0 × PlaysOn main result.0 }
+    ensures others { HaveAllPlayed run.now.space.now result.1.items × (length result.1.items ≡ length others.items) }
+{
+    let (space, code, limits, shared) = (run.space, run.code, run.limits, run.shared);
+    join(
+        rt,
+        move || -> Player
+            requires { IsOneRun space.now code.now limits.now × MayPlay space.now main }
+            ensures { HasPlayed space.entry.now result × PlaysOn main result }
+        {
+            gate.started(0);
+            work(
+                rt,
+                alloc,
+                &Run {
+                    space,
+                    code,
+                    limits,
+                    shared,
+                },
+                main,
+                gate,
+            )
+        },
+        move || -> Vec<Player>
+            requires { IsSync R.row × IsOneRun space.now code.now limits.now × MayAllPlay space.now others.items }
+            ensures { HaveAllPlayed space.entry.now result.items × (length result.items ≡ length others.items) }
+        {
+            all(
+                rt,
+                alloc,
+                &Run {
+                    space,
+                    code,
+                    limits,
+                    shared,
+                },
+                others,
+                gate,
+            )
+        },
+    )
+}
