@@ -27,3 +27,5 @@ pub use top::chord;
 
 #[cfg(test)]
 mod tests;
+#[cfg(test)]
+mod worker_tests;

@@ -43,7 +43,7 @@ struct Case {
 
 const NEVER: u32 = u32::MAX;
 
-const CASES: [Case; 9] = [
+const CASES: [Case; 11] = [
     Case {
         name: "buffer",
         words: "run --one",
@@ -100,15 +100,37 @@ const CASES: [Case; 9] = [
         entries: Some(65_536),
     },
     Case {
-        name: "words before workers",
+        name: "a buffer that four workers play",
         words: "run",
         puts: 1,
         gets: 1,
         room: 100,
         failing_write: NEVER,
+        written: "hi\n",
+        status: 0,
+        entries: Some(8),
+    },
+    Case {
+        name: "a journal that four workers fill",
+        words: "run --events 16",
+        puts: 20,
+        gets: 0,
+        room: 100,
+        failing_write: NEVER,
         written: "",
-        status: 2,
-        entries: None,
+        status: 6,
+        entries: Some(16),
+    },
+    Case {
+        name: "a parked Main of eight workers",
+        words: "run --workers 8",
+        puts: 0,
+        gets: 1,
+        room: 100,
+        failing_write: NEVER,
+        written: "",
+        status: 4,
+        entries: Some(3),
     },
     Case {
         name: "other arguments",
@@ -159,7 +181,7 @@ fn source_of(alloc: Global, case: &Case) -> Result<Vec<u8>, AllocError> {
 }
 
 /// The words of a command line that has one blank between two of them.
-fn words_of(alloc: Global, line: &str) -> Result<Vec<String>, AllocError> {
+pub(crate) fn words_of(alloc: Global, line: &str) -> Result<Vec<String>, AllocError> {
     let mut words = Vec::new(alloc);
     for word in line.split(' ') {
         words.push(String::from_str(alloc, word)?)?;
@@ -201,16 +223,16 @@ fn runs(rt: HostRuntime) -> Result<(), Fail> {
 }
 
 /// A program, and what its run prints.
-struct Played {
-    name: &'static str,
-    source: &'static str,
-    written: &'static str,
-    status: u8,
+pub(crate) struct Played {
+    pub(crate) name: &'static str,
+    pub(crate) source: &'static str,
+    pub(crate) written: &'static str,
+    pub(crate) status: u8,
     /// The number of entries of its journal.
-    entries: usize,
+    pub(crate) entries: usize,
 }
 
-const PLAYED: [Played; 8] = [
+pub(crate) const PLAYED: [Played; 8] = [
     Played {
         name: "empty Main",
         source: "class P { static void Main() { } }

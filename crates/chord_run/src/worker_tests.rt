@@ -1,0 +1,156 @@
+//! Runs that workers make: what they write and how many entries they have, however many workers there are; and two bodies side by side.
+use crate::tests::{PLAYED, words_of};
+use crate::{Gate, Report, chord};
+use chord_io::{MemSink, MemSource};
+use std::alloc::{AllocError, Global};
+use std::sync::Wait;
+use std::sync::atomic::{AtomicU64, Ordering};
+use std::test::Fail;
+use std::thread::{Threads, yield_now};
+
+/// How often the gate looks whether the other body has started.
+const LOOKS: u32 = 1_000_000;
+
+const WORDS: [&str; 5] = [
+    "run --workers 1",
+    "run --workers 2",
+    "run",
+    "run --workers 8",
+    "run --workers 64",
+];
+
+const SANTA: &str = "class Santa {
+  public Santa() { deer(0); elves(0); }
+  public async Back() & async deer(int n) {
+    if (n == 8) { deer(0); sleigh(); } else deer(n + 1);
+  }
+  public async Ask() & async elves(int n) {
+    if (n == 2) { elves(0); group(); } else elves(n + 1);
+  }
+  public void Work() & async sleigh() { Console.WriteLine(\"Santa delivers toys\"); }
+  public void Work() & async group() { Console.WriteLine(\"Santa meets elves\"); }
+}
+class Folk {
+  public async Reindeer(Santa s) { s.Back(); }
+  public async Elf(Santa s) { s.Ask(); }
+}
+class Program {
+  static void Main() {
+    Santa s = new Santa(); Folk f = new Folk();
+    int i = 0;
+    while (i < 10) { if (i < 9) f.Reindeer(s); f.Elf(s); i = i + 1; }
+    s.Work(); s.Work(); s.Work(); s.Work();
+  }
+}
+";
+
+const SIDE_BY_SIDE: &str = "class A { public async a() { } public async b() { } }
+class P { static void Main() { A o = new A(); o.a(); o.b(); } }
+";
+
+/// A gate that holds the first body after `Main` until another one has started, and marks where none did.
+struct Meeting {
+    mains: AtomicU64,
+    others: AtomicU64,
+    missed: AtomicU64,
+}
+
+impl Gate for Meeting {
+    fn started(&self, body: u32) {
+        if body == 0 {
+            self.mains.fetch_add(1, Ordering::SeqCst);
+            return;
+        }
+        if self.others.fetch_add(1, Ordering::SeqCst) != 0 {
+            return;
+        }
+        for _ in 0..LOOKS {
+            if self.others.load(Ordering::SeqCst) > 1 {
+                return;
+            }
+            yield_now();
+        }
+        self.missed.fetch_add(1, Ordering::SeqCst);
+    }
+}
+
+/// The top call over memory.
+fn answer<R: Threads + Wait + Sync, G: Gate + Sync>(
+    rt: &R,
+    alloc: Global,
+    words: &str,
+    source: &str,
+    sink: &mut MemSink,
+    gate: &G,
+) -> Result<Report, AllocError> {
+    let words = words_of(alloc, words)?;
+    let bytes = Vec::from_slice(alloc, source.as_bytes())?;
+    let mut source = MemSource::new(bytes, 4096, Vec::new(alloc));
+    Ok(chord(rt, alloc, &words, &mut source, sink, gate))
+}
+
+/// The number of entries of the journal in a report, which its table has drawn.
+fn entries_of(report: &Report) -> usize {
+    match (&report.journal, &report.table) {
+        (Some(journal), Some(table)) if table.drawn() as usize == journal.entries().len() => {
+            journal.entries().len()
+        }
+        _ => 0,
+    }
+}
+
+/// A gate that counts nothing.
+fn meeting() -> Meeting {
+    Meeting {
+        mains: AtomicU64::new(0),
+        others: AtomicU64::new(2),
+        missed: AtomicU64::new(0),
+    }
+}
+
+#[test]
+fn workers_make_the_runs(rt: HostRuntime) -> Result<(), Fail> {
+    for words in &WORDS {
+        for case in &PLAYED {
+            let alloc = rt.alloc();
+            let mut sink = MemSink::new(alloc, 100, 4096, Vec::new(alloc))?;
+            let report = answer(&rt, alloc, words, case.source, &mut sink, &meeting())?;
+            let name = case.name;
+            assert_eq!(rt; sink.taken(), case.written.as_bytes(), "{name}");
+            assert_eq!(rt; report.status, case.status, "{name}");
+            assert_eq!(rt; entries_of(&report), case.entries, "{name}");
+        }
+    }
+    Ok(())
+}
+
+#[test]
+fn santa(rt: HostRuntime) -> Result<(), Fail> {
+    for words in &WORDS {
+        let alloc = rt.alloc();
+        let mut sink = MemSink::new(alloc, 100, 4096, Vec::new(alloc))?;
+        let report = answer(&rt, alloc, words, SANTA, &mut sink, &meeting())?;
+        // one line of 19 bytes and three of 17, in whatever order, each with its line feed
+        assert_eq!(rt; sink.taken().len(), 20 + 3 * 18);
+        assert_eq!(rt; report.status, 0);
+        assert_eq!(rt; entries_of(&report), 159);
+    }
+    Ok(())
+}
+
+#[test]
+fn two_bodies_side_by_side(rt: HostRuntime) -> Result<(), Fail> {
+    let alloc = rt.alloc();
+    let gate = Meeting {
+        mains: AtomicU64::new(0),
+        others: AtomicU64::new(0),
+        missed: AtomicU64::new(0),
+    };
+    let mut sink = MemSink::new(alloc, 100, 4096, Vec::new(alloc))?;
+    let report = answer(&rt, alloc, "run --workers 4", SIDE_BY_SIDE, &mut sink, &gate)?;
+    assert_eq!(rt; report.status, 0);
+    assert_eq!(rt; gate.mains.load(Ordering::SeqCst), 1);
+    assert_eq!(rt; gate.others.load(Ordering::SeqCst), 2);
+    assert_eq!(rt; gate.missed.load(Ordering::SeqCst), 0);
+    Ok(())
+}
