@@ -23,17 +23,23 @@ use Rattle.chord_code.specs.declared.parts.Parts.{Parts}
 use Rattle.chord_code.specs.Meaning.{code_program}
 use Rattle.chord_rule.specs.Coming.{ComesWithFiring, ArePlaces}
 use Rattle.chord_rule.specs.Closing.{IsQuiet, AreQuiet}
-use Rattle.chord_rule.specs.Kinds.{among, entry, left_by, MayGo}
+use Rattle.chord_rule.specs.Kinds.{among, entry, left_by, MayGo, played, saw, firing_started}
+use Rattle.chord_rule.specs.declared.view.View.{View}
+use Rattle.chord_space.specs.declared.space.Desk.{Desk}
+use Rattle.chord_space.specs.declared.space.Space.{Space}
+use Rattle.chord_space.specs.Desks.{view, code_of, limits_of, program_of, IsDeskOf, IsSameDesk}
+use Rattle.chord_word.specs.declared.cells.Word.{Word}
+use Rattle.chord_worker.specs.declared.worker.Worker.{Worker}
 use Rattle.chord_rule.specs.Parcels.{Begins}
 use Rattle.chord_task.specs.declared.body.Body.{Body}
 use Rattle.chord_task.specs.declared.body.Next.{Next}
 use Rattle.chord_task.specs.declared.body.Next.TheVariants as nexts
 use Rattle.chord_task.specs.declared.parcel.Parcel.{Parcel}
 use Rattle.chord_task.specs.declared.task.Task.{Task}
-use Rattle.chord_task.specs.Parcels.{past_in, TaskIn}
-use Rattle.chord_task.specs.Standing.{view_of, body_number, may_go, body_may_go, is_ready_of, IsTop, IsBodyStack, IsTaskOf}
+use Rattle.chord_task.specs.Parcels.{past_in, TaskIn, entries_of, IsParcelOf}
+use Rattle.chord_task.specs.Standing.{view_of, body_number, may_go, body_may_go, is_ready_of, IsTop, IsBodyStack, IsTaskOf, MainBegins}
 use Rattle.chord_worker.specs.Parted.{IsParted, with_part, two}
-use Rattle.chord_worker.specs.Resting.{IsInMemory, MayContinue}
+use Rattle.chord_worker.specs.Resting.{IsInMemory, MayContinue, IsFree, IsAtRest, IsSameRole}
 use Rattle.chord_worker.proofs.Parts.{kept_agree, kept_nothing, all_kept, none_kept, left_is, part_goes, part_came, whole_told}
 
 -- ## Bodies that may go on
@@ -231,3 +237,41 @@ started_memory code limits es done t m is places = record {
 pub some_task : (x : Option Task) (f : ℕ) → Begins f (past_in x) → (t : Task) × (x ≡ Some t)
 some_task None f b = absurd b.1
 some_task (Some t) f b = (t, refl)
+
+-- what a firing's parcel brings is in memory with its task, which may go on
+started_with : (code : Parts) (limits : Limits) (es : List Entry) (done : List Entry) (x : Option Task) (f : ℕ) → IsInMemory code limits es false done None → TaskIn code limits x → ComesWithFiring (code_program code limits) es f (past_in x)
+    → IsInMemory code limits (together es (past_in x)) false done x × MayContinue x
+started_with code limits es done None f m keeps comes = absurd comes.begins.1
+started_with code limits es done (Some t) f m keeps comes = (started_memory code limits es done t m keeps.0 comes.places, started_goes code limits t keeps.0 f comes.begins comes.only)
+
+module _ (s : Space Parcel) (w : Worker) (r : IsAtRest s w) (none : w.task ≡ None) (room : (view w.desk).spent ≡ false) (d : Desk Parcel) (same : IsSameDesk w.desk d) (q : Parcel) (f : ℕ) (c : Word)
+    (view_is : view d ≡ played (saw (firing_started (view w.desk) f (entries_of q)) f c)) (keeps : IsParcelOf q (code_of s) (limits_of s)) (comes : ComesWithFiring (program_of s) (view w.desk).kept f (entries_of q)) where
+  -- a worker that started a firing is at rest
+  pub rest_started : IsAtRest s (record w { desk = d; task = q.task })
+  rest_started =
+      let memory : IsInMemory (code_of s) (limits_of s) (view w.desk).kept false w.done.items None = subst (λ (x : Option Task). IsInMemory (code_of s) (limits_of s) (view w.desk).kept false w.done.items x) none
+          (subst (λ (b : Bool). IsInMemory (code_of s) (limits_of s) (view w.desk).kept b w.done.items w.task) room r.memory) in
+      let with_it = started_with (code_of s) (limits_of s) (view w.desk).kept w.done.items q.task f memory keeps.1 comes in
+      let spent : (view d).spent ≡ false = ap (λ (z : View). z.spent) view_is ∙ room in record {
+        desk = same.0 ∙ r.desk;
+        told = r.told ∙ room ∙ sym spent;
+        free = subst IsFree (sym view_is) (record { claims = r.free.claims; flight = r.free.flight; fresh = r.free.fresh });
+        duties = λ e. ap (λ (z : View). z.duties) view_is ∙ r.duties room;
+        memory = subst (λ (b : Bool). IsInMemory (code_of s) (limits_of s) (view d).kept b w.done.items q.task) (sym spent)
+            (subst (λ (es : List Entry). IsInMemory (code_of s) (limits_of s) es false w.done.items q.task) (sym (ap (λ (z : View). z.kept) view_is)) with_it.0);
+        goes_on = with_it.1;
+        stock = r.stock;
+      }
+
+  -- and has its role still
+  pub role_started : IsSameRole (view w.desk) (view d)
+  role_started = record {
+    first = ap (λ (z : View). z.first) view_is;
+    lent = ap (λ (z : View). z.lent) view_is;
+    splits = ap (λ (z : View). z.splits) view_is;
+    drawn = λ e. ap (λ (z : View). z.drawn) view_is ∙ e;
+  }
+
+-- `Main` begins in a sound program
+pub main_begins : (code : Parts) (limits : Limits) → IsSound (code_program code limits) → MainBegins code limits
+main_begins code limits s = s.is_defined (entry 0 0 Begun ∷ []) 0 (tt, record { numbered = refl; comes = (refl, refl) })
