@@ -1,5 +1,5 @@
 -- A worker between a firing that it drew, whose parcels it was handed, and the beginning of the firing's body.
-use Rattle.std.specs.Prelude.{◌≡◌, ℕ, false, List, [], Option, Some}
+use Rattle.std.specs.Prelude.{◌≡◌, ℕ, false, List, [], Some}
 use Rattle.chord_base.specs.declared.value.Object.{Object}
 use Rattle.chord_match.specs.Fires.{IsFired}
 use Rattle.chord_rule.specs.declared.view.View.{View}
