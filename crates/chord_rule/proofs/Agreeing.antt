@@ -162,7 +162,7 @@ module _ {P : Type 0} (entries : P → List Entry) (arguments : P → List value
   agrees_told any full untold = let b = law.counting.bound in let t = told_set m.views id v (was_told v) at in let f : flag v.spent ≡ 0 = ap flag untold in record {
     tabled = law.tabled;
     counting = counts n m.count (m.count + 1) m.views id v (was_told v) law.counting at (omega arith) (λ _. refl);
-    firsts = firsts_told n m.count m.views law.counting law.firsts id v at (m.count + 1) (was_told v) (omega (arith, any, full)) refl refl refl;
+    firsts = firsts_told n m.count m.views law.counting law.firsts id v at (m.count + 1) (was_told v) (omega (arith, any, full)) (omega arith) refl refl refl;
     stands = standing.stands_told entries arguments keeps_to p n m u law.stands id v at full;
     heads = law.heads;
     bags = law.bags;
@@ -177,7 +177,7 @@ module _ {P : Type 0} (entries : P → List Entry) (arguments : P → List value
   agrees_draw b what room own asks = let keys = bagging.bag_draw entries arguments keeps_to p n small m u law.stands law.heads law.bags b what room in record {
     tabled = law.tabled;
     counting = counts n m.count (m.count + 1) m.views id v (drew v m.count b what) law.counting at (omega arith) (λ _. refl);
-    firsts = firsts_draw n m.count m.views law.counting law.firsts id v at (m.count + 1) (drew v m.count b what) refl refl;
+    firsts = firsts_draw n m.count m.views law.counting law.firsts id v at (m.count + 1) (drew v m.count b what) (omega arith) refl refl;
     stands = standing.stands_draw entries arguments keeps_to p n m u law.stands id v at b what room own asks;
     heads = keys.0;
     bags = keys.1;
@@ -198,7 +198,7 @@ module _ {P : Type 0} (entries : P → List Entry) (arguments : P → List value
       let keys = bagging.bag_draw entries arguments keeps_to p n small m u law.stands law.heads law.bags 0 Begun (omega (arith, none_drawn, any)) in record {
         tabled = law.tabled;
         counting = counts n m.count (m.count + 1) m.views id v (drew v m.count 0 Begun) law.counting at (omega (arith, none_drawn, any)) (λ _. refl);
-        firsts = firsts_draw n m.count m.views law.counting law.firsts id v at (m.count + 1) (drew v m.count 0 Begun) refl refl;
+        firsts = firsts_draw n m.count m.views law.counting law.firsts id v at (m.count + 1) (drew v m.count 0 Begun) (omega arith) refl refl;
         stands = standing.stands_begun entries arguments keeps_to p n m u law.stands id v at none_drawn any;
         heads = keys.0;
         bags = keys.1;
@@ -214,7 +214,7 @@ module _ {P : Type 0} (entries : P → List Entry) (arguments : P → List value
   agrees_draw_firing k object js ms vs room chord members = let w : View = kinds.fired v m.count k object ms vs in let keys = bagging.bag_draw entries arguments keeps_to p n small m u law.stands law.heads law.bags m.count (Fired k object ms vs) room in record {
     tabled = law.tabled;
     counting = counts n m.count (m.count + 1) m.views id v w law.counting at (omega arith) (λ _. refl);
-    firsts = firsts_draw n m.count m.views law.counting law.firsts id v at (m.count + 1) w refl refl;
+    firsts = firsts_draw n m.count m.views law.counting law.firsts id v at (m.count + 1) w (omega arith) refl refl;
     stands = standing.stands_draw_firing entries arguments keeps_to p n m u law.stands id v at k object js ms vs room chord members;
     heads = keys.0;
     bags = keys.1;

@@ -210,4 +210,4 @@ module _ {P : Type 0} (entries : P → List Entry) (arguments : P → List value
       (λ c b. quiet_asks p (doing p (kept_at entries m.views m.homes c) b) (place_quiet mine c b)) none_fires
     where
       begun : u.journal ≡ [] → ⊥
-      begun e = let long = law.stands.keeping.long in let short : length u.journal ≡ 0 = ap length e in let same = count_is in let some_entry = may.begun in omega (arith, long, short, same, some_entry, any)
+      begun e = let long = law.stands.keeping.long in let short : length u.journal ≡ 0 = ap length e in let some_entry = law.firsts.begun v at_first may.begun in omega (arith, long, short, some_entry, any)

@@ -1,5 +1,5 @@
 -- Each kind of step keeps what is known of the first desk.
-use Rattle.std.proofs.Common.{◌≡◌, ◌≢◌, ⊎_elim, ℕ, ◌+◌, ◌<◌, Bool, true, false, List, [], ◌∷◌, ◌++◌, length, set, refl, sym, ap, ◌∙◌, subst, arith, length-set, length-append}
+use Rattle.std.proofs.Common.{◌≡◌, ◌≢◌, ⊎_elim, ℕ, ◌+◌, ◌<◌, ◌≤◌, ◌||◌, Bool, true, false, List, [], ◌∷◌, ◌++◌, length, set, refl, sym, ap, ◌∙◌, subst, arith, length-set, length-append}
 use mathlib.Core.Option.{some}
 use lib.ListN.{get_elem?}
 use Rattle.atomic_table.proofs.Lists.{at_set, set_else}
@@ -24,6 +24,9 @@ module _ (n count : ℕ) (views : List View) (counting : Counting n count views)
     untouched = λ x e none_drawn none_split. ⊎_elim
         (λ t. law.untouched v (ap (get_elem? views) t.0 ∙ at) (sym drawn ∙ ap (λ (y : View). y.drawn) t.1 ∙ none_drawn) (sym splits ∙ ap (λ (y : View). y.splits) t.1 ∙ none_split))
         (λ t. law.untouched x t.1 none_drawn none_split) (at_set views id 0 w x e);
+    begun = λ x e drew. ⊎_elim
+        (λ t. law.begun v (ap (get_elem? views) t.0 ∙ at) (sym drawn ∙ ap (λ (y : View). y.drawn) t.1 ∙ drew))
+        (λ t. law.begun x t.1 drew) (at_set views id 0 w x e);
   }
 
   -- alone, it is the first desk that steps
@@ -31,19 +34,21 @@ module _ (n count : ℕ) (views : List View) (counting : Counting n count views)
   alone x ne e none_split = let f = (counting.first x e).0 in let low = at_inside views id v at in absurd (ne (omega (arith, f, low, none_split)))
 
   -- a draw
-  pub firsts_draw : (count' : ℕ) (w : View) → w.first ≡ v.first → w.drawn ≡ true → Firsts count' (set views id w)
-  firsts_draw count' w first drawn = record {
+  pub firsts_draw : (count' : ℕ) (w : View) → 0 < count' → w.first ≡ v.first → w.drawn ≡ true → Firsts count' (set views id w)
+  firsts_draw count' w some_drawn first drawn = record {
     leads = leads_stay w first;
     untouched = λ x e none_drawn none_split. ⊎_elim
         (λ t. let z : true ≡ false = sym drawn ∙ ap (λ (y : View). y.drawn) t.1 ∙ none_drawn in absurd (cc))
         (λ t. absurd (alone x (λ q. t.0 (sym q)) t.1 none_split)) (at_set views id 0 w x e);
+    begun = λ x e drew. some_drawn;
   }
 
   -- a draw at the limit: some number was drawn before
-  pub firsts_told : (count' : ℕ) (w : View) → 0 < count → w.first ≡ v.first → w.drawn ≡ v.drawn → w.splits ≡ v.splits → Firsts count' (set views id w)
-  firsts_told count' w some_drawn first drawn splits = record {
+  pub firsts_told : (count' : ℕ) (w : View) → 0 < count → 0 < count' → w.first ≡ v.first → w.drawn ≡ v.drawn → w.splits ≡ v.splits → Firsts count' (set views id w)
+  firsts_told count' w some_drawn some_now first drawn splits = record {
     leads = leads_stay w first;
     untouched = λ x e none_drawn none_split. let z = (firsts_stay w first drawn splits).untouched x e none_drawn none_split in absurd (omega arith);
+    begun = λ x e drew. some_now;
   }
 
   -- a split
@@ -53,6 +58,9 @@ module _ (n count : ℕ) (views : List View) (counting : Counting n count views)
     untouched = λ x e none_drawn none_split. ⊎_elim
         (λ a. ⊎_elim (λ t. let z : v.splits + 1 ≡ 0 = ap (λ (y : View). y.splits) t.1 ∙ none_split in absurd (omega arith)) (λ t. absurd (t.0 (sym zero_id))) (at_set views id 0 (lent_one v) x a))
         (λ t. let l = length-set views id (lent_one v) in let s = counting.some in let q = t.0 in absurd (omega arith)) (at_end (set views id (lent_one v)) newcomer x 0 e);
+    begun = λ x e drew. ⊎_elim
+        (λ a. ⊎_elim (λ t. law.begun v (ap (get_elem? views) t.0 ∙ at) (ap (λ (y : View). y.drawn) t.1 ∙ drew)) (λ t. absurd (t.0 (sym zero_id))) (at_set views id 0 (lent_one v) x a))
+        (λ t. let z : false ≡ true = ap (λ (y : View). y.drawn) t.1 ∙ drew in absurd (cc)) (at_end (set views id (lent_one v)) newcomer x 0 e);
   }
 
   -- a desk more counts where it was told that the limit is reached
@@ -86,12 +94,14 @@ module _ (n count : ℕ) (views : List View) (counting : Counting n count views)
       leads = λ j y e first. ⊎_elim (λ t. let z : false ≡ true = ap (λ (y : View). y.first) t.1 ∙ first in absurd (cc)) (λ t. leads_stay (united v x) refl j y t.1 first) (at_set (set views id (united v x)) other j gone y e);
       untouched = λ y e none_drawn none_split. ⊎_elim (λ t. absurd (apart (sym t.0 ∙ sym zero_id)))
           (λ t. (firsts_stay (united v x) refl refl refl).untouched y t.1 none_drawn none_split) (at_set (set views id (united v x)) other 0 gone y e);
+      begun = λ y e drew. ⊎_elim (λ t. absurd (apart (sym t.0 ∙ sym zero_id)))
+          (λ t. (firsts_stay (united v x) refl refl refl).begun y t.1 drew) (at_set (set views id (united v x)) other 0 gone y e);
     }
 
     -- a join keeps the count of desks and the bound on the counter
     pub counting_join : Counting n count (set (set views id (united v x)) other gone)
     counting_join = record {
-      bound = (let b = counting.bound in let t = told_set views id v (united v x) at in let s = told_set (set views id (united v x)) other x gone at_other in let z : flag gone.spent ≡ 1 = refl in let f = flag_small x.spent in omega arith);
+      bound = (let b = counting.bound in let t = told_set views id v (united v x) at in let s = told_set (set views id (united v x)) other x gone at_other in let z : flag gone.spent ≡ 1 = refl in let f = flag_or v.spent x.spent in omega arith);
       first = λ u e. ⊎_elim (λ t. absurd (apart (sym t.0 ∙ sym zero_id)))
           (λ t. ⊎_elim
           (λ s. let f = counting.first v (ap (get_elem? views) s.0 ∙ at) in let q = ap (λ (y : View). y.splits) s.1 in let q' : v.splits ≡ u.splits = q in let l = length-set (set views id (united v x)) other gone in let k = length-set views id (united v x) in let f0 = f.0 in let f1 = f.1 in (omega arith, omega arith))
@@ -104,6 +114,8 @@ module _ (n count : ℕ) (views : List View) (counting : Counting n count views)
         at_other : get_elem? (set views id (united v x)) other ≡ some x
         at_other = set_else views id other (united v x) apart ∙ there
 
-        flag_small : (b : Bool) → flag b < 2
-        flag_small true = omega arith
-        flag_small false = omega arith
+        flag_or : (a b : Bool) → flag a + flag b ≤ flag (a || b) + 1
+        flag_or true true = omega arith
+        flag_or true false = omega arith
+        flag_or false true = omega arith
+        flag_or false false = omega arith

@@ -131,7 +131,7 @@ module _ {P : Type 0} (entries : P → List Entry) (arguments : P → List value
           first = λ v e. let s : newcomer_first.splits ≡ v.splits = ap (λ (u : View). u.splits) (some-injective newcomer_first v e) in (omega arith, omega arith);
           some = omega arith;
         };
-        firsts = record { leads = λ j v e first. first_zero j v e; untouched = λ v e a b. refl };
+        firsts = record { leads = λ j v e first. first_zero j v e; untouched = λ v e a b. refl; begun = λ v e drew. absurd (let z : false ≡ true = ap (λ (u : View). u.drawn) (some-injective newcomer_first v e) ∙ drew in cc) };
         stands = record {
           keeping = record {
             long = omega arith;

@@ -1,6 +1,6 @@
 -- Each kind of step keeps the whole rule: what the words, the desks and the journal say of each other, what holds of each desk,
 -- and what the first desk knows while it is alone, put together.
-use Rattle.std.proofs.Common.{◌≡◌, ◌≢◌, ◌⊎◌, inl, inr, ⊎_elim, ℕ, zero, suc, ◌+◌, ◌<◌, ◌≤◌, if◌then◌else◌, Bool, true, false, List, [], ◌∷◌, ◌++◌, map, set, slice_get, refl, sym, ap, ◌∙◌, subst, arith, Option, Some, None}
+use Rattle.std.proofs.Common.{◌≡◌, ◌≢◌, ◌⊎◌, inl, inr, ⊎_elim, ℕ, zero, suc, ◌+◌, ◌<◌, ◌≤◌, ◌||◌, if◌then◌else◌, Bool, true, false, List, [], ◌∷◌, ◌++◌, map, set, slice_get, refl, sym, ap, ◌∙◌, subst, arith, Option, Some, None}
 use mathlib.Core.Path.{Path}
 use mathlib.Core.Option.{some, none}
 use lib.ListN.{get_elem?}
@@ -72,6 +72,11 @@ right_stays n count count' cells cells' o o' v more armed linked law = record {
 -- a desk that keeps nothing is as it should be
 right_newcomer : (n count : ℕ) (cells : ℕ → Word) (o : Order) → IsRightDesk n count cells o newcomer
 right_newcomer n count cells o = record { armed = λ d h. absurd h; ways = λ w h. absurd h; told = λ here spent. absurd (let z : false ≡ true = spent in cc); ended = λ e. absurd (let z : false ≡ true = e in cc) }
+
+-- where one of two desks was told, what both may be told holds
+told_either : (A : Type 0) (a b : Bool) → (a ≡ true → A) → (b ≡ true → A) → (a || b) ≡ true → A
+told_either A true b first second e = first refl
+told_either A false b first second e = second e
 
 -- and so is one that was joined
 right_gone : (n count : ℕ) (cells : ℕ → Word) (o : Order) → IsRightDesk n count cells o gone
@@ -316,7 +321,7 @@ module _ {P : Type 0} (entries : P → List Entry) (arguments : P → List value
             armed = λ d h. let r = agreeing.has_reset d (v.duties ++ w.duties) h in
                 subst (λ (z : Duty). IsArmed (cell_of m.cells z.message)) (sym r.2) (⊎_elim (λ k. mine.armed r.0 k) (λ k. (whole.desks.right other w there).armed r.0 k) (agreeing.has_either r.0 v.duties w.duties r.1));
             ways = λ y h. absurd h;
-            told = mine.told;
+            told = λ still spent. told_either (n ≤ m.count) v.spent w.spent (mine.told here) ((whole.desks.right other w there).told there_here) spent;
             ended = not_gone (kinds.united v w) refl;
           })
           (λ j x ne b. whole.desks.right j x b) j x e);

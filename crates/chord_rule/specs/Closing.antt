@@ -28,14 +28,14 @@ IsAsleep (a_cell.Woken x) = Unit {0}
 IsAsleep a_cell.Ready = Unit {0}
 IsAsleep _ = ⊥
 
--- the desk knows that nothing is left to do: it is the first one, it has lent none, and has no duty, no claim and no message that is not armed; it looked at the counter, after some entry was drawn, and at each cell below, and no cell was woken or ready
+-- the desk knows that nothing is left to do: it is the first one, which drew the beginning of `Main`; it has lent none, and has no duty, no claim and no message that is not armed; it looked at the counter and at each cell below, and no cell was woken or ready
 pub record MayClose (v : View) : Type 0 where
   pub first : v.first ≡ true
+  pub begun : v.drawn ≡ true
   pub lent : v.lent ≡ 0
   pub duties : v.duties ≡ []
   pub claims : v.claims ≡ []
   pub in_hand : (i : ℕ) → IsUnarmed v i → ⊥
   pub count : ℕ
   pub counted : v.looked.count ≡ Some count
-  pub begun : 0 < count
   pub seen : (i : ℕ) → i < count → (x : Word) × LastSeen i x v.looked.seen × (IsAsleep x.cell → ⊥)

@@ -132,9 +132,9 @@ played v = record v { starting = None }
 abbrev pub lent_one : View → View
 lent_one v = record v { lent = v.lent + 1; splits = v.splits + 1 }
 
--- the first desk took over what another desk has
+-- the first desk took over what another desk has, and what that one was told of the limit
 abbrev pub united : View → View → View
-united v w = record v { kept = together v.kept w.kept; fresh = v.fresh ++ w.fresh; unposted = v.unposted ++ w.unposted; lent = v.lent - 1; looked = nothing_looked; duties = map reset_duty (v.duties ++ w.duties) }
+united v w = record v { kept = together v.kept w.kept; fresh = v.fresh ++ w.fresh; unposted = v.unposted ++ w.unposted; spent = v.spent || w.spent; lent = v.lent - 1; looked = nothing_looked; duties = map reset_duty (v.duties ++ w.duties) }
 
 -- whether a message with this cell stands no longer: it is consumed or woken
 abbrev pub is_down : Cell → Bool
