@@ -1,5 +1,5 @@
 -- Two desks become one: what both keep is what each kept, and it is quiet if both were.
-use Rattle.std.proofs.Common.{◌≡◌, ◌≢◌, ℕ, ◌<◌, ltb, Bool, true, false, not, ◌==◌, ◌||◌, ◌++◌, List, [], ◌∷◌, refl, sym, ap, ap₂, ◌∙◌, subst, ◌⊎◌, inl, inr, ⊎_elim, arith, if◌then◌else◌}
+use Rattle.std.proofs.Common.{◌≡◌, ◌≢◌, ℕ, ◌<◌, ltb, Bool, true, false, not, ◌==◌, ◌||◌, ◌++◌, List, [], ◌∷◌, map, Option, Some, None, refl, sym, ap, ap₂, ◌∙◌, subst, ◌⊎◌, inl, inr, ⊎_elim, arith, if◌then◌else◌}
 use Rattle.std.proofs.lemmas.Bool.{eq-eqb, eqb-true, ltb-true, ltb-false, lt-ltb, le-ltb}
 use Rattle.std.proofs.lemmas.List.Sorted.{IsPermutation-refl, IsPermutation-cons, IsPermutation-trans, IsPermutation-append, IsPermutation-append_left, IsPermutation-middle}
 use Rattle.std.proofs.lemmas.List.{append-nil}
@@ -12,7 +12,17 @@ use Rattle.chord_base.proofs.Merged.{past_rises}
 use Rattle.chord_base.proofs.Places.{kept_below}
 use Rattle.chord_rule.specs.Closing.{AreQuiet}
 use Rattle.chord_rule.specs.Coming.{IsPlace}
-use Rattle.chord_rule.specs.Kinds.{among, left_by, MayGo}
+use Rattle.chord_rule.specs.declared.view.Duty.{Duty}
+use Rattle.chord_rule.specs.declared.view.View.{View}
+use Rattle.chord_rule.specs.Duties.{reset_duty}
+use Rattle.chord_rule.specs.Kinds.{among, left_by, MayGo, united}
+use Rattle.chord_space.specs.declared.space.Desk.{Desk}
+use Rattle.chord_space.specs.declared.space.Space.{Space}
+use Rattle.chord_space.specs.Desks.{view, code_of, limits_of, program_of, IsDeskOf, IsSameDesk}
+use Rattle.chord_task.specs.declared.parcel.Parcel.{Parcel}
+use Rattle.chord_task.specs.declared.task.Task.{Task}
+use Rattle.chord_worker.specs.declared.worker.Worker.{Worker}
+use Rattle.chord_worker.specs.Resting.{IsInMemory, MayContinue, IsFree, IsStock, IsAtRest}
 use Rattle.chord_worker.specs.Parted.{IsParted, two}
 use Rattle.chord_worker.proofs.Parts.{kept_agree, kept_nothing, all_kept, kept_rises, among_in, in_below, parts_quiet}
 use Rattle.chord_worker.proofs.Memory.{two_parted}
@@ -196,3 +206,52 @@ place_rises p es place = subst IsRising (place.merged.keeps place.place ∙ plac
 -- and is told
 pub place_told : (p : Program) (es : List Entry) → IsPlace p es → IsTold p es
 place_told p es place = subst (IsTold p) place.is (place.merged.told place.place)
+
+module _ (s : Space Parcel) (w o : Worker) (mine : IsAtRest s w) (others : IsAtRest s o) (no_task : w.task ≡ None) (none_there : o.task ≡ None) (d : Desk Parcel) (same : IsSameDesk w.desk d) (view_is : view d ≡ united (view w.desk) (view o.desk)) (place : IsPlace (program_of s) (view d).kept)
+    (w' : Worker) (desk : w'.desk ≡ d) (task : w'.task ≡ w.task) (spare : w'.spare ≡ w.spare) (spent : w'.spent ≡ w.spent || o.spent) (done : w'.done.items ≡ w.done.items ++ o.done.items) where
+  -- what the first one had in memory
+  first_memory : IsInMemory (code_of s) (limits_of s) (view w.desk).kept (view w.desk).spent w.done.items None
+  first_memory = subst (λ (x : Option Task). IsInMemory (code_of s) (limits_of s) (view w.desk).kept (view w.desk).spent w.done.items x) no_task mine.memory
+
+  -- what the other one had in memory
+  other_memory : IsInMemory (code_of s) (limits_of s) (view o.desk).kept (view o.desk).spent o.done.items None
+  other_memory = subst (λ (x : Option Task). IsInMemory (code_of s) (limits_of s) (view o.desk).kept (view o.desk).spent o.done.items x) none_there others.memory
+
+  -- both were told of the limit if one was
+  first_room : (a b : Bool) → (a || b) ≡ false → a ≡ false
+  first_room true b e = e
+  first_room false b e = refl
+
+  -- and neither was if not
+  other_room : (a b : Bool) → (a || b) ≡ false → b ≡ false
+  other_room true b e = let z : true ≡ false = e in absurd (cc)
+  other_room false b e = e
+
+  -- what both have in memory
+  both_memory : IsInMemory (code_of s) (limits_of s) (together (view w.desk).kept (view o.desk).kept) ((view w.desk).spent || (view o.desk).spent) (w.done.items ++ o.done.items) None
+  both_memory =
+      let here = subst (IsPlace (program_of s)) (ap (λ (z : View). z.kept) view_is) place in record {
+        rises = place_rises (program_of s) (together (view w.desk).kept (view o.desk).kept) here;
+        told = place_told (program_of s) (together (view w.desk).kept (view o.desk).kept) here;
+        played = tt;
+        held = IsPermutation-trans (w.done.items ++ o.done.items) ((view w.desk).kept ++ (view o.desk).kept) (together (view w.desk).kept (view o.desk).kept)
+            (IsPermutation-append w.done.items (view w.desk).kept o.done.items (view o.desk).kept first_memory.held other_memory.held) (together_all (view w.desk).kept (view o.desk).kept);
+        quiet = λ e. both_quiet (program_of s) (view w.desk).kept (view o.desk).kept (place_rises (program_of s) (together (view w.desk).kept (view o.desk).kept) here) other_memory.rises first_memory.told other_memory.told
+            (first_memory.quiet (first_room (view w.desk).spent (view o.desk).spent e)) (other_memory.quiet (other_room (view w.desk).spent (view o.desk).spent e));
+      }
+
+  -- the first one is at rest with what both have
+  pub united_rest : IsAtRest s w'
+  united_rest =
+      let v : view w'.desk ≡ united (view w.desk) (view o.desk) = ap view desk ∙ view_is in record {
+        desk = ap (λ (x : Desk Parcel). x.seat.table_id) desk ∙ same.0 ∙ mine.desk;
+        told = spent ∙ ap₂ (λ (a b : Bool). a || b) mine.told others.told ∙ sym (ap (λ (z : View). z.spent) v);
+        free = subst IsFree (sym v) (record { claims = mine.free.claims; flight = mine.free.flight; fresh = ap₂ (λ (a b : List ℕ). a ++ b) mine.free.fresh others.free.fresh });
+        duties = λ e. let f : ((view w.desk).spent || (view o.desk).spent) ≡ false = sym (ap (λ (z : View). z.spent) v) ∙ e in
+            ap (λ (z : View). z.duties) v ∙ ap₂ (λ (a b : List Duty). map reset_duty (a ++ b)) (mine.duties (first_room (view w.desk).spent (view o.desk).spent f)) (others.duties (other_room (view w.desk).spent (view o.desk).spent f));
+        memory = subst (λ (z : View). IsInMemory (code_of s) (limits_of s) z.kept z.spent w'.done.items w'.task) (sym v)
+            (subst (λ (x : Option Task). IsInMemory (code_of s) (limits_of s) (together (view w.desk).kept (view o.desk).kept) ((view w.desk).spent || (view o.desk).spent) w'.done.items x) (sym (task ∙ no_task))
+            (subst (λ (es : List Entry). IsInMemory (code_of s) (limits_of s) (together (view w.desk).kept (view o.desk).kept) ((view w.desk).spent || (view o.desk).spent) es None) (sym done) both_memory));
+        goes_on = subst MayContinue (sym (task ∙ no_task)) tt;
+        stock = subst (IsStock (code_of s) (limits_of s)) (sym spare) mine.stock;
+      }

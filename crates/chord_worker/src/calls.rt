@@ -1,5 +1,5 @@
 //! The calls of a worker that the pool makes, but for its steps.
-ghost use Rattle.std.specs.Prelude.{◌≡◌, ◌≢◌, ℕ, ◌<◌, ◌-◌, List, true, false, None, OnOk, IfOk, min, is_some, IsPermutation};
+ghost use Rattle.std.specs.Prelude.{◌≡◌, ◌≢◌, ◌||◌, ℕ, ◌<◌, ◌-◌, List, true, false, None, OnOk, IfOk, min, is_some, IsPermutation};
 ghost use Rattle.chord_base.specs.Story.{IsSound};
 ghost use Rattle.chord_rule.specs.Kinds.{newcomer, newcomer_first, lent_one, saw_count};
 ghost use Rattle.chord_space.specs.Desks.{view, code_of, limits_of, program_of, IsDeskOf};
@@ -14,6 +14,13 @@ use chord_task::parcel::Parcel;
 use chord_task::task::Task;
 use chord_word::Cell;
 use std::alloc::{AllocError, Global};
+
+/// Whether one of two workers was told that the limit is reached.
+fn told_either(mine: bool, other: bool) -> bool
+    ensures { result ≡ mine || other }
+{
+    mine || other
+}
 
 impl Worker {
     /// The first worker, with the desk that the table gave: `Main` begins. The counter stands at 0 then, so that the first draw is
@@ -125,6 +132,29 @@ impl Worker {
             }
             Err(_) => false,
         }
+    }
+
+    /// Takes in another worker that has nothing to play: the desk takes over what the other one keeps. Want of memory is an `Err`,
+    /// after which entries are lost.
+    pub fn take_in(&mut self, space: &Space<Parcel>, other: Worker) -> Result<(), AllocError>
+        requires rest { IsAtRest space.now self.old × IsAtRest space.now other }
+        requires tasks { (self.old.task ≡ None) × (other.task ≡ None) }
+        requires first { (view self.old.desk).first ≡ true }
+        ensures rest { OnOk result (IsAtRest space.now self.new × (self.new.task ≡ None)) }
+        ensures role { OnOk result (((view self.new.desk).first ≡ true) × ((view self.new.desk).lent ≡ (view self.old.desk).lent - 1) × ((view self.old.desk).drawn ≡ true → (view self.new.desk).drawn ≡ true)) }
+    {
+        let Worker {
+            desk,
+            task: _,
+            spare: _,
+            done,
+            spent,
+        } = other;
+        space.join(&mut self.desk, desk);
+        self.spent = told_either(self.spent, spent);
+        let mut done = done;
+        self.done.append(&mut done)?;
+        Ok(())
     }
 
     /// The desk, and all entries that it keeps, of a worker with nothing to play.
