@@ -112,8 +112,8 @@ module _ (code : Parts) (limits : Limits) where
     goes_next t b (nexts.Waits q) u past same = absurd (fired_waits u.start u.depth u.answers q (limits.depth - b.frames.top.room) (subst (λ (g : List Entry). doing p g f ≡ Waits u.start u.depth u.answers q (limits.depth - b.frames.top.room)) past (ap (doing p (view_of t).past) (sym same) ∙ u.is)))
 
     -- the task may go on
-    pub begun_ready : (t : Task) → IsTaskOf code limits t → (view_of t).past ≡ entry f f (Fired k o ms vs) ∷ h → (view_of t).top ≡ Some f → is_ready_of t ≡ true
-    begun_ready t is past top = by_top t.top refl
+    pub begun_goes : (t : Task) → IsTaskOf code limits t → (view_of t).past ≡ entry f f (Fired k o ms vs) ∷ h → (view_of t).top ≡ Some f → is_ready_of t ≡ true
+    begun_goes t is past top = by_top t.top refl
       where
         by_top : (x : Option Body) → t.top ≡ x → is_ready_of t ≡ true
         by_top None e = (let z : Path (Option ℕ) None (Some f) = sym (ap body_number e) ∙ top in cc)
@@ -205,7 +205,7 @@ module _ (s : Space Parcel) (w : Worker) (v : View) (o : Object) (k : ℕ) (ms :
     low = fired.fired.low;
     seen = fired.fired.view ∙ seen_kept;
     task = is;
-    ready = begun_ready (code_of s) (limits_of s) f k o ms values (view_of t).past u is past top;
+    ready = begun_goes (code_of s) (limits_of s) f k o ms values (view_of t).past u is past top;
     top = top;
     both = subst (λ (h : List Entry). HasBoth (program_of s) v.kept h (view w.desk).kept) (sym past) fits.both;
     begins = subst (Begins f) (sym past) (newest, inl refl, refl, refl);

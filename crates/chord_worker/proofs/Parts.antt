@@ -77,7 +77,7 @@ or_right true b e = refl
 or_right false b e = e
 
 -- the number of an entry that passes the test is among those of the kept entries
-among_in : (f : ℕ → Bool) (h : List Entry) (e : Entry) → IsIn e h → f e.number ≡ true → among (kept f h) e.number ≡ true
+pub among_in : (f : ℕ → Bool) (h : List Entry) (e : Entry) → IsIn e h → f e.number ≡ true → among (kept f h) e.number ≡ true
 among_in f [] e i y = absurd i
 among_in f (x ∷ h) e i y =
     ⊎_elim

@@ -38,10 +38,12 @@ fn unpack(hand: &mut Hand<Parcel>, arguments: &mut Hand<Args>) -> Option<Task>
 {
     match hand.take_first() {
         None => None,
-        Some(Parcel {
-            arguments: own,
-            task,
-        }) => {
+        Some(
+            Parcel {
+                arguments: own,
+                task,
+            },
+        ) => {
             arguments.put(own);
             let later = unpack(hand, arguments);
             match task {

@@ -5,6 +5,7 @@
 //! Not here: threads, who plays when, and when a run is over.
 #![tactic(auto)]
 
+mod calls;
 mod fired;
 mod messages;
 mod minding;

@@ -30,5 +30,5 @@ pub take_on-requires-clause-begun : goal.take_on-requires-clause-begun
 take_on-requires-clause-begun g c = (
   c.requires.fired.0,
   begun_there _ _ _ _ _ _ _ _ c.requires.fired.1 c.requires.sound _ c.requires.code c.chords_are_right.ensures _ c.unpack-caller.ensures.task _ c.take_task-task.ensures.task
-    _ _ c.new-arguments.ensures c.unpack-caller.ensures.arguments _ c.take_task-task.ensures.spare _ c.resume.ensures.task c.resume.ensures.past c.resume.ensures.top,
+      _ _ c.new-arguments.ensures c.unpack-caller.ensures.arguments _ c.take_task-task.ensures.spare _ c.resume.ensures.task c.resume.ensures.past c.resume.ensures.top,
 )

@@ -36,4 +36,3 @@ returns-clause-rest g c = rest_posted _ _ _ _ _ c.requires.begun.1 c.post.new.de
 
 pub returns-clause-role : goal.returns-clause-role
 returns-clause-role g c = role_posted _ _ _ _ _ c.requires.begun.1 c.post.new.desk c.post.ensures.desk _ c.packed-parcel.ensures.entries _ c.post.ensures.posted
-
