@@ -1,14 +1,19 @@
 -- The crew of a run: at the beginning, with one more worker, and back from its threads.
-use Rattle.std.proofs.Common.{◌≡◌, ◌+◌, true, false, List, [], ◌∷◌, ◌++◌, length, length-append, None, sym, ap, ◌∙◌, arith}
+use Rattle.std.proofs.Common.{◌≡◌, ◌+◌, ◌<◌, ◌≤◌, true, false, List, [], ◌∷◌, ◌++◌, length, length-append, None, sym, ap, ◌∙◌, subst, arith}
+use Rattle.chord_base.specs.declared.event.Limits.{Limits}
+use Rattle.chord_base.specs.Story.{IsSound}
+use Rattle.chord_code.specs.declared.parts.Parts.{Parts}
+use Rattle.chord_code.specs.Meaning.{code_program}
+use Rattle.chord_code.specs.Sound.{IsSoundCode}
 use Rattle.chord_rule.specs.declared.view.View.{View}
 use Rattle.chord_rule.specs.Kinds.{lent_one, newcomer_first}
 use Rattle.chord_space.specs.declared.space.Space.{Space}
-use Rattle.chord_space.specs.Desks.{view}
+use Rattle.chord_space.specs.Desks.{view, code_of, limits_of}
 use Rattle.chord_task.specs.declared.parcel.Parcel.{Parcel}
 use Rattle.chord_worker.specs.declared.worker.Worker.{Worker}
 use Rattle.chord_worker.specs.Resting.{IsAtRest, IsSameRole}
 use Rattle.chord_pool.specs.declared.player.Player.{Player}
-use Rattle.chord_pool.specs.Players.{HasPlayed, PlaysOn, HaveAllPlayed, IsCrew, IsBack}
+use Rattle.chord_pool.specs.Players.{IsOneRun, HasPlayed, PlaysOn, HaveAllPlayed, IsCrew, IsBack}
 use Rattle.chord_pool.proofs.Handing.{may_more}
 
 -- the first worker has lent one desk more, to a worker with nothing to play
@@ -29,6 +34,14 @@ hired s main after others one crew splits rest task lent one_rest one_task =
       omega (arith, count, long, splits),
       long,
     )
+
+-- a table that was made for a sound code is of one run
+pub one_run : (s : Space Parcel) (code : Parts) (limits : Limits) → code_of s ≡ code → limits_of s ≡ limits → 0 < limits.depth → limits.depth ≤ 256 → IsSoundCode code → IsOneRun s code limits
+one_run s code limits code_is limits_are some low sound = record {
+  code_is = code_is;
+  limits_are = limits_are;
+  sound = subst (λ (x : Parts). IsSound (code_program x (limits_of s))) (sym code_is) (subst (λ (l : Limits). IsSound (code_program code l)) (sym limits_are) (sound limits some low).sound);
+}
 
 -- at the beginning the first worker is a crew of its own
 pub begins : (s : Space Parcel) (v : View) (main : Worker) → v ≡ newcomer_first → IsAtRest s main → IsSameRole v (view main.desk) → (view main.desk).drawn ≡ true → ((view main.desk).spent ≡ true → main.task ≡ None) → IsCrew s main [] × ((view main.desk).splits ≡ 0)

@@ -55,7 +55,8 @@ fn are_awake<'a, G: Gate>(run: &Run<'a>, worker: &mut Worker, count: u32, gate: 
 }
 
 /// One turn of the first worker alone: a step of its task, or a look at all cells. Whether the run is over.
-fn turn<'a, G: Gate>(
+fn turn<'a, R: Wait, G: Gate>(
+    rt: &R,
     alloc: Global,
     run: &Run<'a>,
     worker: &mut Worker,
@@ -71,7 +72,7 @@ fn turn<'a, G: Gate>(
         return Ok(true);
     }
     if worker.has_task() {
-        worker.step(alloc, run.space, run.code, run.limits, gate)?;
+        worker.step(rt, alloc, run.space, run.code, run.limits, gate)?;
         return Ok(false);
     }
     let count = worker.count(run.space);
@@ -99,7 +100,7 @@ pub(crate) fn play_alone<'a, R: Wait, G: Gate>(
 {
     let mut worker = worker;
     for _ in rt.forever() {
-        if turn(alloc, run, &mut worker, gate)? {
+        if turn(rt, alloc, run, &mut worker, gate)? {
             return Ok(worker);
         }
     }

@@ -94,7 +94,13 @@ fn find_work<'a, G: Gate>(run: &Run<'a>, worker: &mut Worker, place: &mut u32, g
 
 impl Player {
     /// One step of the task. Whether the worker goes on.
-    fn advance<'a, G: Gate>(&mut self, alloc: Global, run: &Run<'a>, gate: &G) -> bool
+    fn advance<'a, R: Wait, G: Gate>(
+        &mut self,
+        rt: &R,
+        alloc: Global,
+        run: &Run<'a>,
+        gate: &G,
+    ) -> bool
         requires run { IsOneRun run.now.space.now run.now.code.now run.now.limits.now }
         requires worker { IsFit run.now.space.now self.old.worker }
         requires task { self.old.worker.task ≢ None }
@@ -106,7 +112,7 @@ impl Player {
     {
         match self
             .worker
-            .step(alloc, run.space, run.code, run.limits, gate)
+            .step(rt, alloc, run.space, run.code, run.limits, gate)
         {
             Ok(()) => {
                 if !self.worker.has_task() {
@@ -147,8 +153,9 @@ impl Player {
     }
 
     /// One round: a step of the task, or a look for another. Whether the worker goes on.
-    fn round<'a, G: Gate>(
+    fn round<'a, R: Wait, G: Gate>(
         &mut self,
+        rt: &R,
         alloc: Global,
         run: &Run<'a>,
         gate: &G,
@@ -170,7 +177,7 @@ impl Player {
             return false;
         }
         if self.worker.has_task() {
-            return self.advance(alloc, run, gate);
+            return self.advance(rt, alloc, run, gate);
         }
         self.idle(run, gate, pause)
     }
@@ -195,7 +202,7 @@ pub(crate) fn work<'a, R: Wait, G: Gate>(
         if player.failed {
             return player;
         }
-        if !player.round(alloc, run, gate, &pause) {
+        if !player.round(rt, alloc, run, gate, &pause) {
             return player;
         }
     }

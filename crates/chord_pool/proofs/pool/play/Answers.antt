@@ -1,8 +1,12 @@
 use Rattle.std.proofs.Common.{length, ⊎_elim, arith}
 use Rattle.chord_base.specs.Machine.{IsComplete}
 use Rattle.chord_code.specs.Meaning.{code_program}
+use Rattle.chord_pool.proofs.Crews.{one_run}
 use Rattle.chord_pool.proofs.Endings.{ended_as}
 use Rattle.chord_pool.proofs.pool.play.Goals as goal
+
+pub play_all-requires-clause-run : goal.play_all-requires-clause-run
+play_all-requires-clause-run g c = λ κs inside. one_run c.in_ok-space.space c.args.code.now c.args.limits.now c.in_ok-space.ensures.0 c.in_ok-space.ensures.1 c.requires.depth.0 c.requires.depth.1 c.requires.sound
 
 pub returns-clause-whole : goal.returns-clause-whole
 returns-clause-whole g c =
