@@ -160,8 +160,8 @@ module _ (p : Program) (part : ℕ → List Entry) (es : List Entry) (m : IsPart
       (union_told p m.at (λ c. if g c then 1 else 0) es m.rises parted_told 1)
 
   -- the whole is told
-  pub whole_told : IsTold p es
-  whole_told = subst (IsTold p) (all_kept es) (some_told (λ c. true))
+  pub parts_told : IsTold p es
+  parts_told = subst (IsTold p) (all_kept es) (some_told (λ c. true))
 
   -- some parts may go
   pub some_go : (g : ℕ → Bool) → MayGo p es (kept (λ n. g (m.at n)) es)
@@ -251,8 +251,8 @@ module _ (p : Program) (part : ℕ → List Entry) (es : List Entry) (m : IsPart
     )
 
     -- some parts are a place of the same run
-    pub some_place : (g : ℕ → Bool) → (views : ℕ → List Entry) × (k : ℕ) × IsMerged p views h × (views k ≡ kept (λ n. g (m.at n)) es)
-    some_place g =
+    pub place_of_some : (g : ℕ → Bool) → (views : ℕ → List Entry) × (k : ℕ) × IsMerged p views h × (views k ≡ kept (λ n. g (m.at n)) es)
+    place_of_some g =
         let r = empty_place merged.at h in
         let j = r.0 + i + 1 in
         let goes : ℕ → Bool = λ n. g (m.at n) in (

@@ -40,7 +40,7 @@ use Rattle.chord_task.specs.Parcels.{past_in, TaskIn, entries_of, IsParcelOf}
 use Rattle.chord_task.specs.Standing.{view_of, body_number, may_go, body_may_go, is_ready_of, IsTop, IsBodyStack, IsTaskOf, MainBegins}
 use Rattle.chord_worker.specs.Parted.{IsParted, with_part, two}
 use Rattle.chord_worker.specs.Resting.{IsInMemory, MayContinue, IsFree, IsAtRest, IsSameRole}
-use Rattle.chord_worker.proofs.Parts.{kept_agree, kept_nothing, all_kept, none_kept, left_is, part_goes, part_came, whole_told}
+use Rattle.chord_worker.proofs.Parts.{kept_agree, kept_nothing, all_kept, none_kept, left_is, part_goes, part_came, parts_told}
 
 -- ## Bodies that may go on
 
@@ -214,7 +214,7 @@ pub started_memory : (code : Parts) (limits : Limits) (es : List Entry) (done : 
     → IsInMemory code limits (together es (view_of t).past) false done (Some t)
 started_memory code limits es done t m is places = record {
   rises = parted.rises;
-  told = whole_told p (with_part (two es []) 1 ps) (together es ps) parted;
+  told = parts_told p (with_part (two es []) 1 ps) (together es ps) parted;
   played = (is, part_goes p (with_part (two es []) 1 ps) (together es ps) parted 1);
   held = subst (IsPermutation done) (sym left) m.held;
   quiet = λ e. subst (AreQuiet p) (sym left) (m.quiet e);
