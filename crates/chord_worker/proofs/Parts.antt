@@ -82,8 +82,8 @@ among_in f [] e i y = absurd i
 among_in f (x ∷ h) e i y =
     ⊎_elim
     (λ s. let z : f x.number ≡ true = ap (λ (t : Entry). f t.number) (sym s) ∙ y in
-      let q : x.number ≡ e.number = ap (λ (t : Entry). t.number) (sym s) in
-      rw (z, eq-eqb x.number e.number q) refl)
+    let q : x.number ≡ e.number = ap (λ (t : Entry). t.number) (sym s) in
+    rw (z, eq-eqb x.number e.number q) refl)
     (λ k. elim (either (f x.number)) [
       | inl z ↦ rw z (or_right (x.number == e.number) (among (kept f h) e.number) (among_in f h e k y))
       | inr o ↦ rw o (among_in f h e k y)
@@ -259,8 +259,8 @@ module _ (p : Program) (part : ℕ → List Entry) (es : List Entry) (m : IsPart
           parted view i j goes,
           j,
           parting_keeps_places p view h i j goes merged (λ q. omega (arith, q)) (sym (merged.keeps j) ∙ r.1 j (omega arith))
-          (subst (λ (v : List Entry). IsTold p (kept goes v)) (sym here) (some_told g))
-          (subst (λ (v : List Entry). IsTold p (kept (λ n. not (goes n)) v)) (sym here) (some_told (λ c. not (g c)))),
+              (subst (λ (v : List Entry). IsTold p (kept goes v)) (sym here) (some_told g))
+              (subst (λ (v : List Entry). IsTold p (kept (λ n. not (goes n)) v)) (sym here) (some_told (λ c. not (g c)))),
           rw (eq-eqb j j refl) (ap (kept goes) here),
         )
 

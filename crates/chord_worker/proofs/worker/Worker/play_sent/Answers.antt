@@ -44,7 +44,7 @@ mind-requires-clause-minds g c =
     let sent = subst (λ (x : Desk Parcel). IsSentOff v (view x) c.in-Ok.number k []) (sym d) c.send_letter.ensures.sent in
     let same = subst (λ (x : Desk Parcel). IsSameDesk w.desk x) (sym d) (c.send_letter.ensures.desk.0 ∙ c.draw_own.ensures.desk.0, c.send_letter.ensures.desk.1 ∙ c.draw_own.ensures.desk.1) in
     let settled = c.in_ok-settle-in-Ok.ensures.settled (code_of s) (limits_of s) (view w'.desk).kept (view w.desk).spent
-        (letter_memory s w c.args.task c.requires.rest c.draw_own.new.task c.in-Ok.number v c.args.object c.args.method c.args.arguments noted (view w'.desk) k sent) in
+    (letter_memory s w c.args.task c.requires.rest c.draw_own.new.task c.in-Ok.number v c.args.object c.args.method c.args.arguments noted (view w'.desk) k sent) in
     now_minds s w c.args.task c.requires.rest c.draw_own.new.task c.in-Ok.number v what noted refl c.requires.room c.requires.stock w' k [] sent same c.settle.ensures.same.1 c.settle.ensures.same.2 settled.0 settled.1
 
 pub returns-in_ok-lay_down-in-Err-clause-rest : goal.returns-in_ok-lay_down-in-Err-clause-rest
