@@ -16,7 +16,7 @@ use Rattle.chord_rule.specs.Coming.{IsPlace, ArePlaces}
 use Rattle.chord_rule.specs.Kinds.{entry, left_by, MayGo}
 use Rattle.chord_worker.specs.Beginning.{HasBoth}
 use Rattle.chord_worker.specs.Parted.{IsParted, two, with_part}
-use Rattle.chord_worker.proofs.Parts.{all_kept, kept_agree, kept_nothing, none_kept, left_is, part_came, part_drawn, some_go, some_place, whole_told}
+use Rattle.chord_worker.proofs.Parts.{all_kept, kept_agree, kept_nothing, none_kept, left_is, part_came, part_drawn, some_go, place_of_some, parts_told}
 
 -- ## Places
 
@@ -96,7 +96,7 @@ module _ (p : Program) (part : ℕ → List Entry) (e : Entry) (es ps all : List
   pub both_parted : HasBoth p es (e ∷ ps) (e ∷ all)
   both_parted = record {
     rises = m.rises;
-    told = whole_told p part (e ∷ all) m;
+    told = parts_told p part (e ∷ all) m;
     goes = subst (MayGo p (e ∷ all)) begun_is (some_go p part (e ∷ all) m (λ c. not (c == 0)));
     left = ap (λ (t : List Entry). left_by t (e ∷ all)) (sym begun_is) ∙ left_is (λ n. not (m.at n == 0)) (e ∷ all)
         ∙ kept_agree (λ n. not (not (m.at n == 0))) (λ n. m.at n == 0) (e ∷ all) (λ x i. twice_not (m.at x.number == 0)) ∙ m.keeps 0 ∙ before;
@@ -105,7 +105,7 @@ module _ (p : Program) (part : ℕ → List Entry) (e : Entry) (es ps all : List
   -- what the bodies do with the newest entry and what came is defined
   pub begun_defined : IsSound p → IsPlace p (e ∷ all) → (b : ℕ) → IsDefined p (doing p (e ∷ ps) b)
   begun_defined sound k b =
-      let s = some_place p part (e ∷ all) m k.run k.view k.merged k.place k.is (λ c. not (c == 0)) in
+      let s = place_of_some p part (e ∷ all) m k.run k.view k.merged k.place k.is (λ c. not (c == 0)) in
       (subst (IsStory p) (s.3 ∙ begun_is) (merged_story p s.0 k.run sound s.2 s.1)).is_defined b
 
 -- ## A firing

@@ -171,7 +171,6 @@ waits_later p (e ∷ h) b q past made =
 
 module _ (p : Program) (sound : IsSound p) (one : HasOneSync p) (h : List Entry) (view : ℕ → List Entry) (m : IsMerged p view h) (place : ℕ) (t : TaskView) (is : view place ≡ t.past) (task : IsTask p t)
     (i : ℕ) (parked : (b : ℕ) → Begins b t.past → IsParked p t.past (Some i) (doing p t.past b)) (top : ℕ) (on_top : t.top ≡ Some top) where
-
   -- an entry of the past is one of the run, in this place
   in_place : (keep : ℕ → Bool) (l : List Entry) (e : Entry) → IsIn e (kept keep l) → IsIn e l × (keep e.number ≡ true)
   in_place keep [] e there = absurd there

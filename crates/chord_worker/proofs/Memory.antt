@@ -24,8 +24,8 @@ use Rattle.chord_task.specs.declared.task.Task.{Task}
 use Rattle.chord_task.specs.Stacks.{TaskView, IsTask}
 use Rattle.chord_task.specs.Standing.{view_of, body_number, may_go, body_may_go, is_ready_of, IsTop, IsBodyStack, IsTaskOf}
 use Rattle.chord_worker.specs.Parted.{IsParted, with_part, two}
-use Rattle.chord_worker.specs.Resting.{left_of, MayBePlayed, IsInMemory}
-use Rattle.chord_worker.proofs.Parts.{kept_agree, kept_nothing, flag_is, in_below, part_goes, part_asks, parts_quiet, part_drawn, some_place, whole_told}
+use Rattle.chord_worker.specs.Resting.{beside_task, MayBePlayed, IsInMemory}
+use Rattle.chord_worker.proofs.Parts.{kept_agree, kept_nothing, flag_is, in_below, part_goes, part_asks, parts_quiet, part_drawn, place_of_some, parts_told}
 
 -- ## Two parts
 
@@ -60,8 +60,8 @@ two_parted p es ps rises may = record {
 }
 
 -- an entry above all leaves the same, where it goes with what goes
-pub left_more : (ps : List Entry) (e : Entry) (es : List Entry) → AllBelow e.number es → left_by (e ∷ ps) (e ∷ es) ≡ left_by ps es
-left_more ps e es below = rw (eq-eqb e.number e.number refl)
+pub left_above : (ps : List Entry) (e : Entry) (es : List Entry) → AllBelow e.number es → left_by (e ∷ ps) (e ∷ es) ≡ left_by ps es
+left_above ps e es below = rw (eq-eqb e.number e.number refl)
     (kept_agree (λ n. not ((e.number == n) || among ps n)) (λ n. not (among ps n)) es
     (λ x i. let l = in_below e.number es x below i in ap (λ (b : Bool). not (b || among ps x.number)) (ne_eqb e.number x.number (λ q. omega (arith, q, l)))))
 
@@ -175,18 +175,18 @@ module _ (code : Parts) (limits : Limits) (es : List Entry) (spent : Bool) (done
     -- what the task does with the entry is defined
     pub noted_defined : IsSound p → (h : List Entry) (views : ℕ → List Entry) (merged : IsMerged p views h) (i : ℕ) → views i ≡ entry n b w ∷ es → (c : ℕ) → IsDefined p (doing p (entry n b w ∷ (view_of t).past) c)
     noted_defined sound h views merged i here c =
-        let s = some_place p (grown (two (left_by (view_of t).past es) (view_of t).past) 1 (entry n b w)) (entry n b w ∷ es) noted_parts h views merged i here (λ d. d == 1) in
+        let s = place_of_some p (grown (two (left_by (view_of t).past es) (view_of t).past) 1 (entry n b w)) (entry n b w ∷ es) noted_parts h views merged i here (λ d. d == 1) in
         (subst (IsStory p) (s.3 ∙ noted_parts.keeps 1) (merged_story p s.0 h sound s.2 s.1)).is_defined c
 
     -- the task with the entry is in memory
     pub noted : (t' : Task) → IsTaskOf code limits t' → (view_of t').past ≡ entry n b w ∷ (view_of t).past → IsInMemory code limits (entry n b w ∷ es) spent done (Some t')
     noted t' is past = record {
       rises = (below, m.rises);
-      told = whole_told p (grown (two (left_by (view_of t).past es) (view_of t).past) 1 (entry n b w)) (entry n b w ∷ es) noted_parts;
+      told = parts_told p (grown (two (left_by (view_of t).past es) (view_of t).past) 1 (entry n b w)) (entry n b w ∷ es) noted_parts;
       played = (is, subst (MayGo p (entry n b w ∷ es)) (sym past) (part_goes p (grown (two (left_by (view_of t).past es) (view_of t).past) 1 (entry n b w)) (entry n b w ∷ es) noted_parts 1));
       held = subst (IsPermutation done) (sym same) m.held;
       quiet = λ s. subst (AreQuiet p) (sym same) (m.quiet s);
     }
       where
         same : left_by (view_of t').past (entry n b w ∷ es) ≡ left_by (view_of t).past es
-        same = ap (λ (ps : List Entry). left_by ps (entry n b w ∷ es)) past ∙ left_more (view_of t).past (entry n b w) es below
+        same = ap (λ (ps : List Entry). left_by ps (entry n b w ∷ es)) past ∙ left_above (view_of t).past (entry n b w) es below

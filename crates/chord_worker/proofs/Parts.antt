@@ -82,8 +82,8 @@ among_in f [] e i y = absurd i
 among_in f (x ∷ h) e i y =
     ⊎_elim
     (λ s. let z : f x.number ≡ true = ap (λ (t : Entry). f t.number) (sym s) ∙ y in
-      let q : x.number ≡ e.number = ap (λ (t : Entry). t.number) (sym s) in
-      rw (z, eq-eqb x.number e.number q) refl)
+    let q : x.number ≡ e.number = ap (λ (t : Entry). t.number) (sym s) in
+    rw (z, eq-eqb x.number e.number q) refl)
     (λ k. elim (either (f x.number)) [
       | inl z ↦ rw z (or_right (x.number == e.number) (among (kept f h) e.number) (among_in f h e k y))
       | inr o ↦ rw o (among_in f h e k y)
@@ -160,8 +160,8 @@ module _ (p : Program) (part : ℕ → List Entry) (es : List Entry) (m : IsPart
       (union_told p m.at (λ c. if g c then 1 else 0) es m.rises parted_told 1)
 
   -- the whole is told
-  pub whole_told : IsTold p es
-  whole_told = subst (IsTold p) (all_kept es) (some_told (λ c. true))
+  pub parts_told : IsTold p es
+  parts_told = subst (IsTold p) (all_kept es) (some_told (λ c. true))
 
   -- some parts may go
   pub some_go : (g : ℕ → Bool) → MayGo p es (kept (λ n. g (m.at n)) es)
@@ -251,16 +251,16 @@ module _ (p : Program) (part : ℕ → List Entry) (es : List Entry) (m : IsPart
     )
 
     -- some parts are a place of the same run
-    pub some_place : (g : ℕ → Bool) → (views : ℕ → List Entry) × (k : ℕ) × IsMerged p views h × (views k ≡ kept (λ n. g (m.at n)) es)
-    some_place g =
+    pub place_of_some : (g : ℕ → Bool) → (views : ℕ → List Entry) × (k : ℕ) × IsMerged p views h × (views k ≡ kept (λ n. g (m.at n)) es)
+    place_of_some g =
         let r = empty_place merged.at h in
         let j = r.0 + i + 1 in
         let goes : ℕ → Bool = λ n. g (m.at n) in (
           parted view i j goes,
           j,
           parting_keeps_places p view h i j goes merged (λ q. omega (arith, q)) (sym (merged.keeps j) ∙ r.1 j (omega arith))
-          (subst (λ (v : List Entry). IsTold p (kept goes v)) (sym here) (some_told g))
-          (subst (λ (v : List Entry). IsTold p (kept (λ n. not (goes n)) v)) (sym here) (some_told (λ c. not (g c)))),
+              (subst (λ (v : List Entry). IsTold p (kept goes v)) (sym here) (some_told g))
+              (subst (λ (v : List Entry). IsTold p (kept (λ n. not (goes n)) v)) (sym here) (some_told (λ c. not (g c)))),
           rw (eq-eqb j j refl) (ap (kept goes) here),
         )
 

@@ -10,7 +10,7 @@ use Rattle.chord_task.specs.declared.parcel.Parcel.{Parcel}
 use Rattle.chord_task.specs.declared.task.Task.{Task}
 use Rattle.chord_task.specs.Standing.{is_ready_of}
 use Rattle.chord_worker.specs.declared.worker.Worker.{Worker}
-use Rattle.chord_worker.specs.Playing.{IsNoted, WasTold, IsPlain}
+use Rattle.chord_worker.specs.Playing.{IsNoted, WasToldFull, IsPlain}
 use Rattle.chord_worker.proofs.Memory.{task_laid}
 use Rattle.chord_worker.specs.Resting.{IsInMemory, MayContinue, IsFree, IsStock, IsAtRest, IsSameRole}
 
@@ -37,7 +37,7 @@ module _ (s : Space Parcel) (w : Worker) (t : Task) (r : IsAtRest s (record w { 
       drawn = λ e. ap (λ (z : View). z.drawn) noted.drawn;
     }
 
-  module _ (t' : Task) (told : WasTold (view w.desk) (view w'.desk) t t') where
+  module _ (t' : Task) (told : WasToldFull (view w.desk) (view w'.desk) t t') where
     -- the desk was told that the limit is reached
     pub rest_told : w'.task ≡ None → w'.spent ≡ true → w'.done.items ≡ w.done.items ++ t'.past.items → IsAtRest s w'
     rest_told task spent done = record {

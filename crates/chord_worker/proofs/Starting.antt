@@ -40,7 +40,7 @@ use Rattle.chord_task.specs.Parcels.{past_in, TaskIn, entries_of, IsParcelOf}
 use Rattle.chord_task.specs.Standing.{view_of, body_number, may_go, body_may_go, is_ready_of, IsTop, IsBodyStack, IsTaskOf, MainBegins}
 use Rattle.chord_worker.specs.Parted.{IsParted, with_part, two}
 use Rattle.chord_worker.specs.Resting.{IsInMemory, MayContinue, IsFree, IsAtRest, IsSameRole}
-use Rattle.chord_worker.proofs.Parts.{kept_agree, kept_nothing, all_kept, none_kept, left_is, part_goes, part_came, whole_told}
+use Rattle.chord_worker.proofs.Parts.{kept_agree, kept_nothing, all_kept, none_kept, left_is, part_goes, part_came, parts_told}
 
 -- ## Bodies that may go on
 
@@ -150,8 +150,8 @@ only_fresh p (x ∷ es) f told b only =
           (let here = eqb-true x.body f y in
           let number = only x (inl refl) here in
           rw y (subst (λ (n : ℕ). IsFresh (own p n x.what (λ q. maker q es) (doing p es) (doing p es f))) (sym number)
-              (first_fresh p es f x.what (λ q. maker q es) told.0 (subst (λ (n : ℕ). AllBelow n es) number (told_below p x.number es told.0 told.1))
-              (subst (λ (n : ℕ). Tells p es n f x.what) number (subst (λ (k : ℕ). Tells p es x.number k x.what) here told.2)))))
+          (first_fresh p es f x.what (λ q. maker q es) told.0 (subst (λ (n : ℕ). AllBelow n es) number (told_below p x.number es told.0 told.1))
+          (subst (λ (n : ℕ). Tells p es n f x.what) number (subst (λ (k : ℕ). Tells p es x.number k x.what) here told.2)))))
       | inr o ↦
           rw o (heard_fresh x.what (serves p x.body es) (doing p es f)
           (only_fresh p es f told.0 (⊎_elim (λ q. absurd (eqb-false x.body f o (ap (λ (z : Entry). z.body) (sym q) ∙ b.3))) (λ k. (b.0, k, b.2, b.3)) b.1) (λ e i. only e (inr i))))
@@ -214,7 +214,7 @@ pub started_memory : (code : Parts) (limits : Limits) (es : List Entry) (done : 
     → IsInMemory code limits (together es (view_of t).past) false done (Some t)
 started_memory code limits es done t m is places = record {
   rises = parted.rises;
-  told = whole_told p (with_part (two es []) 1 ps) (together es ps) parted;
+  told = parts_told p (with_part (two es []) 1 ps) (together es ps) parted;
   played = (is, part_goes p (with_part (two es []) 1 ps) (together es ps) parted 1);
   held = subst (IsPermutation done) (sym left) m.held;
   quiet = λ e. subst (AreQuiet p) (sym left) (m.quiet e);
@@ -250,7 +250,7 @@ module _ (s : Space Parcel) (w : Worker) (r : IsAtRest s w) (none : w.task ≡ N
   pub rest_started : IsAtRest s (record w { desk = d; task = q.task })
   rest_started =
       let memory : IsInMemory (code_of s) (limits_of s) (view w.desk).kept false w.done.items None = subst (λ (x : Option Task). IsInMemory (code_of s) (limits_of s) (view w.desk).kept false w.done.items x) none
-          (subst (λ (b : Bool). IsInMemory (code_of s) (limits_of s) (view w.desk).kept b w.done.items w.task) room r.memory) in
+      (subst (λ (b : Bool). IsInMemory (code_of s) (limits_of s) (view w.desk).kept b w.done.items w.task) room r.memory) in
       let with_it = started_with (code_of s) (limits_of s) (view w.desk).kept w.done.items q.task f memory keeps.1 comes in
       let spent : (view d).spent ≡ false = ap (λ (z : View). z.spent) view_is ∙ room in record {
         desk = same.0 ∙ r.desk;

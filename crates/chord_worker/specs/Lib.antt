@@ -4,7 +4,6 @@
 
 -- a worker at rest
 pub mod Resting
-
 -- ## What only the code's own contracts use
 
 -- messages that are sent off

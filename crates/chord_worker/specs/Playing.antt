@@ -43,7 +43,7 @@ pub record IsNoted (code : Parts) (limits : Limits) (v w : View) (t t' : Task) (
   pub of_code : IsOfCode code what
 
 -- the desk was told that the limit is reached, and the task is as it was
-pub record WasTold (v w : View) (t t' : Task) : Type 0 where
+pub record WasToldFull (v w : View) (t t' : Task) : Type 0 where
   pub count : ℕ
   pub view : w ≡ saw_count (was_told v) count
   pub task : t' ≡ t

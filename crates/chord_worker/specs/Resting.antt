@@ -17,9 +17,9 @@ use Rattle.chord_word.specs.declared.cells.Word.{Word}
 use Rattle.chord_worker.specs.declared.worker.Worker.{Worker}
 
 -- of what a desk keeps, what is not of the past of the task
-abbrev pub left_of : Option Task → List Entry → List Entry
-left_of None es = es
-left_of (Some t) es = left_by (view_of t).past es
+abbrev pub beside_task : Option Task → List Entry → List Entry
+beside_task None es = es
+beside_task (Some t) es = left_by (view_of t).past es
 
 -- the task, if there is one, is of the code under the limits, and its past is a part of what the desk keeps that may go
 abbrev pub MayBePlayed : Parts → Limits → List Entry → Option Task → Type 0
@@ -31,8 +31,8 @@ pub record IsInMemory (code : Parts) (limits : Limits) (kept : List Entry) (spen
   pub rises : IsRising kept
   pub told : IsTold (code_program code limits) kept
   pub played : MayBePlayed code limits kept task
-  pub held : IsPermutation done (left_of task kept)
-  pub quiet : spent ≡ false → AreQuiet (code_program code limits) (left_of task kept)
+  pub held : IsPermutation done (beside_task task kept)
+  pub quiet : spent ≡ false → AreQuiet (code_program code limits) (beside_task task kept)
 
 -- the task, if there is one, may go on
 abbrev pub MayContinue : Option Task → Type 0

@@ -74,15 +74,7 @@ impl Worker {
         ensures role { OnOk result (IsSameRole (view self.old.desk) (view self.new.desk)) }
     {
         let object = message.object;
-        match fire(
-            space,
-            &mut self.desk,
-            code,
-            object,
-            chord,
-            &members,
-            &nexts,
-        ) {
+        match fire(space, &mut self.desk, code, object, chord, &members, &nexts) {
             Firing::Fired(number, hand) => {
                 let drawn = Drawn {
                     number,

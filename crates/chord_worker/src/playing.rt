@@ -6,7 +6,7 @@ ghost use Rattle.chord_code.specs.declared.parts.Parts.{Parts};
 ghost use Rattle.chord_space.specs.Desks.{view, code_of, limits_of, program_of, IsDeskOf, IsSameDesk};
 ghost use Rattle.chord_task.specs.Standing.{view_of, IsTaskOf, is_ready_of};
 ghost use Rattle.chord_vm.specs.Frames.{what_of_ask};
-ghost use Rattle.chord_worker.specs.Playing.{IsReadyTo, IsNoted, WasTold};
+ghost use Rattle.chord_worker.specs.Playing.{IsReadyTo, IsNoted, WasToldFull};
 ghost use Rattle.chord_worker.specs.Resting.{IsInMemory, IsStock, IsStockTask};
 
 use chord_base::event::{Limits, What};
@@ -78,7 +78,7 @@ pub(crate) fn draw_own(
     requires ready { IsReadyTo (code_of space.now) (limits_of space.now) task.old what.now }
     requires sound { IsSound (program_of space.now) }
     ensures desk { IsSameDesk desk.old desk.new }
-    ensures drawn { MatchResult result (λ n. (n < space.now.events) × IsNoted (code_of space.now) (limits_of space.now) (view desk.old) (view desk.new) task.old task.new n what.now) (λ _. WasTold (view desk.old) (view desk.new) task.old task.new) }
+    ensures drawn { MatchResult result (λ n. (n < space.now.events) × IsNoted (code_of space.now) (limits_of space.now) (view desk.old) (view desk.new) task.old task.new n what.now) (λ _. WasToldFull (view desk.old) (view desk.new) task.old task.new) }
 {
     let body = top_number(task);
     let number = space.draw(desk, body, what)?;

@@ -15,14 +15,18 @@ note-requires c =
     let ready = c.requires.ready in
     let body = c.top_number-body.result in
     let top = c.top_number-body.ensures in
-    let below = c.in_ok-number.ensures.above.0 in
-    (code_of c.args.space.now, limits_of c.args.space.now, m.played.0, record {
-      what = c.args.what.now;
-      gave = ready.gave;
-      reserved = ready.reserved;
-      stays = noted_stays _ _ _ _ _ m _ ready body top c.requires.sound _ below c.in_ok-number.ensures.place;
-      above = noted_above _ _ _ _ _ m _ ready body top c.requires.sound _ below c.in_ok-number.ensures.place;
-    })
+    let below = c.in_ok-number.ensures.above.0 in (
+      code_of c.args.space.now,
+      limits_of c.args.space.now,
+      m.played.0,
+      record {
+        what = c.args.what.now;
+        gave = ready.gave;
+        reserved = ready.reserved;
+        stays = noted_stays _ _ _ _ _ m _ ready body top c.requires.sound _ below c.in_ok-number.ensures.place;
+        above = noted_above _ _ _ _ _ m _ ready body top c.requires.sound _ below c.in_ok-number.ensures.place;
+      },
+    )
 
 pub returns-clause-drawn : goal.returns-clause-drawn
 returns-clause-drawn c =

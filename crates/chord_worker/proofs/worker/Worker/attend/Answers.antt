@@ -35,9 +35,9 @@ returns-in-Left-clause-over g c = λ e.
     let m = c.args.message.number in
     let w' = record c.args.self.now { desk = c.find.new.desk } in (
       ⊎_elim
-      (λ t. minded c.args.space.now c.args.self.now w' _ _ c.requires.minds c.find.ensures.desk refl (read_so v m (a_cell.Woken t.0) t.1) (cell_looks v m (record { cell = a_cell.Woken t.0; next = t.1 })) t.2)
-      (λ t. minded c.args.space.now c.args.self.now w' _ _ c.requires.minds c.find.ensures.desk refl t.0 (looks_on _ _ _ (cell_looks v m (record { cell = a_cell.Pending; next = t.1.next })) t.1.sought.grows.only) t.2)
-      c.in-Left.ensures.finding,
+          (λ t. minded c.args.space.now c.args.self.now w' _ _ c.requires.minds c.find.ensures.desk refl (read_so v m (a_cell.Woken t.0) t.1) (cell_looks v m (record { cell = a_cell.Woken t.0; next = t.1 })) t.2)
+          (λ t. minded c.args.space.now c.args.self.now w' _ _ c.requires.minds c.find.ensures.desk refl t.0 (looks_on _ _ _ (cell_looks v m (record { cell = a_cell.Pending; next = t.1.next })) t.1.sought.grows.only) t.2)
+          c.in-Left.ensures.finding,
       λ z. let k : true ≡ false = sym z ∙ c.requires.minds.told in absurd (cc),
     )
 

@@ -4,6 +4,8 @@ use Rattle.chord_worker.proofs.worker.Worker.mind.Goals as goal
 
 pub loop-preserved : goal.loop-preserved
 loop-preserved g c = (
-  tt, tt, c.in_ok-attend.ensures.again c.if-branch.false,
+  tt,
+  tt,
+  c.in_ok-attend.ensures.again c.if-branch.false,
   role_on (view c.args.self.now.desk) (view c.loop.self.desk) (view c.attend.new.self.desk) c.loop.invariant.3 c.in_ok-attend.ensures.role,
 )

@@ -9,7 +9,7 @@ use Rattle.chord_space.specs.Gives.{MayLink}
 use Rattle.chord_task.specs.declared.parcel.Parcel.{Parcel}
 use Rattle.chord_task.specs.declared.task.Task.{Task}
 use Rattle.chord_task.specs.Standing.{view_of}
-use Rattle.chord_worker.specs.Playing.{WasTold}
+use Rattle.chord_worker.specs.Playing.{WasToldFull}
 use Rattle.chord_worker.specs.Resting.{IsInMemory, MayContinue}
 use Rattle.chord_worker.specs.Sending.{IsSentOff}
 use Rattle.chord_worker.proofs.Resting.{rest_told}
@@ -52,6 +52,6 @@ returns-in_ok-lay_down-in-Err-clause-rest g c =
     let s = c.args.space.now in
     let w = c.args.self.now in
     let d = c.lay_down.ensures.same.0 in
-    let told = subst (λ (x : Desk Parcel). WasTold (view w.desk) (view x) c.args.task c.draw_own.new.task) (sym d) c.in-Err.ensures.drawn in
+    let told = subst (λ (x : Desk Parcel). WasToldFull (view w.desk) (view x) c.args.task c.draw_own.new.task) (sym d) c.in-Err.ensures.drawn in
     let same = subst (λ (x : Desk Parcel). IsSameDesk w.desk x) (sym d) c.draw_own.ensures.desk in
     rest_told s w c.args.task c.requires.rest c.lay_down.new.self same c.lay_down.ensures.same.1 c.draw_own.new.task told (c.lay_down.ensures.same.2 ∙ c.requires.none) c.lay_down.ensures.same.3 c.in_ok-lay_down-in-Err.ensures.done

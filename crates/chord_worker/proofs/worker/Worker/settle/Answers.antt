@@ -10,6 +10,6 @@ returns-clause-settled c = λ code limits kept spent m.
     let over = sym c.is_ready.ensures ∙ c.if-is_ready.false in
     let items = c.in_ok-append.ensures.items ∙ ap (λ v. c.args.self.now.done.items ++ v.items) c.into_past-past.ensures in (
       subst (λ (x : Option Task). IsInMemory code limits kept spent c.append.new.self.items x) (sym c.requires.none)
-      (subst (λ (es : List Entry). IsInMemory code limits kept spent es None) (sym items) (task_done code limits kept spent c.args.self.now.done.items c.args.task m over)),
+          (subst (λ (es : List Entry). IsInMemory code limits kept spent es None) (sym items) (task_done code limits kept spent c.args.self.now.done.items c.args.task m over)),
       subst MayContinue (sym c.requires.none) tt,
     )

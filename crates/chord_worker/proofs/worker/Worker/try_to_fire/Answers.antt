@@ -41,8 +41,8 @@ returns-in_ok-give_up-in-Spent-clause-over g c = λ e.
     let d = c.give_up.ensures.same.0 in
     let none = c.in_ok-give_up-in-Spent.ensures.none in (
       refused c.args.space.now c.args.self.now c.give_up.new.self _ _ c.requires.minds
-      (subst (λ (x : Desk Parcel). IsSameDesk c.args.self.now.desk x) (sym d) c.fire.ensures.desk)
-      (subst (λ (x : Desk Parcel). view x ≡ record (view c.args.self.now.desk) { looked = (view x).looked; spent = true }) (sym d) c.in-Spent.ensures.firing.same)
-      none c.give_up.ensures.same.2 c.give_up.ensures.same.1 c.in_ok-give_up-in-Spent.ensures.done,
+          (subst (λ (x : Desk Parcel). IsSameDesk c.args.self.now.desk x) (sym d) c.fire.ensures.desk)
+          (subst (λ (x : Desk Parcel). view x ≡ record (view c.args.self.now.desk) { looked = (view x).looked; spent = true }) (sym d) c.in-Spent.ensures.firing.same)
+          none c.give_up.ensures.same.2 c.give_up.ensures.same.1 c.in_ok-give_up-in-Spent.ensures.done,
       λ z. none,
     )
