@@ -117,7 +117,7 @@ heard_seen (Printed t) c d i = i
 heard_seen (Fired k o ms vs) c d i = i
 
 -- a body with an entry among told ones is seen
-seen_there : (p : Program) (es : List Entry) (e : Entry) (b : ℕ) → IsTold p es → IsIn e es → e.body ≡ b → IsSeen (doing p es b)
+pub seen_there : (p : Program) (es : List Entry) (e : Entry) (b : ℕ) → IsTold p es → IsIn e es → e.body ≡ b → IsSeen (doing p es b)
 seen_there p [] e b t i s = absurd i
 seen_there p (x ∷ es) e b t i s =
     elim (either (x.body == b)) [

@@ -54,7 +54,7 @@ in_kept f (x ∷ h) e i y =
     (λ k. elim (either (f x.number)) [ inl z ↦ rw z (inr (in_kept f h e k y)) | inr o ↦ rw o (in_kept f h e k y) ]) i
 
 -- an entry of a history of which a test keeps nothing does not pass it
-none_kept : (f : ℕ → Bool) (h : List Entry) (e : Entry) → kept f h ≡ [] → IsIn e h → f e.number ≡ false
+pub none_kept : (f : ℕ → Bool) (h : List Entry) (e : Entry) → kept f h ≡ [] → IsIn e h → f e.number ≡ false
 none_kept f h e none i = elim (either (f e.number)) [ inl y ↦ absurd (subst (IsIn e) none (in_kept f h e i y)) | inr o ↦ o ]
 
 -- an entry below a number has a number below it
@@ -77,7 +77,7 @@ or_right true b e = refl
 or_right false b e = e
 
 -- the number of an entry that passes the test is among those of the kept entries
-among_in : (f : ℕ → Bool) (h : List Entry) (e : Entry) → IsIn e h → f e.number ≡ true → among (kept f h) e.number ≡ true
+pub among_in : (f : ℕ → Bool) (h : List Entry) (e : Entry) → IsIn e h → f e.number ≡ true → among (kept f h) e.number ≡ true
 among_in f [] e i y = absurd i
 among_in f (x ∷ h) e i y =
     ⊎_elim

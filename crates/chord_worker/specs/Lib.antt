@@ -9,6 +9,10 @@ pub mod Resting
 
 -- messages that are sent off
 pub mod Sending
+-- a firing that was drawn, before its body begins
+pub mod Firing
+-- a firing's parcels, and its body before it is played or posted
+pub mod Beginning
 -- a task while it is played
 pub mod Playing
 -- entries that are made of parts

@@ -1,5 +1,5 @@
 -- A worker at rest: what its desk keeps is what it has in memory, its task may go on, and every other body that it keeps has ended or waits.
-use Rattle.std.specs.Prelude.{◌≡◌, Bool, true, false, List, [], Option, Some, None, IsPermutation}
+use Rattle.std.specs.Prelude.{◌≡◌, ℕ, Bool, true, false, List, [], ◌∷◌, Option, Some, None, IsPermutation}
 use Rattle.chord_base.specs.declared.event.Entry.{Entry}
 use Rattle.chord_base.specs.declared.event.Limits.{Limits}
 use Rattle.chord_base.specs.Story.{IsRising, IsTold}
@@ -13,6 +13,7 @@ use Rattle.chord_space.specs.Desks.{view, code_of, limits_of, IsDeskOf}
 use Rattle.chord_task.specs.declared.parcel.Parcel.{Parcel}
 use Rattle.chord_task.specs.declared.task.Task.{Task}
 use Rattle.chord_task.specs.Standing.{view_of, IsTaskOf, IsResumable, is_ready_of}
+use Rattle.chord_word.specs.declared.cells.Word.{Word}
 use Rattle.chord_worker.specs.declared.worker.Worker.{Worker}
 
 -- of what a desk keeps, what is not of the past of the task
@@ -72,3 +73,11 @@ pub record IsSameRole (v w : View) : Type 0 where
   pub lent : w.lent ≡ v.lent
   pub splits : w.splits ≡ v.splits
   pub drawn : v.drawn ≡ true → w.drawn ≡ true
+
+-- a look at a cell: it is remembered, and nothing else that a worker at rest knows has changed
+pub record IsSeen (v w : View) (i : ℕ) (x : Word) : Type 0 where
+  pub role : IsSameRole v w
+  pub spent : w.spent ≡ v.spent
+  pub kept : w.kept ≡ v.kept
+  pub count : w.looked.count ≡ v.looked.count
+  pub seen : w.looked.seen ≡ record { number = i; word = x } ∷ v.looked.seen

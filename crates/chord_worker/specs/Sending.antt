@@ -1,10 +1,16 @@
--- A message is sent off: linked with its parcel, and armed.
-use Rattle.std.specs.Prelude.{◌≡◌, ℕ, true, List, [], ◌∷◌, None}
+-- A message is sent off: linked with its parcel, and armed; and then the worker minds it.
+use Rattle.std.specs.Prelude.{◌≡◌, ℕ, true, false, List, [], ◌∷◌, ◌++◌, Option, Some, None}
+use Rattle.chord_bag.specs.Reads.{messages_and_bags}
 use Rattle.chord_base.specs.declared.event.Entry.{Entry}
 use Rattle.chord_rule.specs.declared.view.View.{View}
 use Rattle.chord_rule.specs.Duties.{duty_on}
 use Rattle.chord_rule.specs.Kinds.{left_by, without}
-use Rattle.chord_worker.specs.Resting.{IsSameRole}
+use Rattle.chord_space.specs.declared.space.Space.{Space}
+use Rattle.chord_space.specs.Desks.{view, code_of, limits_of, IsDeskOf}
+use Rattle.chord_task.specs.declared.parcel.Parcel.{Parcel}
+use Rattle.chord_task.specs.declared.task.Task.{Task}
+use Rattle.chord_worker.specs.declared.worker.Worker.{Worker}
+use Rattle.chord_worker.specs.Resting.{IsFree, IsInMemory, MayContinue, IsStockTask, IsSameRole}
 
 -- the message m was linked in the bag k and armed, and these entries went with its parcel
 pub record IsSentOff (v w : View) (m k : ℕ) (es : List Entry) : Type 0 where
@@ -15,3 +21,21 @@ pub record IsSentOff (v w : View) (m k : ℕ) (es : List Entry) : Type 0 where
   pub duties : w.duties ≡ duty_on m k ∷ v.duties
   pub spent : w.spent ≡ v.spent
   pub role : IsSameRole v w
+
+-- the worker minds the message m in the bag k: it is at rest but for its duty on m, and has a task in stock
+pub record Minds (s : Space Parcel) (w : Worker) (m k : ℕ) : Type 0 where
+  pub desk : IsDeskOf s w.desk
+  pub told : w.spent ≡ false
+  pub room : (view w.desk).spent ≡ false
+  pub free : IsFree (view w.desk)
+  pub duty : messages_and_bags (view w.desk).duties ≡ (m, k) ∷ []
+  pub memory : IsInMemory (code_of s) (limits_of s) (view w.desk).kept false w.done.items w.task
+  pub goes_on : MayContinue w.task
+  pub stock : Task
+  pub spare : w.spare ≡ Some stock
+  pub is_stock : IsStockTask (code_of s) (limits_of s) stock
+
+-- what a task did, if there was one, is done
+abbrev pub IsLaidDown : List Entry → Option Task → List Entry → Type 0
+IsLaidDown done None done' = done' ≡ done
+IsLaidDown done (Some t) done' = done' ≡ done ++ t.past.items

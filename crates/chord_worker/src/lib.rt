@@ -5,7 +5,10 @@
 //! Not here: threads, who plays when, and when a run is over.
 #![tactic(auto)]
 
+mod calls;
+mod fired;
 mod messages;
+mod minding;
 mod playing;
 mod step;
 mod worker;

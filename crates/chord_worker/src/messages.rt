@@ -1,14 +1,29 @@
 //! Messages are sent off with their parcels, and followed until somebody else minds them.
-ghost use Rattle.std.specs.Prelude.{◌≡◌, ◌<◌, ℕ};
+ghost use Rattle.std.specs.Prelude.{◌≡◌, ◌≢◌, ◌<◌, ℕ, true, false, [], Some, None, IfOk, OnOk};
+ghost use Rattle.chord_base.specs.Story.{IsSound};
+ghost use Rattle.chord_base.specs.declared.event.What.TheVariants.{Sent, Called};
 ghost use Rattle.chord_rule.specs.Made.{key};
 ghost use Rattle.chord_space.specs.Desks.{view, code_of, limits_of, program_of, IsDeskOf, IsSameDesk};
 ghost use Rattle.chord_space.specs.Gives.{MayLink};
+ghost use Rattle.chord_space.specs.Ruled.{IsOfCode};
 ghost use Rattle.chord_task.specs.Parcels.{entries_of, arguments_of, IsParcelOf};
+ghost use Rattle.chord_task.specs.Standing.{view_of, IsTaskOf};
+ghost use Rattle.chord_worker.specs.Playing.{IsReadyTo};
+ghost use Rattle.chord_worker.specs.Resting.{IsAtRest, IsSameRole};
 ghost use Rattle.chord_worker.specs.Sending.{IsSentOff};
 
-use chord_base::value::Object;
+use crate::minding::Minded;
+use crate::playing::draw_own;
+use crate::worker::{Gate, Worker};
+use chord_base::event::{Limits, What};
+use chord_base::value::{Object, Values};
+use chord_code::code::Code;
 use chord_space::{Desk, Space};
-use chord_task::parcel::Parcel;
+use chord_task::args::Args;
+use chord_task::parcel::{Parcel, letter, packed};
+use chord_task::task::Task;
+use std::alloc::{AllocError, Global};
+use std::sync::Wait;
 
 /// A message that the desk drew is linked with its parcel, and armed.
 pub(crate) fn send_off(
@@ -28,4 +43,188 @@ pub(crate) fn send_off(
 {
     space.link(desk, m, object, method, parcel);
     space.arm(desk, m);
+}
+
+/// A list of values, twice.
+fn doubled(alloc: Global, values: &Values) -> Result<Args, AllocError>
+    ensures { IfOk result (λ a. (a.first ≡ values.now) × (a.second ≡ values.now)) }
+{
+    let first = values.copied(alloc)?;
+    let second = values.copied(alloc)?;
+    Ok(Args { first, second })
+}
+
+/// What an asynchronous message goes with: its arguments, and no task.
+fn send_letter(
+    space: &Space<Parcel>,
+    desk: &mut Desk<Parcel>,
+    code: &Code,
+    limits: &Limits,
+    m: u32,
+    object: Object,
+    method: u8,
+    held: Args,
+)
+    requires desk { IsDeskOf space.now desk.old }
+    requires code { code.now ≡ code_of space.now }
+    requires limits { limits.now ≡ limits_of space.now }
+    requires bounds { (m < space.now.events) × (object.number < m) }
+    requires named { IsOfCode (code_of space.now) (Sent object method held.first) }
+    requires twice { held.second ≡ held.first }
+    requires link { MayLink (program_of space.now) (view desk.old) m object method [] held.first }
+    ensures desk { IsSameDesk desk.old desk.new }
+    ensures sent { IsSentOff (view desk.old) (view desk.new) m (key object method) [] }
+    ensures bounds { (object.class < 1024) × (method < 16) }
+{
+    let _parts = code.parts();
+    let parcel = letter(code, limits, held);
+    send_off(space, desk, m, object, method, parcel);
+}
+
+/// What a call goes with: its arguments, and the task that waits for it.
+fn send_task(
+    space: &Space<Parcel>,
+    desk: &mut Desk<Parcel>,
+    code: &Code,
+    limits: &Limits,
+    m: u32,
+    object: Object,
+    method: u8,
+    held: Args,
+    task: Task,
+)
+    requires desk { IsDeskOf space.now desk.old }
+    requires code { code.now ≡ code_of space.now }
+    requires limits { limits.now ≡ limits_of space.now }
+    requires bounds { (m < space.now.events) × (object.number < m) }
+    requires named { IsOfCode (code_of space.now) (Called object method held.first) }
+    requires twice { held.second ≡ held.first }
+    requires task { IsTaskOf (code_of space.now) (limits_of space.now) task }
+    requires left { (view_of task).top ≢ None }
+    requires link { MayLink (program_of space.now) (view desk.old) m object method (view_of task).past held.first }
+    ensures desk { IsSameDesk desk.old desk.new }
+    ensures sent { IsSentOff (view desk.old) (view desk.new) m (key object method) (view_of task).past }
+    ensures bounds { (object.class < 1024) × (method < 16) }
+{
+    let _parts = code.parts();
+    let parcel = packed(code, limits, held, task);
+    send_off(space, desk, m, object, method, parcel);
+}
+
+impl Worker {
+    /// An asynchronous message becomes an entry, is sent off, and minded.
+    pub(crate) fn play_sent<R: Wait, G: Gate>(
+        &mut self,
+        rt: &R,
+        alloc: Global,
+        space: &Space<Parcel>,
+        code: &Code,
+        limits: &Limits,
+        gate: &G,
+        task: Task,
+        object: Object,
+        method: u8,
+        arguments: Values,
+    ) -> Result<(), AllocError>
+        requires none { self.old.task ≡ None }
+        requires rest { IsAtRest space.now (record self.old { task = Some task }) }
+        requires room { (view self.old.desk).spent ≡ false }
+        requires stock { self.old.spare ≢ None }
+        requires ready { IsReadyTo (code_of space.now) (limits_of space.now) task (Sent object method arguments) }
+        requires code { code.now ≡ code_of space.now }
+        requires limits { limits.now ≡ limits_of space.now }
+        requires sound { IsSound (program_of space.now) }
+        ensures desk { IsDeskOf space.now self.new.desk }
+        ensures rest { OnOk result (IsAtRest space.now self.new) }
+        ensures role { OnOk result (IsSameRole (view self.old.desk) (view self.new.desk)) }
+        ensures over { OnOk result (self.new.spent ≡ true → self.new.task ≡ None) }
+    {
+        let held = doubled(alloc, &arguments)?;
+        let what = What::Sent(object, method, arguments);
+        let mut task = task;
+        match draw_own(space, &mut self.desk, &mut task, &what) {
+            Ok(number) => {
+                send_letter(
+                    space,
+                    &mut self.desk,
+                    code,
+                    limits,
+                    number,
+                    object,
+                    method,
+                    held,
+                );
+                self.settle(task)?;
+                let message = Minded {
+                    number,
+                    object,
+                    method,
+                };
+                self.mind(rt, alloc, space, code, limits, gate, message)?;
+                Ok(())
+            }
+            Err(_) => {
+                self.lay_down(task)?;
+                Ok(())
+            }
+        }
+    }
+
+    /// A call becomes an entry, is sent off with the task, and minded.
+    pub(crate) fn play_called<R: Wait, G: Gate>(
+        &mut self,
+        rt: &R,
+        alloc: Global,
+        space: &Space<Parcel>,
+        code: &Code,
+        limits: &Limits,
+        gate: &G,
+        task: Task,
+        object: Object,
+        method: u8,
+        arguments: Values,
+    ) -> Result<(), AllocError>
+        requires none { self.old.task ≡ None }
+        requires rest { IsAtRest space.now (record self.old { task = Some task }) }
+        requires room { (view self.old.desk).spent ≡ false }
+        requires stock { self.old.spare ≢ None }
+        requires ready { IsReadyTo (code_of space.now) (limits_of space.now) task (Called object method arguments) }
+        requires code { code.now ≡ code_of space.now }
+        requires limits { limits.now ≡ limits_of space.now }
+        requires sound { IsSound (program_of space.now) }
+        ensures desk { IsDeskOf space.now self.new.desk }
+        ensures rest { OnOk result (IsAtRest space.now self.new) }
+        ensures role { OnOk result (IsSameRole (view self.old.desk) (view self.new.desk)) }
+        ensures over { OnOk result (self.new.spent ≡ true → self.new.task ≡ None) }
+    {
+        let held = doubled(alloc, &arguments)?;
+        let what = What::Called(object, method, arguments);
+        let mut task = task;
+        match draw_own(space, &mut self.desk, &mut task, &what) {
+            Ok(number) => {
+                send_task(
+                    space,
+                    &mut self.desk,
+                    code,
+                    limits,
+                    number,
+                    object,
+                    method,
+                    held,
+                    task,
+                );
+                let message = Minded {
+                    number,
+                    object,
+                    method,
+                };
+                self.mind(rt, alloc, space, code, limits, gate, message)?;
+                Ok(())
+            }
+            Err(_) => {
+                self.lay_down(task)?;
+                Ok(())
+            }
+        }
+    }
 }

@@ -1,20 +1,24 @@
 //! A worker plays its task to the next ask, and does what follows from it.
-ghost use Rattle.std.specs.Prelude.{◌≡◌, ℕ, Bool, true, false, List, ◌++◌, Some, None, OnOk};
+ghost use Rattle.std.specs.Prelude.{◌≡◌, ◌≢◌, ℕ, Bool, true, false, List, ◌++◌, Some, None, OnOk};
 ghost use Rattle.chord_base.specs.declared.event.Entry.{Entry as AnEntry};
 ghost use Rattle.chord_base.specs.declared.event.Limits.{Limits as TheLimits};
 ghost use Rattle.chord_base.specs.Story.{IsSound};
 ghost use Rattle.chord_code.specs.declared.parts.Parts.{Parts};
 ghost use Rattle.chord_space.specs.Desks.{view, code_of, limits_of, program_of, IsDeskOf};
+ghost use Rattle.chord_vm.specs.Frames.{what_of_ask};
 ghost use Rattle.chord_worker.specs.Playing.{IsReadyTo, IsPlain};
 ghost use Rattle.chord_worker.specs.Resting.{IsInMemory, MayContinue, IsAtRest, IsSameRole};
 
-use crate::playing::draw_own;
-use crate::worker::Worker;
-use chord_base::event::What;
+use crate::playing::{draw_own, ready_ask, stocked};
+use crate::worker::{Gate, Worker};
+use chord_base::event::{Limits, What};
+use chord_code::code::Code;
 use chord_space::Space;
 use chord_task::parcel::Parcel;
 use chord_task::task::Task;
-use std::alloc::AllocError;
+use chord_vm::ask::Ask;
+use std::alloc::{AllocError, Global};
+use std::sync::Wait;
 
 impl Worker {
     /// The task is played on if it may go on; else what it did is done.
@@ -69,6 +73,96 @@ impl Worker {
             }
             Err(_) => {
                 self.lay_down(task)?;
+                Ok(())
+            }
+        }
+    }
+}
+
+impl Worker {
+    /// An ask becomes an entry, with what follows from it.
+    fn play<R: Wait, G: Gate>(
+        &mut self,
+        rt: &R,
+        alloc: Global,
+        space: &Space<Parcel>,
+        code: &Code,
+        limits: &Limits,
+        gate: &G,
+        task: Task,
+        ask: Ask,
+    ) -> Result<(), AllocError>
+        requires none { self.old.task ≡ None }
+        requires rest { IsAtRest space.now (record self.old { task = Some task }) }
+        requires room { (view self.old.desk).spent ≡ false }
+        requires stock { self.old.spare ≢ None }
+        requires ready { IsReadyTo (code_of space.now) (limits_of space.now) task (what_of_ask ask) }
+        requires code { code.now ≡ code_of space.now }
+        requires limits { limits.now ≡ limits_of space.now }
+        requires sound { IsSound (program_of space.now) }
+        ensures rest { OnOk result (IsAtRest space.now self.new) }
+        ensures role { OnOk result (IsSameRole (view self.old.desk) (view self.new.desk)) }
+        ensures over { OnOk result (self.new.spent ≡ true → self.new.task ≡ None) }
+    {
+        match ask {
+            Ask::Make(class) => {
+                let what = What::Made(class);
+                self.play_own(space, task, &what)?;
+                Ok(())
+            }
+            Ask::Send(object, method, arguments) => {
+                self.play_sent(
+                    rt, alloc, space, code, limits, gate, task, object, method, arguments,
+                )?;
+                Ok(())
+            }
+            Ask::Call(object, method, arguments) => {
+                self.play_called(
+                    rt, alloc, space, code, limits, gate, task, object, method, arguments,
+                )?;
+                Ok(())
+            }
+            Ask::Print(text) => {
+                let what = What::Printed(text);
+                self.play_own(space, task, &what)?;
+                Ok(())
+            }
+            Ask::End(end) => {
+                let what = What::Ended(end);
+                self.play_own(space, task, &what)?;
+                Ok(())
+            }
+        }
+    }
+
+    /// Plays the task to its next ask, which becomes an entry of the run, and does what follows: a message is linked and armed, and
+    /// minded until it is taken or no chord with it is enabled; a firing's body begins; what a task did that is over is done. Where
+    /// the limit on events is reached the task is laid down. Want of memory is an `Err`, after which entries may be lost.
+    pub fn step<R: Wait, G: Gate>(
+        &mut self,
+        rt: &R,
+        alloc: Global,
+        space: &Space<Parcel>,
+        code: &Code,
+        limits: &Limits,
+        gate: &G,
+    ) -> Result<(), AllocError>
+        requires code { (code_of space.now ≡ code.now) × (limits_of space.now ≡ limits.now) }
+        requires sound { IsSound (program_of space.now) }
+        requires rest { IsAtRest space.now self.old }
+        requires task { self.old.task ≢ None }
+        requires room { (view self.old.desk).spent ≡ false }
+        ensures rest { OnOk result (IsAtRest space.now self.new × IsSameRole (view self.old.desk) (view self.new.desk)) }
+        ensures over { OnOk result ((view self.new.desk).spent ≡ true → self.new.task ≡ None) }
+    {
+        match self.task.take() {
+            None => unreachable!(),
+            Some(task) => {
+                let mut task = task;
+                let ask = ready_ask(alloc, code, limits, &mut task)?;
+                let stock = stocked(alloc, code, limits, self.spare.take())?;
+                self.spare = Some(stock);
+                self.play(rt, alloc, space, code, limits, gate, task, ask)?;
                 Ok(())
             }
         }

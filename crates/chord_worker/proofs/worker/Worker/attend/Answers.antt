@@ -1,0 +1,51 @@
+use Rattle.std.proofs.Common.{◌≡◌, true, false, refl, sym, ap, ◌∙◌, subst, ⊎_elim, inl}
+use Rattle.chord_bag.specs.Reads.{IsOnlyLooks}
+use Rattle.chord_match.specs.Findings.{read_so}
+use Rattle.chord_rule.specs.Duties.{HasDuty}
+use Rattle.chord_rule.specs.Made.{key}
+use Rattle.chord_rule.specs.Kinds.{rested}
+use Rattle.chord_space.specs.Desks.{view}
+use Rattle.chord_word.specs.declared.cells.Cell.TheVariants as a_cell
+use Rattle.chord_worker.proofs.Attending.{the_duty, still_minds, minded, looks_on, cell_looks}
+use Rattle.chord_worker.proofs.worker.Worker.attend.Goals as goal
+
+pub find-requires-clause-duty : goal.find-requires-clause-duty
+find-requires-clause-duty g c =
+    let t = the_duty _ _ _ c.requires.minds.duty in (t.0, subst (HasDuty t.0) (sym t.1) (inl refl), t.2, t.3)
+
+pub try_to_fire-requires-clause-minds : goal.try_to_fire-requires-clause-minds
+try_to_fire-requires-clause-minds g c =
+    let f = c.in-Match.ensures.finding in
+    still_minds c.args.space.now c.args.self.now (record c.args.self.now { desk = c.find.new.desk }) _ _ c.requires.minds c.find.ensures.desk refl
+    (looks_on _ _ _ (cell_looks (view c.args.self.now.desk) c.args.message.number (record { cell = a_cell.Pending; next = f.next })) f.sought.grows.only)
+
+pub returns-in-Busy-clause-again : goal.returns-in-Busy-clause-again
+returns-in-Busy-clause-again g c = λ e.
+    let v = view c.args.self.now.desk in
+    let m = c.args.message.number in
+    still_minds c.args.space.now c.args.self.now (record c.args.self.now { desk = c.find.new.desk }) _ _ c.requires.minds c.find.ensures.desk refl
+    (⊎_elim
+    (λ t. subst (IsOnlyLooks v) (sym t.1.1) (cell_looks v m (record { cell = a_cell.Claimed; next = t.1.0 })))
+    (λ b. looks_on _ _ _ (cell_looks v m (record { cell = a_cell.Pending; next = b.next })) b.sought.grows.only)
+    c.in-Busy.ensures.finding.one)
+
+pub returns-in-Left-clause-over : goal.returns-in-Left-clause-over
+returns-in-Left-clause-over g c = λ e.
+    let v = view c.args.self.now.desk in
+    let m = c.args.message.number in
+    let w' = record c.args.self.now { desk = c.find.new.desk } in (
+      ⊎_elim
+      (λ t. minded c.args.space.now c.args.self.now w' _ _ c.requires.minds c.find.ensures.desk refl (read_so v m (a_cell.Woken t.0) t.1) (cell_looks v m (record { cell = a_cell.Woken t.0; next = t.1 })) t.2)
+      (λ t. minded c.args.space.now c.args.self.now w' _ _ c.requires.minds c.find.ensures.desk refl t.0 (looks_on _ _ _ (cell_looks v m (record { cell = a_cell.Pending; next = t.1.next })) t.1.sought.grows.only) t.2)
+      c.in-Left.ensures.finding,
+      λ z. let k : true ≡ false = sym z ∙ c.requires.minds.told in absurd (cc),
+    )
+
+pub returns-in-Taken-clause-over : goal.returns-in-Taken-clause-over
+returns-in-Taken-clause-over g c = λ e.
+    let v = view c.args.self.now.desk in
+    let m = c.args.message.number in
+    let t = c.in-Taken.ensures.finding in (
+      minded c.args.space.now c.args.self.now (record c.args.self.now { desk = c.find.new.desk }) _ _ c.requires.minds c.find.ensures.desk refl (read_so v m a_cell.Consumed t.0) (cell_looks v m (record { cell = a_cell.Consumed; next = t.0 })) t.1,
+      λ z. let k : true ≡ false = sym z ∙ c.requires.minds.told in absurd (cc),
+    )

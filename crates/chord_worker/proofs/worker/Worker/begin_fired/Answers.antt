@@ -1,0 +1,34 @@
+use Rattle.std.proofs.Common.{◌≡◌, length, sym, ap, ◌∙◌, Some, None, arith}
+use Rattle.chord_worker.proofs.Beginning.{task_is, may_resume, twice, few_values, begun_there}
+use Rattle.chord_worker.proofs.worker.Worker.begin_fired.Goals as goal
+
+pub unpack-caller-requires : goal.unpack-caller-requires
+unpack-caller-requires g c =
+    let few = c.is_full-full.ensures.few in
+    let none = ap length c.new-arguments.ensures in record { few = omega (arith, few, none) }
+
+pub take_task-task-requires : goal.take_task-task-requires
+take_task-task-requires g c = record { stock = λ e. let z : Some c.requires.fired.1.stock ≡ None = sym c.requires.fired.1.spare ∙ e in cc }
+
+pub resume-requires-clause-task : goal.resume-requires-clause-task
+resume-requires-clause-task g c = task_is _ _ _ _ _ _ _ _ c.requires.fired.1 c.requires.sound _ c.requires.code c.chords_are_right.ensures _ c.unpack-caller.ensures.task _ c.take_task-task.ensures.task
+    _ _ c.new-arguments.ensures c.unpack-caller.ensures.arguments
+
+pub resume-requires-clause-may : goal.resume-requires-clause-may
+resume-requires-clause-may g c = may_resume _ _ _ _ _ _ _ _ c.requires.fired.1 c.requires.sound _ c.requires.code c.chords_are_right.ensures _ c.unpack-caller.ensures.task _ c.take_task-task.ensures.task
+    _ _ c.new-arguments.ensures c.unpack-caller.ensures.arguments
+
+pub resume-requires-clause-few : goal.resume-requires-clause-few
+resume-requires-clause-few g c = few_values _ _ _ _ _ _ _ _ c.requires.fired.1 c.requires.sound _ c.requires.code c.chords_are_right.ensures _ c.unpack-caller.ensures.task _ c.take_task-task.ensures.task
+    _ _ c.new-arguments.ensures c.unpack-caller.ensures.arguments c.entries_are_within.ensures.within c.args.space.now.sized.4
+
+pub resume-requires-clause-twice : goal.resume-requires-clause-twice
+resume-requires-clause-twice g c = twice _ _ _ _ _ _ _ _ c.requires.fired.1 c.requires.sound _ c.requires.code c.chords_are_right.ensures _ c.unpack-caller.ensures.task _ c.take_task-task.ensures.task
+    _ _ c.new-arguments.ensures c.unpack-caller.ensures.arguments
+
+pub take_on-requires-clause-begun : goal.take_on-requires-clause-begun
+take_on-requires-clause-begun g c = (
+  c.requires.fired.0,
+  begun_there _ _ _ _ _ _ _ _ c.requires.fired.1 c.requires.sound _ c.requires.code c.chords_are_right.ensures _ c.unpack-caller.ensures.task _ c.take_task-task.ensures.task
+      _ _ c.new-arguments.ensures c.unpack-caller.ensures.arguments _ c.take_task-task.ensures.spare _ c.resume.ensures.task c.resume.ensures.past c.resume.ensures.top,
+)

@@ -1,0 +1,57 @@
+use Rattle.std.proofs.Common.{◌≡◌, ◌<◌, ℕ, List, [], None, Option, refl, sym, ap, ◌∙◌, subst, inl, arith}
+use Rattle.chord_base.specs.declared.event.Entry.{Entry}
+use Rattle.chord_base.specs.declared.event.What.TheVariants.{Sent, Called}
+use Rattle.chord_base.specs.declared.value.Value as value
+use Rattle.chord_rule.specs.Made.{key}
+use Rattle.chord_space.specs.declared.space.Desk.{Desk}
+use Rattle.chord_space.specs.Desks.{view, code_of, limits_of, program_of, IsSameDesk}
+use Rattle.chord_space.specs.Gives.{MayLink}
+use Rattle.chord_task.specs.declared.parcel.Parcel.{Parcel}
+use Rattle.chord_task.specs.declared.task.Task.{Task}
+use Rattle.chord_task.specs.Standing.{view_of}
+use Rattle.chord_worker.specs.Playing.{WasTold}
+use Rattle.chord_worker.specs.Resting.{IsInMemory, MayContinue}
+use Rattle.chord_worker.specs.Sending.{IsSentOff}
+use Rattle.chord_worker.proofs.Resting.{rest_told}
+use Rattle.chord_worker.proofs.Sent.{task_may, task_memory, now_minds}
+use Rattle.chord_worker.proofs.worker.Worker.play_called.Goals as goal
+
+pub send_task-requires-clause-bounds : goal.send_task-requires-clause-bounds
+send_task-requires-clause-bounds g c = (c.in-Ok.ensures.drawn.0, c.in-Ok.ensures.drawn.1.named c.args.object (inl refl))
+
+pub send_task-requires-clause-link : goal.send_task-requires-clause-link
+send_task-requires-clause-link g c =
+    let s = c.args.space.now in
+    subst (λ (vs : List value.Value). MayLink (program_of s) (view c.draw_own.new.desk) c.in-Ok.number c.args.object c.args.method (view_of c.draw_own.new.task).past vs) (sym c.in_ok-held.ensures.0)
+    (task_may s c.args.self.now c.args.task c.requires.rest c.draw_own.new.task c.in-Ok.number (view c.draw_own.new.desk) c.args.object c.args.method c.args.arguments c.in-Ok.ensures.drawn.1)
+
+pub mind-requires-clause-bounds : goal.mind-requires-clause-bounds
+mind-requires-clause-bounds g c =
+    let low = c.in-Ok.ensures.drawn.0 in
+    let named = c.in-Ok.ensures.drawn.1.named c.args.object (inl refl) in
+    (low, (omega (arith, low, named)), c.send_task.ensures.bounds.0, c.send_task.ensures.bounds.1)
+
+pub mind-requires-clause-minds : goal.mind-requires-clause-minds
+mind-requires-clause-minds g c =
+    let s = c.args.space.now in
+    let w = c.args.self.now in
+    let w' = record w { desk = c.send_task.new.desk } in
+    let what = Called c.args.object c.args.method c.args.arguments in
+    let noted = c.in-Ok.ensures.drawn.1 in
+    let k = key c.args.object c.args.method in
+    let v = view c.draw_own.new.desk in
+    let sent = c.send_task.ensures.sent in
+    let same : IsSameDesk w.desk c.send_task.new.desk = (c.send_task.ensures.desk.0 ∙ c.draw_own.ensures.desk.0, c.send_task.ensures.desk.1 ∙ c.draw_own.ensures.desk.1) in
+    now_minds s w c.args.task c.requires.rest c.draw_own.new.task c.in-Ok.number v what noted refl c.requires.room c.requires.stock w' k (view_of c.draw_own.new.task).past sent same refl refl
+    (subst (λ (x : Option Task). IsInMemory (code_of s) (limits_of s) (view w'.desk).kept (view w.desk).spent w.done.items x) (sym c.requires.none)
+    (task_memory s w c.args.task c.requires.rest c.draw_own.new.task c.in-Ok.number v c.args.object c.args.method c.args.arguments noted (view w'.desk) k sent))
+    (subst MayContinue (sym c.requires.none) tt)
+
+pub returns-in_ok-lay_down-in-Err-clause-rest : goal.returns-in_ok-lay_down-in-Err-clause-rest
+returns-in_ok-lay_down-in-Err-clause-rest g c =
+    let s = c.args.space.now in
+    let w = c.args.self.now in
+    let d = c.lay_down.ensures.same.0 in
+    let told = subst (λ (x : Desk Parcel). WasTold (view w.desk) (view x) c.args.task c.draw_own.new.task) (sym d) c.in-Err.ensures.drawn in
+    let same = subst (λ (x : Desk Parcel). IsSameDesk w.desk x) (sym d) c.draw_own.ensures.desk in
+    rest_told s w c.args.task c.requires.rest c.lay_down.new.self same c.lay_down.ensures.same.1 c.draw_own.new.task told (c.lay_down.ensures.same.2 ∙ c.requires.none) c.lay_down.ensures.same.3 c.in_ok-lay_down-in-Err.ensures.done

@@ -1,0 +1,11 @@
+use Rattle.chord_worker.proofs.Starting.{rest_started, role_started}
+use Rattle.chord_worker.proofs.worker.Worker.start.Goals as goal
+
+pub returns-in-Ok-clause-rest : goal.returns-in-Ok-clause-rest
+returns-in-Ok-clause-rest g c =
+    let s = c.args.space.now in
+    let w = c.args.self.now in
+    let q = c.in-Ok.field-0 in (
+      rest_started s w c.requires.rest c.requires.task c.requires.room c.start.new.desk c.start.ensures.desk q c.args.i _ c.in-Ok.ensures.started c.in-Ok.ensures.parcel c.in-Ok.ensures.comes,
+      role_started s w c.requires.rest c.requires.task c.requires.room c.start.new.desk c.start.ensures.desk q c.args.i _ c.in-Ok.ensures.started c.in-Ok.ensures.parcel c.in-Ok.ensures.comes,
+    )

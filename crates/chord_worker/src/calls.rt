@@ -1,0 +1,176 @@
+//! The calls of a worker that the pool makes, but for its steps.
+ghost use Rattle.std.specs.Prelude.{◌≡◌, ◌≢◌, ◌||◌, ℕ, ◌<◌, ◌-◌, List, true, false, None, OnOk, IfOk, min, is_some, IsPermutation};
+ghost use Rattle.chord_base.specs.Story.{IsSound};
+ghost use Rattle.chord_rule.specs.Kinds.{newcomer, newcomer_first, lent_one, saw_count};
+ghost use Rattle.chord_space.specs.Desks.{view, code_of, limits_of, program_of, IsDeskOf};
+ghost use Rattle.chord_word.specs.declared.cells.Word.{Word};
+ghost use Rattle.chord_worker.specs.Resting.{IsAtRest, IsSameRole, IsSeen};
+
+use crate::worker::{Gate, Worker};
+use chord_base::event::{Entry, Limits, What};
+use chord_code::code::Code;
+use chord_space::{Desk, Space};
+use chord_task::parcel::Parcel;
+use chord_task::task::Task;
+use chord_word::Cell;
+use std::alloc::{AllocError, Global};
+
+/// Whether one of two workers was told that the limit is reached.
+fn told_either(mine: bool, other: bool) -> bool
+    ensures { result ≡ mine || other }
+{
+    mine || other
+}
+
+impl Worker {
+    /// The first worker, with the desk that the table gave: `Main` begins. The counter stands at 0 then, so that the first draw is
+    /// never told that the limit is reached.
+    pub fn main(
+        alloc: Global,
+        space: &Space<Parcel>,
+        code: &Code,
+        limits: &Limits,
+        desk: Desk<Parcel>,
+    ) -> Result<Worker, AllocError>
+        requires code { (code_of space.now ≡ code.now) × (limits_of space.now ≡ limits.now) }
+        requires sound { IsSound (program_of space.now) }
+        requires desk { IsDeskOf space.now desk × (view desk ≡ newcomer_first) }
+        ensures { IfOk result (λ w. IsAtRest space.now w × IsSameRole (view desk) (view w.desk) × ((view w.desk).drawn ≡ true) × ((view w.desk).spent ≡ true → w.task ≡ None)) }
+    {
+        let mut desk = desk;
+        let task = Task::main(alloc, code, limits)?;
+        let done = Vec::new(alloc);
+        match space.draw(&mut desk, 0, &What::Begun) {
+            Ok(_) => Ok(Worker {
+                desk,
+                task: Some(task),
+                spare: None,
+                done,
+                spent: false,
+            }),
+            Err(_) => Err(AllocError),
+        }
+    }
+
+    /// A worker with a desk of its own, which this one lends.
+    pub fn hired(&mut self, alloc: Global, space: &Space<Parcel>) -> Worker
+        requires rest { IsAtRest space.now self.old }
+        requires first { ((view self.old.desk).first ≡ true) × ((view self.old.desk).splits < 65535) }
+        ensures mine { IsAtRest space.now self.new × (self.new.task ≡ self.old.task) × (view self.new.desk ≡ lent_one (view self.old.desk)) }
+        ensures other { IsAtRest space.now result × (result.task ≡ None) × ((view result.desk).spent ≡ false) }
+    {
+        Worker {
+            desk: space.split(&mut self.desk),
+            task: None,
+            spare: None,
+            done: Vec::new(alloc),
+            spent: false,
+        }
+    }
+
+    /// Whether it plays a task.
+    pub fn has_task(&self) -> bool
+        ensures { result ≡ is_some self.now.task }
+    {
+        self.task.is_some()
+    }
+
+    /// Whether it was told that the limit on events is reached.
+    pub fn is_spent(&self) -> bool
+        ensures { result ≡ self.now.spent }
+    {
+        self.spent
+    }
+
+    /// How many numbers were given, at most as many as events are allowed.
+    pub fn count(&mut self, space: &Space<Parcel>) -> u32
+        requires rest { IsAtRest space.now self.old }
+        ensures rest { IsAtRest space.now self.new × (self.new.task ≡ self.old.task) }
+        ensures counted { (c : ℕ) × (result ≡ min c space.now.events) × (view self.new.desk ≡ saw_count (view self.old.desk) c) }
+    {
+        space.look_count(&mut self.desk)
+    }
+
+    /// What the cell of number i says, for a worker with nothing to play.
+    pub fn look(&mut self, space: &Space<Parcel>, i: u32) -> Cell
+        requires rest { IsAtRest space.now self.old }
+        requires task { self.old.task ≡ None }
+        requires room { (view self.old.desk).spent ≡ false }
+        requires bounds { i < space.now.events }
+        ensures rest { IsAtRest space.now self.new × (self.new.task ≡ None) }
+        ensures seen { (x : Word) × (result ≡ x.cell) × IsSeen (view self.old.desk) (view self.new.desk) i x }
+    {
+        space.look_cell(&mut self.desk, i).cell
+    }
+
+    /// Starts the firing of this number, whose body the worker then plays, if it is ready. Whether it was.
+    pub fn start<G: Gate>(
+        &mut self,
+        space: &Space<Parcel>,
+        code: &Code,
+        limits: &Limits,
+        i: u32,
+        gate: &G,
+    ) -> bool
+        requires code { (code_of space.now ≡ code.now) × (limits_of space.now ≡ limits.now) }
+        requires sound { IsSound (program_of space.now) }
+        requires rest { IsAtRest space.now self.old }
+        requires task { self.old.task ≡ None }
+        requires room { (view self.old.desk).spent ≡ false }
+        requires bounds { i < space.now.events }
+        ensures rest { IsAtRest space.now self.new × IsSameRole (view self.old.desk) (view self.new.desk) }
+        ensures room { (view self.new.desk).spent ≡ false }
+        ensures task { result ≡ is_some self.new.task }
+    {
+        let _parts = code.parts();
+        let _events = limits.events;
+        match space.start(&mut self.desk, i) {
+            Ok(Parcel { arguments: _, task }) => {
+                self.task = task;
+                gate.started(i);
+                true
+            }
+            Err(_) => false,
+        }
+    }
+
+    /// Takes in another worker that has nothing to play: the desk takes over what the other one keeps. Want of memory is an `Err`,
+    /// after which entries are lost.
+    pub fn take_in(&mut self, space: &Space<Parcel>, other: Worker) -> Result<(), AllocError>
+        requires rest { IsAtRest space.now self.old × IsAtRest space.now other }
+        requires tasks { (self.old.task ≡ None) × (other.task ≡ None) }
+        requires first { (view self.old.desk).first ≡ true }
+        ensures rest { OnOk result (IsAtRest space.now self.new × (self.new.task ≡ None)) }
+        ensures role { OnOk result (((view self.new.desk).first ≡ true) × ((view self.new.desk).lent ≡ (view self.old.desk).lent - 1) × ((view self.old.desk).drawn ≡ true → (view self.new.desk).drawn ≡ true)) }
+    {
+        let Worker {
+            desk,
+            task: _,
+            spare: _,
+            done,
+            spent,
+        } = other;
+        space.join(&mut self.desk, desk);
+        self.spent = told_either(self.spent, spent);
+        let mut done = done;
+        self.done.append(&mut done)?;
+        Ok(())
+    }
+
+    /// The desk, and all entries that it keeps, of a worker with nothing to play.
+    pub fn into_parts(self, space: &Space<Parcel>) -> (Desk<Parcel>, Vec<Entry>)
+        requires rest { IsAtRest space.now self }
+        requires task { self.task ≡ None }
+        ensures desk { result.0 ≡ self.desk }
+        ensures entries { IsPermutation result.1.items (view self.desk).kept }
+    {
+        let Worker {
+            desk,
+            task: _,
+            spare: _,
+            done,
+            spent: _,
+        } = self;
+        (desk, done)
+    }
+}

@@ -1,0 +1,150 @@
+//! The body of a firing begins: in the task of the caller that it serves, or in a new one.
+ghost use Rattle.std.specs.Prelude.{◌≡◌, ◌≢◌, ◌⊎◌, ℕ, ◌+◌, ◌≤◌, false, List, ◌++◌, length, None, Some};
+ghost use Rattle.chord_base.specs.Story.{IsSound};
+ghost use Rattle.chord_rule.specs.declared.view.View.{View};
+ghost use Rattle.chord_space.specs.Desks.{view, code_of, limits_of, program_of, IsDeskOf};
+ghost use Rattle.chord_task.specs.declared.task.Task.{Task as ATask};
+ghost use Rattle.chord_worker.specs.Beginning.{first_task, arguments_in, caller_or, HasBegun};
+ghost use Rattle.chord_worker.specs.Firing.{HasFired};
+ghost use Rattle.chord_worker.specs.Resting.{IsAtRest, IsSameRole};
+
+use crate::worker::{Gate, Worker};
+use chord_base::event::Limits;
+use chord_base::hand::Hand;
+use chord_base::members::Members;
+use chord_base::value::{Object, Values};
+use chord_code::code::Code;
+use chord_code::laws::{chords_are_right, entries_are_within};
+use chord_space::Space;
+use chord_task::args::Args;
+use chord_task::parcel::{Parcel, packed};
+use chord_task::task::Task;
+use std::alloc::Global;
+
+/// A firing that was drawn.
+#[derive(Drop)]
+pub(crate) struct Drawn {
+    pub number: u32,
+    pub object: Object,
+    pub chord: u16,
+    pub members: Members,
+}
+
+/// Takes the parcels out of the hand: the arguments of each, and the task that one of them may have.
+fn unpack(hand: &mut Hand<Parcel>, arguments: &mut Hand<Args>) -> Option<Task>
+    requires few { length hand.old + length arguments.old ≤ 8 }
+    ensures arguments { arguments.new ≡ arguments.old ++ arguments_in hand.old }
+    ensures task { result ≡ first_task hand.old }
+{
+    match hand.take_first() {
+        None => None,
+        Some(
+            Parcel {
+                arguments: own,
+                task,
+            },
+        ) => {
+            arguments.put(own);
+            let later = unpack(hand, arguments);
+            match task {
+                None => later,
+                Some(task) => Some(task),
+            }
+        }
+    }
+}
+
+/// The caller's task, or else the one in stock.
+fn take_task(caller: Option<Task>, spare: &mut Option<Task>) -> Task
+    requires stock { spare.old ≢ None }
+    ensures task { (stock : ATask) → spare.old ≡ Some stock → result ≡ caller_or caller stock }
+    ensures spare { (spare.new ≡ spare.old) ⊎ (spare.new ≡ None) }
+{
+    match caller {
+        Some(task) => task,
+        None => match spare.take() {
+            None => unreachable!(),
+            Some(stock) => stock,
+        },
+    }
+}
+
+/// No arguments, held twice as others are.
+fn no_arguments(alloc: Global) -> Args
+    ensures { result.second ≡ result.first }
+{
+    Args {
+        first: Values::of_items(Vec::new(alloc)),
+        second: Values::of_items(Vec::new(alloc)),
+    }
+}
+
+impl Worker {
+    /// A body that has begun is played, if nothing else is; else it is posted with its task.
+    fn take_on<G: Gate>(
+        &mut self,
+        alloc: Global,
+        space: &Space<Parcel>,
+        code: &Code,
+        limits: &Limits,
+        gate: &G,
+        number: u32,
+        task: Task,
+    )
+        requires code { code.now ≡ code_of space.now }
+        requires limits { limits.now ≡ limits_of space.now }
+        requires begun { (v : View) × HasBegun space.now self.old v number task }
+        ensures desk { IsDeskOf space.now self.new.desk }
+        ensures rest { IsAtRest space.now self.new }
+        ensures role { IsSameRole (view self.old.desk) (view self.new.desk) }
+        ensures told { self.new.spent ≡ false }
+    {
+        if self.task.is_none() {
+            gate.started(number);
+            self.task = Some(task);
+            return;
+        }
+        let parcel = packed(code, limits, no_arguments(alloc), task);
+        space.post(&mut self.desk, number, parcel);
+    }
+
+    /// The parcels of a firing's members are handed over: the arguments go to the firing's body, which begins in the task of the
+    /// caller that it serves, or in the one in stock. A worker that has no task plays the body itself; else the body is posted
+    /// with its task. Takes no memory.
+    pub(crate) fn begin_fired<G: Gate>(
+        &mut self,
+        alloc: Global,
+        space: &Space<Parcel>,
+        code: &Code,
+        limits: &Limits,
+        gate: &G,
+        drawn: Drawn,
+        hand: Hand<Parcel>,
+    )
+        requires code { code.now ≡ code_of space.now }
+        requires limits { limits.now ≡ limits_of space.now }
+        requires sound { IsSound (program_of space.now) }
+        requires fired { (v : View) × HasFired space.now self.old v drawn.object drawn.chord drawn.members drawn.number hand }
+        ensures desk { IsDeskOf space.now self.new.desk }
+        ensures rest { IsAtRest space.now self.new }
+        ensures role { IsSameRole (view self.old.desk) (view self.new.desk) }
+        ensures told { self.new.spent ≡ false }
+    {
+        chords_are_right(code);
+        entries_are_within(code);
+        let _full = hand.is_full();
+        let mut hand = hand;
+        let mut arguments = Hand::new();
+        let caller = unpack(&mut hand, &mut arguments);
+        let mut task = take_task(caller, &mut self.spare);
+        task.resume(
+            code,
+            drawn.number,
+            drawn.chord,
+            drawn.object,
+            &drawn.members,
+            arguments,
+        );
+        self.take_on(alloc, space, code, limits, gate, drawn.number, task);
+    }
+}

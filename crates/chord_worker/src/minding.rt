@@ -1,0 +1,173 @@
+//! A worker minds a message that it sent off: it looks for chords with the message, and fires one.
+ghost use Rattle.std.specs.Prelude.{◌≡◌, ◌<◌, ℕ, true, false, None, IfOk, OnOk};
+ghost use Rattle.chord_base.specs.Story.{IsSound};
+ghost use Rattle.chord_match.specs.Findings.{IsMatch};
+ghost use Rattle.chord_rule.specs.Made.{key};
+ghost use Rattle.chord_rule.specs.declared.view.View.{View};
+ghost use Rattle.chord_space.specs.Desks.{view, code_of, limits_of, program_of, IsDeskOf};
+ghost use Rattle.chord_worker.specs.Sending.{Minds, IsLaidDown};
+ghost use Rattle.chord_worker.specs.Resting.{IsAtRest, IsSameRole};
+
+use crate::fired::Drawn;
+use crate::worker::{Gate, Worker};
+use chord_base::event::Limits;
+use chord_base::members::Members;
+use chord_base::value::Object;
+use chord_code::code::Code;
+use chord_match::nexts::Nexts;
+use chord_match::{Finding, Firing, find, fire};
+use chord_space::Space;
+use chord_task::parcel::Parcel;
+use crossbeam_utils::Backoff;
+use std::alloc::{AllocError, Global};
+use std::sync::Wait;
+
+/// A message that a worker minds.
+#[derive(Clone, Copy, Drop)]
+pub(crate) struct Minded {
+    pub number: u32,
+    pub object: Object,
+    pub method: u8,
+}
+
+impl Worker {
+    /// The limit on events is reached: what the worker plays is done.
+    pub(crate) fn give_up(&mut self) -> Result<(), AllocError>
+        ensures same { (self.new.desk ≡ self.old.desk) × (self.new.spare ≡ self.old.spare) × (self.new.spent ≡ true) }
+        ensures none { OnOk result (self.new.task ≡ None) }
+        ensures done { OnOk result (IsLaidDown self.old.done.items self.old.task self.new.done.items) }
+    {
+        match self.task.take() {
+            None => {
+                self.spent = true;
+                Ok(())
+            }
+            Some(task) => {
+                self.lay_down(task)?;
+                Ok(())
+            }
+        }
+    }
+
+    /// Fires the chord with these members, unless one is gone. Whether there is nothing left to mind.
+    fn try_to_fire<G: Gate>(
+        &mut self,
+        alloc: Global,
+        space: &Space<Parcel>,
+        code: &Code,
+        limits: &Limits,
+        gate: &G,
+        message: Minded,
+        chord: u16,
+        members: Members,
+        nexts: Nexts,
+    ) -> Result<bool, AllocError>
+        requires code { code.now ≡ code_of space.now }
+        requires limits { limits.now ≡ limits_of space.now }
+        requires sound { IsSound (program_of space.now) }
+        requires bounds { (message.object.number < space.now.events) × (message.object.class < 1024) × (message.method < 16) }
+        requires minds { Minds space.now self.old message.number (key message.object message.method) }
+        requires found { (v : View) × IsMatch (program_of space.now) space.now.events v (view self.old.desk) message.number message.object message.method chord members nexts }
+        ensures desk { IsDeskOf space.now self.new.desk }
+        ensures over { IfOk result (λ b. b ≡ true → IsAtRest space.now self.new × (self.new.spent ≡ true → self.new.task ≡ None)) }
+        ensures again { IfOk result (λ b. b ≡ false → Minds space.now self.new message.number (key message.object message.method)) }
+        ensures role { OnOk result (IsSameRole (view self.old.desk) (view self.new.desk)) }
+    {
+        let object = message.object;
+        match fire(
+            space,
+            &mut self.desk,
+            code,
+            object,
+            chord,
+            &members,
+            &nexts,
+        ) {
+            Firing::Fired(number, hand) => {
+                let drawn = Drawn {
+                    number,
+                    object,
+                    chord,
+                    members,
+                };
+                self.begin_fired(alloc, space, code, limits, gate, drawn, hand);
+                Ok(true)
+            }
+            Firing::Lost(_) => Ok(false),
+            Firing::Spent => {
+                self.give_up()?;
+                Ok(true)
+            }
+        }
+    }
+
+    /// Looks for a chord with the message, and fires it. Whether there is nothing left to mind.
+    fn attend<G: Gate>(
+        &mut self,
+        alloc: Global,
+        space: &Space<Parcel>,
+        code: &Code,
+        limits: &Limits,
+        gate: &G,
+        message: Minded,
+    ) -> Result<bool, AllocError>
+        requires code { code.now ≡ code_of space.now }
+        requires limits { limits.now ≡ limits_of space.now }
+        requires sound { IsSound (program_of space.now) }
+        requires bounds { (message.number < space.now.events) × (message.object.number < space.now.events) × (message.object.class < 1024) × (message.method < 16) }
+        requires minds { Minds space.now self.old message.number (key message.object message.method) }
+        ensures desk { IsDeskOf space.now self.new.desk }
+        ensures over { IfOk result (λ b. b ≡ true → IsAtRest space.now self.new × (self.new.spent ≡ true → self.new.task ≡ None)) }
+        ensures again { IfOk result (λ b. b ≡ false → Minds space.now self.new message.number (key message.object message.method)) }
+        ensures role { OnOk result (IsSameRole (view self.old.desk) (view self.new.desk)) }
+    {
+        match find(
+            space,
+            &mut self.desk,
+            code,
+            message.number,
+            message.object,
+            message.method,
+        ) {
+            Finding::Match(chord, members, nexts) => {
+                let over = self.try_to_fire(
+                    alloc, space, code, limits, gate, message, chord, members, nexts,
+                )?;
+                Ok(over)
+            }
+            Finding::Busy(_) => Ok(false),
+            Finding::Left => Ok(true),
+            Finding::Taken => Ok(true),
+        }
+    }
+
+    /// Minds the message until nothing is left to mind: it was taken, or no chord with it is enabled, or one was fired.
+    pub(crate) fn mind<R: Wait, G: Gate>(
+        &mut self,
+        rt: &R,
+        alloc: Global,
+        space: &Space<Parcel>,
+        code: &Code,
+        limits: &Limits,
+        gate: &G,
+        message: Minded,
+    ) -> Result<(), AllocError>
+        requires code { code.now ≡ code_of space.now }
+        requires limits { limits.now ≡ limits_of space.now }
+        requires sound { IsSound (program_of space.now) }
+        requires bounds { (message.number < space.now.events) × (message.object.number < space.now.events) × (message.object.class < 1024) × (message.method < 16) }
+        requires minds { Minds space.now self.old message.number (key message.object message.method) }
+        ensures desk { IsDeskOf space.now self.new.desk }
+        ensures over { OnOk result (IsAtRest space.now self.new × (self.new.spent ≡ true → self.new.task ≡ None)) }
+        ensures role { OnOk result (IsSameRole (view self.old.desk) (view self.new.desk)) }
+    {
+        let backoff = Backoff::new();
+        for _ in rt.forever() {
+            if self.attend(alloc, space, code, limits, gate, message)? {
+                return Ok(());
+            }
+            backoff.snooze();
+        }
+        unreachable!()
+    }
+}
