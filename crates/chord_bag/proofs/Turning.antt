@@ -10,11 +10,11 @@ use Rattle.chord_rule.specs.declared.view.Look.{Look}
 use Rattle.chord_rule.specs.declared.view.Looked.{Looked}
 use Rattle.chord_rule.specs.declared.view.View.{View}
 use Rattle.chord_rule.specs.declared.view.Way.{Way}
-use Rattle.chord_rule.specs.Duties.{at_place, move_duty}
+use Rattle.chord_rule.specs.Duties.{has_come_to, move_duty}
 use Rattle.chord_rule.specs.Kinds.{is_down, looked_head, looked_cell}
 use Rattle.chord_rule.specs.Bags.{IsArmed}
 use Rattle.chord_rule.specs.Tells.{IsLook}
-use Rattle.chord_rule.specs.Ways.{way_onward, way_begun, gone_on, on_way, IsAt, IsLinkedCell, IsSettledCell, IsAlone, HasRoom}
+use Rattle.chord_rule.specs.Ways.{way_onward, way_begun, gone_on, on_way, IsAt, IsLinkedCell, IsSettledCell, IsAloneDesk, HasLooksLeft}
 use Rattle.chord_bag.specs.declared.walk.Sought.{Sought}
 use Rattle.chord_bag.specs.declared.walk.Sought.TheVariants.{Found, Bare, Busy}
 use Rattle.chord_bag.specs.declared.walk.Turn.{Turn}
@@ -32,18 +32,18 @@ by_cell i busy next Claimed = On next (Some i)
 by_cell i busy next _ = On next busy
 
 -- the answer of a whole way without a pending message
-abbrev pub ended : Option ℕ → Sought
-ended None = Bare
-ended (Some i) = Busy i
+abbrev pub seek_ended : Option ℕ → Sought
+seek_ended None = Bare
+seek_ended (Some i) = Busy i
 
 -- the newest way has come to i, and goes on
 went : (i : ℕ) (c : Word) (vs : List Way) (x : Way) (ws : List Way) → vs ≡ x ∷ ws → x.place ≡ Some i → on_way i c vs ≡ gone_on x i c ∷ ws
 went i c vs x ws e a = ap (on_way i c) e ∙ ap (λ (y : Way). y ∷ ws) here
   where
-    t : at_place i x.place ≡ true
-    t = ap (at_place i) a ∙ eq-eqb i i refl
+    t : has_come_to i x.place ≡ true
+    t = ap (has_come_to i) a ∙ eq-eqb i i refl
 
-    here : (if at_place i x.place then gone_on x i c else x) ≡ gone_on x i c
+    here : (if has_come_to i x.place then gone_on x i c else x) ≡ gone_on x i c
     here = rw t refl
 
 -- looks change only looks and walks
@@ -51,7 +51,7 @@ pub only_more : (v u : View) (ds : List Duty) (l : Looked) → IsOnlyLooks v u �
 only_more v u ds l o e = record { frame = ap (λ (z : View). with_looks z ds l) o.frame; duties = e ∙ o.duties }
 
 -- a desk that was alone before looks still is
-pub still_alone : (v u : View) → IsOnlyLooks v u → IsAlone v → IsAlone u
+pub still_alone : (v u : View) → IsOnlyLooks v u → IsAloneDesk v → IsAloneDesk u
 still_alone v u o a = record { first = ap (λ (z : View). z.first) o.frame ∙ a.first; lent = ap (λ (z : View). z.lent) o.frame ∙ a.lent; claims = ap (λ (z : View). z.claims) o.frame ∙ a.claims; flight = ap (λ (z : View). z.flight) o.frame ∙ a.flight }
 
 module _ (n k : ℕ) (v u : View) (i : ℕ) (busy : Option ℕ) (s : Going n k v u (Some i) busy) where
@@ -76,7 +76,7 @@ module _ (n k : ℕ) (v u : View) (i : ℕ) (busy : Option ℕ) (s : Going n k v
   low = (s.room s.way v.looked.ways s.more i s.at).0
 
   -- the walk goes past what is down
-  down : (next : Option ℕ) (c : Cell) → is_down c ≡ true → way_onward c next ≡ next → (w : View) → w ≡ looked_cell u i (record { cell = c; next = next }) → w.duties ≡ map (move_duty i next) u.duties → HasRoom n w.looked.ways → Going n k v w next busy
+  down : (next : Option ℕ) (c : Cell) → is_down c ≡ true → way_onward c next ≡ next → (w : View) → w ≡ looked_cell u i (record { cell = c; next = next }) → w.duties ≡ map (move_duty i next) u.duties → HasLooksLeft n w.looked.ways → Going n k v w next busy
   down next c d e w is moved room = record {
     way = gone_on s.way i word;
     more = ap (λ (z : View). z.looked.ways) is ∙ more word;
@@ -99,18 +99,18 @@ module _ (n k : ℕ) (v u : View) (i : ℕ) (busy : Option ℕ) (s : Going n k v
       on (Some j) g = (inr g.0, g.1)
 
   -- what comes after a look that read this cell
-  pub turned : (next : Option ℕ) (c : Cell) → IsLinkedCell c → (IsArmed c → (x : ℕ) → next ≡ Some x → x < n) → (IsAlone u → IsSettledCell c) → HasRoom n (looked_cell u i (record { cell = c; next = next })).looked.ways
+  pub seek_turned : (next : Option ℕ) (c : Cell) → IsLinkedCell c → (IsArmed c → (x : ℕ) → next ≡ Some x → x < n) → (IsAloneDesk u → IsSettledCell c) → HasLooksLeft n (looked_cell u i (record { cell = c; next = next })).looked.ways
       → ComesToTurn n k v (looked_cell u i (record { cell = c; next = next })) (by_cell i busy next c)
-  turned next Pending l inside a room = let c : Word = record { cell = Pending; next = next } in
+  seek_turned next Pending l inside a room = let c : Word = record { cell = Pending; next = next } in
       record { way = gone_on s.way i c; more = more c; seen = seen c; bag = s.bag; answer = (s.way.looks, refl, s.passed); below = (low, inside tt); walked = tt; others = others c; only = only c; alone = λ _. tt }
-  turned next Empty l inside a room = let c : Word = record { cell = Empty; next = next } in
+  seek_turned next Empty l inside a room = let c : Word = record { cell = Empty; next = next } in
       record { way = gone_on s.way i c; more = more c; seen = seen c; bag = s.bag; answer = inl (next, (s.way.looks, refl, s.passed)); below = low; walked = tt; others = others c; only = only c; alone = λ q. a (still_alone v u s.only q) }
-  turned next Claimed l inside a room = let c : Word = record { cell = Claimed; next = next } in
+  seek_turned next Claimed l inside a room = let c : Word = record { cell = Claimed; next = next } in
       record { way = gone_on s.way i c; more = more c; seen = seen c; bag = s.bag; at = refl; passed = (refl, s.passed); going = (inl (refl, refl), low); room = room; others = others c; only = only c; alone = λ q. absurd (a (still_alone v u s.only q)) }
-  turned next Consumed l inside a room = down next Consumed refl refl (looked_cell u i (record { cell = Consumed; next = next })) refl refl room
-  turned next (Woken q) l inside a room = down next (Woken q) refl refl (looked_cell u i (record { cell = Woken q; next = next })) refl refl room
-  turned next Ready l inside a room = absurd l
-  turned next Started l inside a room = absurd l
+  seek_turned next Consumed l inside a room = down next Consumed refl refl (looked_cell u i (record { cell = Consumed; next = next })) refl refl room
+  seek_turned next (Woken q) l inside a room = down next (Woken q) refl refl (looked_cell u i (record { cell = Woken q; next = next })) refl refl room
+  seek_turned next Ready l inside a room = absurd l
+  seek_turned next Started l inside a room = absurd l
 
   -- the way is longer by one look
   pub longer : (c : Word) → gone_so_far (looked_cell u i c).looked.ways ≡ gone_so_far u.looked.ways + 1
@@ -124,7 +124,7 @@ module _ (n k : ℕ) (v u : View) (i : ℕ) (busy : Option ℕ) (s : Going n k v
 pub one_turn : (n i : ℕ) (busy : Option ℕ) (word : Word) (u w : View) (c : Cell) → IsLook n u w i word → word.cell ≡ c → IsTurn n u w i busy (by_cell i busy word.next c)
 one_turn n i busy word u w c look is = subst (λ (z : View). IsTurn n u z i busy (by_cell i busy word.next c)) (sym look.looked) (subst (λ (z : Cell). IsTurn n u (looked_cell u i word) i busy (by_cell i busy word.next z)) is record {
   comes = λ k v s. let at : IsAt i u.looked.ways = subst (λ (ws : List Way). IsAt i ws) (sym s.more) s.at in
-      turned n k v u i busy s word.next word.cell (look.linked at) look.within (λ a. look.alone a (inl at)) (subst (λ (z : View). HasRoom n z.looked.ways) look.looked look.room);
+      seek_turned n k v u i busy s word.next word.cell (look.linked at) look.within (λ a. look.alone a (inl at)) (subst (λ (z : View). HasLooksLeft n z.looked.ways) look.looked look.room);
   longer = λ k v s. longer n k v u i busy s word;
 })
 
@@ -139,8 +139,8 @@ goes_past i busy next Ready a b d = refl
 goes_past i busy next Started a b d = refl
 
 -- a look at a head begins a way
-pub starts : (n k : ℕ) (v w : View) (head : Option ℕ) → w ≡ looked_head v k head → HasRoom n w.looked.ways → Going n k v w head None
-starts n k v w head is room = subst (λ (z : View). Going n k v z head None) (sym is) record {
+pub seek_starts : (n k : ℕ) (v w : View) (head : Option ℕ) → w ≡ looked_head v k head → HasLooksLeft n w.looked.ways → Going n k v w head None
+seek_starts n k v w head is room = subst (λ (z : View). Going n k v z head None) (sym is) record {
   way = way_begun k head;
   more = refl;
   seen = refl;
@@ -148,13 +148,13 @@ starts n k v w head is room = subst (λ (z : View). Going n k v z head None) (sy
   at = refl;
   passed = tt;
   going = (tt, all_start k head v.duties);
-  room = subst (λ (z : View). HasRoom n z.looked.ways) is room;
+  room = subst (λ (z : View). HasLooksLeft n z.looked.ways) is room;
   others = head_keeps k head v.duties;
   only = record { frame = refl; duties = head_keeps_messages k head v.duties };
   alone = λ _. refl;
 }
 
 -- a walk that has come to its end
-pub walk_ended : (n k : ℕ) (v w : View) (busy : Option ℕ) → Going n k v w None busy → IsSought n k v w (ended busy)
+pub walk_ended : (n k : ℕ) (v w : View) (busy : Option ℕ) → Going n k v w None busy → IsSought n k v w (seek_ended busy)
 walk_ended n k v w None s = record { way = s.way; more = s.more; seen = s.seen; bag = s.bag; answer = (s.at, s.going.0); below = tt; walked = subst (λ (z : ℕ). AllAt z None w.duties) s.bag (subst (λ (z : Option ℕ). AllAt s.way.bag z w.duties) s.at s.going.1); others = s.others; only = s.only; alone = λ _. tt }
 walk_ended n k v w (Some i) s = record { way = s.way; more = s.more; seen = s.seen; bag = s.bag; answer = inr (s.at, s.passed, s.going.0); below = s.going.1; walked = tt; others = s.others; only = s.only; alone = λ a. let e : Path (Option ℕ) (Some i) None = s.alone a in absurd (cc) }

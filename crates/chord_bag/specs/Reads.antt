@@ -30,8 +30,8 @@ HasRead i c [] = ⊥
 HasRead i c (l ∷ ls) = ((l.number ≡ i) × (l.word.cell ≡ c)) ⊎ HasRead i c ls
 
 -- the last look was at i and read this word, and each one before it read a cell that is passed
-abbrev pub IsLast : ℕ → Word → List Look → Type 0
-IsLast i word ls = (rest : List Look) × (ls ≡ record { number = i; word = word } ∷ rest) × AllRead is_passed rest
+abbrev pub IsNewestLook : ℕ → Word → List Look → Type 0
+IsNewestLook i word ls = (rest : List Look) × (ls ≡ record { number = i; word = word } ∷ rest) × AllRead is_passed rest
 
 -- each duty's walk of the bag k stands at this place
 abbrev pub AllAt : ℕ → Option ℕ → List Duty → Type 0

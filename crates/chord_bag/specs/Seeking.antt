@@ -5,14 +5,14 @@ use Rattle.chord_rule.specs.declared.view.Duty.{Duty}
 use Rattle.chord_rule.specs.declared.view.View.{View}
 use Rattle.chord_rule.specs.declared.view.Way.{Way}
 use Rattle.chord_rule.specs.Kinds.{is_down}
-use Rattle.chord_rule.specs.Ways.{IsAlone}
+use Rattle.chord_rule.specs.Ways.{IsAloneDesk}
 use Rattle.chord_bag.specs.declared.walk.Sought.{Sought}
 use Rattle.chord_bag.specs.declared.walk.Sought.TheVariants.{Found, Bare, Busy}
-use Rattle.chord_bag.specs.Reads.{AllRead, HasRead, IsLast, AllAt, KeepsEnds, IsOnlyLooks, is_passed}
+use Rattle.chord_bag.specs.Reads.{AllRead, HasRead, IsNewestLook, AllAt, KeepsEnds, IsOnlyLooks, is_passed}
 
 -- the message i was read pending with this next, and none before it on the way was pending or unarmed
 abbrev pub IsFoundOn : Way → ℕ → Option ℕ → Type 0
-IsFoundOn w i next = IsLast i (record { cell = Pending; next = next }) w.looks
+IsFoundOn w i next = IsNewestLook i (record { cell = Pending; next = next }) w.looks
 
 -- the way is whole, and each message on it was read consumed or woken
 abbrev pub IsBare : Way → Type 0
@@ -20,13 +20,13 @@ IsBare w = (w.place ≡ None) × AllRead is_down w.looks
 
 -- no message on the way was read pending; and i was read unarmed, or the way is whole, each message on it was read consumed, woken or claimed, and i was read claimed
 abbrev pub IsBusy : Way → ℕ → Type 0
-IsBusy w i = ((next : Option ℕ) × IsLast i (record { cell = Empty; next = next }) w.looks) ⊎ ((w.place ≡ None) × AllRead is_passed w.looks × HasRead i Claimed w.looks)
+IsBusy w i = ((next : Option ℕ) × IsNewestLook i (record { cell = Empty; next = next }) w.looks) ⊎ ((w.place ≡ None) × AllRead is_passed w.looks × HasRead i Claimed w.looks)
 
 -- an answer, by the way that was gone
-abbrev pub IsAnswer : Way → Sought → Type 0
-IsAnswer w (Found i next) = IsFoundOn w i next
-IsAnswer w Bare = IsBare w
-IsAnswer w (Busy i) = IsBusy w i
+abbrev pub IsSoughtAnswer : Way → Sought → Type 0
+IsSoughtAnswer w (Found i next) = IsFoundOn w i next
+IsSoughtAnswer w Bare = IsBare w
+IsSoughtAnswer w (Busy i) = IsBusy w i
 
 -- a message that the answer names, and its next, are below n
 abbrev pub IsSoughtBelow : ℕ → Sought → Type 0
@@ -50,10 +50,10 @@ pub record IsSought (n k : ℕ) (v w : View) (s : Sought) : Type 0 where
   pub more : w.looked.ways ≡ way ∷ v.looked.ways
   pub seen : w.looked.seen ≡ way.looks ++ v.looked.seen
   pub bag : way.bag ≡ k
-  pub answer : IsAnswer way s
+  pub answer : IsSoughtAnswer way s
   pub below : IsSoughtBelow n s
   pub walked : IsWalked k w.duties s
   pub others : KeepsEnds k v.duties w.duties
   pub only : IsOnlyLooks v w
   -- on a first desk alone no message is in another hand
-  pub alone : IsAlone v → IsNotBusy s
+  pub alone : IsAloneDesk v → IsNotBusy s

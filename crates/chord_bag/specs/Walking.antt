@@ -5,7 +5,7 @@ use Rattle.chord_rule.specs.declared.view.Duty.{Duty}
 use Rattle.chord_rule.specs.declared.view.View.{View}
 use Rattle.chord_rule.specs.declared.view.Way.{Way}
 use Rattle.chord_rule.specs.Kinds.{is_down}
-use Rattle.chord_rule.specs.Ways.{IsAlone, HasRoom}
+use Rattle.chord_rule.specs.Ways.{IsAloneDesk, HasLooksLeft}
 use Rattle.chord_bag.specs.declared.walk.Turn.{Turn}
 use Rattle.chord_bag.specs.declared.walk.Turn.TheVariants.{Over, On}
 use Rattle.chord_bag.specs.Reads.{AllRead, HasRead, AllAt, KeepsEnds, IsOnlyLooks, is_passed}
@@ -30,10 +30,10 @@ pub record Going (n k : ℕ) (v w : View) (place busy : Option ℕ) : Type 0 whe
   pub at : way.place ≡ place
   pub passed : AllRead is_passed way.looks
   pub going : IsGoing n way w.duties busy
-  pub room : HasRoom n w.looked.ways
+  pub room : HasLooksLeft n w.looked.ways
   pub others : KeepsEnds k v.duties w.duties
   pub only : IsOnlyLooks v w
-  pub alone : IsAlone v → busy ≡ None
+  pub alone : IsAloneDesk v → busy ≡ None
 
 -- the walk is over with this answer, or goes on
 abbrev pub ComesToTurn : ℕ → ℕ → View → View → Turn → Type 0

@@ -7,7 +7,7 @@ use Rattle.chord_bag.specs.declared.walk.Sought.{Sought}
 use Rattle.chord_match.specs.declared.search.Own.{Own}
 use Rattle.chord_match.specs.Searching.{KeepsKnown, IsStuck, AreStuck, firstly}
 use Rattle.chord_match.proofs.Knowing.{stuck_kept}
-use Rattle.chord_match.proofs.Lists.{below_more}
+use Rattle.chord_match.proofs.Lists.{all_below_more}
 
 -- the chords that are stuck stay so where more is known
 pub are_kept : (own : Own) (jss : List (List ℕ)) (n : ℕ) (a b : List (Option Sought)) (busy : Option ℕ) → KeepsKnown a b → AreStuck own jss n a busy → AreStuck own jss n b busy
@@ -16,11 +16,11 @@ are_kept own jss n a b (Some i) k s = ((λ q js l e h. let t = s.0 q js l e h in
 
 -- a chord without the method is passed over
 pub are_skipped : (own : Own) (jss : List (List ℕ)) (n : ℕ) (js : List ℕ) (a : List (Option Sought)) (busy : Option ℕ) → slice_get jss n ≡ Some js → has own.method js ≡ false → AreStuck own jss n a busy → AreStuck own jss (n + 1) a busy
-are_skipped own jss n js a None here off s = λ q ks l e h. ⊎_elim (λ same. absurd (wrong q ks same e h)) (λ low. s q ks low e h) (below_more q n l)
+are_skipped own jss n js a None here off s = λ q ks l e h. ⊎_elim (λ same. absurd (wrong q ks same e h)) (λ low. s q ks low e h) (all_below_more q n l)
   where
     wrong : (q : ℕ) (ks : List ℕ) → q ≡ n → slice_get jss q ≡ Some ks → has own.method ks ≡ true → ⊥
     wrong q ks same e h = let z : Some js ≡ Some ks = sym here ∙ ap (slice_get jss) (sym same) ∙ e in let y : js ≡ ks = cc in let x : false ≡ true = sym off ∙ ap (has own.method) y ∙ h in absurd (cc)
-are_skipped own jss n js a (Some i) here off s = ((λ q ks l e h. ⊎_elim (λ same. absurd (wrong q ks same e h)) (λ low. s.0 q ks low e h) (below_more q n l)), let t = s.1 in (t.0, t.1, let low = t.2 in omega (arith, low), t.3, t.4, t.5))
+are_skipped own jss n js a (Some i) here off s = ((λ q ks l e h. ⊎_elim (λ same. absurd (wrong q ks same e h)) (λ low. s.0 q ks low e h) (all_below_more q n l)), let t = s.1 in (t.0, t.1, let low = t.2 in omega (arith, low), t.3, t.4, t.5))
   where
     wrong : (q : ℕ) (ks : List ℕ) → q ≡ n → slice_get jss q ≡ Some ks → has own.method ks ≡ true → ⊥
     wrong q ks same e h = let z : Some js ≡ Some ks = sym here ∙ ap (slice_get jss) (sym same) ∙ e in let y : js ≡ ks = cc in let x : false ≡ true = sym off ∙ ap (has own.method) y ∙ h in absurd (cc)
@@ -33,21 +33,21 @@ are_more own jss n js a busy more here on stuck s = cases busy more stuck s
     same_js q ks same e = let z : Some js ≡ Some ks = sym here ∙ ap (slice_get jss) (sym same) ∙ e in cc
 
     cases : (busy more : Option ℕ) → IsStuck own js a more → AreStuck own jss n a busy → AreStuck own jss (n + 1) a (firstly busy more)
-    cases None None stuck s = λ q ks l e h. ⊎_elim (λ same. subst (λ (z : List ℕ). IsStuck own z a None) (same_js q ks same e) stuck) (λ low. s q ks low e h) (below_more q n l)
+    cases None None stuck s = λ q ks l e h. ⊎_elim (λ same. subst (λ (z : List ℕ). IsStuck own z a None) (same_js q ks same e) stuck) (λ low. s q ks low e h) (all_below_more q n l)
     cases None (Some i) stuck s = (
-      (λ q ks l e h. ⊎_elim (λ same. (Some i, subst (λ (z : List ℕ). IsStuck own z a (Some i)) (same_js q ks same e) stuck)) (λ low. (None, s q ks low e h)) (below_more q n l)),
+      (λ q ks l e h. ⊎_elim (λ same. (Some i, subst (λ (z : List ℕ). IsStuck own z a (Some i)) (same_js q ks same e) stuck)) (λ low. (None, s q ks low e h)) (all_below_more q n l)),
       (n, js, omega arith, here, on, stuck),
     )
     cases (Some i) more stuck s = (
-      (λ q ks l e h. ⊎_elim (λ same. (more, subst (λ (z : List ℕ). IsStuck own z a more) (same_js q ks same e) stuck)) (λ low. s.0 q ks low e h) (below_more q n l)),
+      (λ q ks l e h. ⊎_elim (λ same. (more, subst (λ (z : List ℕ). IsStuck own z a more) (same_js q ks same e) stuck)) (λ low. s.0 q ks low e h) (all_below_more q n l)),
       (let t = s.1 in (t.0, t.1, let low = t.2 in omega (arith, low), t.3, t.4, t.5)),
     )
 
 -- the methods of the line of this number
-pub line_at : (lines : List ChordLine) (n : ℕ) (line : ChordLine) → line ≡ slice_index_or lines n line → n < length lines → slice_get (map methods_of lines) n ≡ Some (methods_of line)
-line_at [] n line e l = absurd (omega (arith, l))
-line_at (x ∷ lines) zero line e l = ap (λ (z : ChordLine). Some (methods_of z)) (sym e)
-line_at (x ∷ lines) (suc n) line e l = line_at lines n line e (omega (arith, l))
+pub chord_line_at : (lines : List ChordLine) (n : ℕ) (line : ChordLine) → line ≡ slice_index_or lines n line → n < length lines → slice_get (map methods_of lines) n ≡ Some (methods_of line)
+chord_line_at [] n line e l = absurd (omega (arith, l))
+chord_line_at (x ∷ lines) zero line e l = ap (λ (z : ChordLine). Some (methods_of z)) (sym e)
+chord_line_at (x ∷ lines) (suc n) line e l = chord_line_at lines n line e (omega (arith, l))
 
 -- as many chords as lines
 pub length_mapped : (lines : List ChordLine) → length (map methods_of lines) ≡ length lines

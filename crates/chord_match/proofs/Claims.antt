@@ -17,18 +17,18 @@ use Rattle.chord_rule.specs.declared.view.Looked.{Looked}
 use Rattle.chord_rule.specs.declared.view.View.{View}
 use Rattle.chord_rule.specs.Claims.{HasClaimOn, AreClaimed}
 use Rattle.chord_rule.specs.Coming.{IsPlace}
-use Rattle.chord_rule.specs.Kinds.{saw, saw_count, claimed, unclaimed, drop_claim, was_told, entry, fired}
+use Rattle.chord_rule.specs.Kinds.{saw, saw_count, claimed, unclaimed, drop_claim, was_told, entry, firing_drawn}
 use Rattle.chord_rule.specs.Made.{key}
 use Rattle.chord_rule.specs.Numbers.{HasNumber}
 use Rattle.chord_rule.specs.Tells.{CameNext, IsNewClaim}
 use Rattle.chord_rule.specs.Ways.{KnowsBag}
 use Rattle.chord_match.specs.declared.claiming.Missed.{Missed}
 use Rattle.chord_match.specs.declared.claiming.Missed.TheVariants.{Lost, Spent}
-use Rattle.chord_match.specs.Seen.{IsReady, AreReady, AreSeen}
-use Rattle.chord_match.specs.Fires.{AreLastPending, IsLost, IsRefused}
+use Rattle.chord_match.specs.Seen.{MayBeClaimed, MayAllBeClaimed, AreSeen}
+use Rattle.chord_match.specs.Fires.{AreLastPending, IsLost, IsTurnedAway}
 use Rattle.chord_match.specs.Claiming.{ClaimAt, Taking, IsDrawn, missed_by, IsWhy, IsMissed}
 use Rattle.chord_match.proofs.Growing.{has_look_left}
-use Rattle.chord_match.proofs.Lists.{below_more, has_at, different_at}
+use Rattle.chord_match.proofs.Lists.{all_below_more, has_at, different_at}
 
 -- a next that is below n where there is one
 pub next_is_below : (n : ℕ) (next : Option ℕ) → ((x : ℕ) → next ≡ Some x → x < n) → IfSome next (λ x. x < n)
@@ -36,7 +36,7 @@ next_is_below n None f = tt
 next_is_below n (Some x) f = f x refl
 
 -- the member of this place is ready
-pub ready_at : (n : ℕ) (w : View) (o : Object) (js ms : List ℕ) (xs : List (Option ℕ)) → AreReady n w o js ms xs → (q : ℕ) → q < length ms → IsReady n w o (slice_index_or js q 0) (slice_index_or ms q 0) (slice_index_or xs q None)
+pub ready_at : (n : ℕ) (w : View) (o : Object) (js ms : List ℕ) (xs : List (Option ℕ)) → MayAllBeClaimed n w o js ms xs → (q : ℕ) → q < length ms → MayBeClaimed n w o (slice_index_or js q 0) (slice_index_or ms q 0) (slice_index_or xs q None)
 ready_at n w o [] [] [] r q l = absurd (omega (arith, l))
 ready_at n w o [] [] (x ∷ xs) r q l = absurd r
 ready_at n w o [] (i ∷ is) xs r q l = absurd r
@@ -46,7 +46,7 @@ ready_at n w o (j ∷ js) (i ∷ is) (x ∷ xs) r zero l = r.0
 ready_at n w o (j ∷ js) (i ∷ is) (x ∷ xs) r (suc q) l = ready_at n w o js is xs r.1 q (omega (arith, l))
 
 -- there are as many members and nexts as methods
-pub same_lengths : (n : ℕ) (w : View) (o : Object) (js ms : List ℕ) (xs : List (Option ℕ)) → AreReady n w o js ms xs → (length js ≡ length ms) × (length xs ≡ length ms)
+pub same_lengths : (n : ℕ) (w : View) (o : Object) (js ms : List ℕ) (xs : List (Option ℕ)) → MayAllBeClaimed n w o js ms xs → (length js ≡ length ms) × (length xs ≡ length ms)
 same_lengths n w o [] [] [] r = (refl, refl)
 same_lengths n w o [] [] (x ∷ xs) r = absurd r
 same_lengths n w o [] (i ∷ is) xs r = absurd r
@@ -55,7 +55,7 @@ same_lengths n w o (j ∷ js) (i ∷ is) [] r = absurd r
 same_lengths n w o (j ∷ js) (i ∷ is) (x ∷ xs) r = let e = same_lengths n w o js is xs r.1 in (ap suc e.0, ap suc e.1)
 
 -- what is ready stays so at a claim
-ready_claim : (n : ℕ) (v : View) (c : Claim) (k : ℕ) (z : Word) (o : Object) (js ms : List ℕ) (xs : List (Option ℕ)) → AreReady n v o js ms xs → AreReady n (saw (claimed v c) k z) o js ms xs
+ready_claim : (n : ℕ) (v : View) (c : Claim) (k : ℕ) (z : Word) (o : Object) (js ms : List ℕ) (xs : List (Option ℕ)) → MayAllBeClaimed n v o js ms xs → MayAllBeClaimed n (saw (claimed v c) k z) o js ms xs
 ready_claim n v c k z o [] [] [] r = tt
 ready_claim n v c k z o [] [] (x ∷ xs) r = absurd r
 ready_claim n v c k z o [] (i ∷ is) xs r = absurd r
@@ -82,7 +82,7 @@ module _ (n : ℕ) (p : Program) (v : View) (o : Object) (chord : ℕ) (ms : Lis
   nexts_long = (same_lengths n v o t.seen.methods ms xs t.seen.ready).1
 
   -- it is ready
-  pub member_ready : IsReady n v o (slice_index_or t.seen.methods at 0) member_at next_at
+  pub member_ready : MayBeClaimed n v o (slice_index_or t.seen.methods at 0) member_at next_at
   member_ready = ready_at n v o t.seen.methods ms xs t.seen.ready at low
 
   module _ (right : ChordsAreRight p) (small : o.number < 65536) (c : Claim) (new : IsNewClaim v member_at next_at c) where
@@ -106,10 +106,10 @@ module _ (n : ℕ) (p : Program) (v : View) (o : Object) (chord : ℕ) (ms : Lis
       most = omega (arith, low);
       claimed = λ q l. ⊎_elim
           (λ same. subst (λ (y : ℕ). ClaimAt (c ∷ v.claims) o (slice_index_or t.seen.methods y 0) (slice_index_or ms y 0)) (sym same) (let is = claim_matches at low refl in (c, inl refl, new.numbered, is.0, is.1, new.unfired)))
-          (λ less. let r = t.claimed q less in (r.0, inr r.1, r.2, r.3, r.4, r.5)) (below_more q at l);
+          (λ less. let r = t.claimed q less in (r.0, inr r.1, r.2, r.3, r.4, r.5)) (all_below_more q at l);
       apart = λ q r l m. ⊎_elim
           (λ same e. new.free (let k = t.claimed q (omega (arith, l, same)) in (k.0, k.1, k.2 ∙ e ∙ ap (λ (y : ℕ). slice_index_or ms y 0) same)))
-          (λ less. t.apart q r l less) (below_more r at m);
+          (λ less. t.apart q r l less) (all_below_more r at m);
       many = let e = t.many in omega (arith, e);
       room = t.room;
     }
@@ -183,7 +183,7 @@ missed_back n v u w ms xs at c a b x number free apart m is = record {
 
 -- all are claimed: the firing was drawn
 pub taken_all : (n : ℕ) (p : Program) (v w : View) (o : Object) (chord : ℕ) (ms : List ℕ) (xs : List (Option ℕ)) (at f : ℕ) (js : List ℕ) (vs : List value.Value) → Taking n p v o chord ms xs at → at ≡ length ms → slice_get (p.chords o.class) chord ≡ Some js → AreClaimed v.claims o js ms vs
-    → AllBelow f v.kept → (w ≡ saw_count (fired v f chord o ms vs) (f + 1)) × CameNext p (entry f f (Fired chord o ms vs)) × IsPlace p (entry f f (Fired chord o ms vs) ∷ v.kept) → IsDrawn p v w o chord ms f
+    → AllBelow f v.kept → (w ≡ saw_count (firing_drawn v f chord o ms vs) (f + 1)) × CameNext p (entry f f (Fired chord o ms vs)) × IsPlace p (entry f f (Fired chord o ms vs) ∷ v.kept) → IsDrawn p v w o chord ms f
 taken_all n p v w o chord ms xs at f js vs t full is_chord claimed below d = subst (λ (z : View). IsDrawn p v z o chord ms f) (sym d.0) record {
   claims = v.claims;
   methods = js;
@@ -228,5 +228,5 @@ lost_all n v w ms xs i free m = record {
 }
 
 -- the journal is full, and nothing is claimed
-pub refused_all : (n : ℕ) (v w : View) (ms : List ℕ) (xs : List (Option ℕ)) → v.claims ≡ [] → IsMissed n v w ms xs 0 Spent → IsRefused n v w
+pub refused_all : (n : ℕ) (v w : View) (ms : List ℕ) (xs : List (Option ℕ)) → v.claims ≡ [] → IsMissed n v w ms xs 0 Spent → IsTurnedAway n v w
 refused_all n v w ms xs free m = record { same = m.frame; claims = ap (λ (z : View). z.claims) m.frame ∙ free; counter = m.why }

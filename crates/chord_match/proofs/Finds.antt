@@ -16,10 +16,10 @@ use Rattle.chord_rule.specs.Bags.{IsArmed}
 use Rattle.chord_rule.specs.Duties.{HasDuty, MayRest, move_duty}
 use Rattle.chord_rule.specs.Kinds.{is_down, looked_cell}
 use Rattle.chord_rule.specs.Looks.{HasLook}
-use Rattle.chord_rule.specs.Made.{key, keys, IsChord}
+use Rattle.chord_rule.specs.Made.{key, bag_keys, IsChord}
 use Rattle.chord_rule.specs.Numbers.{HasNumber}
 use Rattle.chord_rule.specs.Tells.{IsLook}
-use Rattle.chord_rule.specs.Ways.{IsAlone, IsSettledCell}
+use Rattle.chord_rule.specs.Ways.{IsAloneDesk, IsSettledCell}
 use Rattle.chord_rule.proofs.KeySteps.{same_key}
 use Rattle.chord_bag.specs.declared.walk.Sought.{Sought}
 use Rattle.chord_bag.specs.declared.walk.Sought.TheVariants as a_sought
@@ -30,7 +30,7 @@ use Rattle.chord_match.specs.declared.search.Own.{Own}
 use Rattle.chord_match.specs.declared.search.Verdict.TheVariants as a_verdict
 use Rattle.chord_match.specs.Seen.{HasSought, AreMatched}
 use Rattle.chord_match.specs.Searching.{WasTold, WasToldIf, Searching, IsStuck, AreStuck, IsThrough}
-use Rattle.chord_match.specs.Findings.{IsLacking, IsHeldUp, IsMatch, IsLeft, IsHeldBy, read_so}
+use Rattle.chord_match.specs.Findings.{IsLacking, IsHeldUp, IsMatch, IsLeftAnswer, IsHeldBy, read_so}
 use Rattle.chord_match.proofs.Growing.{duty_is_kept, key_cancels}
 
 -- the own message is the member for its own method
@@ -42,17 +42,17 @@ own_member v w o m method next (j ∷ js) (i ∷ is) (x ∷ xs) (inl q, t) h = i
 own_member v w o m method next (j ∷ js) (i ∷ is) (x ∷ xs) (inr q, t) h = inr (own_member v w o m method next js is xs t (subst (λ (b : Bool). (b || has method js) ≡ true) (ne_eqb method j (λ e. q.0 (sym e))) h))
 
 -- a bag of a chord is that of one of its methods
-has_keys : (o : Object) (js : List ℕ) (x : ℕ) → HasNumber x (keys o js) → (j : ℕ) × (has j js ≡ true) × (x ≡ key o j)
+has_keys : (o : Object) (js : List ℕ) (x : ℕ) → HasNumber x (bag_keys o js) → (j : ℕ) × (has j js ≡ true) × (x ≡ key o j)
 has_keys o [] x h = absurd h
 has_keys o (j ∷ js) x (inl q) = (j, rw (eq-eqb j j refl) refl, q)
 has_keys o (j ∷ js) x (inr h) = let r = has_keys o js x h in (r.0, has_more r.0 j js r.1, r.2)
 
 -- the bag of a method of a chord is one of its bags
-key_has : (o : Object) (js : List ℕ) (j : ℕ) → has j js ≡ true → HasNumber (key o j) (keys o js)
+key_has : (o : Object) (js : List ℕ) (j : ℕ) → has j js ≡ true → HasNumber (key o j) (bag_keys o js)
 key_has o [] j y = absurd (let z : false ≡ true = y in cc)
 key_has o (i ∷ js) j y = cases (j == i) refl (key_has o js j)
   where
-    cases : (b : Bool) → (j == i) ≡ b → (has j js ≡ true → HasNumber (key o j) (keys o js)) → HasNumber (key o j) (keys o (i ∷ js))
+    cases : (b : Bool) → (j == i) ≡ b → (has j js ≡ true → HasNumber (key o j) (bag_keys o js)) → HasNumber (key o j) (bag_keys o (i ∷ js))
     cases true e k = inl (ap (key o) (eqb-true j i e))
     cases false e k = inr (k (rw e at y))
 
@@ -66,7 +66,7 @@ module _ (n : ℕ) (v w : View) (o : Object) (own : Own) (known : List (Option S
   lacking js t = (t.0, t.1, t.2.0, (told_at t.0 a_sought.Bare t.2.1).answered)
 
   -- a chord that is stuck by a message in another hand
-  held_up : (js : List ℕ) (i : ℕ) → IsStuck own js known (Some i) → IsHeldUp v w o own.method js i × (i < n) × (IsAlone v → ⊥)
+  held_up : (js : List ℕ) (i : ℕ) → IsStuck own js known (Some i) → IsHeldUp v w o own.method js i × (i < n) × (IsAloneDesk v → ⊥)
   held_up js i t = let r = told_at t.0 (a_sought.Busy i) t.2.1 in ((t.0, t.1, t.2.0, r.answered), r.below, r.says)
 
 -- p's chords are those that were gone through
@@ -98,7 +98,7 @@ module _ (n : ℕ) (p : Program) (o : Object) (own : Own) (u w : View) (known : 
     }
 
     -- where each chord has a bare bag, nothing is left to do
-    pub is_left : IsThrough n u w o own jss known (a_verdict.Without None) → IsLeft p v w own.message o own.method
+    pub is_left : IsThrough n u w o own jss known (a_verdict.Without None) → IsLeftAnswer p v w own.message o own.method
     is_left t = record {
       next = own.next;
       sought = subst (λ (z : View). HasSought z w) read t.stands.sought;
@@ -118,7 +118,7 @@ module _ (n : ℕ) (p : Program) (o : Object) (own : Own) (u w : View) (known : 
       alone = λ a. one.2 (still_alone v u only a);
     }
       where
-        one : IsHeldUp u w o own.method t.verdict.1.1 i × (i < n) × (IsAlone u → ⊥)
+        one : IsHeldUp u w o own.method t.verdict.1.1 i × (i < n) × (IsAloneDesk u → ⊥)
         one = held_up n u w o own known t.stands t.verdict.1.1 i t.verdict.1.5
 
         either_way : (js : List ℕ) (b : Option ℕ) → IsStuck own js known b → IsLacking (read_so v own.message Pending own.next) w o own.method js ⊎ ((x : ℕ) × IsHeldUp (read_so v own.message Pending own.next) w o own.method js x)
@@ -178,7 +178,7 @@ stands_read n v u o own look low d = record {
 }
 
 -- m was read neither pending nor down, so it is claimed, and by another desk
-pub claimed_by_another : (p : Program) (n : ℕ) (v w : View) (m : ℕ) (o : Object) (method : ℕ) (next : Option ℕ) (c : Cell) → m < n → w ≡ read_so v m c next → IsArmed c → (IsAlone v → IsSettledCell c) → c ≢ Pending → c ≢ Consumed → ((q : ℕ) → c ≢ Woken q)
+pub claimed_by_another : (p : Program) (n : ℕ) (v w : View) (m : ℕ) (o : Object) (method : ℕ) (next : Option ℕ) (c : Cell) → m < n → w ≡ read_so v m c next → IsArmed c → (IsAloneDesk v → IsSettledCell c) → c ≢ Pending → c ≢ Consumed → ((q : ℕ) → c ≢ Woken q)
     → IsHeldBy p n v w m o method m
 claimed_by_another p n v w m o method next Claimed low is armed alone a b d = record { one = inl (refl, (next, is)); below = low; alone = alone }
 claimed_by_another p n v w m o method next Pending low is armed alone a b d = absurd (a refl)

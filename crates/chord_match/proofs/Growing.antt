@@ -10,12 +10,12 @@ use Rattle.chord_rule.specs.declared.view.Way.{Way}
 use Rattle.chord_rule.specs.Duties.{HasDuty}
 use Rattle.chord_rule.specs.Looks.{HasLook, HasSeen}
 use Rattle.chord_rule.specs.Made.{key}
-use Rattle.chord_rule.specs.Ways.{HasWay, IsRead, KnowsBag}
+use Rattle.chord_rule.specs.Ways.{HasWay, WasRead, KnowsBag}
 use Rattle.chord_bag.specs.declared.walk.Sought.{Sought}
 use Rattle.chord_bag.specs.declared.walk.Sought.TheVariants.{Found}
 use Rattle.chord_bag.specs.Reads.{with_looks, messages_and_bags}
 use Rattle.chord_bag.specs.Seeking.{IsSought}
-use Rattle.chord_match.specs.Seen.{Grows, Answered, IsReady, IsMember}
+use Rattle.chord_match.specs.Seen.{Grows, Answered, MayBeClaimed, IsMember}
 
 -- a way that was gone before is still one
 pub has_way_right : (x : Way) (us vs : List Way) → HasWay x vs → HasWay x (us ++ vs)
@@ -78,7 +78,7 @@ module _ (v u w : View) (g : Grows u w) where
   knows_on i k (inr t) = inr (duty_on i k t)
 
   -- a member that may be claimed still may
-  pub ready_on : (n : ℕ) (o : Object) (j i : ℕ) (next : Option ℕ) → IsReady n u o j i next → IsReady n w o j i next
+  pub ready_on : (n : ℕ) (o : Object) (j i : ℕ) (next : Option ℕ) → MayBeClaimed n u o j i next → MayBeClaimed n w o j i next
   ready_on n o j i next r = record { seen = seen_on i next r.seen; known = knows_on i (key o j) r.known; below = r.below; next_below = r.next_below }
 
   -- a member stays one
@@ -100,7 +100,7 @@ found_ready n k v w i next s = (
     tt,
     refl,
   ),
-  inl (s.way, subst (λ (z : List Way). HasWay s.way z) (sym s.more) (inl refl), s.bag, subst (λ (z : List Look). IsRead i z) (sym s.answer.1) (inl refl)),
+  inl (s.way, subst (λ (z : List Way). HasWay s.way z) (sym s.more) (inl refl), s.bag, subst (λ (z : List Look). WasRead i z) (sym s.answer.1) (inl refl)),
 )
 
 -- a seek gives an answer

@@ -21,7 +21,7 @@ use Rattle.chord_rule.proofs.Lists.{dropped_has, fired_has}
 use Rattle.chord_match.specs.Claiming.{IsDrawn}
 use Rattle.chord_match.specs.Consuming.{AreFired, AreApart, Consuming, handed_over, Handed}
 use Rattle.chord_match.specs.Fires.{all_together, drop_duties, AreComing, IsFired, firing_entry}
-use Rattle.chord_match.proofs.Lists.{has_first}
+use Rattle.chord_match.proofs.Lists.{first_has}
 use Rattle.chord_match.proofs.Unions.{all_are_place}
 
 -- dropped claims are no more than before
@@ -49,9 +49,9 @@ split_methods cs f o [] i ms us t = absurd t
 split_methods cs f o (j ∷ js) i ms us t = (j, js, refl)
 
 -- no methods for no members
-pub no_methods : (cs : List Claim) (f : ℕ) (o : Object) (js : List ℕ) (us : List value.Value) → AreFired cs f o js [] us → (js ≡ []) × (us ≡ [])
-no_methods cs f o [] us t = (refl, t)
-no_methods cs f o (j ∷ js) us t = absurd t
+pub no_method_left : (cs : List Claim) (f : ℕ) (o : Object) (js : List ℕ) (us : List value.Value) → AreFired cs f o js [] us → (js ≡ []) × (us ≡ [])
+no_method_left cs f o [] us t = (refl, t)
+no_method_left cs f o (j ∷ js) us t = absurd t
 
 -- the claims on other messages stay
 fired_kept : (i f : ℕ) (cs : List Claim) (o : Object) (js ms : List ℕ) (us : List value.Value) → ((k : ℕ) → HasNumber k ms → k ≢ i) → AreFired cs f o js ms us → AreFired (drop_claim i cs) f o js ms us
@@ -138,7 +138,7 @@ apart_list (i ∷ ms) f = ((λ k h e. let r = index_of k ms h in f 0 (suc r.0) (
 -- a number of a list is among it
 has_of : (k : ℕ) (ms : List ℕ) → HasNumber k ms → has k ms ≡ true
 has_of k [] h = absurd h
-has_of k (i ∷ ms) (inl q) = subst (λ (z : ℕ). has z (i ∷ ms) ≡ true) (sym q) (has_first i ms)
+has_of k (i ∷ ms) (inl q) = subst (λ (z : ℕ). has z (i ∷ ms) ≡ true) (sym q) (first_has i ms)
 has_of k (i ∷ ms) (inr h) = has_more k i ms (has_of k ms h)
 
 -- once the firing is drawn, its members may be consumed

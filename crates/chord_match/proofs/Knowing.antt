@@ -21,7 +21,7 @@ use Rattle.chord_match.specs.declared.search.Pick.TheVariants as a_pick
 use Rattle.chord_match.specs.declared.search.Step.{Step}
 use Rattle.chord_match.specs.declared.search.Step.TheVariants as a_step
 use Rattle.chord_match.specs.declared.search.Outcome.TheVariants as an_outcome
-use Rattle.chord_match.specs.Seen.{bags_of, Grows, AreReady, AreMatched}
+use Rattle.chord_match.specs.Seen.{bags_of, Grows, MayAllBeClaimed, AreMatched}
 use Rattle.chord_match.specs.Searching.{SaysOf, WasTold, WasToldIf, Searching, KeepsKnown, Moves, Learned, IsStuckAt, Picked, IsStuck, IsGathered, Gathered, IsOutcome}
 use Rattle.chord_match.proofs.Growing.{grows_refl, grows_trans, sought_grows, answered_on, seen_on, duty_on, knows_on, ready_on, member_on, key_cancels, found_ready, answered}
 
@@ -178,7 +178,7 @@ module _ (n : ℕ) where
     moves = g.moves;
     comes =
         let t = g.gathered in let x : ms' ≡ t.0 = t.2 ∙ ap (λ (z : List ℕ). z ++ t.0) e in let y : xs' ≡ t.1 = t.3 ∙ ap (λ (z : List (Option ℕ)). z ++ t.1) f in
-        (subst (λ (z : List ℕ × List (Option ℕ)). AreMatched v w o own.message own.method own.next js z.0 z.1) (λ i. (sym x i, sym y i)) t.4, subst (λ (z : List ℕ × List (Option ℕ)). AreReady n w o js z.0 z.1) (λ i. (sym x i, sym y i)) t.5);
+        (subst (λ (z : List ℕ × List (Option ℕ)). AreMatched v w o own.message own.method own.next js z.0 z.1) (λ i. (sym x i, sym y i)) t.4, subst (λ (z : List ℕ × List (Option ℕ)). MayAllBeClaimed n w o js z.0 z.1) (λ i. (sym x i, sym y i)) t.5);
   }
 
   -- a chord has no members where one of its methods has none

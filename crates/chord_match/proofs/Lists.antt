@@ -7,8 +7,8 @@ use Rattle.chord_base.specs.Messages.{has, AreDifferent}
 use Rattle.chord_base.proofs.Pending.{has_more}
 
 -- the first number of a list is among it
-pub has_first : (j : ℕ) (js : List ℕ) → has j (j ∷ js) ≡ true
-has_first j js = rw (eq-eqb j j refl) refl
+pub first_has : (j : ℕ) (js : List ℕ) → has j (j ∷ js) ≡ true
+first_has j js = rw (eq-eqb j j refl) refl
 
 -- a list without items is empty
 pub no_items : (xs : List ℕ) → length xs ≡ 0 → xs ≡ []
@@ -21,13 +21,13 @@ one_longer [] x = refl
 one_longer (y ∷ xs) x = let e = one_longer xs x in omega (arith, e)
 
 -- a number below n + 1 is n or below n
-pub below_more : (q n : ℕ) → q < n + 1 → (q ≡ n) ⊎ (q < n)
-below_more q n l = dite (ℕ_discrete q n) inl (λ ne. inr (omega (arith, l, ne)))
+pub all_below_more : (q n : ℕ) → q < n + 1 → (q ≡ n) ⊎ (q < n)
+all_below_more q n l = dite (ℕ_discrete q n) inl (λ ne. inr (omega (arith, l, ne)))
 
 -- a number at a place of a list is among it
 pub has_at : (js : List ℕ) (q : ℕ) → q < length js → has (slice_index_or js q 0) js ≡ true
 has_at [] q l = absurd (omega (arith, l))
-has_at (j ∷ js) zero l = has_first j js
+has_at (j ∷ js) zero l = first_has j js
 has_at (j ∷ js) (suc q) l = has_more (slice_index_or js q 0) j js (has_at js q (omega (arith, l)))
 
 -- what is among a list is another number than one that is not

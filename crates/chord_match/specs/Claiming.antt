@@ -13,7 +13,7 @@ use Rattle.chord_rule.specs.declared.view.Looked.{Looked}
 use Rattle.chord_rule.specs.declared.view.View.{View}
 use Rattle.chord_rule.specs.Claims.{HasThe, AreClaimed}
 use Rattle.chord_rule.specs.Coming.{IsPlace}
-use Rattle.chord_rule.specs.Kinds.{entry, fired}
+use Rattle.chord_rule.specs.Kinds.{entry, firing_drawn}
 use Rattle.chord_rule.specs.Looks.{HasLook}
 use Rattle.chord_rule.specs.Numbers.{HasNumber}
 use Rattle.chord_rule.specs.Tells.{CameNext}
@@ -51,7 +51,7 @@ pub record IsDrawn (p : Program) (v w : View) (o : Object) (chord : ℕ) (ms : L
   pub below : AllBelow f v.kept
   pub came : CameNext p (entry f f (Fired chord o ms values))
   pub place : IsPlace p (entry f f (Fired chord o ms values) ∷ v.kept)
-  pub drawn : w ≡ fired (with_claims v claims w.looked) f chord o ms values
+  pub drawn : w ≡ firing_drawn (with_claims v claims w.looked) f chord o ms values
 
 -- the desk as it was, but for what it read and wrote, and that it was told
 abbrev pub missed_by : View → Missed → Looked → View

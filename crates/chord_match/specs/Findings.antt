@@ -9,7 +9,7 @@ use Rattle.chord_rule.specs.declared.view.View.{View}
 use Rattle.chord_rule.specs.Kinds.{looked_cell, rested}
 use Rattle.chord_rule.specs.Made.{key}
 use Rattle.chord_rule.specs.Numbers.{HasNumber}
-use Rattle.chord_rule.specs.Ways.{IsAlone}
+use Rattle.chord_rule.specs.Ways.{IsAloneDesk}
 use Rattle.chord_bag.specs.declared.walk.Sought.TheVariants as a_sought
 use Rattle.chord_match.specs.declared.search.Finding.{Finding}
 use Rattle.chord_match.specs.declared.search.Finding.TheVariants.{Match, Left, Taken, Busy}
@@ -45,7 +45,7 @@ pub record IsMatch (p : Program) (n : ℕ) (v w : View) (m : ℕ) (o : Object) (
   pub matched : AreMatched (read_so v m Pending next) w o m method next seen.methods ms xs
 
 -- m was read pending, and since then bags were sought, none of them twice, and each chord with m had another method whose bag was bare
-pub record IsLeft (p : Program) (v u : View) (m : ℕ) (o : Object) (method : ℕ) : Type 0 where
+pub record IsLeftAnswer (p : Program) (v u : View) (m : ℕ) (o : Object) (method : ℕ) : Type 0 where
   pub next : Option ℕ
   pub sought : HasSought (read_so v m Pending next) u
   pub lacking : (k : ℕ) (js : List ℕ) → IsChordWith p o method k js → IsLacking (read_so v m Pending next) u o method js
@@ -61,11 +61,11 @@ pub record IsBusyWith (p : Program) (v w : View) (m : ℕ) (o : Object) (method 
 pub record IsHeldBy (p : Program) (n : ℕ) (v w : View) (m : ℕ) (o : Object) (method i : ℕ) : Type 0 where
   pub one : ((i ≡ m) × ((next : Option ℕ) × (w ≡ read_so v m Claimed next))) ⊎ IsBusyWith p v w m o method i
   pub below : i < n
-  pub alone : IsAlone v → ⊥
+  pub alone : IsAloneDesk v → ⊥
 
 -- what a search from the view v, which left the view w, answers for m to this method of the object
 abbrev pub IsFinding : Program → ℕ → View → View → ℕ → Object → ℕ → Finding → Type 0
 IsFinding p n v w m o method (Match k ms xs) = IsMatch p n v w m o method k ms xs
 IsFinding p n v w m o method Taken = (next : Option ℕ) × (w ≡ rested (read_so v m Consumed next) m)
-IsFinding p n v w m o method Left = ((q : ℕ) × (next : Option ℕ) × (w ≡ rested (read_so v m (Woken q) next) m)) ⊎ ((u : View) × IsLeft p v u m o method × (w ≡ rested u m))
+IsFinding p n v w m o method Left = ((q : ℕ) × (next : Option ℕ) × (w ≡ rested (read_so v m (Woken q) next) m)) ⊎ ((u : View) × IsLeftAnswer p v u m o method × (w ≡ rested u m))
 IsFinding p n v w m o method (Busy i) = IsHeldBy p n v w m o method i

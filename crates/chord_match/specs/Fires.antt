@@ -40,7 +40,7 @@ pub record IsLost (n : ℕ) (v w : View) (ms : List ℕ) (xs : List (Option ℕ)
   pub alone : v.first ≡ true → v.lent ≡ 0 → AreLastPending v ms xs 0 → ⊥
 
 -- the draw was told that the limit on events is reached, and all claims were given back
-pub record IsRefused (n : ℕ) (v w : View) : Type 0 where
+pub record IsTurnedAway (n : ℕ) (v w : View) : Type 0 where
   -- the desk is as before but for what it read and wrote, and that it was told
   pub same : w ≡ record v { looked = w.looked; spent = true }
   pub claims : w.claims ≡ []
@@ -105,4 +105,4 @@ pub record IsFired {P : Type 0} (entries : P → List Entry) (arguments : P → 
 abbrev pub IsFireAnswer : {P : Type 0} → (P → List Entry) → (P → List value.Value) → (P → Type 0) → Program → ℕ → View → View → Object → ℕ → List ℕ → List (Option ℕ) → Firing P → Type 0
 IsFireAnswer entries arguments keeps_to p n v w o chord ms xs (Fired f hand) = IsFired entries arguments keeps_to p n v w o chord ms f hand
 IsFireAnswer entries arguments keeps_to p n v w o chord ms xs (Lost i) = IsLost n v w ms xs i
-IsFireAnswer entries arguments keeps_to p n v w o chord ms xs Spent = IsRefused n v w
+IsFireAnswer entries arguments keeps_to p n v w o chord ms xs Spent = IsTurnedAway n v w

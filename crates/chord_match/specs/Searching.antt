@@ -7,7 +7,7 @@ use Rattle.chord_rule.specs.declared.view.Duty.{Duty}
 use Rattle.chord_rule.specs.Duties.{HasDuty}
 use Rattle.chord_rule.specs.Made.{key}
 use Rattle.chord_rule.specs.Looks.{HasSeen}
-use Rattle.chord_rule.specs.Ways.{IsAlone, KnowsBag}
+use Rattle.chord_rule.specs.Ways.{IsAloneDesk, KnowsBag}
 use Rattle.chord_bag.specs.declared.walk.Sought.{Sought}
 use Rattle.chord_bag.specs.declared.walk.Sought.TheVariants.{Found, Bare, Busy}
 use Rattle.chord_bag.specs.Reads.{AllAt}
@@ -21,13 +21,13 @@ use Rattle.chord_match.specs.declared.search.Outcome.{Outcome}
 use Rattle.chord_match.specs.declared.search.Outcome.TheVariants as an_outcome
 use Rattle.chord_match.specs.declared.search.Verdict.{Verdict}
 use Rattle.chord_match.specs.declared.search.Verdict.TheVariants as a_verdict
-use Rattle.chord_match.specs.Seen.{Grows, HasSought, bags_of, Answered, IsReady, AreReady, IsMember, AreMatched}
+use Rattle.chord_match.specs.Seen.{Grows, HasSought, bags_of, Answered, MayBeClaimed, MayAllBeClaimed, IsMember, AreMatched}
 
 -- what an answer for the bag k, which was given since v, still says now
 abbrev pub SaysOf : View → View → ℕ → Sought → Type 0
 SaysOf v w k (Found i next) = HasSeen w i next × KnowsBag w i k
 SaysOf v w k Bare = AllAt k None w.duties
-SaysOf v w k (Busy i) = IsAlone v → ⊥
+SaysOf v w k (Busy i) = IsAloneDesk v → ⊥
 
 -- the bag k was sought since v, with this answer
 pub record WasTold (n : ℕ) (v w : View) (k : ℕ) (s : Sought) : Type 0 where
@@ -78,7 +78,7 @@ IsStuckAt own j known (Some i) = (j ≢ own.method) × (slice_index_or known j N
 
 -- the member for the method j, or why there is none
 abbrev pub IsPicked : ℕ → View → View → Object → Own → ℕ → List (Option Sought) → Pick → Type 0
-IsPicked n v w o own j known (a_pick.Take i next) = IsMember v w o own.message own.method own.next j i next × IsReady n w o j i next
+IsPicked n v w o own j known (a_pick.Take i next) = IsMember v w o own.message own.method own.next j i next × MayBeClaimed n w o j i next
 IsPicked n v w o own j known (a_pick.Stuck b) = IsStuckAt own j known b
 
 -- the search went on for one method
@@ -92,7 +92,7 @@ IsStuck own js known b = (j : ℕ) × (has j js ≡ true) × IsStuckAt own j kno
 
 -- members for these methods were added to those that there were, or one of the methods has none
 abbrev pub IsGathered : ℕ → View → View → Object → Own → List ℕ → List (Option Sought) → (ms ms' : List ℕ) → (xs xs' : List (Option ℕ)) → Step → Type 0
-IsGathered n v w o own js known ms ms' xs xs' a_step.All = (is : List ℕ) × (nexts : List (Option ℕ)) × (ms' ≡ ms ++ is) × (xs' ≡ xs ++ nexts) × AreMatched v w o own.message own.method own.next js is nexts × AreReady n w o js is nexts
+IsGathered n v w o own js known ms ms' xs xs' a_step.All = (is : List ℕ) × (nexts : List (Option ℕ)) × (ms' ≡ ms ++ is) × (xs' ≡ xs ++ nexts) × AreMatched v w o own.message own.method own.next js is nexts × MayAllBeClaimed n w o js is nexts
 IsGathered n v w o own js known ms ms' xs xs' (a_step.Stuck b) = IsStuck own js known b
 
 -- the search went on for these methods
@@ -102,7 +102,7 @@ pub record Gathered (n : ℕ) (v u w : View) (o : Object) (own : Own) (js : List
 
 -- the members of a chord with these methods, or why there are none
 abbrev pub IsOutcomeOf : ℕ → View → View → Object → Own → List ℕ → List (Option Sought) → Outcome → Type 0
-IsOutcomeOf n v w o own js known (an_outcome.Whole ms xs) = AreMatched v w o own.message own.method own.next js ms xs × AreReady n w o js ms xs
+IsOutcomeOf n v w o own js known (an_outcome.Whole ms xs) = AreMatched v w o own.message own.method own.next js ms xs × MayAllBeClaimed n w o js ms xs
 IsOutcomeOf n v w o own js known (an_outcome.Stuck b) = IsStuck own js known b
 
 -- the search went on for one chord
@@ -123,7 +123,7 @@ AreStuck own jss m known (Some i) = ((q : ℕ) (js : List ℕ) → q < m → sli
 
 -- a chord with its members, or each chord with the method is stuck
 abbrev pub IsVerdict : ℕ → View → View → Object → Own → List (List ℕ) → List (Option Sought) → Verdict → Type 0
-IsVerdict n v w o own jss known (a_verdict.Match k ms xs) = (js : List ℕ) × (slice_get jss k ≡ Some js) × (has own.method js ≡ true) × AreMatched v w o own.message own.method own.next js ms xs × AreReady n w o js ms xs
+IsVerdict n v w o own jss known (a_verdict.Match k ms xs) = (js : List ℕ) × (slice_get jss k ≡ Some js) × (has own.method js ≡ true) × AreMatched v w o own.message own.method own.next js ms xs × MayAllBeClaimed n w o js ms xs
 IsVerdict n v w o own jss known (a_verdict.Without b) = AreStuck own jss (length jss) known b
 
 -- the search went through all chords, or up to the first that has its members

@@ -12,7 +12,7 @@ use Rattle.chord_rule.specs.Ways.{HasWay, KnowsBag, KnowsObject}
 use Rattle.chord_bag.specs.declared.walk.Sought.{Sought}
 use Rattle.chord_bag.specs.declared.walk.Sought.TheVariants.{Found}
 use Rattle.chord_bag.specs.Reads.{IsOnlyLooks}
-use Rattle.chord_bag.specs.Seeking.{IsAnswer}
+use Rattle.chord_bag.specs.Seeking.{IsSoughtAnswer}
 
 -- from one view to another there were looks and ways alone
 pub record Grows (u w : View) : Type 0 where
@@ -34,7 +34,7 @@ pub record HasSought (u w : View) : Type 0 where
 
 -- since v a way of the bag k was gone, with this answer
 abbrev pub Answered : View → View → ℕ → Sought → Type 0
-Answered v w k s = (x : Way) × (ws : List Way) × (w.looked.ways ≡ ws ++ v.looked.ways) × HasWay x ws × (x.bag ≡ k) × IsAnswer x s
+Answered v w k s = (x : Way) × (ws : List Way) × (w.looked.ways ≡ ws ++ v.looked.ways) × HasWay x ws × (x.bag ≡ k) × IsSoughtAnswer x s
 
 -- the member for the method j: m itself with its next for its own method, else a message that was found since v in the bag of j
 abbrev pub IsMember : View → View → Object → ℕ → ℕ → Option ℕ → ℕ → ℕ → Option ℕ → Type 0
@@ -47,21 +47,21 @@ AreMatched v w o m method own (j ∷ js) (i ∷ is) (x ∷ xs) = IsMember v w o 
 AreMatched v w o m method own _ _ _ = ⊥
 
 -- the desk saw this next in the armed cell i, and knows that i is linked in the bag of the method j; both are below n
-pub record IsReady (n : ℕ) (w : View) (o : Object) (j i : ℕ) (next : Option ℕ) : Type 0 where
+pub record MayBeClaimed (n : ℕ) (w : View) (o : Object) (j i : ℕ) (next : Option ℕ) : Type 0 where
   pub seen : HasSeen w i next
   pub known : KnowsBag w i (key o j)
   pub below : i < n
   pub next_below : (x : ℕ) → next ≡ Some x → x < n
 
 -- the members are so, one for each method in order
-abbrev pub AreReady : ℕ → View → Object → List ℕ → List ℕ → List (Option ℕ) → Type 0
-AreReady n w o [] [] [] = Unit {0}
-AreReady n w o (j ∷ js) (i ∷ is) (x ∷ xs) = IsReady n w o j i x × AreReady n w o js is xs
-AreReady n w o _ _ _ = ⊥
+abbrev pub MayAllBeClaimed : ℕ → View → Object → List ℕ → List ℕ → List (Option ℕ) → Type 0
+MayAllBeClaimed n w o [] [] [] = Unit {0}
+MayAllBeClaimed n w o (j ∷ js) (i ∷ is) (x ∷ xs) = MayBeClaimed n w o j i x × MayAllBeClaimed n w o js is xs
+MayAllBeClaimed n w o _ _ _ = ⊥
 
 -- the desk saw these members with these nexts, one for each method of the chord of this number on the object, which it knows
 pub record AreSeen (n : ℕ) (p : Program) (w : View) (o : Object) (chord : ℕ) (ms : List ℕ) (xs : List (Option ℕ)) : Type 0 where
   pub methods : List ℕ
   pub is_chord : slice_get (p.chords o.class) chord ≡ Some methods
-  pub ready : AreReady n w o methods ms xs
+  pub ready : MayAllBeClaimed n w o methods ms xs
   pub object : KnowsObject w o

@@ -1,7 +1,7 @@
 //! A chord is fired: its messages are claimed, the firing is drawn, and their parcels are handed out.
 ghost use Rattle.std.specs.Prelude.{◌≡◌, ℕ, ◌+◌, ◌<◌, ◌≤◌, false, List, [], ◌++◌, length};
 ghost use Rattle.chord_base.specs.declared.value.Value as value;
-ghost use Rattle.chord_space.specs.Desks.{view, code_of, limits_of, program_of, IsDeskOf, IsSameDesk};
+ghost use Rattle.chord_space.specs.Desks.{view, space_code, space_limits, program_of, IsDeskOf, IsSameDesk};
 ghost use Rattle.chord_match.specs.Consuming.{Consuming, Handed};
 ghost use Rattle.chord_match.specs.Fires.{IsFireAnswer};
 ghost use Rattle.chord_match.specs.Seen.{AreSeen};
@@ -39,7 +39,7 @@ fn hand_out<P: Carry + Drop>(
     requires room { length hand.old + length members.now ≤ 8 }
     ensures desk { IsSameDesk desk.old desk.new }
     ensures handed { (o : Object) (js : List ℕ) (f : ℕ) (us : List value.Value) → Consuming space.now.events (view desk.old) o js members.now f us
-        → (qs : List P) × (hand.new ≡ hand.old ++ qs) × Handed P.entries P.arguments (λ q. P.keeps_to q (code_of space.now) (limits_of space.now)) (program_of space.now) (view desk.old) (view desk.new) o js members.now f us qs }
+        → (qs : List P) × (hand.new ≡ hand.old ++ qs) × Handed P.entries P.arguments (λ q. P.keeps_to q (space_code space.now) (space_limits space.now)) (program_of space.now) (view desk.old) (view desk.new) o js members.now f us qs }
 {
     if let Some((i, rest)) = members.split_first() {
         let parcel = space.consume(desk, *i);
@@ -67,13 +67,13 @@ pub fn fire<P: Carry + Drop>(
     nexts: &Nexts,
 ) -> Firing<P>
     requires desk { IsDeskOf space.now desk.old }
-    requires code { code.now ≡ code_of space.now }
+    requires code { code.now ≡ space_code space.now }
     requires bounds { (object.number < space.now.events) × (object.class < 1024) }
     requires room { (view desk.old).spent ≡ false }
     requires free { (view desk.old).claims ≡ [] }
     requires seen { AreSeen space.now.events (program_of space.now) (view desk.old) object chord members.now nexts.now }
     ensures desk { IsSameDesk desk.old desk.new }
-    ensures firing { IsFireAnswer P.entries P.arguments (λ q. P.keeps_to q (code_of space.now) (limits_of space.now)) (program_of space.now) space.now.events (view desk.old) (view desk.new) object chord members.now nexts.now result }
+    ensures firing { IsFireAnswer P.entries P.arguments (λ q. P.keeps_to q (space_code space.now) (space_limits space.now)) (program_of space.now) space.now.events (view desk.old) (view desk.new) object chord members.now nexts.now result }
 {
     chords_are_right(code);
     match take_from(space, desk, object, chord, members, nexts, 0) {

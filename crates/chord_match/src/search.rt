@@ -7,7 +7,7 @@ ghost use Rattle.chord_rule.specs.declared.view.View.{View};
 ghost use Rattle.chord_rule.specs.declared.view.Duty.{Duty};
 ghost use Rattle.chord_rule.specs.Duties.{HasDuty};
 ghost use Rattle.chord_rule.specs.Made.{key};
-ghost use Rattle.chord_space.specs.Desks.{view, code_of, program_of, IsDeskOf, IsSameDesk};
+ghost use Rattle.chord_space.specs.Desks.{view, space_code, program_of, IsDeskOf, IsSameDesk};
 ghost use Rattle.chord_word.specs.declared.cells.Cell.TheVariants.{Pending};
 ghost use Rattle.chord_match.specs.Findings.{IsFinding, read_so};
 ghost use Rattle.chord_match.specs.Searching.{Searching, Learned, Picked, Gathered, IsOutcome, IsThrough, firstly};
@@ -252,7 +252,7 @@ fn find_more<P: Carry>(
     own: &Own,
 ) -> Finding
     requires desk { IsDeskOf space.now desk.old }
-    requires code { code.now ≡ code_of space.now }
+    requires code { code.now ≡ space_code space.now }
     requires bounds { (object.number < space.now.events) × (object.class < 1024) × (own.now.method < 16) }
     requires read { Searching space.now.events (view desk.old) (view desk.old) object own.now [] }
     ensures desk { IsSameDesk desk.old desk.new }
@@ -293,7 +293,7 @@ pub fn find<P: Carry>(
     method: u8,
 ) -> Finding
     requires desk { IsDeskOf space.now desk.old }
-    requires code { code.now ≡ code_of space.now }
+    requires code { code.now ≡ space_code space.now }
     requires bounds { (m < space.now.events) × (object.number < space.now.events) × (object.class < 1024) × (method < 16) }
     requires duty { (d : Duty) × HasDuty d (view desk.old).duties × (d.message ≡ m) × (d.bag ≡ key object method) }
     ensures desk { IsSameDesk desk.old desk.new }

@@ -8,7 +8,7 @@ use Rattle.chord_code.specs.Sound.{IsSoundCode}
 use Rattle.chord_rule.specs.declared.view.View.{View}
 use Rattle.chord_rule.specs.Kinds.{lent_one, newcomer_first}
 use Rattle.chord_space.specs.declared.space.Space.{Space}
-use Rattle.chord_space.specs.Desks.{view, code_of, limits_of}
+use Rattle.chord_space.specs.Desks.{view, space_code, space_limits}
 use Rattle.chord_task.specs.declared.parcel.Parcel.{Parcel}
 use Rattle.chord_worker.specs.declared.worker.Worker.{Worker}
 use Rattle.chord_worker.specs.Resting.{IsAtRest, IsSameRole}
@@ -36,16 +36,16 @@ hired s main after others one crew splits rest task lent one_rest one_task =
     )
 
 -- a table that was made for a sound code is of one run
-pub one_run : (s : Space Parcel) (code : Parts) (limits : Limits) → code_of s ≡ code → limits_of s ≡ limits → 0 < limits.depth → limits.depth ≤ 256 → IsSoundCode code → IsOneRun s code limits
+pub one_run : (s : Space Parcel) (code : Parts) (limits : Limits) → space_code s ≡ code → space_limits s ≡ limits → 0 < limits.depth → limits.depth ≤ 256 → IsSoundCode code → IsOneRun s code limits
 one_run s code limits code_is limits_are some low sound = record {
   code_is = code_is;
   limits_are = limits_are;
-  sound = subst (λ (x : Parts). IsSound (code_program x (limits_of s))) (sym code_is) (subst (λ (l : Limits). IsSound (code_program code l)) (sym limits_are) (sound limits some low).sound);
+  sound = subst (λ (x : Parts). IsSound (code_program x (space_limits s))) (sym code_is) (subst (λ (l : Limits). IsSound (code_program code l)) (sym limits_are) (sound limits some low).sound);
 }
 
 -- at the beginning the first worker is a crew of its own
-pub begins : (s : Space Parcel) (v : View) (main : Worker) → v ≡ newcomer_first → IsAtRest s main → IsSameRole v (view main.desk) → (view main.desk).drawn ≡ true → ((view main.desk).spent ≡ true → main.task ≡ None) → IsCrew s main [] × ((view main.desk).splits ≡ 0)
-begins s v main new rest role drawn over = (
+pub crew_begins : (s : Space Parcel) (v : View) (main : Worker) → v ≡ newcomer_first → IsAtRest s main → IsSameRole v (view main.desk) → (view main.desk).drawn ≡ true → ((view main.desk).spent ≡ true → main.task ≡ None) → IsCrew s main [] × ((view main.desk).splits ≡ 0)
+crew_begins s v main new rest role drawn over = (
   record {
     settled = record { rest = rest; over = over };
     first = role.first ∙ ap (λ (x : View). x.first) new;

@@ -12,14 +12,14 @@ use Rattle.chord_code.specs.declared.parts.Parts.{Parts}
 use Rattle.chord_code.specs.Meaning.{code_program}
 use Rattle.chord_space.specs.declared.space.Desk.{Desk}
 use Rattle.chord_space.specs.declared.space.Space.{Space}
-use Rattle.chord_space.specs.Desks.{view, events, code_of, limits_of}
+use Rattle.chord_space.specs.Desks.{view, events, space_code, space_limits}
 use Rattle.chord_task.specs.declared.task.Task.{Task}
 use Rattle.chord_task.specs.declared.parcel.Parcel.{Parcel}
 use Rattle.chord_word.specs.declared.cells.Word.{Word}
 use Rattle.chord_worker.specs.declared.worker.Worker.{Worker}
-use Rattle.chord_worker.specs.Resting.{IsSameRole, IsSeen, left_of}
+use Rattle.chord_worker.specs.Resting.{IsSameRole, IsSeen, beside_task}
 use Rattle.chord_pool.specs.Players.{IsFit}
-use Rattle.chord_pool.specs.Ending.{AreAwake, IsOver}
+use Rattle.chord_pool.specs.Ending.{AreAwake, IsRunOver}
 
 -- the role of a desk stays over two steps
 pub role_stays : (u v w : View) → IsSameRole u v → IsSameRole v w → IsSameRole u w
@@ -50,7 +50,7 @@ may_close s w n c count fit first drawn lent counted least below awake = record 
     not_some i e = cc
 
 -- once the run is over and closed, its journal is complete, or has as many entries as are allowed
-pub ended_as : (s : Space Parcel) (w : Worker) (desk : Desk Parcel) (code : Parts) (limits : Limits) (count : ℕ) (Whole : Type 0) → IsOver s w → desk ≡ w.desk → code_of s ≡ code → limits_of s ≡ limits
+pub ended_as : (s : Space Parcel) (w : Worker) (desk : Desk Parcel) (code : Parts) (limits : Limits) (count : ℕ) (Whole : Type 0) → IsRunOver s w → desk ≡ w.desk → space_code s ≡ code → space_limits s ≡ limits
     → (MayClose (view desk) → AreQuiet (code_program code limits) (view desk).kept → Whole) → ((view desk).spent ≡ true → count ≡ limits.events) → ((c : ℕ) → (view desk).looked.count ≡ Some c → count ≡ min c limits.events)
     → Whole ⊎ (count ≡ limits.events)
 ended_as s w desk code limits count Whole over same code_is limits_are whole full counted =
@@ -66,5 +66,5 @@ ended_as s w desk code limits count Whole over same code_is limits_are whole ful
     quiet room =
         subst (λ (d : Desk Parcel). AreQuiet (code_program code limits) (view d).kept) (sym same)
         (subst (λ (l : Limits). AreQuiet (code_program code l) (view w.desk).kept) limits_are
-        (subst (λ (x : Parts). AreQuiet (code_program x (limits_of s)) (view w.desk).kept) code_is
-        (subst (λ (t : Option Task). AreQuiet (code_program (code_of s) (limits_of s)) (left_of t (view w.desk).kept)) over.last.task (over.last.rest.memory.quiet room))))
+        (subst (λ (x : Parts). AreQuiet (code_program x (space_limits s)) (view w.desk).kept) code_is
+        (subst (λ (t : Option Task). AreQuiet (code_program (space_code s) (space_limits s)) (beside_task t (view w.desk).kept)) over.last.task (over.last.rest.memory.quiet room))))

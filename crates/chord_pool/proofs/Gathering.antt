@@ -21,7 +21,7 @@ use Rattle.chord_rule.specs.Agrees.{Agrees}
 use Rattle.chord_rule.specs.Keeping.{desk, parcel, at_desk, at_home, kept_at}
 use Rattle.chord_rule.specs.Kinds.{gone}
 use Rattle.chord_rule.specs.Moment.{Home}
-use Rattle.chord_rule.specs.Stages.{what_at}
+use Rattle.chord_rule.specs.Stages.{said_at}
 use Rattle.chord_rule.proofs.Keeping.{desk_keeps, parcel_keeps}
 use Rattle.chord_rule.proofs.KeepSteps.{place_of}
 use Rattle.chord_rule.proofs.Knowing as knowing
@@ -135,7 +135,7 @@ module _ (code : Parts) (limits : Limits) (id : ℕ) (v : View) (slots : List (O
   low : (i : ℕ) (q : Parcel) → s.moment.homes i ≡ some (Some q) → i < limits.events
   low i q home = dite (dec_lt i limits.events) (λ l. l) (λ far. absurd (⊎_elim
       (λ x. far (number_low entries_of arguments_of keeps_to (code_program code limits) limits.events s.moment s.unseen law.stands i x.0 x.1))
-      (λ r. let none : what_at i s.unseen.journal ≡ None = what_none i s.unseen.journal (past_below (code_program code limits) s.unseen.journal i law.stands.keeping.merged.past (let k = law.stands.keeping.long in omega arith)) in
+      (λ r. let none : said_at i s.unseen.journal ≡ None = what_none i s.unseen.journal (past_below (code_program code limits) s.unseen.journal i law.stands.keeping.merged.past (let k = law.stands.keeping.long in omega arith)) in
       let z : a_cell.Empty ≡ a_cell.Ready = sym (ap (λ (w : Word). w.cell) (no_entry_blank entries_of arguments_of keeps_to (code_program code limits) limits.events s.moment s.unseen law.stands i none)) ∙ r in cc)
       (full_home entries_of arguments_of keeps_to (code_program code limits) limits.events s.moment s.unseen law.stands i q home)))
 

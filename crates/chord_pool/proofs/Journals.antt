@@ -13,20 +13,20 @@ use Rattle.chord_base.proofs.Collected.{collected}
 use Rattle.chord_journal.specs.Gathered.{IsEntryWithin, AreOfJournal}
 
 -- an entry that stands in a list is contained in it
-pub in_contains : (e : Entry) (h : List Entry) → IsIn e h → Contains h e
-in_contains e [] i = absurd i
-in_contains e (x ∷ h) (inl y) = (0, omega arith, sym y)
-in_contains e (x ∷ h) (inr y) = let c = in_contains e h y in (suc c.0, omega (arith, c.1), c.2)
+pub contains_of : (e : Entry) (h : List Entry) → IsIn e h → Contains h e
+contains_of e [] i = absurd i
+contains_of e (x ∷ h) (inl y) = (0, omega arith, sym y)
+contains_of e (x ∷ h) (inr y) = let c = contains_of e h y in (suc c.0, omega (arith, c.1), c.2)
 
 -- and the other way round
-pub contains_in : (e : Entry) (h : List Entry) → Contains h e → IsIn e h
-contains_in e [] (k, inside, is) = absurd (omega (arith, inside))
-contains_in e (x ∷ h) (zero, inside, is) = inl (sym is)
-contains_in e (x ∷ h) (suc k, inside, is) = inr (contains_in e h (k, omega (arith, inside), is))
+pub contains_at : (e : Entry) (h : List Entry) → Contains h e → IsIn e h
+contains_at e [] (k, inside, is) = absurd (omega (arith, inside))
+contains_at e (x ∷ h) (zero, inside, is) = inl (sym is)
+contains_at e (x ∷ h) (suc k, inside, is) = inr (contains_at e h (k, omega (arith, inside), is))
 
 -- what stands in a list stands in it in any order
 pub in_other_order : (e : Entry) (h g : List Entry) → IsPermutation h g → IsIn e h → IsIn e g
-in_other_order e h g moved i = contains_in e g (Contains-permutation h g e moved (in_contains e h i))
+in_other_order e h g moved i = contains_at e g (Contains-permutation h g e moved (contains_of e h i))
 
 -- entries within the bounds of a journal are so one by one
 each_within : (h : List Entry) → AreWithin h → All IsEntryWithin h
@@ -54,7 +54,7 @@ of_journal es h moved few within =
       within = All-permutation IsEntryWithin h es back (each_within h within);
       numbered = λ n l.
           let r = number_there h n within (omega (arith, l, long)) in
-          let there = Contains-permutation h es r.0 back (in_contains r.0 h r.1) in (there.0, r.0, there.1, there.2, r.2);
+          let there = Contains-permutation h es r.0 back (contains_of r.0 h r.1) in (there.0, r.0, there.1, there.2, r.2);
     }
 
 -- a journal that has the entries of such a history is the history, the oldest first

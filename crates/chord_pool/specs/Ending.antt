@@ -28,6 +28,6 @@ pub record IsLast (s : Space Parcel) (w : Worker) : Type 0 where
   pub lent : (view w.desk).lent ≡ 0
 
 -- the run is over: the first worker was told that it is full, or saw it, or knows that nothing is left to do
-pub record IsOver (s : Space Parcel) (w : Worker) : Type 0 where
+pub record IsRunOver (s : Space Parcel) (w : Worker) : Type 0 where
   pub last : IsLast s w
   pub why : ((view w.desk).spent ≡ true) ⊎ (SawLimit (events s) (view w.desk) ⊎ (((view w.desk).spent ≡ false) × MayClose (view w.desk)))

@@ -4,7 +4,7 @@ use Rattle.chord_base.specs.declared.event.Limits.{Limits}
 use Rattle.chord_base.specs.Story.{IsSound}
 use Rattle.chord_code.specs.declared.parts.Parts.{Parts}
 use Rattle.chord_space.specs.declared.space.Space.{Space}
-use Rattle.chord_space.specs.Desks.{view, code_of, limits_of, program_of}
+use Rattle.chord_space.specs.Desks.{view, space_code, space_limits, program_of}
 use Rattle.chord_task.specs.declared.parcel.Parcel.{Parcel}
 use Rattle.chord_worker.specs.declared.worker.Worker.{Worker}
 use Rattle.chord_worker.specs.Resting.{IsAtRest, IsSameRole}
@@ -12,8 +12,8 @@ use Rattle.chord_pool.specs.declared.player.Player.{Player}
 
 -- the code and the limits are those of the space, and its runs are those of a sound program
 pub record IsOneRun (s : Space Parcel) (code : Parts) (limits : Limits) : Type 0 where
-  pub code_is : code_of s ≡ code
-  pub limits_are : limits_of s ≡ limits
+  pub code_is : space_code s ≡ code
+  pub limits_are : space_limits s ≡ limits
   pub sound : IsSound (program_of s)
 
 -- the worker is at rest, and was not told that the limit is reached

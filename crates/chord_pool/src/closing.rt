@@ -5,7 +5,7 @@ ghost use Rattle.chord_base.specs.Machine.{IsRun, IsComplete};
 ghost use Rattle.chord_base.specs.Story.{IsIn};
 ghost use Rattle.chord_code.specs.Meaning.{code_program};
 ghost use Rattle.chord_rule.specs.Closing.{MayClose, AreQuiet};
-ghost use Rattle.chord_space.specs.Desks.{view, code_of, limits_of, IsDeskOf};
+ghost use Rattle.chord_space.specs.Desks.{view, space_code, space_limits, IsDeskOf};
 ghost use Rattle.chord_space.specs.Ends.{parcels, closing_view};
 ghost use Rattle.chord_pool.specs.Homes.{slot_items, home_items};
 
@@ -75,7 +75,7 @@ pub(crate) fn finish(
     desk: Desk<Parcel>,
     entries: Vec<Entry>,
 ) -> Result<(Journal, Closed<Parcel>), AllocError>
-    requires code { (code_of space ≡ code.now) × (limits_of space ≡ limits.now) }
+    requires code { (space_code space ≡ code.now) × (space_limits space ≡ limits.now) }
     requires desk { IsDeskOf space desk }
     requires alone { ((view desk).first ≡ true) × ((view desk).lent ≡ 0) }
     requires idle { ((view desk).claims ≡ []) × ((view desk).flight ≡ None) }

@@ -5,7 +5,7 @@ ghost use Rattle.chord_space.specs.Desks.{view};
 ghost use Rattle.chord_word.specs.declared.cells.Word.{Word};
 ghost use Rattle.chord_worker.specs.Resting.{IsSameRole, IsSeen};
 ghost use Rattle.chord_pool.specs.Players.{IsOneRun, IsFit, IsSettled};
-ghost use Rattle.chord_pool.specs.Ending.{AreAwake, IsLast, IsOver};
+ghost use Rattle.chord_pool.specs.Ending.{AreAwake, IsLast, IsRunOver};
 
 use crate::run::Run;
 use chord_word::Cell;
@@ -66,7 +66,7 @@ fn turn<'a, R: Wait, G: Gate>(
     requires worker { IsSettled run.now.space.now worker.old }
     requires alone { ((view worker.old.desk).first ≡ true) × ((view worker.old.desk).drawn ≡ true) × ((view worker.old.desk).lent ≡ 0) }
     ensures worker { OnOk result (IsSettled run.now.space.now worker.new × IsSameRole (view worker.old.desk) (view worker.new.desk)) }
-    ensures over { IfOk result (λ over. over ≡ true → IsOver run.now.space.now worker.new) }
+    ensures over { IfOk result (λ over. over ≡ true → IsRunOver run.now.space.now worker.new) }
 {
     if worker.is_spent() {
         return Ok(true);
@@ -96,7 +96,7 @@ pub(crate) fn play_alone<'a, R: Wait, G: Gate>(
 ) -> Result<Worker, AllocError>
     requires run { IsOneRun run.now.space.now run.now.code.now run.now.limits.now }
     requires worker { IsLast run.now.space.now worker }
-    ensures over { IfOk result (λ last. IsOver run.now.space.now last) }
+    ensures over { IfOk result (λ last. IsRunOver run.now.space.now last) }
 {
     let mut worker = worker;
     for _ in rt.forever() {

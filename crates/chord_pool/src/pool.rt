@@ -6,10 +6,10 @@ ghost use Rattle.chord_base.specs.Story.{IsIn};
 ghost use Rattle.chord_code.specs.Meaning.{code_program};
 ghost use Rattle.chord_code.specs.Sound.{IsSoundCode};
 ghost use Rattle.chord_rule.specs.Kinds.{newcomer_first};
-ghost use Rattle.chord_space.specs.Desks.{view, code_of, limits_of, IsDeskOf};
+ghost use Rattle.chord_space.specs.Desks.{view, space_code, space_limits, IsDeskOf};
 ghost use Rattle.chord_space.specs.Ends.{closing_view};
 ghost use Rattle.chord_pool.specs.Players.{IsOneRun, IsCrew, IsBack};
-ghost use Rattle.chord_pool.specs.Ending.{IsLast, IsOver};
+ghost use Rattle.chord_pool.specs.Ending.{IsLast, IsRunOver};
 
 use crate::closing::finish;
 use crate::crew::{hire, take_all};
@@ -83,7 +83,7 @@ fn play_all<'a, R: Threads + Wait + Sync, G: Gate + Sync>(
     requires run { IsOneRun run.now.space.now run.now.code.now run.now.limits.now }
     requires desk { IsDeskOf run.now.space.now desk × (view desk ≡ newcomer_first) }
     requires workers { (1 ≤ workers) × (workers ≤ 64) }
-    ensures over { IfOk result (λ last. IsOver run.now.space.now last) }
+    ensures over { IfOk result (λ last. IsRunOver run.now.space.now last) }
 {
     let main = Worker::main(alloc, run.space, run.code, run.limits, desk)?;
     let last = play_together(rt, alloc, run, main, workers, gate)?;

@@ -26,15 +26,15 @@ use Rattle.chord_rule.specs.declared.view.Claim.{Claim}
 use Rattle.chord_rule.specs.declared.view.Duty.{Duty}
 use Rattle.chord_rule.specs.declared.view.View.{View}
 use Rattle.chord_rule.specs.Moment.{Moment}
-use Rattle.chord_rule.specs.Numbers.{HasNumber, flag}
+use Rattle.chord_rule.specs.Numbers.{HasNumber, one_if}
 use Rattle.chord_rule.specs.Kinds.{newcomer, gone, MayGo, entry, drew, was_told, claimed}
 use Rattle.chord_rule.specs.Counting.{Counting}
-use Rattle.chord_rule.specs.Bags.{Order, IsStanding, IsArmed, IsConsumed, head_of, cell_of}
+use Rattle.chord_rule.specs.Bags.{LinkOrder, IsStanding, IsArmed, IsConsumed, head_number, cell_of}
 use Rattle.chord_rule.specs.Duties.{HasDuty, DutyLaw, drop_duty, reset_duty, Carries, IsCarried}
 use Rattle.chord_rule.specs.Made.{IsTabled, IsKey, IsChord, key}
 use Rattle.chord_rule.specs.Claims.{HasThe, AreClaimed}
-use Rattle.chord_rule.specs.Parcels.{Begins, IsParked}
-use Rattle.chord_rule.specs.Stages.{Placing, Flying, Claiming, Emptying, Posting, Starting, Stage, InHand, Armed, Spent, Posted, Played, what_at, message_in}
+use Rattle.chord_rule.specs.Parcels.{BeginsThere, IsParkedThere}
+use Rattle.chord_rule.specs.Stages.{Placing, Flying, Claiming, Emptying, Posting, Starting, Stage, InHand, Armed, Spent, Posted, Played, said_at, message_in}
 use Rattle.chord_rule.specs.Hands.{hand, IsUnlinked}
 use Rattle.chord_rule.specs.Messages.{IsOpen, Stands}
 use Rattle.chord_rule.specs.Kinds as kinds
@@ -94,14 +94,14 @@ has_reset d (e ∷ es) (inl q) = (e, inl refl, q)
 has_reset d (e ∷ es) (inr h) = let r = has_reset d es h in (r.0, inr r.1, r.2)
 
 -- a duty whose walks are dropped carries all that it carried
-reset_carries : (o : Order) (d : Duty) (xs : List ℕ) → Carries o d xs → Carries o (reset_duty d) xs
+reset_carries : (o : LinkOrder) (d : Duty) (xs : List ℕ) → Carries o d xs → Carries o (reset_duty d) xs
 reset_carries o d xs c = record { on = refl; of = c.of; walks = λ w h. absurd h }
 
 module _ {P : Type 0} (entries : P → List Entry) (arguments : P → List value.Value) (keeps_to : P → Type 0) (p : Program) (n : ℕ) (small : n ≤ 65536) (m : Moment P) (u : Unseen) (law : Agrees entries arguments keeps_to p n m u)
     (id : ℕ) (v : View) (at : get_elem? m.views id ≡ some v) where
   -- what this stage says of the number i holds of its entry, its cell, its place word, its slot, its bag and its next
   abbrev pub It : ℕ → Stage → Type 0
-  It i s = Stands s (what_at i u.journal) (m.cells i) (m.places i) (m.homes i) (u.order.bag i) (u.order.next i)
+  It i s = Stands s (said_at i u.journal) (m.cells i) (m.places i) (m.homes i) (u.order.bag i) (u.order.next i)
 
   -- a number stands as its stage says
   pub it : (i : ℕ) (s : Stage) → u.stage i ≡ s → It i s
@@ -121,7 +121,7 @@ module _ {P : Type 0} (entries : P → List Entry) (arguments : P → List value
 
   -- a step that leaves the counter and the flag of the limit alone
   counting_stays : (w : View) → w.spent ≡ v.spent → w.splits ≡ v.splits → Counting n m.count (set m.views id w)
-  counting_stays w a b = counts n m.count m.count m.views id v w law.counting at (let c = law.counting.bound in let t = told_set m.views id v w at in let f = ap flag a in omega arith) (λ _. b)
+  counting_stays w a b = counts n m.count m.count m.views id v w law.counting at (let c = law.counting.bound in let t = told_set m.views id v w at in let f = ap one_if a in omega arith) (λ _. b)
 
   -- each desk knows the bags of its duties after a step that links nothing, if the desk that steps does
   tied_stays : (w : View) → ((d : Duty) → HasDuty d w.duties → u.order.bag d.message ≡ Some d.bag) → Tied (set m.views id w) u.order.bag
@@ -159,7 +159,7 @@ module _ {P : Type 0} (entries : P → List Entry) (arguments : P → List value
 
   -- the table still agrees once the desk is told that the limit is reached
   pub agrees_told : 0 < n → n ≤ m.count → v.spent ≡ false → Agrees entries arguments keeps_to p n (record m { count = m.count + 1; views = set m.views id (was_told v) }) u
-  agrees_told any full untold = let b = law.counting.bound in let t = told_set m.views id v (was_told v) at in let f : flag v.spent ≡ 0 = ap flag untold in record {
+  agrees_told any full untold = let b = law.counting.bound in let t = told_set m.views id v (was_told v) at in let f : one_if v.spent ≡ 0 = ap one_if untold in record {
     tabled = law.tabled;
     counting = counts n m.count (m.count + 1) m.views id v (was_told v) law.counting at (omega arith) (λ _. refl);
     firsts = firsts_told n m.count m.views law.counting law.firsts id v at (m.count + 1) (was_told v) (omega (arith, any, full)) (omega arith) refl refl refl;
@@ -209,9 +209,9 @@ module _ {P : Type 0} (entries : P → List Entry) (arguments : P → List value
 
   -- the table still agrees once a firing is drawn with claims on its members
   pub agrees_draw_firing : (k : ℕ) (object : Object) (js ms : List ℕ) (vs : List value.Value) → m.count < n → slice_get (p.chords object.class) k ≡ Some js → AreClaimed v.claims object js ms vs
-      → Agrees entries arguments keeps_to p n (record m { count = m.count + 1; views = set m.views id (kinds.fired v m.count k object ms vs) })
+      → Agrees entries arguments keeps_to p n (record m { count = m.count + 1; views = set m.views id (kinds.firing_drawn v m.count k object ms vs) })
       (record u { journal = entry m.count m.count (Fired k object ms vs) ∷ u.journal; stage = kinds.fired_stage id m.count ms u.stage })
-  agrees_draw_firing k object js ms vs room chord members = let w : View = kinds.fired v m.count k object ms vs in let keys = bagging.bag_draw entries arguments keeps_to p n small m u law.stands law.heads law.bags m.count (Fired k object ms vs) room in record {
+  agrees_draw_firing k object js ms vs room chord members = let w : View = kinds.firing_drawn v m.count k object ms vs in let keys = bagging.bag_draw entries arguments keeps_to p n small m u law.stands law.heads law.bags m.count (Fired k object ms vs) room in record {
     tabled = law.tabled;
     counting = counts n m.count (m.count + 1) m.views id v w law.counting at (omega arith) (λ _. refl);
     firsts = firsts_draw n m.count m.views law.counting law.firsts id v at (m.count + 1) w (omega arith) refl refl;
@@ -241,11 +241,11 @@ module _ {P : Type 0} (entries : P → List Entry) (arguments : P → List value
   -- the table still agrees once a message is linked at the head of its bag and its parcel is in its slot
   pub agrees_link : IsTabled p → (i : ℕ) (q : P) (e : Entry) (x : Message) → IsIn e v.kept → e.number ≡ i → message_of e.what ≡ Some x → x.method < 16 → v.placing ≡ Some i → v.flight ≡ None
       → MayGo p v.kept (entries q) → ((e : Entry) (x : Message) → IsIn e (entries q) → message_of e.what ≡ Some x → (e.number ≡ i) ⊎ (IsUnlinked (hand v) e.number → ⊥)) → x.arguments ≡ arguments q → ((e : Entry) → IsIn e v.kept → IsCall i e → IsIn e (entries q))
-      → ((b : ℕ) → Begins b (entries q) → IsParked p (entries q) (Some i) (doing p (entries q) b)) → keeps_to q
-      → (let k = key x.object x.method in let above = m.heads (head_of k) in
-      Agrees entries arguments keeps_to p n (record m { heads = put m.heads (head_of k) (Some i); homes = put m.homes i (some (Some q)); views = set m.views id (kinds.flown v i k above (entries q)) }) (record u { stage = put u.stage i (InHand id (Flying k above)); order = linked_order u.order i k above }))
+      → ((b : ℕ) → BeginsThere b (entries q) → IsParkedThere p (entries q) (Some i) (doing p (entries q) b)) → keeps_to q
+      → (let k = key x.object x.method in let above = m.heads (head_number k) in
+      Agrees entries arguments keeps_to p n (record m { heads = put m.heads (head_number k) (Some i); homes = put m.homes i (some (Some q)); views = set m.views id (kinds.flown v i k above (entries q)) }) (record u { stage = put u.stage i (InHand id (Flying k above)); order = linked_order u.order i k above }))
   agrees_link tabled i q e x is num says method placing free may others args call parked task =
-      let k = key x.object x.method in let above = m.heads (head_of k) in let w : View = kinds.flown v i k above (entries q) in
+      let k = key x.object x.method in let above = m.heads (head_number k) in let w : View = kinds.flown v i k above (entries q) in
       let was = law.stands.hands.holds id v at i Placing placing in let t = it i (InHand id Placing) was in
       let there = standing.entry_says entries arguments keeps_to p n m u law.stands id v at e x i is num says in
       let linked = bagging.bag_link entries arguments keeps_to p n small m u law.stands law.heads law.bags tabled id i x there method was in
@@ -253,7 +253,7 @@ module _ {P : Type 0} (entries : P → List Entry) (arguments : P → List value
         tabled = law.tabled;
         counting = counting_stays w refl refl;
         firsts = firsts_stay n m.count m.views law.counting law.firsts id v at w refl refl refl;
-        stands = standing.stands_link entries arguments keeps_to p n m u law.stands id v at i k above q e x is num says refl method placing free may others args call parked task (put m.heads (head_of k) (Some i));
+        stands = standing.stands_link entries arguments keeps_to p n m u law.stands id v at i k above q e x is num says refl method placing free may others args call parked task (put m.heads (head_number k) (Some i));
         heads = linked.0;
         bags = linked.1;
         tied = record { duties = desks_after (λ j y. (d : Duty) → HasDuty d y.duties → put u.order.bag i (Some k) d.message ≡ Some d.bag) m.views id w (λ d h. near d.message d.bag (law.tied.duties id v at d h)) (λ j y ne a d h. near d.message d.bag (law.tied.duties j y a d h)) };
@@ -277,7 +277,7 @@ module _ {P : Type 0} (entries : P → List Entry) (arguments : P → List value
   }
 
   -- the table still agrees once a pending message is claimed
-  pub agrees_claim : (i : ℕ) (next : Option ℕ) (x : Message) → m.cells i ≡ record { cell = a_cell.Pending; next = next } → message_in (what_at i u.journal) ≡ Some x
+  pub agrees_claim : (i : ℕ) (next : Option ℕ) (x : Message) → m.cells i ≡ record { cell = a_cell.Pending; next = next } → message_in (said_at i u.journal) ≡ Some x
       → Agrees entries arguments keeps_to p n (record m { cells = put m.cells i (record { cell = a_cell.Claimed; next = next }); views = set m.views id (claimed v (claim_on i next x)) }) (record u { stage = put u.stage i (InHand id (Claiming (claim_on i next x))) })
   agrees_claim i next x is says = let w : View = claimed v (claim_on i next x) in let y : Word = record { cell = a_cell.Claimed; next = next } in record {
     tabled = law.tabled;
@@ -354,7 +354,7 @@ module _ {P : Type 0} (entries : P → List Entry) (arguments : P → List value
 
   -- the table still agrees once a firing is posted and its parcel is in its slot
   pub agrees_post : (f : ℕ) (q : P) → v.posting ≡ Some f → MayGo p v.kept (entries q) → ((e : Entry) (x : Message) → IsIn e (entries q) → message_of e.what ≡ Some x → IsUnlinked (hand v) e.number → ⊥)
-      → Begins f (entries q) → ((e : Entry) → IsIn e (entries q) → e.body ≡ f → e.number ≡ f) → ((b : ℕ) → (b ≡ f → ⊥) → Begins b (entries q) → IsParked p (entries q) None (doing p (entries q) b)) → keeps_to q
+      → BeginsThere f (entries q) → ((e : Entry) → IsIn e (entries q) → e.body ≡ f → e.number ≡ f) → ((b : ℕ) → (b ≡ f → ⊥) → BeginsThere b (entries q) → IsParkedThere p (entries q) None (doing p (entries q) b)) → keeps_to q
       → Agrees entries arguments keeps_to p n (record m { cells = put m.cells f (record { cell = a_cell.Ready; next = None }); homes = put m.homes f (some (Some q)); views = set m.views id (kinds.posted v (entries q)) }) (record u { stage = put u.stage f Posted })
   agrees_post f q posting may others begins only parked task = let w : View = kinds.posted v (entries q) in let y : Word = record { cell = a_cell.Ready; next = None } in let t = it f (InHand id Posting) (law.stands.hands.holds id v at f Posting posting) in record {
     tabled = law.tabled;

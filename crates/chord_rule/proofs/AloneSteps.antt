@@ -8,25 +8,25 @@ use Rattle.atomic_table.proofs.Lists.{at_set, set_else}
 use Rattle.chord_word.specs.declared.cells.Word.{Word}
 use Rattle.chord_rule.specs.declared.view.Looked.{Looked}
 use Rattle.chord_rule.specs.declared.view.View.{View}
-use Rattle.chord_rule.specs.Numbers.{flag}
+use Rattle.chord_rule.specs.Numbers.{one_if}
 use Rattle.chord_rule.specs.Kinds.{newcomer, gone, lent_one, united, nothing_looked}
 use Rattle.chord_rule.specs.Alone.{is_live, live_count, Remembers, AloneLaw}
 use Rattle.chord_rule.proofs.Puts.{put, put_all, at_inside, at_end}
 
 -- the count of live desks changes by the one that changes
-pub live_set : (vs : List View) (i : ℕ) (v w : View) → get_elem? vs i ≡ some v → live_count (set vs i w) + flag (is_live v) ≡ live_count vs + flag (is_live w)
+pub live_set : (vs : List View) (i : ℕ) (v w : View) → get_elem? vs i ≡ some v → live_count (set vs i w) + one_if (is_live v) ≡ live_count vs + one_if (is_live w)
 live_set [] i v w at = absurd (some-ne-none v (sym at))
-live_set (x ∷ xs) zero v w at = let e = ap (λ (y : View). flag (is_live y)) (some-injective x v at) in omega arith
+live_set (x ∷ xs) zero v w at = let e = ap (λ (y : View). one_if (is_live y)) (some-injective x v at) in omega arith
 live_set (x ∷ xs) (suc i) v w at = let h = live_set xs i v w at in omega arith
 
 -- where a desk is live the count is not 0
 pub live_some : (vs : List View) (i : ℕ) (v : View) → get_elem? vs i ≡ some v → is_live v ≡ true → 0 < live_count vs
 live_some [] i v at l = absurd (some-ne-none v (sym at))
-live_some (x ∷ xs) zero v at l = let e = ap (λ (y : View). flag (is_live y)) (some-injective x v at) in let f = ap flag l in omega arith
+live_some (x ∷ xs) zero v at l = let e = ap (λ (y : View). one_if (is_live y)) (some-injective x v at) in let f = ap one_if l in omega arith
 live_some (x ∷ xs) (suc i) v at l = let h = live_some xs i v at l in omega arith
 
 -- a desk more
-live_end : (vs : List View) (x : View) → live_count (vs ++ x ∷ []) ≡ live_count vs + flag (is_live x)
+live_end : (vs : List View) (x : View) → live_count (vs ++ x ∷ []) ≡ live_count vs + one_if (is_live x)
 live_end [] x = omega arith
 live_end (y ∷ ys) x = let h = live_end ys x in omega arith
 
@@ -102,7 +102,7 @@ module _ (count : ℕ) (heads : ℕ → Option ℕ) (cells : ℕ → Word) (view
   }
     where
       same : live_count (set views id w) ≡ live_count views
-      same = let s = live_set views id v w at in let f : flag (is_live w) ≡ flag (is_live v) = (λ k. flag (not (first k) && not (gone_same k))) in omega arith
+      same = let s = live_set views id v w at in let f : one_if (is_live w) ≡ one_if (is_live v) = (λ k. one_if (not (first k) && not (gone_same k))) in omega arith
 
   -- the first desk lends one
   pub alone_split : v.first ≡ true → AloneLaw count heads cells (set views id (lent_one v) ++ newcomer ∷ [])
@@ -117,7 +117,7 @@ module _ (count : ℕ) (heads : ℕ → Option ℕ) (cells : ℕ → Word) (view
   }
     where
       more : live_count (set views id (lent_one v) ++ newcomer ∷ []) ≡ live_count views + 1
-      more = let a = live_end (set views id (lent_one v)) newcomer in let s = live_set views id v (lent_one v) at in let f : flag (is_live (lent_one v)) ≡ flag (is_live v) = refl in let g : flag (is_live newcomer) ≡ 1 = refl in omega arith
+      more = let a = live_end (set views id (lent_one v)) newcomer in let s = live_set views id v (lent_one v) at in let f : one_if (is_live (lent_one v)) ≡ one_if (is_live v) = refl in let g : one_if (is_live newcomer) ≡ 1 = refl in omega arith
 
       at_first : 0 ≡ length (set views id (lent_one v)) → ⊥
       at_first z = let l = length-set views id (lent_one v) in let low = at_inside views id v at in omega arith
@@ -139,4 +139,4 @@ module _ (count : ℕ) (heads : ℕ → Option ℕ) (cells : ℕ → Word) (view
       at_other = set_else views id other (united v w) apart ∙ there
 
       less : live_count (set (set views id (united v w)) other gone) + 1 ≡ live_count views
-      less = let a = live_set (set views id (united v w)) other w gone at_other in let s = live_set views id v (united v w) at in let f : flag (is_live (united v w)) ≡ flag (is_live v) = refl in let g : flag (is_live gone) ≡ 0 = refl in let h = ap flag live in omega arith
+      less = let a = live_set (set views id (united v w)) other w gone at_other in let s = live_set views id v (united v w) at in let f : one_if (is_live (united v w)) ≡ one_if (is_live v) = refl in let g : one_if (is_live gone) ≡ 0 = refl in let h = ap one_if live in omega arith

@@ -16,12 +16,12 @@ use Rattle.chord_rule.specs.declared.view.View.{View}
 use Rattle.chord_rule.specs.Moment.{Moment, LinkOk}
 use Rattle.chord_rule.specs.Kinds.{entry}
 use Rattle.chord_rule.specs.Claims.{HasThe}
-use Rattle.chord_rule.specs.Bags.{head_of, IsConsumed, BagLaw}
+use Rattle.chord_rule.specs.Bags.{head_number, IsConsumed, BagLaw}
 use Rattle.chord_rule.specs.Heads.{HeadLaw}
 use Rattle.chord_rule.specs.Made.{IsTabled, key, IsKey}
-use Rattle.chord_rule.specs.Stages.{Fresh, Placing, Flying, Claiming, Emptying, Unposted, Posting, Starting, Stage, Vacant, InHand, Armed, Spent, Posted, Played, what_at, message_in, claimed_message}
+use Rattle.chord_rule.specs.Stages.{Fresh, Placing, Flying, Claiming, Emptying, Unposted, Posting, Starting, Stage, Vacant, InHand, Armed, Spent, Posted, Played, said_at, message_in, claimed_message}
 use Rattle.chord_rule.specs.Messages.{Stands}
-use Rattle.chord_rule.specs.StandsFor.{Unseen, StandsFor}
+use Rattle.chord_rule.specs.StandsFor.{Unseen, StandsForJournal}
 use Rattle.chord_rule.proofs.Puts.{put}
 use Rattle.chord_rule.proofs.Lists.{some_is}
 use Rattle.chord_base.specs.declared.value.Object.{Object}
@@ -31,14 +31,14 @@ use Rattle.chord_rule.proofs.Waiting.{what_entry}
 use Rattle.chord_rule.proofs.Standing.{claim_word, number_low}
 
 module _ {P : Type 0} (entries : P → List Entry) (arguments : P → List value.Value) (keeps_to : P → Type 0) (p : Program) (n : ℕ) (small : n ≤ 65536) (m : Moment P) (u : Unseen)
-    (law : StandsFor entries arguments keeps_to p n m u) (heads : HeadLaw (IsKey u.journal) m.heads) (bags : BagLaw (IsKey u.journal) m.cells m.heads u.order) where
+    (law : StandsForJournal entries arguments keeps_to p n m u) (heads : HeadLaw (IsKey u.journal) m.heads) (bags : BagLaw (IsKey u.journal) m.cells m.heads u.order) where
   -- the journal is a run, newest entry first
   past : IsPast p u.journal
   past = law.keeping.merged.past
 
   -- the number i is in this stage
   abbrev It : ℕ → Stage → Type 0
-  It i s = Stands s (what_at i u.journal) (m.cells i) (m.places i) (m.homes i) (u.order.bag i) (u.order.next i)
+  It i s = Stands s (said_at i u.journal) (m.cells i) (m.places i) (m.homes i) (u.order.bag i) (u.order.next i)
 
   -- each number is in its stage
   it : (i : ℕ) (s : Stage) → u.stage i ≡ s → It i s
@@ -53,10 +53,10 @@ module _ {P : Type 0} (entries : P → List Entry) (arguments : P → List value
   bag_draw b what room = (heads_draw m.cells m.heads u.order u.journal (entry m.count b what) heads, bags_draw m.cells m.heads u.order p u.journal (entry m.count b what) past (let l = law.keeping.long in omega arith) heads bags)
 
   -- the bag of a message
-  pub message_key : IsTabled p → (i : ℕ) (x : Message) → message_in (what_at i u.journal) ≡ Some x → x.method < 16 → IsKey u.journal (key x.object x.method)
-  message_key tabled i x says method = with_entry (what_at i u.journal) refl says
+  pub message_key : IsTabled p → (i : ℕ) (x : Message) → message_in (said_at i u.journal) ≡ Some x → x.method < 16 → IsKey u.journal (key x.object x.method)
+  message_key tabled i x says method = with_entry (said_at i u.journal) refl says
     where
-      with_entry : (w : Option What) → what_at i u.journal ≡ w → message_in w ≡ Some x → IsKey u.journal (key x.object x.method)
+      with_entry : (w : Option What) → said_at i u.journal ≡ w → message_in w ≡ Some x → IsKey u.journal (key x.object x.method)
       with_entry None e s = absurd (let z : Path (Option Message) None (Some x) = s in cc)
       with_entry (Some w) e s =
           let t = what_entry u.journal i w e in
@@ -65,10 +65,10 @@ module _ {P : Type 0} (entries : P → List Entry) (arguments : P → List value
           (x.object, x.method, made, (omega arith), method, refl)
 
   -- the object of a message has a number of the table
-  made_low_of : IsTabled p → (i : ℕ) (x : Message) → message_in (what_at i u.journal) ≡ Some x → x.object.number < 65536
-  made_low_of tabled i x says = with_entry (what_at i u.journal) refl says
+  made_low_of : IsTabled p → (i : ℕ) (x : Message) → message_in (said_at i u.journal) ≡ Some x → x.object.number < 65536
+  made_low_of tabled i x says = with_entry (said_at i u.journal) refl says
     where
-      with_entry : (w : Option What) → what_at i u.journal ≡ w → message_in w ≡ Some x → x.object.number < 65536
+      with_entry : (w : Option What) → said_at i u.journal ≡ w → message_in w ≡ Some x → x.object.number < 65536
       with_entry None e s = absurd (let z : Path (Option Message) None (Some x) = s in cc)
       with_entry (Some w) e s =
           let t = what_entry u.journal i w e in
@@ -91,8 +91,8 @@ module _ {P : Type 0} (entries : P → List Entry) (arguments : P → List value
   linked_low y k Played e b = absurd (let z = sym (it y Played e).4 ∙ b in cc)
 
   -- a message is linked
-  pub bag_link : IsTabled p → (id i : ℕ) (x : Message) → message_in (what_at i u.journal) ≡ Some x → x.method < 16 → u.stage i ≡ InHand id Placing
-      → (let k = key x.object x.method in HeadLaw (IsKey u.journal) (put m.heads (head_of k) (Some i)) × BagLaw (IsKey u.journal) m.cells (put m.heads (head_of k) (Some i)) (linked_order u.order i k (m.heads (head_of k))))
+  pub bag_link : IsTabled p → (id i : ℕ) (x : Message) → message_in (said_at i u.journal) ≡ Some x → x.method < 16 → u.stage i ≡ InHand id Placing
+      → (let k = key x.object x.method in HeadLaw (IsKey u.journal) (put m.heads (head_number k) (Some i)) × BagLaw (IsKey u.journal) m.cells (put m.heads (head_number k) (Some i)) (linked_order u.order i k (m.heads (head_number k))))
   bag_link tabled id i x says method was =
       let is = message_key tabled i x says method in let t = it i (InHand id Placing) was in (
         heads_link (IsKey u.journal) m.heads (key x.object x.method) i is heads,

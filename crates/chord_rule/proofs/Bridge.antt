@@ -18,23 +18,23 @@ use Rattle.chord_rule.proofs.Puts.{put, put_here, put_else, put_all}
 
 module _ {P : Type 0} where
   -- the slots once those that are out with a desk are home again
-  abbrev pub back : (ℕ → Home P) → List (ℕ × Option P) → ℕ → Home P
-  back h [] = h
-  back h (x ∷ xs) = put h x.0 (some x.1)
+  abbrev pub brought_back : (ℕ → Home P) → List (ℕ × Option P) → ℕ → Home P
+  brought_back h [] = h
+  brought_back h (x ∷ xs) = put h x.0 (some x.1)
 
   -- the slots after an act
-  abbrev pub after : (ℕ → Home P) → List (ℕ × Option P) → Act (Option P) → ℕ → Home P
-  after h c keeps = h
-  after h c (takes k y) = put h k none
-  after h c gives = back h c
-  after h c (chain a b) = after (after h c a) (carried_after c a) b
+  abbrev pub after_act : (ℕ → Home P) → List (ℕ × Option P) → Act (Option P) → ℕ → Home P
+  after_act h c keeps = h
+  after_act h c (takes k y) = put h k none
+  after_act h c gives = brought_back h c
+  after_act h c (chain a b) = after_act (after_act h c a) (carried_after c a) b
 
   -- the act is possible
   abbrev pub Can : ℕ → (ℕ → Home P) → List (ℕ × Option P) → Act (Option P) → Type 0
   Can n h c keeps = Unit {0}
   Can n h c (takes k y) = (k < n) × (h k ≡ some y)
   Can n h c gives = Unit {0}
-  Can n h c (chain a b) = Can n h c a × Can n (after h c a) (carried_after c a) b
+  Can n h c (chain a b) = Can n h c a × Can n (after_act h c a) (carried_after c a) b
 
   -- the slots of the table are these, below n
   abbrev Shown : ℕ → List (Home P) → (ℕ → Home P) → Type 0
@@ -50,27 +50,27 @@ module _ {P : Type 0} where
   )
 
   -- slots that come home in the table come home in what is shown
-  shown_back : (n : ℕ) (hs : List (Home P)) (h : ℕ → Home P) (c : List (ℕ × Option P)) → Shown n hs h → Shown n (put_back hs c) (back h c)
+  shown_back : (n : ℕ) (hs : List (Home P)) (h : ℕ → Home P) (c : List (ℕ × Option P)) → Shown n hs h → Shown n (put_back hs c) (brought_back h c)
   shown_back n hs h [] s = s
   shown_back n hs h (x ∷ xs) s = shown_put n hs h x.0 (some x.1) s
 
   -- the slots of the table after an act are the slots that are shown after it
-  shown_after : (n : ℕ) (hs : List (Home P)) (h : ℕ → Home P) (c : List (ℕ × Option P)) (a : Act (Option P)) → Shown n hs h → Shown n (homes_after hs c a) (after h c a)
+  shown_after : (n : ℕ) (hs : List (Home P)) (h : ℕ → Home P) (c : List (ℕ × Option P)) (a : Act (Option P)) → Shown n hs h → Shown n (homes_after hs c a) (after_act h c a)
   shown_after n hs h c keeps s = s
   shown_after n hs h c (takes k y) s = shown_put n hs h k none s
   shown_after n hs h c gives s = shown_back n hs h c s
-  shown_after n hs h c (chain a b) s = shown_after n (homes_after hs c a) (after h c a) (carried_after c a) b (shown_after n hs h c a s)
+  shown_after n hs h c (chain a b) s = shown_after n (homes_after hs c a) (after_act h c a) (carried_after c a) b (shown_after n hs h c a s)
 
   -- an act that is possible in what is shown is one that the table allows
   valid_after : (n : ℕ) (hs : List (Home P)) (h : ℕ → Home P) (c : List (ℕ × Option P)) (a : Act (Option P)) → Shown n hs h → Can n h c a → Valid hs c a
   valid_after n hs h c keeps s can = tt
   valid_after n hs h c (takes k y) s can = s.1 k can.0 ∙ ap some can.1
   valid_after n hs h c gives s can = tt
-  valid_after n hs h c (chain a b) s can = (valid_after n hs h c a s can.0, valid_after n (homes_after hs c a) (after h c a) (carried_after c a) b (shown_after n hs h c a s) can.1)
+  valid_after n hs h c (chain a b) s can = (valid_after n hs h c a s can.0, valid_after n (homes_after hs c a) (after_act h c a) (carried_after c a) b (shown_after n hs h c a s) can.1)
 
   -- the words other than word i
   shows_counter : (n : ℕ) (m : Moment P) (s : State (Option P) View) (x id : ℕ) (c : List (ℕ × Option P)) (w : View) (a : Act (Option P)) → Shows n m s
-      → Shows n (record m { count = x; homes = after m.homes c a; views = set m.views id w }) (stepped s 0 x id c w a)
+      → Shows n (record m { count = x; homes = after_act m.homes c a; views = set m.views id w }) (stepped s 0 x id c w a)
   shows_counter n m s x id c w a k = let h = shown_after n s.homes m.homes c a (k.deep, k.homes) in let wide = k.wide in record {
     wide = length-set s.words 0 x ∙ k.wide;
     deep = h.0;
@@ -84,7 +84,7 @@ module _ {P : Type 0} where
 
   -- a table with another cell shows the moment with that cell
   shows_cell : (n : ℕ) (m : Moment P) (s : State (Option P) View) (i id : ℕ) (x : Word) (c : List (ℕ × Option P)) (w : View) (a : Act (Option P)) → i < n → WordFits x → Shows n m s
-      → Shows n (record m { cells = put m.cells i x; homes = after m.homes c a; views = set m.views id w }) (stepped s (1 + i) (word_of x) id c w a)
+      → Shows n (record m { cells = put m.cells i x; homes = after_act m.homes c a; views = set m.views id w }) (stepped s (1 + i) (word_of x) id c w a)
   shows_cell n m s i id x c w a low fits k = let h = shown_after n s.homes m.homes c a (k.deep, k.homes) in let wide = k.wide in record {
     wide = length-set s.words (1 + i) (word_of x) ∙ k.wide;
     deep = h.0;
@@ -100,7 +100,7 @@ module _ {P : Type 0} where
 
   -- a table with another head shows the moment with that head
   shows_head : (n : ℕ) (m : Moment P) (s : State (Option P) View) (i id : ℕ) (x : Option ℕ) (c : List (ℕ × Option P)) (w : View) (a : Act (Option P)) → i < 16 * n → LinkOk x → Shows n m s
-      → Shows n (record m { heads = put m.heads i x; homes = after m.homes c a; views = set m.views id w }) (stepped s (1 + n + i) (link_of x) id c w a)
+      → Shows n (record m { heads = put m.heads i x; homes = after_act m.homes c a; views = set m.views id w }) (stepped s (1 + n + i) (link_of x) id c w a)
   shows_head n m s i id x c w a low fits k = let h = shown_after n s.homes m.homes c a (k.deep, k.homes) in let wide = k.wide in record {
     wide = length-set s.words (1 + n + i) (link_of x) ∙ k.wide;
     deep = h.0;
@@ -116,7 +116,7 @@ module _ {P : Type 0} where
 
   -- a table with another place word shows the moment with that place
   shows_place : (n : ℕ) (m : Moment P) (s : State (Option P) View) (i id : ℕ) (x : Option Place) (c : List (ℕ × Option P)) (w : View) (a : Act (Option P)) → i < n → PlaceOk x → Shows n m s
-      → Shows n (record m { places = put m.places i x; homes = after m.homes c a; views = set m.views id w }) (stepped s (1 + 17 * n + i) (word_at_place x) id c w a)
+      → Shows n (record m { places = put m.places i x; homes = after_act m.homes c a; views = set m.views id w }) (stepped s (1 + 17 * n + i) (word_at_place x) id c w a)
   shows_place n m s i id x c w a low fits k = let h = shown_after n s.homes m.homes c a (k.deep, k.homes) in let wide = k.wide in record {
     wide = length-set s.words (1 + 17 * n + i) (word_at_place x) ∙ k.wide;
     deep = h.0;
@@ -132,9 +132,9 @@ module _ {P : Type 0} where
 
   -- a load of the word i
   shows_look : (n : ℕ) (m : Moment P) (s : State (Option P) View) (i id : ℕ) (c : List (ℕ × Option P)) (w : View) (a : Act (Option P)) → Shows n m s
-      → Shows n (record m { homes = after m.homes c a; views = set m.views id w }) (stepped s i (get_or s.words i 0) id c w a)
+      → Shows n (record m { homes = after_act m.homes c a; views = set m.views id w }) (stepped s i (get_or s.words i 0) id c w a)
   shows_look n m s i id c w a k = let h = shown_after n s.homes m.homes c a (k.deep, k.homes) in
-      subst (λ (ws : List ℕ). Shows n (record m { homes = after m.homes c a; views = set m.views id w }) record { words = ws; homes = homes_after s.homes c a; views = set s.views id w }) (sym (set-get_or s.words i 0)) record {
+      subst (λ (ws : List ℕ). Shows n (record m { homes = after_act m.homes c a; views = set m.views id w }) record { words = ws; homes = homes_after s.homes c a; views = set s.views id w }) (sym (set-get_or s.words i 0)) record {
         wide = k.wide;
         deep = h.0;
         count = k.count;
@@ -150,7 +150,7 @@ module _ {P : Type 0} where
     pub counter_step : (id : ℕ) (me : Me (Option P) View) (f : ℕ → ℕ) (then : ℕ → Me (Option P) View → Type 0)
         → ((m : Moment P) (g : G) → R m g → get_elem? m.views id ≡ some me.0 → m.count < 18446744073709551616
         → (w : View) × (a : Act (Option P)) × (g' : G) × Can n m.homes me.1 a
-        × R (record m { count = f m.count; homes = after m.homes me.1 a; views = set m.views id w }) g' × then m.count (w, carried_after me.1 a))
+        × R (record m { count = f m.count; homes = after_act m.homes me.1 a; views = set m.views id w }) g' × then m.count (w, carried_after me.1 a))
         → Allows (HeldBy G R n) n id me 0 f then
     counter_step id me f then k s h deep at fits = let sh = h.shows in let m = h.moment in
         let r = k m h.ghosts h.rule (subst (λ (vs : List View). get_elem? vs id ≡ some me.0) sh.views at) (subst (λ (x : ℕ). x < 18446744073709551616) sh.count fits) in (
@@ -158,10 +158,10 @@ module _ {P : Type 0} where
           r.1,
           valid_after n s.homes m.homes me.1 r.1 (sh.deep, sh.homes) r.3,
           record {
-            moment = record m { count = f (get_or s.words 0 0); homes = after m.homes me.1 r.1; views = set m.views id r.0 };
+            moment = record m { count = f (get_or s.words 0 0); homes = after_act m.homes me.1 r.1; views = set m.views id r.0 };
             ghosts = r.2;
             shows = shows_counter n m s (f (get_or s.words 0 0)) id me.1 r.0 r.1 sh;
-            rule = subst (λ (x : ℕ). R (record m { count = f x; homes = after m.homes me.1 r.1; views = set m.views id r.0 }) r.2) (sym sh.count) r.4;
+            rule = subst (λ (x : ℕ). R (record m { count = f x; homes = after_act m.homes me.1 r.1; views = set m.views id r.0 }) r.2) (sym sh.count) r.4;
           },
           subst (λ (x : ℕ). then x (r.0, carried_after me.1 r.1)) (sym sh.count) r.5,
         )
@@ -177,61 +177,61 @@ module _ {P : Type 0} where
     -- a store to the cell i
     pub store_cell : (id : ℕ) (me : Me (Option P) View) (i : ℕ) (x : Word) (then : Me (Option P) View → Type 0) → i < n
         → ((m : Moment P) (g : G) → R m g → get_elem? m.views id ≡ some me.0 → WordFits (m.cells i)
-        → WordFits x × Goes m me (λ w a. record m { cells = put m.cells i x; homes = after m.homes me.1 a; views = set m.views id w }) (λ w a. then (w, carried_after me.1 a)))
+        → WordFits x × Goes m me (λ w a. record m { cells = put m.cells i x; homes = after_act m.homes me.1 a; views = set m.views id w }) (λ w a. then (w, carried_after me.1 a)))
         → Allows (HeldBy G R n) n id me (1 + i) (λ _. word_of x) (λ _. then)
     store_cell id me i x then low k s h deep at word = let sh = h.shows in let m = h.moment in let kr = k m h.ghosts h.rule (found m s id me.0 sh at) (sh.cells i low).1 in let fits = kr.0 in let r = kr.1 in (
       r.0,
       r.1,
       valid_after n s.homes m.homes me.1 r.1 (sh.deep, sh.homes) r.3,
-      record { moment = record m { cells = put m.cells i x; homes = after m.homes me.1 r.1; views = set m.views id r.0 }; ghosts = r.2; shows = shows_cell n m s i id x me.1 r.0 r.1 low fits sh; rule = r.4 },
+      record { moment = record m { cells = put m.cells i x; homes = after_act m.homes me.1 r.1; views = set m.views id r.0 }; ghosts = r.2; shows = shows_cell n m s i id x me.1 r.0 r.1 low fits sh; rule = r.4 },
       r.5,
     )
 
     -- a swap of the head i
     pub swap_head : (id : ℕ) (me : Me (Option P) View) (i : ℕ) (x : Option ℕ) (then : ℕ → Me (Option P) View → Type 0) → i < 16 * n → LinkOk x
         → ((m : Moment P) (g : G) → R m g → get_elem? m.views id ≡ some me.0 → LinkOk (m.heads i)
-        → Goes m me (λ w a. record m { heads = put m.heads i x; homes = after m.homes me.1 a; views = set m.views id w }) (λ w a. then (link_of (m.heads i)) (w, carried_after me.1 a)))
+        → Goes m me (λ w a. record m { heads = put m.heads i x; homes = after_act m.homes me.1 a; views = set m.views id w }) (λ w a. then (link_of (m.heads i)) (w, carried_after me.1 a)))
         → Allows (HeldBy G R n) n id me (1 + n + i) (λ _. link_of x) then
     swap_head id me i x then low fits k s h deep at word = let sh = h.shows in let m = h.moment in let r = k m h.ghosts h.rule (found m s id me.0 sh at) (sh.heads i low).1 in (
       r.0,
       r.1,
       valid_after n s.homes m.homes me.1 r.1 (sh.deep, sh.homes) r.3,
-      record { moment = record m { heads = put m.heads i x; homes = after m.homes me.1 r.1; views = set m.views id r.0 }; ghosts = r.2; shows = shows_head n m s i id x me.1 r.0 r.1 low fits sh; rule = r.4 },
+      record { moment = record m { heads = put m.heads i x; homes = after_act m.homes me.1 r.1; views = set m.views id r.0 }; ghosts = r.2; shows = shows_head n m s i id x me.1 r.0 r.1 low fits sh; rule = r.4 },
       subst (λ (y : ℕ). then y (r.0, carried_after me.1 r.1)) (sym (sh.heads i low).0) r.5,
     )
 
     -- a store to the place i
     pub store_place : (id : ℕ) (me : Me (Option P) View) (i : ℕ) (x : Option Place) (then : Me (Option P) View → Type 0) → i < n → PlaceOk x
         → ((m : Moment P) (g : G) → R m g → get_elem? m.views id ≡ some me.0
-        → Goes m me (λ w a. record m { places = put m.places i x; homes = after m.homes me.1 a; views = set m.views id w }) (λ w a. then (w, carried_after me.1 a)))
+        → Goes m me (λ w a. record m { places = put m.places i x; homes = after_act m.homes me.1 a; views = set m.views id w }) (λ w a. then (w, carried_after me.1 a)))
         → Allows (HeldBy G R n) n id me (1 + 17 * n + i) (λ _. word_at_place x) (λ _. then)
     store_place id me i x then low fits k s h deep at word = let sh = h.shows in let m = h.moment in let r = k m h.ghosts h.rule (found m s id me.0 sh at) in (
       r.0,
       r.1,
       valid_after n s.homes m.homes me.1 r.1 (sh.deep, sh.homes) r.3,
-      record { moment = record m { places = put m.places i x; homes = after m.homes me.1 r.1; views = set m.views id r.0 }; ghosts = r.2; shows = shows_place n m s i id x me.1 r.0 r.1 low fits sh; rule = r.4 },
+      record { moment = record m { places = put m.places i x; homes = after_act m.homes me.1 r.1; views = set m.views id r.0 }; ghosts = r.2; shows = shows_place n m s i id x me.1 r.0 r.1 low fits sh; rule = r.4 },
       r.5,
     )
 
     -- a load of the cell i
     pub load_cell : (id : ℕ) (me : Me (Option P) View) (i : ℕ) (then : ℕ → Me (Option P) View → Type 0) → i < n
         → ((m : Moment P) (g : G) → R m g → get_elem? m.views id ≡ some me.0 → WordFits (m.cells i)
-        → Goes m me (λ w a. record m { homes = after m.homes me.1 a; views = set m.views id w }) (λ w a. then (word_of (m.cells i)) (w, carried_after me.1 a)))
+        → Goes m me (λ w a. record m { homes = after_act m.homes me.1 a; views = set m.views id w }) (λ w a. then (word_of (m.cells i)) (w, carried_after me.1 a)))
         → Allows (HeldBy G R n) n id me (1 + i) (λ x. x) then
     load_cell id me i then low k s h deep at word = let sh = h.shows in let m = h.moment in let r = k m h.ghosts h.rule (found m s id me.0 sh at) (sh.cells i low).1 in (
       r.0,
       r.1,
       valid_after n s.homes m.homes me.1 r.1 (sh.deep, sh.homes) r.3,
-      record { moment = record m { homes = after m.homes me.1 r.1; views = set m.views id r.0 }; ghosts = r.2; shows = shows_look n m s (1 + i) id me.1 r.0 r.1 sh; rule = r.4 },
+      record { moment = record m { homes = after_act m.homes me.1 r.1; views = set m.views id r.0 }; ghosts = r.2; shows = shows_look n m s (1 + i) id me.1 r.0 r.1 sh; rule = r.4 },
       subst (λ (y : ℕ). then y (r.0, carried_after me.1 r.1)) (sym (sh.cells i low).0) r.5,
     )
 
     -- a compare-exchange of the cell i, which goes from x to y
     pub exchange_cell : (id : ℕ) (me : Me (Option P) View) (i : ℕ) (x y : Word) (then : ℕ → Me (Option P) View → Type 0) → i < n → WordFits x → WordFits y
         → ((m : Moment P) (g : G) → R m g → get_elem? m.views id ≡ some me.0 → m.cells i ≡ x
-        → Goes m me (λ w a. record m { cells = put m.cells i y; homes = after m.homes me.1 a; views = set m.views id w }) (λ w a. then (word_of x) (w, carried_after me.1 a)))
+        → Goes m me (λ w a. record m { cells = put m.cells i y; homes = after_act m.homes me.1 a; views = set m.views id w }) (λ w a. then (word_of x) (w, carried_after me.1 a)))
         → ((m : Moment P) (g : G) → R m g → get_elem? m.views id ≡ some me.0 → WordFits (m.cells i) → word_of (m.cells i) ≢ word_of x
-        → Goes m me (λ w a. record m { homes = after m.homes me.1 a; views = set m.views id w }) (λ w a. then (word_of (m.cells i)) (w, carried_after me.1 a)))
+        → Goes m me (λ w a. record m { homes = after_act m.homes me.1 a; views = set m.views id w }) (λ w a. then (word_of (m.cells i)) (w, carried_after me.1 a)))
         → Allows (HeldBy G R n) n id me (1 + i) (λ z. either (eqb z (word_of x)) (word_of y) z) then
     exchange_cell id me i x y then low xfits yfits hit miss s h deep at word = let sh = h.shows in let m = h.moment in let c = sh.cells i low in let at' = found m s id me.0 sh at in dite (ℕ_discrete (word_of (m.cells i)) (word_of x))
         (λ e. let r = hit m h.ghosts h.rule at' (same_word (m.cells i) x c.1 xfits e) in (
@@ -239,9 +239,9 @@ module _ {P : Type 0} where
           r.1,
           valid_after n s.homes m.homes me.1 r.1 (sh.deep, sh.homes) r.3,
           record {
-            moment = record m { cells = put m.cells i y; homes = after m.homes me.1 r.1; views = set m.views id r.0 };
+            moment = record m { cells = put m.cells i y; homes = after_act m.homes me.1 r.1; views = set m.views id r.0 };
             ghosts = r.2;
-            shows = subst (λ (z : ℕ). Shows n (record m { cells = put m.cells i y; homes = after m.homes me.1 r.1; views = set m.views id r.0 }) (stepped s (1 + i) z id me.1 r.0 r.1))
+            shows = subst (λ (z : ℕ). Shows n (record m { cells = put m.cells i y; homes = after_act m.homes me.1 r.1; views = set m.views id r.0 }) (stepped s (1 + i) z id me.1 r.0 r.1))
                 (ap (λ (b : Bool). either b (word_of y) (get_or s.words (1 + i) 0)) (sym (eq-eqb (get_or s.words (1 + i) 0) (word_of x) (c.0 ∙ e)))) (shows_cell n m s i id y me.1 r.0 r.1 low yfits sh);
             rule = r.4;
           },
@@ -252,9 +252,9 @@ module _ {P : Type 0} where
           r.1,
           valid_after n s.homes m.homes me.1 r.1 (sh.deep, sh.homes) r.3,
           record {
-            moment = record m { homes = after m.homes me.1 r.1; views = set m.views id r.0 };
+            moment = record m { homes = after_act m.homes me.1 r.1; views = set m.views id r.0 };
             ghosts = r.2;
-            shows = subst (λ (z : ℕ). Shows n (record m { homes = after m.homes me.1 r.1; views = set m.views id r.0 }) (stepped s (1 + i) z id me.1 r.0 r.1))
+            shows = subst (λ (z : ℕ). Shows n (record m { homes = after_act m.homes me.1 r.1; views = set m.views id r.0 }) (stepped s (1 + i) z id me.1 r.0 r.1))
                 (ap (λ (b : Bool). either b (word_of y) (get_or s.words (1 + i) 0)) (sym (ne_eqb (get_or s.words (1 + i) 0) (word_of x) (λ q. ne (sym c.0 ∙ q))))) (shows_look n m s (1 + i) id me.1 r.0 r.1 sh);
             rule = r.4;
           },
@@ -264,25 +264,25 @@ module _ {P : Type 0} where
     -- a load of the head i
     pub load_head : (id : ℕ) (me : Me (Option P) View) (i : ℕ) (then : ℕ → Me (Option P) View → Type 0) → i < 16 * n
         → ((m : Moment P) (g : G) → R m g → get_elem? m.views id ≡ some me.0 → LinkOk (m.heads i)
-        → Goes m me (λ w a. record m { homes = after m.homes me.1 a; views = set m.views id w }) (λ w a. then (link_of (m.heads i)) (w, carried_after me.1 a)))
+        → Goes m me (λ w a. record m { homes = after_act m.homes me.1 a; views = set m.views id w }) (λ w a. then (link_of (m.heads i)) (w, carried_after me.1 a)))
         → Allows (HeldBy G R n) n id me (1 + n + i) (λ x. x) then
     load_head id me i then low k s h deep at word = let sh = h.shows in let m = h.moment in let r = k m h.ghosts h.rule (found m s id me.0 sh at) (sh.heads i low).1 in (
       r.0,
       r.1,
       valid_after n s.homes m.homes me.1 r.1 (sh.deep, sh.homes) r.3,
-      record { moment = record m { homes = after m.homes me.1 r.1; views = set m.views id r.0 }; ghosts = r.2; shows = shows_look n m s (1 + n + i) id me.1 r.0 r.1 sh; rule = r.4 },
+      record { moment = record m { homes = after_act m.homes me.1 r.1; views = set m.views id r.0 }; ghosts = r.2; shows = shows_look n m s (1 + n + i) id me.1 r.0 r.1 sh; rule = r.4 },
       subst (λ (y : ℕ). then y (r.0, carried_after me.1 r.1)) (sym (sh.heads i low).0) r.5,
     )
 
     -- a load of the place i
     pub load_place : (id : ℕ) (me : Me (Option P) View) (i : ℕ) (then : ℕ → Me (Option P) View → Type 0) → i < n
         → ((m : Moment P) (g : G) → R m g → get_elem? m.views id ≡ some me.0 → PlaceOk (m.places i)
-        → Goes m me (λ w a. record m { homes = after m.homes me.1 a; views = set m.views id w }) (λ w a. then (word_at_place (m.places i)) (w, carried_after me.1 a)))
+        → Goes m me (λ w a. record m { homes = after_act m.homes me.1 a; views = set m.views id w }) (λ w a. then (word_at_place (m.places i)) (w, carried_after me.1 a)))
         → Allows (HeldBy G R n) n id me (1 + 17 * n + i) (λ x. x) then
     load_place id me i then low k s h deep at word = let sh = h.shows in let m = h.moment in let r = k m h.ghosts h.rule (found m s id me.0 sh at) (sh.places i low).1 in (
       r.0,
       r.1,
       valid_after n s.homes m.homes me.1 r.1 (sh.deep, sh.homes) r.3,
-      record { moment = record m { homes = after m.homes me.1 r.1; views = set m.views id r.0 }; ghosts = r.2; shows = shows_look n m s (1 + 17 * n + i) id me.1 r.0 r.1 sh; rule = r.4 },
+      record { moment = record m { homes = after_act m.homes me.1 r.1; views = set m.views id r.0 }; ghosts = r.2; shows = shows_look n m s (1 + 17 * n + i) id me.1 r.0 r.1 sh; rule = r.4 },
       subst (λ (y : ℕ). then y (r.0, carried_after me.1 r.1)) (sym (sh.places i low).0) r.5,
     )

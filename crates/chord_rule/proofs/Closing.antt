@@ -34,9 +34,9 @@ use Rattle.chord_rule.specs.Duties.{HasDuty, Chosen}
 use Rattle.chord_rule.specs.Hands.{IsUnarmed}
 use Rattle.chord_rule.specs.Keeping.{parcel, at_desk, at_home, kept_at}
 use Rattle.chord_rule.specs.Kinds.{gone}
-use Rattle.chord_rule.specs.Made.{IsChord, key, keys}
+use Rattle.chord_rule.specs.Made.{IsChord, key, bag_keys}
 use Rattle.chord_rule.specs.Minded.{IsWaiting}
-use Rattle.chord_rule.specs.Parcels.{Begins, IsParked}
+use Rattle.chord_rule.specs.Parcels.{BeginsThere, IsParkedThere}
 use Rattle.chord_rule.specs.Pending.{IsPending}
 use Rattle.chord_rule.specs.StandsFor.{Unseen}
 use Rattle.chord_rule.specs.Whole.{Whole}
@@ -65,20 +65,20 @@ asks_seen : (p : Program) (h : List Entry) (b : ℕ) (w : What) → Asks p h b w
 asks_seen p h b w a e = let z : asked p Absent ≡ Some _ = sym (ap (asked p) e) ∙ a.1 in cc
 
 -- a body that does anything in a history that is told has its first entry there
-pub begins_there : (p : Program) (h : List Entry) (b : ℕ) → IsTold p h → (doing p h b ≡ Absent) ⊎ Begins b h
+pub begins_there : (p : Program) (h : List Entry) (b : ℕ) → IsTold p h → (doing p h b ≡ Absent) ⊎ BeginsThere b h
 begins_there p [] b t = inl refl
 begins_there p (e ∷ h) b t = elim (either (e.body == b)) [
   | inl y ↦ inr (own_begins (begins_there p h b t.0) e.what (eqb-true e.body b y) t.2)
   | inr o ↦ ⊎_elim (λ a. inl (rw o (ap (heard e.what (serves p e.body h)) a ∙ heard_absent e.what (serves p e.body h)))) (λ k. inr (k.0, inr k.1, k.2, k.3)) (begins_there p h b t.0)
 ]
   where
-    later : Begins b h → Begins b (e ∷ h)
+    later : BeginsThere b h → BeginsThere b (e ∷ h)
     later k = (k.0, inr k.1, k.2, k.3)
 
-    of_ask : (doing p h b ≡ Absent) ⊎ Begins b h → (w : What) → e.body ≡ b → Asks p h e.body w → Begins b (e ∷ h)
+    of_ask : (doing p h b ≡ Absent) ⊎ BeginsThere b h → (w : What) → e.body ≡ b → Asks p h e.body w → BeginsThere b (e ∷ h)
     of_ask r w y a = ⊎_elim (λ z. absurd (asks_seen p h b w (subst (λ (x : ℕ). Asks p h x w) y a) z)) later r
 
-    own_begins : (doing p h b ≡ Absent) ⊎ Begins b h → (w : What) → e.body ≡ b → Tells p h e.number e.body w → Begins b (e ∷ h)
+    own_begins : (doing p h b ≡ Absent) ⊎ BeginsThere b h → (w : What) → e.body ≡ b → Tells p h e.number e.body w → BeginsThere b (e ∷ h)
     own_begins r Begun y t = (e, inl refl, sym t ∙ y, y)
     own_begins r (Fired k o ms vs) y t = (e, inl refl, sym t ∙ y, y)
     own_begins r (Made c) y t = of_ask r (Made c) y t
@@ -88,7 +88,7 @@ begins_there p (e ∷ h) b t = elim (either (e.body == b)) [
     own_begins r (Ended x) y t = of_ask r (Ended x) y t
 
 -- a parked body is quiet
-parked_quiet : (p : Program) (es : List Entry) (m : Option ℕ) (d : Doing) → IsParked p es m d → IsQuiet d
+parked_quiet : (p : Program) (es : List Entry) (m : Option ℕ) (d : Doing) → IsParkedThere p es m d → IsQuiet d
 parked_quiet p es m (Waits s d rs q l) k = tt
 parked_quiet p es m (Over x) k = tt
 parked_quiet p es m Absent k = tt
@@ -96,7 +96,7 @@ parked_quiet p es m Unplaced k = k
 parked_quiet p es m (Ready s d rs) k = k
 
 -- where each body that begins there is parked, all are quiet
-parked_are_quiet : (p : Program) (es : List Entry) (m : Option ℕ) → IsTold p es → ((b : ℕ) → Begins b es → IsParked p es m (doing p es b)) → AreQuiet p es
+parked_are_quiet : (p : Program) (es : List Entry) (m : Option ℕ) → IsTold p es → ((b : ℕ) → BeginsThere b es → IsParkedThere p es m (doing p es b)) → AreQuiet p es
 parked_are_quiet p es m told parked b = ⊎_elim (λ a. subst IsQuiet (sym a) tt) (λ k. parked_quiet p es m (doing p es b) (parked b k)) (begins_there p es b told)
 
 -- a quiet body has no next ask
@@ -163,7 +163,7 @@ module _ {P : Type 0} (entries : P → List Entry) (arguments : P → List value
       go a_cell.Started e = absurd (not_waiting a_cell.Started e (λ z. z))
 
   -- the messages that a firing would take are a choice
-  chosen : (o : Object) (js ms : List ℕ) (vs : List value.Value) → Takes u.journal o js ms vs → Chosen (IsChord p) m.cells u.order (keys o js) ms
+  chosen : (o : Object) (js ms : List ℕ) (vs : List value.Value) → Takes u.journal o js ms vs → Chosen (IsChord p) m.cells u.order (bag_keys o js) ms
   chosen o [] [] vs t = tt
   chosen o [] (i ∷ ms) vs t = absurd t
   chosen o (j ∷ js) [] vs t = absurd t
@@ -181,7 +181,7 @@ module _ {P : Type 0} (entries : P → List Entry) (arguments : P → List value
   none_fires k o ms vs f =
       let j = law.tabled.some_method o.class k f.0 f.1 in let low = fires_low p u.journal law.tabled law.stands.keeping.merged.past k o ms vs f in let long = law.stands.keeping.long in
       ⊎_elim (λ t. awake t.0 (subst IsAsleep (sym t.2) tt)) (λ d. no_duty d.2 d.0 d.1 d.3 d.4)
-      (law.duties (keys o f.0) ms (record { chord = (o, k, f.0, f.1, omega (arith, low, long, small), refl); some = (key o j.0, has_key o j.0 f.0 j.1); chosen = chosen o f.0 ms vs f.2 }))
+      (law.duties (bag_keys o f.0) ms (record { chord = (o, k, f.0, f.1, omega (arith, low, long, small), refl); some = (key o j.0, has_key o j.0 f.0 j.1); chosen = chosen o f.0 ms vs f.2 }))
 
   -- each place is quiet, if the desk that closes is
   place_quiet : AreQuiet p v.kept → (c : ℕ) → AreQuiet p (kept_at entries m.views m.homes c)

@@ -19,8 +19,8 @@ use Rattle.chord_rule.specs.Claims.{HasThe}
 use Rattle.chord_rule.specs.Coming.{IsPlace, ArePlaces, ComesWithMessage, ComesWithFiring}
 use Rattle.chord_rule.specs.Keeping.{desk, parcel, at_desk, at_home, kept_at}
 use Rattle.chord_rule.specs.Moment.{Moment}
-use Rattle.chord_rule.specs.Stages.{Claiming, InHand, what_at, message_in, claimed_message}
-use Rattle.chord_rule.specs.StandsFor.{Unseen, StandsFor}
+use Rattle.chord_rule.specs.Stages.{Claiming, InHand, said_at, message_in, claimed_message}
+use Rattle.chord_rule.specs.StandsFor.{Unseen, StandsForJournal}
 use Rattle.chord_rule.proofs.Keeping.{desk_keeps, parcel_keeps}
 use Rattle.chord_rule.proofs.Standing as standing
 use Rattle.chord_rule.proofs.Waiting as waiting
@@ -52,7 +52,7 @@ kept_there keep (x ∷ h) e there = elim (either (keep x.number)) [
   | inr o ↦ inr (kept_there keep h e (rw o at there))
 ]
 
-module _ {P : Type 0} (entries : P → List Entry) (arguments : P → List value.Value) (keeps_to : P → Type 0) (p : Program) (n : ℕ) (m : Moment P) (u : Unseen) (law : StandsFor entries arguments keeps_to p n m u) where
+module _ {P : Type 0} (entries : P → List Entry) (arguments : P → List value.Value) (keeps_to : P → Type 0) (p : Program) (n : ℕ) (m : Moment P) (u : Unseen) (law : StandsForJournal entries arguments keeps_to p n m u) where
   -- what a desk keeps is a place of the run
   pub desk_place : (id : ℕ) (v : View) → get_elem? m.views id ≡ some v → IsPlace p v.kept
   desk_place id v at = record {
@@ -77,7 +77,7 @@ module _ {P : Type 0} (entries : P → List Entry) (arguments : P → List value
   }
 
   -- the message of the journal that an entry of this number says is a call where its method is synchronous
-  call_in : IsSound p → (i : ℕ) (x : Message) (o : Option What) → what_at i u.journal ≡ o → message_in o ≡ Some x → p.is_sync x.object.class x.method ≡ true → (e : Entry) × IsIn e u.journal × IsCall i e
+  call_in : IsSound p → (i : ℕ) (x : Message) (o : Option What) → said_at i u.journal ≡ o → message_in o ≡ Some x → p.is_sync x.object.class x.method ≡ true → (e : Entry) × IsIn e u.journal × IsCall i e
   call_in sound i x None is says sync = (let z : Path (Option Message) None (Some x) = says in cc)
   call_in sound i x (Some w) is says sync =
       let t = waiting.what_entry u.journal i w is in
@@ -87,18 +87,18 @@ module _ {P : Type 0} (entries : P → List Entry) (arguments : P → List value
   -- what the parcel of a claimed message brings
   pub comes_with_message : IsSound p → (id : ℕ) (v : View) → get_elem? m.views id ≡ some v → (c : Claim) (q : P) → HasThe c v.claims → m.homes c.number ≡ some (Some q) → ComesWithMessage p v.kept c (entries q)
   comes_with_message sound id v at c q has home =
-      let says : message_in (what_at c.number u.journal) ≡ Some (claimed_message c) = standing.claim_says entries arguments keeps_to p n m u law id v at c has in
+      let says : message_in (said_at c.number u.journal) ≡ Some (claimed_message c) = standing.claim_says entries arguments keeps_to p n m u law id v at c has in
       let sent = law.parcels.sent c.number q (claimed_message c) home says in record {
         places = parcel_place id v at c.number q home;
         parked = sent.parked;
         sent = λ plain e there call.
             let inside : IsIn e u.journal = kept_there (λ k. law.keeping.merged.at k == parcel c.number) u.journal e (subst (IsIn e) (sym (law.keeping.merged.keeps (parcel c.number) ∙ parcel_keeps entries m.views m.homes c.number ∙ ap (at_home entries) home)) there) in
-            let what : what_at c.number u.journal ≡ Some (Called call.1.0 call.1.1 call.1.2) = subst (λ (k : ℕ). what_at k u.journal ≡ Some (Called call.1.0 call.1.1 call.1.2)) call.0 ((waiting.what_is p u.journal e law.keeping.merged.past inside).0 ∙ ap Some call.1.3) in
+            let what : said_at c.number u.journal ≡ Some (Called call.1.0 call.1.1 call.1.2) = subst (λ (k : ℕ). said_at k u.journal ≡ Some (Called call.1.0 call.1.1 call.1.2)) call.0 ((waiting.what_is p u.journal e law.keeping.merged.past inside).0 ∙ ap Some call.1.3) in
             let message : ◌≡◌ {A = Option Message} (Some (record { object = call.1.0; method = call.1.1; arguments = call.1.2 })) (Some (claimed_message c)) = sym (ap message_in what) ∙ says in
             let same : record { object = call.1.0; method = call.1.1; arguments = call.1.2 } ≡ claimed_message c = cc in
             let kind : HasKind p (Called call.1.0 call.1.1 call.1.2) = subst (HasKind p) call.1.3 (in_run p sound u.journal law.keeping.merged.past e inside) in
             let z : true ≡ false = sym kind ∙ ap (λ (y : Message). p.is_sync y.object.class y.method) same ∙ plain in cc;
-        call = λ sync. let t = call_in sound c.number (claimed_message c) (what_at c.number u.journal) refl says sync in (t.0, sent.call t.0 t.1 t.2, t.2);
+        call = λ sync. let t = call_in sound c.number (claimed_message c) (said_at c.number u.journal) refl says sync in (t.0, sent.call t.0 t.1 t.2, t.2);
       }
 
   -- what the parcel of a ready firing brings

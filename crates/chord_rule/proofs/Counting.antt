@@ -5,7 +5,7 @@ use mathlib.Core.Option.{some, some-injective, some-ne-none}
 use lib.ListN.{get_elem?}
 use Rattle.atomic_table.proofs.Lists.{at_set}
 use Rattle.chord_rule.specs.declared.view.View.{View}
-use Rattle.chord_rule.specs.Numbers.{flag}
+use Rattle.chord_rule.specs.Numbers.{one_if}
 use Rattle.chord_rule.specs.Counting.{told, Counting}
 
 -- at most all desks were told
@@ -13,14 +13,14 @@ pub told_few : (vs : List View) → told vs ≤ length vs
 told_few [] = omega arith
 told_few (v ∷ vs) = let h = told_few vs in let f = flag_small v.spent in omega arith
   where
-    flag_small : (b : Bool) → flag b ≤ 1
+    flag_small : (b : Bool) → one_if b ≤ 1
     flag_small true = omega arith
     flag_small false = omega arith
 
 -- the count of desks that were told changes by the one that changes
-pub told_set : (vs : List View) (i : ℕ) (v w : View) → get_elem? vs i ≡ some v → told (set vs i w) + flag v.spent ≡ told vs + flag w.spent
+pub told_set : (vs : List View) (i : ℕ) (v w : View) → get_elem? vs i ≡ some v → told (set vs i w) + one_if v.spent ≡ told vs + one_if w.spent
 told_set [] i v w at = absurd (some-ne-none v (sym at))
-told_set (x ∷ xs) zero v w at = let e = ap (λ (y : View). flag y.spent) (some-injective x v at) in omega arith
+told_set (x ∷ xs) zero v w at = let e = ap (λ (y : View). one_if y.spent) (some-injective x v at) in omega arith
 told_set (x ∷ xs) (suc i) v w at = let h = told_set xs i v w at in omega arith
 
 -- the law of counting stays where one desk changes and the counter fits

@@ -16,13 +16,13 @@ use Rattle.chord_rule.specs.declared.view.Duty.{Duty}
 use Rattle.chord_rule.specs.declared.view.Walk.{Walk}
 use Rattle.chord_rule.specs.Moment.{Moment}
 use Rattle.chord_rule.specs.Numbers.{HasNumber}
-use Rattle.chord_rule.specs.Bags.{head_of, Order, IsConsumed, IsStanding, cell_of, BagLaw}
-use Rattle.chord_rule.specs.Duties.{HasDuty, HasWalk, Chosen, Choice, Reaches, Carries, IsNamed, IsCarried, DutyLaw, MayRest, duty_on, is_in, start_walk, at_place, move_walk, move_duty}
+use Rattle.chord_rule.specs.Bags.{head_number, LinkOrder, IsConsumed, IsStanding, cell_of, BagLaw}
+use Rattle.chord_rule.specs.Duties.{HasDuty, HasWalk, Chosen, Choice, Reaches, Carries, IsNamedByCell, IsCarried, DutyLaw, MayRest, duty_on, is_in, start_walk, has_come_to, move_walk, move_duty}
 use Rattle.chord_rule.proofs.Puts.{put, put_here, put_else, put_all, at_inside}
 use Rattle.chord_rule.proofs.BagSteps.{linked_order}
 
 -- a duty without walks carries each choice with its message
-pub new_carries : (o : Order) (i k : ℕ) (xs : List ℕ) → HasNumber i xs → Carries o (duty_on i k) xs
+pub new_carries : (o : LinkOrder) (i k : ℕ) (xs : List ℕ) → HasNumber i xs → Carries o (duty_on i k) xs
 new_carries o i k xs h = record { on = refl; of = h; walks = λ w e. absurd e }
 
 -- a number is among numbers or not
@@ -63,7 +63,7 @@ has_moved f w (u ∷ us) (inr h) = let r = has_moved f w us h in (r.0, inr r.1, 
 
 module _ (IsKey : ℕ → Type 0) (IsChord : List ℕ → Type 0) {P : Type 0} where
   -- a member of a choice stands, in a bag of the chord
-  pub member : (m : Moment P) (o : Order) (ks xs : List ℕ) (x : ℕ) → Chosen IsChord m.cells o ks xs → HasNumber x xs → IsStanding (cell_of m.cells x) × ((k : ℕ) × (o.bag x ≡ Some k) × HasNumber k ks)
+  pub member : (m : Moment P) (o : LinkOrder) (ks xs : List ℕ) (x : ℕ) → Chosen IsChord m.cells o ks xs → HasNumber x xs → IsStanding (cell_of m.cells x) × ((k : ℕ) × (o.bag x ≡ Some k) × HasNumber k ks)
   member m o [] [] x c h = absurd h
   member m o [] (y ∷ ys) x c h = absurd c
   member m o (k ∷ ks) [] x c h = absurd c
@@ -71,29 +71,29 @@ module _ (IsKey : ℕ → Type 0) (IsChord : List ℕ → Type 0) {P : Type 0} w
   member m o (k ∷ ks) (y ∷ ys) x c (inr h) = let r = member m o ks ys x c.2 h in (r.0, (r.1.0, r.1.1, inr r.1.2))
 
   -- a bag of the chord has a member of the choice
-  pub chosen_in : (m : Moment P) (o : Order) (ks xs : List ℕ) (k : ℕ) → Chosen IsChord m.cells o ks xs → HasNumber k ks → (x : ℕ) × HasNumber x xs × (o.bag x ≡ Some k)
+  pub chosen_in : (m : Moment P) (o : LinkOrder) (ks xs : List ℕ) (k : ℕ) → Chosen IsChord m.cells o ks xs → HasNumber k ks → (x : ℕ) × HasNumber x xs × (o.bag x ≡ Some k)
   chosen_in m o [] xs k c h = absurd h
   chosen_in m o (l ∷ ls) [] k c h = absurd c
   chosen_in m o (l ∷ ls) (y ∷ ys) k c (inl e) = (y, inl refl, c.0 ∙ ap (λ (z : ℕ). Some z) (sym e))
   chosen_in m o (l ∷ ls) (y ∷ ys) k c (inr h) = let r = chosen_in m o ls ys k c.2 h in (r.0, inr r.1, r.2)
 
   -- a choice is one where no message has begun to stand
-  pub chosen_before : (m m' : Moment P) (o : Order) → ((x : ℕ) → IsStanding (cell_of m'.cells x) → IsStanding (cell_of m.cells x)) → (ks xs : List ℕ) → Chosen IsChord m'.cells o ks xs → Chosen IsChord m.cells o ks xs
+  pub chosen_before : (m m' : Moment P) (o : LinkOrder) → ((x : ℕ) → IsStanding (cell_of m'.cells x) → IsStanding (cell_of m.cells x)) → (ks xs : List ℕ) → Chosen IsChord m'.cells o ks xs → Chosen IsChord m.cells o ks xs
   chosen_before m m' o stood [] [] c = tt
   chosen_before m m' o stood [] (y ∷ ys) c = c
   chosen_before m m' o stood (k ∷ ks) [] c = c
   chosen_before m m' o stood (k ∷ ks) (y ∷ ys) c = (c.0, stood y c.1, chosen_before m m' o stood ks ys c.2)
 
   -- how the law is kept: a choice that is there after the step either was one before, or has someone who cares for it now
-  pub duty_step : (m m' : Moment P) (o : Order)
-      → ((ks xs : List ℕ) → Choice IsChord m'.cells o ks xs → Chosen IsChord m.cells o ks xs ⊎ (IsNamed IsChord m'.cells o xs ⊎ IsCarried IsChord m'.views o xs))
-      → ((ks xs : List ℕ) → Choice IsChord m'.cells o ks xs → IsNamed IsChord m.cells o xs → IsNamed IsChord m'.cells o xs ⊎ IsCarried IsChord m'.views o xs)
-      → ((ks xs : List ℕ) → Choice IsChord m'.cells o ks xs → IsCarried IsChord m.views o xs → IsNamed IsChord m'.cells o xs ⊎ IsCarried IsChord m'.views o xs)
+  pub duty_step : (m m' : Moment P) (o : LinkOrder)
+      → ((ks xs : List ℕ) → Choice IsChord m'.cells o ks xs → Chosen IsChord m.cells o ks xs ⊎ (IsNamedByCell IsChord m'.cells o xs ⊎ IsCarried IsChord m'.views o xs))
+      → ((ks xs : List ℕ) → Choice IsChord m'.cells o ks xs → IsNamedByCell IsChord m.cells o xs → IsNamedByCell IsChord m'.cells o xs ⊎ IsCarried IsChord m'.views o xs)
+      → ((ks xs : List ℕ) → Choice IsChord m'.cells o ks xs → IsCarried IsChord m.views o xs → IsNamedByCell IsChord m'.cells o xs ⊎ IsCarried IsChord m'.views o xs)
       → DutyLaw IsChord m.cells m.views o → DutyLaw IsChord m'.cells m'.views o
   duty_step m m' o was named carried law ks xs c = ⊎_elim (λ b. ⊎_elim (named ks xs c) (carried ks xs c) (law ks xs record { chord = c.chord; some = c.some; chosen = b })) (λ now. now) (was ks xs c)
 
   -- who carried still carries, if the desk that steps has a duty for each of its own
-  pub carried_on : (m : Moment P) (cells : ℕ → Word) (o : Order) (id : ℕ) (v w : View) (xs : List ℕ) → get_elem? m.views id ≡ some v
+  pub carried_on : (m : Moment P) (cells : ℕ → Word) (o : LinkOrder) (id : ℕ) (v w : View) (xs : List ℕ) → get_elem? m.views id ≡ some v
       → ((d : Duty) → HasDuty d v.duties → Carries o d xs → (e : Duty) × HasDuty e w.duties × Carries o e xs)
       → IsCarried IsChord m.views o xs → IsCarried IsChord (set m.views id w) o xs
   carried_on m cells o id v w xs at keep c = dite (ℕ_discrete c.0 id)
@@ -102,19 +102,19 @@ module _ (IsKey : ℕ → Type 0) (IsChord : List ℕ → Type 0) {P : Type 0} w
       (λ ne. (c.0, c.1, c.2, set_else m.views id c.0 w ne ∙ c.3, c.4, c.5))
 
   -- a desk that has a duty carries
-  pub cares : (m : Moment P) (cells : ℕ → Word) (o : Order) (id : ℕ) (v w : View) (xs : List ℕ) (d : Duty) → get_elem? m.views id ≡ some v → HasDuty d w.duties → Carries o d xs
+  pub cares : (m : Moment P) (cells : ℕ → Word) (o : LinkOrder) (id : ℕ) (v w : View) (xs : List ℕ) (d : Duty) → get_elem? m.views id ≡ some v → HasDuty d w.duties → Carries o d xs
       → IsCarried IsChord (set m.views id w) o xs
   cares m cells o id v w xs d at has c = (id, w, d, set_here m.views id w (at_inside m.views id v at), has, c)
 
   -- without the one message that begins to stand, a choice was one before
-  chosen_but : (m m' : Moment P) (o : Order) (i : ℕ) → ((x : ℕ) → x ≢ i → IsStanding (cell_of m'.cells x) → IsStanding (cell_of m.cells x)) → (ks xs : List ℕ) → (HasNumber i xs → ⊥) → Chosen IsChord m'.cells o ks xs → Chosen IsChord m.cells o ks xs
+  chosen_but : (m m' : Moment P) (o : LinkOrder) (i : ℕ) → ((x : ℕ) → x ≢ i → IsStanding (cell_of m'.cells x) → IsStanding (cell_of m.cells x)) → (ks xs : List ℕ) → (HasNumber i xs → ⊥) → Chosen IsChord m'.cells o ks xs → Chosen IsChord m.cells o ks xs
   chosen_but m m' o i stood [] [] absent c = tt
   chosen_but m m' o i stood [] (y ∷ ys) absent c = c
   chosen_but m m' o i stood (k ∷ ks) [] absent c = c
   chosen_but m m' o i stood (k ∷ ks) (y ∷ ys) absent c = (c.0, stood y (λ e. absent (inl (sym e))) c.1, chosen_but m m' o i stood ks ys (λ h. absent (inr h)) c.2)
 
   -- the message i is armed, with a duty on it
-  pub arm_duty : (m : Moment P) (o : Order) (id i l : ℕ) (x : Word) (v w : View) → get_elem? m.views id ≡ some v → (m.cells i).cell ≡ Empty → x.cell ≡ Pending → w.duties ≡ duty_on i l ∷ v.duties
+  pub arm_duty : (m : Moment P) (o : LinkOrder) (id i l : ℕ) (x : Word) (v w : View) → get_elem? m.views id ≡ some v → (m.cells i).cell ≡ Empty → x.cell ≡ Pending → w.duties ≡ duty_on i l ∷ v.duties
       → DutyLaw IsChord m.cells m.views o → DutyLaw IsChord (put m.cells i x) (set m.views id w) o
   arm_duty m o id i l x v w at empty pending duties = duty_step m (record m { cells = put m.cells i x; views = set m.views id w }) o
       (λ ks xs c. ⊎_elim
@@ -124,7 +124,7 @@ module _ (IsKey : ℕ → Type 0) (IsChord : List ℕ → Type 0) {P : Type 0} w
       (λ ks xs c k. inr (carried_on m (put m.cells i x) o id v w xs at (λ d h carries. (d, subst (HasDuty d) (sym duties) (inr h), carries)) k))
 
   -- duties are laid down
-  pub rest_duty : (m : Moment P) (o : Order) (id : ℕ) (v w : View) → get_elem? m.views id ≡ some v → ((e : Duty) → HasDuty e v.duties → HasDuty e w.duties ⊎ ((o.bag e.message ≡ Some e.bag) × MayRest IsChord e))
+  pub rest_duty : (m : Moment P) (o : LinkOrder) (id : ℕ) (v w : View) → get_elem? m.views id ≡ some v → ((e : Duty) → HasDuty e v.duties → HasDuty e w.duties ⊎ ((o.bag e.message ≡ Some e.bag) × MayRest IsChord e))
       → DutyLaw IsChord m.cells m.views o → DutyLaw IsChord m.cells (set m.views id w) o
   rest_duty m o id v w at kept = duty_step m (record m { views = set m.views id w }) o
       (λ ks xs c. inl c.chosen)
@@ -141,11 +141,11 @@ module _ (IsKey : ℕ → Type 0) (IsChord : List ℕ → Type 0) {P : Type 0} w
           subst (λ (p : Option ℕ). Reaches o p other.0) e.4 (carries.walks e.0 e.1 other.0 other.1 apart other.2)) may
 
   -- a message stops to stand, and no other begins to
-  ceased : (m : Moment P) (i : ℕ) (x : Word) (o : Order) → ¬ IsStanding x.cell → (y : ℕ) → IsStanding (put m.cells i x y).cell → (y ≢ i) × IsStanding (cell_of m.cells y)
+  ceased : (m : Moment P) (i : ℕ) (x : Word) (o : LinkOrder) → ¬ IsStanding x.cell → (y : ℕ) → IsStanding (put m.cells i x y).cell → (y ≢ i) × IsStanding (cell_of m.cells y)
   ceased m i x o gone y s = put_all m.cells i x (λ y c. IsStanding c.cell → (y ≢ i) × IsStanding (cell_of m.cells y)) y (λ h. absurd (gone h)) (λ ne h. (ne, h)) s
 
   -- the message i is consumed: the desk's duty on it goes
-  pub take_duty : (m : Moment P) (o : Order) (id i : ℕ) (x : Word) (v w : View) → get_elem? m.views id ≡ some v → IsStanding (cell_of m.cells i) → x.cell ≡ Consumed
+  pub take_duty : (m : Moment P) (o : LinkOrder) (id i : ℕ) (x : Word) (v w : View) → get_elem? m.views id ≡ some v → IsStanding (cell_of m.cells i) → x.cell ≡ Consumed
       → ((e : Duty) → HasDuty e v.duties → HasDuty e w.duties ⊎ (e.message ≡ i)) → DutyLaw IsChord m.cells m.views o → DutyLaw IsChord (put m.cells i x) (set m.views id w) o
   take_duty m o id i x v w at stands is kept = let m' : Moment P = record m { cells = put m.cells i x; views = set m.views id w } in
       let gone : ¬ IsStanding x.cell = (λ h. subst IsStanding is h) in duty_step m m' o
@@ -156,7 +156,7 @@ module _ (IsKey : ℕ → Type 0) (IsChord : List ℕ → Type 0) {P : Type 0} w
       (λ same. absurd ((ceased m i x o gone e.message (member m' o ks xs e.message c.chosen carries.of).0).0 same)) (kept e h)) k))
 
   -- the caller q is woken by x: the desk's duties on both go, and the cell names x
-  pub wake_duty : (m : Moment P) (o : Order) (id q x : ℕ) (c : Word) (v w : View) → get_elem? m.views id ≡ some v → (cell_of m.cells q) ≡ Pending → c.cell ≡ Woken x
+  pub wake_duty : (m : Moment P) (o : LinkOrder) (id q x : ℕ) (c : Word) (v w : View) → get_elem? m.views id ≡ some v → (cell_of m.cells q) ≡ Pending → c.cell ≡ Woken x
       → ((e : Duty) → HasDuty e v.duties → HasDuty e w.duties ⊎ ((e.message ≡ q) ⊎ (e.message ≡ x))) → DutyLaw IsChord m.cells m.views o → DutyLaw IsChord (put m.cells q c) (set m.views id w) o
   wake_duty m o id q x c v w at stands is kept = let m' : Moment P = record m { cells = put m.cells q c; views = set m.views id w } in
       let gone : ¬ IsStanding c.cell = (λ h. subst IsStanding is h) in let woken : cell_of m'.cells q ≡ Woken x = ap (λ (z : Word). z.cell) (put_here m.cells q c) ∙ is in duty_step m m' o
@@ -164,7 +164,7 @@ module _ (IsKey : ℕ → Type 0) (IsChord : List ℕ → Type 0) {P : Type 0} w
       (λ ks xs k n. inl (n.0, n.1, ap (λ (z : Word). z.cell) (put_else m.cells q c n.0 (λ e. let z : Pending ≡ Woken n.1 = sym stands ∙ sym (ap (λ y. (m.cells y).cell) e) ∙ n.2 in absurd (cc))) ∙ n.2, n.3))
       (λ ks xs k d. carried ks xs k d (dite (ℕ_discrete d.0 id) (λ e. inl (subst (λ (u : View). HasDuty d.2 u.duties) (some-injective d.1 v (sym d.3 ∙ ap (get_elem? m.views) e ∙ at)) d.4)) inr))
     where
-      carried : (ks xs : List ℕ) → Choice IsChord (put m.cells q c) o ks xs → (d : IsCarried IsChord m.views o xs) → HasDuty d.2 v.duties ⊎ (d.0 ≢ id) → IsNamed IsChord (put m.cells q c) o xs ⊎ IsCarried IsChord (set m.views id w) o xs
+      carried : (ks xs : List ℕ) → Choice IsChord (put m.cells q c) o ks xs → (d : IsCarried IsChord m.views o xs) → HasDuty d.2 v.duties ⊎ (d.0 ≢ id) → IsNamedByCell IsChord (put m.cells q c) o xs ⊎ IsCarried IsChord (set m.views id w) o xs
       carried ks xs k d (inl h) = ⊎_elim (λ there. inr (cares m (put m.cells q c) o id v w xs d.2 at there d.5))
           (λ t. ⊎_elim
           (λ same. absurd ((ceased m q c o (λ h. subst IsStanding is h) d.2.message (member (record m { cells = put m.cells q c; views = set m.views id w }) o ks xs d.2.message k.chosen d.5.of).0).0 same))
@@ -172,7 +172,7 @@ module _ (IsKey : ℕ → Type 0) (IsChord : List ℕ → Type 0) {P : Type 0} w
       carried ks xs k d (inr ne) = inr (d.0, d.1, d.2, set_else m.views id d.0 w ne ∙ d.3, d.4, d.5)
 
   -- the caller q, whose cell named x, is pending again: the desk has duties on both
-  pub rearm_duty : (m : Moment P) (o : Order) (id q x kq kx : ℕ) (c : Word) (v w : View) → get_elem? m.views id ≡ some v → cell_of m.cells q ≡ Woken x → c.cell ≡ Pending → w.duties ≡ duty_on q kq ∷ duty_on x kx ∷ v.duties
+  pub rearm_duty : (m : Moment P) (o : LinkOrder) (id q x kq kx : ℕ) (c : Word) (v w : View) → get_elem? m.views id ≡ some v → cell_of m.cells q ≡ Woken x → c.cell ≡ Pending → w.duties ≡ duty_on q kq ∷ duty_on x kx ∷ v.duties
       → DutyLaw IsChord m.cells m.views o → DutyLaw IsChord (put m.cells q c) (set m.views id w) o
   rearm_duty m o id q x kq kx c v w at woken pending duties = let m' : Moment P = record m { cells = put m.cells q c; views = set m.views id w } in duty_step m m' o
       (λ ks xs k. ⊎_elim
@@ -185,7 +185,7 @@ module _ (IsKey : ℕ → Type 0) (IsChord : List ℕ → Type 0) {P : Type 0} w
       (λ ks xs k d. inr (carried_on m (put m.cells q c) o id v w xs at (λ e h carries. (e, subst (HasDuty e) (sym duties) (inr (inr h)), carries)) d))
 
   -- ---- looks: the desk's duties are changed one by one, and each that carried a choice still does
-  pub look_duty : (m : Moment P) (o : Order) (id : ℕ) (f : Duty → Duty) (v w : View) → get_elem? m.views id ≡ some v → w.duties ≡ map f v.duties
+  pub look_duty : (m : Moment P) (o : LinkOrder) (id : ℕ) (f : Duty → Duty) (v w : View) → get_elem? m.views id ≡ some v → w.duties ≡ map f v.duties
       → ((ks xs : List ℕ) (d : Duty) → Choice IsChord m.cells o ks xs → Carries o d xs → Carries o (f d) xs) → DutyLaw IsChord m.cells m.views o → DutyLaw IsChord m.cells (set m.views id w) o
   look_duty m o id f v w at duties still = duty_step m (record m { views = set m.views id w }) o
       (λ ks xs c. inl c.chosen)
@@ -193,7 +193,7 @@ module _ (IsKey : ℕ → Type 0) (IsChord : List ℕ → Type 0) {P : Type 0} w
       (λ ks xs c k. inr (carried_on m m.cells o id v w xs at (λ d h carries. (f d, subst (HasDuty (f d)) (sym duties) (has_map f d v.duties h), still ks xs d record { chord = c.chord; some = c.some; chosen = c.chosen } carries)) k))
 
   -- a look at the head of the bag k
-  pub look_head_carries : (m : Moment P) (o : Order) → BagLaw IsKey m.cells m.heads o → (k : ℕ) (ks xs : List ℕ) (d : Duty) → Choice IsChord m.cells o ks xs → Carries o d xs → Carries o (start_walk k (m.heads (head_of k)) d) xs
+  pub look_head_carries : (m : Moment P) (o : LinkOrder) → BagLaw IsKey m.cells m.heads o → (k : ℕ) (ks xs : List ℕ) (d : Duty) → Choice IsChord m.cells o ks xs → Carries o d xs → Carries o (start_walk k (m.heads (head_number k)) d) xs
   look_head_carries m o law k ks xs d c carries = record {
     on = carries.on;
     of = carries.of;
@@ -201,11 +201,11 @@ module _ (IsKey : ℕ → Type 0) (IsChord : List ℕ → Type 0) {P : Type 0} w
         (λ q. let bag' : o.bag x ≡ Some k = bag ∙ ap (λ (u : Walk). Some u.bag) q in let stands = (member m o ks xs x c.chosen has).0 in
         let f = (law.heads_lead k (law.keyed x k bag')).passes x bag' (standing_not_consumed (cell_of m.cells x) stands) (law.ranked x k bag') in
         subst (λ (p : Option ℕ). Reaches o p x) (sym (ap (λ (u : Walk). u.place) q ∙ f.1)) (bag' ∙ sym ((law.heads_lead k (law.keyed x k bag')).inside f.0 f.1).0, f.2))
-        (λ q. carries.walks w (has_start k (m.heads (head_of k)) w d.walks q) x has ne bag) h;
+        (λ q. carries.walks w (has_start k (m.heads (head_number k)) w d.walks q) x has ne bag) h;
   }
 
   -- a look at the cell y, which was read with the next z, and does not stand
-  pub look_cell_carries : (m : Moment P) (o : Order) → BagLaw IsKey m.cells m.heads o → (y : ℕ) → ¬ IsStanding (cell_of m.cells y) → (l : ℕ) → o.bag y ≡ Some l → (ks xs : List ℕ) (d : Duty) → Choice IsChord m.cells o ks xs → Carries o d xs → Carries o (move_duty y (o.next y) d) xs
+  pub look_cell_carries : (m : Moment P) (o : LinkOrder) → BagLaw IsKey m.cells m.heads o → (y : ℕ) → ¬ IsStanding (cell_of m.cells y) → (l : ℕ) → o.bag y ≡ Some l → (ks xs : List ℕ) (d : Duty) → Choice IsChord m.cells o ks xs → Carries o d xs → Carries o (move_duty y (o.next y) d) xs
   look_cell_carries m o law y down l bagged ks xs d c carries = record {
     on = off_stays;
     of = carries.of;
@@ -223,7 +223,7 @@ module _ (IsKey : ℕ → Type 0) (IsChord : List ℕ → Type 0) {P : Type 0} w
           let f = (law.nexts_lead y l bagged).passes x bag' (standing_not_consumed (cell_of m.cells x) stands) low in
           subst (λ (p : Option ℕ). Reaches o p x) (sym f.1) (bag' ∙ sym ((law.nexts_lead y l bagged).inside f.0 f.1).0, f.2)
 
-      moves : (p : Option ℕ) (x : ℕ) → HasNumber x xs → Reaches o p x → Reaches o (cond (at_place y p) (o.next y) p) x
+      moves : (p : Option ℕ) (x : ℕ) → HasNumber x xs → Reaches o p x → Reaches o (cond (has_come_to y p) (o.next y) p) x
       moves None x has r = absurd r
       moves (Some z) x has r = cases (eqb z y) refl
         where
@@ -235,7 +235,7 @@ module _ (IsKey : ℕ → Type 0) (IsChord : List ℕ → Type 0) {P : Type 0} w
       off_stays = subst (λ (b : Bool). (b || d.off) ≡ false) (sym (ne_eqb d.message y (not_y d.message carries.of))) carries.on
 
   -- no message begins to stand, each woken cell stays, and the desk keeps its duties
-  pub stay_duty : (m : Moment P) (cells : ℕ → Word) (o : Order) (id : ℕ) (v w : View) → get_elem? m.views id ≡ some v → ((x : ℕ) → IsStanding (cell_of cells x) → IsStanding (cell_of m.cells x))
+  pub stay_duty : (m : Moment P) (cells : ℕ → Word) (o : LinkOrder) (id : ℕ) (v w : View) → get_elem? m.views id ≡ some v → ((x : ℕ) → IsStanding (cell_of cells x) → IsStanding (cell_of m.cells x))
       → ((q x : ℕ) → cell_of m.cells q ≡ Woken x → cell_of cells q ≡ Woken x) → ((e : Duty) → HasDuty e v.duties → HasDuty e w.duties)
       → DutyLaw IsChord m.cells m.views o → DutyLaw IsChord cells (set m.views id w) o
   stay_duty m cells o id v w at stood woken kept = duty_step m (record m { cells = cells; views = set m.views id w }) o
@@ -244,7 +244,7 @@ module _ (IsKey : ℕ → Type 0) (IsChord : List ℕ → Type 0) {P : Type 0} w
       (λ ks xs c k. inr (carried_on m cells o id v w xs at (λ e h carries. (e, kept e h, carries)) k))
 
   -- a message is linked: what stands keeps its bag and its rank
-  pub link_duty : (m : Moment P) (o : Order) (i k : ℕ) (above : Option ℕ) (id : ℕ) (v w : View) → get_elem? m.views id ≡ some v → o.bag i ≡ None → (m.cells i).cell ≡ Empty
+  pub link_duty : (m : Moment P) (o : LinkOrder) (i k : ℕ) (above : Option ℕ) (id : ℕ) (v w : View) → get_elem? m.views id ≡ some v → o.bag i ≡ None → (m.cells i).cell ≡ Empty
       → ((e : Duty) → HasDuty e v.duties → HasDuty e w.duties) → BagLaw IsKey m.cells m.heads o → DutyLaw IsChord m.cells m.views o → DutyLaw IsChord m.cells (set m.views id w) (linked_order o i k above)
   link_duty m o i k above id v w at fresh empty kept bags law ks xs c = ⊎_elim inl
       (λ d. let e = carried_on m m.cells o id v w xs at (λ e h carries. (e, kept e h, carries)) d in inr (e.0, e.1, e.2, e.3, e.4, up e.2 e.5)) (law ks xs record { chord = c.chord; some = c.some; chosen = before })

@@ -4,7 +4,7 @@ use mathlib.Core.Option.{some}
 use lib.ListN.{get_elem?}
 use Rattle.atomic_table.proofs.Lists.{at_set, set_else}
 use Rattle.chord_rule.specs.declared.view.View.{View}
-use Rattle.chord_rule.specs.Numbers.{flag}
+use Rattle.chord_rule.specs.Numbers.{one_if}
 use Rattle.chord_rule.specs.Kinds.{newcomer, gone, lent_one, united}
 use Rattle.chord_rule.specs.Counting.{told, Counting}
 use Rattle.chord_rule.specs.Firsts.{Firsts}
@@ -64,7 +64,7 @@ module _ (n count : ℕ) (views : List View) (counting : Counting n count views)
   }
 
   -- a desk more counts where it was told that the limit is reached
-  told_end : (vs : List View) (x : View) → told (vs ++ x ∷ []) ≡ told vs + flag x.spent
+  told_end : (vs : List View) (x : View) → told (vs ++ x ∷ []) ≡ told vs + one_if x.spent
   told_end [] x = omega arith
   told_end (y ∷ ys) x = let h = told_end ys x in omega arith
 
@@ -76,7 +76,7 @@ module _ (n count : ℕ) (views : List View) (counting : Counting n count views)
       let long : length (vs ++ newcomer ∷ []) ≡ length views + 1 = (let a = length-append vs (newcomer ∷ []) in let b = length-set views id w in omega arith) in
       let same : length vs ≡ length views = length-set views id w in
       let f = counting.first v at0 in record {
-        bound = (let b = counting.bound in let t = told_set views id v w at in let e = told_end vs newcomer in let z : flag newcomer.spent ≡ 0 = refl in omega arith);
+        bound = (let b = counting.bound in let t = told_set views id v w at in let e = told_end vs newcomer in let z : one_if newcomer.spent ≡ 0 = refl in omega arith);
         first = λ u e. ⊎_elim
             (λ a. ⊎_elim (λ t. let s = ap (λ (y : View). y.splits) t.1 in let s' : v.splits + 1 ≡ u.splits = s in let f0 = f.0 in (omega arith, omega arith)) (λ t. absurd (t.0 (sym zero_id))) (at_set views id 0 w u a))
             (λ t. let h = t.0 in let s = counting.some in absurd (omega arith)) (at_end vs newcomer u 0 e);
@@ -101,7 +101,7 @@ module _ (n count : ℕ) (views : List View) (counting : Counting n count views)
     -- a join keeps the count of desks and the bound on the counter
     pub counting_join : Counting n count (set (set views id (united v x)) other gone)
     counting_join = record {
-      bound = (let b = counting.bound in let t = told_set views id v (united v x) at in let s = told_set (set views id (united v x)) other x gone at_other in let z : flag gone.spent ≡ 1 = refl in let f = flag_or v.spent x.spent in omega arith);
+      bound = (let b = counting.bound in let t = told_set views id v (united v x) at in let s = told_set (set views id (united v x)) other x gone at_other in let z : one_if gone.spent ≡ 1 = refl in let f = flag_or v.spent x.spent in omega arith);
       first = λ u e. ⊎_elim (λ t. absurd (apart (sym t.0 ∙ sym zero_id)))
           (λ t. ⊎_elim
           (λ s. let f = counting.first v (ap (get_elem? views) s.0 ∙ at) in let q = ap (λ (y : View). y.splits) s.1 in let q' : v.splits ≡ u.splits = q in let l = length-set (set views id (united v x)) other gone in let k = length-set views id (united v x) in let f0 = f.0 in let f1 = f.1 in (omega arith, omega arith))
@@ -114,7 +114,7 @@ module _ (n count : ℕ) (views : List View) (counting : Counting n count views)
         at_other : get_elem? (set views id (united v x)) other ≡ some x
         at_other = set_else views id other (united v x) apart ∙ there
 
-        flag_or : (a b : Bool) → flag a + flag b ≤ flag (a || b) + 1
+        flag_or : (a b : Bool) → one_if a + one_if b ≤ one_if (a || b) + 1
         flag_or true true = omega arith
         flag_or true false = omega arith
         flag_or false true = omega arith

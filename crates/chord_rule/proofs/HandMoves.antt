@@ -14,10 +14,10 @@ use Rattle.chord_base.specs.declared.event.What.{What}
 use Rattle.chord_base.specs.declared.event.What.TheVariants.{Begun, Made, Sent, Called, Printed, Fired, Ended}
 use Rattle.chord_rule.specs.declared.view.Claim.{Claim}
 use Rattle.chord_rule.specs.declared.view.View.{View}
-use Rattle.chord_rule.specs.Kinds.{newcomer, gone, fired, united, drawn_stage, fired_claim, fired_stage, heir, drew}
-use Rattle.chord_rule.specs.Claims.{HasThe, HasClaimOn, numbers}
+use Rattle.chord_rule.specs.Kinds.{newcomer, gone, firing_drawn, united, drawn_stage, fired_claim, fired_stage, heir, drew}
+use Rattle.chord_rule.specs.Claims.{HasThe, HasClaimOn, claimed_numbers}
 use Rattle.chord_rule.specs.Stages.{Hold, Fresh, Placing, Flying, Claiming, Emptying, Unposted, Posting, Starting, Stage, Vacant, InHand, Armed, Spent, Posted, Played, IsFiringEntry}
-use Rattle.chord_rule.specs.Hands.{hand, Holds, IsUnlinked, Keeps, Hands}
+use Rattle.chord_rule.specs.Hands.{hand, Holds, IsUnlinked, KeepsNumber, Hands}
 use Rattle.chord_rule.proofs.Puts.{put, put_here, put_else, at_inside, at_end}
 use Rattle.chord_rule.proofs.Lists.{has_append, append_left, append_right, with_firing, has_fired, fired_has, fired_number, fired_numbers, together_left, together_right}
 use Rattle.chord_rule.proofs.HandSteps.{same_hand, hands_after, hands_still, hands_fresh}
@@ -92,7 +92,7 @@ module _ (views : List View) (stage : ℕ → Stage) (law : Hands views stage) w
       module _ (o : Object) (chord : ℕ) (vs : List value.Value) where
         -- the view of the desk that has drawn the firing
         abbrev w : View
-        w = fired v f chord o ms vs
+        w = firing_drawn v f chord o ms vs
 
         -- what the desk has in hand after the draw stands so
         mine : (k : ℕ) (x : Hold) → Holds (hand w) k x → fired_stage id f ms stage k ≡ InHand id x
@@ -157,7 +157,7 @@ module _ (views : List View) (stage : ℕ → Stage) (law : Hands views stage) w
     held = λ i j x e. let r = law.held i j x e in (r.0, at_longer views (newcomer ∷ []) j r.0 r.1, r.2);
     kept = λ j u e i k. ⊎_elim (λ a. law.kept j u a i k)
         (λ t. absurd (⊎_elim (λ h. newcomer_none i Fresh h) (λ h. newcomer_none i Placing h) (subst (λ (y : View). IsUnlinked (hand y) i) (sym t.1) k))) (at_end views newcomer u j e);
-    once = λ j u e. ⊎_elim (λ a. law.once j u a) (λ t. subst (λ (y : View). AreDifferent (numbers y.claims)) t.1 tt) (at_end views newcomer u j e);
+    once = λ j u e. ⊎_elim (λ a. law.once j u a) (λ t. subst (λ (y : View). AreDifferent (claimed_numbers y.claims)) t.1 tt) (at_end views newcomer u j e);
   }
 
   module _ (id other : ℕ) (v w : View) (at : get_elem? views id ≡ some v) (apart : other ≢ id) (there : get_elem? views other ≡ some w)
@@ -248,7 +248,7 @@ module _ (views : List View) (stage : ℕ → Stage) (law : Hands views stage) w
           (λ q. (both, ap (get_elem? (set (set views id both) other gone)) q ∙ at_both, from_first i x (subst (λ (u : View). Holds (hand u) i x) (some-injective r.0 v (sym r.1 ∙ ap (get_elem? views) q ∙ at)) r.2)))
           (λ ne. (r.0, at_third j r.0 ne t.0 r.1, r.2)))
           (heir_was (stage i) j x e);
-      kept = who (λ j u. (i : ℕ) → IsUnlinked (hand u) i → Keeps u.kept i)
+      kept = who (λ j u. (i : ℕ) → IsUnlinked (hand u) i → KeepsNumber u.kept i)
           (λ i k. absurd (⊎_elim (λ h. newcomer_none i Fresh h) (λ h. newcomer_none i Placing h) k))
           (λ i k. ⊎_elim
           (λ h. ⊎_elim
@@ -256,5 +256,5 @@ module _ (views : List View) (stage : ℕ → Stage) (law : Hands views stage) w
           (λ a. let r = law.kept other w there i (inl a) in (r.0, together_right r.0 v.kept w.kept r.1, r.2)) (has_append i v.fresh w.fresh h))
           (λ h. let r = law.kept id v at i (inr h) in (r.0, together_left r.0 v.kept w.kept r.1, r.2)) k)
           (λ j u ne away a i k. law.kept j u a i k);
-      once = who (λ j u. AreDifferent (numbers u.claims)) tt (law.once id v at) (λ j u ne away a. law.once j u a);
+      once = who (λ j u. AreDifferent (claimed_numbers u.claims)) tt (law.once id v at) (λ j u ne away a. law.once j u a);
     }

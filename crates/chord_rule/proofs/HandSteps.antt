@@ -11,9 +11,9 @@ use Rattle.chord_base.specs.Messages.{AreDifferent}
 use Rattle.chord_rule.specs.declared.view.Claim.{Claim}
 use Rattle.chord_rule.specs.declared.view.View.{View}
 use Rattle.chord_rule.specs.Numbers.{HasNumber}
-use Rattle.chord_rule.specs.Claims.{HasThe, numbers}
+use Rattle.chord_rule.specs.Claims.{HasThe, claimed_numbers}
 use Rattle.chord_rule.specs.Stages.{Hold, Fresh, Placing, Flying, Claiming, Emptying, Unposted, Posting, Starting, Stage, Vacant, InHand, Armed, Spent, Posted, Played}
-use Rattle.chord_rule.specs.Hands.{Hand, hand, Holds, IsUnlinked, Keeps, Hands}
+use Rattle.chord_rule.specs.Hands.{Hand, hand, Holds, IsUnlinked, KeepsNumber, Hands}
 use Rattle.chord_rule.specs.Kinds as kinds
 use Rattle.chord_rule.specs.Kinds.{claimed, left_by}
 use Rattle.chord_rule.proofs.Puts.{put, put_here, put_else, at_inside}
@@ -31,26 +31,26 @@ module _ (views : List View) (stage : ℕ → Stage) (law : Hands views stage) (
       → ((k : ℕ) (x : Hold) → stage' k ≡ InHand id x → Holds (hand w) k x)
       → ((k j : ℕ) (x : Hold) → j ≢ id → stage k ≡ InHand j x → stage' k ≡ InHand j x)
       → ((k j : ℕ) (x : Hold) → j ≢ id → stage' k ≡ InHand j x → stage k ≡ InHand j x)
-      → ((k : ℕ) → IsUnlinked (hand w) k → Keeps w.kept k)
-      → AreDifferent (numbers w.claims)
+      → ((k : ℕ) → IsUnlinked (hand w) k → KeepsNumber w.kept k)
+      → AreDifferent (claimed_numbers w.claims)
       → Hands (set views id w) stage'
   hands_after w stage' mine back on off keeps once = record {
     holds = desks_after (λ j u. (k : ℕ) (x : Hold) → Holds (hand u) k x → stage' k ≡ InHand j x) views id w mine (λ j u ne a k x h. on k j x ne (law.holds j u a k x h));
     held = λ k j x e. dite (ℕ_discrete j id)
         (λ q. (w, ap (get_elem? (set views id w)) q ∙ set_here views id w (at_inside views id v at), back k x (e ∙ ap (λ (z : ℕ). InHand z x) q)))
         (λ ne. let r = law.held k j x (off k j x ne e) in (r.0, set_else views id j w ne ∙ r.1, r.2));
-    kept = desks_after (λ j u. (k : ℕ) → IsUnlinked (hand u) k → Keeps u.kept k) views id w keeps (λ j u ne a. law.kept j u a);
-    once = desks_after (λ j u. AreDifferent (numbers u.claims)) views id w once (λ j u ne a. law.once j u a);
+    kept = desks_after (λ j u. (k : ℕ) → IsUnlinked (hand u) k → KeepsNumber u.kept k) views id w keeps (λ j u ne a. law.kept j u a);
+    once = desks_after (λ j u. AreDifferent (claimed_numbers u.claims)) views id w once (λ j u ne a. law.once j u a);
   }
 
   -- a step that changes nothing in hand
-  pub hands_still : (w : View) → hand w ≡ hand v → ((k : ℕ) → Keeps v.kept k → Keeps w.kept k) → Hands (set views id w) stage
+  pub hands_still : (w : View) → hand w ≡ hand v → ((k : ℕ) → KeepsNumber v.kept k → KeepsNumber w.kept k) → Hands (set views id w) stage
   hands_still w same keeps = hands_after w stage
       (λ k x h. law.holds id v at k x (subst (λ (a : Hand). Holds a k x) same h))
       (λ k x e. let r = law.held k id x e in subst (λ (a : Hand). Holds a k x) (sym same) (subst (λ (u : View). Holds (hand u) k x) (some-injective r.0 v (sym r.1 ∙ at)) r.2))
       (λ k j x ne e. e) (λ k j x ne e. e)
       (λ k u. keeps k (law.kept id v at k (subst (λ (a : Hand). IsUnlinked a k) same u)))
-      (subst (λ (a : Hand). AreDifferent (numbers a.claims)) (sym same) (law.once id v at))
+      (subst (λ (a : Hand). AreDifferent (claimed_numbers a.claims)) (sym same) (law.once id v at))
 
   module _ (i : ℕ) (s : Stage) (was : stage i ≡ s) (alone : (j : ℕ) (x : Hold) → s ≡ InHand j x → j ≡ id) where
     -- what the desk had in hand otherwise is another number
@@ -62,8 +62,8 @@ module _ (views : List View) (stage : ℕ → Stage) (law : Hands views stage) (
         → ((k : ℕ) (x : Hold) → Holds (hand w) k x → ((k ≡ i) × (t ≡ InHand id x)) ⊎ ((k ≢ i) × Holds (hand v) k x))
         → ((k : ℕ) (x : Hold) → k ≢ i → Holds (hand v) k x → Holds (hand w) k x)
         → ((j : ℕ) (x : Hold) → t ≡ InHand j x → (j ≡ id) × Holds (hand w) i x)
-        → ((k : ℕ) → IsUnlinked (hand w) k → Keeps w.kept k)
-        → AreDifferent (numbers w.claims)
+        → ((k : ℕ) → IsUnlinked (hand w) k → KeepsNumber w.kept k)
+        → AreDifferent (claimed_numbers w.claims)
         → Hands (set views id w) (put stage i t)
     hands_one w t came went now keeps once = hands_after w (put stage i t)
         (λ k x h. ⊎_elim (λ r. ap (put stage i t) r.0 ∙ put_here stage i t ∙ r.1) (λ r. put_else stage i t k r.0 ∙ law.holds id v at k x r.1) (came k x h))
@@ -85,7 +85,7 @@ module _ (views : List View) (stage : ℕ → Stage) (law : Hands views stage) (
   only x j y e = sym (same_hand id j x y e).0
 
   -- a message is drawn
-  pub hands_fresh : (n : ℕ) (w : View) → stage n ≡ Vacant → hand w ≡ record (hand v) { fresh = n ∷ v.fresh } → Keeps w.kept n → ((k : ℕ) → Keeps v.kept k → Keeps w.kept k)
+  pub hands_fresh : (n : ℕ) (w : View) → stage n ≡ Vacant → hand w ≡ record (hand v) { fresh = n ∷ v.fresh } → KeepsNumber w.kept n → ((k : ℕ) → KeepsNumber v.kept k → KeepsNumber w.kept k)
       → Hands (set views id w) (put stage n (InHand id Fresh))
   hands_fresh n w vacant is new old = let a : Hand = record (hand v) { fresh = n ∷ v.fresh } in
       let apart = other n Vacant vacant (λ j x e. absurd (cc)) in
@@ -94,7 +94,7 @@ module _ (views : List View) (stage : ℕ → Stage) (law : Hands views stage) (
       (λ k x ne h. subst (λ (b : Hand). Holds b k x) (sym is) (went k x ne h))
       (in_hand (hand w) n Fresh (subst (λ (b : Hand). Holds b n Fresh) (sym is) (inl refl)))
       (λ k u. keep k (subst (λ (b : Hand). IsUnlinked b k) is u))
-      (subst (λ (a : Hand). AreDifferent (numbers a.claims)) (sym is) (law.once id v at))
+      (subst (λ (a : Hand). AreDifferent (claimed_numbers a.claims)) (sym is) (law.once id v at))
     where
       came : ((k : ℕ) (x : Hold) → Holds (hand v) k x → Vacant ≢ InHand id x → k ≢ n) → (k : ℕ) (x : Hold) → Holds (record (hand v) { fresh = n ∷ v.fresh }) k x → ((k ≡ n) × (InHand id Fresh ≡ InHand id x)) ⊎ ((k ≢ n) × Holds (hand v) k x)
       came apart k Fresh h = ⊎_elim (λ q. inl (q, refl)) (λ o. inr (apart k Fresh o (λ e. cc), o)) h
@@ -116,9 +116,9 @@ module _ (views : List View) (stage : ℕ → Stage) (law : Hands views stage) (
       went k Posting ne h = h
       went k Starting ne h = h
 
-      keep : (k : ℕ) → IsUnlinked (record (hand v) { fresh = n ∷ v.fresh }) k → Keeps w.kept k
+      keep : (k : ℕ) → IsUnlinked (record (hand v) { fresh = n ∷ v.fresh }) k → KeepsNumber w.kept k
       keep k u = ⊎_elim
-          (λ h. ⊎_elim (λ q. subst (Keeps w.kept) (sym q) new) (λ o. old k (law.kept id v at k (inl o))) h)
+          (λ h. ⊎_elim (λ q. subst (KeepsNumber w.kept) (sym q) new) (λ o. old k (law.kept id v at k (inl o))) h)
           (λ h. old k (law.kept id v at k (inr h))) u
 
   -- a message is placed
@@ -145,11 +145,11 @@ module _ (views : List View) (stage : ℕ → Stage) (law : Hands views stage) (
       went k Posting ne h = h
       went k Starting ne h = h
 
-      keep : (k : ℕ) → IsUnlinked (hand (kinds.address_set v i)) k → Keeps (kinds.address_set v i).kept k
-      keep k u = ⊎_elim (λ h. law.kept id v at k (inl (has_without k i v.fresh h).1)) (λ h. subst (Keeps v.kept) (some_is i k h) (law.kept id v at i (inl has))) u
+      keep : (k : ℕ) → IsUnlinked (hand (kinds.address_set v i)) k → KeepsNumber (kinds.address_set v i).kept k
+      keep k u = ⊎_elim (λ h. law.kept id v at k (inl (has_without k i v.fresh h).1)) (λ h. subst (KeepsNumber v.kept) (some_is i k h) (law.kept id v at i (inl has))) u
 
   -- it is linked in the bag, above another one, and what else is unlinked stays
-  pub hands_link : (i : ℕ) (bag : ℕ) (above : Option ℕ) (ps : List Entry) (placing : v.placing ≡ Some i) (free : v.flight ≡ None) (stays : (k : ℕ) → HasNumber k v.fresh → Keeps v.kept k → Keeps (left_by ps v.kept) k) → Hands (set views id (kinds.flown v i bag above ps)) (put stage i (InHand id (Flying bag above)))
+  pub hands_link : (i : ℕ) (bag : ℕ) (above : Option ℕ) (ps : List Entry) (placing : v.placing ≡ Some i) (free : v.flight ≡ None) (stays : (k : ℕ) → HasNumber k v.fresh → KeepsNumber v.kept k → KeepsNumber (left_by ps v.kept) k) → Hands (set views id (kinds.flown v i bag above ps)) (put stage i (InHand id (Flying bag above)))
   hands_link i bag above ps placing free stays = hands_one i (InHand id Placing) (law.holds id v at i Placing placing) (only Placing) (kinds.flown v i bag above ps) (InHand id (Flying bag above)) (came (other i (InHand id Placing) (law.holds id v at i Placing placing) (only Placing))) went (in_hand (hand (kinds.flown v i bag above ps)) i (Flying bag above) (refl, refl, refl)) keep (law.once id v at)
     where
       came : ((k : ℕ) (x : Hold) → Holds (hand v) k x → InHand id Placing ≢ InHand id x → k ≢ i) → (k : ℕ) (x : Hold) → Holds (hand (kinds.flown v i bag above ps)) k x → ((k ≡ i) × (InHand id (Flying bag above) ≡ InHand id x)) ⊎ ((k ≢ i) × Holds (hand v) k x)
@@ -172,7 +172,7 @@ module _ (views : List View) (stage : ℕ → Stage) (law : Hands views stage) (
       went k Posting ne h = h
       went k Starting ne h = h
 
-      keep : (k : ℕ) → IsUnlinked (hand (kinds.flown v i bag above ps)) k → Keeps (kinds.flown v i bag above ps).kept k
+      keep : (k : ℕ) → IsUnlinked (hand (kinds.flown v i bag above ps)) k → KeepsNumber (kinds.flown v i bag above ps).kept k
       keep k u = ⊎_elim (λ h. stays k h (law.kept id v at k (inl h))) (λ h. absurd (let z : Path (Option ℕ) None (Some k) = h in cc)) u
 
   -- it is armed
@@ -199,7 +199,7 @@ module _ (views : List View) (stage : ℕ → Stage) (law : Hands views stage) (
       went k Posting ne h = h
       went k Starting ne h = h
 
-      keep : (k : ℕ) → IsUnlinked (hand (kinds.armed v i)) k → Keeps (kinds.armed v i).kept k
+      keep : (k : ℕ) → IsUnlinked (hand (kinds.armed v i)) k → KeepsNumber (kinds.armed v i).kept k
       keep k u = law.kept id v at k u
 
   -- it is claimed
@@ -226,7 +226,7 @@ module _ (views : List View) (stage : ℕ → Stage) (law : Hands views stage) (
       went k Posting ne h = h
       went k Starting ne h = h
 
-      keep : (k : ℕ) → IsUnlinked (hand (claimed v c)) k → Keeps (claimed v c).kept k
+      keep : (k : ℕ) → IsUnlinked (hand (claimed v c)) k → KeepsNumber (claimed v c).kept k
       keep k u = law.kept id v at k u
 
   -- it is given back
@@ -253,7 +253,7 @@ module _ (views : List View) (stage : ℕ → Stage) (law : Hands views stage) (
       went k Posting ne h = h
       went k Starting ne h = h
 
-      keep : (k : ℕ) → IsUnlinked (hand (kinds.unclaimed v i)) k → Keeps (kinds.unclaimed v i).kept k
+      keep : (k : ℕ) → IsUnlinked (hand (kinds.unclaimed v i)) k → KeepsNumber (kinds.unclaimed v i).kept k
       keep k u = law.kept id v at k u
 
   -- it is consumed, and entries come
@@ -280,7 +280,7 @@ module _ (views : List View) (stage : ℕ → Stage) (law : Hands views stage) (
       went k Posting ne h = h
       went k Starting ne h = h
 
-      keep : (k : ℕ) → IsUnlinked (hand (kinds.consumed v i ps)) k → Keeps (kinds.consumed v i ps).kept k
+      keep : (k : ℕ) → IsUnlinked (hand (kinds.consumed v i ps)) k → KeepsNumber (kinds.consumed v i ps).kept k
       keep k u = (let r = law.kept id v at k u in (r.0, together_left r.0 v.kept ps r.1, r.2))
 
   -- its slot is home again
@@ -307,7 +307,7 @@ module _ (views : List View) (stage : ℕ → Stage) (law : Hands views stage) (
       went k Posting ne h = h
       went k Starting ne h = h
 
-      keep : (k : ℕ) → IsUnlinked (hand (kinds.emptied v)) k → Keeps (kinds.emptied v).kept k
+      keep : (k : ℕ) → IsUnlinked (hand (kinds.emptied v)) k → KeepsNumber (kinds.emptied v).kept k
       keep k u = law.kept id v at k u
 
   -- the slot of a firing comes out
@@ -334,11 +334,11 @@ module _ (views : List View) (stage : ℕ → Stage) (law : Hands views stage) (
       went k Posting ne h = absurd (let z : Path (Option ℕ) None (Some k) = sym free ∙ h in cc)
       went k Starting ne h = h
 
-      keep : (k : ℕ) → IsUnlinked (hand (kinds.posting v i)) k → Keeps (kinds.posting v i).kept k
+      keep : (k : ℕ) → IsUnlinked (hand (kinds.posting v i)) k → KeepsNumber (kinds.posting v i).kept k
       keep k u = law.kept id v at k u
 
   -- the firing is posted, and what is unlinked stays
-  pub hands_post : (i : ℕ) (ps : List Entry) (posting : v.posting ≡ Some i) (stays : (k : ℕ) → IsUnlinked (hand v) k → Keeps v.kept k → Keeps (left_by ps v.kept) k) → Hands (set views id (kinds.posted v ps)) (put stage i (Posted))
+  pub hands_post : (i : ℕ) (ps : List Entry) (posting : v.posting ≡ Some i) (stays : (k : ℕ) → IsUnlinked (hand v) k → KeepsNumber v.kept k → KeepsNumber (left_by ps v.kept) k) → Hands (set views id (kinds.posted v ps)) (put stage i (Posted))
   hands_post i ps posting stays = hands_one i (InHand id Posting) (law.holds id v at i Posting posting) (only Posting) (kinds.posted v ps) (Posted) (came (other i (InHand id Posting) (law.holds id v at i Posting posting) (only Posting))) went (λ j x e. absurd (cc)) keep (law.once id v at)
     where
       came : ((k : ℕ) (x : Hold) → Holds (hand v) k x → InHand id Posting ≢ InHand id x → k ≢ i) → (k : ℕ) (x : Hold) → Holds (hand (kinds.posted v ps)) k x → ((k ≡ i) × (Posted ≡ InHand id x)) ⊎ ((k ≢ i) × Holds (hand v) k x)
@@ -361,7 +361,7 @@ module _ (views : List View) (stage : ℕ → Stage) (law : Hands views stage) (
       went k Posting ne h = absurd (ne (sym (some_is i k (sym posting ∙ h))))
       went k Starting ne h = h
 
-      keep : (k : ℕ) → IsUnlinked (hand (kinds.posted v ps)) k → Keeps (kinds.posted v ps).kept k
+      keep : (k : ℕ) → IsUnlinked (hand (kinds.posted v ps)) k → KeepsNumber (kinds.posted v ps).kept k
       keep k u = stays k u (law.kept id v at k u)
 
   -- a firing is started, and entries come
@@ -388,7 +388,7 @@ module _ (views : List View) (stage : ℕ → Stage) (law : Hands views stage) (
       went k Posting ne h = h
       went k Starting ne h = absurd (let z : Path (Option ℕ) None (Some k) = sym free ∙ h in cc)
 
-      keep : (k : ℕ) → IsUnlinked (hand (kinds.firing_started v i ps)) k → Keeps (kinds.firing_started v i ps).kept k
+      keep : (k : ℕ) → IsUnlinked (hand (kinds.firing_started v i ps)) k → KeepsNumber (kinds.firing_started v i ps).kept k
       keep k u = (let r = law.kept id v at k u in (r.0, together_left r.0 v.kept ps r.1, r.2))
 
   -- its slot is home again
@@ -415,5 +415,5 @@ module _ (views : List View) (stage : ℕ → Stage) (law : Hands views stage) (
       went k Posting ne h = h
       went k Starting ne h = absurd (ne (sym (some_is i k (sym starting ∙ h))))
 
-      keep : (k : ℕ) → IsUnlinked (hand (kinds.played v)) k → Keeps (kinds.played v).kept k
+      keep : (k : ℕ) → IsUnlinked (hand (kinds.played v)) k → KeepsNumber (kinds.played v).kept k
       keep k u = law.kept id v at k u

@@ -16,7 +16,7 @@ use Rattle.chord_base.proofs.Merged.{merged_fire, merged_more}
 use Rattle.chord_base.proofs.Parting.{parting_keeps_places}
 use Rattle.chord_rule.specs.declared.view.View.{View}
 use Rattle.chord_rule.specs.Moment.{Home}
-use Rattle.chord_rule.specs.Kinds.{newcomer, gone, among, entry, left_by, MayGo}
+use Rattle.chord_rule.specs.Kinds.{newcomer, gone, is_among, entry, left_by, MayGo}
 use Rattle.chord_base.specs.Story.{together, moved_into}
 use Rattle.chord_rule.specs.Keeping.{desk, parcel, at_desk, at_home, kept_at, Keeping}
 use Rattle.chord_rule.proofs.Puts.{put, put_here, put_else, at_inside}
@@ -96,18 +96,18 @@ module _ {P : Type 0} (entries : P → List Entry) (p : Program) (n : ℕ) (coun
 
     -- entries go with a parcel
     pub parcel_goes : (i : ℕ) (q : P) → at_home entries (homes i) ≡ [] → MayGo p v.kept (entries q) → w.kept ≡ left_by (entries q) v.kept → Keeping entries p n count (put homes i (some (Some q))) (set views id w) h
-    parcel_goes i q was may left = let view : ℕ → List Entry = parted V (desk id) (parcel i) (among (entries q)) in keeps_as (set views id w) (put homes i (some (Some q))) view
-        (parting_keeps_places p V h (desk id) (parcel i) (among (entries q)) k.merged (λ e. omega arith) (parcel_keeps entries views homes i ∙ was)
-        (subst (IsTold p) (sym (ap (kept (among (entries q))) desk_at ∙ may.part)) may.goes)
+    parcel_goes i q was may left = let view : ℕ → List Entry = parted V (desk id) (parcel i) (is_among (entries q)) in keeps_as (set views id w) (put homes i (some (Some q))) view
+        (parting_keeps_places p V h (desk id) (parcel i) (is_among (entries q)) k.merged (λ e. omega arith) (parcel_keeps entries views homes i ∙ was)
+        (subst (IsTold p) (sym (ap (kept (is_among (entries q))) desk_at ∙ may.part)) may.goes)
         (subst (λ (es : List Entry). IsTold p (left_by (entries q) es)) (sym desk_at) may.stays))
         (desks_as view
-        (if_other (desk id) (parcel i) (kept (among (entries q)) (V (desk id))) (if desk id == desk id then left_by (entries q) (V (desk id)) else V (desk id)) (λ e. omega arith)
+        (if_other (desk id) (parcel i) (kept (is_among (entries q)) (V (desk id))) (if desk id == desk id then left_by (entries q) (V (desk id)) else V (desk id)) (λ e. omega arith)
         ∙ if_same (desk id) (desk id) (left_by (entries q) (V (desk id))) (V (desk id)) refl ∙ ap (left_by (entries q)) desk_at ∙ sym left)
-        (λ j ne. if_other (desk j) (parcel i) (kept (among (entries q)) (V (desk id))) (if desk j == desk id then left_by (entries q) (V (desk id)) else V (desk j)) (λ e. omega arith)
+        (λ j ne. if_other (desk j) (parcel i) (kept (is_among (entries q)) (V (desk id))) (if desk j == desk id then left_by (entries q) (V (desk id)) else V (desk j)) (λ e. omega arith)
         ∙ if_other (desk j) (desk id) (left_by (entries q) (V (desk id))) (V (desk j)) (λ e. ne (omega arith))))
         (homes_as view i (some (Some q))
-        (if_same (parcel i) (parcel i) (kept (among (entries q)) (V (desk id))) (if parcel i == desk id then left_by (entries q) (V (desk id)) else V (parcel i)) refl ∙ ap (kept (among (entries q))) desk_at ∙ may.part)
-        (λ x ne. if_other (parcel x) (parcel i) (kept (among (entries q)) (V (desk id))) (if parcel x == desk id then left_by (entries q) (V (desk id)) else V (parcel x)) (λ e. ne (omega arith))
+        (if_same (parcel i) (parcel i) (kept (is_among (entries q)) (V (desk id))) (if parcel i == desk id then left_by (entries q) (V (desk id)) else V (parcel i)) refl ∙ ap (kept (is_among (entries q))) desk_at ∙ may.part)
+        (λ x ne. if_other (parcel x) (parcel i) (kept (is_among (entries q)) (V (desk id))) (if parcel x == desk id then left_by (entries q) (V (desk id)) else V (parcel x)) (λ e. ne (omega arith))
         ∙ if_other (parcel x) (desk id) (left_by (entries q) (V (desk id))) (V (parcel x)) (λ e. omega arith)))
 
     -- entries come with a parcel

@@ -2,10 +2,10 @@
 use Rattle.std.proofs.Common.{◌≡◌, ◌⊎◌, ⊎_elim, ℕ, Option, Some, None, subst, sym}
 use mathlib.Core.Path.{Path}
 use Rattle.chord_word.specs.declared.cells.Word.{Word}
-use Rattle.chord_rule.specs.Bags.{Order, head_of, Leads, BagLaw}
+use Rattle.chord_rule.specs.Bags.{LinkOrder, head_number, Leads, BagLaw}
 
 -- the bag law stays where there are more bags, each new one with an empty head
-pub more_keys : (IsKey IsKey' : ℕ → Type 0) (cells : ℕ → Word) (heads : ℕ → Option ℕ) (o : Order) → ((k : ℕ) → IsKey k → IsKey' k) → ((k : ℕ) → IsKey' k → IsKey k ⊎ ((IsKey k → ⊥) × (heads (head_of k) ≡ None)))
+pub more_keys : (IsKey IsKey' : ℕ → Type 0) (cells : ℕ → Word) (heads : ℕ → Option ℕ) (o : LinkOrder) → ((k : ℕ) → IsKey k → IsKey' k) → ((k : ℕ) → IsKey' k → IsKey k ⊎ ((IsKey k → ⊥) × (heads (head_number k) ≡ None)))
     → BagLaw IsKey cells heads o → BagLaw IsKey' cells heads o
 more_keys IsKey IsKey' cells heads o more new law = record {
   heads_lead = λ k is. ⊎_elim (λ old. law.heads_lead k old)

@@ -18,16 +18,16 @@ use Rattle.chord_word.specs.declared.cells.Word.{Word}
 use Rattle.chord_rule.specs.declared.view.View.{View}
 use Rattle.chord_rule.specs.Moment.{Moment, Home}
 use Rattle.chord_rule.specs.Agrees.{Agrees}
-use Rattle.chord_rule.specs.Bags.{head_of}
+use Rattle.chord_rule.specs.Bags.{head_number}
 use Rattle.chord_rule.specs.Claims.{HasThe}
 use Rattle.chord_rule.specs.Hands.{hand, Holds}
 use Rattle.chord_rule.specs.Kinds.{gone}
 use Rattle.chord_rule.specs.Made.{IsMade, IsKey, key}
 use Rattle.chord_rule.specs.Messages.{IsOpen}
 use Rattle.chord_rule.specs.StandsFor.{Unseen}
-use Rattle.chord_rule.specs.Stages.{Hold, Stage, Vacant, InHand, Armed, Spent, Posted, Played, Fresh, Placing, Flying, Claiming, Emptying, Unposted, Posting, Starting, what_at, message_in}
+use Rattle.chord_rule.specs.Stages.{Hold, Stage, Vacant, InHand, Armed, Spent, Posted, Played, Fresh, Placing, Flying, Claiming, Emptying, Unposted, Posting, Starting, said_at, message_in}
 use Rattle.chord_rule.specs.Tells.{IsNewClaim, a_word}
-use Rattle.chord_rule.specs.Ways.{KnowsBag, KnowsObject, LastSeen, IsAlone, IsSettledCell}
+use Rattle.chord_rule.specs.Ways.{KnowsBag, KnowsObject, LastSeen, IsAloneDesk, IsSettledCell}
 use Rattle.chord_rule.specs.Whole.{Whole}
 use Rattle.chord_rule.proofs.Agreeing as agreeing
 use Rattle.chord_rule.proofs.AloneSteps.{live_some, other_live}
@@ -57,10 +57,10 @@ module _ {P : Type 0} (entries : P → List Entry) (arguments : P → List value
   known_bag i o j low few known (inr d) = sym (ap u.order.bag d.2) ∙ law.tied.duties id v at d.0 d.1 ∙ ap (λ (k : ℕ). Some k) d.3
   known_bag i o j low few known (inl w) =
       let way = (whole.desks.right id v at).ways w.0 w.1 in let bag = read_bag n way.along u.order i w.0.looks way.falls w.3 in
-      bag ∙ ap (λ (k : ℕ). Some k) (one_key p u.journal law.stands.keeping.merged.past way.along (key o j) (law.bags.keyed i way.along bag) (known_key o j low few known) (way.headed ∙ ap head_of w.2))
+      bag ∙ ap (λ (k : ℕ). Some k) (one_key p u.journal law.stands.keeping.merged.past way.along (key o j) (law.bags.keyed i way.along bag) (known_key o j low few known) (way.headed ∙ ap head_number w.2))
 
   -- what a new claim tells
-  pub new_claim : (i : ℕ) (next : Option ℕ) (x : Message) → m.cells i ≡ a_word a_cell.Pending next → message_in (what_at i u.journal) ≡ Some x → IsNewClaim v i next (claim_on i next x)
+  pub new_claim : (i : ℕ) (next : Option ℕ) (x : Message) → m.cells i ≡ a_word a_cell.Pending next → message_in (said_at i u.journal) ≡ Some x → IsNewClaim v i next (claim_on i next x)
   new_claim i next x is says = record {
     numbered = refl;
     linked = refl;
@@ -99,7 +99,7 @@ module _ {P : Type 0} (entries : P → List Entry) (arguments : P → List value
   open_settled a_cell.Started t = t
 
   -- alone, nobody has a linked message in hand
-  pub settled : IsAlone v → (i k : ℕ) → u.order.bag i ≡ Some k → IsSettledCell (m.cells i).cell
+  pub settled : IsAloneDesk v → (i k : ℕ) → u.order.bag i ≡ Some k → IsSettledCell (m.cells i).cell
   settled alone i k b = go (u.stage i) refl
     where
       it : (s : Stage) → u.stage i ≡ s → agreeing.It entries arguments keeps_to p n small m u law id v at i s

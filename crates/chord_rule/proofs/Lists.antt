@@ -8,7 +8,7 @@ use Rattle.chord_rule.specs.declared.view.Claim.{Claim}
 use Rattle.chord_rule.specs.Numbers.{HasNumber}
 use Rattle.chord_base.specs.Story.{insert, together}
 use Rattle.chord_rule.specs.Kinds.{without, drop_claim}
-use Rattle.chord_rule.specs.Claims.{HasThe, numbers, fired_with}
+use Rattle.chord_rule.specs.Claims.{HasThe, claimed_numbers, fired_with}
 use Rattle.chord_base.proofs.Waits.{either}
 
 -- what is there is one
@@ -86,7 +86,7 @@ pub fired_number : (f : ℕ) (ms : List ℕ) (d : Claim) → (with_firing f ms d
 fired_number f ms d = elim (either (has d.number ms)) [ inl y ↦ rw y refl | inr o ↦ rw o refl ]
 
 -- a message that is not claimed has no number there
-pub not_numbered : (i : ℕ) (cs : List Claim) → ((c : Claim) → HasThe c cs → c.number ≡ i → ⊥) → has i (numbers cs) ≡ false
+pub not_numbered : (i : ℕ) (cs : List Claim) → ((c : Claim) → HasThe c cs → c.number ≡ i → ⊥) → has i (claimed_numbers cs) ≡ false
 not_numbered i [] no_one = refl
 not_numbered i (c ∷ cs) no_one = elim (either (i == c.number)) [
   | inl y ↦ absurd (no_one c (inl refl) (sym (eqb-true i c.number y)))
@@ -94,21 +94,21 @@ not_numbered i (c ∷ cs) no_one = elim (either (i == c.number)) [
 ]
 
 -- a number that is not claimed is not claimed after a claim was dropped
-pub dropped_not : (i x : ℕ) (cs : List Claim) → has i (numbers cs) ≡ false → has i (numbers (drop_claim x cs)) ≡ false
+pub dropped_not : (i x : ℕ) (cs : List Claim) → has i (claimed_numbers cs) ≡ false → has i (claimed_numbers (drop_claim x cs)) ≡ false
 dropped_not i x [] e = refl
 dropped_not i x (c ∷ cs) e = elim (either (c.number == x)) [
   | inl y ↦ rw y (dropped_not i x cs (tail_not i c cs e))
   | inr o ↦ rw (o, head_not i c cs e) (dropped_not i x cs (tail_not i c cs e))
 ]
   where
-    head_not : (i : ℕ) (c : Claim) (cs : List Claim) → has i (numbers (c ∷ cs)) ≡ false → (i == c.number) ≡ false
+    head_not : (i : ℕ) (c : Claim) (cs : List Claim) → has i (claimed_numbers (c ∷ cs)) ≡ false → (i == c.number) ≡ false
     head_not i c cs e = elim (either (i == c.number)) [ inl y ↦ (let z : true ≡ false = rw y at e in cc) | inr o ↦ o ]
 
-    tail_not : (i : ℕ) (c : Claim) (cs : List Claim) → has i (numbers (c ∷ cs)) ≡ false → has i (numbers cs) ≡ false
+    tail_not : (i : ℕ) (c : Claim) (cs : List Claim) → has i (claimed_numbers (c ∷ cs)) ≡ false → has i (claimed_numbers cs) ≡ false
     tail_not i c cs e = rw (head_not i c cs e) at e
 
 -- claims on different messages stay so where one goes
-pub dropped_different : (x : ℕ) (cs : List Claim) → AreDifferent (numbers cs) → AreDifferent (numbers (drop_claim x cs))
+pub dropped_different : (x : ℕ) (cs : List Claim) → AreDifferent (claimed_numbers cs) → AreDifferent (claimed_numbers (drop_claim x cs))
 dropped_different x [] d = d
 dropped_different x (c ∷ cs) d = elim (either (c.number == x)) [
   | inl y ↦ rw y (dropped_different x cs d.1)
@@ -116,7 +116,7 @@ dropped_different x (c ∷ cs) d = elim (either (c.number == x)) [
 ]
 
 -- and where a firing was drawn with them
-pub fired_numbers : (f : ℕ) (ms : List ℕ) (cs : List Claim) → numbers (fired_with f ms cs) ≡ numbers cs
+pub fired_numbers : (f : ℕ) (ms : List ℕ) (cs : List Claim) → claimed_numbers (fired_with f ms cs) ≡ claimed_numbers cs
 fired_numbers f ms [] = refl
 fired_numbers f ms (c ∷ cs) = (λ z. fired_number f ms c z ∷ fired_numbers f ms cs z)
 

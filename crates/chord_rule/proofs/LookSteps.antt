@@ -6,15 +6,15 @@ use Rattle.atomic_table.proofs.Lists.{at_set}
 use Rattle.chord_word.specs.declared.cells.Word.{Word}
 use Rattle.chord_rule.specs.declared.view.Look.{Look}
 use Rattle.chord_rule.specs.declared.view.View.{View}
-use Rattle.chord_rule.specs.Bags.{Order, IsArmed, IsConsumed, cell_of}
+use Rattle.chord_rule.specs.Bags.{LinkOrder, IsArmed, IsConsumed, cell_of}
 use Rattle.chord_rule.specs.Looks.{HasLook, HasSeen, Looks}
 use Rattle.chord_rule.specs.Kinds.{newcomer, gone}
 use Rattle.chord_rule.proofs.Puts.{put, put_all, at_end}
 use Rattle.chord_rule.proofs.Frames.{desks_after}
 
-module _ (cells : ℕ → Word) (o : Order) (views : List View) (law : Looks cells o views) where
+module _ (cells : ℕ → Word) (o : LinkOrder) (views : List View) (law : Looks cells o views) where
   -- each cell that the desk saw armed is armed, and has the next that it saw
-  abbrev Seen : (ℕ → Word) → Order → ℕ → View → Type 0
+  abbrev Seen : (ℕ → Word) → LinkOrder → ℕ → View → Type 0
   Seen cells' o' j v = (i : ℕ) (next : Option ℕ) → HasSeen v i next → IsArmed (cell_of cells' i) × ((IsConsumed (cell_of cells' i) → ⊥) → o'.next i ≡ next)
 
   -- a desk more
@@ -23,7 +23,7 @@ module _ (cells : ℕ → Word) (o : Order) (views : List View) (law : Looks cel
 
   module _ (id : ℕ) (v : View) (at : get_elem? views id ≡ some v) where
     -- what was armed is armed, and keeps its next, and what was consumed is consumed
-    pub looks_stay : (cells' : ℕ → Word) (o' : Order) (w : View) → ((i : ℕ) → IsArmed (cell_of cells i) → IsArmed (cell_of cells' i) × (o'.next i ≡ o.next i)) → ((i : ℕ) → IsConsumed (cell_of cells i) → IsConsumed (cell_of cells' i)) → w.looked.seen ≡ v.looked.seen → Looks cells' o' (set views id w)
+    pub looks_stay : (cells' : ℕ → Word) (o' : LinkOrder) (w : View) → ((i : ℕ) → IsArmed (cell_of cells i) → IsArmed (cell_of cells' i) × (o'.next i ≡ o.next i)) → ((i : ℕ) → IsConsumed (cell_of cells i) → IsConsumed (cell_of cells' i)) → w.looked.seen ≡ v.looked.seen → Looks cells' o' (set views id w)
     looks_stay cells' o' w armed down same = record {
       seen = desks_after (Seen cells' o') views id w
           (λ i next h. let s = law.seen id v at i next (h.0, subst (λ (l : List Look). HasLook i h.0 l) same h.1, h.2, h.3) in let a = armed i s.0 in (a.0, λ up. a.1 ∙ s.1 (λ c. up (down i c))))

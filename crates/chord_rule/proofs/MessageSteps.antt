@@ -14,10 +14,10 @@ use Rattle.chord_word.specs.declared.cells.Cell.TheVariants as a_cell
 use Rattle.chord_word.specs.declared.cells.Word.{Word}
 use Rattle.chord_rule.specs.declared.view.Claim.{Claim}
 use Rattle.chord_rule.specs.Moment.{Home, Place}
-use Rattle.chord_rule.specs.Bags.{Order}
+use Rattle.chord_rule.specs.Bags.{LinkOrder}
 use Rattle.chord_rule.specs.Made.{key}
 use Rattle.chord_rule.specs.Messages.{IsOpen, HasNothing, IsLinked, Stands, Messages}
-use Rattle.chord_rule.specs.Stages.{Fresh, Placing, Flying, Claiming, Emptying, Unposted, Posting, Starting, Stage, Vacant, InHand, Armed, Spent, Posted, Played, what_at, message_in, IsFiringEntry, claimed_message}
+use Rattle.chord_rule.specs.Stages.{Fresh, Placing, Flying, Claiming, Emptying, Unposted, Posting, Starting, Stage, Vacant, InHand, Armed, Spent, Posted, Played, said_at, message_in, IsFiringEntry, claimed_message}
 use Rattle.chord_rule.specs.Kinds.{drawn_stage, fired_claim, fired_stage, heir, entry}
 use Rattle.chord_rule.proofs.Puts.{put}
 use Rattle.chord_rule.proofs.Lists.{some_is}
@@ -28,36 +28,36 @@ use Rattle.chord_rule.proofs.Staging.{Moves, moves, rests, pending_armed, ready_
 abbrev pub claim_on : ℕ → Option ℕ → Message → Claim
 claim_on i next m = record { number = i; next = next; object = m.object; method = m.method; values = m.arguments; firing = None }
 
-module _ {P : Type 0} (h : List Entry) (cells : ℕ → Word) (places : ℕ → Option Place) (homes : ℕ → Home P) (o : Order) (stage : ℕ → Stage) (law : Messages h cells places homes o stage) where
+module _ {P : Type 0} (h : List Entry) (cells : ℕ → Word) (places : ℕ → Option Place) (homes : ℕ → Home P) (o : LinkOrder) (stage : ℕ → Stage) (law : Messages h cells places homes o stage) where
   -- a step on one number
-  pub messages_one : (i : ℕ) (cells' : ℕ → Word) (places' : ℕ → Option Place) (homes' : ℕ → Home P) (o' : Order) (stage' : ℕ → Stage) (t : Stage) (word : Word) (place : Option Place) (home : Home P) (bag next : Option ℕ)
+  pub messages_one : (i : ℕ) (cells' : ℕ → Word) (places' : ℕ → Option Place) (homes' : ℕ → Home P) (o' : LinkOrder) (stage' : ℕ → Stage) (t : Stage) (word : Word) (place : Option Place) (home : Home P) (bag next : Option ℕ)
       → Moves stage stage' i t → Moves cells cells' i word → Moves places places' i place → Moves homes homes' i home → Moves o.bag o'.bag i bag → Moves o.next o'.next i next
-      → Stands t (what_at i h) word place home bag next → Messages h cells' places' homes' o' stage'
+      → Stands t (said_at i h) word place home bag next → Messages h cells' places' homes' o' stage'
   messages_one i cells' places' homes' o' stage' t word place home bag next s c p q b n now = record {
     stands = λ k. dite (ℕ_discrete k i)
-        (λ e. subst (λ (z : ℕ). Stands (stage' z) (what_at z h) (cells' z) (places' z) (homes' z) (o'.bag z) (o'.next z)) (sym e)
-        (subst (λ (y : Stage × Word × Option Place × Home P × Option ℕ × Option ℕ). Stands y.0 (what_at i h) y.1 y.2 y.3 y.4 y.5) (λ z. (sym s.here z, sym c.here z, sym p.here z, sym q.here z, sym b.here z, sym n.here z)) now))
-        (λ ne. subst (λ (y : Stage × Word × Option Place × Home P × Option ℕ × Option ℕ). Stands y.0 (what_at k h) y.1 y.2 y.3 y.4 y.5) (λ z. (sym (s.away k ne) z, sym (c.away k ne) z, sym (p.away k ne) z, sym (q.away k ne) z, sym (b.away k ne) z, sym (n.away k ne) z)) (law.stands k));
+        (λ e. subst (λ (z : ℕ). Stands (stage' z) (said_at z h) (cells' z) (places' z) (homes' z) (o'.bag z) (o'.next z)) (sym e)
+        (subst (λ (y : Stage × Word × Option Place × Home P × Option ℕ × Option ℕ). Stands y.0 (said_at i h) y.1 y.2 y.3 y.4 y.5) (λ z. (sym s.here z, sym c.here z, sym p.here z, sym q.here z, sym b.here z, sym n.here z)) now))
+        (λ ne. subst (λ (y : Stage × Word × Option Place × Home P × Option ℕ × Option ℕ). Stands y.0 (said_at k h) y.1 y.2 y.3 y.4 y.5) (λ z. (sym (s.away k ne) z, sym (c.away k ne) z, sym (p.away k ne) z, sym (q.away k ne) z, sym (b.away k ne) z, sym (n.away k ne) z)) (law.stands k));
   }
 
   module _ (id i : ℕ) where
     -- the number i is in this stage
     abbrev It : Stage → Type 0
-    It s = Stands s (what_at i h) (cells i) (places i) (homes i) (o.bag i) (o.next i)
+    It s = Stands s (said_at i h) (cells i) (places i) (homes i) (o.bag i) (o.next i)
 
     -- the number i is in its stage
     it : (s : Stage) → stage i ≡ s → It s
     it s e = subst It e (law.stands i)
 
     -- a message is placed
-    pub messages_place : (m : Message) → message_in (what_at i h) ≡ Some m → stage i ≡ InHand id Fresh → Messages h cells (put places i (Some (m.object, m.method))) (put homes i none) o (put stage i (InHand id Placing))
+    pub messages_place : (m : Message) → message_in (said_at i h) ≡ Some m → stage i ≡ InHand id Fresh → Messages h cells (put places i (Some (m.object, m.method))) (put homes i none) o (put stage i (InHand id Placing))
     messages_place m says was = let t = it (InHand id Fresh) was in
         messages_one i cells (put places i (Some (m.object, m.method))) (put homes i none) o (put stage i (InHand id Placing)) (InHand id Placing) (cells i) (Some (m.object, m.method)) none (o.bag i) (o.next i)
         (moves stage i _) (rests cells i) (moves places i _) (moves homes i _) (rests o.bag i) (rests o.next i)
         (m, says, t.1.cell, refl, refl, t.1.unlinked)
 
     -- it is linked in its bag
-    pub messages_link : (m : Message) (k : ℕ) (above : Option ℕ) (q : P) → message_in (what_at i h) ≡ Some m → k ≡ key m.object m.method → m.method < 16 → stage i ≡ InHand id Placing
+    pub messages_link : (m : Message) (k : ℕ) (above : Option ℕ) (q : P) → message_in (said_at i h) ≡ Some m → k ≡ key m.object m.method → m.method < 16 → stage i ≡ InHand id Placing
         → Messages h cells places (put homes i (some (Some q))) (linked_order o i k above) (put stage i (InHand id (Flying k above)))
     messages_link m k above q says to few was = let t = it (InHand id Placing) was in let same : t.0 ≡ m = some_is t.0 m (sym t.1 ∙ says) in
         messages_one i cells places (put homes i (some (Some q))) (linked_order o i k above) (put stage i (InHand id (Flying k above))) (InHand id (Flying k above)) (cells i) (places i) (some (Some q)) (Some k) above
@@ -73,18 +73,18 @@ module _ {P : Type 0} (h : List Entry) (cells : ℕ → Word) (places : ℕ → 
 
     -- what is pending is armed
     pub is_armed : (next : Option ℕ) → cells i ≡ record { cell = a_cell.Pending; next = next } → stage i ≡ Armed
-    is_armed next e = pending_armed (stage i) (what_at i h) (cells i) (places i) (homes i) (o.bag i) (o.next i) (law.stands i) (ap (λ (w : Word). w.cell) e)
+    is_armed next e = pending_armed (stage i) (said_at i h) (cells i) (places i) (homes i) (o.bag i) (o.next i) (law.stands i) (ap (λ (w : Word). w.cell) e)
 
     -- what is ready is posted
     pub is_posted : (cells i).cell ≡ a_cell.Ready → stage i ≡ Posted
-    is_posted e = ready_posted (stage i) (what_at i h) (cells i) (places i) (homes i) (o.bag i) (o.next i) (law.stands i) e
+    is_posted e = ready_posted (stage i) (said_at i h) (cells i) (places i) (homes i) (o.bag i) (o.next i) (law.stands i) e
 
     -- and then a message
-    pub armed_message : stage i ≡ Armed → (m : Message) × (message_in (what_at i h) ≡ Some m)
+    pub armed_message : stage i ≡ Armed → (m : Message) × (message_in (said_at i h) ≡ Some m)
     armed_message was = let t = it Armed was in (t.0, t.1)
 
     -- it is claimed
-    pub messages_claim : (m : Message) (next : Option ℕ) → message_in (what_at i h) ≡ Some m → stage i ≡ Armed
+    pub messages_claim : (m : Message) (next : Option ℕ) → message_in (said_at i h) ≡ Some m → stage i ≡ Armed
         → Messages h (put cells i (record { cell = a_cell.Claimed; next = next })) places homes o (put stage i (InHand id (Claiming (claim_on i next m))))
     messages_claim m next says was = let t = it Armed was in let same : t.0 ≡ m = some_is t.0 m (sym t.1 ∙ says) in
         messages_one i (put cells i (record { cell = a_cell.Claimed; next = next })) places homes o (put stage i (InHand id (Claiming (claim_on i next m)))) (InHand id (Claiming (claim_on i next m))) (record { cell = a_cell.Claimed; next = next }) (places i) (homes i) (o.bag i) (o.next i)
@@ -152,21 +152,21 @@ module _ {P : Type 0} (h : List Entry) (cells : ℕ → Word) (places : ℕ → 
       → Stands t (Some e.what) (cells e.number) (places e.number) (homes e.number) (o.bag e.number) (o.next e.number) → Messages (e ∷ h) cells places homes o stage'
   messages_more e stage' t s now = record {
     stands = λ k. dite (ℕ_discrete k e.number)
-        (λ q. subst (λ (z : ℕ). Stands (stage' z) (what_at z (e ∷ h)) (cells z) (places z) (homes z) (o.bag z) (o.next z)) (sym q)
+        (λ q. subst (λ (z : ℕ). Stands (stage' z) (said_at z (e ∷ h)) (cells z) (places z) (homes z) (o.bag z) (o.next z)) (sym q)
         (subst (λ (y : Stage × Option What). Stands y.0 y.1 (cells e.number) (places e.number) (homes e.number) (o.bag e.number) (o.next e.number)) (λ z. (sym s.here z, sym (what_new e) z)) now))
         (λ ne. subst (λ (y : Stage × Option What). Stands y.0 y.1 (cells k) (places k) (homes k) (o.bag k) (o.next k)) (λ z. (sym (s.away k ne) z, sym (what_old e k ne) z)) (law.stands k));
   }
     where
-      what_new : (e : Entry) → what_at e.number (e ∷ h) ≡ Some e.what
+      what_new : (e : Entry) → said_at e.number (e ∷ h) ≡ Some e.what
       what_new e = rw (eq-eqb e.number e.number refl) refl
 
-      what_old : (e : Entry) (k : ℕ) → k ≢ e.number → what_at k (e ∷ h) ≡ what_at k h
+      what_old : (e : Entry) (k : ℕ) → k ≢ e.number → said_at k (e ∷ h) ≡ said_at k h
       what_old e k ne = rw (ne_eqb e.number k (λ q. ne (sym q))) refl
 
   module _ (id n : ℕ) (vacant : stage n ≡ Vacant) where
     -- nothing was done with the number that is drawn
     nothing : HasNothing (cells n) (places n) (homes n) (o.bag n)
-    nothing = (subst (λ (s : Stage). Stands s (what_at n h) (cells n) (places n) (homes n) (o.bag n) (o.next n)) vacant (law.stands n)).1
+    nothing = (subst (λ (s : Stage). Stands s (said_at n h) (cells n) (places n) (homes n) (o.bag n) (o.next n)) vacant (law.stands n)).1
 
     -- a choice by the number that is drawn changes its stage alone
     chosen : (t : Stage) → Moves stage (λ i. if i == n then t else stage i) n t
@@ -211,17 +211,17 @@ stands_heir id other Spent what word place home bag next t = t
 stands_heir id other Posted what word place home bag next t = t
 stands_heir id other Played what word place home bag next t = t
 
-module _ {P : Type 0} (h : List Entry) (cells : ℕ → Word) (places : ℕ → Option Place) (homes : ℕ → Home P) (o : Order) (stage : ℕ → Stage) (law : Messages h cells places homes o stage) where
+module _ {P : Type 0} (h : List Entry) (cells : ℕ → Word) (places : ℕ → Option Place) (homes : ℕ → Home P) (o : LinkOrder) (stage : ℕ → Stage) (law : Messages h cells places homes o stage) where
   -- a desk is joined
   pub messages_join : (id other : ℕ) → Messages h cells places homes o (λ i. heir id other (stage i))
-  messages_join id other = record { stands = λ i. stands_heir id other (stage i) (what_at i h) (cells i) (places i) (homes i) (o.bag i) (o.next i) (law.stands i) }
+  messages_join id other = record { stands = λ i. stands_heir id other (stage i) (said_at i h) (cells i) (places i) (homes i) (o.bag i) (o.next i) (law.stands i) }
 
   -- the firing is in no stage yet
   claims_fired : (f : ℕ) (ms : List ℕ) → Messages h cells places homes o (λ i. if has i ms then fired_claim f (stage i) else stage i)
   claims_fired f ms = record {
     stands = λ i. elim (either (has i ms)) [
-      | inl y ↦ subst (λ (s : Stage). Stands s (what_at i h) (cells i) (places i) (homes i) (o.bag i) (o.next i)) (rw y refl) (stands_fired f (stage i) (what_at i h) (cells i) (places i) (homes i) (o.bag i) (o.next i) (law.stands i))
-      | inr n ↦ subst (λ (s : Stage). Stands s (what_at i h) (cells i) (places i) (homes i) (o.bag i) (o.next i)) (rw n refl) (law.stands i)
+      | inl y ↦ subst (λ (s : Stage). Stands s (said_at i h) (cells i) (places i) (homes i) (o.bag i) (o.next i)) (rw y refl) (stands_fired f (stage i) (said_at i h) (cells i) (places i) (homes i) (o.bag i) (o.next i) (law.stands i))
+      | inr n ↦ subst (λ (s : Stage). Stands s (said_at i h) (cells i) (places i) (homes i) (o.bag i) (o.next i)) (rw n refl) (law.stands i)
     ];
   }
 

@@ -5,11 +5,11 @@ use Rattle.chord_word.specs.declared.cells.Cell.TheVariants.{Empty, Pending, Cla
 use Rattle.chord_word.specs.declared.cells.Word.{Word}
 use Rattle.chord_rule.specs.declared.view.View.{View}
 use Rattle.chord_rule.specs.Numbers.{HasNumber}
-use Rattle.chord_rule.specs.Bags.{Order, IsStanding, IsArmed, cell_of}
+use Rattle.chord_rule.specs.Bags.{LinkOrder, IsStanding, IsArmed, cell_of}
 use Rattle.chord_rule.specs.Duties.{Chosen, DutyLaw}
 use Rattle.chord_rule.specs.Minded.{IsWaiting, IsMinded, AreTo, AllWaiting}
 
-module _ (IsChord : List ℕ → Type 0) (cells : ℕ → Word) (views : List View) (o : Order) (law : DutyLaw IsChord cells views o) (bag_of : ℕ → ℕ) (bagged : (x : ℕ) → IsArmed (cell_of cells x) → o.bag x ≡ Some (bag_of x)) where
+module _ (IsChord : List ℕ → Type 0) (cells : ℕ → Word) (views : List View) (o : LinkOrder) (law : DutyLaw IsChord cells views o) (bag_of : ℕ → ℕ) (bagged : (x : ℕ) → IsArmed (cell_of cells x) → o.bag x ≡ Some (bag_of x)) where
   -- a waiting message stands, or is minded
   stands : (c : Cell) (x : ℕ) → cell_of cells x ≡ c → IsWaiting c → (IsStanding (cell_of cells x) × (o.bag x ≡ Some (bag_of x))) ⊎ IsMinded cells views x
   stands Empty x e w = inr (inl e)

@@ -19,20 +19,20 @@ use Rattle.chord_rule.specs.Whole.{Held, Whole}
 use Rattle.chord_rule.specs.StandsFor.{Unseen}
 use Rattle.chord_rule.specs.Stages.{Fresh, Placing, Vacant}
 use Rattle.chord_base.specs.Messages.{AreDifferent}
-use Rattle.chord_rule.specs.Claims.{numbers}
+use Rattle.chord_rule.specs.Claims.{claimed_numbers}
 use Rattle.chord_rule.specs.Hands.{hand, Holds, IsUnlinked}
 use Rattle.chord_rule.specs.Made.{IsChord, IsTabled}
 use Rattle.chord_rule.specs.Looks.{HasSeen}
 use Rattle.chord_rule.specs.Numbers.{HasNumber}
-use Rattle.chord_rule.specs.Duties.{HasDuty, Chosen, IsNamed, IsCarried}
+use Rattle.chord_rule.specs.Duties.{HasDuty, Chosen, IsNamedByCell, IsCarried}
 use Rattle.chord_rule.specs.Alone.{Remembers}
 use Rattle.chord_rule.specs.Desks.{IsRightDesk}
-use Rattle.chord_rule.specs.Bags.{Order}
+use Rattle.chord_rule.specs.Bags.{LinkOrder}
 use Rattle.chord_rule.proofs.AloneSteps.{nothing_remembered}
 use Rattle.chord_rule.proofs.HandMoves.{newcomer_none}
 use Rattle.chord_rule.proofs.Agreeing.{drawn_above}
 use Rattle.chord_rule.proofs.Wholes.{whole_draw, whole_told}
-use Rattle.chord_rule.proofs.Bridge.{Can, after, counter_step}
+use Rattle.chord_rule.proofs.Bridge.{Can, after_act, counter_step}
 use Rattle.chord_rule.proofs.Counting.{count_fits}
 use Rattle.chord_rule.proofs.Coming.{desk_place}
 use Rattle.chord_rule.proofs.Puts.{at_inside}
@@ -47,7 +47,7 @@ module _ {P : Type 0} (entries : P → List Entry) (arguments : P → List value
     where
       go : (m : Moment P) (u : Unseen) (whole : Whole entries arguments keeps_to p n m u) (at : get_elem? m.views id ≡ some me.0) → Dec (n ≤ m.count)
           → (w : View) × (a : Act (Option P)) × (u' : Unseen) × Can n m.homes me.1 a
-          × Whole entries arguments keeps_to p n (record m { count = (m.count + 1) % 2 ^ 64; homes = after m.homes me.1 a; views = set m.views id w }) u'
+          × Whole entries arguments keeps_to p n (record m { count = (m.count + 1) % 2 ^ 64; homes = after_act m.homes me.1 a; views = set m.views id w }) u'
           × draws p body what (step n 0 1 0 none) me m.count (w, carried_after me.1 a)
       go m u whole at (yes full) = (
         saw_count (was_told me.0) (m.count + 1),
@@ -68,8 +68,8 @@ module _ {P : Type 0} (entries : P → List Entry) (arguments : P → List value
         (
           refl,
           (λ k.
-              let after = whole_draw entries arguments keeps_to p n small m u whole id me.0 at live body what l own next in
-              let above = drawn_above entries arguments keeps_to p n small m u whole.agrees id me.0 at body what l u.journal after.agrees.stands.keeping.merged.past (let long = whole.agrees.stands.keeping.long in omega arith) in (refl, above.0, above.1, (u.journal, after.agrees.stands.keeping.merged.past), desk_place entries arguments keeps_to p n _ u' after.agrees.stands id w (set_here m.views id w (at_inside m.views id me.0 at)))),
+              let after_act = whole_draw entries arguments keeps_to p n small m u whole id me.0 at live body what l own next in
+              let above = drawn_above entries arguments keeps_to p n small m u whole.agrees id me.0 at body what l u.journal after_act.agrees.stands.keeping.merged.past (let long = whole.agrees.stands.keeping.long in omega arith) in (refl, above.0, above.1, (u.journal, after_act.agrees.stands.keeping.merged.past), desk_place entries arguments keeps_to p n _ u' after_act.agrees.stands id w (set_here m.views id w (at_inside m.views id me.0 at)))),
           λ k. absurd (omega arith),
         ),
       )
@@ -88,7 +88,7 @@ zero_at (suc k) (suc i) = zero_at k i
 
 module _ {P : Type 0} (entries : P → List Entry) (arguments : P → List value.Value) (keeps_to : P → Type 0) (p : Program) where
   -- no message was linked
-  abbrev nothing_linked : Order
+  abbrev nothing_linked : LinkOrder
   nothing_linked = record { clock = 0; bag = λ i. None; rank = λ i. 0; next = λ i. None }
 
   -- the moment at the start: nothing was drawn, and there is the first desk alone
@@ -146,7 +146,7 @@ module _ {P : Type 0} (entries : P → List Entry) (arguments : P → List value
             holds = λ j v e i x h. absurd (newcomer_none i x (subst (λ (u : View). Holds (hand u) i x) (first_alone j v e) h));
             held = λ i j x e. absurd (cc);
             kept = λ j v e i k. absurd (let k' = subst (λ (u : View). IsUnlinked (hand u) i) (first_alone j v e) k in ⊎_elim (λ h. newcomer_none i Fresh h) (λ h. newcomer_none i Placing h) k');
-            once = λ j v e. subst (λ (u : View). AreDifferent (numbers u.claims)) (sym (first_alone j v e)) tt;
+            once = λ j v e. subst (λ (u : View). AreDifferent (claimed_numbers u.claims)) (sym (first_alone j v e)) tt;
           };
           messages = record { stands = λ i. (tt, record { cell = refl; unplaced = refl; slot = refl; unlinked = refl }) };
           firings = record { taken = λ i. refl };
@@ -181,7 +181,7 @@ module _ {P : Type 0} (entries : P → List Entry) (arguments : P → List value
       first_alone (suc j) v e = absurd (some-ne-none v (sym e))
 
       nobody : (ks xs : List ℕ) → (k : ℕ) × HasNumber k ks → Chosen (IsChord p) (λ i. empty_word) nothing_linked ks xs
-          → IsNamed (IsChord p) (λ i. empty_word) nothing_linked xs ⊎ IsCarried (IsChord p) (newcomer_first ∷ []) nothing_linked xs
+          → IsNamedByCell (IsChord p) (λ i. empty_word) nothing_linked xs ⊎ IsCarried (IsChord p) (newcomer_first ∷ []) nothing_linked xs
       nobody [] xs first chosen = absurd first.1
       nobody (k ∷ ks) [] first chosen = absurd chosen
       nobody (k ∷ ks) (x ∷ xs) first chosen = absurd chosen.1

@@ -24,20 +24,20 @@ use Rattle.chord_rule.specs.declared.view.View.{View}
 use Rattle.chord_rule.specs.Moment.{Moment, LinkOk}
 use Rattle.chord_rule.specs.Numbers.{HasNumber}
 use Rattle.chord_rule.specs.Kinds.{newcomer, gone, MayGo, entry, drew, was_told, claimed, saw, saw_count, saw_head}
-use Rattle.chord_rule.specs.Bags.{head_of, IsConsumed}
+use Rattle.chord_rule.specs.Bags.{head_number, IsConsumed}
 use Rattle.chord_rule.specs.Made.{key}
 use Rattle.chord_rule.specs.Claims.{HasThe, AreClaimed}
 use Rattle.chord_rule.specs.Looks.{HasSeen}
-use Rattle.chord_rule.specs.Parcels.{Begins, IsParked}
+use Rattle.chord_rule.specs.Parcels.{BeginsThere, IsParkedThere}
 use Rattle.chord_rule.specs.Hands.{hand, IsUnlinked}
 use Rattle.chord_rule.specs.Stages.{Placing, Fresh, Emptying, Claiming, Flying, InHand, Armed, Spent, Unposted, Posting, Posted, Starting, Played}
 use Rattle.chord_rule.specs.Kinds as kinds
 use Rattle.chord_rule.specs.StandsFor.{Unseen}
-use Rattle.chord_rule.specs.Tells.{word, a_word, CameNext, ClaimTells, draws, draws_firing, places, links, arms, claims, holds, unclaims, consumes, empties, posts_out, posts, starts, plays, finds_place}
+use Rattle.chord_rule.specs.Tells.{word, a_word, CameNext, ClaimTells, draws, draws_firing, places, link_adds, arms, claims, holds, unclaims, consumes, slot_returns, posts_out, posts, starts, plays, finds_place}
 use Rattle.chord_rule.specs.Whole.{Held, Whole}
 use Rattle.chord_rule.proofs.Puts.{put, at_inside}
 use Rattle.chord_rule.proofs.BagSteps.{linked_order}
-use Rattle.chord_rule.proofs.Bridge.{Can, after, counter_step, store_cell, swap_head, store_place, exchange_cell, load_cell}
+use Rattle.chord_rule.proofs.Bridge.{Can, after_act, counter_step, store_cell, swap_head, store_place, exchange_cell, load_cell}
 use Rattle.chord_rule.proofs.Counting.{count_fits}
 use Rattle.chord_rule.proofs.Lists.{some_is}
 use Rattle.chord_rule.proofs.MessageSteps.{claim_on}
@@ -91,7 +91,7 @@ module _ {P : Type 0} (entries : P → List Entry) (arguments : P → List value
     where
       go : (m : Moment P) (u : Unseen) (whole : W m u) (at : get_elem? m.views id ≡ some me.0) → Dec (n ≤ m.count)
           → (w : View) × (a : Act (Option P)) × (u' : Unseen) × Can n m.homes me.1 a
-          × W (record m { count = (m.count + 1) % 2 ^ 64; homes = after m.homes me.1 a; views = set m.views id w }) u'
+          × W (record m { count = (m.count + 1) % 2 ^ 64; homes = after_act m.homes me.1 a; views = set m.views id w }) u'
           × draws_firing p k object ms (step n 0 1 0 none) me m.count (w, carried_after me.1 a)
       go m u whole at (yes full) = (
         saw_count (was_told me.0) (m.count + 1),
@@ -102,7 +102,7 @@ module _ {P : Type 0} (entries : P → List Entry) (arguments : P → List value
             (wholes.whole_told entries arguments keeps_to p n small m u whole id me.0 at live any full untold),
         (refl, (λ l. absurd (omega arith)), λ l. refl),
       )
-      go m u whole at (no room) = let l : m.count < n = omega arith in let w : View = saw_count (kinds.fired me.0 m.count k object ms vs) (m.count + 1) in
+      go m u whole at (no room) = let l : m.count < n = omega arith in let w : View = saw_count (kinds.firing_drawn me.0 m.count k object ms vs) (m.count + 1) in
           let u' : Unseen = record u { journal = entry m.count m.count (Fired k object ms vs) ∷ u.journal; stage = kinds.fired_stage id m.count ms u.stage } in (
             w,
             keeps,
@@ -115,7 +115,7 @@ module _ {P : Type 0} (entries : P → List Entry) (arguments : P → List value
               (λ _. (
                 standing.desk_below entries arguments keeps_to p n m u whole.agrees.stands l id me.0 at,
                 (λ is ws chosen claimed. let same = agreeing.same_values entries arguments keeps_to p n small m u whole.agrees id me.0 at object js ms vs ws members (subst (λ (hs : List ℕ). AreClaimed me.0.claims object hs ms ws) (some_is is js (sym chosen ∙ chord)) claimed) in
-                    subst (λ (xs : List value.Value). (w ≡ saw_count (kinds.fired me.0 m.count k object ms xs) (m.count + 1)) × CameNext p (entry m.count m.count (Fired k object ms xs)) × IsPlace p (entry m.count m.count (Fired k object ms xs) ∷ me.0.kept)) same
+                    subst (λ (xs : List value.Value). (w ≡ saw_count (kinds.firing_drawn me.0 m.count k object ms xs) (m.count + 1)) × CameNext p (entry m.count m.count (Fired k object ms xs)) × IsPlace p (entry m.count m.count (Fired k object ms xs) ∷ me.0.kept)) same
                     (refl, (u.journal, (wholes.whole_draw_firing entries arguments keeps_to p n small m u whole id me.0 at live k object js ms vs l chord members).agrees.stands.keeping.merged.past),
                     coming.desk_place entries arguments keeps_to p n _ u' (wholes.whole_draw_firing entries arguments keeps_to p n small m u whole id me.0 at live k object js ms vs l chord members).agrees.stands id w (set_here m.views id w (at_inside m.views id me.0 at)))),
               )),
@@ -137,19 +137,19 @@ module _ {P : Type 0} (entries : P → List Entry) (arguments : P → List value
       ))
 
   -- a message is linked at the head of its bag
-  pub link_step : (id : ℕ) (v : View) (i : ℕ) (q : P) (e : Entry) (x : Message) → v.gone ≡ false → x.object.number < n → IsIn e v.kept → e.number ≡ i → i < 65536 → message_of e.what ≡ Some x → x.method < 16 → v.placing ≡ Some i → v.flight ≡ None
+  pub linking_step : (id : ℕ) (v : View) (i : ℕ) (q : P) (e : Entry) (x : Message) → v.gone ≡ false → x.object.number < n → IsIn e v.kept → e.number ≡ i → i < 65536 → message_of e.what ≡ Some x → x.method < 16 → v.placing ≡ Some i → v.flight ≡ None
       → MayGo p v.kept (entries q) → ((e : Entry) (x : Message) → IsIn e (entries q) → message_of e.what ≡ Some x → (e.number ≡ i) ⊎ (IsUnlinked (hand v) e.number → ⊥)) → x.arguments ≡ arguments q → ((e : Entry) → IsIn e v.kept → IsCall i e → IsIn e (entries q))
-      → ((b : ℕ) → Begins b (entries q) → IsParked p (entries q) (Some i) (doing p (entries q) b)) → keeps_to q
-      → Allows H n id (v, (i, Some q) ∷ []) (1 + n + head_of (key x.object x.method)) (λ _. link_of (Some i)) (links entries x.object x.method (step n (1 + n + head_of (key x.object x.method)) (link_of (Some i)) 0 none) (v, (i, Some q) ∷ []))
-  link_step id v i q e x live object is num small_i says method placing free may others args call parked task =
-      swap_head Unseen W n id (v, (i, Some q) ∷ []) (head_of (key x.object x.method)) (Some i) (links entries x.object x.method (step n (1 + n + head_of (key x.object x.method)) (link_of (Some i)) 0 none) (v, (i, Some q) ∷ [])) (omega arith) small_i
-      (λ m u whole at fits. let k = key x.object x.method in let above = m.heads (head_of k) in (
-        saw_head (kinds.flown v i k above (entries q)) (head_of k) (Some i),
+      → ((b : ℕ) → BeginsThere b (entries q) → IsParkedThere p (entries q) (Some i) (doing p (entries q) b)) → keeps_to q
+      → Allows H n id (v, (i, Some q) ∷ []) (1 + n + head_number (key x.object x.method)) (λ _. link_of (Some i)) (link_adds entries x.object x.method (step n (1 + n + head_number (key x.object x.method)) (link_of (Some i)) 0 none) (v, (i, Some q) ∷ []))
+  linking_step id v i q e x live object is num small_i says method placing free may others args call parked task =
+      swap_head Unseen W n id (v, (i, Some q) ∷ []) (head_number (key x.object x.method)) (Some i) (link_adds entries x.object x.method (step n (1 + n + head_number (key x.object x.method)) (link_of (Some i)) 0 none) (v, (i, Some q) ∷ [])) (omega arith) small_i
+      (λ m u whole at fits. let k = key x.object x.method in let above = m.heads (head_number k) in (
+        saw_head (kinds.flown v i k above (entries q)) (head_number k) (Some i),
         gives,
         record u { stage = put u.stage i (InHand id (Flying k above)); order = linked_order u.order i k above },
         tt,
         wholes.whole_link entries arguments keeps_to p n small m u whole id v at live i q e x is num says method placing free may others args call parked task,
-        (λ j r e. let same = same_out i j q r e in (refl, (above, refl, fits, λ z. saw_head (kinds.flown v (same.0 z) k above (entries (same.1 z))) (head_of k) (Some (same.0 z))))),
+        (λ j r e. let same = same_out i j q r e in (refl, (above, refl, fits, λ z. saw_head (kinds.flown v (same.0 z) k above (entries (same.1 z))) (head_number k) (Some (same.0 z))))),
       ))
 
   -- a linked message is armed
@@ -274,8 +274,8 @@ module _ {P : Type 0} (entries : P → List Entry) (arguments : P → List value
       ))
 
   -- the table allows a desk to bring the empty slot of a message that it consumed home
-  pub empty_step : (id : ℕ) (v : View) (i : ℕ) → v.gone ≡ false → v.emptying ≡ Some i → Allows H n id (v, (i, None) ∷ []) 0 (λ x. x) (empties (step n 0 0 0 none) (v, (i, None) ∷ []))
-  empty_step id v i live is = counter_step Unseen W n id (v, (i, None) ∷ []) (λ x. x) (empties (step n 0 0 0 none) (v, (i, None) ∷ []))
+  pub empty_step : (id : ℕ) (v : View) (i : ℕ) → v.gone ≡ false → v.emptying ≡ Some i → Allows H n id (v, (i, None) ∷ []) 0 (λ x. x) (slot_returns (step n 0 0 0 none) (v, (i, None) ∷ []))
+  empty_step id v i live is = counter_step Unseen W n id (v, (i, None) ∷ []) (λ x. x) (slot_returns (step n 0 0 0 none) (v, (i, None) ∷ []))
       (λ m u whole at fits. (kinds.emptied v, gives, record u { stage = put u.stage i Spent }, tt, wholes.whole_empty entries arguments keeps_to p n small m u whole id v at live i is, (λ j e q. refl)))
 
   -- ## Firings
@@ -294,7 +294,7 @@ module _ {P : Type 0} (entries : P → List Entry) (arguments : P → List value
 
   -- the table allows a desk to post a firing whose slot it has out, with a parcel that begins it
   pub post_step : (id : ℕ) (v : View) (f : ℕ) (q : P) → v.gone ≡ false → f < n → v.posting ≡ Some f → MayGo p v.kept (entries q) → ((e : Entry) (x : Message) → IsIn e (entries q) → message_of e.what ≡ Some x → IsUnlinked (hand v) e.number → ⊥)
-      → Begins f (entries q) → ((e : Entry) → IsIn e (entries q) → e.body ≡ f → e.number ≡ f) → ((b : ℕ) → (b ≡ f → ⊥) → Begins b (entries q) → IsParked p (entries q) None (doing p (entries q) b)) → keeps_to q
+      → BeginsThere f (entries q) → ((e : Entry) → IsIn e (entries q) → e.body ≡ f → e.number ≡ f) → ((b : ℕ) → (b ≡ f → ⊥) → BeginsThere b (entries q) → IsParkedThere p (entries q) None (doing p (entries q) b)) → keeps_to q
       → Allows H n id (v, (f, Some q) ∷ []) (1 + f) (λ _. word a_cell.Ready None) (λ _. posts entries (step n (1 + f) (word a_cell.Ready None) 0 none) (v, (f, Some q) ∷ []) (word a_cell.Ready None))
   post_step id v f q live low posting may others begins only parked task = store_cell Unseen W n id (v, (f, Some q) ∷ []) f (record { cell = a_cell.Ready; next = None }) (posts entries (step n (1 + f) (word a_cell.Ready None) 0 none) (v, (f, Some q) ∷ []) (word a_cell.Ready None)) low
       (λ m u whole at good. (
@@ -377,9 +377,9 @@ module _ {P : Type 0} (entries : P → List Entry) (arguments : P → List value
         (
           refl,
           (λ k.
-              let after = wholes.whole_begun entries arguments keeps_to p n small m u whole id me.0 at live any is_first not_drawn not_split in
-              let above = agreeing.drawn_above entries arguments keeps_to p n small m u whole.agrees id me.0 at 0 Begun (omega (arith, none_drawn, any)) u.journal after.agrees.stands.keeping.merged.past (let long = whole.agrees.stands.keeping.long in omega arith) in
-              (refl, above.0, above.1, (u.journal, after.agrees.stands.keeping.merged.past), coming.desk_place entries arguments keeps_to p n _ u' after.agrees.stands id w (set_here m.views id w (at_inside m.views id me.0 at)))),
+              let after_act = wholes.whole_begun entries arguments keeps_to p n small m u whole id me.0 at live any is_first not_drawn not_split in
+              let above = agreeing.drawn_above entries arguments keeps_to p n small m u whole.agrees id me.0 at 0 Begun (omega (arith, none_drawn, any)) u.journal after_act.agrees.stands.keeping.merged.past (let long = whole.agrees.stands.keeping.long in omega arith) in
+              (refl, above.0, above.1, (u.journal, after_act.agrees.stands.keeping.merged.past), coming.desk_place entries arguments keeps_to p n _ u' after_act.agrees.stands id w (set_here m.views id w (at_inside m.views id me.0 at)))),
           λ k. absurd (omega (arith, none_drawn, any, k)),
         ),
       ))

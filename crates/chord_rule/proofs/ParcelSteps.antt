@@ -9,7 +9,7 @@ use Rattle.chord_base.specs.declared.value.Value as value
 use Rattle.chord_base.specs.declared.event.What.{What}
 use Rattle.chord_base.specs.declared.event.Entry.{Entry}
 use Rattle.chord_rule.specs.Moment.{Home}
-use Rattle.chord_rule.specs.Stages.{what_at, message_in, IsFiringEntry}
+use Rattle.chord_rule.specs.Stages.{said_at, message_in, IsFiringEntry}
 use Rattle.chord_rule.specs.Parcels.{AreLinked, IsSentParcel, IsFiredParcel, Parcels}
 use Rattle.chord_rule.proofs.Puts.{put, put_all}
 use Rattle.chord_rule.proofs.Waiting.{what_is, no_message}
@@ -46,13 +46,13 @@ module _ {P : Type 0} (entries : P → List Entry) (arguments : P → List value
       old j q e = put_all homes i y (λ j z. z ≡ some (Some q) → homes j ≡ some (Some q)) j (λ z. absurd (empty q z)) (λ ne z. z) e
 
   -- a message is linked, with its parcel
-  pub parcels_link : (i k : ℕ) (q : P) (m : Message) → message_in (what_at i h) ≡ Some m → IsSentParcel p h (put bag i (Some k)) i (entries q) (arguments q) → keeps_to q → Parcels entries arguments keeps_to p h (put homes i (some (Some q))) (put bag i (Some k))
+  pub parcels_link : (i k : ℕ) (q : P) (m : Message) → message_in (said_at i h) ≡ Some m → IsSentParcel p h (put bag i (Some k)) i (entries q) (arguments q) → keeps_to q → Parcels entries arguments keeps_to p h (put homes i (some (Some q))) (put bag i (Some k))
   parcels_link i k q m says new keeps = record {
-    sent = λ j r n home is. put_all homes i (some (Some q)) (λ j z. z ≡ some (Some r) → message_in (what_at j h) ≡ Some n → IsSentParcel p h (put bag i (Some k)) j (entries r) (arguments r)) j
+    sent = λ j r n home is. put_all homes i (some (Some q)) (λ j z. z ≡ some (Some r) → message_in (said_at j h) ≡ Some n → IsSentParcel p h (put bag i (Some k)) j (entries r) (arguments r)) j
         (λ e _. subst (λ (z : P). IsSentParcel p h (put bag i (Some k)) i (entries z) (arguments z)) (same r e) new)
         (λ ne e is. let s = law.sent j r n e is in record { holds = s.holds; parked = s.parked; call = s.call; linked = still_linked bag i k (entries r) s.linked }) home is;
-    fired = λ j r home is. put_all homes i (some (Some q)) (λ j z. z ≡ some (Some r) → IsFiringEntry (what_at j h) → IsFiredParcel p (put bag i (Some k)) j (entries r)) j
-        (λ e f. absurd (both (what_at i h) says f))
+    fired = λ j r home is. put_all homes i (some (Some q)) (λ j z. z ≡ some (Some r) → IsFiringEntry (said_at j h) → IsFiredParcel p (put bag i (Some k)) j (entries r)) j
+        (λ e f. absurd (both (said_at i h) says f))
         (λ ne e is. let s = law.fired j r e is in record { begins = s.begins; only = s.only; parked = s.parked; linked = still_linked bag i k (entries r) s.linked }) home is;
     task = λ j r home. put_all homes i (some (Some q)) (λ j z. z ≡ some (Some r) → keeps_to r) j (λ e. subst keeps_to (same r e) keeps) (λ ne e. law.task j r e) home;
   }
@@ -64,11 +64,11 @@ module _ {P : Type 0} (entries : P → List Entry) (arguments : P → List value
       both w e f = no_message w m (inr f) e
 
   -- a firing is posted, with its parcel
-  pub parcels_post : (f : ℕ) (q : P) → IsFiringEntry (what_at f h) → IsFiredParcel p bag f (entries q) → keeps_to q → Parcels entries arguments keeps_to p h (put homes f (some (Some q))) bag
+  pub parcels_post : (f : ℕ) (q : P) → IsFiringEntry (said_at f h) → IsFiredParcel p bag f (entries q) → keeps_to q → Parcels entries arguments keeps_to p h (put homes f (some (Some q))) bag
   parcels_post f q firing new keeps = record {
-    sent = λ j r n home is. put_all homes f (some (Some q)) (λ j z. z ≡ some (Some r) → message_in (what_at j h) ≡ Some n → IsSentParcel p h bag j (entries r) (arguments r)) j
-        (λ e is. absurd (no_message (what_at f h) n (inr firing) is)) (λ ne e is. law.sent j r n e is) home is;
-    fired = λ j r home is. put_all homes f (some (Some q)) (λ j z. z ≡ some (Some r) → IsFiringEntry (what_at j h) → IsFiredParcel p bag j (entries r)) j
+    sent = λ j r n home is. put_all homes f (some (Some q)) (λ j z. z ≡ some (Some r) → message_in (said_at j h) ≡ Some n → IsSentParcel p h bag j (entries r) (arguments r)) j
+        (λ e is. absurd (no_message (said_at f h) n (inr firing) is)) (λ ne e is. law.sent j r n e is) home is;
+    fired = λ j r home is. put_all homes f (some (Some q)) (λ j z. z ≡ some (Some r) → IsFiringEntry (said_at j h) → IsFiredParcel p bag j (entries r)) j
         (λ e _. subst (λ (z : P). IsFiredParcel p bag f (entries z)) (same r e) new) (λ ne e is. law.fired j r e is) home is;
     task = λ j r home. put_all homes f (some (Some q)) (λ j z. z ≡ some (Some r) → keeps_to r) j (λ e. subst keeps_to (same r e) keeps) (λ ne e. law.task j r e) home;
   }
@@ -92,5 +92,5 @@ module _ {P : Type 0} (entries : P → List Entry) (arguments : P → List value
       apart : (j : ℕ) (q : P) → homes j ≡ some (Some q) → j ≢ e.number
       apart j q home z = none_there q (sym (ap homes z) ∙ home)
 
-      what_old : (j : ℕ) → j ≢ e.number → what_at j (e ∷ h) ≡ what_at j h
+      what_old : (j : ℕ) → j ≢ e.number → said_at j (e ∷ h) ≡ said_at j h
       what_old j ne = rw (ne_eqb e.number j (λ q. ne (sym q))) refl

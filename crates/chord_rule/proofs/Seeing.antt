@@ -21,11 +21,11 @@ use Rattle.chord_rule.specs.Messages.{IsLinked}
 use Rattle.chord_rule.specs.StandsFor.{Unseen}
 use Rattle.chord_rule.specs.Stages.{Stage, Vacant, InHand, Armed, Spent, Posted, Played, Fresh, Placing, Flying, Claiming, Emptying, Unposted, Posting, Starting}
 use Rattle.chord_rule.specs.Tells.{IsLook, looks_count, looks_head, looks_cell, looks_place, rests}
-use Rattle.chord_rule.specs.Ways.{IsAt, HasDutyOn, HasWay, HasRoom, WayLaw}
+use Rattle.chord_rule.specs.Ways.{IsAt, HasDutyOn, HasWay, HasLooksLeft, WayLaw}
 use Rattle.chord_rule.specs.declared.view.Way.{Way}
 use Rattle.chord_rule.specs.Whole.{Held, Whole}
 use Rattle.chord_rule.proofs.Agreeing as agreeing
-use Rattle.chord_rule.proofs.Bridge.{after, counter_step, load_cell, load_head, load_place}
+use Rattle.chord_rule.proofs.Bridge.{after_act, counter_step, load_cell, load_head, load_place}
 use Rattle.chord_rule.proofs.KeySteps.{head_key}
 use Rattle.chord_rule.proofs.Knowing as knowing
 use Rattle.chord_rule.proofs.Lists.{some_is}
@@ -51,7 +51,7 @@ module _ {P : Type 0} (entries : P → List Entry) (arguments : P → List value
 
   -- the ways of a desk have room
   room_of : (m : Moment P) (u : Unseen) (id : ℕ) (v w : View) → get_elem? m.views id ≡ some v → W (record m { views = set m.views id w }) u → ((x : Way) → HasWay x w.looked.ways → WayLaw n u.order x)
-  room_of m u id v w at after = (after.desks.right id w (set_here m.views id w (at_inside m.views id v at))).ways
+  room_of m u id v w at after_act = (after_act.desks.right id w (set_here m.views id w (at_inside m.views id v at))).ways
 
   -- a look at the head of a bag
   pub look_head_step : (id : ℕ) (me : Me (Option P) View) (o : Object) (j : ℕ) → me.0.gone ≡ false → o.number < n → j < 16
@@ -59,25 +59,25 @@ module _ {P : Type 0} (entries : P → List Entry) (arguments : P → List value
   look_head_step id me o j live low few = load_head Unseen W n id me (16 * o.number + j) (looks_head o j (step n (1 + n + (16 * o.number + j)) 0 0 none) me) (omega arith)
       (λ m u whole at fits.
       let h = m.heads (16 * o.number + j) in let w : View = looked_head me.0 (key o j) h in
-      let after : W (record m { views = set m.views id w }) u = subst (λ (k : ℕ). W (record m { views = set m.views id (looked_head me.0 (key o j) (m.heads k)) }) u) (head_key o j (omega (arith, low, small)) few) (wholes.whole_look_head entries arguments keeps_to p n small m u whole id me.0 at live (key o j)) in (
+      let after_act : W (record m { views = set m.views id w }) u = subst (λ (k : ℕ). W (record m { views = set m.views id (looked_head me.0 (key o j) (m.heads k)) }) u) (head_key o j (omega (arith, low, small)) few) (wholes.whole_look_head entries arguments keeps_to p n small m u whole id me.0 at live (key o j)) in (
         w,
         keeps,
         u,
         tt,
         subst (λ (k : ℕ). W (record m { views = set m.views id (looked_head me.0 (key o j) (m.heads k)) }) u) (head_key o j (omega (arith, low, small)) few) (wholes.whole_look_head entries arguments keeps_to p n small m u whole id me.0 at live (key o j)),
-        (h, refl, fits, refl, way_room n u.order w.looked.ways (room_of m u id me.0 w at after)),
+        (h, refl, fits, refl, way_room n u.order w.looked.ways (room_of m u id me.0 w at after_act)),
       ))
 
   -- a look at a cell
   pub look_cell_step : (id : ℕ) (me : Me (Option P) View) (i : ℕ) → me.0.gone ≡ false → i < n → Allows H n id me (1 + i) (λ x. x) (looks_cell (step n (1 + i) 0 0 none) me)
   look_cell_step id me i live low = load_cell Unseen W n id me i (looks_cell (step n (1 + i) 0 0 none) me) low
-      (λ m u whole at good. let w : View = looked_cell me.0 i (m.cells i) in let after = wholes.whole_look_cell entries arguments keeps_to p n small m u whole id me.0 at live i in (
+      (λ m u whole at good. let w : View = looked_cell me.0 i (m.cells i) in let after_act = wholes.whole_look_cell entries arguments keeps_to p n small m u whole id me.0 at live i in (
         w,
         keeps,
         u,
         tt,
         wholes.whole_look_cell entries arguments keeps_to p n small m u whole id me.0 at live i,
-        (λ j e. let same : i ≡ j = omega arith in subst (λ (k : ℕ). (c : Word) × WordFits c × (word_of (m.cells i) ≡ word_of c) × IsLook n me.0 w k c × (me.1 ≡ me.1)) same (m.cells i, good, refl, tells m u whole at w refl after, refl)),
+        (λ j e. let same : i ≡ j = omega arith in subst (λ (k : ℕ). (c : Word) × WordFits c × (word_of (m.cells i) ≡ word_of c) × IsLook n me.0 w k c × (me.1 ≡ me.1)) same (m.cells i, good, refl, tells m u whole at w refl after_act, refl)),
       ))
     where
       on_way_bag : (m : Moment P) (u : Unseen) (whole : W m u) (at : get_elem? m.views id ≡ some me.0) → (ws : List Way) → ((x : Way) → HasWay x ws → WayLaw n u.order x) → IsAt i ws → (k : ℕ) × (u.order.bag i ≡ Some k)
@@ -88,9 +88,9 @@ module _ {P : Type 0} (entries : P → List Entry) (arguments : P → List value
       duty_bag m u whole at d = (d.0.bag, sym (ap u.order.bag d.2) ∙ whole.agrees.tied.duties id me.0 at d.0 d.1)
 
       tells : (m : Moment P) (u : Unseen) (whole : W m u) (at : get_elem? m.views id ≡ some me.0) (w : View) → w ≡ looked_cell me.0 i (m.cells i) → W (record m { views = set m.views id (looked_cell me.0 i (m.cells i)) }) u → IsLook n me.0 w i (m.cells i)
-      tells m u whole at w is after = let right = whole.desks.right id me.0 at in record {
+      tells m u whole at w is after_act = let right = whole.desks.right id me.0 at in record {
         looked = is;
-        room = subst (λ (y : View). HasRoom n y.looked.ways) (sym is) (way_room n u.order (looked_cell me.0 i (m.cells i)).looked.ways (room_of m u id me.0 (looked_cell me.0 i (m.cells i)) at after));
+        room = subst (λ (y : View). HasLooksLeft n y.looked.ways) (sym is) (way_room n u.order (looked_cell me.0 i (m.cells i)).looked.ways (room_of m u id me.0 (looked_cell me.0 i (m.cells i)) at after_act));
         linked = λ t. let b = on_way_bag m u whole at me.0.looked.ways right.ways t in wholes.linked_cell entries arguments keeps_to p n small m u whole id me.0 at live i b.0 b.1;
         armed = λ d. subst (λ (k : ℕ). IsArmed (cell_of m.cells k)) d.2 (right.armed d.0 d.1);
         within = λ a x e. wholes.next_below entries arguments keeps_to p n small m u whole id me.0 at live i x a e;

@@ -9,7 +9,7 @@ use Rattle.chord_word.specs.declared.cells.Cell.TheVariants as a_cell
 use Rattle.chord_word.specs.declared.cells.Word.{Word}
 use Rattle.chord_rule.specs.Moment.{Home, Place}
 use Rattle.chord_rule.specs.Messages.{IsOpen, Stands}
-use Rattle.chord_rule.specs.Stages.{Fresh, Placing, Flying, Claiming, Emptying, Unposted, Posting, Starting, Stage, Vacant, InHand, Armed, Spent, Posted, Played, what_at}
+use Rattle.chord_rule.specs.Stages.{Fresh, Placing, Flying, Claiming, Emptying, Unposted, Posting, Starting, Stage, Vacant, InHand, Armed, Spent, Posted, Played, said_at}
 use Rattle.chord_rule.proofs.Puts.{put, put_here, put_else}
 
 -- the function has this value at the number, and the old ones elsewhere
@@ -26,7 +26,7 @@ pub rests : {A : Type 0} (f : ℕ → A) (i : ℕ) → Moves f f i (f i)
 rests f i = record { here = refl; away = λ k ne. refl }
 
 -- what is not drawn has no entry
-pub what_none : (n : ℕ) (h : List Entry) → AllBelow n h → what_at n h ≡ None
+pub what_none : (n : ℕ) (h : List Entry) → AllBelow n h → said_at n h ≡ None
 what_none n [] b = refl
 what_none n (e ∷ h) b = rw (ne_eqb e.number n (λ q. let l = b.0 in omega arith)) (what_none n h b.1)
 

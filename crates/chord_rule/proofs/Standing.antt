@@ -22,15 +22,15 @@ use Rattle.chord_rule.specs.declared.view.Claim.{Claim}
 use Rattle.chord_rule.specs.declared.view.View.{View}
 use Rattle.chord_rule.specs.Moment.{Moment, Home, empty_word}
 use Rattle.chord_rule.specs.Numbers.{HasNumber}
-use Rattle.chord_rule.specs.Kinds.{newcomer, gone, among, MayGo, entry, left_by, drew, was_told}
+use Rattle.chord_rule.specs.Kinds.{newcomer, gone, is_among, MayGo, entry, left_by, drew, was_told}
 use Rattle.chord_rule.specs.Made.{key}
 use Rattle.chord_rule.specs.Claims.{HasThe, AreClaimed}
 use Rattle.chord_rule.specs.Keeping.{desk, at_desk, at_home}
-use Rattle.chord_rule.specs.Stages.{Fresh, Placing, Flying, Claiming, Emptying, Unposted, Posting, Starting, Stage, Vacant, InHand, Armed, Spent, Posted, Played, what_at, message_in, IsFiringEntry, claimed_message}
-use Rattle.chord_rule.specs.Hands.{hand, IsUnlinked, Keeps}
-use Rattle.chord_rule.specs.Messages.{IsOpen, IsFull, Stands}
+use Rattle.chord_rule.specs.Stages.{Fresh, Placing, Flying, Claiming, Emptying, Unposted, Posting, Starting, Stage, Vacant, InHand, Armed, Spent, Posted, Played, said_at, message_in, IsFiringEntry, claimed_message}
+use Rattle.chord_rule.specs.Hands.{hand, IsUnlinked, KeepsNumber}
+use Rattle.chord_rule.specs.Messages.{IsOpen, IsLoaded, Stands}
 use Rattle.chord_rule.specs.Kinds as kinds
-use Rattle.chord_rule.specs.StandsFor.{Unseen, StandsFor}
+use Rattle.chord_rule.specs.StandsFor.{Unseen, StandsForJournal}
 use Rattle.chord_rule.proofs.Puts.{put, at_inside}
 use Rattle.chord_rule.proofs.Keeping.{desk_keeps, draw_keeps, told_keeps}
 use Rattle.chord_rule.proofs.KeepSteps as keep
@@ -44,7 +44,7 @@ use Rattle.chord_rule.proofs.TakenSteps as firings
 use Rattle.chord_rule.proofs.Waiting as waiting
 use Rattle.chord_rule.proofs.YoungerSteps as younger
 use Rattle.chord_rule.proofs.ParcelSteps as parcels
-use Rattle.chord_rule.specs.Parcels.{Begins, IsParked, IsSentParcel, IsFiredParcel}
+use Rattle.chord_rule.specs.Parcels.{BeginsThere, IsParkedThere, IsSentParcel, IsFiredParcel}
 use Rattle.chord_rule.specs.Keeping.{parcel}
 use Rattle.chord_rule.proofs.Keeping.{parcel_keeps}
 use Rattle.chord_rule.proofs.Puts.{put_here, put_else, put_all}
@@ -85,21 +85,21 @@ in_kept f (x ∷ h) e i y = cases (f x.number) refl i (λ k. in_kept f h e k y)
     cases false z k later = ⊎_elim (λ q. let t : true ≡ false = sym y ∙ ap (λ (u : Entry). f u.number) q ∙ z in absurd (cc)) later k
 
 -- a number that is among entries is that of one of them
-among_in : (ps : List Entry) (k : ℕ) → among ps k ≡ true → (e : Entry) × IsIn e ps × (e.number ≡ k)
+among_in : (ps : List Entry) (k : ℕ) → is_among ps k ≡ true → (e : Entry) × IsIn e ps × (e.number ≡ k)
 among_in [] k y = absurd (let z : false ≡ true = y in cc)
 among_in (x ∷ ps) k y = elim (either (x.number == k)) [
   | inl q ↦ (x, inl refl, eqb-true x.number k q)
   | inr n ↦ (let t = among_in ps k (rw n at y) in (t.0, inr t.1, t.2))
 ]
 
-module _ {P : Type 0} (entries : P → List Entry) (arguments : P → List value.Value) (keeps_to : P → Type 0) (p : Program) (n : ℕ) (m : Moment P) (u : Unseen) (law : StandsFor entries arguments keeps_to p n m u) where
+module _ {P : Type 0} (entries : P → List Entry) (arguments : P → List value.Value) (keeps_to : P → Type 0) (p : Program) (n : ℕ) (m : Moment P) (u : Unseen) (law : StandsForJournal entries arguments keeps_to p n m u) where
   -- the journal is a run, newest entry first
   past : IsPast p u.journal
   past = law.keeping.merged.past
 
   -- the number i is in this stage
   abbrev It : ℕ → Stage → Type 0
-  It i s = Stands s (what_at i u.journal) (m.cells i) (m.places i) (m.homes i) (u.order.bag i) (u.order.next i)
+  It i s = Stands s (said_at i u.journal) (m.cells i) (m.places i) (m.homes i) (u.order.bag i) (u.order.next i)
 
   -- each number is in its stage
   it : (i : ℕ) (s : Stage) → u.stage i ≡ s → It i s
@@ -108,7 +108,7 @@ module _ {P : Type 0} (entries : P → List Entry) (arguments : P → List value
   -- the number that a draw gets
   vacant_next : m.count < n → u.stage m.count ≡ Vacant
   vacant_next room = let long : length u.journal ≡ m.count = (let l = law.keeping.long in omega arith) in
-      vacant_where (u.stage m.count) (what_at m.count u.journal) (m.cells m.count) (m.places m.count) (m.homes m.count) (u.order.bag m.count) (u.order.next m.count) (law.messages.stands m.count)
+      vacant_where (u.stage m.count) (said_at m.count u.journal) (m.cells m.count) (m.places m.count) (m.homes m.count) (u.order.bag m.count) (u.order.next m.count) (law.messages.stands m.count)
       (what_none m.count u.journal (past_below p u.journal m.count past (omega arith)))
 
   -- where nothing was drawn there is no parcel
@@ -128,7 +128,7 @@ module _ {P : Type 0} (entries : P → List Entry) (arguments : P → List value
       (kept_below m.count (λ x. eqb (law.keeping.merged.at x) (desk id)) u.journal (past_below p u.journal m.count past (omega arith)))
 
   -- a desk more
-  pub stands_split : (id : ℕ) (v : View) → get_elem? m.views id ≡ some v → StandsFor entries arguments keeps_to p n (record m { views = set m.views id (kinds.lent_one v) ++ newcomer ∷ [] }) u
+  pub stands_split : (id : ℕ) (v : View) → get_elem? m.views id ≡ some v → StandsForJournal entries arguments keeps_to p n (record m { views = set m.views id (kinds.lent_one v) ++ newcomer ∷ [] }) u
   stands_split id v at = let w : View = kinds.lent_one v in let vs : List View = set m.views id w in record {
     keeping = keep.more_keeps entries p n m.count m.homes vs u.journal (keep.still_keeps entries p n m.count m.homes m.views u.journal law.keeping id v w at refl);
     hands = hand_moves.hands_more vs u.stage (hands.hands_still m.views u.stage law.hands id v at w refl (λ k r. r));
@@ -141,7 +141,7 @@ module _ {P : Type 0} (entries : P → List Entry) (arguments : P → List value
   -- a desk is joined
   pub stands_join : (id other : ℕ) (v w : View) → get_elem? m.views id ≡ some v → other ≢ id → get_elem? m.views other ≡ some w
       → w.placing ≡ None → w.flight ≡ None → w.claims ≡ [] → w.emptying ≡ None → w.posting ≡ None → w.starting ≡ None
-      → StandsFor entries arguments keeps_to p n (record m { views = set (set m.views id (kinds.united v w)) other gone }) (record u { stage = λ i. kinds.heir id other (u.stage i) })
+      → StandsForJournal entries arguments keeps_to p n (record m { views = set (set m.views id (kinds.united v w)) other gone }) (record u { stage = λ i. kinds.heir id other (u.stage i) })
   stands_join id other v w at apart there placing flight claims emptying posting starting = record {
     keeping = keep.join_keeps entries p n m.count m.homes m.views u.journal law.keeping id v (kinds.united v w) at other w apart there refl;
     hands = hand_moves.hands_join m.views u.stage law.hands id other v w at apart there placing flight claims emptying posting starting;
@@ -165,35 +165,35 @@ module _ {P : Type 0} (entries : P → List Entry) (arguments : P → List value
     entry_in e i = kept_in (λ x. eqb (law.keeping.merged.at x) (desk id)) u.journal e (subst (IsIn e) (sym desk_keeping) i)
 
     -- an entry that the desk keeps is the one of its number in the journal
-    pub entry_what : (e : Entry) → IsIn e v.kept → what_at e.number u.journal ≡ Some e.what
+    pub entry_what : (e : Entry) → IsIn e v.kept → said_at e.number u.journal ≡ Some e.what
     entry_what e i = (waiting.what_is p u.journal e past (entry_in e i).0).0
 
     -- a message that the desk keeps
-    pub entry_says : (e : Entry) (x : Message) (i : ℕ) → IsIn e v.kept → e.number ≡ i → message_of e.what ≡ Some x → message_in (what_at i u.journal) ≡ Some x
-    entry_says e x i is num says = ap (λ (z : ℕ). message_in (what_at z u.journal)) (sym num) ∙ ap message_in (entry_what e is) ∙ says
+    pub entry_says : (e : Entry) (x : Message) (i : ℕ) → IsIn e v.kept → e.number ≡ i → message_of e.what ≡ Some x → message_in (said_at i u.journal) ≡ Some x
+    entry_says e x i is num says = ap (λ (z : ℕ). message_in (said_at z u.journal)) (sym num) ∙ ap message_in (entry_what e is) ∙ says
 
     -- what is unlinked is a message
-    unlinked_message : (i : ℕ) → IsUnlinked (hand v) i → (x : Message) × (message_in (what_at i u.journal) ≡ Some x)
+    unlinked_message : (i : ℕ) → IsUnlinked (hand v) i → (x : Message) × (message_in (said_at i u.journal) ≡ Some x)
     unlinked_message i k = ⊎_elim
         (λ f. (it i (InHand id Fresh) (law.hands.holds id v at i Fresh f)).0)
         (λ q. let t = it i (InHand id Placing) (law.hands.holds id v at i Placing q) in (t.0, t.1)) k
 
     -- what is unlinked, and goes with no parcel, stays
-    stays : (ps : List Entry) → MayGo p v.kept ps → (k : ℕ) → IsUnlinked (hand v) k → ((e : Entry) (x : Message) → IsIn e ps → message_of e.what ≡ Some x → e.number ≡ k → ⊥) → Keeps (left_by ps v.kept) k
-    stays ps may k un no_entry = let r = law.hands.kept id v at k un in elim (either (among ps r.0.number)) [
+    stays : (ps : List Entry) → MayGo p v.kept ps → (k : ℕ) → IsUnlinked (hand v) k → ((e : Entry) (x : Message) → IsIn e ps → message_of e.what ≡ Some x → e.number ≡ k → ⊥) → KeepsNumber (left_by ps v.kept) k
+    stays ps may k un no_entry = let r = law.hands.kept id v at k un in elim (either (is_among ps r.0.number)) [
       | inl y ↦
           (let a = among_in ps r.0.number y in
-          let kept_too = (kept_in (among ps) v.kept a.0 (subst (IsIn a.0) (sym may.part) a.1)).0 in
+          let kept_too = (kept_in (is_among ps) v.kept a.0 (subst (IsIn a.0) (sym may.part) a.1)).0 in
           let x = unlinked_message k un in
           absurd (no_entry a.0 x.0 a.1 (sym (entry_says_back a.0 k kept_too (a.2 ∙ r.2)) ∙ x.1) (a.2 ∙ r.2)))
-      | inr o ↦ (r.0, in_kept (λ z. not (among ps z)) v.kept r.0 r.1 (ap not o), r.2)
+      | inr o ↦ (r.0, in_kept (λ z. not (is_among ps z)) v.kept r.0 r.1 (ap not o), r.2)
     ]
       where
-        entry_says_back : (e : Entry) (i : ℕ) → IsIn e v.kept → e.number ≡ i → message_in (what_at i u.journal) ≡ message_of e.what
-        entry_says_back e i is num = ap (λ (z : ℕ). message_in (what_at z u.journal)) (sym num) ∙ ap message_in (entry_what e is)
+        entry_says_back : (e : Entry) (i : ℕ) → IsIn e v.kept → e.number ≡ i → message_in (said_at i u.journal) ≡ message_of e.what
+        entry_says_back e i is num = ap (λ (z : ℕ). message_in (said_at z u.journal)) (sym num) ∙ ap message_in (entry_what e is)
 
     -- two desks keep no entry both
-    one_keeps : (j : ℕ) (w : View) → get_elem? m.views j ≡ some w → (i : ℕ) → Keeps v.kept i → Keeps w.kept i → j ≡ id
+    one_keeps : (j : ℕ) (w : View) → get_elem? m.views j ≡ some w → (i : ℕ) → KeepsNumber v.kept i → KeepsNumber w.kept i → j ≡ id
     one_keeps j w there i a b =
         let x = eqb-true (law.keeping.merged.at a.0.number) (desk id) (entry_in a.0 a.1).1 in
         let y = (kept_in (λ x. eqb (law.keeping.merged.at x) (desk j)) u.journal b.0 (subst (IsIn b.0) (sym (law.keeping.merged.keeps (desk j) ∙ desk_keeps entries m.views m.homes j ∙ ap at_desk there)) b.1)).1 in
@@ -201,8 +201,8 @@ module _ {P : Type 0} (entries : P → List Entry) (arguments : P → List value
         let same : law.keeping.merged.at a.0.number ≡ law.keeping.merged.at b.0.number = ap law.keeping.merged.at (a.2 ∙ sym b.2) in omega arith
 
     -- a message that the desk keeps, and that is not unlinked at it, was linked, whatever its stage
-    linked_stage : (i : ℕ) (x : Message) → Keeps v.kept i → message_in (what_at i u.journal) ≡ Some x → (IsUnlinked (hand v) i → ⊥) → (s : Stage) → u.stage i ≡ s → (k : ℕ) × (u.order.bag i ≡ Some k)
-    linked_stage i x mine says un Vacant e = absurd (no_message (what_at i u.journal) x (inl (it i Vacant e).0) says)
+    linked_stage : (i : ℕ) (x : Message) → KeepsNumber v.kept i → message_in (said_at i u.journal) ≡ Some x → (IsUnlinked (hand v) i → ⊥) → (s : Stage) → u.stage i ≡ s → (k : ℕ) × (u.order.bag i ≡ Some k)
+    linked_stage i x mine says un Vacant e = absurd (no_message (said_at i u.journal) x (inl (it i Vacant e).0) says)
     linked_stage i x mine says un (InHand j Fresh) e = let d = law.hands.held i j Fresh e in let same = one_keeps j d.0 d.1 i mine (law.hands.kept j d.0 d.1 i (inl d.2)) in
         absurd (un (inl (subst (λ (y : View). HasNumber i y.fresh) (some-injective d.0 v (sym d.1 ∙ ap (get_elem? m.views) same ∙ at)) d.2)))
     linked_stage i x mine says un (InHand j Placing) e = let d = law.hands.held i j Placing e in let same = one_keeps j d.0 d.1 i mine (law.hands.kept j d.0 d.1 i (inr d.2)) in
@@ -210,13 +210,13 @@ module _ {P : Type 0} (entries : P → List Entry) (arguments : P → List value
     linked_stage i x mine says un (InHand j (Flying k a)) e = (k, (it i (InHand j (Flying k a)) e).5)
     linked_stage i x mine says un (InHand j (Claiming c)) e = (key c.object c.method, (it i (InHand j (Claiming c)) e).1.bagged)
     linked_stage i x mine says un (InHand j Emptying) e = let t = it i (InHand j Emptying) e in (key t.0.object t.0.method, t.2.bagged)
-    linked_stage i x mine says un (InHand j Unposted) e = absurd (no_message (what_at i u.journal) x (inr (it i (InHand j Unposted) e).0) says)
-    linked_stage i x mine says un (InHand j Posting) e = absurd (no_message (what_at i u.journal) x (inr (it i (InHand j Posting) e).0) says)
-    linked_stage i x mine says un (InHand j Starting) e = absurd (no_message (what_at i u.journal) x (inr (it i (InHand j Starting) e).0) says)
+    linked_stage i x mine says un (InHand j Unposted) e = absurd (no_message (said_at i u.journal) x (inr (it i (InHand j Unposted) e).0) says)
+    linked_stage i x mine says un (InHand j Posting) e = absurd (no_message (said_at i u.journal) x (inr (it i (InHand j Posting) e).0) says)
+    linked_stage i x mine says un (InHand j Starting) e = absurd (no_message (said_at i u.journal) x (inr (it i (InHand j Starting) e).0) says)
     linked_stage i x mine says un Armed e = let t = it i Armed e in (key t.0.object t.0.method, t.2.bagged)
     linked_stage i x mine says un Spent e = let t = it i Spent e in (key t.0.object t.0.method, t.2.bagged)
-    linked_stage i x mine says un Posted e = absurd (no_message (what_at i u.journal) x (inr (it i Posted e).0) says)
-    linked_stage i x mine says un Played e = absurd (no_message (what_at i u.journal) x (inr (it i Played e).0) says)
+    linked_stage i x mine says un Posted e = absurd (no_message (said_at i u.journal) x (inr (it i Posted e).0) says)
+    linked_stage i x mine says un Played e = absurd (no_message (said_at i u.journal) x (inr (it i Played e).0) says)
 
     -- a message that the desk keeps was linked, if it is not unlinked at this desk
     pub kept_linked : (e : Entry) (x : Message) → IsIn e v.kept → message_of e.what ≡ Some x → (IsUnlinked (hand v) e.number → ⊥) → (k : ℕ) × (u.order.bag e.number ≡ Some k)
@@ -224,12 +224,12 @@ module _ {P : Type 0} (entries : P → List Entry) (arguments : P → List value
 
     -- what goes is kept
     from_parcel : (ps : List Entry) → MayGo p v.kept ps → (e : Entry) → IsIn e ps → IsIn e v.kept
-    from_parcel ps may e there = (kept_in (among ps) v.kept e (subst (IsIn e) (sym may.part) there)).0
+    from_parcel ps may e there = (kept_in (is_among ps) v.kept e (subst (IsIn e) (sym may.part) there)).0
 
     -- the parcel of a message that is linked
     sent_parcel : (i k : ℕ) (q : P) (e : Entry) (x : Message) → MayGo p v.kept (entries q) → IsIn e v.kept → e.number ≡ i → message_of e.what ≡ Some x → x.arguments ≡ arguments q
         → ((e : Entry) (x : Message) → IsIn e (entries q) → message_of e.what ≡ Some x → (e.number ≡ i) ⊎ (IsUnlinked (hand v) e.number → ⊥)) → ((e : Entry) → IsIn e v.kept → IsCall i e → IsIn e (entries q))
-        → ((b : ℕ) → Begins b (entries q) → IsParked p (entries q) (Some i) (doing p (entries q) b)) → IsSentParcel p u.journal (put u.order.bag i (Some k)) i (entries q) (arguments q)
+        → ((b : ℕ) → BeginsThere b (entries q) → IsParkedThere p (entries q) (Some i) (doing p (entries q) b)) → IsSentParcel p u.journal (put u.order.bag i (Some k)) i (entries q) (arguments q)
     sent_parcel i k q e x may is num says args others call parked = record {
       holds = λ y there. ap (λ (z : Message). z.arguments) (some_is y x (sym there ∙ entry_says e x i is num says)) ∙ args;
       parked = parked;
@@ -240,8 +240,8 @@ module _ {P : Type 0} (entries : P → List Entry) (arguments : P → List value
     }
 
     -- the parcel of a firing that is posted
-    fired_parcel : (f : ℕ) (q : P) → MayGo p v.kept (entries q) → ((e : Entry) (x : Message) → IsIn e (entries q) → message_of e.what ≡ Some x → IsUnlinked (hand v) e.number → ⊥) → Begins f (entries q) → ((e : Entry) → IsIn e (entries q) → e.body ≡ f → e.number ≡ f)
-        → ((b : ℕ) → (b ≡ f → ⊥) → Begins b (entries q) → IsParked p (entries q) None (doing p (entries q) b)) → IsFiredParcel p u.order.bag f (entries q)
+    fired_parcel : (f : ℕ) (q : P) → MayGo p v.kept (entries q) → ((e : Entry) (x : Message) → IsIn e (entries q) → message_of e.what ≡ Some x → IsUnlinked (hand v) e.number → ⊥) → BeginsThere f (entries q) → ((e : Entry) → IsIn e (entries q) → e.body ≡ f → e.number ≡ f)
+        → ((b : ℕ) → (b ≡ f → ⊥) → BeginsThere b (entries q) → IsParkedThere p (entries q) None (doing p (entries q) b)) → IsFiredParcel p u.order.bag f (entries q)
     fired_parcel f q may others begins only parked = record {
       begins = begins;
       only = only;
@@ -252,10 +252,10 @@ module _ {P : Type 0} (entries : P → List Entry) (arguments : P → List value
     -- ## Steps that change the view alone
 
     -- a step that changes nothing in hand and nothing that is kept
-    pub stands_still : (w : View) → hand w ≡ hand v → w.kept ≡ v.kept → StandsFor entries arguments keeps_to p n (record m { views = set m.views id w }) u
+    pub stands_still : (w : View) → hand w ≡ hand v → w.kept ≡ v.kept → StandsForJournal entries arguments keeps_to p n (record m { views = set m.views id w }) u
     stands_still w same kept = record {
       keeping = keep.still_keeps entries p n m.count m.homes m.views u.journal law.keeping id v w at kept;
-      hands = hands.hands_still m.views u.stage law.hands id v at w same (λ k r. subst (λ (es : List Entry). Keeps es k) (sym kept) r);
+      hands = hands.hands_still m.views u.stage law.hands id v at w same (λ k r. subst (λ (es : List Entry). KeepsNumber es k) (sym kept) r);
       messages = law.messages;
       firings = law.firings;
       younger = law.younger;
@@ -266,7 +266,7 @@ module _ {P : Type 0} (entries : P → List Entry) (arguments : P → List value
 
     -- an own entry is drawn
     pub stands_draw : (b : ℕ) (what : What) → m.count < n → IsOwn what → Asks p v.kept b what
-        → StandsFor entries arguments keeps_to p n (record m { count = m.count + 1; views = set m.views id (drew v m.count b what) }) (record u { journal = entry m.count b what ∷ u.journal; stage = kinds.drawn_stage id m.count what u.stage })
+        → StandsForJournal entries arguments keeps_to p n (record m { count = m.count + 1; views = set m.views id (drew v m.count b what) }) (record u { journal = entry m.count b what ∷ u.journal; stage = kinds.drawn_stage id m.count what u.stage })
     stands_draw b what room own asks = let plain = own_plain what own in let vacant = vacant_next room in record {
       keeping = draw_keeps entries p n m.count m.homes m.views u.journal id v b what law.keeping at low room own asks;
       hands = hand_moves.hands_draw m.views u.stage law.hands id v at m.count b what plain vacant;
@@ -277,7 +277,7 @@ module _ {P : Type 0} (entries : P → List Entry) (arguments : P → List value
     }
 
     -- Main begins
-    pub stands_begun : m.count ≡ 0 → 0 < n → StandsFor entries arguments keeps_to p n (record m { count = m.count + 1; views = set m.views id (drew v m.count 0 Begun) }) (record u { journal = entry m.count 0 Begun ∷ u.journal; stage = u.stage })
+    pub stands_begun : m.count ≡ 0 → 0 < n → StandsForJournal entries arguments keeps_to p n (record m { count = m.count + 1; views = set m.views id (drew v m.count 0 Begun) }) (record u { journal = entry m.count 0 Begun ∷ u.journal; stage = u.stage })
     stands_begun none_drawn any = let vacant = vacant_next (omega (arith, none_drawn, any)) in let nothing : u.journal ≡ [] = empty_list u.journal (let l = law.keeping.long in omega arith) in record {
       keeping = keep.begun_keeps entries p n m.count m.homes m.views u.journal law.keeping id v (drew v m.count 0 Begun) at nothing none_drawn any refl;
       hands = hand_moves.hands_draw m.views u.stage law.hands id v at m.count 0 Begun (λ f. f) vacant;
@@ -292,7 +292,7 @@ module _ {P : Type 0} (entries : P → List Entry) (arguments : P → List value
         empty_list (x ∷ h) e = absurd (omega arith)
 
     -- the desk is told that the limit is reached
-    pub stands_told : n ≤ m.count → StandsFor entries arguments keeps_to p n (record m { count = m.count + 1; views = set m.views id (was_told v) }) u
+    pub stands_told : n ≤ m.count → StandsForJournal entries arguments keeps_to p n (record m { count = m.count + 1; views = set m.views id (was_told v) }) u
     stands_told full = record {
       keeping = told_keeps entries p n m.count m.homes m.views u.journal id v law.keeping at low full;
       hands = hands.hands_still m.views u.stage law.hands id v at (was_told v) refl (λ k r. r);
@@ -304,13 +304,13 @@ module _ {P : Type 0} (entries : P → List Entry) (arguments : P → List value
 
     -- a firing, by claims on its members
     pub stands_draw_firing : (k : ℕ) (object : Object) (js ms : List ℕ) (vs : List value.Value) → m.count < n → slice_get (p.chords object.class) k ≡ Some js → AreClaimed v.claims object js ms vs
-        → StandsFor entries arguments keeps_to p n (record m { count = m.count + 1; views = set m.views id (kinds.fired v m.count k object ms vs) })
+        → StandsForJournal entries arguments keeps_to p n (record m { count = m.count + 1; views = set m.views id (kinds.firing_drawn v m.count k object ms vs) })
         (record u { journal = entry m.count m.count (Fired k object ms vs) ∷ u.journal; stage = kinds.fired_stage id m.count ms u.stage })
     stands_draw_firing k object js ms vs room chord claimed =
         let vacant = vacant_next room in
         let members = waiting.claimed_members p u.journal m.cells m.places m.homes u.order m.views u.stage past law.hands law.messages law.firings id v at object js ms vs claimed in
         let fires = waiting.claims_fire p u.journal m.cells m.places m.homes u.order m.views u.stage past law.hands law.messages law.firings id v at k object js ms vs chord claimed in record {
-          keeping = keep.firing_keeps entries p n m.count m.homes m.views u.journal law.keeping id v (kinds.fired v m.count k object ms vs) at k object ms vs room fires refl;
+          keeping = keep.firing_keeps entries p n m.count m.homes m.views u.journal law.keeping id v (kinds.firing_drawn v m.count k object ms vs) at k object ms vs room fires refl;
           hands = hand_moves.hands_draw_firing m.views u.stage law.hands id v at m.count vacant ms (λ i y. let r = members i y in (r.0, r.1, r.2)) object k vs;
           messages = messages.messages_draw_firing u.journal m.cells m.places m.homes u.order u.stage law.messages id m.count k object ms vs vacant;
           firings = firings.firings_draw_firing u.journal u.stage law.firings id m.count vacant k object ms vs (λ i y. let r = members i y in (r.0, law.hands.holds id v at i (Claiming r.0) (r.1, r.2)));
@@ -326,7 +326,7 @@ module _ {P : Type 0} (entries : P → List Entry) (arguments : P → List value
 
     -- the place word of a message is set
     pub stands_place : (i : ℕ) (e : Entry) (x : Message) → IsIn e v.kept → e.number ≡ i → message_of e.what ≡ Some x → HasNumber i v.fresh → v.placing ≡ None
-        → StandsFor entries arguments keeps_to p n (record m { places = put m.places i (Some (x.object, x.method)); homes = put m.homes i none; views = set m.views id (kinds.address_set v i) }) (record u { stage = put u.stage i (InHand id Placing) })
+        → StandsForJournal entries arguments keeps_to p n (record m { places = put m.places i (Some (x.object, x.method)); homes = put m.homes i none; views = set m.views id (kinds.address_set v i) }) (record u { stage = put u.stage i (InHand id Placing) })
     stands_place i e x is num says has free = let was = law.hands.holds id v at i Fresh has in record {
       keeping = keep.slot_keeps entries p n m.count m.homes m.views u.journal law.keeping id v (kinds.address_set v i) at i none refl (no_parcel i (some None) (it i (InHand id Fresh) was).1.slot refl) refl;
       hands = hands.hands_place m.views u.stage law.hands id v at i has free;
@@ -339,8 +339,8 @@ module _ {P : Type 0} (entries : P → List Entry) (arguments : P → List value
     -- a message is linked
     pub stands_link : (i k : ℕ) (above : Option ℕ) (q : P) (e : Entry) (x : Message) → IsIn e v.kept → e.number ≡ i → message_of e.what ≡ Some x → k ≡ key x.object x.method → x.method < 16 → v.placing ≡ Some i → v.flight ≡ None
         → MayGo p v.kept (entries q) → ((e : Entry) (x : Message) → IsIn e (entries q) → message_of e.what ≡ Some x → (e.number ≡ i) ⊎ (IsUnlinked (hand v) e.number → ⊥)) → x.arguments ≡ arguments q → ((e : Entry) → IsIn e v.kept → IsCall i e → IsIn e (entries q))
-        → ((b : ℕ) → Begins b (entries q) → IsParked p (entries q) (Some i) (doing p (entries q) b)) → keeps_to q → (heads : ℕ → Option ℕ)
-        → StandsFor entries arguments keeps_to p n (record m { heads = heads; homes = put m.homes i (some (Some q)); views = set m.views id (kinds.flown v i k above (entries q)) }) (record u { stage = put u.stage i (InHand id (Flying k above)); order = linked_order u.order i k above })
+        → ((b : ℕ) → BeginsThere b (entries q) → IsParkedThere p (entries q) (Some i) (doing p (entries q) b)) → keeps_to q → (heads : ℕ → Option ℕ)
+        → StandsForJournal entries arguments keeps_to p n (record m { heads = heads; homes = put m.homes i (some (Some q)); views = set m.views id (kinds.flown v i k above (entries q)) }) (record u { stage = put u.stage i (InHand id (Flying k above)); order = linked_order u.order i k above })
     stands_link i k above q e x is num says to few placing free may others args call parked task heads = let was = law.hands.holds id v at i Placing placing in record {
       keeping = keep.parcel_goes entries p n m.count m.homes m.views u.journal law.keeping id v (kinds.flown v i k above (entries q)) at i q (no_parcel i none (it i (InHand id Placing) was).4 refl) may refl;
       hands = hands.hands_link m.views u.stage law.hands id v at i k above (entries q) placing free
@@ -355,7 +355,7 @@ module _ {P : Type 0} (entries : P → List Entry) (arguments : P → List value
 
     -- a linked message is armed
     pub stands_arm : (i : ℕ) → v.flight ≡ Some i
-        → StandsFor entries arguments keeps_to p n (record m { cells = put m.cells i (record { cell = a_cell.Pending; next = v.above }); views = set m.views id (kinds.armed v i) }) (record u { stage = put u.stage i Armed })
+        → StandsForJournal entries arguments keeps_to p n (record m { cells = put m.cells i (record { cell = a_cell.Pending; next = v.above }); views = set m.views id (kinds.armed v i) }) (record u { stage = put u.stage i Armed })
     stands_arm i flying = let was = law.hands.holds id v at i (Flying v.bag v.above) (flying, refl, refl) in record {
       keeping = keep.still_keeps entries p n m.count m.homes m.views u.journal law.keeping id v (kinds.armed v i) at refl;
       hands = hands.hands_arm m.views u.stage law.hands id v at i flying;
@@ -366,12 +366,12 @@ module _ {P : Type 0} (entries : P → List Entry) (arguments : P → List value
     }
 
     -- the message that is claimed where the cell was pending
-    pub pending_message : (i : ℕ) (next : Option ℕ) → m.cells i ≡ record { cell = a_cell.Pending; next = next } → (x : Message) × (message_in (what_at i u.journal) ≡ Some x)
+    pub pending_message : (i : ℕ) (next : Option ℕ) → m.cells i ≡ record { cell = a_cell.Pending; next = next } → (x : Message) × (message_in (said_at i u.journal) ≡ Some x)
     pending_message i next is = messages.armed_message u.journal m.cells m.places m.homes u.order u.stage law.messages id i (messages.is_armed u.journal m.cells m.places m.homes u.order u.stage law.messages id i next is)
 
     -- a pending message is claimed
-    pub stands_claim : (i : ℕ) (next : Option ℕ) (x : Message) → m.cells i ≡ record { cell = a_cell.Pending; next = next } → message_in (what_at i u.journal) ≡ Some x
-        → StandsFor entries arguments keeps_to p n (record m { cells = put m.cells i (record { cell = a_cell.Claimed; next = next }); views = set m.views id (kinds.claimed v (messages.claim_on i next x)) }) (record u { stage = put u.stage i (InHand id (Claiming (messages.claim_on i next x))) })
+    pub stands_claim : (i : ℕ) (next : Option ℕ) (x : Message) → m.cells i ≡ record { cell = a_cell.Pending; next = next } → message_in (said_at i u.journal) ≡ Some x
+        → StandsForJournal entries arguments keeps_to p n (record m { cells = put m.cells i (record { cell = a_cell.Claimed; next = next }); views = set m.views id (kinds.claimed v (messages.claim_on i next x)) }) (record u { stage = put u.stage i (InHand id (Claiming (messages.claim_on i next x))) })
     stands_claim i next x is says = let was = messages.is_armed u.journal m.cells m.places m.homes u.order u.stage law.messages id i next is in record {
       keeping = keep.still_keeps entries p n m.count m.homes m.views u.journal law.keeping id v (kinds.claimed v (messages.claim_on i next x)) at refl;
       hands = hands.hands_claim m.views u.stage law.hands id v at i (messages.claim_on i next x) refl was;
@@ -386,12 +386,12 @@ module _ {P : Type 0} (entries : P → List Entry) (arguments : P → List value
     claim_word c has = (it c.number (InHand id (Claiming c)) (law.hands.holds id v at c.number (Claiming c) (has, refl))).2
 
     -- the parcel of a claimed message is at home
-    pub claim_home : (c : Claim) → HasThe c v.claims → IsFull (m.homes c.number)
+    pub claim_home : (c : Claim) → HasThe c v.claims → IsLoaded (m.homes c.number)
     claim_home c has = (it c.number (InHand id (Claiming c)) (law.hands.holds id v at c.number (Claiming c) (has, refl))).3
 
     -- a claim for no firing is given back
     pub stands_give_back : (i : ℕ) (c : Claim) → HasThe c v.claims → c.number ≡ i → c.firing ≡ None
-        → StandsFor entries arguments keeps_to p n (record m { cells = put m.cells i (record { cell = a_cell.Pending; next = c.next }); views = set m.views id (kinds.unclaimed v i) }) (record u { stage = put u.stage i Armed })
+        → StandsForJournal entries arguments keeps_to p n (record m { cells = put m.cells i (record { cell = a_cell.Pending; next = c.next }); views = set m.views id (kinds.unclaimed v i) }) (record u { stage = put u.stage i Armed })
     stands_give_back i c has num free = let was = law.hands.holds id v at i (Claiming c) (has, num) in record {
       keeping = keep.still_keeps entries p n m.count m.homes m.views u.journal law.keeping id v (kinds.unclaimed v i) at refl;
       hands = hands.hands_give_back m.views u.stage law.hands id v at i c has num;
@@ -403,7 +403,7 @@ module _ {P : Type 0} (entries : P → List Entry) (arguments : P → List value
 
     -- a message that is claimed for a firing is consumed
     pub stands_consume : (i : ℕ) (c : Claim) (f : ℕ) (q : P) → HasThe c v.claims → c.number ≡ i → c.firing ≡ Some f → v.emptying ≡ None → m.homes i ≡ some (Some q)
-        → StandsFor entries arguments keeps_to p n (record m { cells = put m.cells i (record { cell = a_cell.Consumed; next = c.next }); homes = put m.homes i none; views = set m.views id (kinds.consumed v i (entries q)) }) (record u { stage = put u.stage i (InHand id Emptying) })
+        → StandsForJournal entries arguments keeps_to p n (record m { cells = put m.cells i (record { cell = a_cell.Consumed; next = c.next }); homes = put m.homes i none; views = set m.views id (kinds.consumed v i (entries q)) }) (record u { stage = put u.stage i (InHand id Emptying) })
     stands_consume i c f q has num for free home = let was = law.hands.holds id v at i (Claiming c) (has, num) in record {
       keeping = keep.parcel_comes entries p n m.count m.homes m.views u.journal law.keeping id v (kinds.consumed v i (entries q)) at i q home refl;
       hands = hands.hands_consume m.views u.stage law.hands id v at i c (entries q) has num free;
@@ -415,7 +415,7 @@ module _ {P : Type 0} (entries : P → List Entry) (arguments : P → List value
 
     -- the slot of a consumed message is home again
     pub stands_empty : (i : ℕ) → v.emptying ≡ Some i
-        → StandsFor entries arguments keeps_to p n (record m { homes = put m.homes i (some None); views = set m.views id (kinds.emptied v) }) (record u { stage = put u.stage i Spent })
+        → StandsForJournal entries arguments keeps_to p n (record m { homes = put m.homes i (some None); views = set m.views id (kinds.emptied v) }) (record u { stage = put u.stage i Spent })
     stands_empty i emptying = let was = law.hands.holds id v at i Emptying emptying in record {
       keeping = keep.slot_keeps entries p n m.count m.homes m.views u.journal law.keeping id v (kinds.emptied v) at i (some None) refl (no_parcel i none (it i (InHand id Emptying) was).4 refl) refl;
       hands = hands.hands_empty m.views u.stage law.hands id v at i emptying;
@@ -427,10 +427,10 @@ module _ {P : Type 0} (entries : P → List Entry) (arguments : P → List value
 
     -- the cell of an armed message goes between Pending and Woken
     pub stands_wake : (i : ℕ) (word : Word) (w : View) → IsOpen word.cell → u.stage i ≡ Armed → hand w ≡ hand v → w.kept ≡ v.kept
-        → StandsFor entries arguments keeps_to p n (record m { cells = put m.cells i word; views = set m.views id w }) u
+        → StandsForJournal entries arguments keeps_to p n (record m { cells = put m.cells i word; views = set m.views id w }) u
     stands_wake i word w open_ was same kept = record {
       keeping = keep.still_keeps entries p n m.count m.homes m.views u.journal law.keeping id v w at kept;
-      hands = hands.hands_still m.views u.stage law.hands id v at w same (λ k r. subst (λ (es : List Entry). Keeps es k) (sym kept) r);
+      hands = hands.hands_still m.views u.stage law.hands id v at w same (λ k r. subst (λ (es : List Entry). KeepsNumber es k) (sym kept) r);
       messages = messages.messages_wake u.journal m.cells m.places m.homes u.order u.stage law.messages id i word open_ was;
       firings = law.firings;
       younger = law.younger;
@@ -441,7 +441,7 @@ module _ {P : Type 0} (entries : P → List Entry) (arguments : P → List value
 
     -- the slot of a firing comes out
     pub stands_posting : (f : ℕ) → HasNumber f v.unposted → v.posting ≡ None
-        → StandsFor entries arguments keeps_to p n (record m { homes = put m.homes f none; views = set m.views id (kinds.posting v f) }) (record u { stage = put u.stage f (InHand id Posting) })
+        → StandsForJournal entries arguments keeps_to p n (record m { homes = put m.homes f none; views = set m.views id (kinds.posting v f) }) (record u { stage = put u.stage f (InHand id Posting) })
     stands_posting f has free = let was = law.hands.holds id v at f Unposted has in record {
       keeping = keep.slot_keeps entries p n m.count m.homes m.views u.journal law.keeping id v (kinds.posting v f) at f none refl (no_parcel f (some None) (it f (InHand id Unposted) was).1.slot refl) refl;
       hands = hands.hands_posting m.views u.stage law.hands id v at f has free;
@@ -453,8 +453,8 @@ module _ {P : Type 0} (entries : P → List Entry) (arguments : P → List value
 
     -- a firing is posted
     pub stands_post : (f : ℕ) (q : P) → v.posting ≡ Some f → MayGo p v.kept (entries q) → ((e : Entry) (x : Message) → IsIn e (entries q) → message_of e.what ≡ Some x → IsUnlinked (hand v) e.number → ⊥)
-        → Begins f (entries q) → ((e : Entry) → IsIn e (entries q) → e.body ≡ f → e.number ≡ f) → ((b : ℕ) → (b ≡ f → ⊥) → Begins b (entries q) → IsParked p (entries q) None (doing p (entries q) b)) → keeps_to q
-        → StandsFor entries arguments keeps_to p n (record m { cells = put m.cells f (record { cell = a_cell.Ready; next = None }); homes = put m.homes f (some (Some q)); views = set m.views id (kinds.posted v (entries q)) }) (record u { stage = put u.stage f Posted })
+        → BeginsThere f (entries q) → ((e : Entry) → IsIn e (entries q) → e.body ≡ f → e.number ≡ f) → ((b : ℕ) → (b ≡ f → ⊥) → BeginsThere b (entries q) → IsParkedThere p (entries q) None (doing p (entries q) b)) → keeps_to q
+        → StandsForJournal entries arguments keeps_to p n (record m { cells = put m.cells f (record { cell = a_cell.Ready; next = None }); homes = put m.homes f (some (Some q)); views = set m.views id (kinds.posted v (entries q)) }) (record u { stage = put u.stage f Posted })
     stands_post f q posting may others begins only parked task = let was = law.hands.holds id v at f Posting posting in record {
       keeping = keep.parcel_goes entries p n m.count m.homes m.views u.journal law.keeping id v (kinds.posted v (entries q)) at f q (no_parcel f none (it f (InHand id Posting) was).3 refl) may refl;
       hands = hands.hands_post m.views u.stage law.hands id v at f (entries q) posting
@@ -470,12 +470,12 @@ module _ {P : Type 0} (entries : P → List Entry) (arguments : P → List value
     ready_word f is = (it f Posted (messages.is_posted u.journal m.cells m.places m.homes u.order u.stage law.messages id f is)).1
 
     -- a posted firing has a parcel
-    pub ready_home : (f : ℕ) → (m.cells f).cell ≡ a_cell.Ready → IsFull (m.homes f)
+    pub ready_home : (f : ℕ) → (m.cells f).cell ≡ a_cell.Ready → IsLoaded (m.homes f)
     ready_home f is = (it f Posted (messages.is_posted u.journal m.cells m.places m.homes u.order u.stage law.messages id f is)).3
 
     -- a posted firing is started
     pub stands_start : (f : ℕ) (q : P) → (m.cells f).cell ≡ a_cell.Ready → v.starting ≡ None → m.homes f ≡ some (Some q)
-        → StandsFor entries arguments keeps_to p n (record m { cells = put m.cells f (record { cell = a_cell.Started; next = None }); homes = put m.homes f none; views = set m.views id (kinds.firing_started v f (entries q)) }) (record u { stage = put u.stage f (InHand id Starting) })
+        → StandsForJournal entries arguments keeps_to p n (record m { cells = put m.cells f (record { cell = a_cell.Started; next = None }); homes = put m.homes f none; views = set m.views id (kinds.firing_started v f (entries q)) }) (record u { stage = put u.stage f (InHand id Starting) })
     stands_start f q is free home = let was = messages.is_posted u.journal m.cells m.places m.homes u.order u.stage law.messages id f is in record {
       keeping = keep.parcel_comes entries p n m.count m.homes m.views u.journal law.keeping id v (kinds.firing_started v f (entries q)) at f q home refl;
       hands = hands.hands_start m.views u.stage law.hands id v at f (entries q) was free;
@@ -487,7 +487,7 @@ module _ {P : Type 0} (entries : P → List Entry) (arguments : P → List value
 
     -- the slot of a started firing is home again
     pub stands_play : (f : ℕ) → v.starting ≡ Some f
-        → StandsFor entries arguments keeps_to p n (record m { homes = put m.homes f (some None); views = set m.views id (kinds.played v) }) (record u { stage = put u.stage f Played })
+        → StandsForJournal entries arguments keeps_to p n (record m { homes = put m.homes f (some None); views = set m.views id (kinds.played v) }) (record u { stage = put u.stage f Played })
     stands_play f starting = let was = law.hands.holds id v at f Starting starting in record {
       keeping = keep.slot_keeps entries p n m.count m.homes m.views u.journal law.keeping id v (kinds.played v) at f (some None) refl (no_parcel f none (it f (InHand id Starting) was).3 refl) refl;
       hands = hands.hands_play m.views u.stage law.hands id v at f starting;
@@ -548,10 +548,10 @@ module _ {P : Type 0} (entries : P → List Entry) (arguments : P → List value
   cell_claimed i is = claimed_stage i (u.stage i) refl is
 
   -- a message of the journal has a slot of the table
-  pub number_low : (i : ℕ) (x : Message) → message_in (what_at i u.journal) ≡ Some x → i < n
-  number_low i x says = low_when (what_at i u.journal) refl says
+  pub number_low : (i : ℕ) (x : Message) → message_in (said_at i u.journal) ≡ Some x → i < n
+  number_low i x says = low_when (said_at i u.journal) refl says
     where
-      low_when : (w : Option What) → what_at i u.journal ≡ w → message_in w ≡ Some x → i < n
+      low_when : (w : Option What) → said_at i u.journal ≡ w → message_in w ≡ Some x → i < n
       low_when None e says = absurd (let z : Path (Option Message) None (Some x) = says in cc)
       low_when (Some w) e says = let t = waiting.what_entry u.journal i w e in let l = (waiting.what_is p u.journal t.0 past t.1).1 in let k = law.keeping.long in let q = t.2 in omega arith
 
@@ -564,7 +564,7 @@ module _ {P : Type 0} (entries : P → List Entry) (arguments : P → List value
     pub task : keeps_to q
 
   -- the journal has the message that a desk has claimed
-  pub claim_says : (id : ℕ) (v : View) → get_elem? m.views id ≡ some v → (c : Claim) → HasThe c v.claims → message_in (what_at c.number u.journal) ≡ Some (claimed_message c)
+  pub claim_says : (id : ℕ) (v : View) → get_elem? m.views id ≡ some v → (c : Claim) → HasThe c v.claims → message_in (said_at c.number u.journal) ≡ Some (claimed_message c)
   claim_says id v at c has = (it c.number (InHand id (Claiming c)) (law.hands.holds id v at c.number (Claiming c) (has, refl))).0
 
   -- the parcel of a message that a desk has claimed comes so
@@ -581,11 +581,11 @@ module _ {P : Type 0} (entries : P → List Entry) (arguments : P → List value
   ready_comes f q is home = (law.parcels.fired f q home (it f Posted (messages.is_posted u.journal m.cells m.places m.homes u.order u.stage law.messages 0 f is)).0, law.parcels.task f q home)
 
   -- a number without an entry has nothing
-  pub no_entry_blank : (i : ℕ) → what_at i u.journal ≡ None → m.cells i ≡ empty_word
-  no_entry_blank i e = (it i Vacant (vacant_where (u.stage i) (what_at i u.journal) (m.cells i) (m.places i) (m.homes i) (u.order.bag i) (u.order.next i) (law.messages.stands i) e)).1.cell
+  pub no_entry_blank : (i : ℕ) → said_at i u.journal ≡ None → m.cells i ≡ empty_word
+  no_entry_blank i e = (it i Vacant (vacant_where (u.stage i) (said_at i u.journal) (m.cells i) (m.places i) (m.homes i) (u.order.bag i) (u.order.next i) (law.messages.stands i) e)).1.cell
 
   -- a parcel at home is a message's, or its cell is ready, whatever the stage of its number
-  full_stage : (i : ℕ) (q : P) (s : Stage) → u.stage i ≡ s → m.homes i ≡ some (Some q) → ((x : Message) × (message_in (what_at i u.journal) ≡ Some x)) ⊎ ((m.cells i).cell ≡ a_cell.Ready)
+  full_stage : (i : ℕ) (q : P) (s : Stage) → u.stage i ≡ s → m.homes i ≡ some (Some q) → ((x : Message) × (message_in (said_at i u.journal) ≡ Some x)) ⊎ ((m.cells i).cell ≡ a_cell.Ready)
   full_stage i q Vacant e home = absurd (let z = sym (it i Vacant e).1.slot ∙ home in cc)
   full_stage i q (InHand j Fresh) e home = inl (it i (InHand j Fresh) e).0
   full_stage i q (InHand j Placing) e home = let t = it i (InHand j Placing) e in inl (t.0, t.1)
@@ -601,5 +601,5 @@ module _ {P : Type 0} (entries : P → List Entry) (arguments : P → List value
   full_stage i q Played e home = absurd (let z = sym (it i Played e).3 ∙ home in cc)
 
   -- a parcel at home is a message's, or its cell is ready
-  pub full_home : (i : ℕ) (q : P) → m.homes i ≡ some (Some q) → ((x : Message) × (message_in (what_at i u.journal) ≡ Some x)) ⊎ ((m.cells i).cell ≡ a_cell.Ready)
+  pub full_home : (i : ℕ) (q : P) → m.homes i ≡ some (Some q) → ((x : Message) × (message_in (said_at i u.journal) ≡ Some x)) ⊎ ((m.cells i).cell ≡ a_cell.Ready)
   full_home i q home = full_stage i q (u.stage i) refl home

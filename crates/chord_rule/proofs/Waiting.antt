@@ -21,8 +21,8 @@ use Rattle.chord_word.specs.declared.cells.Word.{Word}
 use Rattle.chord_rule.specs.declared.view.Claim.{Claim}
 use Rattle.chord_rule.specs.declared.view.View.{View}
 use Rattle.chord_rule.specs.Moment.{Home, Place}
-use Rattle.chord_rule.specs.Bags.{Order, IsConsumed, IsArmed, cell_of}
-use Rattle.chord_rule.specs.Made.{key, keys, IsChord, IsTabled}
+use Rattle.chord_rule.specs.Bags.{LinkOrder, IsConsumed, IsArmed, cell_of}
+use Rattle.chord_rule.specs.Made.{key, bag_keys, IsChord, IsTabled}
 use Rattle.chord_rule.specs.Numbers.{HasNumber}
 use Rattle.chord_rule.specs.Duties.{DutyLaw}
 use Rattle.chord_rule.proofs.Minding.{one_of_keys_minded}
@@ -31,22 +31,22 @@ use Rattle.chord_rule.specs.Hands.{Hands, IsUnarmed}
 use Rattle.chord_rule.specs.Minded.{IsWaiting, IsMinded, AreTo, AllWaiting}
 use Rattle.chord_rule.specs.Pending.{IsPending}
 use Rattle.chord_rule.specs.Messages.{IsOpen, IsLinked, Stands, Messages}
-use Rattle.chord_rule.specs.Firings.{IsTakenBy, Firings, Took}
-use Rattle.chord_rule.specs.Stages.{Fresh, Placing, Flying, Claiming, Emptying, Unposted, Posting, Starting, Stage, Vacant, InHand, Armed, Spent, Posted, Played, what_at, taker, message_in, IsFiringEntry, IsOther, claimed_message}
+use Rattle.chord_rule.specs.Firings.{IsTakenBy, Firings, TookMessage}
+use Rattle.chord_rule.specs.Stages.{Fresh, Placing, Flying, Claiming, Emptying, Unposted, Posting, Starting, Stage, Vacant, InHand, Armed, Spent, Posted, Played, said_at, taker, message_in, IsFiringEntry, IsNeither, claimed_message}
 use Rattle.chord_rule.proofs.Lists.{some_is}
 use Rattle.chord_rule.proofs.Staging.{pending_armed}
 
 -- ## Numbers of a past
 
 -- an entry of a past is the one of its number
-pub what_is : (p : Program) (h : List Entry) (e : Entry) → IsPast p h → IsIn e h → (what_at e.number h ≡ Some e.what) × (e.number < length h)
+pub what_is : (p : Program) (h : List Entry) (e : Entry) → IsPast p h → IsIn e h → (said_at e.number h ≡ Some e.what) × (e.number < length h)
 what_is p [] e r i = absurd i
 what_is p (x ∷ h) e r i = ⊎_elim
-    (λ q. subst (λ (y : Entry). (what_at y.number (x ∷ h) ≡ Some y.what) × (y.number < length (x ∷ h))) (sym q) (rw (eq-eqb x.number x.number refl) refl, (let n = r.1.numbered in omega arith)))
+    (λ q. subst (λ (y : Entry). (said_at y.number (x ∷ h) ≡ Some y.what) × (y.number < length (x ∷ h))) (sym q) (rw (eq-eqb x.number x.number refl) refl, (let n = r.1.numbered in omega arith)))
     (λ k. let t = what_is p h e r.0 k in let low = t.1 in let n = r.1.numbered in (rw (ne_eqb x.number e.number (λ q. omega arith)) t.0, (omega arith))) i
 
 -- what has a number in a past is an entry of it
-pub what_entry : (h : List Entry) (i : ℕ) (w : What) → what_at i h ≡ Some w → (e : Entry) × IsIn e h × (e.number ≡ i) × (e.what ≡ w)
+pub what_entry : (h : List Entry) (i : ℕ) (w : What) → said_at i h ≡ Some w → (e : Entry) × IsIn e h × (e.number ≡ i) × (e.what ≡ w)
 what_entry [] i w s = absurd (let z : Path (Option What) None (Some w) = s in cc)
 what_entry (x ∷ h) i w s = elim (either (x.number == i)) [
   | inl y ↦ (x, inl refl, eqb-true x.number i y, some_is x.what w (rw y at s))
@@ -54,7 +54,7 @@ what_entry (x ∷ h) i w s = elim (either (x.number == i)) [
 ]
 
 -- a taker is an entry that took it
-pub taker_took : (h : List Entry) (i f : ℕ) → taker i h ≡ Some f → Took h f i
+pub taker_took : (h : List Entry) (i f : ℕ) → taker i h ≡ Some f → TookMessage h f i
 taker_took [] i f s = absurd (let z : Path (Option ℕ) None (Some f) = s in cc)
 taker_took (x ∷ h) i f s = elim (either (has i (members_of x.what))) [
   | inl y ↦ (x, inl refl, some_is x.number f (rw y at s), y)
@@ -62,7 +62,7 @@ taker_took (x ∷ h) i f s = elim (either (has i (members_of x.what))) [
 ]
 
 -- and one that took it is the taker: some entry is
-pub took_taker : (h : List Entry) (i f : ℕ) → Took h f i → IsSome (taker i h)
+pub took_taker : (h : List Entry) (i f : ℕ) → TookMessage h f i → IsSome (taker i h)
 took_taker [] i f s = absurd s.1
 took_taker (x ∷ h) i f s = elim (either (has i (members_of x.what))) [
   | inl y ↦ rw y refl
@@ -76,7 +76,7 @@ pub taken_low : (p : Program) (h : List Entry) (i f : ℕ) → IsPast p h → ta
 taken_low p h i f r s = let t = taker_took h i f s in member_within p h t.0 i r t.1 t.3
 
 -- a message is pending exactly where no firing took it
-pub pending_is : (p : Program) (h : List Entry) (i : ℕ) → IsPast p h → taker i h ≡ None → pending i h ≡ message_in (what_at i h)
+pub pending_is : (p : Program) (h : List Entry) (i : ℕ) → IsPast p h → taker i h ≡ None → pending i h ≡ message_in (said_at i h)
 pending_is p [] i r s = refl
 pending_is p (x ∷ h) i r s = elim (either (has i (members_of x.what))) [
   | inl y ↦ absurd (let z : Path (Option ℕ) (Some x.number) None = rw y at s in cc)
@@ -87,7 +87,7 @@ pending_is p (x ∷ h) i r s = elim (either (has i (members_of x.what))) [
 ]
 
 -- a pending message is one that no firing took
-pub pending_was : (p : Program) (h : List Entry) (i : ℕ) (m : Message) → IsPast p h → pending i h ≡ Some m → (message_in (what_at i h) ≡ Some m) × (taker i h ≡ None)
+pub pending_was : (p : Program) (h : List Entry) (i : ℕ) (m : Message) → IsPast p h → pending i h ≡ Some m → (message_in (said_at i h) ≡ Some m) × (taker i h ≡ None)
 pending_was p [] i m r s = absurd (let z : Path (Option Message) None (Some m) = s in cc)
 pending_was p (x ∷ h) i m r s = elim (either (x.number == i)) [
   | inl q ↦ elim (either (has i (members_of x.what))) [
@@ -111,7 +111,7 @@ pending_was p (x ∷ h) i m r s = elim (either (x.number == i)) [
     member_at_itself q y = let t = takes_pending p h x i r.0 r.1 y in let l = pending_within p h i t.0.0 r.0 t.0.1 in let n = r.1.numbered in let j = eqb-true x.number i q in omega arith
 
 -- a message is neither a firing nor something else
-pub no_message : (what : Option What) (m : Message) → IsOther what ⊎ IsFiringEntry what → message_in what ≡ Some m → ⊥
+pub no_message : (what : Option What) (m : Message) → IsNeither what ⊎ IsFiringEntry what → message_in what ≡ Some m → ⊥
 no_message None m k e = let z : Path (Option Message) None (Some m) = e in cc
 no_message (Some Begun) m k e = let z : Path (Option Message) None (Some m) = e in cc
 no_message (Some (Made c)) m k e = let z : Path (Option Message) None (Some m) = e in cc
@@ -124,15 +124,15 @@ no_message (Some (Called x j vs)) m k e = ⊎_elim (λ z. z) (λ z. z) k
 -- ## What claims say
 
 -- the bag of a method of a chord is one of the chord's bags
-pub has_key : (object : Object) (j : ℕ) (js : List ℕ) → has j js ≡ true → HasNumber (key object j) (keys object js)
+pub has_key : (object : Object) (j : ℕ) (js : List ℕ) → has j js ≡ true → HasNumber (key object j) (bag_keys object js)
 has_key object j [] y = absurd (let z : false ≡ true = y in cc)
 has_key object j (i ∷ js) y = elim (either (j == i)) [ inl q ↦ inl (ap (key object) (eqb-true j i q)) | inr n ↦ inr (has_key object j js (rw n at y)) ]
 
-module _ {P : Type 0} (p : Program) (h : List Entry) (cells : ℕ → Word) (places : ℕ → Option Place) (homes : ℕ → Home P) (o : Order) (views : List View) (stage : ℕ → Stage)
+module _ {P : Type 0} (p : Program) (h : List Entry) (cells : ℕ → Word) (places : ℕ → Option Place) (homes : ℕ → Home P) (o : LinkOrder) (views : List View) (stage : ℕ → Stage)
     (past : IsPast p h) (hands : Hands views stage) (messages : Messages h cells places homes o stage) (firings : Firings h stage) where
   -- the number i is in this stage
   abbrev At : ℕ → Stage → Type 0
-  At i s = Stands s (what_at i h) (cells i) (places i) (homes i) (o.bag i) (o.next i)
+  At i s = Stands s (said_at i h) (cells i) (places i) (homes i) (o.bag i) (o.next i)
 
   -- each number is in its stage
   stands : (i : ℕ) (s : Stage) → stage i ≡ s → At i s
@@ -192,7 +192,7 @@ module _ {P : Type 0} (p : Program) (h : List Entry) (cells : ℕ → Word) (pla
 
   -- a message whose cell is Pending is pending
   pub pending_by_cell : (i : ℕ) → cell_of cells i ≡ a_cell.Pending → (m : Message) × (pending i h ≡ Some m)
-  pending_by_cell i e = armed_pending i (pending_armed (stage i) (what_at i h) (cells i) (places i) (homes i) (o.bag i) (o.next i) (messages.stands i) e)
+  pending_by_cell i e = armed_pending i (pending_armed (stage i) (said_at i h) (cells i) (places i) (homes i) (o.bag i) (o.next i) (messages.stands i) e)
 
   -- a Pending or Woken cell is that of a message that no firing has taken
   open_waits : (c : Cell) → IsOpen c → IsWaiting c
@@ -205,7 +205,7 @@ module _ {P : Type 0} (p : Program) (h : List Entry) (cells : ℕ → Word) (pla
   open_waits a_cell.Started t = absurd t
 
   -- linked, with this message
-  linked_bag : (i : ℕ) (m n : Message) → message_in (what_at i h) ≡ Some n → message_in (what_at i h) ≡ Some m → IsLinked n (places i) (o.bag i) → o.bag i ≡ Some (key m.object m.method)
+  linked_bag : (i : ℕ) (m n : Message) → message_in (said_at i h) ≡ Some n → message_in (said_at i h) ≡ Some m → IsLinked n (places i) (o.bag i) → o.bag i ≡ Some (key m.object m.method)
   linked_bag i m n a b l = l.bagged ∙ ap (λ (z : Message). Some (key z.object z.method)) (some_is n m (sym a ∙ b))
 
   -- a message that is in hand and not armed
@@ -218,8 +218,8 @@ module _ {P : Type 0} (p : Program) (h : List Entry) (cells : ℕ → Word) (pla
   }
 
   -- of a message that no firing took the table shows that it is pending, whatever its stage
-  pending_stage : (i : ℕ) (m : Message) (s : Stage) → stage i ≡ s → message_in (what_at i h) ≡ Some m → taker i h ≡ None → IsPending cells views o i m
-  pending_stage i m Vacant e says free = absurd (no_message (what_at i h) m (inl (stands i Vacant e).0) says)
+  pending_stage : (i : ℕ) (m : Message) (s : Stage) → stage i ≡ s → message_in (said_at i h) ≡ Some m → taker i h ≡ None → IsPending cells views o i m
+  pending_stage i m Vacant e says free = absurd (no_message (said_at i h) m (inl (stands i Vacant e).0) says)
   pending_stage i m (InHand j Fresh) e says free = let t = stands i (InHand j Fresh) e in let d = hands.held i j Fresh e in
       empty_pending i m (ap (λ (w : Word). w.cell) t.1.cell) (j, d.0, d.1, inl d.2)
   pending_stage i m (InHand j Placing) e says free = let t = stands i (InHand j Placing) e in let d = hands.held i j Placing e in
@@ -233,9 +233,9 @@ module _ {P : Type 0} (p : Program) (h : List Entry) (cells : ℕ → Word) (pla
     claimed = λ _. (j, d.0, c, d.1, d.2.0, d.2.1, sym (taken i (InHand j (Claiming c)) e) ∙ free);
   }
   pending_stage i m (InHand j Emptying) e says free = absurd (let z = subst (λ (x : Option ℕ). IsSome x) free (taken i (InHand j Emptying) e) in cc)
-  pending_stage i m (InHand j Unposted) e says free = absurd (no_message (what_at i h) m (inr (stands i (InHand j Unposted) e).0) says)
-  pending_stage i m (InHand j Posting) e says free = absurd (no_message (what_at i h) m (inr (stands i (InHand j Posting) e).0) says)
-  pending_stage i m (InHand j Starting) e says free = absurd (no_message (what_at i h) m (inr (stands i (InHand j Starting) e).0) says)
+  pending_stage i m (InHand j Unposted) e says free = absurd (no_message (said_at i h) m (inr (stands i (InHand j Unposted) e).0) says)
+  pending_stage i m (InHand j Posting) e says free = absurd (no_message (said_at i h) m (inr (stands i (InHand j Posting) e).0) says)
+  pending_stage i m (InHand j Starting) e says free = absurd (no_message (said_at i h) m (inr (stands i (InHand j Starting) e).0) says)
   pending_stage i m Armed e says free = let t = stands i Armed e in record {
     waiting = open_waits (cell_of cells i) t.3;
     bagged = λ _. linked_bag i m t.0 t.1 says t.2;
@@ -243,8 +243,8 @@ module _ {P : Type 0} (p : Program) (h : List Entry) (cells : ℕ → Word) (pla
     claimed = λ q. absurd (subst IsOpen q t.3);
   }
   pending_stage i m Spent e says free = absurd (let z = subst (λ (x : Option ℕ). IsSome x) free (taken i Spent e) in cc)
-  pending_stage i m Posted e says free = absurd (no_message (what_at i h) m (inr (stands i Posted e).0) says)
-  pending_stage i m Played e says free = absurd (no_message (what_at i h) m (inr (stands i Played e).0) says)
+  pending_stage i m Posted e says free = absurd (no_message (said_at i h) m (inr (stands i Posted e).0) says)
+  pending_stage i m Played e says free = absurd (no_message (said_at i h) m (inr (stands i Played e).0) says)
 
   -- what the table shows of a pending message
   pub shown_pending : (i : ℕ) (m : Message) → pending i h ≡ Some m → IsPending cells views o i m
@@ -253,7 +253,7 @@ module _ {P : Type 0} (p : Program) (h : List Entry) (cells : ℕ → Word) (pla
   -- ## What cells say of firings
 
   -- an armed cell is that of a linked message
-  armed_linked : (i : ℕ) (s : Stage) → stage i ≡ s → IsArmed (cell_of cells i) → (m : Message) × (message_in (what_at i h) ≡ Some m) × IsLinked m (places i) (o.bag i)
+  armed_linked : (i : ℕ) (s : Stage) → stage i ≡ s → IsArmed (cell_of cells i) → (m : Message) × (message_in (said_at i h) ≡ Some m) × IsLinked m (places i) (o.bag i)
   armed_linked i Vacant e a = absurd (subst (λ (w : Word). IsArmed w.cell) (stands i Vacant e).1.cell a)
   armed_linked i (InHand j Fresh) e a = absurd (subst (λ (w : Word). IsArmed w.cell) (stands i (InHand j Fresh) e).1.cell a)
   armed_linked i (InHand j Placing) e a = absurd (subst (λ (w : Word). IsArmed w.cell) (stands i (InHand j Placing) e).2 a)
@@ -294,20 +294,20 @@ module _ {P : Type 0} (p : Program) (h : List Entry) (cells : ℕ → Word) (pla
   consumed_some i Played e a = absurd (subst IsConsumed (stands i Played e).1 a)
 
   -- a message that has a taker was taken by a firing
-  some_took : (i : ℕ) (t : Option ℕ) → taker i h ≡ t → IsSome t → (f : ℕ) × Took h f i
+  some_took : (i : ℕ) (t : Option ℕ) → taker i h ≡ t → IsSome t → (f : ℕ) × TookMessage h f i
   some_took i None e s = absurd (let z = s in cc)
   some_took i (Some f) e s = (f, taker_took h i f e)
 
   -- a message whose cell is consumed was taken by a firing
-  pub taken_when_consumed : (i : ℕ) → IsConsumed (cell_of cells i) → (f : ℕ) × Took h f i
+  pub taken_when_consumed : (i : ℕ) → IsConsumed (cell_of cells i) → (f : ℕ) × TookMessage h f i
   taken_when_consumed i a = some_took i (taker i h) refl (consumed_some i (stage i) refl a)
 
   -- a message that a desk has claimed, and drawn a firing with, was taken by that firing
-  pub claim_taken : (id : ℕ) (v : View) → get_elem? views id ≡ some v → (c : Claim) (f : ℕ) → HasThe c v.claims → c.firing ≡ Some f → Took h f c.number
+  pub claim_taken : (id : ℕ) (v : View) → get_elem? views id ≡ some v → (c : Claim) (f : ℕ) → HasThe c v.claims → c.firing ≡ Some f → TookMessage h f c.number
   claim_taken id v at c f has for = taker_took h c.number f (taken c.number (InHand id (Claiming c)) (claim_stage id v at c has) ∙ for)
 
   -- one that took a message is its taker
-  pub took_is : (i f : ℕ) → Took h f i → taker i h ≡ Some f
+  pub took_is : (i f : ℕ) → TookMessage h f i → taker i h ≡ Some f
   took_is i f t = cases (taker i h) refl (took_taker h i f t)
     where
       cases : (x : Option ℕ) → taker i h ≡ x → IsSome x → taker i h ≡ Some f
@@ -336,7 +336,7 @@ module _ {P : Type 0} (p : Program) (h : List Entry) (cells : ℕ → Word) (pla
   taken_stage i f Played e t = absurd (let z = sym (taken i Played e) ∙ t in cc)
 
   -- what a firing took is consumed, or claimed by a desk that has drawn that firing
-  pub shown_taken : (i f : ℕ) → Took h f i → IsConsumed (cell_of cells i) ⊎ IsClaimedFor f i
+  pub shown_taken : (i f : ℕ) → TookMessage h f i → IsConsumed (cell_of cells i) ⊎ IsClaimedFor f i
   shown_taken i f t = taken_stage i f (stage i) refl (took_is i f t)
 
   -- ## One of the pending messages is minded
@@ -348,14 +348,14 @@ module _ {P : Type 0} (p : Program) (h : List Entry) (cells : ℕ → Word) (pla
 
   -- the bag to which the message of a number is
   abbrev target : ℕ → ℕ
-  target i = to_bag (message_in (what_at i h))
+  target i = to_bag (message_in (said_at i h))
 
   -- an armed message is in the bag to which it is
   armed_bag : (i : ℕ) → IsArmed (cell_of cells i) → o.bag i ≡ Some (target i)
   armed_bag i a = let t = armed_linked i (stage i) refl a in t.2.bagged ∙ ap (λ (z : Option Message). Some (to_bag z)) (sym t.1)
 
   -- the messages that a firing takes are to the bags of its methods, and no firing has taken any of them
-  takes_to : (object : Object) (js ms : List ℕ) (vs : List value.Value) → Takes h object js ms vs → AreTo target (keys object js) ms × AllWaiting cells ms
+  takes_to : (object : Object) (js ms : List ℕ) (vs : List value.Value) → Takes h object js ms vs → AreTo target (bag_keys object js) ms × AllWaiting cells ms
   takes_to object [] [] vs t = (tt, tt)
   takes_to object [] (i ∷ ms) vs t = absurd t
   takes_to object (j ∷ js) [] vs t = absurd t
@@ -376,5 +376,5 @@ module _ {P : Type 0} (p : Program) (h : List Entry) (cells : ℕ → Word) (pla
   pub minded_fires : IsTabled p → DutyLaw (IsChord p) cells views o → (k : ℕ) (object : Object) → object.number < 65536 → (ms : List ℕ) (vs : List value.Value) → Fires p h k object ms vs → (i : ℕ) × (has i ms ≡ true) × IsMinded cells views i
   minded_fires tabled duty k object low ms vs f =
       let t = takes_to object f.0 ms vs f.2 in let j = tabled.some_method object.class k f.0 f.1 in
-      let r = one_of_keys_minded (IsChord p) cells views o duty target armed_bag (keys object f.0) ms (object, k, f.0, f.1, low, refl) (key object j.0, has_key object j.0 f.0 j.1) t.0 t.1 in
+      let r = one_of_keys_minded (IsChord p) cells views o duty target armed_bag (bag_keys object f.0) ms (object, k, f.0, f.1, low, refl) (key object j.0, has_key object j.0 f.0 j.1) t.0 t.1 in
       (r.0, has_true r.0 ms r.1, r.2)

@@ -9,10 +9,10 @@ use Rattle.chord_word.specs.declared.cells.Cell.TheVariants.{Empty, Pending, Cla
 use Rattle.chord_word.specs.declared.cells.Word.{Word}
 use Rattle.chord_rule.specs.declared.view.Look.{Look}
 use Rattle.chord_rule.specs.declared.view.Way.{Way}
-use Rattle.chord_rule.specs.Bags.{Order, IsArmed, BagLaw, head_of}
-use Rattle.chord_rule.specs.Duties.{at_place}
+use Rattle.chord_rule.specs.Bags.{LinkOrder, IsArmed, BagLaw, head_number}
+use Rattle.chord_rule.specs.Duties.{has_come_to}
 use Rattle.chord_rule.specs.Heads.{HeadLaw}
-use Rattle.chord_rule.specs.Ways.{way_onward, way_begun, gone_on, on_way, HasWay, IsRead, IsLinkedCell, HasRoom, AllAbove, Falls, WayLaw}
+use Rattle.chord_rule.specs.Ways.{way_onward, way_begun, gone_on, on_way, HasWay, WasRead, IsLinkedCell, HasLooksLeft, AllAbove, LeadsDown, WayLaw}
 
 -- the numbers of these looks
 abbrev numbers_of : List Look → List ℕ
@@ -25,18 +25,18 @@ numbers_long [] = refl
 numbers_long (l ∷ ls) = ap suc (numbers_long ls)
 
 -- a message that was linked before these is none of them
-above_apart : (o : Order) (x : ℕ) (ls : List Look) → AllAbove o (o.rank x) ls → AllByRecursion (λ y. eqb x y ≡ false) (numbers_of ls)
+above_apart : (o : LinkOrder) (x : ℕ) (ls : List Look) → AllAbove o (o.rank x) ls → AllByRecursion (λ y. eqb x y ≡ false) (numbers_of ls)
 above_apart o x [] a = tt
 above_apart o x (l ∷ ls) a = (ne_eqb x l.number (λ e. let same : o.rank x ≡ o.rank l.number = ap o.rank e in let up = a.0 in absurd (omega (arith, same, up))), above_apart o x ls a.1)
 
 -- looks each at a message that was linked before the last are at different ones
-falls_distinct : (n k : ℕ) (o : Order) (ls : List Look) → Falls n k o ls → IsDistinct eqb (numbers_of ls)
+falls_distinct : (n k : ℕ) (o : LinkOrder) (ls : List Look) → LeadsDown n k o ls → IsDistinct eqb (numbers_of ls)
 unfolding IsDistinct
 falls_distinct n k o [] f = tt
 falls_distinct n k o (l ∷ ls) f = (above_apart o l.number ls f.2, falls_distinct n k o ls f.3)
 
 -- and these are below n
-falls_below : (n k : ℕ) (o : Order) (ls : List Look) → Falls n k o ls → (q : ℕ) → list_any (eqb q) (numbers_of ls) ≡ true → q < n
+falls_below : (n k : ℕ) (o : LinkOrder) (ls : List Look) → LeadsDown n k o ls → (q : ℕ) → list_any (eqb q) (numbers_of ls) ≡ true → q < n
 falls_below n k o [] f q h = let z : false ≡ true = h in absurd (cc)
 falls_below n k o (l ∷ ls) f q h = cases (falls_below n k o ls f.3 q) (eqb q l.number) refl h
   where
@@ -45,7 +45,7 @@ falls_below n k o (l ∷ ls) f q h = cases (falls_below n k o ls f.3 q) (eqb q l
     cases later false e h = later h
 
 -- where a way goes on there is room for one more look
-pub way_room : (n : ℕ) (o : Order) (ws : List Way) → ((w : Way) → HasWay w ws → WayLaw n o w) → HasRoom n ws
+pub way_room : (n : ℕ) (o : LinkOrder) (ws : List Way) → ((w : Way) → HasWay w ws → WayLaw n o w) → HasLooksLeft n ws
 unfolding IsDistinct
 way_room n o ws law w rest is x at = let l = law w (subst (HasWay w) (sym is) (inl refl)) in let p = l.place x at in
     let more = length-le_from_distinct_below (x ∷ numbers_of w.looks) n (above_apart o x w.looks p.2, falls_distinct n l.along o w.looks l.falls)
@@ -57,24 +57,24 @@ way_room n o ws law w rest is x at = let l = law w (subst (HasWay w) (sym is) (i
     below q later low false e h = later h
 
 -- a message that was looked at on a way is in the bag of the way
-pub read_bag : (n k : ℕ) (o : Order) (i : ℕ) (ls : List Look) → Falls n k o ls → IsRead i ls → o.bag i ≡ Some k
+pub read_bag : (n k : ℕ) (o : LinkOrder) (i : ℕ) (ls : List Look) → LeadsDown n k o ls → WasRead i ls → o.bag i ≡ Some k
 read_bag n k o i [] f r = absurd r
 read_bag n k o i (l ∷ ls) f (inl e) = ap o.bag e ∙ f.0
 read_bag n k o i (l ∷ ls) f (inr r) = read_bag n k o i ls f.3 r
 
 -- what is above s is above r where r is less
-lower : (o : Order) (r s : ℕ) (ls : List Look) → r < s → AllAbove o s ls → AllAbove o r ls
+lower : (o : LinkOrder) (r s : ℕ) (ls : List Look) → r < s → AllAbove o s ls → AllAbove o r ls
 lower o r s [] l a = tt
 lower o r s (x ∷ xs) l a = (let up = a.0 in omega (arith, l, up), lower o r s xs l a.1)
 
-module _ (IsKey : ℕ → Type 0) (n : ℕ) (cells : ℕ → Word) (heads : ℕ → Option ℕ) (o : Order) (bags : BagLaw IsKey cells heads o) (low : (i k : ℕ) → o.bag i ≡ Some k → i < n) where
+module _ (IsKey : ℕ → Type 0) (n : ℕ) (cells : ℕ → Word) (heads : ℕ → Option ℕ) (o : LinkOrder) (bags : BagLaw IsKey cells heads o) (low : (i k : ℕ) → o.bag i ≡ Some k → i < n) where
   -- a look at a head
-  pub begun_law : HeadLaw IsKey heads → (k : ℕ) → WayLaw n o (way_begun k (heads (head_of k)))
-  begun_law keyed k = cases (heads (head_of k)) refl
+  pub begun_law : HeadLaw IsKey heads → (k : ℕ) → WayLaw n o (way_begun k (heads (head_number k)))
+  begun_law keyed k = cases (heads (head_number k)) refl
     where
-      cases : (x : Option ℕ) → heads (head_of k) ≡ x → WayLaw n o (way_begun k (heads (head_of k)))
+      cases : (x : Option ℕ) → heads (head_number k) ≡ x → WayLaw n o (way_begun k (heads (head_number k)))
       cases None e = record { along = k; headed = refl; falls = tt; place = λ x q. absurd (let z : Path (Option ℕ) None (Some x) = sym e ∙ q in cc) }
-      cases (Some y) e = let l = keyed.keyed (head_of k) y e in record {
+      cases (Some y) e = let l = keyed.keyed (head_number k) y e in record {
         along = l.0;
         headed = l.2;
         falls = tt;
@@ -117,12 +117,12 @@ module _ (IsKey : ℕ → Type 0) (n : ℕ) (cells : ℕ → Word) (heads : ℕ 
       moved y p true is = let at : x.place ≡ Some i = p ∙ ap (λ (z : ℕ). Some z) (eqb-true y i is) in gone_law x i here at (linked here.along (here.place i at).0)
       moved y p false is = here
 
-      cases : (p : Option ℕ) → x.place ≡ p → w ≡ (if at_place i x.place then gone_on x i (cells i) else x) → WayLaw n o w
-      cases None p e = subst (WayLaw n o) (sym (e ∙ ap (λ (q : Option ℕ). if at_place i q then gone_on x i (cells i) else x) p)) here
-      cases (Some y) p e = subst (WayLaw n o) (sym (e ∙ ap (λ (q : Option ℕ). if at_place i q then gone_on x i (cells i) else x) p)) (moved y p (eqb y i) refl)
+      cases : (p : Option ℕ) → x.place ≡ p → w ≡ (if has_come_to i x.place then gone_on x i (cells i) else x) → WayLaw n o w
+      cases None p e = subst (WayLaw n o) (sym (e ∙ ap (λ (q : Option ℕ). if has_come_to i q then gone_on x i (cells i) else x) p)) here
+      cases (Some y) p e = subst (WayLaw n o) (sym (e ∙ ap (λ (q : Option ℕ). if has_come_to i q then gone_on x i (cells i) else x) p)) (moved y p (eqb y i) refl)
 
 -- the law stays where messages are linked, since what a linked message has of the order stays
-pub way_stays : (n : ℕ) (o o' : Order) (w : Way) → ((i k : ℕ) → o.bag i ≡ Some k → (o'.bag i ≡ Some k) × (o'.rank i ≡ o.rank i)) → WayLaw n o w → WayLaw n o' w
+pub way_stays : (n : ℕ) (o o' : LinkOrder) (w : Way) → ((i k : ℕ) → o.bag i ≡ Some k → (o'.bag i ≡ Some k) × (o'.rank i ≡ o.rank i)) → WayLaw n o w → WayLaw n o' w
 way_stays n o o' w same law = record {
   along = law.along;
   headed = law.headed;
@@ -130,10 +130,10 @@ way_stays n o o' w same law = record {
   place = λ x e. let p = law.place x e in let s = same x law.along p.0 in (s.0, p.1, above (o.rank x) (o'.rank x) s.1 w.looks law.falls p.2);
 }
   where
-    above : (r r' : ℕ) → r' ≡ r → (ls : List Look) → Falls n law.along o ls → AllAbove o r ls → AllAbove o' r' ls
+    above : (r r' : ℕ) → r' ≡ r → (ls : List Look) → LeadsDown n law.along o ls → AllAbove o r ls → AllAbove o' r' ls
     above r r' e [] f a = tt
     above r r' e (l ∷ ls) f a = (let s = (same l.number law.along f.0).1 in let up = a.0 in omega (arith, s, e, up), above r r' e ls f.3 a.1)
 
-    falls : (ls : List Look) → Falls n law.along o ls → Falls n law.along o' ls
+    falls : (ls : List Look) → LeadsDown n law.along o ls → LeadsDown n law.along o' ls
     falls [] f = tt
     falls (l ∷ ls) f = let s = same l.number law.along f.0 in (s.0, f.1, above (o.rank l.number) (o'.rank l.number) s.1 ls f.3 f.2, falls ls f.3)

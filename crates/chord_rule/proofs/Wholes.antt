@@ -26,7 +26,7 @@ use Rattle.chord_rule.specs.Moment.{Moment, Home, Place}
 use Rattle.chord_rule.specs.Numbers.{HasNumber}
 use Rattle.chord_rule.specs.Agrees.{Agrees}
 use Rattle.chord_rule.specs.Alone.{Remembers, AloneLaw}
-use Rattle.chord_rule.specs.Bags.{Order, IsArmed, head_of, cell_of}
+use Rattle.chord_rule.specs.Bags.{LinkOrder, IsArmed, head_number, cell_of}
 use Rattle.chord_rule.specs.Claims.{HasThe, AreClaimed}
 use Rattle.chord_rule.specs.Desks.{IsRightDesk}
 use Rattle.chord_rule.specs.Duties.{HasDuty, MayRest, start_walk, move_duty, drop_duty}
@@ -35,10 +35,10 @@ use Rattle.chord_rule.specs.Messages.{IsOpen}
 use Rattle.chord_rule.specs.Kinds as kinds
 use Rattle.chord_rule.specs.Kinds.{newcomer, gone, MayGo, entry, drew, was_told, claimed, saw, saw_count, saw_head}
 use Rattle.chord_rule.specs.Made.{key, IsKey, IsChord}
-use Rattle.chord_rule.specs.Parcels.{Begins, IsParked}
+use Rattle.chord_rule.specs.Parcels.{BeginsThere, IsParkedThere}
 use Rattle.chord_rule.specs.Placed.{PlaceLaw}
 use Rattle.chord_rule.specs.StandsFor.{Unseen}
-use Rattle.chord_rule.specs.Stages.{Vacant, Fresh, Placing, Claiming, Emptying, Flying, Unposted, Posting, Starting, Stage, InHand, Armed, Spent, Posted, Played, what_at, message_in}
+use Rattle.chord_rule.specs.Stages.{Vacant, Fresh, Placing, Claiming, Emptying, Flying, Unposted, Posting, Starting, Stage, InHand, Armed, Spent, Posted, Played, said_at, message_in}
 use Rattle.chord_rule.specs.Ways.{HasWay, WayLaw, IsLinkedCell, way_begun}
 use Rattle.chord_rule.specs.Whole.{Whole}
 use Rattle.chord_rule.proofs.Agreeing as agreeing
@@ -60,7 +60,7 @@ set_twice (x ∷ xs) zero a b = refl
 set_twice (x ∷ xs) (suc i) a b = λ k. x ∷ set_twice xs i a b k
 
 -- what holds of a desk, after a step of another
-right_stays : (n count count' : ℕ) (cells cells' : ℕ → Word) (o o' : Order) (v : View) → count ≤ count' → ((i : ℕ) → IsArmed (cell_of cells i) → IsArmed (cell_of cells' i))
+right_stays : (n count count' : ℕ) (cells cells' : ℕ → Word) (o o' : LinkOrder) (v : View) → count ≤ count' → ((i : ℕ) → IsArmed (cell_of cells i) → IsArmed (cell_of cells' i))
     → ((i k : ℕ) → o.bag i ≡ Some k → (o'.bag i ≡ Some k) × (o'.rank i ≡ o.rank i)) → IsRightDesk n count cells o v → IsRightDesk n count' cells' o' v
 right_stays n count count' cells cells' o o' v more armed linked law = record {
   armed = λ d h. armed d.message (law.armed d h);
@@ -70,7 +70,7 @@ right_stays n count count' cells cells' o o' v more armed linked law = record {
 }
 
 -- a desk that keeps nothing is as it should be
-right_newcomer : (n count : ℕ) (cells : ℕ → Word) (o : Order) → IsRightDesk n count cells o newcomer
+right_newcomer : (n count : ℕ) (cells : ℕ → Word) (o : LinkOrder) → IsRightDesk n count cells o newcomer
 right_newcomer n count cells o = record { armed = λ d h. absurd h; ways = λ w h. absurd h; told = λ here spent. absurd (let z : false ≡ true = spent in cc); ended = λ e. absurd (let z : false ≡ true = e in cc) }
 
 -- where one of two desks was told, what both may be told holds
@@ -79,7 +79,7 @@ told_either A true b first second e = first refl
 told_either A false b first second e = second e
 
 -- and so is one that was joined
-right_gone : (n count : ℕ) (cells : ℕ → Word) (o : Order) → IsRightDesk n count cells o gone
+right_gone : (n count : ℕ) (cells : ℕ → Word) (o : LinkOrder) → IsRightDesk n count cells o gone
 right_gone n count cells o = record { armed = λ d h. absurd h; ways = λ w h. absurd h; told = λ here spent. absurd (let z : true ≡ false = here in cc); ended = λ e. refl }
 
 module _ {P : Type 0} (entries : P → List Entry) (arguments : P → List value.Value) (keeps_to : P → Type 0) (p : Program) (n : ℕ) (small : n ≤ 65536) (m : Moment P) (u : Unseen) (whole : Whole entries arguments keeps_to p n m u)
@@ -202,9 +202,9 @@ module _ {P : Type 0} (entries : P → List Entry) (arguments : P → List value
 
   -- a firing is drawn with claims on its members
   pub whole_draw_firing : (k : ℕ) (object : Object) (js ms : List ℕ) (vs : List value.Value) → m.count < n → slice_get (p.chords object.class) k ≡ Some js → AreClaimed v.claims object js ms vs
-      → Whole entries arguments keeps_to p n (record m { count = m.count + 1; views = set m.views id (saw_count (kinds.fired v m.count k object ms vs) (m.count + 1)) })
+      → Whole entries arguments keeps_to p n (record m { count = m.count + 1; views = set m.views id (saw_count (kinds.firing_drawn v m.count k object ms vs) (m.count + 1)) })
       (record u { journal = entry m.count m.count (Fired k object ms vs) ∷ u.journal; stage = kinds.fired_stage id m.count ms u.stage })
-  whole_draw_firing k object js ms vs room chord members = whole_count (entry m.count m.count (Fired k object ms vs) ∷ u.journal) (kinds.fired_stage id m.count ms u.stage) (kinds.fired v m.count k object ms vs) refl refl refl refl refl told_before
+  whole_draw_firing k object js ms vs room chord members = whole_count (entry m.count m.count (Fired k object ms vs) ∷ u.journal) (kinds.fired_stage id m.count ms u.stage) (kinds.firing_drawn v m.count k object ms vs) refl refl refl refl refl told_before
       (agreeing.agrees_draw_firing entries arguments keeps_to p n small m u law id v at k object js ms vs room chord members)
 
   -- ## Messages
@@ -219,25 +219,25 @@ module _ {P : Type 0} (entries : P → List Entry) (arguments : P → List value
   -- a message is linked at the head of its bag
   pub whole_link : (i : ℕ) (q : P) (e : Entry) (x : Message) → IsIn e v.kept → e.number ≡ i → message_of e.what ≡ Some x → x.method < 16 → v.placing ≡ Some i → v.flight ≡ None
       → MayGo p v.kept (entries q) → ((e : Entry) (x : Message) → IsIn e (entries q) → message_of e.what ≡ Some x → (e.number ≡ i) ⊎ (IsUnlinked (hand v) e.number → ⊥)) → x.arguments ≡ arguments q → ((e : Entry) → IsIn e v.kept → IsCall i e → IsIn e (entries q))
-      → ((b : ℕ) → Begins b (entries q) → IsParked p (entries q) (Some i) (doing p (entries q) b)) → keeps_to q
-      → (let k = key x.object x.method in let above = m.heads (head_of k) in
-      Whole entries arguments keeps_to p n (record m { heads = put m.heads (head_of k) (Some i); homes = put m.homes i (some (Some q)); views = set m.views id (saw_head (kinds.flown v i k above (entries q)) (head_of k) (Some i)) }) (record u { stage = put u.stage i (InHand id (Flying k above)); order = linked_order u.order i k above }))
+      → ((b : ℕ) → BeginsThere b (entries q) → IsParkedThere p (entries q) (Some i) (doing p (entries q) b)) → keeps_to q
+      → (let k = key x.object x.method in let above = m.heads (head_number k) in
+      Whole entries arguments keeps_to p n (record m { heads = put m.heads (head_number k) (Some i); homes = put m.homes i (some (Some q)); views = set m.views id (saw_head (kinds.flown v i k above (entries q)) (head_number k) (Some i)) }) (record u { stage = put u.stage i (InHand id (Flying k above)); order = linked_order u.order i k above }))
   whole_link i q e x is num says method placing free may others args call parked task =
-      let k = key x.object x.method in let above = m.heads (head_of k) in let w : View = kinds.flown v i k above (entries q) in
-      let m' : Moment P = record m { heads = put m.heads (head_of k) (Some i); homes = put m.homes i (some (Some q)) } in let u' : Unseen = record u { stage = put u.stage i (InHand id (Flying k above)); order = linked_order u.order i k above } in
+      let k = key x.object x.method in let above = m.heads (head_number k) in let w : View = kinds.flown v i k above (entries q) in
+      let m' : Moment P = record m { heads = put m.heads (head_number k) (Some i); homes = put m.homes i (some (Some q)) } in let u' : Unseen = record u { stage = put u.stage i (InHand id (Flying k above)); order = linked_order u.order i k above } in
       let was = law.stands.hands.holds id v at i Placing placing in let t = agreeing.it entries arguments keeps_to p n small m u law id v at i (InHand id Placing) was in
       let other : (j l : ℕ) → u.order.bag j ≡ Some l → j ≢ i = (λ j l b q. let z : Path (Option ℕ) None (Some l) = sym t.5 ∙ sym (ap u.order.bag q) ∙ b in cc) in
       let linked : (j l : ℕ) → u.order.bag j ≡ Some l → (put u.order.bag i (Some k) j ≡ Some l) × (put u.order.rank i u.order.clock j ≡ u.order.rank j) = (λ j l b. (put_else u.order.bag i (Some k) j (other j l b) ∙ b, put_else u.order.rank i u.order.clock j (other j l b))) in
-      whole_step (record m' { views = set m.views id (saw_head w (head_of k) (Some i)) }) u' (saw_head w (head_of k) (Some i)) refl
-      (looked_too m' u' w (saw_head w (head_of k) (Some i)).looked refl (agreeing.agrees_link entries arguments keeps_to p n small m u law id v at law.tabled i q e x is num says method placing free may others args call parked task))
+      whole_step (record m' { views = set m.views id (saw_head w (head_number k) (Some i)) }) u' (saw_head w (head_number k) (Some i)) refl
+      (looked_too m' u' w (saw_head w (head_number k) (Some i)).looked refl (agreeing.agrees_link entries arguments keeps_to p n small m u law id v at law.tabled i q e x is num says method placing free may others args call parked task))
       refl refl refl (omega arith) (λ j a. a) linked whole.woken.names whole.places
       (record {
         armed = mine.armed;
         ways = λ y h. way_stays n u.order (linked_order u.order i k above) y linked (mine.ways y h);
         told = mine.told;
-        ended = not_gone (saw_head w (head_of k) (Some i)) refl;
+        ended = not_gone (saw_head w (head_number k) (Some i)) refl;
       })
-      (λ r. remembers_head m.count m.heads m.cells v.looked r (head_of k) (Some i))
+      (λ r. remembers_head m.count m.heads m.cells v.looked r (head_number k) (Some i))
 
   -- a linked message is armed
   pub whole_arm : (i : ℕ) → v.flight ≡ Some i
@@ -247,7 +247,7 @@ module _ {P : Type 0} (entries : P → List Entry) (arguments : P → List value
       (agreeing.agrees_arm entries arguments keeps_to p n small m u law id v at i flying)
 
   -- a pending message is claimed
-  pub whole_claim : (i : ℕ) (next : Option ℕ) (x : Message) → m.cells i ≡ record { cell = a_cell.Pending; next = next } → message_in (what_at i u.journal) ≡ Some x
+  pub whole_claim : (i : ℕ) (next : Option ℕ) (x : Message) → m.cells i ≡ record { cell = a_cell.Pending; next = next } → message_in (said_at i u.journal) ≡ Some x
       → Whole entries arguments keeps_to p n (record m { cells = put m.cells i (record { cell = a_cell.Claimed; next = next }); views = set m.views id (saw (claimed v (claim_on i next x)) i (record { cell = a_cell.Claimed; next = next })) }) (record u { stage = put u.stage i (InHand id (Claiming (claim_on i next x))) })
   whole_claim i next x is says = whole_cell i (record { cell = a_cell.Claimed; next = next }) m.homes (put u.stage i (InHand id (Claiming (claim_on i next x)))) (claimed v (claim_on i next x)) refl (λ _. tt) (λ z e. absurd (cc)) (λ d h. inl h) refl refl refl refl
       (agreeing.agrees_claim entries arguments keeps_to p n small m u law id v at i next x is says)
@@ -277,7 +277,7 @@ module _ {P : Type 0} (entries : P → List Entry) (arguments : P → List value
 
   -- a firing is posted
   pub whole_post : (f : ℕ) (q : P) → v.posting ≡ Some f → MayGo p v.kept (entries q) → ((e : Entry) (x : Message) → IsIn e (entries q) → message_of e.what ≡ Some x → IsUnlinked (hand v) e.number → ⊥)
-      → Begins f (entries q) → ((e : Entry) → IsIn e (entries q) → e.body ≡ f → e.number ≡ f) → ((b : ℕ) → (b ≡ f → ⊥) → Begins b (entries q) → IsParked p (entries q) None (doing p (entries q) b)) → keeps_to q
+      → BeginsThere f (entries q) → ((e : Entry) → IsIn e (entries q) → e.body ≡ f → e.number ≡ f) → ((b : ℕ) → (b ≡ f → ⊥) → BeginsThere b (entries q) → IsParkedThere p (entries q) None (doing p (entries q) b)) → keeps_to q
       → Whole entries arguments keeps_to p n (record m { cells = put m.cells f (record { cell = a_cell.Ready; next = None }); homes = put m.homes f (some (Some q)); views = set m.views id (saw (kinds.posted v (entries q)) f (record { cell = a_cell.Ready; next = None })) }) (record u { stage = put u.stage f Posted })
   whole_post f q posting may others begins only parked task = let t = agreeing.it entries arguments keeps_to p n small m u law id v at f (InHand id Posting) (law.stands.hands.holds id v at f Posting posting) in
       whole_cell f (record { cell = a_cell.Ready; next = None }) (put m.homes f (some (Some q))) (put u.stage f Posted) (kinds.posted v (entries q)) refl (λ a. absurd (subst (λ (c : Word). IsArmed c.cell) t.1 a)) (λ z e. absurd (cc)) (λ d h. inl h) refl refl refl refl
@@ -351,13 +351,13 @@ module _ {P : Type 0} (entries : P → List Entry) (arguments : P → List value
       (λ r. remembers_count m.count m.heads m.cells v.looked r m.count)
 
   -- a look at the head of the bag k
-  pub whole_look_head : (k : ℕ) → Whole entries arguments keeps_to p n (record m { views = set m.views id (kinds.looked_head v k (m.heads (head_of k))) }) u
-  whole_look_head k = whole_view (kinds.looked_head v k (m.heads (head_of k))) (looking.agrees_look_head entries arguments keeps_to p n small m u law id v at k) refl refl refl refl
-      (λ d h. let r = looking.has_mapped (start_walk k (m.heads (head_of k))) d v.duties h in subst (λ (z : Duty). IsArmed (cell_of m.cells z.message)) (sym r.2) (mine.armed r.0 r.1))
+  pub whole_look_head : (k : ℕ) → Whole entries arguments keeps_to p n (record m { views = set m.views id (kinds.looked_head v k (m.heads (head_number k))) }) u
+  whole_look_head k = whole_view (kinds.looked_head v k (m.heads (head_number k))) (looking.agrees_look_head entries arguments keeps_to p n small m u law id v at k) refl refl refl refl
+      (λ d h. let r = looking.has_mapped (start_walk k (m.heads (head_number k))) d v.duties h in subst (λ (z : Duty). IsArmed (cell_of m.cells z.message)) (sym r.2) (mine.armed r.0 r.1))
       (begun_ways k)
-      (λ r. let z = remembers_look_head m.count m.heads m.cells v.looked r (head_of k) in record { counter = z.counter; head = z.head; cell = z.cell })
+      (λ r. let z = remembers_look_head m.count m.heads m.cells v.looked r (head_number k) in record { counter = z.counter; head = z.head; cell = z.cell })
     where
-      begun_ways : (k : ℕ) (x : Way) → HasWay x (way_begun k (m.heads (head_of k)) ∷ v.looked.ways) → WayLaw n u.order x
+      begun_ways : (k : ℕ) (x : Way) → HasWay x (way_begun k (m.heads (head_number k)) ∷ v.looked.ways) → WayLaw n u.order x
       begun_ways k x (inl e) = subst (WayLaw n u.order) (sym e) (begun_law (IsKey u.journal) n m.cells m.heads u.order law.bags linked_below law.heads k)
       begun_ways k x (inr h) = mine.ways x h
 

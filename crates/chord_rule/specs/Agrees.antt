@@ -15,7 +15,7 @@ use Rattle.chord_rule.specs.Heads.{HeadLaw}
 use Rattle.chord_rule.specs.Duties.{HasDuty, DutyLaw}
 use Rattle.chord_rule.specs.Made.{IsKey, IsChord, IsTabled}
 use Rattle.chord_rule.specs.Looks.{Looks}
-use Rattle.chord_rule.specs.StandsFor.{Unseen, StandsFor}
+use Rattle.chord_rule.specs.StandsFor.{Unseen, StandsForJournal}
 
 -- a desk knows the bags of its duties
 pub record Tied (views : List View) (bag : ℕ → Option ℕ) : Type 0 where
@@ -26,7 +26,7 @@ pub record Agrees {P : Type 0} (entries : P → List Entry) (arguments : P → L
   pub tabled : IsTabled p
   pub counting : Counting n m.count m.views
   pub firsts : Firsts m.count m.views
-  pub stands : StandsFor entries arguments keeps_to p n m u
+  pub stands : StandsForJournal entries arguments keeps_to p n m u
   pub heads : HeadLaw (IsKey u.journal) m.heads
   pub bags : BagLaw (IsKey u.journal) m.cells m.heads u.order
   pub tied : Tied m.views u.order.bag

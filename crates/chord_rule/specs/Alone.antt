@@ -6,7 +6,7 @@ use Rattle.chord_word.specs.declared.cells.Word.{Word}
 use Rattle.chord_rule.specs.declared.view.Looked.{Looked}
 use Rattle.chord_rule.specs.declared.view.View.{View}
 use Rattle.chord_rule.specs.Looks.{LastHead}
-use Rattle.chord_rule.specs.Numbers.{flag}
+use Rattle.chord_rule.specs.Numbers.{one_if}
 use Rattle.chord_rule.specs.Ways.{LastSeen}
 
 -- the desk is neither the first one nor one that was joined into it
@@ -16,7 +16,7 @@ is_live v = not v.first && not v.gone
 -- how many of these desks are live
 abbrev pub live_count : List View → ℕ
 live_count [] = 0
-live_count (v ∷ vs) = flag (is_live v) + live_count vs
+live_count (v ∷ vs) = one_if (is_live v) + live_count vs
 
 -- what was last read or written of the counter, a head or a cell stands in it
 pub record Remembers (count : ℕ) (heads : ℕ → Option ℕ) (cells : ℕ → Word) (l : Looked) : Type 0 where

@@ -15,9 +15,9 @@ abbrev pub HasClaimOn : ℕ → List Claim → Type 0
 HasClaimOn i cs = (c : Claim) × HasThe c cs × (c.number ≡ i)
 
 -- the messages that are claimed
-abbrev pub numbers : List Claim → List ℕ
-numbers [] = []
-numbers (c ∷ cs) = c.number ∷ numbers cs
+abbrev pub claimed_numbers : List Claim → List ℕ
+claimed_numbers [] = []
+claimed_numbers (c ∷ cs) = c.number ∷ claimed_numbers cs
 
 -- the members are claimed, one for each method in order, for no firing yet, and these are their arguments laid together
 abbrev pub AreClaimed : List Claim → Object → List ℕ → List ℕ → List value.Value → Type 0

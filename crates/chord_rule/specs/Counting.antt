@@ -3,12 +3,12 @@ use Rattle.std.specs.Prelude.{◌≡◌, ℕ, ◌+◌, ◌<◌, ◌≤◌, List,
 use mathlib.Core.Option.{some}
 use lib.ListN.{get_elem?}
 use Rattle.chord_rule.specs.declared.view.View.{View}
-use Rattle.chord_rule.specs.Numbers.{flag}
+use Rattle.chord_rule.specs.Numbers.{one_if}
 
 -- how many of these desks were told that the limit is reached
 abbrev pub told : List View → ℕ
 told [] = 0
-told (v ∷ vs) = flag v.spent + told vs
+told (v ∷ vs) = one_if v.spent + told vs
 
 -- the counter passes the limit n by at most one for each desk that was told so, and the desks are the first one and those that were split from it
 pub record Counting (n count : ℕ) (views : List View) : Type 0 where

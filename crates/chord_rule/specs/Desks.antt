@@ -6,13 +6,13 @@ use Rattle.chord_word.specs.declared.cells.Word.{Word}
 use Rattle.chord_rule.specs.declared.view.Duty.{Duty}
 use Rattle.chord_rule.specs.declared.view.View.{View}
 use Rattle.chord_rule.specs.declared.view.Way.{Way}
-use Rattle.chord_rule.specs.Bags.{Order, IsArmed, cell_of}
+use Rattle.chord_rule.specs.Bags.{LinkOrder, IsArmed, cell_of}
 use Rattle.chord_rule.specs.Duties.{HasDuty}
 use Rattle.chord_rule.specs.Kinds.{gone}
 use Rattle.chord_rule.specs.Ways.{HasWay, WayLaw}
 
 -- what holds of one desk
-pub record IsRightDesk (n count : ℕ) (cells : ℕ → Word) (o : Order) (v : View) : Type 0 where
+pub record IsRightDesk (n count : ℕ) (cells : ℕ → Word) (o : LinkOrder) (v : View) : Type 0 where
   -- a message that it has a duty on is armed
   pub armed : (d : Duty) → HasDuty d v.duties → IsArmed (cell_of cells d.message)
   -- its ways go from message to message of a bag, each linked before the last
@@ -23,5 +23,5 @@ pub record IsRightDesk (n count : ℕ) (cells : ℕ → Word) (o : Order) (v : V
   pub ended : v.gone ≡ true → v ≡ gone
 
 -- what holds of each desk
-pub record DeskLaw (n count : ℕ) (cells : ℕ → Word) (o : Order) (views : List View) : Type 0 where
+pub record DeskLaw (n count : ℕ) (cells : ℕ → Word) (o : LinkOrder) (views : List View) : Type 0 where
   pub right : (j : ℕ) (v : View) → get_elem? views j ≡ some v → IsRightDesk n count cells o v

@@ -9,7 +9,7 @@ use Rattle.chord_rule.specs.declared.view.Duty.{Duty}
 use Rattle.chord_rule.specs.declared.view.Walk.{Walk}
 use Rattle.chord_word.specs.declared.cells.Word.{Word}
 use Rattle.chord_rule.specs.Numbers.{HasNumber}
-use Rattle.chord_rule.specs.Bags.{Order, IsStanding, cell_of}
+use Rattle.chord_rule.specs.Bags.{LinkOrder, IsStanding, cell_of}
 
 -- the duty is one of these
 abbrev pub HasDuty : Duty → List Duty → Type 0
@@ -21,7 +21,7 @@ abbrev pub HasWalk : Walk → List Walk → Type 0
 HasWalk w [] = ⊥
 HasWalk w (x ∷ xs) = (w ≡ x) ⊎ HasWalk w xs
 
-module _ (o : Order) where
+module _ (o : LinkOrder) where
   -- from the place a walk comes to x
   abbrev pub Reaches : Option ℕ → ℕ → Type 0
   Reaches None x = ⊥
@@ -35,7 +35,7 @@ module _ (o : Order) where
 
 -- IsChord: the bags of one chord on one object, in the order of its headers
 module _ (IsChord : List ℕ → Type 0) where
-  module _ (cells : ℕ → Word) (o : Order) where
+  module _ (cells : ℕ → Word) (o : LinkOrder) where
     -- one standing message in each bag
     abbrev pub Chosen : List ℕ → List ℕ → Type 0
     Chosen [] [] = Unit {0}
@@ -50,16 +50,16 @@ module _ (IsChord : List ℕ → Type 0) where
       pub chosen : Chosen ks xs
 
     -- a woken cell names a member
-    abbrev pub IsNamed : List ℕ → Type 0
-    IsNamed xs = (q : ℕ) × (x : ℕ) × (cell_of cells q ≡ Woken x) × HasNumber x xs
+    abbrev pub IsNamedByCell : List ℕ → Type 0
+    IsNamedByCell xs = (q : ℕ) × (x : ℕ) × (cell_of cells q ≡ Woken x) × HasNumber x xs
 
   -- a desk has a duty that carries the choice
-  abbrev pub IsCarried : List View → Order → List ℕ → Type 0
+  abbrev pub IsCarried : List View → LinkOrder → List ℕ → Type 0
   IsCarried views o xs = (j : ℕ) × (v : View) × (d : Duty) × (get_elem? views j ≡ some v) × HasDuty d v.duties × Carries o d xs
 
   -- each choice has a member that a woken cell names, or is carried by a duty of a desk
-  abbrev pub DutyLaw : (ℕ → Word) → List View → Order → Type 0
-  DutyLaw cells views o = (ks xs : List ℕ) → Choice cells o ks xs → IsNamed cells o xs ⊎ IsCarried views o xs
+  abbrev pub DutyLaw : (ℕ → Word) → List View → LinkOrder → Type 0
+  DutyLaw cells views o = (ks xs : List ℕ) → Choice cells o ks xs → IsNamedByCell cells o xs ⊎ IsCarried views o xs
 
   -- the desk may lay its duty down
   abbrev pub MayRest : Duty → Type 0
@@ -83,13 +83,13 @@ abbrev pub start_walk : ℕ → Option ℕ → Duty → Duty
 start_walk k h d = record d { walks = record { bag = k; place = h } ∷ filter (λ w. not (is_in k w)) d.walks }
 
 -- whether the place is x
-abbrev pub at_place : ℕ → Option ℕ → Bool
-at_place x None = false
-at_place x (Some y) = y == x
+abbrev pub has_come_to : ℕ → Option ℕ → Bool
+has_come_to x None = false
+has_come_to x (Some y) = y == x
 
 -- a look at the cell x, which was read Consumed or Woken with the next y
 abbrev pub move_walk : ℕ → Option ℕ → Walk → Walk
-move_walk x y w = record w { place = cond (at_place x w.place) y w.place }
+move_walk x y w = record w { place = cond (has_come_to x w.place) y w.place }
 
 -- a duty after a look at the cell x, which was read Consumed or Woken with the next y
 abbrev pub move_duty : ℕ → Option ℕ → Duty → Duty

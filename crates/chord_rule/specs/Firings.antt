@@ -6,8 +6,8 @@ use Rattle.chord_base.specs.Story.{IsIn}
 use Rattle.chord_rule.specs.Stages.{Hold, Fresh, Placing, Flying, Claiming, Emptying, Unposted, Posting, Starting, Stage, Vacant, InHand, Armed, Spent, Posted, Played, taker}
 
 -- the firing f of the history took the message i
-abbrev pub Took : List Entry → ℕ → ℕ → Type 0
-Took h f i = (e : Entry) × IsIn e h × (e.number ≡ f) × (has i (members_of e.what) ≡ true)
+abbrev pub TookMessage : List Entry → ℕ → ℕ → Type 0
+TookMessage h f i = (e : Entry) × IsIn e h × (e.number ≡ f) × (has i (members_of e.what) ≡ true)
 
 -- the firing that took a number which a desk has in hand
 abbrev pub IsHeldFor : Hold → Option ℕ → Type 0

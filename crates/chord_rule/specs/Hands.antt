@@ -8,7 +8,7 @@ use Rattle.chord_base.specs.Story.{IsIn}
 use Rattle.chord_rule.specs.declared.view.Claim.{Claim}
 use Rattle.chord_rule.specs.declared.view.View.{View}
 use Rattle.chord_rule.specs.Numbers.{HasNumber}
-use Rattle.chord_rule.specs.Claims.{HasThe, numbers}
+use Rattle.chord_rule.specs.Claims.{HasThe, claimed_numbers}
 use Rattle.chord_rule.specs.Stages.{Hold, Fresh, Placing, Flying, Claiming, Emptying, Unposted, Posting, Starting, Stage, InHand}
 
 -- the part of a view that tells what the desk has in hand
@@ -48,8 +48,8 @@ abbrev pub IsUnarmed : View → ℕ → Type 0
 IsUnarmed v i = HasNumber i v.fresh ⊎ ((v.placing ≡ Some i) ⊎ (v.flight ≡ Some i))
 
 -- the entry of this number is kept
-abbrev pub Keeps : List Entry → ℕ → Type 0
-Keeps es i = (e : Entry) × IsIn e es × (e.number ≡ i)
+abbrev pub KeepsNumber : List Entry → ℕ → Type 0
+KeepsNumber es i = (e : Entry) × IsIn e es × (e.number ≡ i)
 
 -- what desks have in hand is what the stages of numbers say
 pub record Hands (views : List View) (stage : ℕ → Stage) : Type 0 where
@@ -58,6 +58,6 @@ pub record Hands (views : List View) (stage : ℕ → Stage) : Type 0 where
   -- and what stands so, the desk has in hand
   pub held : (i j : ℕ) (x : Hold) → stage i ≡ InHand j x → (v : View) × (get_elem? views j ≡ some v) × Holds (hand v) i x
   -- a desk keeps the entries of the messages that it has not linked
-  pub kept : (j : ℕ) (v : View) → get_elem? views j ≡ some v → (i : ℕ) → IsUnlinked (hand v) i → Keeps v.kept i
+  pub kept : (j : ℕ) (v : View) → get_elem? views j ≡ some v → (i : ℕ) → IsUnlinked (hand v) i → KeepsNumber v.kept i
   -- a desk has claimed no message twice
-  pub once : (j : ℕ) (v : View) → get_elem? views j ≡ some v → AreDifferent (numbers v.claims)
+  pub once : (j : ℕ) (v : View) → get_elem? views j ≡ some v → AreDifferent (claimed_numbers v.claims)

@@ -12,7 +12,7 @@ use Rattle.chord_word.specs.declared.cells.Cell.TheVariants as a_cell
 use Rattle.chord_word.specs.declared.cells.Word.{Word}
 use Rattle.chord_rule.specs.declared.view.Claim.{Claim}
 use Rattle.chord_rule.specs.declared.view.View.{View}
-use Rattle.chord_rule.specs.Bags.{head_of}
+use Rattle.chord_rule.specs.Bags.{head_number}
 use Rattle.chord_rule.specs.Claims.{fired_with}
 use Rattle.chord_rule.specs.Duties.{duty_on, drop_duty, reset_duty, start_walk, move_duty}
 use Rattle.chord_rule.specs.Ways.{way_begun, on_way}
@@ -24,9 +24,9 @@ use Rattle.chord_base.specs.Story.{kept, together, IsTold}
 -- ## Views
 
 -- whether the number is that of one of these entries
-abbrev pub among : List Entry → ℕ → Bool
-among [] n = false
-among (e ∷ es) n = (e.number == n) || among es n
+abbrev pub is_among : List Entry → ℕ → Bool
+is_among [] n = false
+is_among (e ∷ es) n = (e.number == n) || is_among es n
 
 -- a message begins a cell of its own
 abbrev pub fresh_after : ℕ → What → List ℕ → List ℕ
@@ -68,11 +68,11 @@ without x = filter (λ y. not (y == x))
 
 -- of what is kept, the entries that stay where these go
 abbrev pub left_by : List Entry → List Entry → List Entry
-left_by ps = kept (λ n. not (among ps n))
+left_by ps = kept (λ n. not (is_among ps n))
 
 -- these entries may go: what goes and what stays are told
 pub record MayGo (p : Program) (es ps : List Entry) : Type 0 where
-  pub part : kept (among ps) es ≡ ps
+  pub part : kept (is_among ps) es ≡ ps
   pub goes : IsTold p ps
   pub stays : IsTold p (left_by ps es)
 
@@ -81,8 +81,8 @@ abbrev pub claimed : View → Claim → View
 claimed v c = record v { claims = c ∷ v.claims }
 
 -- a firing was drawn with the claims on these members
-abbrev pub fired : View → ℕ → ℕ → Object → List ℕ → List value.Value → View
-fired v f k o ms vs = record v { kept = entry f f (Fired k o ms vs) ∷ v.kept; claims = fired_with f ms v.claims; unposted = f ∷ v.unposted; drawn = true }
+abbrev pub firing_drawn : View → ℕ → ℕ → Object → List ℕ → List value.Value → View
+firing_drawn v f k o ms vs = record v { kept = entry f f (Fired k o ms vs) ∷ v.kept; claims = fired_with f ms v.claims; unposted = f ∷ v.unposted; drawn = true }
 
 -- the place word of a message was set, and its slot came out
 abbrev pub address_set : View → ℕ → View
@@ -156,7 +156,7 @@ saw v i c = record v { looked = record v.looked { seen = record { number = i; wo
 
 -- a look at the head of the bag k starts its walks, and a way
 abbrev pub looked_head : View → ℕ → Option ℕ → View
-looked_head v k h = record v { duties = map (start_walk k h) v.duties; looked = record v.looked { heads = record { head = head_of k; message = h } ∷ v.looked.heads; ways = way_begun k h ∷ v.looked.ways } }
+looked_head v k h = record v { duties = map (start_walk k h) v.duties; looked = record v.looked { heads = record { head = head_number k; message = h } ∷ v.looked.heads; ways = way_begun k h ∷ v.looked.ways } }
 
 -- a look at the cell i moves the walks that have come to it, where it does not stand, and goes on the newest way
 abbrev pub looked_cell : View → ℕ → Word → View

@@ -61,9 +61,9 @@ abbrev pub key : Object → ℕ → ℕ
 key o j = 16 * o.number + j + 2 ^ 20 * o.class
 
 -- the bags of these methods of an object
-abbrev pub keys : Object → List ℕ → List ℕ
-keys o [] = []
-keys o (j ∷ js) = key o j ∷ keys o js
+abbrev pub bag_keys : Object → List ℕ → List ℕ
+bag_keys o [] = []
+bag_keys o (j ∷ js) = key o j ∷ bag_keys o js
 
 -- the bag of a method of an object that was made
 abbrev pub IsKey : List Entry → ℕ → Type 0
@@ -71,4 +71,4 @@ IsKey h k = (o : Object) × (j : ℕ) × IsMade h o × (o.number < 65536) × (j 
 
 -- the bags of one chord on one object, whose number fits a bag
 abbrev pub IsChord : Program → List ℕ → Type 0
-IsChord p ks = (o : Object) × (k : ℕ) × (js : List ℕ) × (slice_get (p.chords o.class) k ≡ Some js) × (o.number < 65536) × (ks ≡ keys o js)
+IsChord p ks = (o : Object) × (k : ℕ) × (js : List ℕ) × (slice_get (p.chords o.class) k ≡ Some js) × (o.number < 65536) × (ks ≡ bag_keys o js)

@@ -7,6 +7,6 @@ HasNumber x [] = ⊥
 HasNumber x (y ∷ ys) = (x ≡ y) ⊎ HasNumber x ys
 
 -- 1 for true, 0 for false
-abbrev pub flag : Bool → ℕ
-flag true = 1
-flag false = 0
+abbrev pub one_if : Bool → ℕ
+one_if true = 1
+one_if false = 0

@@ -7,14 +7,14 @@ use Rattle.chord_word.specs.declared.cells.Cell.TheVariants as a_cell
 use Rattle.chord_word.specs.declared.cells.Word.{Word}
 use Rattle.chord_rule.specs.declared.view.Claim.{Claim}
 use Rattle.chord_rule.specs.declared.view.View.{View}
-use Rattle.chord_rule.specs.Bags.{Order, IsArmed, cell_of}
+use Rattle.chord_rule.specs.Bags.{LinkOrder, IsArmed, cell_of}
 use Rattle.chord_rule.specs.Made.{key}
 use Rattle.chord_rule.specs.Claims.{HasThe}
 use Rattle.chord_rule.specs.Hands.{IsUnarmed}
 use Rattle.chord_rule.specs.Minded.{IsWaiting}
 
 -- what the table shows of the pending message i
-pub record IsPending (cells : ℕ → Word) (views : List View) (o : Order) (i : ℕ) (m : Message) : Type 0 where
+pub record IsPending (cells : ℕ → Word) (views : List View) (o : LinkOrder) (i : ℕ) (m : Message) : Type 0 where
   -- no firing has taken it
   pub waiting : IsWaiting (cell_of cells i)
   -- where it is armed, it is in the bag of its object and method

@@ -41,9 +41,9 @@ pub data Stage : Type 0 where
   Played : Stage
 
 -- what the entry of this number says
-abbrev pub what_at : ℕ → List Entry → Option What
-what_at i [] = None
-what_at i (e ∷ h) = if e.number == i then Some e.what else what_at i h
+abbrev pub said_at : ℕ → List Entry → Option What
+said_at i [] = None
+said_at i (e ∷ h) = if e.number == i then Some e.what else said_at i h
 
 -- the firing that took the message of this number
 abbrev pub taker : ℕ → List Entry → Option ℕ
@@ -62,15 +62,15 @@ IsFiringEntry (Some (Fired k o ms vs)) = Unit {0}
 IsFiringEntry (Some _) = ⊥
 
 -- there is no entry, or it is neither a message nor a firing
-abbrev pub IsOther : Option What → Type 0
-IsOther None = Unit {0}
-IsOther (Some Begun) = Unit {0}
-IsOther (Some (Made c)) = Unit {0}
-IsOther (Some (Printed t)) = Unit {0}
-IsOther (Some (Ended x)) = Unit {0}
-IsOther (Some (Sent o j vs)) = ⊥
-IsOther (Some (Called o j vs)) = ⊥
-IsOther (Some (Fired k o ms vs)) = ⊥
+abbrev pub IsNeither : Option What → Type 0
+IsNeither None = Unit {0}
+IsNeither (Some Begun) = Unit {0}
+IsNeither (Some (Made c)) = Unit {0}
+IsNeither (Some (Printed t)) = Unit {0}
+IsNeither (Some (Ended x)) = Unit {0}
+IsNeither (Some (Sent o j vs)) = ⊥
+IsNeither (Some (Called o j vs)) = ⊥
+IsNeither (Some (Fired k o ms vs)) = ⊥
 
 -- the message that was claimed
 abbrev pub claimed_message : Claim → Message

@@ -3,7 +3,7 @@ use Rattle.std.specs.Prelude.{ℕ, List}
 use Rattle.chord_base.specs.Meaning.{Program}
 use Rattle.chord_base.specs.declared.event.Entry.{Entry}
 use Rattle.chord_rule.specs.Moment.{Moment}
-use Rattle.chord_rule.specs.Bags.{Order}
+use Rattle.chord_rule.specs.Bags.{LinkOrder}
 use Rattle.chord_rule.specs.Keeping.{Keeping}
 use Rattle.chord_rule.specs.Stages.{Stage}
 use Rattle.chord_rule.specs.Hands.{Hands}
@@ -17,10 +17,10 @@ use Rattle.chord_base.specs.declared.value.Value as value
 pub record Unseen : Type 0 where
   pub journal : List Entry
   pub stage : ℕ → Stage
-  pub order : Order
+  pub order : LinkOrder
 
 -- the table stands for the journal
-pub record StandsFor {P : Type 0} (entries : P → List Entry) (arguments : P → List value.Value) (keeps_to : P → Type 0) (p : Program) (n : ℕ) (m : Moment P) (u : Unseen) : Type 0 where
+pub record StandsForJournal {P : Type 0} (entries : P → List Entry) (arguments : P → List value.Value) (keeps_to : P → Type 0) (p : Program) (n : ℕ) (m : Moment P) (u : Unseen) : Type 0 where
   pub keeping : Keeping entries p n m.count m.homes m.views u.journal
   pub hands : Hands m.views u.stage
   pub messages : Messages u.journal m.cells m.places m.homes u.order u.stage

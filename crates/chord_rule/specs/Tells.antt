@@ -17,13 +17,13 @@ use Rattle.chord_rule.specs.Moment.{LinkOk, Place, PlaceOk, word_at_place}
 use Rattle.chord_rule.specs.declared.view.Claim.{Claim}
 use Rattle.chord_rule.specs.declared.view.Duty.{Duty}
 use Rattle.chord_rule.specs.declared.view.View.{View}
-use Rattle.chord_rule.specs.Bags.{IsArmed, head_of}
+use Rattle.chord_rule.specs.Bags.{IsArmed, head_number}
 use Rattle.chord_rule.specs.Claims.{HasThe, HasClaimOn, AreClaimed}
 use Rattle.chord_rule.specs.Coming.{IsPlace, ComesWithMessage, ComesWithFiring}
 use Rattle.chord_rule.specs.Duties.{HasDuty}
 use Rattle.chord_rule.specs.Made.{Names, key}
-use Rattle.chord_rule.specs.Ways.{HasDutyOn, KnowsBag, KnowsObject, LastSeen, IsAt, IsAlone, IsLinkedCell, IsSettledCell, HasRoom}
-use Rattle.chord_rule.specs.Kinds.{entry, drew, was_told, claimed, fired, address_set, flown, armed, unclaimed, consumed, emptied, posting, posted, firing_started, played, saw, saw_count, saw_head, looked_head, looked_cell, rested}
+use Rattle.chord_rule.specs.Ways.{HasDutyOn, KnowsBag, KnowsObject, LastSeen, IsAt, IsAloneDesk, IsLinkedCell, IsSettledCell, HasLooksLeft}
+use Rattle.chord_rule.specs.Kinds.{entry, drew, was_told, claimed, firing_drawn, address_set, flown, armed, unclaimed, consumed, emptied, posting, posted, firing_started, played, saw, saw_count, saw_head, looked_head, looked_cell, rested}
 
 -- the word of a cell with this next
 abbrev pub word : Cell → Option ℕ → ℕ
@@ -49,7 +49,7 @@ pub record IsNewClaim (v : View) (i : ℕ) (next : Option ℕ) (c : Claim) : Typ
 pub record IsLook (n : ℕ) (v w : View) (i : ℕ) (c : Word) : Type 0 where
   pub looked : w ≡ looked_cell v i c
   -- where the newest way goes on there is room for one more look
-  pub room : HasRoom n w.looked.ways
+  pub room : HasLooksLeft n w.looked.ways
   -- the message to which the newest way had come is linked
   pub linked : IsAt i v.looked.ways → IsLinkedCell c.cell
   -- a message with a duty is armed
@@ -57,7 +57,7 @@ pub record IsLook (n : ℕ) (v w : View) (i : ℕ) (c : Word) : Type 0 where
   -- the next of an armed message is a number of the table
   pub within : IsArmed c.cell → (x : ℕ) → c.next ≡ Some x → x < n
   -- alone, no other desk has it in hand
-  pub alone : IsAlone v → IsAt i v.looked.ways ⊎ HasDutyOn i v.duties → IsSettledCell c.cell
+  pub alone : IsAloneDesk v → IsAt i v.looked.ways ⊎ HasDutyOn i v.duties → IsSettledCell c.cell
 
 module _ {S : Type 0} where
   -- below the limit the desk has the entry, which came next in the run, and whose number is above all that it kept and above each object that the entry names; else it is told
@@ -68,7 +68,7 @@ module _ {S : Type 0} where
   -- below the limit the desk has the firing, which came next in the run, with the values of its claims, and whose number is above all that it kept; else it is told
   abbrev pub draws_firing : Program → ℕ → Object → List ℕ → Step S → Me S View → ℕ → Me S View → Type 0
   draws_firing p k o ms s m x w = (w.1 ≡ m.1)
-      × (x < s.slots → AllBelow x m.0.kept × ((js : List ℕ) (vs : List value.Value) → slice_get (p.chords o.class) k ≡ Some js → AreClaimed m.0.claims o js ms vs → (w.0 ≡ saw_count (fired m.0 x k o ms vs) (x + 1)) × CameNext p (entry x x (Fired k o ms vs)) × IsPlace p (entry x x (Fired k o ms vs) ∷ m.0.kept)))
+      × (x < s.slots → AllBelow x m.0.kept × ((js : List ℕ) (vs : List value.Value) → slice_get (p.chords o.class) k ≡ Some js → AreClaimed m.0.claims o js ms vs → (w.0 ≡ saw_count (firing_drawn m.0 x k o ms vs) (x + 1)) × CameNext p (entry x x (Fired k o ms vs)) × IsPlace p (entry x x (Fired k o ms vs) ∷ m.0.kept)))
       × (s.slots ≤ x → w.0 ≡ saw_count (was_told m.0) (x + 1))
 
   -- ## Messages
@@ -78,8 +78,8 @@ module _ {S : Type 0} where
   places s m x w = (i : ℕ) → s.word ≡ 1 + 17 * s.slots + i → (w.0 ≡ address_set m.0 i) × (w.1 ≡ (i, None) ∷ m.1)
 
   -- the message of the slot that is out is linked in the bag of its object and method, and the parcel goes with its entries
-  abbrev pub links : (S → List Entry) → Object → ℕ → Step (Option S) → Me (Option S) View → ℕ → Me (Option S) View → Type 0
-  links entries o j s m x w = (i : ℕ) (q : S) → m.1 ≡ (i, Some q) ∷ [] → (w.1 ≡ []) × ((above : Option ℕ) × (x ≡ link_of above) × LinkOk above × (w.0 ≡ saw_head (flown m.0 i (key o j) above (entries q)) (head_of (key o j)) (Some i)))
+  abbrev pub link_adds : (S → List Entry) → Object → ℕ → Step (Option S) → Me (Option S) View → ℕ → Me (Option S) View → Type 0
+  link_adds entries o j s m x w = (i : ℕ) (q : S) → m.1 ≡ (i, Some q) ∷ [] → (w.1 ≡ []) × ((above : Option ℕ) × (x ≡ link_of above) × LinkOk above × (w.0 ≡ saw_head (flown m.0 i (key o j) above (entries q)) (head_number (key o j)) (Some i)))
 
   -- the message in flight is pending
   abbrev pub arms : Step (Option S) → Me (Option S) View → ℕ → Me (Option S) View → Type 0
@@ -113,8 +113,8 @@ module _ {S : Type 0} where
       → (q : S) × (w.0 ≡ saw (consumed m.0 c.number (entries q)) c.number (a_word a_cell.Consumed c.next)) × (w.1 ≡ (c.number, Some q) ∷ m.1) × (arguments q ≡ c.values) × AllBelow f (entries q) × keeps_to q × ComesWithMessage p m.0.kept c (entries q)
 
   -- the empty slot is home again
-  abbrev pub empties : Step (Option S) → Me (Option S) View → ℕ → Me (Option S) View → Type 0
-  empties s m x w = (i : ℕ) → m.0.emptying ≡ Some i → m.1 ≡ (i, None) ∷ [] → w ≡ (emptied m.0, [])
+  abbrev pub slot_returns : Step (Option S) → Me (Option S) View → ℕ → Me (Option S) View → Type 0
+  slot_returns s m x w = (i : ℕ) → m.0.emptying ≡ Some i → m.1 ≡ (i, None) ∷ [] → w ≡ (emptied m.0, [])
 
   -- ## Firings
 
@@ -148,7 +148,7 @@ module _ {S : Type 0} where
 
   -- the head of a bag: the newest way begins there
   abbrev pub looks_head : Object → ℕ → Step (Option S) → Me (Option S) View → ℕ → Me (Option S) View → Type 0
-  looks_head o j s m x w = (h : Option ℕ) × (x ≡ link_of h) × LinkOk h × (w ≡ (looked_head m.0 (key o j) h, m.1)) × HasRoom s.slots w.0.looked.ways
+  looks_head o j s m x w = (h : Option ℕ) × (x ≡ link_of h) × LinkOk h × (w ≡ (looked_head m.0 (key o j) h, m.1)) × HasLooksLeft s.slots w.0.looked.ways
 
   -- a cell
   abbrev pub looks_cell : Step (Option S) → Me (Option S) View → ℕ → Me (Option S) View → Type 0

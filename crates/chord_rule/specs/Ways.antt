@@ -7,8 +7,8 @@ use Rattle.chord_rule.specs.declared.view.Look.{Look}
 use Rattle.chord_rule.specs.declared.view.Way.{Way}
 use Rattle.chord_rule.specs.declared.view.Duty.{Duty}
 use Rattle.chord_rule.specs.declared.view.View.{View}
-use Rattle.chord_rule.specs.Bags.{Order, head_of}
-use Rattle.chord_rule.specs.Duties.{HasDuty, at_place}
+use Rattle.chord_rule.specs.Bags.{LinkOrder, head_number}
+use Rattle.chord_rule.specs.Duties.{HasDuty, has_come_to}
 use Rattle.chord_rule.specs.Made.{key}
 use Rattle.chord_base.specs.declared.value.Object.{Object}
 
@@ -28,7 +28,7 @@ gone_on w i c = record { bag = w.bag; place = way_onward c.cell c.next; looks = 
 -- a look at the cell i goes on the newest way, if that has come to i
 abbrev pub on_way : ℕ → Word → List Way → List Way
 on_way i c [] = []
-on_way i c (w ∷ ws) = (if at_place i w.place then gone_on w i c else w) ∷ ws
+on_way i c (w ∷ ws) = (if has_come_to i w.place then gone_on w i c else w) ∷ ws
 
 -- the newest way has come to i
 abbrev pub IsAt : ℕ → List Way → Type 0
@@ -41,9 +41,9 @@ HasWay w [] = ⊥
 HasWay w (x ∷ xs) = (w ≡ x) ⊎ HasWay w xs
 
 -- the message was looked at
-abbrev pub IsRead : ℕ → List Look → Type 0
-IsRead i [] = ⊥
-IsRead i (l ∷ ls) = (i ≡ l.number) ⊎ IsRead i ls
+abbrev pub WasRead : ℕ → List Look → Type 0
+WasRead i [] = ⊥
+WasRead i (l ∷ ls) = (i ≡ l.number) ⊎ WasRead i ls
 
 -- the desk has a duty on the message i
 abbrev pub HasDutyOn : ℕ → List Duty → Type 0
@@ -51,7 +51,7 @@ HasDutyOn i ds = (d : Duty) × HasDuty d ds × (d.message ≡ i)
 
 -- the desk knows that the message i is linked in the bag k: it stands on a way of that bag, or the desk has a duty on it
 abbrev pub KnowsBag : View → ℕ → ℕ → Type 0
-KnowsBag v i k = ((w : Way) × HasWay w v.looked.ways × (w.bag ≡ k) × IsRead i w.looks) ⊎ ((d : Duty) × HasDuty d v.duties × (d.message ≡ i) × (d.bag ≡ k))
+KnowsBag v i k = ((w : Way) × HasWay w v.looked.ways × (w.bag ≡ k) × WasRead i w.looks) ⊎ ((d : Duty) × HasDuty d v.duties × (d.message ≡ i) × (d.bag ≡ k))
 
 -- the desk knows that the object was made: it has a duty on a message to it
 abbrev pub KnowsObject : View → Object → Type 0
@@ -79,30 +79,30 @@ IsSettledCell (Woken q) = Unit {0}
 IsSettledCell _ = ⊥
 
 -- the first desk, which has lent none, and has no claim and nothing in flight
-pub record IsAlone (v : View) : Type 0 where
+pub record IsAloneDesk (v : View) : Type 0 where
   pub first : v.first ≡ true
   pub lent : v.lent ≡ 0
   pub claims : v.claims ≡ []
   pub flight : v.flight ≡ None
 
 -- what a desk may read next on its newest way: a message below n, which makes at most n
-abbrev pub HasRoom : ℕ → List Way → Type 0
-HasRoom n ws = (w : Way) (rest : List Way) → ws ≡ w ∷ rest → (x : ℕ) → w.place ≡ Some x → (x < n) × (length w.looks < n)
+abbrev pub HasLooksLeft : ℕ → List Way → Type 0
+HasLooksLeft n ws = (w : Way) (rest : List Way) → ws ≡ w ∷ rest → (x : ℕ) → w.place ≡ Some x → (x < n) × (length w.looks < n)
 
 -- each of these looks was at a message that was linked after the r-th
-abbrev pub AllAbove : Order → ℕ → List Look → Type 0
+abbrev pub AllAbove : LinkOrder → ℕ → List Look → Type 0
 AllAbove o r [] = Unit {0}
 AllAbove o r (l ∷ ls) = (r < o.rank l.number) × AllAbove o r ls
 
 -- these looks were at messages of the bag k below n, each linked before the one that was looked at before it
-abbrev pub Falls : (n k : ℕ) → Order → List Look → Type 0
-Falls n k o [] = Unit {0}
-Falls n k o (l ∷ ls) = (o.bag l.number ≡ Some k) × (l.number < n) × AllAbove o (o.rank l.number) ls × Falls n k o ls
+abbrev pub LeadsDown : (n k : ℕ) → LinkOrder → List Look → Type 0
+LeadsDown n k o [] = Unit {0}
+LeadsDown n k o (l ∷ ls) = (o.bag l.number ≡ Some k) × (l.number < n) × AllAbove o (o.rank l.number) ls × LeadsDown n k o ls
 
 -- a way goes from message to message of one bag, each linked before the last, and so does the message to which it has come.
 -- The head of its bag is that of this one, so they are one bag where the object of the way's was made.
-pub record WayLaw (n : ℕ) (o : Order) (w : Way) : Type 0 where
+pub record WayLaw (n : ℕ) (o : LinkOrder) (w : Way) : Type 0 where
   pub along : ℕ
-  pub headed : head_of along ≡ head_of w.bag
-  pub falls : Falls n along o w.looks
+  pub headed : head_number along ≡ head_number w.bag
+  pub falls : LeadsDown n along o w.looks
   pub place : (x : ℕ) → w.place ≡ Some x → (o.bag x ≡ Some along) × (x < n) × AllAbove o (o.rank x) w.looks

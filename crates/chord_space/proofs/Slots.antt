@@ -12,5 +12,5 @@ pub out_slot : {A : Type 0} (i : ℕ) (a b : Option A) (xs ys zs : List (ℕ × 
 out_slot {A} i a b xs ys zs p q = ap (λ (ws : List (ℕ × Option A)). slot_value a ws) (sym p ∙ q)
 
 -- a slot that is empty gives no parcel
-pub not_both : {A : Type 0} (i : ℕ) (p : A) (r : Option A) (xs ys : List (ℕ × Option A)) → xs ≡ (i, None) ∷ [] → xs ≡ (i, r) ∷ ys → r ≡ Some p → ⊥
-not_both {A} i p r xs ys a b c = let d : Path (Option A) None (Some p) = out_slot i None r xs [] ys a b ∙ c in cc
+pub never_both : {A : Type 0} (i : ℕ) (p : A) (r : Option A) (xs ys : List (ℕ × Option A)) → xs ≡ (i, None) ∷ [] → xs ≡ (i, r) ∷ ys → r ≡ Some p → ⊥
+never_both {A} i p r xs ys a b c = let d : Path (Option A) None (Some p) = out_slot i None r xs [] ys a b ∙ c in cc

@@ -22,8 +22,8 @@ module _ {P : Type 0} (entries : P → List Entry) (arguments : P → List value
   under_telling slots id me i f then more tells allows s h deep at word = let r = allows s h.0 deep at word in (r.0, r.1, r.2, (r.3, h.1, h.2), tells _ _ h.1 h.2 r.4)
 
   -- a step keeps what does not change
-  pub under : (slots id : ℕ) (me : Me (Option P) View) (i : ℕ) (f : ℕ → ℕ) (then : ℕ → Me (Option P) View → Type 0) → Allows H slots id me i f then → Allows (Ruled entries arguments keeps_to code limits) slots id me i f then
-  under slots id me i f then allows = under_telling slots id me i f then then (λ x w valid sound told. told) allows
+  pub under_rule : (slots id : ℕ) (me : Me (Option P) View) (i : ℕ) (f : ℕ → ℕ) (then : ℕ → Me (Option P) View → Type 0) → Allows H slots id me i f then → Allows (Ruled entries arguments keeps_to code limits) slots id me i f then
+  under_rule slots id me i f then allows = under_telling slots id me i f then then (λ x w valid sound told. told) allows
 
   -- so does a split
   pub under_split : (id : ℕ) (v left right : View) → Splits H id v left right → Splits (Ruled entries arguments keeps_to code limits) id v left right

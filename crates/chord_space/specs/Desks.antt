@@ -36,16 +36,16 @@ module _ {P : Type 0} where
   events s = s.events
 
   -- the code of the space
-  abbrev pub code_of : Space P → Parts
-  code_of s = s.table.shared.key.code.value
+  abbrev pub space_code : Space P → Parts
+  space_code s = s.table.shared.key.code.value
 
   -- the limits of the space's runs
-  abbrev pub limits_of : Space P → Limits
-  limits_of s = s.table.shared.key.limits
+  abbrev pub space_limits : Space P → Limits
+  space_limits s = s.table.shared.key.limits
 
   -- what the space's runs are runs of
   abbrev pub program_of : Space P → Program
-  program_of s = code_program (code_of s) (limits_of s)
+  program_of s = code_program (space_code s) (space_limits s)
 
   -- the desk is of this space, and no slot is out with it
   abbrev pub IsDeskOf : Space P → Desk P → Type 0

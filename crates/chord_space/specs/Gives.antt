@@ -12,7 +12,7 @@ use Rattle.chord_rule.specs.declared.view.View.{View}
 use Rattle.chord_rule.specs.Claims.{AreClaimed}
 use Rattle.chord_rule.specs.Kinds.{MayGo}
 use Rattle.chord_rule.specs.Numbers.{HasNumber}
-use Rattle.chord_rule.specs.Parcels.{Begins, IsParked}
+use Rattle.chord_rule.specs.Parcels.{BeginsThere, IsParkedThere}
 
 -- a desk may link message m to the method of the object, with a parcel that keeps these entries and holds these arguments
 pub record MayLink (p : Program) (v : View) (m : ℕ) (object : Object) (method : ℕ) (entries : List Entry) (arguments : List value.Value) : Type 0 where
@@ -31,7 +31,7 @@ pub record MayLink (p : Program) (v : View) (m : ℕ) (object : Object) (method 
   -- a synchronous call goes with its parcel
   pub call : (e : Entry) → IsIn e v.kept → IsCall m e → IsIn e entries
   -- each body in the parcel that has not ended waits for m, or for a call that a body of the parcel serves
-  pub parked : (b : ℕ) → Begins b entries → IsParked p entries (Some m) (doing p entries b)
+  pub parked : (b : ℕ) → BeginsThere b entries → IsParkedThere p entries (Some m) (doing p entries b)
 
 -- a desk may post firing f with a parcel that keeps these entries
 pub record MayPost (p : Program) (v : View) (f : ℕ) (entries : List Entry) : Type 0 where
@@ -42,10 +42,10 @@ pub record MayPost (p : Program) (v : View) (f : ℕ) (entries : List Entry) : T
   -- each message among the parcel's entries was linked
   pub linked : (e : Entry) (x : Message) → IsIn e entries → message_of e.what ≡ Some x → HasNumber e.number v.fresh → ⊥
   -- the parcel has the firing's entry, as the only one of its body
-  pub begins : Begins f entries
+  pub begins : BeginsThere f entries
   pub only : (e : Entry) → IsIn e entries → e.body ≡ f → e.number ≡ f
   -- each other body in the parcel that has not ended waits for a call that a body of the parcel serves
-  pub parked : (b : ℕ) → (b ≡ f → ⊥) → Begins b entries → IsParked p entries None (doing p entries b)
+  pub parked : (b : ℕ) → (b ≡ f → ⊥) → BeginsThere b entries → IsParkedThere p entries None (doing p entries b)
 
 -- a desk with these claims may draw a firing of the chord of this number on the object: it has claimed exactly the members, one for each method of the chord, in header order, for no firing yet
 pub record MayFire (p : Program) (claims : List Claim) (chord : ℕ) (object : Object) (members : List ℕ) : Type 0 where

@@ -10,7 +10,7 @@ ghost use Rattle.chord_rule.specs.Tells.{word, a_word, IsNewClaim};
 ghost use Rattle.chord_rule.specs.Ways.{LastSeen};
 ghost use Rattle.chord_word.specs.declared.cells.Cell.TheVariants.{Pending, Claimed, Consumed};
 ghost use Rattle.chord_word.specs.Cells.{WordFits};
-ghost use Rattle.chord_space.specs.Desks.{view, code_of, limits_of, program_of, IsDeskOf, IsSameDesk};
+ghost use Rattle.chord_space.specs.Desks.{view, space_code, space_limits, program_of, IsDeskOf, IsSameDesk};
 
 use crate::plays::{Consume, GiveBack, Governed, Hold, ReturnSlot, Take};
 use crate::space::{Desk, Space};
@@ -97,7 +97,7 @@ impl<P: Carry> Space<P> {
 
     // The first load reads the next, and the last one gives the empty slot back.
     fn step_consume<J: Governed>(&self, desk: &mut Desk<P>, i: u32) -> P
-        requires governed { (J.parts ≡ code_of self.now) × (J.limits ≡ limits_of self.now) }
+        requires governed { (J.parts ≡ space_code self.now) × (J.limits ≡ space_limits self.now) }
         requires desk { IsDeskOf self.now desk.old }
         requires bounds { i < self.now.events }
         requires fired { (c : Claim) × (f : ℕ) × HasThe c (view desk.old).claims × (c.number ≡ i) × (c.firing ≡ Some f) }
@@ -106,7 +106,7 @@ impl<P: Carry> Space<P> {
         ensures parcel { (c : Claim) → HasThe c (view desk.old).claims → c.number ≡ i → P.arguments result ≡ c.values }
         ensures below { (c : Claim) (f : ℕ) → HasThe c (view desk.old).claims → c.number ≡ i → c.firing ≡ Some f → AllBelow f (P.entries result) }
         ensures comes { (c : Claim) → HasThe c (view desk.old).claims → c.number ≡ i → ComesWithMessage (program_of self.now) (view desk.old).kept c (P.entries result) }
-        ensures task { P.keeps_to result (code_of self.now) (limits_of self.now) }
+        ensures task { P.keeps_to result (space_code self.now) (space_limits self.now) }
     {
         let next = self.claimed_next(desk, i);
         let word = message_word(Cell::Consumed, next);
@@ -129,7 +129,7 @@ impl<P: Carry> Space<P> {
         ensures parcel { (c : Claim) → HasThe c (view desk.old).claims → c.number ≡ i → P.arguments result ≡ c.values }
         ensures below { (c : Claim) (f : ℕ) → HasThe c (view desk.old).claims → c.number ≡ i → c.firing ≡ Some f → AllBelow f (P.entries result) }
         ensures comes { (c : Claim) → HasThe c (view desk.old).claims → c.number ≡ i → ComesWithMessage (program_of self.now) (view desk.old).kept c (P.entries result) }
-        ensures task { P.keeps_to result (code_of self.now) (limits_of self.now) }
+        ensures task { P.keeps_to result (space_code self.now) (space_limits self.now) }
     {
         self.step_consume::<Brand>(desk, i)
     }

@@ -20,7 +20,7 @@ pub struct Closed<P> {
 }
 
 impl<P: Carry> Space<P> {
-    ghost use Rattle.chord_space.specs.Desks.{view, code_of, limits_of, IsDeskOf};
+    ghost use Rattle.chord_space.specs.Desks.{view, space_code, space_limits, IsDeskOf};
     ghost use Rattle.chord_space.specs.Sealed.{IsSealed};
     ghost use Rattle.chord_space.specs.Ends.{parcels, closing_view};
 
@@ -31,7 +31,7 @@ impl<P: Carry> Space<P> {
         requires desk { IsDeskOf self desk }
         requires alone { ((view desk).first ≡ true) × ((view desk).lent ≡ 0) }
         requires idle { ((view desk).claims ≡ []) × ((view desk).flight ≡ None) }
-        ensures sealed { IsSealed P.entries P.arguments P.keeps_to (code_of self) (limits_of self) desk.seat.id (view desk) (parcels result) result.drawn }
+        ensures sealed { IsSealed P.entries P.arguments P.keeps_to (space_code self) (space_limits self) desk.seat.id (view desk) (parcels result) result.drawn }
         ensures view { closing_view result ≡ view desk }
         ensures events { result.events ≡ self.events }
     {

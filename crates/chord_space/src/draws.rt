@@ -5,14 +5,14 @@ ghost use Rattle.chord_base.specs.declared.value.Value.{Value};
 ghost use Rattle.chord_base.specs.declared.value.Object as value;
 ghost use Rattle.chord_base.specs.Bodies.{Asks};
 ghost use Rattle.chord_base.specs.Story.{AllBelow, IsOwn};
-ghost use Rattle.chord_rule.specs.Kinds.{entry, drew, fired, was_told, saw_count};
+ghost use Rattle.chord_rule.specs.Kinds.{entry, drew, firing_drawn, was_told, saw_count};
 ghost use Rattle.chord_rule.specs.Claims.{AreClaimed};
 ghost use Rattle.chord_rule.specs.Coming.{IsPlace};
 ghost use Rattle.chord_rule.specs.Made.{Names};
 ghost use Rattle.chord_rule.specs.Tells.{CameNext};
 ghost use Rattle.chord_space.specs.Gives.{MayFire};
 ghost use Rattle.chord_space.specs.Ruled.{IsOfCode};
-ghost use Rattle.chord_space.specs.Desks.{view, code_of, limits_of, program_of, IsDeskOf, IsSameDesk, MayDraw};
+ghost use Rattle.chord_space.specs.Desks.{view, space_code, space_limits, program_of, IsDeskOf, IsSameDesk, MayDraw};
 
 use crate::plays::{Draw, DrawFiring, Firing, Said};
 use crate::space::{Desk, Space, Spent};
@@ -25,12 +25,12 @@ use std::marker::Brand;
 impl<P: Carry> Space<P> {
     // Pairs with every other draw: the counter gives each number once, and numbers are the order of the journal.
     fn step_draw<J: Said>(&self, desk: &mut Desk<P>, body: u32, what: &What) -> u64
-        requires entry { (J.body ≡ body) × (J.what ≡ what.now) × (J.parts ≡ code_of self.now) × (J.limits ≡ limits_of self.now) }
+        requires entry { (J.body ≡ body) × (J.what ≡ what.now) × (J.parts ≡ space_code self.now) × (J.limits ≡ space_limits self.now) }
         requires desk { IsDeskOf self.now desk.old }
         requires room { (view desk.old).spent ≡ false }
         requires next { MayDraw self.now desk.old body what.now }
         ensures desk { IsSameDesk desk.old desk.new }
-        ensures drawn { result < self.now.events → (view desk.new ≡ saw_count (drew (view desk.old) result body what.now) (result + 1)) × AllBelow result (view desk.old).kept × ((o : value.Object) → Names what.now o → o.number < result) × IsOfCode (code_of self.now) what.now × CameNext (program_of self.now) (entry result body what.now) × IsPlace (program_of self.now) (entry result body what.now ∷ (view desk.old).kept) }
+        ensures drawn { result < self.now.events → (view desk.new ≡ saw_count (drew (view desk.old) result body what.now) (result + 1)) × AllBelow result (view desk.old).kept × ((o : value.Object) → Names what.now o → o.number < result) × IsOfCode (space_code self.now) what.now × CameNext (program_of self.now) (entry result body what.now) × IsPlace (program_of self.now) (entry result body what.now ∷ (view desk.old).kept) }
         ensures told { self.now.events ≤ result → view desk.new ≡ saw_count (was_told (view desk.old)) (result + 1) }
     {
         self.table.shared.fetch_add::<Draw<J>>(&mut desk.seat, 0, 1)
@@ -46,7 +46,7 @@ impl<P: Carry> Space<P> {
         ensures desk { IsSameDesk desk.old desk.new }
         ensures drawn { MatchResult result (λ x. (x < self.now.events) × (view desk.new ≡ saw_count (drew (view desk.old) x body what.now) (x + 1))) (λ _. (c : ℕ) × (self.now.events < c) × (view desk.new ≡ saw_count (was_told (view desk.old)) c)) }
         ensures above { IfOk result (λ x. AllBelow x (view desk.old).kept × ((o : value.Object) → Names what.now o → o.number < x)) }
-        ensures code { IsOk result → IsOfCode (code_of self.now) what.now }
+        ensures code { IsOk result → IsOfCode (space_code self.now) what.now }
         ensures came { IfOk result (λ x. CameNext (program_of self.now) (entry x body what.now)) }
         ensures place { IfOk result (λ x. IsPlace (program_of self.now) (entry x body what.now ∷ (view desk.old).kept)) }
     {
@@ -66,13 +66,13 @@ impl<P: Carry> Space<P> {
         object: Object,
         members: &Members,
     ) -> u64
-        requires entry { (J.chord ≡ chord) × (J.object ≡ object) × (J.members ≡ members.now) × (J.parts ≡ code_of self.now) × (J.limits ≡ limits_of self.now) }
+        requires entry { (J.chord ≡ chord) × (J.object ≡ object) × (J.members ≡ members.now) × (J.parts ≡ space_code self.now) × (J.limits ≡ space_limits self.now) }
         requires desk { IsDeskOf self.now desk.old }
         requires room { (view desk.old).spent ≡ false }
         requires members { MayFire (program_of self.now) (view desk.old).claims chord object members.now }
         ensures desk { IsSameDesk desk.old desk.new }
         ensures drawn { result < self.now.events → AllBelow result (view desk.old).kept × ((js : List ℕ) (vs : List Value) → slice_get ((program_of self.now).chords object.class) chord ≡ Some js → AreClaimed (view desk.old).claims object js members.now vs
-            → (view desk.new ≡ saw_count (fired (view desk.old) result chord object members.now vs) (result + 1)) × CameNext (program_of self.now) (entry result result (Fired chord object members.now vs)) × IsPlace (program_of self.now) (entry result result (Fired chord object members.now vs) ∷ (view desk.old).kept)) }
+            → (view desk.new ≡ saw_count (firing_drawn (view desk.old) result chord object members.now vs) (result + 1)) × CameNext (program_of self.now) (entry result result (Fired chord object members.now vs)) × IsPlace (program_of self.now) (entry result result (Fired chord object members.now vs) ∷ (view desk.old).kept)) }
         ensures told { self.now.events ≤ result → view desk.new ≡ saw_count (was_told (view desk.old)) (result + 1) }
     {
         self.table
@@ -95,7 +95,7 @@ impl<P: Carry> Space<P> {
         requires members { MayFire (program_of self.now) (view desk.old).claims chord object members.now }
         ensures desk { IsSameDesk desk.old desk.new }
         ensures drawn { IfOk result (λ f. (f < self.now.events) × AllBelow f (view desk.old).kept × ((js : List ℕ) (vs : List Value) → slice_get ((program_of self.now).chords object.class) chord ≡ Some js → AreClaimed (view desk.old).claims object js members.now vs
-            → (view desk.new ≡ saw_count (fired (view desk.old) f chord object members.now vs) (f + 1)) × CameNext (program_of self.now) (entry f f (Fired chord object members.now vs)) × IsPlace (program_of self.now) (entry f f (Fired chord object members.now vs) ∷ (view desk.old).kept))) }
+            → (view desk.new ≡ saw_count (firing_drawn (view desk.old) f chord object members.now vs) (f + 1)) × CameNext (program_of self.now) (entry f f (Fired chord object members.now vs)) × IsPlace (program_of self.now) (entry f f (Fired chord object members.now vs) ∷ (view desk.old).kept))) }
         ensures told { IfErr result (λ _. (c : ℕ) × (self.now.events < c) × (view desk.new ≡ saw_count (was_told (view desk.old)) c)) }
     {
         let number = self.step_draw_firing::<Brand>(desk, chord, object, members);

@@ -4,7 +4,7 @@ ghost use Rattle.chord_rule.specs.Kinds.{posting, posted, firing_started, played
 ghost use Rattle.chord_rule.specs.Coming.{ComesWithFiring};
 ghost use Rattle.chord_word.specs.declared.cells.Cell.TheVariants.{Ready, Started};
 ghost use Rattle.chord_rule.specs.Tells.{word, a_word};
-ghost use Rattle.chord_space.specs.Desks.{view, code_of, limits_of, program_of, IsDeskOf, IsSameDesk};
+ghost use Rattle.chord_space.specs.Desks.{view, space_code, space_limits, program_of, IsDeskOf, IsSameDesk};
 ghost use Rattle.chord_space.specs.Gives.{MayPost};
 
 use crate::plays::{GiveSlot, Governed, Post, Start, TakeSlot};
@@ -29,7 +29,7 @@ impl<P: Carry> Space<P> {
         requires desk { IsDeskOf self.now desk.old }
         requires bounds { f < self.now.events }
         requires post { MayPost (program_of self.now) (view desk.old) f (P.entries parcel) }
-        requires task { P.keeps_to parcel (code_of self.now) (limits_of self.now) }
+        requires task { P.keeps_to parcel (space_code self.now) (space_limits self.now) }
         ensures desk { IsSameDesk desk.old desk.new }
         ensures posted { view desk.new ≡ saw (posted (posting (view desk.old) f) (P.entries parcel)) f (a_word Ready None) }
     {
@@ -44,12 +44,12 @@ impl<P: Carry> Space<P> {
 
     // Pairs with `post`. One exchange decides who plays the firing; the load gives its empty slot back.
     fn step_start<J: Governed>(&self, desk: &mut Desk<P>, f: u32) -> Result<P, Cell>
-        requires governed { (J.parts ≡ code_of self.now) × (J.limits ≡ limits_of self.now) }
+        requires governed { (J.parts ≡ space_code self.now) × (J.limits ≡ space_limits self.now) }
         requires desk { IsDeskOf self.now desk.old }
         requires bounds { f < self.now.events }
         ensures desk { IsSameDesk desk.old desk.new }
         ensures started { IfOk result (λ q. view desk.new ≡ played (saw (firing_started (view desk.old) f (P.entries q)) f (a_word Started None))) }
-        ensures parcel { IfOk result (λ q. P.keeps_to q (code_of self.now) (limits_of self.now)) }
+        ensures parcel { IfOk result (λ q. P.keeps_to q (space_code self.now) (space_limits self.now)) }
         ensures comes { IfOk result (λ q. ComesWithFiring (program_of self.now) (view desk.old).kept f (P.entries q)) }
         ensures refused { IfErr result (λ c. (c ≢ Ready) × ((next : Option ℕ) × (view desk.new ≡ saw (view desk.old) f (a_word c next)))) }
     {
@@ -79,7 +79,7 @@ impl<P: Carry> Space<P> {
         requires bounds { f < self.now.events }
         ensures desk { IsSameDesk desk.old desk.new }
         ensures started { IfOk result (λ q. view desk.new ≡ played (saw (firing_started (view desk.old) f (P.entries q)) f (a_word Started None))) }
-        ensures parcel { IfOk result (λ q. P.keeps_to q (code_of self.now) (limits_of self.now)) }
+        ensures parcel { IfOk result (λ q. P.keeps_to q (space_code self.now) (space_limits self.now)) }
         ensures comes { IfOk result (λ q. ComesWithFiring (program_of self.now) (view desk.old).kept f (P.entries q)) }
         ensures refused { IfErr result (λ c. (c ≢ Ready) × ((next : Option ℕ) × (view desk.new ≡ saw (view desk.old) f (a_word c next)))) }
     {

@@ -2,7 +2,7 @@
 ghost use Rattle.std.specs.Prelude.{◌≡◌, ◌<◌, true, [], None};
 ghost use Rattle.chord_rule.specs.Kinds.{newcomer, lent_one, united};
 ghost use Rattle.chord_rule.specs.Coming.{IsPlace};
-ghost use Rattle.chord_space.specs.Desks.{view, code_of, limits_of, program_of, IsDeskOf, IsSameDesk};
+ghost use Rattle.chord_space.specs.Desks.{view, space_code, space_limits, program_of, IsDeskOf, IsSameDesk};
 
 use crate::plays::{FindPlace, Governed, Lend, Unite};
 use crate::space::{Desk, Space};
@@ -23,7 +23,7 @@ impl<P: Carry> Space<P> {
 
     // A load of the counter, for what it tells.
     fn step_find_place<J: Governed>(&self, desk: &mut Desk<P>)
-        requires governed { (J.parts ≡ code_of self.now) × (J.limits ≡ limits_of self.now) }
+        requires governed { (J.parts ≡ space_code self.now) × (J.limits ≡ space_limits self.now) }
         requires desk { IsDeskOf self.now desk.old }
         ensures desk { IsSameDesk desk.old desk.new × (view desk.new ≡ view desk.old) }
         ensures place { IsPlace (program_of self.now) (view desk.old).kept }

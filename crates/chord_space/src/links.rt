@@ -3,9 +3,9 @@ ghost use Rattle.std.specs.Prelude.{◌≡◌, ℕ, ◌<◌, Some, Option};
 ghost use Rattle.chord_rule.specs.Kinds.{address_set, flown, armed, saw, saw_head};
 ghost use Rattle.chord_rule.specs.Tells.{a_word};
 ghost use Rattle.chord_word.specs.declared.cells.Cell.TheVariants.{Pending};
-ghost use Rattle.chord_rule.specs.Bags.{head_of};
+ghost use Rattle.chord_rule.specs.Bags.{head_number};
 ghost use Rattle.chord_rule.specs.Made.{key};
-ghost use Rattle.chord_space.specs.Desks.{view, code_of, limits_of, program_of, IsDeskOf, IsSameDesk};
+ghost use Rattle.chord_space.specs.Desks.{view, space_code, space_limits, program_of, IsDeskOf, IsSameDesk};
 ghost use Rattle.chord_space.specs.Gives.{MayLink};
 
 use crate::plays::{Addressed, Arm, Link, Set};
@@ -30,9 +30,9 @@ impl<P: Carry> Space<P> {
         requires desk { IsDeskOf self.now desk.old }
         requires bounds { (m < self.now.events) × (object.number < self.now.events) × (object.class < 1024) × (method < 16) }
         requires link { MayLink (program_of self.now) (view desk.old) m object method (P.entries parcel) (P.arguments parcel) }
-        requires task { P.keeps_to parcel (code_of self.now) (limits_of self.now) }
+        requires task { P.keeps_to parcel (space_code self.now) (space_limits self.now) }
         ensures desk { IsSameDesk desk.old desk.new }
-        ensures linked { (above : Option ℕ) × (view desk.new ≡ saw_head (flown (address_set (view desk.old) m) m (key object method) above (P.entries parcel)) (head_of (key object method)) (Some m)) }
+        ensures linked { (above : Option ℕ) × (view desk.new ≡ saw_head (flown (address_set (view desk.old) m) m (key object method) above (P.entries parcel)) (head_number (key object method)) (Some m)) }
     {
         let words = &self.table.shared;
         let count = self.events as usize;
@@ -55,9 +55,9 @@ impl<P: Carry> Space<P> {
         requires desk { IsDeskOf self.now desk.old }
         requires bounds { (m < self.now.events) × (object.number < self.now.events) × (object.class < 1024) × (method < 16) }
         requires link { MayLink (program_of self.now) (view desk.old) m object method (P.entries parcel) (P.arguments parcel) }
-        requires task { P.keeps_to parcel (code_of self.now) (limits_of self.now) }
+        requires task { P.keeps_to parcel (space_code self.now) (space_limits self.now) }
         ensures desk { IsSameDesk desk.old desk.new }
-        ensures linked { (above : Option ℕ) × (view desk.new ≡ saw_head (flown (address_set (view desk.old) m) m (key object method) above (P.entries parcel)) (head_of (key object method)) (Some m)) }
+        ensures linked { (above : Option ℕ) × (view desk.new ≡ saw_head (flown (address_set (view desk.old) m) m (key object method) above (P.entries parcel)) (head_number (key object method)) (Some m)) }
     {
         self.step_link::<Brand>(desk, m, object, method, parcel);
     }

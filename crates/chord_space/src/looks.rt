@@ -8,7 +8,7 @@ ghost use Rattle.chord_rule.specs.Kinds.{saw_count, looked_head, rested};
 ghost use Rattle.chord_rule.specs.Made.{key, IsChord};
 ghost use Rattle.chord_rule.specs.Moment.{Place};
 ghost use Rattle.chord_rule.specs.Tells.{IsLook};
-ghost use Rattle.chord_rule.specs.Ways.{HasRoom};
+ghost use Rattle.chord_rule.specs.Ways.{HasLooksLeft};
 ghost use Rattle.chord_space.specs.Desks.{view, program_of, IsDeskOf, IsSameDesk};
 
 use crate::plays::{Addressed, LayDown, Resting, SeeCell, SeeCount, SeeHead, SeePlace};
@@ -51,7 +51,7 @@ impl<P: Carry> Space<P> {
         requires bounds { (object.number < self.now.events) × (object.class < 1024) × (method < 16) }
         ensures desk { IsSameDesk desk.old desk.new }
         ensures looked { view desk.new ≡ looked_head (view desk.old) (key object method) result }
-        ensures room { HasRoom self.now.events (view desk.new).looked.ways }
+        ensures room { HasLooksLeft self.now.events (view desk.new).looked.ways }
     {
         let head = 16 * object.number as usize + method as usize;
         let count = self.events as usize;
@@ -69,7 +69,7 @@ impl<P: Carry> Space<P> {
         requires bounds { (object.number < self.now.events) × (object.class < 1024) × (method < 16) }
         ensures desk { IsSameDesk desk.old desk.new }
         ensures looked { view desk.new ≡ looked_head (view desk.old) (key object method) result }
-        ensures room { HasRoom self.now.events (view desk.new).looked.ways }
+        ensures room { HasLooksLeft self.now.events (view desk.new).looked.ways }
     {
         self.step_look_head::<Brand>(desk, object, method)
     }

@@ -6,7 +6,7 @@ ghost use Rattle.chord_base.specs.declared.event.Limits.{Limits};
 ghost use Rattle.chord_base.specs.declared.value.Object.{Object};
 ghost use Rattle.chord_code.specs.declared.parts.Parts.{Parts};
 ghost use Rattle.chord_rule.specs.Kinds.{newcomer, gone, lent_one, united};
-ghost use Rattle.chord_rule.specs.Tells.{draws_firing, places, links, arms, claims, holds, unclaims, consumes, empties, posts_out, posts, starts, plays, finds_place, looks_count, looks_head, looks_cell, looks_place, rests};
+ghost use Rattle.chord_rule.specs.Tells.{draws_firing, places, link_adds, arms, claims, holds, unclaims, consumes, slot_returns, posts_out, posts, starts, plays, finds_place, looks_count, looks_head, looks_cell, looks_place, rests};
 ghost use Rattle.chord_code.specs.Meaning.{code_program};
 ghost use Rattle.chord_space.specs.Ruled.{draws_of_code};
 ghost use Rattle.chord_space.specs.Desks.{no_parts, no_limits, no_object};
@@ -128,7 +128,7 @@ pub struct Link<P, J> {
 }
 
 impl<P: Carry, J: Addressed> Play<Option<P>, View> for Link<P, J> {
-    ghost then = { links P.entries J.object J.method };
+    ghost then = { link_adds P.entries J.object J.method };
 }
 
 /// The message in flight is armed.
@@ -172,7 +172,7 @@ impl<P: Carry, J: Governed> Play<Option<P>, View> for Consume<P, J> {
 pub struct ReturnSlot;
 
 impl<P> Play<Option<P>, View> for ReturnSlot {
-    ghost then = { empties };
+    ghost then = { slot_returns };
 }
 
 /// The slot of a firing comes out.

@@ -55,7 +55,7 @@ pub struct Desk<P> {
 pub struct Spent;
 
 impl<P: Carry> Space<P> {
-    ghost use Rattle.chord_space.specs.Desks.{view, code_of, limits_of, IsDeskOf};
+    ghost use Rattle.chord_space.specs.Desks.{view, space_code, space_limits, IsDeskOf};
 
     /// A table for the runs of the code under these limits, and its first desk. It takes memory for 18 words and a slot an event.
     pub fn make(
@@ -66,7 +66,7 @@ impl<P: Carry> Space<P> {
         requires events { (0 < limits.now.events) × (limits.now.events ≤ 65536) }
         requires depth { (0 < limits.now.depth) × (limits.now.depth ≤ 256) }
         requires sound { IsSoundCode code.now }
-        ensures { IfOk result (λ r. (code_of r.0 ≡ code.now) × (limits_of r.0 ≡ limits.now) × IsDeskOf r.0 r.1 × (view r.1 ≡ newcomer_first)) }
+        ensures { IfOk result (λ r. (space_code r.0 ≡ code.now) × (space_limits r.0 ≡ limits.now) × IsDeskOf r.0 r.1 × (view r.1 ≡ newcomer_first)) }
     {
         let _ = code.parts();
         let events = limits.events;

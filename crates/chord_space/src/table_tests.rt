@@ -5,7 +5,7 @@ ghost use Rattle.std.specs.Prelude.{◌≡◌, ◌≤◌, ◌<◌, ◌+◌, true
 ghost use Rattle.chord_code.specs.declared.instruction.Instruction.TheVariants as instr;
 ghost use Rattle.chord_rule.specs.Kinds.{newcomer_first, drew, saw_count};
 ghost use Rattle.chord_base.specs.declared.event.What.TheVariants.{Begun, Made, Sent};
-ghost use Rattle.chord_space.specs.Desks.{view, code_of, limits_of, IsDeskOf, IsSameDesk};
+ghost use Rattle.chord_space.specs.Desks.{view, space_code, space_limits, IsDeskOf, IsSameDesk};
 
 use crate::space::{Desk, Space};
 use chord_base::event::{End, Limits, What};
@@ -60,7 +60,7 @@ fn ending(alloc: Global) -> Result<Code, Fail>
 /// A table for that code.
 fn table(alloc: Global, events: u32) -> Result<(Space<Letter>, Desk<Letter>), Fail>
     requires { (0 < events) × (events ≤ 65536) }
-    ensures { IfOk result (λ r. (code_of r.0 ≡ record { classes = []; blocks = record { slots = 1; instructions = instr.End ∷ [] } ∷ [] }) × (r.0.events ≡ events) × IsDeskOf r.0 r.1 × (view r.1 ≡ newcomer_first)) }
+    ensures { IfOk result (λ r. (space_code r.0 ≡ record { classes = []; blocks = record { slots = 1; instructions = instr.End ∷ [] } ∷ [] }) × (r.0.events ≡ events) × IsDeskOf r.0 r.1 × (view r.1 ≡ newcomer_first)) }
 {
     let code = ending(alloc)?;
     let limits = Limits {
@@ -73,7 +73,7 @@ fn table(alloc: Global, events: u32) -> Result<(Space<Letter>, Desk<Letter>), Fa
 
 /// `Main` begins and ends: how many of its two entries have a number.
 fn drawn(space: &Space<Letter>, desk: &mut Desk<Letter>) -> u32
-    requires code { code_of space.now ≡ record { classes = []; blocks = record { slots = 1; instructions = instr.End ∷ [] } ∷ [] } }
+    requires code { space_code space.now ≡ record { classes = []; blocks = record { slots = 1; instructions = instr.End ∷ [] } ∷ [] } }
     requires desk { IsDeskOf space.now desk.old × (view desk.old ≡ newcomer_first) }
     ensures desk { IsDeskOf space.now desk.new × ((view desk.new).first ≡ true) × ((view desk.new).splits ≡ 0) × ((view desk.new).lent ≡ 0) × ((view desk.new).claims ≡ []) × ((view desk.new).flight ≡ None) }
 {
@@ -135,7 +135,7 @@ fn sending(alloc: Global) -> Result<Code, Fail>
 
 /// A table of 16 events for that code.
 fn bag_table(alloc: Global) -> Result<(Space<Letter>, Desk<Letter>), Fail>
-    ensures { IfOk result (λ r. (code_of r.0 ≡ record { classes = record { name = 65 ∷ []; builder = None; methods = record { name = 120 ∷ []; sync = false; parameters = 0 } ∷ []; chords = [] } ∷ []; blocks = record { slots = 1; instructions = instr.New 0 0 ∷ instr.Send 0 0 ∷ instr.End ∷ [] } ∷ [] }) × (limits_of r.0 ≡ record { events = 16; turns = 9; depth = 9 }) × (r.0.events ≡ 16) × IsDeskOf r.0 r.1 × (view r.1 ≡ newcomer_first)) }
+    ensures { IfOk result (λ r. (space_code r.0 ≡ record { classes = record { name = 65 ∷ []; builder = None; methods = record { name = 120 ∷ []; sync = false; parameters = 0 } ∷ []; chords = [] } ∷ []; blocks = record { slots = 1; instructions = instr.New 0 0 ∷ instr.Send 0 0 ∷ instr.End ∷ [] } ∷ [] }) × (space_limits r.0 ≡ record { events = 16; turns = 9; depth = 9 }) × (r.0.events ≡ 16) × IsDeskOf r.0 r.1 × (view r.1 ≡ newcomer_first)) }
 {
     let code = sending(alloc)?;
     let limits = Limits {
@@ -152,7 +152,7 @@ fn sent(
     space: &Space<Letter>,
     desk: &mut Desk<Letter>,
 ) -> Result<(u32, u32, u32), Fail>
-    requires code { (code_of space.now ≡ record { classes = record { name = 65 ∷ []; builder = None; methods = record { name = 120 ∷ []; sync = false; parameters = 0 } ∷ []; chords = [] } ∷ []; blocks = record { slots = 1; instructions = instr.New 0 0 ∷ instr.Send 0 0 ∷ instr.End ∷ [] } ∷ [] }) × (limits_of space.now ≡ record { events = 16; turns = 9; depth = 9 }) }
+    requires code { (space_code space.now ≡ record { classes = record { name = 65 ∷ []; builder = None; methods = record { name = 120 ∷ []; sync = false; parameters = 0 } ∷ []; chords = [] } ∷ []; blocks = record { slots = 1; instructions = instr.New 0 0 ∷ instr.Send 0 0 ∷ instr.End ∷ [] } ∷ [] }) × (space_limits space.now ≡ record { events = 16; turns = 9; depth = 9 }) }
     requires desk { IsDeskOf space.now desk.old × (view desk.old ≡ newcomer_first) }
     ensures desk { IsSameDesk desk.old desk.new }
     ensures sent { IfOk result (λ r. (r.0 ≡ 0) × (r.0 < r.1) × (r.1 < r.2) × (r.2 < space.now.events) × (view desk.new ≡ saw_count (drew (saw_count (drew (saw_count (drew newcomer_first r.0 0 Begun) (r.0 + 1)) r.1 0 (Made 0)) (r.1 + 1)) r.2 0 (Sent (record { number = r.1; class = 0 }) 0 [])) (r.2 + 1))) }
@@ -176,7 +176,7 @@ fn sent(
 
 /// The message is linked in its bag, and armed.
 fn pending(space: &Space<Letter>, desk: &mut Desk<Letter>, begun: u32, made: u32, message: u32)
-    requires code { (code_of space.now ≡ record { classes = record { name = 65 ∷ []; builder = None; methods = record { name = 120 ∷ []; sync = false; parameters = 0 } ∷ []; chords = [] } ∷ []; blocks = record { slots = 1; instructions = instr.New 0 0 ∷ instr.Send 0 0 ∷ instr.End ∷ [] } ∷ [] }) × (limits_of space.now ≡ record { events = 16; turns = 9; depth = 9 }) × (space.now.events ≡ 16) }
+    requires code { (space_code space.now ≡ record { classes = record { name = 65 ∷ []; builder = None; methods = record { name = 120 ∷ []; sync = false; parameters = 0 } ∷ []; chords = [] } ∷ []; blocks = record { slots = 1; instructions = instr.New 0 0 ∷ instr.Send 0 0 ∷ instr.End ∷ [] } ∷ [] }) × (space_limits space.now ≡ record { events = 16; turns = 9; depth = 9 }) × (space.now.events ≡ 16) }
     requires desk { IsDeskOf space.now desk.old }
     requires sent { (begun ≡ 0) × (begun < made) × (made < message) × (message < 16) × (view desk.old ≡ saw_count (drew (saw_count (drew (saw_count (drew newcomer_first begun 0 Begun) (begun + 1)) made 0 (Made 0)) (made + 1)) message 0 (Sent (record { number = made; class = 0 }) 0 [])) (message + 1)) }
     ensures desk { IsSameDesk desk.old desk.new }

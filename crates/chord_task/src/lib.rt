@@ -1,5 +1,5 @@
 //! Tasks: stacks of bodies, each waiting for the one above it, and the entries that they made.
-//! Stands on: chord_base (entries), chord_code (what a code means), chord_vm (the machine of a body). Used by: chord_lists.
+//! Stands on: chord_base (entries), chord_code (what a code means), chord_vm (the machine of a body). Used by: many crates.
 //! Promise: the past of a task is a story of its code; `note` and `resume` add exactly the entry that they are told, and take
 //! no memory.
 //! Not here: which body goes on next, and which chord fires (the engines).

@@ -9,7 +9,7 @@ use Rattle.chord_rule.specs.Closing.{AreQuiet}
 use Rattle.chord_rule.specs.Kinds.{left_by, MayGo}
 use Rattle.std.specs.Prelude.{IsPermutation, false}
 use Rattle.chord_space.specs.declared.space.Space.{Space}
-use Rattle.chord_space.specs.Desks.{view, code_of, limits_of}
+use Rattle.chord_space.specs.Desks.{view, space_code, space_limits}
 use Rattle.chord_task.specs.declared.parcel.Parcel.{Parcel}
 use Rattle.chord_task.specs.declared.task.Task.{Task}
 use Rattle.chord_task.specs.Standing.{view_of, IsTaskOf, is_ready_of}
@@ -29,15 +29,15 @@ same_memory code limits es spent done t t' m is past = record {
 }
 
 -- a worker with the task that came to its ask, and with a task in stock
-pub asked_rest : (s : Space Parcel) (w : Worker) (t t' stock : Task) (what : What) → IsAtRest s w → w.task ≡ Some t → IsTaskOf (code_of s) (limits_of s) t' → view_of t' ≡ view_of t → IsReadyTo (code_of s) (limits_of s) t' what → IsStockTask (code_of s) (limits_of s) stock
+pub asked_rest : (s : Space Parcel) (w : Worker) (t t' stock : Task) (what : What) → IsAtRest s w → w.task ≡ Some t → IsTaskOf (space_code s) (space_limits s) t' → view_of t' ≡ view_of t → IsReadyTo (space_code s) (space_limits s) t' what → IsStockTask (space_code s) (space_limits s) stock
     → IsAtRest s (record w { task = Some t'; spare = Some stock })
 asked_rest s w t t' stock what r task is same ready in_stock = record {
   desk = r.desk;
   told = r.told;
   free = r.free;
   duties = r.duties;
-  memory = same_memory (code_of s) (limits_of s) (view w.desk).kept (view w.desk).spent w.done.items t t'
-      (subst (λ (x : Option Task). IsInMemory (code_of s) (limits_of s) (view w.desk).kept (view w.desk).spent w.done.items x) task r.memory) is (ap (λ v. v.past) same);
+  memory = same_memory (space_code s) (space_limits s) (view w.desk).kept (view w.desk).spent w.done.items t t'
+      (subst (λ (x : Option Task). IsInMemory (space_code s) (space_limits s) (view w.desk).kept (view w.desk).spent w.done.items x) task r.memory) is (ap (λ v. v.past) same);
   goes_on = given_ready t'.top what ready.gave;
   stock = in_stock;
 }

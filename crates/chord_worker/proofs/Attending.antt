@@ -23,10 +23,10 @@ use Rattle.chord_rule.specs.Numbers.{HasNumber}
 use Rattle.chord_word.specs.declared.cells.Cell.{Cell}
 use Rattle.chord_word.specs.declared.cells.Word.{Word}
 use Rattle.chord_space.specs.declared.space.Space.{Space}
-use Rattle.chord_space.specs.Desks.{view, code_of, limits_of, IsDeskOf, IsSameDesk}
+use Rattle.chord_space.specs.Desks.{view, space_code, space_limits, IsDeskOf, IsSameDesk}
 use Rattle.chord_task.specs.declared.parcel.Parcel.{Parcel}
 use Rattle.chord_worker.specs.declared.worker.Worker.{Worker}
-use Rattle.chord_worker.specs.Resting.{IsFree, IsInMemory, MayContinue, IsStock, IsAtRest, IsSameRole}
+use Rattle.chord_worker.specs.Resting.{IsHandFree, IsInMemory, MayContinue, IsStock, IsAtRest, IsSameRole}
 use Rattle.chord_worker.specs.Sending.{Minds, IsLaidDown}
 
 -- ## The one duty
@@ -44,8 +44,8 @@ drop_one : (d : Duty) (m : ℕ) → d.message ≡ m → drop_duty m (d ∷ []) �
 drop_one d m e = rw (eq-eqb d.message m e) refl
 
 -- the one duty is laid down
-pub none_left : (ds : List Duty) (m k : ℕ) → messages_and_bags ds ≡ (m, k) ∷ [] → drop_duty m ds ≡ []
-none_left ds m k e = let t = the_duty ds m k e in ap (drop_duty m) t.1 ∙ drop_one t.0 m t.2
+pub no_duty_left : (ds : List Duty) (m k : ℕ) → messages_and_bags ds ≡ (m, k) ∷ [] → drop_duty m ds ≡ []
+no_duty_left ds m k e = let t = the_duty ds m k e in ap (drop_duty m) t.1 ∙ drop_one t.0 m t.2
 
 -- no duty stays none
 nothing_dropped : (ms : List ℕ) → drop_duties ms [] ≡ []
@@ -98,8 +98,8 @@ looks_on u v w a b = record { frame = b.frame ∙ ap (λ (z : View). record z { 
 
 module _ (v w : View) (l : IsOnlyLooks v w) where
   -- the desk has the same in hand
-  pub looks_free : IsFree v → IsFree w
-  looks_free f = subst IsFree (sym l.frame) (record { claims = f.claims; flight = f.flight; fresh = f.fresh })
+  pub looks_free : IsHandFree v → IsHandFree w
+  looks_free f = subst IsHandFree (sym l.frame) (record { claims = f.claims; flight = f.flight; fresh = f.fresh })
 
   -- it keeps the same
   pub looks_kept : w.kept ≡ v.kept
@@ -131,7 +131,7 @@ module _ (s : Space Parcel) (w w' : Worker) (m k : ℕ) (minds : Minds s w m k) 
     room = looks_spent (view w.desk) (view w'.desk) l ∙ minds.room;
     free = looks_free (view w.desk) (view w'.desk) l minds.free;
     duty = l.duties ∙ minds.duty;
-    memory = subst (λ (es : List Entry). IsInMemory (code_of s) (limits_of s) es false w.done.items w.task) (sym (looks_kept (view w.desk) (view w'.desk) l)) minds.memory;
+    memory = subst (λ (es : List Entry). IsInMemory (space_code s) (space_limits s) es false w.done.items w.task) (sym (looks_kept (view w.desk) (view w'.desk) l)) minds.memory;
     goes_on = minds.goes_on;
     stock = minds.stock;
     spare = minds.spare;
@@ -144,12 +144,12 @@ module _ (s : Space Parcel) (w w' : Worker) (m k : ℕ) (minds : Minds s w m k) 
     minded = subst (IsAtRest s) (sym rest) record {
       desk = same.0 ∙ minds.desk;
       told = minds.told ∙ sym (spent ∙ minds.room);
-      free = subst IsFree (sym laid) (let f = looks_free (view w.desk) u l minds.free in record { claims = f.claims; flight = f.flight; fresh = f.fresh });
-      duties = λ e. ap (λ (z : View). z.duties) laid ∙ none_left u.duties m k (l.duties ∙ minds.duty);
-      memory = subst (λ (b : Bool). IsInMemory (code_of s) (limits_of s) (view w'.desk).kept b w.done.items w.task) (sym (spent ∙ minds.room))
-          (subst (λ (es : List Entry). IsInMemory (code_of s) (limits_of s) es false w.done.items w.task) (sym (ap (λ (z : View). z.kept) laid ∙ looks_kept (view w.desk) u l)) minds.memory);
+      free = subst IsHandFree (sym laid) (let f = looks_free (view w.desk) u l minds.free in record { claims = f.claims; flight = f.flight; fresh = f.fresh });
+      duties = λ e. ap (λ (z : View). z.duties) laid ∙ no_duty_left u.duties m k (l.duties ∙ minds.duty);
+      memory = subst (λ (b : Bool). IsInMemory (space_code s) (space_limits s) (view w'.desk).kept b w.done.items w.task) (sym (spent ∙ minds.room))
+          (subst (λ (es : List Entry). IsInMemory (space_code s) (space_limits s) es false w.done.items w.task) (sym (ap (λ (z : View). z.kept) laid ∙ looks_kept (view w.desk) u l)) minds.memory);
       goes_on = minds.goes_on;
-      stock = subst (IsStock (code_of s) (limits_of s)) (sym minds.spare) minds.is_stock;
+      stock = subst (IsStock (space_code s) (space_limits s)) (sym minds.spare) minds.is_stock;
     }
       where
         spent : (view w'.desk).spent ≡ (view w.desk).spent
@@ -182,11 +182,11 @@ module _ (s : Space Parcel) (w w' : Worker) (m k : ℕ) (minds : Minds s w m k) 
   refused = record {
     desk = same.0 ∙ minds.desk;
     told = spent ∙ sym (ap (λ (z : View). z.spent) view_is);
-    free = subst IsFree (sym view_is) (record { claims = minds.free.claims; flight = minds.free.flight; fresh = minds.free.fresh });
+    free = subst IsHandFree (sym view_is) (record { claims = minds.free.claims; flight = minds.free.flight; fresh = minds.free.fresh });
     duties = λ e. let z : true ≡ false = sym (ap (λ (z : View). z.spent) view_is) ∙ e in absurd (cc);
-    memory = subst (λ (z : View). IsInMemory (code_of s) (limits_of s) z.kept z.spent w'.done.items w'.task) (sym view_is)
-        (subst (λ (x : Option Task). IsInMemory (code_of s) (limits_of s) (view w.desk).kept true w'.done.items x) (sym task)
-        (laid_down (code_of s) (limits_of s) (view w.desk).kept false w.done.items w'.done.items w.task minds.memory done));
+    memory = subst (λ (z : View). IsInMemory (space_code s) (space_limits s) z.kept z.spent w'.done.items w'.task) (sym view_is)
+        (subst (λ (x : Option Task). IsInMemory (space_code s) (space_limits s) (view w.desk).kept true w'.done.items x) (sym task)
+        (laid_down (space_code s) (space_limits s) (view w.desk).kept false w.done.items w'.done.items w.task minds.memory done));
     goes_on = subst MayContinue (sym task) tt;
-    stock = subst (IsStock (code_of s) (limits_of s)) (sym (stock ∙ minds.spare)) minds.is_stock;
+    stock = subst (IsStock (space_code s) (space_limits s)) (sym (stock ∙ minds.spare)) minds.is_stock;
   }

@@ -25,11 +25,11 @@ use Rattle.chord_rule.specs.declared.view.View.{View}
 use Rattle.chord_rule.specs.Closing.{AreQuiet}
 use Rattle.chord_rule.specs.Kinds.{entry, left_by, posted, posting, saw}
 use Rattle.chord_rule.specs.Numbers.{HasNumber}
-use Rattle.chord_rule.specs.Parcels.{Begins}
+use Rattle.chord_rule.specs.Parcels.{BeginsThere}
 use Rattle.chord_rule.proofs.Closing.{begins_there}
 use Rattle.chord_space.specs.declared.space.Desk.{Desk}
 use Rattle.chord_space.specs.declared.space.Space.{Space}
-use Rattle.chord_space.specs.Desks.{view, code_of, limits_of, program_of, IsSameDesk}
+use Rattle.chord_space.specs.Desks.{view, space_code, space_limits, program_of, IsSameDesk}
 use Rattle.chord_space.specs.Gives.{MayPost}
 use Rattle.chord_task.specs.declared.args.Args.{Args}
 use Rattle.chord_task.specs.declared.body.Body.{Body}
@@ -127,7 +127,7 @@ module _ (code : Parts) (limits : Limits) where
     only_entry told below e (inl same) body = ap (λ (x : Entry). x.number) same
     only_entry told below e (inr there) body =
         let seen = seen_there p h e f told there body in
-        ⊎_elim (λ none. absurd (subst IsSeen none seen)) (λ (k : Begins f h). let low = in_below f h k.0 below k.1 in let number = k.2 in absurd (omega (arith, low, number))) (begins_there p h f told)
+        ⊎_elim (λ none. absurd (subst IsSeen none seen)) (λ (k : BeginsThere f h). let low = in_below f h k.0 below k.1 in let number = k.2 in absurd (omega (arith, low, number))) (begins_there p h f told)
 
 -- ## The task in which the body begins
 
@@ -150,7 +150,7 @@ module _ (s : Space Parcel) (w : Worker) (v : View) (o : Object) (k : ℕ) (ms :
 
   -- the firing's body fits the task
   abbrev Fits : Task → Type 0
-  Fits t = FitsFiring (code_of s) (limits_of s) v.kept (view w.desk).kept f k o ms values t
+  Fits t = FitsFiring (space_code s) (space_limits s) v.kept (view w.desk).kept f k o ms values t
 
   -- the task in stock, where no parcel has one
   of_none : HasNone ((program_of s).is_sync o.class) (newest ∷ v.kept) fired.fired.methods ms qs → Fits fired.stock
@@ -169,16 +169,16 @@ module _ (s : Space Parcel) (w : Worker) (v : View) (o : Object) (k : ℕ) (ms :
 
   module _ (one : HasOneSync (program_of s)) where
     -- the task of the caller that came
-    of_caller : (n : HasCaller (code_of s) (limits_of s) ((program_of s).is_sync o.class) f (newest ∷ v.kept) fired.fired.methods ms qs) → Fits n.caller
+    of_caller : (n : HasCaller (space_code s) (space_limits s) ((program_of s).is_sync o.class) f (newest ∷ v.kept) fired.fired.methods ms qs) → Fits n.caller
     of_caller n =
-        let waits = comes_waiting (code_of s) (limits_of s) sound one n.caller n.is_task (newest ∷ v.kept) n.claim n.comes n.left in
+        let waits = comes_waiting (space_code s) (space_limits s) sound one n.caller n.is_task (newest ∷ v.kept) n.claim n.comes n.left in
         record {
           task = n.is_task;
           may = record {
             may = subst (FitsCall (program_of s) (view_of n.caller)) (sym (serves_is (Some n.claim.number) n.serves)) waits;
             begins = called_defined (program_of s) v.kept fired.memory.rises fired.memory.told f k o ms values fired.fired.below (view_of n.caller).past n.below n.comes.places sound;
             above = n.below;
-            room = waiting_room (code_of s) (limits_of s) n.caller n.claim.number n.is_task waits;
+            room = waiting_room (space_code s) (space_limits s) n.caller n.claim.number n.is_task waits;
           };
           both = subst (HasBoth (program_of s) v.kept (newest ∷ (view_of n.caller).past)) (sym (kept_is ∙ n.all))
               (called_both (program_of s) v.kept fired.memory.rises fired.memory.told f k o ms values fired.fired.below (view_of n.caller).past n.below n.comes.places);
@@ -189,10 +189,10 @@ module _ (s : Space Parcel) (w : Worker) (v : View) (o : Object) (k : ℕ) (ms :
     fitted = ⊎_elim
         (λ n. subst Fits (sym (ap (λ (x : Option Task). caller_or x fired.stock) n.task)) (of_none n))
         (λ n. subst Fits (sym (ap (λ (x : Option Task). caller_or x fired.stock) n.task)) (of_caller n))
-        (one_caller (code_of s) (limits_of s) sound one o f (newest ∷ v.kept) fired.fired.methods ms qs (one o.class k fired.fired.methods fired.fired.is_chord) fired.fired.older fired.fired.coming)
+        (one_caller (space_code s) (space_limits s) sound one o f (newest ∷ v.kept) fired.fired.methods ms qs (one o.class k fired.fired.methods fired.fired.is_chord) fired.fired.older fired.fired.coming)
 
   -- the body has begun in this task
-  pub has_begun : (stock : Option Task) → IsStock (code_of s) (limits_of s) stock → (t u : Task) → Fits t → IsTaskOf (code_of s) (limits_of s) u → (view_of u).past ≡ newest ∷ (view_of t).past → (view_of u).top ≡ Some f → HasBegun s (record w { spare = stock }) v f u
+  pub has_begun : (stock : Option Task) → IsStock (space_code s) (space_limits s) stock → (t u : Task) → Fits t → IsTaskOf (space_code s) (space_limits s) u → (view_of u).past ≡ newest ∷ (view_of t).past → (view_of u).top ≡ Some f → HasBegun s (record w { spare = stock }) v f u
   has_begun stock is_stock t u fits is past top = record {
     desk = fired.desk;
     told = fired.told;
@@ -205,11 +205,11 @@ module _ (s : Space Parcel) (w : Worker) (v : View) (o : Object) (k : ℕ) (ms :
     low = fired.fired.low;
     seen = fired.fired.view ∙ seen_kept;
     task = is;
-    ready = begun_goes (code_of s) (limits_of s) f k o ms values (view_of t).past u is past top;
+    ready = begun_goes (space_code s) (space_limits s) f k o ms values (view_of t).past u is past top;
     top = top;
     both = subst (λ (h : List Entry). HasBoth (program_of s) v.kept h (view w.desk).kept) (sym past) fits.both;
-    begins = subst (Begins f) (sym past) (newest, inl refl, refl, refl);
-    only = λ e i. only_entry (code_of s) (limits_of s) f k o ms values (view_of t).past fits.task.task.told fits.may.above e (subst (IsIn e) past i);
+    begins = subst (BeginsThere f) (sym past) (newest, inl refl, refl, refl);
+    only = λ e i. only_entry (space_code s) (space_limits s) f k o ms values (view_of t).past fits.task.task.told fits.may.above e (subst (IsIn e) past i);
   }
     where
       seen_kept : record v { kept = all_together (newest ∷ v.kept) (map entries_of qs); claims = []; unposted = f ∷ v.unposted; drawn = true; duties = drop_duties ms v.duties; looked = (view w.desk).looked }
@@ -217,10 +217,10 @@ module _ (s : Space Parcel) (w : Worker) (v : View) (o : Object) (k : ℕ) (ms :
       seen_kept = rw (kept_is, ap (λ (z : View). z.duties) fired.fired.view) refl
 
   -- what is left in stock is a task in stock, if there is one
-  pub stock_left : (x : Option Task) → (x ≡ w.spare) ⊎ (x ≡ None) → IsStock (code_of s) (limits_of s) x
-  stock_left x = ⊎_elim (λ e. subst (IsStock (code_of s) (limits_of s)) (sym (e ∙ fired.spare)) fired.is_stock) (λ e. subst (IsStock (code_of s) (limits_of s)) (sym e) tt)
+  pub stock_left : (x : Option Task) → (x ≡ w.spare) ⊎ (x ≡ None) → IsStock (space_code s) (space_limits s) x
+  stock_left x = ⊎_elim (λ e. subst (IsStock (space_code s) (space_limits s)) (sym (e ∙ fired.spare)) fired.is_stock) (λ e. subst (IsStock (space_code s) (space_limits s)) (sym e) tt)
 
-  module _ (code : Parts) (same : code ≡ code_of s) (law : (l : Limits) → ChordsAreRight (code_program code l)) (caller : Option Task) (is_caller : caller ≡ first_task qs) (t : Task) (taken : (stock : Task) → w.spare ≡ Some stock → t ≡ caller_or caller stock)
+  module _ (code : Parts) (same : code ≡ space_code s) (law : (l : Limits) → ChordsAreRight (code_program code l)) (caller : Option Task) (is_caller : caller ≡ first_task qs) (t : Task) (taken : (stock : Task) → w.spare ≡ Some stock → t ≡ caller_or caller stock)
       (none arguments : List Args) (is_none : none ≡ []) (unpacked : arguments ≡ none ++ arguments_in qs) where
     -- the arguments are those in the parcels
     arguments_are : arguments ≡ arguments_in qs
@@ -233,21 +233,21 @@ module _ (s : Space Parcel) (w : Worker) (v : View) (o : Object) (k : ℕ) (ms :
     -- the firing's body fits the task
     fits_task : Fits t
     fits_task = subst Fits (sym (taken fired.stock fired.spare ∙ ap (λ (x : Option Task). caller_or x fired.stock) is_caller))
-        (fitted (subst (λ (c : Parts). ChordsAreRight (code_program c (limits_of s))) same (law (limits_of s))).one_sync)
+        (fitted (subst (λ (c : Parts). ChordsAreRight (code_program c (space_limits s))) same (law (space_limits s))).one_sync)
 
     -- the task is of this code under its own limits
     pub task_is : IsTaskOf code t.limits t
-    task_is = subst (λ (c : Parts). IsTaskOf c t.limits t) (sym same) (subst (λ (l : Limits). IsTaskOf (code_of s) l t) (sym fits_task.task.limited) fits_task.task)
+    task_is = subst (λ (c : Parts). IsTaskOf c t.limits t) (sym same) (subst (λ (l : Limits). IsTaskOf (space_code s) l t) (sym fits_task.task.limited) fits_task.task)
 
     -- the body may begin in the task
-    pub may_resume : MayResume code t.limits t f k o ms (laid (for_entry arguments))
-    may_resume = subst (λ (c : Parts). MayResume c t.limits t f k o ms (laid (for_entry arguments))) (sym same)
-        (subst (λ (l : Limits). MayResume (code_of s) l t f k o ms (laid (for_entry arguments))) (sym fits_task.task.limited)
-        (subst (MayResume (code_of s) (limits_of s) t f k o ms) values_are fits_task.may))
+    pub may_be_begun : MayResume code t.limits t f k o ms (laid (for_entry arguments))
+    may_be_begun = subst (λ (c : Parts). MayResume c t.limits t f k o ms (laid (for_entry arguments))) (sym same)
+        (subst (λ (l : Limits). MayResume (space_code s) l t f k o ms (laid (for_entry arguments))) (sym fits_task.task.limited)
+        (subst (MayResume (space_code s) (space_limits s) t f k o ms) values_are fits_task.may))
 
     -- the arguments are held twice
     pub twice : AreTwice arguments
-    twice = subst AreTwice (sym arguments_are) (held_twice (code_of s) (limits_of s) f qs fired.fired.older)
+    twice = subst AreTwice (sym arguments_are) (held_twice (space_code s) (space_limits s) f qs fired.fired.older)
 
     -- the firing has no more values than an entry may have
     pub few_values : ((l : Limits) (h : List Entry) → IsPast (code_program code l) h → length h ≤ 65536 → AreWithin h) → s.events ≤ 65536 → length (laid (for_entry arguments)) ≤ 64
@@ -255,13 +255,13 @@ module _ (s : Space Parcel) (w : Worker) (v : View) (o : Object) (k : ℕ) (ms :
         let came = fired.fired.came in
         let number = came.1.1.numbered in
         let low = fired.fired.low in
-        let within = bounds (limits_of s) (newest ∷ came.0) (subst (λ (c : Parts). IsPast (code_program c (limits_of s)) (newest ∷ came.0)) (sym same) came.1) (omega (arith, number, low, most)) in
+        let within = bounds (space_limits s) (newest ∷ came.0) (subst (λ (c : Parts). IsPast (code_program c (space_limits s)) (newest ∷ came.0)) (sym same) came.1) (omega (arith, number, low, most)) in
         subst (λ (vs : List value.Value). length vs ≤ 64) values_are within.3.few_values
 
     -- the body has begun in it
     pub begun_there : (stock : Option Task) → (stock ≡ w.spare) ⊎ (stock ≡ None) → (u : Task) → IsTaskOf code t.limits u → (view_of u).past ≡ entry f f (Fired k o ms (laid (for_entry arguments))) ∷ (view_of t).past → (view_of u).top ≡ Some f → HasBegun s (record w { spare = stock }) v f u
     begun_there stock left u is_task past top = has_begun stock (stock_left stock left) t u fits_task
-        (subst (λ (l : Limits). IsTaskOf (code_of s) l u) fits_task.task.limited (subst (λ (c : Parts). IsTaskOf c t.limits u) same is_task))
+        (subst (λ (l : Limits). IsTaskOf (space_code s) l u) fits_task.task.limited (subst (λ (c : Parts). IsTaskOf c t.limits u) same is_task))
         (past ∙ ap (λ (vs : List value.Value). entry f f (Fired k o ms vs) ∷ (view_of t).past) (sym values_are)) top
 
 -- ## It is played, or posted
@@ -286,7 +286,7 @@ module _ (s : Space Parcel) (w : Worker) (v : View) (f : ℕ) (t : Task) (b : Ha
   -- a worker without a task plays it
   pub rest_played : w.task ≡ None → IsAtRest s (record w { task = Some t })
   rest_played none =
-      let m : IsInMemory (code_of s) (limits_of s) v.kept false w.done.items None = subst (IsInMemory (code_of s) (limits_of s) v.kept false w.done.items) none b.memory in
+      let m : IsInMemory (space_code s) (space_limits s) v.kept false w.done.items None = subst (IsInMemory (space_code s) (space_limits s) v.kept false w.done.items) none b.memory in
       record {
         desk = b.desk;
         told = b.told ∙ sym (ap (λ (z : View). z.spent) b.seen ∙ b.room);
@@ -315,8 +315,8 @@ module _ (s : Space Parcel) (w : Worker) (v : View) (f : ℕ) (t : Task) (b : Ha
         fresh = ap (λ (z : View). z.fresh) post ∙ ap (λ (z : View). z.fresh) b.seen ∙ b.free.fresh;
       };
       duties = λ e. ap (λ (z : View). z.duties) post ∙ b.duties;
-      memory = subst (λ (h : List Entry). IsInMemory (code_of s) (limits_of s) h (view d).spent w.done.items w.task) (sym kept_before)
-          (subst (λ (y : Bool). IsInMemory (code_of s) (limits_of s) v.kept y w.done.items w.task) (sym spent) b.memory);
+      memory = subst (λ (h : List Entry). IsInMemory (space_code s) (space_limits s) h (view d).spent w.done.items w.task) (sym kept_before)
+          (subst (λ (y : Bool). IsInMemory (space_code s) (space_limits s) v.kept y w.done.items w.task) (sym spent) b.memory);
       goes_on = b.goes_on;
       stock = b.stock;
     }

@@ -26,7 +26,7 @@ use Rattle.chord_code.specs.declared.parts.Parts.{Parts}
 use Rattle.chord_code.specs.Meaning.{code_program}
 use Rattle.chord_rule.specs.declared.view.Claim.{Claim}
 use Rattle.chord_rule.specs.Coming.{ComesWithMessage}
-use Rattle.chord_rule.specs.Parcels.{Begins, IsParked}
+use Rattle.chord_rule.specs.Parcels.{BeginsThere, IsParkedThere}
 use Rattle.chord_rule.proofs.Closing.{begins_there}
 use Rattle.chord_task.specs.declared.body.Next.{Next}
 use Rattle.chord_task.specs.declared.body.Next.TheVariants as nexts
@@ -170,7 +170,7 @@ waits_later p (e ∷ h) b q past made =
 -- ## In a task that is a place of a run
 
 module _ (p : Program) (sound : IsSound p) (one : HasOneSync p) (h : List Entry) (view : ℕ → List Entry) (m : IsMerged p view h) (place : ℕ) (t : TaskView) (is : view place ≡ t.past) (task : IsTask p t)
-    (i : ℕ) (parked : (b : ℕ) → Begins b t.past → IsParked p t.past (Some i) (doing p t.past b)) (top : ℕ) (on_top : t.top ≡ Some top) where
+    (i : ℕ) (parked : (b : ℕ) → BeginsThere b t.past → IsParkedThere p t.past (Some i) (doing p t.past b)) (top : ℕ) (on_top : t.top ≡ Some top) where
   -- an entry of the past is one of the run, in this place
   in_place : (keep : ℕ → Bool) (l : List Entry) (e : Entry) → IsIn e (kept keep l) → IsIn e l × (keep e.number ≡ true)
   in_place keep [] e there = absurd there
@@ -189,7 +189,7 @@ module _ (p : Program) (sound : IsSound p) (one : HasOneSync p) (h : List Entry)
   of_past e there = let k = in_place (λ n. m.at n == place) h e (subst (IsIn e) (sym (m.keeps place ∙ is)) there) in (k.0, eqb-true (m.at e.number) place k.1)
 
   -- what a body of the past does there is what it does in the run
-  same_doing : (b : ℕ) → Begins b t.past → doing p t.past b ≡ doing p h b
+  same_doing : (b : ℕ) → BeginsThere b t.past → doing p t.past b ≡ doing p h b
   same_doing b begins =
       let e = begins.0 in
       let at : m.at b ≡ place = subst (λ n. m.at n ≡ place) begins.2 (of_past e begins.1).1 in
@@ -207,7 +207,7 @@ module _ (p : Program) (sound : IsSound p) (one : HasOneSync p) (h : List Entry)
       subst (λ n. serves p n h ≡ Some q) f.2 (entry_serves p h f.0 m.past there.0 ∙ f.3)
 
   -- no body of the past that began after the top one serves a call for which one of them waits
-  no_server : (fuel c q z : ℕ) → length h ≤ c + fuel → top < c → Begins c t.past → serves p c t.past ≡ Some q → Begins z t.past → WaitsFor q (doing p t.past z) → ⊥
+  no_server : (fuel c q z : ℕ) → length h ≤ c + fuel → top < c → BeginsThere c t.past → serves p c t.past ≡ Some q → BeginsThere z t.past → WaitsFor q (doing p t.past z) → ⊥
   no_server zero c q z room above begins s caller waits = let low = number_within p h begins.0 m.past (of_past begins.0 begins.1).0 in let number = begins.2 in omega (arith, room, low, number)
   no_server (suc fuel) c q z room above begins s caller waits = by_doing (no_server fuel) (doing p t.past c) refl (parked c begins) (task.below c not_top)
     where
@@ -215,12 +215,12 @@ module _ (p : Program) (sound : IsSound p) (one : HasOneSync p) (h : List Entry)
       not_top e = (let v : Some top ≡ Some c = sym on_top ∙ e in let same : top ≡ c = cc in omega (arith, same, above))
 
       Less : Type 0
-      Less = (c q z : ℕ) → length h ≤ c + fuel → top < c → Begins c t.past → serves p c t.past ≡ Some q → Begins z t.past → WaitsFor q (doing p t.past z) → ⊥
+      Less = (c q z : ℕ) → length h ≤ c + fuel → top < c → BeginsThere c t.past → serves p c t.past ≡ Some q → BeginsThere z t.past → WaitsFor q (doing p t.past z) → ⊥
 
-      by_doing : Less → (d : Doing) → doing p t.past c ≡ d → IsParked p t.past (Some i) (doing p t.past c) → IsServedThere p t.past (doing p t.past c) → ⊥
-      by_doing r Absent d k b = subst (IsParked p t.past (Some i)) d k
-      by_doing r Unplaced d k b = subst (IsParked p t.past (Some i)) d k
-      by_doing r (Ready s k rs) d pk b = subst (IsParked p t.past (Some i)) d pk
+      by_doing : Less → (d : Doing) → doing p t.past c ≡ d → IsParkedThere p t.past (Some i) (doing p t.past c) → IsServedThere p t.past (doing p t.past c) → ⊥
+      by_doing r Absent d k b = subst (IsParkedThere p t.past (Some i)) d k
+      by_doing r Unplaced d k b = subst (IsParkedThere p t.past (Some i)) d k
+      by_doing r (Ready s k rs) d pk b = subst (IsParkedThere p t.past (Some i)) d pk
       by_doing r (Over x) d k b = over_waits p h c z q x sound one m.past (same_serves c q s) (sym (same_doing c begins) ∙ d) (subst (WaitsFor q) (same_doing z caller) waits)
       by_doing r (Waits s' k' rs q' l) d k b =
           let server = subst (IsServedThere p t.past) d b in
@@ -231,16 +231,16 @@ module _ (p : Program) (sound : IsSound p) (one : HasOneSync p) (h : List Entry)
           r server.0 q' c (omega (arith, room, later, earlier)) (omega (arith, above, later, earlier)) begins' server.1 begins (subst (WaitsFor q') (sym d) refl)
 
   -- the top body waits for the message
-  pub top_waits : Begins top t.past → ((x : End) → doing p t.past top ≡ Over x → ⊥) → TopWaitsFor p t i
+  pub top_waits : BeginsThere top t.past → ((x : End) → doing p t.past top ≡ Over x → ⊥) → TopWaitsFor p t i
   top_waits begins live = by_doing (doing p t.past top) refl (parked top begins)
     where
-      by_doing : (d : Doing) → doing p t.past top ≡ d → IsParked p t.past (Some i) (doing p t.past top) → TopWaitsFor p t i
-      by_doing Absent d k = absurd (subst (IsParked p t.past (Some i)) d k)
-      by_doing Unplaced d k = absurd (subst (IsParked p t.past (Some i)) d k)
-      by_doing (Ready s k rs) d pk = absurd (subst (IsParked p t.past (Some i)) d pk)
+      by_doing : (d : Doing) → doing p t.past top ≡ d → IsParkedThere p t.past (Some i) (doing p t.past top) → TopWaitsFor p t i
+      by_doing Absent d k = absurd (subst (IsParkedThere p t.past (Some i)) d k)
+      by_doing Unplaced d k = absurd (subst (IsParkedThere p t.past (Some i)) d k)
+      by_doing (Ready s k rs) d pk = absurd (subst (IsParkedThere p t.past (Some i)) d pk)
       by_doing (Over x) d k = absurd (live x d)
       by_doing (Waits s k rs q l) d pk =
-          elim (subst (IsParked p t.past (Some i)) d pk) [
+          elim (subst (IsParkedThere p t.past (Some i)) d pk) [
             | inl e ↦ (let v : Some i ≡ Some q = e in let same : i ≡ q = cc in record { body = top; on_top = on_top; start = s; depth = k; answers = rs; place = l; is = d ∙ ap (λ n. Waits s k rs n l) (sym same) })
             | inr server ↦
                 (let made = subst (WaitsOn (λ n. maker n h ≡ Some top)) (sym (same_doing top begins) ∙ d) (waits_for_own p h top m.past) in
@@ -306,7 +306,7 @@ module _ (code : Parts) (limits : Limits) (sound : IsSound (code_program code li
           let p = code_program code limits in
           let places = comes.places in
           let stack = stack_at code limits t b is e in
-          let there : Begins b.number (view_of t).past = ⊎_elim (λ none. absurd (top_there code limits (view_of t).past b b.next stack.0 none)) (λ k. k) (begins_there p (view_of t).past b.number is.task.told) in
+          let there : BeginsThere b.number (view_of t).past = ⊎_elim (λ none. absurd (top_there code limits (view_of t).past b b.next stack.0 none)) (λ k. k) (begins_there p (view_of t).past b.number is.task.told) in
           top_waits p sound one places.run places.view places.merged places.other (view_of t) places.other_is is.task c.number comes.parked b.number (ap body_number e) there (top_lives code limits (view_of t).past b b.next stack.0)
 
   -- so a message to an asynchronous method comes without such a task

@@ -16,7 +16,7 @@ use Rattle.chord_base.proofs.Places.{kept_below}
 use Rattle.chord_code.specs.declared.parts.Parts.{Parts}
 use Rattle.chord_code.specs.Meaning.{code_program}
 use Rattle.chord_rule.specs.Closing.{IsQuiet, AreQuiet}
-use Rattle.chord_rule.specs.Kinds.{among, entry, left_by, MayGo}
+use Rattle.chord_rule.specs.Kinds.{is_among, entry, left_by, MayGo}
 use Rattle.chord_task.specs.declared.body.Body.{Body}
 use Rattle.chord_task.specs.declared.body.Next.{Next}
 use Rattle.chord_task.specs.declared.body.Next.TheVariants as nexts
@@ -43,14 +43,14 @@ flag_other false c z o = ne_eqb 0 c (λ q. eqb-false c 0 z (sym q))
 pub two_parted : (p : Program) (es ps : List Entry) → IsRising es → MayGo p es ps → IsParted p (two (left_by ps es) ps) es
 two_parted p es ps rises may = record {
   rises = rises;
-  at = λ n. if among ps n then 1 else 0;
+  at = λ n. if is_among ps n then 1 else 0;
   keeps = λ c. elim (either (c == 0)) [
-    | inl y ↦ rw y (subst (λ (d : ℕ). kept (λ n. (if among ps n then 1 else 0) == d) es ≡ left_by ps es) (sym (eqb-true c 0 y))
-        (kept_agree (λ n. (if among ps n then 1 else 0) == 0) (λ n. not (among ps n)) es (λ e i. flag_not (among ps e.number))))
+    | inl y ↦ rw y (subst (λ (d : ℕ). kept (λ n. (if is_among ps n then 1 else 0) == d) es ≡ left_by ps es) (sym (eqb-true c 0 y))
+        (kept_agree (λ n. (if is_among ps n then 1 else 0) == 0) (λ n. not (is_among ps n)) es (λ e i. flag_not (is_among ps e.number))))
     | inr o ↦ elim (either (c == 1)) [
-      | inl y ↦ rw (o, y) (subst (λ (d : ℕ). kept (λ n. (if among ps n then 1 else 0) == d) es ≡ ps) (sym (eqb-true c 1 y))
-          (kept_agree (λ n. (if among ps n then 1 else 0) == 1) (among ps) es (λ e i. flag_is (among ps e.number)) ∙ may.part))
-      | inr z ↦ rw (o, z) (kept_agree (λ n. (if among ps n then 1 else 0) == c) (λ n. false) es (λ e i. flag_other (among ps e.number) c o z) ∙ kept_nothing es)
+      | inl y ↦ rw (o, y) (subst (λ (d : ℕ). kept (λ n. (if is_among ps n then 1 else 0) == d) es ≡ ps) (sym (eqb-true c 1 y))
+          (kept_agree (λ n. (if is_among ps n then 1 else 0) == 1) (is_among ps) es (λ e i. flag_is (is_among ps e.number)) ∙ may.part))
+      | inr z ↦ rw (o, z) (kept_agree (λ n. (if is_among ps n then 1 else 0) == c) (λ n. false) es (λ e i. flag_other (is_among ps e.number) c o z) ∙ kept_nothing es)
     ]
   ];
   told = λ c. elim (either (c == 0)) [
@@ -62,8 +62,8 @@ two_parted p es ps rises may = record {
 -- an entry above all leaves the same, where it goes with what goes
 pub left_above : (ps : List Entry) (e : Entry) (es : List Entry) → AllBelow e.number es → left_by (e ∷ ps) (e ∷ es) ≡ left_by ps es
 left_above ps e es below = rw (eq-eqb e.number e.number refl)
-    (kept_agree (λ n. not ((e.number == n) || among ps n)) (λ n. not (among ps n)) es
-    (λ x i. let l = in_below e.number es x below i in ap (λ (b : Bool). not (b || among ps x.number)) (ne_eqb e.number x.number (λ q. omega (arith, q, l)))))
+    (kept_agree (λ n. not ((e.number == n) || is_among ps n)) (λ n. not (is_among ps n)) es
+    (λ x i. let l = in_below e.number es x below i in ap (λ (b : Bool). not (b || is_among ps x.number)) (ne_eqb e.number x.number (λ q. omega (arith, q, l)))))
 
 -- a part and the rest are all, in another order
 pub both_parts : (f : ℕ → Bool) (h : List Entry) → IsPermutation (kept (λ n. not (f n)) h ++ kept f h) h
@@ -78,7 +78,7 @@ both_parts f (e ∷ h) =
 
 -- what goes and what stays are all, in another order
 pub gone_and_left : (p : Program) (es ps : List Entry) → MayGo p es ps → IsPermutation (left_by ps es ++ ps) es
-gone_and_left p es ps may = subst (λ (qs : List Entry). IsPermutation (left_by ps es ++ qs) es) may.part (both_parts (among ps) es)
+gone_and_left p es ps may = subst (λ (qs : List Entry). IsPermutation (left_by ps es ++ qs) es) may.part (both_parts (is_among ps) es)
 
 -- ## Tasks
 
@@ -170,7 +170,7 @@ module _ (code : Parts) (limits : Limits) (es : List Entry) (spent : Bool) (done
 
     -- the task's numbers are below that of the entry
     pub noted_below : AllBelow n (view_of t).past
-    noted_below = subst (AllBelow n) m.played.1.part (kept_below n (among (view_of t).past) es below)
+    noted_below = subst (AllBelow n) m.played.1.part (kept_below n (is_among (view_of t).past) es below)
 
     -- what the task does with the entry is defined
     pub noted_defined : IsSound p → (h : List Entry) (views : ℕ → List Entry) (merged : IsMerged p views h) (i : ℕ) → views i ≡ entry n b w ∷ es → (c : ℕ) → IsDefined p (doing p (entry n b w ∷ (view_of t).past) c)

@@ -17,16 +17,16 @@ use Rattle.chord_base.proofs.Merge.{IsSeen, first_or_next, asked_placed, placed_
 use Rattle.chord_rule.specs.declared.view.View.{View}
 use Rattle.chord_rule.specs.Kinds.{entry, drew, saw_count, left_by, MayGo}
 use Rattle.chord_rule.specs.Numbers.{HasNumber}
-use Rattle.chord_rule.specs.Parcels.{Begins, IsParked}
+use Rattle.chord_rule.specs.Parcels.{BeginsThere, IsParkedThere}
 use Rattle.chord_space.specs.Gives.{MayLink}
 use Rattle.chord_task.specs.Stacks.{TaskView, IsTask, IsServedThere}
-use Rattle.chord_worker.specs.Resting.{IsFree}
+use Rattle.chord_worker.specs.Resting.{IsHandFree}
 use Rattle.chord_worker.proofs.Parts.{in_below, kept_nothing, all_kept}
 
 -- ## Bodies that begin
 
 -- a body that serves a call begins among the told entries that say so
-pub serves_begins : (p : Program) (es : List Entry) (c q : ℕ) → IsTold p es → serves p c es ≡ Some q → Begins c es
+pub serves_begins : (p : Program) (es : List Entry) (c q : ℕ) → IsTold p es → serves p c es ≡ Some q → BeginsThere c es
 serves_begins p [] c q t s = let z : Path (Option ℕ) None (Some q) = s in cc
 serves_begins p (e ∷ es) c q t s =
     elim (either (e.number == c)) [
@@ -44,7 +44,7 @@ serves_begins p (e ∷ es) c q t s =
     first (Ended x) t s = let z : Path (Option ℕ) None (Some q) = s in cc
 
 -- a parked body, for any call of those entries
-pub still_parked : (p : Program) (es : List Entry) (m : Option ℕ) (d : Doing) → IsTold p es → asked p d ≡ None → IsDefined p d → (d ≡ Unplaced → ⊥) → (d ≡ Absent → ⊥) → IsServedThere p es d → IsParked p es m d
+pub still_parked : (p : Program) (es : List Entry) (m : Option ℕ) (d : Doing) → IsTold p es → asked p d ≡ None → IsDefined p d → (d ≡ Unplaced → ⊥) → (d ≡ Absent → ⊥) → IsServedThere p es d → IsParkedThere p es m d
 still_parked p es m (Waits s k rs q l) told a d u b w = inr (w.0, serves_begins p es w.0 q told w.1, w.1)
 still_parked p es m (Over x) told a d u b w = tt
 still_parked p es m Absent told a d u b w = b refl
@@ -126,11 +126,11 @@ seen_there p (x ∷ es) e b t i s =
     ]
 
 -- a body that begins among told entries is there
-pub begins_seen : (p : Program) (es : List Entry) (b : ℕ) → IsTold p es → Begins b es → doing p es b ≡ Absent → ⊥
+pub begins_seen : (p : Program) (es : List Entry) (b : ℕ) → IsTold p es → BeginsThere b es → doing p es b ≡ Absent → ⊥
 begins_seen p es b t k a = subst IsSeen a (seen_there p es k.0 b t k.1 k.3)
 
 -- the bodies below the top of a task are parked
-pub below_parked : (p : Program) (t : TaskView) (m : Option ℕ) → IsTask p t → ((b : ℕ) → IsDefined p (doing p t.past b)) → (b : ℕ) → (t.top ≡ Some b → ⊥) → Begins b t.past → IsParked p t.past m (doing p t.past b)
+pub below_parked : (p : Program) (t : TaskView) (m : Option ℕ) → IsTask p t → ((b : ℕ) → IsDefined p (doing p t.past b)) → (b : ℕ) → (t.top ≡ Some b → ⊥) → BeginsThere b t.past → IsParkedThere p t.past m (doing p t.past b)
 below_parked p t m k d b other begins = still_parked p t.past m (doing p t.past b) k.told (k.quiet b other) (d b) (k.placed b) (begins_seen p t.past b k.told begins) (k.below b other)
 
 -- ## Links
@@ -144,14 +144,14 @@ call_waits p Unplaced n a e = let z : Path (Option Asked) None (Some a) = e in c
 call_waits p (Over x) n a e = let z : Path (Option Asked) None (Some a) = e in cc
 
 -- a body that waits for a call is parked for it
-waits_parked : (p : Program) (es : List Entry) (n : ℕ) (d : Doing) → IsParkedOn n d → IsParked p es (Some n) d
+waits_parked : (p : Program) (es : List Entry) (n : ℕ) (d : Doing) → IsParkedOn n d → IsParkedThere p es (Some n) d
 waits_parked p es n (Waits s k rs q l) w = inl (ap Some w)
 waits_parked p es n (Ready s k rs) w = w
 waits_parked p es n Absent w = w
 waits_parked p es n Unplaced w = w
 waits_parked p es n (Over x) w = absurd w
 
-module _ (p : Program) (v : View) (free : IsFree v) (n body : ℕ) (below : AllBelow n v.kept) (o : Object) (j : ℕ) (vs : List value.Value) where
+module _ (p : Program) (v : View) (free : IsHandFree v) (n body : ℕ) (below : AllBelow n v.kept) (o : Object) (j : ℕ) (vs : List value.Value) where
   -- nothing may go at any time
   pub nothing_goes : (es : List Entry) → IsTold p es → MayGo p es []
   nothing_goes es told = record { part = kept_nothing es; goes = tt; stays = subst (IsTold p) (sym (all_kept es)) told }
@@ -195,7 +195,7 @@ module _ (p : Program) (v : View) (free : IsFree v) (n body : ℕ) (below : AllB
     ];
     call = λ e i c. subst (IsIn e) (sym is) (inl (newest (Called o j vs) e i c.0));
     parked = λ b begins. elim (either (body == b)) [
-      | inl y ↦ subst (λ (c : ℕ). IsParked p t.past (Some n) (doing p t.past c)) (eqb-true body b y) top_parked
+      | inl y ↦ subst (λ (c : ℕ). IsParkedThere p t.past (Some n) (doing p t.past c)) (eqb-true body b y) top_parked
       | inr z ↦ below_parked p t (Some n) k d b (λ q. eqb-false body b z (some_same (sym top ∙ q))) begins
     ];
   }
@@ -203,6 +203,6 @@ module _ (p : Program) (v : View) (free : IsFree v) (n body : ℕ) (below : AllB
       some_same : {b c : ℕ} → Some b ≡ Some c → b ≡ c
       some_same e = cc
 
-      top_parked : IsParked p t.past (Some n) (doing p t.past body)
+      top_parked : IsParkedThere p t.past (Some n) (doing p t.past body)
       top_parked = waits_parked p t.past n (doing p t.past body)
           (subst (λ (es : List Entry). IsParkedOn n (doing p es body)) (sym is) (rw (eq-eqb body body refl) (call_waits p (doing p past body) n _ asks.1)))

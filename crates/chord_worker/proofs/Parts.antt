@@ -13,7 +13,7 @@ use Rattle.chord_base.proofs.Merged.{past_rises}
 use Rattle.chord_base.proofs.Parting.{parting_keeps_places}
 use Rattle.chord_base.proofs.Together.{parts_together}
 use Rattle.chord_rule.specs.Closing.{IsQuiet, AreQuiet}
-use Rattle.chord_rule.specs.Kinds.{among, left_by, MayGo}
+use Rattle.chord_rule.specs.Kinds.{is_among, left_by, MayGo}
 use Rattle.chord_worker.specs.Parted.{IsParted, with_part}
 
 -- ## What a test keeps
@@ -46,16 +46,16 @@ kept_rises f (e ∷ h) r =
     ]
 
 -- an entry that passes the test is kept
-pub in_kept : (f : ℕ → Bool) (h : List Entry) (e : Entry) → IsIn e h → f e.number ≡ true → IsIn e (kept f h)
-in_kept f [] e i y = absurd i
-in_kept f (x ∷ h) e i y =
+pub in_part : (f : ℕ → Bool) (h : List Entry) (e : Entry) → IsIn e h → f e.number ≡ true → IsIn e (kept f h)
+in_part f [] e i y = absurd i
+in_part f (x ∷ h) e i y =
     ⊎_elim
     (λ s. let z : f x.number ≡ true = ap (λ (t : Entry). f t.number) (sym s) ∙ y in rw z (inl s))
-    (λ k. elim (either (f x.number)) [ inl z ↦ rw z (inr (in_kept f h e k y)) | inr o ↦ rw o (in_kept f h e k y) ]) i
+    (λ k. elim (either (f x.number)) [ inl z ↦ rw z (inr (in_part f h e k y)) | inr o ↦ rw o (in_part f h e k y) ]) i
 
 -- an entry of a history of which a test keeps nothing does not pass it
 pub none_kept : (f : ℕ → Bool) (h : List Entry) (e : Entry) → kept f h ≡ [] → IsIn e h → f e.number ≡ false
-none_kept f h e none i = elim (either (f e.number)) [ inl y ↦ absurd (subst (IsIn e) none (in_kept f h e i y)) | inr o ↦ o ]
+none_kept f h e none i = elim (either (f e.number)) [ inl y ↦ absurd (subst (IsIn e) none (in_part f h e i y)) | inr o ↦ o ]
 
 -- an entry below a number has a number below it
 pub in_below : (n : ℕ) (h : List Entry) (e : Entry) → AllBelow n h → IsIn e h → e.number < n
@@ -63,7 +63,7 @@ in_below n [] e a i = absurd i
 in_below n (x ∷ h) e a i = ⊎_elim (λ s. subst (λ (z : Entry). z.number < n) (sym s) a.0) (λ k. in_below n h e a.1 k) i
 
 -- a number among those of kept entries passes the test
-among_kept : (f : ℕ → Bool) (h : List Entry) (n : ℕ) → among (kept f h) n ≡ true → f n ≡ true
+among_kept : (f : ℕ → Bool) (h : List Entry) (n : ℕ) → is_among (kept f h) n ≡ true → f n ≡ true
 among_kept f [] n a = let z : false ≡ true = a in absurd (cc)
 among_kept f (e ∷ h) n a =
     elim (either (f e.number)) [
@@ -77,7 +77,7 @@ or_right true b e = refl
 or_right false b e = e
 
 -- the number of an entry that passes the test is among those of the kept entries
-pub among_in : (f : ℕ → Bool) (h : List Entry) (e : Entry) → IsIn e h → f e.number ≡ true → among (kept f h) e.number ≡ true
+pub among_in : (f : ℕ → Bool) (h : List Entry) (e : Entry) → IsIn e h → f e.number ≡ true → is_among (kept f h) e.number ≡ true
 among_in f [] e i y = absurd i
 among_in f (x ∷ h) e i y =
     ⊎_elim
@@ -85,29 +85,29 @@ among_in f (x ∷ h) e i y =
     let q : x.number ≡ e.number = ap (λ (t : Entry). t.number) (sym s) in
     rw (z, eq-eqb x.number e.number q) refl)
     (λ k. elim (either (f x.number)) [
-      | inl z ↦ rw z (or_right (x.number == e.number) (among (kept f h) e.number) (among_in f h e k y))
+      | inl z ↦ rw z (or_right (x.number == e.number) (is_among (kept f h) e.number) (among_in f h e k y))
       | inr o ↦ rw o (among_in f h e k y)
     ]) i
 
 -- of an entry of the history, the numbers of the kept entries tell what the test does
-among_is : (f : ℕ → Bool) (h : List Entry) (e : Entry) → IsIn e h → among (kept f h) e.number ≡ f e.number
+among_is : (f : ℕ → Bool) (h : List Entry) (e : Entry) → IsIn e h → is_among (kept f h) e.number ≡ f e.number
 among_is f h e i =
     elim (either (f e.number)) [
       | inl y ↦ among_in f h e i y ∙ sym y
       | inr o ↦
-          elim (either (among (kept f h) e.number)) [
+          elim (either (is_among (kept f h) e.number)) [
             | inl a ↦ (let z : true ≡ false = sym (among_kept f h e.number a) ∙ o in absurd (cc))
             | inr b ↦ b ∙ sym o
           ]
     ]
 
 -- what is kept is the part with these numbers
-pub part_is : (f : ℕ → Bool) (h : List Entry) → kept (among (kept f h)) h ≡ kept f h
-part_is f h = kept_agree (among (kept f h)) f h (λ e i. among_is f h e i)
+pub part_is : (f : ℕ → Bool) (h : List Entry) → kept (is_among (kept f h)) h ≡ kept f h
+part_is f h = kept_agree (is_among (kept f h)) f h (λ e i. among_is f h e i)
 
 -- what is left of it is what the test does not keep
 pub left_is : (f : ℕ → Bool) (h : List Entry) → left_by (kept f h) h ≡ kept (λ n. not (f n)) h
-left_is f h = kept_agree (λ n. not (among (kept f h) n)) (λ n. not (f n)) h (λ e i. ap not (among_is f h e i))
+left_is f h = kept_agree (λ n. not (is_among (kept f h) n)) (λ n. not (f n)) h (λ e i. ap not (among_is f h e i))
 
 -- nothing is kept by a test that nothing passes
 pub kept_nothing : (h : List Entry) → kept (λ n. false) h ≡ []
@@ -296,7 +296,7 @@ module _ (p : Program) (part : ℕ → List Entry) (es : List Entry) (m : IsPart
               elim (either (mine e.number)) [
                 | inl y ↦
                     (let o = other_mine e.number y in
-                    let z : (m.at e.number == c) ≡ false = none_kept (λ n. m.at n == c) es e (m.keeps c ∙ free) (subst (IsIn e) (merged.keeps i ∙ here) (in_kept mine h e k y)) in
+                    let z : (m.at e.number == c) ≡ false = none_kept (λ n. m.at n == c) es e (m.keeps c ∙ free) (subst (IsIn e) (merged.keeps i ∙ here) (in_part mine h e k y)) in
                     rw (y, o, z) refl)
                 | inr n ↦ elim (either (others e.number)) [ inl y ↦ rw (n, y, eq-eqb c c refl) refl | inr o ↦ rw (n, o) refl ]
               ]

@@ -5,27 +5,27 @@ use Rattle.chord_base.specs.declared.event.Entry.{Entry}
 use Rattle.chord_rule.specs.declared.view.View.{View}
 use Rattle.chord_rule.specs.Kinds.{entry, drew, saw_count, was_told}
 use Rattle.chord_space.specs.declared.space.Space.{Space}
-use Rattle.chord_space.specs.Desks.{view, code_of, limits_of, IsDeskOf, IsSameDesk}
+use Rattle.chord_space.specs.Desks.{view, space_code, space_limits, IsDeskOf, IsSameDesk}
 use Rattle.chord_task.specs.declared.parcel.Parcel.{Parcel}
 use Rattle.chord_task.specs.declared.task.Task.{Task}
 use Rattle.chord_task.specs.Standing.{is_ready_of}
 use Rattle.chord_worker.specs.declared.worker.Worker.{Worker}
-use Rattle.chord_worker.specs.Playing.{IsNoted, WasToldFull, IsPlain}
+use Rattle.chord_worker.specs.Playing.{IsNotedAs, WasToldFull, IsNoMessage}
 use Rattle.chord_worker.proofs.Memory.{task_laid}
-use Rattle.chord_worker.specs.Resting.{IsInMemory, MayContinue, IsFree, IsStock, IsAtRest, IsSameRole}
+use Rattle.chord_worker.specs.Resting.{IsInMemory, MayContinue, IsHandFree, IsStock, IsAtRest, IsSameRole}
 
 module _ (s : Space Parcel) (w : Worker) (t : Task) (r : IsAtRest s (record w { task = Some t })) (w' : Worker) (same : IsSameDesk w.desk w'.desk) (stock : w'.spare ≡ w.spare) where
-  module _ (t' : Task) (n : ℕ) (what : What) (noted : IsNoted (code_of s) (limits_of s) (view w.desk) (view w'.desk) t t' n what) where
+  module _ (t' : Task) (n : ℕ) (what : What) (noted : IsNotedAs (space_code s) (space_limits s) (view w.desk) (view w'.desk) t t' n what) where
     -- an entry that is no message was drawn
-    pub rest_noted : IsPlain what → w'.spent ≡ w.spent → IsInMemory (code_of s) (limits_of s) (entry n noted.body what ∷ (view w.desk).kept) (view w.desk).spent w'.done.items w'.task → MayContinue w'.task → IsAtRest s w'
+    pub rest_noted : IsNoMessage what → w'.spent ≡ w.spent → IsInMemory (space_code s) (space_limits s) (entry n noted.body what ∷ (view w.desk).kept) (view w.desk).spent w'.done.items w'.task → MayContinue w'.task → IsAtRest s w'
     rest_noted plain spent memory goes_on = record {
       desk = same.0 ∙ r.desk;
       told = spent ∙ r.told ∙ sym (ap (λ (z : View). z.spent) noted.drawn);
-      free = subst IsFree (sym noted.drawn) (record { claims = r.free.claims; flight = r.free.flight; fresh = plain n (view w.desk).fresh ∙ r.free.fresh });
+      free = subst IsHandFree (sym noted.drawn) (record { claims = r.free.claims; flight = r.free.flight; fresh = plain n (view w.desk).fresh ∙ r.free.fresh });
       duties = λ e. ap (λ (z : View). z.duties) noted.drawn ∙ r.duties (sym (ap (λ (z : View). z.spent) noted.drawn) ∙ e);
-      memory = subst (λ (z : View). IsInMemory (code_of s) (limits_of s) z.kept z.spent w'.done.items w'.task) (sym noted.drawn) memory;
+      memory = subst (λ (z : View). IsInMemory (space_code s) (space_limits s) z.kept z.spent w'.done.items w'.task) (sym noted.drawn) memory;
       goes_on = goes_on;
-      stock = subst (IsStock (code_of s) (limits_of s)) (sym stock) r.stock;
+      stock = subst (IsStock (space_code s) (space_limits s)) (sym stock) r.stock;
     }
 
     -- the desk has its role still
@@ -43,14 +43,14 @@ module _ (s : Space Parcel) (w : Worker) (t : Task) (r : IsAtRest s (record w { 
     rest_told task spent done = record {
       desk = same.0 ∙ r.desk;
       told = spent ∙ sym (ap (λ (z : View). z.spent) told.view);
-      free = subst IsFree (sym told.view) (record { claims = r.free.claims; flight = r.free.flight; fresh = r.free.fresh });
+      free = subst IsHandFree (sym told.view) (record { claims = r.free.claims; flight = r.free.flight; fresh = r.free.fresh });
       duties = λ e. let z : true ≡ false = sym (ap (λ (z : View). z.spent) told.view) ∙ e in absurd (cc);
-      memory = subst (λ (z : View). IsInMemory (code_of s) (limits_of s) z.kept z.spent w'.done.items w'.task) (sym told.view)
-          (subst (λ (es : List Entry). IsInMemory (code_of s) (limits_of s) (view w.desk).kept true es w'.task) (sym (done ∙ ap (λ (x : Task). w.done.items ++ x.past.items) told.task))
-          (subst (λ (x : Option Task). IsInMemory (code_of s) (limits_of s) (view w.desk).kept true (w.done.items ++ t.past.items) x) (sym task)
-          (task_laid (code_of s) (limits_of s) (view w.desk).kept (view w.desk).spent w.done.items t r.memory)));
+      memory = subst (λ (z : View). IsInMemory (space_code s) (space_limits s) z.kept z.spent w'.done.items w'.task) (sym told.view)
+          (subst (λ (es : List Entry). IsInMemory (space_code s) (space_limits s) (view w.desk).kept true es w'.task) (sym (done ∙ ap (λ (x : Task). w.done.items ++ x.past.items) told.task))
+          (subst (λ (x : Option Task). IsInMemory (space_code s) (space_limits s) (view w.desk).kept true (w.done.items ++ t.past.items) x) (sym task)
+          (task_laid (space_code s) (space_limits s) (view w.desk).kept (view w.desk).spent w.done.items t r.memory)));
       goes_on = subst MayContinue (sym task) tt;
-      stock = subst (IsStock (code_of s) (limits_of s)) (sym stock) r.stock;
+      stock = subst (IsStock (space_code s) (space_limits s)) (sym stock) r.stock;
     }
 
     -- the desk has its role still

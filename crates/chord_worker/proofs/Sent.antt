@@ -15,16 +15,16 @@ use Rattle.chord_code.specs.Meaning.{code_program}
 use Rattle.chord_rule.specs.declared.view.Duty.{Duty}
 use Rattle.chord_rule.specs.declared.view.View.{View}
 use Rattle.chord_rule.specs.Duties.{duty_on}
-use Rattle.chord_rule.specs.Kinds.{among, entry, drew, saw_count, left_by, without, fresh_after}
+use Rattle.chord_rule.specs.Kinds.{is_among, entry, drew, saw_count, left_by, without, fresh_after}
 use Rattle.chord_space.specs.declared.space.Space.{Space}
-use Rattle.chord_space.specs.Desks.{view, code_of, limits_of, program_of, IsDeskOf, IsSameDesk}
+use Rattle.chord_space.specs.Desks.{view, space_code, space_limits, program_of, IsDeskOf, IsSameDesk}
 use Rattle.chord_space.specs.Gives.{MayLink}
 use Rattle.chord_task.specs.declared.parcel.Parcel.{Parcel}
 use Rattle.chord_task.specs.declared.task.Task.{Task}
 use Rattle.chord_task.specs.Standing.{view_of}
 use Rattle.chord_worker.specs.declared.worker.Worker.{Worker}
-use Rattle.chord_worker.specs.Playing.{IsNoted}
-use Rattle.chord_worker.specs.Resting.{IsFree, IsInMemory, MayContinue, IsStock, IsStockTask, IsAtRest, IsSameRole}
+use Rattle.chord_worker.specs.Playing.{IsNotedAs}
+use Rattle.chord_worker.specs.Resting.{IsHandFree, IsInMemory, MayContinue, IsStock, IsStockTask, IsAtRest, IsSameRole}
 use Rattle.chord_worker.specs.Sending.{IsSentOff, Minds}
 use Rattle.chord_worker.proofs.Attending.{role_on}
 use Rattle.chord_worker.proofs.Parked.{letter_links, call_links}
@@ -42,7 +42,7 @@ alone_gone n = rw (eq-eqb n n refl) refl
 -- where a task's past has gone, the rest is in memory
 pub task_gone : (code : Parts) (limits : Limits) (es : List Entry) (spent : Bool) (done : List Entry) (t : Task) → IsInMemory code limits es spent done (Some t) → IsInMemory code limits (left_by (view_of t).past es) spent done None
 task_gone code limits es spent done t m = record {
-  rises = kept_rises (λ n. not (among (view_of t).past n)) es m.rises;
+  rises = kept_rises (λ n. not (is_among (view_of t).past n)) es m.rises;
   told = m.played.1.stays;
   played = tt;
   held = m.held;
@@ -50,18 +50,18 @@ task_gone code limits es spent done t m = record {
 }
 
 module _ (s : Space Parcel) (w : Worker) (t : Task) (r : IsAtRest s (record w { task = Some t })) (t' : Task) (n : ℕ) (v : View) where
-  module _ (o : Object) (j : ℕ) (vs : List value.Value) (noted : IsNoted (code_of s) (limits_of s) (view w.desk) v t t' n (Sent o j vs)) where
+  module _ (o : Object) (j : ℕ) (vs : List value.Value) (noted : IsNotedAs (space_code s) (space_limits s) (view w.desk) v t t' n (Sent o j vs)) where
     -- the message may be linked with a letter
     pub letter_may : MayLink (program_of s) v n o j [] vs
     letter_may = subst (λ (z : View). MayLink (program_of s) z n o j [] vs) (sym noted.drawn)
         (letter_links (program_of s) (view w.desk) r.free n noted.body noted.below o j vs (noted.memory (view w.desk).spent w.done.items r.memory).told)
 
     -- what is in memory once it was sent
-    pub letter_memory : (u : View) (k : ℕ) → IsSentOff v u n k [] → IsInMemory (code_of s) (limits_of s) u.kept (view w.desk).spent w.done.items (Some t')
-    letter_memory u k sent = subst (λ (es : List Entry). IsInMemory (code_of s) (limits_of s) es (view w.desk).spent w.done.items (Some t'))
+    pub letter_memory : (u : View) (k : ℕ) → IsSentOff v u n k [] → IsInMemory (space_code s) (space_limits s) u.kept (view w.desk).spent w.done.items (Some t')
+    letter_memory u k sent = subst (λ (es : List Entry). IsInMemory (space_code s) (space_limits s) es (view w.desk).spent w.done.items (Some t'))
         (sym (sent.kept ∙ all_kept v.kept ∙ ap (λ (z : View). z.kept) noted.drawn)) (noted.memory (view w.desk).spent w.done.items r.memory)
 
-  module _ (o : Object) (j : ℕ) (vs : List value.Value) (noted : IsNoted (code_of s) (limits_of s) (view w.desk) v t t' n (Called o j vs)) where
+  module _ (o : Object) (j : ℕ) (vs : List value.Value) (noted : IsNotedAs (space_code s) (space_limits s) (view w.desk) v t t' n (Called o j vs)) where
     -- the call may be linked with its task
     pub task_may : MayLink (program_of s) v n o j (view_of t').past vs
     task_may = subst (λ (z : View). MayLink (program_of s) z n o j (view_of t').past vs) (sym noted.drawn)
@@ -73,16 +73,16 @@ module _ (s : Space Parcel) (w : Worker) (t : Task) (r : IsAtRest s (record w { 
     task_left e = let z : Path (Option ℕ) None (Some noted.body) = sym e ∙ noted.top refl in cc
 
     -- what is in memory once it was sent
-    pub task_memory : (u : View) (k : ℕ) → IsSentOff v u n k (view_of t').past → IsInMemory (code_of s) (limits_of s) u.kept (view w.desk).spent w.done.items None
-    task_memory u k sent = subst (λ (es : List Entry). IsInMemory (code_of s) (limits_of s) es (view w.desk).spent w.done.items None)
+    pub task_memory : (u : View) (k : ℕ) → IsSentOff v u n k (view_of t').past → IsInMemory (space_code s) (space_limits s) u.kept (view w.desk).spent w.done.items None
+    task_memory u k sent = subst (λ (es : List Entry). IsInMemory (space_code s) (space_limits s) es (view w.desk).spent w.done.items None)
         (sym (sent.kept ∙ ap (λ (z : View). left_by (view_of t').past z.kept) noted.drawn))
-        (task_gone (code_of s) (limits_of s) (entry n noted.body (Called o j vs) ∷ (view w.desk).kept) (view w.desk).spent w.done.items t' (noted.memory (view w.desk).spent w.done.items r.memory))
+        (task_gone (space_code s) (space_limits s) (entry n noted.body (Called o j vs) ∷ (view w.desk).kept) (view w.desk).spent w.done.items t' (noted.memory (view w.desk).spent w.done.items r.memory))
 
-  module _ (what : What) (noted : IsNoted (code_of s) (limits_of s) (view w.desk) v t t' n what) (message : fresh_after n what [] ≡ n ∷ []) (room : (view w.desk).spent ≡ false) (stock : w.spare ≢ None)
+  module _ (what : What) (noted : IsNotedAs (space_code s) (space_limits s) (view w.desk) v t t' n what) (message : fresh_after n what [] ≡ n ∷ []) (room : (view w.desk).spent ≡ false) (stock : w.spare ≢ None)
       (w' : Worker) (k : ℕ) (es : List Entry) (sent : IsSentOff v (view w'.desk) n k es) (same : IsSameDesk w.desk w'.desk) (spare : w'.spare ≡ w.spare) (spent : w'.spent ≡ w.spent) where
     -- the worker minds the message
-    pub now_minds : IsInMemory (code_of s) (limits_of s) (view w'.desk).kept (view w.desk).spent w'.done.items w'.task → MayContinue w'.task → Minds s w' n k
-    now_minds memory goes_on = let x = in_stock (code_of s) (limits_of s) w.spare r.stock stock in record {
+    pub now_minds : IsInMemory (space_code s) (space_limits s) (view w'.desk).kept (view w.desk).spent w'.done.items w'.task → MayContinue w'.task → Minds s w' n k
+    now_minds memory goes_on = let x = in_stock (space_code s) (space_limits s) w.spare r.stock stock in record {
       desk = same.0 ∙ r.desk;
       told = spent ∙ r.told ∙ room;
       room = sent.spent ∙ ap (λ (z : View). z.spent) noted.drawn ∙ room;
@@ -92,7 +92,7 @@ module _ (s : Space Parcel) (w : Worker) (t : Task) (r : IsAtRest s (record w { 
         fresh = sent.fresh ∙ ap (λ (z : View). without n z.fresh) noted.drawn ∙ ap (λ (xs : List ℕ). without n (fresh_after n what xs)) r.free.fresh ∙ ap (without n) message ∙ alone_gone n;
       };
       duty = ap messages_and_bags (sent.duties ∙ ap (λ (z : View). duty_on n k ∷ z.duties) noted.drawn ∙ ap (λ (ds : List Duty). duty_on n k ∷ ds) (r.duties room));
-      memory = subst (λ (b : Bool). IsInMemory (code_of s) (limits_of s) (view w'.desk).kept b w'.done.items w'.task) room memory;
+      memory = subst (λ (b : Bool). IsInMemory (space_code s) (space_limits s) (view w'.desk).kept b w'.done.items w'.task) room memory;
       goes_on = goes_on;
       stock = x.0;
       spare = spare ∙ x.1;

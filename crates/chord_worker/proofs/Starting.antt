@@ -23,14 +23,14 @@ use Rattle.chord_code.specs.declared.parts.Parts.{Parts}
 use Rattle.chord_code.specs.Meaning.{code_program}
 use Rattle.chord_rule.specs.Coming.{ComesWithFiring, ArePlaces}
 use Rattle.chord_rule.specs.Closing.{IsQuiet, AreQuiet}
-use Rattle.chord_rule.specs.Kinds.{among, entry, left_by, MayGo, played, saw, firing_started}
+use Rattle.chord_rule.specs.Kinds.{is_among, entry, left_by, MayGo, played, saw, firing_started}
 use Rattle.chord_rule.specs.declared.view.View.{View}
 use Rattle.chord_space.specs.declared.space.Desk.{Desk}
 use Rattle.chord_space.specs.declared.space.Space.{Space}
-use Rattle.chord_space.specs.Desks.{view, code_of, limits_of, program_of, IsDeskOf, IsSameDesk}
+use Rattle.chord_space.specs.Desks.{view, space_code, space_limits, program_of, IsDeskOf, IsSameDesk}
 use Rattle.chord_word.specs.declared.cells.Word.{Word}
 use Rattle.chord_worker.specs.declared.worker.Worker.{Worker}
-use Rattle.chord_rule.specs.Parcels.{Begins}
+use Rattle.chord_rule.specs.Parcels.{BeginsThere}
 use Rattle.chord_task.specs.declared.body.Body.{Body}
 use Rattle.chord_task.specs.declared.body.Next.{Next}
 use Rattle.chord_task.specs.declared.body.Next.TheVariants as nexts
@@ -39,7 +39,7 @@ use Rattle.chord_task.specs.declared.task.Task.{Task}
 use Rattle.chord_task.specs.Parcels.{past_in, TaskIn, entries_of, IsParcelOf}
 use Rattle.chord_task.specs.Standing.{view_of, body_number, may_go, body_may_go, is_ready_of, IsTop, IsBodyStack, IsTaskOf, MainBegins}
 use Rattle.chord_worker.specs.Parted.{IsParted, with_part, two}
-use Rattle.chord_worker.specs.Resting.{IsInMemory, MayContinue, IsFree, IsAtRest, IsSameRole}
+use Rattle.chord_worker.specs.Resting.{IsInMemory, MayContinue, IsHandFree, IsAtRest, IsSameRole}
 use Rattle.chord_worker.proofs.Parts.{kept_agree, kept_nothing, all_kept, none_kept, left_is, part_goes, part_came, parts_told}
 
 -- ## Bodies that may go on
@@ -142,7 +142,7 @@ first_fresh p h n (Printed x) m told below t = absurd (no_new_asks p h n (Printe
 first_fresh p h n (Ended x) m told below t = absurd (no_new_asks p h n (Ended x) told below t)
 
 -- a body whose first entry is its only one is fresh
-only_fresh : (p : Program) (es : List Entry) (f : ℕ) → IsTold p es → Begins f es → ((e : Entry) → IsIn e es → e.body ≡ f → e.number ≡ f) → IsFresh (doing p es f)
+only_fresh : (p : Program) (es : List Entry) (f : ℕ) → IsTold p es → BeginsThere f es → ((e : Entry) → IsIn e es → e.body ≡ f → e.number ≡ f) → IsFresh (doing p es f)
 only_fresh p [] f told b only = absurd b.1
 only_fresh p (x ∷ es) f told b only =
     elim (either (x.body == f)) [
@@ -166,7 +166,7 @@ fresh_up (Waits s k rs q l) f u = f
 fresh_up (Over x) f u = f
 
 -- a task that comes with a firing may go on
-pub started_goes : (code : Parts) (limits : Limits) (t : Task) → IsTaskOf code limits t → (f : ℕ) → Begins f (view_of t).past → ((e : Entry) → IsIn e (view_of t).past → e.body ≡ f → e.number ≡ f) → is_ready_of t ≡ true
+pub started_goes : (code : Parts) (limits : Limits) (t : Task) → IsTaskOf code limits t → (f : ℕ) → BeginsThere f (view_of t).past → ((e : Entry) → IsIn e (view_of t).past → e.body ≡ f → e.number ≡ f) → is_ready_of t ≡ true
 started_goes code limits t is f b only = up_goes code limits t is f
     (fresh_up (doing (code_program code limits) (view_of t).past f) (only_fresh (code_program code limits) (view_of t).past f is.task.told b only) (is.task.placed f))
 
@@ -234,7 +234,7 @@ started_memory code limits es done t m is places = record {
         (λ d z o. rw (o, ne_eqb d 0 (λ q. eqb-false 0 d z (sym q))) (no_part (d == 1)))
 
 -- a parcel that brings an entry has a task
-pub some_task : (x : Option Task) (f : ℕ) → Begins f (past_in x) → (t : Task) × (x ≡ Some t)
+pub some_task : (x : Option Task) (f : ℕ) → BeginsThere f (past_in x) → (t : Task) × (x ≡ Some t)
 some_task None f b = absurd b.1
 some_task (Some t) f b = (t, refl)
 
@@ -245,20 +245,20 @@ started_with code limits es done None f m keeps comes = absurd comes.begins.1
 started_with code limits es done (Some t) f m keeps comes = (started_memory code limits es done t m keeps.0 comes.places, started_goes code limits t keeps.0 f comes.begins comes.only)
 
 module _ (s : Space Parcel) (w : Worker) (r : IsAtRest s w) (none : w.task ≡ None) (room : (view w.desk).spent ≡ false) (d : Desk Parcel) (same : IsSameDesk w.desk d) (q : Parcel) (f : ℕ) (c : Word)
-    (view_is : view d ≡ played (saw (firing_started (view w.desk) f (entries_of q)) f c)) (keeps : IsParcelOf q (code_of s) (limits_of s)) (comes : ComesWithFiring (program_of s) (view w.desk).kept f (entries_of q)) where
+    (view_is : view d ≡ played (saw (firing_started (view w.desk) f (entries_of q)) f c)) (keeps : IsParcelOf q (space_code s) (space_limits s)) (comes : ComesWithFiring (program_of s) (view w.desk).kept f (entries_of q)) where
   -- a worker that started a firing is at rest
   pub rest_started : IsAtRest s (record w { desk = d; task = q.task })
   rest_started =
-      let memory : IsInMemory (code_of s) (limits_of s) (view w.desk).kept false w.done.items None = subst (λ (x : Option Task). IsInMemory (code_of s) (limits_of s) (view w.desk).kept false w.done.items x) none
-      (subst (λ (b : Bool). IsInMemory (code_of s) (limits_of s) (view w.desk).kept b w.done.items w.task) room r.memory) in
-      let with_it = started_with (code_of s) (limits_of s) (view w.desk).kept w.done.items q.task f memory keeps.1 comes in
+      let memory : IsInMemory (space_code s) (space_limits s) (view w.desk).kept false w.done.items None = subst (λ (x : Option Task). IsInMemory (space_code s) (space_limits s) (view w.desk).kept false w.done.items x) none
+      (subst (λ (b : Bool). IsInMemory (space_code s) (space_limits s) (view w.desk).kept b w.done.items w.task) room r.memory) in
+      let with_it = started_with (space_code s) (space_limits s) (view w.desk).kept w.done.items q.task f memory keeps.1 comes in
       let spent : (view d).spent ≡ false = ap (λ (z : View). z.spent) view_is ∙ room in record {
         desk = same.0 ∙ r.desk;
         told = r.told ∙ room ∙ sym spent;
-        free = subst IsFree (sym view_is) (record { claims = r.free.claims; flight = r.free.flight; fresh = r.free.fresh });
+        free = subst IsHandFree (sym view_is) (record { claims = r.free.claims; flight = r.free.flight; fresh = r.free.fresh });
         duties = λ e. ap (λ (z : View). z.duties) view_is ∙ r.duties room;
-        memory = subst (λ (b : Bool). IsInMemory (code_of s) (limits_of s) (view d).kept b w.done.items q.task) (sym spent)
-            (subst (λ (es : List Entry). IsInMemory (code_of s) (limits_of s) es false w.done.items q.task) (sym (ap (λ (z : View). z.kept) view_is)) with_it.0);
+        memory = subst (λ (b : Bool). IsInMemory (space_code s) (space_limits s) (view d).kept b w.done.items q.task) (sym spent)
+            (subst (λ (es : List Entry). IsInMemory (space_code s) (space_limits s) es false w.done.items q.task) (sym (ap (λ (z : View). z.kept) view_is)) with_it.0);
         goes_on = with_it.1;
         stock = r.stock;
       }
@@ -273,5 +273,5 @@ module _ (s : Space Parcel) (w : Worker) (r : IsAtRest s w) (none : w.task ≡ N
   }
 
 -- `Main` begins in a sound program
-pub main_begins : (code : Parts) (limits : Limits) → IsSound (code_program code limits) → MainBegins code limits
-main_begins code limits s = s.is_defined (entry 0 0 Begun ∷ []) 0 (tt, record { numbered = refl; comes = (refl, refl) })
+pub main_starts : (code : Parts) (limits : Limits) → IsSound (code_program code limits) → MainBegins code limits
+main_starts code limits s = s.is_defined (entry 0 0 Begun ∷ []) 0 (tt, record { numbered = refl; comes = (refl, refl) })

@@ -15,14 +15,14 @@ use Rattle.chord_rule.specs.Coming.{IsPlace}
 use Rattle.chord_rule.specs.declared.view.Duty.{Duty}
 use Rattle.chord_rule.specs.declared.view.View.{View}
 use Rattle.chord_rule.specs.Duties.{reset_duty}
-use Rattle.chord_rule.specs.Kinds.{among, left_by, MayGo, united}
+use Rattle.chord_rule.specs.Kinds.{is_among, left_by, MayGo, united}
 use Rattle.chord_space.specs.declared.space.Desk.{Desk}
 use Rattle.chord_space.specs.declared.space.Space.{Space}
-use Rattle.chord_space.specs.Desks.{view, code_of, limits_of, program_of, IsDeskOf, IsSameDesk}
+use Rattle.chord_space.specs.Desks.{view, space_code, space_limits, program_of, IsDeskOf, IsSameDesk}
 use Rattle.chord_task.specs.declared.parcel.Parcel.{Parcel}
 use Rattle.chord_task.specs.declared.task.Task.{Task}
 use Rattle.chord_worker.specs.declared.worker.Worker.{Worker}
-use Rattle.chord_worker.specs.Resting.{IsInMemory, MayContinue, IsFree, IsStock, IsAtRest}
+use Rattle.chord_worker.specs.Resting.{IsInMemory, MayContinue, IsHandFree, IsStock, IsAtRest}
 use Rattle.chord_worker.specs.Parted.{IsParted, two}
 use Rattle.chord_worker.proofs.Parts.{kept_agree, kept_nothing, all_kept, kept_rises, among_in, in_below, parts_quiet}
 use Rattle.chord_worker.proofs.Memory.{two_parted}
@@ -125,11 +125,11 @@ kept_together f h (e ∷ g) r =
     ]
 
 -- the number of an entry is among theirs
-among_self : (h : List Entry) (e : Entry) → IsIn e h → among h e.number ≡ true
-among_self h e i = subst (λ (z : List Entry). among z e.number ≡ true) (all_kept h) (among_in (λ n. true) h e i refl)
+among_self : (h : List Entry) (e : Entry) → IsIn e h → is_among h e.number ≡ true
+among_self h e i = subst (λ (z : List Entry). is_among z e.number ≡ true) (all_kept h) (among_in (λ n. true) h e i refl)
 
 -- a number among theirs is that of one
-among_entry : (h : List Entry) (n : ℕ) → among h n ≡ true → (e : Entry) × IsIn e h × (e.number ≡ n)
+among_entry : (h : List Entry) (n : ℕ) → is_among h n ≡ true → (e : Entry) × IsIn e h × (e.number ≡ n)
 among_entry [] n a = let z : false ≡ true = a in absurd (cc)
 among_entry (x ∷ h) n a =
     elim (either (x.number == n)) [
@@ -173,22 +173,22 @@ one_behind h (x ∷ g) r =
 
 module _ (p : Program) (h g : List Entry) (rises : IsRising (together h g)) (lower : IsRising g) (told : IsTold p h) (other : IsTold p g) where
   -- no number of the first is among those of the second
-  apart : (e : Entry) → IsIn e h → among g e.number ≡ false
-  apart e i = elim (either (among g e.number)) [
+  apart : (e : Entry) → IsIn e h → is_among g e.number ≡ false
+  apart e i = elim (either (is_among g e.number)) [
     | inl y ↦ (let k = among_entry g e.number y in absurd ((together_rises h g rises).1 e k.0 i k.1 (sym k.2)))
     | inr o ↦ o
   ]
 
   -- what the second kept is a part of both
-  second_part : kept (among g) (together h g) ≡ g
-  second_part = kept_together (among g) h g rises
-      ∙ ap₂ together (kept_agree (among g) (λ n. false) h (λ e i. apart e i) ∙ kept_nothing h) (kept_agree (among g) (λ n. true) g (λ e i. among_self g e i) ∙ all_kept g)
+  second_part : kept (is_among g) (together h g) ≡ g
+  second_part = kept_together (is_among g) h g rises
+      ∙ ap₂ together (kept_agree (is_among g) (λ n. false) h (λ e i. apart e i) ∙ kept_nothing h) (kept_agree (is_among g) (λ n. true) g (λ e i. among_self g e i) ∙ all_kept g)
       ∙ one_behind [] g lower
 
   -- the rest is what the first kept
   first_left : left_by g (together h g) ≡ h
-  first_left = kept_together (λ n. not (among g n)) h g rises
-      ∙ ap₂ together (kept_agree (λ n. not (among g n)) (λ n. true) h (λ e i. ap not (apart e i)) ∙ all_kept h) (kept_agree (λ n. not (among g n)) (λ n. false) g (λ e i. ap not (among_self g e i)) ∙ kept_nothing g)
+  first_left = kept_together (λ n. not (is_among g n)) h g rises
+      ∙ ap₂ together (kept_agree (λ n. not (is_among g n)) (λ n. true) h (λ e i. ap not (apart e i)) ∙ all_kept h) (kept_agree (λ n. not (is_among g n)) (λ n. false) g (λ e i. ap not (among_self g e i)) ∙ kept_nothing g)
 
   -- both are quiet if each is
   pub both_quiet : AreQuiet p h → AreQuiet p g → AreQuiet p (together h g)
@@ -210,12 +210,12 @@ place_told p es place = subst (IsTold p) place.is (place.merged.told place.place
 module _ (s : Space Parcel) (w o : Worker) (mine : IsAtRest s w) (others : IsAtRest s o) (no_task : w.task ≡ None) (none_there : o.task ≡ None) (d : Desk Parcel) (same : IsSameDesk w.desk d) (view_is : view d ≡ united (view w.desk) (view o.desk)) (place : IsPlace (program_of s) (view d).kept)
     (w' : Worker) (desk : w'.desk ≡ d) (task : w'.task ≡ w.task) (spare : w'.spare ≡ w.spare) (spent : w'.spent ≡ w.spent || o.spent) (done : w'.done.items ≡ w.done.items ++ o.done.items) where
   -- what the first one had in memory
-  first_memory : IsInMemory (code_of s) (limits_of s) (view w.desk).kept (view w.desk).spent w.done.items None
-  first_memory = subst (λ (x : Option Task). IsInMemory (code_of s) (limits_of s) (view w.desk).kept (view w.desk).spent w.done.items x) no_task mine.memory
+  first_memory : IsInMemory (space_code s) (space_limits s) (view w.desk).kept (view w.desk).spent w.done.items None
+  first_memory = subst (λ (x : Option Task). IsInMemory (space_code s) (space_limits s) (view w.desk).kept (view w.desk).spent w.done.items x) no_task mine.memory
 
   -- what the other one had in memory
-  other_memory : IsInMemory (code_of s) (limits_of s) (view o.desk).kept (view o.desk).spent o.done.items None
-  other_memory = subst (λ (x : Option Task). IsInMemory (code_of s) (limits_of s) (view o.desk).kept (view o.desk).spent o.done.items x) none_there others.memory
+  other_memory : IsInMemory (space_code s) (space_limits s) (view o.desk).kept (view o.desk).spent o.done.items None
+  other_memory = subst (λ (x : Option Task). IsInMemory (space_code s) (space_limits s) (view o.desk).kept (view o.desk).spent o.done.items x) none_there others.memory
 
   -- both were told of the limit if one was
   first_room : (a b : Bool) → (a || b) ≡ false → a ≡ false
@@ -228,7 +228,7 @@ module _ (s : Space Parcel) (w o : Worker) (mine : IsAtRest s w) (others : IsAtR
   other_room false b e = e
 
   -- what both have in memory
-  both_memory : IsInMemory (code_of s) (limits_of s) (together (view w.desk).kept (view o.desk).kept) ((view w.desk).spent || (view o.desk).spent) (w.done.items ++ o.done.items) None
+  both_memory : IsInMemory (space_code s) (space_limits s) (together (view w.desk).kept (view o.desk).kept) ((view w.desk).spent || (view o.desk).spent) (w.done.items ++ o.done.items) None
   both_memory =
       let here = subst (IsPlace (program_of s)) (ap (λ (z : View). z.kept) view_is) place in record {
         rises = place_rises (program_of s) (together (view w.desk).kept (view o.desk).kept) here;
@@ -246,12 +246,12 @@ module _ (s : Space Parcel) (w o : Worker) (mine : IsAtRest s w) (others : IsAtR
       let v : view w'.desk ≡ united (view w.desk) (view o.desk) = ap view desk ∙ view_is in record {
         desk = ap (λ (x : Desk Parcel). x.seat.table_id) desk ∙ same.0 ∙ mine.desk;
         told = spent ∙ ap₂ (λ (a b : Bool). a || b) mine.told others.told ∙ sym (ap (λ (z : View). z.spent) v);
-        free = subst IsFree (sym v) (record { claims = mine.free.claims; flight = mine.free.flight; fresh = ap₂ (λ (a b : List ℕ). a ++ b) mine.free.fresh others.free.fresh });
+        free = subst IsHandFree (sym v) (record { claims = mine.free.claims; flight = mine.free.flight; fresh = ap₂ (λ (a b : List ℕ). a ++ b) mine.free.fresh others.free.fresh });
         duties = λ e. let f : ((view w.desk).spent || (view o.desk).spent) ≡ false = sym (ap (λ (z : View). z.spent) v) ∙ e in
             ap (λ (z : View). z.duties) v ∙ ap₂ (λ (a b : List Duty). map reset_duty (a ++ b)) (mine.duties (first_room (view w.desk).spent (view o.desk).spent f)) (others.duties (other_room (view w.desk).spent (view o.desk).spent f));
-        memory = subst (λ (z : View). IsInMemory (code_of s) (limits_of s) z.kept z.spent w'.done.items w'.task) (sym v)
-            (subst (λ (x : Option Task). IsInMemory (code_of s) (limits_of s) (together (view w.desk).kept (view o.desk).kept) ((view w.desk).spent || (view o.desk).spent) w'.done.items x) (sym (task ∙ no_task))
-            (subst (λ (es : List Entry). IsInMemory (code_of s) (limits_of s) (together (view w.desk).kept (view o.desk).kept) ((view w.desk).spent || (view o.desk).spent) es None) (sym done) both_memory));
+        memory = subst (λ (z : View). IsInMemory (space_code s) (space_limits s) z.kept z.spent w'.done.items w'.task) (sym v)
+            (subst (λ (x : Option Task). IsInMemory (space_code s) (space_limits s) (together (view w.desk).kept (view o.desk).kept) ((view w.desk).spent || (view o.desk).spent) w'.done.items x) (sym (task ∙ no_task))
+            (subst (λ (es : List Entry). IsInMemory (space_code s) (space_limits s) (together (view w.desk).kept (view o.desk).kept) ((view w.desk).spent || (view o.desk).spent) es None) (sym done) both_memory));
         goes_on = subst MayContinue (sym (task ∙ no_task)) tt;
-        stock = subst (IsStock (code_of s) (limits_of s)) (sym spare) mine.stock;
+        stock = subst (IsStock (space_code s) (space_limits s)) (sym spare) mine.stock;
       }

@@ -11,15 +11,15 @@ use Rattle.chord_code.specs.declared.parts.Parts.{Parts}
 use Rattle.chord_code.specs.Meaning.{code_program}
 use Rattle.chord_rule.specs.declared.view.View.{View}
 use Rattle.chord_rule.specs.Kinds.{entry, left_by, MayGo}
-use Rattle.chord_rule.specs.Parcels.{Begins}
+use Rattle.chord_rule.specs.Parcels.{BeginsThere}
 use Rattle.chord_space.specs.declared.space.Space.{Space}
-use Rattle.chord_space.specs.Desks.{view, code_of, limits_of, program_of, IsDeskOf}
+use Rattle.chord_space.specs.Desks.{view, space_code, space_limits, program_of, IsDeskOf}
 use Rattle.chord_task.specs.declared.args.Args.{Args}
 use Rattle.chord_task.specs.declared.parcel.Parcel.{Parcel}
 use Rattle.chord_task.specs.declared.task.Task.{Task}
 use Rattle.chord_task.specs.Standing.{view_of, IsTaskOf, MayResume, is_ready_of}
 use Rattle.chord_worker.specs.declared.worker.Worker.{Worker}
-use Rattle.chord_worker.specs.Resting.{IsFree, IsInMemory, MayContinue, IsStock}
+use Rattle.chord_worker.specs.Resting.{IsHandFree, IsInMemory, MayContinue, IsStock}
 
 -- the first task, if there is one, else the second
 abbrev pub first_of : Option Task → Option Task → Option Task
@@ -59,16 +59,16 @@ pub record HasBegun (s : Space Parcel) (w : Worker) (v : View) (f : ℕ) (t : Ta
   pub desk : IsDeskOf s w.desk
   pub told : w.spent ≡ false
   pub room : v.spent ≡ false
-  pub free : IsFree v
-  pub memory : IsInMemory (code_of s) (limits_of s) v.kept false w.done.items w.task
+  pub free : IsHandFree v
+  pub memory : IsInMemory (space_code s) (space_limits s) v.kept false w.done.items w.task
   pub goes_on : MayContinue w.task
-  pub stock : IsStock (code_of s) (limits_of s) w.spare
+  pub stock : IsStock (space_code s) (space_limits s) w.spare
   pub duties : (view w.desk).duties ≡ []
   pub low : f < s.events
   pub seen : view w.desk ≡ record v { kept = (view w.desk).kept; claims = []; unposted = f ∷ v.unposted; drawn = true; duties = (view w.desk).duties; looked = (view w.desk).looked }
-  pub task : IsTaskOf (code_of s) (limits_of s) t
+  pub task : IsTaskOf (space_code s) (space_limits s) t
   pub ready : is_ready_of t ≡ true
   pub top : (view_of t).top ≡ Some f
   pub both : HasBoth (program_of s) v.kept (view_of t).past (view w.desk).kept
-  pub begins : Begins f (view_of t).past
+  pub begins : BeginsThere f (view_of t).past
   pub only : (e : Entry) → IsIn e (view_of t).past → e.body ≡ f → e.number ≡ f

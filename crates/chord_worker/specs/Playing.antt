@@ -25,11 +25,11 @@ pub record IsReadyTo (code : Parts) (limits : Limits) (t : Task) (w : What) : Ty
   pub reserved : IsReserved code t
 
 -- what is asked is no message
-abbrev pub IsPlain : What → Type 0
-IsPlain w = (x : ℕ) (xs : List ℕ) → fresh_after x w xs ≡ xs
+abbrev pub IsNoMessage : What → Type 0
+IsNoMessage w = (x : ℕ) (xs : List ℕ) → fresh_after x w xs ≡ xs
 
 -- the ask became the entry n of the desk and of the task
-pub record IsNoted (code : Parts) (limits : Limits) (v w : View) (t t' : Task) (n : ℕ) (what : What) : Type 0 where
+pub record IsNotedAs (code : Parts) (limits : Limits) (v w : View) (t t' : Task) (n : ℕ) (what : What) : Type 0 where
   pub body : ℕ
   pub on_top : (view_of t).top ≡ Some body
   pub asks : Asks (code_program code limits) (view_of t).past body what

@@ -9,7 +9,7 @@ use Rattle.chord_rule.specs.declared.view.View.{View}
 use Rattle.chord_rule.specs.Closing.{AreQuiet}
 use Rattle.chord_rule.specs.Kinds.{left_by, MayGo}
 use Rattle.chord_space.specs.declared.space.Space.{Space}
-use Rattle.chord_space.specs.Desks.{view, code_of, limits_of, IsDeskOf}
+use Rattle.chord_space.specs.Desks.{view, space_code, space_limits, IsDeskOf}
 use Rattle.chord_task.specs.declared.parcel.Parcel.{Parcel}
 use Rattle.chord_task.specs.declared.task.Task.{Task}
 use Rattle.chord_task.specs.Standing.{view_of, IsTaskOf, IsResumable, is_ready_of}
@@ -40,7 +40,7 @@ MayContinue None = Unit {0}
 MayContinue (Some t) = is_ready_of t ≡ true
 
 -- the desk has nothing in hand, but for firings that it plays itself
-pub record IsFree (v : View) : Type 0 where
+pub record IsHandFree (v : View) : Type 0 where
   pub claims : v.claims ≡ []
   pub flight : v.flight ≡ None
   pub fresh : v.fresh ≡ []
@@ -61,11 +61,11 @@ IsStock code limits (Some t) = IsStockTask code limits t
 pub record IsAtRest (s : Space Parcel) (w : Worker) : Type 0 where
   pub desk : IsDeskOf s w.desk
   pub told : w.spent ≡ (view w.desk).spent
-  pub free : IsFree (view w.desk)
+  pub free : IsHandFree (view w.desk)
   pub duties : (view w.desk).spent ≡ false → (view w.desk).duties ≡ []
-  pub memory : IsInMemory (code_of s) (limits_of s) (view w.desk).kept (view w.desk).spent w.done.items w.task
+  pub memory : IsInMemory (space_code s) (space_limits s) (view w.desk).kept (view w.desk).spent w.done.items w.task
   pub goes_on : MayContinue w.task
-  pub stock : IsStock (code_of s) (limits_of s) w.spare
+  pub stock : IsStock (space_code s) (space_limits s) w.spare
 
 -- both views are of one desk, which was neither split nor joined, and no draw is forgotten
 pub record IsSameRole (v w : View) : Type 0 where

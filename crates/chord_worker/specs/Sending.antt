@@ -6,11 +6,11 @@ use Rattle.chord_rule.specs.declared.view.View.{View}
 use Rattle.chord_rule.specs.Duties.{duty_on}
 use Rattle.chord_rule.specs.Kinds.{left_by, without}
 use Rattle.chord_space.specs.declared.space.Space.{Space}
-use Rattle.chord_space.specs.Desks.{view, code_of, limits_of, IsDeskOf}
+use Rattle.chord_space.specs.Desks.{view, space_code, space_limits, IsDeskOf}
 use Rattle.chord_task.specs.declared.parcel.Parcel.{Parcel}
 use Rattle.chord_task.specs.declared.task.Task.{Task}
 use Rattle.chord_worker.specs.declared.worker.Worker.{Worker}
-use Rattle.chord_worker.specs.Resting.{IsFree, IsInMemory, MayContinue, IsStockTask, IsSameRole}
+use Rattle.chord_worker.specs.Resting.{IsHandFree, IsInMemory, MayContinue, IsStockTask, IsSameRole}
 
 -- the message m was linked in the bag k and armed, and these entries went with its parcel
 pub record IsSentOff (v w : View) (m k : ℕ) (es : List Entry) : Type 0 where
@@ -27,13 +27,13 @@ pub record Minds (s : Space Parcel) (w : Worker) (m k : ℕ) : Type 0 where
   pub desk : IsDeskOf s w.desk
   pub told : w.spent ≡ false
   pub room : (view w.desk).spent ≡ false
-  pub free : IsFree (view w.desk)
+  pub free : IsHandFree (view w.desk)
   pub duty : messages_and_bags (view w.desk).duties ≡ (m, k) ∷ []
-  pub memory : IsInMemory (code_of s) (limits_of s) (view w.desk).kept false w.done.items w.task
+  pub memory : IsInMemory (space_code s) (space_limits s) (view w.desk).kept false w.done.items w.task
   pub goes_on : MayContinue w.task
   pub stock : Task
   pub spare : w.spare ≡ Some stock
-  pub is_stock : IsStockTask (code_of s) (limits_of s) stock
+  pub is_stock : IsStockTask (space_code s) (space_limits s) stock
 
 -- what a task did, if there was one, is done
 abbrev pub IsLaidDown : List Entry → Option Task → List Entry → Type 0

@@ -2,7 +2,7 @@
 ghost use Rattle.std.specs.Prelude.{◌≡◌, ◌≢◌, ◌||◌, ℕ, ◌<◌, ◌-◌, List, true, false, None, OnOk, IfOk, min, is_some, IsPermutation};
 ghost use Rattle.chord_base.specs.Story.{IsSound};
 ghost use Rattle.chord_rule.specs.Kinds.{newcomer, newcomer_first, lent_one, saw_count};
-ghost use Rattle.chord_space.specs.Desks.{view, code_of, limits_of, program_of, IsDeskOf};
+ghost use Rattle.chord_space.specs.Desks.{view, space_code, space_limits, program_of, IsDeskOf};
 ghost use Rattle.chord_word.specs.declared.cells.Word.{Word};
 ghost use Rattle.chord_worker.specs.Resting.{IsAtRest, IsSameRole, IsSeen};
 
@@ -32,7 +32,7 @@ impl Worker {
         limits: &Limits,
         desk: Desk<Parcel>,
     ) -> Result<Worker, AllocError>
-        requires code { (code_of space.now ≡ code.now) × (limits_of space.now ≡ limits.now) }
+        requires code { (space_code space.now ≡ code.now) × (space_limits space.now ≡ limits.now) }
         requires sound { IsSound (program_of space.now) }
         requires desk { IsDeskOf space.now desk × (view desk ≡ newcomer_first) }
         ensures { IfOk result (λ w. IsAtRest space.now w × IsSameRole (view desk) (view w.desk) × ((view w.desk).drawn ≡ true) × ((view w.desk).spent ≡ true → w.task ≡ None)) }
@@ -112,7 +112,7 @@ impl Worker {
         i: u32,
         gate: &G,
     ) -> bool
-        requires code { (code_of space.now ≡ code.now) × (limits_of space.now ≡ limits.now) }
+        requires code { (space_code space.now ≡ code.now) × (space_limits space.now ≡ limits.now) }
         requires sound { IsSound (program_of space.now) }
         requires rest { IsAtRest space.now self.old }
         requires task { self.old.task ≡ None }

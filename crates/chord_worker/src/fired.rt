@@ -2,7 +2,7 @@
 ghost use Rattle.std.specs.Prelude.{◌≡◌, ◌≢◌, ◌⊎◌, ℕ, ◌+◌, ◌≤◌, false, List, ◌++◌, length, None, Some};
 ghost use Rattle.chord_base.specs.Story.{IsSound};
 ghost use Rattle.chord_rule.specs.declared.view.View.{View};
-ghost use Rattle.chord_space.specs.Desks.{view, code_of, limits_of, program_of, IsDeskOf};
+ghost use Rattle.chord_space.specs.Desks.{view, space_code, space_limits, program_of, IsDeskOf};
 ghost use Rattle.chord_task.specs.declared.task.Task.{Task as ATask};
 ghost use Rattle.chord_worker.specs.Beginning.{first_task, arguments_in, caller_or, HasBegun};
 ghost use Rattle.chord_worker.specs.Firing.{HasFired};
@@ -91,8 +91,8 @@ impl Worker {
         number: u32,
         task: Task,
     )
-        requires code { code.now ≡ code_of space.now }
-        requires limits { limits.now ≡ limits_of space.now }
+        requires code { code.now ≡ space_code space.now }
+        requires limits { limits.now ≡ space_limits space.now }
         requires begun { (v : View) × HasBegun space.now self.old v number task }
         ensures desk { IsDeskOf space.now self.new.desk }
         ensures rest { IsAtRest space.now self.new }
@@ -121,8 +121,8 @@ impl Worker {
         drawn: Drawn,
         hand: Hand<Parcel>,
     )
-        requires code { code.now ≡ code_of space.now }
-        requires limits { limits.now ≡ limits_of space.now }
+        requires code { code.now ≡ space_code space.now }
+        requires limits { limits.now ≡ space_limits space.now }
         requires sound { IsSound (program_of space.now) }
         requires fired { (v : View) × HasFired space.now self.old v drawn.object drawn.chord drawn.members drawn.number hand }
         ensures desk { IsDeskOf space.now self.new.desk }

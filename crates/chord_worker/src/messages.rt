@@ -3,7 +3,7 @@ ghost use Rattle.std.specs.Prelude.{◌≡◌, ◌≢◌, ◌<◌, ℕ, true, fa
 ghost use Rattle.chord_base.specs.Story.{IsSound};
 ghost use Rattle.chord_base.specs.declared.event.What.TheVariants.{Sent, Called};
 ghost use Rattle.chord_rule.specs.Made.{key};
-ghost use Rattle.chord_space.specs.Desks.{view, code_of, limits_of, program_of, IsDeskOf, IsSameDesk};
+ghost use Rattle.chord_space.specs.Desks.{view, space_code, space_limits, program_of, IsDeskOf, IsSameDesk};
 ghost use Rattle.chord_space.specs.Gives.{MayLink};
 ghost use Rattle.chord_space.specs.Ruled.{IsOfCode};
 ghost use Rattle.chord_task.specs.Parcels.{entries_of, arguments_of, IsParcelOf};
@@ -37,7 +37,7 @@ pub(crate) fn send_off(
     requires desk { IsDeskOf space.now desk.old }
     requires bounds { (m < space.now.events) × (object.number < space.now.events) × (object.class < 1024) × (method < 16) }
     requires link { MayLink (program_of space.now) (view desk.old) m object method (entries_of parcel) (arguments_of parcel) }
-    requires task { IsParcelOf parcel (code_of space.now) (limits_of space.now) }
+    requires task { IsParcelOf parcel (space_code space.now) (space_limits space.now) }
     ensures desk { IsSameDesk desk.old desk.new }
     ensures sent { IsSentOff (view desk.old) (view desk.new) m (key object method) (entries_of parcel) }
 {
@@ -66,10 +66,10 @@ fn send_letter(
     held: Args,
 )
     requires desk { IsDeskOf space.now desk.old }
-    requires code { code.now ≡ code_of space.now }
-    requires limits { limits.now ≡ limits_of space.now }
+    requires code { code.now ≡ space_code space.now }
+    requires limits { limits.now ≡ space_limits space.now }
     requires bounds { (m < space.now.events) × (object.number < m) }
-    requires named { IsOfCode (code_of space.now) (Sent object method held.first) }
+    requires named { IsOfCode (space_code space.now) (Sent object method held.first) }
     requires twice { held.second ≡ held.first }
     requires link { MayLink (program_of space.now) (view desk.old) m object method [] held.first }
     ensures desk { IsSameDesk desk.old desk.new }
@@ -94,12 +94,12 @@ fn send_task(
     task: Task,
 )
     requires desk { IsDeskOf space.now desk.old }
-    requires code { code.now ≡ code_of space.now }
-    requires limits { limits.now ≡ limits_of space.now }
+    requires code { code.now ≡ space_code space.now }
+    requires limits { limits.now ≡ space_limits space.now }
     requires bounds { (m < space.now.events) × (object.number < m) }
-    requires named { IsOfCode (code_of space.now) (Called object method held.first) }
+    requires named { IsOfCode (space_code space.now) (Called object method held.first) }
     requires twice { held.second ≡ held.first }
-    requires task { IsTaskOf (code_of space.now) (limits_of space.now) task }
+    requires task { IsTaskOf (space_code space.now) (space_limits space.now) task }
     requires left { (view_of task).top ≢ None }
     requires link { MayLink (program_of space.now) (view desk.old) m object method (view_of task).past held.first }
     ensures desk { IsSameDesk desk.old desk.new }
@@ -130,9 +130,9 @@ impl Worker {
         requires rest { IsAtRest space.now (record self.old { task = Some task }) }
         requires room { (view self.old.desk).spent ≡ false }
         requires stock { self.old.spare ≢ None }
-        requires ready { IsReadyTo (code_of space.now) (limits_of space.now) task (Sent object method arguments) }
-        requires code { code.now ≡ code_of space.now }
-        requires limits { limits.now ≡ limits_of space.now }
+        requires ready { IsReadyTo (space_code space.now) (space_limits space.now) task (Sent object method arguments) }
+        requires code { code.now ≡ space_code space.now }
+        requires limits { limits.now ≡ space_limits space.now }
         requires sound { IsSound (program_of space.now) }
         ensures desk { IsDeskOf space.now self.new.desk }
         ensures rest { OnOk result (IsAtRest space.now self.new) }
@@ -188,9 +188,9 @@ impl Worker {
         requires rest { IsAtRest space.now (record self.old { task = Some task }) }
         requires room { (view self.old.desk).spent ≡ false }
         requires stock { self.old.spare ≢ None }
-        requires ready { IsReadyTo (code_of space.now) (limits_of space.now) task (Called object method arguments) }
-        requires code { code.now ≡ code_of space.now }
-        requires limits { limits.now ≡ limits_of space.now }
+        requires ready { IsReadyTo (space_code space.now) (space_limits space.now) task (Called object method arguments) }
+        requires code { code.now ≡ space_code space.now }
+        requires limits { limits.now ≡ space_limits space.now }
         requires sound { IsSound (program_of space.now) }
         ensures desk { IsDeskOf space.now self.new.desk }
         ensures rest { OnOk result (IsAtRest space.now self.new) }

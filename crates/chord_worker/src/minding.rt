@@ -4,7 +4,7 @@ ghost use Rattle.chord_base.specs.Story.{IsSound};
 ghost use Rattle.chord_match.specs.Findings.{IsMatch};
 ghost use Rattle.chord_rule.specs.Made.{key};
 ghost use Rattle.chord_rule.specs.declared.view.View.{View};
-ghost use Rattle.chord_space.specs.Desks.{view, code_of, limits_of, program_of, IsDeskOf};
+ghost use Rattle.chord_space.specs.Desks.{view, space_code, space_limits, program_of, IsDeskOf};
 ghost use Rattle.chord_worker.specs.Sending.{Minds, IsLaidDown};
 ghost use Rattle.chord_worker.specs.Resting.{IsAtRest, IsSameRole};
 
@@ -62,8 +62,8 @@ impl Worker {
         members: Members,
         nexts: Nexts,
     ) -> Result<bool, AllocError>
-        requires code { code.now ≡ code_of space.now }
-        requires limits { limits.now ≡ limits_of space.now }
+        requires code { code.now ≡ space_code space.now }
+        requires limits { limits.now ≡ space_limits space.now }
         requires sound { IsSound (program_of space.now) }
         requires bounds { (message.object.number < space.now.events) × (message.object.class < 1024) × (message.method < 16) }
         requires minds { Minds space.now self.old message.number (key message.object message.method) }
@@ -103,8 +103,8 @@ impl Worker {
         gate: &G,
         message: Minded,
     ) -> Result<bool, AllocError>
-        requires code { code.now ≡ code_of space.now }
-        requires limits { limits.now ≡ limits_of space.now }
+        requires code { code.now ≡ space_code space.now }
+        requires limits { limits.now ≡ space_limits space.now }
         requires sound { IsSound (program_of space.now) }
         requires bounds { (message.number < space.now.events) × (message.object.number < space.now.events) × (message.object.class < 1024) × (message.method < 16) }
         requires minds { Minds space.now self.old message.number (key message.object message.method) }
@@ -144,8 +144,8 @@ impl Worker {
         gate: &G,
         message: Minded,
     ) -> Result<(), AllocError>
-        requires code { code.now ≡ code_of space.now }
-        requires limits { limits.now ≡ limits_of space.now }
+        requires code { code.now ≡ space_code space.now }
+        requires limits { limits.now ≡ space_limits space.now }
         requires sound { IsSound (program_of space.now) }
         requires bounds { (message.number < space.now.events) × (message.object.number < space.now.events) × (message.object.class < 1024) × (message.method < 16) }
         requires minds { Minds space.now self.old message.number (key message.object message.method) }

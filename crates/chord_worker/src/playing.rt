@@ -3,10 +3,10 @@ ghost use Rattle.std.specs.Prelude.{◌≡◌, ◌<◌, ℕ, true, false, List, 
 ghost use Rattle.chord_base.specs.declared.event.Entry.{Entry as AnEntry};
 ghost use Rattle.chord_base.specs.Story.{IsSound};
 ghost use Rattle.chord_code.specs.declared.parts.Parts.{Parts};
-ghost use Rattle.chord_space.specs.Desks.{view, code_of, limits_of, program_of, IsDeskOf, IsSameDesk};
+ghost use Rattle.chord_space.specs.Desks.{view, space_code, space_limits, program_of, IsDeskOf, IsSameDesk};
 ghost use Rattle.chord_task.specs.Standing.{view_of, IsTaskOf, is_ready_of};
 ghost use Rattle.chord_vm.specs.Frames.{what_of_ask};
-ghost use Rattle.chord_worker.specs.Playing.{IsReadyTo, IsNoted, WasToldFull};
+ghost use Rattle.chord_worker.specs.Playing.{IsReadyTo, IsNotedAs, WasToldFull};
 ghost use Rattle.chord_worker.specs.Resting.{IsInMemory, IsStock, IsStockTask};
 
 use chord_base::event::{Limits, What};
@@ -74,11 +74,11 @@ pub(crate) fn draw_own(
 ) -> Result<u32, Spent>
     requires desk { IsDeskOf space.now desk.old }
     requires room { (view desk.old).spent ≡ false }
-    requires memory { (done : List AnEntry) × IsInMemory (code_of space.now) (limits_of space.now) (view desk.old).kept false done (Some task.old) }
-    requires ready { IsReadyTo (code_of space.now) (limits_of space.now) task.old what.now }
+    requires memory { (done : List AnEntry) × IsInMemory (space_code space.now) (space_limits space.now) (view desk.old).kept false done (Some task.old) }
+    requires ready { IsReadyTo (space_code space.now) (space_limits space.now) task.old what.now }
     requires sound { IsSound (program_of space.now) }
     ensures desk { IsSameDesk desk.old desk.new }
-    ensures drawn { MatchResult result (λ n. (n < space.now.events) × IsNoted (code_of space.now) (limits_of space.now) (view desk.old) (view desk.new) task.old task.new n what.now) (λ _. WasToldFull (view desk.old) (view desk.new) task.old task.new) }
+    ensures drawn { MatchResult result (λ n. (n < space.now.events) × IsNotedAs (space_code space.now) (space_limits space.now) (view desk.old) (view desk.new) task.old task.new n what.now) (λ _. WasToldFull (view desk.old) (view desk.new) task.old task.new) }
 {
     let body = top_number(task);
     let number = space.draw(desk, body, what)?;

@@ -4,9 +4,9 @@ ghost use Rattle.chord_base.specs.declared.event.Entry.{Entry as AnEntry};
 ghost use Rattle.chord_base.specs.declared.event.Limits.{Limits as TheLimits};
 ghost use Rattle.chord_base.specs.Story.{IsSound};
 ghost use Rattle.chord_code.specs.declared.parts.Parts.{Parts};
-ghost use Rattle.chord_space.specs.Desks.{view, code_of, limits_of, program_of, IsDeskOf};
+ghost use Rattle.chord_space.specs.Desks.{view, space_code, space_limits, program_of, IsDeskOf};
 ghost use Rattle.chord_vm.specs.Frames.{what_of_ask};
-ghost use Rattle.chord_worker.specs.Playing.{IsReadyTo, IsPlain};
+ghost use Rattle.chord_worker.specs.Playing.{IsReadyTo, IsNoMessage};
 ghost use Rattle.chord_worker.specs.Resting.{IsInMemory, MayContinue, IsAtRest, IsSameRole};
 
 use crate::playing::{draw_own, ready_ask, stocked};
@@ -57,8 +57,8 @@ impl Worker {
         requires none { self.old.task ≡ None }
         requires rest { IsAtRest space.now (record self.old { task = Some task }) }
         requires room { (view self.old.desk).spent ≡ false }
-        requires ready { IsReadyTo (code_of space.now) (limits_of space.now) task what.now }
-        requires plain { IsPlain what.now }
+        requires ready { IsReadyTo (space_code space.now) (space_limits space.now) task what.now }
+        requires plain { IsNoMessage what.now }
         requires sound { IsSound (program_of space.now) }
         ensures desk { IsDeskOf space.now self.new.desk }
         ensures rest { OnOk result (IsAtRest space.now self.new) }
@@ -96,9 +96,9 @@ impl Worker {
         requires rest { IsAtRest space.now (record self.old { task = Some task }) }
         requires room { (view self.old.desk).spent ≡ false }
         requires stock { self.old.spare ≢ None }
-        requires ready { IsReadyTo (code_of space.now) (limits_of space.now) task (what_of_ask ask) }
-        requires code { code.now ≡ code_of space.now }
-        requires limits { limits.now ≡ limits_of space.now }
+        requires ready { IsReadyTo (space_code space.now) (space_limits space.now) task (what_of_ask ask) }
+        requires code { code.now ≡ space_code space.now }
+        requires limits { limits.now ≡ space_limits space.now }
         requires sound { IsSound (program_of space.now) }
         ensures rest { OnOk result (IsAtRest space.now self.new) }
         ensures role { OnOk result (IsSameRole (view self.old.desk) (view self.new.desk)) }
@@ -147,7 +147,7 @@ impl Worker {
         limits: &Limits,
         gate: &G,
     ) -> Result<(), AllocError>
-        requires code { (code_of space.now ≡ code.now) × (limits_of space.now ≡ limits.now) }
+        requires code { (space_code space.now ≡ code.now) × (space_limits space.now ≡ limits.now) }
         requires sound { IsSound (program_of space.now) }
         requires rest { IsAtRest space.now self.old }
         requires task { self.old.task ≢ None }

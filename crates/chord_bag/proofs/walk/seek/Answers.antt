@@ -3,13 +3,13 @@ use Rattle.chord_rule.specs.Made.{key}
 use Rattle.chord_space.specs.Desks.{view}
 use Rattle.chord_bag.specs.declared.walk.Turn.{Turn}
 use Rattle.chord_bag.specs.Walking.{Going, ComesToTurn}
-use Rattle.chord_bag.proofs.Turning.{starts, room_left, low, walk_ended}
+use Rattle.chord_bag.proofs.Turning.{seek_starts, room_left, low, walk_ended}
 use Rattle.chord_bag.proofs.walk.seek.Goals as goal
 
 pub loop-place-init : goal.loop-place-init
 loop-place-init g c =
     let e = c.look_head-place.ensures in
-    (e.desk.0 ∙ c.requires.desk, e.desk, starts c.args.space.now.events (key c.args.object c.args.method) (view c.args.desk.now) (view c.look_head-place.new.desk) c.look_head-place.result e.looked e.room)
+    (e.desk.0 ∙ c.requires.desk, e.desk, seek_starts c.args.space.now.events (key c.args.object c.args.method) (view c.args.desk.now) (view c.look_head-place.new.desk) c.look_head-place.result e.looked e.room)
 
 pub look_on-requires-clause-bounds : goal.look_on-requires-clause-bounds
 look_on-requires-clause-bounds g c =

@@ -2,7 +2,7 @@ use Rattle.std.proofs.Common.{ℕ, List, ◌++◌, length, ◌∙◌, sym, subst
 use Rattle.chord_code.specs.declared.parts.Parts.{Parts}
 use Rattle.chord_code.specs.Laws.{ChordsAreRight}
 use Rattle.chord_code.specs.Meaning.{code_program}
-use Rattle.chord_space.specs.Desks.{view, code_of, limits_of, program_of}
+use Rattle.chord_space.specs.Desks.{view, space_code, space_limits, program_of}
 use Rattle.chord_match.specs.declared.claiming.Missed.{Missed}
 use Rattle.chord_match.specs.Claiming.{IsMissed}
 use Rattle.chord_match.specs.Consuming.{Consuming, Handed}
@@ -14,7 +14,7 @@ use Rattle.chord_match.proofs.handing.fire.Goals as goal
 pub take_from-requires-clause-right : goal.take_from-requires-clause-right
 take_from-requires-clause-right g c =
     let low = c.requires.bounds.0 in let small = c.args.space.now.sized.4 in
-    (omega (arith, low, small), subst (λ (z : Parts). ChordsAreRight (code_program z (limits_of c.args.space.now))) c.requires.code (c.chords_are_right.ensures (limits_of c.args.space.now)))
+    (omega (arith, low, small), subst (λ (z : Parts). ChordsAreRight (code_program z (space_limits c.args.space.now))) c.requires.code (c.chords_are_right.ensures (space_limits c.args.space.now)))
 
 pub take_from-requires-clause-taking : goal.take_from-requires-clause-taking
 take_from-requires-clause-taking g c =
@@ -36,9 +36,9 @@ returns-in-Ok-clause-firing g c =
     (drawn_consuming n p v u o c.args.chord ms c.in-Ok.f t.1 (λ q l. (ready_at n v o s.methods ms c.args.nexts.now s.ready q l).below) c.args.desk.now.settled.7) in
     let h = c.hand_out.ensures.handed o t.1.methods c.in-Ok.f t.1.values k in
     let all = h.1 ∙ ap (λ z. z ++ h.0) c.new-hand.ensures in
-    let handed = subst (λ (z : List ℕ). Handed g.P.Carry.entries g.P.Carry.arguments (λ z. g.P.Carry.keeps_to z (code_of c.args.space.now) (limits_of c.args.space.now)) p u w o t.1.methods z c.in-Ok.f t.1.values h.0) c.items.ensures.numbers h.2 in
-    subst (λ z. IsFired g.P.Carry.entries g.P.Carry.arguments (λ z. g.P.Carry.keeps_to z (code_of c.args.space.now) (limits_of c.args.space.now)) p n v w o c.args.chord ms c.in-Ok.f z) (sym all)
-    (is_fired g.P.Carry.entries g.P.Carry.arguments (λ z. g.P.Carry.keeps_to z (code_of c.args.space.now) (limits_of c.args.space.now)) p n v u w o c.args.chord ms c.in-Ok.f h.0 t.1 t.0 handed)
+    let handed = subst (λ (z : List ℕ). Handed g.P.Carry.entries g.P.Carry.arguments (λ z. g.P.Carry.keeps_to z (space_code c.args.space.now) (space_limits c.args.space.now)) p u w o t.1.methods z c.in-Ok.f t.1.values h.0) c.items.ensures.numbers h.2 in
+    subst (λ z. IsFired g.P.Carry.entries g.P.Carry.arguments (λ z. g.P.Carry.keeps_to z (space_code c.args.space.now) (space_limits c.args.space.now)) p n v w o c.args.chord ms c.in-Ok.f z) (sym all)
+    (is_fired g.P.Carry.entries g.P.Carry.arguments (λ z. g.P.Carry.keeps_to z (space_code c.args.space.now) (space_limits c.args.space.now)) p n v u w o c.args.chord ms c.in-Ok.f h.0 t.1 t.0 handed)
 
 pub returns-in-Err-Lost-clause-firing : goal.returns-in-Err-Lost-clause-firing
 returns-in-Err-Lost-clause-firing g c =

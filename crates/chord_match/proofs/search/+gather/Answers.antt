@@ -5,7 +5,7 @@ use Rattle.chord_match.specs.declared.search.Pick.{Pick}
 use Rattle.chord_match.specs.declared.search.Step.TheVariants as a_step
 use Rattle.chord_match.specs.Searching.{Picked, Gathered}
 use Rattle.chord_base.proofs.Pending.{has_more}
-use Rattle.chord_match.proofs.Lists.{no_items, has_first, one_longer}
+use Rattle.chord_match.proofs.Lists.{no_items, first_has, one_longer}
 use Rattle.chord_match.proofs.Knowing.{gathered_none, gathered_stuck, gathered_more}
 use Rattle.chord_match.proofs.search.+gather.Goals as goal
 
@@ -16,7 +16,7 @@ returns-in_default-clause-gathered g s c v t =
 
 pub pick_member-requires-clause-bounds : goal.pick_member-requires-clause-bounds
 pick_member-requires-clause-bounds g s c =
-    (c.requires.bounds.0, c.requires.bounds.1, c.requires.methods c.in-Some.method.now (subst (λ (z : List ℕ). has c.in-Some.method.now z ≡ true) (sym c.in-Some.ensures.cases.0) (has_first c.in-Some.method.now c.in-Some.rest.now)))
+    (c.requires.bounds.0, c.requires.bounds.1, c.requires.methods c.in-Some.method.now (subst (λ (z : List ℕ). has c.in-Some.method.now z ≡ true) (sym c.in-Some.ensures.cases.0) (first_has c.in-Some.method.now c.in-Some.rest.now)))
 
 pub gather-requires : goal.gather-requires
 gather-requires g s c =

@@ -2,7 +2,7 @@ use Rattle.std.proofs.Common.{◌≡◌, ◌<◌, ℕ, List, Some, length, map, 
 use Rattle.chord_code.specs.declared.parts.Parts.{Parts}
 use Rattle.chord_code.specs.Laws.{ChordsAreRight}
 use Rattle.chord_code.specs.Meaning.{methods_of, chord_lines, code_program}
-use Rattle.chord_space.specs.Desks.{view, program_of, limits_of}
+use Rattle.chord_space.specs.Desks.{view, program_of, space_limits}
 use Rattle.chord_match.specs.declared.search.Verdict.{Verdict}
 use Rattle.chord_match.specs.declared.search.Verdict.TheVariants as a_verdict
 use Rattle.chord_match.specs.Searching.{IsThrough}
@@ -13,7 +13,7 @@ use Rattle.chord_match.proofs.search.find_more.Goals as goal
 pub through-requires-clause-lines : goal.through-requires-clause-lines
 through-requires-clause-lines g c =
     let o = c.args.object in let p = program_of c.args.space.now in let lines = c.lines_of.result.now in
-    let right = subst (λ (z : Parts). ChordsAreRight (code_program z (limits_of c.args.space.now))) c.requires.code (c.chords_are_right.ensures (limits_of c.args.space.now)) in
+    let right = subst (λ (z : Parts). ChordsAreRight (code_program z (space_limits c.args.space.now))) c.requires.code (c.chords_are_right.ensures (space_limits c.args.space.now)) in
     let same : map methods_of lines ≡ p.chords o.class = ap (map methods_of) (c.lines_of.ensures ∙ ap (λ (z : Parts). chord_lines z o.class) c.requires.code) in
     let few = right.few_chords o.class in let mapped = length_mapped lines in let long = ap length same in
     (omega (arith, few, mapped, long), (λ k js e. let here : slice_get (p.chords o.class) k ≡ Some js = ap (λ (z : List (List ℕ)). slice_get z k) (sym same) ∙ e in ((λ j y. right.few o.class k j js here y), right.few_headers o.class k js here)))
@@ -22,7 +22,7 @@ pub rest-requires-clause-may : goal.rest-requires-clause-may
 rest-requires-clause-may g c =
     let o = c.args.object in let own = c.args.own.now in let u = view c.args.desk.now in let w = view c.through.new.desk in let n = c.args.space.now.events in
     let jss = map methods_of c.lines_of.result.now in
-    let right = subst (λ (z : Parts). ChordsAreRight (code_program z (limits_of c.args.space.now))) c.requires.code (c.chords_are_right.ensures (limits_of c.args.space.now)) in
+    let right = subst (λ (z : Parts). ChordsAreRight (code_program z (space_limits c.args.space.now))) c.requires.code (c.chords_are_right.ensures (space_limits c.args.space.now)) in
     let t = subst (λ (z : Verdict). IsThrough n u w o own jss c.through.new.known z) (c.in-Without-None.is ∙ ap a_verdict.Without c.in-Without-None.field-0-is) (c.through.ensures.through u (stands_first n u o own c.requires.read)) in
     let d = t.stands.duty in
     let low : o.number < 65536 = (let a = c.requires.bounds.0 in let b = c.args.space.now.sized.4 in omega (arith, a, b)) in

@@ -6,24 +6,24 @@ use Rattle.chord_rule.specs.declared.view.View.{View}
 use Rattle.chord_bag.specs.declared.walk.Sought.{Sought}
 use Rattle.chord_match.specs.declared.search.Outcome.{Outcome}
 use Rattle.chord_match.specs.Searching.{Searching, IsOutcome, AreStuck}
-use Rattle.chord_match.proofs.Chords.{line_at, all_lines, are_kept, are_skipped, are_more}
+use Rattle.chord_match.proofs.Chords.{chord_line_at, all_lines, are_kept, are_skipped, are_more}
 use Rattle.chord_match.proofs.search.through.Goals.{then-has_method+in-Stuck, else-has_method}
 use Rattle.chord_match.proofs.search.through.Goals as goal
 
 pub one_chord-requires-clause-methods : goal.one_chord-requires-clause-methods
 one_chord-requires-clause-methods g c =
-    c.requires.lines.1 c.loop-at.at c.items-methods.result.now (line_at c.args.lines.now c.loop-at.at c.index-lines-at.result c.index-lines-at.is c.loop-at-test.true ∙ ap (λ (z : List ℕ). Some z) (ap methods_of c.index-lines-at.is ∙ sym c.items-methods.ensures.numbers))
+    c.requires.lines.1 c.loop-at.at c.items-methods.result.now (chord_line_at c.args.lines.now c.loop-at.at c.index-lines-at.result c.index-lines-at.is c.loop-at-test.true ∙ ap (λ (z : List ℕ). Some z) (ap methods_of c.index-lines-at.is ∙ sym c.items-methods.ensures.numbers))
 
 pub returns-in-Whole-clause-through : goal.returns-in-Whole-clause-through
 returns-in-Whole-clause-through g c v t =
     let s = (c.loop-at.invariant.2 v t).0 in
     let o = subst (λ (z : Outcome). IsOutcome c.args.space.now.events v (view c.loop-at.desk) (view c.one_chord.new.desk) c.args.object c.args.own.now c.items-methods.result.now c.loop-at.known c.one_chord.new.known z) c.in-Whole.is (c.one_chord.ensures.outcome v s) in
-    let here : slice_get (map methods_of c.args.lines.now) c.loop-at.at ≡ Some c.items-methods.result.now = line_at c.args.lines.now c.loop-at.at c.index-lines-at.result c.index-lines-at.is c.loop-at-test.true ∙ ap (λ (z : List ℕ). Some z) (ap methods_of c.index-lines-at.is ∙ sym c.items-methods.ensures.numbers) in
+    let here : slice_get (map methods_of c.args.lines.now) c.loop-at.at ≡ Some c.items-methods.result.now = chord_line_at c.args.lines.now c.loop-at.at c.index-lines-at.result c.index-lines-at.is c.loop-at-test.true ∙ ap (λ (z : List ℕ). Some z) (ap methods_of c.index-lines-at.is ∙ sym c.items-methods.ensures.numbers) in
     record { stands = o.moves.stands; verdict = (c.items-methods.result.now, here, sym c.has_method.ensures ∙ c.if-has_method.true, o.comes.0, o.comes.1) }
 
 pub loop-at-preserved : goal.loop-at-preserved
 loop-at-preserved g c =
-    let here : slice_get (map methods_of c.args.lines.now) c.loop-at.at ≡ Some c.items-methods.result.now = line_at c.args.lines.now c.loop-at.at c.index-lines-at.result c.index-lines-at.is c.loop-at-test.true ∙ ap (λ (z : List ℕ). Some z) (ap methods_of c.index-lines-at.is ∙ sym c.items-methods.ensures.numbers) in
+    let here : slice_get (map methods_of c.args.lines.now) c.loop-at.at ≡ Some c.items-methods.result.now = chord_line_at c.args.lines.now c.loop-at.at c.index-lines-at.result c.index-lines-at.is c.loop-at-test.true ∙ ap (λ (z : List ℕ). Some z) (ap methods_of c.index-lines-at.is ∙ sym c.items-methods.ensures.numbers) in
     let i = c.loop-at.invariant in
     elim c.if-has_method.branch [
       | then-has_method+in-Stuck w ↦ (

@@ -2,7 +2,7 @@ use Rattle.std.proofs.Common.{◌≡◌, ap, ◌∙◌, subst, arith}
 use Rattle.chord_base.specs.declared.event.Limits.{Limits}
 use Rattle.chord_base.specs.Story.{IsIn}
 use Rattle.chord_rule.specs.declared.view.View.{View}
-use Rattle.chord_space.specs.Desks.{view, code_of, limits_of}
+use Rattle.chord_space.specs.Desks.{view, space_code, space_limits}
 use Rattle.chord_space.specs.Ends.{parcels}
 use Rattle.chord_pool.proofs.Ended.{IsGathered, sealed_for, of_run, ended}
 use Rattle.chord_pool.proofs.closing.finish.Goals as goal
@@ -10,8 +10,8 @@ use Rattle.chord_pool.proofs.closing.finish.Goals as goal
 pub gather-requires : goal.gather-requires
 gather-requires c =
     let code = c.args.code.now in let limits = c.args.limits.now in let slots = parcels c.close-closed.result in let drawn = c.close-closed.result.drawn in let sized = c.args.space.sized in
-    let same : (limits_of c.args.space).events ≡ limits.events = ap (λ (y : Limits). y.events) c.requires.code.1 in
-    let s = sealed_for (code_of c.args.space) (limits_of c.args.space) code limits c.args.desk.seat.id (view c.args.desk) slots drawn c.requires.code c.close-closed.ensures.sealed in
+    let same : (space_limits c.args.space).events ≡ limits.events = ap (λ (y : Limits). y.events) c.requires.code.1 in
+    let s = sealed_for (space_code c.args.space) (space_limits c.args.space) code limits c.args.desk.seat.id (view c.args.desk) slots drawn c.requires.code c.close-closed.ensures.sealed in
     of_run code limits c.args.desk.seat.id (view c.args.desk) slots drawn s (omega (arith, sized, same)) c.args.desk.settled.6 c.requires.alone.0 c.requires.alone.1 (c.entries_are_within.ensures.within limits)
     c.args.entries.items c.take_homes.new.entries.items c.in_ok-take_homes.ensures.entries c.requires.held
 
@@ -19,8 +19,8 @@ gather-requires c =
 known : (c : goal.After-entries-within) → IsGathered c.args.code.now c.args.limits.now (view c.args.desk) c.close-closed.result.drawn c.in_ok-journal.journal
 known c =
     let code = c.args.code.now in let limits = c.args.limits.now in let slots = parcels c.close-closed.result in let drawn = c.close-closed.result.drawn in let sized = c.args.space.sized in
-    let same : (limits_of c.args.space).events ≡ limits.events = ap (λ (y : Limits). y.events) c.requires.code.1 in
-    let s = sealed_for (code_of c.args.space) (limits_of c.args.space) code limits c.args.desk.seat.id (view c.args.desk) slots drawn c.requires.code c.close-closed.ensures.sealed in
+    let same : (space_limits c.args.space).events ≡ limits.events = ap (λ (y : Limits). y.events) c.requires.code.1 in
+    let s = sealed_for (space_code c.args.space) (space_limits c.args.space) code limits c.args.desk.seat.id (view c.args.desk) slots drawn c.requires.code c.close-closed.ensures.sealed in
     ended code limits c.args.desk.seat.id (view c.args.desk) slots drawn s (omega (arith, sized, same)) c.args.desk.settled.6 c.requires.alone.0 c.requires.alone.1 (c.entries_are_within.ensures.within limits)
     c.args.entries.items c.take_homes.new.entries.items c.in_ok-take_homes.ensures.entries c.requires.held c.in_ok-journal.journal c.in_ok-journal.ensures c.entries-within.ensures.within
 

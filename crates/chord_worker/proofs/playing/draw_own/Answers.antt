@@ -1,5 +1,5 @@
 use Rattle.std.proofs.Common.{rules, ◌≡◌, ◌<◌, ℕ, true, false, List, Some, None, IfOk, OnOk, MatchResult, ◌+◌, ◌∷◌, [], inl, inr, refl, sym, subst, ◌∙◌, Bool}
-use Rattle.chord_space.specs.Desks.{view, code_of, limits_of}
+use Rattle.chord_space.specs.Desks.{view, space_code, space_limits}
 use Rattle.chord_rule.specs.Kinds.{entry}
 use Rattle.chord_task.specs.Standing.{view_of, MayNote}
 use Rattle.chord_worker.proofs.Given.{may_draw, noted_stays, noted_above, asks_next, one_top}
@@ -16,8 +16,8 @@ note-requires c =
     let body = c.top_number-body.result in
     let top = c.top_number-body.ensures in
     let below = c.in_ok-number.ensures.above.0 in (
-      code_of c.args.space.now,
-      limits_of c.args.space.now,
+      space_code c.args.space.now,
+      space_limits c.args.space.now,
       m.played.0,
       record {
         what = c.args.what.now;
@@ -36,14 +36,14 @@ returns-clause-drawn c =
     let top = c.top_number-body.ensures in
     let below = c.in_ok-number.ensures.above.0 in
     let asks = asks_next _ _ _ _ _ m _ ready body top in
-    let may : MayNote (code_of c.args.space.now) (limits_of c.args.space.now) c.args.task.now c.in_ok-number.number = record {
+    let may : MayNote (space_code c.args.space.now) (space_limits c.args.space.now) c.args.task.now c.in_ok-number.number = record {
       what = c.args.what.now;
       gave = ready.gave;
       reserved = ready.reserved;
       stays = noted_stays _ _ _ _ _ m _ ready body top c.requires.sound _ below c.in_ok-number.ensures.place;
       above = noted_above _ _ _ _ _ m _ ready body top c.requires.sound _ below c.in_ok-number.ensures.place;
     } in
-    let said = c.note.ensures (code_of c.args.space.now) (limits_of c.args.space.now) m.played.0 may in
+    let said = c.note.ensures (space_code c.args.space.now) (space_limits c.args.space.now) m.played.0 may in
     let past = subst (λ (k : ℕ). (view_of c.note.new.self).past ≡ entry c.in_ok-number.number k c.args.what.now ∷ (view_of c.args.task.now).past) (one_top (view_of c.args.task.now).top said.1.0 body said.1.1 top) said.1.2 in (
       c.in_ok-number.ensures.drawn.0,
       record {

@@ -16,7 +16,7 @@ use Rattle.chord_rule.proofs.Moving.{claim_step}
 use Rattle.chord_space.specs.Ruled.{Ruled}
 use Rattle.chord_space.proofs.Nexts.{next_fits}
 use Rattle.chord_space.proofs.Settling.{settling, stays_settled}
-use Rattle.chord_space.proofs.Under.{under}
+use Rattle.chord_space.proofs.Under.{under_rule}
 use Rattle.chord_space.proofs.space.Space.claim.Goals as goal
 
 pub compare_exchange-found-requires : goal.compare_exchange-found-requires
@@ -27,7 +27,7 @@ compare_exchange-found-requires g c = let sized = c.args.self.now.sized in let k
       omega arith,
       subst (λ (y : ℕ × ℕ × ℕ). Allows (Ruled g.P.Carry.entries g.P.Carry.arguments g.P.Carry.keeps_to key.code.value key.limits) y.0 seat.id seat.me (1 + i) (λ x. either (eqb x y.1) y.2 x) (claims (step y.0 (1 + i) y.1 y.2 none) seat.me))
           (λ k. ((sized.0 ∙ sym sized.2) k, sym c.message_word-pending.ensures k, sym c.message_word-claimed.ensures k))
-          (under g.P.Carry.entries g.P.Carry.arguments g.P.Carry.keeps_to key.code.value key.limits n seat.id seat.me (1 + i) (λ x. either (eqb x (word a_cell.Pending next)) (word a_cell.Claimed next) x) (claims (step n (1 + i) (word a_cell.Pending next) (word a_cell.Claimed next) none) seat.me)
+          (under_rule g.P.Carry.entries g.P.Carry.arguments g.P.Carry.keeps_to key.code.value key.limits n seat.id seat.me (1 + i) (λ x. either (eqb x (word a_cell.Pending next)) (word a_cell.Claimed next) x) (claims (step n (1 + i) (word a_cell.Pending next) (word a_cell.Claimed next) none) seat.me)
           (claim_step g.P.Carry.entries g.P.Carry.arguments keeps p n (omega arith) (omega arith) seat.id seat.me i next live (omega arith) (next_fits c.args.self.now.events next (omega arith) bounds.1) c.requires.seen)),
     )
 

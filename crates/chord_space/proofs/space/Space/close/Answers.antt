@@ -5,7 +5,7 @@ use Rattle.chord_code.specs.Meaning.{code_program}
 use Rattle.chord_rule.specs.declared.view.View.{View}
 use Rattle.chord_rule.proofs.Closing.{closing}
 use Rattle.chord_rule.proofs.Knowing.{at_home}
-use Rattle.chord_space.proofs.Items.{got, got_first}
+use Rattle.chord_space.proofs.Items.{got_item, got_first}
 use Rattle.chord_space.proofs.space.Space.close.Goals as goal
 
 pub returns-clause-sealed : goal.returns-clause-sealed
@@ -23,5 +23,5 @@ returns-clause-sealed g c =
       complete = closing g.P.Carry.entries g.P.Carry.arguments keeps p n (omega arith) (omega arith) m h.ghosts h.rule c.args.desk.seat.id v at settled.6;
       homes = λ i low.
           let home = at_home g.P.Carry.entries g.P.Carry.arguments keeps p n (omega arith) m h.ghosts h.rule c.args.desk.seat.id v at settled.6 c.requires.alone.0 c.requires.alone.1 settled.3 settled.7 settled.4 settled.5 i in
-          (home.0, home.1, got c.close_with-slots.result.slots.items i home.0 (final.4 i home.0 (h.shows.homes i low ∙ ap some home.1)));
+          (home.0, home.1, got_item c.close_with-slots.result.slots.items i home.0 (final.4 i home.0 (h.shows.homes i low ∙ ap some home.1)));
     }

@@ -11,7 +11,7 @@ use Rattle.chord_rule.specs.Tells.{word, a_word, unclaims}
 use Rattle.chord_rule.proofs.Moving.{give_step}
 use Rattle.chord_space.specs.Ruled.{Ruled}
 use Rattle.chord_space.proofs.Settling.{settling, stays_settled}
-use Rattle.chord_space.proofs.Under.{under}
+use Rattle.chord_space.proofs.Under.{under_rule}
 use Rattle.chord_space.proofs.space.Space.give_back.Goals as goal
 
 pub store-requires : goal.store-requires
@@ -24,7 +24,7 @@ store-requires g c = let sized = c.args.self.now.sized in let key = c.args.self.
       same.0.0 ∙ c.requires.desk,
       omega arith,
       subst (λ (y : ℕ × ℕ × ℕ). Allows (Ruled g.P.Carry.entries g.P.Carry.arguments g.P.Carry.keeps_to key.code.value key.limits) y.0 seat.id seat.me y.1 (λ _. y.2) (λ _. unclaims (step y.0 y.1 y.2 0 none) seat.me y.2)) (λ k. ((sized.0 ∙ sym sized.2) k, 1 + num k, stored k))
-          (under g.P.Carry.entries g.P.Carry.arguments g.P.Carry.keeps_to key.code.value key.limits n seat.id seat.me (1 + claim.number) (λ _. word a_cell.Pending claim.next) (λ _. unclaims (step n (1 + claim.number) (word a_cell.Pending claim.next) 0 none) seat.me (word a_cell.Pending claim.next))
+          (under_rule g.P.Carry.entries g.P.Carry.arguments g.P.Carry.keeps_to key.code.value key.limits n seat.id seat.me (1 + claim.number) (λ _. word a_cell.Pending claim.next) (λ _. unclaims (step n (1 + claim.number) (word a_cell.Pending claim.next) 0 none) seat.me (word a_cell.Pending claim.next))
           (give_step g.P.Carry.entries g.P.Carry.arguments keeps p n (omega arith) (omega arith) seat.id seat.me claim live low has claimed.3)),
     )
 

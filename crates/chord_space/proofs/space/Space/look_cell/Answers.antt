@@ -10,7 +10,7 @@ use Rattle.chord_rule.proofs.Lists.{some_is}
 use Rattle.chord_rule.proofs.Seeing.{look_cell_step}
 use Rattle.chord_space.specs.Ruled.{Ruled}
 use Rattle.chord_space.proofs.Settling.{settling, stays_settled}
-use Rattle.chord_space.proofs.Under.{under}
+use Rattle.chord_space.proofs.Under.{under_rule}
 use Rattle.chord_space.proofs.space.Space.look_cell.Goals as goal
 
 pub load-found-requires : goal.load-found-requires
@@ -20,7 +20,7 @@ load-found-requires g c = let sized = c.args.self.now.sized in let key = c.args.
       c.requires.desk,
       omega arith,
       subst (λ (y : ℕ). Allows (Ruled g.P.Carry.entries g.P.Carry.arguments g.P.Carry.keeps_to key.code.value key.limits) y seat.id seat.me (1 + i) (λ x. x) (looks_cell (step y (1 + i) 0 0 none) seat.me)) (sized.0 ∙ sym sized.2)
-          (under g.P.Carry.entries g.P.Carry.arguments g.P.Carry.keeps_to key.code.value key.limits n seat.id seat.me (1 + i) (λ x. x) (looks_cell (step n (1 + i) 0 0 none) seat.me) (look_cell_step g.P.Carry.entries g.P.Carry.arguments keeps p n (omega arith) (omega arith) seat.id seat.me i live (omega arith))),
+          (under_rule g.P.Carry.entries g.P.Carry.arguments g.P.Carry.keeps_to key.code.value key.limits n seat.id seat.me (1 + i) (λ x. x) (looks_cell (step n (1 + i) 0 0 none) seat.me) (look_cell_step g.P.Carry.entries g.P.Carry.arguments keeps p n (omega arith) (omega arith) seat.id seat.me i live (omega arith))),
     )
 
 pub invariant_of-desk : goal.invariant_of-desk

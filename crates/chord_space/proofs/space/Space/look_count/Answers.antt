@@ -5,7 +5,7 @@ use Rattle.chord_code.specs.Meaning.{code_program}
 use Rattle.chord_rule.specs.Tells.{looks_count}
 use Rattle.chord_rule.proofs.Seeing.{look_count_step}
 use Rattle.chord_space.specs.Ruled.{Ruled}
-use Rattle.chord_space.proofs.Under.{under}
+use Rattle.chord_space.proofs.Under.{under_rule}
 use Rattle.chord_space.proofs.space.Space.look_count.Goals as goal
 
 pub load-found-requires : goal.load-found-requires
@@ -14,5 +14,5 @@ load-found-requires g c = let sized = c.args.self.now.sized in let key = c.args.
       c.requires.desk,
       omega arith,
       subst (λ (y : ℕ). Allows (Ruled g.P.Carry.entries g.P.Carry.arguments g.P.Carry.keeps_to key.code.value key.limits) y seat.id seat.me 0 (λ x. x) (looks_count (step y 0 0 0 none) seat.me)) (sized.0 ∙ sym sized.2)
-          (under g.P.Carry.entries g.P.Carry.arguments g.P.Carry.keeps_to key.code.value key.limits n seat.id seat.me 0 (λ x. x) (looks_count (step n 0 0 0 none) seat.me) (look_count_step g.P.Carry.entries g.P.Carry.arguments keeps p n (omega arith) (omega arith) seat.id seat.me live)),
+          (under_rule g.P.Carry.entries g.P.Carry.arguments g.P.Carry.keeps_to key.code.value key.limits n seat.id seat.me 0 (λ x. x) (looks_count (step n 0 0 0 none) seat.me) (look_count_step g.P.Carry.entries g.P.Carry.arguments keeps p n (omega arith) (omega arith) seat.id seat.me live)),
     )

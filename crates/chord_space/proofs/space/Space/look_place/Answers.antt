@@ -7,7 +7,7 @@ use Rattle.chord_rule.proofs.Seeing.{look_place_step}
 use Rattle.chord_space.specs.Ruled.{Ruled}
 use Rattle.chord_rule.specs.Moment.{Place}
 use Rattle.chord_space.proofs.Places.{place_read, place_within}
-use Rattle.chord_space.proofs.Under.{under}
+use Rattle.chord_space.proofs.Under.{under_rule}
 use Rattle.chord_space.proofs.space.Space.look_place.Goals as goal
 
 pub load-found-requires : goal.load-found-requires
@@ -17,7 +17,7 @@ load-found-requires g c = let sized = c.args.self.now.sized in let key = c.args.
       c.requires.desk,
       omega arith,
       subst (λ (y : ℕ × ℕ). Allows (Ruled g.P.Carry.entries g.P.Carry.arguments g.P.Carry.keeps_to key.code.value key.limits) y.0 seat.id seat.me y.1 (λ x. x) (looks_place (step y.0 y.1 0 0 none) seat.me)) (λ k. ((sized.0 ∙ sym sized.2) k, at k))
-          (under g.P.Carry.entries g.P.Carry.arguments g.P.Carry.keeps_to key.code.value key.limits n seat.id seat.me (1 + 17 * n + i) (λ x. x) (looks_place (step n (1 + 17 * n + i) 0 0 none) seat.me) (look_place_step g.P.Carry.entries g.P.Carry.arguments keeps p n (omega arith) (omega arith) seat.id seat.me i (omega arith))),
+          (under_rule g.P.Carry.entries g.P.Carry.arguments g.P.Carry.keeps_to key.code.value key.limits n seat.id seat.me (1 + 17 * n + i) (λ x. x) (looks_place (step n (1 + 17 * n + i) 0 0 none) seat.me) (look_place_step g.P.Carry.entries g.P.Carry.arguments keeps p n (omega arith) (omega arith) seat.id seat.me i (omega arith))),
     )
 
 pub returns-clause-within : goal.returns-clause-within

@@ -12,9 +12,9 @@ use Rattle.chord_rule.specs.Kinds.{posting, posted, saw}
 use Rattle.chord_rule.specs.Tells.{word, a_word, posts_out, posts}
 use Rattle.chord_word.specs.declared.cells.Cell.TheVariants as a_cell
 use Rattle.chord_space.specs.Ruled.{Ruled}
-use Rattle.chord_space.proofs.Under.{under}
+use Rattle.chord_space.proofs.Under.{under_rule}
 use Rattle.chord_rule.proofs.Moving.{post_out_step, post_step}
-use Rattle.chord_space.proofs.Slots.{not_both}
+use Rattle.chord_space.proofs.Slots.{never_both}
 use Rattle.chord_space.proofs.space.Space.post.Goals as goal
 
 pub load-requires : goal.load-requires
@@ -23,7 +23,7 @@ load-requires g c = let sized = c.args.self.now.sized in let key = c.args.self.n
       c.requires.desk,
       omega arith,
       subst (λ (y : ℕ). Allows (Ruled g.P.Carry.entries g.P.Carry.arguments g.P.Carry.keeps_to key.code.value key.limits) y seat.id seat.me (1 + f) (λ x. x) (posts_out (step y (1 + f) 0 0 none) seat.me)) (sized.0 ∙ sym sized.2)
-          (under g.P.Carry.entries g.P.Carry.arguments g.P.Carry.keeps_to key.code.value key.limits n seat.id seat.me (1 + f) (λ x. x) (posts_out (step n (1 + f) 0 0 none) seat.me) (post_out_step g.P.Carry.entries g.P.Carry.arguments keeps p n (omega arith) (omega arith) seat.id seat.me f c.args.desk.now.settled.6 (omega arith) c.requires.post.unposted c.args.desk.now.settled.4)),
+          (under_rule g.P.Carry.entries g.P.Carry.arguments g.P.Carry.keeps_to key.code.value key.limits n seat.id seat.me (1 + f) (λ x. x) (posts_out (step n (1 + f) 0 0 none) seat.me) (post_out_step g.P.Carry.entries g.P.Carry.arguments keeps p n (omega arith) (omega arith) seat.id seat.me f c.args.desk.now.settled.6 (omega arith) c.requires.post.unposted c.args.desk.now.settled.4)),
     )
 
 pub exchange-requires : goal.exchange-requires
@@ -34,7 +34,7 @@ exchange-requires g c = let f : ℕ = c.args.f in let told = c.load.ensures.2 f 
 pub unreachable-requires : goal.unreachable-requires
 unreachable-requires g c = let f : ℕ = c.args.f in let told = c.load.ensures.2 f refl in
     let held : c.load.new.seat.me.1 ≡ (f, None) ∷ [] = told.1 ∙ ap (λ (xs : List (ℕ × Option g.row.P.Denot)). (f, None) ∷ xs) c.args.desk.now.settled.0 in
-    not_both f c.in-Some.field-0 c.exchange.result c.load.new.seat.me.1 (rest c.load.new.seat.me.1) held c.exchange.ensures.2 c.in-Some.is
+    never_both f c.in-Some.field-0 c.exchange.result c.load.new.seat.me.1 (rest c.load.new.seat.me.1) held c.exchange.ensures.2 c.in-Some.is
 
 pub store-requires : goal.store-requires
 store-requires g c = let sized = c.args.self.now.sized in let key = c.args.self.now.table.shared.key in let n : ℕ = key.limits.events in let f : ℕ = c.args.f in let q : g.row.P.Denot = c.args.parcel in let bounds = c.requires.bounds in let may = c.requires.post in let settled = c.args.desk.now.settled in
@@ -48,7 +48,7 @@ store-requires g c = let sized = c.args.self.now.sized in let key = c.args.self.
       omega arith,
       subst (λ (y : ℕ × ℕ × Me (Option g.row.P.Denot) View). Allows (Ruled g.P.Carry.entries g.P.Carry.arguments g.P.Carry.keeps_to key.code.value key.limits) y.0 c.exchange.new.seat.id y.2 (1 + f) (λ _. y.1) (λ _. posts g.P.Carry.entries (step y.0 (1 + f) y.1 0 none) y.2 y.1))
           (λ k. ((sized.0 ∙ sym sized.2) k, sym c.firing_word.ensures k, sym me k))
-          (under g.P.Carry.entries g.P.Carry.arguments g.P.Carry.keeps_to key.code.value key.limits n c.exchange.new.seat.id (v, (f, Some q) ∷ []) (1 + f) (λ _. word a_cell.Ready None) (λ _. posts g.P.Carry.entries (step n (1 + f) (word a_cell.Ready None) 0 none) (v, (f, Some q) ∷ []) (word a_cell.Ready None)) (post_step g.P.Carry.entries g.P.Carry.arguments keeps p n (omega arith) (omega arith) c.exchange.new.seat.id v f q settled.6 (omega arith) refl may.goes others may.begins may.only may.parked c.requires.task)),
+          (under_rule g.P.Carry.entries g.P.Carry.arguments g.P.Carry.keeps_to key.code.value key.limits n c.exchange.new.seat.id (v, (f, Some q) ∷ []) (1 + f) (λ _. word a_cell.Ready None) (λ _. posts g.P.Carry.entries (step n (1 + f) (word a_cell.Ready None) 0 none) (v, (f, Some q) ∷ []) (word a_cell.Ready None)) (post_step g.P.Carry.entries g.P.Carry.arguments keeps p n (omega arith) (omega arith) c.exchange.new.seat.id v f q settled.6 (omega arith) refl may.goes others may.begins may.only may.parked c.requires.task)),
     )
 
 pub invariant_of-desk : goal.invariant_of-desk

@@ -5,7 +5,7 @@ use Rattle.chord_code.specs.Meaning.{code_program}
 use Rattle.chord_rule.specs.Tells.{rests}
 use Rattle.chord_rule.proofs.Seeing.{rest_step}
 use Rattle.chord_space.specs.Ruled.{Ruled}
-use Rattle.chord_space.proofs.Under.{under}
+use Rattle.chord_space.proofs.Under.{under_rule}
 use Rattle.chord_space.proofs.space.Space.step_rest.Goals as goal
 
 pub load-requires : goal.load-requires
@@ -15,6 +15,6 @@ load-requires g c = let sized = c.args.self.now.sized in let key = c.args.self.n
       c.requires.desk,
       omega arith,
       subst (λ (y : ℕ × ℕ). Allows (Ruled g.P.Carry.entries g.P.Carry.arguments g.P.Carry.keeps_to key.code.value key.limits) y.0 seat.id seat.me 0 (λ x. x) (rests y.1 (step y.0 0 0 0 none) seat.me)) (λ k. ((sized.0 ∙ sym sized.2) k, (may.2 ∙ sym c.requires.message) k))
-          (under g.P.Carry.entries g.P.Carry.arguments g.P.Carry.keeps_to key.code.value key.limits n seat.id seat.me 0 (λ x. x) (rests may.0.message (step n 0 0 0 none) seat.me)
+          (under_rule g.P.Carry.entries g.P.Carry.arguments g.P.Carry.keeps_to key.code.value key.limits n seat.id seat.me 0 (λ x. x) (rests may.0.message (step n 0 0 0 none) seat.me)
           (rest_step g.P.Carry.entries g.P.Carry.arguments keeps p n (omega arith) (omega arith) seat.id seat.me may.0 live may.1 (λ e h same bag. may.3 e h (same ∙ may.2) bag))),
     )

@@ -1,5 +1,5 @@
 use Rattle.std.proofs.Common.{◌≡◌, length, sym, ap, ◌∙◌, Some, None, arith}
-use Rattle.chord_worker.proofs.Beginning.{task_is, may_resume, twice, few_values, begun_there}
+use Rattle.chord_worker.proofs.Beginning.{task_is, may_be_begun, twice, few_values, begun_there}
 use Rattle.chord_worker.proofs.worker.Worker.begin_fired.Goals as goal
 
 pub unpack-caller-requires : goal.unpack-caller-requires
@@ -15,7 +15,7 @@ resume-requires-clause-task g c = task_is _ _ _ _ _ _ _ _ c.requires.fired.1 c.r
     _ _ c.new-arguments.ensures c.unpack-caller.ensures.arguments
 
 pub resume-requires-clause-may : goal.resume-requires-clause-may
-resume-requires-clause-may g c = may_resume _ _ _ _ _ _ _ _ c.requires.fired.1 c.requires.sound _ c.requires.code c.chords_are_right.ensures _ c.unpack-caller.ensures.task _ c.take_task-task.ensures.task
+resume-requires-clause-may g c = may_be_begun _ _ _ _ _ _ _ _ c.requires.fired.1 c.requires.sound _ c.requires.code c.chords_are_right.ensures _ c.unpack-caller.ensures.task _ c.take_task-task.ensures.task
     _ _ c.new-arguments.ensures c.unpack-caller.ensures.arguments
 
 pub resume-requires-clause-few : goal.resume-requires-clause-few

@@ -3,11 +3,11 @@ use Rattle.chord_base.specs.declared.event.Limits.{Limits}
 use Rattle.chord_base.specs.Story.{IsSound}
 use Rattle.chord_code.specs.declared.parts.Parts.{Parts}
 use Rattle.chord_code.specs.Meaning.{code_program}
-use Rattle.chord_space.specs.Desks.{code_of}
-use Rattle.chord_worker.proofs.Starting.{main_begins}
+use Rattle.chord_space.specs.Desks.{space_code}
+use Rattle.chord_worker.proofs.Starting.{main_starts}
 use Rattle.chord_worker.proofs.worker.Worker.main.Goals as goal
 
 pub main-requires : goal.main-requires
-main-requires c = main_begins c.args.code.now c.args.limits.now
+main-requires c = main_starts c.args.code.now c.args.limits.now
     (subst (λ (k : Parts). IsSound (code_program k c.args.limits.now)) c.requires.code.0
-    (subst (λ (l : Limits). IsSound (code_program (code_of c.args.space.now) l)) c.requires.code.1 c.requires.sound))
+    (subst (λ (l : Limits). IsSound (code_program (space_code c.args.space.now) l)) c.requires.code.1 c.requires.sound))

@@ -4,7 +4,7 @@ use Rattle.chord_base.specs.declared.event.What.TheVariants.{Sent, Called}
 use Rattle.chord_base.specs.declared.value.Value as value
 use Rattle.chord_rule.specs.Made.{key}
 use Rattle.chord_space.specs.declared.space.Desk.{Desk}
-use Rattle.chord_space.specs.Desks.{view, code_of, limits_of, program_of, IsSameDesk}
+use Rattle.chord_space.specs.Desks.{view, space_code, space_limits, program_of, IsSameDesk}
 use Rattle.chord_space.specs.Gives.{MayLink}
 use Rattle.chord_task.specs.declared.parcel.Parcel.{Parcel}
 use Rattle.chord_task.specs.declared.task.Task.{Task}
@@ -43,7 +43,7 @@ mind-requires-clause-minds g c =
     let sent = c.send_task.ensures.sent in
     let same : IsSameDesk w.desk c.send_task.new.desk = (c.send_task.ensures.desk.0 ∙ c.draw_own.ensures.desk.0, c.send_task.ensures.desk.1 ∙ c.draw_own.ensures.desk.1) in
     now_minds s w c.args.task c.requires.rest c.draw_own.new.task c.in-Ok.number v what noted refl c.requires.room c.requires.stock w' k (view_of c.draw_own.new.task).past sent same refl refl
-    (subst (λ (x : Option Task). IsInMemory (code_of s) (limits_of s) (view w'.desk).kept (view w.desk).spent w.done.items x) (sym c.requires.none)
+    (subst (λ (x : Option Task). IsInMemory (space_code s) (space_limits s) (view w'.desk).kept (view w.desk).spent w.done.items x) (sym c.requires.none)
     (task_memory s w c.args.task c.requires.rest c.draw_own.new.task c.in-Ok.number v c.args.object c.args.method c.args.arguments noted (view w'.desk) k sent))
     (subst MayContinue (sym c.requires.none) tt)
 

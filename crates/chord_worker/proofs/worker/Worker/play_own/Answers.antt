@@ -1,8 +1,8 @@
 use Rattle.std.proofs.Common.{◌≡◌, sym, subst, ◌∙◌}
 use Rattle.chord_space.specs.declared.space.Desk.{Desk}
-use Rattle.chord_space.specs.Desks.{view, code_of, limits_of, IsSameDesk}
+use Rattle.chord_space.specs.Desks.{view, space_code, space_limits, IsSameDesk}
 use Rattle.chord_task.specs.declared.parcel.Parcel.{Parcel}
-use Rattle.chord_worker.specs.Playing.{IsNoted, WasToldFull}
+use Rattle.chord_worker.specs.Playing.{IsNotedAs, WasToldFull}
 use Rattle.chord_worker.proofs.Resting.{rest_noted, rest_told}
 use Rattle.chord_worker.proofs.worker.Worker.play_own.Goals as goal
 
@@ -11,9 +11,9 @@ returns-in_ok-settle-in-Ok-clause-rest c =
     let s = c.args.space.now in
     let w = c.args.self.now in
     let d = c.settle.ensures.same.0 in
-    let noted = subst (λ (x : Desk Parcel). IsNoted (code_of s) (limits_of s) (view w.desk) (view x) c.args.task c.draw_own.new.task c.in-Ok.field-0 c.args.what.now) (sym d) c.in-Ok.ensures.drawn.1 in
+    let noted = subst (λ (x : Desk Parcel). IsNotedAs (space_code s) (space_limits s) (view w.desk) (view x) c.args.task c.draw_own.new.task c.in-Ok.field-0 c.args.what.now) (sym d) c.in-Ok.ensures.drawn.1 in
     let same = subst (λ (x : Desk Parcel). IsSameDesk w.desk x) (sym d) c.draw_own.ensures.desk in
-    let settled = c.in_ok-settle-in-Ok.ensures.settled (code_of s) (limits_of s) _ _ (noted.memory (view w.desk).spent w.done.items c.requires.rest.memory) in
+    let settled = c.in_ok-settle-in-Ok.ensures.settled (space_code s) (space_limits s) _ _ (noted.memory (view w.desk).spent w.done.items c.requires.rest.memory) in
     rest_noted s w c.args.task c.requires.rest c.settle.new.self same c.settle.ensures.same.1 c.draw_own.new.task c.in-Ok.field-0 c.args.what.now noted c.requires.plain c.settle.ensures.same.2 settled.0 settled.1
 
 pub returns-in_ok-lay_down-in-Err-clause-rest : goal.returns-in_ok-lay_down-in-Err-clause-rest

@@ -4,7 +4,7 @@ use Rattle.chord_base.specs.declared.event.What.TheVariants.{Sent, Called}
 use Rattle.chord_base.specs.declared.value.Value as value
 use Rattle.chord_rule.specs.Made.{key}
 use Rattle.chord_space.specs.declared.space.Desk.{Desk}
-use Rattle.chord_space.specs.Desks.{view, code_of, limits_of, program_of, IsSameDesk}
+use Rattle.chord_space.specs.Desks.{view, space_code, space_limits, program_of, IsSameDesk}
 use Rattle.chord_space.specs.Gives.{MayLink}
 use Rattle.chord_task.specs.declared.parcel.Parcel.{Parcel}
 use Rattle.chord_task.specs.declared.task.Task.{Task}
@@ -43,7 +43,7 @@ mind-requires-clause-minds g c =
     let v = view c.draw_own.new.desk in
     let sent = subst (λ (x : Desk Parcel). IsSentOff v (view x) c.in-Ok.number k []) (sym d) c.send_letter.ensures.sent in
     let same = subst (λ (x : Desk Parcel). IsSameDesk w.desk x) (sym d) (c.send_letter.ensures.desk.0 ∙ c.draw_own.ensures.desk.0, c.send_letter.ensures.desk.1 ∙ c.draw_own.ensures.desk.1) in
-    let settled = c.in_ok-settle-in-Ok.ensures.settled (code_of s) (limits_of s) (view w'.desk).kept (view w.desk).spent
+    let settled = c.in_ok-settle-in-Ok.ensures.settled (space_code s) (space_limits s) (view w'.desk).kept (view w.desk).spent
     (letter_memory s w c.args.task c.requires.rest c.draw_own.new.task c.in-Ok.number v c.args.object c.args.method c.args.arguments noted (view w'.desk) k sent) in
     now_minds s w c.args.task c.requires.rest c.draw_own.new.task c.in-Ok.number v what noted refl c.requires.room c.requires.stock w' k [] sent same c.settle.ensures.same.1 c.settle.ensures.same.2 settled.0 settled.1
 

@@ -1,7 +1,7 @@
 use Rattle.std.proofs.Common.{◌≡◌, refl, sym, ◌∙◌, subst, Some, None}
 use Rattle.chord_base.specs.declared.event.Limits.{Limits}
 use Rattle.chord_code.specs.declared.parts.Parts.{Parts}
-use Rattle.chord_space.specs.Desks.{view, code_of, limits_of, program_of}
+use Rattle.chord_space.specs.Desks.{view, space_code, space_limits, program_of}
 use Rattle.chord_space.specs.Gives.{MayPost}
 use Rattle.chord_task.specs.Parcels.{IsParcelOf}
 use Rattle.chord_task.specs.Standing.{IsTaskOf}
@@ -16,7 +16,7 @@ returns-then-is_none-clause-role g c = record { first = refl; lent = refl; split
 
 pub packed-parcel-requires-clause-task : goal.packed-parcel-requires-clause-task
 packed-parcel-requires-clause-task g c =
-    subst (λ (x : Parts). IsTaskOf x c.args.limits.now c.args.task) (sym c.requires.code) (subst (λ (l : Limits). IsTaskOf (code_of c.args.space.now) l c.args.task) (sym c.requires.limits) c.requires.begun.1.task)
+    subst (λ (x : Parts). IsTaskOf x c.args.limits.now c.args.task) (sym c.requires.code) (subst (λ (l : Limits). IsTaskOf (space_code c.args.space.now) l c.args.task) (sym c.requires.limits) c.requires.begun.1.task)
 
 pub packed-parcel-requires-clause-left : goal.packed-parcel-requires-clause-left
 packed-parcel-requires-clause-left g c = λ e. let z : Some c.args.number ≡ None = sym c.requires.begun.1.top ∙ e in cc
@@ -26,7 +26,7 @@ post-requires-clause-post g c = subst (MayPost (program_of c.args.space.now) (vi
 
 pub post-requires-clause-task : goal.post-requires-clause-task
 post-requires-clause-task g c =
-    subst (λ (x : Parts). IsParcelOf c.packed-parcel.result x (limits_of c.args.space.now)) c.requires.code (subst (λ (l : Limits). IsParcelOf c.packed-parcel.result c.args.code.now l) c.requires.limits c.packed-parcel.ensures.keeps)
+    subst (λ (x : Parts). IsParcelOf c.packed-parcel.result x (space_limits c.args.space.now)) c.requires.code (subst (λ (l : Limits). IsParcelOf c.packed-parcel.result c.args.code.now l) c.requires.limits c.packed-parcel.ensures.keeps)
 
 pub returns-clause-desk : goal.returns-clause-desk
 returns-clause-desk g c = c.post.ensures.desk.0 ∙ c.requires.begun.1.desk
