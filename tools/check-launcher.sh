@@ -77,7 +77,7 @@ refused 'no mode is given'
 refused 'no mode is given' --one
 refused 'there is no mode `walk`' walk
 refused '`run` takes no number, and not `3`' run 3
-refused '`run` wants `--one` today, since there is no run with workers yet' run
+refused 'some word is no text' run
 refused '`load` wants a number from 1 to 60, not `61`' load 61 --one
 refused '`load` wants a number from 1 to 60, not ``' load --one
 refused '`5` is one word too many' load 4 5 --one
