@@ -49,6 +49,7 @@ class P { static void Main() { A o = new A(); o.a(); o.b(); } }
 ";
 
 /// A gate that holds the first body after `Main` until another one has started, and marks where none did.
+#[derive(Drop)]
 struct Meeting {
     mains: AtomicU64,
     others: AtomicU64,
@@ -99,8 +100,8 @@ fn entries_of(report: &Report) -> usize {
     }
 }
 
-/// A gate that counts nothing.
-fn meeting() -> Meeting {
+/// A gate that holds nobody: two bodies have met already.
+fn open_gate() -> Meeting {
     Meeting {
         mains: AtomicU64::new(0),
         others: AtomicU64::new(2),
@@ -114,7 +115,7 @@ fn workers_make_the_runs(rt: HostRuntime) -> Result<(), Fail> {
         for case in &PLAYED {
             let alloc = rt.alloc();
             let mut sink = MemSink::new(alloc, 100, 4096, Vec::new(alloc))?;
-            let report = answer(&rt, alloc, words, case.source, &mut sink, &meeting())?;
+            let report = answer(&rt, alloc, words, case.source, &mut sink, &open_gate())?;
             let name = case.name;
             assert_eq!(rt; sink.taken(), case.written.as_bytes(), "{name}");
             assert_eq!(rt; report.status, case.status, "{name}");
@@ -129,7 +130,7 @@ fn santa(rt: HostRuntime) -> Result<(), Fail> {
     for words in &WORDS {
         let alloc = rt.alloc();
         let mut sink = MemSink::new(alloc, 100, 4096, Vec::new(alloc))?;
-        let report = answer(&rt, alloc, words, SANTA, &mut sink, &meeting())?;
+        let report = answer(&rt, alloc, words, SANTA, &mut sink, &open_gate())?;
         // one line of 19 bytes and three of 17, in whatever order, each with its line feed
         assert_eq!(rt; sink.taken().len(), 20 + 3 * 18);
         assert_eq!(rt; report.status, 0);
@@ -147,7 +148,14 @@ fn two_bodies_side_by_side(rt: HostRuntime) -> Result<(), Fail> {
         missed: AtomicU64::new(0),
     };
     let mut sink = MemSink::new(alloc, 100, 4096, Vec::new(alloc))?;
-    let report = answer(&rt, alloc, "run --workers 4", SIDE_BY_SIDE, &mut sink, &gate)?;
+    let report = answer(
+        &rt,
+        alloc,
+        "run --workers 4",
+        SIDE_BY_SIDE,
+        &mut sink,
+        &gate,
+    )?;
     assert_eq!(rt; report.status, 0);
     assert_eq!(rt; gate.mains.load(Ordering::SeqCst), 1);
     assert_eq!(rt; gate.others.load(Ordering::SeqCst), 2);
