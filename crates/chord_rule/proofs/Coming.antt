@@ -80,9 +80,12 @@ module _ {P : Type 0} (entries : P → List Entry) (arguments : P → List value
   call_in : IsSound p → (i : ℕ) (x : Message) (o : Option What) → said_at i u.journal ≡ o → message_in o ≡ Some x → p.is_sync x.object.class x.method ≡ true → (e : Entry) × IsIn e u.journal × IsCall i e
   call_in sound i x None is says sync = (let z : Path (Option Message) None (Some x) = says in cc)
   call_in sound i x (Some w) is says sync =
-      let t = waiting.what_entry u.journal i w is in
-      (t.0, t.1, subst (λ (k : ℕ). IsCall k t.0) t.2
-          (called p t.0 w x t.3 (subst (HasKind p) t.3 (in_run p sound u.journal law.keeping.merged.past t.0 t.1)) says sync))
+      let t = waiting.what_entry u.journal i w is in (
+        t.0,
+        t.1,
+        subst (λ (k : ℕ). IsCall k t.0) t.2
+            (called p t.0 w x t.3 (subst (HasKind p) t.3 (in_run p sound u.journal law.keeping.merged.past t.0 t.1)) says sync),
+      )
 
   -- what the parcel of a claimed message brings
   pub comes_with_message : IsSound p → (id : ℕ) (v : View) → get_elem? m.views id ≡ some v → (c : Claim) (q : P) → HasThe c v.claims → m.homes c.number ≡ some (Some q) → ComesWithMessage p v.kept c (entries q)

@@ -115,9 +115,11 @@ module _ {P : Type 0} (entries : P → List Entry) (arguments : P → List value
               (λ _. (
                 standing.desk_below entries arguments keeps_to p n m u whole.agrees.stands l id me.0 at,
                 (λ is ws chosen claimed. let same = agreeing.same_values entries arguments keeps_to p n small m u whole.agrees id me.0 at object js ms vs ws members (subst (λ (hs : List ℕ). AreClaimed me.0.claims object hs ms ws) (some_is is js (sym chosen ∙ chord)) claimed) in
-                    subst (λ (xs : List value.Value). (w ≡ saw_count (kinds.firing_drawn me.0 m.count k object ms xs) (m.count + 1)) × CameNext p (entry m.count m.count (Fired k object ms xs)) × IsPlace p (entry m.count m.count (Fired k object ms xs) ∷ me.0.kept)) same
-                    (refl, (u.journal, (wholes.whole_draw_firing entries arguments keeps_to p n small m u whole id me.0 at live k object js ms vs l chord members).agrees.stands.keeping.merged.past),
-                    coming.desk_place entries arguments keeps_to p n _ u' (wholes.whole_draw_firing entries arguments keeps_to p n small m u whole id me.0 at live k object js ms vs l chord members).agrees.stands id w (set_here m.views id w (at_inside m.views id me.0 at)))),
+                    subst (λ (xs : List value.Value). (w ≡ saw_count (kinds.firing_drawn me.0 m.count k object ms xs) (m.count + 1)) × CameNext p (entry m.count m.count (Fired k object ms xs)) × IsPlace p (entry m.count m.count (Fired k object ms xs) ∷ me.0.kept)) same (
+                      refl,
+                      (u.journal, (wholes.whole_draw_firing entries arguments keeps_to p n small m u whole id me.0 at live k object js ms vs l chord members).agrees.stands.keeping.merged.past),
+                      coming.desk_place entries arguments keeps_to p n _ u' (wholes.whole_draw_firing entries arguments keeps_to p n small m u whole id me.0 at live k object js ms vs l chord members).agrees.stands id w (set_here m.views id w (at_inside m.views id me.0 at)),
+                    )),
               )),
               λ k. absurd (omega arith),
             ),
