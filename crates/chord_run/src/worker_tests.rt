@@ -1,6 +1,7 @@
 //! Runs that workers make: what they write and how many entries they have, however many workers there are; and two bodies side by side.
 use crate::tests::{PLAYED, words_of};
 use crate::{Gate, Report, chord};
+use chord_base::event::{Entry, What};
 use chord_io::{MemSink, MemSource};
 use std::alloc::{AllocError, Global};
 use std::sync::Wait;
@@ -135,6 +136,58 @@ fn santa(rt: HostRuntime) -> Result<(), Fail> {
         assert_eq!(rt; sink.taken().len(), 20 + 3 * 18);
         assert_eq!(rt; report.status, 0);
         assert_eq!(rt; entries_of(&report), 159);
+    }
+    Ok(())
+}
+
+#[test]
+fn a_sink_that_fails_at_its_second_write(rt: HostRuntime) -> Result<(), Fail> {
+    for words in &WORDS {
+        let alloc = rt.alloc();
+        let fails = Vec::from_slice(alloc, &[2])?;
+        let mut sink = MemSink::new(alloc, 100, 4096, fails)?;
+        let report = answer(&rt, alloc, words, SANTA, &mut sink, &open_gate())?;
+        let taken = sink.taken();
+        let is_line = taken == b"Santa delivers toys\n" || taken == b"Santa meets elves\n";
+        assert!(rt; is_line, "{words}");
+        assert_eq!(rt; report.status, 5, "{words}");
+        assert_eq!(rt; entries_of(&report), 159, "{words}");
+    }
+    Ok(())
+}
+
+/// How many of these entries printed a line.
+fn printed_among(entries: &[Entry]) -> usize {
+    let mut printed = 0usize;
+    for entry in entries {
+        if let What::Printed(_) = entry.what {
+            printed = printed.saturating_add(1);
+        }
+    }
+    printed
+}
+
+const LOADS_OF_FEW_EVENTS: [&str; 3] = [
+    "load 1 --events 16 --one",
+    "load 1 --events 16 --workers 1",
+    "load 1 --events 16",
+];
+
+#[test]
+fn a_large_program_of_few_events(rt: HostRuntime) -> Result<(), Fail> {
+    for words in &LOADS_OF_FEW_EVENTS {
+        let alloc = rt.alloc();
+        let mut sink = MemSink::new(alloc, 200, 4096, Vec::new(alloc))?;
+        let report = answer(&rt, alloc, words, "", &mut sink, &open_gate())?;
+        // no line stands before the line of counts
+        assert!(rt; sink.taken().starts_with(b"begun 1 made "), "{words}");
+        assert!(rt; sink.taken().ends_with(b"\n"), "{words}");
+        assert_eq!(rt; report.status, 6, "{words}");
+        let (entries, printed) = match &report.journal {
+            Some(journal) => (journal.entries().len(), printed_among(journal.entries())),
+            None => (0, 0),
+        };
+        assert_eq!(rt; (entries, printed), (16, 0), "{words}");
     }
     Ok(())
 }
