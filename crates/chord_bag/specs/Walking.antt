@@ -9,7 +9,7 @@ use Rattle.chord_rule.specs.Ways.{IsAloneDesk, HasLooksLeft}
 use Rattle.chord_bag.specs.declared.walk.Turn.{Turn}
 use Rattle.chord_bag.specs.declared.walk.Turn.TheVariants.{Over, On}
 use Rattle.chord_bag.specs.Reads.{AllRead, HasRead, AllAt, KeepsEnds, IsOnlyLooks, is_passed}
-use Rattle.chord_bag.specs.Seeking.{IsSought}
+use Rattle.chord_bag.specs.Seeking.{IsSought, newest_linked}
 
 -- how many looks the newest way has made
 abbrev pub gone_so_far : List Way → ℕ
@@ -44,3 +44,4 @@ ComesToTurn n k v w (On place busy) = Going n k v w place busy
 pub record IsTurn (n : ℕ) (u w : View) (i : ℕ) (busy : Option ℕ) (t : Turn) : Type 0 where
   pub comes : (k : ℕ) (v : View) → Going n k v u (Some i) busy → ComesToTurn n k v w t
   pub longer : (k : ℕ) (v : View) → Going n k v u (Some i) busy → gone_so_far w.looked.ways ≡ gone_so_far u.looked.ways + 1
+  pub linked : newest_linked w.looked.ways ≡ newest_linked u.looked.ways

@@ -2,7 +2,7 @@
 ghost use Rattle.std.specs.Prelude.{◌≡◌, ℕ, ◌<◌, ◌+◌, Some, None};
 ghost use Rattle.chord_rule.specs.Made.{key};
 ghost use Rattle.chord_space.specs.Desks.{view, IsDeskOf, IsSameDesk};
-ghost use Rattle.chord_bag.specs.Seeking.{IsSought};
+ghost use Rattle.chord_bag.specs.Seeking.{IsSought, BeganAtHead};
 ghost use Rattle.chord_bag.specs.Walking.{IsTurn};
 
 use chord_base::value::Object;
@@ -50,6 +50,9 @@ fn look_on<P: Carry>(space: &Space<P>, desk: &mut Desk<P>, i: u32, busy: Option<
 /// desk that has lent none and has nothing in hand it is never Busy. On a desk without a claim, what was read claimed is
 /// claimed by another.
 ///
+/// The way knows the messages that had been linked in the bag when its head was read. Bare, or Busy with a claimed message, the
+/// way went to the bag's end, and so each of these was looked at on it or is consumed (`chord_space::laws::ways_miss_none`).
+///
 /// Messages of one kind in a bag of their own, claimed by an exchange where they stand, are from Turon and Russo, "Scalable Join
 /// Patterns" (OOPSLA 2011); there the bag is a queue that is walked in the same way.
 pub fn seek<P: Carry>(space: &Space<P>, desk: &mut Desk<P>, object: Object, method: u8) -> Sought
@@ -57,6 +60,7 @@ pub fn seek<P: Carry>(space: &Space<P>, desk: &mut Desk<P>, object: Object, meth
     requires bounds { (object.number < space.now.events) × (object.class < 1024) × (method < 16) }
     ensures desk { IsSameDesk desk.old desk.new }
     ensures sought { IsSought space.now.events (key object method) (view desk.old) (view desk.new) result }
+    ensures began { BeganAtHead P.entries P.arguments P.keeps_to space.now (view desk.old) (view desk.new) (key object method) }
 {
     let mut place = space.look_head(desk, object, method);
     let mut busy = None;

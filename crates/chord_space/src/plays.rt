@@ -88,6 +88,27 @@ impl Firing for Brand {
     ghost members = { [] };
 }
 
+/// The bag at whose head is looked, and the code and the limits of its run. Each call picks them.
+pub trait Headed {
+    ghost parts: { Parts };
+
+    ghost limits: { Limits };
+
+    ghost object: { Object };
+
+    ghost method: { ℕ };
+}
+
+impl Headed for Brand {
+    ghost parts = { no_parts };
+
+    ghost limits = { no_limits };
+
+    ghost object = { no_object };
+
+    ghost method = { 0 };
+}
+
 /// The message on which a duty is laid down. Each call picks it.
 pub trait Resting {
     ghost message: { ℕ };
@@ -219,8 +240,8 @@ pub struct SeeHead<J> {
     of: PhantomData<J>,
 }
 
-impl<P, J: Addressed> Play<Option<P>, View> for SeeHead<J> {
-    ghost then = { looks_head J.object J.method };
+impl<P: Carry, J: Headed> Play<Option<P>, View> for SeeHead<J> {
+    ghost then = { looks_head P.entries P.arguments (λ q. P.keeps_to q J.parts J.limits) (code_program J.parts J.limits) J.object J.method };
 }
 
 /// A cell is looked at.
