@@ -24,6 +24,7 @@ pub mod LookSteps
 pub mod Agreeing
 pub mod Looking
 pub mod Wholes
+pub mod BypassSteps
 pub mod Laws
 pub mod Bridge
 pub mod AloneSteps

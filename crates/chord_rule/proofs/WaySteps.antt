@@ -11,10 +11,10 @@ use Rattle.chord_word.specs.declared.cells.Cell.TheVariants.{Empty, Pending, Cla
 use Rattle.chord_word.specs.declared.cells.Word.{Word}
 use Rattle.chord_rule.specs.declared.view.Look.{Look}
 use Rattle.chord_rule.specs.declared.view.Way.{Way}
-use Rattle.chord_rule.specs.Bags.{LinkOrder, IsArmed, IsConsumed, BagLaw, cell_of, head_number}
+use Rattle.chord_rule.specs.Bags.{LinkOrder, IsArmed, IsConsumed, BagLaw, Leads, cell_of, head_number}
 use Rattle.chord_rule.specs.Duties.{has_come_to}
 use Rattle.chord_rule.specs.Heads.{HeadLaw}
-use Rattle.chord_rule.specs.Ways.{way_onward, way_begun, gone_on, on_way, HasWay, WasRead, IsLinkedCell, HasLooksLeft, AllAbove, LeadsDown, WereLinked, IsMetOn, WayLaw}
+use Rattle.chord_rule.specs.Ways.{way_onward, way_begun, gone_on, on_way, HasWay, WasRead, IsLinkedCell, HasLooksLeft, AllAbove, LeadsDown, WereLinked, IsCutShort, IsMetOn, ReadsPast, AreDown, WayLaw}
 use Rattle.chord_rule.specs.Numbers.{HasNumber}
 use Rattle.chord_rule.proofs.Lists.{some_is}
 
@@ -131,6 +131,9 @@ module _ (IsKey : ℕ → Type 0) (n : ℕ) (cells : ℕ → Word) (heads : ℕ 
           (λ ne. let lead = bags.heads_lead b.0 (bags.keyed i b.0 b.1) in let on = lead.passes i b.1 ne (bags.ranked i b.0 b.1) in
           inr (on.0, b.0, ap heads (sym b.2) ∙ on.1, b.1, (lead.inside on.0 on.1).0, on.2)) (consumed_or_not (cell_of cells i))
 
+      in_bags : (i : ℕ) → HasNumber i linked → (l : ℕ) × (o.bag i ≡ Some l)
+      in_bags i h = let b = are.only i h in (b.0, b.1)
+
       cases : (x : Option ℕ) → heads (head_number k) ≡ x → WayLaw n cells o (way_begun k linked (heads (head_number k)))
       cases None e = record {
         along = k;
@@ -138,6 +141,10 @@ module _ (IsKey : ℕ → Type 0) (n : ℕ) (cells : ℕ → Word) (heads : ℕ 
         falls = tt;
         place = λ x q. absurd (let z : Path (Option ℕ) None (Some x) = sym e ∙ q in cc);
         misses_none = λ i h. ⊎_elim inl (λ t. absurd (let z : Path (Option ℕ) None (Some t.0) = sym e ∙ t.2 in cc)) (led i h);
+        meets = λ i t. ⊎_elim (λ r. absurd r) (λ q. absurd (let z : Path (Option ℕ) None (Some i) = sym e ∙ q in cc)) t;
+        in_bags = in_bags;
+        closed = λ i j h b le. are.all i k b refl;
+        down = tt;
       }
       cases (Some y) e = let l = keyed.keyed (head_number k) y e in record {
         along = l.0;
@@ -145,6 +152,10 @@ module _ (IsKey : ℕ → Type 0) (n : ℕ) (cells : ℕ → Word) (heads : ℕ 
         falls = tt;
         place = λ x q. let i = (bags.heads_lead l.0 l.1).inside x (ap heads l.2 ∙ q) in (i.0, low x l.0 i.0, tt);
         misses_none = λ i h. ⊎_elim inl (λ t. let there = ((bags.heads_lead l.0 l.1).inside t.0 (ap heads l.2 ∙ t.2)).0 in inr (inr (inr (t.0, t.2, t.3 ∙ sym t.4 ∙ there, t.5)))) (led i h);
+        meets = λ i t. ⊎_elim (λ r. absurd r) (λ q. are.all i l.0 ((bags.heads_lead l.0 l.1).inside i (ap heads l.2 ∙ q)).0 l.2) t;
+        in_bags = in_bags;
+        closed = λ i j h b le. are.all i l.0 b l.2;
+        down = tt;
       }
 
   -- a look at the message to which the way had come
@@ -157,6 +168,11 @@ module _ (IsKey : ℕ → Type 0) (n : ℕ) (cells : ℕ → Word) (heads : ℕ 
         falls = (p.0, p.1, p.2, law.falls);
         place = λ x q. let f = (bags.nexts_lead i law.along p.0).inside x (next (cells i).cell refl linked x q) in (f.0, low x law.along f.0, (f.1, lower o (o.rank x) (o.rank i) w.looks f.1 p.2));
         misses_none = λ j h. met j (law.misses_none j h);
+        meets = λ j t. ⊎_elim (λ r. ⊎_elim (λ q. law.meets j (inr (e ∙ ap (λ (z : ℕ). Some z) (sym q)))) (λ s. law.meets j (inl s)) r)
+            (λ q. let f = (bags.nexts_lead i law.along p.0).inside j (next (cells i).cell refl linked j q) in law.closed j i (law.meets i (inr e)) f.0 (let less = f.1 in omega (arith, less))) t;
+        in_bags = law.in_bags;
+        closed = law.closed;
+        down = ((λ s. subst IsConsumed (sym s) tt), law.down);
       }
     where
       -- behind the message i a message that is not consumed comes next, or one above it, or nothing can be read there
@@ -223,15 +239,27 @@ module _ (IsKey : ℕ → Type 0) (n : ℕ) (cells : ℕ → Word) (heads : ℕ 
       cases (Some y) p e = subst (WayLaw n cells o) (sym (e ∙ ap (λ (q : Option ℕ). if has_come_to i q then gone_on x i (cells i) else x) p)) (moved y p (eqb y i) refl)
 
 -- the law stays where messages are linked and consumed, since what a linked message has of the order stays
-pub way_stays : (n : ℕ) (cells cells' : ℕ → Word) (o o' : LinkOrder) (w : Way) → ((i k : ℕ) → o.bag i ≡ Some k → (o'.bag i ≡ Some k) × (o'.rank i ≡ o.rank i)) → ((i : ℕ) → IsConsumed (cell_of cells i) → IsConsumed (cell_of cells' i)) → WayLaw n cells o w → WayLaw n cells' o' w
-way_stays n cells cells' o o' w same consumed law = record {
+pub way_stays : (n : ℕ) (cells cells' : ℕ → Word) (o o' : LinkOrder) (w : Way) → ((i k : ℕ) → o.bag i ≡ Some k → (o'.bag i ≡ Some k) × (o'.rank i ≡ o.rank i)) → ((i k : ℕ) → o'.bag i ≡ Some k → (o.bag i ≡ Some k) ⊎ ((x l : ℕ) → o.bag x ≡ Some l → o.rank x < o'.rank i))
+    → ((i : ℕ) → IsConsumed (cell_of cells i) → IsConsumed (cell_of cells' i)) → WayLaw n cells o w → WayLaw n cells' o' w
+way_stays n cells cells' o o' w same newer consumed law = record {
   along = law.along;
   headed = law.headed;
   falls = falls w.looks law.falls;
   place = λ x e. let p = law.place x e in let s = same x law.along p.0 in (s.0, p.1, above (o.rank x) (o'.rank x) s.1 w.looks law.falls p.2);
   misses_none = λ i h. met i (law.misses_none i h);
+  meets = law.meets;
+  in_bags = λ i h. let b = law.in_bags i h in (b.0, (same i b.0 b.1).0);
+  closed = closed;
+  down = down w.looks law.down;
 }
   where
+    down : (ls : List Look) → AreDown cells ls → AreDown cells' ls
+    down [] d = tt
+    down (l ∷ ls) d = ((λ s. consumed l.number (d.0 s)), down ls d.1)
+
+    closed : (i j : ℕ) → HasNumber j w.linked → o'.bag i ≡ Some law.along → o'.rank i ≤ o'.rank j → HasNumber i w.linked
+    closed i j h b le = let there = law.in_bags j h in let a = (same j there.0 there.1).1 in ⊎_elim (λ was. let c = (same i law.along was).1 in law.closed i j h was (omega (arith, le, a, c))) (λ f. let less = f j there.0 there.1 in absurd (omega (arith, less, le, a))) (newer i law.along b)
+
     met : (i : ℕ) → IsMetOn cells o law.along w i → IsMetOn cells' o' law.along w i
     met i (inl c) = inl (consumed i c)
     met i (inr (inl r)) = inr (inl r)
@@ -245,3 +273,49 @@ way_stays n cells cells' o o' w same consumed law = record {
     falls : (ls : List Look) → LeadsDown n law.along o ls → LeadsDown n law.along o' ls
     falls [] f = tt
     falls (l ∷ ls) f = let s = same l.number law.along f.0 in (s.0, f.1, above (o.rank l.number) (o'.rank l.number) s.1 ls f.3 f.2, falls ls f.3)
+
+-- what was looked at is above what all of it is above
+above_read : (o : LinkOrder) (r j : ℕ) (ls : List Look) → AllAbove o r ls → WasRead j ls → r < o.rank j
+above_read o r j [] a read = absurd read
+above_read o r j (l ∷ ls) a (inl e) = let up = a.0 in let same = ap o.rank e in omega (arith, up, same)
+above_read o r j (l ∷ ls) a (inr read) = above_read o r j ls a.1 read
+
+-- what was read as consumed was looked at
+pub past_read : (i : ℕ) (ls : List Look) → ReadsPast i ls → WasRead i ls
+past_read i [] p = absurd p
+past_read i (l ∷ ls) (c, inl e) = inl (sym e)
+past_read i (l ∷ ls) (c, inr p) = inr (past_read i ls p)
+
+module _ (n : ℕ) (cells : ℕ → Word) (o : LinkOrder) (w : Way) (law : WayLaw n cells o w) (i : ℕ) (past : ReadsPast i w.looks) where
+  -- what was looked at on the way is consumed, or was linked after i
+  read_after : (j : ℕ) (ls : List Look) → LeadsDown n law.along o ls → AreDown cells ls → ReadsPast i ls → WasRead j ls → IsConsumed (cell_of cells j) ⊎ (o.rank i < o.rank j)
+  read_after j [] f d p r = absurd r
+  read_after j (l ∷ ls) f d p (inl e) = inl (subst (λ (z : ℕ). IsConsumed (cell_of cells z)) (sym e) (d.0 p.0))
+  read_after j (l ∷ ls) f d (c, inl e) (inr r) = inr (let up = above_read o (o.rank l.number) j ls f.2 r in let same = ap o.rank e in omega (arith, up, same))
+  read_after j (l ∷ ls) f d (c, inr p) (inr r) = read_after j ls f.3 d.1 p r
+
+  -- the way was not cut short
+  not_cut : (ls : List Look) → ReadsPast i ls → IsCutShort ls → ⊥
+  not_cut [] p s = absurd p
+  not_cut (l ∷ ls) p s = let z : Consumed ≡ Empty = sym p.0 ∙ s in absurd (cc)
+
+  -- the message i is in the bag of the way
+  pub past_bag : o.bag i ≡ Some law.along
+  past_bag = read_bag n law.along o i w.looks law.falls (past_read i w.looks past)
+
+  -- of the messages that were not linked after i, each that is not consumed lies at or below the place to which the way has come
+  pub past_below : (j : ℕ) → o.bag j ≡ Some law.along → o.rank j ≤ o.rank i → (IsConsumed (cell_of cells j) → ⊥) → (x : ℕ) × (w.place ≡ Some x) × (o.rank j ≤ o.rank x)
+  past_below j b le up = met (law.misses_none j (law.closed j i (law.meets i (inl (past_read i w.looks past))) b le))
+    where
+      met : IsMetOn cells o law.along w j → (x : ℕ) × (w.place ≡ Some x) × (o.rank j ≤ o.rank x)
+      met (inl c) = absurd (up c)
+      met (inr (inl r)) = ⊎_elim (λ c. absurd (up c)) (λ less. absurd (omega (arith, less, le))) (read_after j w.looks law.falls law.down past r)
+      met (inr (inr (inl t))) = absurd (not_cut w.looks past t.1)
+      met (inr (inr (inr t))) = (t.0, t.1, t.3)
+
+  -- and so the place leads past consumed messages alone, from the message i, where it was not linked after the r-th
+  pub past_leads : (r : ℕ) → o.rank i ≤ r → ((j : ℕ) → o.bag j ≡ Some law.along → (IsConsumed (cell_of cells j) → ⊥) → o.rank j < r → o.rank j ≤ o.rank i) → Leads cells o law.along r w.place
+  past_leads r low before = record {
+    inside = λ y e. let p = law.place y e in (p.0, (let up = above_read o (o.rank y) i w.looks p.2 (past_read i w.looks past) in omega (arith, up, low)));
+    passes = λ j b ne less. let t = past_below j b (before j b ne less) ne in (t.0, t.1, t.2);
+  }

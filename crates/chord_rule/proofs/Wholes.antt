@@ -2,6 +2,8 @@
 -- and what the first desk knows while it is alone, put together.
 use Rattle.std.proofs.Common.{◌≡◌, ◌≢◌, ◌⊎◌, inl, inr, ⊎_elim, ℕ, zero, suc, ◌+◌, ◌<◌, ◌≤◌, ◌||◌, if◌then◌else◌, Bool, true, false, List, [], ◌∷◌, ◌++◌, map, set, slice_get, refl, sym, ap, ◌∙◌, subst, arith, Option, Some, None}
 use mathlib.Core.Path.{Path}
+use mathlib.Core.Logic.{dite}
+use native.Mathlib.Decide.{ℕ_discrete}
 use mathlib.Core.Option.{some, none}
 use lib.ListN.{get_elem?}
 use Rattle.atomic_table.proofs.Lists.{set_here}
@@ -26,7 +28,7 @@ use Rattle.chord_rule.specs.Moment.{Moment, Home, Place, empty_word}
 use Rattle.chord_rule.specs.Numbers.{HasNumber}
 use Rattle.chord_rule.specs.Agrees.{Agrees}
 use Rattle.chord_rule.specs.Alone.{Remembers, AloneLaw}
-use Rattle.chord_rule.specs.Bags.{LinkOrder, IsArmed, IsConsumed, head_number, cell_of}
+use Rattle.chord_rule.specs.Bags.{LinkOrder, IsArmed, IsConsumed, BagLaw, head_number, cell_of}
 use Rattle.chord_rule.specs.Claims.{HasThe, AreClaimed}
 use Rattle.chord_rule.specs.Desks.{IsRightDesk}
 use Rattle.chord_rule.specs.Duties.{HasDuty, MayRest, start_walk, move_duty, drop_duty}
@@ -61,13 +63,19 @@ set_twice (x ∷ xs) (suc i) a b = λ k. x ∷ set_twice xs i a b k
 
 -- what holds of a desk, after a step of another
 right_stays : (n count count' : ℕ) (cells cells' : ℕ → Word) (o o' : LinkOrder) (v : View) → count ≤ count' → ((i : ℕ) → IsArmed (cell_of cells i) → IsArmed (cell_of cells' i)) → ((i : ℕ) → IsConsumed (cell_of cells i) → IsConsumed (cell_of cells' i))
-    → ((i k : ℕ) → o.bag i ≡ Some k → (o'.bag i ≡ Some k) × (o'.rank i ≡ o.rank i)) → IsRightDesk n count cells o v → IsRightDesk n count' cells' o' v
-right_stays n count count' cells cells' o o' v more armed consumed linked law = record {
+    → ((i k : ℕ) → o.bag i ≡ Some k → (o'.bag i ≡ Some k) × (o'.rank i ≡ o.rank i)) → ((i k : ℕ) → o'.bag i ≡ Some k → (o.bag i ≡ Some k) ⊎ ((x l : ℕ) → o.bag x ≡ Some l → o.rank x < o'.rank i)) → IsRightDesk n count cells o v → IsRightDesk n count' cells' o' v
+right_stays n count count' cells cells' o o' v more armed consumed linked newer law = record {
   armed = λ d h. armed d.message (law.armed d h);
-  ways = λ w h. way_stays n cells cells' o o' w linked consumed (law.ways w h);
+  ways = λ w h. way_stays n cells cells' o o' w linked newer consumed (law.ways w h);
   told = λ here spent. let l = law.told here spent in omega (arith, l, more);
   ended = law.ended;
 }
+
+-- what is in a bag after a link was there before, or is linked after all
+link_newer : {IsKey : ℕ → Type 0} {cells : ℕ → Word} {heads : ℕ → Option ℕ} (o : LinkOrder) → BagLaw IsKey cells heads o → (i k j l : ℕ) → put o.bag i (Some k) j ≡ Some l → (o.bag j ≡ Some l) ⊎ ((x z : ℕ) → o.bag x ≡ Some z → o.rank x < put o.rank i o.clock j)
+link_newer o bags i k j l b = dite (ℕ_discrete j i)
+    (λ e. inr (λ x z there. let r = bags.ranked x z there in let same = ap (put o.rank i o.clock) e ∙ put_here o.rank i o.clock in omega (arith, r, same)))
+    (λ ne. inl (sym (put_else o.bag i (Some k) j ne) ∙ b))
 
 -- a desk that keeps nothing is as it should be
 right_newcomer : (n count : ℕ) (cells : ℕ → Word) (o : LinkOrder) → IsRightDesk n count cells o newcomer
@@ -97,11 +105,11 @@ module _ {P : Type 0} (entries : P → List Entry) (arguments : P → List value
   not_gone w same e = absurd (let z : true ≡ false = sym e ∙ same ∙ here in cc)
 
   -- what the desk that steps writes in a cell is remembered
-  abbrev After : Moment P → Unseen → View → Type 0
+  abbrev pub After : Moment P → Unseen → View → Type 0
   After m' u' w = Agrees entries arguments keeps_to p n (record m' { views = set m.views id w }) u'
 
   -- the table still agrees where the desk also remembers the word of a cell
-  saw_too : (m' : Moment P) (u' : Unseen) (w : View) (i : ℕ) (x : Word) → m'.cells i ≡ x → After m' u' w → After m' u' (saw w i x)
+  pub saw_too : (m' : Moment P) (u' : Unseen) (w : View) (i : ℕ) (x : Word) → m'.cells i ≡ x → After m' u' w → After m' u' (saw w i x)
   saw_too m' u' w i x is after = subst (λ (vs : List View). Agrees entries arguments keeps_to p n (record m' { views = vs }) u') (set_twice m.views id w (saw w i x))
       (subst (λ (y : Word). Agrees entries arguments keeps_to p n (record m' { views = set (set m.views id w) id (saw w i y) }) u') is
       (agrees_saw entries arguments keeps_to p n small (record m' { views = set m.views id w }) u' after id w (set_here m.views id w (at_inside m.views id v at)) i))
@@ -114,13 +122,14 @@ module _ {P : Type 0} (entries : P → List Entry) (arguments : P → List value
   -- what one desk does keeps the whole rule where it keeps its parts
   pub whole_step : (m' : Moment P) (u' : Unseen) (w : View) → m'.views ≡ set m.views id w → Agrees entries arguments keeps_to p n m' u' → w.first ≡ v.first → w.gone ≡ v.gone → w.lent ≡ v.lent → m.count ≤ m'.count
       → ((i : ℕ) → IsArmed (cell_of m.cells i) → IsArmed (cell_of m'.cells i)) → ((i : ℕ) → IsConsumed (cell_of m.cells i) → IsConsumed (cell_of m'.cells i)) → ((i k : ℕ) → u.order.bag i ≡ Some k → (u'.order.bag i ≡ Some k) × (u'.order.rank i ≡ u.order.rank i))
+      → ((i k : ℕ) → u'.order.bag i ≡ Some k → (u.order.bag i ≡ Some k) ⊎ ((x l : ℕ) → u.order.bag x ≡ Some l → u.order.rank x < u'.order.rank i))
       → ((q i : ℕ) → cell_of m'.cells q ≡ a_cell.Woken i → IsArmed (cell_of m'.cells i)) → PlaceLaw n m'.places → IsRightDesk n m'.count m'.cells u'.order w
       → (Remembers m.count m.heads m.cells v.looked → Remembers m'.count m'.heads m'.cells w.looked) → Whole entries arguments keeps_to p n m' u'
-  whole_step m' u' w views after first gone_same lent more armed consumed linked woken places right remembers = record {
+  whole_step m' u' w views after first gone_same lent more armed consumed linked newer woken places right remembers = record {
     agrees = after;
     desks = record {
       right = subst (λ (vs : List View). (j : ℕ) (x : View) → get_elem? vs j ≡ some x → IsRightDesk n m'.count m'.cells u'.order x) (sym views)
-          (desks_after (λ j x. IsRightDesk n m'.count m'.cells u'.order x) m.views id w right (λ j x ne e. right_stays n m.count m'.count m.cells m'.cells u.order u'.order x more armed consumed linked (whole.desks.right j x e)));
+          (desks_after (λ j x. IsRightDesk n m'.count m'.cells u'.order x) m.views id w right (λ j x ne e. right_stays n m.count m'.count m.cells m'.cells u.order u'.order x more armed consumed linked newer (whole.desks.right j x e)));
     };
     woken = record { names = woken };
     places = places;
@@ -132,7 +141,7 @@ module _ {P : Type 0} (entries : P → List Entry) (arguments : P → List value
   pub whole_still : (places : ℕ → Option Place) (homes : ℕ → Home P) (stage : ℕ → Stage) (w : View) → w.looked ≡ v.looked → ((d : Duty) → HasDuty d w.duties → HasDuty d v.duties) → w.first ≡ v.first → w.gone ≡ v.gone → w.lent ≡ v.lent → w.spent ≡ v.spent → PlaceLaw n places
       → After (record m { places = places; homes = homes }) (record u { stage = stage }) w → Whole entries arguments keeps_to p n (record m { places = places; homes = homes; views = set m.views id w }) (record u { stage = stage })
   whole_still places homes stage w looked duties first gone_same lent spent placed after = whole_step (record m { places = places; homes = homes; views = set m.views id w }) (record u { stage = stage }) w refl after first gone_same lent (omega arith)
-      (λ i a. a) (λ i c. c) (λ i k b. (b, refl)) whole.woken.names placed
+      (λ i a. a) (λ i c. c) (λ i k b. (b, refl)) (λ i k b. inl b) whole.woken.names placed
       (record {
         armed = λ d h. mine.armed d (duties d h);
         ways = λ x h. mine.ways x (subst (λ (l : Looked). HasWay x l.ways) looked h);
@@ -149,11 +158,11 @@ module _ {P : Type 0} (entries : P → List Entry) (arguments : P → List value
   whole_cell i x homes stage w looked armed consumed woken duties first gone_same lent spent after =
       let m' : Moment P = record m { cells = put m.cells i x; homes = homes } in let u' : Unseen = record u { stage = stage } in
       whole_step (record m' { views = set m.views id (saw w i x) }) u' (saw w i x) refl (saw_too m' u' w i x (put_here m.cells i x) after) first gone_same lent (omega arith)
-      stay stay_consumed (λ k l b. (b, refl))
+      stay stay_consumed (λ k l b. (b, refl)) (λ k l b. inl b)
       (λ q z e. put_all m.cells i x (λ q c. c.cell ≡ a_cell.Woken z → IsArmed (cell_of (put m.cells i x) z)) q (λ s. stay z (woken z s)) (λ ne s. stay z (whole.woken.names q z s)) e) whole.places
       (record {
         armed = λ d h. ⊎_elim (λ k. stay d.message (mine.armed d k)) (λ a. a) (duties d h);
-        ways = λ y h. way_stays n m.cells (put m.cells i x) u.order u.order y (λ k l b. (b, refl)) stay_consumed (mine.ways y (subst (λ (l : Looked). HasWay y l.ways) looked h));
+        ways = λ y h. way_stays n m.cells (put m.cells i x) u.order u.order y (λ k l b. (b, refl)) (λ k l b. inl b) stay_consumed (mine.ways y (subst (λ (l : Looked). HasWay y l.ways) looked h));
         told = λ e s. mine.told (sym gone_same ∙ e) (sym spent ∙ s);
         ended = not_gone (saw w i x) gone_same;
       })
@@ -172,7 +181,7 @@ module _ {P : Type 0} (entries : P → List Entry) (arguments : P → List value
   whole_count journal stage w looked duties first gone_same lent spent after =
       let m' : Moment P = record m { count = m.count + 1 } in let u' : Unseen = record u { journal = journal; stage = stage } in
       whole_step (record m' { views = set m.views id (saw_count w (m.count + 1)) }) u' (saw_count w (m.count + 1)) refl (looked_too m' u' w (record w.looked { count = Some (m.count + 1) }) refl after) first gone_same lent (omega arith)
-      (λ i a. a) (λ i c. c) (λ i k b. (b, refl)) whole.woken.names whole.places
+      (λ i a. a) (λ i c. c) (λ i k b. (b, refl)) (λ i k b. inl b) whole.woken.names whole.places
       (record {
         armed = λ d h. mine.armed d (subst (HasDuty d) duties h);
         ways = λ x h. mine.ways x (subst (λ (l : Looked). HasWay x l.ways) looked h);
@@ -231,12 +240,13 @@ module _ {P : Type 0} (entries : P → List Entry) (arguments : P → List value
       let was = law.stands.hands.holds id v at i Placing placing in let t = agreeing.it entries arguments keeps_to p n small m u law id v at i (InHand id Placing) was in
       let other : (j l : ℕ) → u.order.bag j ≡ Some l → j ≢ i = (λ j l b q. let z : Path (Option ℕ) None (Some l) = sym t.5 ∙ sym (ap u.order.bag q) ∙ b in cc) in
       let linked : (j l : ℕ) → u.order.bag j ≡ Some l → (put u.order.bag i (Some k) j ≡ Some l) × (put u.order.rank i u.order.clock j ≡ u.order.rank j) = (λ j l b. (put_else u.order.bag i (Some k) j (other j l b) ∙ b, put_else u.order.rank i u.order.clock j (other j l b))) in
+      let newer : (j l : ℕ) → put u.order.bag i (Some k) j ≡ Some l → (u.order.bag j ≡ Some l) ⊎ ((x z : ℕ) → u.order.bag x ≡ Some z → u.order.rank x < put u.order.rank i u.order.clock j) = (λ j l b. link_newer u.order law.bags i k j l b) in
       whole_step (record m' { views = set m.views id (saw_head w (head_number k) (Some i)) }) u' (saw_head w (head_number k) (Some i)) refl
       (looked_too m' u' w (saw_head w (head_number k) (Some i)).looked refl (agreeing.agrees_link entries arguments keeps_to p n small m u law id v at law.tabled i q e x is num says method placing free may others args call parked task))
-      refl refl refl (omega arith) (λ j a. a) (λ j c. c) linked whole.woken.names whole.places
+      refl refl refl (omega arith) (λ j a. a) (λ j c. c) linked newer whole.woken.names whole.places
       (record {
         armed = mine.armed;
-        ways = λ y h. way_stays n m.cells m.cells u.order (linked_order u.order i k above) y linked (λ j c. c) (mine.ways y h);
+        ways = λ y h. way_stays n m.cells m.cells u.order (linked_order u.order i k above) y linked newer (λ j c. c) (mine.ways y h);
         told = mine.told;
         ended = not_gone (saw_head w (head_number k) (Some i)) refl;
       })
@@ -349,7 +359,7 @@ module _ {P : Type 0} (entries : P → List Entry) (arguments : P → List value
   whole_view : (w : View) → After m u w → w.first ≡ v.first → w.gone ≡ v.gone → w.lent ≡ v.lent → w.spent ≡ v.spent → ((d : Duty) → HasDuty d w.duties → IsArmed (cell_of m.cells d.message)) → ((x : Way) → HasWay x w.looked.ways → WayLaw n m.cells u.order x)
       → (Remembers m.count m.heads m.cells v.looked → Remembers m.count m.heads m.cells w.looked) → Whole entries arguments keeps_to p n (record m { views = set m.views id w }) u
   whole_view w after first gone_same lent spent armed ways remembers = whole_step (record m { views = set m.views id w }) u w refl after first gone_same lent (omega arith)
-      (λ i a. a) (λ i c. c) (λ i k b. (b, refl)) whole.woken.names whole.places
+      (λ i a. a) (λ i c. c) (λ i k b. (b, refl)) (λ i k b. inl b) whole.woken.names whole.places
       (record { armed = armed; ways = ways; told = λ e s. mine.told (sym gone_same ∙ e) (sym spent ∙ s); ended = not_gone w gone_same }) remembers
 
   -- what is linked is a number of the table

@@ -114,16 +114,34 @@ IsCutShort (l ∷ ls) = l.word.cell ≡ Empty
 abbrev pub IsWholeWay : Way → Type 0
 IsWholeWay w = (w.place ≡ None) × (IsCutShort w.looks → ⊥)
 
+-- these looks read consumed messages alone from the one at the message i on, up to the newest
+abbrev pub ReadsPast : ℕ → List Look → Type 0
+ReadsPast i [] = ⊥
+ReadsPast i (l ∷ ls) = (l.word.cell ≡ Consumed) × ((l.number ≡ i) ⊎ ReadsPast i ls)
+
+-- the desk read i consumed, and each message that followed it over next before the place `to`, where that way led
+abbrev pub WentPast : View → ℕ → Option ℕ → Type 0
+WentPast v i to = (w : Way) × HasWay w v.looked.ways × (w.place ≡ to) × ReadsPast i w.looks
+
+-- what these looks read as consumed is consumed
+abbrev pub AreDown : (ℕ → Word) → List Look → Type 0
+AreDown cells [] = Unit {0}
+AreDown cells (l ∷ ls) = (l.word.cell ≡ Consumed → IsConsumed (cell_of cells l.number)) × AreDown cells ls
+
 -- the message i of the bag k is consumed, or was looked at on the way, or the way has still to come to it, or was cut short before it
 abbrev pub IsMetOn : (ℕ → Word) → LinkOrder → ℕ → Way → ℕ → Type 0
 IsMetOn cells o k w i = IsConsumed (cell_of cells i) ⊎ WasRead i w.looks ⊎ ((w.place ≡ None) × IsCutShort w.looks) ⊎ ((x : ℕ) × (w.place ≡ Some x) × (o.bag i ≡ Some k) × (o.rank i ≤ o.rank x))
 
 -- a way goes from message to message of one bag, each linked before the last, and so does the message to which it has come.
 -- The head of its bag is that of this one, so they are one bag where the object of the way's was made. It misses no message
--- that had been linked when the head was read.
+-- that had been linked when the head was read, meets no other, and what it read as consumed is consumed.
 pub record WayLaw (n : ℕ) (cells : ℕ → Word) (o : LinkOrder) (w : Way) : Type 0 where
   pub along : ℕ
   pub headed : head_number along ≡ head_number w.bag
   pub falls : LeadsDown n along o w.looks
   pub place : (x : ℕ) → w.place ≡ Some x → (o.bag x ≡ Some along) × (x < n) × AllAbove o (o.rank x) w.looks
   pub misses_none : (i : ℕ) → HasNumber i w.linked → IsMetOn cells o along w i
+  pub meets : (i : ℕ) → WasRead i w.looks ⊎ (w.place ≡ Some i) → HasNumber i w.linked
+  pub in_bags : (i : ℕ) → HasNumber i w.linked → (k : ℕ) × (o.bag i ≡ Some k)
+  pub closed : (i j : ℕ) → HasNumber j w.linked → o.bag i ≡ Some along → o.rank i ≤ o.rank j → HasNumber i w.linked
+  pub down : AreDown cells w.looks
