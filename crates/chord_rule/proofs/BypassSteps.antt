@@ -1,6 +1,5 @@
 -- Consumed messages leave a bag: a head, or the next of a consumed message, is moved past them.
-use Rattle.std.proofs.Common.{◌≡◌, ◌≢◌, ◌⊎◌, inl, inr, ⊎_elim, ℕ, ◌<◌, ◌≤◌, true, false, List, [], ◌∷◌, set, refl, sym, ap, ◌∙◌, subst, arith, Option, Some, None}
-use mathlib.Core.Path.{Path}
+use Rattle.std.proofs.Common.{◌≡◌, inl, inr, ⊎_elim, ℕ, ◌≤◌, true, false, List, [], ◌∷◌, set, refl, sym, ap, ◌∙◌, subst, arith, Option, Some, None}
 use mathlib.Core.Logic.{dite}
 use mathlib.Core.Option.{some}
 use lib.ListN.{get_elem?}
@@ -13,18 +12,15 @@ use Rattle.chord_word.specs.declared.cells.Cell.TheVariants as a_cell
 use Rattle.chord_word.specs.declared.cells.Word.{Word}
 use Rattle.chord_rule.specs.declared.view.Duty.{Duty}
 use Rattle.chord_rule.specs.declared.view.View.{View}
-use Rattle.chord_rule.specs.declared.view.Walk.{Walk}
 use Rattle.chord_rule.specs.Moment.{Moment, Home, Place}
 use Rattle.chord_rule.specs.Agrees.{Agrees}
 use Rattle.chord_rule.specs.Bags.{LinkOrder, Leads, BagLaw, IsArmed, IsConsumed, IsStanding, cell_of, head_number}
 use Rattle.chord_rule.specs.Desks.{IsRightDesk}
-use Rattle.chord_rule.specs.Duties.{HasDuty, HasWalk, Reaches, Carries, Chosen, Choice, IsNamedByCell, IsCarried, DutyLaw}
-use Rattle.chord_rule.specs.Heads.{HeadLaw}
+use Rattle.chord_rule.specs.Duties.{Reaches, Carries, Chosen, DutyLaw}
 use Rattle.chord_rule.specs.Kinds.{saw, saw_head}
-use Rattle.chord_rule.specs.Looks.{HasSeen, Looks}
+use Rattle.chord_rule.specs.Looks.{Looks}
 use Rattle.chord_rule.specs.Made.{IsKey, IsChord}
 use Rattle.chord_rule.specs.Messages.{IsOpen, Stands, Messages}
-use Rattle.chord_rule.specs.Numbers.{HasNumber}
 use Rattle.chord_rule.specs.Stages.{Fresh, Placing, Flying, Claiming, Emptying, Unposted, Posting, Starting, Stage, Vacant, InHand, Armed, Spent, Posted, Played, said_at}
 use Rattle.chord_rule.specs.StandsFor.{Unseen}
 use Rattle.chord_rule.specs.Ways.{WentPast, WayLaw}

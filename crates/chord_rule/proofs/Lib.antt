@@ -34,4 +34,5 @@ pub mod Moves
 pub mod Knowing
 pub mod Moving
 pub mod Seeing
+pub mod Bypassing
 pub mod Closing

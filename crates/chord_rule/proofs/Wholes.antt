@@ -431,6 +431,11 @@ module _ {P : Type 0} (entries : P → List Entry) (arguments : P → List value
   pub whole_saw : (i : ℕ) → Whole entries arguments keeps_to p n (record m { views = set m.views id (saw v i (m.cells i)) }) u
   whole_saw i = whole_view (saw v i (m.cells i)) (looking.agrees_saw entries arguments keeps_to p n small m u law id v at i) refl refl refl refl mine.armed mine.ways (λ r. remembers_look m.count m.heads m.cells v.looked r i)
 
+  -- what an exchange that fails reads in a head
+  pub whole_saw_head : (head : ℕ) → Whole entries arguments keeps_to p n (record m { views = set m.views id (saw_head v head (m.heads head)) }) u
+  whole_saw_head head = whole_view (saw_head v head (m.heads head)) (agreeing.agrees_still entries arguments keeps_to p n small m u law id v at (saw_head v head (m.heads head)) refl refl refl refl refl refl refl refl) refl refl refl refl mine.armed mine.ways
+      (λ r. remembers_look_head m.count m.heads m.cells v.looked r head)
+
   -- a duty is laid down
   pub whole_rest : (i : ℕ) → ((d : Duty) → HasDuty d v.duties → d.message ≡ i → MayRest (IsChord p) d) → Whole entries arguments keeps_to p n (record m { views = set m.views id (kinds.rested v i) }) u
   whole_rest i may = whole_view (kinds.rested v i) (looking.agrees_rest entries arguments keeps_to p n small m u law id v at i may) refl refl refl refl (λ d h. mine.armed d (agreeing.was_duty d i v.duties h)) mine.ways (λ r. r)

@@ -167,6 +167,28 @@ module _ {S : Type 0} where
       × ((d : Duty) → HasDuty d m.0.duties → d.message ≡ i → (q : Place) × (pl ≡ Some q) × (d.bag ≡ key q.0 q.1))
       × ((c : Claim) → HasThe c m.0.claims → c.number ≡ i → pl ≡ Some (c.object, c.method)))
 
+  -- ## Bypasses
+
+  -- where the head was `from`, it is `to`; else it was another
+  abbrev pub BypassTells : (head from : ℕ) → Option ℕ → Step (Option S) → Me (Option S) View → ℕ → Me (Option S) View → Type 0
+  BypassTells head from to s m x w = (w.1 ≡ m.1)
+      × (x ≡ s.first → w.0 ≡ saw_head m.0 head to)
+      × (x ≢ s.first → (h : Option ℕ) × (x ≡ link_of h) × LinkOk h × (h ≢ Some from) × (w.0 ≡ saw_head m.0 head h))
+
+  -- a head is moved past consumed messages, or was read
+  abbrev pub bypasses_head : Step (Option S) → Me (Option S) View → ℕ → Me (Option S) View → Type 0
+  bypasses_head s m x w = (head from : ℕ) (to : Option ℕ) → s.word ≡ 1 + s.slots + head → s.first ≡ link_of (Some from) → s.second ≡ link_of to → BypassTells head from to s m x w
+
+  -- where the word was that of the consumed message i with the next `from`, its next is `to`; else it was another
+  abbrev pub BypassCellTells : ℕ → (from to : Option ℕ) → Step (Option S) → Me (Option S) View → ℕ → Me (Option S) View → Type 0
+  BypassCellTells i from to s m x w = (w.1 ≡ m.1)
+      × (x ≡ s.first → w.0 ≡ saw m.0 i (a_word a_cell.Consumed to))
+      × (x ≢ s.first → (c : Word) × WordFits c × (c ≢ a_word a_cell.Consumed from) × (x ≡ word_of c) × (w.0 ≡ saw m.0 i c))
+
+  -- the next of a consumed message is moved past consumed messages, or its cell was read
+  abbrev pub bypasses_cell : Step (Option S) → Me (Option S) View → ℕ → Me (Option S) View → Type 0
+  bypasses_cell s m x w = (i : ℕ) (from to : Option ℕ) → s.word ≡ 1 + i → s.first ≡ word a_cell.Consumed from → s.second ≡ word a_cell.Consumed to → BypassCellTells i from to s m x w
+
   -- a duty is laid down
   abbrev pub rests : ℕ → Step (Option S) → Me (Option S) View → ℕ → Me (Option S) View → Type 0
   rests i s m x w = w ≡ (rested m.0 i, m.1)

@@ -6,7 +6,7 @@ ghost use Rattle.chord_base.specs.declared.event.Limits.{Limits};
 ghost use Rattle.chord_base.specs.declared.value.Object.{Object};
 ghost use Rattle.chord_code.specs.declared.parts.Parts.{Parts};
 ghost use Rattle.chord_rule.specs.Kinds.{newcomer, gone, lent_one, united};
-ghost use Rattle.chord_rule.specs.Tells.{draws_firing, places, link_adds, arms, claims, holds, unclaims, consumes, slot_returns, posts_out, posts, starts, plays, finds_place, looks_count, looks_head, looks_cell, looks_place, rests};
+ghost use Rattle.chord_rule.specs.Tells.{draws_firing, places, link_adds, arms, claims, holds, unclaims, consumes, slot_returns, posts_out, posts, starts, plays, finds_place, looks_count, looks_head, looks_cell, looks_place, bypasses_head, bypasses_cell, rests};
 ghost use Rattle.chord_code.specs.Meaning.{code_program};
 ghost use Rattle.chord_space.specs.Ruled.{draws_of_code};
 ghost use Rattle.chord_space.specs.Desks.{no_parts, no_limits, no_object};
@@ -256,6 +256,20 @@ pub struct SeePlace;
 
 impl<P> Play<Option<P>, View> for SeePlace {
     ghost then = { looks_place };
+}
+
+/// A head is moved past consumed messages.
+pub struct MoveHead;
+
+impl<P> Play<Option<P>, View> for MoveHead {
+    ghost then = { bypasses_head };
+}
+
+/// The next of a consumed message is moved past consumed messages.
+pub struct MoveNext;
+
+impl<P> Play<Option<P>, View> for MoveNext {
+    ghost then = { bypasses_cell };
 }
 
 /// A duty is laid down.
