@@ -304,8 +304,8 @@ module _ (n : ℕ) (cells : ℕ → Word) (o : LinkOrder) (w : Way) (law : WayLa
   past_bag = read_bag n law.along o i w.looks law.falls (past_read i w.looks past)
 
   -- of the messages that were not linked after i, each that is not consumed lies at or below the place to which the way has come
-  pub past_below : (j : ℕ) → o.bag j ≡ Some law.along → o.rank j ≤ o.rank i → (IsConsumed (cell_of cells j) → ⊥) → (x : ℕ) × (w.place ≡ Some x) × (o.rank j ≤ o.rank x)
-  past_below j b le up = met (law.misses_none j (law.closed j i (law.meets i (inl (past_read i w.looks past))) b le))
+  pub left_below : (j : ℕ) → o.bag j ≡ Some law.along → o.rank j ≤ o.rank i → (IsConsumed (cell_of cells j) → ⊥) → (x : ℕ) × (w.place ≡ Some x) × (o.rank j ≤ o.rank x)
+  left_below j b le up = met (law.misses_none j (law.closed j i (law.meets i (inl (past_read i w.looks past))) b le))
     where
       met : IsMetOn cells o law.along w j → (x : ℕ) × (w.place ≡ Some x) × (o.rank j ≤ o.rank x)
       met (inl c) = absurd (up c)
@@ -317,5 +317,5 @@ module _ (n : ℕ) (cells : ℕ → Word) (o : LinkOrder) (w : Way) (law : WayLa
   pub past_leads : (r : ℕ) → o.rank i ≤ r → ((j : ℕ) → o.bag j ≡ Some law.along → (IsConsumed (cell_of cells j) → ⊥) → o.rank j < r → o.rank j ≤ o.rank i) → Leads cells o law.along r w.place
   past_leads r low before = record {
     inside = λ y e. let p = law.place y e in (p.0, (let up = above_read o (o.rank y) i w.looks p.2 (past_read i w.looks past) in omega (arith, up, low)));
-    passes = λ j b ne less. let t = past_below j b (before j b ne less) ne in (t.0, t.1, t.2);
+    passes = λ j b ne less. let t = left_below j b (before j b ne less) ne in (t.0, t.1, t.2);
   }
