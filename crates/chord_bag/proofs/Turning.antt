@@ -1,26 +1,34 @@
 -- One look after another.
-use Rattle.std.proofs.Common.{◌≡◌, ◌≢◌, inl, inr, ℕ, ◌+◌, ◌<◌, Bool, true, ◌||◌, List, ◌∷◌, ◌++◌, map, refl, sym, ap, ◌∙◌, subst, arith, Option, Some, None, if◌then◌else◌}
+use Rattle.std.proofs.Common.{◌≡◌, ◌≢◌, inl, inr, ℕ, ◌+◌, ◌<◌, Bool, true, false, ◌||◌, List, [], ◌∷◌, ◌++◌, map, refl, sym, ap, ◌∙◌, subst, arith, Option, Some, None, IfSome, if◌then◌else◌}
 use mathlib.Core.Path.{Path}
 use Rattle.std.proofs.lemmas.Bool.{eq-eqb}
 use Rattle.chord_word.specs.declared.cells.Cell.{Cell}
 use Rattle.chord_word.specs.declared.cells.Cell.TheVariants.{Empty, Pending, Claimed, Consumed, Woken, Ready, Started}
 use Rattle.chord_word.specs.declared.cells.Word.{Word}
+use Rattle.chord_base.specs.declared.event.Entry.{Entry}
+use Rattle.chord_base.specs.declared.event.Limits.{Limits}
+use Rattle.chord_base.specs.declared.value.Value as value
+use Rattle.chord_code.specs.declared.parts.Parts.{Parts}
+use Rattle.chord_space.specs.declared.space.Space.{Space}
+use Rattle.chord_space.specs.Desks.{space_code, space_limits, program_of}
+use Rattle.chord_space.specs.Ruled.{LooksAtHead}
 use Rattle.chord_rule.specs.declared.view.Duty.{Duty}
 use Rattle.chord_rule.specs.declared.view.Look.{Look}
 use Rattle.chord_rule.specs.declared.view.Looked.{Looked}
 use Rattle.chord_rule.specs.declared.view.View.{View}
 use Rattle.chord_rule.specs.declared.view.Way.{Way}
 use Rattle.chord_rule.specs.Duties.{has_come_to, move_duty}
-use Rattle.chord_rule.specs.Kinds.{is_down, looked_head, looked_cell}
-use Rattle.chord_rule.specs.Bags.{IsArmed}
+use Rattle.chord_rule.specs.Kinds.{is_down, looked_head, looked_cell, saw_head}
+use Rattle.chord_rule.specs.Bags.{IsArmed, head_number}
+use Rattle.chord_rule.specs.Heading.{WasHead}
 use Rattle.chord_rule.specs.Tells.{IsLook}
-use Rattle.chord_rule.specs.Ways.{way_onward, way_begun, gone_on, on_way, IsAt, IsLinkedCell, IsSettledCell, IsAloneDesk, HasLooksLeft}
+use Rattle.chord_rule.specs.Ways.{way_onward, way_begun, gone_on, on_way, IsAt, IsLinkedCell, IsSettledCell, IsAloneDesk, HasWay, IsCutShort, HasLooksLeft, ReadsPast, WentPast}
 use Rattle.chord_bag.specs.declared.walk.Sought.{Sought}
 use Rattle.chord_bag.specs.declared.walk.Sought.TheVariants.{Found, Bare, Busy}
 use Rattle.chord_bag.specs.declared.walk.Turn.{Turn}
-use Rattle.chord_bag.specs.declared.walk.Turn.TheVariants.{Over, On}
-use Rattle.chord_bag.specs.Reads.{AllAt, KeepsEnds, IsOnlyLooks, with_looks, is_claimed, after_cell, messages_and_bags}
-use Rattle.chord_bag.specs.Seeking.{IsSought}
+use Rattle.chord_bag.specs.declared.walk.Turn.TheVariants.{Over, On, Past}
+use Rattle.chord_bag.specs.Reads.{AllAt, AllRead, KeepsEnds, IsOnlyLooks, with_looks, is_claimed, is_passed, after_cell, messages_and_bags}
+use Rattle.chord_bag.specs.Seeking.{IsSought, BeganAtHead, newest_linked}
 use Rattle.chord_bag.specs.Walking.{Going, IsGoing, IsTurn, ComesToTurn, gone_so_far}
 use Rattle.chord_bag.proofs.Walks.{all_start, all_move, head_keeps, cell_keeps, keeps_on, head_keeps_messages, cell_keeps_messages}
 
@@ -29,6 +37,7 @@ abbrev pub by_cell : ℕ → Option ℕ → Option ℕ → Cell → Turn
 by_cell i busy next Pending = Over (Found i next)
 by_cell i busy next Empty = Over (Busy i)
 by_cell i busy next Claimed = On next (Some i)
+by_cell i busy next Consumed = Past next
 by_cell i busy next _ = On next busy
 
 -- the answer of a whole way without a pending message
@@ -100,7 +109,7 @@ module _ (n k : ℕ) (v u : View) (i : ℕ) (busy : Option ℕ) (s : Going n k v
 
   -- what comes after a look that read this cell
   pub seek_turned : (next : Option ℕ) (c : Cell) → IsLinkedCell c → (IsArmed c → (x : ℕ) → next ≡ Some x → x < n) → (IsAloneDesk u → IsSettledCell c) → HasLooksLeft n (looked_cell u i (record { cell = c; next = next })).looked.ways
-      → ComesToTurn n k v (looked_cell u i (record { cell = c; next = next })) (by_cell i busy next c)
+      → ComesToTurn n k v (looked_cell u i (record { cell = c; next = next })) busy (by_cell i busy next c)
   seek_turned next Pending l inside a room = let c : Word = record { cell = Pending; next = next } in
       record { way = gone_on s.way i c; more = more c; seen = seen c; bag = s.bag; answer = (s.way.looks, refl, s.passed); below = (low, inside tt); walked = tt; others = others c; only = only c; alone = λ _. tt }
   seek_turned next Empty l inside a room = let c : Word = record { cell = Empty; next = next } in
@@ -120,28 +129,57 @@ module _ (n k : ℕ) (v u : View) (i : ℕ) (busy : Option ℕ) (s : Going n k v
   pub room_left : gone_so_far u.looked.ways < n
   room_left = let r = (s.room s.way v.looked.ways s.more i s.at).1 in let f = ap gone_so_far s.more in omega (arith, r, f)
 
+-- a look at a cell leaves what had been linked when the head was read
+same_linked : (i : ℕ) (c : Word) (ws : List Way) → newest_linked (on_way i c ws) ≡ newest_linked ws
+same_linked i c [] = refl
+same_linked i c (w ∷ ws) = cases (has_come_to i w.place)
+  where
+    cases : (b : Bool) → (if b then gone_on w i c else w).linked ≡ w.linked
+    cases true = refl
+    cases false = refl
+
+-- past a consumed message
+consumed_past : (i : ℕ) (busy : Option ℕ) (word : Word) (next : Option ℕ) (u : View) → IsAt i u.looked.ways → (c : Cell) → by_cell i busy word.next c ≡ Past next → word.cell ≡ c → WentPast (looked_cell u i word) i next
+consumed_past i busy word next u at Consumed e is = newest u.looked.ways at
+  where
+    next_is : word.next ≡ next
+    next_is = cc
+
+    newest : (ws : List Way) → IsAt i ws → (w : Way) × HasWay w (on_way i word ws) × (w.place ≡ next) × ReadsPast i w.looks
+    newest [] t = absurd t
+    newest (w ∷ ws) t = let t' : has_come_to i w.place ≡ true = ap (has_come_to i) t ∙ eq-eqb i i refl in
+        (gone_on w i word, inl (sym (ap (λ (b : Bool). if b then gone_on w i word else w) t')), ap (λ (z : Cell). way_onward z word.next) is ∙ next_is, (is, inl refl))
+consumed_past i busy word next u at Pending e is = absurd (let z : Over (Found i word.next) ≡ Past next = e in cc)
+consumed_past i busy word next u at Empty e is = absurd (let z : Over (Busy i) ≡ Past next = e in cc)
+consumed_past i busy word next u at Claimed e is = absurd (let z : On word.next (Some i) ≡ Past next = e in cc)
+consumed_past i busy word next u at (Woken q) e is = absurd (let z : On word.next busy ≡ Past next = e in cc)
+consumed_past i busy word next u at Ready e is = absurd (let z : On word.next busy ≡ Past next = e in cc)
+consumed_past i busy word next u at Started e is = absurd (let z : On word.next busy ≡ Past next = e in cc)
+
 -- a look that read this cell, whatever walk had come there
 pub one_turn : (n i : ℕ) (busy : Option ℕ) (word : Word) (u w : View) (c : Cell) → IsLook n u w i word → word.cell ≡ c → IsTurn n u w i busy (by_cell i busy word.next c)
 one_turn n i busy word u w c look is = subst (λ (z : View). IsTurn n u z i busy (by_cell i busy word.next c)) (sym look.looked) (subst (λ (z : Cell). IsTurn n u (looked_cell u i word) i busy (by_cell i busy word.next z)) is record {
   comes = λ k v s. let at : IsAt i u.looked.ways = subst (λ (ws : List Way). IsAt i ws) (sym s.more) s.at in
       seek_turned n k v u i busy s word.next word.cell (look.linked at) look.within (λ a. look.alone a (inl at)) (subst (λ (z : View). HasLooksLeft n z.looked.ways) look.looked look.room);
   longer = λ k v s. longer n k v u i busy s word;
+  linked = same_linked i word u.looked.ways;
+  past = λ next e at. consumed_past i busy word next u at word.cell e refl;
 })
 
--- past a cell that is neither pending, unarmed nor claimed the walk goes on
-pub goes_past : (i : ℕ) (busy next : Option ℕ) (c : Cell) → c ≢ Pending → c ≢ Empty → c ≢ Claimed → by_cell i busy next c ≡ On next busy
-goes_past i busy next Pending a b d = absurd (a refl)
-goes_past i busy next Empty a b d = absurd (b refl)
-goes_past i busy next Claimed a b d = absurd (d refl)
-goes_past i busy next Consumed a b d = refl
-goes_past i busy next (Woken q) a b d = refl
-goes_past i busy next Ready a b d = refl
-goes_past i busy next Started a b d = refl
+-- past a cell that is neither pending, unarmed, claimed nor consumed the walk goes on
+pub goes_past : (i : ℕ) (busy next : Option ℕ) (c : Cell) → c ≢ Pending → c ≢ Empty → c ≢ Claimed → c ≢ Consumed → by_cell i busy next c ≡ On next busy
+goes_past i busy next Pending a b d e = absurd (a refl)
+goes_past i busy next Empty a b d e = absurd (b refl)
+goes_past i busy next Claimed a b d e = absurd (d refl)
+goes_past i busy next Consumed a b d e = absurd (e refl)
+goes_past i busy next (Woken q) a b d e = refl
+goes_past i busy next Ready a b d e = refl
+goes_past i busy next Started a b d e = refl
 
 -- a look at a head begins a way
-pub seek_starts : (n k : ℕ) (v w : View) (head : Option ℕ) → w ≡ looked_head v k head → HasLooksLeft n w.looked.ways → Going n k v w head None
-seek_starts n k v w head is room = subst (λ (z : View). Going n k v z head None) (sym is) record {
-  way = way_begun k head;
+pub seek_starts : (n k : ℕ) (v w : View) (linked : List ℕ) (head : Option ℕ) → w ≡ looked_head v k linked head → HasLooksLeft n w.looked.ways → Going n k v w head None
+seek_starts n k v w linked head is room = subst (λ (z : View). Going n k v z head None) (sym is) record {
+  way = way_begun k linked head;
   more = refl;
   seen = refl;
   bag = refl;
@@ -154,7 +192,53 @@ seek_starts n k v w head is room = subst (λ (z : View). Going n k v z head None
   alone = λ _. refl;
 }
 
+-- where each look read a cell that is passed, the way was not cut short
+passed_whole : (ls : List Look) → AllRead is_passed ls → IsCutShort ls → ⊥
+passed_whole [] a s = s
+passed_whole (l ∷ ls) a s = let z : true ≡ false = sym a.0 ∙ ap is_passed s in absurd (cc)
+
+-- the message to which a walk has come is a number of the table
+pub place_below : (n k : ℕ) (v u : View) (place busy : Option ℕ) → Going n k v u place busy → IfSome place (λ x. x < n)
+place_below n k v u place busy s = below place s.at
+  where
+    below : (p : Option ℕ) → s.way.place ≡ p → IfSome p (λ x. x < n)
+    below None e = tt
+    below (Some x) e = (s.room s.way v.looked.ways s.more x e).0
+
+-- a walk has come to the message at its place
+pub walk_at : (n k : ℕ) (v u : View) (i : ℕ) (busy : Option ℕ) → Going n k v u (Some i) busy → IsAt i u.looked.ways
+walk_at n k v u i busy s = subst (λ (ws : List Way). IsAt i ws) (sym s.more) s.at
+
+-- what is read of a head leaves a walk as it is
+pub head_read : (n k : ℕ) (v u : View) (place busy : Option ℕ) (head : ℕ) (h : Option ℕ) → Going n k v u place busy → Going n k v (saw_head u head h) place busy
+head_read n k v u place busy head h s = record {
+  way = s.way;
+  more = s.more;
+  seen = s.seen;
+  bag = s.bag;
+  at = s.at;
+  passed = s.passed;
+  going = going busy s.going;
+  room = s.room;
+  others = s.others;
+  only = only_more v u u.duties (saw_head u head h).looked s.only refl;
+  alone = s.alone;
+}
+  where
+    going : (b : Option ℕ) → IsGoing n s.way u.duties b → IsGoing n s.way (saw_head u head h).duties b
+    going None g = g
+    going (Some i) g = g
+
 -- a walk that has come to its end
 pub walk_ended : (n k : ℕ) (v w : View) (busy : Option ℕ) → Going n k v w None busy → IsSought n k v w (seek_ended busy)
-walk_ended n k v w None s = record { way = s.way; more = s.more; seen = s.seen; bag = s.bag; answer = (s.at, s.going.0); below = tt; walked = subst (λ (z : ℕ). AllAt z None w.duties) s.bag (subst (λ (z : Option ℕ). AllAt s.way.bag z w.duties) s.at s.going.1); others = s.others; only = s.only; alone = λ _. tt }
-walk_ended n k v w (Some i) s = record { way = s.way; more = s.more; seen = s.seen; bag = s.bag; answer = inr (s.at, s.passed, s.going.0); below = s.going.1; walked = tt; others = s.others; only = s.only; alone = λ a. let e : Path (Option ℕ) (Some i) None = s.alone a in absurd (cc) }
+walk_ended n k v w None s = record { way = s.way; more = s.more; seen = s.seen; bag = s.bag; answer = ((s.at, passed_whole s.way.looks s.passed), s.going.0); below = tt; walked = subst (λ (z : ℕ). AllAt z None w.duties) s.bag (subst (λ (z : Option ℕ). AllAt s.way.bag z w.duties) s.at s.going.1); others = s.others; only = s.only; alone = λ _. tt }
+walk_ended n k v w (Some i) s = record { way = s.way; more = s.more; seen = s.seen; bag = s.bag; answer = inr ((s.at, passed_whole s.way.looks s.passed), s.passed, s.going.0); below = s.going.1; walked = tt; others = s.others; only = s.only; alone = λ a. let e : Path (Option ℕ) (Some i) None = s.alone a in absurd (cc) }
+
+module _ {P : Type 0} (entries : P → List Entry) (arguments : P → List value.Value) (keeps_to : P → Parts → Limits → Type 0) (space : Space P) where
+  -- a look at a head begins the newest way
+  pub head_began : (v w : View) (k : ℕ) (h : Option ℕ) → LooksAtHead entries arguments keeps_to (space_code space) (space_limits space) v w k h → BeganAtHead entries arguments keeps_to space v w k
+  head_began v w k h l = subst (λ (z : View). BeganAtHead entries arguments keeps_to space v z k) (sym l.is) (h, l.moment)
+
+  -- looks at cells leave how it began
+  pub still_began : (v u w : View) (k : ℕ) → newest_linked w.looked.ways ≡ newest_linked u.looked.ways → BeganAtHead entries arguments keeps_to space v u k → BeganAtHead entries arguments keeps_to space v w k
+  still_began v u w k same b = (b.0, subst (WasHead entries arguments (λ q. keeps_to q (space_code space) (space_limits space)) (program_of space) (space_limits space).events v (head_number k) b.0) (sym same) b.1)

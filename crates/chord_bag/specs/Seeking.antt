@@ -1,11 +1,19 @@
 -- What the answers of a walk through a bag say.
-use Rattle.std.specs.Prelude.{◌≡◌, ℕ, ◌<◌, ◌⊎◌, List, ◌∷◌, ◌++◌, Option, Some, None}
+use Rattle.std.specs.Prelude.{◌≡◌, ℕ, ◌<◌, ◌⊎◌, List, [], ◌∷◌, ◌++◌, Option, Some, None}
 use Rattle.chord_word.specs.declared.cells.Cell.TheVariants.{Empty, Pending, Claimed}
 use Rattle.chord_rule.specs.declared.view.Duty.{Duty}
 use Rattle.chord_rule.specs.declared.view.View.{View}
 use Rattle.chord_rule.specs.declared.view.Way.{Way}
+use Rattle.chord_base.specs.declared.event.Entry.{Entry}
+use Rattle.chord_base.specs.declared.event.Limits.{Limits}
+use Rattle.chord_base.specs.declared.value.Value as value
+use Rattle.chord_code.specs.declared.parts.Parts.{Parts}
+use Rattle.chord_space.specs.declared.space.Space.{Space}
+use Rattle.chord_space.specs.Desks.{space_code, space_limits, program_of}
+use Rattle.chord_rule.specs.Bags.{head_number}
+use Rattle.chord_rule.specs.Heading.{WasHead}
 use Rattle.chord_rule.specs.Kinds.{is_down}
-use Rattle.chord_rule.specs.Ways.{IsAloneDesk}
+use Rattle.chord_rule.specs.Ways.{IsWholeWay, IsAloneDesk}
 use Rattle.chord_bag.specs.declared.walk.Sought.{Sought}
 use Rattle.chord_bag.specs.declared.walk.Sought.TheVariants.{Found, Bare, Busy}
 use Rattle.chord_bag.specs.Reads.{AllRead, HasRead, IsNewestLook, AllAt, KeepsEnds, IsOnlyLooks, is_passed}
@@ -16,11 +24,11 @@ IsFoundOn w i next = IsNewestLook i (record { cell = Pending; next = next }) w.l
 
 -- the way is whole, and each message on it was read consumed or woken
 abbrev pub IsBare : Way → Type 0
-IsBare w = (w.place ≡ None) × AllRead is_down w.looks
+IsBare w = IsWholeWay w × AllRead is_down w.looks
 
 -- no message on the way was read pending; and i was read unarmed, or the way is whole, each message on it was read consumed, woken or claimed, and i was read claimed
 abbrev pub IsBusy : Way → ℕ → Type 0
-IsBusy w i = ((next : Option ℕ) × IsNewestLook i (record { cell = Empty; next = next }) w.looks) ⊎ ((w.place ≡ None) × AllRead is_passed w.looks × HasRead i Claimed w.looks)
+IsBusy w i = ((next : Option ℕ) × IsNewestLook i (record { cell = Empty; next = next }) w.looks) ⊎ (IsWholeWay w × AllRead is_passed w.looks × HasRead i Claimed w.looks)
 
 -- an answer, by the way that was gone
 abbrev pub IsSoughtAnswer : Way → Sought → Type 0
@@ -38,6 +46,15 @@ IsSoughtBelow n (Busy i) = i < n
 abbrev pub IsWalked : ℕ → List Duty → Sought → Type 0
 IsWalked k ds Bare = AllAt k None ds
 IsWalked k ds _ = Unit {0}
+
+-- the messages that had been linked in the bag of the newest way when its head was read
+abbrev pub newest_linked : List Way → List ℕ
+newest_linked [] = []
+newest_linked (w ∷ ws) = w.linked
+
+-- the newest way of the view w began at a moment under the rule, at which the desk had the view v, with a look at the head of the bag k; it knows the messages that had been linked there
+abbrev pub BeganAtHead : {P : Type 0} → (P → List Entry) → (P → List value.Value) → (P → Parts → Limits → Type 0) → Space P → View → View → ℕ → Type 0
+BeganAtHead entries arguments keeps_to space v w k = (head : Option ℕ) × WasHead entries arguments (λ q. keeps_to q (space_code space) (space_limits space)) (program_of space) (space_limits space).events v (head_number k) head (newest_linked w.looked.ways)
 
 -- no message is in another hand
 abbrev pub IsNotBusy : Sought → Type 0

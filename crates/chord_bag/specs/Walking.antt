@@ -5,11 +5,11 @@ use Rattle.chord_rule.specs.declared.view.Duty.{Duty}
 use Rattle.chord_rule.specs.declared.view.View.{View}
 use Rattle.chord_rule.specs.declared.view.Way.{Way}
 use Rattle.chord_rule.specs.Kinds.{is_down}
-use Rattle.chord_rule.specs.Ways.{IsAloneDesk, HasLooksLeft}
+use Rattle.chord_rule.specs.Ways.{IsAloneDesk, IsAt, HasLooksLeft, WentPast}
 use Rattle.chord_bag.specs.declared.walk.Turn.{Turn}
-use Rattle.chord_bag.specs.declared.walk.Turn.TheVariants.{Over, On}
+use Rattle.chord_bag.specs.declared.walk.Turn.TheVariants.{Over, On, Past}
 use Rattle.chord_bag.specs.Reads.{AllRead, HasRead, AllAt, KeepsEnds, IsOnlyLooks, is_passed}
-use Rattle.chord_bag.specs.Seeking.{IsSought}
+use Rattle.chord_bag.specs.Seeking.{IsSought, newest_linked}
 
 -- how many looks the newest way has made
 abbrev pub gone_so_far : List Way → ℕ
@@ -35,12 +35,16 @@ pub record Going (n k : ℕ) (v w : View) (place busy : Option ℕ) : Type 0 whe
   pub only : IsOnlyLooks v w
   pub alone : IsAloneDesk v → busy ≡ None
 
--- the walk is over with this answer, or goes on
-abbrev pub ComesToTurn : ℕ → ℕ → View → View → Turn → Type 0
-ComesToTurn n k v w (Over s) = IsSought n k v w s
-ComesToTurn n k v w (On place busy) = Going n k v w place busy
+-- a walk on which this message was read claimed is over with this answer, or goes on
+abbrev pub ComesToTurn : ℕ → ℕ → View → View → Option ℕ → Turn → Type 0
+ComesToTurn n k v w busy (Over s) = IsSought n k v w s
+ComesToTurn n k v w busy (On place more) = Going n k v w place more
+ComesToTurn n k v w busy (Past place) = Going n k v w place busy
 
 -- whatever walk had come to i, comes to this, and is longer by one look
 pub record IsTurn (n : ℕ) (u w : View) (i : ℕ) (busy : Option ℕ) (t : Turn) : Type 0 where
-  pub comes : (k : ℕ) (v : View) → Going n k v u (Some i) busy → ComesToTurn n k v w t
+  pub comes : (k : ℕ) (v : View) → Going n k v u (Some i) busy → ComesToTurn n k v w busy t
   pub longer : (k : ℕ) (v : View) → Going n k v u (Some i) busy → gone_so_far w.looked.ways ≡ gone_so_far u.looked.ways + 1
+  pub linked : newest_linked w.looked.ways ≡ newest_linked u.looked.ways
+  -- past a consumed message
+  pub past : (next : Option ℕ) → t ≡ Past next → IsAt i u.looked.ways → WentPast w i next

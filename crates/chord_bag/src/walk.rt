@@ -1,13 +1,16 @@
 //! A message that can be claimed is looked for in one bag.
-ghost use Rattle.std.specs.Prelude.{◌≡◌, ℕ, ◌<◌, ◌+◌, Some, None};
+ghost use Rattle.std.specs.Prelude.{◌≡◌, ℕ, ◌<◌, ◌+◌, Option, Some, None, IfSome};
+ghost use Rattle.chord_rule.specs.Bags.{head_number};
+ghost use Rattle.chord_rule.specs.Kinds.{saw_head};
 ghost use Rattle.chord_rule.specs.Made.{key};
+ghost use Rattle.chord_rule.specs.Ways.{WentPast};
 ghost use Rattle.chord_space.specs.Desks.{view, IsDeskOf, IsSameDesk};
-ghost use Rattle.chord_bag.specs.Seeking.{IsSought};
+ghost use Rattle.chord_bag.specs.Seeking.{IsSought, BeganAtHead};
 ghost use Rattle.chord_bag.specs.Walking.{IsTurn};
 
 use chord_base::value::Object;
 use chord_code::carry::Carry;
-use chord_space::{Desk, Space};
+use chord_space::{Desk, Pointer, Space};
 use chord_word::Cell;
 
 /// What a walk through a bag came to.
@@ -21,11 +24,13 @@ pub enum Sought {
     Busy(u32),
 }
 
-/// What comes after a look: the walk is over, or it goes on at this place, and this message was read claimed on the way.
+/// What comes after a look: the walk is over; or it goes on at this place, and this message was read claimed on the way; or it
+/// goes on at this place, past a consumed message.
 #[derive(Drop)]
 enum Turn {
     Over(Sought),
     On(Option<u32>, Option<u32>),
+    Past(Option<u32>),
 }
 
 // One look, at the message to which the walk has come. A claimed message may be given back, so a walk that finds no pending
@@ -41,14 +46,38 @@ fn look_on<P: Carry>(space: &Space<P>, desk: &mut Desk<P>, i: u32, busy: Option<
         Cell::Pending => Turn::Over(Sought::Found(i, word.next)),
         Cell::Empty => Turn::Over(Sought::Busy(i)),
         Cell::Claimed => Turn::On(word.next, Some(i)),
+        Cell::Consumed => Turn::Past(word.next),
         _ => Turn::On(word.next, busy),
     }
 }
 
+// Moves the head of the bag past message i, which the newest way read consumed, to the next that it read there; whether i was
+// at the head.
+fn tidy<P: Carry>(
+    space: &Space<P>,
+    desk: &mut Desk<P>,
+    object: Object,
+    method: u8,
+    i: u32,
+    next: Option<u32>,
+) -> bool
+    requires desk { IsDeskOf space.now desk.old }
+    requires bounds { (object.number < space.now.events) × (object.class < 1024) × (method < 16) × (i < space.now.events) × IfSome next (λ x. x < space.now.events) }
+    requires past { WentPast (view desk.old) i next }
+    ensures desk { IsSameDesk desk.old desk.new }
+    ensures looked { (head : Option ℕ) × (view desk.new ≡ saw_head (view desk.old) (head_number (key object method)) head) }
+{
+    space.bypass(desk, Pointer::Head(object, method), Some(i), next)
+}
+
 /// Goes through the bag of this object and method, from its head over the nexts, to the first message that is pending, or that
-/// is not armed; a bag's messages are all different, so the walk ends. The one way that it went tells its answer. On a first
+/// is not armed; a bag's messages are all different, so the walk ends. Consumed messages that it meets at the head leave the bag,
+/// so that no later walk meets them. The one way that it went tells its answer. On a first
 /// desk that has lent none and has nothing in hand it is never Busy. On a desk without a claim, what was read claimed is
 /// claimed by another.
+///
+/// The way knows the messages that had been linked in the bag when its head was read. Bare, or Busy with a claimed message, the
+/// way went to the bag's end, and so each of these was looked at on it or is consumed (`chord_space::laws::ways_miss_none`).
 ///
 /// Messages of one kind in a bag of their own, claimed by an exchange where they stand, are from Turon and Russo, "Scalable Join
 /// Patterns" (OOPSLA 2011); there the bag is a queue that is walked in the same way.
@@ -57,15 +86,24 @@ pub fn seek<P: Carry>(space: &Space<P>, desk: &mut Desk<P>, object: Object, meth
     requires bounds { (object.number < space.now.events) × (object.class < 1024) × (method < 16) }
     ensures desk { IsSameDesk desk.old desk.new }
     ensures sought { IsSought space.now.events (key object method) (view desk.old) (view desk.new) result }
+    ensures began { BeganAtHead P.entries P.arguments P.keeps_to space.now (view desk.old) (view desk.new) (key object method) }
 {
     let mut place = space.look_head(desk, object, method);
     let mut busy = None;
+    let mut at_head = true;
     while let Some(i) = place {
         match look_on(space, desk, i, busy) {
             Turn::Over(sought) => return sought,
             Turn::On(next, claimed) => {
                 place = next;
                 busy = claimed;
+                at_head = false;
+            }
+            Turn::Past(next) => {
+                place = next;
+                if at_head {
+                    at_head = tidy(space, desk, object, method, i, next);
+                }
             }
         }
     }

@@ -8,7 +8,7 @@ use lib.Seq.{set-get_or}
 use Rattle.atomic_table.specs.Table.{State, Me, Act, keeps, takes, gives, chain, put_back, carried_after, homes_after, Valid, stepped, Allows}
 use Rattle.atomic_table.proofs.Lists.{set_here, set_else}
 use prog.Atomic.{either}
-use Rattle.chord_word.proofs.Packing.{same_word}
+use Rattle.chord_word.proofs.Packing.{same_word, same_link}
 use Rattle.chord_word.specs.declared.cells.Word.{Word}
 use Rattle.chord_word.specs.Cells.{word_of, link_of, WordFits}
 use Rattle.chord_rule.specs.declared.view.View.{View}
@@ -256,6 +256,41 @@ module _ {P : Type 0} where
             ghosts = r.2;
             shows = subst (λ (z : ℕ). Shows n (record m { homes = after_act m.homes me.1 r.1; views = set m.views id r.0 }) (stepped s (1 + i) z id me.1 r.0 r.1))
                 (ap (λ (b : Bool). either b (word_of y) (get_or s.words (1 + i) 0)) (sym (ne_eqb (get_or s.words (1 + i) 0) (word_of x) (λ q. ne (sym c.0 ∙ q))))) (shows_look n m s (1 + i) id me.1 r.0 r.1 sh);
+            rule = r.4;
+          },
+          subst (λ (z : ℕ). then z (r.0, carried_after me.1 r.1)) (sym c.0) r.5,
+        ))
+
+    -- a compare-exchange of the head i, which goes from x to y
+    pub exchange_head : (id : ℕ) (me : Me (Option P) View) (i : ℕ) (x y : Option ℕ) (then : ℕ → Me (Option P) View → Type 0) → i < 16 * n → LinkOk y
+        → ((m : Moment P) (g : G) → R m g → get_elem? m.views id ≡ some me.0 → m.heads i ≡ x
+        → Goes m me (λ w a. record m { heads = put m.heads i y; homes = after_act m.homes me.1 a; views = set m.views id w }) (λ w a. then (link_of x) (w, carried_after me.1 a)))
+        → ((m : Moment P) (g : G) → R m g → get_elem? m.views id ≡ some me.0 → LinkOk (m.heads i) → m.heads i ≢ x
+        → Goes m me (λ w a. record m { homes = after_act m.homes me.1 a; views = set m.views id w }) (λ w a. then (link_of (m.heads i)) (w, carried_after me.1 a)))
+        → Allows (HeldBy G R n) n id me (1 + n + i) (λ z. either (eqb z (link_of x)) (link_of y) z) then
+    exchange_head id me i x y then low yfits hit miss s h deep at word = let sh = h.shows in let m = h.moment in let c = sh.heads i low in let at' = found m s id me.0 sh at in dite (ℕ_discrete (link_of (m.heads i)) (link_of x))
+        (λ e. let r = hit m h.ghosts h.rule at' (same_link (m.heads i) x e) in (
+          r.0,
+          r.1,
+          valid_after n s.homes m.homes me.1 r.1 (sh.deep, sh.homes) r.3,
+          record {
+            moment = record m { heads = put m.heads i y; homes = after_act m.homes me.1 r.1; views = set m.views id r.0 };
+            ghosts = r.2;
+            shows = subst (λ (z : ℕ). Shows n (record m { heads = put m.heads i y; homes = after_act m.homes me.1 r.1; views = set m.views id r.0 }) (stepped s (1 + n + i) z id me.1 r.0 r.1))
+                (ap (λ (b : Bool). either b (link_of y) (get_or s.words (1 + n + i) 0)) (sym (eq-eqb (get_or s.words (1 + n + i) 0) (link_of x) (c.0 ∙ e)))) (shows_head n m s i id y me.1 r.0 r.1 low yfits sh);
+            rule = r.4;
+          },
+          subst (λ (z : ℕ). then z (r.0, carried_after me.1 r.1)) (sym (c.0 ∙ e)) r.5,
+        ))
+        (λ ne. let r = miss m h.ghosts h.rule at' c.1 (λ q. ne (ap link_of q)) in (
+          r.0,
+          r.1,
+          valid_after n s.homes m.homes me.1 r.1 (sh.deep, sh.homes) r.3,
+          record {
+            moment = record m { homes = after_act m.homes me.1 r.1; views = set m.views id r.0 };
+            ghosts = r.2;
+            shows = subst (λ (z : ℕ). Shows n (record m { homes = after_act m.homes me.1 r.1; views = set m.views id r.0 }) (stepped s (1 + n + i) z id me.1 r.0 r.1))
+                (ap (λ (b : Bool). either b (link_of y) (get_or s.words (1 + n + i) 0)) (sym (ne_eqb (get_or s.words (1 + n + i) 0) (link_of x) (λ q. ne (sym c.0 ∙ q))))) (shows_look n m s (1 + n + i) id me.1 r.0 r.1 sh);
             rule = r.4;
           },
           subst (λ (z : ℕ). then z (r.0, carried_after me.1 r.1)) (sym c.0) r.5,

@@ -1,5 +1,5 @@
 -- What a desk keeps, and what comes to it, are places of the run.
-use Rattle.std.proofs.Common.{◌≡◌, ◌⊎◌, inl, inr, ⊎_elim, ℕ, ◌+◌, ◌*◌, ◌==◌, Bool, true, false, List, [], ◌∷◌, Option, Some, None, refl, sym, ap, ◌∙◌, subst, arith}
+use Rattle.std.proofs.Common.{◌≡◌, inl, inr, ⊎_elim, ℕ, ◌==◌, Bool, true, false, List, [], ◌∷◌, Option, Some, None, refl, sym, ap, ◌∙◌, subst, arith}
 use mathlib.Core.Path.{Path}
 use mathlib.Core.Option.{some}
 use lib.ListN.{get_elem?}
@@ -19,7 +19,7 @@ use Rattle.chord_rule.specs.Claims.{HasThe}
 use Rattle.chord_rule.specs.Coming.{IsPlace, ArePlaces, ComesWithMessage, ComesWithFiring}
 use Rattle.chord_rule.specs.Keeping.{desk, parcel, at_desk, at_home, kept_at}
 use Rattle.chord_rule.specs.Moment.{Moment}
-use Rattle.chord_rule.specs.Stages.{Claiming, InHand, said_at, message_in, claimed_message}
+use Rattle.chord_rule.specs.Stages.{said_at, message_in, claimed_message}
 use Rattle.chord_rule.specs.StandsFor.{Unseen, StandsForJournal}
 use Rattle.chord_rule.proofs.Keeping.{desk_keeps, parcel_keeps}
 use Rattle.chord_rule.proofs.Standing as standing

@@ -24,6 +24,7 @@ pub mod LookSteps
 pub mod Agreeing
 pub mod Looking
 pub mod Wholes
+pub mod BypassSteps
 pub mod Laws
 pub mod Bridge
 pub mod AloneSteps
@@ -33,4 +34,5 @@ pub mod Moves
 pub mod Knowing
 pub mod Moving
 pub mod Seeing
+pub mod Bypassing
 pub mod Closing

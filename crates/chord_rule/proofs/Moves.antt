@@ -13,7 +13,7 @@ use Rattle.chord_base.specs.declared.event.What.{What}
 use Rattle.chord_rule.specs.declared.view.View.{View}
 use Rattle.chord_rule.specs.Moment.{Moment, empty_word}
 use Rattle.chord_rule.specs.Keeping.{kept_at, at_desk}
-use Rattle.chord_rule.specs.Tells.{draws}
+use Rattle.chord_rule.specs.Tells.{draws, HasNotBegun}
 use Rattle.chord_rule.specs.Kinds.{saw_count, drew, was_told, entry, newcomer_first, drawn_stage}
 use Rattle.chord_rule.specs.Whole.{Held, Whole}
 use Rattle.chord_rule.specs.StandsFor.{Unseen}
@@ -38,6 +38,11 @@ use Rattle.chord_rule.proofs.Coming.{desk_place}
 use Rattle.chord_rule.proofs.Puts.{at_inside}
 use Rattle.atomic_table.proofs.Lists.{set_here}
 
+-- the first desk, which has neither drawn nor been split, finds the counter at 0
+pub unbegun_count : {P : Type 0} (entries : P → List Entry) (arguments : P → List value.Value) (keeps_to : P → Type 0) (p : Program) (n : ℕ) (m : Moment P) (u : Unseen) → Whole entries arguments keeps_to p n m u
+    → (id : ℕ) (v : View) → get_elem? m.views id ≡ some v → HasNotBegun v → m.count ≡ 0
+unbegun_count entries arguments keeps_to p n m u whole id v at h = let firsts = whole.agrees.firsts in firsts.untouched v (subst (λ (j : ℕ). get_elem? m.views j ≡ some v) (firsts.leads id v at h.0) at) h.1 h.2
+
 module _ {P : Type 0} (entries : P → List Entry) (arguments : P → List value.Value) (keeps_to : P → Type 0) (p : Program) (n : ℕ) (any : 0 < n) (small : n ≤ 65536) where
   -- the draw of an own entry
   pub draw_step : (id : ℕ) (me : Me (Option P) View) (body : ℕ) (what : What) → me.0.gone ≡ false → me.0.spent ≡ false → IsOwn what → Asks p me.0.kept body what
@@ -45,6 +50,10 @@ module _ {P : Type 0} (entries : P → List Entry) (arguments : P → List value
   draw_step id me body what live untold own next = counter_step Unseen (Whole entries arguments keeps_to p n) n id me (λ x. (x + 1) % 2 ^ 64) (draws p body what (step n 0 1 0 none) me)
       (λ m u whole at fits. go m u whole at (dec_le n m.count))
     where
+      -- a desk that has not begun is the first one, and the counter is 0
+      first_number : (m : Moment P) (u : Unseen) → Whole entries arguments keeps_to p n m u → get_elem? m.views id ≡ some me.0 → HasNotBegun me.0 → m.count ≡ 0
+      first_number m u whole at h = unbegun_count entries arguments keeps_to p n m u whole id me.0 at h
+
       go : (m : Moment P) (u : Unseen) (whole : Whole entries arguments keeps_to p n m u) (at : get_elem? m.views id ≡ some me.0) → Dec (n ≤ m.count)
           → (w : View) × (a : Act (Option P)) × (u' : Unseen) × Can n m.homes me.1 a
           × Whole entries arguments keeps_to p n (record m { count = (m.count + 1) % 2 ^ 64; homes = after_act m.homes me.1 a; views = set m.views id w }) u'
@@ -56,7 +65,7 @@ module _ {P : Type 0} (entries : P → List Entry) (arguments : P → List value
         tt,
         subst (λ (x : ℕ). Whole entries arguments keeps_to p n (record m { count = x; views = set m.views id (saw_count (was_told me.0) (m.count + 1)) }) u) (sym (count_fits n m.count m.views small whole.agrees.counting))
             (whole_told entries arguments keeps_to p n small m u whole id me.0 at live any full untold),
-        (refl, (λ l. absurd (omega arith)), λ l. refl),
+        (refl, (λ l. absurd (omega arith)), (λ l. refl), first_number m u whole at),
       )
       go m u whole at (no room) = let l : m.count < n = omega arith in let w : View = saw_count (drew me.0 m.count body what) (m.count + 1) in let u' : Unseen = record u { journal = entry m.count body what ∷ u.journal; stage = drawn_stage id m.count what u.stage } in (
         w,
@@ -70,7 +79,8 @@ module _ {P : Type 0} (entries : P → List Entry) (arguments : P → List value
           (λ k.
               let after_act = whole_draw entries arguments keeps_to p n small m u whole id me.0 at live body what l own next in
               let above = drawn_above entries arguments keeps_to p n small m u whole.agrees id me.0 at body what l u.journal after_act.agrees.stands.keeping.merged.past (let long = whole.agrees.stands.keeping.long in omega arith) in (refl, above.0, above.1, (u.journal, after_act.agrees.stands.keeping.merged.past), desk_place entries arguments keeps_to p n _ u' after_act.agrees.stands id w (set_here m.views id w (at_inside m.views id me.0 at)))),
-          λ k. absurd (omega arith),
+          (λ k. absurd (omega arith)),
+          first_number m u whole at,
         ),
       )
 

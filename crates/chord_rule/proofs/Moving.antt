@@ -382,6 +382,7 @@ module _ {P : Type 0} (entries : P → List Entry) (arguments : P → List value
               let after_act = wholes.whole_begun entries arguments keeps_to p n small m u whole id me.0 at live any is_first not_drawn not_split in
               let above = agreeing.drawn_above entries arguments keeps_to p n small m u whole.agrees id me.0 at 0 Begun (omega (arith, none_drawn, any)) u.journal after_act.agrees.stands.keeping.merged.past (let long = whole.agrees.stands.keeping.long in omega arith) in
               (refl, above.0, above.1, (u.journal, after_act.agrees.stands.keeping.merged.past), coming.desk_place entries arguments keeps_to p n _ u' after_act.agrees.stands id w (set_here m.views id w (at_inside m.views id me.0 at)))),
-          λ k. absurd (omega (arith, none_drawn, any, k)),
+          (λ k. absurd (omega (arith, none_drawn, any, k))),
+          (λ h. none_drawn),
         ),
       ))

@@ -13,7 +13,7 @@ use Rattle.chord_word.specs.Cells.{word_of, WordFits}
 use Rattle.chord_rule.specs.declared.view.Duty.{Duty}
 use Rattle.chord_rule.specs.declared.view.View.{View}
 use Rattle.chord_rule.specs.Moment.{Moment, Place}
-use Rattle.chord_rule.specs.Bags.{IsArmed, cell_of}
+use Rattle.chord_rule.specs.Bags.{IsArmed, cell_of, head_number}
 use Rattle.chord_rule.specs.Duties.{HasDuty, MayRest}
 use Rattle.chord_rule.specs.Kinds.{saw_count, looked_head, looked_cell, rested}
 use Rattle.chord_rule.specs.Made.{key, IsChord}
@@ -21,7 +21,7 @@ use Rattle.chord_rule.specs.Messages.{IsLinked}
 use Rattle.chord_rule.specs.StandsFor.{Unseen}
 use Rattle.chord_rule.specs.Stages.{Stage, Vacant, InHand, Armed, Spent, Posted, Played, Fresh, Placing, Flying, Claiming, Emptying, Unposted, Posting, Starting}
 use Rattle.chord_rule.specs.Tells.{IsLook, looks_count, looks_head, looks_cell, looks_place, rests}
-use Rattle.chord_rule.specs.Ways.{IsAt, HasDutyOn, HasWay, HasLooksLeft, WayLaw}
+use Rattle.chord_rule.specs.Ways.{IsAt, HasDutyOn, HasWay, HasLooksLeft, WereLinked, WayLaw}
 use Rattle.chord_rule.specs.declared.view.Way.{Way}
 use Rattle.chord_rule.specs.Whole.{Held, Whole}
 use Rattle.chord_rule.proofs.Agreeing as agreeing
@@ -31,7 +31,7 @@ use Rattle.chord_rule.proofs.Knowing as knowing
 use Rattle.chord_rule.proofs.Lists.{some_is}
 use Rattle.chord_rule.proofs.Moving.{unmoved}
 use Rattle.chord_rule.proofs.Puts.{at_inside}
-use Rattle.chord_rule.proofs.WaySteps.{way_room}
+use Rattle.chord_rule.proofs.WaySteps.{way_room, linked_numbers, were_linked}
 use Rattle.chord_rule.proofs.Wholes as wholes
 use Rattle.atomic_table.proofs.Lists.{set_here}
 
@@ -50,23 +50,35 @@ module _ {P : Type 0} (entries : P → List Entry) (arguments : P → List value
       (λ m u whole at fits. (saw_count me.0 m.count, keeps, u, tt, wholes.whole_look_count entries arguments keeps_to p n small m u whole id me.0 at live, refl))
 
   -- the ways of a desk have room
-  room_of : (m : Moment P) (u : Unseen) (id : ℕ) (v w : View) → get_elem? m.views id ≡ some v → W (record m { views = set m.views id w }) u → ((x : Way) → HasWay x w.looked.ways → WayLaw n u.order x)
+  room_of : (m : Moment P) (u : Unseen) (id : ℕ) (v w : View) → get_elem? m.views id ≡ some v → W (record m { views = set m.views id w }) u → ((x : Way) → HasWay x w.looked.ways → WayLaw n m.cells u.order x)
   room_of m u id v w at after_act = (after_act.desks.right id w (set_here m.views id w (at_inside m.views id v at))).ways
 
   -- a look at the head of a bag
   pub look_head_step : (id : ℕ) (me : Me (Option P) View) (o : Object) (j : ℕ) → me.0.gone ≡ false → o.number < n → j < 16
-      → Allows H n id me (1 + n + (16 * o.number + j)) (λ x. x) (looks_head o j (step n (1 + n + (16 * o.number + j)) 0 0 none) me)
-  look_head_step id me o j live low few = load_head Unseen W n id me (16 * o.number + j) (looks_head o j (step n (1 + n + (16 * o.number + j)) 0 0 none) me) (omega arith)
+      → Allows H n id me (1 + n + (16 * o.number + j)) (λ x. x) (looks_head entries arguments keeps_to p o j (step n (1 + n + (16 * o.number + j)) 0 0 none) me)
+  look_head_step id me o j live low few = load_head Unseen W n id me (16 * o.number + j) (looks_head entries arguments keeps_to p o j (step n (1 + n + (16 * o.number + j)) 0 0 none) me) (omega arith)
       (λ m u whole at fits.
-      let h = m.heads (16 * o.number + j) in let w : View = looked_head me.0 (key o j) h in
-      let after_act : W (record m { views = set m.views id w }) u = subst (λ (k : ℕ). W (record m { views = set m.views id (looked_head me.0 (key o j) (m.heads k)) }) u) (head_key o j (omega (arith, low, small)) few) (wholes.whole_look_head entries arguments keeps_to p n small m u whole id me.0 at live (key o j)) in (
+      let h = m.heads (16 * o.number + j) in let are = linked m u whole at in let is = linked_numbers n u.order (head_number (key o j)) in let w : View = looked_head me.0 (key o j) is h in
+      let headed = head_key o j (omega (arith, low, small)) few in
+      let after_act : W (record m { views = set m.views id w }) u = subst (λ (k : ℕ). W (record m { views = set m.views id (looked_head me.0 (key o j) is (m.heads k)) }) u) headed (wholes.whole_look_head entries arguments keeps_to p n small m u whole id me.0 at live (key o j) is are) in (
         w,
         keeps,
         u,
         tt,
-        subst (λ (k : ℕ). W (record m { views = set m.views id (looked_head me.0 (key o j) (m.heads k)) }) u) (head_key o j (omega (arith, low, small)) few) (wholes.whole_look_head entries arguments keeps_to p n small m u whole id me.0 at live (key o j)),
-        (h, refl, fits, refl, way_room n u.order w.looked.ways (room_of m u id me.0 w at after_act)),
+        subst (λ (k : ℕ). W (record m { views = set m.views id (looked_head me.0 (key o j) is (m.heads k)) }) u) headed (wholes.whole_look_head entries arguments keeps_to p n small m u whole id me.0 at live (key o j) is are),
+        (
+          h,
+          is,
+          refl,
+          fits,
+          refl,
+          way_room n m.cells u.order w.looked.ways (room_of m u id me.0 w at after_act),
+          record { moment = m; unseen = u; rule = whole; desk = (id, at); read = ap m.heads headed; linked = are },
+        ),
       ))
+    where
+      linked : (m : Moment P) (u : Unseen) → W m u → get_elem? m.views id ≡ some me.0 → WereLinked u.order (head_number (key o j)) (linked_numbers n u.order (head_number (key o j)))
+      linked m u whole at = were_linked n u.order (head_number (key o j)) (wholes.linked_below entries arguments keeps_to p n small m u whole id me.0 at live)
 
   -- a look at a cell
   pub look_cell_step : (id : ℕ) (me : Me (Option P) View) (i : ℕ) → me.0.gone ≡ false → i < n → Allows H n id me (1 + i) (λ x. x) (looks_cell (step n (1 + i) 0 0 none) me)
@@ -80,7 +92,7 @@ module _ {P : Type 0} (entries : P → List Entry) (arguments : P → List value
         (λ j e. let same : i ≡ j = omega arith in subst (λ (k : ℕ). (c : Word) × WordFits c × (word_of (m.cells i) ≡ word_of c) × IsLook n me.0 w k c × (me.1 ≡ me.1)) same (m.cells i, good, refl, tells m u whole at w refl after_act, refl)),
       ))
     where
-      on_way_bag : (m : Moment P) (u : Unseen) (whole : W m u) (at : get_elem? m.views id ≡ some me.0) → (ws : List Way) → ((x : Way) → HasWay x ws → WayLaw n u.order x) → IsAt i ws → (k : ℕ) × (u.order.bag i ≡ Some k)
+      on_way_bag : (m : Moment P) (u : Unseen) (whole : W m u) (at : get_elem? m.views id ≡ some me.0) → (ws : List Way) → ((x : Way) → HasWay x ws → WayLaw n m.cells u.order x) → IsAt i ws → (k : ℕ) × (u.order.bag i ≡ Some k)
       on_way_bag m u whole at [] law t = absurd t
       on_way_bag m u whole at (w ∷ ws) law t = let l = law w (inl refl) in (l.along, (l.place i t).0)
 
@@ -90,7 +102,7 @@ module _ {P : Type 0} (entries : P → List Entry) (arguments : P → List value
       tells : (m : Moment P) (u : Unseen) (whole : W m u) (at : get_elem? m.views id ≡ some me.0) (w : View) → w ≡ looked_cell me.0 i (m.cells i) → W (record m { views = set m.views id (looked_cell me.0 i (m.cells i)) }) u → IsLook n me.0 w i (m.cells i)
       tells m u whole at w is after_act = let right = whole.desks.right id me.0 at in record {
         looked = is;
-        room = subst (λ (y : View). HasLooksLeft n y.looked.ways) (sym is) (way_room n u.order (looked_cell me.0 i (m.cells i)).looked.ways (room_of m u id me.0 (looked_cell me.0 i (m.cells i)) at after_act));
+        room = subst (λ (y : View). HasLooksLeft n y.looked.ways) (sym is) (way_room n m.cells u.order (looked_cell me.0 i (m.cells i)).looked.ways (room_of m u id me.0 (looked_cell me.0 i (m.cells i)) at after_act));
         linked = λ t. let b = on_way_bag m u whole at me.0.looked.ways right.ways t in wholes.linked_cell entries arguments keeps_to p n small m u whole id me.0 at live i b.0 b.1;
         armed = λ d. subst (λ (k : ℕ). IsArmed (cell_of m.cells k)) d.2 (right.armed d.0 d.1);
         within = λ a x e. wholes.next_below entries arguments keeps_to p n small m u whole id me.0 at live i x a e;

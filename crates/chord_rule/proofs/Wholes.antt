@@ -2,6 +2,8 @@
 -- and what the first desk knows while it is alone, put together.
 use Rattle.std.proofs.Common.{◌≡◌, ◌≢◌, ◌⊎◌, inl, inr, ⊎_elim, ℕ, zero, suc, ◌+◌, ◌<◌, ◌≤◌, ◌||◌, if◌then◌else◌, Bool, true, false, List, [], ◌∷◌, ◌++◌, map, set, slice_get, refl, sym, ap, ◌∙◌, subst, arith, Option, Some, None}
 use mathlib.Core.Path.{Path}
+use mathlib.Core.Logic.{dite}
+use native.Mathlib.Decide.{ℕ_discrete}
 use mathlib.Core.Option.{some, none}
 use lib.ListN.{get_elem?}
 use Rattle.atomic_table.proofs.Lists.{set_here}
@@ -22,11 +24,11 @@ use Rattle.chord_rule.specs.declared.view.Duty.{Duty}
 use Rattle.chord_rule.specs.declared.view.Looked.{Looked}
 use Rattle.chord_rule.specs.declared.view.View.{View}
 use Rattle.chord_rule.specs.declared.view.Way.{Way}
-use Rattle.chord_rule.specs.Moment.{Moment, Home, Place}
+use Rattle.chord_rule.specs.Moment.{Moment, Home, Place, empty_word}
 use Rattle.chord_rule.specs.Numbers.{HasNumber}
 use Rattle.chord_rule.specs.Agrees.{Agrees}
 use Rattle.chord_rule.specs.Alone.{Remembers, AloneLaw}
-use Rattle.chord_rule.specs.Bags.{LinkOrder, IsArmed, head_number, cell_of}
+use Rattle.chord_rule.specs.Bags.{LinkOrder, IsArmed, IsConsumed, BagLaw, head_number, cell_of}
 use Rattle.chord_rule.specs.Claims.{HasThe, AreClaimed}
 use Rattle.chord_rule.specs.Desks.{IsRightDesk}
 use Rattle.chord_rule.specs.Duties.{HasDuty, MayRest, start_walk, move_duty, drop_duty}
@@ -39,7 +41,7 @@ use Rattle.chord_rule.specs.Parcels.{BeginsThere, IsParkedThere}
 use Rattle.chord_rule.specs.Placed.{PlaceLaw}
 use Rattle.chord_rule.specs.StandsFor.{Unseen}
 use Rattle.chord_rule.specs.Stages.{Vacant, Fresh, Placing, Claiming, Emptying, Flying, Unposted, Posting, Starting, Stage, InHand, Armed, Spent, Posted, Played, said_at, message_in}
-use Rattle.chord_rule.specs.Ways.{HasWay, WayLaw, IsLinkedCell, way_begun}
+use Rattle.chord_rule.specs.Ways.{HasWay, WereLinked, WayLaw, IsLinkedCell, way_begun}
 use Rattle.chord_rule.specs.Whole.{Whole}
 use Rattle.chord_rule.proofs.Agreeing as agreeing
 use Rattle.chord_rule.proofs.AloneSteps.{remembers_count, remembers_head, remembers_cell, remembers_look, remembers_look_head, alone_step, alone_split, alone_join, other_live}
@@ -60,14 +62,20 @@ set_twice (x ∷ xs) zero a b = refl
 set_twice (x ∷ xs) (suc i) a b = λ k. x ∷ set_twice xs i a b k
 
 -- what holds of a desk, after a step of another
-right_stays : (n count count' : ℕ) (cells cells' : ℕ → Word) (o o' : LinkOrder) (v : View) → count ≤ count' → ((i : ℕ) → IsArmed (cell_of cells i) → IsArmed (cell_of cells' i))
-    → ((i k : ℕ) → o.bag i ≡ Some k → (o'.bag i ≡ Some k) × (o'.rank i ≡ o.rank i)) → IsRightDesk n count cells o v → IsRightDesk n count' cells' o' v
-right_stays n count count' cells cells' o o' v more armed linked law = record {
+right_stays : (n count count' : ℕ) (cells cells' : ℕ → Word) (o o' : LinkOrder) (v : View) → count ≤ count' → ((i : ℕ) → IsArmed (cell_of cells i) → IsArmed (cell_of cells' i)) → ((i : ℕ) → IsConsumed (cell_of cells i) → IsConsumed (cell_of cells' i))
+    → ((i k : ℕ) → o.bag i ≡ Some k → (o'.bag i ≡ Some k) × (o'.rank i ≡ o.rank i)) → ((i k : ℕ) → o'.bag i ≡ Some k → (o.bag i ≡ Some k) ⊎ ((x l : ℕ) → o.bag x ≡ Some l → o.rank x < o'.rank i)) → IsRightDesk n count cells o v → IsRightDesk n count' cells' o' v
+right_stays n count count' cells cells' o o' v more armed consumed linked newer law = record {
   armed = λ d h. armed d.message (law.armed d h);
-  ways = λ w h. way_stays n o o' w linked (law.ways w h);
+  ways = λ w h. way_stays n cells cells' o o' w linked newer consumed (law.ways w h);
   told = λ here spent. let l = law.told here spent in omega (arith, l, more);
   ended = law.ended;
 }
+
+-- what is in a bag after a link was there before, or is linked after all
+link_newer : {IsKey : ℕ → Type 0} {cells : ℕ → Word} {heads : ℕ → Option ℕ} (o : LinkOrder) → BagLaw IsKey cells heads o → (i k j l : ℕ) → put o.bag i (Some k) j ≡ Some l → (o.bag j ≡ Some l) ⊎ ((x z : ℕ) → o.bag x ≡ Some z → o.rank x < put o.rank i o.clock j)
+link_newer o bags i k j l b = dite (ℕ_discrete j i)
+    (λ e. inr (λ x z there. let r = bags.ranked x z there in let same = ap (put o.rank i o.clock) e ∙ put_here o.rank i o.clock in omega (arith, r, same)))
+    (λ ne. inl (sym (put_else o.bag i (Some k) j ne) ∙ b))
 
 -- a desk that keeps nothing is as it should be
 right_newcomer : (n count : ℕ) (cells : ℕ → Word) (o : LinkOrder) → IsRightDesk n count cells o newcomer
@@ -97,11 +105,11 @@ module _ {P : Type 0} (entries : P → List Entry) (arguments : P → List value
   not_gone w same e = absurd (let z : true ≡ false = sym e ∙ same ∙ here in cc)
 
   -- what the desk that steps writes in a cell is remembered
-  abbrev After : Moment P → Unseen → View → Type 0
+  abbrev pub After : Moment P → Unseen → View → Type 0
   After m' u' w = Agrees entries arguments keeps_to p n (record m' { views = set m.views id w }) u'
 
   -- the table still agrees where the desk also remembers the word of a cell
-  saw_too : (m' : Moment P) (u' : Unseen) (w : View) (i : ℕ) (x : Word) → m'.cells i ≡ x → After m' u' w → After m' u' (saw w i x)
+  pub saw_too : (m' : Moment P) (u' : Unseen) (w : View) (i : ℕ) (x : Word) → m'.cells i ≡ x → After m' u' w → After m' u' (saw w i x)
   saw_too m' u' w i x is after = subst (λ (vs : List View). Agrees entries arguments keeps_to p n (record m' { views = vs }) u') (set_twice m.views id w (saw w i x))
       (subst (λ (y : Word). Agrees entries arguments keeps_to p n (record m' { views = set (set m.views id w) id (saw w i y) }) u') is
       (agrees_saw entries arguments keeps_to p n small (record m' { views = set m.views id w }) u' after id w (set_here m.views id w (at_inside m.views id v at)) i))
@@ -113,14 +121,15 @@ module _ {P : Type 0} (entries : P → List Entry) (arguments : P → List value
 
   -- what one desk does keeps the whole rule where it keeps its parts
   pub whole_step : (m' : Moment P) (u' : Unseen) (w : View) → m'.views ≡ set m.views id w → Agrees entries arguments keeps_to p n m' u' → w.first ≡ v.first → w.gone ≡ v.gone → w.lent ≡ v.lent → m.count ≤ m'.count
-      → ((i : ℕ) → IsArmed (cell_of m.cells i) → IsArmed (cell_of m'.cells i)) → ((i k : ℕ) → u.order.bag i ≡ Some k → (u'.order.bag i ≡ Some k) × (u'.order.rank i ≡ u.order.rank i))
+      → ((i : ℕ) → IsArmed (cell_of m.cells i) → IsArmed (cell_of m'.cells i)) → ((i : ℕ) → IsConsumed (cell_of m.cells i) → IsConsumed (cell_of m'.cells i)) → ((i k : ℕ) → u.order.bag i ≡ Some k → (u'.order.bag i ≡ Some k) × (u'.order.rank i ≡ u.order.rank i))
+      → ((i k : ℕ) → u'.order.bag i ≡ Some k → (u.order.bag i ≡ Some k) ⊎ ((x l : ℕ) → u.order.bag x ≡ Some l → u.order.rank x < u'.order.rank i))
       → ((q i : ℕ) → cell_of m'.cells q ≡ a_cell.Woken i → IsArmed (cell_of m'.cells i)) → PlaceLaw n m'.places → IsRightDesk n m'.count m'.cells u'.order w
       → (Remembers m.count m.heads m.cells v.looked → Remembers m'.count m'.heads m'.cells w.looked) → Whole entries arguments keeps_to p n m' u'
-  whole_step m' u' w views after first gone_same lent more armed linked woken places right remembers = record {
+  whole_step m' u' w views after first gone_same lent more armed consumed linked newer woken places right remembers = record {
     agrees = after;
     desks = record {
       right = subst (λ (vs : List View). (j : ℕ) (x : View) → get_elem? vs j ≡ some x → IsRightDesk n m'.count m'.cells u'.order x) (sym views)
-          (desks_after (λ j x. IsRightDesk n m'.count m'.cells u'.order x) m.views id w right (λ j x ne e. right_stays n m.count m'.count m.cells m'.cells u.order u'.order x more armed linked (whole.desks.right j x e)));
+          (desks_after (λ j x. IsRightDesk n m'.count m'.cells u'.order x) m.views id w right (λ j x ne e. right_stays n m.count m'.count m.cells m'.cells u.order u'.order x more armed consumed linked newer (whole.desks.right j x e)));
     };
     woken = record { names = woken };
     places = places;
@@ -132,7 +141,7 @@ module _ {P : Type 0} (entries : P → List Entry) (arguments : P → List value
   pub whole_still : (places : ℕ → Option Place) (homes : ℕ → Home P) (stage : ℕ → Stage) (w : View) → w.looked ≡ v.looked → ((d : Duty) → HasDuty d w.duties → HasDuty d v.duties) → w.first ≡ v.first → w.gone ≡ v.gone → w.lent ≡ v.lent → w.spent ≡ v.spent → PlaceLaw n places
       → After (record m { places = places; homes = homes }) (record u { stage = stage }) w → Whole entries arguments keeps_to p n (record m { places = places; homes = homes; views = set m.views id w }) (record u { stage = stage })
   whole_still places homes stage w looked duties first gone_same lent spent placed after = whole_step (record m { places = places; homes = homes; views = set m.views id w }) (record u { stage = stage }) w refl after first gone_same lent (omega arith)
-      (λ i a. a) (λ i k b. (b, refl)) whole.woken.names placed
+      (λ i a. a) (λ i c. c) (λ i k b. (b, refl)) (λ i k b. inl b) whole.woken.names placed
       (record {
         armed = λ d h. mine.armed d (duties d h);
         ways = λ x h. mine.ways x (subst (λ (l : Looked). HasWay x l.ways) looked h);
@@ -142,18 +151,18 @@ module _ {P : Type 0} (entries : P → List Entry) (arguments : P → List value
       (λ r. subst (Remembers m.count m.heads m.cells) (sym looked) r)
 
   -- a step that writes the cell i, and remembers it
-  pub whole_cell : (i : ℕ) (x : Word) (homes : ℕ → Home P) (stage : ℕ → Stage) (w : View) → w.looked ≡ v.looked → (IsArmed (cell_of m.cells i) → IsArmed x.cell) → ((z : ℕ) → x.cell ≡ a_cell.Woken z → IsArmed (cell_of m.cells z))
+  pub whole_cell : (i : ℕ) (x : Word) (homes : ℕ → Home P) (stage : ℕ → Stage) (w : View) → w.looked ≡ v.looked → (IsArmed (cell_of m.cells i) → IsArmed x.cell) → (IsConsumed (cell_of m.cells i) → IsConsumed x.cell) → ((z : ℕ) → x.cell ≡ a_cell.Woken z → IsArmed (cell_of m.cells z))
       → ((d : Duty) → HasDuty d w.duties → HasDuty d v.duties ⊎ IsArmed (cell_of (put m.cells i x) d.message)) → w.first ≡ v.first → w.gone ≡ v.gone → w.lent ≡ v.lent → w.spent ≡ v.spent
       → After (record m { cells = put m.cells i x; homes = homes }) (record u { stage = stage }) w
       → Whole entries arguments keeps_to p n (record m { cells = put m.cells i x; homes = homes; views = set m.views id (saw w i x) }) (record u { stage = stage })
-  whole_cell i x homes stage w looked armed woken duties first gone_same lent spent after =
+  whole_cell i x homes stage w looked armed consumed woken duties first gone_same lent spent after =
       let m' : Moment P = record m { cells = put m.cells i x; homes = homes } in let u' : Unseen = record u { stage = stage } in
       whole_step (record m' { views = set m.views id (saw w i x) }) u' (saw w i x) refl (saw_too m' u' w i x (put_here m.cells i x) after) first gone_same lent (omega arith)
-      stay (λ k l b. (b, refl))
+      stay stay_consumed (λ k l b. (b, refl)) (λ k l b. inl b)
       (λ q z e. put_all m.cells i x (λ q c. c.cell ≡ a_cell.Woken z → IsArmed (cell_of (put m.cells i x) z)) q (λ s. stay z (woken z s)) (λ ne s. stay z (whole.woken.names q z s)) e) whole.places
       (record {
         armed = λ d h. ⊎_elim (λ k. stay d.message (mine.armed d k)) (λ a. a) (duties d h);
-        ways = λ y h. mine.ways y (subst (λ (l : Looked). HasWay y l.ways) looked h);
+        ways = λ y h. way_stays n m.cells (put m.cells i x) u.order u.order y (λ k l b. (b, refl)) (λ k l b. inl b) stay_consumed (mine.ways y (subst (λ (l : Looked). HasWay y l.ways) looked h));
         told = λ e s. mine.told (sym gone_same ∙ e) (sym spent ∙ s);
         ended = not_gone (saw w i x) gone_same;
       })
@@ -162,6 +171,9 @@ module _ {P : Type 0} (entries : P → List Entry) (arguments : P → List value
       stay : (k : ℕ) → IsArmed (cell_of m.cells k) → IsArmed (cell_of (put m.cells i x) k)
       stay k a = put_all m.cells i x (λ k c. IsArmed (cell_of m.cells k) → IsArmed c.cell) k armed (λ ne b. b) a
 
+      stay_consumed : (k : ℕ) → IsConsumed (cell_of m.cells k) → IsConsumed (cell_of (put m.cells i x) k)
+      stay_consumed k a = put_all m.cells i x (λ k c. IsConsumed (cell_of m.cells k) → IsConsumed c.cell) k consumed (λ ne b. b) a
+
   -- a step that counts up, and remembers it
   pub whole_count : (journal : List Entry) (stage : ℕ → Stage) (w : View) → w.looked ≡ v.looked → w.duties ≡ v.duties → w.first ≡ v.first → w.gone ≡ v.gone → w.lent ≡ v.lent → (w.spent ≡ true → n ≤ m.count + 1)
       → After (record m { count = m.count + 1 }) (record u { journal = journal; stage = stage }) w
@@ -169,7 +181,7 @@ module _ {P : Type 0} (entries : P → List Entry) (arguments : P → List value
   whole_count journal stage w looked duties first gone_same lent spent after =
       let m' : Moment P = record m { count = m.count + 1 } in let u' : Unseen = record u { journal = journal; stage = stage } in
       whole_step (record m' { views = set m.views id (saw_count w (m.count + 1)) }) u' (saw_count w (m.count + 1)) refl (looked_too m' u' w (record w.looked { count = Some (m.count + 1) }) refl after) first gone_same lent (omega arith)
-      (λ i a. a) (λ i k b. (b, refl)) whole.woken.names whole.places
+      (λ i a. a) (λ i c. c) (λ i k b. (b, refl)) (λ i k b. inl b) whole.woken.names whole.places
       (record {
         armed = λ d h. mine.armed d (subst (HasDuty d) duties h);
         ways = λ x h. mine.ways x (subst (λ (l : Looked). HasWay x l.ways) looked h);
@@ -228,41 +240,50 @@ module _ {P : Type 0} (entries : P → List Entry) (arguments : P → List value
       let was = law.stands.hands.holds id v at i Placing placing in let t = agreeing.it entries arguments keeps_to p n small m u law id v at i (InHand id Placing) was in
       let other : (j l : ℕ) → u.order.bag j ≡ Some l → j ≢ i = (λ j l b q. let z : Path (Option ℕ) None (Some l) = sym t.5 ∙ sym (ap u.order.bag q) ∙ b in cc) in
       let linked : (j l : ℕ) → u.order.bag j ≡ Some l → (put u.order.bag i (Some k) j ≡ Some l) × (put u.order.rank i u.order.clock j ≡ u.order.rank j) = (λ j l b. (put_else u.order.bag i (Some k) j (other j l b) ∙ b, put_else u.order.rank i u.order.clock j (other j l b))) in
+      let newer : (j l : ℕ) → put u.order.bag i (Some k) j ≡ Some l → (u.order.bag j ≡ Some l) ⊎ ((x z : ℕ) → u.order.bag x ≡ Some z → u.order.rank x < put u.order.rank i u.order.clock j) = (λ j l b. link_newer u.order law.bags i k j l b) in
       whole_step (record m' { views = set m.views id (saw_head w (head_number k) (Some i)) }) u' (saw_head w (head_number k) (Some i)) refl
       (looked_too m' u' w (saw_head w (head_number k) (Some i)).looked refl (agreeing.agrees_link entries arguments keeps_to p n small m u law id v at law.tabled i q e x is num says method placing free may others args call parked task))
-      refl refl refl (omega arith) (λ j a. a) linked whole.woken.names whole.places
+      refl refl refl (omega arith) (λ j a. a) (λ j c. c) linked newer whole.woken.names whole.places
       (record {
         armed = mine.armed;
-        ways = λ y h. way_stays n u.order (linked_order u.order i k above) y linked (mine.ways y h);
+        ways = λ y h. way_stays n m.cells m.cells u.order (linked_order u.order i k above) y linked newer (λ j c. c) (mine.ways y h);
         told = mine.told;
         ended = not_gone (saw_head w (head_number k) (Some i)) refl;
       })
       (λ r. remembers_head m.count m.heads m.cells v.looked r (head_number k) (Some i))
 
+  -- the cell of a message in flight
+  flying_word : (i : ℕ) → v.flight ≡ Some i → m.cells i ≡ empty_word
+  flying_word i flying = (agreeing.it entries arguments keeps_to p n small m u law id v at i (InHand id (Flying v.bag v.above)) (law.stands.hands.holds id v at i (Flying v.bag v.above) (flying, refl, refl))).3
+
+  -- the cell of a claimed message
+  claimed_word : (c : Claim) → HasThe c v.claims → m.cells c.number ≡ record { cell = a_cell.Claimed; next = c.next }
+  claimed_word c has = (agreeing.it entries arguments keeps_to p n small m u law id v at c.number (InHand id (Claiming c)) (law.stands.hands.holds id v at c.number (Claiming c) (has, refl))).2
+
   -- a linked message is armed
   pub whole_arm : (i : ℕ) → v.flight ≡ Some i
       → Whole entries arguments keeps_to p n (record m { cells = put m.cells i (record { cell = a_cell.Pending; next = v.above }); views = set m.views id (saw (kinds.armed v i) i (record { cell = a_cell.Pending; next = v.above })) }) (record u { stage = put u.stage i Armed })
-  whole_arm i flying = let x : Word = record { cell = a_cell.Pending; next = v.above } in whole_cell i x m.homes (put u.stage i Armed) (kinds.armed v i) refl (λ _. tt) (λ z e. absurd (cc))
+  whole_arm i flying = let x : Word = record { cell = a_cell.Pending; next = v.above } in whole_cell i x m.homes (put u.stage i Armed) (kinds.armed v i) refl (λ _. tt) (λ c. absurd (subst (λ (w : Word). IsConsumed w.cell) (flying_word i flying) c)) (λ z e. absurd (cc))
       (λ d h. ⊎_elim (λ e. inr (subst (λ (j : ℕ). IsArmed (cell_of (put m.cells i x) j)) (sym (ap (λ (z : Duty). z.message) e)) (subst (λ (c : Word). IsArmed c.cell) (sym (put_here m.cells i x)) tt))) inl h) refl refl refl refl
       (agreeing.agrees_arm entries arguments keeps_to p n small m u law id v at i flying)
 
   -- a pending message is claimed
   pub whole_claim : (i : ℕ) (next : Option ℕ) (x : Message) → m.cells i ≡ record { cell = a_cell.Pending; next = next } → message_in (said_at i u.journal) ≡ Some x
       → Whole entries arguments keeps_to p n (record m { cells = put m.cells i (record { cell = a_cell.Claimed; next = next }); views = set m.views id (saw (claimed v (claim_on i next x)) i (record { cell = a_cell.Claimed; next = next })) }) (record u { stage = put u.stage i (InHand id (Claiming (claim_on i next x))) })
-  whole_claim i next x is says = whole_cell i (record { cell = a_cell.Claimed; next = next }) m.homes (put u.stage i (InHand id (Claiming (claim_on i next x)))) (claimed v (claim_on i next x)) refl (λ _. tt) (λ z e. absurd (cc)) (λ d h. inl h) refl refl refl refl
+  whole_claim i next x is says = whole_cell i (record { cell = a_cell.Claimed; next = next }) m.homes (put u.stage i (InHand id (Claiming (claim_on i next x)))) (claimed v (claim_on i next x)) refl (λ _. tt) (λ c. absurd (subst (λ (w : Word). IsConsumed w.cell) is c)) (λ z e. absurd (cc)) (λ d h. inl h) refl refl refl refl
       (agreeing.agrees_claim entries arguments keeps_to p n small m u law id v at i next x is says)
 
   -- a claim for no firing is given back
   pub whole_give_back : (c : Claim) → HasThe c v.claims → c.firing ≡ None
       → Whole entries arguments keeps_to p n (record m { cells = put m.cells c.number (record { cell = a_cell.Pending; next = c.next }); views = set m.views id (saw (kinds.unclaimed v c.number) c.number (record { cell = a_cell.Pending; next = c.next })) }) (record u { stage = put u.stage c.number Armed })
-  whole_give_back c has free = whole_cell c.number (record { cell = a_cell.Pending; next = c.next }) m.homes (put u.stage c.number Armed) (kinds.unclaimed v c.number) refl (λ _. tt) (λ z e. absurd (cc)) (λ d h. inl h) refl refl refl refl
+  whole_give_back c has free = whole_cell c.number (record { cell = a_cell.Pending; next = c.next }) m.homes (put u.stage c.number Armed) (kinds.unclaimed v c.number) refl (λ _. tt) (λ d. absurd (subst (λ (w : Word). IsConsumed w.cell) (claimed_word c has) d)) (λ z e. absurd (cc)) (λ d h. inl h) refl refl refl refl
       (agreeing.agrees_give_back entries arguments keeps_to p n small m u law id v at c has free)
 
   -- a message that is claimed for a firing is consumed
   pub whole_consume : (c : Claim) (f : ℕ) (q : P) → HasThe c v.claims → c.firing ≡ Some f → v.emptying ≡ None → m.homes c.number ≡ some (Some q)
       → Whole entries arguments keeps_to p n (record m { cells = put m.cells c.number (record { cell = a_cell.Consumed; next = c.next }); homes = put m.homes c.number none; views = set m.views id (saw (kinds.consumed v c.number (entries q)) c.number (record { cell = a_cell.Consumed; next = c.next })) })
       (record u { stage = put u.stage c.number (InHand id Emptying) })
-  whole_consume c f q has for free home = whole_cell c.number (record { cell = a_cell.Consumed; next = c.next }) (put m.homes c.number none) (put u.stage c.number (InHand id Emptying)) (kinds.consumed v c.number (entries q)) refl (λ _. tt) (λ z e. absurd (cc))
+  whole_consume c f q has for free home = whole_cell c.number (record { cell = a_cell.Consumed; next = c.next }) (put m.homes c.number none) (put u.stage c.number (InHand id Emptying)) (kinds.consumed v c.number (entries q)) refl (λ _. tt) (λ _. tt) (λ z e. absurd (cc))
       (λ d h. inl (agreeing.was_duty d c.number v.duties h)) refl refl refl refl (agreeing.agrees_consume entries arguments keeps_to p n small m u law id v at c f q has for free home)
 
   -- the slot of a consumed message is home again
@@ -280,13 +301,13 @@ module _ {P : Type 0} (entries : P → List Entry) (arguments : P → List value
       → BeginsThere f (entries q) → ((e : Entry) → IsIn e (entries q) → e.body ≡ f → e.number ≡ f) → ((b : ℕ) → (b ≡ f → ⊥) → BeginsThere b (entries q) → IsParkedThere p (entries q) None (doing p (entries q) b)) → keeps_to q
       → Whole entries arguments keeps_to p n (record m { cells = put m.cells f (record { cell = a_cell.Ready; next = None }); homes = put m.homes f (some (Some q)); views = set m.views id (saw (kinds.posted v (entries q)) f (record { cell = a_cell.Ready; next = None })) }) (record u { stage = put u.stage f Posted })
   whole_post f q posting may others begins only parked task = let t = agreeing.it entries arguments keeps_to p n small m u law id v at f (InHand id Posting) (law.stands.hands.holds id v at f Posting posting) in
-      whole_cell f (record { cell = a_cell.Ready; next = None }) (put m.homes f (some (Some q))) (put u.stage f Posted) (kinds.posted v (entries q)) refl (λ a. absurd (subst (λ (c : Word). IsArmed c.cell) t.1 a)) (λ z e. absurd (cc)) (λ d h. inl h) refl refl refl refl
+      whole_cell f (record { cell = a_cell.Ready; next = None }) (put m.homes f (some (Some q))) (put u.stage f Posted) (kinds.posted v (entries q)) refl (λ a. absurd (subst (λ (c : Word). IsArmed c.cell) t.1 a)) (λ a. absurd (subst (λ (c : Word). IsConsumed c.cell) t.1 a)) (λ z e. absurd (cc)) (λ d h. inl h) refl refl refl refl
       (agreeing.agrees_post entries arguments keeps_to p n small m u law id v at f q posting may others begins only parked task)
 
   -- a ready firing is started
   pub whole_start : (f : ℕ) (q : P) → (m.cells f).cell ≡ a_cell.Ready → v.starting ≡ None → m.homes f ≡ some (Some q)
       → Whole entries arguments keeps_to p n (record m { cells = put m.cells f (record { cell = a_cell.Started; next = None }); homes = put m.homes f none; views = set m.views id (saw (kinds.firing_started v f (entries q)) f (record { cell = a_cell.Started; next = None })) }) (record u { stage = put u.stage f (InHand id Starting) })
-  whole_start f q is free home = whole_cell f (record { cell = a_cell.Started; next = None }) (put m.homes f none) (put u.stage f (InHand id Starting)) (kinds.firing_started v f (entries q)) refl (λ a. absurd (subst IsArmed is a)) (λ z e. absurd (cc)) (λ d h. inl h) refl refl refl refl
+  whole_start f q is free home = whole_cell f (record { cell = a_cell.Started; next = None }) (put m.homes f none) (put u.stage f (InHand id Starting)) (kinds.firing_started v f (entries q)) refl (λ a. absurd (subst IsArmed is a)) (λ a. absurd (subst IsConsumed is a)) (λ z e. absurd (cc)) (λ d h. inl h) refl refl refl refl
       (agreeing.agrees_start entries arguments keeps_to p n small m u law id v at f q is free home)
 
   -- the slot of a started firing is home again
@@ -335,10 +356,10 @@ module _ {P : Type 0} (entries : P → List Entry) (arguments : P → List value
   -- ## Looks
 
   -- what the desk does in its looks and its duties alone keeps the whole rule where it keeps its parts
-  whole_view : (w : View) → After m u w → w.first ≡ v.first → w.gone ≡ v.gone → w.lent ≡ v.lent → w.spent ≡ v.spent → ((d : Duty) → HasDuty d w.duties → IsArmed (cell_of m.cells d.message)) → ((x : Way) → HasWay x w.looked.ways → WayLaw n u.order x)
+  whole_view : (w : View) → After m u w → w.first ≡ v.first → w.gone ≡ v.gone → w.lent ≡ v.lent → w.spent ≡ v.spent → ((d : Duty) → HasDuty d w.duties → IsArmed (cell_of m.cells d.message)) → ((x : Way) → HasWay x w.looked.ways → WayLaw n m.cells u.order x)
       → (Remembers m.count m.heads m.cells v.looked → Remembers m.count m.heads m.cells w.looked) → Whole entries arguments keeps_to p n (record m { views = set m.views id w }) u
   whole_view w after first gone_same lent spent armed ways remembers = whole_step (record m { views = set m.views id w }) u w refl after first gone_same lent (omega arith)
-      (λ i a. a) (λ i k b. (b, refl)) whole.woken.names whole.places
+      (λ i a. a) (λ i c. c) (λ i k b. (b, refl)) (λ i k b. inl b) whole.woken.names whole.places
       (record { armed = armed; ways = ways; told = λ e s. mine.told (sym gone_same ∙ e) (sym spent ∙ s); ended = not_gone w gone_same }) remembers
 
   -- what is linked is a number of the table
@@ -351,15 +372,15 @@ module _ {P : Type 0} (entries : P → List Entry) (arguments : P → List value
       (λ r. remembers_count m.count m.heads m.cells v.looked r m.count)
 
   -- a look at the head of the bag k
-  pub whole_look_head : (k : ℕ) → Whole entries arguments keeps_to p n (record m { views = set m.views id (kinds.looked_head v k (m.heads (head_number k))) }) u
-  whole_look_head k = whole_view (kinds.looked_head v k (m.heads (head_number k))) (looking.agrees_look_head entries arguments keeps_to p n small m u law id v at k) refl refl refl refl
+  pub whole_look_head : (k : ℕ) (linked : List ℕ) → WereLinked u.order (head_number k) linked → Whole entries arguments keeps_to p n (record m { views = set m.views id (kinds.looked_head v k linked (m.heads (head_number k))) }) u
+  whole_look_head k linked are = whole_view (kinds.looked_head v k linked (m.heads (head_number k))) (looking.agrees_look_head entries arguments keeps_to p n small m u law id v at k linked) refl refl refl refl
       (λ d h. let r = looking.has_mapped (start_walk k (m.heads (head_number k))) d v.duties h in subst (λ (z : Duty). IsArmed (cell_of m.cells z.message)) (sym r.2) (mine.armed r.0 r.1))
-      (begun_ways k)
+      begun_ways
       (λ r. let z = remembers_look_head m.count m.heads m.cells v.looked r (head_number k) in record { counter = z.counter; head = z.head; cell = z.cell })
     where
-      begun_ways : (k : ℕ) (x : Way) → HasWay x (way_begun k (m.heads (head_number k)) ∷ v.looked.ways) → WayLaw n u.order x
-      begun_ways k x (inl e) = subst (WayLaw n u.order) (sym e) (begun_law (IsKey u.journal) n m.cells m.heads u.order law.bags linked_below law.heads k)
-      begun_ways k x (inr h) = mine.ways x h
+      begun_ways : (x : Way) → HasWay x (way_begun k linked (m.heads (head_number k)) ∷ v.looked.ways) → WayLaw n m.cells u.order x
+      begun_ways x (inl e) = subst (WayLaw n m.cells u.order) (sym e) (begun_law (IsKey u.journal) n m.cells m.heads u.order law.bags linked_below law.heads k linked are)
+      begun_ways x (inr h) = mine.ways x h
 
   -- the next of an armed message is a number of the table
   pub next_below : (i x : ℕ) → IsArmed (cell_of m.cells i) → (m.cells i).next ≡ Some x → x < n
@@ -410,6 +431,11 @@ module _ {P : Type 0} (entries : P → List Entry) (arguments : P → List value
   pub whole_saw : (i : ℕ) → Whole entries arguments keeps_to p n (record m { views = set m.views id (saw v i (m.cells i)) }) u
   whole_saw i = whole_view (saw v i (m.cells i)) (looking.agrees_saw entries arguments keeps_to p n small m u law id v at i) refl refl refl refl mine.armed mine.ways (λ r. remembers_look m.count m.heads m.cells v.looked r i)
 
+  -- what an exchange that fails reads in a head
+  pub whole_saw_head : (head : ℕ) → Whole entries arguments keeps_to p n (record m { views = set m.views id (saw_head v head (m.heads head)) }) u
+  whole_saw_head head = whole_view (saw_head v head (m.heads head)) (agreeing.agrees_still entries arguments keeps_to p n small m u law id v at (saw_head v head (m.heads head)) refl refl refl refl refl refl refl refl) refl refl refl refl mine.armed mine.ways
+      (λ r. remembers_look_head m.count m.heads m.cells v.looked r head)
+
   -- a duty is laid down
   pub whole_rest : (i : ℕ) → ((d : Duty) → HasDuty d v.duties → d.message ≡ i → MayRest (IsChord p) d) → Whole entries arguments keeps_to p n (record m { views = set m.views id (kinds.rested v i) }) u
   whole_rest i may = whole_view (kinds.rested v i) (looking.agrees_rest entries arguments keeps_to p n small m u law id v at i may) refl refl refl refl (λ d h. mine.armed d (agreeing.was_duty d i v.duties h)) mine.ways (λ r. r)
@@ -417,7 +443,7 @@ module _ {P : Type 0} (entries : P → List Entry) (arguments : P → List value
   -- the caller q is woken by the message i, on which the desk has a duty
   pub whole_woken : (q : ℕ) (e : Duty) (next : Option ℕ) → HasDuty e v.duties → m.cells q ≡ record { cell = a_cell.Pending; next = next } → u.stage q ≡ Armed
       → Whole entries arguments keeps_to p n (record m { cells = put m.cells q (record { cell = a_cell.Woken e.message; next = next }); views = set m.views id (saw (kinds.woke v q e.message) q (record { cell = a_cell.Woken e.message; next = next })) }) u
-  whole_woken q e next has is was = whole_cell q (record { cell = a_cell.Woken e.message; next = next }) m.homes u.stage (kinds.woke v q e.message) refl (λ _. tt)
+  whole_woken q e next has is was = whole_cell q (record { cell = a_cell.Woken e.message; next = next }) m.homes u.stage (kinds.woke v q e.message) refl (λ _. tt) (λ c. absurd (subst (λ (w : Word). IsConsumed w.cell) is c))
       (λ z s. subst (λ (y : ℕ). IsArmed (cell_of m.cells y)) (woken_by e.message z s) (mine.armed e has))
       (λ d h. inl (agreeing.was_duty d e.message v.duties (agreeing.was_duty d q (drop_duty e.message v.duties) h))) refl refl refl refl
       (looking.agrees_woken entries arguments keeps_to p n small m u law id v at q e.message next is was)
@@ -428,7 +454,7 @@ module _ {P : Type 0} (entries : P → List Entry) (arguments : P → List value
   -- the caller q is pending again, with duties on it and on the message that woke it
   pub whole_rearmed : (q kq i ki : ℕ) (next : Option ℕ) → m.cells q ≡ record { cell = a_cell.Woken i; next = next } → u.stage q ≡ Armed → u.order.bag q ≡ Some kq → u.order.bag i ≡ Some ki
       → Whole entries arguments keeps_to p n (record m { cells = put m.cells q (record { cell = a_cell.Pending; next = next }); views = set m.views id (saw (kinds.rearmed v q kq i ki) q (record { cell = a_cell.Pending; next = next })) }) u
-  whole_rearmed q kq i ki next is was bq bi = let x : Word = record { cell = a_cell.Pending; next = next } in whole_cell q x m.homes u.stage (kinds.rearmed v q kq i ki) refl (λ _. tt) (λ z e. absurd (cc))
+  whole_rearmed q kq i ki next is was bq bi = let x : Word = record { cell = a_cell.Pending; next = next } in whole_cell q x m.homes u.stage (kinds.rearmed v q kq i ki) refl (λ _. tt) (λ c. absurd (subst (λ (w : Word). IsConsumed w.cell) is c)) (λ z e. absurd (cc))
       (λ d h. ⊎_elim (λ e. inr (subst (λ (j : ℕ). IsArmed (cell_of (put m.cells q x) j)) (sym (ap (λ (z : Duty). z.message) e)) (subst (λ (c : Word). IsArmed c.cell) (sym (put_here m.cells q x)) tt)))
       (λ k. ⊎_elim (λ e. inr (subst (λ (j : ℕ). IsArmed (cell_of (put m.cells q x) j)) (sym (ap (λ (z : Duty). z.message) e))
       (put_all m.cells q x (λ j c. IsArmed (cell_of m.cells j) → IsArmed c.cell) i (λ _. tt) (λ ne a. a) (whole.woken.names q i (ap (λ (c : Word). c.cell) is))))) inl k) h) refl refl refl refl

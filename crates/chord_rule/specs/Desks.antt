@@ -15,8 +15,8 @@ use Rattle.chord_rule.specs.Ways.{HasWay, WayLaw}
 pub record IsRightDesk (n count : ℕ) (cells : ℕ → Word) (o : LinkOrder) (v : View) : Type 0 where
   -- a message that it has a duty on is armed
   pub armed : (d : Duty) → HasDuty d v.duties → IsArmed (cell_of cells d.message)
-  -- its ways go from message to message of a bag, each linked before the last
-  pub ways : (w : Way) → HasWay w v.looked.ways → WayLaw n o w
+  -- its ways go from message to message of a bag, each linked before the last, and miss none
+  pub ways : (w : Way) → HasWay w v.looked.ways → WayLaw n cells o w
   -- where it was told that the limit is reached, it is
   pub told : v.gone ≡ false → v.spent ≡ true → n ≤ count
   -- a desk that was joined into the first has nothing

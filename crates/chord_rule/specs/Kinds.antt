@@ -154,9 +154,9 @@ saw_head v k x = record v { looked = record v.looked { heads = record { head = k
 abbrev pub saw : View → ℕ → Word → View
 saw v i c = record v { looked = record v.looked { seen = record { number = i; word = c } ∷ v.looked.seen } }
 
--- a look at the head of the bag k starts its walks, and a way
-abbrev pub looked_head : View → ℕ → Option ℕ → View
-looked_head v k h = record v { duties = map (start_walk k h) v.duties; looked = record v.looked { heads = record { head = head_number k; message = h } ∷ v.looked.heads; ways = way_begun k h ∷ v.looked.ways } }
+-- a look at the head of the bag k, in which these messages had been linked, starts its walks, and a way
+abbrev pub looked_head : View → ℕ → List ℕ → Option ℕ → View
+looked_head v k linked h = record v { duties = map (start_walk k h) v.duties; looked = record v.looked { heads = record { head = head_number k; message = h } ∷ v.looked.heads; ways = way_begun k linked h ∷ v.looked.ways } }
 
 -- a look at the cell i moves the walks that have come to it, where it does not stand, and goes on the newest way
 abbrev pub looked_cell : View → ℕ → Word → View

@@ -26,8 +26,6 @@ pub mod Keeping
 pub mod Parcels
 -- what comes to a desk, and what it keeps, are places of the run
 pub mod Coming
--- what each step tells its caller
-pub mod Tells
 -- what desks have in hand: each number at most one desk, for one thing
 pub mod Hands
 -- what there is of a number by how it stands: entry, cell, place word, slot, bag
@@ -62,6 +60,10 @@ pub mod Pending
 pub mod Agrees
 -- the whole rule
 pub mod Whole
+-- what a look at a head tells of its moment
+pub mod Heading
+-- what each step tells its caller
+pub mod Tells
 -- when the journal is complete
 pub mod Closing
 -- what the rule says of the journal

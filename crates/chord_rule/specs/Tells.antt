@@ -1,5 +1,5 @@
 -- What each step tells: of the step, the desk before, the word found, and the desk after.
-use Rattle.std.specs.Prelude.{◌≡◌, ◌≢◌, ◌⊎◌, ℕ, ◌+◌, ◌*◌, ◌<◌, ◌≤◌, true, List, [], ◌∷◌, Option, Some, None, slice_get}
+use Rattle.std.specs.Prelude.{◌≡◌, ◌≢◌, ◌⊎◌, ℕ, ◌+◌, ◌*◌, ◌<◌, ◌≤◌, true, false, List, [], ◌∷◌, Option, Some, None, slice_get}
 use Rattle.atomic_table.specs.Table.{Me, Step}
 use Rattle.chord_base.specs.declared.value.Object.{Object}
 use Rattle.chord_base.specs.declared.value.Value as value
@@ -23,6 +23,7 @@ use Rattle.chord_rule.specs.Coming.{IsPlace, ComesWithMessage, ComesWithFiring}
 use Rattle.chord_rule.specs.Duties.{HasDuty}
 use Rattle.chord_rule.specs.Made.{Names, key}
 use Rattle.chord_rule.specs.Ways.{HasDutyOn, KnowsBag, KnowsObject, LastSeen, IsAt, IsAloneDesk, IsLinkedCell, IsSettledCell, HasLooksLeft}
+use Rattle.chord_rule.specs.Heading.{WasHead}
 use Rattle.chord_rule.specs.Kinds.{entry, drew, was_told, claimed, firing_drawn, address_set, flown, armed, unclaimed, consumed, emptied, posting, posted, firing_started, played, saw, saw_count, saw_head, looked_head, looked_cell, rested}
 
 -- the word of a cell with this next
@@ -59,11 +60,16 @@ pub record IsLook (n : ℕ) (v w : View) (i : ℕ) (c : Word) : Type 0 where
   -- alone, no other desk has it in hand
   pub alone : IsAloneDesk v → IsAt i v.looked.ways ⊎ HasDutyOn i v.duties → IsSettledCell c.cell
 
+-- the first desk, which has neither drawn nor been split
+abbrev pub HasNotBegun : View → Type 0
+HasNotBegun v = (v.first ≡ true) × (v.drawn ≡ false) × (v.splits ≡ 0)
+
 module _ {S : Type 0} where
-  -- below the limit the desk has the entry, which came next in the run, and whose number is above all that it kept and above each object that the entry names; else it is told
+  -- below the limit the desk has the entry, which came next in the run, and whose number is above all that it kept and above each object that the entry names; else it is told. The first number is that of the first desk which has not begun
   abbrev pub draws : Program → ℕ → What → Step S → Me S View → ℕ → Me S View → Type 0
   draws p body what s m x w = (w.1 ≡ m.1) × (x < s.slots → (w.0 ≡ saw_count (drew m.0 x body what) (x + 1)) × AllBelow x m.0.kept × ((o : Object) → Names what o → o.number < x) × CameNext p (entry x body what) × IsPlace p (entry x body what ∷ m.0.kept))
       × (s.slots ≤ x → w.0 ≡ saw_count (was_told m.0) (x + 1))
+      × (HasNotBegun m.0 → x ≡ 0)
 
   -- below the limit the desk has the firing, which came next in the run, with the values of its claims, and whose number is above all that it kept; else it is told
   abbrev pub draws_firing : Program → ℕ → Object → List ℕ → Step S → Me S View → ℕ → Me S View → Type 0
@@ -146,9 +152,9 @@ module _ {S : Type 0} where
   abbrev pub looks_count : Step (Option S) → Me (Option S) View → ℕ → Me (Option S) View → Type 0
   looks_count s m x w = w ≡ (saw_count m.0 x, m.1)
 
-  -- the head of a bag: the newest way begins there
-  abbrev pub looks_head : Object → ℕ → Step (Option S) → Me (Option S) View → ℕ → Me (Option S) View → Type 0
-  looks_head o j s m x w = (h : Option ℕ) × (x ≡ link_of h) × LinkOk h × (w ≡ (looked_head m.0 (key o j) h, m.1)) × HasLooksLeft s.slots w.0.looked.ways
+  -- the head of a bag: the newest way begins there, and knows which messages had been linked in the bag at that moment
+  abbrev pub looks_head : (S → List Entry) → (S → List value.Value) → (S → Type 0) → Program → Object → ℕ → Step (Option S) → Me (Option S) View → ℕ → Me (Option S) View → Type 0
+  looks_head entries arguments keeps_to p o j s m x w = (h : Option ℕ) × (linked : List ℕ) × (x ≡ link_of h) × LinkOk h × (w ≡ (looked_head m.0 (key o j) linked h, m.1)) × HasLooksLeft s.slots w.0.looked.ways × WasHead entries arguments keeps_to p s.slots m.0 (head_number (key o j)) h linked
 
   -- a cell
   abbrev pub looks_cell : Step (Option S) → Me (Option S) View → ℕ → Me (Option S) View → Type 0
@@ -160,6 +166,28 @@ module _ {S : Type 0} where
       × ((q : Place) → pl ≡ Some q → (q.0.number < s.slots) × (q.1 < 16))
       × ((d : Duty) → HasDuty d m.0.duties → d.message ≡ i → (q : Place) × (pl ≡ Some q) × (d.bag ≡ key q.0 q.1))
       × ((c : Claim) → HasThe c m.0.claims → c.number ≡ i → pl ≡ Some (c.object, c.method)))
+
+  -- ## Bypasses
+
+  -- where the head was `from`, it is `to`; else it was another
+  abbrev pub BypassTells : (head from : ℕ) → Option ℕ → Step (Option S) → Me (Option S) View → ℕ → Me (Option S) View → Type 0
+  BypassTells head from to s m x w = (w.1 ≡ m.1)
+      × (x ≡ s.first → w.0 ≡ saw_head m.0 head to)
+      × (x ≢ s.first → (h : Option ℕ) × (x ≡ link_of h) × LinkOk h × (h ≢ Some from) × (w.0 ≡ saw_head m.0 head h))
+
+  -- a head is moved past consumed messages, or was read
+  abbrev pub bypasses_head : Step (Option S) → Me (Option S) View → ℕ → Me (Option S) View → Type 0
+  bypasses_head s m x w = (head from : ℕ) (to : Option ℕ) → s.word ≡ 1 + s.slots + head → s.first ≡ link_of (Some from) → s.second ≡ link_of to → BypassTells head from to s m x w
+
+  -- where the word was that of the consumed message i with the next `from`, its next is `to`; else it was another
+  abbrev pub BypassCellTells : ℕ → (from to : Option ℕ) → Step (Option S) → Me (Option S) View → ℕ → Me (Option S) View → Type 0
+  BypassCellTells i from to s m x w = (w.1 ≡ m.1)
+      × (x ≡ s.first → w.0 ≡ saw m.0 i (a_word a_cell.Consumed to))
+      × (x ≢ s.first → (c : Word) × WordFits c × (c ≢ a_word a_cell.Consumed from) × (x ≡ word_of c) × (w.0 ≡ saw m.0 i c))
+
+  -- the next of a consumed message is moved past consumed messages, or its cell was read
+  abbrev pub bypasses_cell : Step (Option S) → Me (Option S) View → ℕ → Me (Option S) View → Type 0
+  bypasses_cell s m x w = (i : ℕ) (from to : Option ℕ) → s.word ≡ 1 + i → s.first ≡ word a_cell.Consumed from → s.second ≡ word a_cell.Consumed to → BypassCellTells i from to s m x w
 
   -- a duty is laid down
   abbrev pub rests : ℕ → Step (Option S) → Me (Option S) View → ℕ → Me (Option S) View → Type 0

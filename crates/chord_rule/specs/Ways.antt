@@ -1,5 +1,5 @@
 -- The ways of a desk through bags.
-use Rattle.std.specs.Prelude.{◌≡◌, ◌⊎◌, ℕ, ◌<◌, true, if◌then◌else◌, length, List, [], ◌∷◌, Option, Some, None}
+use Rattle.std.specs.Prelude.{◌≡◌, ◌⊎◌, ℕ, ◌<◌, ◌≤◌, true, if◌then◌else◌, length, List, [], ◌∷◌, Option, Some, None}
 use Rattle.chord_word.specs.declared.cells.Cell.{Cell}
 use Rattle.chord_word.specs.declared.cells.Cell.TheVariants.{Empty, Pending, Claimed, Consumed, Woken}
 use Rattle.chord_word.specs.declared.cells.Word.{Word}
@@ -7,7 +7,8 @@ use Rattle.chord_rule.specs.declared.view.Look.{Look}
 use Rattle.chord_rule.specs.declared.view.Way.{Way}
 use Rattle.chord_rule.specs.declared.view.Duty.{Duty}
 use Rattle.chord_rule.specs.declared.view.View.{View}
-use Rattle.chord_rule.specs.Bags.{LinkOrder, head_number}
+use Rattle.chord_rule.specs.Numbers.{HasNumber}
+use Rattle.chord_rule.specs.Bags.{LinkOrder, IsConsumed, cell_of, head_number}
 use Rattle.chord_rule.specs.Duties.{HasDuty, has_come_to}
 use Rattle.chord_rule.specs.Made.{key}
 use Rattle.chord_base.specs.declared.value.Object.{Object}
@@ -17,13 +18,13 @@ abbrev pub way_onward : Cell → Option ℕ → Option ℕ
 way_onward Empty next = None
 way_onward _ next = next
 
--- after a look at the head of the bag k
-abbrev pub way_begun : ℕ → Option ℕ → Way
-way_begun k head = record { bag = k; place = head; looks = [] }
+-- after a look at the head of the bag k, in which these messages had been linked
+abbrev pub way_begun : ℕ → List ℕ → Option ℕ → Way
+way_begun k linked head = record { bag = k; linked = linked; place = head; looks = [] }
 
 -- after a look at the message i, to which the way had come
 abbrev pub gone_on : Way → ℕ → Word → Way
-gone_on w i c = record { bag = w.bag; place = way_onward c.cell c.next; looks = record { number = i; word = c } ∷ w.looks }
+gone_on w i c = record { bag = w.bag; linked = w.linked; place = way_onward c.cell c.next; looks = record { number = i; word = c } ∷ w.looks }
 
 -- a look at the cell i goes on the newest way, if that has come to i
 abbrev pub on_way : ℕ → Word → List Way → List Way
@@ -99,10 +100,48 @@ abbrev pub LeadsDown : (n k : ℕ) → LinkOrder → List Look → Type 0
 LeadsDown n k o [] = Unit {0}
 LeadsDown n k o (l ∷ ls) = (o.bag l.number ≡ Some k) × (l.number < n) × AllAbove o (o.rank l.number) ls × LeadsDown n k o ls
 
+-- these are the messages that were linked in a bag with this head
+pub record WereLinked (o : LinkOrder) (head : ℕ) (is : List ℕ) : Type 0 where
+  pub all : (i k : ℕ) → o.bag i ≡ Some k → head_number k ≡ head → HasNumber i is
+  pub only : (i : ℕ) → HasNumber i is → (k : ℕ) × (o.bag i ≡ Some k) × (head_number k ≡ head)
+
+-- the last look read a message that was not armed, behind which nothing can be read
+abbrev pub IsCutShort : List Look → Type 0
+IsCutShort [] = ⊥
+IsCutShort (l ∷ ls) = l.word.cell ≡ Empty
+
+-- the way went to the end of its bag
+abbrev pub IsWholeWay : Way → Type 0
+IsWholeWay w = (w.place ≡ None) × (IsCutShort w.looks → ⊥)
+
+-- these looks read consumed messages alone from the one at the message i on, up to the newest
+abbrev pub ReadsPast : ℕ → List Look → Type 0
+ReadsPast i [] = ⊥
+ReadsPast i (l ∷ ls) = (l.word.cell ≡ Consumed) × ((l.number ≡ i) ⊎ ReadsPast i ls)
+
+-- the desk read i consumed, and each message that followed it over next before the place `to`, where that way led
+abbrev pub WentPast : View → ℕ → Option ℕ → Type 0
+WentPast v i to = (w : Way) × HasWay w v.looked.ways × (w.place ≡ to) × ReadsPast i w.looks
+
+-- what these looks read as consumed is consumed
+abbrev pub AreDown : (ℕ → Word) → List Look → Type 0
+AreDown cells [] = Unit {0}
+AreDown cells (l ∷ ls) = (l.word.cell ≡ Consumed → IsConsumed (cell_of cells l.number)) × AreDown cells ls
+
+-- the message i of the bag k is consumed, or was looked at on the way, or the way has still to come to it, or was cut short before it
+abbrev pub IsMetOn : (ℕ → Word) → LinkOrder → ℕ → Way → ℕ → Type 0
+IsMetOn cells o k w i = IsConsumed (cell_of cells i) ⊎ WasRead i w.looks ⊎ ((w.place ≡ None) × IsCutShort w.looks) ⊎ ((x : ℕ) × (w.place ≡ Some x) × (o.bag i ≡ Some k) × (o.rank i ≤ o.rank x))
+
 -- a way goes from message to message of one bag, each linked before the last, and so does the message to which it has come.
--- The head of its bag is that of this one, so they are one bag where the object of the way's was made.
-pub record WayLaw (n : ℕ) (o : LinkOrder) (w : Way) : Type 0 where
+-- The head of its bag is that of this one, so they are one bag where the object of the way's was made. It misses no message
+-- that had been linked when the head was read, meets no other, and what it read as consumed is consumed.
+pub record WayLaw (n : ℕ) (cells : ℕ → Word) (o : LinkOrder) (w : Way) : Type 0 where
   pub along : ℕ
   pub headed : head_number along ≡ head_number w.bag
   pub falls : LeadsDown n along o w.looks
   pub place : (x : ℕ) → w.place ≡ Some x → (o.bag x ≡ Some along) × (x < n) × AllAbove o (o.rank x) w.looks
+  pub misses_none : (i : ℕ) → HasNumber i w.linked → IsMetOn cells o along w i
+  pub meets : (i : ℕ) → WasRead i w.looks ⊎ (w.place ≡ Some i) → HasNumber i w.linked
+  pub in_bags : (i : ℕ) → HasNumber i w.linked → (k : ℕ) × (o.bag i ≡ Some k)
+  pub closed : (i j : ℕ) → HasNumber j w.linked → o.bag i ≡ Some along → o.rank i ≤ o.rank j → HasNumber i w.linked
+  pub down : AreDown cells w.looks

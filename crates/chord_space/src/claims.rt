@@ -19,7 +19,7 @@ use chord_word::{Cell, Word, pack, unpack};
 use std::marker::Brand;
 
 /// The word of a message's cell.
-fn message_word(cell: Cell, next: Option<u32>) -> u64
+pub(crate) fn message_word(cell: Cell, next: Option<u32>) -> u64
     requires { WordFits (a_word cell next) }
     ensures { result ≡ word cell next }
 {

@@ -9,7 +9,7 @@ ghost use Rattle.chord_rule.specs.Kinds.{entry, drew, firing_drawn, was_told, sa
 ghost use Rattle.chord_rule.specs.Claims.{AreClaimed};
 ghost use Rattle.chord_rule.specs.Coming.{IsPlace};
 ghost use Rattle.chord_rule.specs.Made.{Names};
-ghost use Rattle.chord_rule.specs.Tells.{CameNext};
+ghost use Rattle.chord_rule.specs.Tells.{CameNext, HasNotBegun};
 ghost use Rattle.chord_space.specs.Gives.{MayFire};
 ghost use Rattle.chord_space.specs.Ruled.{IsOfCode};
 ghost use Rattle.chord_space.specs.Desks.{view, space_code, space_limits, program_of, IsDeskOf, IsSameDesk, MayDraw};
@@ -32,13 +32,14 @@ impl<P: Carry> Space<P> {
         ensures desk { IsSameDesk desk.old desk.new }
         ensures drawn { result < self.now.events → (view desk.new ≡ saw_count (drew (view desk.old) result body what.now) (result + 1)) × AllBelow result (view desk.old).kept × ((o : value.Object) → Names what.now o → o.number < result) × IsOfCode (space_code self.now) what.now × CameNext (program_of self.now) (entry result body what.now) × IsPlace (program_of self.now) (entry result body what.now ∷ (view desk.old).kept) }
         ensures told { self.now.events ≤ result → view desk.new ≡ saw_count (was_told (view desk.old)) (result + 1) }
+        ensures begins { HasNotBegun (view desk.old) → result ≡ 0 }
     {
         self.table.shared.fetch_add::<Draw<J>>(&mut desk.seat, 0, 1)
     }
 
     /// Draws the next number for an entry, which the desk keeps from now on: the next ask of a body by what the desk keeps, or
     /// the beginning of `Main` by the first desk. The entry came next in the run, and is of the code; what the desk keeps is a
-    /// place of the run. `Spent` where the counter had reached the limit on events.
+    /// place of the run. `Spent` where the counter had reached the limit on events, which it never has for the first draw of all.
     pub fn draw(&self, desk: &mut Desk<P>, body: u32, what: &What) -> Result<u32, Spent>
         requires desk { IsDeskOf self.now desk.old }
         requires room { (view desk.old).spent ≡ false }
@@ -49,6 +50,7 @@ impl<P: Carry> Space<P> {
         ensures code { IsOk result → IsOfCode (space_code self.now) what.now }
         ensures came { IfOk result (λ x. CameNext (program_of self.now) (entry x body what.now)) }
         ensures place { IfOk result (λ x. IsPlace (program_of self.now) (entry x body what.now ∷ (view desk.old).kept)) }
+        ensures begins { HasNotBegun (view desk.old) → IsOk result }
     {
         let found = self.step_draw::<Brand>(desk, body, what);
         if found < self.events as u64 {

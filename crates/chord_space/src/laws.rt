@@ -1,7 +1,7 @@
 //! What the rule of the table says of its journal, at any moment between two steps: functions whose contracts are the laws.
 ghost use Rattle.chord_base.specs.declared.event.Limits.{Limits};
 ghost use Rattle.chord_code.specs.declared.parts.Parts.{Parts};
-ghost use Rattle.chord_rule.specs.Laws.{OneIsMinded, TakenShows, ConsumedTaken, ClaimedTaken, CellPending, PendingShows, NoneTwice};
+ghost use Rattle.chord_rule.specs.Laws.{OneIsMinded, TakenShows, ConsumedTaken, ClaimedTaken, CellPending, PendingShows, WaysMissNone, WholeWaysMissNone, NoneTwice};
 
 use chord_code::carry::Carry;
 
@@ -23,6 +23,14 @@ pub fn taken_messages<P: Carry>()
 pub fn pending_messages<P: Carry>()
     ensures pending { (code : Parts) (limits : Limits) → CellPending P.entries P.arguments (λ q. P.keeps_to q code limits) }
     ensures shows { (code : Parts) (limits : Limits) → PendingShows P.entries P.arguments (λ q. P.keeps_to q code limits) }
+{}
+
+/// A way through a bag misses no message that had been linked there when the desk read its head, as `Space::look_head` tells:
+/// each is consumed, or the desk has looked at it on this way, or the way has still to come to it, or was cut short by a message
+/// that was not armed. So where the way went to the end of the bag, each is consumed or was looked at.
+pub fn ways_miss_none<P: Carry>()
+    ensures ways { (code : Parts) (limits : Limits) → WaysMissNone P.entries P.arguments (λ q. P.keeps_to q code limits) }
+    ensures whole { (code : Parts) (limits : Limits) → WholeWaysMissNone P.entries P.arguments (λ q. P.keeps_to q code limits) }
 {}
 
 /// No message is taken twice, whatever the order of the steps: two firings that have it as a member are one, which has it once,

@@ -5,6 +5,7 @@
 //! Not here: which message to claim and which chord to fire, and what a bag is walked for.
 #![tactic(auto)]
 
+mod bypasses;
 mod claims;
 mod closed;
 mod cross;
@@ -19,6 +20,7 @@ mod space;
 #[cfg(test)]
 mod table_tests;
 
+pub use bypasses::Pointer;
 pub use closed::Closed;
 pub use cross::may_cross;
 pub use space::{Desk, Space, Spent};

@@ -4,14 +4,15 @@ ghost use Rattle.chord_rule.specs.declared.view.Claim.{Claim};
 ghost use Rattle.chord_rule.specs.declared.view.Duty.{Duty};
 ghost use Rattle.chord_rule.specs.Claims.{HasThe};
 ghost use Rattle.chord_rule.specs.Duties.{HasDuty, MayRest};
-ghost use Rattle.chord_rule.specs.Kinds.{saw_count, looked_head, rested};
+ghost use Rattle.chord_rule.specs.Kinds.{saw_count, rested};
 ghost use Rattle.chord_rule.specs.Made.{key, IsChord};
 ghost use Rattle.chord_rule.specs.Moment.{Place};
 ghost use Rattle.chord_rule.specs.Tells.{IsLook};
 ghost use Rattle.chord_rule.specs.Ways.{HasLooksLeft};
-ghost use Rattle.chord_space.specs.Desks.{view, program_of, IsDeskOf, IsSameDesk};
+ghost use Rattle.chord_space.specs.Desks.{view, space_code, space_limits, program_of, IsDeskOf, IsSameDesk};
+ghost use Rattle.chord_space.specs.Ruled.{LooksAtHead};
 
-use crate::plays::{Addressed, LayDown, Resting, SeeCell, SeeCount, SeeHead, SeePlace};
+use crate::plays::{Headed, LayDown, Resting, SeeCell, SeeCount, SeeHead, SeePlace};
 use crate::space::{Desk, Space};
 use chord_base::value::Object;
 use chord_code::carry::Carry;
@@ -40,17 +41,17 @@ impl<P: Carry> Space<P> {
         at_most(found, self.events)
     }
 
-    fn step_look_head<J: Addressed>(
+    fn step_look_head<J: Headed>(
         &self,
         desk: &mut Desk<P>,
         object: Object,
         method: u8,
     ) -> Option<u32>
-        requires address { (J.object ≡ object) × (J.method ≡ method) }
+        requires address { (J.object ≡ object) × (J.method ≡ method) × (J.parts ≡ space_code self.now) × (J.limits ≡ space_limits self.now) }
         requires desk { IsDeskOf self.now desk.old }
         requires bounds { (object.number < self.now.events) × (object.class < 1024) × (method < 16) }
         ensures desk { IsSameDesk desk.old desk.new }
-        ensures looked { view desk.new ≡ looked_head (view desk.old) (key object method) result }
+        ensures looked { LooksAtHead P.entries P.arguments P.keeps_to (space_code self.now) (space_limits self.now) (view desk.old) (view desk.new) (key object method) result }
         ensures room { HasLooksLeft self.now.events (view desk.new).looked.ways }
     {
         let head = 16 * object.number as usize + method as usize;
@@ -63,12 +64,15 @@ impl<P: Carry> Space<P> {
     }
 
     /// The message at the head of the bag of this object and method, None exactly where the bag's head is 0. The walks of the
-    /// desk's duties in this bag begin there, and so does the newest way.
+    /// desk's duties in this bag begin there, and so does the newest way, which knows the messages that had been linked in the bag
+    /// at the moment of the look.
+    ///
+    /// Pairs with the swap of `link`: the place words of those messages are set by then.
     pub fn look_head(&self, desk: &mut Desk<P>, object: Object, method: u8) -> Option<u32>
         requires desk { IsDeskOf self.now desk.old }
         requires bounds { (object.number < self.now.events) × (object.class < 1024) × (method < 16) }
         ensures desk { IsSameDesk desk.old desk.new }
-        ensures looked { view desk.new ≡ looked_head (view desk.old) (key object method) result }
+        ensures looked { LooksAtHead P.entries P.arguments P.keeps_to (space_code self.now) (space_limits self.now) (view desk.old) (view desk.new) (key object method) result }
         ensures room { HasLooksLeft self.now.events (view desk.new).looked.ways }
     {
         self.step_look_head::<Brand>(desk, object, method)

@@ -6,7 +6,7 @@ ghost use Rattle.chord_base.specs.declared.event.Limits.{Limits};
 ghost use Rattle.chord_base.specs.declared.value.Object.{Object};
 ghost use Rattle.chord_code.specs.declared.parts.Parts.{Parts};
 ghost use Rattle.chord_rule.specs.Kinds.{newcomer, gone, lent_one, united};
-ghost use Rattle.chord_rule.specs.Tells.{draws_firing, places, link_adds, arms, claims, holds, unclaims, consumes, slot_returns, posts_out, posts, starts, plays, finds_place, looks_count, looks_head, looks_cell, looks_place, rests};
+ghost use Rattle.chord_rule.specs.Tells.{draws_firing, places, link_adds, arms, claims, holds, unclaims, consumes, slot_returns, posts_out, posts, starts, plays, finds_place, looks_count, looks_head, looks_cell, looks_place, bypasses_head, bypasses_cell, rests};
 ghost use Rattle.chord_code.specs.Meaning.{code_program};
 ghost use Rattle.chord_space.specs.Ruled.{draws_of_code};
 ghost use Rattle.chord_space.specs.Desks.{no_parts, no_limits, no_object};
@@ -86,6 +86,27 @@ impl Firing for Brand {
     ghost object = { no_object };
 
     ghost members = { [] };
+}
+
+/// The bag at whose head is looked, and the code and the limits of its run. Each call picks them.
+pub trait Headed {
+    ghost parts: { Parts };
+
+    ghost limits: { Limits };
+
+    ghost object: { Object };
+
+    ghost method: { ℕ };
+}
+
+impl Headed for Brand {
+    ghost parts = { no_parts };
+
+    ghost limits = { no_limits };
+
+    ghost object = { no_object };
+
+    ghost method = { 0 };
 }
 
 /// The message on which a duty is laid down. Each call picks it.
@@ -219,8 +240,8 @@ pub struct SeeHead<J> {
     of: PhantomData<J>,
 }
 
-impl<P, J: Addressed> Play<Option<P>, View> for SeeHead<J> {
-    ghost then = { looks_head J.object J.method };
+impl<P: Carry, J: Headed> Play<Option<P>, View> for SeeHead<J> {
+    ghost then = { looks_head P.entries P.arguments (λ q. P.keeps_to q J.parts J.limits) (code_program J.parts J.limits) J.object J.method };
 }
 
 /// A cell is looked at.
@@ -235,6 +256,20 @@ pub struct SeePlace;
 
 impl<P> Play<Option<P>, View> for SeePlace {
     ghost then = { looks_place };
+}
+
+/// A head is moved past consumed messages.
+pub struct MoveHead;
+
+impl<P> Play<Option<P>, View> for MoveHead {
+    ghost then = { bypasses_head };
+}
+
+/// The next of a consumed message is moved past consumed messages.
+pub struct MoveNext;
+
+impl<P> Play<Option<P>, View> for MoveNext {
+    ghost then = { bypasses_cell };
 }
 
 /// A duty is laid down.

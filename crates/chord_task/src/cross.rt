@@ -1,9 +1,10 @@
-//! Codes, frames and tasks may go to another thread, and threads may share them.
+//! Codes, frames, tasks and parcels may go to another thread, and threads may share them.
 #![tactic(auto)]
 
 ghost use Rattle.std.specs.Prelude.{◌≡◌};
 ghost use denote.Param.Send.{IsSend, IsSync};
 
+use crate::parcel::Parcel;
 use crate::task::Task;
 use chord_code::code::Code;
 use chord_vm::frames::Frames;
@@ -22,10 +23,12 @@ pub fn may_cross<'a>(
     code: &'a Code,
     frames: &'a Frames,
     task: &'a Task,
-) -> (&'a Code, &'a Frames, &'a Task)
+    parcel: &'a Parcel,
+) -> (&'a Code, &'a Frames, &'a Task, &'a Parcel)
     ensures code { result.0.now ≡ code.now }
     ensures frames { result.1.now ≡ frames.now }
     ensures task { result.2.now ≡ task.now }
+    ensures parcel { result.3.now ≡ parcel.now }
 {
-    (lent(code), lent(frames), lent(task))
+    (lent(code), lent(frames), lent(task), lent(parcel))
 }

@@ -48,7 +48,7 @@ impl Worker {
                 done,
                 spent: false,
             }),
-            Err(_) => Err(AllocError),
+            Err(_) => unreachable!(),
         }
     }
 
