@@ -190,8 +190,8 @@ pub fn reserve(alloc: Global, frames: &mut Frames) -> Result<(), AllocError>
     ensures ready { OnOk result (IsReady frames.new.awaited frames.new) }
 {
     frames.top.stack.reserve(1)?;
-    frames.below.reserve(1)?;
     if let Awaited::ForObject(Some((_, slots)), _) = frames.awaited {
+        frames.below.reserve(1)?;
         frames.spare = Some(Frame {
             block: 0,
             place: 0,
