@@ -14,7 +14,7 @@ ghost use Rattle.chord_task.specs.Stacks.{task_noted, task_begun, IsNext};
 ghost use Rattle.chord_task.specs.Standing.{view_of, IsTaskOf, HasGiven, IsReserved, IsResumable, MayNote, MayResume, is_ready_of, waits_of, room_of, given_by, IsRoomierTop, HasRoomFor, IsSpareOf, IsReadyFor, MainBegins, CanNote};
 
 use crate::args::{Args, part_all};
-use crate::body::{Body, Next, asked, called_back, given, noted_body};
+use crate::body::{Body, Next, call_back, come_to_ask, given, note_ask};
 use chord_base::event::{Entry, Limits, What};
 use chord_base::hand::Hand;
 use chord_base::members::Members;
@@ -84,13 +84,10 @@ fn reserve_spare(
     ensures kept { HasRoomFor code.now limits.now spare.new }
     ensures some { OnOk result ((f : TheFrames) × (spare.new ≡ Some f) × IsSpareOf code.now limits.now f) }
 {
-    match spare.take() {
+    match spare {
+        Some(_) => Ok(()),
         None => {
             *spare = Some(spare_frames(alloc, code, limits)?);
-            Ok(())
-        }
-        Some(frames) => {
-            *spare = Some(frames);
             Ok(())
         }
     }
@@ -102,16 +99,11 @@ fn reserve_values(alloc: Global, values: &mut Option<Vec<Value>>) -> Result<(), 
     ensures kept { MayBeList values.new }
     ensures some { OnOk result (IsList values.new) }
 {
-    match values.take() {
-        None => {
-            *values = Some(Vec::with_capacity(alloc, MAX_ENTRY_VALUES)?);
-            Ok(())
-        }
-        Some(list) => {
-            *values = Some(list);
-            Ok(())
-        }
+    if values.is_some() {
+        return Ok(());
     }
+    *values = Some(Vec::with_capacity(alloc, MAX_ENTRY_VALUES)?);
+    Ok(())
 }
 
 /// Room for the answer of the body on top.
@@ -119,21 +111,9 @@ fn reserve_top(alloc: Global, top: &mut Option<Body>) -> Result<(), AllocError>
     ensures same { IsRoomierTop top.old top.new }
     ensures ready { OnOk result (IsReadyFor top.new) }
 {
-    match top.take() {
+    match top {
         None => Ok(()),
-        Some(body) => {
-            let mut body = body;
-            match reserve_frames(alloc, &mut body.frames) {
-                Ok(()) => {
-                    *top = Some(body);
-                    Ok(())
-                }
-                Err(error) => {
-                    *top = Some(body);
-                    Err(error)
-                }
-            }
-        }
+        Some(body) => reserve_frames(alloc, &mut body.frames),
     }
 }
 
@@ -204,20 +184,11 @@ impl Task {
         ensures next { IfOk result (λ ask. IsNext (code_program code.now limits.now) (view_of self.old) (what_of_ask ask)) }
         ensures again { IfOk result (λ ask. (w : AWhat) → HasGiven self.old w → w ≡ what_of_ask ask) }
     {
-        match self.top.take() {
+        match &mut self.top {
             None => unreachable!(),
             Some(body) => {
-                let body = asked(alloc, code, body, limits)?;
-                match given(alloc, &body.next) {
-                    Ok(ask) => {
-                        self.top = Some(body);
-                        Ok(ask)
-                    }
-                    Err(error) => {
-                        self.top = Some(body);
-                        Err(error)
-                    }
-                }
+                come_to_ask(alloc, code, body, limits)?;
+                given(alloc, &body.next)
             }
         }
     }
@@ -231,13 +202,9 @@ impl Task {
         ensures same { IfOk result (λ _. view_of self.new ≡ view_of self.old) }
         ensures gave { IfOk result (λ _. given_by self.new.top ≢ None) }
     {
-        match self.top.take() {
+        match &mut self.top {
             None => unreachable!(),
-            Some(body) => {
-                let body = asked(alloc, code, body, limits)?;
-                self.top = Some(body);
-                Ok(())
-            }
+            Some(body) => come_to_ask(alloc, code, body, limits),
         }
     }
 
@@ -264,23 +231,18 @@ impl Task {
         requires { CanNote self.old number }
         ensures { (code : Parts) (limits : TheLimits) → IsTaskOf code limits self.old → (may : MayNote code limits self.old number) → IsTaskOf code limits self.new × task_noted (view_of self.old) number may.what (view_of self.new) × (is_end may.what ≡ false → (view_of self.new).top ≡ (view_of self.old).top) }
     {
-        match self.top.take() {
+        match &mut self.top {
             None => unreachable!(),
             Some(body) => {
-                let Body {
-                    number: maker,
-                    frames,
-                    next,
-                } = body;
-                match next {
+                let maker = body.number;
+                match mem::replace(&mut body.next, Next::Runs) {
                     Next::Gave(what) => {
-                        let top = noted_body(maker, frames, number, &what);
+                        note_ask(body, number, &what);
                         self.past.push_reserved(Entry {
                             number,
                             body: maker,
                             what,
                         });
-                        self.top = Some(top);
                     }
                     Next::Ends(first, second) => {
                         self.past.push_reserved(Entry {
@@ -288,8 +250,10 @@ impl Task {
                             body: maker,
                             what: What::Ended(first),
                         });
-                        if let Some(caller) = self.below.pop() {
-                            self.top = Some(called_back(caller, second));
+                        self.top = self.below.pop();
+                        match &mut self.top {
+                            None => {}
+                            Some(caller) => call_back(caller, second),
                         }
                     }
                     _ => unreachable!(),
