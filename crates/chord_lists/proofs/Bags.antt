@@ -5,8 +5,7 @@ use Rattle.std.proofs.lemmas.Bool.{eq-eqb, eqb-true, eqb-false, ne_eqb}
 use Rattle.chord_base.specs.declared.value.Object.{Object}
 use Rattle.chord_base.specs.Messages.{Message, has}
 use Rattle.chord_base.proofs.Waits.{either}
-use Rattle.chord_lists.specs.declared.bag.Header.{Header}
-use Rattle.chord_lists.specs.Bag.{header_to, header_of, same_header, HasMessages, LacksMessage, IsPushed, IsPopped, ArePopped, Falls, Lists}
+use Rattle.chord_lists.specs.Bag.{Header, header_to, header_of, same_header, HasMessages, LacksMessage, IsPushed, IsPopped, ArePopped, Falls, Lists}
 
 -- ---- headers
 
@@ -355,3 +354,8 @@ stack_has stack some =
     let z : length stack ≡ 0 = sym (length-reverse stack) ∙ ap length d in
     let y : not (length stack == 0) ≡ false = rw (eq-eqb (length stack) 0 z) refl in
     true_false (sym some ∙ y))
+
+-- a stack that is empty lists nothing
+pub stack_lacks : (stack : List ℕ) → not (length stack == 0) ≡ false → reverse stack ≡ []
+stack_lacks [] none = refl
+stack_lacks (n ∷ ns) none = absurd (true_false (sym (ap not (ne_eqb (suc (length ns)) 0 (λ e. omega (arith, e)))) ∙ none))

@@ -14,8 +14,7 @@ use Rattle.chord_base.specs.Bounds.{AreWithin, IsWhatWithin, IsMessageWithin, Is
 use Rattle.chord_base.proofs.Waits.{either}
 use Rattle.chord_base.proofs.Final.{final_when}
 use Rattle.chord_base.proofs.Pending.{none_fires_on, none_fires_with, none_fires_after, fires_without, pending_other}
-use Rattle.chord_lists.specs.declared.bag.Header.{Header}
-use Rattle.chord_lists.specs.Bag.{header_to, LacksMessage, LacksAMessage, IsPushed, ArePopped, Lists}
+use Rattle.chord_lists.specs.Bag.{Header, header_to, LacksMessage, LacksAMessage, IsPushed, ArePopped, Lists}
 use Rattle.chord_lists.specs.Engine as engine
 use Rattle.chord_lists.specs.Engine.{fired, State, IsOver}
 use Rattle.chord_lists.proofs.Bags.{without_all, lists_none, lists_on, lists_more, lists_taken}

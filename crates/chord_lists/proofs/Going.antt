@@ -23,10 +23,9 @@ use Rattle.chord_code.specs.Meaning.{code_program}
 use Rattle.chord_task.specs.declared.args.Args.{Args}
 use Rattle.chord_task.proofs.Asking.{ready_can}
 use Rattle.chord_lists.specs.Engine.{main_begun, fired, IsRunOfLength}
-use Rattle.chord_lists.specs.declared.bag.Header.{Header}
 use Rattle.chord_lists.specs.declared.code_bodies.Tag.{Tag}
 use Rattle.chord_lists.specs.declared.code_bodies.CodeBodies.{CodeBodies}
-use Rattle.chord_lists.specs.Bag.{header_to, HasMessages, Lists}
+use Rattle.chord_lists.specs.Bag.{Header, header_to, HasMessages, Lists}
 use Rattle.chord_lists.specs.CodeStands.{past_of, views, held_at, ready_at, StandsAfter}
 use Rattle.chord_lists.specs.CodeGoes.{IsNoted, message_by, AreTagged, CanFire, FiresAt, LacksAt}
 use Rattle.chord_lists.proofs.Bags.{lists_none, lists_on, lists_more, message_to}

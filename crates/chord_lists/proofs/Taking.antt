@@ -6,8 +6,7 @@ use Rattle.chord_base.specs.declared.value.Value as value
 use Rattle.chord_base.specs.declared.event.Entry.{Entry}
 use Rattle.chord_base.specs.Messages.{AreDifferent, Message, pending}
 use Rattle.chord_base.specs.Machine.{Takes}
-use Rattle.chord_lists.specs.declared.bag.Header.{Header}
-use Rattle.chord_lists.specs.Bag.{header_to, HasMessage, HasMessages, LacksMessage, IsPopped, ArePopped, Lists}
+use Rattle.chord_lists.specs.Bag.{Header, header_to, HasMessage, HasMessages, LacksMessage, IsPopped, ArePopped, Lists}
 use Rattle.chord_lists.proofs.Bags.{message_to, lists_lack, lists_less, popped_there, held_before, without, taken_more, has_all_kept}
 
 -- of these messages, what goes from the bag is taken, with some arguments

@@ -1,15 +1,20 @@
 -- The bag: the numbers of the messages that no firing has taken, by what they are to.
 --
 -- A bag lists the pending messages to each method of each object, newest first. What they carry stays with the bodies.
-use Rattle.std.specs.Prelude.{◌≡◌, ℕ, ◌<◌, ◌==◌, ◌&&◌, Bool, true, false, List, [], ◌∷◌, reverse, Option, Some, None, slice_get, if◌then◌else◌}
+use Rattle.std.specs.Prelude.{◌≡◌, ℕ, zero, suc, ◌<◌, ◌==◌, ◌&&◌, Bool, true, false, List, [], ◌∷◌, reverse, Option, Some, slice_get, if◌then◌else◌}
 use Rattle.std.specs.Global.{Vec}
-use Rattle.std.specs.HashMap as hash
 use Rattle.chord_base.specs.declared.value.Object.{Object}
 use Rattle.chord_base.specs.Messages.{Message, has}
-use Rattle.chord_lists.specs.declared.bag.Header.{Header}
+use Rattle.chord_lists.specs.declared.bag.ClassStacks.{ClassStacks}
 use Rattle.chord_lists.specs.declared.bag.Bag.{Bag}
 
 -- ## What a message is to
+
+-- what a message is to: a method of an object
+pub record Header : Type 0 where
+  pub object : ℕ
+  pub class : ℕ
+  pub method : ℕ
 
 -- the header of a method of an object
 abbrev pub header_to : Object → ℕ → Header
@@ -23,14 +28,37 @@ header_of m = header_to m.object m.method
 abbrev pub same_header : Header → Header → Bool
 same_header a b = (a.object == b.object) && ((a.class == b.class) && (a.method == b.method))
 
--- the numbers of a stack, if there is one, newest first
-abbrev pub numbers_in : Option (Vec ℕ) → List ℕ
-numbers_in None = []
-numbers_in (Some v) = reverse v.items
+-- ## How a bag is kept
+
+-- the items of one of several lists; one that is not there has none
+abbrev pub items_at : {A : Type 0} → List (Vec A) → ℕ → List A
+items_at [] i = []
+items_at (v ∷ vs) zero = v.items
+items_at (v ∷ vs) (suc i) = items_at vs i
+
+-- the numbers on the stack of a method, newest first
+abbrev pub numbers_at : List (Vec ℕ) → ℕ → List ℕ
+numbers_at stacks j = reverse (items_at stacks j)
+
+-- the numbers of the messages to a method of a class, newest first
+abbrev pub numbers_in : List ClassStacks → ℕ → ℕ → List ℕ
+numbers_in [] c j = []
+numbers_in (x ∷ xs) c j = if x.class == c then numbers_at x.stacks.items j else numbers_in xs c j
+
+-- no stacks before this place are those of the class
+abbrev pub LacksBefore : ℕ → List ClassStacks → ℕ → Type 0
+LacksBefore c xs i = (k : ℕ) (x : ClassStacks) → k < i → slice_get xs k ≡ Some x → x.class ≡ c → ⊥
+
+-- at this place are the first stacks of the class
+pub record IsFirstOf (c : ℕ) (xs : List ClassStacks) (i : ℕ) : Type 0 where
+  pub stacks : ClassStacks
+  pub is : slice_get xs i ≡ Some stacks
+  pub of_class : stacks.class ≡ c
+  pub lacks : LacksBefore c xs i
 
 -- the numbers of the messages to this header, newest first
 abbrev pub numbers_of : Bag → Header → List ℕ
-numbers_of b k = numbers_in (hash.get same_header b.numbers k)
+numbers_of b k = numbers_in (items_at b.objects.items k.object) k.class k.method
 
 -- ## What is in the bag
 

@@ -9,9 +9,8 @@ use Rattle.chord_base.specs.Messages.{Message, message_of, pending}
 use Rattle.chord_base.specs.Machine.{Fires}
 use Rattle.chord_base.specs.Bounds.{AreWithin}
 use Rattle.chord_task.specs.declared.args.Args.{Args}
-use Rattle.chord_lists.specs.declared.bag.Header.{Header}
 use Rattle.chord_lists.specs.declared.code_bodies.Tag.{Tag}
-use Rattle.chord_lists.specs.Bag.{header_of, HasMessages, LacksAMessage, IsPushed}
+use Rattle.chord_lists.specs.Bag.{Header, header_of, HasMessages, LacksAMessage, IsPushed}
 use Rattle.chord_lists.specs.CodeStands.{held_at, IsHeld}
 
 -- the message of this number came, if there is one

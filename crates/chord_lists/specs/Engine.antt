@@ -11,12 +11,11 @@ use Rattle.chord_base.specs.Meaning.{Program}
 use Rattle.chord_base.specs.Messages.{Message, message_of, members_of, pending}
 use Rattle.chord_base.specs.Machine.{MayFollow, Fires, NoneFires, NoneAsks, IsPast, IsFinal}
 use Rattle.chord_base.specs.Bounds.{AreWithin}
-use Rattle.chord_lists.specs.declared.bag.Header.{Header}
 use Rattle.chord_lists.specs.declared.engine.Turn.{Turn}
 use Rattle.chord_lists.specs.declared.engine.Turn.TheVariants as a_turn
 use Rattle.chord_lists.specs.declared.engine.Step.{Step}
 use Rattle.chord_lists.specs.declared.engine.Step.TheVariants.{Done, Idle, Fresh}
-use Rattle.chord_lists.specs.Bag.{Lists}
+use Rattle.chord_lists.specs.Bag.{Header, Lists}
 
 -- the history in which `Main` has just begun
 abbrev pub main_begun : List Entry
