@@ -7,7 +7,7 @@ use Rattle.std.proofs.lemmas.List.{length-reverse, reverse-append}
 use Rattle.std.proofs.lemmas.Option.{get_or_from_slice_get}
 use Rattle.chord_base.proofs.Waits.{either}
 use Rattle.chord_lists.specs.declared.bag.ClassStacks.{ClassStacks}
-use Rattle.chord_lists.specs.Bag.{items_at, numbers_at, numbers_in, LacksBefore, IsFirstOf}
+use Rattle.chord_lists.specs.Bag.{items_at, stacked_at, numbers_in, LacksBefore, IsFirstOf}
 
 -- one more empty list adds no items
 pub items_more : {A : Type 0} (vs : List (Vec A)) (v : Vec A) (i : ℕ) → v.items ≡ [] → items_at (vs ++ v ∷ []) i ≡ items_at vs i
@@ -69,20 +69,20 @@ lacks_tail : (c : ℕ) (x : ClassStacks) (xs : List ClassStacks) (i : ℕ) → L
 lacks_tail c x xs i lacks = λ k y l e. lacks (suc k) y (omega (arith, l)) e
 
 -- nor are these of it
-pub lacks_more : (c : ℕ) (xs : List ClassStacks) (i : ℕ) (x : ClassStacks) → LacksBefore c xs i → slice_get xs i ≡ Some x → (x.class ≡ c → ⊥) → LacksBefore c xs (i + 1)
-lacks_more c xs i x lacks e d = λ k y l f of_class.
+pub lacks_next : (c : ℕ) (xs : List ClassStacks) (i : ℕ) (x : ClassStacks) → LacksBefore c xs i → slice_get xs i ≡ Some x → (x.class ≡ c → ⊥) → LacksBefore c xs (i + 1)
+lacks_next c xs i x lacks e d = λ k y l f of_class.
     elim (either (k == i)) [
       | inl same ↦ (let z : Some y ≡ Some x = sym f ∙ ap (slice_get xs) (eqb-true k i same) ∙ e in let w : y ≡ x = cc in d (ap (λ (s : ClassStacks). s.class) (sym w) ∙ of_class))
       | inr other ↦ (let n = eqb-false k i other in lacks k y (omega (arith, l, n)) f of_class)
     ]
 
 -- the numbers of a class are those of its first stacks
-pub first_numbers : (c : ℕ) (xs : List ClassStacks) (i : ℕ) (x : ClassStacks) → slice_get xs i ≡ Some x → x.class ≡ c → LacksBefore c xs i → (j : ℕ) → numbers_in xs c j ≡ numbers_at x.stacks.items j
+pub first_numbers : (c : ℕ) (xs : List ClassStacks) (i : ℕ) (x : ClassStacks) → slice_get xs i ≡ Some x → x.class ≡ c → LacksBefore c xs i → (j : ℕ) → numbers_in xs c j ≡ stacked_at x.stacks.items j
 first_numbers c [] i x e of_class lacks j = cc
 first_numbers c (y ∷ xs) zero x e of_class lacks j =
     let same : y ≡ x = cc in
     let here : (y.class == c) ≡ true = eq-eqb y.class c (ap (λ (s : ClassStacks). s.class) same ∙ of_class) in
-    rw here (ap (λ (s : ClassStacks). numbers_at s.stacks.items j) same)
+    rw here (ap (λ (s : ClassStacks). stacked_at s.stacks.items j) same)
 first_numbers c (y ∷ xs) (suc i) x e of_class lacks j = rw (lacks_head c y xs i lacks) (first_numbers c xs i x e of_class (lacks_tail c y xs i lacks) j)
 
 -- a class without stacks has no numbers
@@ -95,7 +95,7 @@ other_class : (c : ℕ) (z : ClassStacks) (d : ℕ) → (z.class == c) ≡ false
 other_class c z d head q = ap (λ n. c == n) (sym (eqb-true z.class d q)) ∙ ne_eqb c z.class (λ s. eqb-false z.class c head (sym s))
 
 -- the first stacks of a class were set
-pub set_numbers : (c : ℕ) (xs : List ClassStacks) (i : ℕ) (x y : ClassStacks) → slice_get xs i ≡ Some x → x.class ≡ c → y.class ≡ c → LacksBefore c xs i → (d j : ℕ) → numbers_in (set xs i y) d j ≡ (if c == d then numbers_at y.stacks.items j else numbers_in xs d j)
+pub set_numbers : (c : ℕ) (xs : List ClassStacks) (i : ℕ) (x y : ClassStacks) → slice_get xs i ≡ Some x → x.class ≡ c → y.class ≡ c → LacksBefore c xs i → (d j : ℕ) → numbers_in (set xs i y) d j ≡ (if c == d then stacked_at y.stacks.items j else numbers_in xs d j)
 set_numbers c [] i x y e old new lacks d j = cc
 set_numbers c (z ∷ xs) zero x y e old new lacks d j =
     let same : z ≡ x = cc in
@@ -116,7 +116,7 @@ set_numbers c (z ∷ xs) (suc i) x y e old new lacks d j =
     ]
 
 -- stacks of a new class were added
-pub more_numbers : (c : ℕ) (xs : List ClassStacks) (y : ClassStacks) → y.class ≡ c → LacksBefore c xs (length xs) → (d j : ℕ) → numbers_in (xs ++ y ∷ []) d j ≡ (if c == d then numbers_at y.stacks.items j else numbers_in xs d j)
+pub more_numbers : (c : ℕ) (xs : List ClassStacks) (y : ClassStacks) → y.class ≡ c → LacksBefore c xs (length xs) → (d j : ℕ) → numbers_in (xs ++ y ∷ []) d j ≡ (if c == d then stacked_at y.stacks.items j else numbers_in xs d j)
 more_numbers c [] y new lacks d j =
     elim (either (c == d)) [
       | inl q ↦ (let r : (y.class == d) ≡ true = ap (λ n. n == d) new ∙ q in rw (q, r) refl)
@@ -133,7 +133,7 @@ more_numbers c (z ∷ xs) y new lacks d j =
 -- ---- numbers come
 
 -- the stack of a method got a number
-pub pushed_on : (old lists : List (Vec ℕ)) (r w : Vec ℕ) (m n : ℕ) → m < length lists → ((i : ℕ) → items_at lists i ≡ items_at old i) → r ≡ get_or lists m r → w.items ≡ r.items ++ n ∷ [] → (j : ℕ) → numbers_at (set lists m w) j ≡ (if m == j then n ∷ numbers_at old j else numbers_at old j)
+pub pushed_on : (old lists : List (Vec ℕ)) (r w : Vec ℕ) (m n : ℕ) → m < length lists → ((i : ℕ) → items_at lists i ≡ items_at old i) → r ≡ get_or lists m r → w.items ≡ r.items ++ n ∷ [] → (j : ℕ) → stacked_at (set lists m w) j ≡ (if m == j then n ∷ stacked_at old j else stacked_at old j)
 pushed_on old lists r w m n l same value items j =
     let there : r.items ≡ items_at old m = items_of lists r m l value ∙ same m in
     ap reverse (items_set lists w m j l)
@@ -151,38 +151,38 @@ first_class : (c : ℕ) (xs : List ClassStacks) (i : ℕ) (f : IsFirstOf c xs i)
 first_class c xs i f r e = ap (λ (z : ClassStacks). z.class) (first_stacks c xs i f r e) ∙ f.of_class
 
 -- and have its numbers
-pub numbers_first : (c : ℕ) (xs : List ClassStacks) (i : ℕ) (f : IsFirstOf c xs i) (r : ClassStacks) → r ≡ get_or xs i r → (j : ℕ) → numbers_in xs c j ≡ numbers_at r.stacks.items j
-numbers_first c xs i f r e j = first_numbers c xs i f.stacks f.is f.of_class f.lacks j ∙ ap (λ (z : ClassStacks). numbers_at z.stacks.items j) (sym (first_stacks c xs i f r e))
+pub numbers_first : (c : ℕ) (xs : List ClassStacks) (i : ℕ) (f : IsFirstOf c xs i) (r : ClassStacks) → r ≡ get_or xs i r → (j : ℕ) → numbers_in xs c j ≡ stacked_at r.stacks.items j
+numbers_first c xs i f r e j = first_numbers c xs i f.stacks f.is f.of_class f.lacks j ∙ ap (λ (z : ClassStacks). stacked_at z.stacks.items j) (sym (first_stacks c xs i f r e))
 
 -- the numbers of a class after its first stacks were set
-numbers_of_set : (c : ℕ) (xs : List ClassStacks) (i : ℕ) (f : IsFirstOf c xs i) (r : ClassStacks) (new : Vec (Vec ℕ)) → r ≡ get_or xs i r → (d j : ℕ) → numbers_in (set xs i (record { class = r.class; stacks = new })) d j ≡ (if c == d then numbers_at new.items j else numbers_in xs d j)
+numbers_of_set : (c : ℕ) (xs : List ClassStacks) (i : ℕ) (f : IsFirstOf c xs i) (r : ClassStacks) (new : Vec (Vec ℕ)) → r ≡ get_or xs i r → (d j : ℕ) → numbers_in (set xs i (record { class = r.class; stacks = new })) d j ≡ (if c == d then stacked_at new.items j else numbers_in xs d j)
 numbers_of_set c xs i f r new e d j = set_numbers c xs i f.stacks (record { class = r.class; stacks = new }) f.is f.of_class (first_class c xs i f r e) f.lacks d j
 
 -- a class that has stacks got a number
-pub noted_first : (c : ℕ) (xs : List ClassStacks) (i : ℕ) (f : IsFirstOf c xs i) (r : ClassStacks) (new : Vec (Vec ℕ)) (m n : ℕ) → r ≡ get_or xs i r → ((j : ℕ) → numbers_at new.items j ≡ (if m == j then n ∷ numbers_at r.stacks.items j else numbers_at r.stacks.items j)) → (d j : ℕ) → numbers_in (set xs i (record { class = r.class; stacks = new })) d j ≡ (if (c == d) && (m == j) then n ∷ numbers_in xs d j else numbers_in xs d j)
+pub noted_first : (c : ℕ) (xs : List ClassStacks) (i : ℕ) (f : IsFirstOf c xs i) (r : ClassStacks) (new : Vec (Vec ℕ)) (m n : ℕ) → r ≡ get_or xs i r → ((j : ℕ) → stacked_at new.items j ≡ (if m == j then n ∷ stacked_at r.stacks.items j else stacked_at r.stacks.items j)) → (d j : ℕ) → numbers_in (set xs i (record { class = r.class; stacks = new })) d j ≡ (if (c == d) && (m == j) then n ∷ numbers_in xs d j else numbers_in xs d j)
 noted_first c xs i f r new m n e p d j =
     numbers_of_set c xs i f r new e d j
     ∙ elim (either (c == d)) [
       | inl q ↦
-          (let old : numbers_at r.stacks.items j ≡ numbers_in xs d j = sym (numbers_first c xs i f r e j) ∙ ap (λ k. numbers_in xs k j) (eqb-true c d q) in
+          (let old : stacked_at r.stacks.items j ≡ numbers_in xs d j = sym (numbers_first c xs i f r e j) ∙ ap (λ k. numbers_in xs k j) (eqb-true c d q) in
           rw q (p j ∙ ap (λ (z : List ℕ). if m == j then n ∷ z else z) old))
       | inr q ↦ rw q refl
     ]
 
 -- a class that had no stacks got a number
-pub noted_new : (c : ℕ) (xs : List ClassStacks) (none new : Vec (Vec ℕ)) (m n : ℕ) → none.items ≡ [] → LacksBefore c xs (length xs) → ((j : ℕ) → numbers_at new.items j ≡ (if m == j then n ∷ numbers_at none.items j else numbers_at none.items j)) → (d j : ℕ) → numbers_in (xs ++ record { class = c; stacks = new } ∷ []) d j ≡ (if (c == d) && (m == j) then n ∷ numbers_in xs d j else numbers_in xs d j)
+pub noted_new : (c : ℕ) (xs : List ClassStacks) (none new : Vec (Vec ℕ)) (m n : ℕ) → none.items ≡ [] → LacksBefore c xs (length xs) → ((j : ℕ) → stacked_at new.items j ≡ (if m == j then n ∷ stacked_at none.items j else stacked_at none.items j)) → (d j : ℕ) → numbers_in (xs ++ record { class = c; stacks = new } ∷ []) d j ≡ (if (c == d) && (m == j) then n ∷ numbers_in xs d j else numbers_in xs d j)
 noted_new c xs none new m n empty lacks p d j =
     more_numbers c xs (record { class = c; stacks = new }) refl lacks d j
     ∙ elim (either (c == d)) [
       | inl q ↦
-          (let old : numbers_at none.items j ≡ numbers_in xs d j = ap (λ (z : List (Vec ℕ)). numbers_at z j) empty ∙ sym (none_numbers c xs lacks j) ∙ ap (λ k. numbers_in xs k j) (eqb-true c d q) in
+          (let old : stacked_at none.items j ≡ numbers_in xs d j = ap (λ (z : List (Vec ℕ)). stacked_at z j) empty ∙ sym (none_numbers c xs lacks j) ∙ ap (λ k. numbers_in xs k j) (eqb-true c d q) in
           rw q (p j ∙ ap (λ (z : List ℕ). if m == j then n ∷ z else z) old))
       | inr q ↦ rw q refl
     ]
 
 -- an object got a number
-pub noted : (old lists : List (Vec ClassStacks)) (r w : Vec ClassStacks) (o c m n : ℕ) → o < length lists → ((i : ℕ) → items_at lists i ≡ items_at old i) → r ≡ get_or lists o r → ((d j : ℕ) → numbers_in w.items d j ≡ (if (c == d) && (m == j) then n ∷ numbers_in r.items d j else numbers_in r.items d j)) → (b d j : ℕ) → numbers_in (items_at (set lists o w) b) d j ≡ (if (o == b) && ((c == d) && (m == j)) then n ∷ numbers_in (items_at old b) d j else numbers_in (items_at old b) d j)
-noted old lists r w o c m n l same value p b d j =
+pub object_noted : (old lists : List (Vec ClassStacks)) (r w : Vec ClassStacks) (o c m n : ℕ) → o < length lists → ((i : ℕ) → items_at lists i ≡ items_at old i) → r ≡ get_or lists o r → ((d j : ℕ) → numbers_in w.items d j ≡ (if (c == d) && (m == j) then n ∷ numbers_in r.items d j else numbers_in r.items d j)) → (b d j : ℕ) → numbers_in (items_at (set lists o w) b) d j ≡ (if (o == b) && ((c == d) && (m == j)) then n ∷ numbers_in (items_at old b) d j else numbers_in (items_at old b) d j)
+object_noted old lists r w o c m n l same value p b d j =
     ap (λ z. numbers_in z d j) (items_set lists w o b l)
     ∙ elim (either (o == b)) [
       | inl q ↦
@@ -194,7 +194,7 @@ noted old lists r w o c m n l same value p b d j =
 -- ---- numbers go
 
 -- the numbers on a stack that is not empty are there
-pub numbers_within : (vs : List (Vec ℕ)) (m n : ℕ) (ns : List ℕ) → numbers_at vs m ≡ n ∷ ns → m < length vs
+pub numbers_within : (vs : List (Vec ℕ)) (m n : ℕ) (ns : List ℕ) → stacked_at vs m ≡ n ∷ ns → m < length vs
 numbers_within vs m n ns e = items_within vs m (λ none. let z : [] ≡ n ∷ ns = sym (ap reverse none) ∙ e in cc)
 
 -- and so are the stacks of an object that has a message
@@ -202,32 +202,32 @@ pub stacks_within : (vs : List (Vec ClassStacks)) (o c m n : ℕ) (ns : List ℕ
 stacks_within vs o c m n ns e = items_within vs o (λ none. let z : [] ≡ n ∷ ns = sym (ap (λ z. numbers_in z c m) none) ∙ e in cc)
 
 -- a stack with numbers is not empty
-pub not_empty : (vs : List (Vec ℕ)) (r : Vec ℕ) (m n : ℕ) (ns : List ℕ) → r ≡ get_or vs m r → numbers_at vs m ≡ n ∷ ns → length r.items ≡ 0 → ⊥
+pub not_empty : (vs : List (Vec ℕ)) (r : Vec ℕ) (m n : ℕ) (ns : List ℕ) → r ≡ get_or vs m r → stacked_at vs m ≡ n ∷ ns → length r.items ≡ 0 → ⊥
 not_empty vs r m n ns value e none =
     let there = items_of vs r m (numbers_within vs m n ns e) value in
     let z : length r.items ≡ suc (length ns) = sym (length-reverse r.items) ∙ ap length (ap reverse there ∙ e) in
     omega (arith, z, none)
 
 -- the stack from which the top went
-pub popped_here : (vs : List (Vec ℕ)) (r w : Vec ℕ) (m n : ℕ) → m < length vs → r ≡ get_or vs m r → r.items ≡ w.items ++ n ∷ [] → numbers_at vs m ≡ n ∷ numbers_at (set vs m w) m
+pub popped_here : (vs : List (Vec ℕ)) (r w : Vec ℕ) (m n : ℕ) → m < length vs → r ≡ get_or vs m r → r.items ≡ w.items ++ n ∷ [] → stacked_at vs m ≡ n ∷ stacked_at (set vs m w) m
 popped_here vs r w m n l value items =
     let same : (m == m) ≡ true = eq-eqb m m refl in
     let after : items_at (set vs m w) m ≡ w.items = items_set vs w m m l ∙ rw same refl in
     ap reverse (sym (items_of vs r m l value) ∙ items) ∙ reverse-append w.items (n ∷ []) ∙ ap (λ z. n ∷ reverse z) (sym after)
 
 -- and the other stacks
-pub popped_others : (vs : List (Vec ℕ)) (w : Vec ℕ) (m j : ℕ) → m < length vs → (m == j) ≡ false → numbers_at (set vs m w) j ≡ numbers_at vs j
+pub popped_others : (vs : List (Vec ℕ)) (w : Vec ℕ) (m j : ℕ) → m < length vs → (m == j) ≡ false → stacked_at (set vs m w) j ≡ stacked_at vs j
 popped_others vs w m j l q = let after : items_at (set vs m w) j ≡ items_at vs j = items_set vs w m j l ∙ rw q refl in ap reverse after
 
 -- the class from whose stack the top went
-pub taken_here : (c : ℕ) (xs : List ClassStacks) (i : ℕ) (f : IsFirstOf c xs i) (r : ClassStacks) (new : Vec (Vec ℕ)) (m n : ℕ) → r ≡ get_or xs i r → numbers_at r.stacks.items m ≡ n ∷ numbers_at new.items m → numbers_in xs c m ≡ n ∷ numbers_in (set xs i (record { class = r.class; stacks = new })) c m
+pub taken_here : (c : ℕ) (xs : List ClassStacks) (i : ℕ) (f : IsFirstOf c xs i) (r : ClassStacks) (new : Vec (Vec ℕ)) (m n : ℕ) → r ≡ get_or xs i r → stacked_at r.stacks.items m ≡ n ∷ stacked_at new.items m → numbers_in xs c m ≡ n ∷ numbers_in (set xs i (record { class = r.class; stacks = new })) c m
 taken_here c xs i f r new m n e p =
     let same : (c == c) ≡ true = eq-eqb c c refl in
-    let after : numbers_in (set xs i (record { class = r.class; stacks = new })) c m ≡ numbers_at new.items m = numbers_of_set c xs i f r new e c m ∙ rw same refl in
+    let after : numbers_in (set xs i (record { class = r.class; stacks = new })) c m ≡ stacked_at new.items m = numbers_of_set c xs i f r new e c m ∙ rw same refl in
     numbers_first c xs i f r e m ∙ p ∙ ap (λ z. n ∷ z) (sym after)
 
 -- and what is beside that stack
-pub taken_others : (c : ℕ) (xs : List ClassStacks) (i : ℕ) (f : IsFirstOf c xs i) (r : ClassStacks) (new : Vec (Vec ℕ)) (m : ℕ) → r ≡ get_or xs i r → ((j : ℕ) → (m == j) ≡ false → numbers_at new.items j ≡ numbers_at r.stacks.items j) → (d j : ℕ) → ((c == d) && (m == j)) ≡ false → numbers_in (set xs i (record { class = r.class; stacks = new })) d j ≡ numbers_in xs d j
+pub taken_others : (c : ℕ) (xs : List ClassStacks) (i : ℕ) (f : IsFirstOf c xs i) (r : ClassStacks) (new : Vec (Vec ℕ)) (m : ℕ) → r ≡ get_or xs i r → ((j : ℕ) → (m == j) ≡ false → stacked_at new.items j ≡ stacked_at r.stacks.items j) → (d j : ℕ) → ((c == d) && (m == j)) ≡ false → numbers_in (set xs i (record { class = r.class; stacks = new })) d j ≡ numbers_in xs d j
 taken_others c xs i f r new m e p d j h =
     numbers_of_set c xs i f r new e d j
     ∙ elim (either (c == d)) [

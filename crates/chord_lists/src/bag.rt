@@ -3,7 +3,7 @@
 
 ghost use Rattle.std.specs.Prelude.{◌≡◌, ℕ, ◌+◌, ◌≤◌, ◌==◌, ◌&&◌, List, [], ◌∷◌, length, reverse, vec_len, IfNone, IfSome, OnOk, true, false, if◌then◌else◌};
 ghost use Rattle.chord_base.specs.Messages.{AreDifferent};
-ghost use Rattle.chord_lists.specs.Bag.{Header, ArePopped, HasMessage, HasMessages, IsFirstOf, IsPopped, IsPushed, LacksAMessage, LacksBefore, LacksMessage, header_to, items_at, numbers_at, numbers_in, numbers_of};
+ghost use Rattle.chord_lists.specs.Bag.{Address, ArePopped, HasMessage, HasMessages, IsFirstOf, IsPopped, IsPushed, LacksAMessage, LacksBefore, LacksMessage, address_to, items_at, stacked_at, numbers_in, numbers_of};
 
 use chord_base::members::Members;
 use chord_base::value::Object;
@@ -40,7 +40,7 @@ fn push_on(
     method: u8,
     number: u32,
 ) -> Result<(), AllocError>
-    ensures { OnOk result ((j : ℕ) → numbers_at stacks.new.items j ≡ (if method == j then number ∷ numbers_at stacks.old.items j else numbers_at stacks.old.items j)) }
+    ensures { OnOk result ((j : ℕ) → stacked_at stacks.new.items j ≡ (if method == j then number ∷ stacked_at stacks.old.items j else stacked_at stacks.old.items j)) }
 {
     let place = method as usize;
     lengthen(alloc, stacks, place + 1)?;
@@ -50,9 +50,9 @@ fn push_on(
 
 /// Takes the number on top of the stack of a method.
 fn pop_from(stacks: &mut Vec<Vec<u32>>, method: u8) -> u32
-    requires { (n : ℕ) × (ns : List ℕ) × (numbers_at stacks.old.items method ≡ n ∷ ns) }
-    ensures here { numbers_at stacks.old.items method ≡ result ∷ numbers_at stacks.new.items method }
-    ensures others { (j : ℕ) → (method == j) ≡ false → numbers_at stacks.new.items j ≡ numbers_at stacks.old.items j }
+    requires { (n : ℕ) × (ns : List ℕ) × (stacked_at stacks.old.items method ≡ n ∷ ns) }
+    ensures here { stacked_at stacks.old.items method ≡ result ∷ stacked_at stacks.new.items method }
+    ensures others { (j : ℕ) → (method == j) ≡ false → stacked_at stacks.new.items j ≡ stacked_at stacks.old.items j }
 {
     match stacks[method as usize].pop() {
         None => unreachable!(),
@@ -122,7 +122,7 @@ fn take_in(classes: &mut Vec<ClassStacks>, class: u16, method: u8) -> u32
 impl Bag {
     /// The bag before any entry.
     pub fn new(alloc: Global) -> Bag
-        ensures { (k : Header) → numbers_of result k ≡ [] }
+        ensures { (k : Address) → numbers_of result k ≡ [] }
     {
         Bag {
             objects: Vec::new(alloc),
@@ -137,7 +137,7 @@ impl Bag {
         method: u8,
         number: u32,
     ) -> Result<(), AllocError>
-        ensures { OnOk result (IsPushed (header_to object method) number (numbers_of self.old) (numbers_of self.new)) }
+        ensures { OnOk result (IsPushed (address_to object method) number (numbers_of self.old) (numbers_of self.new)) }
     {
         let place = object.number as usize;
         lengthen(alloc, &mut self.objects, place + 1)?;
@@ -177,7 +177,7 @@ impl Bag {
     /// Takes the newest message to this method of this object.
     fn take(&mut self, object: Object, method: u8) -> u32
         requires { HasMessage object method (numbers_of self.old) }
-        ensures { IsPopped (header_to object method) result (numbers_of self.old) (numbers_of self.new) }
+        ensures { IsPopped (address_to object method) result (numbers_of self.old) (numbers_of self.new) }
     {
         take_in(
             &mut self.objects[object.number as usize],
