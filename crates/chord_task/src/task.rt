@@ -22,7 +22,9 @@ use chord_base::value::{Object, Value};
 use chord_code::code::Code;
 use chord_code::parts::ChordLine;
 use chord_vm::ask::Ask;
-use chord_vm::frames::{Frames, begin, reserve as reserve_frames, spare as spare_frames};
+use chord_vm::frames::{
+    Frames, begin, can_begin, reserve as reserve_frames, spare as spare_frames,
+};
 use std::alloc::{AllocError, Global};
 use std::mem;
 
@@ -40,6 +42,8 @@ pub struct Task {
     pub below: Vec<Body>,
     /// Frames for the next body.
     pub spare: Option<Frames>,
+    /// Frames of a body that has ended.
+    pub ended: Option<Frames>,
     /// A list for the values of the next firing's entry.
     pub values: Option<Vec<Value>>,
     /// The limits of its run.
@@ -73,12 +77,33 @@ fn depth_over(depth: u32, top: &Option<Body>) -> u32
     }
 }
 
+/// Frames with room for each block: those of a body that has ended, where they have it, and else new ones.
+fn frames_for(
+    alloc: Global,
+    code: &Code,
+    limits: &Limits,
+    ended: &mut Option<Frames>,
+) -> Result<Frames, AllocError>
+    ensures { IfOk result (λ f. IsSpareOf code.now limits.now f) }
+{
+    match ended.take() {
+        None => spare_frames(alloc, code, limits),
+        Some(frames) => {
+            if can_begin(code, limits, &frames) {
+                return Ok(frames);
+            }
+            spare_frames(alloc, code, limits)
+        }
+    }
+}
+
 /// Sees to frames in stock.
 fn reserve_spare(
     alloc: Global,
     code: &Code,
     limits: &Limits,
     spare: &mut Option<Frames>,
+    ended: &mut Option<Frames>,
 ) -> Result<(), AllocError>
     requires { HasRoomFor code.now limits.now spare.old }
     ensures kept { HasRoomFor code.now limits.now spare.new }
@@ -87,7 +112,7 @@ fn reserve_spare(
     match spare {
         Some(_) => Ok(()),
         None => {
-            *spare = Some(spare_frames(alloc, code, limits)?);
+            *spare = Some(frames_for(alloc, code, limits, ended)?);
             Ok(())
         }
     }
@@ -104,6 +129,21 @@ fn reserve_values(alloc: Global, values: &mut Option<Vec<Value>>) -> Result<(), 
     }
     *values = Some(Vec::with_capacity(alloc, MAX_ENTRY_VALUES)?);
     Ok(())
+}
+
+/// The frames of a body, if there is one.
+fn frames_of(body: Option<Body>) -> Option<Frames> {
+    match body {
+        None => None,
+        Some(body) => {
+            let Body {
+                number: _,
+                frames,
+                next: _,
+            } = body;
+            Some(frames)
+        }
+    }
 }
 
 /// Room for the answer of the body on top.
@@ -144,6 +184,7 @@ impl Task {
             }),
             below: Vec::new(alloc),
             spare: None,
+            ended: None,
             values: None,
             limits: *limits,
         })
@@ -166,6 +207,7 @@ impl Task {
             top: None,
             below,
             spare: Some(frames),
+            ended: None,
             values: Some(values),
             limits: *limits,
         })
@@ -219,7 +261,7 @@ impl Task {
     {
         self.past.reserve(2)?;
         self.below.reserve(1)?;
-        reserve_spare(alloc, code, &self.limits, &mut self.spare)?;
+        reserve_spare(alloc, code, &self.limits, &mut self.spare, &mut self.ended)?;
         reserve_values(alloc, &mut self.values)?;
         reserve_top(alloc, &mut self.top)
     }
@@ -250,7 +292,8 @@ impl Task {
                             body: maker,
                             what: What::Ended(first),
                         });
-                        self.top = self.below.pop();
+                        let caller = self.below.pop();
+                        self.ended = frames_of(mem::replace(&mut self.top, caller));
                         match &mut self.top {
                             None => {}
                             Some(caller) => call_back(caller, second),
