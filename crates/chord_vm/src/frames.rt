@@ -1,7 +1,7 @@
 //! The frames of one body: its blocks at work, and how they begin and are answered without memory.
 #![tactic(auto)]
 
-ghost use Rattle.std.specs.Prelude.{◌≡◌, ◌≢◌, ℕ, ◌+◌, ◌-◌, ◌<◌, ◌≤◌, true, List, [], ◌∷◌, ◌++◌, IfOk, OnOk, Some, None, length, slice_get, vec_len, vec_capacity, reverse, replicate};
+ghost use Rattle.std.specs.Prelude.{◌≡◌, ◌≢◌, ℕ, ◌+◌, ◌-◌, ◌<◌, ◌≤◌, true, false, List, [], ◌∷◌, ◌++◌, IfOk, OnOk, Some, None, length, slice_get, vec_len, vec_capacity, reverse, replicate};
 ghost use Rattle.chord_code.specs.Slots.{first_slots};
 ghost use Rattle.chord_code.specs.Machine.{body_in_block, with_answer, with_object, pops};
 ghost use Rattle.chord_vm.specs.Frames.{machine_of, IsSpacious, IsReady, IsMoved, IsRoomFor, laid};
@@ -78,6 +78,7 @@ pub fn spare(alloc: Global, code: &Code, limits: &Limits) -> Result<Frames, Allo
 pub fn can_begin(code: &Code, limits: &Limits, frames: &Frames) -> bool
     ensures room { result ≡ true → IsRoomFor code.now frames.now }
     ensures limits { result ≡ true → frames.now.limits ≡ limits.now }
+    ensures none { result ≡ false → IsRoomFor code.now frames.now → frames.now.limits ≡ limits.now → ⊥ }
 {
     if frames.limits.events != limits.events {
         return false;
