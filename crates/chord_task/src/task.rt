@@ -1,7 +1,7 @@
 //! A stack of bodies, each waiting for the one above it, and the entries that they made.
 #![tactic(auto)]
 
-ghost use Rattle.std.specs.Prelude.{◌≡◌, ◌≢◌, ℕ, ◌-◌, ◌≤◌, List, [], ◌∷◌, true, false, IfOk, OnOk, Some, None, length, slice_get, is_none, option_copied};
+ghost use Rattle.std.specs.Prelude.{◌≡◌, ◌≢◌, ℕ, ◌+◌, ◌-◌, ◌≤◌, List, [], ◌∷◌, ◌++◌, true, false, IfOk, OnOk, Some, None, length, slice_get, is_none, option_copied, option_to_list, vec_len, vec_capacity, MatchOption};
 ghost use Rattle.chord_base.specs.declared.event.Limits.{Limits as TheLimits};
 ghost use Rattle.chord_base.specs.declared.event.What.{What as AWhat};
 ghost use Rattle.chord_base.specs.Printed.{is_end};
@@ -144,6 +144,17 @@ fn frames_of(body: Option<Body>) -> Option<Frames> {
             Some(frames)
         }
     }
+}
+
+/// The body below comes on top, if there is one, and the frames of the one that ended are kept.
+#[inline(never)]
+fn pop_caller(top: &mut Option<Body>, below: &mut Vec<Body>, ended: &mut Option<Frames>)
+    ensures items { below.old.items ≡ below.new.items ++ option_to_list top.new }
+    ensures capacity { vec_capacity below.new ≡ vec_capacity below.old }
+    ensures cases { MatchOption top.new ((vec_len below.old ≡ 0) × (vec_len below.new ≡ 0)) (λ _. vec_len below.new + 1 ≡ vec_len below.old) }
+{
+    let caller = below.pop();
+    *ended = frames_of(mem::replace(top, caller));
 }
 
 /// Room for the answer of the body on top.
@@ -292,8 +303,7 @@ impl Task {
                             body: maker,
                             what: What::Ended(first),
                         });
-                        let caller = self.below.pop();
-                        self.ended = frames_of(mem::replace(&mut self.top, caller));
+                        pop_caller(&mut self.top, &mut self.below, &mut self.ended);
                         match &mut self.top {
                             None => {}
                             Some(caller) => call_back(caller, second),
