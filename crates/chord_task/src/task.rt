@@ -97,6 +97,23 @@ fn frames_for(
     }
 }
 
+/// Puts frames into an empty stock.
+#[inline(never)]
+fn restock(
+    alloc: Global,
+    code: &Code,
+    limits: &Limits,
+    spare: &mut Option<Frames>,
+    ended: &mut Option<Frames>,
+) -> Result<(), AllocError>
+    requires { spare.old ≡ None }
+    ensures kept { HasRoomFor code.now limits.now spare.new }
+    ensures some { OnOk result ((f : TheFrames) × (spare.new ≡ Some f) × IsSpareOf code.now limits.now f) }
+{
+    *spare = Some(frames_for(alloc, code, limits, ended)?);
+    Ok(())
+}
+
 /// Sees to frames in stock.
 fn reserve_spare(
     alloc: Global,
@@ -111,10 +128,7 @@ fn reserve_spare(
 {
     match spare {
         Some(_) => Ok(()),
-        None => {
-            *spare = Some(frames_for(alloc, code, limits, ended)?);
-            Ok(())
-        }
+        None => restock(alloc, code, limits, spare, ended),
     }
 }
 

@@ -1,9 +1,6 @@
-use Rattle.std.proofs.Common.{refl, subst}
+use Rattle.std.proofs.Common.{subst}
 use Rattle.chord_task.specs.Standing.{HasRoomFor}
 use Rattle.chord_task.proofs.task.reserve_spare.Goals as goal
 
 pub returns-in-Some-clause-some : goal.returns-in-Some-clause-some
 returns-in-Some-clause-some c = (c.in-Some.field-0, c.in-Some.is, subst (HasRoomFor c.args.code.now c.args.limits.now) c.in-Some.is c.requires)
-
-pub returns-in_ok-frames_for-in-None-clause-some : goal.returns-in_ok-frames_for-in-None-clause-some
-returns-in_ok-frames_for-in-None-clause-some c = (c.in_ok-frames_for-in-None.field-0, refl, c.in_ok-frames_for-in-None.ensures)
