@@ -14,8 +14,7 @@ use Rattle.chord_base.specs.Bounds.{AreWithin, IsWhatWithin, IsMessageWithin, Is
 use Rattle.chord_base.proofs.Waits.{either}
 use Rattle.chord_base.proofs.Final.{final_when}
 use Rattle.chord_base.proofs.Pending.{none_fires_on, none_fires_with, none_fires_after, fires_without, pending_other}
-use Rattle.chord_lists.specs.declared.bag.Header.{Header}
-use Rattle.chord_lists.specs.Bag.{header_to, LacksMessage, LacksAMessage, IsPushed, ArePopped, Lists}
+use Rattle.chord_lists.specs.Bag.{Address, address_to, LacksMessage, LacksAMessage, IsPushed, ArePopped, Lists}
 use Rattle.chord_lists.specs.Engine as engine
 use Rattle.chord_lists.specs.Engine.{fired, State, IsOver}
 use Rattle.chord_lists.proofs.Bags.{without_all, lists_none, lists_on, lists_more, lists_taken}
@@ -129,7 +128,7 @@ pending_more h e n i number none =
     ]
 
 -- a bag that lists the pending messages with that of an entry that takes nothing lists what is pending after the entry
-lists_entry : (h : List Entry) (e : Entry) (n : ℕ) (index : Header → List ℕ) → e.number ≡ n → members_of e.what ≡ []
+lists_entry : (h : List Entry) (e : Entry) (n : ℕ) (index : Address → List ℕ) → e.number ≡ n → members_of e.what ≡ []
     → Lists (λ i. if n == i then message_of e.what else pending i h) (suc n) index → Lists (λ i. pending i (e ∷ h)) (n + 1) index
 lists_entry h e n index number none s =
     let more : suc n ≡ n + 1 = omega arith in
@@ -150,7 +149,7 @@ takes_object h o (j ∷ js) (i ∷ ms) vs n s t =
     ]
 
 -- a message after which each chord of its object lacks a message
-idle_message : (p : Program) (h : List Entry) (e : Entry) (m : Message) (n : ℕ) (index : Header → List ℕ) → message_of e.what ≡ Some m
+idle_message : (p : Program) (h : List Entry) (e : Entry) (m : Message) (n : ℕ) (index : Address → List ℕ) → message_of e.what ≡ Some m
     → members_of e.what ≡ [] → NoneFires p h → Lists (λ i. pending i (e ∷ h)) n index
     → ((k : ℕ) (js : List ℕ) → slice_get (p.chords m.object.class) k ≡ Some js → LacksAMessage m.object js index) → NoneFires p (e ∷ h)
 idle_message p h e m n index is none idle lists lacks =
@@ -186,8 +185,8 @@ none_taken o (j ∷ js) [] vs l t = t
 none_taken o (j ∷ js) (i ∷ ms) vs l t = let z : ◌≡◌ {A = Option Message} None (Some (record { object = o; method = j; arguments = t.0 })) = sym (begun_pending i) ∙ t.2 in cc
 
 -- after `Main` has begun, with an empty bag, the engine stands at the first entry
-pub state_begun : (p : Program) (stands : List Entry → Type 0) (index : Header → List ℕ) → HaveMethods p → stands engine.main_begun
-    → ((k : Header) → index k ≡ []) → State p stands index None 1
+pub state_begun : (p : Program) (stands : List Entry → Type 0) (index : Address → List ℕ) → HaveMethods p → stands engine.main_begun
+    → ((k : Address) → index k ≡ []) → State p stands index None 1
 state_begun p stands index some s empty =
     record {
       history = engine.main_begun;
@@ -198,7 +197,7 @@ state_begun p stands index some s empty =
     }
 
 -- an entry that sends nothing keeps the engine's state
-pub state_plain : (p : Program) (before after : List Entry → Type 0) (index : Header → List ℕ) (n : ℕ) (s : State p before index None n) (e : Entry)
+pub state_plain : (p : Program) (before after : List Entry → Type 0) (index : Address → List ℕ) (n : ℕ) (s : State p before index None n) (e : Entry)
     → engine.Made p after s.history e → message_of e.what ≡ None → State p after index None (n + 1)
 state_plain p before after index n s e m none =
     let number : e.number ≡ n = m.follows.numbered ∙ s.played.so_long in
@@ -212,9 +211,9 @@ state_plain p before after index n s e m none =
     }
 
 -- a message whose number the bag notes keeps the engine's state, with its object to look at
-pub state_message : (p : Program) (before after : List Entry → Type 0) (old new : Header → List ℕ) (n : ℕ) (o : Object) (j : ℕ)
+pub state_message : (p : Program) (before after : List Entry → Type 0) (old new : Address → List ℕ) (n : ℕ) (o : Object) (j : ℕ)
     (s : State p before old None n) (e : Entry) → engine.Made p after s.history e → engine.IsMessageTo o j e.what
-    → IsPushed (header_to o j) n old new → State p after new (Some o) (n + 1)
+    → IsPushed (address_to o j) n old new → State p after new (Some o) (n + 1)
 state_message p before after old new n o j s e m is pushed =
     let number : e.number ≡ n = m.follows.numbered ∙ s.played.so_long in
     let sent : Message = record { object = o; method = j; arguments = is.0 } in
@@ -228,13 +227,13 @@ state_message p before after old new n o j s e m is pushed =
     }
 
 -- where no body has a next ask the run is over
-pub state_over : (p : Program) (before after : List Entry → Type 0) (index : Header → List ℕ) (n : ℕ) (s : State p before index None n) → 0 < n
+pub state_over : (p : Program) (before after : List Entry → Type 0) (index : Address → List ℕ) (n : ℕ) (s : State p before index None n) → 0 < n
     → NoneAsks p s.history → after s.history → IsOver p after n
 state_over p before after index n s some done stands =
     (s.history, s.played, stands, final_when p s.history s.played.past (omega (arith, s.played.so_long, some)) done s.is_fresh)
 
 -- no chord of the fresh object is enabled
-pub state_idle : (p : Program) (stands : List Entry → Type 0) (index : Header → List ℕ) (o : Object) (n : ℕ) → State p stands index (Some o) n
+pub state_idle : (p : Program) (stands : List Entry → Type 0) (index : Address → List ℕ) (o : Object) (n : ℕ) → State p stands index (Some o) n
     → ((k : ℕ) (js : List ℕ) → slice_get (p.chords o.class) k ≡ Some js → LacksAMessage o js index) → State p stands index None n
 state_idle p stands index o n s f =
     let m = s.is_fresh in
@@ -246,7 +245,7 @@ state_idle p stands index o n s f =
     record { history = s.history; played = s.played; bodies = s.bodies; lists = s.lists; is_fresh = subst (NoneFires p) (sym m.is) idle }
 
 -- a firing of what went from the bag may come
-pub state_may_begin : (p : Program) (stands : List Entry → Type 0) (old new : Header → List ℕ) (fresh : Option Object) (n k : ℕ) (o : Object)
+pub state_may_begin : (p : Program) (stands : List Entry → Type 0) (old new : Address → List ℕ) (fresh : Option Object) (n k : ℕ) (o : Object)
     (js ms : List ℕ) → State p stands old fresh n → n < 65536 → slice_get (p.chords o.class) k ≡ Some js → k < 256 → 0 < length js → length js ≤ 8
     → ArePopped o js ms old new → engine.MayBegin p stands n k o ms
 state_may_begin p stands old new fresh n k o js ms s room c chord some few t =
@@ -254,7 +253,7 @@ state_may_begin p stands old new fresh n k o js ms s room c chord some few t =
     (s.history, taken.0, s.played, s.bodies, (js, c, taken.1), fired_within s.history n k o js ms taken.0 s.played.within s.played.so_long room chord some few taken.1)
 
 -- a firing of popped members keeps the engine's state
-pub state_fired : (p : Program) (before after : List Entry → Type 0) (old new : Header → List ℕ) (n k : ℕ) (o : Object) (js ms : List ℕ)
+pub state_fired : (p : Program) (before after : List Entry → Type 0) (old new : Address → List ℕ) (n k : ℕ) (o : Object) (js ms : List ℕ)
     → State p before old (Some o) n → n < 65536 → slice_get (p.chords o.class) k ≡ Some js → k < 256 → 0 < length js → length js ≤ 8
     → ArePopped o js ms old new → engine.Began p before after n k o ms → State p after new None (n + 1)
 state_fired p before after old new n k o js ms s room c chord some few t began =

@@ -1,7 +1,7 @@
 -- The entries of all tasks in the order of their numbers.
-use Rattle.std.proofs.Common.{◌≡◌, ℕ, zero, suc, ◌≤◌, ◌==◌, List, [], ◌∷◌, ◌++◌, length, Option, Some, None, refl, sym, ap, ◌∙◌, subst, arith, inl, inr, set, map, reverse, length-append, Vec, Global}
+use Rattle.std.proofs.Common.{◌≡◌, ℕ, zero, suc, ◌≤◌, Bool, ◌==◌, List, [], ◌∷◌, ◌++◌, length, Option, Some, None, refl, sym, ap, ◌∙◌, subst, arith, inl, inr, set, map, reverse, length-append, Vec, Global}
 use Rattle.std.specs.Prelude.{slice_get}
-use Rattle.std.proofs.lemmas.List.{reverse-append, append-nil}
+use Rattle.std.proofs.lemmas.List.{length-reverse, reverse-append, append-nil}
 use Rattle.std.proofs.lemmas.Bool.{eq-eqb, eqb-true, eqb-false}
 use Rattle.chord_base.specs.declared.event.Entry.{Entry}
 use Rattle.chord_base.specs.declared.event.Limits.{Limits}
@@ -150,3 +150,25 @@ stands_left code limits bodies pasts h s a =
       tagged = s.tagged;
       keeps = λ i. s.keeps i ∙ sym (a i);
     }
+
+-- no more is kept than there is
+kept_few : (f : ℕ → Bool) (h : List Entry) → length (kept f h) ≤ length h
+kept_few f [] = omega arith
+kept_few f (e ∷ h) = let l = kept_few f h in elim (either (f e.number)) [ inl y ↦ rw y (omega (arith, l)) | inr o ↦ rw o (omega (arith, l)) ]
+
+-- where as much is kept as there is, all is
+kept_all : (f : ℕ → Bool) (h : List Entry) → length (kept f h) ≡ length h → kept f h ≡ h
+kept_all f [] l = refl
+kept_all f (e ∷ h) l =
+    let few = kept_few f h in
+    elim (either (f e.number)) [
+      | inl y ↦ (let long : length (kept f h) ≡ length h = (let m = rw y at l in omega (arith, m)) in rw y (ap (λ z. e ∷ z) (kept_all f h long)))
+      | inr o ↦ (let m = rw o at l in absurd (omega (arith, m, few)))
+    ]
+
+-- a place with as many entries as there are tags has all
+pub all_there : (before : List (Vec Entry Global)) (past : Vec Entry Global) (tags : List Tag) (h : List Entry) → length past.items ≡ length tags → IsLeft (before ++ past ∷ []) tags h → reverse past.items ≡ h
+all_there before past tags h long s =
+    let here : kept (λ n. home tags n == length before) h ≡ reverse past.items = s.keeps (length before) ∙ ap left_in (end_at before past) in
+    let same : length (kept (λ n. home tags n == length before) h) ≡ length h = ap length here ∙ length-reverse past.items ∙ long ∙ s.tagged in
+    sym here ∙ kept_all (λ n. home tags n == length before) h same

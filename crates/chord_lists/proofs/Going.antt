@@ -23,10 +23,9 @@ use Rattle.chord_code.specs.Meaning.{code_program}
 use Rattle.chord_task.specs.declared.args.Args.{Args}
 use Rattle.chord_task.proofs.Asking.{ready_can}
 use Rattle.chord_lists.specs.Engine.{main_begun, fired, IsRunOfLength}
-use Rattle.chord_lists.specs.declared.bag.Header.{Header}
 use Rattle.chord_lists.specs.declared.code_bodies.Tag.{Tag}
 use Rattle.chord_lists.specs.declared.code_bodies.CodeBodies.{CodeBodies}
-use Rattle.chord_lists.specs.Bag.{header_to, HasMessages, Lists}
+use Rattle.chord_lists.specs.Bag.{Address, address_to, HasMessages, Lists}
 use Rattle.chord_lists.specs.CodeStands.{past_of, views, held_at, ready_at, StandsAfter}
 use Rattle.chord_lists.specs.CodeGoes.{IsNoted, message_by, AreTagged, CanFire, FiresAt, LacksAt}
 use Rattle.chord_lists.proofs.Bags.{lists_none, lists_on, lists_more, message_to}
@@ -141,17 +140,17 @@ early_all (suc k) f i n =
     ]
 
 -- an empty bag lists the messages below number 0
-pub lists_early : (index : Header → List ℕ) (f : ℕ → Option Message) → ((k : Header) → index k ≡ []) → Lists (early 0 f) 0 index
+pub lists_early : (index : Address → List ℕ) (f : ℕ → Option Message) → ((k : Address) → index k ≡ []) → Lists (early 0 f) 0 index
 lists_early index f e = lists_none (λ i. None) 0 index (λ i. refl) e
 
 -- a number that is no pending message
-pub lists_pass : (f : ℕ → Option Message) (n : ℕ) (index : Header → List ℕ) → Lists (early n f) n index → f n ≡ None → Lists (early (n + 1) f) (n + 1) index
+pub lists_pass : (f : ℕ → Option Message) (n : ℕ) (index : Address → List ℕ) → Lists (early n f) n index → f n ≡ None → Lists (early (n + 1) f) (n + 1) index
 lists_pass f n index s e =
     let next : suc n ≡ n + 1 = omega arith in
     subst (λ k. Lists (early k f) k index) next (subst (λ x. Lists (λ i. if n == i then x else early n f i) (suc n) index) (sym e) (lists_on (early n f) n index s))
 
 -- a number that is one
-pub lists_noted : (f : ℕ → Option Message) (n : ℕ) (old new : Header → List ℕ) (m : Message) → Lists (early n f) n old → f n ≡ Some m → IsNoted n (Some m) old new → Lists (early (n + 1) f) (n + 1) new
+pub lists_noted : (f : ℕ → Option Message) (n : ℕ) (old new : Address → List ℕ) (m : Message) → Lists (early n f) n old → f n ≡ Some m → IsNoted n (Some m) old new → Lists (early (n + 1) f) (n + 1) new
 lists_noted f n old new m s e p =
     let next : suc n ≡ n + 1 = omega arith in
     subst (λ k. Lists (early k f) k new) next (subst (λ x. Lists (λ i. if n == i then x else early n f i) (suc n) new) (sym e) (lists_more (early n f) n old new m s p))
@@ -169,7 +168,7 @@ pending_past h i w l = by_pending (pending i h) refl
         absurd (omega (arith, k, j, l))
 
 -- all are noted
-pub lists_all : (h : List Entry) (n : ℕ) (index : Header → List ℕ) → AreWithin h → n ≡ length h → Lists (early n (λ i. pending i h)) n index → Lists (λ i. pending i h) n index
+pub lists_all : (h : List Entry) (n : ℕ) (index : Address → List ℕ) → AreWithin h → n ≡ length h → Lists (early n (λ i. pending i h)) n index → Lists (λ i. pending i h) n index
 lists_all h n index w e s = subst (λ f. Lists f n index) (λ z i. early_all n (λ j. pending j h) i (λ l. pending_past h i w (omega (arith, e, l))) z) s
 
 -- an entry whose arguments are not held is not pending
@@ -189,7 +188,7 @@ is_held tags es n x e a i g =
     (m.0, m.1, ap (λ (z : Entry). message_of z.what) (sym same) ∙ y.2)
 
 -- one more number
-pub lists_next : (tags : List Tag) (es : List Entry) (n : ℕ) (e : Entry) (old new : Header → List ℕ) → AreTagged tags (reverse es) → slice_get es n ≡ Some e → (o : Option Args) → held_at tags n ≡ o → IsNoted n (message_by o e.what) old new → Lists (early n (λ i. pending i (reverse es))) n old → Lists (early (n + 1) (λ i. pending i (reverse es))) (n + 1) new
+pub lists_next : (tags : List Tag) (es : List Entry) (n : ℕ) (e : Entry) (old new : Address → List ℕ) → AreTagged tags (reverse es) → slice_get es n ≡ Some e → (o : Option Args) → held_at tags n ≡ o → IsNoted n (message_by o e.what) old new → Lists (early n (λ i. pending i (reverse es))) n old → Lists (early (n + 1) (λ i. pending i (reverse es))) (n + 1) new
 lists_next tags es n e old new a g None i p s =
     subst (λ index. Lists (early (n + 1) (λ j. pending j (reverse es))) (n + 1) index) (λ z k. sym (p k) z)
     (lists_pass (λ j. pending j (reverse es)) n old s (not_held tags (reverse es) n a i))
@@ -204,23 +203,23 @@ stands_tagged code limits bodies h s w = record { within = w; held = s.held; onl
 -- ---- chords
 
 -- messages to all methods of a chord are taken by a firing of it
-all_taken : (h : List Entry) (n : ℕ) (index : Header → List ℕ) (o : Object) (js : List ℕ) → Lists (λ i. pending i h) n index → HasMessages o js index → (ms : List ℕ) × (vs : List Value) × Takes h o js ms vs
+all_taken : (h : List Entry) (n : ℕ) (index : Address → List ℕ) (o : Object) (js : List ℕ) → Lists (λ i. pending i h) n index → HasMessages o js index → (ms : List ℕ) × (vs : List Value) × Takes h o js ms vs
 all_taken h n index o [] s a = ([], [], refl)
 all_taken h n index o (j ∷ js) s a =
     let has = a.0 in
     let r = all_taken h n index o js s a.1 in
-    let t = s.there (header_to o j) has.0 (ap (λ l. Rattle.chord_base.specs.Messages.has has.0 l) has.2 ∙ Rattle.chord_lists.proofs.Spots.has_first has.0 has.1) in
+    let t = s.there (address_to o j) has.0 (ap (λ l. Rattle.chord_base.specs.Messages.has has.0 l) has.2 ∙ Rattle.chord_lists.proofs.Spots.has_first has.0 has.1) in
     let m = t.0 in
     (has.0 ∷ r.0, m.arguments ++ r.1, (m.arguments, r.1, t.1 ∙ ap Some (message_to m o j t.2), refl, r.2))
 
 -- a chord to each of whose methods a message is in the bag may fire
-pub can_fire : (p : Program) (h : List Entry) (n : ℕ) (index : Header → List ℕ) → Lists (λ i. pending i h) n index → FiresAt p index → CanFire p h
+pub can_fire : (p : Program) (h : List Entry) (n : ℕ) (index : Address → List ℕ) → Lists (λ i. pending i h) n index → FiresAt p index → CanFire p h
 can_fire p h n index s f =
     let t = all_taken h n index f.0 f.2 s f.4 in
     (f.1, f.0, t.0, t.1, (f.2, f.3, t.2))
 
 -- where each message's object lacks one for each chord, none fires
-pub none_can : (p : Program) (es : List Entry) (n : ℕ) (index : Header → List ℕ) → HaveMethods p → AreWithin (reverse es) → Lists (λ i. pending i (reverse es)) n index → ((i : ℕ) (e : Entry) → slice_get es i ≡ Some e → LacksAt p index e) → NoneFires p (reverse es)
+pub none_can : (p : Program) (es : List Entry) (n : ℕ) (index : Address → List ℕ) → HaveMethods p → AreWithin (reverse es) → Lists (λ i. pending i (reverse es)) n index → ((i : ℕ) (e : Entry) → slice_get es i ≡ Some e → LacksAt p index e) → NoneFires p (reverse es)
 none_can p es n index some w s f k o ms vs fires = by_methods fires.0 ms (some o.class k fires.0 fires.1) fires.1 fires.2
   where
     by_methods : (js ms' : List ℕ) → 0 < length js → slice_get (p.chords o.class) k ≡ Some js → Takes (reverse es) o js ms' vs → ⊥
@@ -263,7 +262,7 @@ no_entries [] e = refl
 no_entries (x ∷ es) e = absurd (omega (arith, e))
 
 -- one more entry whose object lacks a message for each chord
-pub lacks_more : (p : Program) (index : Header → List ℕ) (es : List Entry) (k : ℕ) (x : Entry) → slice_get es k ≡ Some x → LacksAt p index x → ((i : ℕ) (e : Entry) → i < k → slice_get es i ≡ Some e → LacksAt p index e) → (i : ℕ) (e : Entry) → i < k + 1 → slice_get es i ≡ Some e → LacksAt p index e
+pub lacks_more : (p : Program) (index : Address → List ℕ) (es : List Entry) (k : ℕ) (x : Entry) → slice_get es k ≡ Some x → LacksAt p index x → ((i : ℕ) (e : Entry) → i < k → slice_get es i ≡ Some e → LacksAt p index e) → (i : ℕ) (e : Entry) → i < k + 1 → slice_get es i ≡ Some e → LacksAt p index e
 lacks_more p index es k x g l before i e lt s =
     ⊎_elim (λ less. before i e less s)
     (λ le.

@@ -1,3 +1,4 @@
+pub mod BagStacks
 pub mod Bags
 pub mod Taking
 pub mod Engines

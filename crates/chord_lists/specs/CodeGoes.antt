@@ -9,15 +9,14 @@ use Rattle.chord_base.specs.Messages.{Message, message_of, pending}
 use Rattle.chord_base.specs.Machine.{Fires}
 use Rattle.chord_base.specs.Bounds.{AreWithin}
 use Rattle.chord_task.specs.declared.args.Args.{Args}
-use Rattle.chord_lists.specs.declared.bag.Header.{Header}
 use Rattle.chord_lists.specs.declared.code_bodies.Tag.{Tag}
-use Rattle.chord_lists.specs.Bag.{header_of, HasMessages, LacksAMessage, IsPushed}
+use Rattle.chord_lists.specs.Bag.{Address, address_of, HasMessages, LacksAMessage, IsPushed}
 use Rattle.chord_lists.specs.CodeStands.{held_at, IsHeld}
 
 -- the message of this number came, if there is one
-abbrev pub IsNoted : ℕ → Option Message → (Header → List ℕ) → (Header → List ℕ) → Type 0
-IsNoted n None old new = (k : Header) → new k ≡ old k
-IsNoted n (Some m) old new = IsPushed (header_of m) n old new
+abbrev pub IsNoted : ℕ → Option Message → (Address → List ℕ) → (Address → List ℕ) → Type 0
+IsNoted n None old new = (k : Address) → new k ≡ old k
+IsNoted n (Some m) old new = IsPushed (address_of m) n old new
 
 -- the message of an entry whose arguments are held
 abbrev pub message_by : Option Args → What → Option Message
@@ -36,9 +35,9 @@ abbrev pub CanFire : Program → List Entry → Type 0
 CanFire p h = (k : ℕ) × (o : Object) × (ms : List ℕ) × (vs : List Value) × Fires p h k o ms vs
 
 -- to each method of some chord of an object a message is in the bag
-abbrev pub FiresAt : Program → (Header → List ℕ) → Type 0
+abbrev pub FiresAt : Program → (Address → List ℕ) → Type 0
 FiresAt p index = (o : Object) × (k : ℕ) × (js : List ℕ) × (slice_get (p.chords o.class) k ≡ Some js) × HasMessages o js index
 
 -- each chord of the object to which the entry is a message lacks one
-abbrev pub LacksAt : Program → (Header → List ℕ) → Entry → Type 0
+abbrev pub LacksAt : Program → (Address → List ℕ) → Entry → Type 0
 LacksAt p index e = (m : Message) → message_of e.what ≡ Some m → (k : ℕ) (js : List ℕ) → slice_get (p.chords m.object.class) k ≡ Some js → LacksAMessage m.object js index

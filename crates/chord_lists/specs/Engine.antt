@@ -11,12 +11,11 @@ use Rattle.chord_base.specs.Meaning.{Program}
 use Rattle.chord_base.specs.Messages.{Message, message_of, members_of, pending}
 use Rattle.chord_base.specs.Machine.{MayFollow, Fires, NoneFires, NoneAsks, IsPast, IsFinal}
 use Rattle.chord_base.specs.Bounds.{AreWithin}
-use Rattle.chord_lists.specs.declared.bag.Header.{Header}
 use Rattle.chord_lists.specs.declared.engine.Turn.{Turn}
 use Rattle.chord_lists.specs.declared.engine.Turn.TheVariants as a_turn
 use Rattle.chord_lists.specs.declared.engine.Step.{Step}
 use Rattle.chord_lists.specs.declared.engine.Step.TheVariants.{Done, Idle, Fresh}
-use Rattle.chord_lists.specs.Bag.{Lists}
+use Rattle.chord_lists.specs.Bag.{Address, Lists}
 
 -- the history in which `Main` has just begun
 abbrev pub main_begun : List Entry
@@ -85,7 +84,7 @@ IsFresh p h None = NoneFires p h
 IsFresh p h (Some o) = IsAfterMessage p h o
 
 -- the engine after n entries: the bodies stand there, and the bag lists exactly the pending messages
-pub record State (p : Program) (stands : List Entry → Type 0) (index : Header → List ℕ) (fresh : Option Object) (n : ℕ) : Type 0 where
+pub record State (p : Program) (stands : List Entry → Type 0) (index : Address → List ℕ) (fresh : Option Object) (n : ℕ) : Type 0 where
   pub history : List Entry
   pub played : IsRunOfLength p n history
   pub bodies : stands history
@@ -97,7 +96,7 @@ abbrev pub IsOver : Program → (List Entry → Type 0) → ℕ → Type 0
 IsOver p stands n = (h : List Entry) × IsRunOfLength p n h × stands h × IsFinal p h
 
 -- the engine after a step from n entries
-abbrev pub Stepped : Program → (List Entry → Type 0) → (Header → List ℕ) → ℕ → Step → Type 0
+abbrev pub Stepped : Program → (List Entry → Type 0) → (Address → List ℕ) → ℕ → Step → Type 0
 Stepped p stands index n Done = IsOver p stands n
 Stepped p stands index n Idle = State p stands index None (n + 1)
 Stepped p stands index n (Fresh o) = State p stands index (Some o) (n + 1)

@@ -1,50 +1,131 @@
 //! The bag: the numbers of the messages that no firing has taken, by what they are to.
 #![tactic(auto)]
 
-ghost use Rattle.std.specs.Prelude.{◌≡◌, ◌≤◌, [], length, IfOk, true, false};
+ghost use Rattle.std.specs.Prelude.{◌≡◌, ℕ, ◌+◌, ◌≤◌, ◌==◌, ◌&&◌, List, [], ◌∷◌, length, reverse, vec_len, IfNone, IfSome, OnOk, true, false, if◌then◌else◌};
 ghost use Rattle.chord_base.specs.Messages.{AreDifferent};
-ghost use Rattle.chord_lists.specs.Bag.{ArePopped, HasMessage, HasMessages, header_to, IsPopped, IsPushed, LacksMessage, LacksAMessage, numbers_of};
-ghost use Rattle.chord_lists.specs.declared.bag.Header.{Header as AHeader};
+ghost use Rattle.chord_lists.specs.Bag.{Address, ArePopped, HasMessage, HasMessages, IsFirstOf, IsPopped, IsPushed, LacksAMessage, LacksBefore, LacksMessage, address_to, items_at, stacked_at, numbers_in, numbers_of};
 
 use chord_base::members::Members;
 use chord_base::value::Object;
 use std::alloc::{AllocError, Global};
-use std::collections::HashMap;
 
-/// What a message is to: a method of an object.
-#[derive(Clone, Copy, PartialEq, Eq, Hash, Drop)]
-struct Header {
-    object: u32,
+/// The numbers of the messages to an object of this class: a stack for each method, newest last.
+#[derive(Drop)]
+struct ClassStacks {
     class: u16,
-    method: u8,
+    stacks: Vec<Vec<u32>>,
 }
 
-/// The numbers of the messages that no firing has taken, by what they are to, newest last.
+/// The numbers of the messages that no firing has taken, by object, class and method. An object has one class; that it does is not asked for here.
 #[derive(Drop)]
 pub struct Bag {
-    numbers: HashMap<Header, Vec<u32>>,
+    objects: Vec<Vec<ClassStacks>>,
 }
 
-impl Header {
-    /// A method of an object.
-    fn new(object: Object, method: u8) -> Header
-        ensures { result ≡ header_to object method }
-    {
-        Header {
-            object: object.number,
-            class: object.class,
-            method,
+/// Adds empty lists until there are so many.
+fn lengthen<T: Drop>(alloc: Global, lists: &mut Vec<Vec<T>>, count: usize) -> Result<(), AllocError>
+    ensures same { OnOk result ((i : ℕ) → items_at lists.new.items i ≡ items_at lists.old.items i) }
+    ensures long { OnOk result (count ≤ vec_len lists.new) }
+{
+    for _ in lists.len()..count {
+        lists.push(Vec::new(alloc))?;
+    }
+    Ok(())
+}
+
+/// Puts a number on the stack of a method.
+fn push_on(
+    alloc: Global,
+    stacks: &mut Vec<Vec<u32>>,
+    method: u8,
+    number: u32,
+) -> Result<(), AllocError>
+    ensures { OnOk result ((j : ℕ) → stacked_at stacks.new.items j ≡ (if method == j then number ∷ stacked_at stacks.old.items j else stacked_at stacks.old.items j)) }
+{
+    let place = method as usize;
+    lengthen(alloc, stacks, place + 1)?;
+    stacks[place].push(number)?;
+    Ok(())
+}
+
+/// Takes the number on top of the stack of a method.
+fn pop_from(stacks: &mut Vec<Vec<u32>>, method: u8) -> u32
+    requires { (n : ℕ) × (ns : List ℕ) × (stacked_at stacks.old.items method ≡ n ∷ ns) }
+    ensures here { stacked_at stacks.old.items method ≡ result ∷ stacked_at stacks.new.items method }
+    ensures others { (j : ℕ) → (method == j) ≡ false → stacked_at stacks.new.items j ≡ stacked_at stacks.old.items j }
+{
+    match stacks[method as usize].pop() {
+        None => unreachable!(),
+        Some(number) => number,
+    }
+}
+
+/// The place of the stacks of a class.
+fn place_of(classes: &[ClassStacks], class: u16) -> Option<usize>
+    ensures some { IfSome result (λ i. IsFirstOf class classes.now i) }
+    ensures none { IfNone result (LacksBefore class classes.now (length classes.now)) }
+{
+    for i in 0..classes.len() {
+        if classes[i].class == class {
+            return Some(i);
         }
+    }
+    None
+}
+
+/// The stack of a method of a class, newest last.
+fn stack_in(classes: &[ClassStacks], class: u16, method: u8) -> &[u32]
+    ensures { reverse result.now ≡ numbers_in classes.now class method }
+{
+    match place_of(classes, class) {
+        None => &[],
+        Some(i) => match classes[i].stacks.get(method as usize) {
+            None => &[],
+            Some(stack) => stack.as_slice(),
+        },
+    }
+}
+
+/// Puts a number on the stack of a method of a class.
+fn note_in(
+    alloc: Global,
+    classes: &mut Vec<ClassStacks>,
+    class: u16,
+    method: u8,
+    number: u32,
+) -> Result<(), AllocError>
+    ensures { OnOk result ((c j : ℕ) → numbers_in classes.new.items c j ≡ (if (class == c) && (method == j) then number ∷ numbers_in classes.old.items c j else numbers_in classes.old.items c j)) }
+{
+    match place_of(classes, class) {
+        Some(i) => push_on(alloc, &mut classes[i].stacks, method, number),
+        None => {
+            let mut stacks = Vec::new(alloc);
+            push_on(alloc, &mut stacks, method, number)?;
+            classes.push(ClassStacks { class, stacks })?;
+            Ok(())
+        }
+    }
+}
+
+/// Takes the number on top of the stack of a method of a class.
+fn take_in(classes: &mut Vec<ClassStacks>, class: u16, method: u8) -> u32
+    requires { (n : ℕ) × (ns : List ℕ) × (numbers_in classes.old.items class method ≡ n ∷ ns) }
+    ensures here { numbers_in classes.old.items class method ≡ result ∷ numbers_in classes.new.items class method }
+    ensures others { (c j : ℕ) → ((class == c) && (method == j)) ≡ false → numbers_in classes.new.items c j ≡ numbers_in classes.old.items c j }
+{
+    match place_of(classes, class) {
+        None => unreachable!(),
+        Some(i) => pop_from(&mut classes[i].stacks, method),
     }
 }
 
 impl Bag {
     /// The bag before any entry.
     pub fn new(alloc: Global) -> Bag
-        ensures { (k : AHeader) → numbers_of result k ≡ [] }
+        ensures { (k : Address) → numbers_of result k ≡ [] }
     {
         Bag {
-            numbers: HashMap::new(alloc),
+            objects: Vec::new(alloc),
         }
     }
 
@@ -56,16 +137,17 @@ impl Bag {
         method: u8,
         number: u32,
     ) -> Result<(), AllocError>
-        ensures { IfOk result (λ _. IsPushed (header_to object method) number (numbers_of self.old) (numbers_of self.new)) }
+        ensures { OnOk result (IsPushed (address_to object method) number (numbers_of self.old) (numbers_of self.new)) }
     {
-        let header = Header::new(object, method);
-        let mut stack = match self.numbers.remove(&header) {
-            Some(stack) => stack,
-            None => Vec::new(alloc),
-        };
-        stack.push(number)?;
-        self.numbers.insert(header, stack)?;
-        Ok(())
+        let place = object.number as usize;
+        lengthen(alloc, &mut self.objects, place + 1)?;
+        note_in(
+            alloc,
+            &mut self.objects[place],
+            object.class,
+            method,
+            number,
+        )
     }
 
     /// Whether a message to this method of this object is pending.
@@ -73,9 +155,9 @@ impl Bag {
         ensures yes { result ≡ true → HasMessage object method (numbers_of self.now) }
         ensures no { result ≡ false → LacksMessage object method (numbers_of self.now) }
     {
-        match self.numbers.get(&Header::new(object, method)) {
-            Some(stack) => !stack.as_slice().is_empty(),
+        match self.objects.get(object.number as usize) {
             None => false,
+            Some(classes) => !stack_in(classes, object.class, method).is_empty(),
         }
     }
 
@@ -93,38 +175,28 @@ impl Bag {
     }
 
     /// Takes the newest message to this method of this object.
-    fn take(&mut self, object: Object, method: u8) -> Result<u32, AllocError>
+    fn take(&mut self, object: Object, method: u8) -> u32
         requires { HasMessage object method (numbers_of self.old) }
-        ensures { IfOk result (λ n. IsPopped (header_to object method) n (numbers_of self.old) (numbers_of self.new)) }
+        ensures { IsPopped (address_to object method) result (numbers_of self.old) (numbers_of self.new) }
     {
-        let header = Header::new(object, method);
-        match self.numbers.remove(&header) {
-            None => unreachable!(),
-            Some(stack) => {
-                let mut stack = stack;
-                match stack.pop() {
-                    None => unreachable!(),
-                    Some(number) => {
-                        self.numbers.insert(header, stack)?;
-                        Ok(number)
-                    }
-                }
-            }
-        }
+        take_in(
+            &mut self.objects[object.number as usize],
+            object.class,
+            method,
+        )
     }
 
     /// Takes the newest message to each of these methods of this object.
-    pub fn take_all(&mut self, object: Object, methods: &[u8]) -> Result<Members, AllocError>
+    pub fn take_all(&mut self, object: Object, methods: &[u8]) -> Members
         requires there { HasMessages object methods.now (numbers_of self.old) }
         requires different { AreDifferent methods.now }
         requires few { length methods.now ≤ 8 }
-        ensures { IfOk result (λ members. ArePopped object methods.now members (numbers_of self.old) (numbers_of self.new)) }
+        ensures { ArePopped object methods.now result (numbers_of self.old) (numbers_of self.new) }
     {
         let mut members = Members::new();
         for method in methods {
-            let number = self.take(object, *method)?;
-            members.push(number);
+            members.push(self.take(object, *method));
         }
-        Ok(members)
+        members
     }
 }

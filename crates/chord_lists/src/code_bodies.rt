@@ -278,13 +278,35 @@ fn gather(alloc: Global, pasts: Vec<Vec<Entry>>, tags: Vec<Tag>) -> Result<Vec<E
 {
     let mut pasts = pasts;
     let mut tags = tags;
-    let mut entries = Vec::new(alloc);
+    let mut entries = Vec::with_capacity(alloc, tags.len())?;
     while let Some(tag) = tags.pop() {
         let entry = take_newest(&mut pasts, tag.task);
         entries.push(entry)?;
     }
     entries.reverse();
     Ok(entries)
+}
+
+/// The entries of all pasts in the order of their numbers. Where one task made all, as where no body runs beside `Main`, its past is moved.
+fn entries_of(
+    alloc: Global,
+    pasts: Vec<Vec<Entry>>,
+    tags: Vec<Tag>,
+) -> Result<Vec<Entry>, AllocError>
+    requires { (h : List Entry) × IsLeft pasts.items tags.items h }
+    ensures { IfOk result (λ entries. (h : List Entry) → IsLeft pasts.items tags.items h → reverse entries.items ≡ h) }
+{
+    let mut pasts = pasts;
+    match pasts.pop() {
+        None => gather(alloc, pasts, tags),
+        Some(past) => {
+            if past.len() == tags.len() {
+                return Ok(past);
+            }
+            pasts.push(past)?;
+            gather(alloc, pasts, tags)
+        }
+    }
 }
 
 /// The journal of all that the bodies did.
@@ -304,7 +326,7 @@ pub fn journal_of(
         over: _,
     } = bodies;
     let pasts = pasts_of(alloc, tasks)?;
-    let entries = gather(alloc, pasts, tags)?;
+    let entries = entries_of(alloc, pasts, tags)?;
     Ok(Journal::of_entries(entries))
 }
 

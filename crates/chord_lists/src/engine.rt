@@ -153,7 +153,7 @@ fn fire<P: Playable>(
     ensures { IfOk result (λ _. State (P.program program.now) (P.stands program.now bodies.new) (numbers_of bag.new) None (number + 1)) }
 {
     let methods = program.methods(object.class, chord);
-    let members = bag.take_all(object, methods)?;
+    let members = bag.take_all(object, methods);
     program.begin(alloc, bodies, number, chord, object, members)?;
     Ok(())
 }

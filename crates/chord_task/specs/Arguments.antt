@@ -33,3 +33,8 @@ IsList (Some list) = IsRoomy list
 abbrev pub MayBeList : Option (Vec Value Global) → Type 0
 MayBeList None = Unit {0}
 MayBeList (Some list) = IsRoomy list
+
+-- the values of an entry stand in a list with room for the values of every entry, or such a list stands beside it
+abbrev pub HasWideList : Vec Value Global → Option (Vec Value Global) → Type 0
+HasWideList entry None = 64 ≤ vec_capacity entry
+HasWideList entry (Some list) = IsRoomy list

@@ -1,7 +1,7 @@
 //! A body of a task: its frames, and what it does next.
 #![tactic(auto)]
 
-ghost use Rattle.std.specs.Prelude.{◌≡◌, ◌≢◌, IfOk, Some, None};
+ghost use Rattle.std.specs.Prelude.{◌≡◌, ◌≢◌, IfOk, OnOk, Some, None};
 ghost use Rattle.chord_code.specs.declared.awaited.Awaited.TheVariants as Awaited;
 ghost use Rattle.chord_code.specs.Machine.{with_answer, ComesToAsk};
 ghost use Rattle.chord_vm.specs.Frames.{machine_of, IsReady, what_of_ask};
@@ -41,143 +41,91 @@ pub struct Body {
     pub next: Next,
 }
 
-/// What an ask says, as the entry that it becomes.
-fn what_of(ask: Ask) -> What
-    ensures { result ≡ what_of_ask ask }
-{
-    match ask {
-        Ask::Make(class) => What::Made(class),
-        Ask::Send(object, method, arguments) => What::Sent(object, method, arguments),
-        Ask::Call(object, method, arguments) => What::Called(object, method, arguments),
-        Ask::Print(text) => What::Printed(text),
-        Ask::End(end) => What::Ended(end),
-    }
-}
-
-/// The body with its next ask given.
-pub(crate) fn asked(
+/// The body comes to its next ask.
+pub(crate) fn come_to_ask(
     alloc: Global,
     code: &Code,
-    body: Body,
+    body: &mut Body,
     limits: &Limits,
-) -> Result<Body, AllocError>
-    requires { IsRunnable code.now body }
-    ensures { IfOk result (λ b. AskedBody code.now body b) }
+) -> Result<(), AllocError>
+    requires { IsRunnable code.now body.old }
+    ensures { OnOk result (AskedBody code.now body.old body.new) }
 {
-    let Body {
-        number,
-        frames,
-        next,
-    } = body;
-    match next {
-        Next::Runs => run_on(alloc, code, number, frames, limits),
-        Next::Fails(trap) => Ok(Body {
-            number,
-            frames,
-            next: Next::Ends(End::Traps(trap), End::Traps(trap)),
-        }),
-        Next::Gave(what) => Ok(Body {
-            number,
-            frames,
-            next: Next::Gave(what),
-        }),
-        Next::Ends(first, second) => Ok(Body {
-            number,
-            frames,
-            next: Next::Ends(first, second),
-        }),
+    match body.next {
+        Next::Runs => run_on(alloc, code, body, limits),
+        Next::Fails(trap) => {
+            body.next = Next::Ends(End::Traps(trap), End::Traps(trap));
+            Ok(())
+        }
+        Next::Gave(_) => Ok(()),
+        Next::Ends(..) => Ok(()),
         Next::Waits(_) => unreachable!(),
     }
 }
 
-/// The body whose frames run on to its next ask.
-fn run_on(
-    alloc: Global,
-    code: &Code,
-    number: u32,
-    frames: Frames,
-    limits: &Limits,
-) -> Result<Body, AllocError>
-    requires { ComesToAsk code.now (machine_of frames) }
-    ensures number { IfOk result (λ b. b.number ≡ number) }
-    ensures asked { IfOk result (λ b. HasRun code.now frames b) }
+/// The frames of the body run on to its next ask.
+fn run_on(alloc: Global, code: &Code, body: &mut Body, limits: &Limits) -> Result<(), AllocError>
+    requires { ComesToAsk code.now (machine_of body.old.frames) }
+    ensures number { body.new.number ≡ body.old.number }
+    ensures asked { OnOk result (HasRun code.now body.old.frames body.new) }
 {
-    let mut frames = frames;
-    let ask = advance(alloc, code, &mut frames, limits)?;
-    match ask {
+    // each arm writes on its own: what arms hand on is merged field by field, which takes longer than the rest of a turn
+    match advance(alloc, code, &mut body.frames, limits)? {
+        Ask::Make(class) => body.next = Next::Gave(What::Made(class)),
+        Ask::Send(object, method, arguments) => {
+            body.next = Next::Gave(What::Sent(object, method, arguments));
+        }
+        Ask::Call(object, method, arguments) => {
+            body.next = Next::Gave(What::Called(object, method, arguments));
+        }
+        Ask::Print(text) => body.next = Next::Gave(What::Printed(text)),
         Ask::End(first) => {
             let second = first.copied(alloc)?;
-            Ok(Body {
-                number,
-                frames,
-                next: Next::Ends(first, second),
-            })
+            body.next = Next::Ends(first, second);
         }
-        other => Ok(Body {
-            number,
-            frames,
-            next: Next::Gave(what_of(other)),
-        }),
     }
+    Ok(())
 }
 
-/// The body with its answer, so that it runs on.
-fn replied(number: u32, frames: Frames, value: Value) -> Body
-    requires ready { IsReady frames.awaited frames }
-    requires fits { with_answer (machine_of frames) frames.awaited value ≢ None }
-    ensures number { result.number ≡ number }
-    ensures answered { AnsweredWith (Some value) 0 frames result }
+/// The body gets its answer, so that it runs on.
+fn reply(body: &mut Body, value: Value)
+    requires ready { IsReady body.old.frames.awaited body.old.frames }
+    requires fits { with_answer (machine_of body.old.frames) body.old.frames.awaited value ≢ None }
+    ensures number { body.new.number ≡ body.old.number }
+    ensures answered { AnsweredWith (Some value) 0 body.old.frames body.new }
 {
-    let mut frames = frames;
-    answer(&mut frames, value);
-    Body {
-        number,
-        frames,
-        next: Next::Runs,
-    }
+    answer(&mut body.frames, value);
+    body.next = Next::Runs;
 }
 
-/// The body after its ask became the entry of this number.
-pub(crate) fn noted_body(maker: u32, frames: Frames, number: u32, what: &What) -> Body
+/// The body's ask became the entry of this number.
+pub(crate) fn note_ask(body: &mut Body, number: u32, what: &What)
     requires own { IsAnsweredByNote what.now }
-    requires may { MayAnswer (answer_of number what.now) frames }
-    ensures number { result.number ≡ maker }
-    ensures answered { AnsweredWith (answer_of number what.now) number frames result }
+    requires may { MayAnswer (answer_of number what.now) body.old.frames }
+    ensures number { body.new.number ≡ body.old.number }
+    ensures answered { AnsweredWith (answer_of number what.now) number body.old.frames body.new }
 {
     match what {
         What::Made(class) => {
             let class = *class;
-            replied(maker, frames, Value::Ref(Object { number, class }))
+            reply(body, Value::Ref(Object { number, class }))
         }
-        What::Sent(..) => replied(maker, frames, Value::Unit),
-        What::Printed(_) => replied(maker, frames, Value::Unit),
-        What::Called(..) => Body {
-            number: maker,
-            frames,
-            next: Next::Waits(number),
-        },
+        What::Sent(..) => reply(body, Value::Unit),
+        What::Printed(_) => reply(body, Value::Unit),
+        What::Called(..) => body.next = Next::Waits(number),
         _ => unreachable!(),
     }
 }
 
-/// The caller after the end of the body that it called.
-pub(crate) fn called_back(caller: Body, end: End) -> Body
-    requires ready { IsReady Awaited.ForValue caller.frames }
-    requires awaited { caller.frames.awaited ≡ Awaited.ForValue }
-    ensures { CalledBack end caller result }
+/// The body that it called has ended.
+pub(crate) fn call_back(caller: &mut Body, end: End)
+    requires ready { IsReady Awaited.ForValue caller.old.frames }
+    requires awaited { caller.old.frames.awaited ≡ Awaited.ForValue }
+    ensures { CalledBack end caller.old caller.new }
 {
-    let Body {
-        number,
-        frames,
-        next: _,
-    } = caller;
     match end {
-        End::Gives(value) => replied(number, frames, value),
-        End::Traps(trap) => Body {
-            number,
-            frames,
-            next: Next::Fails(trap),
-        },
+        End::Gives(value) => reply(caller, value),
+        End::Traps(trap) => caller.next = Next::Fails(trap),
     }
 }
 

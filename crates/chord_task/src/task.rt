@@ -1,7 +1,7 @@
 //! A stack of bodies, each waiting for the one above it, and the entries that they made.
 #![tactic(auto)]
 
-ghost use Rattle.std.specs.Prelude.{◌≡◌, ◌≢◌, ℕ, ◌-◌, ◌≤◌, List, [], ◌∷◌, true, false, IfOk, OnOk, Some, None, length, slice_get, is_none, option_copied};
+ghost use Rattle.std.specs.Prelude.{◌≡◌, ◌≢◌, ℕ, ◌+◌, ◌-◌, ◌≤◌, List, [], ◌∷◌, ◌++◌, true, false, IfOk, OnOk, Some, None, length, slice_get, is_none, option_copied, option_to_list, vec_len, vec_capacity, MatchOption};
 ghost use Rattle.chord_base.specs.declared.event.Limits.{Limits as TheLimits};
 ghost use Rattle.chord_base.specs.declared.event.What.{What as AWhat};
 ghost use Rattle.chord_base.specs.Printed.{is_end};
@@ -14,7 +14,7 @@ ghost use Rattle.chord_task.specs.Stacks.{task_noted, task_begun, IsNext};
 ghost use Rattle.chord_task.specs.Standing.{view_of, IsTaskOf, HasGiven, IsReserved, IsResumable, MayNote, MayResume, is_ready_of, waits_of, room_of, given_by, IsRoomierTop, HasRoomFor, IsSpareOf, IsReadyFor, MainBegins, CanNote};
 
 use crate::args::{Args, part_all};
-use crate::body::{Body, Next, asked, called_back, given, noted_body};
+use crate::body::{Body, Next, call_back, come_to_ask, given, note_ask};
 use chord_base::event::{Entry, Limits, What};
 use chord_base::hand::Hand;
 use chord_base::members::Members;
@@ -22,7 +22,9 @@ use chord_base::value::{Object, Value};
 use chord_code::code::Code;
 use chord_code::parts::ChordLine;
 use chord_vm::ask::Ask;
-use chord_vm::frames::{Frames, begin, reserve as reserve_frames, spare as spare_frames};
+use chord_vm::frames::{
+    Frames, begin, can_begin, reserve as reserve_frames, spare as spare_frames,
+};
 use std::alloc::{AllocError, Global};
 use std::mem;
 
@@ -40,6 +42,8 @@ pub struct Task {
     pub below: Vec<Body>,
     /// Frames for the next body.
     pub spare: Option<Frames>,
+    /// Frames of a body that has ended.
+    pub ended: Option<Frames>,
     /// A list for the values of the next firing's entry.
     pub values: Option<Vec<Value>>,
     /// The limits of its run.
@@ -73,26 +77,58 @@ fn depth_over(depth: u32, top: &Option<Body>) -> u32
     }
 }
 
+/// Frames with room for each block: those of a body that has ended, where they have it, and else new ones.
+fn frames_for(
+    alloc: Global,
+    code: &Code,
+    limits: &Limits,
+    ended: &mut Option<Frames>,
+) -> Result<Frames, AllocError>
+    ensures { IfOk result (λ f. IsSpareOf code.now limits.now f) }
+{
+    match ended.take() {
+        None => spare_frames(alloc, code, limits),
+        Some(frames) => {
+            if can_begin(code, limits, &frames) {
+                return Ok(frames);
+            }
+            spare_frames(alloc, code, limits)
+        }
+    }
+}
+
+/// Puts frames into an empty stock.
+#[inline(never)]
+fn restock(
+    alloc: Global,
+    code: &Code,
+    limits: &Limits,
+    spare: &mut Option<Frames>,
+    ended: &mut Option<Frames>,
+) -> Result<(), AllocError>
+    requires { spare.old ≡ None }
+    ensures kept { HasRoomFor code.now limits.now spare.new }
+    ensures some { OnOk result ((f : TheFrames) × (spare.new ≡ Some f) × IsSpareOf code.now limits.now f) }
+{
+    *spare = Some(frames_for(alloc, code, limits, ended)?);
+    Ok(())
+}
+
 /// Sees to frames in stock.
 fn reserve_spare(
     alloc: Global,
     code: &Code,
     limits: &Limits,
     spare: &mut Option<Frames>,
+    ended: &mut Option<Frames>,
 ) -> Result<(), AllocError>
     requires { HasRoomFor code.now limits.now spare.old }
     ensures kept { HasRoomFor code.now limits.now spare.new }
     ensures some { OnOk result ((f : TheFrames) × (spare.new ≡ Some f) × IsSpareOf code.now limits.now f) }
 {
-    match spare.take() {
-        None => {
-            *spare = Some(spare_frames(alloc, code, limits)?);
-            Ok(())
-        }
-        Some(frames) => {
-            *spare = Some(frames);
-            Ok(())
-        }
+    match spare {
+        Some(_) => Ok(()),
+        None => restock(alloc, code, limits, spare, ended),
     }
 }
 
@@ -102,16 +138,37 @@ fn reserve_values(alloc: Global, values: &mut Option<Vec<Value>>) -> Result<(), 
     ensures kept { MayBeList values.new }
     ensures some { OnOk result (IsList values.new) }
 {
-    match values.take() {
-        None => {
-            *values = Some(Vec::with_capacity(alloc, MAX_ENTRY_VALUES)?);
-            Ok(())
-        }
-        Some(list) => {
-            *values = Some(list);
-            Ok(())
+    if values.is_some() {
+        return Ok(());
+    }
+    *values = Some(Vec::with_capacity(alloc, MAX_ENTRY_VALUES)?);
+    Ok(())
+}
+
+/// The frames of a body, if there is one.
+fn frames_of(body: Option<Body>) -> Option<Frames> {
+    match body {
+        None => None,
+        Some(body) => {
+            let Body {
+                number: _,
+                frames,
+                next: _,
+            } = body;
+            Some(frames)
         }
     }
+}
+
+/// The body below comes on top, if there is one, and the frames of the one that ended are kept.
+#[inline(never)]
+fn pop_caller(top: &mut Option<Body>, below: &mut Vec<Body>, ended: &mut Option<Frames>)
+    ensures items { below.old.items ≡ below.new.items ++ option_to_list top.new }
+    ensures capacity { vec_capacity below.new ≡ vec_capacity below.old }
+    ensures cases { MatchOption top.new ((vec_len below.old ≡ 0) × (vec_len below.new ≡ 0)) (λ _. vec_len below.new + 1 ≡ vec_len below.old) }
+{
+    let caller = below.pop();
+    *ended = frames_of(mem::replace(top, caller));
 }
 
 /// Room for the answer of the body on top.
@@ -119,21 +176,9 @@ fn reserve_top(alloc: Global, top: &mut Option<Body>) -> Result<(), AllocError>
     ensures same { IsRoomierTop top.old top.new }
     ensures ready { OnOk result (IsReadyFor top.new) }
 {
-    match top.take() {
+    match top {
         None => Ok(()),
-        Some(body) => {
-            let mut body = body;
-            match reserve_frames(alloc, &mut body.frames) {
-                Ok(()) => {
-                    *top = Some(body);
-                    Ok(())
-                }
-                Err(error) => {
-                    *top = Some(body);
-                    Err(error)
-                }
-            }
-        }
+        Some(body) => reserve_frames(alloc, &mut body.frames),
     }
 }
 
@@ -164,6 +209,7 @@ impl Task {
             }),
             below: Vec::new(alloc),
             spare: None,
+            ended: None,
             values: None,
             limits: *limits,
         })
@@ -186,6 +232,7 @@ impl Task {
             top: None,
             below,
             spare: Some(frames),
+            ended: None,
             values: Some(values),
             limits: *limits,
         })
@@ -204,20 +251,11 @@ impl Task {
         ensures next { IfOk result (λ ask. IsNext (code_program code.now limits.now) (view_of self.old) (what_of_ask ask)) }
         ensures again { IfOk result (λ ask. (w : AWhat) → HasGiven self.old w → w ≡ what_of_ask ask) }
     {
-        match self.top.take() {
+        match &mut self.top {
             None => unreachable!(),
             Some(body) => {
-                let body = asked(alloc, code, body, limits)?;
-                match given(alloc, &body.next) {
-                    Ok(ask) => {
-                        self.top = Some(body);
-                        Ok(ask)
-                    }
-                    Err(error) => {
-                        self.top = Some(body);
-                        Err(error)
-                    }
-                }
+                come_to_ask(alloc, code, body, limits)?;
+                given(alloc, &body.next)
             }
         }
     }
@@ -231,13 +269,9 @@ impl Task {
         ensures same { IfOk result (λ _. view_of self.new ≡ view_of self.old) }
         ensures gave { IfOk result (λ _. given_by self.new.top ≢ None) }
     {
-        match self.top.take() {
+        match &mut self.top {
             None => unreachable!(),
-            Some(body) => {
-                let body = asked(alloc, code, body, limits)?;
-                self.top = Some(body);
-                Ok(())
-            }
+            Some(body) => come_to_ask(alloc, code, body, limits),
         }
     }
 
@@ -252,7 +286,7 @@ impl Task {
     {
         self.past.reserve(2)?;
         self.below.reserve(1)?;
-        reserve_spare(alloc, code, &self.limits, &mut self.spare)?;
+        reserve_spare(alloc, code, &self.limits, &mut self.spare, &mut self.ended)?;
         reserve_values(alloc, &mut self.values)?;
         reserve_top(alloc, &mut self.top)
     }
@@ -264,23 +298,18 @@ impl Task {
         requires { CanNote self.old number }
         ensures { (code : Parts) (limits : TheLimits) → IsTaskOf code limits self.old → (may : MayNote code limits self.old number) → IsTaskOf code limits self.new × task_noted (view_of self.old) number may.what (view_of self.new) × (is_end may.what ≡ false → (view_of self.new).top ≡ (view_of self.old).top) }
     {
-        match self.top.take() {
+        match &mut self.top {
             None => unreachable!(),
             Some(body) => {
-                let Body {
-                    number: maker,
-                    frames,
-                    next,
-                } = body;
-                match next {
+                let maker = body.number;
+                match mem::replace(&mut body.next, Next::Runs) {
                     Next::Gave(what) => {
-                        let top = noted_body(maker, frames, number, &what);
+                        note_ask(body, number, &what);
                         self.past.push_reserved(Entry {
                             number,
                             body: maker,
                             what,
                         });
-                        self.top = Some(top);
                     }
                     Next::Ends(first, second) => {
                         self.past.push_reserved(Entry {
@@ -288,8 +317,10 @@ impl Task {
                             body: maker,
                             what: What::Ended(first),
                         });
-                        if let Some(caller) = self.below.pop() {
-                            self.top = Some(called_back(caller, second));
+                        pop_caller(&mut self.top, &mut self.below, &mut self.ended);
+                        match &mut self.top {
+                            None => {}
+                            Some(caller) => call_back(caller, second),
                         }
                     }
                     _ => unreachable!(),

@@ -1,7 +1,7 @@
 //! The frames of one body: its blocks at work, and how they begin and are answered without memory.
 #![tactic(auto)]
 
-ghost use Rattle.std.specs.Prelude.{◌≡◌, ◌≢◌, ℕ, ◌+◌, ◌-◌, ◌<◌, ◌≤◌, List, [], ◌∷◌, ◌++◌, IfOk, OnOk, Some, None, length, slice_get, vec_len, vec_capacity, reverse, replicate};
+ghost use Rattle.std.specs.Prelude.{◌≡◌, ◌≢◌, ℕ, ◌+◌, ◌-◌, ◌<◌, ◌≤◌, true, false, List, [], ◌∷◌, ◌++◌, IfOk, OnOk, Some, None, length, slice_get, vec_len, vec_capacity, reverse, replicate};
 ghost use Rattle.chord_code.specs.Slots.{first_slots};
 ghost use Rattle.chord_code.specs.Machine.{body_in_block, with_answer, with_object, pops};
 ghost use Rattle.chord_vm.specs.Frames.{machine_of, IsSpacious, IsReady, IsMoved, IsRoomFor, laid};
@@ -72,6 +72,30 @@ pub fn spare(alloc: Global, code: &Code, limits: &Limits) -> Result<Frames, Allo
         spare: None,
         limits: *limits,
     })
+}
+
+/// Whether frames were made for these limits, and have room to begin any block of the code.
+pub fn can_begin(code: &Code, limits: &Limits, frames: &Frames) -> bool
+    ensures room { result ≡ true → IsRoomFor code.now frames.now }
+    ensures limits { result ≡ true → frames.now.limits ≡ limits.now }
+    ensures none { result ≡ false → IsRoomFor code.now frames.now → frames.now.limits ≡ limits.now → ⊥ }
+{
+    if frames.limits.events != limits.events {
+        return false;
+    }
+    if frames.limits.turns != limits.turns {
+        return false;
+    }
+    if frames.limits.depth != limits.depth {
+        return false;
+    }
+    let most = frames.top.slots.capacity();
+    for block in code.parts().blocks.items() {
+        if most < block.slots as usize {
+            return false;
+        }
+    }
+    true
 }
 
 /// Moves the last values, so many, to the end of another list, in their order.
@@ -190,8 +214,8 @@ pub fn reserve(alloc: Global, frames: &mut Frames) -> Result<(), AllocError>
     ensures ready { OnOk result (IsReady frames.new.awaited frames.new) }
 {
     frames.top.stack.reserve(1)?;
-    frames.below.reserve(1)?;
     if let Awaited::ForObject(Some((_, slots)), _) = frames.awaited {
+        frames.below.reserve(1)?;
         frames.spare = Some(Frame {
             block: 0,
             place: 0,

@@ -4,8 +4,8 @@ use Rattle.chord_base.specs.Bounds.{AreWithin}
 use Rattle.chord_lists.proofs.Gathering.{stands_left}
 use Rattle.chord_lists.proofs.code_bodies.journal_of.Goals as goal
 
-pub gather-requires : goal.gather-requires
-gather-requires c =
+pub entries_of-requires : goal.entries_of-requires
+entries_of-requires c =
     let r = c.requires in
     (r.0, stands_left c.args.code.now c.args.limits.now c.args.bodies c.in_ok-pasts.pasts.items r.0 r.1 c.in_ok-pasts.ensures)
 

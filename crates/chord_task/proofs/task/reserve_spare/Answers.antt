@@ -1,9 +1,6 @@
-use Rattle.std.proofs.Common.{refl, sym, ◌∙◌, subst}
+use Rattle.std.proofs.Common.{subst}
 use Rattle.chord_task.specs.Standing.{HasRoomFor}
 use Rattle.chord_task.proofs.task.reserve_spare.Goals as goal
 
 pub returns-in-Some-clause-some : goal.returns-in-Some-clause-some
-returns-in-Some-clause-some c = (c.in-Some.frames, refl, subst (HasRoomFor c.args.code.now c.args.limits.now) (sym c.take.ensures.value ∙ c.in-Some.is) c.requires)
-
-pub returns-in_ok-spare-in-None-clause-some : goal.returns-in_ok-spare-in-None-clause-some
-returns-in_ok-spare-in-None-clause-some c = (c.in_ok-spare-in-None.field-0, refl, record { room = c.in_ok-spare-in-None.ensures.room; limited = c.in_ok-spare-in-None.ensures.limits })
+returns-in-Some-clause-some c = (c.in-Some.field-0, c.in-Some.is, subst (HasRoomFor c.args.code.now c.args.limits.now) c.in-Some.is c.requires)

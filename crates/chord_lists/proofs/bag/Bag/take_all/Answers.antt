@@ -11,4 +11,4 @@ loop-method-preserved c =
     let lt : k < length js = omega (arith, c.loop-method-test.true) in
     let more : drop k js ≡ j ∷ drop (k + 1) js = rw (add-one, drop-cons js k 0) in
     let taking = rw more at c.loop-method.invariant in
-    rw (c.push.ensures, take_more js k 0 lt) (taking_turn _ _ _ _ _ _ _ j c.in_ok-number.number taking c.in_ok-number.ensures)
+    rw (c.push.ensures, take_more js k 0 lt) (taking_turn _ _ _ _ _ _ _ j c.take.result taking c.take.ensures)

@@ -1,12 +1,18 @@
-use Rattle.std.proofs.Common.{sym, ◌∙◌, refl}
+use Rattle.std.proofs.Common.{Some, refl}
+use Rattle.std.proofs.lemmas.Result.{IfOk-weaker}
+use Rattle.chord_task.specs.Standing.{IsTaskOf, AskedBody}
 use Rattle.chord_task.proofs.Asking.{may_run, task_asked, asked_gives}
 use Rattle.chord_task.proofs.task.Task.prepare.Goals as goal
 
-pub asked-requires : goal.asked-requires
-asked-requires c = may_run c.args.code.now c.args.limits.now c.args.self.now c.in-Some.body c.requires.task (sym c.take.ensures.value ∙ c.in-Some.is) c.requires.left
+pub come_to_ask-requires : goal.come_to_ask-requires
+come_to_ask-requires c = may_run c.args.code.now c.args.limits.now c.args.self.now c.in-Some.body c.requires.task c.in-Some.is c.requires.left
 
 pub returns-clause-task : goal.returns-clause-task
 returns-clause-task c =
-    let a = c.in_ok-body-in-Some.ensures in
-    let w = asked_gives c.args.code.now c.in-Some.body c.in_ok-body-in-Some.body c.in-Some.body.next refl a.by in
-    task_asked c.args.code.now c.args.limits.now c.args.self.now c.in-Some.body c.in_ok-body-in-Some.body w.0 c.requires.task (sym c.take.ensures.value ∙ c.in-Some.is) a w.1
+    let b = c.in-Some.body in
+    let b' = c.come_to_ask.new.body in
+    let t = c.args.self.now in
+    IfOk-weaker c.come_to_ask.result (λ _. AskedBody c.args.code.now b b') (λ _. IsTaskOf c.args.code.now c.args.limits.now (record { past = t.past; top = Some b'; below = t.below; spare = t.spare; ended = t.ended; values = t.values; limits = t.limits }))
+    (λ _ a.
+    let w = asked_gives c.args.code.now b b' b.next refl a.by in
+    task_asked c.args.code.now c.args.limits.now t b b' w.0 c.requires.task c.in-Some.is a w.1) c.come_to_ask.ensures

@@ -66,8 +66,8 @@ returns-in-Some-replace-clause-task c =
     in
     let top : c.args.self.now.top ≡ Some c.in-Some-replace.caller = sym c.replace.ensures.value ∙ c.in-Some-replace.is in
     let bodies = ap reverse c.push_reserved-in-Some-replace.ensures.items ∙ reverse-append c.args.self.now.below.items (c.in-Some-replace.caller ∷ []) ∙ ap (λ x. with_top x (reverse c.args.self.now.below.items)) (sym top) in
-    rw (c.replace.ensures.after, c.take.ensures.after, c.part_all-parts.ensures.list)
-    (task_resumed c.args.code.now limits c.args.self.now c.push_reserved.new.self c.push_reserved-in-Some-replace.new.self c.args.number c.args.chord c.args.object c.args.members.now vs c.begin.new.frames c.line_of.result.now c.requires.task c.requires.may c.line_of.ensures (sym same ∙ c.begin.ensures) items bodies)
+    rw (c.replace.ensures.after, c.take.ensures.after)
+    (task_resumed c.args.code.now limits c.args.self.now c.push_reserved.new.self c.push_reserved-in-Some-replace.new.self c.part_all-parts.new.wide c.args.number c.args.chord c.args.object c.args.members.now vs c.begin.new.frames c.line_of.result.now c.part_all-parts.ensures.list c.requires.task c.requires.may c.line_of.ensures (sym same ∙ c.begin.ensures) items bodies)
 
 pub returns-in_default-clause-task : goal.returns-in_default-clause-task
 returns-in_default-clause-task c =
@@ -85,5 +85,5 @@ returns-in_default-clause-task c =
     in
     let top : c.args.self.now.top ≡ None = sym c.replace.ensures.value ∙ c.in_default.is in
     let bodies = ap (λ x. with_top x (reverse c.args.self.now.below.items)) (sym top) in
-    rw (c.replace.ensures.after, c.take.ensures.after, c.part_all-parts.ensures.list)
-    (task_resumed c.args.code.now limits c.args.self.now c.push_reserved.new.self c.args.self.now.below c.args.number c.args.chord c.args.object c.args.members.now vs c.begin.new.frames c.line_of.result.now c.requires.task c.requires.may c.line_of.ensures (sym same ∙ c.begin.ensures) items bodies)
+    rw (c.replace.ensures.after, c.take.ensures.after)
+    (task_resumed c.args.code.now limits c.args.self.now c.push_reserved.new.self c.args.self.now.below c.part_all-parts.new.wide c.args.number c.args.chord c.args.object c.args.members.now vs c.begin.new.frames c.line_of.result.now c.part_all-parts.ensures.list c.requires.task c.requires.may c.line_of.ensures (sym same ∙ c.begin.ensures) items bodies)
