@@ -1,6 +1,6 @@
 mod Every
 pub mod Facts
-mod Breaks
+pub mod Breaks
 pub mod Leasts
 mod LeastBreak
 mod Free
@@ -22,5 +22,9 @@ pub mod Plans
 mod NamePlaces
 mod NamedMethods
 mod TableLookups
-mod Search
+pub mod Search
+pub mod GrownMethods
 mod Adding
+mod SharedForks
+mod OwnedNames
+mod Mapped

@@ -11,7 +11,7 @@ use Rattle.std.proofs.lemmas.Bool.{false≢true}
 use Rattle.chord_classes.specs.NamePlaces.{texts_in, name_place_from, name_place, FindsNames}
 
 -- the first of two places that is there
-abbrev or_place : Option ℕ → Option ℕ → Option ℕ
+abbrev pub or_place : Option ℕ → Option ℕ → Option ℕ
 or_place (Some j) others = Some j
 or_place None others = others
 
@@ -42,7 +42,7 @@ present false count at_w None e h = refl
 present false count at_w (Some j) e h = refl
 
 -- the same from the beginning
-place_end : (names : List (List ℕ)) (w x : List ℕ) → name_place (names ++ (w ∷ [])) x ≡ or_place (name_place names x) (cond (bytes_eq w x) (Some (length names)) None)
+pub place_end : (names : List (List ℕ)) (w x : List ℕ) → name_place (names ++ (w ∷ [])) x ≡ or_place (name_place names x) (cond (bytes_eq w x) (Some (length names)) None)
 place_end names w x = place_push 0 names w x ∙ ap (λ z. or_place (name_place names x) (cond (bytes_eq w x) (Some z) None)) (omega arith)
 
 module _ {m n : BTreeMap (Bor (List ℕ)) ℕ} {names : List (List ℕ)} (w : List ℕ) where

@@ -1,15 +1,16 @@
 -- Look-ups in the table in memory.
 use Rattle.std.proofs.Common.{◌≡◌, ℕ, suc, ◌+◌, ◌<◌, List, [], ◌∷◌, ◌++◌, map, length, Bool, true, false, cond, refl, sym, ap, subst, ◌∙◌, Option, Some, None, slice_get, get_or, arith, nat_eq, nat_lt, bytes_eq, length-append}
-use Rattle.std.specs.Prelude.{option_map, is_some}
+use Rattle.std.specs.Prelude.{option_map}
 use Rattle.std.proofs.lemmas.Bool.{ltb-true, ltb-false, eqb-true, eq-eqb}
 use Rattle.std.proofs.lemmas.Option.{slice_get_read, slice_get_past}
-use Rattle.chord_classes.specs.Table.{Method, Found, Shape, class_from, class_named, method_from, method_named, methods_at, methods_in, above, above_in, derives, inherited}
+use Rattle.chord_classes.specs.Table.{Method, Found, Shape, class_from, class_named, method_from, method_named, methods_at, methods_in, inherited}
 use Rattle.chord_classes.specs.NameRules.{builder_at}
 use Rattle.chord_classes.specs.declared.method.OwnMethod.{OwnMethod}
 use Rattle.chord_classes.specs.declared.entry.Entry.{Entry}
 use Rattle.chord_classes.specs.NamePlaces.{name_place_from, name_place}
 use Rattle.chord_classes.specs.MethodViews.{see_method, see_own}
 use Rattle.chord_classes.specs.Entries.{IsEntry, AreEntries}
+use Rattle.chord_classes.specs.Owned.{shift}
 
 -- what is there is the same where its options are
 same_some : {X : Type 0} {x y : X} → ◌≡◌ {A = Option X} (Some x) (Some y) → x ≡ y
@@ -64,39 +65,15 @@ no_entry {shapes = shapes} {entries = entries} t xs i h l = let e = ap length h 
 
 -- Deriving.
 
--- numbers that differ are not found equal
-differ : (m n : ℕ) → (m ≡ n → ⊥) → nat_eq m n ≡ false
-differ m n h = by_same (nat_eq m n) refl
-  where
-    by_same : (b : Bool) → nat_eq m n ≡ b → nat_eq m n ≡ false
-    by_same true e = absurd (h (eqb-true m n e))
-    by_same false e = e
-
 -- equality of numbers is the same either way
-turned : (m n : ℕ) → nat_eq m n ≡ nat_eq n m
-turned m n = by_same (nat_eq m n) (nat_eq n m) refl refl
+pub eq_turned : (m n : ℕ) → nat_eq m n ≡ nat_eq n m
+eq_turned m n = by_same (nat_eq m n) (nat_eq n m) refl refl
   where
     by_same : (b d : Bool) → nat_eq m n ≡ b → nat_eq n m ≡ d → nat_eq m n ≡ nat_eq n m
     by_same true true e f = e ∙ sym f
     by_same false false e f = e ∙ sym f
     by_same true false e f = e ∙ sym (eq-eqb n m (sym (eqb-true m n e)))
     by_same false true e f = sym (f ∙ sym (eq-eqb m n (sym (eqb-true n m f))))
-
--- a class derives from itself
-pub derives_itself : (shapes : List Shape) (c b : ℕ) → c ≡ b → derives shapes c b ≡ true
-derives_itself shapes c b h = rw (eq-eqb c b h) refl
-
--- a class without a base derives from no other
-pub derives_nothing : (shapes : List Shape) (c b : ℕ) → (c ≡ b → ⊥) → above shapes c ≡ [] → derives shapes c b ≡ false
-derives_nothing shapes c b h e = rw (differ c b h, e) refl
-
--- a class derives from another where its base does
-pub derives_up : (shapes : List Shape) (c b d : ℕ) → (c ≡ b → ⊥) → above shapes c ≡ d ∷ above shapes d → derives shapes c b ≡ derives shapes d b
-derives_up shapes c b d h e = rw (differ c b h, e, turned b d) refl
-
--- what is no class has none above it
-pub none_above : (shapes : List Shape) (c : ℕ) → slice_get shapes c ≡ None → above shapes c ≡ []
-none_above shapes c h = ap above_in h
 
 -- what is no class has no methods
 pub no_methods : (shapes : List Shape) (c : ℕ) → slice_get shapes c ≡ None → methods_at shapes c ≡ []
@@ -107,10 +84,6 @@ pub no_builder : (shapes : List Shape) (c : ℕ) → slice_get shapes c ≡ None
 no_builder shapes c h = rw h refl
 
 -- Methods by name.
-
--- a method, counted from a later number on
-abbrev pub shift : ℕ → Found → Found
-shift k found = record { number = k + found.number; method = found.method }
 
 -- the first of two, if it is there
 abbrev pub or_found : Option Found → Option Found → Option Found
@@ -162,19 +135,6 @@ number_within j (m ∷ ms) x f h = by_same (bytes_eq m.name x) h (λ e. number_w
     by_same : (b : Bool) → cond b (Some (record { number = j; method = m })) (method_from (j + 1) ms x) ≡ Some f → (method_from (j + 1) ms x ≡ Some f → f.number < j + 1 + length ms) → f.number < j + suc (length ms)
     by_same true e more = let same : j ≡ f.number = ap (λ (z : Found). z.number) (same_some e) in omega (arith, same)
     by_same false e more = let less = more e in omega (arith, less)
-
--- a method of a class's own is found by its place behind the inherited ones
-pub own_found : {shapes : List Shape} {class : ℕ} {entry : Entry} → IsEntry shapes class entry → (x : List ℕ) (own : OwnMethod) → ◌≡◌ {A = Option Found} (Some (see_own own)) (method_named (map see_method entry.own.all.items) x)
-    → ◌≡◌ {A = Option Found} (Some (record { number = entry.first + own.place; method = see_method own.method })) (method_named (methods_at shapes class) x)
-own_found {shapes} {class} {entry} e x own h =
-    let inherits = inherited shapes entry.base in
-    let new : method_named inherits x ≡ None = e.new x (ap is_some (sym h)) in
-    sym (
-    ap (λ z. method_named z x) e.methods ∙ method_append inherits (map see_method entry.own.all.items) x
-    ∙ ap (λ z. or_found z (option_map (shift (length inherits)) (method_named (map see_method entry.own.all.items) x))) new
-    ∙ ap (option_map (shift (length inherits))) (sym h)
-    ∙ ap (λ z. Some (record { number = z + own.place; method = see_method own.method })) (sym e.first)
-    )
 
 -- a method that is not a class's own is looked up in its base
 pub own_absent : {shapes : List Shape} {class : ℕ} {entry : Entry} → IsEntry shapes class entry → (x : List ℕ) → ◌≡◌ {A = Option Found} None (method_named (map see_method entry.own.all.items) x)

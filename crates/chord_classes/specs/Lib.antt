@@ -42,3 +42,7 @@ pub mod MethodViews
 pub mod NamePlaces
 -- What the table in memory keeps of the shapes of classes.
 pub mod Entries
+-- Versions of a map from numbers to numbers, by their forks.
+pub mod Forks
+-- In which class a method is new, and what the table in memory keeps to find it.
+pub mod Owned

@@ -96,7 +96,7 @@ fn with_header<'a>(
 }
 
 /// Whether a header adds no method: it is that of `Main`, or its name is that of a method that is there.
-fn adds_none(table: &Table, base: Option<u32>, own: &Methods, header: &Header) -> bool
+pub fn adds_none(table: &Table, base: Option<u32>, own: &Methods, header: &Header) -> bool
     ensures { result ≡ (is_main (see_header header.now) || is_some (method_named (inherited table.now base ++ map see_method own.now.all.items) header.now.name.text)) }
 {
     let name = header.name.text.items();

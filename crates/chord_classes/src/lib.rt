@@ -11,6 +11,8 @@ pub mod least;
 pub mod method;
 pub mod methods;
 pub mod names;
+mod owners;
 pub mod table;
 #[cfg(test)]
 mod tests;
+mod versions;

@@ -1,6 +1,7 @@
 //! The classes of a program by number and by name, with their methods by name.
 //!
-//! No list of methods and no parameter is copied: a class keeps the methods that are new in it and the number of its base, and a look-up walks up.
+//! No list of methods and no parameter is copied: a class keeps the methods that are new in it, and versions of two maps that it shares
+//! with its base. So a look-up takes time logarithmic in the program, however many classes stand above one.
 #![tactic(auto)]
 
 ghost use Rattle.std.specs.Prelude.{◌≡◌, ℕ, List, [], ◌∷◌, ◌++◌, length, map, IfOk, Option, Some, None, is_some, option_map};
@@ -11,11 +12,14 @@ ghost use Rattle.chord_classes.specs.Types.{type_written};
 ghost use Rattle.chord_classes.specs.NameRules.{builder_at};
 ghost use Rattle.chord_classes.specs.MethodViews.{see_found, see_builder};
 ghost use Rattle.chord_classes.specs.Entries.{IsGrown};
+ghost use Rattle.chord_classes.specs.Owned.{line_at, owned_at};
 
 use crate::entry::Entry;
 use crate::method::{Builder, Found};
 use crate::methods::Methods;
 use crate::names::Names;
+use crate::owners::{Owners, Owning, with_methods};
+use crate::versions::Versions;
 use chord_base::static_type::StaticType;
 use chord_tree::classes::Class;
 use chord_tree::names::{BasicType, ValueType};
@@ -27,18 +31,22 @@ use std::marker::Model;
 pub struct Table<'a> {
     entries: Vec<Entry<'a>>,
     names: Names<'a>,
+    /// What each class derives from, itself with it.
+    lines: Versions,
+    owners: Owners<'a>,
 }
 
 impl<'a> Model for Table<'a> {
     ghost use Rattle.std.specs.Prelude.{List};
     ghost use Rattle.chord_classes.specs.Table.{Shape};
-    ghost use Rattle.chord_classes.specs.Entries.{shapes_of, AreEntries};
+    ghost use Rattle.chord_classes.specs.Entries.{shapes_of};
+    ghost use Rattle.chord_classes.specs.Owned.{IsShapeTable};
 
     ghost Value = { List Shape };
 
     ghost view = { λ t. shapes_of t.entries.items };
 
-    ghost invariant = { λ t. AreEntries (shapes_of t.entries.items) t.entries.items t.names };
+    ghost invariant = { λ t. IsShapeTable (shapes_of t.entries.items) t.entries.items t.names t.lines t.owners };
 }
 
 impl<'a> Table<'a> {
@@ -49,6 +57,8 @@ impl<'a> Table<'a> {
         Table {
             entries: Vec::new(alloc),
             names: Names::new(alloc),
+            lines: Versions::new(alloc),
+            owners: Owners::new(alloc),
         }
     }
 
@@ -106,21 +116,21 @@ impl<'a> Table<'a> {
     pub fn method_named(&self, class: u32, name: &[u8]) -> Option<Found<'a>>
         ensures { option_map see_found result ≡ method_named (methods_at self.now class) name.now }
     {
-        let mut at = class;
-        loop {
-            let Some(entry) = self.entries.get(at as usize) else {
-                return None;
-            };
-            if let Some(own) = entry.own.named(name) {
-                return Some(Found {
-                    number: (entry.first + own.place) as u32,
-                    method: own.method,
-                });
-            }
-            match entry.base {
-                Some(base) => at = base,
-                None => return None,
-            }
+        let Some(entry) = self.entries.get(class as usize) else {
+            return None;
+        };
+        let Some(owner) = self.owners.owner(entry.owned, name) else {
+            return None;
+        };
+        let Some(owner) = self.entries.get(owner as usize) else {
+            return None;
+        };
+        match owner.own.named(name) {
+            Some(own) => Some(Found {
+                number: (owner.first + own.place) as u32,
+                method: own.method,
+            }),
+            None => None,
         }
     }
 
@@ -128,17 +138,10 @@ impl<'a> Table<'a> {
     pub fn derives(&self, class: u32, base: u32) -> bool
         ensures { result ≡ derives self.now class base }
     {
-        let mut at = class;
-        while at != base {
-            let Some(entry) = self.entries.get(at as usize) else {
-                return false;
-            };
-            match entry.base {
-                Some(next) => at = next,
-                None => return false,
-            }
+        match self.entries.get(class as usize) {
+            Some(entry) => self.lines.get(entry.line, base as usize).is_some(),
+            None => class == base,
         }
-        true
     }
 
     /// The constructor of a class.
@@ -165,20 +168,40 @@ impl<'a> Table<'a> {
         ensures { IfOk result (λ table. table ≡ self.entry ++ (shape_of self.entry (see_class class.now) ∷ [])) }
     {
         let first = self.inherited_count(base);
-        let Table { mut entries, names } = self;
+        let Table {
+            mut entries,
+            names,
+            mut lines,
+            owners,
+        } = self;
         let room = u32::MAX as usize;
         if entries.len() >= room || first > room || own.all.len() > room - first {
             return Err(AllocError);
         }
         let names = names.with(class.name.text.items())?;
+        let number = entries.len() as u32;
+        let line = lines.with(line_at(&entries, base), number as usize, number)?;
+        let Owning { owners, version } = with_methods(
+            owners,
+            owned_at(&entries, base),
+            &own.all,
+            number,
+        )?;
         entries.push(Entry {
             class,
             base,
             first,
             own,
             builder,
+            line: Some(line),
+            owned: version,
         })?;
-        Ok(Table { entries, names })
+        Ok(Table {
+            entries,
+            names,
+            lines,
+            owners,
+        })
     }
 
     /// The static type that is written, if its class is declared.
@@ -196,5 +219,25 @@ impl<'a> Table<'a> {
                 None => None,
             },
         }
+    }
+}
+
+/// The version by which it is told what a base class derives from.
+fn line_at(entries: &[Entry], base: Option<u32>) -> Option<u32>
+    ensures { result ≡ line_at entries.now base }
+{
+    match entries.get(base? as usize) {
+        Some(entry) => entry.line,
+        None => None,
+    }
+}
+
+/// The version by which the methods of a base class are found.
+fn owned_at(entries: &[Entry], base: Option<u32>) -> Option<u32>
+    ensures { result ≡ owned_at entries.now base }
+{
+    match entries.get(base? as usize) {
+        Some(entry) => entry.owned,
+        None => None,
     }
 }

@@ -1,5 +1,5 @@
 -- The rule on modifiers by what was seen before one.
-use Rattle.std.proofs.Common.{◌≡◌, ℕ, List, [], ◌∷◌, ◌++◌, Bool, true, false, not, ◌||◌, refl, sym, ap, ◌∙◌}
+use Rattle.std.proofs.Common.{◌≡◌, List, [], ◌∷◌, ◌++◌, Bool, true, false, ◌||◌, refl, sym, ap, ◌∙◌}
 use Rattle.chord_tree.specs.declared.classes.ModifierKeyword.{ModifierKeyword}
 use Rattle.chord_tree.specs.declared.classes.ModifierKeyword.TheVariants as modifiers
 use Rattle.chord_tree.specs.declared.classes.Modifier.{Modifier}

@@ -1,5 +1,5 @@
 -- What a class breaks, part by part.
-use Rattle.std.proofs.Common.{◌≡◌, ℕ, ◌+◌, ◌-◌, List, [], ◌∷◌, ◌++◌, map, length, drop, flat_map, sym, ap, ◌∙◌, Option}
+use Rattle.std.proofs.Common.{◌≡◌, ℕ, ◌+◌, ◌-◌, List, [], ◌∷◌, ◌++◌, length, drop, flat_map, sym, ap, ◌∙◌, Option}
 use Rattle.chord_tree.specs.Tree.{HeaderTree, MemberTree, ClassTree}
 use Rattle.chord_tree.specs.Walk.{member_headers, headers_of}
 use Rattle.chord_bodies.specs.Resolved.{ChordOf, ClassOf}

@@ -3,14 +3,15 @@ use Rattle.std.proofs.Common.{◌≡◌, ℕ, zero, suc, ◌+◌, ◌<◌, List,
 use Rattle.std.specs.Prelude.{unwrap_or, option_and_then}
 use Rattle.std.proofs.lemmas.List.{append-nil}
 use Rattle.chord_tree.specs.declared.names.Name.{Name}
-use Rattle.chord_tree.specs.Tree.{ClassTree, MemberTree}
+use Rattle.chord_tree.specs.Tree.{ClassTree}
 use Rattle.chord_tree.specs.Walk.{headers_of}
 use Rattle.chord_bodies.specs.Resolved.{MethodOf, ChordOf, ClassOf}
-use Rattle.chord_classes.specs.Table.{Method, Shape, above_in, above, from_base, methods_in, methods_at, inherited, class_from, class_named, base_of, shape_of, with_headers}
-use Rattle.chord_classes.specs.Plan.{method_plan, own_chords, chords_without, base_chords, overridden, own_builder, class_plan}
+use Rattle.chord_classes.specs.Table.{Method, Shape, above_in, from_base, methods_in, methods_at, inherited, class_from, class_named, base_of, shape_of, with_headers}
+use Rattle.chord_classes.specs.Plan.{method_plan, chords_without, base_chords, overridden, class_plan}
 use Rattle.chord_classes.specs.MethodViews.{see_method}
 use Rattle.chord_classes.specs.declared.method.Method as rust_method
 use Rattle.chord_classes.specs.Entries.{IsGrown}
+use Rattle.chord_classes.proofs.GrownMethods.{map_end}
 use Rattle.chord_rules.specs.Limits.{base_depth}
 use Rattle.chord_rules.specs.Planning.{planned_methods, base_methods, ArePlanned, AreAlike, depths_of, plan_parts}
 use Rattle.chord_classes.proofs.Facts.{none_some, same_some}
@@ -59,11 +60,6 @@ depth_is done (Some p) l = at_place done p (l p refl) ∙ omega arith
     at_place [] i m = absurd (omega arith)
     at_place (s ∷ ss) zero m = refl
     at_place (s ∷ ss) (suc i) m = at_place ss i (omega arith)
-
--- a function on a list and one more
-pub map_end : {A B : Type 0} (f : A → B) (xs : List A) (x : A) → map f (xs ++ (x ∷ [])) ≡ map f xs ++ (f x ∷ [])
-map_end f [] x = refl
-map_end f (a ∷ xs) x = ap (λ z. f a ∷ z) (map_end f xs x)
 
 -- one more class among those so far
 pub depths_more : (done : List Shape) (class : ClassTree) (depths after : List ℕ) (depth : ℕ) → depths ≡ depths_of done → after ≡ depths ++ (depth ∷ []) → depth ≡ base_depth depths (base_of done class) → after ≡ depths_of (done ++ (shape_of done class ∷ []))

@@ -1,5 +1,5 @@
 -- The methods that are new in a class and the room that they take, one list of headers after the other.
-use Rattle.std.proofs.Common.{◌≡◌, ℕ, ◌+◌, ◌-◌, List, [], ◌∷◌, ◌++◌, map, length, drop, Bool, true, false, cond, refl, sym, ap, subst, ◌∙◌, Option}
+use Rattle.std.proofs.Common.{◌≡◌, ℕ, ◌-◌, List, [], ◌∷◌, ◌++◌, map, drop, Bool, true, false, cond, refl, sym, ap, subst, ◌∙◌, Option}
 use Rattle.std.specs.Prelude.{is_some, ◌||◌}
 use Rattle.chord_tree.specs.Tree.{HeaderTree}
 use Rattle.chord_classes.specs.Table.{Method, is_main, method_of, method_named, with_headers}

@@ -1,7 +1,6 @@
 -- Two methods have one label exactly where they are linked directly or through others.
 use Rattle.std.proofs.Common.{◌≡◌, ℕ, List, [], ◌∷◌, Bool, true, false, cond, map, nat_eq, ◌||◌, ◌⊎◌, inl, inr, refl, sym, ap, subst, ◌∙◌}
 use Rattle.std.proofs.lemmas.Bool.{eqb-true, eq-eqb, false≢true}
-use Rattle.std.specs.Prelude.{◌↔◌}
 use Rattle.chord_bodies.specs.Resolved.{ChordOf}
 use Rattle.chord_classes.specs.Table.{among}
 use Rattle.chord_classes.specs.DeclarationRules.{Linked, here, later, Grouped, itself, through}

@@ -1,5 +1,5 @@
 -- The rule on groups, header by header: by the labels that were seen, and by the headers before.
-use Rattle.std.proofs.Common.{◌≡◌, ℕ, zero, suc, ◌+◌, ◌<◌, ◌≤◌, List, [], ◌∷◌, ◌++◌, Bool, true, false, cond, not, ◌&&◌, ◌||◌, nat_eq, length, slice_index, filter, refl, sym, ap, ◌∙◌, arith, Option, Some, None, is_some, bytes_eq}
+use Rattle.std.proofs.Common.{◌≡◌, ℕ, zero, suc, ◌+◌, ◌<◌, ◌≤◌, List, [], ◌∷◌, ◌++◌, Bool, true, false, cond, not, ◌&&◌, ◌||◌, nat_eq, length, slice_index, refl, sym, ap, ◌∙◌, arith, Option, Some, None, is_some, bytes_eq}
 use Rattle.std.specs.Prelude.{option_map, unwrap_or}
 use Rattle.std.proofs.lemmas.Bool.{false≢true, eq-eqb, eqb-true}
 use Rattle.chord_tree.specs.Tree.{HeaderTree}
@@ -13,7 +13,7 @@ use Rattle.chord_classes.proofs.Facts.{none_some, same_some}
 use Rattle.chord_rules.specs.Groups.{label}
 use Rattle.chord_rules.specs.Labels.{labels_of}
 use Rattle.chord_rules.specs.Splits.{any_spared, any_labelled, split_from}
-use Rattle.chord_rules.specs.SplitHeaders.{overridden_number, spared_below, with_label, seen_with_number, splits_at, splits_from}
+use Rattle.chord_rules.specs.SplitHeaders.{spared_below, with_label, seen_with_number, splits_at, splits_from}
 use Rattle.chord_rules.proofs.Labels.{label_of}
 
 -- the number of a method that is found is below the number of methods

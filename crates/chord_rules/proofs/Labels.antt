@@ -4,7 +4,7 @@ use Rattle.std.proofs.Common.{◌≡◌, ℕ, zero, suc, ◌+◌, ◌-◌, ◌<�
 use Rattle.chord_bodies.specs.Resolved.{ChordOf}
 use Rattle.chord_bodies.specs.declared.plan.ChordPlan.{ChordPlan}
 use Rattle.chord_bodies.specs.View.{view_chord_plan}
-use Rattle.chord_rules.proofs.Search.{item_here}
+use Rattle.chord_classes.proofs.Search.{item_here}
 use Rattle.chord_classes.specs.Table.{among}
 use Rattle.chord_rules.specs.Groups.{label, merged}
 use Rattle.chord_rules.specs.Labels.{numbers, labels_of, merged_all, AreUnder, AllIn, above_methods, above_chords}

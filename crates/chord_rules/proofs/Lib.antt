@@ -1,4 +1,3 @@
-mod Search
 mod Noted
 mod Rooms
 mod NamesInBodies
@@ -15,7 +14,6 @@ mod Joining
 mod Barred
 mod Builders
 mod FirstNamed
-mod Adding
 mod Counted
 mod Grouping
 mod Labels

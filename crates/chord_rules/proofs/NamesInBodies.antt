@@ -1,5 +1,5 @@
 -- The locals that items declare, item by item.
-use Rattle.std.proofs.Common.{◌≡◌, ℕ, List, [], ◌∷◌, ◌++◌, refl, sym, ap, ◌∙◌}
+use Rattle.std.proofs.Common.{◌≡◌, ◌++◌, refl, sym, ap}
 use Rattle.std.proofs.lemmas.List.{append-nil}
 use Rattle.chord_tree.specs.Tree.{ItemTree, ItemTrees, NoItems, MoreItems, LocalItem, StmtItem, StmtTree}
 use Rattle.chord_classes.specs.ChordRules.{items_names, stmt_names}

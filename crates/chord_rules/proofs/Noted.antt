@@ -1,7 +1,7 @@
 -- What is noted one list after the other.
-use Rattle.std.proofs.Common.{◌≡◌, ℕ, ◌+◌, List, [], ◌∷◌, ◌++◌, refl, sym, ap, ◌∙◌, Option, flat_map, append_assoc}
+use Rattle.std.proofs.Common.{◌≡◌, ℕ, ◌+◌, List, [], ◌∷◌, ◌++◌, refl, sym, ap, ◌∙◌, Option}
 use Rattle.std.specs.Prelude.{◌*◌}
-use Rattle.chord_classes.specs.Least.{keys, lesser, least}
+use Rattle.chord_classes.specs.Least.{keys, least}
 use Rattle.chord_classes.proofs.Leasts.{least_append}
 
 -- the numbers of two lists joined

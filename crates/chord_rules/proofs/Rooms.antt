@@ -1,5 +1,5 @@
 -- Names that take room, one list after the other.
-use Rattle.std.proofs.Common.{◌≡◌, ℕ, zero, suc, ◌+◌, ◌-◌, List, [], ◌∷◌, ◌++◌, length, drop, refl, sym, ap, subst, ◌∙◌, arith, Option, length-append}
+use Rattle.std.proofs.Common.{◌≡◌, ℕ, zero, suc, ◌-◌, List, [], ◌∷◌, ◌++◌, length, drop, refl, sym, ap, subst, ◌∙◌, arith, Option, length-append}
 use Rattle.chord_classes.specs.Least.{least, keys}
 use Rattle.chord_rules.specs.Limits.{TakesRoom}
 use Rattle.chord_rules.proofs.Noted.{then_noted}

@@ -1,5 +1,5 @@
 -- Of all that a program is noted to break, the tokens of one rule are those at which the rule is broken.
-use Rattle.std.proofs.Common.{◌≡◌, ℕ, ◌+◌, ◌-◌, ◌<◌, List, [], ◌∷◌, ◌++◌, Bool, true, false, cond, nat_eq, flat_map, map, length, drop, refl, sym, ap, ◌∙◌, arith, append_assoc}
+use Rattle.std.proofs.Common.{◌≡◌, ℕ, ◌+◌, ◌<◌, List, [], ◌∷◌, ◌++◌, false, cond, nat_eq, flat_map, length, drop, refl, ap, ◌∙◌, arith, append_assoc}
 use Rattle.std.proofs.lemmas.List.{append-nil}
 use Rattle.std.specs.Prelude.{nat_le, nat_lt}
 use Rattle.chord_tree.specs.Tree.{HeaderTree, MemberTree, ConstructorMember, ChordMember, ClassTree, ProgramTree}
@@ -12,14 +12,14 @@ use Rattle.chord_classes.specs.Site.{member_formals}
 use Rattle.chord_classes.specs.Plan.{class_plan}
 use Rattle.chord_classes.specs.OverrideRules.{over_shapes, in_classes, differing_headers, missing_override, wrong_override}
 use Rattle.chord_classes.specs.DeclarationRules.{declared_again, base_missing, repeated_formals, parameter_again, barred_among, barred_in, modifiers_barred, OnConstructor}
-use Rattle.chord_classes.specs.ChordRules.{repeated, repeated_in, repeated_methods, second_sync, crowded_in, second_synchronous, formal_tokens, header_tokens, block_names, member_limits, limits_passed, chord_tokens, base_token, misnamed_constructors, base_has, wrong_constructors, over_plans, mains_of, wrong_mains}
+use Rattle.chord_classes.specs.ChordRules.{repeated, repeated_in, repeated_methods, second_sync, crowded_in, second_synchronous, formal_tokens, header_tokens, block_names, member_limits, limits_passed, base_token, misnamed_constructors, base_has, wrong_constructors, over_plans, mains_of, wrong_mains}
 use Rattle.chord_classes.specs.Rules.{limits_in}
 use Rattle.chord_classes.specs.Least.{keys}
 use Rattle.chord_rules.specs.FormalNames.{formals_of_header}
 use Rattle.chord_rules.specs.Bearers.{header_barred}
 use Rattle.chord_rules.specs.Limits.{crowded_formals}
 use Rattle.chord_rules.specs.Splits.{split}
-use Rattle.chord_rules.specs.ClassKeys.{differing, hiding, misfitting, header_keys, constructor_keys, chord_keys, chord_limits, keys_of_member, name_keys, place_keys, method_limits, chord_places, inner_keys, class_keys, classes_keys, program_keys}
+use Rattle.chord_rules.specs.ClassKeys.{differing, hiding, misfitting, header_keys, chord_keys, chord_limits, keys_of_member, name_keys, place_keys, method_limits, chord_places, class_keys, classes_keys, program_keys}
 use Rattle.chord_rules.proofs.Tokens.{tokens_of, tokens_joined, tokens_flat, tokens_keys}
 
 -- a list, if two rules are one

@@ -1,17 +1,17 @@
 -- Behind the first class that breaks a rule nothing less is noted.
-use Rattle.std.proofs.Common.{◌≡◌, ℕ, suc, ◌+◌, ◌<◌, ◌≤◌, List, [], ◌∷◌, ◌++◌, Bool, true, false, length, map, min, arith, refl, sym, ap, subst, ◌∙◌, inl, inr, Option, Some, None}
+use Rattle.std.proofs.Common.{◌≡◌, ℕ, ◌+◌, ◌≤◌, List, [], ◌∷◌, ◌++◌, false, length, min, arith, refl, sym, ap, ◌∙◌, inl, inr, Option, Some, None}
 use Rattle.std.specs.Prelude.{◌*◌, is_some}
 use Rattle.std.proofs.lemmas.Bool.{false≢true}
 use Rattle.chord_tree.specs.declared.names.Name.{Name}
 use Rattle.chord_tree.specs.Tree.{UsingTree, ClassTree, ProgramTree}
 use Rattle.chord_tree.specs.Node.{size, IsNumbered}
-use Rattle.chord_tree.specs.ClassNodes.{node_base, node_class, node_classes, node_usings, node_program, node_all_classes}
+use Rattle.chord_tree.specs.ClassNodes.{node_base, node_class, node_classes, node_usings, node_all_classes}
 use Rattle.chord_tree.specs.Program.{IsProgram}
 use Rattle.chord_bodies.specs.Resolved.{ClassOf}
 use Rattle.chord_classes.specs.Table.{Shape, shape_of}
 use Rattle.chord_classes.specs.Plan.{class_plan}
 use Rattle.chord_classes.specs.ChordRules.{over_plans}
-use Rattle.chord_classes.specs.Least.{least, lesser}
+use Rattle.chord_classes.specs.Least.{least}
 use Rattle.chord_classes.proofs.Leasts.{IsIn, in_either, least_append, is_least}
 use Rattle.chord_classes.proofs.Facts.{none_some}
 use Rattle.chord_rules.specs.ClassKeys.{class_keys}

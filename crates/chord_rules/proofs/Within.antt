@@ -1,32 +1,32 @@
 -- Where the tokens of a class stand, and that it breaks the rules there: between its first token and the one after its last.
-use Rattle.std.proofs.Common.{◌≡◌, nat_eq, ℕ, zero, suc, ◌+◌, ◌<◌, ◌≤◌, List, [], ◌∷◌, ◌++◌, Bool, true, false, cond, drop, arith, refl, sym, subst, ◌∙◌, inl, inr, ◌-◌, not, ◌&&◌, ◌||◌, filter, flat_map, length, min, ap, Option, Some, None, bytes_eq, is_some}
+use Rattle.std.proofs.Common.{◌≡◌, nat_eq, ℕ, zero, suc, ◌+◌, ◌<◌, ◌≤◌, List, [], ◌∷◌, ◌++◌, Bool, true, false, cond, drop, arith, subst, inl, inr, not, ◌&&◌, ◌||◌, flat_map, length, Option, Some, None, bytes_eq, is_some}
 use Rattle.chord_tree.specs.declared.names.Name.{Name}
 use Rattle.chord_tree.specs.declared.classes.ModifierKeyword.{ModifierKeyword}
 use Rattle.chord_tree.specs.declared.classes.Modifier.{Modifier}
 use Rattle.chord_tree.specs.declared.classes.Formal.{Formal}
 use Rattle.chord_tree.specs.declared.classes.ReturnType.{ReturnType}
-use Rattle.chord_tree.specs.Tree.{StmtTree, BlockTree, ItemTrees, ItemTree, AssignStmt, CallStmt, MethodCallStmt, ThisCallStmt, NewStmt, BlockStmt, EmptyStmt, IfStmt, IfElseStmt, WhileStmt, ReturnStmt, ReturnValueStmt, MakeBlock, NoItems, MoreItems, LocalItem, StmtItem, FormalsTree, HeaderTree, MemberTree, ConstructorMember, ChordMember, ClassTree}
-use Rattle.chord_tree.specs.Node.{Node, Nodes, End, ◌▸◌, Leaf, Made, size, size_all, IsNumbered, AllNumbered}
+use Rattle.chord_tree.specs.Tree.{StmtTree, BlockTree, ItemTrees, AssignStmt, CallStmt, MethodCallStmt, ThisCallStmt, NewStmt, BlockStmt, EmptyStmt, IfStmt, IfElseStmt, WhileStmt, ReturnStmt, ReturnValueStmt, MakeBlock, NoItems, MoreItems, LocalItem, StmtItem, FormalsTree, HeaderTree, MemberTree, ConstructorMember, ChordMember, ClassTree}
+use Rattle.chord_tree.specs.Node.{End, ◌▸◌, size, size_all, IsNumbered, AllNumbered}
 use Rattle.chord_tree.specs.ExprNodes.{name}
-use Rattle.chord_tree.specs.StmtNodes.{node_block, node_items, node_other, as_stmt, as_item, node_local}
-use Rattle.chord_tree.specs.ClassNodes.{node_modifier, node_modifiers, node_formal, node_more_formals, node_formal_list, node_formals, node_header, node_headers, node_rest, node_chord, node_member, node_members, node_class, node_classes, node_base, node_public}
-use Rattle.chord_classes.specs.ChordRules.{stmt_names, block_names, items_names, named_in, repeated, counts_sync, second_sync, formal_tokens, header_tokens, new_headers, chord_tokens, base_token, builder_token, misnamed_constructors, base_has, over_plans}
-use Rattle.chord_classes.proofs.Leasts.{IsIn, in_either, of_key, least_append, is_least}
-use Rattle.std.specs.Prelude.{◌*◌, nat_le, nat_lt}
+use Rattle.chord_tree.specs.StmtNodes.{node_block, node_items, node_other, as_stmt, as_item}
+use Rattle.chord_tree.specs.ClassNodes.{node_modifier, node_modifiers, node_formal, node_more_formals, node_formal_list, node_formals, node_header, node_headers, node_rest, node_member, node_members}
+use Rattle.chord_classes.specs.ChordRules.{stmt_names, block_names, items_names, named_in, repeated, counts_sync, second_sync, formal_tokens, header_tokens, new_headers, chord_tokens, base_token, builder_token, misnamed_constructors}
+use Rattle.chord_classes.proofs.Leasts.{IsIn, in_either, of_key}
+use Rattle.std.specs.Prelude.{◌*◌}
 use Rattle.chord_tree.specs.Walk.{member_headers, headers_of}
 use Rattle.chord_bodies.specs.Resolved.{ChordOf, ClassOf}
-use Rattle.chord_classes.specs.Table.{Method, Found, Shape, is_main, method_of, method_named, base_of, inherited, from_base, shape_of}
+use Rattle.chord_classes.specs.Table.{Method, Shape, is_main, method_of, method_named, base_of, inherited}
 use Rattle.chord_classes.specs.NameRules.{when}
 use Rattle.chord_classes.specs.Site.{has_main}
-use Rattle.chord_classes.specs.Plan.{base_chords, overridden, class_plan}
+use Rattle.chord_classes.specs.Plan.{base_chords, overridden}
 use Rattle.chord_classes.specs.OverrideRules.{overrides, first_named, differs_from, unless_main, agree}
-use Rattle.chord_classes.specs.DeclarationRules.{Bearer, OnConstructor, InHeader, is_barred, barred_among, repeated_formals, declared_again, base_missing, overriding}
-use Rattle.chord_classes.specs.Least.{least, keys}
+use Rattle.chord_classes.specs.DeclarationRules.{Bearer, OnConstructor, InHeader, is_barred, barred_among, repeated_formals, overriding}
+use Rattle.chord_classes.specs.Least.{keys}
 use Rattle.chord_rules.specs.FormalNames.{formals_of_header}
 use Rattle.chord_rules.specs.Bearers.{header_barred}
 use Rattle.chord_rules.specs.Limits.{crowded_formals}
-use Rattle.chord_rules.specs.Splits.{any_spared, any_labelled, split_from, split}
-use Rattle.chord_rules.specs.ClassKeys.{differing, hiding, misfitting, header_keys, chord_keys, chord_limits, keys_of_member, name_keys, place_keys, method_limits, chord_places, inner_keys, class_keys}
+use Rattle.chord_rules.specs.Splits.{split_from}
+use Rattle.chord_rules.specs.ClassKeys.{header_keys, keys_of_member, class_keys}
 use Rattle.chord_tree.specs.declared.classes.ModifierKeyword.TheVariants as modifiers
 use Rattle.chord_tree.specs.declared.classes.ReturnType.TheVariants as results
 use Rattle.chord_tree.specs.declared.names.ValueType.TheVariants as types

@@ -1,11 +1,10 @@
 -- The rule on modifiers, modifier by modifier.
-use Rattle.std.specs.Prelude.{ℕ, List, [], ◌∷◌, ◌++◌, Bool, true, false, not, ◌&&◌, ◌||◌, nat_eq}
+use Rattle.std.specs.Prelude.{ℕ, List, [], ◌∷◌, ◌++◌, Bool, true, not, ◌&&◌, ◌||◌, nat_eq}
 use Rattle.chord_tree.specs.declared.classes.ModifierKeyword.{ModifierKeyword}
 use Rattle.chord_tree.specs.declared.classes.ModifierKeyword.TheVariants as modifiers
 use Rattle.chord_tree.specs.declared.classes.Modifier.{Modifier}
 use Rattle.chord_tree.specs.Tree.{HeaderTree}
-use Rattle.chord_classes.specs.Table.{has_word, is_virtual_word, is_main}
-use Rattle.chord_classes.specs.ChordRules.{static_word}
+use Rattle.chord_classes.specs.Table.{is_main}
 use Rattle.chord_classes.specs.NameRules.{when}
 use Rattle.chord_classes.specs.DeclarationRules as rules
 use Rattle.chord_rules.specs.declared.modifiers.Bearer.{Bearer}

@@ -1,5 +1,5 @@
 -- The groups of a class's methods, computed: each method has a label, and a chord gives all labels of its methods one label.
-use Rattle.std.specs.Prelude.{◌≡◌, ◌<◌, ◌↔◌, ℕ, ◌+◌, zero, suc, List, [], ◌∷◌, cond, map, slice_index}
+use Rattle.std.specs.Prelude.{◌≡◌, ◌↔◌, ℕ, List, [], ◌∷◌, cond, map}
 use Rattle.chord_bodies.specs.Resolved.{ChordOf}
 use Rattle.chord_classes.specs.Table.{among}
 use Rattle.chord_classes.specs.DeclarationRules.{Grouped}

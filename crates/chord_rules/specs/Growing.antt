@@ -1,5 +1,5 @@
 -- The methods that are new in a class, header by header, and the room that they take.
-use Rattle.std.specs.Prelude.{◌≡◌, ℕ, ◌-◌, List, ◌++◌, length, drop, map, Option}
+use Rattle.std.specs.Prelude.{ℕ, List, ◌++◌, map, Option}
 use Rattle.chord_tree.specs.Tree.{HeaderTree}
 use Rattle.chord_classes.specs.Table.{Method}
 use Rattle.chord_classes.specs.ChordRules.{header_tokens, new_headers}

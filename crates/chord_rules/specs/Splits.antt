@@ -1,12 +1,12 @@
 -- C11 as a list: where a class overrides some and not all methods of a group of its base class.
-use Rattle.std.specs.Prelude.{◌≡◌, ◌↔◌, ℕ, zero, suc, List, [], ◌∷◌, ◌++◌, Bool, false, not, ◌&&◌, ◌||◌, nat_eq, length, Contains}
+use Rattle.std.specs.Prelude.{◌↔◌, ℕ, zero, suc, List, [], ◌∷◌, ◌++◌, Bool, false, not, ◌&&◌, ◌||◌, nat_eq, length, Contains}
 use Rattle.chord_tree.specs.Tree.{HeaderTree, ClassTree}
 use Rattle.chord_tree.specs.Walk.{headers_of}
 use Rattle.chord_bodies.specs.Resolved.{ChordOf, ClassOf}
 use Rattle.chord_classes.specs.Table.{Method, Shape, among, inherited, base_of}
 use Rattle.chord_classes.specs.NameRules.{when}
 use Rattle.chord_classes.specs.Plan.{header_number, overridden, base_chords}
-use Rattle.chord_classes.specs.DeclarationRules.{overriding, IsSplit, SplitAmong}
+use Rattle.chord_classes.specs.DeclarationRules.{overriding, SplitAmong}
 use Rattle.chord_classes.specs.ChordRules.{over_plans}
 use Rattle.chord_rules.specs.Groups.{label}
 

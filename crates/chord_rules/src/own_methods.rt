@@ -12,7 +12,7 @@ ghost use Rattle.chord_classes.specs.Least.{least, keys};
 ghost use Rattle.chord_rules.specs.Growing.{IsCounted};
 
 use crate::limits::take_room;
-use chord_classes::build::{headers_of, is_main};
+use chord_classes::build::{adds_none, headers_of};
 use chord_classes::least::Least;
 use chord_classes::method::method_of;
 use chord_classes::methods::Methods;
@@ -103,18 +103,4 @@ fn with_header<'a>(
     take_room(&mut room, header.name.at, breaks);
     let own = own.with(method_of(owner, header))?;
     Ok(Grown { own, room })
-}
-
-/// Whether a header adds no method: it is that of `Main`, or its name is that of a method that is there.
-fn adds_none(table: &Table, base: Option<u32>, own: &Methods, header: &Header) -> bool
-    ensures { result ≡ (is_main (see_header header.now) || is_some (method_named (inherited table.now base ++ map see_method own.now.all.items) header.now.name.text)) }
-{
-    let name = header.name.text.items();
-    if is_main(header) {
-        return true;
-    }
-    if own.named(name).is_some() {
-        return true;
-    }
-    table.inherits(base, name)
 }

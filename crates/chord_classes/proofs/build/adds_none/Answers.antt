@@ -3,7 +3,7 @@ use Rattle.std.specs.Prelude.{is_some}
 use Rattle.chord_tree.specs.View.{see_header}
 use Rattle.chord_classes.specs.Table.{is_main, inherited, method_named}
 use Rattle.chord_classes.specs.MethodViews.{see_method}
-use Rattle.chord_classes.proofs.Adding.{named_joined, known_own, known_inherits, own_is_some}
+use Rattle.chord_classes.proofs.GrownMethods.{named_joined, known_own, known_inherits, own_is_some}
 use Rattle.chord_classes.proofs.build.adds_none.Goals as goal
 
 pub returns : goal.returns

@@ -1,7 +1,7 @@
 use Rattle.std.proofs.Common.{sym, ◌∙◌}
 use Rattle.chord_tree.specs.View.{see_header}
 use Rattle.chord_classes.specs.Table.{inherited}
-use Rattle.chord_classes.proofs.Adding.{grown_same, grown_one}
+use Rattle.chord_classes.proofs.GrownMethods.{grown_same, grown_one}
 use Rattle.chord_classes.proofs.build.with_header.Goals as goal
 
 pub returns-then-adds_none : goal.returns-then-adds_none

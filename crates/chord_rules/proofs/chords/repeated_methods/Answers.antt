@@ -4,7 +4,7 @@ use Rattle.chord_tree.specs.View.{see_header}
 use Rattle.chord_classes.specs.ChordRules.{repeated}
 use Rattle.chord_classes.specs.Least.{least, keys}
 use Rattle.chord_rules.proofs.NamesBefore.{next_repeated}
-use Rattle.chord_rules.proofs.Search.{item_by_item}
+use Rattle.chord_classes.proofs.Search.{item_by_item}
 use Rattle.chord_rules.proofs.chords.repeated_methods.Goals as goal
 
 pub loop-header-preserved : goal.loop-header-preserved

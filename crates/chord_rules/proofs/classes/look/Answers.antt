@@ -1,4 +1,4 @@
-use Rattle.std.proofs.Common.{◌≡◌, ◌+◌, ◌++◌, ◌∷◌, [], None, map, drop, sym, subst, ap, ◌∙◌}
+use Rattle.std.proofs.Common.{◌+◌, map, drop, sym, subst, ◌∙◌}
 use Rattle.chord_tree.specs.View.{see_class}
 use Rattle.chord_bodies.specs.View.{view_class_plan}
 use Rattle.chord_classes.specs.Plan.{plans_after}
@@ -7,7 +7,7 @@ use Rattle.chord_classes.specs.Least.{least}
 use Rattle.chord_classes.proofs.Facts.{there_is_some}
 use Rattle.chord_rules.specs.ClassKeys.{class_keys}
 use Rattle.chord_rules.specs.Passing.{ClassesNumbered}
-use Rattle.chord_rules.proofs.Search.{item_by_item, item_here}
+use Rattle.chord_classes.proofs.Search.{item_by_item, item_here}
 use Rattle.chord_rules.proofs.ClassNotes.{next_class, next_plans}
 use Rattle.chord_rules.proofs.Stopping.{classes_stopped, numbered_rest, no_some}
 use Rattle.chord_rules.proofs.classes.look.Goals as goal

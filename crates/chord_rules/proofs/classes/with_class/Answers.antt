@@ -1,12 +1,13 @@
-use Rattle.std.proofs.Common.{◌≡◌, [], ◌∷◌, ◌++◌, ◌+◌, length, map, sym, ap, ◌∙◌}
+use Rattle.std.proofs.Common.{[], ◌∷◌, ◌++◌, ◌+◌, map, ap, ◌∙◌}
 use Rattle.chord_tree.specs.View.{see_class}
-use Rattle.chord_bodies.specs.View.{view_class_plan, view_chord_plan, view_method_plan}
-use Rattle.chord_classes.specs.Table.{methods_at, base_of, shape_of}
-use Rattle.chord_classes.specs.Plan.{method_plan, chords_without, base_chords, class_plan}
+use Rattle.chord_bodies.specs.View.{view_class_plan, view_chord_plan}
+use Rattle.chord_classes.specs.Table.{methods_at, shape_of}
+use Rattle.chord_classes.specs.Plan.{method_plan, chords_without, base_chords}
 use Rattle.chord_classes.specs.MethodViews.{see_method}
 use Rattle.chord_rules.specs.Limits.{base_depth}
 use Rattle.chord_rules.specs.Planning.{base_methods}
-use Rattle.chord_rules.proofs.ClassPlans.{map_end, last_methods, methods_planned, plan_by_parts, alike_more}
+use Rattle.chord_classes.proofs.GrownMethods.{map_end}
+use Rattle.chord_rules.proofs.ClassPlans.{last_methods, methods_planned, plan_by_parts, alike_more}
 use Rattle.chord_rules.proofs.classes.with_class.Goals as goal
 
 pub returns : goal.returns

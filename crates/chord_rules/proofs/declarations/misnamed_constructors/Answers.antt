@@ -1,10 +1,10 @@
-use Rattle.std.proofs.Common.{false, map, ap, ◌∙◌}
+use Rattle.std.proofs.Common.{map, ap, ◌∙◌}
 use Rattle.chord_tree.specs.View.{see_member}
 use Rattle.chord_classes.specs.ChordRules.{misnamed_constructors}
 use Rattle.chord_classes.specs.Least.{least, keys}
 use Rattle.chord_rules.specs.Constructors.{misnamed_from}
 use Rattle.chord_rules.proofs.Builders.{misnamed_same}
-use Rattle.chord_rules.proofs.Search.{search_ended}
+use Rattle.chord_classes.proofs.Search.{search_ended}
 use Rattle.chord_rules.proofs.declarations.misnamed_constructors.Goals as goal
 
 pub returns : goal.returns

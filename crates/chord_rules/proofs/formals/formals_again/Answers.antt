@@ -1,11 +1,11 @@
-use Rattle.std.proofs.Common.{◌+◌, ◌++◌, drop, ap, sym, ◌∙◌}
+use Rattle.std.proofs.Common.{◌+◌, ◌++◌, drop, ap, ◌∙◌}
 use Rattle.std.specs.Prelude.{reverse, is_some}
 use Rattle.chord_classes.specs.NameRules.{when}
 use Rattle.chord_classes.specs.DeclarationRules.{repeated_formals}
 use Rattle.chord_classes.specs.Least.{least, keys}
 use Rattle.chord_rules.specs.FormalNames.{formal_names}
 use Rattle.chord_rules.proofs.NamesBefore.{next_formal, next_names}
-use Rattle.chord_rules.proofs.Search.{item_by_item}
+use Rattle.chord_classes.proofs.Search.{item_by_item}
 use Rattle.chord_rules.proofs.formals.formals_again.Goals as goal
 
 pub loop-formal-preserved : goal.loop-formal-preserved

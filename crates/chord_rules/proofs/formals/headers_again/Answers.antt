@@ -1,11 +1,11 @@
-use Rattle.std.proofs.Common.{◌+◌, ◌++◌, map, drop, flat_map, ap, ◌∙◌}
+use Rattle.std.proofs.Common.{◌++◌, map, flat_map, ap, ◌∙◌}
 use Rattle.std.specs.Prelude.{reverse}
 use Rattle.chord_tree.specs.View.{see_header}
 use Rattle.chord_classes.specs.DeclarationRules.{repeated_formals}
 use Rattle.chord_classes.specs.Least.{least, keys}
 use Rattle.chord_rules.specs.FormalNames.{formals_of_header, formal_names}
 use Rattle.chord_rules.proofs.NamesBefore.{next_formals}
-use Rattle.chord_rules.proofs.Search.{item_by_item}
+use Rattle.chord_classes.proofs.Search.{item_by_item}
 use Rattle.chord_rules.proofs.formals.headers_again.Goals as goal
 
 pub loop-header-preserved : goal.loop-header-preserved

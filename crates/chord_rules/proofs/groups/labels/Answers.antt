@@ -1,7 +1,7 @@
 use Rattle.std.proofs.Common.{map, ◌≡◌, ◌-◌, ◌+◌, length, sym, ap, ◌∙◌, arith}
 use Rattle.chord_rules.specs.Labels.{labels_of, merged_all}
 use Rattle.chord_bodies.specs.View.{view_chord_plan}
-use Rattle.chord_rules.proofs.Search.{behind_end}
+use Rattle.chord_classes.proofs.Search.{behind_end}
 use Rattle.chord_rules.proofs.Labels.{no_chords, labels_more}
 use Rattle.chord_rules.proofs.groups.labels.Goals as goal
 

@@ -1,8 +1,8 @@
-use Rattle.std.proofs.Common.{◌+◌, map, drop}
+use Rattle.std.proofs.Common.{◌+◌, drop}
 use Rattle.chord_classes.specs.ChordRules.{formal_tokens}
 use Rattle.chord_classes.specs.Least.{least, keys}
 use Rattle.chord_rules.proofs.Rooms.{next_room}
-use Rattle.chord_rules.proofs.Search.{item_by_item}
+use Rattle.chord_classes.proofs.Search.{item_by_item}
 use Rattle.chord_rules.proofs.limits.formals_past.Goals as goal
 
 pub loop-formal-preserved : goal.loop-formal-preserved

@@ -4,7 +4,7 @@ use Rattle.chord_classes.specs.ChordRules.{formal_tokens}
 use Rattle.chord_classes.specs.Least.{least, keys}
 use Rattle.chord_rules.specs.Limits.{crowded_formals}
 use Rattle.chord_rules.proofs.Noted.{then_noted}
-use Rattle.chord_rules.proofs.Search.{item_by_item}
+use Rattle.chord_classes.proofs.Search.{item_by_item}
 use Rattle.chord_rules.proofs.limits.header_formals_past.Goals as goal
 
 pub loop-header-preserved : goal.loop-header-preserved

@@ -3,7 +3,7 @@ use Rattle.chord_tree.specs.View.{see_header}
 use Rattle.chord_classes.specs.ChordRules.{header_tokens}
 use Rattle.chord_classes.specs.Least.{least, keys}
 use Rattle.chord_rules.proofs.Rooms.{next_room}
-use Rattle.chord_rules.proofs.Search.{item_by_item}
+use Rattle.chord_classes.proofs.Search.{item_by_item}
 use Rattle.chord_rules.proofs.limits.headers_past.Goals as goal
 
 pub loop-header-preserved : goal.loop-header-preserved

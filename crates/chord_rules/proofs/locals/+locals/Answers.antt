@@ -1,11 +1,11 @@
-use Rattle.std.proofs.Common.{map, drop, ◌++◌, ◌+◌, sym, ap, subst, ◌∙◌, arith, refl}
+use Rattle.std.proofs.Common.{map, drop, ◌++◌, ◌+◌, sym, ap, ◌∙◌, arith}
 use Rattle.chord_tree.specs.Tree.{items, NoItems, MoreItems}
 use Rattle.chord_tree.specs.ViewStmts.{see_item, see_stmt}
 use Rattle.chord_tree.proofs.SeenStmts.{seen_stmt_assign, seen_stmt_call, seen_stmt_through, seen_stmt_this, seen_stmt_new, seen_stmt_block, seen_stmt_empty, seen_stmt_if, seen_stmt_if_else, seen_stmt_while, seen_stmt_return, seen_stmt_return_value, seen_item_local, seen_item_plain, seen_block}
 use Rattle.chord_tree.proofs.Weights.{total, one_of}
-use Rattle.chord_tree.proofs.WeightsStmts.{weigh_item, weigh_stmt, of_block, of_if, of_if_else, of_while, of_plain, of_braces}
+use Rattle.chord_tree.proofs.WeightsStmts.{weigh_item, weigh_stmt, of_block, of_if, of_if_else, of_plain, of_braces}
 use Rattle.chord_classes.specs.ChordRules.{block_names, items_names, stmt_names}
-use Rattle.chord_rules.proofs.Search.{item_here, behind_end}
+use Rattle.chord_classes.proofs.Search.{item_here, behind_end}
 use Rattle.chord_rules.proofs.Rooms.{takes_none, rooms_taken, takes_one, takes_as}
 use Rattle.chord_rules.proofs.NamesInBodies.{item_and_more, stmt_item}
 use Rattle.chord_rules.proofs.locals.+locals.Goals as goal

@@ -1,11 +1,11 @@
-use Rattle.std.proofs.Common.{◌+◌, [], ◌∷◌, map, drop, flat_map, ap, ◌∙◌}
+use Rattle.std.proofs.Common.{◌+◌, map, drop, flat_map, ap, ◌∙◌}
 use Rattle.std.specs.Prelude.{◌||◌}
 use Rattle.chord_tree.specs.View.{see_class, see_member}
 use Rattle.chord_classes.specs.ChordRules.{member_mains, mains_of}
 use Rattle.chord_classes.specs.Least.{least, keys}
 use Rattle.chord_rules.specs.Mains.{wrong_from, some_main}
 use Rattle.chord_rules.proofs.MainHeaders.{next_mains, next_seen}
-use Rattle.chord_rules.proofs.Search.{item_by_item}
+use Rattle.chord_classes.proofs.Search.{item_by_item}
 use Rattle.chord_rules.proofs.mains.classes_mains.Goals as goal
 
 pub loop-class-preserved : goal.loop-class-preserved

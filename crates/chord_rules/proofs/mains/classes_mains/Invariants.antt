@@ -1,4 +1,4 @@
-use Rattle.std.proofs.Common.{◌≡◌, map, drop, flat_map}
+use Rattle.std.proofs.Common.{◌≡◌, map, drop}
 use Rattle.std.specs.Prelude.{◌||◌}
 use Rattle.chord_tree.specs.View.{see_class}
 use Rattle.chord_classes.specs.ChordRules.{mains_of}

@@ -1,11 +1,11 @@
-use Rattle.std.proofs.Common.{◌+◌, [], ◌∷◌, map, drop, flat_map, ap, ◌∙◌}
+use Rattle.std.proofs.Common.{◌+◌, map, drop}
 use Rattle.std.specs.Prelude.{◌||◌}
 use Rattle.chord_tree.specs.View.{see_header}
 use Rattle.chord_classes.specs.ChordRules.{mains_among}
 use Rattle.chord_classes.specs.Least.{least, keys}
 use Rattle.chord_rules.specs.Mains.{wrong_from, some_main, main_at}
 use Rattle.chord_rules.proofs.MainHeaders.{next_mains, next_seen}
-use Rattle.chord_rules.proofs.Search.{item_by_item}
+use Rattle.chord_classes.proofs.Search.{item_by_item}
 use Rattle.chord_rules.proofs.mains.headers_mains.Goals as goal
 
 pub loop-header-preserved : goal.loop-header-preserved

@@ -1,9 +1,6 @@
-use Rattle.std.proofs.Common.{false, not, map, ap, ◌∙◌}
+use Rattle.std.proofs.Common.{map}
 use Rattle.chord_tree.specs.View.{see_class}
-use Rattle.chord_classes.specs.NameRules.{when}
 use Rattle.chord_classes.specs.ChordRules.{mains_of}
-use Rattle.chord_classes.specs.Least.{least, keys}
-use Rattle.chord_rules.specs.Mains.{wrong_from, some_main}
 use Rattle.chord_rules.proofs.MainHeaders.{mains_and_end}
 use Rattle.chord_rules.proofs.mains.wrong_mains.Goals as goal
 

@@ -6,7 +6,7 @@ use Rattle.chord_classes.specs.Least.{least, keys}
 use Rattle.chord_classes.proofs.Leasts.{noted_four}
 use Rattle.chord_rules.specs.Bearers.{header_barred}
 use Rattle.chord_rules.specs.FormalNames.{formals_of_header}
-use Rattle.chord_rules.proofs.Search.{map_length}
+use Rattle.chord_classes.proofs.Search.{map_length}
 use Rattle.chord_rules.proofs.members.chord_breaks.Goals as goal
 
 pub returns : goal.returns

@@ -3,7 +3,7 @@ use Rattle.chord_tree.specs.View.{see_member}
 use Rattle.chord_classes.specs.Least.{least}
 use Rattle.chord_rules.specs.ClassKeys.{keys_of_member}
 use Rattle.chord_rules.proofs.Noted.{then_all}
-use Rattle.chord_rules.proofs.Search.{item_by_item}
+use Rattle.chord_classes.proofs.Search.{item_by_item}
 use Rattle.chord_rules.proofs.members.members_break.Goals as goal
 
 pub loop-member-preserved : goal.loop-member-preserved

@@ -1,8 +1,8 @@
-use Rattle.std.proofs.Common.{false, sym, ap, ◌∙◌, [], refl}
+use Rattle.std.proofs.Common.{false, ap, ◌∙◌, []}
 use Rattle.chord_classes.specs.Least.{least, keys}
 use Rattle.chord_rules.specs.Bearers.{see_bearer, barred_from}
 use Rattle.chord_rules.proofs.Barred.{barred_by_seen}
-use Rattle.chord_rules.proofs.Search.{search_ended}
+use Rattle.chord_classes.proofs.Search.{search_ended}
 use Rattle.chord_rules.proofs.modifiers.barred.Goals as goal
 
 pub returns : goal.returns

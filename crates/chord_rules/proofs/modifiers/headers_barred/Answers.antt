@@ -3,7 +3,7 @@ use Rattle.chord_tree.specs.View.{see_header}
 use Rattle.chord_classes.specs.Least.{least, keys}
 use Rattle.chord_rules.specs.Bearers.{header_barred}
 use Rattle.chord_rules.proofs.Noted.{then_noted}
-use Rattle.chord_rules.proofs.Search.{item_by_item}
+use Rattle.chord_classes.proofs.Search.{item_by_item}
 use Rattle.chord_rules.proofs.modifiers.headers_barred.Goals as goal
 
 pub loop-header-preserved : goal.loop-header-preserved

@@ -4,7 +4,7 @@ use Rattle.chord_classes.specs.Least.{least}
 use Rattle.chord_rules.specs.FirstHeaders.{see_lent}
 use Rattle.chord_rules.specs.ClassKeys.{header_keys}
 use Rattle.chord_rules.proofs.Noted.{then_all}
-use Rattle.chord_rules.proofs.Search.{item_by_item}
+use Rattle.chord_classes.proofs.Search.{item_by_item}
 use Rattle.chord_rules.proofs.overrides.headers_break.Goals as goal
 
 pub loop-header-preserved : goal.loop-header-preserved

@@ -1,7 +1,7 @@
 use Rattle.std.proofs.Common.{sym, ◌∙◌}
 use Rattle.chord_tree.specs.View.{see_header}
 use Rattle.chord_classes.specs.Table.{inherited}
-use Rattle.chord_rules.proofs.Adding.{grown_by_one}
+use Rattle.chord_classes.proofs.GrownMethods.{grown_one}
 use Rattle.chord_rules.proofs.Counted.{counted_one, counted_same}
 use Rattle.chord_rules.proofs.own_methods.with_header.Goals as goal
 
@@ -12,5 +12,5 @@ pub returns : goal.returns
 returns c =
     let adds = sym c.adds_none.ensures ∙ c.if-adds_none.false in
     counted_one adds
-    (grown_by_one (inherited c.args.table.now c.args.base) c.args.owner (see_header c.args.header.now) c.args.grown.own.all.items c.in_ok-own.own.all.items c.method_of.result adds c.method_of.ensures c.in_ok-own.ensures)
+    (grown_one (inherited c.args.table.now c.args.base) c.args.owner (see_header c.args.header.now) c.args.grown.own.all.items c.in_ok-own.own.all.items c.method_of.result adds c.method_of.ensures c.in_ok-own.ensures)
     c.take_room.ensures.room c.take_room.ensures.noted

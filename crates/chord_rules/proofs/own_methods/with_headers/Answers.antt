@@ -2,7 +2,7 @@ use Rattle.std.proofs.Common.{sym, subst, map}
 use Rattle.chord_tree.specs.View.{see_header}
 use Rattle.chord_classes.specs.Table.{inherited}
 use Rattle.chord_rules.specs.Growing.{IsCounted}
-use Rattle.chord_rules.proofs.Search.{item_here, behind_end}
+use Rattle.chord_classes.proofs.Search.{item_here, behind_end}
 use Rattle.chord_rules.proofs.Counted.{counted_over, counted_none}
 use Rattle.chord_rules.proofs.own_methods.with_headers.Goals as goal
 

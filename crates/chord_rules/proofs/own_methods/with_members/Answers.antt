@@ -5,7 +5,7 @@ use Rattle.chord_tree.specs.View.{see_member}
 use Rattle.chord_tree.specs.Walk.{member_headers}
 use Rattle.chord_classes.specs.Table.{inherited}
 use Rattle.chord_rules.specs.Growing.{IsCounted}
-use Rattle.chord_rules.proofs.Search.{item_here, behind_end}
+use Rattle.chord_classes.proofs.Search.{item_here, behind_end}
 use Rattle.chord_rules.proofs.Counted.{counted_over, counted_none}
 use Rattle.chord_rules.proofs.own_methods.with_members.Goals as goal
 

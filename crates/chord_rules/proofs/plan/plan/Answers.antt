@@ -1,7 +1,6 @@
-use Rattle.std.proofs.Common.{◌≡◌, [], map, None, sym, subst, ap, ◌∙◌}
+use Rattle.std.proofs.Common.{[], map, sym, subst, ap, ◌∙◌}
 use Rattle.std.specs.Prelude.{unwrap_or}
 use Rattle.chord_tree.specs.View.{see_class, tree_of}
-use Rattle.chord_bodies.specs.Resolved.{LayoutOf}
 use Rattle.chord_classes.specs.Plan.{plans_after, plan_of, main_in}
 use Rattle.chord_classes.specs.ChordRules.{mains_of, wrong_mains}
 use Rattle.chord_classes.specs.Least.{keys}

@@ -1,4 +1,4 @@
-use Rattle.std.proofs.Common.{◌≡◌, ◌≤◌, [], length, map, slice_index, sym, subst, ap, ◌∙◌}
+use Rattle.std.proofs.Common.{◌≤◌, [], length, map, slice_index, sym, subst, ap, ◌∙◌}
 use Rattle.chord_bodies.specs.View.{view_chord_plan}
 use Rattle.chord_classes.specs.Table.{inherited}
 use Rattle.chord_classes.specs.Least.{least, keys}

@@ -1,46 +1,52 @@
 use Rattle.std.proofs.Common.{sym, ap, subst, ◌∙◌, arith}
-use Rattle.chord_classes.specs.Table.{inherited, method_named}
+use Rattle.std.specs.Prelude.{option_map}
 use Rattle.chord_classes.specs.Entries.{AreEntries}
-use Rattle.chord_classes.proofs.TableLookups.{at_entry, no_entry, no_methods, own_found, own_absent, own_fits}
+use Rattle.chord_classes.specs.Owned.{IsShapeTable, owned_method, new_method, shift}
+use Rattle.chord_classes.proofs.TableLookups.{at_entry, own_fits}
+use Rattle.chord_classes.proofs.Mapped.{entry_read, none_read}
 use Rattle.chord_classes.proofs.table.Table.method_named.Goals as goal
 
-pub returns-in_default : goal.returns-in_default
-returns-in_default c =
-    let t = subst (λ z. AreEntries z c.self.inside.entries.items c.self.inside.names) c.self.view_is c.self.invariant in
-    sym (ap (λ z. method_named z c.args.name.now) (no_methods c.args.self.now c.loop-entry.at (no_entry t c.deref.result.now c.loop-entry.at c.deref.ensures.value c.in_default.ensures.lookup.0))) ∙ c.loop-entry.invariant
+pub returns-in_default-owner : goal.returns-in_default-owner
+returns-in_default-owner c =
+    let inside = c.self.inside in
+    let t = subst (λ z. IsShapeTable z inside.entries.items inside.names inside.lines inside.owners) c.self.view_is c.self.invariant in
+    let here = entry_read inside.entries.items c.deref.result.now c.args.class c.in-Some.entry.now c.deref.ensures.value c.in-Some.ensures.lookup.0 c.in-Some.ensures.lookup.1 in
+    sym ((t.mapped c.args.class c.in-Some.entry.now here).found c.args.name.now ∙ ap (λ z. owned_method inside.entries.items z c.args.name.now) (sym c.owner.ensures ∙ c.in_default-owner.is))
+
+pub returns-in_default-get : goal.returns-in_default-get
+returns-in_default-get c =
+    let inside = c.self.inside in
+    let t = subst (λ z. IsShapeTable z inside.entries.items inside.names inside.lines inside.owners) c.self.view_is c.self.invariant in
+    let here = entry_read inside.entries.items c.deref.result.now c.args.class c.in-Some.entry.now c.deref.ensures.value c.in-Some.ensures.lookup.0 c.in-Some.ensures.lookup.1 in
+    let gone = none_read inside.entries.items c.deref-2.result.now c.in-Some-owner.owner c.deref-2.ensures.value c.in_default-get.ensures.lookup.0 in
+    sym ((t.mapped c.args.class c.in-Some.entry.now here).found c.args.name.now ∙ ap (λ z. owned_method inside.entries.items z c.args.name.now) (sym c.owner.ensures ∙ c.in-Some-owner.is) ∙ ap (λ z. new_method z c.args.name.now) gone)
 
 pub overflow_add-result : goal.overflow_add-result
 overflow_add-result c =
-    let t = subst (λ z. AreEntries z c.self.inside.entries.items c.self.inside.names) c.self.view_is c.self.invariant in
-    let e = at_entry t c.deref.result.now c.loop-entry.at c.in-Some.entry.now c.deref.ensures.value c.in-Some.ensures.lookup.0 c.in-Some.ensures.lookup.1 in
+    let t = subst (λ z. AreEntries z c.self.inside.entries.items c.self.inside.names) c.self.view_is c.self.invariant.are in
+    let e = at_entry t c.deref-2.result.now c.in-Some-owner.owner c.in-Some-get.owner.now c.deref-2.ensures.value c.in-Some-get.ensures.lookup.0 c.in-Some-get.ensures.lookup.1 in
     let fits = own_fits e c.args.name.now c.in-Some-named.own c.in-Some-named.ensures in omega (arith, fits)
 
 pub overflow_cast-result : goal.overflow_cast-result
 overflow_cast-result c =
-    let t = subst (λ z. AreEntries z c.self.inside.entries.items c.self.inside.names) c.self.view_is c.self.invariant in
-    let e = at_entry t c.deref.result.now c.loop-entry.at c.in-Some.entry.now c.deref.ensures.value c.in-Some.ensures.lookup.0 c.in-Some.ensures.lookup.1 in
+    let t = subst (λ z. AreEntries z c.self.inside.entries.items c.self.inside.names) c.self.view_is c.self.invariant.are in
+    let e = at_entry t c.deref-2.result.now c.in-Some-owner.owner c.in-Some-get.owner.now c.deref-2.ensures.value c.in-Some-get.ensures.lookup.0 c.in-Some-get.ensures.lookup.1 in
     let fits = own_fits e c.args.name.now c.in-Some-named.own c.in-Some-named.ensures in omega (arith, fits)
 
 pub returns-in-Some-named : goal.returns-in-Some-named
 returns-in-Some-named c =
-    let t = subst (λ z. AreEntries z c.self.inside.entries.items c.self.inside.names) c.self.view_is c.self.invariant in
-    let e = at_entry t c.deref.result.now c.loop-entry.at c.in-Some.entry.now c.deref.ensures.value c.in-Some.ensures.lookup.0 c.in-Some.ensures.lookup.1 in
-    own_found e c.args.name.now c.in-Some-named.own c.in-Some-named.ensures ∙ c.loop-entry.invariant
-
-pub loop-entry-smaller : goal.loop-entry-smaller
-loop-entry-smaller c =
-    let t = subst (λ z. AreEntries z c.self.inside.entries.items c.self.inside.names) c.self.view_is c.self.invariant in
-    let e = at_entry t c.deref.result.now c.loop-entry.at c.in-Some.entry.now c.deref.ensures.value c.in-Some.ensures.lookup.0 c.in-Some.ensures.lookup.1 in
-    e.below c.in-Some-base.base c.in-Some-base.is
-
-pub loop-entry-preserved : goal.loop-entry-preserved
-loop-entry-preserved c =
-    let t = subst (λ z. AreEntries z c.self.inside.entries.items c.self.inside.names) c.self.view_is c.self.invariant in
-    let e = at_entry t c.deref.result.now c.loop-entry.at c.in-Some.entry.now c.deref.ensures.value c.in-Some.ensures.lookup.0 c.in-Some.ensures.lookup.1 in
-    sym (own_absent e c.args.name.now c.in_default-named.ensures ∙ ap (λ z. method_named (inherited c.args.self.now z) c.args.name.now) c.in-Some-base.is) ∙ c.loop-entry.invariant
+    let inside = c.self.inside in
+    let t = subst (λ z. IsShapeTable z inside.entries.items inside.names inside.lines inside.owners) c.self.view_is c.self.invariant in
+    let here = entry_read inside.entries.items c.deref.result.now c.args.class c.in-Some.entry.now c.deref.ensures.value c.in-Some.ensures.lookup.0 c.in-Some.ensures.lookup.1 in
+    let there = entry_read inside.entries.items c.deref-2.result.now c.in-Some-owner.owner c.in-Some-get.owner.now c.deref-2.ensures.value c.in-Some-get.ensures.lookup.0 c.in-Some-get.ensures.lookup.1 in
+    sym ((t.mapped c.args.class c.in-Some.entry.now here).found c.args.name.now ∙ ap (λ z. owned_method inside.entries.items z c.args.name.now) (sym c.owner.ensures ∙ c.in-Some-owner.is) ∙ ap (λ z. new_method z c.args.name.now) there
+    ∙ ap (option_map (shift c.in-Some-get.owner.now.first)) (sym c.in-Some-named.ensures))
 
 pub returns-in-None : goal.returns-in-None
 returns-in-None c =
-    let t = subst (λ z. AreEntries z c.self.inside.entries.items c.self.inside.names) c.self.view_is c.self.invariant in
-    let e = at_entry t c.deref.result.now c.loop-entry.at c.in-Some.entry.now c.deref.ensures.value c.in-Some.ensures.lookup.0 c.in-Some.ensures.lookup.1 in
-    sym (own_absent e c.args.name.now c.in_default-named.ensures ∙ ap (λ z. method_named (inherited c.args.self.now z) c.args.name.now) c.in-None.is) ∙ c.loop-entry.invariant
+    let inside = c.self.inside in
+    let t = subst (λ z. IsShapeTable z inside.entries.items inside.names inside.lines inside.owners) c.self.view_is c.self.invariant in
+    let here = entry_read inside.entries.items c.deref.result.now c.args.class c.in-Some.entry.now c.deref.ensures.value c.in-Some.ensures.lookup.0 c.in-Some.ensures.lookup.1 in
+    let there = entry_read inside.entries.items c.deref-2.result.now c.in-Some-owner.owner c.in-Some-get.owner.now c.deref-2.ensures.value c.in-Some-get.ensures.lookup.0 c.in-Some-get.ensures.lookup.1 in
+    sym ((t.mapped c.args.class c.in-Some.entry.now here).found c.args.name.now ∙ ap (λ z. owned_method inside.entries.items z c.args.name.now) (sym c.owner.ensures ∙ c.in-Some-owner.is) ∙ ap (λ z. new_method z c.args.name.now) there
+    ∙ ap (option_map (shift c.in-Some-get.owner.now.first)) (sym c.in-None.ensures))

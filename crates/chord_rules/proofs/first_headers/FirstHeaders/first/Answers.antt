@@ -1,4 +1,4 @@
-use Rattle.std.proofs.Common.{◌≡◌, slice_get, sym, ap, ◌∙◌}
+use Rattle.std.proofs.Common.{slice_get, sym, ap, ◌∙◌}
 use Rattle.std.specs.Prelude.{option_map}
 use Rattle.chord_rules.specs.FirstHeaders.{see_lent}
 use Rattle.chord_rules.proofs.FirstNamed.{first_at, no_first}
