@@ -33,7 +33,7 @@ ghost use Rattle.std.specs.Prelude.{◌≡◌, ◌≤◌, ◌<◌, ◌+◌, true
 ghost use Rattle.chord_code.specs.declared.instruction.Instruction.TheVariants as instr;
 ghost use Rattle.chord_base.specs.declared.event.What.TheVariants.{Begun, Made, Sent};
 ghost use Rattle.chord_rule.specs.Kinds.{newcomer_first, drew, saw_count};
-ghost use Rattle.chord_space.specs.Desks.{view, code_of, limits_of, IsDeskOf, IsSameDesk};
+ghost use Rattle.chord_space.specs.Desks.{view, space_code, space_limits, IsDeskOf, IsSameDesk};
 
 /// A parcel that keeps no entry.
 #[derive(Drop)]
@@ -70,7 +70,7 @@ fn sending(alloc: Global) -> Result<Code, AllocError>
 /// A table for that code.
 fn table(alloc: Global, code: &Code, events: u32) -> Result<(Space<Letter>, Desk<Letter>), AllocError>
     requires { (code.now ≡ CODE) × (0 < events) × (events ≤ 65536) }
-    ensures { IfOk result (λ r. (code_of r.0 ≡ CODE) × (limits_of r.0 ≡ record { events = events; turns = 9; depth = 9 }) × (r.0.events ≡ events) × IsDeskOf r.0 r.1 × (view r.1 ≡ newcomer_first)) }
+    ensures { IfOk result (λ r. (space_code r.0 ≡ CODE) × (space_limits r.0 ≡ record { events = events; turns = 9; depth = 9 }) × (r.0.events ≡ events) × IsDeskOf r.0 r.1 × (view r.1 ≡ newcomer_first)) }
 {
     let limits = Limits { events, turns: 9, depth: 9 };
     Space::make(alloc, code, &limits)
@@ -78,7 +78,7 @@ fn table(alloc: Global, code: &Code, events: u32) -> Result<(Space<Letter>, Desk
 
 /// `Main` makes an object and sends it a message: the numbers of the three entries.
 fn sent(alloc: Global, space: &Space<Letter>, desk: &mut Desk<Letter>) -> Result<(u32, u32, u32), AllocError>
-    requires code { (code_of space.now ≡ CODE) × (limits_of space.now ≡ record { events = 16; turns = 9; depth = 9 }) }
+    requires code { (space_code space.now ≡ CODE) × (space_limits space.now ≡ record { events = 16; turns = 9; depth = 9 }) }
     requires desk { IsDeskOf space.now desk.old × (view desk.old ≡ newcomer_first) }
     ensures desk { IsSameDesk desk.old desk.new }
     ensures sent { IfOk result (λ r. (r.0 ≡ 0) × (r.0 < r.1) × (r.1 < r.2) × (r.2 < space.now.events) × (view desk.new ≡ saw_count (drew (saw_count (drew (saw_count (drew newcomer_first r.0 0 Begun) (r.0 + 1)) r.1 0 (Made 0)) (r.1 + 1)) r.2 0 (Sent (record { number = r.1; class = 0 }) 0 [])) (r.2 + 1))) }
@@ -93,7 +93,7 @@ fn sent(alloc: Global, space: &Space<Letter>, desk: &mut Desk<Letter>) -> Result
 
 /// The message is linked in its bag.
 fn linked(space: &Space<Letter>, desk: &mut Desk<Letter>, begun: u32, made: u32, message: u32)
-    requires code { (code_of space.now ≡ CODE) × (limits_of space.now ≡ record { events = 16; turns = 9; depth = 9 }) × (space.now.events ≡ 16) }
+    requires code { (space_code space.now ≡ CODE) × (space_limits space.now ≡ record { events = 16; turns = 9; depth = 9 }) × (space.now.events ≡ 16) }
     requires desk { IsDeskOf space.now desk.old }
     requires sent { SENT }
     ensures desk { IsSameDesk desk.old desk.new × ((view desk.new).flight ≡ Some message) }
@@ -182,12 +182,12 @@ use Rattle.chord_base.specs.declared.event.Limits.{Limits}
 use Rattle.chord_code.specs.declared.parts.Parts.{Parts}
 use Rattle.chord_code.specs.Meaning.{code_program}
 use Rattle.chord_rule.specs.declared.view.View.{View}
-use Rattle.chord_space.specs.Desks.{limits_of}
+use Rattle.chord_space.specs.Desks.{space_limits}
 use Rattle.chord_space.specs.Gives.{MayLink}
 use Rattle.chord_space.proofs.Sending.{may_link}
 
 pub link-requires-clause-link : goal.link-requires-clause-link
-link-requires-clause-link c = let code = c.requires.code in let sent = c.requires.sent in let limits : Limits = limits_of c.args.space.now in
+link-requires-clause-link c = let code = c.requires.code in let sent = c.requires.sent in let limits : Limits = space_limits c.args.space.now in
     subst (λ (y : Parts × View). MayLink (code_program y.0 limits) y.1 c.args.message (record { number = c.args.made; class = 0 }) 0 [] []) (λ i. (sym code.0 i, sym sent.4 i))
         (may_link limits (ap (λ (l : Limits). l.depth) code.1) c.args.begun c.args.made c.args.message sent.0 sent.1 sent.2)
 '''
