@@ -1,6 +1,5 @@
 -- What is said of the members of a class and of classes, one after another.
-use Rattle.std.proofs.Common.{◌≡◌, ℕ, ◌+◌, ◌++◌, List, [], ◌∷◌, refl, sym, ap, ◌∙◌, Option, None, map}
-use Rattle.std.specs.Prelude.{flat_map}
+use Rattle.std.proofs.Common.{◌≡◌, ℕ, ◌+◌, ◌++◌, List, [], ◌∷◌, sym, ap, ◌∙◌, Option, None, map}
 use Rattle.chord_tree.specs.Tree.{MemberTree, ClassTree}
 use Rattle.chord_bodies.specs.declared.body.Body.{Body}
 use Rattle.chord_bodies.specs.Resolved.{BodyOf}

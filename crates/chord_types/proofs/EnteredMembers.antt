@@ -1,5 +1,5 @@
 -- What is said of members and of the parameters that are declared, from what is said of their parts.
-use Rattle.std.proofs.Common.{◌≡◌, ℕ, ◌+◌, ◌*◌, ◌<◌, ◌++◌, List, [], ◌∷◌, Bool, refl, sym, ap, subst, ◌∙◌, Option, Some, None, length, map, option_map, arith}
+use Rattle.std.proofs.Common.{◌≡◌, ℕ, ◌+◌, ◌*◌, ◌++◌, List, [], ◌∷◌, refl, sym, ap, ◌∙◌, Option, Some, None, length, map, option_map, arith}
 use Rattle.std.specs.Borrow.{Bor}
 use Rattle.chord_tree.specs.declared.names.ValueType.{ValueType}
 use Rattle.chord_tree.specs.declared.classes.Formal.{Formal}
@@ -19,9 +19,9 @@ use Rattle.chord_classes.specs.Resolve.{resolved_member, resolved_block, is_buil
 use Rattle.chord_classes.specs.Least.{keys, least}
 use Rattle.chord_types.specs.declared.site.Site.{Site}
 use Rattle.chord_types.specs.Sites.{see_site, declares, Declares}
-use Rattle.chord_types.specs.StmtChecked.{IsBlockChecked, block_breaks, behind}
-use Rattle.chord_types.specs.MemberChecked.{DeclaresAll, IsEntered, IsMemberChecked, formal_statics, declares_all, member_breaks}
-use Rattle.chord_classes.proofs.Leasts.{noted_two, noted_three, least_append}
+use Rattle.chord_types.specs.StmtChecked.{IsBlockChecked, block_breaks}
+use Rattle.chord_types.specs.MemberChecked.{DeclaresAll, IsEntered, IsMemberChecked, formal_statics, declares_all}
+use Rattle.chord_classes.proofs.Leasts.{noted_three, least_append}
 use Rattle.chord_types.proofs.Notes.{nothing_before, nothing_after, append_more}
 use Rattle.chord_types.proofs.Items.{map_append}
 

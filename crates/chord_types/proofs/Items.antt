@@ -1,11 +1,9 @@
 -- What is said of statements, items and blocks, from what is said of their parts.
-use Rattle.std.proofs.Common.{◌≡◌, ℕ, ◌+◌, ◌≤◌, ◌++◌, List, [], ◌∷◌, refl, sym, ap, subst, ◌∙◌, Option, Some, None, length, map, take, arith}
-use Rattle.chord_tree.specs.declared.names.Name.{Name}
+use Rattle.std.proofs.Common.{◌≡◌, ℕ, ◌+◌, ◌≤◌, ◌++◌, List, [], ◌∷◌, refl, sym, ap, subst, ◌∙◌, Option, None, length, map, take, arith}
 use Rattle.chord_tree.specs.declared.names.ValueType.{ValueType}
-use Rattle.chord_tree.specs.Tree.{ExprTree, StmtTree, BlockTree, ItemTree, ItemTrees, LocalItem, StmtItem, BlockStmt, IfStmt, IfElseStmt, WhileStmt, MakeBlock, items}
+use Rattle.chord_tree.specs.Tree.{ExprTree, StmtTree, BlockTree, ItemTree, LocalItem, StmtItem, BlockStmt, IfStmt, IfElseStmt, WhileStmt, MakeBlock, items}
 use Rattle.chord_tree.specs.Terms.{term}
-use Rattle.chord_tree.specs.Walk.{Used, over_value}
-use Rattle.chord_base.specs.declared.static_type.StaticType.{StaticType}
+use Rattle.chord_tree.specs.Walk.{over_value}
 use Rattle.chord_bodies.specs.declared.expr.Expr.{Expr}
 use Rattle.chord_bodies.specs.declared.stmt.Stmt.{Stmt}
 use Rattle.chord_bodies.specs.Resolved.{StmtOf, StmtsOf}
@@ -16,7 +14,7 @@ use Rattle.chord_classes.specs.Site as sites
 use Rattle.chord_classes.specs.Site.{after, stmt_locals, block_locals, items_locals}
 use Rattle.chord_classes.specs.TypeRules.{is_bool, when_typed}
 use Rattle.chord_classes.specs.ItemRules.{value_of}
-use Rattle.chord_classes.specs.Resolve.{resolved, resolved_stmt, resolved_block, resolved_items}
+use Rattle.chord_classes.specs.Resolve.{resolved, resolved_stmt, resolved_items}
 use Rattle.chord_classes.specs.Least.{keys, least}
 use Rattle.chord_classes.specs.AllNotes.{term_keys, item_keys}
 use Rattle.chord_types.specs.declared.site.Site.{Site}

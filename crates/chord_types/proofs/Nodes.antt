@@ -1,33 +1,28 @@
 -- What is said of an expression, from what is said of its parts, a node at a time.
-use Rattle.std.proofs.Common.{◌≡◌, ℕ, ◌++◌, List, [], ◌∷◌, Bool, false, not, ◌&&◌, refl, sym, ap, subst, ◌∙◌, Option, Some, None, length, map, nat_eq, flat_map}
-use Rattle.std.specs.Prelude.{is_none, unwrap_or}
+use Rattle.std.proofs.Common.{◌≡◌, ℕ, ◌++◌, List, [], ◌∷◌, false, refl, sym, ap, subst, ◌∙◌, Option, Some, None, map, flat_map}
+use Rattle.std.specs.Prelude.{unwrap_or}
 use Rattle.chord_tree.specs.declared.names.Name.{Name}
-use Rattle.chord_tree.specs.declared.names.ValueType.{ValueType}
 use Rattle.chord_tree.specs.declared.exprs.Operator.{Operator}
 use Rattle.chord_tree.specs.Tree.{ExprTree, exprs}
 use Rattle.chord_tree.specs.Terms.{Term, Terms, GroupTerm, MinusTerm, NotTerm, OperationTerm, NewTerm, OwnCallTerm, CallTerm, term, terms, first_token}
-use Rattle.chord_tree.specs.Walk.{Role, Used, Alone, Receiver}
+use Rattle.chord_tree.specs.Walk.{Role, Used, Receiver}
 use Rattle.chord_base.specs.declared.static_type.StaticType.{StaticType}
-use Rattle.chord_bodies.specs.declared.stmt.Stmt.{Stmt}
 use Rattle.chord_bodies.specs.Resolved.{ExprOf, ExprsOf}
 use Rattle.chord_bodies.specs.Resolved as to
-use Rattle.chord_bodies.specs.View.{view_expr, view_stmt, expr_list}
+use Rattle.chord_bodies.specs.View.{view_expr, expr_list}
 use Rattle.chord_classes.specs.Table.{class_named}
-use Rattle.chord_classes.specs.Types.{value_type}
 use Rattle.chord_classes.specs.Site.{Site}
 use Rattle.chord_classes.specs.TypedTerms.{Passed, Target, TypedTerm, GroupTyped, MinusTyped, NotTyped, OperationTyped, NewTyped, typed_call, is_console, own_target, target_on}
-use Rattle.chord_classes.specs.NameRules.{when, may_reach, is_used, class_formals, barred_class}
-use Rattle.chord_classes.specs.TypeRules.{misfits_for}
 use Rattle.chord_classes.specs.Typed.{judged, type_of_term, typed_term, passed}
-use Rattle.chord_classes.specs.Resolve.{resolved, all_resolved, resolved_alone, applied, call_of, done, printed}
-use Rattle.chord_classes.specs.Least.{keys, least}
+use Rattle.chord_classes.specs.Resolve.{resolved, all_resolved, applied, call_of}
+use Rattle.chord_classes.specs.Least.{least}
 use Rattle.chord_classes.specs.AllNotes.{typed_term_keys, term_keys}
 use Rattle.chord_types.specs.declared.operand.Operand.{Operand}
 use Rattle.chord_types.specs.declared.operand.Arguments.{Arguments}
 use Rattle.chord_types.specs.Views.{see_passed}
-use Rattle.chord_types.specs.CallKeys.{call_keys, call_type, built_keys}
-use Rattle.chord_types.specs.Checked.{IsChecked, AreChecked, IsReceiver, IsAlone, term_breaks, terms_breaks}
-use Rattle.chord_classes.proofs.Leasts.{noted_two, noted_three, noted_four}
+use Rattle.chord_types.specs.CallKeys.{call_keys, call_type}
+use Rattle.chord_types.specs.Checked.{IsChecked, AreChecked, IsReceiver, term_breaks, terms_breaks}
+use Rattle.chord_classes.proofs.Leasts.{noted_two, noted_three}
 use Rattle.chord_types.proofs.Notes.{and_nothing, nothing_before, nothing_after, append_more}
 use Rattle.chord_types.proofs.Lists.{map_last}
 

@@ -1,9 +1,9 @@
 -- The least of what was noted, step by step.
-use Rattle.std.proofs.Common.{◌≡◌, ℕ, List, [], ◌∷◌, ◌++◌, refl, sym, ap, subst, ◌∙◌, Option, Some, None, is_some, min, Bool, true, false, nat_lt, ◌≤◌, ◌<◌, arith, inl, inr}
+use Rattle.std.proofs.Common.{◌≡◌, ℕ, List, [], ◌∷◌, ◌++◌, refl, sym, ap, ◌∙◌, Option, Some, None, is_some, min, Bool, true, false, nat_lt, ◌≤◌, arith, inl, inr}
 use Rattle.std.proofs.lemmas.Bool.{false≢true, lt-ltb}
 use Rattle.std.proofs.lemmas.Bool.Decides.{leb_tells}
 use Rattle.chord_classes.specs.NameRules.{when}
-use Rattle.chord_classes.specs.Least.{keys, lesser, least}
+use Rattle.chord_classes.specs.Least.{keys, least}
 
 -- nothing after a list is the list
 pub nothing_after : {A : Type 0} (xs : List A) → xs ++ [] ≡ xs

@@ -1,25 +1,24 @@
 -- What is said of statements in which no statement stands, from what is said of their parts.
-use Rattle.std.proofs.Common.{◌≡◌, ℕ, ◌++◌, List, [], ◌∷◌, Bool, true, false, cond, not, refl, sym, ap, subst, ◌∙◌, Option, Some, None, map, is_some}
+use Rattle.std.proofs.Common.{◌≡◌, ℕ, [], Bool, cond, not, refl, sym, ap, subst, ◌∙◌, Option, Some, None, map, is_some}
 use Rattle.std.specs.Prelude.{is_none, option_and_then}
 use Rattle.chord_tree.specs.declared.names.Name.{Name}
 use Rattle.chord_tree.specs.declared.names.ValueType.{ValueType}
-use Rattle.chord_tree.specs.Tree.{ExprTree, ExprTrees, ActualsTree, DotTree, DotTrees, MakeActuals, MakeDot, AssignStmt, CallStmt, MethodCallStmt, ThisCallStmt, NewStmt, ReturnValueStmt, LocalItem, StmtItem}
+use Rattle.chord_tree.specs.Tree.{ExprTree, ExprTrees, ActualsTree, DotTree, DotTrees, MakeActuals, MakeDot, AssignStmt, CallStmt, MethodCallStmt, ThisCallStmt, NewStmt, ReturnValueStmt, LocalItem}
 use Rattle.chord_tree.specs.Terms.{Term, Terms, term, terms, called, VariableTerm, ThisTerm, OwnCallTerm, NewTerm, CallTerm}
 use Rattle.chord_tree.specs.Walk.{Used, Alone, Receiver}
 use Rattle.chord_base.specs.declared.static_type.StaticType.{StaticType}
-use Rattle.chord_bodies.specs.declared.expr.Expr.{Expr}
 use Rattle.chord_bodies.specs.declared.stmt.Stmt.{Stmt}
 use Rattle.chord_bodies.specs.Resolved as to
 use Rattle.chord_bodies.specs.View.{view_expr, view_stmt, expr_list}
 use Rattle.chord_classes.specs.Types.{type_written}
 use Rattle.chord_classes.specs.Site as sites
 use Rattle.chord_classes.specs.Site.{variable_named}
-use Rattle.chord_classes.specs.TypedTerms.{Passed, Target, typed_call, is_console, own_target, target_on}
+use Rattle.chord_classes.specs.TypedTerms.{Target, typed_call, is_console, own_target, target_on}
 use Rattle.chord_classes.specs.NameRules.{when}
 use Rattle.chord_classes.specs.TypeRules.{is_bool, when_typed, misfit}
-use Rattle.chord_classes.specs.Typed.{local_type, type_of_term, typed_term, passed}
+use Rattle.chord_classes.specs.Typed.{local_type, type_of_term}
 use Rattle.chord_classes.specs.ItemRules.{value_of, undeclared_type}
-use Rattle.chord_classes.specs.Resolve.{resolved, all_resolved, resolved_alone, slot_of, done, printed}
+use Rattle.chord_classes.specs.Resolve.{resolved, slot_of, done, printed}
 use Rattle.chord_classes.specs.Least.{keys, least}
 use Rattle.chord_classes.specs.AllNotes.{typed_term_keys, term_keys}
 use Rattle.chord_types.specs.declared.operand.Operand.{Operand}

@@ -1,6 +1,6 @@
 -- Whether items surely return, by the first of them.
-use Rattle.std.proofs.Common.{◌≡◌, Bool, true, false, ℕ, [], ◌∷◌, ◌++◌, List, refl, sym, ap, ◌∙◌}
-use Rattle.std.specs.Prelude.{◌&&◌, ◌||◌}
+use Rattle.std.proofs.Common.{◌≡◌, Bool, true, false, ℕ, [], ◌∷◌, ◌++◌, List, refl}
+use Rattle.std.specs.Prelude.{◌||◌}
 use Rattle.chord_tree.specs.declared.names.Name.{Name}
 use Rattle.chord_tree.specs.declared.exprs.Operator.{Operator}
 use Rattle.chord_tree.specs.Tree.{ExprTree, LinkTree, LinkTrees, DotTree, DotTrees, ItemTree, LocalItem, StmtItem, NoDots, MoreDots, MakeDot, MakeActuals, NoLinks, MoreLinks, MakeLink, ChainExpr, items, dots}

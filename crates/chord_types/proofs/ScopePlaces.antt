@@ -1,5 +1,5 @@
 -- The first places of names, as a scope keeps them: one variable more, one variable less, and what is found.
-use Rattle.std.proofs.Common.{◌≡◌, ℕ, suc, ◌+◌, ◌<◌, List, [], ◌∷◌, ◌++◌, map, Bool, true, false, cond, length, refl, sym, ap, subst, ◌∙◌, arith, Option, Some, None, is_some, slice_get, option_map, nat_eq, nat_lt, get_or, ◌≤◌, inl, inr}
+use Rattle.std.proofs.Common.{◌≡◌, ℕ, suc, ◌+◌, ◌<◌, List, [], ◌∷◌, ◌++◌, map, Bool, true, false, cond, length, refl, sym, ap, ◌∙◌, arith, Option, Some, None, is_some, slice_get, option_map, nat_eq, nat_lt, get_or, inl, inr}
 use Rattle.std.specs.Option.{option_copied, option_eq, IfSome}
 use Rattle.std.proofs.lemmas.Option.{slice_get_cases, slice_get_read}
 use Rattle.std.specs.Str.{bytes_eq}
@@ -7,7 +7,7 @@ use Rattle.std.specs.Map.{update}
 use Rattle.std.specs.Borrow.{Bor}
 use Rattle.std.specs.BTreeMap.{BTreeMap, get_by}
 use Rattle.std.specs.Ordering.{nat_cmp}
-use Rattle.std.specs.Cmp.Lexicographic.{slice_cmp, bytes_decides, nat_list_eq_equiv}
+use Rattle.std.specs.Cmp.Lexicographic.{slice_cmp, bytes_decides}
 use Rattle.std.proofs.lemmas.Bool.{false≢true, eqb-true, eq-eqb, ltb-true, lt-ltb}
 use Rattle.chord_classes.specs.NamePlaces.{name_place_from, name_place, FindsNames}
 use Rattle.chord_classes.specs.Site as sites

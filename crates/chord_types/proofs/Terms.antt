@@ -1,10 +1,10 @@
 -- Terms of what lies in memory: chains, links and calls.
-use Rattle.std.proofs.Common.{◌≡◌, Bool, [], ◌∷◌, map, refl, ap, ◌∙◌}
+use Rattle.std.proofs.Common.{◌≡◌, Bool, map, refl, ap, ◌∙◌}
 use Rattle.chord_tree.specs.declared.exprs.Link.{Link, out-Link}
 use Rattle.chord_tree.specs.declared.exprs.Dot.{Dot, out-Dot}
 use Rattle.chord_tree.specs.declared.exprs.Actuals.{out-Actuals}
-use Rattle.chord_tree.specs.Tree.{ExprTree, LinkTree, LinkTrees, ChainExpr, MakeLink, MakeDot, links, dots, exprs}
-use Rattle.chord_tree.specs.Terms.{Term, term, terms, term_after, operated, called, OperationTerm, CallTerm}
+use Rattle.chord_tree.specs.Tree.{ExprTree, LinkTree, LinkTrees, ChainExpr, MakeLink, MakeDot, exprs}
+use Rattle.chord_tree.specs.Terms.{Term, term, terms, term_after, operated, OperationTerm, CallTerm}
 use Rattle.chord_tree.specs.ViewExprs.{see_expr, see_link, see_dot}
 use Rattle.chord_tree.proofs.SeenExprs.{seen_link, seen_dot, seen_actuals}
 use Rattle.chord_types.specs.Checked.{on_link, on_dot}

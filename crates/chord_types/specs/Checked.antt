@@ -1,9 +1,8 @@
 -- What is said of an expression that was looked at: what it is resolved to, its type, and the least of what was noted.
 use Rattle.std.specs.Prelude.{◌≡◌, ℕ, List, [], ◌∷◌, map, Option, None}
-use Rattle.chord_tree.specs.Tree.{ExprTree, LinkTree, DotTree, dots, links}
+use Rattle.chord_tree.specs.Tree.{LinkTree, DotTree, dots, links}
 use Rattle.chord_tree.specs.Terms.{Term, Terms, called, operated}
 use Rattle.chord_tree.specs.Walk.{Role, Used, Alone, Receiver, over_term, over_terms}
-use Rattle.chord_bodies.specs.declared.expr.Expr.{Expr}
 use Rattle.chord_bodies.specs.declared.stmt.Stmt.{Stmt}
 use Rattle.chord_bodies.specs.View.{view_expr, view_stmt, expr_list}
 use Rattle.chord_classes.specs.Site.{Site, after}

@@ -1,17 +1,17 @@
-use Rattle.std.proofs.Common.{◌≡◌, ◌+◌, ◌*◌, ◌<◌, ◌∷◌, [], Bool, true, false, map, take, option_map, arith, refl, sym, ap, subst, ◌∙◌}
+use Rattle.std.proofs.Common.{false, map, take, option_map, arith, refl, sym, ap, subst, ◌∙◌}
 use Rattle.std.specs.Prelude.{unwrap_or}
 use Rattle.chord_tree.specs.declared.exprs.Chain.{out-Chain}
 use Rattle.chord_tree.specs.declared.exprs.Link.{out-Link}
 use Rattle.chord_tree.specs.declared.exprs.Dot.{out-Dot}
 use Rattle.chord_tree.specs.declared.exprs.Actuals.{out-Actuals}
 use Rattle.chord_tree.specs.Tree.{exprs, dots, links, MinusExpr, NotExpr, PrimaryExpr, CallStart, NewStart, GroupStart}
-use Rattle.chord_tree.specs.Terms.{Term, term_after, term, terms, called, started, operated, LiteralTerm}
+use Rattle.chord_tree.specs.Terms.{term_after, term, terms, called, started, operated, LiteralTerm}
 use Rattle.chord_tree.specs.Walk.{Used, Receiver}
 use Rattle.chord_tree.specs.ViewExprs.{see_expr, see_dot, see_link, see_start, see_chain}
-use Rattle.chord_tree.proofs.SeenExprs.{seen_chain, seen_chained, seen_minus, seen_not, seen_primary, seen_actuals, seen_dot, seen_link, seen_start_variable, seen_start_call, seen_start_this, seen_start_new, seen_start_number, seen_start_literal, seen_start_true, seen_start_false, seen_start_group}
-use Rattle.chord_tree.proofs.Weights.{total, weigh_expr, weigh_link, weigh_start, weigh_actuals, weigh_dot, weigh_parts, of_chain, weigh_chain, weigh_minus, weigh_not, weigh_primary, weigh_start_call, weigh_start_new, weigh_start_group, of_link, of_actuals, of_dot, one_of}
+use Rattle.chord_tree.proofs.SeenExprs.{seen_chain, seen_chained, seen_minus, seen_not, seen_primary, seen_actuals, seen_start_variable, seen_start_call, seen_start_this, seen_start_new, seen_start_number, seen_start_literal, seen_start_true, seen_start_false, seen_start_group}
+use Rattle.chord_tree.proofs.Weights.{total, weigh_expr, weigh_link, weigh_start, weigh_dot, weigh_parts, of_chain, weigh_chain, weigh_minus, weigh_not, weigh_primary, weigh_start_call, weigh_start_new, weigh_start_group, of_link, of_actuals, of_dot, one_of}
 use Rattle.chord_bodies.specs.Resolved as to
-use Rattle.chord_bodies.specs.View.{LinkOf, view_expr, view_link, binary, expr_list}
+use Rattle.chord_bodies.specs.View.{LinkOf, view_expr, binary, expr_list}
 use Rattle.chord_bodies.proofs.Viewed.{viewed_negate, viewed_deny, viewed_this, viewed_new, viewed_link}
 use Rattle.chord_classes.specs.Table.{class_named}
 use Rattle.chord_classes.specs.TypedTerms.{NewTyped, typed_call, own_target, target_on}

@@ -1,4 +1,4 @@
-use Rattle.std.proofs.Common.{◌≡◌, rules, refl, sym, ap, ◌∙◌, w32, to_z, of_z}
+use Rattle.std.proofs.Common.{◌≡◌, rules, refl, ap, ◌∙◌, w32, to_z, of_z}
 use Rattle.chord_bodies.specs.declared.expr.Expr.TheVariants as expr
 use Rattle.chord_bodies.specs.Resolved as to
 use Rattle.chord_bodies.specs.View.{view_expr}

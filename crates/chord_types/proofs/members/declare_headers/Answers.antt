@@ -1,4 +1,4 @@
-use Rattle.std.proofs.Common.{◌+◌, map, drop, sym, ap, subst, ◌∙◌}
+use Rattle.std.proofs.Common.{◌+◌, map, drop, subst}
 use Rattle.std.specs.Prelude.{flat_map}
 use Rattle.chord_tree.specs.View.{see_header}
 use Rattle.chord_tree.proofs.Words.{dropped}

@@ -1,9 +1,6 @@
-use Rattle.std.proofs.Common.{◌≡◌, ◌+◌, length, map, arith, refl, sym, ap, subst, ◌∙◌}
-use Rattle.chord_tree.specs.Tree.{ClassTree}
+use Rattle.std.proofs.Common.{◌+◌, length, map, refl, sym, ap, subst, ◌∙◌}
 use Rattle.chord_tree.specs.View.{see_member}
-use Rattle.chord_tree.specs.Walk.{body_of}
 use Rattle.chord_bodies.specs.View.{view_stmt, stmt_list}
-use Rattle.chord_bodies.specs.Resolved.{BodyOf}
 use Rattle.chord_classes.specs.Resolve.{is_builder}
 use Rattle.chord_types.specs.StmtChecked.{IsBlockChecked}
 use Rattle.chord_types.proofs.EnteredMembers.{member_checked, slots_fit}

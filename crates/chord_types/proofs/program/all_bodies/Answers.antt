@@ -1,4 +1,4 @@
-use Rattle.std.proofs.Common.{◌≡◌, ◌+◌, map, drop, arith, sym, ap, subst, ◌∙◌}
+use Rattle.std.proofs.Common.{◌≡◌, ◌+◌, map, drop, arith, ap, subst}
 use Rattle.chord_tree.specs.View.{see_class, see_member}
 use Rattle.chord_tree.proofs.Words.{dropped}
 use Rattle.chord_bodies.specs.BodyView.{view_body}

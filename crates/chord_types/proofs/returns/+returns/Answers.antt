@@ -1,13 +1,10 @@
-use Rattle.std.proofs.Common.{◌≡◌, ◌+◌, ◌<◌, Bool, true, false, [], ◌∷◌, map, drop, arith, refl, sym, ap, ◌∙◌}
-use Rattle.std.specs.Prelude.{◌&&◌, ◌||◌}
-use Rattle.chord_tree.specs.declared.stmts.Block.{out-Block}
-use Rattle.chord_tree.specs.Tree.{MakeBlock, items}
-use Rattle.chord_tree.specs.ViewExprs.{see_expr}
+use Rattle.std.proofs.Common.{map, arith, sym, ap, ◌∙◌}
+use Rattle.std.specs.Prelude.{◌&&◌}
+use Rattle.chord_tree.specs.Tree.{items}
 use Rattle.chord_tree.specs.ViewStmts.{see_stmt, see_item}
-use Rattle.chord_tree.proofs.SeenStmts.{seen_stmt_assign, seen_stmt_call, seen_stmt_through, seen_stmt_this, seen_stmt_new, seen_stmt_block, seen_stmt_empty, seen_stmt_if, seen_stmt_if_else, seen_stmt_while, seen_stmt_return, seen_stmt_return_value, seen_item_local, seen_item_plain, seen_block}
+use Rattle.chord_tree.proofs.SeenStmts.{seen_stmt_assign, seen_stmt_call, seen_stmt_through, seen_stmt_this, seen_stmt_new, seen_stmt_block, seen_stmt_empty, seen_stmt_if, seen_stmt_if_else, seen_stmt_while, seen_stmt_return, seen_stmt_return_value, seen_block}
 use Rattle.chord_tree.proofs.Weights.{total, one_of}
-use Rattle.chord_tree.proofs.WeightsStmts.{weigh_item, weigh_stmt, weigh_block, of_block, of_if_else, of_plain, of_braces}
-use Rattle.chord_tree.proofs.Words.{dropped, drop_end}
+use Rattle.chord_tree.proofs.WeightsStmts.{weigh_item, weigh_stmt, of_block, of_if_else, of_plain, of_braces}
 use Rattle.chord_classes.specs.ItemRules.{surely, block_surely, items_surely}
 use Rattle.chord_types.proofs.returns.+returns.Goals as goal
 

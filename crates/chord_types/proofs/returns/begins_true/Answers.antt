@@ -1,13 +1,9 @@
-use Rattle.std.proofs.Common.{◌≡◌, ◌++◌, ◌∷◌, [], false, map, sym, ap, ◌∙◌}
-use Rattle.chord_tree.specs.declared.exprs.Chain.{out-Chain}
+use Rattle.std.proofs.Common.{false, sym, ap, ◌∙◌}
 use Rattle.chord_tree.specs.Tree.{CallStart, NewStart}
-use Rattle.chord_tree.specs.Terms.{term, started, called}
-use Rattle.chord_tree.specs.ViewExprs.{see_expr, see_start, see_dot, see_link}
-use Rattle.chord_tree.proofs.SeenExprs.{seen_actuals, seen_chain, seen_chained, seen_minus, seen_not, seen_primary, seen_start_variable, seen_start_call, seen_start_this, seen_start_new, seen_start_number, seen_start_literal, seen_start_true, seen_start_false, seen_start_group}
-use Rattle.chord_tree.proofs.Words.{length_zero}
+use Rattle.chord_tree.specs.Terms.{started}
+use Rattle.chord_tree.specs.ViewExprs.{see_start}
+use Rattle.chord_tree.proofs.SeenExprs.{seen_actuals, seen_start_variable, seen_start_call, seen_start_this, seen_start_new, seen_start_number, seen_start_literal, seen_start_true, seen_start_false, seen_start_group}
 use Rattle.chord_classes.specs.ItemRules.{is_true_word}
-use Rattle.chord_types.proofs.Lists.{map_last}
-use Rattle.chord_types.proofs.Returning.{chain_is_no_word, dots_are_no_word}
 use Rattle.chord_types.proofs.returns.begins_true.Goals as goal
 
 pub returns-in-Variable : goal.returns-in-Variable

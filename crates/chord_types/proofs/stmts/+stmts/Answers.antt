@@ -1,21 +1,20 @@
-use Rattle.std.proofs.Common.{◌≡◌, ◌+◌, ◌<◌, ◌≤◌, ◌∷◌, ◌++◌, [], map, drop, arith, refl, sym, ap, subst, ◌∙◌}
+use Rattle.std.proofs.Common.{◌+◌, map, drop, arith, refl, sym, ap, subst, ◌∙◌}
 use Rattle.chord_tree.specs.declared.stmts.Block.{out-Block}
-use Rattle.chord_tree.specs.Tree.{AssignStmt, MethodCallStmt, ThisCallStmt, NewStmt, CallStmt, BlockStmt, EmptyStmt, ReturnStmt, IfStmt, IfElseStmt, WhileStmt, ReturnValueStmt, LocalItem, StmtItem, items, dots}
+use Rattle.chord_tree.specs.Tree.{AssignStmt, MethodCallStmt, ThisCallStmt, NewStmt, CallStmt, EmptyStmt, ReturnStmt, IfStmt, IfElseStmt, WhileStmt, ReturnValueStmt, StmtItem, dots}
 use Rattle.chord_tree.specs.ViewExprs.{see_expr, see_actuals, see_dot}
 use Rattle.chord_tree.specs.ViewStmts.{see_stmt, see_item, see_block}
 use Rattle.chord_tree.proofs.SeenStmts.{seen_stmt_assign, seen_stmt_call, seen_stmt_through, seen_stmt_this, seen_stmt_new, seen_stmt_block, seen_stmt_empty, seen_stmt_if, seen_stmt_if_else, seen_stmt_while, seen_stmt_return, seen_stmt_return_value, seen_item_local, seen_item_plain, seen_block}
 use Rattle.chord_tree.proofs.Weights.{total, one_of}
-use Rattle.chord_tree.proofs.WeightsStmts.{weigh_item, weigh_stmt, weigh_block, of_block, of_if, of_if_else, of_while, of_plain, of_braces}
+use Rattle.chord_tree.proofs.WeightsStmts.{weigh_item, weigh_stmt, of_block, of_if, of_if_else, of_while, of_plain, of_braces}
 use Rattle.chord_tree.proofs.Words.{dropped, drop_end}
 use Rattle.chord_bodies.specs.declared.stmt.Stmt.TheVariants as stmt
 use Rattle.chord_bodies.specs.Resolved as to
 use Rattle.chord_bodies.specs.View.{view_expr, view_stmt, stmt_list}
 use Rattle.chord_bodies.proofs.Viewed.{viewed_block, viewed_if, viewed_if_else, viewed_while}
-use Rattle.chord_types.specs.StmtChecked.{IsPlainStmt, IsItemChecked, IsBlockChecked, AreItemsChecked}
-use Rattle.chord_types.specs.Sites.{see_site}
+use Rattle.chord_types.specs.StmtChecked.{IsItemChecked, IsBlockChecked, AreItemsChecked}
 use Rattle.chord_types.proofs.Oks.{if_ok}
 use Rattle.chord_types.proofs.Lists.{map_last}
-use Rattle.chord_types.proofs.Items.{AreLeft, plain_item, block_item, if_item, if_else_item, while_item, all_left, one_less, no_items_left, block_checked, scope_grows, seen_plain}
+use Rattle.chord_types.proofs.Items.{AreLeft, block_item, if_item, if_else_item, while_item, all_left, one_less, no_items_left, block_checked, scope_grows, seen_plain}
 use Rattle.chord_types.proofs.stmts.+stmts.Goals as goal
 
 pub stmt-block-requires : goal.stmt-block-requires

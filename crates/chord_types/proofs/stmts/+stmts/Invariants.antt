@@ -1,4 +1,4 @@
-use Rattle.std.proofs.Common.{map, drop, ◌+◌, ◌*◌}
+use Rattle.std.proofs.Common.{map, drop, ◌+◌}
 use Rattle.chord_tree.specs.ViewStmts.{see_item}
 use Rattle.chord_tree.proofs.Weights.{total}
 use Rattle.chord_tree.proofs.WeightsStmts.{weigh_item, weigh_stmt, weigh_block}

@@ -1,4 +1,4 @@
-use Rattle.std.proofs.Common.{◌≡◌, arith, ◌+◌, sym, ap, subst, ◌∙◌, ◌++◌, ◌∷◌, [], length, Some, None}
+use Rattle.std.proofs.Common.{◌≡◌, arith, sym, ap, subst, ◌∙◌, length, Some}
 use Rattle.std.proofs.lemmas.Map.Text.{btree_map_updates_str}
 use Rattle.chord_classes.specs.NamePlaces.{FindsNames}
 use Rattle.chord_types.specs.Views.{local_names}
