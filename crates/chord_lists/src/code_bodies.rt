@@ -63,6 +63,18 @@ fn take_turn(
     Ok(())
 }
 
+/// A copy of these values, without room for more.
+fn copy_of(alloc: Global, values: &Values) -> Result<Values, AllocError>
+    ensures { IfOk result (λ v. v ≡ values.now) }
+{
+    let items = values.items();
+    let mut copy = Vec::with_capacity(alloc, items.len())?;
+    for value in items {
+        copy.push_reserved(value.copied(alloc)?);
+    }
+    Ok(Values::of_items(copy))
+}
+
 /// Marks a message of this task: its arguments are held twice.
 fn tag_message(
     alloc: Global,
@@ -74,8 +86,8 @@ fn tag_message(
 ) -> Result<Turn, AllocError>
     ensures { IfOk result (λ turn. (turn ≡ Turn.Message object method) × (tags.new.items ≡ tags.old.items ++ record { task = at; held = Some (record { first = arguments.now; second = arguments.now }) } ∷ [])) }
 {
-    let first = arguments.copied(alloc)?;
-    let second = arguments.copied(alloc)?;
+    let first = copy_of(alloc, arguments)?;
+    let second = copy_of(alloc, arguments)?;
     tags.push(Tag {
         task: at,
         held: Some(Args { first, second }),
@@ -209,12 +221,16 @@ pub fn begin_run(alloc: Global, code: &Code, limits: &Limits) -> Result<CodeBodi
     requires sound { IsSound (code_program code.now limits.now) }
     ensures { IfOk result (λ bodies. StandsAfter code.now limits.now bodies main_begun) }
 {
-    let main = Task::main(alloc, code, limits)?;
+    let mut main = Task::main(alloc, code, limits)?;
+    let events = limits.events as usize;
+    // where there is room for all that the run may come to, nothing is moved later; where there is none, lists grow
+    let _ = main.past.reserve(events);
     let mut tasks = Vec::new(alloc);
     tasks.push(main)?;
     let mut ready = Vec::new(alloc);
     ready.push(0)?;
     let mut tags = Vec::new(alloc);
+    let _ = tags.reserve(events);
     tags.push(Tag {
         task: 0,
         held: None,
