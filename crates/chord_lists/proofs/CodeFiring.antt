@@ -157,13 +157,13 @@ pub record IsHost (code : Parts) (limits : Limits) (bodies : CodeBodies) (at n k
   pub awaits : (q : ℕ) → waits_of q task ≡ true → has q ms ≡ true
 
 -- the call that a firing serves, by any word for the methods of its chord
-pub serves_by : (code : Parts) (limits : Limits) (h : List Entry) (k : ℕ) (o : Object) (ms : List ℕ) (vs : List Value) (call : Option ℕ) → (f : Fires (code_program code limits) h k o ms vs) → Serves (code_program code limits) k o ms call → served_among ((code_program code limits).is_sync o.class) f.0 ms ≡ call
-serves_by code limits h k o ms vs call f s =
+pub call_served : (code : Parts) (limits : Limits) (h : List Entry) (k : ℕ) (o : Object) (ms : List ℕ) (vs : List Value) (call : Option ℕ) → (f : Fires (code_program code limits) h k o ms vs) → Serves (code_program code limits) k o ms call → served_among ((code_program code limits).is_sync o.class) f.0 ms ≡ call
+call_served code limits h k o ms vs call f s =
     ap (λ js. served_among ((code_program code limits).is_sync o.class) js ms) (one_some f.0 s.methods (slice_get ((code_program code limits).chords o.class) k) f.1 s.chord) ∙ s.is
 
 -- the task of a place that fits is one in which the firing may begin
 pub host : (code : Parts) (limits : Limits) (bodies : CodeBodies) (h : List Entry) (at n k : ℕ) (o : Object) (ms : List ℕ) (vs : List Value) → IsSound (code_program code limits) → StandsAfter code limits bodies h → length h ≡ n → Fires (code_program code limits) h k o ms vs → FitsAt (code_program code limits) bodies k o ms at → IsHost code limits bodies at n k o ms vs
-host code limits bodies h at n k o ms vs sound s so_long f fits = by_call fits.call (serves_by code limits h k o ms vs fits.call f fits.serves) fits.hosts
+host code limits bodies h at n k o ms vs sound s so_long f fits = by_call fits.call (call_served code limits h k o ms vs fits.call f fits.serves) fits.hosts
   where
     by_call : (call : Option ℕ) → served_among ((code_program code limits).is_sync o.class) f.0 ms ≡ call → HostsCall bodies at call → IsHost code limits bodies at n k o ms vs
     by_call None serves over =
