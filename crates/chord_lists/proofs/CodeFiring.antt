@@ -28,7 +28,7 @@ use Rattle.chord_task.proofs.Asking.{waits_yes}
 use Rattle.chord_lists.specs.Engine.{IsRunOfLength, fired}
 use Rattle.chord_lists.specs.declared.code_bodies.Tag.{Tag}
 use Rattle.chord_lists.specs.declared.code_bodies.CodeBodies.{CodeBodies}
-use Rattle.chord_lists.specs.CodeStands.{past_of, views, home_in, home, held_in, held_at, ready_in, ready_at, over_in, over_at, AreReady, Awaits, AllHeld, held_values, EmptiedAll, StandsAfter}
+use Rattle.chord_lists.specs.CodeStands.{past_of, views, home_in, home, held_in, held_at, ready_in, ready_at, over_in, over_at, AreReady, Awaits, AllHeld, held_values, EmptiedAll, HostsCall, FitsAt, Serves, StandsAfter}
 use Rattle.chord_lists.proofs.Spots.{set_other, end_at, before_end, past_end, one_some, nothing_some, has_first, has_later}
 use Rattle.chord_lists.proofs.CodeTasks.{one_call, resumable}
 use Rattle.chord_lists.proofs.CodeSteps.{stands_merged, task_below, keeps_more, views_set, tasks_set, awaits_set, pending_under}
@@ -148,6 +148,43 @@ over_again code limits bodies h at n k o ms vs sound s so_long f serves over =
       may = may_resume code limits bodies h n at k o ms vs t.0 None sound s so_long f serves is (ap past_of t.1) (ap body_number t.2) (subst (λ (x : Option Body). HasRoomIf code t.0 x) t.2 is.room);
     }
 
+-- the task in which a firing begins its body
+pub record IsHost (code : Parts) (limits : Limits) (bodies : CodeBodies) (at n k : ℕ) (o : Object) (ms : List ℕ) (vs : List Value) : Type 0 where
+  pub task : Task
+  pub there : slice_get bodies.tasks.items at ≡ Some task
+  pub is : IsTaskOf code limits task
+  pub may : MayResume code task.limits task n k o ms vs
+  pub awaits : (q : ℕ) → waits_of q task ≡ true → has q ms ≡ true
+
+-- the call that a firing serves, by any word for the methods of its chord
+pub call_served : (code : Parts) (limits : Limits) (h : List Entry) (k : ℕ) (o : Object) (ms : List ℕ) (vs : List Value) (call : Option ℕ) → (f : Fires (code_program code limits) h k o ms vs) → Serves (code_program code limits) k o ms call → served_among ((code_program code limits).is_sync o.class) f.0 ms ≡ call
+call_served code limits h k o ms vs call f s =
+    ap (λ js. served_among ((code_program code limits).is_sync o.class) js ms) (one_some f.0 s.methods (slice_get ((code_program code limits).chords o.class) k) f.1 s.chord) ∙ s.is
+
+-- the task of a place that fits is one in which the firing may begin
+pub host : (code : Parts) (limits : Limits) (bodies : CodeBodies) (h : List Entry) (at n k : ℕ) (o : Object) (ms : List ℕ) (vs : List Value) → IsSound (code_program code limits) → StandsAfter code limits bodies h → length h ≡ n → Fires (code_program code limits) h k o ms vs → FitsAt (code_program code limits) bodies k o ms at → IsHost code limits bodies at n k o ms vs
+host code limits bodies h at n k o ms vs sound s so_long f fits = by_call fits.call (call_served code limits h k o ms vs fits.call f fits.serves) fits.hosts
+  where
+    by_call : (call : Option ℕ) → served_among ((code_program code limits).is_sync o.class) f.0 ms ≡ call → HostsCall bodies at call → IsHost code limits bodies at n k o ms vs
+    by_call None serves over =
+        let k' = over_again code limits bodies h at n k o ms vs sound s so_long f serves over in
+        record {
+          task = k'.task;
+          there = k'.there;
+          is = k'.is;
+          may = k'.may;
+          awaits = λ q w. let z : false ≡ true = sym (ap (body_waits q) k'.over) ∙ w in cc;
+        }
+    by_call (Some call) serves home_is =
+        let k' = caller code limits bodies h n k o ms vs call sound s so_long f serves in
+        record {
+          task = k'.task;
+          there = ap (slice_get bodies.tasks.items) home_is ∙ k'.there;
+          is = k'.is;
+          may = k'.may;
+          awaits = λ q w. ap (λ i. has i ms) (one_call q call k'.task w k'.waits) ∙ k'.member;
+        }
+
 -- ---- the bodies after a firing
 
 -- the tag of an entry that is no message
@@ -228,10 +265,9 @@ ready_above tasks at t ready a =
           ];
     }
 
--- the new body is above its caller
-pub fired_above : (code : Parts) (limits : Limits) (before after : CodeBodies) (between : List Tag) (h : List Entry) (n k : ℕ) (o : Object) (ms : List ℕ) (vs : List Value) (call : ℕ) (t : Task) → IsRunOfLength (code_program code limits) n h → StandsAfter code limits before h → Fires (code_program code limits) h k o ms vs → (c : IsCaller code limits before n k o ms vs call) → EmptiedAll ms before.tags.items between → IsTaskOf code limits t → (view_of t).past ≡ fired n k o ms vs ∷ (view_of c.task).past → after.tasks.items ≡ set before.tasks.items (home before.tags.items call) t → reverse after.ready.items ≡ home before.tags.items call ∷ reverse before.ready.items → after.tags.items ≡ between ++ bare_tag (home before.tags.items call) ∷ [] → StandsAfter code limits after (fired n k o ms vs ∷ h)
-fired_above code limits before after between h n k o ms vs call t played s f c emptied task past tasks ready tags =
-    let at = home before.tags.items call in
+-- the new body is in a task that was there
+pub fired_at : (code : Parts) (limits : Limits) (before after : CodeBodies) (between : List Tag) (h : List Entry) (at n k : ℕ) (o : Object) (ms : List ℕ) (vs : List Value) (t : Task) → IsRunOfLength (code_program code limits) n h → StandsAfter code limits before h → Fires (code_program code limits) h k o ms vs → (c : IsHost code limits before at n k o ms vs) → EmptiedAll ms before.tags.items between → IsTaskOf code limits t → (view_of t).past ≡ fired n k o ms vs ∷ (view_of c.task).past → after.tasks.items ≡ set before.tasks.items at t → reverse after.ready.items ≡ at ∷ reverse before.ready.items → after.tags.items ≡ between ++ bare_tag at ∷ [] → StandsAfter code limits after (fired n k o ms vs ∷ h)
+fired_at code limits before after between h at n k o ms vs t played s f c emptied task past tasks ready tags =
     let xs = before.tasks.items in
     stands_fired code limits before after between h n k at o ms vs played s f emptied tags
     (λ j. views_set xs at t c.task (fired n k o ms vs) c.there past j ∙ ap (λ z. views z j) (sym tasks))
@@ -239,22 +275,7 @@ fired_above code limits before after between h n k o ms vs call t played s f c e
     (subst (λ z. AreReady z (reverse after.ready.items)) (sym tasks) (subst (λ (z : List ℕ). AreReady (set xs at t) z) (sym ready) (ready_above xs at t (reverse before.ready.items) s.ready)))
     (λ q out a.
     subst (λ z. Awaits z q (home before.tags.items q)) (sym tasks)
-    (awaits_set xs at t c.task q (home before.tags.items q) c.there
-    (λ w. let z : true ≡ false = sym c.member ∙ ap (λ i. has i ms) (sym (one_call q call c.task w c.waits)) ∙ out in cc) a))
-    (let i = ap length tasks in let l = length-set xs at t in let m = s.few in omega (arith, i, l, m))
-
--- the new body is in a task that was over
-pub fired_over : (code : Parts) (limits : Limits) (before after : CodeBodies) (between : List Tag) (h : List Entry) (at n k : ℕ) (o : Object) (ms : List ℕ) (vs : List Value) (t : Task) → IsRunOfLength (code_program code limits) n h → StandsAfter code limits before h → Fires (code_program code limits) h k o ms vs → (c : IsOverAt code limits before at n k o ms vs) → EmptiedAll ms before.tags.items between → IsTaskOf code limits t → (view_of t).past ≡ fired n k o ms vs ∷ (view_of c.task).past → after.tasks.items ≡ set before.tasks.items at t → reverse after.ready.items ≡ at ∷ reverse before.ready.items → after.tags.items ≡ between ++ bare_tag at ∷ [] → StandsAfter code limits after (fired n k o ms vs ∷ h)
-fired_over code limits before after between h at n k o ms vs t played s f c emptied task past tasks ready tags =
-    let xs = before.tasks.items in
-    stands_fired code limits before after between h n k at o ms vs played s f emptied tags
-    (λ j. views_set xs at t c.task (fired n k o ms vs) c.there past j ∙ ap (λ z. views z j) (sym tasks))
-    (subst (λ z. (i : ℕ) (x : Task) → slice_get z i ≡ Some x → IsTaskOf code limits x) (sym tasks) (tasks_set code limits xs at t c.task c.there task s.tasks))
-    (subst (λ z. AreReady z (reverse after.ready.items)) (sym tasks) (subst (λ (z : List ℕ). AreReady (set xs at t) z) (sym ready) (ready_above xs at t (reverse before.ready.items) s.ready)))
-    (λ q out a.
-    subst (λ z. Awaits z q (home before.tags.items q)) (sym tasks)
-    (awaits_set xs at t c.task q (home before.tags.items q) c.there
-    (λ w. let z : false ≡ true = sym (ap (body_waits q) c.over) ∙ w in cc) a))
+    (awaits_set xs at t c.task q (home before.tags.items q) c.there (λ w. let z : true ≡ false = sym (c.awaits q w) ∙ out in cc) a))
     (let i = ap length tasks in let l = length-set xs at t in let m = s.few in omega (arith, i, l, m))
 
 -- one more task keeps its one entry, and the others what they kept

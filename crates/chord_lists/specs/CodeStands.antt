@@ -229,6 +229,17 @@ pub record Serves (p : Program) (k : ℕ) (o : Object) (ms : List ℕ) (call : O
   pub chord : slice_get (p.chords o.class) k ≡ Some methods
   pub is : served_among (p.is_sync o.class) methods ms ≡ call
 
+-- the task of this place waits for the call, if there is one, and else has no body left
+abbrev pub HostsCall : CodeBodies → ℕ → Option ℕ → Type 0
+HostsCall bodies at None = over_at bodies.tasks.items at ≡ true
+HostsCall bodies at (Some call) = at ≡ home bodies.tags.items call
+
+-- the body of a firing may begin in the task of this place
+pub record FitsAt (p : Program) (bodies : CodeBodies) (k : ℕ) (o : Object) (ms : List ℕ) (at : ℕ) : Type 0 where
+  pub call : Option ℕ
+  pub serves : Serves p k o ms call
+  pub hosts : HostsCall bodies at call
+
 -- ## A run that is made again
 
 -- the bodies stand after a run, and this entry may follow

@@ -12,7 +12,7 @@ ghost use Rattle.chord_task.specs.Arguments.{for_entry, AreTwice};
 ghost use Rattle.chord_task.specs.declared.task.Task.{Task as T};
 ghost use Rattle.chord_task.specs.Standing.{view_of, IsTaskOf, is_ready_of};
 ghost use Rattle.chord_lists.specs.Engine.{main_begun, IsRunOfLength, MayGoOn, Went, MayBegin, Began, Ends};
-ghost use Rattle.chord_lists.specs.CodeStands.{StandsAfter, AreReady, ready_at, over_at, MayTurn, HasTurned, IsNewest, IsTagged, WentAt, AreLeft, IsLeft, HasNewest, IsNewestTaken, IsHeldAt, AllHeld, held_values, Emptied, EmptiedAll, home, Serves, MayReplay, Replayed};
+ghost use Rattle.chord_lists.specs.CodeStands.{StandsAfter, AreReady, ready_at, over_at, MayTurn, HasTurned, IsNewest, IsTagged, WentAt, AreLeft, IsLeft, HasNewest, IsNewestTaken, IsHeldAt, AllHeld, held_values, Emptied, EmptiedAll, home, Serves, FitsAt, MayReplay, Replayed};
 
 use crate::engine::Turn;
 use chord_base::event::{Entry, Limits, What};
@@ -63,6 +63,18 @@ fn take_turn(
     Ok(())
 }
 
+/// A copy of these values, without room for more.
+fn copy_of(alloc: Global, values: &Values) -> Result<Values, AllocError>
+    ensures { IfOk result (λ v. v ≡ values.now) }
+{
+    let items = values.items();
+    let mut copy = Vec::with_capacity(alloc, items.len())?;
+    for value in items {
+        copy.push_reserved(value.copied(alloc)?);
+    }
+    Ok(Values::of_items(copy))
+}
+
 /// Marks a message of this task: its arguments are held twice.
 fn tag_message(
     alloc: Global,
@@ -74,8 +86,8 @@ fn tag_message(
 ) -> Result<Turn, AllocError>
     ensures { IfOk result (λ turn. (turn ≡ Turn.Message object method) × (tags.new.items ≡ tags.old.items ++ record { task = at; held = Some (record { first = arguments.now; second = arguments.now }) } ∷ [])) }
 {
-    let first = arguments.copied(alloc)?;
-    let second = arguments.copied(alloc)?;
+    let first = copy_of(alloc, arguments)?;
+    let second = copy_of(alloc, arguments)?;
     tags.push(Tag {
         task: at,
         held: Some(Args { first, second }),
@@ -209,12 +221,16 @@ pub fn begin_run(alloc: Global, code: &Code, limits: &Limits) -> Result<CodeBodi
     requires sound { IsSound (code_program code.now limits.now) }
     ensures { IfOk result (λ bodies. StandsAfter code.now limits.now bodies main_begun) }
 {
-    let main = Task::main(alloc, code, limits)?;
+    let mut main = Task::main(alloc, code, limits)?;
+    let events = limits.events as usize;
+    // where there is room for all that the run may come to, nothing is moved later; where there is none, lists grow
+    let _ = main.past.reserve(events);
     let mut tasks = Vec::new(alloc);
     tasks.push(main)?;
     let mut ready = Vec::new(alloc);
     ready.push(0)?;
     let mut tags = Vec::new(alloc);
+    let _ = tags.reserve(events);
     tags.push(Tag {
         task: 0,
         held: None,
@@ -395,8 +411,8 @@ fn home_of(tags: &[Tag], number: u32) -> u32
     }
 }
 
-/// Begins the body of a firing above the caller that it serves.
-fn begin_above(
+/// Begins the body of a firing in the task of this place: above the caller that it serves, or where no body is left.
+fn begin_at(
     alloc: Global,
     code: &Code,
     limits: &Limits,
@@ -405,15 +421,14 @@ fn begin_above(
     chord: u16,
     object: Object,
     members: Members,
-    call: u32,
+    at: u32,
 ) -> Result<(), AllocError>
     requires room { number < 65536 }
     requires sound { IsSound (code_program code.now limits.now) }
     requires may { MayBegin (code_program code.now limits.now) (StandsAfter code.now limits.now bodies.old) number chord object members }
-    requires call { Serves (code_program code.now limits.now) chord object members (Some call) }
+    requires fits { FitsAt (code_program code.now limits.now) bodies.old chord object members at }
     ensures { IfOk result (λ _. Began (code_program code.now limits.now) (StandsAfter code.now limits.now bodies.old) (StandsAfter code.now limits.now bodies.new) number chord object members) }
 {
-    let at = home_of(&bodies.tags, call);
     let _parts = code.parts();
     let arguments = take_all_held(&mut bodies.tags, members.items());
     let task = &mut bodies.tasks[at as usize];
@@ -465,37 +480,6 @@ fn begin_alone(
     Ok(())
 }
 
-/// Begins the body of a firing that serves no caller in a task that is over.
-fn begin_again(
-    alloc: Global,
-    code: &Code,
-    limits: &Limits,
-    bodies: &mut CodeBodies,
-    number: u32,
-    chord: u16,
-    object: Object,
-    members: Members,
-    at: u32,
-) -> Result<(), AllocError>
-    requires room { number < 65536 }
-    requires sound { IsSound (code_program code.now limits.now) }
-    requires may { MayBegin (code_program code.now limits.now) (StandsAfter code.now limits.now bodies.old) number chord object members }
-    requires call { Serves (code_program code.now limits.now) chord object members None }
-    requires over { over_at bodies.old.tasks.items at ≡ true }
-    ensures { IfOk result (λ _. Began (code_program code.now limits.now) (StandsAfter code.now limits.now bodies.old) (StandsAfter code.now limits.now bodies.new) number chord object members) }
-{
-    let _parts = code.parts();
-    let arguments = take_all_held(&mut bodies.tags, members.items());
-    let task = &mut bodies.tasks[at as usize];
-    task.resume(code, number, chord, object, &members, arguments);
-    bodies.ready.push(at)?;
-    bodies.tags.push(Tag {
-        task: at,
-        held: None,
-    })?;
-    Ok(())
-}
-
 /// Begins the body of a firing that serves this call, if it serves one.
 pub fn begin_body(
     alloc: Global,
@@ -516,14 +500,15 @@ pub fn begin_body(
 {
     match served {
         Some(call) => {
-            begin_above(
-                alloc, code, limits, bodies, number, chord, object, members, call,
+            let at = home_of(&bodies.tags, call);
+            begin_at(
+                alloc, code, limits, bodies, number, chord, object, members, at,
             )?;
             Ok(())
         }
         None => match next_over(&bodies.tasks, &mut bodies.over) {
             Some(at) => {
-                begin_again(
+                begin_at(
                     alloc, code, limits, bodies, number, chord, object, members, at,
                 )?;
                 Ok(())

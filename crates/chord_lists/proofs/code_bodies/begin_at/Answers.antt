@@ -3,17 +3,14 @@ use Rattle.std.specs.Prelude.{slice_get}
 use Rattle.std.proofs.lemmas.Option.{get_or_from_slice_get, slice_get_within}
 use Rattle.std.proofs.lemmas.List.{reverse-append}
 use Rattle.chord_base.specs.declared.value.Value.{Value}
-use Rattle.chord_base.specs.Bodies.{served_among}
-use Rattle.chord_code.specs.Meaning.{code_program}
 use Rattle.chord_task.specs.declared.task.Task.{Task}
 use Rattle.chord_task.specs.Standing.{view_of, IsTaskOf, MayResume}
 use Rattle.chord_task.specs.Arguments.{for_entry}
 use Rattle.chord_vm.specs.Frames.{laid}
 use Rattle.chord_lists.specs.Engine.{fired}
 use Rattle.chord_lists.specs.CodeStands.{held_values}
-use Rattle.chord_lists.proofs.Spots.{one_some}
-use Rattle.chord_lists.proofs.CodeFiring.{firing_held, firing_different, over_again, fired_over}
-use Rattle.chord_lists.proofs.code_bodies.begin_again.Goals as goal
+use Rattle.chord_lists.proofs.CodeFiring.{firing_held, firing_different, fired_at, host}
+use Rattle.chord_lists.proofs.code_bodies.begin_at.Goals as goal
 
 pub take_all_held-arguments-requires-clause-held : goal.take_all_held-arguments-requires-clause-held
 take_all_held-arguments-requires-clause-held c =
@@ -32,8 +29,7 @@ pub index_mut-task-requires : goal.index_mut-task-requires
 index_mut-task-requires c =
     let m = c.requires.may in
     let f = m.4 in
-    let serves = ap (λ js. served_among ((code_program c.args.code.now c.args.limits.now).is_sync c.args.object.class) js c.args.members) (one_some f.0 c.requires.call.methods (slice_get ((code_program c.args.code.now c.args.limits.now).chords c.args.object.class) c.args.chord) f.1 c.requires.call.chord) ∙ c.requires.call.is in
-    let k = over_again c.args.code.now c.args.limits.now c.args.bodies.now m.0 c.args.at c.args.number c.args.chord c.args.object c.args.members m.1 c.requires.sound m.3 m.2.so_long f serves c.requires.over in
+    let k = host c.args.code.now c.args.limits.now c.args.bodies.now m.0 c.args.at c.args.number c.args.chord c.args.object c.args.members m.1 c.requires.sound m.3 m.2.so_long f c.requires.fits in
     let l = slice_get_within c.args.bodies.now.tasks.items c.args.at k.task k.there in
     omega (arith, l)
 
@@ -52,8 +48,7 @@ resume-requires-clause-task c =
     let f = m.4 in
     let code = c.args.code.now in
     let limits = c.args.limits.now in
-    let serves = ap (λ js. served_among ((code_program code limits).is_sync c.args.object.class) js c.args.members) (one_some f.0 c.requires.call.methods (slice_get ((code_program code limits).chords c.args.object.class) c.args.chord) f.1 c.requires.call.chord) ∙ c.requires.call.is in
-    let k = over_again code limits c.args.bodies.now m.0 c.args.at c.args.number c.args.chord c.args.object c.args.members m.1 c.requires.sound m.3 m.2.so_long f serves c.requires.over in
+    let k = host code limits c.args.bodies.now m.0 c.args.at c.args.number c.args.chord c.args.object c.args.members m.1 c.requires.sound m.3 m.2.so_long f c.requires.fits in
     let there : slice_get c.args.bodies.now.tasks.items c.args.at ≡ Some k.task = k.there in
     let e : c.index_mut-task.result.now ≡ k.task = c.index_mut-task.ensures.value ∙ get_or_from_slice_get c.args.bodies.now.tasks.items c.args.at k.task c.index_mut-task.result.now there in
     subst (λ (t : Task). IsTaskOf code t.limits t) (sym e) (subst (λ l. IsTaskOf code l k.task) (sym k.is.limited) k.is)
@@ -64,8 +59,7 @@ resume-requires-clause-may c =
     let f = m.4 in
     let code = c.args.code.now in
     let limits = c.args.limits.now in
-    let serves = ap (λ js. served_among ((code_program code limits).is_sync c.args.object.class) js c.args.members) (one_some f.0 c.requires.call.methods (slice_get ((code_program code limits).chords c.args.object.class) c.args.chord) f.1 c.requires.call.chord) ∙ c.requires.call.is in
-    let k = over_again code limits c.args.bodies.now m.0 c.args.at c.args.number c.args.chord c.args.object c.args.members m.1 c.requires.sound m.3 m.2.so_long f serves c.requires.over in
+    let k = host code limits c.args.bodies.now m.0 c.args.at c.args.number c.args.chord c.args.object c.args.members m.1 c.requires.sound m.3 m.2.so_long f c.requires.fits in
     let there : slice_get c.args.bodies.now.tasks.items c.args.at ≡ Some k.task = k.there in
     let e : c.index_mut-task.result.now ≡ k.task = c.index_mut-task.ensures.value ∙ get_or_from_slice_get c.args.bodies.now.tasks.items c.args.at k.task c.index_mut-task.result.now there in
     let held = firing_held code limits c.args.bodies.now m.0 c.args.chord c.args.object c.args.members m.1 m.3 m.4 in
@@ -78,8 +72,7 @@ returns c =
     λ h vs played s f.
     let code = c.args.code.now in
     let limits = c.args.limits.now in
-    let serves = ap (λ js. served_among ((code_program code limits).is_sync c.args.object.class) js c.args.members) (one_some f.0 c.requires.call.methods (slice_get ((code_program code limits).chords c.args.object.class) c.args.chord) f.1 c.requires.call.chord) ∙ c.requires.call.is in
-    let k = over_again code limits c.args.bodies.now h c.args.at c.args.number c.args.chord c.args.object c.args.members vs c.requires.sound s played.so_long f serves c.requires.over in
+    let k = host code limits c.args.bodies.now h c.args.at c.args.number c.args.chord c.args.object c.args.members vs c.requires.sound s played.so_long f c.requires.fits in
     let there : slice_get c.args.bodies.now.tasks.items c.args.at ≡ Some k.task = k.there in
     let e : c.index_mut-task.result.now ≡ k.task = c.index_mut-task.ensures.value ∙ get_or_from_slice_get c.args.bodies.now.tasks.items c.args.at k.task c.index_mut-task.result.now there in
     let held = firing_held code limits c.args.bodies.now h c.args.chord c.args.object c.args.members vs s f in
@@ -90,7 +83,7 @@ returns c =
     in
     let task = subst (λ l. IsTaskOf code l c.resume.new.self) (ap (λ (t : Task). t.limits) e ∙ k.is.limited) c.resume.ensures.task in
     let emptied = rw c.items.ensures.numbers at c.take_all_held-arguments.ensures.rest in
-    fired_over code limits c.args.bodies.now _ c.take_all_held-arguments.new.tags.items h c.args.at c.args.number c.args.chord c.args.object c.args.members vs c.resume.new.self played s f k emptied task past
+    fired_at code limits c.args.bodies.now _ c.take_all_held-arguments.new.tags.items h c.args.at c.args.number c.args.chord c.args.object c.args.members vs c.resume.new.self played s f k emptied task past
     refl
     (ap reverse c.in_ok-push.ensures.items ∙ reverse-append c.args.bodies.now.ready.items (c.args.at ∷ []))
     c.in_ok-push-2.ensures.items
