@@ -1,7 +1,7 @@
 #!/usr/bin/env python3
 """How many instructions a token takes behind the parser, beside the parser's on the same source in the same run, by valgrind: in the pass over chords and the
 plan, and in all else up to the code (names, types, the generator); for 1,000 classes in about a mebibyte, and for one body in which 256 locals are used 10,000 times. Then whether the cost of a token stays as it is where a source doubles: chords of eight
-headers, classes in chains of sixteen, and classes in one chain of bases, which passes the limit."""
+headers, classes in chains of sixteen, and classes in one chain of bases, which passes the limit, alone and where each calls the first one's method."""
 
 import os
 import re
@@ -54,6 +54,11 @@ def one_chain(count):
     return ''.join(['class C0 { }\n', *(f'class C{i} : C{i - 1} {{ }}\n' for i in range(1, count)), MAIN]).encode()
 
 
+def calls_up_a_chain(count):
+    """Classes of which each has the one before as its base, and calls the first one's method."""
+    return ''.join(['class C0 { public async m() { } }\n', *(f'class C{i} : C{i - 1} {{ C{i}() {{ m(); }} }}\n' for i in range(1, count)), MAIN]).encode()
+
+
 def counted(program, source):
     """The instructions that each function takes with those that it calls, by the last part of its name."""
     with tempfile.TemporaryDirectory() as work:
@@ -82,7 +87,8 @@ def main():
         took = counted(program, source)
         for label, count in passes(took).items():
             common.tell(f'{label}, {name}', count / tokens, took[PARSER] / tokens, 'instructions a token', f'{len(source)} bytes')
-    for name, made, count in [('chords of eight headers', chords_of_eight, 128), ('chains of sixteen', chains_of_sixteen, 512), ('one chain of bases', one_chain, 20_000)]:
+    for name, made, count in [('chords of eight headers', chords_of_eight, 128), ('chains of sixteen', chains_of_sixteen, 512), ('one chain of bases', one_chain, 20_000),
+                              ('calls up one chain', calls_up_a_chain, 10_000)]:
         small, large = made(count), made(2 * count)
         few, many = counted(program, small), counted(program, large)
         few, many = passes(few), passes(many)

@@ -18,3 +18,5 @@ pub mod StandsExprs
 pub mod StandsStmts
 pub mod StandsClasses
 pub mod Programs
+pub mod Nested
+pub mod NestedStmts

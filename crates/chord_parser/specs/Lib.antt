@@ -6,6 +6,8 @@ pub mod Exact
 pub mod Answers
 -- what holds of each list of kinds
 pub mod Laws
+-- how deep programs are nested as trees
+pub mod Nesting
 -- ## What only the code's own contracts use
 
 -- a reader of tokens that looks one token ahead, and what it reads

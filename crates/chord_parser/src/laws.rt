@@ -1,6 +1,7 @@
-//! What holds of each list of kinds of tokens, as the contract of a function that does nothing.
+//! What holds of each list of kinds of tokens and of each program, as the contracts of functions that do nothing.
 #![tactic(auto)]
 
+ghost use Rattle.chord_parser.specs.Nesting.{NestingIsTied};
 ghost use Rattle.chord_parser.specs.Laws.{AtMeansWrong, DerivedWhereSpelled, EachIsAnswered, HasOneAnswer, NotTallHasNone, TallMeansTall};
 
 /// The grammar derives tokens exactly where some program spells them, with the same depths. Each list of kinds is that of a
@@ -13,4 +14,9 @@ pub fn programs()
     ensures answered { EachIsAnswered }
     ensures one { HasOneAnswer }
     ensures none { NotTallHasNone }
+{}
+
+/// Of each program: it is nested as a tree no deeper than eight times its deepest token.
+pub fn nesting()
+    ensures { NestingIsTied }
 {}

@@ -1,11 +1,12 @@
 //! From tokens to a program, or the exact token at which they are none.
 #![tactic(auto)]
 
-ghost use Rattle.std.specs.Prelude.{◌<◌, ◌^◌, ◌≡◌, ◌⊎◌, ℕ, IfOk, IfErr, MatchResult, length};
+ghost use Rattle.std.specs.Prelude.{◌<◌, ◌≤◌, ◌^◌, ◌≡◌, ◌⊎◌, ℕ, IfOk, IfErr, MatchResult, length};
 ghost use Rattle.chord_tree.specs.Program.{IsProgram, spelling, token_kinds};
 ghost use Rattle.chord_tree.specs.Tree.{ProgramTree};
 ghost use Rattle.chord_tree.specs.View.{tree_of};
 ghost use Rattle.chord_parser.specs.Answers.{IsAnswer, IsNotTall, IsStopped};
+ghost use Rattle.chord_parser.specs.Nesting.{program_depth};
 ghost use Rattle.chord_parser.specs.declared.parser.ParseFault.TheVariants as faults;
 
 use crate::classes::program;
@@ -38,6 +39,8 @@ pub fn parse(alloc: Global, tokens: &[Token]) -> Result<Program, ParseFault>
     ensures spelled { IfOk result (λ p. spelling (tree_of p) ≡ token_kinds tokens.now) }
     ensures program { IfOk result (λ p. IsProgram (tree_of p)) }
     ensures not_tall { IfOk result (λ p. IsNotTall (tree_of p)) }
+    // so statements and expressions stand in one another at most so often
+    ensures nested { IfOk result (λ p. program_depth (tree_of p) ≤ 1600) }
     ensures fault { IfErr result (λ fault. IsAnswer (token_kinds tokens.now) fault) }
     // where the tokens are those of a program, that is the one
     ensures the_one { (t : ProgramTree) → IsProgram t → spelling t ≡ token_kinds tokens.now → IfOk result (λ p. tree_of p ≡ t) }

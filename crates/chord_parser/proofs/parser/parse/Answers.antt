@@ -1,7 +1,9 @@
-use Rattle.std.proofs.Common.{◌≡◌, refl, sym, subst}
+use Rattle.std.proofs.Common.{◌≡◌, ◌≤◌, refl, sym, subst}
 use Rattle.chord_tree.specs.Program.{IsProgram, spelling, token_kinds}
 use Rattle.chord_tree.specs.View.{tree_of}
 use Rattle.chord_parser.specs.Answers.{IsNotTall}
+use Rattle.chord_parser.specs.Nesting.{program_depth}
+use Rattle.chord_parser.proofs.NestedStmts.{not_tall_nested}
 use Rattle.chord_parser.proofs.Whole.{found, stopped, only_memory, the_one}
 use Rattle.chord_parser.proofs.OneVerdict.{at_only, tall_only, found_not_at, found_not_tall}
 use Rattle.chord_parser.proofs.parser.parse.Goals as goal
@@ -20,6 +22,12 @@ returns-in-Ok-clause-program c = subst (λ v. IsProgram (tree_of v)) (sym c.new.
 
 pub returns-in-Ok-clause-not_tall : goal.returns-in-Ok-clause-not_tall
 returns-in-Ok-clause-not_tall c = subst (λ v. IsNotTall (tree_of v)) (sym c.new.ensures) (found _ c.args.tokens.now _ (tree_of (record { usings = c.in-Ok.usings.items; classes = c.in-Ok.classes.items })) refl c.in-Ok.ensures.end c.in-Ok.ensures.ok).not_tall
+
+pub returns-in-Ok-clause-nested : goal.returns-in-Ok-clause-nested
+returns-in-Ok-clause-nested c =
+    let program = tree_of (record { usings = c.in-Ok.usings.items; classes = c.in-Ok.classes.items }) in
+    let f = found _ c.args.tokens.now _ program refl c.in-Ok.ensures.end c.in-Ok.ensures.ok in
+    subst (λ v. program_depth (tree_of v) ≤ 1600) (sym c.new.ensures) (not_tall_nested program f.program f.not_tall)
 
 pub returns-in-Ok-clause-the_one : goal.returns-in-Ok-clause-the_one
 returns-in-Ok-clause-the_one c = λ t a e. subst (λ v. tree_of v ≡ t) (sym c.new.ensures) (the_one _ _ (found _ c.args.tokens.now _ (tree_of (record { usings = c.in-Ok.usings.items; classes = c.in-Ok.classes.items })) refl c.in-Ok.ensures.end c.in-Ok.ensures.ok) t a e)
