@@ -6,6 +6,7 @@
 #![tactic(auto)]
 
 mod classes;
+mod effect;
 mod entering;
 mod instructions;
 mod moves;
@@ -13,4 +14,3 @@ mod operands;
 pub mod plain;
 mod running;
 mod stack;
-mod turn;
