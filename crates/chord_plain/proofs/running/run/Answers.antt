@@ -4,13 +4,13 @@ use Rattle.chord_code.specs.Machine.{Goes, Asking, Bad, step}
 use Rattle.chord_code.specs.Valid.{IsValid}
 use Rattle.chord_vm.specs.Frames.{machine_of, waiting_of}
 use Rattle.chord_plain.specs.Effects.{IsEffect}
-use Rattle.chord_plain.proofs.Onward.{bound, bound_on, bound_asks, bound_bad, lighter_step}
+use Rattle.chord_plain.proofs.Onward.{run_bound, bound_on, bound_asks, bound_bad, lighter_step}
 use Rattle.chord_plain.proofs.running.run.Goals as goal
 
 pub loop-what-init : goal.loop-what-init
 loop-what-init c =
     let valid : IsValid c.parts-parts.result.now = rw c.parts-parts.ensures.parts c.parts-parts.ensures.valid in
-    bound c.parts-parts.result.now (machine_of c.args.frames.now) valid
+    run_bound c.parts-parts.result.now (machine_of c.args.frames.now) valid
 
 pub loop-what-smaller : goal.loop-what-smaller
 loop-what-smaller c =
