@@ -1,2 +1,2 @@
 pub mod Popping
-pub mod Turning
+pub mod Onward

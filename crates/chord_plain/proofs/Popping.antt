@@ -15,14 +15,14 @@ pub too_many : (n : ℕ) (xs : List Value) → n < length xs → first_slots n x
 too_many n xs h = nothing (first_slots n xs) (λ there. (let le = slots_room n xs there in omega (arith, le, h)))
 
 -- where one more value is wanted of an empty stack, there are not as many as were wanted
-pub none_left : (n i : ℕ) (xs s : List Value) (o : Option (List Value × List Value)) → i < n → s ≡ [] → o ≡ pops (n - i) xs s → o ≡ None
-none_left n i xs s o h e p =
+pub none_to_pop : (n i : ℕ) (xs s : List Value) (o : Option (List Value × List Value)) → i < n → s ≡ [] → o ≡ pops (n - i) xs s → o ≡ None
+none_to_pop n i xs s o h e p =
     let k : n - i ≡ suc (n - suc i) = omega (arith, h) in
     p ∙ ap (λ m. pops m xs s) k ∙ ap (λ t. pops (suc (n - suc i)) xs t) e
 
 -- one more value is popped
-pub one_more : (n i : ℕ) (xs s rest : List Value) (v : Value) (o : Option (List Value × List Value)) → i < n → s ≡ v ∷ rest → o ≡ pops (n - i) xs s → o ≡ pops (n - (i + 1)) (v ∷ xs) rest
-one_more n i xs s rest v o h e p =
+pub one_more_popped : (n i : ℕ) (xs s rest : List Value) (v : Value) (o : Option (List Value × List Value)) → i < n → s ≡ v ∷ rest → o ≡ pops (n - i) xs s → o ≡ pops (n - (i + 1)) (v ∷ xs) rest
+one_more_popped n i xs s rest v o h e p =
     let k : n - i ≡ suc (n - (i + 1)) = omega (arith, h) in
     p ∙ ap (λ m. pops m xs s) k ∙ ap (λ t. pops (suc (n - (i + 1))) xs t) e
 

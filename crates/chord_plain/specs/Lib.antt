@@ -3,4 +3,4 @@
 -- values that are popped, and the slots that are filled with them
 pub mod Stacks
 -- what one instruction comes to, and where a body stands
-pub mod Turns
+pub mod Effects

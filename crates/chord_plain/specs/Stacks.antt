@@ -8,14 +8,14 @@ use Rattle.chord_code.specs.Machine.{pops}
 use Rattle.chord_code.specs.Slots.{set_slot}
 
 -- the value on top was popped, and the rest is left; there is none on an empty stack
-abbrev pub IsPopped : List Value → Option Value → List Value → Type 0
-IsPopped s None rest = s ≡ []
-IsPopped s (Some v) rest = s ≡ v ∷ rest
+abbrev pub IsTakenOff : List Value → Option Value → List Value → Type 0
+IsTakenOff s None rest = s ≡ []
+IsTakenOff s (Some v) rest = s ≡ v ∷ rest
 
 -- so many values were popped, in the order in which they were pushed; there are none where the stack has fewer
-abbrev pub ArePopped : ℕ → List Value → Option (Vec Value Global) → List Value → Type 0
-ArePopped n s None rest = pops n [] s ≡ None
-ArePopped n s (Some xs) rest = (pops n [] s ≡ Some (xs.items, rest)) × (length xs.items ≡ n)
+abbrev pub AreTakenOff : ℕ → List Value → Option (Vec Value Global) → List Value → Type 0
+AreTakenOff n s None rest = pops n [] s ≡ None
+AreTakenOff n s (Some xs) rest = (pops n [] s ≡ Some (xs.items, rest)) × (length xs.items ≡ n)
 
 -- the object that stands below the arguments of a message
 abbrev pub receiver : List Value → Option (Object × List Value)

@@ -4,7 +4,7 @@
 ghost use Rattle.std.specs.Prelude.{◌≡◌, ◌∷◌, [], IfOk, OnOk};
 ghost use Rattle.chord_code.specs.Machine.{body_in_block};
 ghost use Rattle.chord_vm.specs.Frames.{machine_of, shown_frame};
-ghost use Rattle.chord_plain.specs.Turns.{IsFound, IsFrameOf};
+ghost use Rattle.chord_plain.specs.Effects.{IsFound, IsFrameOf};
 
 use crate::stack::filled;
 use chord_base::event::Limits;

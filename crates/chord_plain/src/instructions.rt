@@ -5,13 +5,13 @@ ghost use Rattle.std.specs.Prelude.{◌≡◌, ℕ, suc, ◌+◌, ◌^◌, ◌<�
 ghost use Rattle.chord_code.specs.Within.{IsInstructionWithin};
 ghost use Rattle.chord_code.specs.Machine.{act, operate as operate_of, negates, denies, skips, again as again_of, if_deeper, makes_object, builder_of as the_builder_of, init_by, goes_back, loads, store_top, pop_top, pops, send_by, call_by, print_top, end_with, pushed};
 ghost use Rattle.chord_vm.specs.Frames.{machine_of};
-ghost use Rattle.chord_plain.specs.Turns.{IsTurn};
+ghost use Rattle.chord_plain.specs.Effects.{IsEffect};
 
+use crate::effect::Effect;
 use crate::entering::{begin_above, framed};
 use crate::moves::{after, ask, end_by, go_on, go_to, push_on};
 use crate::operands::{computed, has_text, takes};
 use crate::stack::{copied, pop, pop_message, push, set};
-use crate::turn::Turn;
 use chord_base::event::{End, Trap, What};
 use chord_base::operation::{Operation, printed};
 use chord_base::value::Value;
@@ -23,12 +23,12 @@ use std::alloc::{AllocError, Global};
 use std::mem;
 
 /// `load`.
-fn load(alloc: Global, frames: &mut Frames, slot: usize) -> Result<Turn, AllocError>
+fn load(alloc: Global, frames: &mut Frames, slot: usize) -> Result<Effect, AllocError>
     requires fits { frames.old.top.place + 1 < 2 ^ 64 }
-    ensures { IfOk result (λ turn. IsTurn (loads (machine_of frames.old) (slice_get frames.old.top.slots.items slot)) turn frames.new) }
+    ensures { IfOk result (λ effect. IsEffect (loads (machine_of frames.old) (slice_get frames.old.top.slots.items slot)) effect frames.new) }
 {
     match frames.top.slots.get(slot) {
-        None => Ok(Turn::GoesWrong),
+        None => Ok(Effect::GoesWrong),
         Some(value) => {
             let value = value.copied(alloc)?;
             push_on(frames, value)
@@ -37,15 +37,15 @@ fn load(alloc: Global, frames: &mut Frames, slot: usize) -> Result<Turn, AllocEr
 }
 
 /// `store`.
-fn store(frames: &mut Frames, slot: usize) -> Turn
+fn store(frames: &mut Frames, slot: usize) -> Effect
     requires fits { frames.old.top.place + 1 < 2 ^ 64 }
-    ensures { IsTurn (store_top slot (machine_of frames.old) (machine_of frames.old).top.stack) result frames.new }
+    ensures { IsEffect (store_top slot (machine_of frames.old) (machine_of frames.old).top.stack) result frames.new }
 {
     match pop(&mut frames.top.stack) {
-        None => Turn::GoesWrong,
+        None => Effect::GoesWrong,
         Some(value) => {
             if !set(&mut frames.top.slots, slot, value) {
-                return Turn::GoesWrong;
+                return Effect::GoesWrong;
             }
             go_on(frames)
         }
@@ -53,48 +53,48 @@ fn store(frames: &mut Frames, slot: usize) -> Turn
 }
 
 /// `drop`.
-fn let_go(frames: &mut Frames) -> Turn
+fn let_go(frames: &mut Frames) -> Effect
     requires fits { frames.old.top.place + 1 < 2 ^ 64 }
-    ensures { IsTurn (pop_top (machine_of frames.old) (machine_of frames.old).top.stack) result frames.new }
+    ensures { IsEffect (pop_top (machine_of frames.old) (machine_of frames.old).top.stack) result frames.new }
 {
     match pop(&mut frames.top.stack) {
-        None => Turn::GoesWrong,
+        None => Effect::GoesWrong,
         Some(_) => go_on(frames),
     }
 }
 
 /// `neg`.
-fn negate_top(frames: &mut Frames) -> Result<Turn, AllocError>
+fn negate_top(frames: &mut Frames) -> Result<Effect, AllocError>
     requires fits { frames.old.top.place + 1 < 2 ^ 64 }
-    ensures { IfOk result (λ turn. IsTurn (negates (machine_of frames.old) (machine_of frames.old).top.stack) turn frames.new) }
+    ensures { IfOk result (λ effect. IsEffect (negates (machine_of frames.old) (machine_of frames.old).top.stack) effect frames.new) }
 {
     match pop(&mut frames.top.stack) {
         Some(Value::Int(number)) => push_on(frames, Value::Int(number.wrapping_neg())),
-        _ => Ok(Turn::GoesWrong),
+        _ => Ok(Effect::GoesWrong),
     }
 }
 
 /// `not`.
-fn deny_top(frames: &mut Frames) -> Result<Turn, AllocError>
+fn deny_top(frames: &mut Frames) -> Result<Effect, AllocError>
     requires fits { frames.old.top.place + 1 < 2 ^ 64 }
-    ensures { IfOk result (λ turn. IsTurn (denies (machine_of frames.old) (machine_of frames.old).top.stack) turn frames.new) }
+    ensures { IfOk result (λ effect. IsEffect (denies (machine_of frames.old) (machine_of frames.old).top.stack) effect frames.new) }
 {
     match pop(&mut frames.top.stack) {
         Some(Value::Flag(flag)) => push_on(frames, Value::Flag(!flag)),
-        _ => Ok(Turn::GoesWrong),
+        _ => Ok(Effect::GoesWrong),
     }
 }
 
 /// The operators of two operands. The right one stands on top.
-fn operate(alloc: Global, frames: &mut Frames, operation: Operation) -> Result<Turn, AllocError>
+fn operate(alloc: Global, frames: &mut Frames, operation: Operation) -> Result<Effect, AllocError>
     requires fits { frames.old.top.place + 1 < 2 ^ 64 }
-    ensures { IfOk result (λ turn. IsTurn (operate_of operation (machine_of frames.old) (machine_of frames.old).top.stack) turn frames.new) }
+    ensures { IfOk result (λ effect. IsEffect (operate_of operation (machine_of frames.old) (machine_of frames.old).top.stack) effect frames.new) }
 {
     let Some(right) = pop(&mut frames.top.stack) else {
-        return Ok(Turn::GoesWrong);
+        return Ok(Effect::GoesWrong);
     };
     let Some(left) = pop(&mut frames.top.stack) else {
-        return Ok(Turn::GoesWrong);
+        return Ok(Effect::GoesWrong);
     };
     operate_on(alloc, frames, operation, left, right)
 }
@@ -106,12 +106,12 @@ fn operate_on(
     operation: Operation,
     left: Value,
     right: Value,
-) -> Result<Turn, AllocError>
+) -> Result<Effect, AllocError>
     requires fits { frames.old.top.place + 1 < 2 ^ 64 }
-    ensures { IfOk result (λ turn. IsTurn (operate_of operation (pushed (machine_of frames.old) right (left ∷ (machine_of frames.old).top.stack)) (right ∷ left ∷ (machine_of frames.old).top.stack)) turn frames.new) }
+    ensures { IfOk result (λ effect. IsEffect (operate_of operation (pushed (machine_of frames.old) right (left ∷ (machine_of frames.old).top.stack)) (right ∷ left ∷ (machine_of frames.old).top.stack)) effect frames.new) }
 {
     if !takes(operation, &left, &right) {
-        return Ok(Turn::GoesWrong);
+        return Ok(Effect::GoesWrong);
     }
     match computed(alloc, operation, &left, &right)? {
         Ok(value) => push_on(frames, value),
@@ -124,21 +124,21 @@ fn operate_on(
 }
 
 /// `skip`.
-fn skip(frames: &mut Frames, to: usize) -> Turn
+fn skip(frames: &mut Frames, to: usize) -> Effect
     requires fits { frames.old.top.place + 1 < 2 ^ 64 }
-    ensures { IsTurn (skips to (machine_of frames.old) (machine_of frames.old).top.stack) result frames.new }
+    ensures { IsEffect (skips to (machine_of frames.old) (machine_of frames.old).top.stack) result frames.new }
 {
     match pop(&mut frames.top.stack) {
         Some(Value::Flag(true)) => go_on(frames),
         Some(Value::Flag(false)) => go_to(frames, to),
-        _ => Turn::GoesWrong,
+        _ => Effect::GoesWrong,
     }
 }
 
 /// `again`.
-fn again(frames: &mut Frames, to: usize) -> Result<Turn, AllocError>
+fn again(frames: &mut Frames, to: usize) -> Result<Effect, AllocError>
     requires fits { frames.old.top.place + 1 < 2 ^ 64 }
-    ensures { IfOk result (λ turn. IsTurn (again_of to (machine_of frames.old) (machine_of frames.old).top.stack) turn frames.new) }
+    ensures { IfOk result (λ effect. IsEffect (again_of to (machine_of frames.old) (machine_of frames.old).top.stack) effect frames.new) }
 {
     match pop(&mut frames.top.stack) {
         Some(Value::Flag(true)) => {
@@ -150,18 +150,18 @@ fn again(frames: &mut Frames, to: usize) -> Result<Turn, AllocError>
             Ok(go_to(frames, to))
         }
         Some(Value::Flag(false)) => Ok(go_on(frames)),
-        _ => Ok(Turn::GoesWrong),
+        _ => Ok(Effect::GoesWrong),
     }
 }
 
 /// `send`.
-fn send(alloc: Global, frames: &mut Frames, method: u8, n: usize) -> Result<Turn, AllocError>
+fn send(alloc: Global, frames: &mut Frames, method: u8, n: usize) -> Result<Effect, AllocError>
     requires fits { frames.old.top.place + 1 < 2 ^ 64 }
     requires few { n ≤ 8 }
-    ensures { IfOk result (λ turn. IsTurn (send_by method (machine_of frames.old) (pops n [] (machine_of frames.old).top.stack)) turn frames.new) }
+    ensures { IfOk result (λ effect. IsEffect (send_by method (machine_of frames.old) (pops n [] (machine_of frames.old).top.stack)) effect frames.new) }
 {
     match pop_message(alloc, &mut frames.top.stack, n)? {
-        None => Ok(Turn::GoesWrong),
+        None => Ok(Effect::GoesWrong),
         Some((object, arguments)) => {
             let what = What::Sent(object, method, arguments);
             Ok(ask(frames, what, Awaited::ForNothing))
@@ -170,14 +170,19 @@ fn send(alloc: Global, frames: &mut Frames, method: u8, n: usize) -> Result<Turn
 }
 
 /// `call` where a call may go deeper.
-fn call_deeper(alloc: Global, frames: &mut Frames, method: u8, n: usize) -> Result<Turn, AllocError>
+fn call_deeper(
+    alloc: Global,
+    frames: &mut Frames,
+    method: u8,
+    n: usize,
+) -> Result<Effect, AllocError>
     requires fits { frames.old.top.place + 1 < 2 ^ 64 }
     requires few { n ≤ 8 }
     requires room { 0 < frames.old.top.room }
-    ensures { IfOk result (λ turn. IsTurn (call_by method (machine_of frames.old) (pops n [] (machine_of frames.old).top.stack)) turn frames.new) }
+    ensures { IfOk result (λ effect. IsEffect (call_by method (machine_of frames.old) (pops n [] (machine_of frames.old).top.stack)) effect frames.new) }
 {
     match pop_message(alloc, &mut frames.top.stack, n)? {
-        None => Ok(Turn::GoesWrong),
+        None => Ok(Effect::GoesWrong),
         Some((object, arguments)) => {
             let what = What::Called(object, method, arguments);
             Ok(ask(frames, what, Awaited::ForValue))
@@ -186,23 +191,23 @@ fn call_deeper(alloc: Global, frames: &mut Frames, method: u8, n: usize) -> Resu
 }
 
 /// `call` at the depth limit. The operands are looked at first, and stay.
-fn call_too_deep(alloc: Global, frames: &mut Frames, n: usize) -> Result<Turn, AllocError>
+fn call_too_deep(alloc: Global, frames: &mut Frames, n: usize) -> Result<Effect, AllocError>
     requires few { n ≤ 8 }
     requires room { frames.old.top.room ≡ 0 }
-    ensures { (j : ℕ) → IfOk result (λ turn. IsTurn (call_by j (machine_of frames.old) (pops n [] (machine_of frames.old).top.stack)) turn frames.new) }
+    ensures { (j : ℕ) → IfOk result (λ effect. IsEffect (call_by j (machine_of frames.old) (pops n [] (machine_of frames.old).top.stack)) effect frames.new) }
 {
     let mut stack = copied(alloc, &frames.top.stack)?;
     match pop_message(alloc, &mut stack, n)? {
-        None => Ok(Turn::GoesWrong),
+        None => Ok(Effect::GoesWrong),
         Some(_) => Ok(end_by(frames, End::Traps(Trap::TooDeep))),
     }
 }
 
 /// `call`.
-fn call(alloc: Global, frames: &mut Frames, method: u8, n: usize) -> Result<Turn, AllocError>
+fn call(alloc: Global, frames: &mut Frames, method: u8, n: usize) -> Result<Effect, AllocError>
     requires fits { frames.old.top.place + 1 < 2 ^ 64 }
     requires few { n ≤ 8 }
-    ensures { IfOk result (λ turn. IsTurn (call_by method (machine_of frames.old) (pops n [] (machine_of frames.old).top.stack)) turn frames.new) }
+    ensures { IfOk result (λ effect. IsEffect (call_by method (machine_of frames.old) (pops n [] (machine_of frames.old).top.stack)) effect frames.new) }
 {
     if frames.top.room == 0 {
         return call_too_deep(alloc, frames, n);
@@ -227,33 +232,33 @@ fn builder_of(parts: &Parts, class: u16) -> Option<Option<(u32, u32)>>
 }
 
 /// `new`. The arguments stay on the stack until the object is there.
-fn make(parts: &Parts, frames: &mut Frames, class: u16, n: u32) -> Turn
+fn make(parts: &Parts, frames: &mut Frames, class: u16, n: u32) -> Effect
     requires fits { frames.old.top.place + 1 < 2 ^ 64 }
-    ensures { IsTurn (if_deeper frames.old.top.room (machine_of frames.old) (makes_object class n (machine_of frames.old) (the_builder_of parts.now class))) result frames.new }
+    ensures { IsEffect (if_deeper frames.old.top.room (machine_of frames.old) (makes_object class n (machine_of frames.old) (the_builder_of parts.now class))) result frames.new }
 {
     if frames.top.room == 0 {
         return end_by(frames, End::Traps(Trap::TooDeep));
     }
     match builder_of(parts, class) {
-        None => Turn::GoesWrong,
+        None => Effect::GoesWrong,
         Some(builder) => ask(frames, What::Made(class), Awaited::ForObject(builder, n)),
     }
 }
 
 /// `init`: the builder of the base class begins.
-fn init(alloc: Global, parts: &Parts, frames: &mut Frames, class: u16) -> Result<Turn, AllocError>
+fn init(alloc: Global, parts: &Parts, frames: &mut Frames, class: u16) -> Result<Effect, AllocError>
     requires fits { frames.old.top.place + 1 < 2 ^ 64 }
-    ensures { IfOk result (λ turn. IsTurn (init_by (machine_of frames.old) (slice_get frames.old.top.slots.items 0) (the_builder_of parts.now class)) turn frames.new) }
+    ensures { IfOk result (λ effect. IsEffect (init_by (machine_of frames.old) (slice_get frames.old.top.slots.items 0) (the_builder_of parts.now class)) effect frames.new) }
 {
     match frames.top.slots.get(0) {
-        None => Ok(Turn::GoesWrong),
+        None => Ok(Effect::GoesWrong),
         Some(this) => {
             let this = this.copied(alloc)?;
             match builder_of(parts, class) {
                 Some(Some((block, slots))) => {
                     enter(alloc, frames, block as usize, slots as usize, this)
                 }
-                _ => Ok(Turn::GoesWrong),
+                _ => Ok(Effect::GoesWrong),
             }
         }
     }
@@ -266,32 +271,32 @@ fn enter(
     block: usize,
     slots: usize,
     this: Value,
-) -> Result<Turn, AllocError>
+) -> Result<Effect, AllocError>
     requires fits { frames.old.top.place + 1 < 2 ^ 64 }
-    ensures { IfOk result (λ turn. IsTurn (init_by (machine_of frames.old) (Some this) (Some (Some (block, slots)))) turn frames.new) }
+    ensures { IfOk result (λ effect. IsEffect (init_by (machine_of frames.old) (Some this) (Some (Some (block, slots)))) effect frames.new) }
 {
     let values = vec![in alloc; this]?;
     let room = frames.top.room;
     match framed(alloc, block, slots, room, values)? {
-        None => Ok(Turn::GoesWrong),
+        None => Ok(Effect::GoesWrong),
         Some(fresh) => {
             frames.top.place = after(frames.top.place);
             begin_above(frames, fresh)?;
-            Ok(Turn::GoesOn)
+            Ok(Effect::GoesOn)
         }
     }
 }
 
 /// Prints the text of the value on top.
-fn print(alloc: Global, frames: &mut Frames) -> Result<Turn, AllocError>
+fn print(alloc: Global, frames: &mut Frames) -> Result<Effect, AllocError>
     requires fits { frames.old.top.place + 1 < 2 ^ 64 }
-    ensures { IfOk result (λ turn. IsTurn (print_top (machine_of frames.old) (machine_of frames.old).top.stack) turn frames.new) }
+    ensures { IfOk result (λ effect. IsEffect (print_top (machine_of frames.old) (machine_of frames.old).top.stack) effect frames.new) }
 {
     match pop(&mut frames.top.stack) {
-        None => Ok(Turn::GoesWrong),
+        None => Ok(Effect::GoesWrong),
         Some(value) => {
             if !has_text(&value) {
-                return Ok(Turn::GoesWrong);
+                return Ok(Effect::GoesWrong);
             }
             let text = printed(alloc, &value)?;
             Ok(ask(frames, What::Printed(text), Awaited::ForNothing))
@@ -300,11 +305,11 @@ fn print(alloc: Global, frames: &mut Frames) -> Result<Turn, AllocError>
 }
 
 /// `endv`. The value stays on the stack.
-fn end_with_top(alloc: Global, frames: &mut Frames) -> Result<Turn, AllocError>
-    ensures { IfOk result (λ turn. IsTurn (end_with (machine_of frames.old) (machine_of frames.old).top.stack) turn frames.new) }
+fn end_with_top(alloc: Global, frames: &mut Frames) -> Result<Effect, AllocError>
+    ensures { IfOk result (λ effect. IsEffect (end_with (machine_of frames.old) (machine_of frames.old).top.stack) effect frames.new) }
 {
     match pop(&mut frames.top.stack) {
-        None => Ok(Turn::GoesWrong),
+        None => Ok(Effect::GoesWrong),
         Some(value) => {
             let given = value.copied(alloc)?;
             push(&mut frames.top.stack, value)?;
@@ -314,14 +319,14 @@ fn end_with_top(alloc: Global, frames: &mut Frames) -> Result<Turn, AllocError>
 }
 
 /// `back`.
-fn go_back(frames: &mut Frames) -> Turn
-    ensures { IsTurn (goes_back (machine_of frames.old) (machine_of frames.old).below) result frames.new }
+fn go_back(frames: &mut Frames) -> Effect
+    ensures { IsEffect (goes_back (machine_of frames.old) (machine_of frames.old).below) result frames.new }
 {
     match frames.below.pop() {
-        None => Turn::GoesWrong,
+        None => Effect::GoesWrong,
         Some(frame) => {
             let _ = mem::replace(&mut frames.top, frame);
-            Turn::GoesOn
+            Effect::GoesOn
         }
     }
 }
@@ -332,10 +337,10 @@ pub(crate) fn step(
     parts: &Parts,
     frames: &mut Frames,
     instruction: &Instruction,
-) -> Result<Turn, AllocError>
+) -> Result<Effect, AllocError>
     requires fits { frames.old.top.place + 1 < 2 ^ 64 }
     requires within { IsInstructionWithin instruction.now }
-    ensures { IfOk result (λ turn. IsTurn (act parts.now (Some instruction.now) (machine_of frames.old)) turn frames.new) }
+    ensures { IfOk result (λ effect. IsEffect (act parts.now (Some instruction.now) (machine_of frames.old)) effect frames.new) }
 {
     match instruction {
         Instruction::Int(number) => push_on(frames, Value::Int(*number)),

@@ -6,7 +6,7 @@ ghost use Rattle.chord_base.specs.Called.{start_of, asked_by, methods_by};
 ghost use Rattle.chord_code.specs.Fuel.{comes_to};
 ghost use Rattle.chord_code.specs.Meaning.{code_program, asked_of, asked_at, place, chord_lines, methods_of as the_methods_of, method_is_sync};
 ghost use Rattle.chord_vm.specs.Frames.{machine_of};
-ghost use Rattle.chord_plain.specs.Turns.{point_of_reached};
+ghost use Rattle.chord_plain.specs.Effects.{point_of_reached};
 
 use crate::classes::{chords_of, methods_of};
 use crate::running::{Reached, after_all, run};
@@ -17,6 +17,7 @@ use chord_vm::frames::Frames;
 use std::alloc::{AllocError, Global};
 
 /// A code under limits, whose meaning is told by running each body anew.
+#[derive(Drop)]
 pub struct Plain<'a> {
     pub code: &'a Code,
     pub limits: Limits,

@@ -9,13 +9,13 @@ ghost use Rattle.chord_code.specs.Slots.{first_slots};
 ghost use Rattle.chord_code.specs.Fuel.{comes_to};
 ghost use Rattle.chord_code.specs.Meaning.{begins, stands, point_of, point_replied, reply as the_reply, reply_to};
 ghost use Rattle.chord_vm.specs.Frames.{machine_of, waiting_of};
-ghost use Rattle.chord_plain.specs.Turns.{IsTurn, IsComeTo, IsFound, IsGoneOn, point_of_reached};
+ghost use Rattle.chord_plain.specs.Effects.{IsEffect, IsComeTo, IsFound, IsGoneOn, point_of_reached};
 
 use crate::classes::chords_of;
+use crate::effect::Effect;
 use crate::entering::{begin_above, body_in, framed};
 use crate::instructions::step;
 use crate::stack::{pop_all, push};
-use crate::turn::Turn;
 use chord_base::event::{End, Limits, Trap, What};
 use chord_base::meaning::Start;
 use chord_base::value::{Object, Value};
@@ -37,19 +37,19 @@ pub enum Reached {
 }
 
 /// The instruction at the place of the block at work.
-fn turn(alloc: Global, parts: &Parts, frames: &mut Frames) -> Result<Turn, AllocError>
+fn take_step(alloc: Global, parts: &Parts, frames: &mut Frames) -> Result<Effect, AllocError>
     requires valid { IsValid parts.now }
-    ensures { IfOk result (λ turn. IsTurn (step_of parts.now (machine_of frames.old)) turn frames.new) }
+    ensures { IfOk result (λ effect. IsEffect (step_of parts.now (machine_of frames.old)) effect frames.new) }
 {
     let Some(block) = parts.blocks.items().get(frames.top.block) else {
-        return Ok(Turn::GoesWrong);
+        return Ok(Effect::GoesWrong);
     };
     let instructions = block.instructions.items();
     let Some(instruction) = instructions.get(frames.top.place) else {
-        return Ok(Turn::GoesWrong);
+        return Ok(Effect::GoesWrong);
     };
-    let turn = step(alloc, parts, frames, instruction)?;
-    Ok(turn)
+    let effect = step(alloc, parts, frames, instruction)?;
+    Ok(effect)
 }
 
 /// Runs the body to its next ask. None where it goes wrong.
@@ -62,10 +62,10 @@ pub(crate) fn run(
 {
     let parts = code.parts();
     loop {
-        match turn(alloc, parts, frames)? {
-            Turn::GoesOn => {}
-            Turn::Asks(what) => return Ok(Some(what)),
-            Turn::GoesWrong => return Ok(None),
+        match take_step(alloc, parts, frames)? {
+            Effect::GoesOn => {}
+            Effect::Asks(what) => return Ok(Some(what)),
+            Effect::GoesWrong => return Ok(None),
         }
     }
 }

@@ -4,7 +4,7 @@
 ghost use Rattle.std.specs.Prelude.{◌≡◌, ◌≤◌, [], ◌∷◌, IfOk, OnOk, reverse};
 ghost use Rattle.chord_code.specs.Slots.{first_slots};
 ghost use Rattle.chord_code.specs.Machine.{pops};
-ghost use Rattle.chord_plain.specs.Stacks.{IsPopped, ArePopped, IsMessagePopped, IsSlotSet, items_if_there};
+ghost use Rattle.chord_plain.specs.Stacks.{IsTakenOff, AreTakenOff, IsMessagePopped, IsSlotSet, items_if_there};
 
 use chord_base::value::{Object, Value, Values};
 use std::alloc::{AllocError, Global};
@@ -19,7 +19,7 @@ pub(crate) fn push(stack: &mut Vec<Value>, value: Value) -> Result<(), AllocErro
 
 /// Pops the value on top. None where the stack is empty.
 pub(crate) fn pop(stack: &mut Vec<Value>) -> Option<Value>
-    ensures { IsPopped (reverse stack.old.items) result (reverse stack.new.items) }
+    ensures { IsTakenOff (reverse stack.old.items) result (reverse stack.new.items) }
 {
     stack.pop()
 }
@@ -30,7 +30,7 @@ pub(crate) fn pop_all(
     stack: &mut Vec<Value>,
     n: usize,
 ) -> Result<Option<Vec<Value>>, AllocError>
-    ensures { IfOk result (λ values. ArePopped n (reverse stack.old.items) values (reverse stack.new.items)) }
+    ensures { IfOk result (λ values. AreTakenOff n (reverse stack.old.items) values (reverse stack.new.items)) }
 {
     let mut values = Vec::new(alloc);
     for _ in 0..n {

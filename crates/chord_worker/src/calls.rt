@@ -1,7 +1,10 @@
 //! The calls of a worker that the pool makes, but for its steps.
-ghost use Rattle.std.specs.Prelude.{◌≡◌, ◌≢◌, ◌||◌, ℕ, ◌<◌, ◌-◌, List, true, false, None, OnOk, IfOk, min, is_some, IsPermutation};
+ghost use Rattle.std.specs.Prelude.{◌≡◌, ◌≢◌, ◌||◌, ℕ, ◌<◌, ◌-◌, List, Option, true, false, None, OnOk, IfOk, min, is_some, IsPermutation};
 ghost use Rattle.chord_base.specs.Story.{IsSound};
-ghost use Rattle.chord_rule.specs.Kinds.{newcomer, newcomer_first, lent_one, saw_count};
+ghost use Rattle.chord_rule.specs.Kinds.{newcomer, newcomer_first, lent_one, saw, saw_count};
+ghost use Rattle.chord_rule.specs.Tells.{a_word};
+ghost use Rattle.chord_word.specs.declared.cells.Cell.{Cell as TheCell};
+ghost use Rattle.chord_word.specs.declared.cells.Cell.TheVariants.{Ready};
 ghost use Rattle.chord_space.specs.Desks.{view, space_code, space_limits, program_of, IsDeskOf};
 ghost use Rattle.chord_word.specs.declared.cells.Word.{Word};
 ghost use Rattle.chord_worker.specs.Resting.{IsAtRest, IsSameRole, IsSeen};
@@ -103,7 +106,8 @@ impl Worker {
         space.look_cell(&mut self.desk, i).cell
     }
 
-    /// Starts the firing of this number, whose body the worker then plays, if it is ready. Whether it was.
+    /// Starts the firing of this number, whose body the worker then plays, if it is ready. Whether it was; if not, the worker saw what its
+    /// cell said, and nothing else has changed.
     pub fn start<G: Gate>(
         &mut self,
         space: &Space<Parcel>,
@@ -121,6 +125,7 @@ impl Worker {
         ensures rest { IsAtRest space.now self.new × IsSameRole (view self.old.desk) (view self.new.desk) }
         ensures room { (view self.new.desk).spent ≡ false }
         ensures task { result ≡ is_some self.new.task }
+        ensures refused { result ≡ false → (c : TheCell) × (next : Option ℕ) × (c ≢ Ready) × (view self.new.desk ≡ saw (view self.old.desk) i (a_word c next)) }
     {
         let _parts = code.parts();
         let _events = limits.events;

@@ -1,6 +1,6 @@
 use Rattle.chord_code.specs.Fuel.{comes_to, weight}
 use Rattle.chord_vm.specs.Frames.{machine_of}
-use Rattle.chord_plain.proofs.Turning.{IsBound}
+use Rattle.chord_plain.proofs.Onward.{IsBound}
 use Rattle.chord_plain.proofs.running.run.Given as goal
 
 abbrev pub invariant-loop-what : goal.invariant-loop-what

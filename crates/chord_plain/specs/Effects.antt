@@ -8,16 +8,16 @@ use Rattle.chord_vm.specs.declared.frames.Frame as declared_frame
 use Rattle.chord_vm.specs.Frames.{machine_of, waiting_of, shown_frame}
 use Rattle.chord_base.specs.declared.value.Value.{Value}
 use Rattle.chord_code.specs.Slots.{first_slots}
-use Rattle.chord_plain.specs.declared.turn.Turn.{Turn}
-use Rattle.chord_plain.specs.declared.turn.Turn.TheVariants as turn
+use Rattle.chord_plain.specs.declared.effect.Effect.{Effect}
+use Rattle.chord_plain.specs.declared.effect.Effect.TheVariants as effect
 use Rattle.chord_plain.specs.declared.running.Reached.{Reached}
 use Rattle.chord_plain.specs.declared.running.Reached.TheVariants as reached
 
--- the instruction came to this turn, and the frames are those after it; of frames whose body went wrong nothing is said
-abbrev pub IsTurn : Did → Turn → Frames → Type 0
-IsTurn d turn.GoesOn f = d ≡ Goes (machine_of f)
-IsTurn d (turn.Asks what) f = d ≡ Asking what (waiting_of f)
-IsTurn d turn.GoesWrong f = d ≡ Bad
+-- the instruction had this effect, and the frames are those after it; of frames whose body went wrong nothing is said
+abbrev pub IsEffect : Did → Effect → Frames → Type 0
+IsEffect d effect.GoesOn f = d ≡ Goes (machine_of f)
+IsEffect d (effect.Asks what) f = d ≡ Asking what (waiting_of f)
+IsEffect d effect.GoesWrong f = d ≡ Bad
 
 -- a body came to this ask, and its frames wait for the answer; it came to none where it went wrong
 abbrev pub IsComeTo : Did → Option What → Frames → Type 0

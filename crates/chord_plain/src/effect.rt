@@ -5,7 +5,7 @@ use chord_base::event::What;
 
 /// What one instruction comes to.
 #[derive(Drop)]
-pub enum Turn {
+pub enum Effect {
     /// The body goes on.
     GoesOn,
     /// It asks this, and waits for the answer.

@@ -24,9 +24,9 @@ lighter_by code m m' (Some i) f e g = lighter code m m' i f e g
 pub lighter_step : (code : Parts) (m m' : Machine) → IsValid code → step code m ≡ Goes m' → weight code m' < weight code m
 lighter_step code m m' v g = lighter_by code m m' (fetch code m.top.block m.top.place) (valid_forward code v) refl g
 
--- an instruction that stands in its block is the one that is fetched
-pub fetched : (code : Parts) (b p : ℕ) (block : Block) (x : Instruction) → b < length code.blocks → block ≡ get_or code.blocks b block → p < length block.instructions → x ≡ get_or block.instructions p x → fetch code b p ≡ Some x
-fetched code b p block x l e k f =
+-- an instruction that stands in its block is the one that is found_at
+pub found_at : (code : Parts) (b p : ℕ) (block : Block) (x : Instruction) → b < length code.blocks → block ≡ get_or code.blocks b block → p < length block.instructions → x ≡ get_or block.instructions p x → fetch code b p ≡ Some x
+found_at code b p block x l e k f =
     ap (λ o. instr_in o p) (slice_get-get_or code.blocks b block l ∙ ap Some (sym e)) ∙ slice_get-get_or block.instructions p x k ∙ ap Some (sym f)
 
 -- what some number of instructions comes to, which is not that the body still goes on
@@ -36,14 +36,15 @@ pub record IsBound (code : Parts) (m : Machine) (d : Did) : Type 0 where
   pub ended : (n : Machine) → d ≡ Goes n → ⊥
 
 -- a machine of a valid code comes to what its bounded run comes to
-pub bound : (code : Parts) (m : Machine) → IsValid code → IsBound code m (comes_to code m)
-bound code m v = record { count = suc (weight code m); by = refl; ended = λ n e. comes_to_an_end code (valid_forward code v) m n e }
+pub run_bound : (code : Parts) (m : Machine) → IsValid code → IsBound code m (comes_to code m)
+run_bound code m v = record { count = suc (weight code m); by = refl; ended = λ n e. comes_to_an_end code (valid_forward code v) m n e }
 
 -- after an instruction that goes on it still comes to that
 onwards : (code : Parts) (m m' : Machine) (d : Did) (n : ℕ) → step code m ≡ Goes m' → run code n m ≡ d → ((k : Machine) → d ≡ Goes k → ⊥) → IsBound code m' d
 onwards code m m' d zero s e h = absurd (h m (sym e))
 onwards code m m' d (suc n) s e h = record { count = n; by = ap (goes_on (run code n)) (sym s) ∙ e; ended = h }
 
+-- after one that goes on the bound is of what is left
 pub bound_on : (code : Parts) (m m' : Machine) (d : Did) → step code m ≡ Goes m' → IsBound code m d → IsBound code m' d
 bound_on code m m' d s b = onwards code m m' d b.count s b.by b.ended
 
