@@ -24,7 +24,7 @@ lighter_by code m m' (Some i) f e g = lighter code m m' i f e g
 pub lighter_step : (code : Parts) (m m' : Machine) → IsValid code → step code m ≡ Goes m' → weight code m' < weight code m
 lighter_step code m m' v g = lighter_by code m m' (fetch code m.top.block m.top.place) (valid_forward code v) refl g
 
--- an instruction that stands in its block is the one that is found_at
+-- an instruction that stands in its block is the one that is fetched
 pub found_at : (code : Parts) (b p : ℕ) (block : Block) (x : Instruction) → b < length code.blocks → block ≡ get_or code.blocks b block → p < length block.instructions → x ≡ get_or block.instructions p x → fetch code b p ≡ Some x
 found_at code b p block x l e k f =
     ap (λ o. instr_in o p) (slice_get-get_or code.blocks b block l ∙ ap Some (sym e)) ∙ slice_get-get_or block.instructions p x k ∙ ap Some (sym f)

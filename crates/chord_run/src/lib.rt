@@ -26,6 +26,8 @@ pub use report::Report;
 pub use top::chord;
 
 #[cfg(test)]
+mod engine_tests;
+#[cfg(test)]
 mod schedule_tests;
 #[cfg(test)]
 mod tests;

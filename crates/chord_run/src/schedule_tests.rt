@@ -51,14 +51,14 @@ class Program {
 
 /// A source, its limit on events, and how many entries each of its runs has: those of a complete one, counted by hand, or as many as
 /// are allowed.
-struct Case {
-    name: &'static str,
-    source: &'static str,
-    events: u32,
-    entries: u32,
+pub struct Case {
+    pub name: &'static str,
+    pub source: &'static str,
+    pub events: u32,
+    pub entries: u32,
 }
 
-const CASES: [Case; 3] = [
+pub const CASES: [Case; 3] = [
     Case {
         name: "cell",
         source: CELL,
@@ -80,7 +80,7 @@ const CASES: [Case; 3] = [
 ];
 
 /// A gate that nobody watches.
-struct Open;
+pub struct Open;
 
 impl Gate for Open {
     fn started(&self, _body: u32) {}
@@ -107,7 +107,7 @@ impl Dice {
 }
 
 /// The code of a source.
-fn compiled(alloc: Global, source: &str) -> Result<Code, Fail>
+pub fn compiled(alloc: Global, source: &str) -> Result<Code, Fail>
     ensures { IfOk result (λ code. IsSoundCode code) }
 {
     let bytes = source.as_bytes();
