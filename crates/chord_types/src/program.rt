@@ -140,7 +140,7 @@ fn typed_by<'t, 'a>(
 
 /// The bodies of a program with all names resolved, or its break among the rules on names and types.
 ///
-/// `Rule` comes exactly where one of these rules is broken: C02, C14 to C20 and C22 to C24. It is the one at the least token, and of several there the least rule. Takes time linear in the program, but for the logarithm of a look-up by name and the depth of classes.
+/// `Rule` comes exactly where one of these rules is broken: C02, C14 to C20 and C22 to C24. It is the one at the least token, and of several there the least rule. Takes time linear in the program, but for the logarithm of a look-up by name.
 pub fn type_program(alloc: Global, program: &Program) -> Result<Typed, TypeFault>
     ensures typed { IfOk result (λ typed. map view_body typed ≡ bodies_of (tree_of program.now)) }
     ensures free { OnOk result (IsFree is_type_rule (tree_of program.now)) }
