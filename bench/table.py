@@ -1,6 +1,7 @@
 #!/usr/bin/env python3
 """Makes shared tables and steps on them: `make` at 65,536 events beside the writing of as many words and slots in C, and draw, link and arm beside the bare
-atomic operations that they make. A step is timed by rounds that make a small table and go up to that step, less rounds that go up to the one before."""
+atomic operations that they make. A run makes one table, in memory that its process did not touch before: so each table of both sides is in memory fresh from
+the system, and its drop is not counted. A step is timed by rounds that make a small table and go up to that step, less rounds that go up to the one before."""
 
 import os
 import subprocess
@@ -133,25 +134,24 @@ fn rounds(alloc: Global, code: &Code, steps: u8) -> Result<u64, AllocError>
     Ok(all)
 }
 
-/// Tables of 65,536 events.
-fn tables(alloc: Global, code: &Code) -> Result<u64, AllocError>
+/// The microseconds that tables of 65,536 events take to make, without their drops: the memory of each goes back to the system.
+fn tables(rt: &HostRuntime, code: &Code) -> io::Result<u64>
     requires { code.now ≡ CODE }
 {
     let mut all = 0u64;
     for _ in 0..TABLESu64 {
-        let (space, desk) = table(alloc, code, 65536)?;
+        let start = rt.thread_cpu_time()?;
+        let (space, desk) = table(rt.alloc(), code, 65536)?;
+        all = all.wrapping_add(micros(rt, start)?);
         drop(desk);
         drop(space);
-        all = all.wrapping_add(1);
     }
     Ok(all)
 }
 
 fn main(rt: HostRuntime) -> io::Result<()> {
     let code = sending(rt.alloc())?;
-    let start = rt.thread_cpu_time()?;
-    let made = tables(rt.alloc(), &code)?;
-    let making = micros(&rt, start)?;
+    let making = tables(&rt, &code)?;
     let start = rt.thread_cpu_time()?;
     let none = rounds(rt.alloc(), &code, 0)?;
     let small = micros(&rt, start)?;
@@ -164,7 +164,7 @@ fn main(rt: HostRuntime) -> io::Result<()> {
     let start = rt.thread_cpu_time()?;
     let arms = rounds(rt.alloc(), &code, 3)?;
     let arming = micros(&rt, start)?;
-    println!(rt; "{making} {small} {drawing} {linking} {arming} {made} {none} {draws} {links} {arms}")?;
+    println!(rt; "{making} {small} {drawing} {linking} {arming} {none} {draws} {links} {arms}")?;
     Ok(())
 }
 '''
@@ -193,6 +193,7 @@ link-requires-clause-link c = let code = c.requires.code in let sent = c.require
 '''
 
 THEIRS = '''
+#include <malloc.h>
 #include <stdatomic.h>
 #include <stdint.h>
 #include <stdio.h>
@@ -202,26 +203,32 @@ THEIRS = '''
 #define STEPS 50000000l
 #define EVENTS 65536
 
-struct slot { uint64_t tag; uint64_t value; };
+struct slot { uint32_t tag; uint32_t value; };
 
 static double since(clock_t start) { return (double)(clock() - start) * 1e9 / CLOCKS_PER_SEC; }
 
+/* Writes the words and the slots of one table into fresh memory: the nanoseconds of that. */
+static double write_table(uint64_t *sum) {
+    clock_t start = clock();
+    uint64_t *table = malloc((1 + 18 * EVENTS) * sizeof *table);
+    struct slot *slots = malloc(EVENTS * sizeof *slots);
+    for (volatile long k = 0, n = 1; k < n; k++)
+        for (long j = 0; j < 1 + 18 * EVENTS; j++) table[j] = k;
+    for (long j = 0; j < EVENTS; j++) slots[j].tag = *sum;
+    double took = since(start);
+    *sum += table[*sum % EVENTS] + slots[*sum % EVENTS].tag;
+    free(table);
+    free(slots);
+    return took;
+}
+
 int main(void) {
     static _Atomic uint64_t words[64];
-    clock_t start = clock();
+    mallopt(M_MMAP_THRESHOLD, 1 << 17);
     uint64_t sum = 0;
-    for (int i = 0; i < TABLES; i++) {
-        uint64_t *table = malloc((1 + 18 * EVENTS) * sizeof *table);
-        struct slot *slots = malloc(EVENTS * sizeof *slots);
-        for (volatile long k = 0, n = 1; k < n; k++)
-            for (long j = 0; j < 1 + 18 * EVENTS; j++) table[j] = k;
-        for (long j = 0; j < EVENTS; j++) slots[j].tag = i;
-        sum += table[i] + slots[i].tag;
-        free(table);
-        free(slots);
-    }
-    double making = since(start) / TABLES;
-    start = clock();
+    double making = 0;
+    for (int i = 0; i < TABLES; i++) making += write_table(&sum) / TABLES;
+    clock_t start = clock();
     for (long i = 0; i < STEPS; i++) sum += atomic_fetch_add(&words[0], 1);
     double drawing = since(start) / STEPS;
     start = clock();
