@@ -2,7 +2,7 @@
 #![tactic(auto)]
 
 ghost use Rattle.std.specs.Prelude.{◌≡◌, ◌<◌, ◌≤◌, length, take, drop, IfOk, IfErr};
-ghost use Rattle.chord_lexer.specs.Letters.{IsMaximalRun, first_passes};
+ghost use Rattle.chord_lexer.specs.Letters.{IsMaximalRun, first_passes, is_blank};
 ghost use Rattle.chord_lexer.specs.Comments.{begins_comment};
 ghost use Rattle.chord_lexer.specs.Scanning.{test_of, lead_of, Begins, IsStop};
 
@@ -93,17 +93,25 @@ fn begins_comment(text: &[u8]) -> bool
     }
 }
 
+#[inline]
+fn is_blank(byte: u8) -> bool
+    ensures { result ≡ is_blank byte }
+{
+    byte == b' ' || byte == b'\t' || byte == b'\r' || byte == b'\n'
+}
+
+/// What may begin the text. Blanks, which nearly half of the pieces are, are told by the first test.
 fn leading(text: &[u8]) -> Lead
     requires { 0 < length text.now }
     ensures { result ≡ lead_of text.now }
 {
     let first = text[0];
-    if first.is_ascii_digit() {
+    if is_blank(first) {
+        Lead::Blank
+    } else if first.is_ascii_digit() {
         Lead::Digit
     } else if first.is_ascii_alphabetic() || first == b'_' {
         Lead::Letter
-    } else if first == b' ' || first == b'\t' || first == b'\r' || first == b'\n' {
-        Lead::Blank
     } else if first == b'"' {
         Lead::Quote
     } else if begins_comment(text) {
