@@ -271,9 +271,11 @@ twice_same : (as_ : List Args) → AreTwice as_ → for_body as_ ≡ for_entry a
 twice_same [] t = refl
 twice_same (a ∷ as_) t = ap (λ z. z ∷ for_body as_) t.0 ∙ ap (λ z. a.first ∷ z) (twice_same as_ t.1)
 
+-- the body begins on these values as the meaning of the code has it
+pub begun_with : (code : Parts) (limits l : Limits) (b depth room : ℕ) (this : Value) (vs : List Value) → l ≡ limits → limits.depth - depth ≡ room → body_in_block code b (l.depth - depth) (this ∷ vs) l.turns ≡ body_in_block code b room (this ∷ vs) limits.turns
+begun_with code limits l b depth room this vs e d = ap (λ (x : Limits). body_in_block code b (x.depth - depth) (this ∷ vs) x.turns) e ∙ ap (λ r. body_in_block code b r (this ∷ vs) limits.turns) d
+
 -- the body begins as the meaning of the code has it
 pub begun_same : (code : Parts) (limits l : Limits) (b depth room : ℕ) (this : Value) (xs : List (List Value)) (as_ : List Args) → l ≡ limits → limits.depth - depth ≡ room → xs ≡ for_body as_ → AreTwice as_ → body_in_block code b (l.depth - depth) (this ∷ laid xs) l.turns ≡ body_in_block code b room (this ∷ laid (for_entry as_)) limits.turns
 begun_same code limits l b depth room this xs as_ e d s t =
-    ap (λ (x : Limits). body_in_block code b (x.depth - depth) (this ∷ laid xs) x.turns) e
-    ∙ ap (λ r. body_in_block code b r (this ∷ laid xs) limits.turns) d
-    ∙ ap (λ (ys : List (List Value)). body_in_block code b room (this ∷ laid ys) limits.turns) (s ∙ twice_same as_ t)
+    begun_with code limits l b depth room this (laid xs) e d ∙ ap (λ (ys : List (List Value)). body_in_block code b room (this ∷ laid ys) limits.turns) (s ∙ twice_same as_ t)

@@ -18,12 +18,12 @@ use crate::body::{Body, Next, call_back, come_to_ask, given, note_ask};
 use chord_base::event::{Entry, Limits, What};
 use chord_base::hand::Hand;
 use chord_base::members::Members;
-use chord_base::value::{Object, Value};
+use chord_base::value::{Object, Value, Values};
 use chord_code::code::Code;
 use chord_code::parts::ChordLine;
 use chord_vm::ask::Ask;
 use chord_vm::frames::{
-    Frames, begin, can_begin, reserve as reserve_frames, spare as spare_frames,
+    Frames, begin, begin_with, can_begin, reserve as reserve_frames, spare as spare_frames,
 };
 use std::alloc::{AllocError, Global};
 use std::mem;
@@ -371,6 +371,54 @@ impl Task {
                 }
             }
         }
+    }
+
+    /// Puts the body of a firing on top, with copies of these values in its slots. Takes memory for texts alone. Where none is found, the task can only
+    /// be dropped.
+    pub fn resume_with(
+        &mut self,
+        alloc: Global,
+        code: &Code,
+        number: u32,
+        chord: u16,
+        object: Object,
+        members: Members,
+        values: Values,
+    ) -> Result<(), AllocError>
+        requires task { IsTaskOf code.now self.old.limits self.old }
+        requires may { MayResume code.now self.old.limits self.old number chord object members values }
+        ensures task { IfOk result (λ _. IsTaskOf code.now self.old.limits self.new) }
+        ensures past { IfOk result (λ _. task_begun (view_of self.old) number chord object members values (view_of self.new)) }
+        ensures top { IfOk result (λ _. (view_of self.new).top ≡ Some number) }
+    {
+        let depth = depth_over(self.limits.depth, &self.top);
+        let block = line_of(code, object.class, chord).block;
+        match &mut self.spare {
+            None => unreachable!(),
+            Some(frames) => {
+                let this = Value::Ref(object);
+                begin_with(alloc, code, frames, block, this, values.items(), depth)?;
+            }
+        }
+        self.past.push_reserved(Entry {
+            number,
+            body: number,
+            what: What::Fired(chord, object, members, values),
+        });
+        match self.spare.take() {
+            None => unreachable!(),
+            Some(frames) => {
+                let body = Body {
+                    number,
+                    frames,
+                    next: Next::Runs,
+                };
+                if let Some(caller) = mem::replace(&mut self.top, Some(body)) {
+                    self.below.push_reserved(caller);
+                }
+            }
+        }
+        Ok(())
     }
 
     /// Whether no body is left.
