@@ -46,22 +46,22 @@ may_run code limits t b k top ready = (
   λ e.
       let s = stack_at code limits t b k top in
       let u : IsUp code limits (view_of t).past b = subst (λ n. IsTop code limits (view_of t).past n b) e s.0 in
-      let i : stands code limits u.start u.depth u.answers ≡ At (machine_of b.frames) = subst (λ n. NextIs code limits n b.frames (stands code limits u.start u.depth u.answers)) e u.next in
-      let d : IsSome (asked_at limits (comes_to code (machine_of b.frames))) = subst (λ z. IsSome (asked_of code limits z)) i (up_defined code limits (view_of t).past b u k.is_defined) in
-      let f = some_did limits (comes_to code (machine_of b.frames)) d in
-      record { ask = f.0; waiting = f.1; comes = found_comes code (machine_of b.frames) f.0 f.1 f.2 },
+      let i : stands code limits u.start u.depth u.answers ≡ At (machine_of b.frames.value) = subst (λ n. NextIs code limits n b.frames.value (stands code limits u.start u.depth u.answers)) e u.next in
+      let d : IsSome (asked_at limits (comes_to code (machine_of b.frames.value))) = subst (λ z. IsSome (asked_of code limits z)) i (up_defined code limits (view_of t).past b u k.is_defined) in
+      let f = some_did limits (comes_to code (machine_of b.frames.value)) d in
+      record { ask = f.0; waiting = f.1; comes = found_comes code (machine_of b.frames.value) f.0 f.1 f.2 },
   λ q e. let z : false ≡ true = sym (ap body_may_go top ∙ ap may_go e) ∙ ready in cc,
 )
 
 -- a body that may make its next entry still may where its number is the same and its new state fits its point
-up_again : (code : Parts) (limits : Limits) (h : List Entry) (b b' : Body) (n : Next) (u : IsUp code limits h b) → b'.number ≡ b.number → b'.next ≡ n → NextIs code limits n b'.frames (stands code limits u.start u.depth u.answers) → IsUp code limits h b'
+up_again : (code : Parts) (limits : Limits) (h : List Entry) (b b' : Body) (n : Next) (u : IsUp code limits h b) → b'.number ≡ b.number → b'.next ≡ n → NextIs code limits n b'.frames.value (stands code limits u.start u.depth u.answers) → IsUp code limits h b'
 up_again code limits h b b' n u i e next =
     record {
       start = u.start;
       depth = u.depth;
       answers = u.answers;
       is = ap (doing (code_program code limits) h) i ∙ u.is;
-      next = subst (λ z. NextIs code limits z b'.frames (stands code limits u.start u.depth u.answers)) (sym e) next;
+      next = subst (λ z. NextIs code limits z b'.frames.value (stands code limits u.start u.depth u.answers)) (sym e) next;
     }
 
 -- a machine that comes to an ask waits for an answer of its kind
@@ -69,21 +69,21 @@ not_own : (code : Parts) → IsForward code → (m : Machine) (a : What) (w : Wa
 not_own code fwd m a w c f = f (run_asked code fwd a w c.count m c.by)
 
 -- the body that ran to its ask
-ran : (code : Parts) → IsForward code → (limits : Limits) (h : List Entry) (b b' : Body) (u : IsUp code limits h b) → b'.number ≡ b.number → stands code limits u.start u.depth u.answers ≡ At (machine_of b.frames) → (a : Ask) → Advanced code (machine_of b.frames) a b'.frames → GivenBy (what_of_ask a) b'.next → IsUp code limits h b'
+ran : (code : Parts) → IsForward code → (limits : Limits) (h : List Entry) (b b' : Body) (u : IsUp code limits h b) → b'.number ≡ b.number → stands code limits u.start u.depth u.answers ≡ At (machine_of b.frames.value) → (a : Ask) → Advanced code (machine_of b.frames.value) a b'.frames.value → GivenBy (what_of_ask a) b'.next → IsUp code limits h b'
 ran code fwd limits h b b' u i at (ask.End e) a g =
-    up_again code limits h b b' (nexts.Ends e e) u i g (0, ap (asked_of code limits) at ∙ ap (asked_at limits) (comes_found code fwd (machine_of b.frames) (Ended e) a.0 a.1), refl)
-ran code fwd limits h b b' u i at (ask.Make c) a g = up_again code limits h b b' (nexts.Gave (Made c)) u i g (machine_of b.frames, at, comes_found code fwd (machine_of b.frames) (Made c) (waiting_of b'.frames) a)
-ran code fwd limits h b b' u i at (ask.Send o j vs) a g = up_again code limits h b b' (nexts.Gave (Sent o j vs)) u i g (machine_of b.frames, at, comes_found code fwd (machine_of b.frames) (Sent o j vs) (waiting_of b'.frames) a)
-ran code fwd limits h b b' u i at (ask.Call o j vs) a g = up_again code limits h b b' (nexts.Gave (Called o j vs)) u i g (machine_of b.frames, at, comes_found code fwd (machine_of b.frames) (Called o j vs) (waiting_of b'.frames) a)
-ran code fwd limits h b b' u i at (ask.Print t) a g = up_again code limits h b b' (nexts.Gave (Printed t)) u i g (machine_of b.frames, at, comes_found code fwd (machine_of b.frames) (Printed t) (waiting_of b'.frames) a)
+    up_again code limits h b b' (nexts.Ends e e) u i g (0, ap (asked_of code limits) at ∙ ap (asked_at limits) (comes_found code fwd (machine_of b.frames.value) (Ended e) a.0 a.1), refl)
+ran code fwd limits h b b' u i at (ask.Make c) a g = up_again code limits h b b' (nexts.Gave (Made c)) u i g (machine_of b.frames.value, at, comes_found code fwd (machine_of b.frames.value) (Made c) (waiting_of b'.frames.value) a)
+ran code fwd limits h b b' u i at (ask.Send o j vs) a g = up_again code limits h b b' (nexts.Gave (Sent o j vs)) u i g (machine_of b.frames.value, at, comes_found code fwd (machine_of b.frames.value) (Sent o j vs) (waiting_of b'.frames.value) a)
+ran code fwd limits h b b' u i at (ask.Call o j vs) a g = up_again code limits h b b' (nexts.Gave (Called o j vs)) u i g (machine_of b.frames.value, at, comes_found code fwd (machine_of b.frames.value) (Called o j vs) (waiting_of b'.frames.value) a)
+ran code fwd limits h b b' u i at (ask.Print t) a g = up_again code limits h b b' (nexts.Gave (Printed t)) u i g (machine_of b.frames.value, at, comes_found code fwd (machine_of b.frames.value) (Printed t) (waiting_of b'.frames.value) a)
 
 -- a body that came to its ask may make its next entry
 asked_up : (code : Parts) → IsForward code → (limits : Limits) (h : List Entry) (b b' : Body) (n : Next) → b.next ≡ n → b'.number ≡ b.number → AskedBy code n b b' → IsTop code limits h n b → IsUp code limits h b'
-asked_up code fwd limits h b b' nexts.Runs e i a u = ran code fwd limits h b b' u i (subst (λ n. NextIs code limits n b.frames (stands code limits u.start u.depth u.answers)) e u.next) a.0 a.1 a.2
+asked_up code fwd limits h b b' nexts.Runs e i a u = ran code fwd limits h b b' u i (subst (λ n. NextIs code limits n b.frames.value (stands code limits u.start u.depth u.answers)) e u.next) a.0 a.1 a.2
 asked_up code fwd limits h b b' (nexts.Gave w) e i a u = subst (λ (z : Body). IsUp code limits h z) (sym a) u
 asked_up code fwd limits h b b' (nexts.Ends x y) e i a u = subst (λ (z : Body). IsUp code limits h z) (sym a) u
 asked_up code fwd limits h b b' (nexts.Fails t) e i a u =
-    let at : stands code limits u.start u.depth u.answers ≡ FailsBy t = subst (λ n. NextIs code limits n b.frames (stands code limits u.start u.depth u.answers)) e u.next in
+    let at : stands code limits u.start u.depth u.answers ≡ FailsBy t = subst (λ n. NextIs code limits n b.frames.value (stands code limits u.start u.depth u.answers)) e u.next in
     up_again code limits h b b' (nexts.Ends (Traps t) (Traps t)) u i a (0, ap (asked_of code limits) at, refl)
 asked_up code fwd limits h b b' (nexts.Waits q) e i a u = absurd a
 
@@ -158,7 +158,7 @@ up_can code limits t b k top u =
 -- a task whose body on top is parked waits for that body's call
 parked_waits : (code : Parts) (limits : Limits) (t : Task) (b : Body) (q : ℕ) → t.top ≡ Some b → IsParked code limits (view_of t).past b q → TopWaitsFor (code_program code limits) (view_of t) q
 parked_waits code limits t b q top k =
-    record { body = b.number; on_top = ap body_number top; start = k.start; depth = k.depth; answers = k.answers; place = limits.depth - b.frames.top.room; is = k.is }
+    record { body = b.number; on_top = ap body_number top; start = k.start; depth = k.depth; answers = k.answers; place = limits.depth - b.frames.value.top.room; is = k.is }
 
 -- the body on top is up, or it is parked
 top_is : (code : Parts) (limits : Limits) (h : List Entry) (b : Body) (n : Next) → b.next ≡ n → IsTop code limits h n b → (IsUp code limits h b × (may_go n ≡ true)) ⊎ ((q : ℕ) × IsParked code limits h b q × (n ≡ nexts.Waits q))
@@ -231,7 +231,7 @@ waits_no code limits t q k r w = by_top t.top refl
           | inl u ↦ (let z : Ready u.0.start u.0.depth u.0.answers ≡ Waits w.start w.depth w.answers q w.place = sym u.0.is ∙ i in cc)
           | inr v ↦
               (let c = v.1 in
-              let z : Waits c.start c.depth c.answers v.0 (limits.depth - b.frames.top.room) ≡ Waits w.start w.depth w.answers q w.place = sym c.is ∙ i in
+              let z : Waits c.start c.depth c.answers v.0 (limits.depth - b.frames.value.top.room) ≡ Waits w.start w.depth w.answers q w.place = sym c.is ∙ i in
               let m : v.0 ≡ q = cc in
               let x : true ≡ false = sym (ap (body_waits q) e ∙ ap (waits_on q) v.2 ∙ eq-eqb v.0 q m) ∙ r in cc)
         ]

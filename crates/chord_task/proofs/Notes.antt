@@ -74,7 +74,7 @@ call_answer n (Fired k o ms vs) i e a = absurd i
 call_answer n (Ended x) i e a = cc
 
 -- a body whose ask became an entry runs on with the answer, or waits for the end of its call
-new_top : (code : Parts) → IsForward code → (limits : Limits) (h : List Entry) (b b' : Body) (n : ℕ) (w : What) → IsUp code limits h b → b.next ≡ nexts.Gave w → b'.number ≡ b.number → (o : Option Value) → answer_of n w ≡ o → AnsweredWith o n b.frames b' → IsReady b.frames.awaited b.frames → IsTop code limits (entry n b.number w ∷ h) b'.next b'
+new_top : (code : Parts) → IsForward code → (limits : Limits) (h : List Entry) (b b' : Body) (n : ℕ) (w : What) → IsUp code limits h b → b.next ≡ nexts.Gave w → b'.number ≡ b.number → (o : Option Value) → answer_of n w ≡ o → AnsweredWith o n b.frames.value b' → IsReady b.frames.value.awaited b.frames.value → IsTop code limits (entry n b.number w ∷ h) b'.next b'
 new_top code fwd limits h b b' n w u e i (Some v) a r ready =
     subst (λ z. IsTop code limits (entry n b.number w ∷ h) z b') (sym r.0) (up_more code limits h b b' n w v u e a i r.0 r.1)
 new_top code fwd limits h b b' n w u e i None a r ready =
@@ -85,7 +85,7 @@ new_top code fwd limits h b b' n w u e i None a r ready =
     (parks code fwd limits h b b' n c.0 c.1 c.2 u (e ∙ ap nexts.Gave c.3) i r.0 r.1 ready))
 
 -- the ask that was given becomes an entry
-pub note_gave : (code : Parts) → IsForward code → (limits : Limits) (h : List Entry) (b b' : Body) (bs : List Body) (n : ℕ) (w : What) → IsTask (code_program code limits) (stack_view h (Some b.number)) → IsBodyStack code limits h (Some b) bs → AllBelow n h → b.next ≡ nexts.Gave w → b'.number ≡ b.number → AnsweredWith (answer_of n w) n b.frames b' → IsReady b.frames.awaited b.frames → Whole code limits (entry n b.number w ∷ h) (Some b'.number) (Some b') bs
+pub note_gave : (code : Parts) → IsForward code → (limits : Limits) (h : List Entry) (b b' : Body) (bs : List Body) (n : ℕ) (w : What) → IsTask (code_program code limits) (stack_view h (Some b.number)) → IsBodyStack code limits h (Some b) bs → AllBelow n h → b.next ≡ nexts.Gave w → b'.number ≡ b.number → AnsweredWith (answer_of n w) n b.frames.value b' → IsReady b.frames.value.awaited b.frames.value → Whole code limits (entry n b.number w ∷ h) (Some b'.number) (Some b') bs
 note_gave code fwd limits h b b' bs n w t s l e i r ready =
     let p = code_program code limits in
     let u = gave_up code limits h b w e s.0 in

@@ -1,6 +1,6 @@
 -- A body that a firing begins.
 use Rattle.std.proofs.Common.{◌≡◌, ℕ, ◌+◌, ◌-◌, ◌<◌, true, false, ◌==◌, List, [], ◌∷◌, ◌++◌, Option, Some, None, refl, sym, ap, ◌∙◌, subst, arith, Vec, Global}
-use Rattle.std.specs.Prelude.{reverse, slice_get, IsSome}
+use Rattle.std.specs.Prelude.{reverse, slice_get, IsSome, Box}
 use Rattle.std.proofs.lemmas.Bool.{eq-eqb, ne_eqb}
 use Rattle.chord_base.specs.declared.value.Object.{Object}
 use Rattle.chord_base.specs.declared.value.Value.{Value}
@@ -63,7 +63,7 @@ top_seen code limits h b nexts.Runs e u = (let z : Absent ≡ Ready u.start u.de
 top_seen code limits h b (nexts.Gave w) e u = (let z : Absent ≡ Ready u.start u.depth u.answers = sym (ap (λ l. doing (code_program code limits) l b.number) e) ∙ u.is in cc)
 top_seen code limits h b (nexts.Ends x y) e u = (let z : Absent ≡ Ready u.start u.depth u.answers = sym (ap (λ l. doing (code_program code limits) l b.number) e) ∙ u.is in cc)
 top_seen code limits h b (nexts.Fails t) e u = (let z : Absent ≡ Ready u.start u.depth u.answers = sym (ap (λ l. doing (code_program code limits) l b.number) e) ∙ u.is in cc)
-top_seen code limits h b (nexts.Waits q) e k = (let z : Absent ≡ Waits k.start k.depth k.answers q (limits.depth - b.frames.top.room) = sym (ap (λ l. doing (code_program code limits) l b.number) e) ∙ k.is in cc)
+top_seen code limits h b (nexts.Waits q) e k = (let z : Absent ≡ Waits k.start k.depth k.answers q (limits.depth - b.frames.value.top.room) = sym (ap (λ l. doing (code_program code limits) l b.number) e) ∙ k.is in cc)
 
 -- a body that may make its next entry does not wait
 up_waits : (code : Parts) (limits : Limits) (h : List Entry) (b : Body) (s : Start) (d : ℕ) (rs : List End) (q l : ℕ) → doing (code_program code limits) h b.number ≡ Waits s d rs q l → IsUp code limits h b → ⊥
@@ -103,8 +103,8 @@ begins_called code limits t n k o ms vs q (Some b) i s w task may stack =
     let is : doing p h b.number ≡ Waits w.start w.depth w.answers q w.place = ap (doing p h) (sym body) ∙ w.is in
     let parked = top_parked code limits h b w.start w.depth w.answers q w.place b.next is stack.0 in
     let c = parked.1 in
-    let y : Waits w.start w.depth w.answers q w.place ≡ Waits c.start c.depth c.answers parked.0 (limits.depth - b.frames.top.room) = sym is ∙ c.is in
-    let place : w.place ≡ limits.depth - b.frames.top.room = cc in
+    let y : Waits w.start w.depth w.answers q w.place ≡ Waits c.start c.depth c.answers parked.0 (limits.depth - b.frames.value.top.room) = sym is ∙ c.is in
+    let place : w.place ≡ limits.depth - b.frames.value.top.room = cc in
     let call : parked.0 ≡ q = cc in
     let under = parked_under code limits n parked.0 h b task.task.told may.above c in
     let apart : (m : ℕ) → m < n → (n == m) ≡ false = λ m l. ne_eqb n m (λ v. omega (arith, v, l)) in
@@ -158,7 +158,7 @@ opening code limits t n k o ms vs task may =
     subst (λ r. Opening code limits k o vs r) b.room (opens_in code limits k o vs b.depth (slice_get (chord_lines code o.class) k) refl d)
 
 -- the new body is up
-begun_up : (code : Parts) (limits : Limits) (h : List Entry) (top : Option Body) (bs : List Body) (n k : ℕ) (o : Object) (ms : List ℕ) (vs : List Value) (f : Frames) (line : ChordLine) → (b : Beginning code limits h top bs n k o ms vs) → slice_get (chord_lines code o.class) k ≡ Some line → body_in_block code line.block (room_of limits top) (a_value.Ref o ∷ vs) limits.turns ≡ Some (machine_of f) → IsUp code limits (entry n n (Fired k o ms vs) ∷ h) (record { number = n; frames = f; next = nexts.Runs })
+begun_up : (code : Parts) (limits : Limits) (h : List Entry) (top : Option Body) (bs : List Body) (n k : ℕ) (o : Object) (ms : List ℕ) (vs : List Value) (f : Box Frames Global) (line : ChordLine) → (b : Beginning code limits h top bs n k o ms vs) → slice_get (chord_lines code o.class) k ≡ Some line → body_in_block code line.block (room_of limits top) (a_value.Ref o ∷ vs) limits.turns ≡ Some (machine_of f.value) → IsUp code limits (entry n n (Fired k o ms vs) ∷ h) (record { number = n; frames = f; next = nexts.Runs })
 begun_up code limits h top bs n k o ms vs f line b l s =
     record {
       start = Chord k o vs;
@@ -169,7 +169,7 @@ begun_up code limits h top bs n k o ms vs f line b l s =
     }
 
 -- the task with the new body on top
-pub task_resumed : (code : Parts) (limits : Limits) (t : Task) (past : Vec Entry Global) (below : Vec Body Global) (values : Option (Vec Value Global)) (n k : ℕ) (o : Object) (ms : List ℕ) (vs : List Value) (f : Frames) (line : ChordLine) → MayBeList values → IsTaskOf code limits t → MayResume code limits t n k o ms vs → slice_get (chord_lines code o.class) k ≡ Some line → body_in_block code line.block (room_of limits t.top) (a_value.Ref o ∷ vs) limits.turns ≡ Some (machine_of f) → past.items ≡ t.past.items ++ entry n n (Fired k o ms vs) ∷ [] → reverse below.items ≡ with_top t.top (reverse t.below.items) → IsTaskOf code limits (record { past = past; top = Some (record { number = n; frames = f; next = nexts.Runs }); below = below; spare = None; ended = t.ended; values = values; limits = t.limits })
+pub task_resumed : (code : Parts) (limits : Limits) (t : Task) (past : Vec Entry Global) (below : Vec Body Global) (values : Option (Vec Value Global)) (n k : ℕ) (o : Object) (ms : List ℕ) (vs : List Value) (f : Box Frames Global) (line : ChordLine) → MayBeList values → IsTaskOf code limits t → MayResume code limits t n k o ms vs → slice_get (chord_lines code o.class) k ≡ Some line → body_in_block code line.block (room_of limits t.top) (a_value.Ref o ∷ vs) limits.turns ≡ Some (machine_of f.value) → past.items ≡ t.past.items ++ entry n n (Fired k o ms vs) ∷ [] → reverse below.items ≡ with_top t.top (reverse t.below.items) → IsTaskOf code limits (record { past = past; top = Some (record { number = n; frames = f; next = nexts.Runs }); below = below; spare = None; ended = t.ended; values = values; limits = t.limits })
 task_resumed code limits t past below values n k o ms vs f line list task may l s items bodies =
     let p = code_program code limits in
     let h = (view_of t).past in
@@ -225,7 +225,7 @@ up_roomier code limits h b b' r u =
       depth = u.depth;
       answers = u.answers;
       is = ap (doing (code_program code limits) h) r.0 ∙ u.is;
-      next = subst (λ z. NextIs code limits z b'.frames (stands code limits u.start u.depth u.answers)) (sym r.1) (next_roomier code limits b.next b.frames b'.frames _ r.2 r.3 u.next);
+      next = subst (λ z. NextIs code limits z b'.frames.value (stands code limits u.start u.depth u.answers)) (sym r.1) (next_roomier code limits b.next b.frames.value b'.frames.value _ r.2 r.3 u.next);
     }
 
 -- what is known of a body on top that may go on is known of it with more room
@@ -241,7 +241,7 @@ waits_goes : (n : Next) (q : ℕ) → n ≡ nexts.Waits q → may_go n ≡ true 
 waits_goes n q e g = (let z : false ≡ true = sym (ap may_go e) ∙ g in cc)
 
 -- the task with more room
-pub task_roomier : (code : Parts) (limits : Limits) (t : Task) (past : Vec Entry Global) (below : Vec Body Global) (top top' : Option Body) (spare ended : Option Frames) (values : Option (Vec Value Global)) → t.top ≡ top → IsTaskOf code limits t → is_ready_of t ≡ true → past.items ≡ t.past.items → below.items ≡ t.below.items → IsRoomierTop top top' → HasRoomFor code t.limits spare → MayBeList values → IsTaskOf code limits (record { past = past; top = top'; below = below; spare = spare; ended = ended; values = values; limits = t.limits })
+pub task_roomier : (code : Parts) (limits : Limits) (t : Task) (past : Vec Entry Global) (below : Vec Body Global) (top top' : Option Body) (spare ended : Option (Box Frames Global)) (values : Option (Vec Value Global)) → t.top ≡ top → IsTaskOf code limits t → is_ready_of t ≡ true → past.items ≡ t.past.items → below.items ≡ t.below.items → IsRoomierTop top top' → HasRoomFor code t.limits spare → MayBeList values → IsTaskOf code limits (record { past = past; top = top'; below = below; spare = spare; ended = ended; values = values; limits = t.limits })
 task_roomier code limits t past below None top' spare ended values i k g p q r s v = (let z : false ≡ true = sym (ap body_may_go i) ∙ g in cc)
 task_roomier code limits t past below (Some b) None spare ended values i k g p q r s v = absurd r
 task_roomier code limits t past below (Some b) (Some b') spare ended values i k g p q r s v =
@@ -271,9 +271,11 @@ twice_same : (as_ : List Args) → AreTwice as_ → for_body as_ ≡ for_entry a
 twice_same [] t = refl
 twice_same (a ∷ as_) t = ap (λ z. z ∷ for_body as_) t.0 ∙ ap (λ z. a.first ∷ z) (twice_same as_ t.1)
 
+-- the body begins on these values as the meaning of the code has it
+pub begun_with : (code : Parts) (limits l : Limits) (b depth room : ℕ) (this : Value) (vs : List Value) → l ≡ limits → limits.depth - depth ≡ room → body_in_block code b (l.depth - depth) (this ∷ vs) l.turns ≡ body_in_block code b room (this ∷ vs) limits.turns
+begun_with code limits l b depth room this vs e d = ap (λ (x : Limits). body_in_block code b (x.depth - depth) (this ∷ vs) x.turns) e ∙ ap (λ r. body_in_block code b r (this ∷ vs) limits.turns) d
+
 -- the body begins as the meaning of the code has it
 pub begun_same : (code : Parts) (limits l : Limits) (b depth room : ℕ) (this : Value) (xs : List (List Value)) (as_ : List Args) → l ≡ limits → limits.depth - depth ≡ room → xs ≡ for_body as_ → AreTwice as_ → body_in_block code b (l.depth - depth) (this ∷ laid xs) l.turns ≡ body_in_block code b room (this ∷ laid (for_entry as_)) limits.turns
 begun_same code limits l b depth room this xs as_ e d s t =
-    ap (λ (x : Limits). body_in_block code b (x.depth - depth) (this ∷ laid xs) x.turns) e
-    ∙ ap (λ r. body_in_block code b r (this ∷ laid xs) limits.turns) d
-    ∙ ap (λ (ys : List (List Value)). body_in_block code b room (this ∷ laid ys) limits.turns) (s ∙ twice_same as_ t)
+    begun_with code limits l b depth room this (laid xs) e d ∙ ap (λ (ys : List (List Value)). body_in_block code b room (this ∷ laid ys) limits.turns) (s ∙ twice_same as_ t)

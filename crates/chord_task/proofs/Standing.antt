@@ -48,8 +48,8 @@ gave_at code limits (Called o j vs) f p x = (tt, refl, x)
 gave_at code limits (Printed t) f p x = (tt, refl, x)
 
 -- what is known of an ask that a body gave
-pub gave_by : (code : Parts) (limits : Limits) (h : List Entry) (b : Body) (w : What) (u : IsUp code limits h b) → b.next ≡ nexts.Gave w → IsOwn w × (is_end w ≡ false) × GaveAt code w b.frames (stands code limits u.start u.depth u.answers)
-gave_by code limits h b w u e = gave_at code limits w b.frames _ (subst (λ n. NextIs code limits n b.frames (stands code limits u.start u.depth u.answers)) e u.next)
+pub gave_by : (code : Parts) (limits : Limits) (h : List Entry) (b : Body) (w : What) (u : IsUp code limits h b) → b.next ≡ nexts.Gave w → IsOwn w × (is_end w ≡ false) × GaveAt code w b.frames.value (stands code limits u.start u.depth u.answers)
+gave_by code limits h b w u e = gave_at code limits w b.frames.value _ (subst (λ n. NextIs code limits n b.frames.value (stands code limits u.start u.depth u.answers)) e u.next)
 
 -- the next ask of a point whose ask was given
 pub gave_asks : (code : Parts) (limits : Limits) (w : What) (f : Frames) (p : Point) → GaveAt code w f p → asked_of code limits p ≡ Some (record { what = w; depth = place w (limits.depth - f.top.room) })
@@ -63,12 +63,12 @@ gave_next code limits h b w u e =
       body = b.number;
       on_top = refl;
       own = g.0;
-      asks = (place w (limits.depth - b.frames.top.room), ap (asked (code_program code limits)) u.is ∙ gave_asks code limits w b.frames (stands code limits u.start u.depth u.answers) g.2);
+      asks = (place w (limits.depth - b.frames.value.top.room), ap (asked (code_program code limits)) u.is ∙ gave_asks code limits w b.frames.value (stands code limits u.start u.depth u.answers) g.2);
     }
 
 -- what is known of an end that a body gave
 pub ends_by : (code : Parts) (limits : Limits) (h : List Entry) (b : Body) (e e' : End) (u : IsUp code limits h b) → b.next ≡ nexts.Ends e e' → (l : ℕ) × (asked_of code limits (stands code limits u.start u.depth u.answers) ≡ Some (record { what = Ended e; depth = l })) × (e' ≡ e)
-ends_by code limits h b e e' u i = subst (λ n. NextIs code limits n b.frames (stands code limits u.start u.depth u.answers)) i u.next
+ends_by code limits h b e e' u i = subst (λ n. NextIs code limits n b.frames.value (stands code limits u.start u.depth u.answers)) i u.next
 
 -- the end that a body gave is its next ask
 abbrev pub ends_next : (code : Parts) (limits : Limits) (h : List Entry) (b : Body) (e e' : End) → IsUp code limits h b → b.next ≡ nexts.Ends e e' → IsNext (code_program code limits) (record { past = h; top = Some b.number }) (Ended e)
@@ -103,12 +103,12 @@ own_ready code limits h b n w v u a =
     s ∙ own_answered p n w (λ q. maker q h) (doing p h) (doing p h b.number) v a ∙ ap (and_then (Gives v)) u.is
 
 -- a body whose ask became an entry that answers it may make its next entry
-pub up_more : (code : Parts) (limits : Limits) (h : List Entry) (b b' : Body) (n : ℕ) (w : What) (v : Value) (u : IsUp code limits h b) → b.next ≡ nexts.Gave w → answer_of n w ≡ Some v → b'.number ≡ b.number → b'.next ≡ nexts.Runs → with_answer (machine_of b.frames) b.frames.awaited v ≡ Some (machine_of b'.frames) → IsUp code limits (entry n b.number w ∷ h) b'
+pub up_more : (code : Parts) (limits : Limits) (h : List Entry) (b b' : Body) (n : ℕ) (w : What) (v : Value) (u : IsUp code limits h b) → b.next ≡ nexts.Gave w → answer_of n w ≡ Some v → b'.number ≡ b.number → b'.next ≡ nexts.Runs → with_answer (machine_of b.frames.value) b.frames.value.awaited v ≡ Some (machine_of b'.frames.value) → IsUp code limits (entry n b.number w ∷ h) b'
 up_more code limits h b b' n w v u e a i r f =
     let g = gave_by code limits h b w u e in
-    let point : stands code limits u.start u.depth (u.answers ++ Gives v ∷ []) ≡ At (machine_of b'.frames) =
+    let point : stands code limits u.start u.depth (u.answers ++ Gives v ∷ []) ≡ At (machine_of b'.frames.value) =
     stands_more code limits u.start u.depth u.answers (Gives v)
-    ∙ replied_at code w b.frames (stands code limits u.start u.depth u.answers) (Gives v) g.2
+    ∙ replied_at code w b.frames.value (stands code limits u.start u.depth u.answers) (Gives v) g.2
     ∙ ap point_of f
     in
     record {
@@ -116,7 +116,7 @@ up_more code limits h b b' n w v u e a i r f =
       depth = u.depth;
       answers = u.answers ++ Gives v ∷ [];
       is = ap (doing (code_program code limits) (entry n b.number w ∷ h)) i ∙ own_ready code limits h b n w v u a;
-      next = subst (λ x. NextIs code limits x b'.frames (stands code limits u.start u.depth (u.answers ++ Gives v ∷ []))) (sym r) point;
+      next = subst (λ x. NextIs code limits x b'.frames.value (stands code limits u.start u.depth (u.answers ++ Gives v ∷ []))) (sym r) point;
     }
 
 -- what is there is not missing
@@ -125,23 +125,23 @@ some_none None s e = cc
 some_none (Some x) s e = cc
 
 -- where the trace stays defined, the machine takes the answer
-pub noted_answer_fits : (code : Parts) (limits : Limits) (h : List Entry) (b : Body) (n : ℕ) (w : What) (v : Value) (u : IsUp code limits h b) → b.next ≡ nexts.Gave w → answer_of n w ≡ Some v → IsDefined (code_program code limits) (doing (code_program code limits) (entry n b.number w ∷ h) b.number) → with_answer (machine_of b.frames) b.frames.awaited v ≡ None → ⊥
+pub noted_answer_fits : (code : Parts) (limits : Limits) (h : List Entry) (b : Body) (n : ℕ) (w : What) (v : Value) (u : IsUp code limits h b) → b.next ≡ nexts.Gave w → answer_of n w ≡ Some v → IsDefined (code_program code limits) (doing (code_program code limits) (entry n b.number w ∷ h) b.number) → with_answer (machine_of b.frames.value) b.frames.value.awaited v ≡ None → ⊥
 noted_answer_fits code limits h b n w v u e a d none =
     let g = gave_by code limits h b w u e in
     let s = subst (λ (x : Doing). IsDefined (code_program code limits) x) (own_ready code limits h b n w v u a) d in
     some_none (asked_of code limits (stands code limits u.start u.depth (u.answers ++ Gives v ∷ []))) s
     (ap (asked_of code limits)
     (stands_more code limits u.start u.depth u.answers (Gives v)
-    ∙ replied_at code w b.frames (stands code limits u.start u.depth u.answers) (Gives v) g.2
+    ∙ replied_at code w b.frames.value (stands code limits u.start u.depth u.answers) (Gives v) g.2
     ∙ ap point_of none))
 
 -- the body that calls
-pub parks : (code : Parts) → IsForward code → (limits : Limits) (h : List Entry) (b b' : Body) (n : ℕ) (o : Object) (j : ℕ) (vs : List Value) → IsUp code limits h b → b.next ≡ nexts.Gave (Called o j vs) → b'.number ≡ b.number → b'.next ≡ nexts.Waits n → b'.frames ≡ b.frames → IsReady b.frames.awaited b.frames → IsParked code limits (entry n b.number (Called o j vs) ∷ h) b' n
+pub parks : (code : Parts) → IsForward code → (limits : Limits) (h : List Entry) (b b' : Body) (n : ℕ) (o : Object) (j : ℕ) (vs : List Value) → IsUp code limits h b → b.next ≡ nexts.Gave (Called o j vs) → b'.number ≡ b.number → b'.next ≡ nexts.Waits n → b'.frames.value ≡ b.frames.value → IsReady b.frames.value.awaited b.frames.value → IsParked code limits (entry n b.number (Called o j vs) ∷ h) b' n
 parks code fwd limits h b b' n o j vs u e i r f ready =
     let p = code_program code limits in
     let g = gave_by code limits h b (Called o j vs) u e in
-    let next = gave_asks code limits (Called o j vs) b.frames (stands code limits u.start u.depth u.answers) g.2 in
-    let awaited : b.frames.awaited ≡ ForValue = run_asked code fwd (Called o j vs) (waiting_of b.frames) (suc (weight code g.2.0)) g.2.0 g.2.2 in
+    let next = gave_asks code limits (Called o j vs) b.frames.value (stands code limits u.start u.depth u.answers) g.2 in
+    let awaited : b.frames.value.awaited ≡ ForValue = run_asked code fwd (Called o j vs) (waiting_of b.frames.value) (suc (weight code g.2.0)) g.2.0 g.2.2 in
     let same : (b.number == b.number) ≡ true = eq-eqb b.number b.number refl in
     let s : doing p (entry n b.number (Called o j vs) ∷ h) b.number ≡ waiting p n (doing p h b.number) = rw same refl in
     record {
@@ -158,15 +158,15 @@ parks code fwd limits h b b' n o j vs u e i r f ready =
       at = g.2.1;
       comes = g.2.2 ∙ ap (λ z. Asking (Called o j vs) (waiting_of z)) (sym f);
       awaited = ap (λ (z : Frames). z.awaited) f ∙ awaited;
-      ready = subst (λ z. IsReady ForValue z) (sym f) (subst (λ z. IsReady z b.frames) awaited ready);
+      ready = subst (λ z. IsReady ForValue z) (sym f) (subst (λ z. IsReady z b.frames.value) awaited ready);
     }
 
 -- the caller after the end of the body that it called
 pub called_back : (code : Parts) (limits : Limits) (h : List Entry) (b c c' : Body) (n q : ℕ) (x : End) → (b.number == c.number) ≡ false → serves (code_program code limits) b.number h ≡ Some q → IsParked code limits h c q → CalledBack x c c' → IsUp code limits (entry n b.number (Ended x) ∷ h) c'
 called_back code limits h b c c' n q (Gives v) o s k r =
-    let point : stands code limits k.start k.depth (k.answers ++ Gives v ∷ []) ≡ At (machine_of c'.frames) =
+    let point : stands code limits k.start k.depth (k.answers ++ Gives v ∷ []) ≡ At (machine_of c'.frames.value) =
     stands_more code limits k.start k.depth k.answers (Gives v)
-    ∙ replied_at code k.what c.frames (stands code limits k.start k.depth k.answers) (Gives v) (k.machine, k.at, k.comes)
+    ∙ replied_at code k.what c.frames.value (stands code limits k.start k.depth k.answers) (Gives v) (k.machine, k.at, k.comes)
     ∙ ap point_of r.1.1
     in
     record {
@@ -175,13 +175,13 @@ called_back code limits h b c c' n q (Gives v) o s k r =
       answers = k.answers ++ Gives v ∷ [];
       is =
           ap (doing (code_program code limits) (entry n b.number (Ended (Gives v)) ∷ h)) r.0
-          ∙ caller_ready (code_program code limits) (record { past = h; top = None }) n b.number c.number q (limits.depth - c.frames.top.room) k.depth (Gives v) k.start k.answers o s k.is;
-      next = subst (λ z. NextIs code limits z c'.frames (stands code limits k.start k.depth (k.answers ++ Gives v ∷ []))) (sym r.1.0) point;
+          ∙ caller_ready (code_program code limits) (record { past = h; top = None }) n b.number c.number q (limits.depth - c.frames.value.top.room) k.depth (Gives v) k.start k.answers o s k.is;
+      next = subst (λ z. NextIs code limits z c'.frames.value (stands code limits k.start k.depth (k.answers ++ Gives v ∷ []))) (sym r.1.0) point;
     }
 called_back code limits h b c c' n q (Traps t) o s k r =
     let point : stands code limits k.start k.depth (k.answers ++ Traps t ∷ []) ≡ FailsBy t =
     stands_more code limits k.start k.depth k.answers (Traps t)
-    ∙ replied_at code k.what c.frames (stands code limits k.start k.depth k.answers) (Traps t) (k.machine, k.at, k.comes)
+    ∙ replied_at code k.what c.frames.value (stands code limits k.start k.depth k.answers) (Traps t) (k.machine, k.at, k.comes)
     ∙ ap (λ z. failed z t) k.awaited
     in
     record {
@@ -190,8 +190,8 @@ called_back code limits h b c c' n q (Traps t) o s k r =
       answers = k.answers ++ Traps t ∷ [];
       is =
           ap (doing (code_program code limits) (entry n b.number (Ended (Traps t)) ∷ h)) r.0
-          ∙ caller_ready (code_program code limits) (record { past = h; top = None }) n b.number c.number q (limits.depth - c.frames.top.room) k.depth (Traps t) k.start k.answers o s k.is;
-      next = subst (λ z. NextIs code limits z c'.frames (stands code limits k.start k.depth (k.answers ++ Traps t ∷ []))) (sym r.1) point;
+          ∙ caller_ready (code_program code limits) (record { past = h; top = None }) n b.number c.number q (limits.depth - c.frames.value.top.room) k.depth (Traps t) k.start k.answers o s k.is;
+      next = subst (λ z. NextIs code limits z c'.frames.value (stands code limits k.start k.depth (k.answers ++ Traps t ∷ []))) (sym r.1) point;
     }
 
 -- a body that does what it did

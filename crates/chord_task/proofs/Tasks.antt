@@ -1,6 +1,6 @@
 -- The task as a whole, before and after its calls.
 use Rattle.std.proofs.Common.{◌≡◌, ℕ, ◌+◌, true, false, List, [], ◌∷◌, ◌++◌, length, Option, Some, None, refl, sym, ap, ◌∙◌, subst, arith, Vec, Global, vec_len, vec_capacity}
-use Rattle.std.specs.Prelude.{reverse, Result, Ok, Err, OnOk}
+use Rattle.std.specs.Prelude.{reverse, Result, Ok, Err, OnOk, Box}
 use Rattle.std.proofs.lemmas.List.{reverse-append}
 use Rattle.chord_base.specs.declared.value.Value.{Value}
 use Rattle.chord_base.specs.declared.event.End.{End}
@@ -55,10 +55,10 @@ pub given_ends : (b : Body) (x y : End) → b.next ≡ nexts.Ends x y → given_
 given_ends b x y e = ap given_of e
 
 -- what the note of an ask needs
-pub may_answer : (code : Parts) (limits : Limits) (t : Task) (b : Body) (n : ℕ) (w : What) → IsTaskOf code limits t → MayNote code limits t n → t.top ≡ Some b → b.next ≡ nexts.Gave w → MayAnswer (answer_of n w) b.frames
+pub may_answer : (code : Parts) (limits : Limits) (t : Task) (b : Body) (n : ℕ) (w : What) → IsTaskOf code limits t → MayNote code limits t n → t.top ≡ Some b → b.next ≡ nexts.Gave w → MayAnswer (answer_of n w) b.frames.value
 may_answer code limits t b n w k may top e = by_value (answer_of n w) refl
   where
-    by_value : (o : Option Value) → answer_of n w ≡ o → MayAnswer o b.frames
+    by_value : (o : Option Value) → answer_of n w ≡ o → MayAnswer o b.frames.value
     by_value None a = tt
     by_value (Some v) a =
         let s = stack_at code limits t b k top in
@@ -69,7 +69,7 @@ may_answer code limits t b n w k may top e = by_value (answer_of n w) refl
         )
 
 -- the task after its ask became an entry
-pub task_gave : (code : Parts) (limits : Limits) (t : Task) (past : Vec Entry Global) (b b' : Body) (n : ℕ) (w : What) → IsTaskOf code limits t → (may : MayNote code limits t n) → t.top ≡ Some b → b.next ≡ nexts.Gave w → b'.number ≡ b.number → AnsweredWith (answer_of n w) n b.frames b' → past.items ≡ t.past.items ++ entry n b.number w ∷ [] → vec_len past ≡ vec_len t.past + 1 → vec_capacity past ≡ vec_capacity t.past → IsTaskOf code limits (record { past = past; top = Some b'; below = t.below; spare = t.spare; ended = t.ended; values = t.values; limits = t.limits }) × task_noted (view_of t) n may.what (view_of (record { past = past; top = Some b'; below = t.below; spare = t.spare; ended = t.ended; values = t.values; limits = t.limits })) × (is_end may.what ≡ false → (view_of (record { past = past; top = Some b'; below = t.below; spare = t.spare; ended = t.ended; values = t.values; limits = t.limits })).top ≡ (view_of t).top)
+pub task_gave : (code : Parts) (limits : Limits) (t : Task) (past : Vec Entry Global) (b b' : Body) (n : ℕ) (w : What) → IsTaskOf code limits t → (may : MayNote code limits t n) → t.top ≡ Some b → b.next ≡ nexts.Gave w → b'.number ≡ b.number → AnsweredWith (answer_of n w) n b.frames.value b' → past.items ≡ t.past.items ++ entry n b.number w ∷ [] → vec_len past ≡ vec_len t.past + 1 → vec_capacity past ≡ vec_capacity t.past → IsTaskOf code limits (record { past = past; top = Some b'; below = t.below; spare = t.spare; ended = t.ended; values = t.values; limits = t.limits }) × task_noted (view_of t) n may.what (view_of (record { past = past; top = Some b'; below = t.below; spare = t.spare; ended = t.ended; values = t.values; limits = t.limits })) × (is_end may.what ≡ false → (view_of (record { past = past; top = Some b'; below = t.below; spare = t.spare; ended = t.ended; values = t.values; limits = t.limits })).top ≡ (view_of t).top)
 task_gave code limits t past b b' n w k may top e i r items len capacity =
     let p = code_program code limits in
     let h = (view_of t).past in
@@ -100,7 +100,7 @@ task_gave code limits t past b b' n w k may top e i r items len capacity =
     )
 
 -- the last body of a task ends
-pub task_last : (code : Parts) (limits : Limits) (t : Task) (past : Vec Entry Global) (below : Vec Body Global) (ended : Option Frames) (b : Body) (n : ℕ) (x y : End) → IsTaskOf code limits t → (may : MayNote code limits t n) → t.top ≡ Some b → b.next ≡ nexts.Ends x y → t.below.items ≡ [] → below.items ≡ [] → past.items ≡ t.past.items ++ entry n b.number (Ended x) ∷ [] → vec_len past ≡ vec_len t.past + 1 → vec_capacity past ≡ vec_capacity t.past → vec_len below ≡ vec_len t.below → vec_capacity below ≡ vec_capacity t.below → IsTaskOf code limits (record { past = past; top = None; below = below; spare = t.spare; ended = ended; values = t.values; limits = t.limits }) × task_noted (view_of t) n may.what (view_of (record { past = past; top = None; below = below; spare = t.spare; ended = ended; values = t.values; limits = t.limits })) × (is_end may.what ≡ false → (view_of (record { past = past; top = None; below = below; spare = t.spare; ended = ended; values = t.values; limits = t.limits })).top ≡ (view_of t).top)
+pub task_last : (code : Parts) (limits : Limits) (t : Task) (past : Vec Entry Global) (below : Vec Body Global) (ended : Option (Box Frames Global)) (b : Body) (n : ℕ) (x y : End) → IsTaskOf code limits t → (may : MayNote code limits t n) → t.top ≡ Some b → b.next ≡ nexts.Ends x y → t.below.items ≡ [] → below.items ≡ [] → past.items ≡ t.past.items ++ entry n b.number (Ended x) ∷ [] → vec_len past ≡ vec_len t.past + 1 → vec_capacity past ≡ vec_capacity t.past → vec_len below ≡ vec_len t.below → vec_capacity below ≡ vec_capacity t.below → IsTaskOf code limits (record { past = past; top = None; below = below; spare = t.spare; ended = ended; values = t.values; limits = t.limits }) × task_noted (view_of t) n may.what (view_of (record { past = past; top = None; below = below; spare = t.spare; ended = ended; values = t.values; limits = t.limits })) × (is_end may.what ≡ false → (view_of (record { past = past; top = None; below = below; spare = t.spare; ended = ended; values = t.values; limits = t.limits })).top ≡ (view_of t).top)
 task_last code limits t past below ended b n x y k may top e none left items len capacity long room =
     let p = code_program code limits in
     let h = (view_of t).past in
@@ -149,7 +149,7 @@ pub caller_at : (code : Parts) (limits : Limits) (t : Task) (rest : List Body) (
 caller_at code limits t rest b c k top e = subst (λ z. IsBodyStack code limits (view_of t).past (Some b) z) (last_of t.below.items rest c e) (stack_at code limits t b k top)
 
 -- a body ends, and its caller goes on
-pub task_back : (code : Parts) (limits : Limits) (t : Task) (past : Vec Entry Global) (below : Vec Body Global) (ended : Option Frames) (b c c' : Body) (n : ℕ) (x y : End) → IsTaskOf code limits t → (may : MayNote code limits t n) → t.top ≡ Some b → b.next ≡ nexts.Ends x y → t.below.items ≡ below.items ++ c ∷ [] → CalledBack y c c' → past.items ≡ t.past.items ++ entry n b.number (Ended x) ∷ [] → IsTaskOf code limits (record { past = past; top = Some c'; below = below; spare = t.spare; ended = ended; values = t.values; limits = t.limits }) × task_noted (view_of t) n may.what (view_of (record { past = past; top = Some c'; below = below; spare = t.spare; ended = ended; values = t.values; limits = t.limits })) × (is_end may.what ≡ false → (view_of (record { past = past; top = Some c'; below = below; spare = t.spare; ended = ended; values = t.values; limits = t.limits })).top ≡ (view_of t).top)
+pub task_back : (code : Parts) (limits : Limits) (t : Task) (past : Vec Entry Global) (below : Vec Body Global) (ended : Option (Box Frames Global)) (b c c' : Body) (n : ℕ) (x y : End) → IsTaskOf code limits t → (may : MayNote code limits t n) → t.top ≡ Some b → b.next ≡ nexts.Ends x y → t.below.items ≡ below.items ++ c ∷ [] → CalledBack y c c' → past.items ≡ t.past.items ++ entry n b.number (Ended x) ∷ [] → IsTaskOf code limits (record { past = past; top = Some c'; below = below; spare = t.spare; ended = ended; values = t.values; limits = t.limits }) × task_noted (view_of t) n may.what (view_of (record { past = past; top = Some c'; below = below; spare = t.spare; ended = ended; values = t.values; limits = t.limits })) × (is_end may.what ≡ false → (view_of (record { past = past; top = Some c'; below = below; spare = t.spare; ended = ended; values = t.values; limits = t.limits })).top ≡ (view_of t).top)
 task_back code limits t past below ended b c c' n x y k may top e parts back items =
     let p = code_program code limits in
     let h = (view_of t).past in
@@ -176,7 +176,7 @@ task_back code limits t past below ended b c c' n x y k may top e parts back ite
     gave_ends : (code : Parts) (limits : Limits) (h : List Entry) (b : Body) (x y : End) → b.next ≡ nexts.Ends x y → IsTop code limits h b.next b → y ≡ x
     gave_ends code limits h b x y e t =
         let u = subst (λ n. IsTop code limits h n b) e t in
-        let i = subst (λ n. NextIs code limits n b.frames (stands code limits u.start u.depth u.answers)) e u.next in i.2
+        let i = subst (λ n. NextIs code limits n b.frames.value (stands code limits u.start u.depth u.answers)) e u.next in i.2
 
 -- a list of no length is empty
 pub no_length : {A : Type 0} (xs : List A) → length xs ≡ 0 → xs ≡ []

@@ -1,5 +1,6 @@
 -- What the bodies of a task stand for: where the code of each stands after the answers that its story has.
-use Rattle.std.specs.Prelude.{◌≡◌, ◌≢◌, ◌+◌, ◌-◌, ◌<◌, ◌≤◌, vec_len, vec_capacity, ℕ, List, [], ◌∷◌, Bool, true, false, ◌==◌, Option, Some, None, reverse, IsSome}
+use Rattle.std.specs.Prelude.{◌≡◌, ◌≢◌, ◌+◌, ◌-◌, ◌<◌, ◌≤◌, vec_len, vec_capacity, ℕ, List, [], ◌∷◌, Bool, true, false, ◌==◌, Option, Some, None, reverse, IsSome, Box}
+use Rattle.std.specs.Global.{Global}
 use Rattle.chord_base.specs.declared.value.Object.{Object}
 use Rattle.chord_base.specs.declared.value.Value.{Value}
 use Rattle.chord_base.specs.declared.value.Value.TheVariants as a_value
@@ -61,7 +62,7 @@ pub record IsUp (code : Parts) (limits : Limits) (h : List Entry) (b : Body) : T
   pub depth : ℕ
   pub answers : List End
   pub is : doing (code_program code limits) h b.number ≡ Ready start depth answers
-  pub next : NextIs code limits b.next b.frames (stands code limits start depth answers)
+  pub next : NextIs code limits b.next b.frames.value (stands code limits start depth answers)
 
 -- a body that waits for this call, with room for its answer
 pub record IsParked (code : Parts) (limits : Limits) (h : List Entry) (b : Body) (q : ℕ) : Type 0 where
@@ -71,11 +72,11 @@ pub record IsParked (code : Parts) (limits : Limits) (h : List Entry) (b : Body)
   pub machine : Machine
   pub what : What
   pub waits : b.next ≡ nexts.Waits q
-  pub is : doing (code_program code limits) h b.number ≡ Waits start depth answers q (limits.depth - b.frames.top.room)
+  pub is : doing (code_program code limits) h b.number ≡ Waits start depth answers q (limits.depth - b.frames.value.top.room)
   pub at : stands code limits start depth answers ≡ At machine
-  pub comes : comes_to code machine ≡ Asking what (waiting_of b.frames)
-  pub awaited : b.frames.awaited ≡ ForValue
-  pub ready : IsReady ForValue b.frames
+  pub comes : comes_to code machine ≡ Asking what (waiting_of b.frames.value)
+  pub awaited : b.frames.value.awaited ≡ ForValue
+  pub ready : IsReady ForValue b.frames.value
 
 -- what is known of the body on top: it waits for a call, or may make its next entry
 abbrev pub IsTop : Parts → Limits → List Entry → Next → Body → Type 0
@@ -107,9 +108,9 @@ pub record IsSpareOf (code : Parts) (limits : Limits) (f : Frames) : Type 0 wher
 pub record IsResumable (code : Parts) (t : Task) : Type 0 where
   pub past : vec_len t.past < vec_capacity t.past
   pub below : vec_len t.below < vec_capacity t.below
-  pub frames : Frames
+  pub frames : Box Frames Global
   pub spare : t.spare ≡ Some frames
-  pub room : IsSpareOf code t.limits frames
+  pub room : IsSpareOf code t.limits frames.value
   pub values : IsList t.values
 
 -- there is room for a firing, if this body on top waits for one, or none is left
@@ -118,9 +119,9 @@ HasRoomIf code t None = IsResumable code t
 HasRoomIf code t (Some b) = (q : ℕ) → b.next ≡ nexts.Waits q → IsResumable code t
 
 -- frames in stock are for this code under these limits
-abbrev pub HasRoomFor : Parts → Limits → Option Frames → Type 0
+abbrev pub HasRoomFor : Parts → Limits → Option (Box Frames Global) → Type 0
 HasRoomFor code limits None = Unit {0}
-HasRoomFor code limits (Some f) = IsSpareOf code limits f
+HasRoomFor code limits (Some f) = IsSpareOf code limits f.value
 
 -- a task of this code under these limits
 pub record IsTaskOf (code : Parts) (limits : Limits) (t : Task) : Type 0 where
@@ -135,7 +136,7 @@ pub record IsTaskOf (code : Parts) (limits : Limits) (t : Task) : Type 0 where
 
 -- the body can go on to an ask
 abbrev pub IsRunnable : Parts → Body → Type 0
-IsRunnable code b = (b.next ≡ nexts.Runs → ComesToAsk code (machine_of b.frames)) × ((q : ℕ) → b.next ≡ nexts.Waits q → ⊥)
+IsRunnable code b = (b.next ≡ nexts.Runs → ComesToAsk code (machine_of b.frames.value)) × ((q : ℕ) → b.next ≡ nexts.Waits q → ⊥)
 
 -- what a body does next once it came to this ask
 abbrev pub GivenBy : What → Next → Type 0
@@ -149,11 +150,11 @@ GivenBy (Fired k o ms vs) n = n ≡ nexts.Gave (Fired k o ms vs)
 
 -- the frames of a body ran on to its ask
 abbrev pub HasRun : Parts → Frames → Body → Type 0
-HasRun code f b = (a : Ask) × Advanced code (machine_of f) a b.frames × GivenBy (what_of_ask a) b.next
+HasRun code f b = (a : Ask) × Advanced code (machine_of f) a b.frames.value × GivenBy (what_of_ask a) b.next
 
 -- how a body comes to its ask
 abbrev pub AskedBy : Parts → Next → Body → Body → Type 0
-AskedBy code nexts.Runs b b' = HasRun code b.frames b'
+AskedBy code nexts.Runs b b' = HasRun code b.frames.value b'
 AskedBy code (nexts.Gave w) b b' = b' ≡ b
 AskedBy code (nexts.Ends e e') b b' = b' ≡ b
 AskedBy code (nexts.Fails t) b b' = b'.next ≡ nexts.Ends (Traps t) (Traps t)
@@ -240,26 +241,26 @@ MayAnswer (Some v) f = IsReady f.awaited f × (with_answer (machine_of f) f.awai
 
 -- the body that was answered by this value runs on; one that was not waits for the call of this number
 abbrev pub AnsweredWith : Option Value → ℕ → Frames → Body → Type 0
-AnsweredWith None n f b = (b.next ≡ nexts.Waits n) × (b.frames ≡ f)
-AnsweredWith (Some v) n f b = (b.next ≡ nexts.Runs) × (with_answer (machine_of f) f.awaited v ≡ Some (machine_of b.frames))
+AnsweredWith None n f b = (b.next ≡ nexts.Waits n) × (b.frames.value ≡ f)
+AnsweredWith (Some v) n f b = (b.next ≡ nexts.Runs) × (with_answer (machine_of f) f.awaited v ≡ Some (machine_of b.frames.value))
 
 -- the caller after the end of the body that it called
 abbrev pub CalledBack : End → Body → Body → Type 0
-CalledBack (Gives v) b b' = (b'.number ≡ b.number) × AnsweredWith (Some v) 0 b.frames b'
+CalledBack (Gives v) b b' = (b'.number ≡ b.number) × AnsweredWith (Some v) 0 b.frames.value b'
 CalledBack (Traps t) b b' = (b'.number ≡ b.number) × (b'.next ≡ nexts.Fails t)
 
 -- there is room for the answer of a body, if there is a body
 abbrev pub IsReadyFor : Option Body → Type 0
 IsReadyFor None = Unit {0}
-IsReadyFor (Some b) = IsReady b.frames.awaited b.frames
+IsReadyFor (Some b) = IsReady b.frames.value.awaited b.frames.value
 
 -- there is room for the next note and for a firing after it
 pub record IsReserved (code : Parts) (t : Task) : Type 0 where
   pub past : vec_len t.past + 2 ≤ vec_capacity t.past
   pub below : vec_len t.below < vec_capacity t.below
-  pub frames : Frames
+  pub frames : Box Frames Global
   pub spare : t.spare ≡ Some frames
-  pub room : IsSpareOf code t.limits frames
+  pub room : IsSpareOf code t.limits frames.value
   pub values : IsList t.values
   pub top : IsReadyFor t.top
 
@@ -295,11 +296,11 @@ CanNote t n = (code : Parts) × (limits : Limits) × IsTaskOf code limits t × M
 -- the room of a body that is put on top of this one
 abbrev pub room_of : Limits → Option Body → ℕ
 room_of limits None = limits.depth - 1
-room_of limits (Some b) = limits.depth - ((limits.depth - b.frames.top.room) + 1)
+room_of limits (Some b) = limits.depth - ((limits.depth - b.frames.value.top.room) + 1)
 
 -- the body on top with more room, and the same state
 abbrev pub IsRoomier : Body → Body → Type 0
-IsRoomier b b' = (b'.number ≡ b.number) × (b'.next ≡ b.next) × (machine_of b'.frames ≡ machine_of b.frames) × (b'.frames.awaited ≡ b.frames.awaited)
+IsRoomier b b' = (b'.number ≡ b.number) × (b'.next ≡ b.next) × (machine_of b'.frames.value ≡ machine_of b.frames.value) × (b'.frames.value.awaited ≡ b.frames.value.awaited)
 
 -- the body on top, if there is one, with more room
 abbrev pub IsRoomierTop : Option Body → Option Body → Type 0

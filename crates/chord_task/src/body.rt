@@ -36,7 +36,7 @@ pub struct Body {
     /// The number of the entry that began it.
     pub number: u32,
     /// Its frames.
-    pub frames: Frames,
+    pub frames: Box<Frames>,
     /// What it does next.
     pub next: Next,
 }
@@ -65,12 +65,12 @@ pub(crate) fn come_to_ask(
 
 /// The frames of the body run on to its next ask.
 fn run_on(alloc: Global, code: &Code, body: &mut Body, limits: &Limits) -> Result<(), AllocError>
-    requires { ComesToAsk code.now (machine_of body.old.frames) }
+    requires { ComesToAsk code.now (machine_of body.old.frames.value) }
     ensures number { body.new.number ≡ body.old.number }
-    ensures asked { OnOk result (HasRun code.now body.old.frames body.new) }
+    ensures asked { OnOk result (HasRun code.now body.old.frames.value body.new) }
 {
     // each arm writes on its own: what arms hand on is merged field by field, which takes longer than the rest of a turn
-    match advance(alloc, code, &mut body.frames, limits)? {
+    match advance(alloc, code, &mut *body.frames, limits)? {
         Ask::Make(class) => body.next = Next::Gave(What::Made(class)),
         Ask::Send(object, method, arguments) => {
             body.next = Next::Gave(What::Sent(object, method, arguments));
@@ -89,21 +89,21 @@ fn run_on(alloc: Global, code: &Code, body: &mut Body, limits: &Limits) -> Resul
 
 /// The body gets its answer, so that it runs on.
 fn reply(body: &mut Body, value: Value)
-    requires ready { IsReady body.old.frames.awaited body.old.frames }
-    requires fits { with_answer (machine_of body.old.frames) body.old.frames.awaited value ≢ None }
+    requires ready { IsReady body.old.frames.value.awaited body.old.frames.value }
+    requires fits { with_answer (machine_of body.old.frames.value) body.old.frames.value.awaited value ≢ None }
     ensures number { body.new.number ≡ body.old.number }
-    ensures answered { AnsweredWith (Some value) 0 body.old.frames body.new }
+    ensures answered { AnsweredWith (Some value) 0 body.old.frames.value body.new }
 {
-    answer(&mut body.frames, value);
+    answer(&mut *body.frames, value);
     body.next = Next::Runs;
 }
 
 /// The body's ask became the entry of this number.
 pub(crate) fn note_ask(body: &mut Body, number: u32, what: &What)
     requires own { IsAnsweredByNote what.now }
-    requires may { MayAnswer (answer_of number what.now) body.old.frames }
+    requires may { MayAnswer (answer_of number what.now) body.old.frames.value }
     ensures number { body.new.number ≡ body.old.number }
-    ensures answered { AnsweredWith (answer_of number what.now) number body.old.frames body.new }
+    ensures answered { AnsweredWith (answer_of number what.now) number body.old.frames.value body.new }
 {
     match what {
         What::Made(class) => {
@@ -119,8 +119,8 @@ pub(crate) fn note_ask(body: &mut Body, number: u32, what: &What)
 
 /// The body that it called has ended.
 pub(crate) fn call_back(caller: &mut Body, end: End)
-    requires ready { IsReady Awaited.ForValue caller.old.frames }
-    requires awaited { caller.old.frames.awaited ≡ Awaited.ForValue }
+    requires ready { IsReady Awaited.ForValue caller.old.frames.value }
+    requires awaited { caller.old.frames.value.awaited ≡ Awaited.ForValue }
     ensures { CalledBack end caller.old caller.new }
 {
     match end {

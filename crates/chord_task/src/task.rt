@@ -1,7 +1,7 @@
 //! A stack of bodies, each waiting for the one above it, and the entries that they made.
 #![tactic(auto)]
 
-ghost use Rattle.std.specs.Prelude.{◌≡◌, ◌≢◌, ℕ, ◌+◌, ◌-◌, ◌≤◌, List, [], ◌∷◌, ◌++◌, true, false, IfOk, OnOk, Some, None, length, slice_get, is_none, option_copied, option_to_list, vec_len, vec_capacity, MatchOption};
+ghost use Rattle.std.specs.Prelude.{◌≡◌, ◌≢◌, ℕ, ◌+◌, ◌-◌, ◌≤◌, List, [], ◌∷◌, ◌++◌, true, false, IfOk, OnOk, Some, None, length, slice_get, is_none, option_copied, option_to_list, vec_len, vec_capacity, MatchOption, Box};
 ghost use Rattle.chord_base.specs.declared.event.Limits.{Limits as TheLimits};
 ghost use Rattle.chord_base.specs.declared.event.What.{What as AWhat};
 ghost use Rattle.chord_base.specs.Printed.{is_end};
@@ -18,12 +18,12 @@ use crate::body::{Body, Next, call_back, come_to_ask, given, note_ask};
 use chord_base::event::{Entry, Limits, What};
 use chord_base::hand::Hand;
 use chord_base::members::Members;
-use chord_base::value::{Object, Value};
+use chord_base::value::{Object, Value, Values};
 use chord_code::code::Code;
 use chord_code::parts::ChordLine;
 use chord_vm::ask::Ask;
 use chord_vm::frames::{
-    Frames, begin, can_begin, reserve as reserve_frames, spare as spare_frames,
+    Frames, begin, begin_with, can_begin, reserve as reserve_frames, spare as spare_frames,
 };
 use std::alloc::{AllocError, Global};
 use std::mem;
@@ -41,9 +41,9 @@ pub struct Task {
     /// The bodies below it, each of which waits for the one above it.
     pub below: Vec<Body>,
     /// Frames for the next body.
-    pub spare: Option<Frames>,
+    pub spare: Option<Box<Frames>>,
     /// Frames of a body that has ended.
-    pub ended: Option<Frames>,
+    pub ended: Option<Box<Frames>>,
     /// A list for the values of the next firing's entry.
     pub values: Option<Vec<Value>>,
     /// The limits of its run.
@@ -77,22 +77,31 @@ fn depth_over(depth: u32, top: &Option<Body>) -> u32
     }
 }
 
+/// New frames with room for each block. They lie in a box, so that a body, a task and a parcel are small where they are moved.
+fn new_frames(alloc: Global, code: &Code, limits: &Limits) -> Result<Box<Frames>, AllocError>
+    ensures { IfOk result (λ f. IsSpareOf code.now limits.now f.value) }
+{
+    let frames = spare_frames(alloc, code, limits)?;
+    let boxed = Box::new(alloc, frames)?;
+    Ok(boxed)
+}
+
 /// Frames with room for each block: those of a body that has ended, where they have it, and else new ones.
 fn frames_for(
     alloc: Global,
     code: &Code,
     limits: &Limits,
-    ended: &mut Option<Frames>,
-) -> Result<Frames, AllocError>
-    ensures { IfOk result (λ f. IsSpareOf code.now limits.now f) }
+    ended: &mut Option<Box<Frames>>,
+) -> Result<Box<Frames>, AllocError>
+    ensures { IfOk result (λ f. IsSpareOf code.now limits.now f.value) }
 {
     match ended.take() {
-        None => spare_frames(alloc, code, limits),
+        None => new_frames(alloc, code, limits),
         Some(frames) => {
-            if can_begin(code, limits, &frames) {
+            if can_begin(code, limits, &*frames) {
                 return Ok(frames);
             }
-            spare_frames(alloc, code, limits)
+            new_frames(alloc, code, limits)
         }
     }
 }
@@ -103,12 +112,12 @@ fn restock(
     alloc: Global,
     code: &Code,
     limits: &Limits,
-    spare: &mut Option<Frames>,
-    ended: &mut Option<Frames>,
+    spare: &mut Option<Box<Frames>>,
+    ended: &mut Option<Box<Frames>>,
 ) -> Result<(), AllocError>
     requires { spare.old ≡ None }
     ensures kept { HasRoomFor code.now limits.now spare.new }
-    ensures some { OnOk result ((f : TheFrames) × (spare.new ≡ Some f) × IsSpareOf code.now limits.now f) }
+    ensures some { OnOk result ((f : Box TheFrames Global) × (spare.new ≡ Some f) × IsSpareOf code.now limits.now f.value) }
 {
     *spare = Some(frames_for(alloc, code, limits, ended)?);
     Ok(())
@@ -119,12 +128,12 @@ fn reserve_spare(
     alloc: Global,
     code: &Code,
     limits: &Limits,
-    spare: &mut Option<Frames>,
-    ended: &mut Option<Frames>,
+    spare: &mut Option<Box<Frames>>,
+    ended: &mut Option<Box<Frames>>,
 ) -> Result<(), AllocError>
     requires { HasRoomFor code.now limits.now spare.old }
     ensures kept { HasRoomFor code.now limits.now spare.new }
-    ensures some { OnOk result ((f : TheFrames) × (spare.new ≡ Some f) × IsSpareOf code.now limits.now f) }
+    ensures some { OnOk result ((f : Box TheFrames Global) × (spare.new ≡ Some f) × IsSpareOf code.now limits.now f.value) }
 {
     match spare {
         Some(_) => Ok(()),
@@ -146,7 +155,7 @@ fn reserve_values(alloc: Global, values: &mut Option<Vec<Value>>) -> Result<(), 
 }
 
 /// The frames of a body, if there is one.
-fn frames_of(body: Option<Body>) -> Option<Frames> {
+fn frames_of(body: Option<Body>) -> Option<Box<Frames>> {
     match body {
         None => None,
         Some(body) => {
@@ -162,7 +171,7 @@ fn frames_of(body: Option<Body>) -> Option<Frames> {
 
 /// The body below comes on top, if there is one, and the frames of the one that ended are kept.
 #[inline(never)]
-fn pop_caller(top: &mut Option<Body>, below: &mut Vec<Body>, ended: &mut Option<Frames>)
+fn pop_caller(top: &mut Option<Body>, below: &mut Vec<Body>, ended: &mut Option<Box<Frames>>)
     ensures items { below.old.items ≡ below.new.items ++ option_to_list top.new }
     ensures capacity { vec_capacity below.new ≡ vec_capacity below.old }
     ensures cases { MatchOption top.new ((vec_len below.old ≡ 0) × (vec_len below.new ≡ 0)) (λ _. vec_len below.new + 1 ≡ vec_len below.old) }
@@ -178,7 +187,7 @@ fn reserve_top(alloc: Global, top: &mut Option<Body>) -> Result<(), AllocError>
 {
     match top {
         None => Ok(()),
-        Some(body) => reserve_frames(alloc, &mut body.frames),
+        Some(body) => reserve_frames(alloc, &mut *body.frames),
     }
 }
 
@@ -198,8 +207,8 @@ impl Task {
             what: What::Begun,
         });
         let _parts = code.parts();
-        let mut frames = spare_frames(alloc, code, limits)?;
-        begin(code, &mut frames, 0, Value::Unit, Hand::new(), 1);
+        let mut frames = new_frames(alloc, code, limits)?;
+        begin(code, &mut *frames, 0, Value::Unit, Hand::new(), 1);
         Ok(Task {
             past,
             top: Some(Body {
@@ -226,7 +235,7 @@ impl Task {
         let past = Vec::with_capacity(alloc, 1)?;
         let below = Vec::with_capacity(alloc, 1)?;
         let values = Vec::with_capacity(alloc, MAX_ENTRY_VALUES)?;
-        let frames = spare_frames(alloc, code, limits)?;
+        let frames = new_frames(alloc, code, limits)?;
         Ok(Task {
             past,
             top: None,
@@ -355,7 +364,7 @@ impl Task {
                 let mut frames = frames;
                 let block = line_of(code, object.class, chord).block;
                 let this = Value::Ref(object);
-                begin(code, &mut frames, block, this, parts.body, depth);
+                begin(code, &mut *frames, block, this, parts.body, depth);
                 self.past.push_reserved(Entry {
                     number,
                     body: number,
@@ -371,6 +380,62 @@ impl Task {
                 }
             }
         }
+    }
+
+    /// Puts the body of a firing on top, with copies of these values in its slots. Takes memory for texts alone. Where none is found, the task can only
+    /// be dropped.
+    pub fn resume_with(
+        &mut self,
+        alloc: Global,
+        code: &Code,
+        number: u32,
+        chord: u16,
+        object: Object,
+        members: Members,
+        values: Values,
+    ) -> Result<(), AllocError>
+        requires task { IsTaskOf code.now self.old.limits self.old }
+        requires may { MayResume code.now self.old.limits self.old number chord object members values }
+        ensures task { IfOk result (λ _. IsTaskOf code.now self.old.limits self.new) }
+        ensures past { IfOk result (λ _. task_begun (view_of self.old) number chord object members values (view_of self.new)) }
+        ensures top { IfOk result (λ _. (view_of self.new).top ≡ Some number) }
+    {
+        let depth = depth_over(self.limits.depth, &self.top);
+        let block = line_of(code, object.class, chord).block;
+        match &mut self.spare {
+            None => unreachable!(),
+            Some(frames) => {
+                let this = Value::Ref(object);
+                begin_with(
+                    alloc,
+                    code,
+                    &mut **frames,
+                    block,
+                    this,
+                    values.items(),
+                    depth,
+                )?;
+            }
+        }
+        self.past.push_reserved(Entry {
+            number,
+            body: number,
+            what: What::Fired(chord, object, members, values),
+        });
+        match self.spare.take() {
+            None => unreachable!(),
+            Some(frames) => {
+                let body = Body {
+                    number,
+                    frames,
+                    next: Next::Runs,
+                };
+                if let Some(caller) = mem::replace(&mut self.top, Some(body)) {
+                    self.below.push_reserved(caller);
+                }
+            }
+        }
+        Ok(())
     }
 
     /// Whether no body is left.

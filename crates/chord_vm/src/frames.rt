@@ -183,6 +183,51 @@ fn fill_from(slots: &mut Vec<Value>, n: usize, this: Value, arguments: Hand<Valu
     pad(slots, rest);
 }
 
+/// Adds a copy of each value.
+pub fn lay_copies(alloc: Global, slots: &mut Vec<Value>, values: &[Value]) -> Result<(), AllocError>
+    requires { vec_len slots.old + length values.now ≤ vec_capacity slots.old }
+    ensures items { OnOk result (slots.new.items ≡ slots.old.items ++ values.now) }
+    ensures capacity { vec_capacity slots.new ≡ vec_capacity slots.old }
+{
+    for value in values {
+        slots.push_reserved(value.copied(alloc)?);
+    }
+    Ok(())
+}
+
+/// Fills the slots of a block with `this` and copies of the values, and the rest with the unit value.
+fn fill_with(
+    alloc: Global,
+    slots: &mut Vec<Value>,
+    n: usize,
+    this: Value,
+    values: &[Value],
+) -> Result<(), AllocError>
+    requires fits { first_slots n (this ∷ values.now) ≢ None }
+    requires room { n ≤ vec_capacity slots.old }
+    ensures filled { OnOk result (first_slots n (this ∷ values.now) ≡ Some slots.new.items) }
+{
+    slots.truncate(0);
+    slots.push_reserved(this);
+    lay_copies(alloc, slots, values)?;
+    let rest = n - slots.len();
+    pad(slots, rest);
+    Ok(())
+}
+
+/// A block whose slots are filled comes to work, at its first instruction.
+fn open(frames: &mut Frames, block: usize, depth: u32)
+    ensures { machine_of frames.new ≡ record { top = record { block = block; place = 0; room = frames.old.limits.depth - depth; stack = []; slots = frames.old.top.slots.items }; below = []; turns = frames.old.limits.turns } }
+{
+    frames.top.stack.truncate(0);
+    frames.below.truncate(0);
+    frames.top.block = block;
+    frames.top.place = 0;
+    frames.top.room = frames.limits.depth.saturating_sub(depth) as usize;
+    frames.turns = frames.limits.turns;
+    frames.awaited = Awaited::ForNothing;
+}
+
 /// Begins a body in a block. Takes no memory.
 pub fn begin(
     code: &Code,
@@ -199,13 +244,28 @@ pub fn begin(
     let block = block as usize;
     let slots = code.parts().blocks.items()[block].slots as usize;
     fill_from(&mut frames.top.slots, slots, this, arguments);
-    frames.top.stack.truncate(0);
-    frames.below.truncate(0);
-    frames.top.block = block;
-    frames.top.place = 0;
-    frames.top.room = frames.limits.depth.saturating_sub(depth) as usize;
-    frames.turns = frames.limits.turns;
-    frames.awaited = Awaited::ForNothing;
+    open(frames, block, depth);
+}
+
+/// Begins a body in a block with copies of these arguments. Takes memory for texts alone. Where none is found, the frames are of no body.
+pub fn begin_with(
+    alloc: Global,
+    code: &Code,
+    frames: &mut Frames,
+    block: u32,
+    this: Value,
+    arguments: &[Value],
+    depth: u32,
+) -> Result<(), AllocError>
+    requires fits { body_in_block code.now block (frames.old.limits.depth - depth) (this ∷ arguments.now) frames.old.limits.turns ≢ None }
+    requires space { IsSpacious frames.old (slice_get code.now.blocks block) }
+    ensures { OnOk result (body_in_block code.now block (frames.old.limits.depth - depth) (this ∷ arguments.now) frames.old.limits.turns ≡ Some (machine_of frames.new)) }
+{
+    let block = block as usize;
+    let slots = code.parts().blocks.items()[block].slots as usize;
+    fill_with(alloc, &mut frames.top.slots, slots, this, arguments)?;
+    open(frames, block, depth);
+    Ok(())
 }
 
 /// Takes the room that the next answer needs. Where there is none the body is as it was.

@@ -285,7 +285,7 @@ top_lives code limits h b nexts.Runs u x over = (let z : Over x ≡ Ready u.star
 top_lives code limits h b (nexts.Gave w) u x over = (let z : Over x ≡ Ready u.start u.depth u.answers = sym over ∙ u.is in cc)
 top_lives code limits h b (nexts.Ends y y') u x over = (let z : Over x ≡ Ready u.start u.depth u.answers = sym over ∙ u.is in cc)
 top_lives code limits h b (nexts.Fails t) u x over = (let z : Over x ≡ Ready u.start u.depth u.answers = sym over ∙ u.is in cc)
-top_lives code limits h b (nexts.Waits q) k x over = (let z : Over x ≡ Waits k.start k.depth k.answers q (limits.depth - b.frames.top.room) = sym over ∙ k.is in cc)
+top_lives code limits h b (nexts.Waits q) k x over = (let z : Over x ≡ Waits k.start k.depth k.answers q (limits.depth - b.frames.value.top.room) = sym over ∙ k.is in cc)
 
 -- and so it is there
 top_there : (code : Parts) (limits : Limits) (h : List Entry) (b : Body) (n : Next) → IsTop code limits h n b → doing (code_program code limits) h b.number ≡ Absent → ⊥
@@ -293,7 +293,7 @@ top_there code limits h b nexts.Runs u none = (let z : Absent ≡ Ready u.start 
 top_there code limits h b (nexts.Gave w) u none = (let z : Absent ≡ Ready u.start u.depth u.answers = sym none ∙ u.is in cc)
 top_there code limits h b (nexts.Ends y y') u none = (let z : Absent ≡ Ready u.start u.depth u.answers = sym none ∙ u.is in cc)
 top_there code limits h b (nexts.Fails t) u none = (let z : Absent ≡ Ready u.start u.depth u.answers = sym none ∙ u.is in cc)
-top_there code limits h b (nexts.Waits q) k none = (let z : Absent ≡ Waits k.start k.depth k.answers q (limits.depth - b.frames.top.room) = sym none ∙ k.is in cc)
+top_there code limits h b (nexts.Waits q) k none = (let z : Absent ≡ Waits k.start k.depth k.answers q (limits.depth - b.frames.value.top.room) = sym none ∙ k.is in cc)
 
 module _ (code : Parts) (limits : Limits) (sound : IsSound (code_program code limits)) (one : HasOneSync (code_program code limits)) (t : Task) (is : IsTaskOf code limits t) (es : List Entry) (c : Claim) (comes : ComesWithMessage (code_program code limits) es c (view_of t).past) where
   -- the body on top of a task that comes with a message waits for it

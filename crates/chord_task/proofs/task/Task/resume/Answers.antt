@@ -1,5 +1,6 @@
 use Rattle.std.proofs.Common.{◌≡◌, ◌∷◌, ◌++◌, [], List, ℕ, Some, None, refl, sym, ap, ◌∙◌, subst}
-use Rattle.std.specs.Prelude.{reverse}
+use Rattle.std.specs.Prelude.{reverse, Box}
+use Rattle.std.specs.Global.{Global}
 use Rattle.std.proofs.lemmas.List.{reverse-append}
 use Rattle.chord_base.specs.declared.value.Value.{Value}
 use Rattle.chord_base.specs.declared.value.Value.TheVariants as a_value
@@ -31,7 +32,7 @@ begin-requires-clause-fits c =
     let r = c.requires.may.room in
     let y : Some r.frames ≡ Some c.in-Some.frames = sym r.spare ∙ sym c.take.ensures.value ∙ c.in-Some.is in
     let f : r.frames ≡ c.in-Some.frames = cc in
-    let same = begun_same c.args.code.now limits c.in-Some.frames.limits c.line_of.result.now.block c.depth_over-depth.result (room_of limits c.args.self.now.top) (a_value.Ref c.args.object) c.part_all-parts.result.body c.args.arguments (ap (λ (x : Frames). x.limits) (sym f) ∙ r.room.limited) (c.depth_over-depth.ensures limits refl) c.part_all-parts.ensures.body c.requires.twice in
+    let same = begun_same c.args.code.now limits c.deref_mut.result.now.limits c.line_of.result.now.block c.depth_over-depth.result (room_of limits c.args.self.now.top) (a_value.Ref c.args.object) c.part_all-parts.result.body c.args.arguments (ap (λ (x : Frames). x.limits) c.deref_mut.ensures.value ∙ ap (λ (x : Box Frames Global). x.value.limits) (sym f) ∙ r.room.limited) (c.depth_over-depth.ensures limits refl) c.part_all-parts.ensures.body c.requires.twice in
     λ e.
     let w : Some o.machine ≡ None = sym o.starts ∙ ap (λ (x : ChordLine). body_in_block c.args.code.now x.block (room_of limits c.args.self.now.top) (a_value.Ref c.args.object ∷ vs) limits.turns) l ∙ sym same ∙ e in
     cc
@@ -46,8 +47,8 @@ begin-requires-clause-space c =
     let r = c.requires.may.room in
     let y : Some r.frames ≡ Some c.in-Some.frames = sym r.spare ∙ sym c.take.ensures.value ∙ c.in-Some.is in
     let f : r.frames ≡ c.in-Some.frames = cc in
-    spacious_at c.args.code.now c.in-Some.frames c.line_of.result.now.block (room_of limits c.args.self.now.top) limits.turns (a_value.Ref c.args.object ∷ vs) o.machine
-    (subst (λ (x : Frames). IsRoomFor c.args.code.now x) f r.room.room)
+    spacious_at c.args.code.now c.deref_mut.result.now c.line_of.result.now.block (room_of limits c.args.self.now.top) limits.turns (a_value.Ref c.args.object ∷ vs) o.machine
+    (subst (IsRoomFor c.args.code.now) (sym c.deref_mut.ensures.value) (subst (λ (x : Box Frames Global). IsRoomFor c.args.code.now x.value) f r.room.room))
     (ap (λ (x : ChordLine). body_in_block c.args.code.now x.block (room_of limits c.args.self.now.top) (a_value.Ref c.args.object ∷ vs) limits.turns) (sym l) ∙ o.starts)
 
 pub returns-in-Some-replace-clause-task : goal.returns-in-Some-replace-clause-task
@@ -58,7 +59,7 @@ returns-in-Some-replace-clause-task c =
     let r = c.requires.may.room in
     let y : Some r.frames ≡ Some c.in-Some.frames = sym r.spare ∙ sym c.take.ensures.value ∙ c.in-Some.is in
     let f : r.frames ≡ c.in-Some.frames = cc in
-    let same = begun_same c.args.code.now limits c.in-Some.frames.limits c.line_of.result.now.block c.depth_over-depth.result (room_of limits c.args.self.now.top) (a_value.Ref c.args.object) c.part_all-parts.result.body c.args.arguments (ap (λ (x : Frames). x.limits) (sym f) ∙ r.room.limited) (c.depth_over-depth.ensures limits refl) c.part_all-parts.ensures.body c.requires.twice in
+    let same = begun_same c.args.code.now limits c.deref_mut.result.now.limits c.line_of.result.now.block c.depth_over-depth.result (room_of limits c.args.self.now.top) (a_value.Ref c.args.object) c.part_all-parts.result.body c.args.arguments (ap (λ (x : Frames). x.limits) c.deref_mut.ensures.value ∙ ap (λ (x : Box Frames Global). x.value.limits) (sym f) ∙ r.room.limited) (c.depth_over-depth.ensures limits refl) c.part_all-parts.ensures.body c.requires.twice in
     let items =
     c.push_reserved.ensures.items
     ∙ ap (λ (ms : List ℕ). c.args.self.now.past.items ++ entry c.args.number c.args.number (Fired c.args.chord c.args.object ms c.part_all-parts.result.entry) ∷ []) c.copied.ensures
@@ -67,7 +68,7 @@ returns-in-Some-replace-clause-task c =
     let top : c.args.self.now.top ≡ Some c.in-Some-replace.caller = sym c.replace.ensures.value ∙ c.in-Some-replace.is in
     let bodies = ap reverse c.push_reserved-in-Some-replace.ensures.items ∙ reverse-append c.args.self.now.below.items (c.in-Some-replace.caller ∷ []) ∙ ap (λ x. with_top x (reverse c.args.self.now.below.items)) (sym top) in
     rw (c.replace.ensures.after, c.take.ensures.after)
-    (task_resumed c.args.code.now limits c.args.self.now c.push_reserved.new.self c.push_reserved-in-Some-replace.new.self c.part_all-parts.new.wide c.args.number c.args.chord c.args.object c.args.members.now vs c.begin.new.frames c.line_of.result.now c.part_all-parts.ensures.list c.requires.task c.requires.may c.line_of.ensures (sym same ∙ c.begin.ensures) items bodies)
+    (task_resumed c.args.code.now limits c.args.self.now c.push_reserved.new.self c.push_reserved-in-Some-replace.new.self c.part_all-parts.new.wide c.args.number c.args.chord c.args.object c.args.members.now vs _ c.line_of.result.now c.part_all-parts.ensures.list c.requires.task c.requires.may c.line_of.ensures (sym same ∙ c.begin.ensures) items bodies)
 
 pub returns-in_default-clause-task : goal.returns-in_default-clause-task
 returns-in_default-clause-task c =
@@ -77,7 +78,7 @@ returns-in_default-clause-task c =
     let r = c.requires.may.room in
     let y : Some r.frames ≡ Some c.in-Some.frames = sym r.spare ∙ sym c.take.ensures.value ∙ c.in-Some.is in
     let f : r.frames ≡ c.in-Some.frames = cc in
-    let same = begun_same c.args.code.now limits c.in-Some.frames.limits c.line_of.result.now.block c.depth_over-depth.result (room_of limits c.args.self.now.top) (a_value.Ref c.args.object) c.part_all-parts.result.body c.args.arguments (ap (λ (x : Frames). x.limits) (sym f) ∙ r.room.limited) (c.depth_over-depth.ensures limits refl) c.part_all-parts.ensures.body c.requires.twice in
+    let same = begun_same c.args.code.now limits c.deref_mut.result.now.limits c.line_of.result.now.block c.depth_over-depth.result (room_of limits c.args.self.now.top) (a_value.Ref c.args.object) c.part_all-parts.result.body c.args.arguments (ap (λ (x : Frames). x.limits) c.deref_mut.ensures.value ∙ ap (λ (x : Box Frames Global). x.value.limits) (sym f) ∙ r.room.limited) (c.depth_over-depth.ensures limits refl) c.part_all-parts.ensures.body c.requires.twice in
     let items =
     c.push_reserved.ensures.items
     ∙ ap (λ (ms : List ℕ). c.args.self.now.past.items ++ entry c.args.number c.args.number (Fired c.args.chord c.args.object ms c.part_all-parts.result.entry) ∷ []) c.copied.ensures
@@ -86,4 +87,4 @@ returns-in_default-clause-task c =
     let top : c.args.self.now.top ≡ None = sym c.replace.ensures.value ∙ c.in_default.is in
     let bodies = ap (λ x. with_top x (reverse c.args.self.now.below.items)) (sym top) in
     rw (c.replace.ensures.after, c.take.ensures.after)
-    (task_resumed c.args.code.now limits c.args.self.now c.push_reserved.new.self c.args.self.now.below c.part_all-parts.new.wide c.args.number c.args.chord c.args.object c.args.members.now vs c.begin.new.frames c.line_of.result.now c.part_all-parts.ensures.list c.requires.task c.requires.may c.line_of.ensures (sym same ∙ c.begin.ensures) items bodies)
+    (task_resumed c.args.code.now limits c.args.self.now c.push_reserved.new.self c.args.self.now.below c.part_all-parts.new.wide c.args.number c.args.chord c.args.object c.args.members.now vs _ c.line_of.result.now c.part_all-parts.ensures.list c.requires.task c.requires.may c.line_of.ensures (sym same ∙ c.begin.ensures) items bodies)

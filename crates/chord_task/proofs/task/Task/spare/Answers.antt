@@ -7,9 +7,9 @@ pub returns-clause-room : goal.returns-clause-room
 returns-clause-room c = record {
   past = omega (arith, c.in_ok-past.ensures.len, c.in_ok-past.ensures.exact);
   below = omega (arith, c.in_ok-below.ensures.len, c.in_ok-below.ensures.exact);
-  frames = c.in_ok-frames.frames;
+  frames = _;
   spare = refl;
-  room = record { room = c.in_ok-frames.ensures.room; limited = c.in_ok-frames.ensures.limits };
+  room = c.in_ok-frames.ensures;
   values = record { bare = c.in_ok-values.ensures.items; wide = omega (arith, c.in_ok-values.ensures.exact) };
 }
 
@@ -18,10 +18,10 @@ returns-clause-task c =
     spare_task c.args.code.now c.args.limits.now _ (valid_forward c.args.code.now c.parts-parts.ensures.valid) refl refl c.in_ok-past.ensures.items c.in_ok-below.ensures.items (record {
       past = omega (arith, c.in_ok-past.ensures.len, c.in_ok-past.ensures.exact);
       below = omega (arith, c.in_ok-below.ensures.len, c.in_ok-below.ensures.exact);
-      frames = c.in_ok-frames.frames;
+      frames = _;
       spare = refl;
-      room = record { room = c.in_ok-frames.ensures.room; limited = c.in_ok-frames.ensures.limits };
+      room = c.in_ok-frames.ensures;
       values = record { bare = c.in_ok-values.ensures.items; wide = omega (arith, c.in_ok-values.ensures.exact) };
     })
-    (record { room = c.in_ok-frames.ensures.room; limited = c.in_ok-frames.ensures.limits })
+    c.in_ok-frames.ensures
     (record { bare = c.in_ok-values.ensures.items; wide = omega (arith, c.in_ok-values.ensures.exact) })
