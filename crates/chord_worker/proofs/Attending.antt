@@ -12,20 +12,24 @@ use Rattle.chord_base.specs.Meaning.{Program}
 use Rattle.chord_base.specs.Messages.{has}
 use Rattle.chord_base.proofs.Waits.{either}
 use Rattle.chord_bag.specs.Reads.{messages_and_bags, IsOnlyLooks}
-use Rattle.chord_match.specs.Fires.{drop_duties}
-use Rattle.chord_match.specs.Findings.{read_so}
+use Rattle.chord_match.specs.Fires.{drop_duties, IsFired}
+use Rattle.chord_match.specs.Findings.{read_so, IsMatch}
 use Rattle.chord_match.specs.Seen.{AreMatched, IsMember}
 use Rattle.chord_rule.specs.declared.view.Duty.{Duty}
 use Rattle.chord_rule.specs.declared.view.View.{View}
 use Rattle.chord_rule.specs.Duties.{HasDuty, drop_duty, move_duty}
 use Rattle.chord_rule.specs.Kinds.{is_down, looked_cell, rested}
+use Rattle.chord_rule.specs.Made.{key}
 use Rattle.chord_rule.specs.Numbers.{HasNumber}
 use Rattle.chord_word.specs.declared.cells.Cell.{Cell}
 use Rattle.chord_word.specs.declared.cells.Word.{Word}
+use Rattle.chord_space.specs.declared.space.Desk.{Desk}
 use Rattle.chord_space.specs.declared.space.Space.{Space}
-use Rattle.chord_space.specs.Desks.{view, space_code, space_limits, IsDeskOf, IsSameDesk}
+use Rattle.chord_space.specs.Desks.{view, space_code, space_limits, program_of, IsDeskOf, IsSameDesk}
 use Rattle.chord_task.specs.declared.parcel.Parcel.{Parcel}
 use Rattle.chord_worker.specs.declared.worker.Worker.{Worker}
+use Rattle.chord_task.specs.Parcels.{entries_of, arguments_of, IsParcelOf}
+use Rattle.chord_worker.specs.Firing.{HasFired}
 use Rattle.chord_worker.specs.Resting.{IsHandFree, IsInMemory, MayContinue, IsStock, IsAtRest, IsSameRole}
 use Rattle.chord_worker.specs.Sending.{Minds, IsLaidDown}
 
@@ -163,6 +167,24 @@ module _ (s : Space Parcel) (w w' : Worker) (m k : ℕ) (minds : Minds s w m k) 
       splits = ap (λ (z : View). z.splits) laid;
       drawn = λ e. ap (λ (z : View). z.drawn) laid ∙ e;
     }
+
+module _ (s : Space Parcel) (w : Worker) (m method : ℕ) (o : Object) (minds : Minds s w m (key o method)) (u : View) (chord : ℕ) (ms : List ℕ) (xs : List (Option ℕ)) (found : IsMatch (program_of s) s.events u (view w.desk) m o method chord ms xs)
+    (d : Desk Parcel) (same : IsSameDesk w.desk d) (f : ℕ) (qs : List Parcel) (fired : IsFired entries_of arguments_of (λ q. IsParcelOf q (space_code s) (space_limits s)) (program_of s) s.events (view w.desk) (view d) o chord ms f qs) where
+  -- what was found was fired
+  pub has_fired : HasFired s (record w { desk = d }) (view w.desk) o chord ms f qs
+  has_fired = record {
+    desk = same.0 ∙ minds.desk;
+    told = minds.told;
+    room = minds.room;
+    free = minds.free;
+    memory = minds.memory;
+    goes_on = minds.goes_on;
+    stock = minds.stock;
+    spare = minds.spare;
+    is_stock = minds.is_stock;
+    duties = ap (λ (z : View). z.duties) fired.view ∙ duty_goes (view w.desk).duties m (key o method) ms minds.duty found.own;
+    fired = fired;
+  }
 
 -- a lost member leaves looks alone
 pub lost_looks : (v w : View) → w ≡ record v { looked = w.looked } → IsOnlyLooks v w

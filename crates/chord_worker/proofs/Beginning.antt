@@ -304,7 +304,11 @@ module _ (s : Space Parcel) (w : Worker) (v : View) (f : ℕ) (t : Task) (b : Ha
       }
 
   module _ (d : Desk Parcel) (same : IsSameDesk w.desk d) (es : List Entry) (is : es ≡ (view_of t).past) (x : Word) (post : view d ≡ saw (posted (posting (view w.desk) f) es) f x) where
-    -- where it is posted, the worker has in memory what it had
+    -- where it is posted, the desk keeps what it kept
+    pub kept_posted : (view d).kept ≡ v.kept
+    kept_posted = ap (λ (z : View). z.kept) post ∙ ap (λ (h : List Entry). left_by h (view w.desk).kept) is ∙ b.both.left
+
+    -- and the worker has in memory what it had
     pub rest_posted : IsAtRest s (record w { desk = d })
     rest_posted = record {
       desk = same.0 ∙ b.desk;
@@ -315,7 +319,7 @@ module _ (s : Space Parcel) (w : Worker) (v : View) (f : ℕ) (t : Task) (b : Ha
         fresh = ap (λ (z : View). z.fresh) post ∙ ap (λ (z : View). z.fresh) b.seen ∙ b.free.fresh;
       };
       duties = λ e. ap (λ (z : View). z.duties) post ∙ b.duties;
-      memory = subst (λ (h : List Entry). IsInMemory (space_code s) (space_limits s) h (view d).spent w.done.items w.task) (sym kept_before)
+      memory = subst (λ (h : List Entry). IsInMemory (space_code s) (space_limits s) h (view d).spent w.done.items w.task) (sym kept_posted)
           (subst (λ (y : Bool). IsInMemory (space_code s) (space_limits s) v.kept y w.done.items w.task) (sym spent) b.memory);
       goes_on = b.goes_on;
       stock = b.stock;
@@ -323,9 +327,6 @@ module _ (s : Space Parcel) (w : Worker) (v : View) (f : ℕ) (t : Task) (b : Ha
       where
         spent : (view d).spent ≡ false
         spent = ap (λ (z : View). z.spent) post ∙ ap (λ (z : View). z.spent) b.seen ∙ b.room
-
-        kept_before : (view d).kept ≡ v.kept
-        kept_before = ap (λ (z : View). z.kept) post ∙ ap (λ (h : List Entry). left_by h (view w.desk).kept) is ∙ b.both.left
 
     -- and its desk its role
     pub role_posted : IsSameRole (view w.desk) (view d)

@@ -63,7 +63,7 @@ in_below n [] e a i = absurd i
 in_below n (x ∷ h) e a i = ⊎_elim (λ s. subst (λ (z : Entry). z.number < n) (sym s) a.0) (λ k. in_below n h e a.1 k) i
 
 -- a number among those of kept entries passes the test
-among_kept : (f : ℕ → Bool) (h : List Entry) (n : ℕ) → is_among (kept f h) n ≡ true → f n ≡ true
+pub among_kept : (f : ℕ → Bool) (h : List Entry) (n : ℕ) → is_among (kept f h) n ≡ true → f n ≡ true
 among_kept f [] n a = let z : false ≡ true = a in absurd (cc)
 among_kept f (e ∷ h) n a =
     elim (either (f e.number)) [

@@ -125,7 +125,7 @@ kept_together f h (e ∷ g) r =
     ]
 
 -- the number of an entry is among theirs
-among_self : (h : List Entry) (e : Entry) → IsIn e h → is_among h e.number ≡ true
+pub among_self : (h : List Entry) (e : Entry) → IsIn e h → is_among h e.number ≡ true
 among_self h e i = subst (λ (z : List Entry). is_among z e.number ≡ true) (all_kept h) (among_in (λ n. true) h e i refl)
 
 -- a number among theirs is that of one

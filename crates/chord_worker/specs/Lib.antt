@@ -4,6 +4,8 @@
 
 -- a worker at rest
 pub mod Resting
+-- what a step leaves behind
+pub mod Stepping
 -- ## What only the code's own contracts use
 
 -- messages that are sent off

@@ -7,6 +7,7 @@ ghost use Rattle.chord_task.specs.declared.task.Task.{Task as ATask};
 ghost use Rattle.chord_worker.specs.Beginning.{first_task, arguments_in, caller_or, HasBegun};
 ghost use Rattle.chord_worker.specs.Firing.{HasFired};
 ghost use Rattle.chord_worker.specs.Resting.{IsAtRest, IsSameRole};
+ghost use Rattle.chord_worker.specs.Stepping.{HasTakenOn};
 
 use crate::worker::{Gate, Worker};
 use chord_base::event::Limits;
@@ -98,6 +99,7 @@ impl Worker {
         ensures rest { IsAtRest space.now self.new }
         ensures role { IsSameRole (view self.old.desk) (view self.new.desk) }
         ensures told { self.new.spent ≡ false }
+        ensures taken { (v : View) → HasBegun space.now self.old v number task → HasTakenOn v.kept self.old.task self.new number }
     {
         if self.task.is_none() {
             gate.started(number);
@@ -129,6 +131,7 @@ impl Worker {
         ensures rest { IsAtRest space.now self.new }
         ensures role { IsSameRole (view self.old.desk) (view self.new.desk) }
         ensures told { self.new.spent ≡ false }
+        ensures taken { (v : View) → HasFired space.now self.old v drawn.object drawn.chord drawn.members drawn.number hand → HasTakenOn v.kept self.old.task self.new drawn.number }
     {
         chords_are_right(code);
         entries_are_within(code);

@@ -5,9 +5,11 @@ ghost use Rattle.chord_base.specs.declared.event.Limits.{Limits as TheLimits};
 ghost use Rattle.chord_base.specs.Story.{IsSound};
 ghost use Rattle.chord_code.specs.declared.parts.Parts.{Parts};
 ghost use Rattle.chord_space.specs.Desks.{view, space_code, space_limits, program_of, IsDeskOf};
+ghost use Rattle.chord_task.specs.declared.task.Task.{Task as TheTask};
 ghost use Rattle.chord_vm.specs.Frames.{what_of_ask};
 ghost use Rattle.chord_worker.specs.Playing.{IsReadyTo, IsNoMessage};
 ghost use Rattle.chord_worker.specs.Resting.{IsInMemory, MayContinue, IsAtRest, IsSameRole};
+ghost use Rattle.chord_worker.specs.Stepping.{HasGoneOn};
 
 use crate::playing::{draw_own, ready_ask, stocked};
 use crate::worker::{Gate, Worker};
@@ -64,6 +66,7 @@ impl Worker {
         ensures rest { OnOk result (IsAtRest space.now self.new) }
         ensures role { OnOk result (IsSameRole (view self.old.desk) (view self.new.desk)) }
         ensures over { OnOk result (self.new.spent ≡ true → self.new.task ≡ None) }
+        ensures went { OnOk result (HasGoneOn (view self.old.desk).kept task self.new) }
     {
         let mut task = task;
         match draw_own(space, &mut self.desk, &mut task, what) {
@@ -103,6 +106,7 @@ impl Worker {
         ensures rest { OnOk result (IsAtRest space.now self.new) }
         ensures role { OnOk result (IsSameRole (view self.old.desk) (view self.new.desk)) }
         ensures over { OnOk result (self.new.spent ≡ true → self.new.task ≡ None) }
+        ensures went { OnOk result (HasGoneOn (view self.old.desk).kept task self.new) }
     {
         match ask {
             Ask::Make(class) => {
@@ -137,7 +141,8 @@ impl Worker {
 
     /// Plays the task to its next ask, which becomes an entry of the run, and does what follows: a message is linked and armed, and
     /// minded until it is taken or no chord with it is enabled; a firing's body begins; what a task did that is over is done. Where
-    /// the limit on events is reached the task is laid down. Want of memory is an `Err`, after which entries may be lost.
+    /// the limit on events is reached the task is laid down. So afterwards the desk keeps a newer entry than all that it kept, or the
+    /// task went away with its call, or the desk was told of the limit. Want of memory is an `Err`, after which entries may be lost.
     pub fn step<R: Wait, G: Gate>(
         &mut self,
         rt: &R,
@@ -154,6 +159,7 @@ impl Worker {
         requires room { (view self.old.desk).spent ≡ false }
         ensures rest { OnOk result (IsAtRest space.now self.new × IsSameRole (view self.old.desk) (view self.new.desk)) }
         ensures over { OnOk result ((view self.new.desk).spent ≡ true → self.new.task ≡ None) }
+        ensures went { OnOk result ((t : TheTask) → self.old.task ≡ Some t → HasGoneOn (view self.old.desk).kept t self.new) }
     {
         match self.task.take() {
             None => unreachable!(),

@@ -1,12 +1,14 @@
 use Rattle.std.proofs.Common.{◌≡◌, true, false, refl, sym, ap, ◌∙◌, subst, ⊎_elim, inl}
 use Rattle.chord_bag.specs.Reads.{IsOnlyLooks}
 use Rattle.chord_match.specs.Findings.{read_so}
+use Rattle.chord_rule.specs.declared.view.View.{View}
 use Rattle.chord_rule.specs.Duties.{HasDuty}
 use Rattle.chord_rule.specs.Made.{key}
 use Rattle.chord_rule.specs.Kinds.{rested}
 use Rattle.chord_space.specs.Desks.{view}
 use Rattle.chord_word.specs.declared.cells.Cell.TheVariants as a_cell
-use Rattle.chord_worker.proofs.Attending.{the_duty, still_minds, minded, looks_on, cell_looks}
+use Rattle.chord_worker.proofs.Attending.{the_duty, still_minds, minded, looks_kept, looks_on, cell_looks}
+use Rattle.chord_worker.proofs.Stepping.{minded_since}
 use Rattle.chord_worker.proofs.worker.Worker.attend.Goals as goal
 
 pub find-requires-clause-duty : goal.find-requires-clause-duty
@@ -49,3 +51,42 @@ returns-in-Taken-clause-over g c = λ e.
       minded c.args.space.now c.args.self.now (record c.args.self.now { desk = c.find.new.desk }) _ _ c.requires.minds c.find.ensures.desk refl (read_so v m a_cell.Consumed t.0) (cell_looks v m (record { cell = a_cell.Consumed; next = t.0 })) t.1,
       λ z. let k : true ≡ false = sym z ∙ c.requires.minds.told in absurd (cc),
     )
+
+pub returns-in_ok-try_to_fire-in-Match-clause-minded : goal.returns-in_ok-try_to_fire-in-Match-clause-minded
+returns-in_ok-try_to_fire-in-Match-clause-minded g c = λ e.
+    minded_since _ _ _ _ _ _ refl (looks_kept (view c.args.self.now.desk) (view c.find.new.desk) (looks_on _ _ _ (cell_looks (view c.args.self.now.desk) c.args.message.number (record { cell = a_cell.Pending; next = c.in-Match.ensures.finding.next })) c.in-Match.ensures.finding.sought.grows.only))
+    (c.in_ok-try_to_fire-in-Match.ensures.minded e)
+
+pub returns-in_ok-try_to_fire-in-Match-clause-same : goal.returns-in_ok-try_to_fire-in-Match-clause-same
+returns-in_ok-try_to_fire-in-Match-clause-same g c = λ e.
+    let same = c.in_ok-try_to_fire-in-Match.ensures.same e in (
+      same.0,
+      same.1 ∙ looks_kept (view c.args.self.now.desk) (view c.find.new.desk) (looks_on _ _ _ (cell_looks (view c.args.self.now.desk) c.args.message.number (record { cell = a_cell.Pending; next = c.in-Match.ensures.finding.next })) c.in-Match.ensures.finding.sought.grows.only),
+    )
+
+pub returns-in-Busy-clause-same : goal.returns-in-Busy-clause-same
+returns-in-Busy-clause-same g c = λ e.
+    let v = view c.args.self.now.desk in
+    let m = c.args.message.number in (
+      refl,
+      looks_kept v (view c.find.new.desk)
+          (⊎_elim
+          (λ t. subst (IsOnlyLooks v) (sym t.1.1) (cell_looks v m (record { cell = a_cell.Claimed; next = t.1.0 })))
+          (λ b. looks_on _ _ _ (cell_looks v m (record { cell = a_cell.Pending; next = b.next })) b.sought.grows.only)
+          c.in-Busy.ensures.finding.one),
+    )
+
+pub returns-in-Left-clause-minded : goal.returns-in-Left-clause-minded
+returns-in-Left-clause-minded g c = λ e.
+    let v = view c.args.self.now.desk in
+    let m = c.args.message.number in
+    inl (
+      refl,
+      ⊎_elim
+          (λ t. ap (λ (z : View). z.kept) t.2)
+          (λ t. ap (λ (z : View). z.kept) t.2 ∙ looks_kept v t.0 (looks_on _ _ _ (cell_looks v m (record { cell = a_cell.Pending; next = t.1.next })) t.1.sought.grows.only))
+          c.in-Left.ensures.finding,
+    )
+
+pub returns-in-Taken-clause-minded : goal.returns-in-Taken-clause-minded
+returns-in-Taken-clause-minded g c = λ e. inl (refl, ap (λ (z : View). z.kept) c.in-Taken.ensures.finding.1)

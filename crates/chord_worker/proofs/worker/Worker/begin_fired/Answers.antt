@@ -32,3 +32,9 @@ take_on-requires-clause-begun g c = (
   begun_there _ _ _ _ _ _ _ _ c.requires.fired.1 c.requires.sound _ c.requires.code c.chords_are_right.ensures _ c.unpack-caller.ensures.task _ c.take_task-task.ensures.task
       _ _ c.new-arguments.ensures c.unpack-caller.ensures.arguments _ c.take_task-task.ensures.spare _ c.resume.ensures.task c.resume.ensures.past c.resume.ensures.top,
 )
+
+pub returns-clause-taken : goal.returns-clause-taken
+returns-clause-taken g c = λ v fired.
+    c.take_on.ensures.taken v
+    (begun_there _ _ _ _ _ _ _ _ fired c.requires.sound _ c.requires.code c.chords_are_right.ensures _ c.unpack-caller.ensures.task _ c.take_task-task.ensures.task
+    _ _ c.new-arguments.ensures c.unpack-caller.ensures.arguments _ c.take_task-task.ensures.spare _ c.resume.ensures.task c.resume.ensures.past c.resume.ensures.top)

@@ -1,7 +1,9 @@
-use Rattle.std.proofs.Common.{◌≡◌, ◌<◌, ℕ, List, [], None, Option, refl, sym, ap, ◌∙◌, subst, inl, arith}
+use Rattle.std.proofs.Common.{◌≡◌, ◌<◌, ℕ, List, [], ◌∷◌, None, Option, refl, sym, ap, ◌∙◌, subst, inl, inr, arith}
 use Rattle.chord_base.specs.declared.event.Entry.{Entry}
 use Rattle.chord_base.specs.declared.event.What.TheVariants.{Sent, Called}
 use Rattle.chord_base.specs.declared.value.Value as value
+use Rattle.chord_rule.specs.declared.view.View.{View}
+use Rattle.chord_rule.specs.Kinds.{entry, left_by}
 use Rattle.chord_rule.specs.Made.{key}
 use Rattle.chord_space.specs.declared.space.Desk.{Desk}
 use Rattle.chord_space.specs.Desks.{view, space_code, space_limits, program_of, IsSameDesk}
@@ -14,6 +16,8 @@ use Rattle.chord_worker.specs.Resting.{IsInMemory, MayContinue}
 use Rattle.chord_worker.specs.Sending.{IsSentOff}
 use Rattle.chord_worker.proofs.Resting.{rest_told}
 use Rattle.chord_worker.proofs.Sent.{task_may, task_memory, now_minds}
+use Rattle.chord_worker.proofs.Stepping.{went_called}
+use Rattle.chord_worker.specs.Stepping.{IsMinded}
 use Rattle.chord_worker.proofs.worker.Worker.play_called.Goals as goal
 
 pub send_task-requires-clause-bounds : goal.send_task-requires-clause-bounds
@@ -55,3 +59,16 @@ returns-in_ok-lay_down-in-Err-clause-rest g c =
     let told = subst (λ (x : Desk Parcel). WasToldFull (view w.desk) (view x) c.args.task c.draw_own.new.task) (sym d) c.in-Err.ensures.drawn in
     let same = subst (λ (x : Desk Parcel). IsSameDesk w.desk x) (sym d) c.draw_own.ensures.desk in
     rest_told s w c.args.task c.requires.rest c.lay_down.new.self same c.lay_down.ensures.same.1 c.draw_own.new.task told (c.lay_down.ensures.same.2 ∙ c.requires.none) c.lay_down.ensures.same.3 c.in_ok-lay_down-in-Err.ensures.done
+
+pub returns-in_ok-mind-in-Ok-clause-went : goal.returns-in_ok-mind-in-Ok-clause-went
+returns-in_ok-mind-in-Ok-clause-went g c =
+    let noted = c.in-Ok.ensures.drawn.1 in
+    let x = entry c.in-Ok.number noted.body (Called c.args.object c.args.method c.args.arguments) in
+    let es = (view c.send_task.new.desk).kept in
+    let gone = ap (λ (ps : List Entry). left_by ps (view c.draw_own.new.desk).kept) noted.past in
+    let kept = c.send_task.ensures.sent.kept ∙ gone ∙ ap (λ (z : View). left_by (x ∷ (view_of c.args.task).past) z.kept) noted.drawn in
+    went_called (view c.args.self.now.desk).kept c.args.task c.in-Ok.number x refl noted.below c.mind.new.self es kept
+    (subst (λ (y : Option Task). IsMinded es y c.mind.new.self c.in-Ok.number) c.requires.none c.in_ok-mind-in-Ok.ensures.minded)
+
+pub returns-in_ok-lay_down-in-Err-clause-went : goal.returns-in_ok-lay_down-in-Err-clause-went
+returns-in_ok-lay_down-in-Err-clause-went g c = inr (inr (ap (λ (x : Desk Parcel). (view x).spent) c.lay_down.ensures.same.0 ∙ ap (λ (z : View). z.spent) c.in-Err.ensures.drawn.view))

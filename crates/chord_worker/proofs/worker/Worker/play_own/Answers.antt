@@ -1,9 +1,14 @@
-use Rattle.std.proofs.Common.{◌≡◌, sym, subst, ◌∙◌}
+use Rattle.std.proofs.Common.{◌≡◌, refl, sym, ap, subst, ◌∙◌, inl, inr}
+use Rattle.chord_base.specs.declared.event.Entry.{Entry}
+use Rattle.chord_base.specs.Story.{IsIn}
+use Rattle.chord_rule.specs.declared.view.View.{View}
+use Rattle.chord_rule.specs.Kinds.{entry}
 use Rattle.chord_space.specs.declared.space.Desk.{Desk}
 use Rattle.chord_space.specs.Desks.{view, space_code, space_limits, IsSameDesk}
 use Rattle.chord_task.specs.declared.parcel.Parcel.{Parcel}
 use Rattle.chord_worker.specs.Playing.{IsNotedAs, WasToldFull}
 use Rattle.chord_worker.proofs.Resting.{rest_noted, rest_told}
+use Rattle.chord_worker.proofs.Stepping.{newest_there}
 use Rattle.chord_worker.proofs.worker.Worker.play_own.Goals as goal
 
 pub returns-in_ok-settle-in-Ok-clause-rest : goal.returns-in_ok-settle-in-Ok-clause-rest
@@ -24,3 +29,13 @@ returns-in_ok-lay_down-in-Err-clause-rest c =
     let told = subst (λ (x : Desk Parcel). WasToldFull (view w.desk) (view x) c.args.task c.draw_own.new.task) (sym d) c.in-Err.ensures.drawn in
     let same = subst (λ (x : Desk Parcel). IsSameDesk w.desk x) (sym d) c.draw_own.ensures.desk in
     rest_told s w c.args.task c.requires.rest c.lay_down.new.self same c.lay_down.ensures.same.1 c.draw_own.new.task told (c.lay_down.ensures.same.2 ∙ c.requires.none) c.lay_down.ensures.same.3 c.in_ok-lay_down-in-Err.ensures.done
+
+pub returns-in_ok-settle-in-Ok-clause-went : goal.returns-in_ok-settle-in-Ok-clause-went
+returns-in_ok-settle-in-Ok-clause-went c =
+    let noted = c.in-Ok.ensures.drawn.1 in
+    let kept = ap (λ (x : Desk Parcel). (view x).kept) c.settle.ensures.same.0 ∙ ap (λ (z : View). z.kept) noted.drawn in
+    let x = entry c.in-Ok.field-0 noted.body c.args.what.now in
+    inl (newest_there (view c.args.self.now.desk).kept c.args.task c.in-Ok.field-0 x refl noted.below c.settle.new.self (subst (IsIn x) (sym kept) (inl refl)))
+
+pub returns-in_ok-lay_down-in-Err-clause-went : goal.returns-in_ok-lay_down-in-Err-clause-went
+returns-in_ok-lay_down-in-Err-clause-went c = inr (inr (ap (λ (x : Desk Parcel). (view x).spent) c.lay_down.ensures.same.0 ∙ ap (λ (z : View). z.spent) c.in-Err.ensures.drawn.view))

@@ -1,7 +1,9 @@
-use Rattle.std.proofs.Common.{◌≡◌, ◌<◌, ℕ, List, [], None, Option, refl, sym, ap, ◌∙◌, subst, inl, arith}
+use Rattle.std.proofs.Common.{◌≡◌, ◌<◌, ℕ, List, [], None, Option, refl, sym, ap, ◌∙◌, subst, inl, inr, arith}
 use Rattle.chord_base.specs.declared.event.Entry.{Entry}
 use Rattle.chord_base.specs.declared.event.What.TheVariants.{Sent, Called}
 use Rattle.chord_base.specs.declared.value.Value as value
+use Rattle.chord_rule.specs.declared.view.View.{View}
+use Rattle.chord_rule.specs.Kinds.{entry}
 use Rattle.chord_rule.specs.Made.{key}
 use Rattle.chord_space.specs.declared.space.Desk.{Desk}
 use Rattle.chord_space.specs.Desks.{view, space_code, space_limits, program_of, IsSameDesk}
@@ -14,6 +16,8 @@ use Rattle.chord_worker.specs.Resting.{IsInMemory, MayContinue}
 use Rattle.chord_worker.specs.Sending.{IsSentOff}
 use Rattle.chord_worker.proofs.Resting.{rest_told}
 use Rattle.chord_worker.proofs.Sent.{letter_may, letter_memory, now_minds}
+use Rattle.chord_worker.proofs.Parts.{all_kept}
+use Rattle.chord_worker.proofs.Stepping.{went_sent}
 use Rattle.chord_worker.proofs.worker.Worker.play_sent.Goals as goal
 
 pub send_letter-requires-clause-bounds : goal.send_letter-requires-clause-bounds
@@ -55,3 +59,13 @@ returns-in_ok-lay_down-in-Err-clause-rest g c =
     let told = subst (λ (x : Desk Parcel). WasToldFull (view w.desk) (view x) c.args.task c.draw_own.new.task) (sym d) c.in-Err.ensures.drawn in
     let same = subst (λ (x : Desk Parcel). IsSameDesk w.desk x) (sym d) c.draw_own.ensures.desk in
     rest_told s w c.args.task c.requires.rest c.lay_down.new.self same c.lay_down.ensures.same.1 c.draw_own.new.task told (c.lay_down.ensures.same.2 ∙ c.requires.none) c.lay_down.ensures.same.3 c.in_ok-lay_down-in-Err.ensures.done
+
+pub returns-in_ok-mind-in-Ok-clause-went : goal.returns-in_ok-mind-in-Ok-clause-went
+returns-in_ok-mind-in-Ok-clause-went g c =
+    let noted = c.in-Ok.ensures.drawn.1 in
+    let x = entry c.in-Ok.number noted.body (Sent c.args.object c.args.method c.args.arguments) in
+    let kept = ap (λ (d : Desk Parcel). (view d).kept) c.settle.ensures.same.0 ∙ c.send_letter.ensures.sent.kept ∙ all_kept (view c.draw_own.new.desk).kept ∙ ap (λ (z : View). z.kept) noted.drawn in
+    went_sent (view c.args.self.now.desk).kept c.args.task c.in-Ok.number x refl noted.below c.mind.new.self (view c.settle.new.self.desk).kept c.settle.new.self.task kept c.in_ok-mind-in-Ok.ensures.minded
+
+pub returns-in_ok-lay_down-in-Err-clause-went : goal.returns-in_ok-lay_down-in-Err-clause-went
+returns-in_ok-lay_down-in-Err-clause-went g c = inr (inr (ap (λ (x : Desk Parcel). (view x).spent) c.lay_down.ensures.same.0 ∙ ap (λ (z : View). z.spent) c.in-Err.ensures.drawn.view))

@@ -1,36 +1,21 @@
-use Rattle.std.proofs.Common.{◌≡◌, true, false, refl, sym, ap, ◌∙◌, subst}
+use Rattle.std.proofs.Common.{◌≡◌, true, false, refl, sym, ap, ◌∙◌, subst, inr}
 use Rattle.chord_rule.specs.declared.view.View.{View}
-use Rattle.chord_rule.specs.Made.{key}
-use Rattle.chord_match.specs.Findings.{read_so}
-use Rattle.chord_word.specs.declared.cells.Cell.TheVariants.{Pending}
 use Rattle.chord_space.specs.declared.space.Desk.{Desk}
 use Rattle.chord_space.specs.Desks.{view, IsSameDesk}
 use Rattle.chord_task.specs.declared.parcel.Parcel.{Parcel}
-use Rattle.chord_worker.proofs.Attending.{still_minds, refused, lost_looks, duty_goes, minded_member}
+use Rattle.chord_worker.proofs.Attending.{has_fired, still_minds, refused, lost_looks}
+use Rattle.chord_worker.proofs.Stepping.{message_older, taken_minded}
 use Rattle.chord_worker.proofs.worker.Worker.try_to_fire.Goals as goal
 
 pub begin_fired-requires-clause-fired : goal.begin_fired-requires-clause-fired
-begin_fired-requires-clause-fired g c =
-    let m = c.requires.minds in
+begin_fired-requires-clause-fired g c = (view c.args.self.now.desk, has_fired _ _ _ _ _ c.requires.minds _ _ _ _ c.requires.found.1 _ c.fire.ensures.desk _ _ c.in-Fired.ensures.firing)
+
+pub returns-in-Fired-clause-minded : goal.returns-in-Fired-clause-minded
+returns-in-Fired-clause-minded g c = λ e.
     let found = c.requires.found.1 in
     let fired = c.in-Fired.ensures.firing in
-    let before = read_so c.requires.found.0 c.args.message.number Pending found.next in
-    let member = minded_member before (view c.args.self.now.desk) c.args.message.object c.args.message.number c.args.message.method found.next found.seen.methods c.args.members c.args.nexts found.matched found.chord.1 in (
-      view c.args.self.now.desk,
-      record {
-        desk = c.fire.ensures.desk.0 ∙ m.desk;
-        told = m.told;
-        room = m.room;
-        free = m.free;
-        memory = m.memory;
-        goes_on = m.goes_on;
-        stock = m.stock;
-        spare = m.spare;
-        is_stock = m.is_stock;
-        duties = ap (λ (z : View). z.duties) fired.view ∙ duty_goes (view c.args.self.now.desk).duties c.args.message.number (key c.args.message.object c.args.message.method) c.args.members m.duty member;
-        fired = fired;
-      },
-    )
+    taken_minded _ _ _ _ _ (message_older _ _ _ _ _ _ _ fired.came found.own)
+    (c.begin_fired.ensures.taken (view c.args.self.now.desk) (has_fired _ _ _ _ _ c.requires.minds _ _ _ _ found _ c.fire.ensures.desk _ _ fired))
 
 pub returns-in-Lost-clause-again : goal.returns-in-Lost-clause-again
 returns-in-Lost-clause-again g c = λ e.
@@ -46,3 +31,10 @@ returns-in_ok-give_up-in-Spent-clause-over g c = λ e.
           none c.give_up.ensures.same.2 c.give_up.ensures.same.1 c.in_ok-give_up-in-Spent.ensures.done,
       λ z. none,
     )
+
+pub returns-in-Lost-clause-same : goal.returns-in-Lost-clause-same
+returns-in-Lost-clause-same g c = λ e. (refl, ap (λ (z : View). z.kept) c.in-Lost.ensures.firing.same)
+
+pub returns-in_ok-give_up-in-Spent-clause-minded : goal.returns-in_ok-give_up-in-Spent-clause-minded
+returns-in_ok-give_up-in-Spent-clause-minded g c = λ e.
+    inr (inr (ap (λ (x : Desk Parcel). (view x).spent) c.give_up.ensures.same.0 ∙ ap (λ (z : View). z.spent) c.in-Spent.ensures.firing.same))

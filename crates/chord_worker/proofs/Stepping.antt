@@ -1,0 +1,102 @@
+-- What a step leaves behind: what is kept after a firing that was posted or is played, and after a message that was minded.
+use Rattle.std.proofs.Common.{◌≡◌, ℕ, ◌<◌, true, false, not, List, [], ◌∷◌, Option, Some, None, refl, sym, ap, ◌∙◌, subst, ◌⊎◌, inl, inr, ⊎_elim, arith}
+use Rattle.chord_base.specs.declared.event.Entry.{Entry}
+use Rattle.chord_base.specs.declared.event.What.{What}
+use Rattle.chord_base.specs.declared.event.What.TheVariants.{Fired}
+use Rattle.chord_base.specs.declared.value.Object.{Object}
+use Rattle.chord_base.specs.declared.value.Value as value
+use Rattle.chord_base.specs.Machine.{Takes}
+use Rattle.chord_base.specs.Meaning.{Program}
+use Rattle.chord_base.specs.Messages.{Message, pending}
+use Rattle.chord_base.specs.Story.{AllBelow, IsIn}
+use Rattle.chord_base.proofs.Collected.{view_in}
+use Rattle.chord_base.proofs.Firings.{pending_within}
+use Rattle.chord_rule.specs.declared.view.View.{View}
+use Rattle.chord_rule.specs.Kinds.{is_among, entry, left_by, drew, saw_count}
+use Rattle.chord_rule.specs.Numbers.{HasNumber}
+use Rattle.chord_rule.specs.Tells.{CameNext}
+use Rattle.chord_space.specs.declared.space.Space.{Space}
+use Rattle.chord_space.specs.Desks.{view, space_code, space_limits}
+use Rattle.chord_task.specs.declared.parcel.Parcel.{Parcel}
+use Rattle.chord_task.specs.declared.task.Task.{Task}
+use Rattle.chord_task.specs.Standing.{view_of}
+use Rattle.chord_worker.specs.declared.worker.Worker.{Worker}
+use Rattle.chord_worker.specs.Beginning.{HasBegun}
+use Rattle.chord_worker.specs.Playing.{IsNotedAs}
+use Rattle.chord_worker.specs.Sending.{IsSentOff}
+use Rattle.chord_worker.specs.Stepping.{HasNewer, AreAway, HasGoneOn, IsAsBefore, PlaysFiring, HasTakenOn, IsMinded}
+use Rattle.chord_worker.proofs.Parts.{all_kept, among_kept}
+use Rattle.chord_worker.proofs.Uniting.{among_self}
+
+-- ## Entries
+
+-- what stays does not go
+left_apart : (ps es : List Entry) → AreAway ps (left_by ps es)
+left_apart ps es e goes stays =
+    let z : not true ≡ true = ap not (sym (among_self ps e goes)) ∙ among_kept (λ n. not (is_among ps n)) es e.number (among_self (left_by ps es) e stays) in absurd (cc)
+
+-- what is below a number is below each number above it
+all_below : (m n : ℕ) (es : List Entry) → m < n → AllBelow m es → AllBelow n es
+all_below m n [] l b = tt
+all_below m n (e ∷ es) l b = ((let k = b.0 in omega (arith, k, l)), all_below m n es l b.1)
+
+-- ## A firing
+
+-- a member of a firing was pending
+member_pending : (h : List Entry) (o : Object) (js ms : List ℕ) (vs : List value.Value) (n : ℕ) → Takes h o js ms vs → HasNumber n ms → (m : Message) × (pending n h ≡ Some m)
+member_pending h o js [] vs n t k = absurd k
+member_pending h o [] (i ∷ ms) vs n t k = absurd t
+member_pending h o (j ∷ js) (i ∷ ms) vs n t (inl e) = (record { object = o; method = j; arguments = t.0 }, ap (λ (z : ℕ). pending z h) e ∙ t.2)
+member_pending h o (j ∷ js) (i ∷ ms) vs n t (inr k) = member_pending h o js ms t.1 n t.4 k
+
+-- a message is older than the firing that takes it
+pub message_older : (p : Program) (f k : ℕ) (o : Object) (ms : List ℕ) (vs : List value.Value) (m : ℕ) → CameNext p (entry f f (Fired k o ms vs)) → HasNumber m ms → m < f
+message_older p f k o ms vs m came own =
+    let x = member_pending came.0 o came.1.1.comes.1.0 ms vs m came.1.1.comes.1.2 own in
+    let low = pending_within p came.0 m x.0 came.1.0 x.1 in
+    let number = came.1.1.numbered in omega (arith, low, number)
+
+module _ (s : Space Parcel) (w : Worker) (v : View) (f : ℕ) (t : Task) (b : HasBegun s w v f t) where
+  -- a worker without a task plays it
+  pub plays_it : w.task ≡ None → PlaysFiring v.kept w.task (record w { task = Some t }) f
+  plays_it none = record {
+    idle = none;
+    fired = b.begins.0;
+    numbered = b.begins.2;
+    there = view_in (is_among (view_of t).past) b.begins.0 (view w.desk).kept (subst (IsIn b.begins.0) (sym b.both.goes.part) b.begins.1);
+    stay = λ e i. view_in (λ n. not (is_among (view_of t).past n)) e (view w.desk).kept (subst (IsIn e) (sym b.both.left) i);
+  }
+
+-- ## A message that was minded
+
+-- a firing that was posted or is played is one of a message before it
+pub taken_minded : (es : List Entry) (x : Option Task) (w : Worker) (f m : ℕ) → m < f → HasTakenOn es x w f → IsMinded es x w m
+taken_minded es x w f m low (inl same) = inl same
+taken_minded es x w f m low (inr plays) = inr (inl (f, low, plays))
+
+-- what is minded later is minded
+pub minded_since : (es es' : List Entry) (x x' : Option Task) (w : Worker) (m : ℕ) → x' ≡ x → es' ≡ es → IsMinded es' x' w m → IsMinded es x w m
+minded_since es es' x x' w m e k minded = subst (λ (y : Option Task). IsMinded es y w m) e (subst (λ (h : List Entry). IsMinded h x' w m) k minded)
+
+-- ## A step
+
+module _ (before : List Entry) (t : Task) (n : ℕ) (x : Entry) (number : x.number ≡ n) (below : AllBelow n before) (w : Worker) where
+  -- the newest entry is there
+  pub newest_there : IsIn x (view w.desk).kept → HasNewer before (view w.desk).kept
+  newest_there i = (x, i, subst (λ (k : ℕ). AllBelow k before) (sym number) below)
+
+  -- an asynchronous message was minded, whose entry the desk kept
+  pub went_sent : (es : List Entry) (y : Option Task) → es ≡ x ∷ before → IsMinded es y w n → HasGoneOn before t w
+  went_sent es y is (inl same) = inl (newest_there (subst (IsIn x) (sym (same.1 ∙ is)) (inl refl)))
+  went_sent es y is (inr (inl plays)) = inl (newest_there (plays.2.stay x (subst (IsIn x) (sym is) (inl refl))))
+  went_sent es y is (inr (inr told)) = inr (inr told)
+
+  -- a call was minded, whose task was away with it
+  pub went_called : (es : List Entry) → es ≡ left_by (x ∷ (view_of t).past) (x ∷ before) → IsMinded es None w n → HasGoneOn before t w
+  went_called es is (inl same) = inr (inl (same.0, λ e i k. left_apart (x ∷ (view_of t).past) (x ∷ before) e (inr i) (subst (IsIn e) (same.1 ∙ is) k)))
+  went_called es is (inr (inl plays)) =
+      let p = plays.2 in
+      let low = plays.1 in
+      let fired = p.numbered in
+      inl (p.fired, p.there, all_below n p.fired.number before (omega (arith, low, fired)) below)
+  went_called es is (inr (inr told)) = inr (inr told)

@@ -1,0 +1,40 @@
+-- What a step leaves behind: an entry that the desk keeps, a task that is away with its call, or the word that the limit is reached.
+use Rattle.std.specs.Prelude.{◌≡◌, ◌⊎◌, ◌<◌, ℕ, true, List, Option, None}
+use Rattle.chord_base.specs.declared.event.Entry.{Entry}
+use Rattle.chord_base.specs.Story.{AllBelow, IsIn}
+use Rattle.chord_space.specs.Desks.{view}
+use Rattle.chord_task.specs.declared.task.Task.{Task}
+use Rattle.chord_task.specs.Standing.{view_of}
+use Rattle.chord_worker.specs.declared.worker.Worker.{Worker}
+
+-- one of these entries was drawn after all of those
+abbrev pub HasNewer : List Entry → List Entry → Type 0
+HasNewer before now = (e : Entry) × IsIn e now × AllBelow e.number before
+
+-- none of these entries is among those
+abbrev pub AreAway : List Entry → List Entry → Type 0
+AreAway gone now = (e : Entry) → IsIn e gone → IsIn e now → ⊥
+
+-- the worker, whose desk kept these entries, went on with the task: the desk keeps a newer entry, or the task is away with its entries, or the desk was told that the limit is reached
+abbrev pub HasGoneOn : List Entry → Task → Worker → Type 0
+HasGoneOn before t w = HasNewer before (view w.desk).kept ⊎ (((w.task ≡ None) × AreAway (view_of t).past (view w.desk).kept) ⊎ ((view w.desk).spent ≡ true))
+
+-- the worker still plays this task, and its desk keeps these entries
+abbrev pub IsAsBefore : List Entry → Option Task → Worker → Type 0
+IsAsBefore before x w = (w.task ≡ x) × ((view w.desk).kept ≡ before)
+
+-- the worker, which had no task, plays the firing f, whose entry its desk keeps beside all that it kept
+pub record PlaysFiring (before : List Entry) (x : Option Task) (w : Worker) (f : ℕ) : Type 0 where
+  pub idle : x ≡ None
+  pub fired : Entry
+  pub numbered : fired.number ≡ f
+  pub there : IsIn fired (view w.desk).kept
+  pub stay : (e : Entry) → IsIn e before → IsIn e (view w.desk).kept
+
+-- the firing f was posted, or is played
+abbrev pub HasTakenOn : List Entry → Option Task → Worker → ℕ → Type 0
+HasTakenOn before x w f = IsAsBefore before x w ⊎ PlaysFiring before x w f
+
+-- the message m was minded: nothing else is played than before, or a firing that was drawn after m is, or the desk was told that the limit is reached
+abbrev pub IsMinded : List Entry → Option Task → Worker → ℕ → Type 0
+IsMinded before x w m = IsAsBefore before x w ⊎ (((f : ℕ) × (m < f) × PlaysFiring before x w f) ⊎ ((view w.desk).spent ≡ true))
