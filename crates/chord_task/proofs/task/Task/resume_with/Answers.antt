@@ -1,15 +1,12 @@
-use Rattle.std.proofs.Common.{◌≡◌, ◌∷◌, ◌++◌, [], List, ℕ, Some, None, refl, sym, ap, ◌∙◌, subst}
+use Rattle.std.proofs.Common.{◌≡◌, ◌∷◌, [], Some, None, refl, sym, ap, ◌∙◌, subst}
 use Rattle.std.specs.Prelude.{reverse}
 use Rattle.std.proofs.lemmas.List.{reverse-append}
-use Rattle.chord_base.specs.declared.value.Value.{Value}
 use Rattle.chord_base.specs.declared.value.Value.TheVariants as a_value
-use Rattle.chord_base.specs.declared.event.What.TheVariants.{Fired}
 use Rattle.chord_code.specs.Machine.{body_in_block}
 use Rattle.chord_code.specs.declared.parts.ChordLine.{ChordLine}
 use Rattle.chord_vm.specs.Frames.{IsRoomFor, machine_of}
 use Rattle.chord_vm.specs.declared.frames.Frames.{Frames}
 use Rattle.chord_task.specs.Standing.{room_of}
-use Rattle.chord_task.proofs.Standing.{entry}
 use Rattle.chord_task.proofs.Resuming.{opening, task_resumed, spacious_at, with_top, begun_with}
 use Rattle.chord_task.proofs.task.Task.resume_with.Goals as goal
 
