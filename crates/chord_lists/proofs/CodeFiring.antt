@@ -32,13 +32,14 @@ use Rattle.chord_lists.specs.CodeStands.{past_of, views, home_in, home, held_in,
 use Rattle.chord_lists.proofs.Spots.{set_other, end_at, before_end, past_end, one_some, nothing_some, has_first, has_later}
 use Rattle.chord_lists.proofs.CodeTasks.{one_call, resumable}
 use Rattle.chord_lists.proofs.CodeSteps.{stands_merged, task_below, keeps_more, views_set, tasks_set, awaits_set, pending_under}
+use Rattle.chord_lists.proofs.Held.{held_on}
 use Rattle.chord_lists.proofs.Laying.{takes_held}
 
 -- ---- what a firing takes
 
--- the arguments of all messages that a firing takes are held, and they are its values
-pub firing_held : (code : Parts) (limits : Limits) (bodies : CodeBodies) (h : List Entry) (k : ℕ) (o : Object) (ms : List ℕ) (vs : List Value) → StandsAfter code limits bodies h → Fires (code_program code limits) h k o ms vs → AllHeld bodies.tags.items ms × (held_values bodies.tags.items ms ≡ vs)
-firing_held code limits bodies h k o ms vs s f = takes_held bodies.tags.items h o f.0 ms vs s.held f.2
+-- all messages that a firing takes are held, and their arguments are its values
+pub firing_held : (code : Parts) (limits : Limits) (bodies : CodeBodies) (h : List Entry) (k : ℕ) (o : Object) (ms : List ℕ) (vs : List Value) → StandsAfter code limits bodies h → Fires (code_program code limits) h k o ms vs → AllHeld (views bodies.tasks.items) bodies.tags.items ms × (held_values (views bodies.tasks.items) bodies.tags.items ms ≡ vs)
+firing_held code limits bodies h k o ms vs s f = takes_held (views bodies.tasks.items) bodies.tags.items h o f.0 ms vs s.held f.2
 
 -- the messages that a firing takes are different
 pub firing_different : (code : Parts) (limits : Limits) (h : List Entry) (k : ℕ) (o : Object) (ms : List ℕ) (vs : List Value) → IsValid code → Fires (code_program code limits) h k o ms vs → AreDifferent ms
@@ -228,9 +229,9 @@ stands_fired code limits before after between h n k at o ms vs played s f emptie
           λ q m is.
           let old = fired_pending n k o ms vs h q m is in
           let l = pending_under p h q m s.past old.0 in
-          let a = s.held q m old.0 in
           let left : held_at between q ≡ held_at before.tags.items q = emptied.held q ∙ rw old.1 refl in
-          (a.0, ap (λ z. held_at z q) tags ∙ ap held_in (before_end between tag q (λ d. omega (arith, d, l, long))) ∙ left ∙ a.1, a.2, a.3);
+          let kept : held_at after.tags.items q ≡ held_at before.tags.items q = ap (λ z. held_at z q) tags ∙ ap held_in (before_end between tag q (λ d. omega (arith, d, l, long))) ∙ left in
+          held_on (views before.tasks.items) (views after.tasks.items) before.tags.items after.tags.items at e q m grows (homes q l) kept (s.held q m old.0);
       only =
           λ q a is.
           elim (either (length between == q)) [

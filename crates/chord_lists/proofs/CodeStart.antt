@@ -11,7 +11,6 @@ use Rattle.chord_base.proofs.Waits.{either}
 use Rattle.chord_code.specs.declared.parts.Parts.{Parts}
 use Rattle.chord_code.specs.Meaning.{code_program}
 use Rattle.chord_task.specs.declared.task.Task.{Task}
-use Rattle.chord_task.specs.declared.args.Args.{Args}
 use Rattle.chord_task.specs.declared.body.Body.{Body}
 use Rattle.chord_task.specs.Stacks.{IsTask}
 use Rattle.chord_task.specs.Standing.{view_of, body_number, HasRoomIf, IsBodyStack, IsResumable, IsTaskOf, MainBegins}
@@ -87,7 +86,7 @@ first_ready t = record { all = λ i e. by_place i e }
     by_place (suc i) e = (let z : false ≡ true = e in cc)
 
 -- nothing is held when `Main` has just begun
-none_held : (q : ℕ) (a : Args) {A : Type 0} → held_at (first_tag ∷ []) q ≡ Some a → A
+none_held : (q a : ℕ) {A : Type 0} → held_at (first_tag ∷ []) q ≡ Some a → A
 none_held zero a e = nothing_some a e
 none_held (suc q) a e = nothing_some a e
 

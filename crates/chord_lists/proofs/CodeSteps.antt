@@ -32,7 +32,6 @@ use Rattle.chord_code.proofs.Validity.{valid_within, valid_methods}
 use Rattle.chord_code.specs.Within.{IsAskWithin}
 use Rattle.chord_code.proofs.Tame.{code_is_tame, code_asks_within}
 use Rattle.chord_task.specs.declared.task.Task.{Task}
-use Rattle.chord_task.specs.declared.args.Args.{Args}
 use Rattle.chord_task.specs.Stacks.{IsNext, StaysDefined}
 use Rattle.chord_task.specs.Standing.{view_of, IsTaskOf, is_ready_of, waits_of}
 use Rattle.chord_task.proofs.Standing.{seen_under}
@@ -40,8 +39,9 @@ use Rattle.chord_lists.specs.Engine.{IsRunOfLength}
 use Rattle.chord_lists.specs.declared.engine.Turn.{Turn}
 use Rattle.chord_lists.specs.declared.code_bodies.Tag.{Tag}
 use Rattle.chord_lists.specs.declared.code_bodies.CodeBodies.{CodeBodies}
-use Rattle.chord_lists.specs.CodeStands.{past_of, views, home_in, home, held_in, held_at, ready_in, ready_at, AreReady, Awaits, IsHeld, StandsAfter, MayTurn, Turned, twice, tag_of, IsTagged, WentAt}
+use Rattle.chord_lists.specs.CodeStands.{past_of, views, home_in, home, held_in, held_at, ready_in, ready_at, AreReady, Awaits, entry_message, message_there, message_held, StandsAfter, MayTurn, Turned, tag_of, IsTagged, WentAt}
 use Rattle.chord_lists.proofs.Spots.{set_same, set_other, end_at, before_end, one_some, nothing_some}
+use Rattle.chord_lists.proofs.Held.{newest_there, held_on}
 use Rattle.chord_lists.proofs.CodeTasks.{ready_not_waiting, call_waits}
 
 -- ---- the run in its tasks
@@ -254,22 +254,26 @@ more_home tags m at e =
     }
 
 -- one more tag leaves what is held of the entries before it
-more_held : (tags : List Tag) (m : Tag) (n : ℕ) (vs : List Value) → n < length tags → IsHeld tags n vs → IsHeld (tags ++ m ∷ []) n vs
-more_held tags m n vs l k = (k.0, ap held_in (before_end tags m n (λ d. omega (arith, d, l))) ∙ k.1, k.2, k.3)
+pub more_held : (tags : List Tag) (m : Tag) (n : ℕ) → n < length tags → held_at (tags ++ m ∷ []) n ≡ held_at tags n
+more_held tags m n l = ap held_in (before_end tags m n (λ d. omega (arith, d, l)))
 
--- the message of an entry is held twice
-held_new : (tags : List Tag) (at : ℕ) (w : What) (m : Message) → message_of w ≡ Some m → IsHeld (tags ++ tag_of at w ∷ []) (length tags) m.arguments
-held_new tags at w m e = (twice m, ap held_in (end_at tags (tag_of at w)) ∙ ap (λ o. Rattle.std.specs.Prelude.option_map twice o) e, refl, refl)
+-- the message of the newest entry of a task is held
+held_new : (tags : List Tag) (at : ℕ) (v : ℕ → List Entry) (e : Entry) (h : List Entry) (m : Message) → v at ≡ e ∷ h → message_of e.what ≡ Some m → message_held v (tags ++ tag_of at (length h) e.what ∷ []) (length tags) ≡ Some m
+held_new tags at v e h m past is =
+    let tag = end_at tags (tag_of at (length h) e.what) in
+    ap (λ (o : Option Tag). message_there (v (home_in o)) (held_in o)) tag
+    ∙ ap (λ o. message_there (v at) (Rattle.std.specs.Prelude.option_map (λ (_ : Message). length h) o)) is
+    ∙ ap (λ l. entry_message (slice_get (reverse l) (length h))) past ∙ ap entry_message (newest_there e h) ∙ is
 
 -- what is held of an entry is its message
-only_new : (tags : List Tag) (at : ℕ) (w : What) (q : ℕ) (a : Args) → length tags ≡ q → held_at (tags ++ tag_of at w ∷ []) q ≡ Some a → (m : Message) × (message_of w ≡ Some m)
-only_new tags at w q a e is = by_message (message_of w) refl
+only_new : (tags : List Tag) (at place : ℕ) (w : What) (q a : ℕ) → length tags ≡ q → held_at (tags ++ tag_of at place w ∷ []) q ≡ Some a → (m : Message) × (message_of w ≡ Some m)
+only_new tags at place w q a e is = by_message (message_of w) refl
   where
     by_message : (o : Option Message) → message_of w ≡ o → (m : Message) × (message_of w ≡ Some m)
     by_message (Some m) i = (m, i)
     by_message None i =
-        let here : held_at (tags ++ tag_of at w ∷ []) q ≡ None =
-        subst (λ j. held_at (tags ++ tag_of at w ∷ []) j ≡ None) e (ap held_in (end_at tags (tag_of at w)) ∙ ap (λ o. Rattle.std.specs.Prelude.option_map twice o) i)
+        let here : held_at (tags ++ tag_of at place w ∷ []) q ≡ None =
+        subst (λ j. held_at (tags ++ tag_of at place w ∷ []) j ≡ None) e (ap held_in (end_at tags (tag_of at place w)) ∙ ap (λ o. Rattle.std.specs.Prelude.option_map (λ (_ : Message). place) o) i)
         in
         nothing_some a (sym here ∙ is)
 
@@ -305,7 +309,7 @@ noted_body code limits t t' n w u =
     rw b at u.noted.2
 
 -- a task noted its next ask and the entry was tagged: the entry may follow, and the bodies stand after it
-pub went_at : (code : Parts) (limits : Limits) (before after : CodeBodies) (h : List Entry) (n at : ℕ) (t t' : Task) (w : What) (turn : Turn) → IsValid code → IsSound (code_program code limits) → n < 65536 → IsRunOfLength (code_program code limits) n h → StandsAfter code limits before h → slice_get before.tasks.items at ≡ Some t → is_ready_of t ≡ true → Turned code limits t t' n w → IsTagged at w before.tags.items after.tags.items turn → after.tasks.items ≡ set before.tasks.items at t' → after.ready.items ≡ before.ready.items → WentAt (code_program code limits) before.tasks.items at (StandsAfter code limits after) h turn
+pub went_at : (code : Parts) (limits : Limits) (before after : CodeBodies) (h : List Entry) (n at : ℕ) (t t' : Task) (w : What) (turn : Turn) → IsValid code → IsSound (code_program code limits) → n < 65536 → IsRunOfLength (code_program code limits) n h → StandsAfter code limits before h → slice_get before.tasks.items at ≡ Some t → is_ready_of t ≡ true → Turned code limits t t' n w → IsTagged at (length (view_of t).past) w before.tags.items after.tags.items turn → after.tasks.items ≡ set before.tasks.items at t' → after.ready.items ≡ before.ready.items → WentAt (code_program code limits) before.tasks.items at (StandsAfter code limits after) h turn
 went_at code limits before after h n at t t' w turn valid sound room played s g r u tagged tasks ready =
     let p = code_program code limits in
     let v = views before.tasks.items in
@@ -327,10 +331,12 @@ went_at code limits before after h n at t t' w turn valid sound room played s g 
     let within : IsWhatWithin w = what_within h w u.next.own played.within (omega (arith, number, room)) among fits in
     let note = noted_body code limits t t' n w u in
     let long : length before.tags.items ≡ n = s.tagged ∙ played.so_long in
+    let tag : Tag = tag_of at (length (view_of t).past) w in
     let one : OneMore before.tags.items after.tags.items (length h) at =
     subst (λ k. OneMore before.tags.items after.tags.items k at) s.tagged
-    (subst (λ x. OneMore before.tags.items x (length before.tags.items) at) (sym tagged.tags) (more_home before.tags.items (tag_of at w) at refl))
+    (subst (λ x. OneMore before.tags.items x (length before.tags.items) at) (sym tagged.tags) (more_home before.tags.items tag at refl))
     in
+    let grows : (i : ℕ) → grown v at e i ≡ views after.tasks.items i = λ i. views_set before.tasks.items at t' t e g note i ∙ ap (λ x. views x i) (sym tasks) in
     record {
       entry = e;
       made =
@@ -340,7 +346,7 @@ went_at code limits before after h n at t t' w turn valid sound room played s g 
             after =
                 record {
                   past = past;
-                  keeps = λ i. keeps_more p before.tags.items after.tags.items v h e at s.past number one s.keeps i ∙ views_set before.tasks.items at t' t e g note i ∙ ap (λ x. views x i) (sym tasks);
+                  keeps = λ i. keeps_more p before.tags.items after.tags.items v h e at s.past number one s.keeps i ∙ grows i;
                   tasks = subst (λ x. (i : ℕ) (y : Task) → slice_get x i ≡ Some y → IsTaskOf code limits y) (sym tasks) (tasks_set code limits before.tasks.items at t' t g u.task s.tasks);
                   ready = subst (λ x. AreReady x (reverse after.ready.items)) (sym tasks) (subst (λ (x : List ℕ). AreReady (set before.tasks.items at t') (reverse x)) (sym ready) (ready_set before.tasks.items at t' t (reverse before.ready.items) g r s.ready));
                   calls =
@@ -362,24 +368,28 @@ went_at code limits before after h n at t t' w turn valid sound room played s g 
                       ]);
                   held =
                       λ q m is.
-                      subst (λ x. IsHeld x q m.arguments) (sym tagged.tags)
-                      (elim (either (n == q)) [
-                        | inl y ↦ (let i = eqb-true n q y in subst (λ k. IsHeld (before.tags.items ++ tag_of at w ∷ []) k m.arguments) (long ∙ i) (held_new before.tags.items at w m (rw y at is)))
+                      elim (either (n == q)) [
+                        | inl y ↦
+                            (let i : length before.tags.items ≡ q = long ∙ eqb-true n q y in
+                            let here : views after.tasks.items at ≡ e ∷ (view_of t).past = ap (λ x. views x at) tasks ∙ ap past_of (set_same before.tasks.items at t' t g) ∙ note in
+                            subst (λ x. message_held (views after.tasks.items) x q ≡ Some m) (sym tagged.tags)
+                            (subst (λ k. message_held (views after.tasks.items) (before.tags.items ++ tag ∷ []) k ≡ Some m) i (held_new before.tags.items at (views after.tasks.items) e (view_of t).past m here (rw y at is))))
                         | inr o ↦
                             (let old : pending q h ≡ Some m = rw (o, own_members w u.next.own) at is in
                             let l = pending_under p h q m s.past old in
-                            more_held before.tags.items (tag_of at w) q m.arguments (omega (arith, l, s.tagged)) (s.held q m old))
-                      ]);
+                            let kept : held_at after.tags.items q ≡ held_at before.tags.items q = ap (λ z. held_at z q) tagged.tags ∙ more_held before.tags.items tag q (omega (arith, l, s.tagged)) in
+                            held_on v (views after.tasks.items) before.tags.items after.tags.items at e q m grows (one.old q l) kept (s.held q m old))
+                      ];
                   only =
                       λ q a is.
                       elim (either (n == q)) [
-                        | inl y ↦ (let x = only_new before.tags.items at w q a (omega (arith, long, eqb-true n q y)) (ap (λ z. held_at z q) (sym tagged.tags) ∙ is) in (x.0, rw y x.1))
+                        | inl y ↦ (let x = only_new before.tags.items at (length (view_of t).past) w q a (omega (arith, long, eqb-true n q y)) (ap (λ z. held_at z q) (sym tagged.tags) ∙ is) in (x.0, rw y x.1))
                         | inr o ↦
                             (let apart : length before.tags.items ≡ q → ⊥ = λ d. eqb-false n q o (omega (arith, d, long)) in
-                            let x = s.only q a (sym (ap held_in (before_end before.tags.items (tag_of at w) q apart)) ∙ ap (λ z. held_at z q) (sym tagged.tags) ∙ is) in
+                            let x = s.only q a (sym (ap held_in (before_end before.tags.items tag q apart)) ∙ ap (λ z. held_at z q) (sym tagged.tags) ∙ is) in
                             (x.0, rw (o, own_members w u.next.own) x.1))
                       ];
-                  tagged = ap length tagged.tags ∙ length-append before.tags.items (tag_of at w ∷ []) ∙ omega (arith, s.tagged);
+                  tagged = ap length tagged.tags ∙ length-append before.tags.items (tag ∷ []) ∙ omega (arith, s.tagged);
                   few = (let i = ap length tasks in let k = length-set before.tasks.items at t' in omega (arith, i, k, s.few));
                 };
             no_firing = own_members w u.next.own;

@@ -20,18 +20,18 @@ use Rattle.chord_base.proofs.Final.{own_comes, final_when}
 use Rattle.chord_base.proofs.Merged.{merged_asks}
 use Rattle.chord_code.specs.declared.parts.Parts.{Parts}
 use Rattle.chord_code.specs.Meaning.{code_program}
-use Rattle.chord_task.specs.declared.args.Args.{Args}
 use Rattle.chord_task.proofs.Asking.{ready_can}
 use Rattle.chord_lists.specs.Engine.{main_begun, fired, IsRunOfLength}
 use Rattle.chord_lists.specs.declared.code_bodies.Tag.{Tag}
 use Rattle.chord_lists.specs.declared.code_bodies.CodeBodies.{CodeBodies}
 use Rattle.chord_lists.specs.Bag.{Address, address_to, HasMessages, Lists}
-use Rattle.chord_lists.specs.CodeStands.{past_of, views, held_at, ready_at, StandsAfter}
+use Rattle.chord_lists.specs.CodeStands.{past_of, views, home, held_at, ready_at, StandsAfter}
 use Rattle.chord_lists.specs.CodeGoes.{IsNoted, message_by, AreTagged, CanFire, FiresAt, LacksAt}
 use Rattle.chord_lists.proofs.Bags.{lists_none, lists_on, lists_more, message_to}
 use Rattle.chord_lists.proofs.Taking.{lacks_fires}
 use Rattle.chord_lists.proofs.PendingEntries.{pending_entry}
 use Rattle.chord_lists.proofs.Spots.{one_some, nothing_some}
+use Rattle.chord_lists.proofs.Held.{held_place}
 use Rattle.chord_lists.proofs.CodeSteps.{stands_merged, ready_task}
 use Rattle.chord_lists.proofs.CodeOver.{none_asks}
 
@@ -171,7 +171,7 @@ pending_past h i w l = by_pending (pending i h) refl
 pub lists_all : (h : List Entry) (n : ℕ) (index : Address → List ℕ) → AreWithin h → n ≡ length h → Lists (early n (λ i. pending i h)) n index → Lists (λ i. pending i h) n index
 lists_all h n index w e s = subst (λ f. Lists f n index) (λ z i. early_all n (λ j. pending j h) i (λ l. pending_past h i w (omega (arith, e, l))) z) s
 
--- an entry whose arguments are not held is not pending
+-- an entry whose place is not held is not pending
 pub not_held : (tags : List Tag) (h : List Entry) (n : ℕ) → AreTagged tags h → held_at tags n ≡ None → pending n h ≡ None
 not_held tags h n a e = by_pending (pending n h) refl
   where
@@ -179,8 +179,8 @@ not_held tags h n a e = by_pending (pending n h) refl
     by_pending None i = i
     by_pending (Some m) i = (let k = a.held n m i in nothing_some k.0 (sym e ∙ k.1))
 
--- and one whose arguments are held is
-pub is_held : (tags : List Tag) (es : List Entry) (n : ℕ) (x : Args) (e : Entry) → AreTagged tags (reverse es) → held_at tags n ≡ Some x → slice_get es n ≡ Some e → (m : Message) × (pending n (reverse es) ≡ Some m) × (message_of e.what ≡ Some m)
+-- and one whose place is held is
+pub is_held : (tags : List Tag) (es : List Entry) (n x : ℕ) (e : Entry) → AreTagged tags (reverse es) → held_at tags n ≡ Some x → slice_get es n ≡ Some e → (m : Message) × (pending n (reverse es) ≡ Some m) × (message_of e.what ≡ Some m)
 is_held tags es n x e a i g =
     let m = a.only n x i in
     let y = pending_entry (reverse es) n m.0 a.within m.1 in
@@ -188,7 +188,7 @@ is_held tags es n x e a i g =
     (m.0, m.1, ap (λ (z : Entry). message_of z.what) (sym same) ∙ y.2)
 
 -- one more number
-pub lists_next : (tags : List Tag) (es : List Entry) (n : ℕ) (e : Entry) (old new : Address → List ℕ) → AreTagged tags (reverse es) → slice_get es n ≡ Some e → (o : Option Args) → held_at tags n ≡ o → IsNoted n (message_by o e.what) old new → Lists (early n (λ i. pending i (reverse es))) n old → Lists (early (n + 1) (λ i. pending i (reverse es))) (n + 1) new
+pub lists_next : (tags : List Tag) (es : List Entry) (n : ℕ) (e : Entry) (old new : Address → List ℕ) → AreTagged tags (reverse es) → slice_get es n ≡ Some e → (o : Option ℕ) → held_at tags n ≡ o → IsNoted n (message_by o e.what) old new → Lists (early n (λ i. pending i (reverse es))) n old → Lists (early (n + 1) (λ i. pending i (reverse es))) (n + 1) new
 lists_next tags es n e old new a g None i p s =
     subst (λ index. Lists (early (n + 1) (λ j. pending j (reverse es))) (n + 1) index) (λ z k. sym (p k) z)
     (lists_pass (λ j. pending j (reverse es)) n old s (not_held tags (reverse es) n a i))
@@ -196,9 +196,9 @@ lists_next tags es n e old new a g (Some x) i p s =
     let m = is_held tags es n x e a i g in
     lists_noted (λ j. pending j (reverse es)) n old new m.0 s m.1 (subst (λ o. IsNoted n o old new) m.2 p)
 
--- where the bodies stand, the tags hold the arguments of exactly the pending messages
+-- where the bodies stand, the tags hold the places of exactly the pending messages
 pub stands_tagged : (code : Parts) (limits : Limits) (bodies : CodeBodies) (h : List Entry) → StandsAfter code limits bodies h → AreWithin h → AreTagged bodies.tags.items h
-stands_tagged code limits bodies h s w = record { within = w; held = s.held; only = s.only; tagged = s.tagged }
+stands_tagged code limits bodies h s w = record { within = w; held = λ q m e. (let k = held_place (views bodies.tasks.items (home bodies.tags.items q)) (held_at bodies.tags.items q) m (s.held q m e) in (k.0, k.1)); only = s.only; tagged = s.tagged }
 
 -- ---- chords
 

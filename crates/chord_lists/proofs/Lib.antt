@@ -11,6 +11,7 @@ pub mod Gathering
 pub mod CodeStart
 pub mod CodeOver
 pub mod Laying
+pub mod Held
 pub mod CodeFiring
 pub mod CodeReplay
 pub mod Going

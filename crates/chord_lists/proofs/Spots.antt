@@ -38,14 +38,15 @@ past_end [] i l = refl
 past_end (x ∷ xs) zero l = absurd (omega (arith, l))
 past_end (x ∷ xs) (suc i) l = past_end xs i (omega (arith, l))
 
+-- a place within a list has an item
+pub at_place : {A : Type 0} (xs : List A) (i : ℕ) (d : A) → i < length xs → slice_get xs i ≡ Some (get_or xs i d)
+at_place [] i d l = absurd (omega (arith, l))
+at_place (x ∷ xs) zero d l = refl
+at_place (x ∷ xs) (suc i) d l = at_place xs i d (omega (arith, l))
+
 -- an item that `get` found is there
 pub got : {A : Type 0} (xs : List A) (i : ℕ) (r : A) → i < length xs → r ≡ get_or xs i r → slice_get xs i ≡ Some r
 got xs i r l e = at_place xs i r l ∙ ap Some (sym e)
-  where
-    at_place : {A : Type 0} (xs : List A) (i : ℕ) (d : A) → i < length xs → slice_get xs i ≡ Some (get_or xs i d)
-    at_place [] i d l = absurd (omega (arith, l))
-    at_place (x ∷ xs) zero d l = refl
-    at_place (x ∷ xs) (suc i) d l = at_place xs i d (omega (arith, l))
 
 -- a place holds one thing
 pub one_some : {A : Type 0} (x y : A) (o : Option A) → o ≡ Some x → o ≡ Some y → x ≡ y

@@ -8,26 +8,25 @@ use Rattle.chord_base.specs.Meaning.{Program}
 use Rattle.chord_base.specs.Messages.{Message, message_of, pending}
 use Rattle.chord_base.specs.Machine.{Fires}
 use Rattle.chord_base.specs.Bounds.{AreWithin}
-use Rattle.chord_task.specs.declared.args.Args.{Args}
 use Rattle.chord_lists.specs.declared.code_bodies.Tag.{Tag}
 use Rattle.chord_lists.specs.Bag.{Address, address_of, HasMessages, LacksAMessage, IsPushed}
-use Rattle.chord_lists.specs.CodeStands.{held_at, IsHeld}
+use Rattle.chord_lists.specs.CodeStands.{held_at}
 
 -- the message of this number came, if there is one
 abbrev pub IsNoted : ℕ → Option Message → (Address → List ℕ) → (Address → List ℕ) → Type 0
 IsNoted n None old new = (k : Address) → new k ≡ old k
 IsNoted n (Some m) old new = IsPushed (address_of m) n old new
 
--- the message of an entry whose arguments are held
-abbrev pub message_by : Option Args → What → Option Message
+-- the message of an entry whose place is held
+abbrev pub message_by : Option ℕ → What → Option Message
 message_by None w = None
-message_by (Some a) w = message_of w
+message_by (Some place) w = message_of w
 
--- the tags hold the arguments of exactly the pending messages
+-- the tags hold the places of exactly the pending messages
 pub record AreTagged (tags : List Tag) (h : List Entry) : Type 0 where
   pub within : AreWithin h
-  pub held : (q : ℕ) (m : Message) → pending q h ≡ Some m → IsHeld tags q m.arguments
-  pub only : (q : ℕ) (a : Args) → held_at tags q ≡ Some a → (m : Message) × (pending q h ≡ Some m)
+  pub held : (q : ℕ) (m : Message) → pending q h ≡ Some m → (place : ℕ) × (held_at tags q ≡ Some place)
+  pub only : (q place : ℕ) → held_at tags q ≡ Some place → (m : Message) × (pending q h ≡ Some m)
   pub tagged : length tags ≡ length h
 
 -- some chord may fire

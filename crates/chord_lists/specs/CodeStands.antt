@@ -1,5 +1,5 @@
--- What the bodies of a run of a code are after a history: tasks, in whose pasts the entries stand; where each entry stands; and what
--- the pending messages carry.
+-- What the bodies of a run of a code are after a history: tasks, in whose pasts the entries stand; and where each entry and
+-- each pending message stands.
 use Rattle.std.specs.Global.{Vec}
 use Rattle.std.specs.Prelude.{is_none, set, ◌≡◌, ℕ, ◌≤◌, ◌==◌, List, [], ◌∷◌, ◌++◌, reverse, length, Bool, true, false, Option, Some, None, slice_get, option_map, if◌then◌else◌}
 use Rattle.chord_base.specs.declared.event.Entry.{Entry}
@@ -17,7 +17,6 @@ use Rattle.chord_base.specs.Printed.{is_end}
 use Rattle.chord_code.specs.declared.parts.Parts.{Parts}
 use Rattle.chord_code.specs.Meaning.{code_program}
 use Rattle.chord_task.specs.declared.task.Task.{Task}
-use Rattle.chord_task.specs.declared.args.Args.{Args}
 use Rattle.chord_task.specs.Stacks.{TaskView, IsNext, StaysDefined, task_noted}
 use Rattle.chord_task.specs.Standing.{view_of, IsTaskOf, is_ready_of, waits_of}
 use Rattle.chord_lists.specs.Engine.{IsRunOfLength, Made}
@@ -46,13 +45,13 @@ home_in (Some m) = m.task
 abbrev pub home : List Tag → ℕ → ℕ
 home tags n = home_in (slice_get tags n)
 
--- what is held of the message of a number
-abbrev pub held_in : Option Tag → Option Args
+-- where the pending message of a number stands in the past of its task
+abbrev pub held_in : Option Tag → Option ℕ
 held_in None = None
 held_in (Some m) = m.held
 
--- what is held of the message of this number
-abbrev pub held_at : List Tag → ℕ → Option Args
+-- where the pending message of this number stands in the past of its task
+abbrev pub held_at : List Tag → ℕ → Option ℕ
 held_at tags n = held_in (slice_get tags n)
 
 -- ## Ready tasks
@@ -83,23 +82,33 @@ pub record AreReady (tasks : List Task) (ready : List ℕ) : Type 0 where
 abbrev pub Awaits : List Task → ℕ → ℕ → Type 0
 Awaits tasks q i = (t : Task) × (slice_get tasks i ≡ Some t) × (waits_of q t ≡ true)
 
--- ## Arguments
+-- ## Messages
 
--- these arguments are held twice
-abbrev pub IsHeld : List Tag → ℕ → List Value → Type 0
-IsHeld tags n vs = (a : Args) × (held_at tags n ≡ Some a) × (a.first ≡ vs) × (a.second ≡ vs)
+-- the message of an entry, if there is an entry
+abbrev pub entry_message : Option Entry → Option Message
+entry_message None = None
+entry_message (Some e) = message_of e.what
+
+-- the message at a place of a past, which is counted from the oldest entry
+abbrev pub message_there : List Entry → Option ℕ → Option Message
+message_there h None = None
+message_there h (Some place) = entry_message (slice_get (reverse h) place)
+
+-- the pending message of this number, as it stands in what the places keep
+abbrev pub message_held : (ℕ → List Entry) → List Tag → ℕ → Option Message
+message_held view tags n = message_there (view (home tags n)) (held_at tags n)
 
 -- ## The whole
 
--- what the bodies are after a history: its entries stand in the pasts of tasks, each where its tag says; each pending call has its caller, and each pending message its arguments
+-- what the bodies are after a history: its entries stand in the pasts of tasks, each where its tag says; each pending call has its caller, and the tag of each pending message says where it stands
 pub record StandsAfter (code : Parts) (limits : Limits) (bodies : CodeBodies) (h : List Entry) : Type 0 where
   pub past : IsPast (code_program code limits) h
   pub keeps : (i : ℕ) → kept (λ n. home bodies.tags.items n == i) h ≡ views bodies.tasks.items i
   pub tasks : (i : ℕ) (t : Task) → slice_get bodies.tasks.items i ≡ Some t → IsTaskOf code limits t
   pub ready : AreReady bodies.tasks.items (reverse bodies.ready.items)
   pub calls : (q : ℕ) (m : Message) → pending q h ≡ Some m → (code_program code limits).is_sync m.object.class m.method ≡ true → Awaits bodies.tasks.items q (home bodies.tags.items q)
-  pub held : (q : ℕ) (m : Message) → pending q h ≡ Some m → IsHeld bodies.tags.items q m.arguments
-  pub only : (q : ℕ) (a : Args) → held_at bodies.tags.items q ≡ Some a → (m : Message) × (pending q h ≡ Some m)
+  pub held : (q : ℕ) (m : Message) → pending q h ≡ Some m → message_held (views bodies.tasks.items) bodies.tags.items q ≡ Some m
+  pub only : (q place : ℕ) → held_at bodies.tags.items q ≡ Some place → (m : Message) × (pending q h ≡ Some m)
   pub tagged : length bodies.tags.items ≡ length h
   pub few : length bodies.tasks.items ≤ length h
 
@@ -125,13 +134,9 @@ HasTurned code limits before after n = (w : What) × Turned code limits before a
 abbrev pub IsNewest : List Task → ℕ → Type 0
 IsNewest tasks at = (t : Task) × (e : Entry) × (h : List Entry) × (slice_get tasks at ≡ Some t) × ((view_of t).past ≡ e ∷ h)
 
--- the arguments of a message, twice
-abbrev pub twice : Message → Args
-twice m = record { first = m.arguments; second = m.arguments }
-
--- what is kept of an entry of a task
-abbrev pub tag_of : ℕ → What → Tag
-tag_of at w = record { task = at; held = option_map twice (message_of w) }
+-- what is kept of an entry of a task, which stands at this place of its past
+abbrev pub tag_of : ℕ → ℕ → What → Tag
+tag_of at place w = record { task = at; held = option_map (λ _. place) (message_of w) }
 
 -- what an entry with this message, or none, is to the engine
 abbrev pub turn_by : Option Message → Turn
@@ -142,9 +147,9 @@ turn_by (Some m) = a_turn.Message m.object m.method
 abbrev pub turn_of : What → Turn
 turn_of w = turn_by (message_of w)
 
--- an entry of this task got its tag, and the engine is told what it is
-pub record IsTagged (at : ℕ) (w : What) (before after : List Tag) (turn : Turn) : Type 0 where
-  pub tags : after ≡ before ++ tag_of at w ∷ []
+-- an entry of this task, at this place of its past, got its tag, and the engine is told what it is
+pub record IsTagged (at place : ℕ) (w : What) (before after : List Tag) (turn : Turn) : Type 0 where
+  pub tags : after ≡ before ++ tag_of at place w ∷ []
   pub is : turn ≡ turn_of w
 
 -- the task of this place has made an entry, its next ask
@@ -191,33 +196,39 @@ pub record IsNewestTaken (before : List (Vec Entry)) (at : ℕ) (e : Entry) (aft
 
 -- ## What a firing takes
 
--- the arguments of the message are held, twice
-abbrev pub IsHeldAt : List Tag → ℕ → Type 0
-IsHeldAt tags n = (a : Args) × (held_at tags n ≡ Some a) × (a.second ≡ a.first)
+-- the message is held
+abbrev pub IsHeldAt : (ℕ → List Entry) → List Tag → ℕ → Type 0
+IsHeldAt view tags n = (m : Message) × (message_held view tags n ≡ Some m)
 
--- the arguments of each of these messages are held, twice
-abbrev pub AllHeld : List Tag → List ℕ → Type 0
-AllHeld tags [] = Unit {0}
-AllHeld tags (n ∷ ns) = IsHeldAt tags n × AllHeld tags ns
+-- each of these messages is held
+abbrev pub AllHeld : (ℕ → List Entry) → List Tag → List ℕ → Type 0
+AllHeld view tags [] = Unit {0}
+AllHeld view tags (n ∷ ns) = IsHeldAt view tags n × AllHeld view tags ns
 
--- the arguments that are held, and none where none are
-abbrev pub first_in : Option Args → List Value
-first_in None = []
-first_in (Some a) = a.first
+-- the arguments of a message, and none where there is none
+abbrev pub arguments_held : Option Message → List Value
+arguments_held None = []
+arguments_held (Some m) = m.arguments
 
 -- the arguments of these messages, one after another
-abbrev pub held_values : List Tag → List ℕ → List Value
-held_values tags [] = []
-held_values tags (n ∷ ns) = first_in (held_at tags n) ++ held_values tags ns
+abbrev pub held_values : (ℕ → List Entry) → List Tag → List ℕ → List Value
+held_values view tags [] = []
+held_values view tags (n ∷ ns) = arguments_held (message_held view tags n) ++ held_values view tags ns
 
--- the arguments of this message were taken
-pub record Emptied (n : ℕ) (before : List Tag) (a : Args) (after : List Tag) : Type 0 where
-  pub was : held_at before n ≡ Some a
+-- this message was taken from its place
+pub record Emptied (n : ℕ) (before : List Tag) (place : ℕ) (after : List Tag) : Type 0 where
+  pub was : held_at before n ≡ Some place
   pub held : (i : ℕ) → held_at after i ≡ (if n == i then None else held_at before i)
   pub homes : (i : ℕ) → home after i ≡ home before i
   pub tagged : length after ≡ length before
 
--- the arguments of these messages were taken
+-- this message was taken, and its arguments were added to the values
+pub record HasAdded (view : ℕ → List Entry) (n : ℕ) (before : List Tag) (old : List Value) (after : List Tag) (new : List Value) : Type 0 where
+  pub place : ℕ
+  pub emptied : Emptied n before place after
+  pub values : new ≡ old ++ arguments_held (message_held view before n)
+
+-- these messages were taken
 pub record EmptiedAll (ns : List ℕ) (before after : List Tag) : Type 0 where
   pub held : (i : ℕ) → held_at after i ≡ (if has i ns then None else held_at before i)
   pub homes : (i : ℕ) → home after i ≡ home before i

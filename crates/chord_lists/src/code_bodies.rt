@@ -1,35 +1,32 @@
-//! The bodies of a run of a code: tasks, where each entry stands, and what the pending messages carry.
+//! The bodies of a run of a code: tasks, and where each entry and each pending message stands.
 #![tactic(auto)]
 
 ghost use Rattle.std.specs.Prelude.{◌^◌, ◌≡◌, ◌<◌, ◌≤◌, ℕ, ◌++◌, ◌∷◌, [], List, reverse, length, IfOk, OnOk, IfSome, IfNone, Some, None, true, false, slice_get};
 ghost use Rattle.chord_base.specs.Story.{IsOwn, IsSound};
 ghost use Rattle.chord_base.specs.declared.event.Entry.{Entry};
 ghost use Rattle.chord_base.specs.Bodies.{served_among};
-ghost use Rattle.chord_base.specs.Messages.{AreDifferent};
+ghost use Rattle.chord_base.specs.Messages.{AreDifferent, Message};
 ghost use Rattle.chord_code.specs.Meaning.{code_program, method_is_sync};
-ghost use Rattle.chord_vm.specs.Frames.{laid};
-ghost use Rattle.chord_task.specs.Arguments.{for_entry, AreTwice};
 ghost use Rattle.chord_task.specs.declared.task.Task.{Task as T};
 ghost use Rattle.chord_task.specs.Standing.{view_of, IsTaskOf, is_ready_of};
 ghost use Rattle.chord_lists.specs.Engine.{main_begun, IsRunOfLength, MayGoOn, Went, MayBegin, Began, Ends};
-ghost use Rattle.chord_lists.specs.CodeStands.{StandsAfter, AreReady, ready_at, over_at, MayTurn, HasTurned, IsNewest, IsTagged, WentAt, AreLeft, IsLeft, HasNewest, IsNewestTaken, IsHeldAt, AllHeld, held_values, Emptied, EmptiedAll, home, Serves, FitsAt, MayReplay, Replayed};
+ghost use Rattle.chord_lists.specs.CodeStands.{StandsAfter, AreReady, ready_at, over_at, MayTurn, HasTurned, IsNewest, IsTagged, WentAt, AreLeft, IsLeft, HasNewest, IsNewestTaken, views, held_at, entry_message, arguments_held, IsHeldAt, AllHeld, held_values, Emptied, EmptiedAll, HasAdded, home, Serves, FitsAt, MayReplay, Replayed};
 
 use crate::engine::Turn;
 use chord_base::event::{Entry, Limits, What};
-use chord_base::hand::Hand;
 use chord_base::journal::Journal;
 use chord_base::members::Members;
-use chord_base::value::{Object, Values};
+use chord_base::value::{Object, Value, Values};
 use chord_code::code::Code;
-use chord_task::args::Args;
 use chord_task::task::Task;
+use chord_vm::frames::lay_copies;
 use std::alloc::{AllocError, Global};
 
-/// What is kept of an entry: the task in whose past it stands, and the arguments of a message that no firing has taken.
+/// What is kept of an entry: the task in whose past it stands, and, of a message that no firing has taken, its place there.
 #[derive(Drop)]
 pub struct Tag {
     pub task: u32,
-    pub held: Option<Args>,
+    pub held: Option<usize>,
 }
 
 /// The bodies of a run of a code: the tasks, the places of those that may go on, and a tag for each entry.
@@ -63,49 +60,30 @@ fn take_turn(
     Ok(())
 }
 
-/// A copy of these values, without room for more.
-fn copy_of(alloc: Global, values: &Values) -> Result<Values, AllocError>
-    ensures { IfOk result (λ v. v ≡ values.now) }
-{
-    let items = values.items();
-    let mut copy = Vec::with_capacity(alloc, items.len())?;
-    for value in items {
-        copy.push_reserved(value.copied(alloc)?);
-    }
-    Ok(Values::of_items(copy))
-}
-
-/// Marks a message of this task: its arguments are held twice.
+/// Marks a message of this task, at this place of its past.
 fn tag_message(
-    alloc: Global,
     tags: &mut Vec<Tag>,
     at: u32,
+    place: usize,
     object: Object,
     method: u8,
-    arguments: &Values,
 ) -> Result<Turn, AllocError>
-    ensures { IfOk result (λ turn. (turn ≡ Turn.Message object method) × (tags.new.items ≡ tags.old.items ++ record { task = at; held = Some (record { first = arguments.now; second = arguments.now }) } ∷ [])) }
+    ensures { IfOk result (λ turn. (turn ≡ Turn.Message object method) × (tags.new.items ≡ tags.old.items ++ record { task = at; held = Some place } ∷ [])) }
 {
-    let first = copy_of(alloc, arguments)?;
-    let second = copy_of(alloc, arguments)?;
     tags.push(Tag {
         task: at,
-        held: Some(Args { first, second }),
+        held: Some(place),
     })?;
     Ok(Turn::Message(object, method))
 }
 
-/// Marks an entry of this task.
-fn tag_entry(alloc: Global, tags: &mut Vec<Tag>, at: u32, what: &What) -> Result<Turn, AllocError>
-    ensures { IfOk result (λ turn. IsTagged at what.now tags.old.items tags.new.items turn) }
+/// Marks an entry of this task, at this place of its past.
+fn tag_entry(tags: &mut Vec<Tag>, at: u32, place: usize, what: &What) -> Result<Turn, AllocError>
+    ensures { IfOk result (λ turn. IsTagged at place what.now tags.old.items tags.new.items turn) }
 {
     match what {
-        What::Sent(object, method, arguments) => {
-            tag_message(alloc, tags, at, *object, *method, arguments)
-        }
-        What::Called(object, method, arguments) => {
-            tag_message(alloc, tags, at, *object, *method, arguments)
-        }
+        What::Sent(object, method, _) => tag_message(tags, at, place, *object, *method),
+        What::Called(object, method, _) => tag_message(tags, at, place, *object, *method),
         _ => {
             tags.push(Tag {
                 task: at,
@@ -117,21 +95,17 @@ fn tag_entry(alloc: Global, tags: &mut Vec<Tag>, at: u32, what: &What) -> Result
 }
 
 /// Marks the newest entry of the task of this place.
-fn tag_newest(
-    alloc: Global,
-    tasks: &[Task],
-    tags: &mut Vec<Tag>,
-    at: u32,
-) -> Result<Turn, AllocError>
+fn tag_newest(tasks: &[Task], tags: &mut Vec<Tag>, at: u32) -> Result<Turn, AllocError>
     requires { IsNewest tasks.now at }
-    ensures { IfOk result (λ turn. (t : T) (e : Entry) (h : List Entry) → slice_get tasks.now at ≡ Some t → (view_of t).past ≡ e ∷ h → IsTagged at e.what tags.old.items tags.new.items turn) }
+    ensures { IfOk result (λ turn. (t : T) (e : Entry) (h : List Entry) → slice_get tasks.now at ≡ Some t → (view_of t).past ≡ e ∷ h → IsTagged at (length h) e.what tags.old.items tags.new.items turn) }
 {
     match tasks.get(at as usize) {
         None => unreachable!(),
         Some(task) => match task.past.last() {
             None => unreachable!(),
             Some(entry) => {
-                let turn = tag_entry(alloc, tags, at, &entry.what)?;
+                let place = task.past.len().saturating_sub(1);
+                let turn = tag_entry(tags, at, place, &entry.what)?;
                 Ok(turn)
             }
         },
@@ -211,7 +185,7 @@ fn make(
 {
     let _parts = code.parts();
     take_turn(alloc, code, limits, &mut bodies.tasks[at as usize], number)?;
-    let turn = tag_newest(alloc, &bodies.tasks, &mut bodies.tags, at)?;
+    let turn = tag_newest(&bodies.tasks, &mut bodies.tags, at)?;
     keep_over(&bodies.tasks, &mut bodies.over, at)?;
     Ok(turn)
 }
@@ -372,34 +346,6 @@ pub fn served_by(code: &Code, class: u16, methods: &[u8], numbers: &[u32]) -> Op
     None
 }
 
-/// Takes the arguments of the message of this number.
-fn take_held(tags: &mut Vec<Tag>, number: u32) -> Args
-    requires { IsHeldAt tags.old.items number }
-    ensures { Emptied number tags.old.items result tags.new.items }
-{
-    let tag = &mut tags[number as usize];
-    match tag.held.take() {
-        None => unreachable!(),
-        Some(arguments) => arguments,
-    }
-}
-
-/// Takes the arguments of these messages.
-fn take_all_held(tags: &mut Vec<Tag>, members: &[u32]) -> Hand<Args>
-    requires held { AllHeld tags.old.items members.now }
-    requires different { AreDifferent members.now }
-    requires few { length members.now ≤ 8 }
-    ensures values { laid (for_entry result) ≡ held_values tags.old.items members.now }
-    ensures twice { AreTwice result }
-    ensures rest { EmptiedAll members.now tags.old.items tags.new.items }
-{
-    let mut hand = Hand::new();
-    for number in members {
-        hand.put(take_held(tags, *number));
-    }
-    hand
-}
-
 /// The task that keeps the entry of this number.
 fn home_of(tags: &[Tag], number: u32) -> u32
     requires { number < length tags.now }
@@ -409,6 +355,82 @@ fn home_of(tags: &[Tag], number: u32) -> u32
         None => unreachable!(),
         Some(tag) => tag.task,
     }
+}
+
+/// Takes the message of this number, and gives its place.
+fn take_held(tags: &mut Vec<Tag>, number: u32) -> usize
+    requires { (place : ℕ) × (held_at tags.old.items number ≡ Some place) }
+    ensures { Emptied number tags.old.items result tags.new.items }
+{
+    let tag = &mut tags[number as usize];
+    match tag.held.take() {
+        None => unreachable!(),
+        Some(place) => place,
+    }
+}
+
+/// Adds a copy of each of these values.
+fn add_copies(alloc: Global, values: &mut Vec<Value>, more: &[Value]) -> Result<(), AllocError>
+    ensures { OnOk result (values.new.items ≡ values.old.items ++ more.now) }
+{
+    if more.is_empty() {
+        return Ok(());
+    }
+    values.reserve_exact(more.len())?;
+    lay_copies(alloc, values, more)
+}
+
+/// Adds the arguments of the message at this place of a past.
+fn add_arguments(
+    alloc: Global,
+    values: &mut Vec<Value>,
+    past: &[Entry],
+    place: usize,
+) -> Result<(), AllocError>
+    requires { (m : Message) × (entry_message (slice_get past.now place) ≡ Some m) }
+    ensures { OnOk result (values.new.items ≡ values.old.items ++ arguments_held (entry_message (slice_get past.now place))) }
+{
+    match &past[place].what {
+        What::Sent(_, _, arguments) => add_copies(alloc, values, arguments.items()),
+        What::Called(_, _, arguments) => add_copies(alloc, values, arguments.items()),
+        _ => unreachable!(),
+    }
+}
+
+/// Takes the message of this number, and adds its arguments to the values.
+fn take_arguments(
+    alloc: Global,
+    tasks: &[Task],
+    tags: &mut Vec<Tag>,
+    number: u32,
+    values: &mut Vec<Value>,
+) -> Result<(), AllocError>
+    requires { IsHeldAt (views tasks.now) tags.old.items number }
+    ensures { OnOk result (HasAdded (views tasks.now) number tags.old.items values.old.items tags.new.items values.new.items) }
+{
+    let at = home_of(tags, number);
+    let place = take_held(tags, number);
+    add_arguments(alloc, values, &tasks[at as usize].past, place)
+}
+
+/// Takes these messages, and gives their arguments, one after another.
+fn take_all_held(
+    alloc: Global,
+    tasks: &[Task],
+    tags: &mut Vec<Tag>,
+    members: &[u32],
+) -> Result<Values, AllocError>
+    requires held { AllHeld (views tasks.now) tags.old.items members.now }
+    requires different { AreDifferent members.now }
+    requires few { length (held_values (views tasks.now) tags.old.items members.now) ≤ 64 }
+    ensures values { IfOk result (λ values. values ≡ held_values (views tasks.now) tags.old.items members.now) }
+    ensures rest { IfOk result (λ _. EmptiedAll members.now tags.old.items tags.new.items) }
+{
+    let mut values = Vec::new(alloc);
+    for number in members {
+        take_arguments(alloc, tasks, tags, *number, &mut values)?;
+    }
+    Ok(Values::of_items(values))
 }
 
 /// Begins the body of a firing in the task of this place: above the caller that it serves, or where no body is left.
@@ -430,9 +452,9 @@ fn begin_at(
     ensures { IfOk result (λ _. Began (code_program code.now limits.now) (StandsAfter code.now limits.now bodies.old) (StandsAfter code.now limits.now bodies.new) number chord object members) }
 {
     let _parts = code.parts();
-    let arguments = take_all_held(&mut bodies.tags, members.items());
+    let values = take_all_held(alloc, &bodies.tasks, &mut bodies.tags, members.items())?;
     let task = &mut bodies.tasks[at as usize];
-    task.resume(code, number, chord, object, &members, arguments);
+    task.resume_with(alloc, code, number, chord, object, members, values)?;
     bodies.ready.push(at)?;
     bodies.tags.push(Tag {
         task: at,
@@ -468,9 +490,9 @@ fn begin_alone(
 {
     let at = place_after(&bodies.tasks);
     let _parts = code.parts();
-    let arguments = take_all_held(&mut bodies.tags, members.items());
+    let values = take_all_held(alloc, &bodies.tasks, &mut bodies.tags, members.items())?;
     let mut task = Task::spare(alloc, code, limits)?;
-    task.resume(code, number, chord, object, &members, arguments);
+    task.resume_with(alloc, code, number, chord, object, members, values)?;
     bodies.tasks.push(task)?;
     bodies.ready.push(at)?;
     bodies.tags.push(Tag {

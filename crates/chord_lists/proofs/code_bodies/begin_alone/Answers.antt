@@ -1,4 +1,4 @@
-use Rattle.std.proofs.Common.{◌≡◌, ◌∙◌, ◌++◌, ◌∷◌, [], sym, ap, subst, arith, length, reverse, List}
+use Rattle.std.proofs.Common.{◌≡◌, ◌∙◌, ◌++◌, ◌∷◌, [], sym, ap, subst, arith, length, reverse, List, ℕ}
 use Rattle.std.specs.Prelude.{slice_get}
 use Rattle.std.proofs.lemmas.List.{reverse-append}
 use Rattle.chord_base.specs.declared.value.Value.{Value}
@@ -6,10 +6,8 @@ use Rattle.chord_base.specs.declared.event.Entry.{Entry}
 use Rattle.chord_base.specs.Bodies.{served_among}
 use Rattle.chord_code.specs.Meaning.{code_program}
 use Rattle.chord_task.specs.Standing.{view_of, IsTaskOf, MayResume}
-use Rattle.chord_task.specs.Arguments.{for_entry}
-use Rattle.chord_vm.specs.Frames.{laid}
 use Rattle.chord_lists.specs.Engine.{fired}
-use Rattle.chord_lists.specs.CodeStands.{held_values}
+use Rattle.chord_lists.specs.CodeStands.{views, held_values}
 use Rattle.chord_lists.proofs.Spots.{one_some}
 use Rattle.chord_lists.proofs.CodeFiring.{firing_held, firing_different, may_begin, bare_tag, fired_alone}
 use Rattle.chord_lists.proofs.code_bodies.begin_alone.Goals as goal
@@ -21,37 +19,34 @@ place_after-at-requires c =
     let e = ap length c.deref.ensures.value in
     omega (arith, e, l, m.2.so_long, c.requires.room)
 
-pub take_all_held-arguments-requires-clause-held : goal.take_all_held-arguments-requires-clause-held
-take_all_held-arguments-requires-clause-held c =
+pub take_all_held-requires-clause-held : goal.take_all_held-requires-clause-held
+take_all_held-requires-clause-held c =
     let m = c.requires.may in
-    rw c.items.ensures.numbers (firing_held c.args.code.now c.args.limits.now c.args.bodies.now m.0 c.args.chord c.args.object c.args.members m.1 m.3 m.4).0
+    rw (c.items.ensures.numbers, c.deref-2.ensures.value) (firing_held c.args.code.now c.args.limits.now c.args.bodies.now m.0 c.args.chord c.args.object c.args.members m.1 m.3 m.4).0
 
-pub take_all_held-arguments-requires-clause-few : goal.take_all_held-arguments-requires-clause-few
-take_all_held-arguments-requires-clause-few c = (let l = ap length c.items.ensures.numbers in omega (arith, l, c.items.ensures.few))
+pub take_all_held-requires-clause-few : goal.take_all_held-requires-clause-few
+take_all_held-requires-clause-few c =
+    let m = c.requires.may in
+    let held = firing_held c.args.code.now c.args.limits.now c.args.bodies.now m.0 c.args.chord c.args.object c.args.members m.1 m.3 m.4 in
+    let v = views c.args.bodies.now.tasks.items in
+    let few = m.5.3.few_values in
+    let l = ap (λ (ms : List ℕ). length (held_values v c.args.bodies.now.tags.items ms)) c.items.ensures.numbers ∙ ap length held.1 in
+    rw c.deref-2.ensures.value (omega (arith, few, l))
 
-pub take_all_held-arguments-requires-clause-different : goal.take_all_held-arguments-requires-clause-different
-take_all_held-arguments-requires-clause-different c =
+pub take_all_held-requires-clause-different : goal.take_all_held-requires-clause-different
+take_all_held-requires-clause-different c =
     let m = c.requires.may in
     rw c.items.ensures.numbers (firing_different c.args.code.now c.args.limits.now m.0 c.args.chord c.args.object c.args.members m.1 c.parts-parts.ensures.valid m.4)
 
-pub resume-requires-clause-few : goal.resume-requires-clause-few
-resume-requires-clause-few c =
-    let m = c.requires.may in
-    let held = firing_held c.args.code.now c.args.limits.now c.args.bodies.now m.0 c.args.chord c.args.object c.args.members m.1 m.3 m.4 in
-    let first : laid (for_entry c.take_all_held-arguments.result) ≡ m.1 = c.take_all_held-arguments.ensures.values ∙ ap (held_values c.args.bodies.now.tags.items) c.items.ensures.numbers ∙ held.1 in
-    let few = m.5.3.few_values in
-    let l = ap length first in
-    omega (arith, few, l)
-
-pub resume-requires-clause-may : goal.resume-requires-clause-may
-resume-requires-clause-may c =
+pub resume_with-requires-clause-may : goal.resume_with-requires-clause-may
+resume_with-requires-clause-may c =
     let m = c.requires.may in
     let f = m.4 in
     let code = c.args.code.now in
     let limits = c.args.limits.now in
     let serves = ap (λ js. served_among ((code_program code limits).is_sync c.args.object.class) js c.args.members) (one_some f.0 c.requires.call.methods (slice_get ((code_program code limits).chords c.args.object.class) c.args.chord) f.1 c.requires.call.chord) ∙ c.requires.call.is in
     let held = firing_held code limits c.args.bodies.now m.0 c.args.chord c.args.object c.args.members m.1 m.3 m.4 in
-    let first : laid (for_entry c.take_all_held-arguments.result) ≡ m.1 = c.take_all_held-arguments.ensures.values ∙ ap (held_values c.args.bodies.now.tags.items) c.items.ensures.numbers ∙ held.1 in
+    let first : c.in_ok-values.values ≡ m.1 = (rw c.deref-2.ensures.value at c.in_ok-values.ensures.values) ∙ ap (λ (ms : List ℕ). held_values (views c.args.bodies.now.tasks.items) c.args.bodies.now.tags.items ms) c.items.ensures.numbers ∙ held.1 in
     let t = c.in_ok-task.task in
     let spare = c.in_ok-task.ensures in
     subst (λ (vs : List Value). MayResume code t.limits t c.args.number c.args.chord c.args.object c.args.members vs) (sym first)
@@ -63,16 +58,16 @@ returns c =
     let code = c.args.code.now in
     let limits = c.args.limits.now in
     let held = firing_held code limits c.args.bodies.now h c.args.chord c.args.object c.args.members vs s f in
-    let first : laid (for_entry c.take_all_held-arguments.result) ≡ vs = c.take_all_held-arguments.ensures.values ∙ ap (held_values c.args.bodies.now.tags.items) c.items.ensures.numbers ∙ held.1 in
+    let first : c.in_ok-values.values ≡ vs = (rw c.deref-2.ensures.value at c.in_ok-values.ensures.values) ∙ ap (λ (ms : List ℕ). held_values (views c.args.bodies.now.tasks.items) c.args.bodies.now.tags.items ms) c.items.ensures.numbers ∙ held.1 in
     let spare = c.in_ok-task.ensures in
-    let past : (view_of c.resume.new.self).past ≡ fired c.args.number c.args.chord c.args.object c.args.members vs ∷ [] =
-    c.resume.ensures.past ∙ ap (λ (z : List Value). fired c.args.number c.args.chord c.args.object c.args.members z ∷ (view_of c.in_ok-task.task).past) first
+    let past : (view_of c.resume_with.new.self).past ≡ fired c.args.number c.args.chord c.args.object c.args.members vs ∷ [] =
+    c.in_ok-resume_with.ensures.past ∙ ap (λ (z : List Value). fired c.args.number c.args.chord c.args.object c.args.members z ∷ (view_of c.in_ok-task.task).past) first
     ∙ ap (λ (z : List Entry). fired c.args.number c.args.chord c.args.object c.args.members vs ∷ z) spare.past
     in
-    let task = subst (λ l. IsTaskOf code l c.resume.new.self) spare.task.limited c.resume.ensures.task in
+    let task = subst (λ l. IsTaskOf code l c.resume_with.new.self) spare.task.limited c.in_ok-resume_with.ensures.task in
     let at : c.place_after-at.result ≡ length c.args.bodies.now.tasks.items = c.place_after-at.ensures ∙ ap length c.deref.ensures.value in
-    let emptied = rw c.items.ensures.numbers at c.take_all_held-arguments.ensures.rest in
-    fired_alone code limits c.args.bodies.now _ c.take_all_held-arguments.new.tags.items h c.args.number c.args.chord c.args.object c.args.members vs c.resume.new.self played s f emptied task past
+    let emptied = rw c.items.ensures.numbers at c.in_ok-values.ensures.rest in
+    fired_alone code limits c.args.bodies.now _ c.take_all_held.new.tags.items h c.args.number c.args.chord c.args.object c.args.members vs c.resume_with.new.self played s f emptied task past
     c.in_ok-push.ensures.items
     (ap reverse c.in_ok-push-2.ensures.items ∙ reverse-append c.args.bodies.now.ready.items (c.place_after-at.result ∷ []) ∙ ap (λ i. i ∷ reverse c.args.bodies.now.ready.items) at)
-    (c.in_ok-push-3.ensures.items ∙ ap (λ i. c.take_all_held-arguments.new.tags.items ++ bare_tag i ∷ []) at)
+    (c.in_ok-push-3.ensures.items ∙ ap (λ i. c.take_all_held.new.tags.items ++ bare_tag i ∷ []) at)

@@ -1,27 +1,31 @@
-use Rattle.std.proofs.Common.{◌≡◌, ◌∙◌, ◌∷◌, [], refl, sym, ap, subst, arith, length, reverse, Some, List}
+use Rattle.std.proofs.Common.{◌≡◌, ◌∙◌, ◌∷◌, [], refl, sym, ap, subst, arith, length, reverse, Some, List, ℕ}
 use Rattle.std.specs.Prelude.{slice_get}
 use Rattle.std.proofs.lemmas.Option.{get_or_from_slice_get, slice_get_within}
 use Rattle.std.proofs.lemmas.List.{reverse-append}
 use Rattle.chord_base.specs.declared.value.Value.{Value}
 use Rattle.chord_task.specs.declared.task.Task.{Task}
 use Rattle.chord_task.specs.Standing.{view_of, IsTaskOf, MayResume}
-use Rattle.chord_task.specs.Arguments.{for_entry}
-use Rattle.chord_vm.specs.Frames.{laid}
 use Rattle.chord_lists.specs.Engine.{fired}
-use Rattle.chord_lists.specs.CodeStands.{held_values}
+use Rattle.chord_lists.specs.CodeStands.{views, held_values}
 use Rattle.chord_lists.proofs.CodeFiring.{firing_held, firing_different, fired_at, host}
 use Rattle.chord_lists.proofs.code_bodies.begin_at.Goals as goal
 
-pub take_all_held-arguments-requires-clause-held : goal.take_all_held-arguments-requires-clause-held
-take_all_held-arguments-requires-clause-held c =
+pub take_all_held-requires-clause-held : goal.take_all_held-requires-clause-held
+take_all_held-requires-clause-held c =
     let m = c.requires.may in
-    rw c.items.ensures.numbers (firing_held c.args.code.now c.args.limits.now c.args.bodies.now m.0 c.args.chord c.args.object c.args.members m.1 m.3 m.4).0
+    rw (c.items.ensures.numbers, c.deref.ensures.value) (firing_held c.args.code.now c.args.limits.now c.args.bodies.now m.0 c.args.chord c.args.object c.args.members m.1 m.3 m.4).0
 
-pub take_all_held-arguments-requires-clause-few : goal.take_all_held-arguments-requires-clause-few
-take_all_held-arguments-requires-clause-few c = (let l = ap length c.items.ensures.numbers in omega (arith, l, c.items.ensures.few))
+pub take_all_held-requires-clause-few : goal.take_all_held-requires-clause-few
+take_all_held-requires-clause-few c =
+    let m = c.requires.may in
+    let held = firing_held c.args.code.now c.args.limits.now c.args.bodies.now m.0 c.args.chord c.args.object c.args.members m.1 m.3 m.4 in
+    let v = views c.args.bodies.now.tasks.items in
+    let few = m.5.3.few_values in
+    let l = ap (λ (ms : List ℕ). length (held_values v c.args.bodies.now.tags.items ms)) c.items.ensures.numbers ∙ ap length held.1 in
+    rw c.deref.ensures.value (omega (arith, few, l))
 
-pub take_all_held-arguments-requires-clause-different : goal.take_all_held-arguments-requires-clause-different
-take_all_held-arguments-requires-clause-different c =
+pub take_all_held-requires-clause-different : goal.take_all_held-requires-clause-different
+take_all_held-requires-clause-different c =
     let m = c.requires.may in
     rw c.items.ensures.numbers (firing_different c.args.code.now c.args.limits.now m.0 c.args.chord c.args.object c.args.members m.1 c.parts-parts.ensures.valid m.4)
 
@@ -33,17 +37,8 @@ index_mut-task-requires c =
     let l = slice_get_within c.args.bodies.now.tasks.items c.args.at k.task k.there in
     omega (arith, l)
 
-pub resume-requires-clause-few : goal.resume-requires-clause-few
-resume-requires-clause-few c =
-    let m = c.requires.may in
-    let held = firing_held c.args.code.now c.args.limits.now c.args.bodies.now m.0 c.args.chord c.args.object c.args.members m.1 m.3 m.4 in
-    let first : laid (for_entry c.take_all_held-arguments.result) ≡ m.1 = c.take_all_held-arguments.ensures.values ∙ ap (held_values c.args.bodies.now.tags.items) c.items.ensures.numbers ∙ held.1 in
-    let few = m.5.3.few_values in
-    let l = ap length first in
-    omega (arith, few, l)
-
-pub resume-requires-clause-task : goal.resume-requires-clause-task
-resume-requires-clause-task c =
+pub resume_with-requires-clause-task : goal.resume_with-requires-clause-task
+resume_with-requires-clause-task c =
     let m = c.requires.may in
     let f = m.4 in
     let code = c.args.code.now in
@@ -53,8 +48,8 @@ resume-requires-clause-task c =
     let e : c.index_mut-task.result.now ≡ k.task = c.index_mut-task.ensures.value ∙ get_or_from_slice_get c.args.bodies.now.tasks.items c.args.at k.task c.index_mut-task.result.now there in
     subst (λ (t : Task). IsTaskOf code t.limits t) (sym e) (subst (λ l. IsTaskOf code l k.task) (sym k.is.limited) k.is)
 
-pub resume-requires-clause-may : goal.resume-requires-clause-may
-resume-requires-clause-may c =
+pub resume_with-requires-clause-may : goal.resume_with-requires-clause-may
+resume_with-requires-clause-may c =
     let m = c.requires.may in
     let f = m.4 in
     let code = c.args.code.now in
@@ -63,8 +58,8 @@ resume-requires-clause-may c =
     let there : slice_get c.args.bodies.now.tasks.items c.args.at ≡ Some k.task = k.there in
     let e : c.index_mut-task.result.now ≡ k.task = c.index_mut-task.ensures.value ∙ get_or_from_slice_get c.args.bodies.now.tasks.items c.args.at k.task c.index_mut-task.result.now there in
     let held = firing_held code limits c.args.bodies.now m.0 c.args.chord c.args.object c.args.members m.1 m.3 m.4 in
-    let first : laid (for_entry c.take_all_held-arguments.result) ≡ m.1 = c.take_all_held-arguments.ensures.values ∙ ap (held_values c.args.bodies.now.tags.items) c.items.ensures.numbers ∙ held.1 in
-    subst (λ (t : Task). MayResume code t.limits t c.args.number c.args.chord c.args.object c.args.members (laid (for_entry c.take_all_held-arguments.result))) (sym e)
+    let first : c.in_ok-values.values ≡ m.1 = (rw c.deref.ensures.value at c.in_ok-values.ensures.values) ∙ ap (λ (ms : List ℕ). held_values (views c.args.bodies.now.tasks.items) c.args.bodies.now.tags.items ms) c.items.ensures.numbers ∙ held.1 in
+    subst (λ (t : Task). MayResume code t.limits t c.args.number c.args.chord c.args.object c.args.members (c.in_ok-values.values)) (sym e)
     (subst (λ (vs : List Value). MayResume code k.task.limits k.task c.args.number c.args.chord c.args.object c.args.members vs) (sym first) k.may)
 
 pub returns : goal.returns
@@ -76,14 +71,14 @@ returns c =
     let there : slice_get c.args.bodies.now.tasks.items c.args.at ≡ Some k.task = k.there in
     let e : c.index_mut-task.result.now ≡ k.task = c.index_mut-task.ensures.value ∙ get_or_from_slice_get c.args.bodies.now.tasks.items c.args.at k.task c.index_mut-task.result.now there in
     let held = firing_held code limits c.args.bodies.now h c.args.chord c.args.object c.args.members vs s f in
-    let first : laid (for_entry c.take_all_held-arguments.result) ≡ vs = c.take_all_held-arguments.ensures.values ∙ ap (held_values c.args.bodies.now.tags.items) c.items.ensures.numbers ∙ held.1 in
-    let past : (view_of c.resume.new.self).past ≡ fired c.args.number c.args.chord c.args.object c.args.members vs ∷ (view_of k.task).past =
-    c.resume.ensures.past ∙ ap (λ (z : List Value). fired c.args.number c.args.chord c.args.object c.args.members z ∷ (view_of c.index_mut-task.result.now).past) first
+    let first : c.in_ok-values.values ≡ vs = (rw c.deref.ensures.value at c.in_ok-values.ensures.values) ∙ ap (λ (ms : List ℕ). held_values (views c.args.bodies.now.tasks.items) c.args.bodies.now.tags.items ms) c.items.ensures.numbers ∙ held.1 in
+    let past : (view_of c.resume_with.new.self).past ≡ fired c.args.number c.args.chord c.args.object c.args.members vs ∷ (view_of k.task).past =
+    c.in_ok-resume_with.ensures.past ∙ ap (λ (z : List Value). fired c.args.number c.args.chord c.args.object c.args.members z ∷ (view_of c.index_mut-task.result.now).past) first
     ∙ ap (λ (t : Task). fired c.args.number c.args.chord c.args.object c.args.members vs ∷ (view_of t).past) e
     in
-    let task = subst (λ l. IsTaskOf code l c.resume.new.self) (ap (λ (t : Task). t.limits) e ∙ k.is.limited) c.resume.ensures.task in
-    let emptied = rw c.items.ensures.numbers at c.take_all_held-arguments.ensures.rest in
-    fired_at code limits c.args.bodies.now _ c.take_all_held-arguments.new.tags.items h c.args.at c.args.number c.args.chord c.args.object c.args.members vs c.resume.new.self played s f k emptied task past
+    let task = subst (λ l. IsTaskOf code l c.resume_with.new.self) (ap (λ (t : Task). t.limits) e ∙ k.is.limited) c.in_ok-resume_with.ensures.task in
+    let emptied = rw c.items.ensures.numbers at c.in_ok-values.ensures.rest in
+    fired_at code limits c.args.bodies.now _ c.take_all_held.new.tags.items h c.args.at c.args.number c.args.chord c.args.object c.args.members vs c.resume_with.new.self played s f k emptied task past
     refl
     (ap reverse c.in_ok-push.ensures.items ∙ reverse-append c.args.bodies.now.ready.items (c.args.at ∷ []))
     c.in_ok-push-2.ensures.items

@@ -1,10 +1,10 @@
-use Rattle.std.proofs.Common.{◌≡◌, ◌∙◌, sym, ap, subst, refl, arith, true}
+use Rattle.std.proofs.Common.{◌≡◌, ◌∙◌, length, sym, ap, subst, refl, arith, true}
 use Rattle.std.proofs.lemmas.Option.{get_or_from_slice_get, slice_get_within}
 use Rattle.chord_code.specs.Meaning.{code_program}
 use Rattle.chord_task.specs.declared.task.Task.{Task}
 use Rattle.chord_task.specs.Standing.{view_of, IsTaskOf, is_ready_of}
 use Rattle.std.specs.Prelude.{slice_get}
-use Rattle.chord_lists.specs.CodeStands.{MayTurn, Turned}
+use Rattle.chord_lists.specs.CodeStands.{IsTagged, MayTurn, Turned}
 use Rattle.chord_lists.proofs.Spots.{set_same}
 use Rattle.chord_lists.proofs.CodeSteps.{ready_task, may_turn, noted_body, went_at}
 use Rattle.chord_lists.proofs.code_bodies.make.Goals as goal
@@ -63,5 +63,6 @@ returns c =
     let u = subst (λ (x : Task). Turned code limits x c.take_turn.new.task c.args.number w.0) e w.1 in
     let note = noted_body code limits c.index_mut.result.now c.take_turn.new.task c.args.number w.0 w.1 in
     let there = ap (λ l. slice_get l c.args.at) c.deref.ensures.value ∙ set_same xs c.args.at c.take_turn.new.task t.0 t.1 in
-    let tagged = c.in_ok-turn.ensures c.take_turn.new.task (record { number = c.args.number; body = w.1.next.body; what = w.0 }) (view_of c.index_mut.result.now).past there note in
+    let new = c.in_ok-turn.ensures c.take_turn.new.task (record { number = c.args.number; body = w.1.next.body; what = w.0 }) (view_of c.index_mut.result.now).past there note in
+    let tagged = subst (λ (x : Task). IsTagged c.args.at (length (view_of x).past) w.0 c.args.bodies.now.tags.items c.tag_newest.new.tags.items c.in_ok-turn.turn) e new in
     went_at code limits c.args.bodies.now _ h c.args.number c.args.at t.0 c.take_turn.new.task w.0 c.in_ok-turn.turn c.parts-parts.ensures.valid c.requires.sound c.requires.room played s t.1 t.2 u tagged refl refl

@@ -2,11 +2,12 @@ use Rattle.std.proofs.Common.{◌≡◌, ◌<◌, ◌∙◌, sym, ap, subst, ari
 use Rattle.std.proofs.lemmas.List.{length-reverse}
 use Rattle.std.proofs.lemmas.Bool.{eqb-true, eqb-false}
 use Rattle.chord_base.specs.declared.event.Entry.{Entry}
+use Rattle.chord_base.specs.Bounds.{AreWithin}
 use Rattle.chord_base.specs.Machine.{MayFollow, NoneFires}
 use Rattle.chord_code.specs.Meaning.{code_program}
 use Rattle.chord_lists.specs.CodeStands.{StandsAfter}
 use Rattle.chord_lists.specs.CodeGoes.{CanFire}
-use Rattle.chord_lists.proofs.Going.{no_entries, begun_follows, ready_follows, fire_follows, nothing_follows}
+use Rattle.chord_lists.proofs.Going.{no_entries, begun_follows, ready_follows, fire_follows, nothing_follows, stands_tagged}
 use Rattle.chord_lists.proofs.code_run.may_go_on.Goals as goal
 
 pub returns-then-is_empty-clause-yes : goal.returns-then-is_empty-clause-yes
@@ -15,6 +16,9 @@ returns-then-is_empty-clause-yes c =
     let p = code_program c.args.code.now c.args.limits.now in
     let none : length c.args.journal.now ≡ 0 = sym (ap length c.entries-entries.ensures.entries) ∙ eqb-true (length c.entries-entries.result.now) 0 (sym c.is_empty.ensures ∙ c.if-is_empty.true) in
     subst (λ h. (e : Entry) × MayFollow p h e) (sym (no_entries c.args.journal.now none)) (begun_follows p)
+
+pub pending_bag-requires : goal.pending_bag-requires
+pending_bag-requires c = rw c.deref-in-None.ensures.value (stands_tagged c.args.code.now c.args.limits.now c.in_ok-bodies.bodies (reverse c.entries-entries.result.now) c.in_ok-bodies.ensures (subst (λ (es : List Entry). AreWithin (reverse es)) (sym c.entries-entries.ensures.entries) c.entries-entries.ensures.within.within))
 
 pub returns-in-Some-clause-yes : goal.returns-in-Some-clause-yes
 returns-in-Some-clause-yes c =
