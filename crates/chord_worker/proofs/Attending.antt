@@ -171,8 +171,8 @@ module _ (s : Space Parcel) (w w' : Worker) (m k : ℕ) (minds : Minds s w m k) 
 module _ (s : Space Parcel) (w : Worker) (m method : ℕ) (o : Object) (minds : Minds s w m (key o method)) (u : View) (chord : ℕ) (ms : List ℕ) (xs : List (Option ℕ)) (found : IsMatch (program_of s) s.events u (view w.desk) m o method chord ms xs)
     (d : Desk Parcel) (same : IsSameDesk w.desk d) (f : ℕ) (qs : List Parcel) (fired : IsFired entries_of arguments_of (λ q. IsParcelOf q (space_code s) (space_limits s)) (program_of s) s.events (view w.desk) (view d) o chord ms f qs) where
   -- what was found was fired
-  pub has_fired : HasFired s (record w { desk = d }) (view w.desk) o chord ms f qs
-  has_fired = record {
+  pub found_fired : HasFired s (record w { desk = d }) (view w.desk) o chord ms f qs
+  found_fired = record {
     desk = same.0 ∙ minds.desk;
     told = minds.told;
     room = minds.room;

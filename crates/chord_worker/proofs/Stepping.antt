@@ -19,12 +19,13 @@ use Rattle.chord_space.specs.declared.space.Space.{Space}
 use Rattle.chord_space.specs.Desks.{view, space_code, space_limits}
 use Rattle.chord_task.specs.declared.parcel.Parcel.{Parcel}
 use Rattle.chord_task.specs.declared.task.Task.{Task}
+use Rattle.chord_task.specs.Stacks.{TaskView}
 use Rattle.chord_task.specs.Standing.{view_of}
 use Rattle.chord_worker.specs.declared.worker.Worker.{Worker}
 use Rattle.chord_worker.specs.Beginning.{HasBegun}
 use Rattle.chord_worker.specs.Playing.{IsNotedAs}
 use Rattle.chord_worker.specs.Sending.{IsSentOff}
-use Rattle.chord_worker.specs.Stepping.{HasNewer, AreAway, HasGoneOn, IsAsBefore, PlaysFiring, HasTakenOn, IsMinded}
+use Rattle.chord_worker.specs.Stepping.{HasNewer, AreAway, HasGoneOn, IsAsBefore, PlaysFiring, HasTakenOn, WasMinded}
 use Rattle.chord_worker.proofs.Parts.{all_kept, among_kept}
 use Rattle.chord_worker.proofs.Uniting.{among_self}
 
@@ -70,13 +71,13 @@ module _ (s : Space Parcel) (w : Worker) (v : View) (f : ℕ) (t : Task) (b : Ha
 -- ## A message that was minded
 
 -- a firing that was posted or is played is one of a message before it
-pub taken_minded : (es : List Entry) (x : Option Task) (w : Worker) (f m : ℕ) → m < f → HasTakenOn es x w f → IsMinded es x w m
+pub taken_minded : (es : List Entry) (x : Option Task) (w : Worker) (f m : ℕ) → m < f → HasTakenOn es x w f → WasMinded es x w m
 taken_minded es x w f m low (inl same) = inl same
 taken_minded es x w f m low (inr plays) = inr (inl (f, low, plays))
 
 -- what is minded later is minded
-pub minded_since : (es es' : List Entry) (x x' : Option Task) (w : Worker) (m : ℕ) → x' ≡ x → es' ≡ es → IsMinded es' x' w m → IsMinded es x w m
-minded_since es es' x x' w m e k minded = subst (λ (y : Option Task). IsMinded es y w m) e (subst (λ (h : List Entry). IsMinded h x' w m) k minded)
+pub minded_since : (es es' : List Entry) (x x' : Option Task) (w : Worker) (m : ℕ) → x' ≡ x → es' ≡ es → WasMinded es' x' w m → WasMinded es x w m
+minded_since es es' x x' w m e k minded = subst (λ (y : Option Task). WasMinded es y w m) e (subst (λ (h : List Entry). WasMinded h x' w m) k minded)
 
 -- ## A step
 
@@ -86,13 +87,13 @@ module _ (before : List Entry) (t : Task) (n : ℕ) (x : Entry) (number : x.numb
   newest_there i = (x, i, subst (λ (k : ℕ). AllBelow k before) (sym number) below)
 
   -- an asynchronous message was minded, whose entry the desk kept
-  pub went_sent : (es : List Entry) (y : Option Task) → es ≡ x ∷ before → IsMinded es y w n → HasGoneOn before t w
+  pub went_sent : (es : List Entry) (y : Option Task) → es ≡ x ∷ before → WasMinded es y w n → HasGoneOn before t w
   went_sent es y is (inl same) = inl (newest_there (subst (IsIn x) (sym (same.1 ∙ is)) (inl refl)))
   went_sent es y is (inr (inl plays)) = inl (newest_there (plays.2.stay x (subst (IsIn x) (sym is) (inl refl))))
   went_sent es y is (inr (inr told)) = inr (inr told)
 
   -- a call was minded, whose task was away with it
-  pub went_called : (es : List Entry) → es ≡ left_by (x ∷ (view_of t).past) (x ∷ before) → IsMinded es None w n → HasGoneOn before t w
+  pub went_called : (es : List Entry) → es ≡ left_by (x ∷ (view_of t).past) (x ∷ before) → WasMinded es None w n → HasGoneOn before t w
   went_called es is (inl same) = inr (inl (same.0, λ e i k. left_apart (x ∷ (view_of t).past) (x ∷ before) e (inr i) (subst (IsIn e) (same.1 ∙ is) k)))
   went_called es is (inr (inl plays)) =
       let p = plays.2 in
@@ -100,3 +101,7 @@ module _ (before : List Entry) (t : Task) (n : ℕ) (x : Entry) (number : x.numb
       let fired = p.numbered in
       inl (p.fired, p.there, all_below n p.fired.number before (omega (arith, low, fired)) below)
   went_called es is (inr (inr told)) = inr (inr told)
+
+-- so it is of a task that is seen alike
+pub gone_on : (before : List Entry) (t t' : Task) (w : Worker) → view_of t' ≡ view_of t → HasGoneOn before t' w → HasGoneOn before t w
+gone_on before t t' w e went = subst (λ (x : TaskView). HasNewer before (view w.desk).kept ⊎ (((w.task ≡ None) × AreAway x.past (view w.desk).kept) ⊎ ((view w.desk).spent ≡ true))) e went

@@ -36,5 +36,5 @@ abbrev pub HasTakenOn : List Entry → Option Task → Worker → ℕ → Type 0
 HasTakenOn before x w f = IsAsBefore before x w ⊎ PlaysFiring before x w f
 
 -- the message m was minded: nothing else is played than before, or a firing that was drawn after m is, or the desk was told that the limit is reached
-abbrev pub IsMinded : List Entry → Option Task → Worker → ℕ → Type 0
-IsMinded before x w m = IsAsBefore before x w ⊎ (((f : ℕ) × (m < f) × PlaysFiring before x w f) ⊎ ((view w.desk).spent ≡ true))
+abbrev pub WasMinded : List Entry → Option Task → Worker → ℕ → Type 0
+WasMinded before x w m = IsAsBefore before x w ⊎ (((f : ℕ) × (m < f) × PlaysFiring before x w f) ⊎ ((view w.desk).spent ≡ true))

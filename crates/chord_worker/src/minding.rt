@@ -7,7 +7,7 @@ ghost use Rattle.chord_rule.specs.declared.view.View.{View};
 ghost use Rattle.chord_space.specs.Desks.{view, space_code, space_limits, program_of, IsDeskOf};
 ghost use Rattle.chord_worker.specs.Sending.{Minds, IsLaidDown};
 ghost use Rattle.chord_worker.specs.Resting.{IsAtRest, IsSameRole};
-ghost use Rattle.chord_worker.specs.Stepping.{IsAsBefore, IsMinded};
+ghost use Rattle.chord_worker.specs.Stepping.{IsAsBefore, WasMinded};
 
 use crate::fired::Drawn;
 use crate::worker::{Gate, Worker};
@@ -73,7 +73,7 @@ impl Worker {
         ensures over { IfOk result (λ b. b ≡ true → IsAtRest space.now self.new × (self.new.spent ≡ true → self.new.task ≡ None)) }
         ensures again { IfOk result (λ b. b ≡ false → Minds space.now self.new message.number (key message.object message.method)) }
         ensures role { OnOk result (IsSameRole (view self.old.desk) (view self.new.desk)) }
-        ensures minded { IfOk result (λ b. b ≡ true → IsMinded (view self.old.desk).kept self.old.task self.new message.number) }
+        ensures minded { IfOk result (λ b. b ≡ true → WasMinded (view self.old.desk).kept self.old.task self.new message.number) }
         ensures same { IfOk result (λ b. b ≡ false → IsAsBefore (view self.old.desk).kept self.old.task self.new) }
     {
         let object = message.object;
@@ -115,7 +115,7 @@ impl Worker {
         ensures over { IfOk result (λ b. b ≡ true → IsAtRest space.now self.new × (self.new.spent ≡ true → self.new.task ≡ None)) }
         ensures again { IfOk result (λ b. b ≡ false → Minds space.now self.new message.number (key message.object message.method)) }
         ensures role { OnOk result (IsSameRole (view self.old.desk) (view self.new.desk)) }
-        ensures minded { IfOk result (λ b. b ≡ true → IsMinded (view self.old.desk).kept self.old.task self.new message.number) }
+        ensures minded { IfOk result (λ b. b ≡ true → WasMinded (view self.old.desk).kept self.old.task self.new message.number) }
         ensures same { IfOk result (λ b. b ≡ false → IsAsBefore (view self.old.desk).kept self.old.task self.new) }
     {
         match find(
@@ -157,7 +157,7 @@ impl Worker {
         ensures desk { IsDeskOf space.now self.new.desk }
         ensures over { OnOk result (IsAtRest space.now self.new × (self.new.spent ≡ true → self.new.task ≡ None)) }
         ensures role { OnOk result (IsSameRole (view self.old.desk) (view self.new.desk)) }
-        ensures minded { OnOk result (IsMinded (view self.old.desk).kept self.old.task self.new message.number) }
+        ensures minded { OnOk result (WasMinded (view self.old.desk).kept self.old.task self.new message.number) }
     {
         let backoff = Backoff::new();
         for _ in rt.forever() {

@@ -52,14 +52,14 @@ returns-in-Taken-clause-over g c = λ e.
       λ z. let k : true ≡ false = sym z ∙ c.requires.minds.told in absurd (cc),
     )
 
-pub returns-in_ok-try_to_fire-in-Match-clause-minded : goal.returns-in_ok-try_to_fire-in-Match-clause-minded
-returns-in_ok-try_to_fire-in-Match-clause-minded g c = λ e.
+pub returns-in_ok-over-in-Match-clause-minded : goal.returns-in_ok-over-in-Match-clause-minded
+returns-in_ok-over-in-Match-clause-minded g c = λ e.
     minded_since _ _ _ _ _ _ refl (looks_kept (view c.args.self.now.desk) (view c.find.new.desk) (looks_on _ _ _ (cell_looks (view c.args.self.now.desk) c.args.message.number (record { cell = a_cell.Pending; next = c.in-Match.ensures.finding.next })) c.in-Match.ensures.finding.sought.grows.only))
-    (c.in_ok-try_to_fire-in-Match.ensures.minded e)
+    (c.in_ok-over-in-Match.ensures.minded e)
 
-pub returns-in_ok-try_to_fire-in-Match-clause-same : goal.returns-in_ok-try_to_fire-in-Match-clause-same
-returns-in_ok-try_to_fire-in-Match-clause-same g c = λ e.
-    let same = c.in_ok-try_to_fire-in-Match.ensures.same e in (
+pub returns-in_ok-over-in-Match-clause-same : goal.returns-in_ok-over-in-Match-clause-same
+returns-in_ok-over-in-Match-clause-same g c = λ e.
+    let same = c.in_ok-over-in-Match.ensures.same e in (
       same.0,
       same.1 ∙ looks_kept (view c.args.self.now.desk) (view c.find.new.desk) (looks_on _ _ _ (cell_looks (view c.args.self.now.desk) c.args.message.number (record { cell = a_cell.Pending; next = c.in-Match.ensures.finding.next })) c.in-Match.ensures.finding.sought.grows.only),
     )

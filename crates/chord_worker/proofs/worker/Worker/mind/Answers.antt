@@ -12,6 +12,5 @@ loop-preserved g c =
       tt,
       c.in_ok-attend.ensures.again c.if-branch.false,
       role_on (view c.args.self.now.desk) (view c.loop.self.desk) (view c.attend.new.self.desk) c.loop.invariant.3 c.in_ok-attend.ensures.role,
-      same.0 ∙ c.loop.invariant.4,
-      same.1 ∙ c.loop.invariant.5,
+      (same.0 ∙ c.loop.invariant.4.0, same.1 ∙ c.loop.invariant.4.1),
     )

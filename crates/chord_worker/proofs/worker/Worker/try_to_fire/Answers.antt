@@ -3,19 +3,19 @@ use Rattle.chord_rule.specs.declared.view.View.{View}
 use Rattle.chord_space.specs.declared.space.Desk.{Desk}
 use Rattle.chord_space.specs.Desks.{view, IsSameDesk}
 use Rattle.chord_task.specs.declared.parcel.Parcel.{Parcel}
-use Rattle.chord_worker.proofs.Attending.{has_fired, still_minds, refused, lost_looks}
+use Rattle.chord_worker.proofs.Attending.{found_fired, still_minds, refused, lost_looks}
 use Rattle.chord_worker.proofs.Stepping.{message_older, taken_minded}
 use Rattle.chord_worker.proofs.worker.Worker.try_to_fire.Goals as goal
 
 pub begin_fired-requires-clause-fired : goal.begin_fired-requires-clause-fired
-begin_fired-requires-clause-fired g c = (view c.args.self.now.desk, has_fired _ _ _ _ _ c.requires.minds _ _ _ _ c.requires.found.1 _ c.fire.ensures.desk _ _ c.in-Fired.ensures.firing)
+begin_fired-requires-clause-fired g c = (view c.args.self.now.desk, found_fired _ _ _ _ _ c.requires.minds _ _ _ _ c.requires.found.1 _ c.fire.ensures.desk _ _ c.in-Fired.ensures.firing)
 
 pub returns-in-Fired-clause-minded : goal.returns-in-Fired-clause-minded
 returns-in-Fired-clause-minded g c = λ e.
     let found = c.requires.found.1 in
     let fired = c.in-Fired.ensures.firing in
     taken_minded _ _ _ _ _ (message_older _ _ _ _ _ _ _ fired.came found.own)
-    (c.begin_fired.ensures.taken (view c.args.self.now.desk) (has_fired _ _ _ _ _ c.requires.minds _ _ _ _ found _ c.fire.ensures.desk _ _ fired))
+    (c.begin_fired.ensures.taken (view c.args.self.now.desk) (found_fired _ _ _ _ _ c.requires.minds _ _ _ _ found _ c.fire.ensures.desk _ _ fired))
 
 pub returns-in-Lost-clause-again : goal.returns-in-Lost-clause-again
 returns-in-Lost-clause-again g c = λ e.
