@@ -6,3 +6,4 @@ pub mod Finds
 pub mod Claims
 pub mod Unions
 pub mod Handovers
+pub mod Pairs
