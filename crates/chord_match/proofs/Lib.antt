@@ -7,3 +7,4 @@ pub mod Claims
 pub mod Unions
 pub mod Handovers
 pub mod Pairs
+pub mod ByHand

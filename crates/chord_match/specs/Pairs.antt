@@ -57,9 +57,9 @@ limits_of n = record { events = n; turns = 9; depth = 9 }
 abbrev pub pair_program : Bool → ℕ → Program
 pair_program two n = code_program (pair_code two) (limits_of n)
 
--- a table of so many events for the code
-abbrev pub IsPairTable : {P : Type 0} → Bool → ℕ → Space P → Type 0
-IsPairTable two n s = (space_code s ≡ pair_code two) × (space_limits s ≡ limits_of n) × (s.events ≡ n)
+-- a table for the code
+abbrev pub IsPairTable : {P : Type 0} → Bool → Space P → Type 0
+IsPairTable two s = (space_code s ≡ pair_code two) × (space_limits s ≡ limits_of s.events)
 
 -- the object of `Main`
 abbrev pub first_object : Object
@@ -85,25 +85,45 @@ sent_both = entry 3 0 (Sent first_object 1 []) ∷ sent_x
 abbrev pub sent_apart : List Entry
 sent_apart = entry 4 0 (Sent second_object 1 []) ∷ entry 3 0 (Sent first_object 0 []) ∷ entry 2 0 (Made 0) ∷ made_one
 
--- the first desk keeps these entries, has to link these messages, and this one is in flight
-pub record Holds (v : View) (es : List Entry) (fresh : List ℕ) (flight : Option ℕ) : Type 0 where
-  pub first : v.first ≡ true
+-- a desk keeps these entries, has these messages to link, this one in flight and these claims, and was not told of the limit
+pub record Holds (v : View) (es : List Entry) (fresh : List ℕ) (flight : Option ℕ) (claims : List Claim) : Type 0 where
   pub room : v.spent ≡ false
   pub kept : v.kept ≡ es
   pub fresh_are : v.fresh ≡ fresh
   pub flight_is : v.flight ≡ flight
+  pub claims_are : v.claims ≡ claims
+
+-- a first desk that has lent none
+abbrev pub IsUnsplit : View → Type 0
+IsUnsplit v = (v.first ≡ true) × (v.splits ≡ 0) × (v.lent ≡ 0)
 
 -- the desk has a duty on the message, in this bag
 abbrev pub Owes : View → ℕ → ℕ → Type 0
 Owes v m k = (d : Duty) × HasDuty d v.duties × (d.message ≡ m) × (d.bag ≡ k)
 
--- the desk has the claim on the message alone, with which no firing was drawn
-abbrev pub ClaimsOnly : View → ℕ → Type 0
-ClaimsOnly v i = (c : Claim) × (v.claims ≡ c ∷ []) × (c.number ≡ i) × (c.firing ≡ None)
+-- the desk holds what it held
+abbrev pub IsAsBefore : View → View → Type 0
+IsAsBefore v w = (es : List Entry) (fresh : List ℕ) (flight : Option ℕ) (cs : List Claim) → Holds v es fresh flight cs → Holds w es fresh flight cs
 
--- what was seen in armed cells still is
+-- it has the duties that it had
+abbrev pub KeepsDuties : View → View → Type 0
+KeepsDuties v w = (m k : ℕ) → Owes v m k → Owes w m k
+
+-- what it saw in armed cells it has seen
 abbrev pub KeepsSeen : View → View → Type 0
 KeepsSeen v w = (i : ℕ) (next : Option ℕ) → HasSeen v i next → HasSeen w i next
+
+-- the desk keeps these entries, and has one claim, on this message, with which no firing was drawn
+abbrev pub HoldsClaim : View → List Entry → ℕ → Type 0
+HoldsClaim v es i = (c : Claim) × Holds v es [] None (c ∷ []) × (c.number ≡ i) × (c.firing ≡ None)
+
+-- a desk without a claim has claimed the message, and else holds what it held
+abbrev pub TakesClaim : View → View → ℕ → Type 0
+TakesClaim v w i = (es : List Entry) → Holds v es [] None [] → HoldsClaim w es i
+
+-- the desk has given its claim on the message back, and else holds what it held
+abbrev pub GivesClaim : View → View → ℕ → Type 0
+GivesClaim v w i = (es : List Entry) → HoldsClaim v es i → Holds w es [] None []
 
 -- what a search for a message leaves: its duty where it was not laid down, and the members of a match as they were seen
 abbrev pub LeavesDuty : Program → ℕ → View → ℕ → Object → ℕ → Finding → Type 0

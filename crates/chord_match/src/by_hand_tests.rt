@@ -1,13 +1,15 @@
 //! Desks by hand: the steps of a firing one by one, of messages to one object and to two, with what each desk knows after them.
 #![tactic(auto)]
 
-ghost use Rattle.std.specs.Prelude.{◌≡◌, ◌⊎◌, ℕ, ◌≤◌, ◌<◌, ◌+◌, true, false, List, [], ◌∷◌, Some, None, IfOk, IfSome, OnOk};
+ghost use Rattle.std.specs.Prelude.{◌≡◌, ◌⊎◌, ℕ, ◌≤◌, ◌<◌, ◌+◌, true, false, List, [], ◌∷◌, Option, Some, None, IfOk, IfErr, OnOk};
 ghost use Rattle.chord_base.specs.declared.event.What.TheVariants.{Begun, Made, Sent};
 ghost use Rattle.chord_rule.specs.Kinds.{newcomer, newcomer_first};
 ghost use Rattle.chord_rule.specs.Looks.{HasSeen};
 ghost use Rattle.chord_rule.specs.Made.{key};
-ghost use Rattle.chord_space.specs.Desks.{view, IsDeskOf, IsSameDesk};
-ghost use Rattle.chord_match.specs.Pairs.{main_body, main_slots, pair_code, pair_program, IsPairTable, first_object, second_object, made_one, sent_x, sent_both, sent_apart, Holds, Owes, ClaimsOnly, KeepsSeen, LeavesDuty, IsLetter};
+ghost use Rattle.chord_space.specs.Desks.{view, space_code, program_of, IsDeskOf, IsSameDesk};
+ghost use Rattle.chord_match.specs.Pairs.{main_body, main_slots, pair_code, pair_program, IsPairTable, first_object, second_object, made_one, sent_x, sent_both, sent_apart, Holds, HoldsClaim, IsUnsplit, Owes, KeepsSeen, KeepsDuties, IsAsBefore, TakesClaim, GivesClaim, LeavesDuty, IsLetter};
+ghost use Rattle.chord_bag.specs.declared.walk.Sought.TheVariants.{Found};
+ghost use Rattle.chord_base.specs.declared.event.Entry as event;
 
 use chord_base::event::{Entry, Limits, What};
 use chord_base::text::Text;
@@ -19,8 +21,17 @@ use chord_code::lines::Lines;
 use chord_code::parts::{Block, ChordLine, ClassLine, MethodLine, MethodNumbers, Parts};
 use chord_code::valid::valid;
 use chord_space::{Desk, Space};
+use chord_bag::{Sought, seek};
+use chord_word::{Cell, Word};
+use crate::search::{Finding, find};
 use std::alloc::Global;
 use std::test::Fail;
+
+/// The object that `Main` makes first.
+const FIRST: Object = Object {
+    number: 1,
+    class: 0,
+};
 
 /// A parcel that keeps nothing, or the entry of a firing.
 #[derive(Drop)]
@@ -38,7 +49,7 @@ impl Carry for Letter {
 
 /// What `Main` does.
 fn instructions(alloc: Global, two: bool) -> Result<Vec<Instruction>, Fail>
-    ensures { IfOk result (λ is. is ≡ main_body two) }
+    ensures { IfOk result (λ is. is.items ≡ main_body two) }
 {
     if two {
         return Ok(vec![in alloc;
@@ -143,7 +154,7 @@ fn table(
     events: u32,
 ) -> Result<(Space<Letter>, Desk<Letter>), Fail>
     requires { (code.now ≡ pair_code two) × (0 < events) × (events ≤ 65536) }
-    ensures { IfOk result (λ r. IsPairTable two events r.0 × IsDeskOf r.0 r.1 × (view r.1 ≡ newcomer_first)) }
+    ensures { IfOk result (λ r. IsPairTable two r.0 × (r.0.events ≡ events) × IsDeskOf r.0 r.1 × (view r.1 ≡ newcomer_first)) }
 {
     let limits = Limits {
         events,
@@ -151,4 +162,243 @@ fn table(
         depth: 9,
     };
     Ok(Space::make(alloc, code, &limits)?)
+}
+
+/// `Main` begins, and makes object 1.
+fn begun(space: &Space<Letter>, desk: &mut Desk<Letter>, two: bool) -> Result<(), Fail>
+    requires table { IsPairTable two space.now }
+    requires desk { IsDeskOf space.now desk.old × (view desk.old ≡ newcomer_first) }
+    ensures desk { IsSameDesk desk.old desk.new }
+    ensures begun { OnOk result (Holds (view desk.new) made_one [] None [] × IsUnsplit (view desk.new)) }
+{
+    let Ok(0) = space.draw(desk, 0, &What::Begun) else {
+        return Err(Fail::from("the first entry has another number"))
+    };
+    let Ok(1) = space.draw(desk, 0, &What::Made(0)) else {
+        return Err(Fail::from("the object has another number"))
+    };
+    Ok(())
+}
+
+/// `Main` sends x, which is message 2.
+fn send_x(alloc: Global, space: &Space<Letter>, desk: &mut Desk<Letter>) -> Result<(), Fail>
+    requires table { IsPairTable false space.now }
+    requires desk { IsDeskOf space.now desk.old × Holds (view desk.old) made_one [] None [] × IsUnsplit (view desk.old) }
+    ensures desk { IsSameDesk desk.old desk.new }
+    ensures sent { OnOk result (Holds (view desk.new) sent_x (2 ∷ []) None [] × IsUnsplit (view desk.new)) }
+{
+    let what = What::Sent(FIRST, 0, Values::of_items(Vec::new(alloc)));
+    let Ok(2) = space.draw(desk, 0, &what) else {
+        return Err(Fail::from("x has another number"))
+    };
+    Ok(())
+}
+
+/// x is linked in its bag and armed, and a second desk is lent.
+fn add_x(alloc: Global, space: &Space<Letter>, desk: &mut Desk<Letter>) -> Desk<Letter>
+    requires table { IsPairTable false space.now × (4 ≤ space.now.events) }
+    requires desk { IsDeskOf space.now desk.old × Holds (view desk.old) sent_x (2 ∷ []) None [] × IsUnsplit (view desk.old) }
+    ensures desk { IsSameDesk desk.old desk.new }
+    ensures added { Holds (view desk.new) sent_x [] None [] × Owes (view desk.new) 2 (key first_object 0) }
+    ensures other { IsDeskOf space.now result × (view result ≡ newcomer) }
+{
+    let letter = Letter {
+        past: Vec::new(alloc),
+    };
+    space.link(desk, 2, FIRST, 0, letter);
+    space.arm(desk, 2);
+    space.split(desk)
+}
+
+/// Looks for a chord with a message on which the desk has a duty.
+fn look_for(
+    space: &Space<Letter>,
+    desk: &mut Desk<Letter>,
+    code: &Code,
+    m: u32,
+    object: Object,
+    method: u8,
+) -> Finding
+    requires desk { IsDeskOf space.now desk.old }
+    requires code { code.now ≡ space_code space.now }
+    requires bounds { (m < space.now.events) × (object.number < space.now.events) × (object.class < 1024) × (method < 16) }
+    requires duty { Owes (view desk.old) m (key object method) }
+    ensures desk { IsSameDesk desk.old desk.new }
+    ensures same { IsAsBefore (view desk.old) (view desk.new) }
+    ensures duty { LeavesDuty (program_of space.now) space.now.events (view desk.new) m object method result }
+{
+    find(space, desk, code, m, object, method)
+}
+
+/// Nothing is found for x, whose duty is laid down.
+fn leave_x(space: &Space<Letter>, desk: &mut Desk<Letter>, code: &Code) -> Result<(), Fail>
+    requires table { (4 ≤ space.now.events) × (code.now ≡ space_code space.now) }
+    requires desk { IsDeskOf space.now desk.old × Holds (view desk.old) sent_x [] None [] × Owes (view desk.old) 2 (key first_object 0) }
+    ensures desk { IsSameDesk desk.old desk.new × Holds (view desk.new) sent_x [] None [] }
+{
+    match look_for(space, desk, code, 2, FIRST, 0) {
+        Finding::Left => Ok(()),
+        _ => Err(Fail::from("x is not left")),
+    }
+}
+
+/// `Main` sends y, which is message 3.
+fn send_y(alloc: Global, space: &Space<Letter>, desk: &mut Desk<Letter>) -> Result<(), Fail>
+    requires table { IsPairTable false space.now }
+    requires desk { IsDeskOf space.now desk.old × Holds (view desk.old) sent_x [] None [] }
+    ensures desk { IsSameDesk desk.old desk.new }
+    ensures sent { OnOk result (Holds (view desk.new) sent_both (3 ∷ []) None []) }
+{
+    let what = What::Sent(FIRST, 1, Values::of_items(Vec::new(alloc)));
+    let Ok(3) = space.draw(desk, 0, &what) else {
+        return Err(Fail::from("y has another number"))
+    };
+    Ok(())
+}
+
+/// y is linked in its bag.
+fn link_y(alloc: Global, space: &Space<Letter>, desk: &mut Desk<Letter>)
+    requires table { IsPairTable false space.now × (4 ≤ space.now.events) }
+    requires desk { IsDeskOf space.now desk.old × Holds (view desk.old) sent_both (3 ∷ []) None [] }
+    ensures desk { IsSameDesk desk.old desk.new }
+    ensures linked { Holds (view desk.new) sent_both [] (Some 3) [] × ((view desk.new).bag ≡ key first_object 1) }
+{
+    let letter = Letter {
+        past: Vec::new(alloc),
+    };
+    space.link(desk, 3, FIRST, 1, letter);
+}
+
+/// y is armed, and read pending with no next.
+fn arm_y(space: &Space<Letter>, desk: &mut Desk<Letter>)
+    requires table { 4 ≤ space.now.events }
+    requires desk { IsDeskOf space.now desk.old × Holds (view desk.old) sent_both [] (Some 3) [] × ((view desk.old).bag ≡ key first_object 1) }
+    ensures desk { IsSameDesk desk.old desk.new }
+    ensures armed { Holds (view desk.new) sent_both [] None [] × Owes (view desk.new) 3 (key first_object 1) }
+{
+    space.arm(desk, 3);
+}
+
+/// A message is read pending, with no other behind it in its bag.
+fn see(space: &Space<Letter>, desk: &mut Desk<Letter>, i: u32) -> Result<(), Fail>
+    requires desk { IsDeskOf space.now desk.old × (i < space.now.events) }
+    ensures desk { IsSameDesk desk.old desk.new }
+    ensures same { OnOk result (IsAsBefore (view desk.old) (view desk.new) × KeepsDuties (view desk.old) (view desk.new) × KeepsSeen (view desk.old) (view desk.new)) }
+    ensures seen { OnOk result (HasSeen (view desk.new) i None) }
+{
+    let word = space.look_cell(desk, i);
+    match word.cell {
+        Cell::Pending => {}
+        _ => return Err(Fail::from("a message is not pending")),
+    }
+    match word.next {
+        None => Ok(()),
+        Some(_) => Err(Fail::from("a message has another behind it")),
+    }
+}
+
+/// A message is claimed, or its cell is given.
+fn take(space: &Space<Letter>, desk: &mut Desk<Letter>, i: u32) -> Result<(), Cell>
+    requires desk { IsDeskOf space.now desk.old × (i < space.now.events) × HasSeen (view desk.old) i None }
+    ensures desk { IsSameDesk desk.old desk.new }
+    ensures same { KeepsDuties (view desk.old) (view desk.new) × KeepsSeen (view desk.old) (view desk.new) }
+    ensures claimed { OnOk result (TakesClaim (view desk.old) (view desk.new) i) }
+    ensures refused { IfErr result (λ _. IsAsBefore (view desk.old) (view desk.new)) }
+{
+    space.claim(desk, i, None)
+}
+
+/// The one claim of a desk is given back.
+fn give(space: &Space<Letter>, desk: &mut Desk<Letter>, i: u32)
+    requires desk { IsDeskOf space.now desk.old × (i < space.now.events) }
+    requires claim { (es : List event.Entry) × HoldsClaim (view desk.old) es i }
+    ensures desk { IsSameDesk desk.old desk.new }
+    ensures same { KeepsDuties (view desk.old) (view desk.new) × KeepsSeen (view desk.old) (view desk.new) }
+    ensures given { GivesClaim (view desk.old) (view desk.new) i }
+{
+    space.give_back(desk, i);
+}
+
+/// The bag of y is walked.
+fn seek_y(space: &Space<Letter>, desk: &mut Desk<Letter>) -> Sought
+    requires desk { IsDeskOf space.now desk.old × (4 ≤ space.now.events) }
+    ensures desk { IsSameDesk desk.old desk.new }
+    ensures same { IsAsBefore (view desk.old) (view desk.new) × KeepsSeen (view desk.old) (view desk.new) }
+    ensures found { (i : ℕ) (next : Option ℕ) → result ≡ Found i next → HasSeen (view desk.new) i next }
+{
+    seek(space, desk, FIRST, 1)
+}
+
+/// y is found in its bag, with no other behind it.
+fn find_pending_y(space: &Space<Letter>, desk: &mut Desk<Letter>) -> Result<(), Fail>
+    requires desk { IsDeskOf space.now desk.old × (4 ≤ space.now.events) }
+    ensures desk { IsSameDesk desk.old desk.new }
+    ensures same { IsAsBefore (view desk.old) (view desk.new) × KeepsSeen (view desk.old) (view desk.new) }
+    ensures seen { OnOk result (HasSeen (view desk.new) 3 None) }
+{
+    match seek_y(space, desk) {
+        Sought::Found(3, None) => Ok(()),
+        _ => Err(Fail::from("y is not found")),
+    }
+}
+
+/// The bag of y is walked with this answer, which finds no message.
+fn find_no_y(
+    space: &Space<Letter>,
+    desk: &mut Desk<Letter>,
+    answer: Sought,
+) -> Result<(), Fail>
+    requires desk { IsDeskOf space.now desk.old × (4 ≤ space.now.events) }
+    ensures desk { IsSameDesk desk.old desk.new }
+    ensures same { IsAsBefore (view desk.old) (view desk.new) × KeepsSeen (view desk.old) (view desk.new) }
+{
+    if seek_y(space, desk) == answer {
+        Ok(())
+    } else {
+        Err(Fail::from("another answer for y"))
+    }
+}
+
+/// `Main` begins and sends x, which is linked and armed; and another desk is lent.
+fn open_table(
+    alloc: Global,
+    space: &Space<Letter>,
+    desk: &mut Desk<Letter>,
+) -> Result<Desk<Letter>, Fail>
+    requires table { IsPairTable false space.now × (4 ≤ space.now.events) }
+    requires desk { IsDeskOf space.now desk.old × (view desk.old ≡ newcomer_first) }
+    ensures desk { IsSameDesk desk.old desk.new }
+    ensures added { OnOk result (Holds (view desk.new) sent_x [] None [] × Owes (view desk.new) 2 (key first_object 0)) }
+    ensures other { IfOk result (λ other. IsDeskOf space.now other × (view other ≡ newcomer)) }
+{
+    begun(space, desk, false)?;
+    send_x(alloc, space, desk)?;
+    Ok(add_x(alloc, space, desk))
+}
+
+/// Nothing is found for x while y is not there; y is busy once it is linked, and found once it is armed. Both messages are seen.
+fn add_both(
+    alloc: Global,
+    space: &Space<Letter>,
+    code: &Code,
+    first: &mut Desk<Letter>,
+    other: &mut Desk<Letter>,
+) -> Result<(), Fail>
+    requires table { IsPairTable false space.now × (4 ≤ space.now.events) × (code.now ≡ space_code space.now) }
+    requires first { IsDeskOf space.now first.old × Holds (view first.old) sent_x [] None [] × Owes (view first.old) 2 (key first_object 0) }
+    requires other { IsDeskOf space.now other.old × Holds (view other.old) [] [] None [] }
+    ensures desks { IsSameDesk first.old first.new × IsSameDesk other.old other.new }
+    ensures first { OnOk result (Holds (view first.new) sent_both [] None [] × Owes (view first.new) 3 (key first_object 1) × HasSeen (view first.new) 3 None) }
+    ensures other { OnOk result (Holds (view other.new) [] [] None [] × HasSeen (view other.new) 2 None × HasSeen (view other.new) 3 None) }
+{
+    find_no_y(space, other, Sought::Bare)?;
+    leave_x(space, first, code)?;
+    send_y(alloc, space, first)?;
+    link_y(alloc, space, first);
+    find_no_y(space, other, Sought::Busy(3))?;
+    arm_y(space, first);
+    find_pending_y(space, other)?;
+    see(space, first, 3)?;
+    see(space, other, 2)?;
+    Ok(())
 }
