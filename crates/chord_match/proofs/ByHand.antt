@@ -1,16 +1,16 @@
 -- What the desks of the tests by hand know after each step.
 use Rattle.std.proofs.lemmas.Bool.{eq-eqb}
-use Rattle.std.proofs.Common.{◌≡◌, ◌⊎◌, inl, inr, ℕ, ◌+◌, ◌<◌, true, false, Bool, List, [], ◌∷◌, ◌++◌, Option, Some, None, refl, sym, ap, ◌∙◌, subst, arith}
+use Rattle.std.proofs.Common.{◌≡◌, ◌⊎◌, inl, inr, ℕ, ◌+◌, ◌<◌, true, false, Bool, List, [], ◌∷◌, ◌++◌, map, Option, Some, None, refl, sym, ap, ◌∙◌, subst, arith}
 use Rattle.chord_base.specs.declared.event.Entry.{Entry}
 use Rattle.chord_base.specs.declared.event.Limits.{Limits}
 use Rattle.chord_base.specs.declared.event.What.{What}
 use Rattle.chord_base.specs.declared.event.What.TheVariants.{Begun, Made, Sent, Called, Printed, Fired, Ended}
 use Rattle.chord_base.specs.declared.value.Object.{Object}
 use Rattle.chord_base.specs.declared.value.Value.{Value}
-use Rattle.chord_base.specs.Bodies.{Asks}
-use Rattle.chord_base.specs.Meaning.{Program}
-use Rattle.chord_base.specs.Messages.{IsCall}
-use Rattle.chord_base.specs.Story.{IsIn, IsTold, kept}
+use Rattle.chord_base.specs.Bodies.{Doing, Absent, Asks, begun, doing, own, served}
+use Rattle.chord_base.specs.Meaning.{Program, Start, Chord}
+use Rattle.chord_base.specs.Messages.{IsCall, maker}
+use Rattle.chord_base.specs.Story.{IsIn, IsTold, kept, together}
 use Rattle.chord_code.specs.declared.parts.Parts.{Parts}
 use Rattle.chord_code.specs.Meaning.{code_program}
 use Rattle.chord_rule.specs.declared.view.Claim.{Claim}
@@ -19,7 +19,7 @@ use Rattle.chord_rule.specs.declared.view.View.{View}
 use Rattle.chord_rule.specs.Duties.{HasDuty, duty_on}
 use Rattle.chord_rule.specs.Kinds.{entry, newcomer, lent_one, claimed, unclaimed, drop_claim, looked_cell, rested, drew, saw_count, saw_head, saw, flown, address_set, armed, is_among, left_by, without, fresh_after, newcomer_first}
 use Rattle.chord_rule.specs.Numbers.{HasNumber}
-use Rattle.chord_space.specs.Gives.{MayLink}
+use Rattle.chord_space.specs.Gives.{MayLink, MayPost}
 use Rattle.chord_word.specs.declared.cells.Word.{Word}
 use Rattle.chord_word.specs.declared.cells.Cell.{Cell}
 use Rattle.chord_word.specs.declared.cells.Cell.TheVariants.{Pending, Claimed, Consumed, Woken}
@@ -35,7 +35,9 @@ use Rattle.chord_match.specs.declared.search.Finding.{Finding}
 use Rattle.chord_match.specs.declared.search.Finding.TheVariants.{Match, Left, Taken, Busy}
 use Rattle.chord_match.specs.Findings.{IsFinding, IsMatch, IsBusyWith, read_so}
 use Rattle.chord_match.specs.Seen.{HasSought, Grows}
-use Rattle.chord_match.specs.Pairs.{pair_code, limits_of, pair_program, first_object, second_object, made_one, sent_x, sent_both, sent_apart, Holds, HoldsClaim, Owes, IsAsBefore, KeepsDuties, KeepsSeen, TakesClaim, GivesClaim, LeavesDuty}
+use Rattle.chord_match.specs.Pairs.{pair_code, limits_of, pair_program, first_object, second_object, made_one, sent_x, sent_both, sent_apart, Holds, HoldsClaim, Owes, IsAsBefore, KeepsDuties, KeepsSeen, TakesClaim, GivesClaim, LeavesDuty, HasFired, IsFiring, IsLetter}
+use Rattle.chord_rule.specs.Parcels.{IsParkedThere}
+use Rattle.chord_match.specs.Fires.{AreOlder, AreComing, IsComing, IsFired, all_together, firing_entry, laid_together}
 use Rattle.chord_match.proofs.Growing.{duty_on as duty_kept, seen_on, sought_grows, found_ready}
 
 -- ## The program of a table
@@ -282,3 +284,82 @@ gives_claim v w i given es h = let t = may_give v es i h in subst (λ (z : View)
   flight_is = h.1.flight_is;
   claims_are = ap (drop_claim i) h.1.claims_are ∙ rw (eq-eqb h.0.number i h.2) refl;
 })
+
+-- ## Firings
+
+-- an attempt that was lost
+pub same_by_lost : (v w : View) → w ≡ record v { looked = w.looked } → IsAsBefore v w × KeepsDuties v w
+same_by_lost v w e = (
+  (λ es fresh flight cs h. subst (λ (z : View). Holds z es fresh flight cs) (sym e) (record { room = h.room; kept = h.kept; fresh_are = h.fresh_are; flight_is = h.flight_is; claims_are = h.claims_are })),
+  (λ m k d. subst (λ (z : View). Owes z m k) (sym e) d),
+)
+
+-- a body whose call is not there, or that serves none, is not parked
+not_begun : (p : Program) (es : List Entry) (m : Option ℕ) (s : Start) (c : Option ℕ) (before : ℕ → Doing) → IsParkedThere p es m (begun s c (λ q. maker q []) before) → ⊥
+not_begun p es m s None before t = t
+not_begun p es m s (Some q) before t = t
+
+-- so the body of a firing whose entry stands alone is not
+not_parked : (p : Program) (es : List Entry) (m : Option ℕ) (f : ℕ) (what : What) (d : Doing) → IsFiring what → IsParkedThere p es m (own p f what (λ q. maker q []) (doing p []) d) → ⊥
+not_parked p es m f (Fired k o ms vs) d is t = not_begun p es m (Chord k o vs) (served p (Fired k o ms vs)) (doing p []) t
+not_parked p es m f Begun d is t = is
+not_parked p es m f (Made c) d is t = is
+not_parked p es m f (Sent o j vs) d is t = is
+not_parked p es m f (Called o j vs) d is t = is
+not_parked p es m f (Printed x) d is t = is
+not_parked p es m f (Ended x) d is t = is
+
+-- the parcel of a message keeps nothing
+comes_empty : (p : Program) (o : Object) (es : List Entry) (j i : ℕ) (ps : List Entry) → IsLetter ps → IsComing p o es j i ps → ps ≡ []
+comes_empty p o es j i ps (inl e) c = e
+comes_empty p o es j i ps (inr t) c =
+    let f : ℕ = t.0 in let what : What = t.1 in
+    let parked = c.4.parked f (entry f f what, subst (IsIn (entry f f what)) (sym t.2) (inl refl), refl, refl) in
+    let alone : IsParkedThere p (entry f f what ∷ []) (Some c.0.number) (doing p (entry f f what ∷ []) f) = subst (λ (z : List Entry). IsParkedThere p z (Some c.0.number) (doing p z f)) t.2 parked in
+    absurd (not_parked p (entry f f what ∷ []) (Some c.0.number) f what Absent t.3 (rw (eq-eqb f f refl) at alone))
+
+module _ {P : Type 0} (entries : P → List Entry) (arguments : P → List Value) (keeps_to : P → Type 0) (letters : (q : P) → keeps_to q → IsLetter (entries q)) (none : (q : P) → arguments q ≡ []) where
+  -- so nothing comes to the desk
+  nothing_comes : (p : Program) (o : Object) (es : List Entry) (js ms : List ℕ) (f : ℕ) (qs : List P) → AreOlder entries keeps_to f qs → AreComing p entries o es js ms qs → all_together es (map entries qs) ≡ es
+  nothing_comes p o es js ms f [] older coming = refl
+  nothing_comes p o es [] [] f (q ∷ qs) older coming = absurd coming
+  nothing_comes p o es [] (i ∷ ms) f (q ∷ qs) older coming = absurd coming
+  nothing_comes p o es (j ∷ js) [] f (q ∷ qs) older coming = absurd coming
+  nothing_comes p o es (j ∷ js) (i ∷ ms) f (q ∷ qs) older coming =
+      nothing_comes p o (together es (entries q)) js ms f qs older.2 coming.1 ∙ ap (λ (z : List Entry). together es z) (comes_empty p o es j i (entries q) (letters q older.1) coming.0)
+
+  -- and the firing has no values
+  no_values : (qs : List P) → laid_together arguments qs ≡ []
+  no_values [] = refl
+  no_values (q ∷ qs) = ap (λ (z : List Value). z ++ laid_together arguments qs) (none q) ∙ no_values qs
+
+  -- the desk keeps what it kept, and the firing's entry
+  pub has_fired : (p : Program) (n : ℕ) (v w : View) (ms : List ℕ) (f : ℕ) (qs : List P) → Holds v sent_both [] None [] → IsFired entries arguments keeps_to p n v w first_object 0 ms f qs → HasFired w ms f
+  has_fired p n v w ms f qs h fired = let vs = no_values qs in record {
+    kept = ap (λ (z : View). z.kept) fired.view ∙ nothing_comes p first_object (firing_entry arguments first_object 0 ms f qs ∷ v.kept) fired.methods ms f qs fired.older fired.coming ∙ (λ k. entry f f (Fired 0 first_object ms (vs k)) ∷ h.kept k);
+    fresh = ap (λ (z : View). z.fresh) fired.view ∙ h.fresh_are;
+    unposted = subst (HasNumber f) (sym (ap (λ (z : View). z.unposted) fired.view)) (inl refl);
+  }
+
+-- what was read of a cell changes nothing of that
+pub still_fired : (v w : View) (i : ℕ) (c : Word) → w ≡ saw v i c → (ms : List ℕ) (f : ℕ) → HasFired v ms f → HasFired w ms f
+still_fired v w i c e ms f h = subst (λ (z : View). HasFired z ms f) (sym e) (record { kept = h.kept; fresh = h.fresh; unposted = h.unposted })
+
+-- the entry that is posted
+abbrev pub fourth : List ℕ → Entry
+fourth ms = entry 4 4 (Fired 0 first_object ms [])
+
+-- the desk may post the firing with its entry
+pub may_post : (n : ℕ) (v : View) (ms : List ℕ) → HasFired v ms 4 → MayPost (pair_program false n) v 4 (fourth ms ∷ [])
+may_post n v ms h = record {
+  unposted = h.unposted;
+  goes = record { part = ap (kept (is_among (fourth ms ∷ []))) h.kept; goes = (tt, tt, refl); stays = subst (IsTold (pair_program false n)) (sym (ap (left_by (fourth ms ∷ [])) h.kept)) (told_both n) };
+  linked = λ e x is says has. absurd (subst (HasNumber e.number) h.fresh has);
+  begins = (fourth ms, inl refl, refl, refl);
+  only = λ e is body. only_one e is;
+  parked = λ b other t. absurd (other (sym t.2 ∙ only_one t.0 t.1));
+}
+  where
+    only_one : (e : Entry) → IsIn e (fourth ms ∷ []) → e.number ≡ 4
+    only_one e (inl q) = ap (λ (z : Entry). z.number) q
+    only_one e (inr k) = absurd k

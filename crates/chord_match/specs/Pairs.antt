@@ -17,6 +17,7 @@ use Rattle.chord_rule.specs.Duties.{HasDuty}
 use Rattle.chord_rule.specs.Kinds.{entry}
 use Rattle.chord_rule.specs.Looks.{HasSeen}
 use Rattle.chord_rule.specs.Made.{key}
+use Rattle.chord_rule.specs.Numbers.{HasNumber}
 use Rattle.chord_space.specs.declared.space.Space.{Space}
 use Rattle.chord_space.specs.Desks.{space_code, space_limits}
 use Rattle.chord_match.specs.declared.search.Finding.{Finding}
@@ -132,8 +133,14 @@ LeavesDuty p n w m o method (Busy i) = Owes w m (key o method)
 LeavesDuty p n w m o method Left = Unit {0}
 LeavesDuty p n w m o method Taken = Unit {0}
 
+-- the desk keeps both messages and the entry of a firing of the chord with these members, which it has not posted
+pub record HasFired (v : View) (ms : List ℕ) (f : ℕ) : Type 0 where
+  pub kept : v.kept ≡ entry f f (Fired 0 first_object ms []) ∷ sent_both
+  pub fresh : v.fresh ≡ []
+  pub unposted : HasNumber f v.unposted
+
 -- the entry of a firing
-abbrev IsFiring : What → Type 0
+abbrev pub IsFiring : What → Type 0
 IsFiring (Fired k o ms vs) = Unit {0}
 IsFiring Begun = ⊥
 IsFiring (Made c) = ⊥

@@ -7,11 +7,14 @@ ghost use Rattle.chord_rule.specs.Kinds.{newcomer, newcomer_first};
 ghost use Rattle.chord_rule.specs.Looks.{HasSeen};
 ghost use Rattle.chord_rule.specs.Made.{key};
 ghost use Rattle.chord_space.specs.Desks.{view, space_code, program_of, IsDeskOf, IsSameDesk};
-ghost use Rattle.chord_match.specs.Pairs.{main_body, main_slots, pair_code, pair_program, IsPairTable, first_object, second_object, made_one, sent_x, sent_both, sent_apart, Holds, HoldsClaim, IsUnsplit, Owes, KeepsSeen, KeepsDuties, IsAsBefore, TakesClaim, GivesClaim, LeavesDuty, IsLetter};
+ghost use Rattle.chord_match.specs.Pairs.{main_body, main_slots, pair_code, pair_program, IsPairTable, first_object, second_object, made_one, sent_x, sent_both, sent_apart, Holds, HoldsClaim, IsUnsplit, Owes, KeepsSeen, KeepsDuties, IsAsBefore, TakesClaim, GivesClaim, LeavesDuty, HasFired, IsLetter};
+ghost use Rattle.chord_match.specs.Seen.{AreSeen};
+ghost use Rattle.chord_match.specs.declared.handing.Firing.TheVariants.{Fired, Lost};
 ghost use Rattle.chord_bag.specs.declared.walk.Sought.TheVariants.{Found};
 ghost use Rattle.chord_base.specs.declared.event.Entry as event;
 
 use chord_base::event::{Entry, Limits, What};
+use chord_base::members::Members;
 use chord_base::text::Text;
 use chord_base::value::{Object, Values};
 use chord_code::carry::Carry;
@@ -23,6 +26,8 @@ use chord_code::valid::valid;
 use chord_space::{Desk, Space};
 use chord_bag::{Sought, seek};
 use chord_word::{Cell, Word};
+use crate::handing::{Firing, fire};
+use crate::nexts::Nexts;
 use crate::search::{Finding, find};
 use std::alloc::Global;
 use std::test::Fail;
@@ -401,4 +406,234 @@ fn add_both(
     see(space, first, 3)?;
     see(space, other, 2)?;
     Ok(())
+}
+
+/// A message is claimed.
+fn claim_for_good(space: &Space<Letter>, desk: &mut Desk<Letter>, i: u32) -> Result<(), Fail>
+    requires desk { IsDeskOf space.now desk.old × (i < space.now.events) × HasSeen (view desk.old) i None }
+    ensures desk { IsSameDesk desk.old desk.new }
+    ensures same { KeepsDuties (view desk.old) (view desk.new) × KeepsSeen (view desk.old) (view desk.new) }
+    ensures claimed { OnOk result (TakesClaim (view desk.old) (view desk.new) i) }
+{
+    match take(space, desk, i) {
+        Ok(()) => Ok(()),
+        Err(_) => Err(Fail::from("a message is not claimed")),
+    }
+}
+
+/// A message that another desk has claimed is not claimed again.
+fn claim_in_vain(space: &Space<Letter>, desk: &mut Desk<Letter>, i: u32) -> Result<(), Fail>
+    requires desk { IsDeskOf space.now desk.old × (i < space.now.events) × HasSeen (view desk.old) i None }
+    ensures desk { IsSameDesk desk.old desk.new }
+    ensures same { KeepsDuties (view desk.old) (view desk.new) × KeepsSeen (view desk.old) (view desk.new) }
+    ensures refused { OnOk result (IsAsBefore (view desk.old) (view desk.new)) }
+{
+    match take(space, desk, i) {
+        Err(Cell::Claimed) => Ok(()),
+        _ => Err(Fail::from("a message is claimed twice")),
+    }
+}
+
+/// y has to wait for x, which is in another hand.
+fn find_busy_x(space: &Space<Letter>, desk: &mut Desk<Letter>, code: &Code) -> Result<(), Fail>
+    requires table { (4 ≤ space.now.events) × (code.now ≡ space_code space.now) }
+    requires desk { IsDeskOf space.now desk.old × Owes (view desk.old) 3 (key first_object 1) }
+    ensures desk { IsSameDesk desk.old desk.new }
+    ensures same { IsAsBefore (view desk.old) (view desk.new) }
+    ensures duty { OnOk result (Owes (view desk.new) 3 (key first_object 1)) }
+{
+    match look_for(space, desk, code, 3, FIRST, 1) {
+        Finding::Busy(2) => Ok(()),
+        _ => Err(Fail::from("x is in no other hand")),
+    }
+}
+
+/// The chord is fired with x and y, or nothing is fired.
+fn fire_seen(
+    space: &Space<Letter>,
+    desk: &mut Desk<Letter>,
+    code: &Code,
+    members: &Members,
+    nexts: &Nexts,
+) -> Firing<Letter>
+    requires table { (4 ≤ space.now.events) × (code.now ≡ space_code space.now) }
+    requires desk { IsDeskOf space.now desk.old × Holds (view desk.old) sent_both [] None [] × AreSeen space.now.events (program_of space.now) (view desk.old) first_object 0 members.now nexts.now }
+    ensures desk { IsSameDesk desk.old desk.new }
+    ensures fired { (f : ℕ) (hand : List Letter) → result ≡ Fired f hand → HasFired (view desk.new) members.now f }
+    ensures lost { (i : ℕ) → result ≡ Lost i → IsAsBefore (view desk.old) (view desk.new) × KeepsDuties (view desk.old) (view desk.new) }
+{
+    fire(space, desk, code, FIRST, 0, members, nexts)
+}
+
+/// Firing 4 is posted, with its entry.
+fn post_fired(
+    alloc: Global,
+    space: &Space<Letter>,
+    desk: &mut Desk<Letter>,
+    members: &Members,
+) -> Result<(), Fail>
+    requires table { IsPairTable false space.now × (5 ≤ space.now.events) }
+    requires desk { IsDeskOf space.now desk.old × HasFired (view desk.old) members.now 4 }
+    ensures desk { IsSameDesk desk.old desk.new }
+{
+    let entry = Entry {
+        number: 4,
+        body: 4,
+        what: What::Fired(0, FIRST, members.copied(), Values::of_items(Vec::new(alloc))),
+    };
+    let past = vec![in alloc; entry]?;
+    space.post(desk, 4, Letter { past });
+    Ok(())
+}
+
+/// Each desk claims one message and gives it back, and the other one sees it in that hand.
+fn contend(
+    space: &Space<Letter>,
+    code: &Code,
+    first: &mut Desk<Letter>,
+    other: &mut Desk<Letter>,
+) -> Result<(), Fail>
+    requires table { (4 ≤ space.now.events) × (code.now ≡ space_code space.now) }
+    requires first { IsDeskOf space.now first.old × Holds (view first.old) sent_both [] None [] × Owes (view first.old) 3 (key first_object 1) × HasSeen (view first.old) 3 None }
+    requires other { IsDeskOf space.now other.old × Holds (view other.old) [] [] None [] × HasSeen (view other.old) 2 None × HasSeen (view other.old) 3 None }
+    ensures desks { IsSameDesk first.old first.new × IsSameDesk other.old other.new }
+    ensures first { OnOk result (Holds (view first.new) sent_both [] None [] × Owes (view first.new) 3 (key first_object 1)) }
+    ensures other { OnOk result (Holds (view other.new) [] [] None [] × HasSeen (view other.new) 2 None) }
+{
+    claim_for_good(space, first, 3)?;
+    claim_in_vain(space, other, 3)?;
+    find_no_y(space, other, Sought::Busy(3))?;
+    give(space, first, 3);
+    claim_for_good(space, other, 2)?;
+    find_busy_x(space, first, code)?;
+    give(space, other, 2);
+    Ok(())
+}
+
+/// A chord is found for y: its members are x and y.
+fn match_y(
+    space: &Space<Letter>,
+    desk: &mut Desk<Letter>,
+    code: &Code,
+) -> Result<(Members, Nexts), Fail>
+    requires table { (4 ≤ space.now.events) × (code.now ≡ space_code space.now) }
+    requires desk { IsDeskOf space.now desk.old × Holds (view desk.old) sent_both [] None [] × Owes (view desk.old) 3 (key first_object 1) }
+    ensures desk { IsSameDesk desk.old desk.new }
+    ensures matched { IfOk result (λ r. Holds (view desk.new) sent_both [] None [] × Owes (view desk.new) 3 (key first_object 1) × AreSeen space.now.events (program_of space.now) (view desk.new) first_object 0 r.0 r.1) }
+{
+    match look_for(space, desk, code, 3, FIRST, 1) {
+        Finding::Match(0, members, nexts) => {
+            if are(&members, 2, 3) {
+                Ok((members, nexts))
+            } else {
+                Err(Fail::from("other members"))
+            }
+        }
+        _ => Err(Fail::from("no match")),
+    }
+}
+
+/// Whether these are the members.
+fn are(members: &Members, i: u32, j: u32) -> bool {
+    let items = members.items();
+    items.len() == 2 && items[0] == i && items[1] == j
+}
+
+/// The chord is lost to a desk that has claimed x.
+fn lose(
+    space: &Space<Letter>,
+    code: &Code,
+    first: &mut Desk<Letter>,
+    other: &mut Desk<Letter>,
+) -> Result<(), Fail>
+    requires table { (4 ≤ space.now.events) × (code.now ≡ space_code space.now) }
+    requires first { IsDeskOf space.now first.old × Holds (view first.old) sent_both [] None [] × Owes (view first.old) 3 (key first_object 1) }
+    requires other { IsDeskOf space.now other.old × Holds (view other.old) [] [] None [] × HasSeen (view other.old) 2 None }
+    ensures desks { IsSameDesk first.old first.new × IsSameDesk other.old other.new }
+    ensures first { OnOk result (Holds (view first.new) sent_both [] None [] × Owes (view first.new) 3 (key first_object 1)) }
+{
+    let (members, nexts) = match_y(space, first, code)?;
+    claim_for_good(space, other, 2)?;
+    match fire_seen(space, first, code, &members, &nexts) {
+        Firing::Lost(2) => {}
+        _ => return Err(Fail::from("the chord is not lost")),
+    }
+    give(space, other, 2);
+    Ok(())
+}
+
+/// The limit on events is reached, and nothing is fired.
+fn spend(space: &Space<Letter>, desk: &mut Desk<Letter>, code: &Code) -> Result<(), Fail>
+    requires table { (4 ≤ space.now.events) × (code.now ≡ space_code space.now) }
+    requires desk { IsDeskOf space.now desk.old × Holds (view desk.old) sent_both [] None [] × Owes (view desk.old) 3 (key first_object 1) }
+    ensures desk { IsSameDesk desk.old desk.new }
+{
+    let (members, nexts) = match_y(space, desk, code)?;
+    match fire_seen(space, desk, code, &members, &nexts) {
+        Firing::Spent => Ok(()),
+        _ => Err(Fail::from("the limit is not reached")),
+    }
+}
+
+/// The chord is fired, as entry 4.
+fn fire_fourth(
+    space: &Space<Letter>,
+    desk: &mut Desk<Letter>,
+    code: &Code,
+    members: &Members,
+    nexts: &Nexts,
+) -> Result<(), Fail>
+    requires table { (4 ≤ space.now.events) × (code.now ≡ space_code space.now) }
+    requires desk { IsDeskOf space.now desk.old × Holds (view desk.old) sent_both [] None [] × AreSeen space.now.events (program_of space.now) (view desk.old) first_object 0 members.now nexts.now }
+    ensures desk { IsSameDesk desk.old desk.new }
+    ensures fired { OnOk result (HasFired (view desk.new) members.now 4) }
+{
+    match fire_seen(space, desk, code, members, nexts) {
+        Firing::Fired(4, _) => Ok(()),
+        _ => Err(Fail::from("the chord is not fired as entry 4")),
+    }
+}
+
+/// A firing that is not posted cannot be started.
+fn start_in_vain(space: &Space<Letter>, desk: &mut Desk<Letter>) -> Result<(), Fail>
+    requires desk { IsDeskOf space.now desk.old × (5 ≤ space.now.events) }
+    ensures desk { IsSameDesk desk.old desk.new }
+    ensures same { OnOk result ((ms : List ℕ) (f : ℕ) → HasFired (view desk.old) ms f → HasFired (view desk.new) ms f) }
+{
+    match space.start(desk, 4) {
+        Err(Cell::Empty) => Ok(()),
+        _ => Err(Fail::from("the firing was not posted")),
+    }
+}
+
+/// A firing that is posted can be started once.
+fn start_once(space: &Space<Letter>, desk: &mut Desk<Letter>) -> Result<(), Fail>
+    requires desk { IsDeskOf space.now desk.old × (5 ≤ space.now.events) }
+    ensures desk { IsSameDesk desk.old desk.new }
+{
+    if space.start(desk, 4).is_err() {
+        return Err(Fail::from("the firing was posted"));
+    }
+    match space.start(desk, 4) {
+        Err(Cell::Started) => Ok(()),
+        _ => Err(Fail::from("the firing was started")),
+    }
+}
+
+/// The chord is fired, posted and started.
+fn fire_once(
+    alloc: Global,
+    space: &Space<Letter>,
+    desk: &mut Desk<Letter>,
+    code: &Code,
+) -> Result<(), Fail>
+    requires table { IsPairTable false space.now × (5 ≤ space.now.events) × (code.now ≡ space_code space.now) }
+    requires desk { IsDeskOf space.now desk.old × Holds (view desk.old) sent_both [] None [] × Owes (view desk.old) 3 (key first_object 1) }
+    ensures desk { IsSameDesk desk.old desk.new }
+{
+    let (members, nexts) = match_y(space, desk, code)?;
+    fire_fourth(space, desk, code, &members, &nexts)?;
+    start_in_vain(space, desk)?;
+    post_fired(alloc, space, desk, &members)?;
+    start_once(space, desk)
 }
