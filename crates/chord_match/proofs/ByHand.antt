@@ -35,7 +35,7 @@ use Rattle.chord_match.specs.declared.search.Finding.{Finding}
 use Rattle.chord_match.specs.declared.search.Finding.TheVariants.{Match, Left, Taken, Busy}
 use Rattle.chord_match.specs.Findings.{IsFinding, IsMatch, IsBusyWith, read_so}
 use Rattle.chord_match.specs.Seen.{HasSought, Grows}
-use Rattle.chord_match.specs.Pairs.{pair_code, limits_of, pair_program, first_object, second_object, made_one, sent_x, sent_both, sent_apart, Holds, HoldsClaim, Owes, IsAsBefore, KeepsDuties, KeepsSeen, TakesClaim, GivesClaim, LeavesDuty, HasFired, IsFiring, IsLetter}
+use Rattle.chord_match.specs.Pairs.{pair_code, limits_of, pair_program, first_object, second_object, made_one, sent_x, sent_both, made_two, sent_x_apart, sent_apart, Holds, HoldsClaim, Owes, IsAsBefore, KeepsDuties, KeepsSeen, TakesClaim, GivesClaim, LeavesDuty, HasFired, IsFiring, IsLetter}
 use Rattle.chord_rule.specs.Parcels.{IsParkedThere}
 use Rattle.chord_match.specs.Fires.{AreOlder, AreComing, IsComing, IsFired, all_together, firing_entry, laid_together}
 use Rattle.chord_match.proofs.Growing.{duty_on as duty_kept, seen_on, sought_grows, found_ready}
@@ -64,11 +64,11 @@ pub asks_second : (n : ℕ) → Asks (pair_program true n) made_one 0 (Made 0)
 asks_second n = (0, refl)
 
 -- then it sends the first object the first message
-pub asks_x_apart : (n : ℕ) → Asks (pair_program true n) (entry 2 0 (Made 0) ∷ made_one) 0 (Sent first_object 0 [])
+pub asks_x_apart : (n : ℕ) → Asks (pair_program true n) made_two 0 (Sent first_object 0 [])
 asks_x_apart n = (0, refl)
 
 -- and the second object the second message
-pub asks_y_apart : (n : ℕ) → Asks (pair_program true n) (entry 3 0 (Sent first_object 0 []) ∷ entry 2 0 (Made 0) ∷ made_one) 0 (Sent second_object 1 [])
+pub asks_y_apart : (n : ℕ) → Asks (pair_program true n) sent_x_apart 0 (Sent second_object 1 [])
 asks_y_apart n = (0, refl)
 
 -- an ask that sends no values is one of the table's program

@@ -82,9 +82,17 @@ sent_x = entry 2 0 (Sent first_object 0 []) ∷ made_one
 abbrev pub sent_both : List Entry
 sent_both = entry 3 0 (Sent first_object 1 []) ∷ sent_x
 
--- two objects, and a message to each
+-- the beginning of `Main`, and two objects
+abbrev pub made_two : List Entry
+made_two = entry 2 0 (Made 0) ∷ made_one
+
+-- and the message x to the first
+abbrev pub sent_x_apart : List Entry
+sent_x_apart = entry 3 0 (Sent first_object 0 []) ∷ made_two
+
+-- and the message y to the second
 abbrev pub sent_apart : List Entry
-sent_apart = entry 4 0 (Sent second_object 1 []) ∷ entry 3 0 (Sent first_object 0 []) ∷ entry 2 0 (Made 0) ∷ made_one
+sent_apart = entry 4 0 (Sent second_object 1 []) ∷ sent_x_apart
 
 -- a desk keeps these entries, has these messages to link, this one in flight and these claims, and was not told of the limit
 pub record Holds (v : View) (es : List Entry) (fresh : List ℕ) (flight : Option ℕ) (claims : List Claim) : Type 0 where

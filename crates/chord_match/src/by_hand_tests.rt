@@ -7,12 +7,16 @@ ghost use Rattle.chord_rule.specs.Kinds.{newcomer, newcomer_first};
 ghost use Rattle.chord_rule.specs.Looks.{HasSeen};
 ghost use Rattle.chord_rule.specs.Made.{key};
 ghost use Rattle.chord_space.specs.Desks.{view, space_code, program_of, IsDeskOf, IsSameDesk};
-ghost use Rattle.chord_match.specs.Pairs.{main_body, main_slots, pair_code, pair_program, IsPairTable, first_object, second_object, made_one, sent_x, sent_both, sent_apart, Holds, HoldsClaim, IsUnsplit, Owes, KeepsSeen, KeepsDuties, IsAsBefore, TakesClaim, GivesClaim, LeavesDuty, HasFired, IsLetter};
+ghost use Rattle.chord_match.specs.Pairs.{main_body, main_slots, pair_code, pair_program, IsPairTable, first_object, second_object, made_one, sent_x, sent_both, made_two, sent_x_apart, sent_apart, Holds, HoldsClaim, IsUnsplit, Owes, KeepsSeen, KeepsDuties, IsAsBefore, TakesClaim, GivesClaim, LeavesDuty, HasFired, IsLetter};
 ghost use Rattle.chord_match.specs.Seen.{AreSeen};
 ghost use Rattle.chord_match.specs.declared.handing.Firing.TheVariants.{Fired, Lost};
 ghost use Rattle.chord_bag.specs.declared.walk.Sought.TheVariants.{Found};
 ghost use Rattle.chord_base.specs.declared.event.Entry as event;
 
+use crate::handing::{Firing, fire};
+use crate::nexts::Nexts;
+use crate::search::{Finding, find};
+use chord_bag::{Sought, seek};
 use chord_base::event::{Entry, Limits, What};
 use chord_base::members::Members;
 use chord_base::text::Text;
@@ -24,17 +28,19 @@ use chord_code::lines::Lines;
 use chord_code::parts::{Block, ChordLine, ClassLine, MethodLine, MethodNumbers, Parts};
 use chord_code::valid::valid;
 use chord_space::{Desk, Space};
-use chord_bag::{Sought, seek};
 use chord_word::{Cell, Word};
-use crate::handing::{Firing, fire};
-use crate::nexts::Nexts;
-use crate::search::{Finding, find};
 use std::alloc::Global;
 use std::test::Fail;
 
 /// The object that `Main` makes first.
 const FIRST: Object = Object {
     number: 1,
+    class: 0,
+};
+
+/// The object that it makes second, where it makes two.
+const SECOND: Object = Object {
+    number: 2,
     class: 0,
 };
 
@@ -109,7 +115,12 @@ fn paired(alloc: Global) -> Result<ClassLine, Fail>
     let mut numbers = MethodNumbers::new(alloc);
     numbers.push(0)?;
     numbers.push(1)?;
-    let chords = vec![in alloc; ChordLine { block: 1, methods: numbers }]?;
+    let chords = vec![in alloc;
+        ChordLine {
+            block: 1,
+            methods: numbers
+        },
+    ]?;
     Ok(ClassLine {
         name: named(alloc, b"A")?,
         builder: None,
@@ -348,11 +359,7 @@ fn find_pending_y(space: &Space<Letter>, desk: &mut Desk<Letter>) -> Result<(), 
 }
 
 /// The bag of y is walked with this answer, which finds no message.
-fn find_no_y(
-    space: &Space<Letter>,
-    desk: &mut Desk<Letter>,
-    answer: Sought,
-) -> Result<(), Fail>
+fn find_no_y(space: &Space<Letter>, desk: &mut Desk<Letter>, answer: Sought) -> Result<(), Fail>
     requires desk { IsDeskOf space.now desk.old × (4 ≤ space.now.events) }
     ensures desk { IsSameDesk desk.old desk.new }
     ensures same { IsAsBefore (view desk.old) (view desk.new) × KeepsSeen (view desk.old) (view desk.new) }
@@ -479,7 +486,12 @@ fn post_fired(
     let entry = Entry {
         number: 4,
         body: 4,
-        what: What::Fired(0, FIRST, members.copied(), Values::of_items(Vec::new(alloc))),
+        what: What::Fired(
+            0,
+            FIRST,
+            members.copied(),
+            Values::of_items(Vec::new(alloc)),
+        ),
     };
     let past = vec![in alloc; entry]?;
     space.post(desk, 4, Letter { past });
@@ -636,4 +648,173 @@ fn fire_once(
     start_in_vain(space, desk)?;
     post_fired(alloc, space, desk, &members)?;
     start_once(space, desk)
+}
+
+/// The steps of both desks up to a chord that one of them lost: the other desk.
+fn play_to_loss(
+    alloc: Global,
+    space: &Space<Letter>,
+    code: &Code,
+    first: &mut Desk<Letter>,
+) -> Result<Desk<Letter>, Fail>
+    requires table { IsPairTable false space.now × (4 ≤ space.now.events) × (code.now ≡ space_code space.now) }
+    requires first { IsDeskOf space.now first.old × (view first.old ≡ newcomer_first) }
+    ensures desks { IsSameDesk first.old first.new × IfOk result (λ other. IsDeskOf space.now other) }
+    ensures first { OnOk result (Holds (view first.new) sent_both [] None [] × Owes (view first.new) 3 (key first_object 1)) }
+{
+    let mut other = open_table(alloc, space, first)?;
+    add_both(alloc, space, code, first, &mut other)?;
+    contend(space, code, first, &mut other)?;
+    lose(space, code, first, &mut other)?;
+    Ok(other)
+}
+
+/// `Main` makes its object, and cannot send x.
+fn send_no_x(alloc: Global, space: &Space<Letter>, desk: &mut Desk<Letter>) -> Result<(), Fail>
+    requires table { IsPairTable false space.now }
+    requires desk { IsDeskOf space.now desk.old × (view desk.old ≡ newcomer_first) }
+    ensures desk { IsSameDesk desk.old desk.new }
+    ensures idle { OnOk result (IsUnsplit (view desk.new) × ((view desk.new).claims ≡ []) × ((view desk.new).flight ≡ None)) }
+{
+    begun(space, desk, false)?;
+    let what = What::Sent(FIRST, 0, Values::of_items(Vec::new(alloc)));
+    match space.draw(desk, 0, &what) {
+        Ok(_) => Err(Fail::from("the limit is not reached")),
+        Err(_) => Ok(()),
+    }
+}
+
+/// `Main` makes object 2.
+fn make_second(space: &Space<Letter>, desk: &mut Desk<Letter>) -> Result<(), Fail>
+    requires table { IsPairTable true space.now }
+    requires desk { IsDeskOf space.now desk.old × Holds (view desk.old) made_one [] None [] }
+    ensures desk { IsSameDesk desk.old desk.new }
+    ensures made { OnOk result (Holds (view desk.new) made_two [] None []) }
+{
+    let Ok(2) = space.draw(desk, 0, &What::Made(0)) else {
+        return Err(Fail::from("the second object has another number"))
+    };
+    Ok(())
+}
+
+/// `Main` sends x to object 1, which is message 3.
+fn send_x_apart(alloc: Global, space: &Space<Letter>, desk: &mut Desk<Letter>) -> Result<(), Fail>
+    requires table { IsPairTable true space.now }
+    requires desk { IsDeskOf space.now desk.old × Holds (view desk.old) made_two [] None [] }
+    ensures desk { IsSameDesk desk.old desk.new }
+    ensures sent { OnOk result (Holds (view desk.new) sent_x_apart (3 ∷ []) None []) }
+{
+    let what = What::Sent(FIRST, 0, Values::of_items(Vec::new(alloc)));
+    let Ok(3) = space.draw(desk, 0, &what) else {
+        return Err(Fail::from("x has another number"))
+    };
+    Ok(())
+}
+
+/// `Main` sends y to object 2, which is message 4.
+fn send_y_apart(alloc: Global, space: &Space<Letter>, desk: &mut Desk<Letter>) -> Result<(), Fail>
+    requires table { IsPairTable true space.now }
+    requires desk { IsDeskOf space.now desk.old × Holds (view desk.old) sent_x_apart (3 ∷ []) None [] }
+    ensures desk { IsSameDesk desk.old desk.new }
+    ensures sent { OnOk result (Holds (view desk.new) sent_apart (4 ∷ 3 ∷ []) None []) }
+{
+    let what = What::Sent(SECOND, 1, Values::of_items(Vec::new(alloc)));
+    let Ok(4) = space.draw(desk, 0, &what) else {
+        return Err(Fail::from("y has another number"))
+    };
+    Ok(())
+}
+
+/// x is linked in the bag of its object, and armed.
+fn add_x_apart(alloc: Global, space: &Space<Letter>, desk: &mut Desk<Letter>)
+    requires table { IsPairTable true space.now × (5 ≤ space.now.events) }
+    requires desk { IsDeskOf space.now desk.old × Holds (view desk.old) sent_apart (4 ∷ 3 ∷ []) None [] }
+    ensures desk { IsSameDesk desk.old desk.new }
+    ensures added { Holds (view desk.new) sent_apart (4 ∷ []) None [] }
+{
+    let letter = Letter {
+        past: Vec::new(alloc),
+    };
+    space.link(desk, 3, FIRST, 0, letter);
+    space.arm(desk, 3);
+}
+
+/// y is linked in the bag of the other object, and armed.
+fn add_y_apart(alloc: Global, space: &Space<Letter>, desk: &mut Desk<Letter>)
+    requires table { IsPairTable true space.now × (5 ≤ space.now.events) }
+    requires desk { IsDeskOf space.now desk.old × Holds (view desk.old) sent_apart (4 ∷ []) None [] }
+    ensures desk { IsSameDesk desk.old desk.new }
+    ensures added { Owes (view desk.new) 4 (key second_object 1) }
+{
+    let letter = Letter {
+        past: Vec::new(alloc),
+    };
+    space.link(desk, 4, SECOND, 1, letter);
+    space.arm(desk, 4);
+}
+
+/// Both messages are added, and nothing is found for y.
+fn leave_apart(
+    alloc: Global,
+    space: &Space<Letter>,
+    desk: &mut Desk<Letter>,
+    code: &Code,
+) -> Result<(), Fail>
+    requires table { IsPairTable true space.now × (5 ≤ space.now.events) × (code.now ≡ space_code space.now) }
+    requires desk { IsDeskOf space.now desk.old × (view desk.old ≡ newcomer_first) }
+    ensures desk { IsSameDesk desk.old desk.new }
+{
+    begun(space, desk, true)?;
+    make_second(space, desk)?;
+    send_x_apart(alloc, space, desk)?;
+    send_y_apart(alloc, space, desk)?;
+    add_x_apart(alloc, space, desk);
+    add_y_apart(alloc, space, desk);
+    match look_for(space, desk, code, 4, SECOND, 1) {
+        Finding::Left => Ok(()),
+        _ => Err(Fail::from("y is not left")),
+    }
+}
+
+#[test]
+fn desks_by_hand(rt: HostRuntime) -> Result<(), Fail> {
+    let code = coded(rt.alloc(), false)?;
+    let (space, mut first) = table(rt.alloc(), &code, false, 16)?;
+    let _ = play_to_loss(rt.alloc(), &space, &code, &mut first)?;
+    fire_once(rt.alloc(), &space, &mut first, &code)?;
+    Ok(())
+}
+
+#[test]
+fn desks_by_hand_spent(rt: HostRuntime) -> Result<(), Fail> {
+    let code = coded(rt.alloc(), false)?;
+    let (space, mut first) = table(rt.alloc(), &code, false, 4)?;
+    let mut other = play_to_loss(rt.alloc(), &space, &code, &mut first)?;
+    spend(&space, &mut first, &code)?;
+    find_pending_y(&space, &mut other)?;
+    Ok(())
+}
+
+#[test]
+fn spent(rt: HostRuntime) -> Result<(), Fail> {
+    let code = coded(rt.alloc(), false)?;
+    let (space, mut desk) = table(rt.alloc(), &code, false, 2)?;
+    send_no_x(rt.alloc(), &space, &mut desk)?;
+    assert!(rt; space.close(desk).drawn() == 2);
+    Ok(())
+}
+
+#[test]
+fn two_objects(rt: HostRuntime) -> Result<(), Fail> {
+    let code = coded(rt.alloc(), true)?;
+    let (space, mut desk) = table(rt.alloc(), &code, true, 16)?;
+    leave_apart(rt.alloc(), &space, &mut desk, &code)?;
+    match space.look_place(&mut desk, 4) {
+        Some((object, method)) => assert!(rt;
+            object.number == 2 && object.class == 0 && method == 1
+        ),
+        None => return Err(Fail::from("y has no place")),
+    }
+    assert!(rt; space.look_place(&mut desk, 1).is_none());
+    Ok(())
 }

@@ -20,6 +20,6 @@ pub returns-clause-added : goal.returns-clause-added
 returns-clause-added c =
     let v : View = view c.args.desk.now in let u : View = view c.link.new.desk in
     let linked = holds_linked v u sent_x (2 ∷ []) 2 (key first_object 0) c.link.ensures.linked.0 (head_number (key first_object 0)) refl c.requires.desk.1
-        (subst (λ (z : List Entry). u ≡ saw_head (flown (address_set v 2) 2 (key first_object 0) c.link.ensures.linked.0 z) (head_number (key first_object 0)) (Some 2)) c.new.ensures.items c.link.ensures.linked.1) in
+    (subst (λ (z : List Entry). u ≡ saw_head (flown (address_set v 2) 2 (key first_object 0) c.link.ensures.linked.0 z) (head_number (key first_object 0)) (Some 2)) c.new.ensures.items c.link.ensures.linked.1) in
     let armed = holds_armed u (view c.arm.new.desk) sent_x [] 2 (key first_object 0) (Some 2) (a_word Pending u.above) linked.0 linked.1 c.arm.ensures.armed in
     holds_lent (view c.arm.new.desk) (view c.split.new.desk) sent_x [] None [] 2 (key first_object 0) armed.0 armed.1 c.split.ensures.desk.1

@@ -18,4 +18,4 @@ pub returns-clause-linked : goal.returns-clause-linked
 returns-clause-linked c =
     let v : View = view c.args.desk.now in let u : View = view c.link.new.desk in
     holds_linked v u sent_both (3 ∷ []) 3 (key first_object 1) c.link.ensures.linked.0 (head_number (key first_object 1)) refl c.requires.desk.1
-        (subst (λ (z : List Entry). u ≡ saw_head (flown (address_set v 3) 3 (key first_object 1) c.link.ensures.linked.0 z) (head_number (key first_object 1)) (Some 3)) c.new.ensures.items c.link.ensures.linked.1)
+    (subst (λ (z : List Entry). u ≡ saw_head (flown (address_set v 3) 3 (key first_object 1) c.link.ensures.linked.0 z) (head_number (key first_object 1)) (Some 3)) c.new.ensures.items c.link.ensures.linked.1)

@@ -14,4 +14,4 @@ pub post-requires-clause-post : goal.post-requires-clause-post
 post-requires-clause-post c =
     let s = c.args.space.now in let v : View = view c.args.desk.now in let vs = c.of_items.ensures ∙ c.new.ensures.items in
     of_table (λ (p : Program). MayPost p v 4 c.in_ok-past.past.items) false s.events (space_code s) (space_limits s) c.requires.table.0.0 c.requires.table.0.1
-        (subst (MayPost (pair_program false s.events) v 4) (sym (c.in_ok-past.ensures.items ∙ (λ k. entry 4 4 (Fired 0 first_object (c.copied.ensures k) (vs k)) ∷ []))) (may_post s.events v c.args.members.now c.requires.desk.1))
+    (subst (MayPost (pair_program false s.events) v 4) (sym (c.in_ok-past.ensures.items ∙ (λ k. entry 4 4 (Fired 0 first_object (c.copied.ensures k) (vs k)) ∷ []))) (may_post s.events v c.args.members.now c.requires.desk.1))
