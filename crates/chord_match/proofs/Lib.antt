@@ -6,3 +6,5 @@ pub mod Finds
 pub mod Claims
 pub mod Unions
 pub mod Handovers
+pub mod Pairs
+pub mod ByHand

@@ -5,6 +5,8 @@
 //! Not here: who calls them, and what is done with a firing.
 #![tactic(auto)]
 
+#[cfg(test)]
+mod by_hand_tests;
 mod claiming;
 mod handing;
 pub mod nexts;
