@@ -1,5 +1,6 @@
 """What the benches share: the built program, times and instructions of a command, and programs in Rattle over copies of the crates."""
 
+import contextlib
 import os
 import re
 import resource
@@ -95,9 +96,10 @@ def below(crates):
     return found
 
 
-def rows_of(name, crates, source, answers=()):
-    """Proves, builds and runs a program in Rattle over copies of these crates, in a folder of its own; gives the words of each line that it prints.
-    The answers are pairs of a function's name and what its goals need."""
+@contextlib.contextmanager
+def built(name, crates, source, answers=()):
+    """Proves, builds and runs a program in Rattle over copies of these crates, in a folder of its own that stands as long as this; gives the words of each line
+    that it prints, and the program's path. The answers are pairs of a function's name and what its goals need."""
     with tempfile.TemporaryDirectory() as work:
         os.makedirs(f'{work}/crates/{name}/src')
         with open(f'{work}/crates.txt', 'w', encoding='utf-8') as file:
@@ -114,4 +116,10 @@ def rows_of(name, crates, source, answers=()):
         ran = subprocess.run(['rt', 'run'], cwd=f'{work}/crates/{name}', stdout=subprocess.PIPE, stderr=subprocess.PIPE, text=True, check=False)
         if ran.returncode:
             sys.exit(f'{name}: {ran.stdout[-2000:]}{ran.stderr[-2000:]}')
-    return [line.split() for line in ran.stdout.splitlines()]
+        yield [line.split() for line in ran.stdout.splitlines()], f'{work}/crates/{name}/out/{name}'
+
+
+def rows_of(name, crates, source, answers=()):
+    """The words of each line that such a program prints."""
+    with built(name, crates, source, answers) as (rows, _):
+        return rows

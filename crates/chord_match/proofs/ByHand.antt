@@ -35,7 +35,7 @@ use Rattle.chord_match.specs.declared.search.Finding.{Finding}
 use Rattle.chord_match.specs.declared.search.Finding.TheVariants.{Match, Left, Taken, Busy}
 use Rattle.chord_match.specs.Findings.{IsFinding, IsMatch, IsBusyWith, read_so}
 use Rattle.chord_match.specs.Seen.{HasSought, Grows}
-use Rattle.chord_match.specs.Pairs.{pair_code, limits_of, pair_program, first_object, second_object, made_one, sent_x, sent_both, made_two, sent_x_apart, sent_apart, Holds, HoldsClaim, Owes, IsAsBefore, KeepsDuties, KeepsSeen, TakesClaim, GivesClaim, LeavesDuty, HasFired, IsFiring, IsLetter}
+use Rattle.chord_match.specs.Pairs.{pair_code, pair_limits, pair_program, first_object, second_object, made_one, sent_x, sent_both, made_two, sent_x_apart, sent_apart, HasInHand, HoldsClaim, Owes, IsAsBefore, KeepsDuties, KeepsSeen, TakesClaim, GivesClaim, LeavesDuty, KeepsFiring, SaysFired, IsLetter}
 use Rattle.chord_rule.specs.Parcels.{IsParkedThere}
 use Rattle.chord_match.specs.Fires.{AreOlder, AreComing, IsComing, IsFired, all_together, firing_entry, laid_together}
 use Rattle.chord_match.proofs.Growing.{duty_on as duty_kept, seen_on, sought_grows, found_ready}
@@ -43,13 +43,13 @@ use Rattle.chord_match.proofs.Growing.{duty_on as duty_kept, seen_on, sought_gro
 -- ## The program of a table
 
 -- what holds of the program of the code and its limits holds of that of a table for them
-pub of_table : (P : Program → Type 0) (two : Bool) (n : ℕ) (code : Parts) (limits : Limits) → code ≡ pair_code two → limits ≡ limits_of n → P (pair_program two n) → P (code_program code limits)
+pub of_table : (P : Program → Type 0) (two : Bool) (n : ℕ) (code : Parts) (limits : Limits) → code ≡ pair_code two → limits ≡ pair_limits n → P (pair_program two n) → P (code_program code limits)
 of_table P two n code limits a b h = subst (λ (z : Parts × Limits). P (code_program z.0 z.1)) (λ i. (sym a i, sym b i)) h
 
 -- `Main` first makes an object
-pub asks_made : (two : Bool) (n : ℕ) → Asks (pair_program two n) (entry 0 0 Begun ∷ []) 0 (Made 0)
-asks_made false n = (0, refl)
-asks_made true n = (0, refl)
+pub asks_object : (two : Bool) (n : ℕ) → Asks (pair_program two n) (entry 0 0 Begun ∷ []) 0 (Made 0)
+asks_object false n = (0, refl)
+asks_object true n = (0, refl)
 
 -- then it sends it the first message
 pub asks_x : (n : ℕ) → Asks (pair_program false n) made_one 0 (Sent first_object 0 [])
@@ -72,31 +72,34 @@ pub asks_y_apart : (n : ℕ) → Asks (pair_program true n) sent_x_apart 0 (Sent
 asks_y_apart n = (0, refl)
 
 -- an ask that sends no values is one of the table's program
-pub may_send : (two : Bool) (n : ℕ) (code : Parts) (limits : Limits) (es held : List Entry) (o : Object) (j : ℕ) (vs : List Value) → code ≡ pair_code two → limits ≡ limits_of n → held ≡ es → vs ≡ [] → Asks (pair_program two n) es 0 (Sent o j []) → Asks (code_program code limits) held 0 (Sent o j vs)
+pub may_send : (two : Bool) (n : ℕ) (code : Parts) (limits : Limits) (es held : List Entry) (o : Object) (j : ℕ) (vs : List Value) → code ≡ pair_code two → limits ≡ pair_limits n → held ≡ es → vs ≡ [] → Asks (pair_program two n) es 0 (Sent o j []) → Asks (code_program code limits) held 0 (Sent o j vs)
 may_send two n code limits es held o j vs a b keeps none asks = of_table (λ (p : Program). Asks p held 0 (Sent o j vs)) two n code limits a b (subst (λ (z : List Entry × List Value). Asks (pair_program two n) z.0 0 (Sent o j z.1)) (λ i. (sym keeps i, sym none i)) asks)
 
 -- what the desk keeps is told
 pub told_made : (two : Bool) (n : ℕ) → IsTold (pair_program two n) made_one
-told_made two n = ((tt, tt, refl), omega (arith), asks_made two n)
+told_made two n = ((tt, tt, refl), omega (arith), asks_object two n)
 
+-- with the message x
 pub told_x : (n : ℕ) → IsTold (pair_program false n) sent_x
 told_x n = (told_made false n, omega (arith), asks_x n)
 
+-- with both messages
 pub told_both : (n : ℕ) → IsTold (pair_program false n) sent_both
 told_both n = (told_x n, omega (arith), asks_y n)
 
+-- with two objects and a message to each
 pub told_apart : (n : ℕ) → IsTold (pair_program true n) sent_apart
 told_apart n = (((told_made true n, omega (arith), asks_second n), omega (arith), asks_x_apart n), omega (arith), asks_y_apart n)
 
 -- ## Draws
 
 -- a desk at the start keeps nothing
-pub holds_first : (v : View) → v ≡ newcomer_first → Holds v [] [] None []
-holds_first v e = subst (λ (z : View). Holds z [] [] None []) (sym e) (record { room = refl; kept = refl; fresh_are = refl; flight_is = refl; claims_are = refl })
+pub holds_first : (v : View) → v ≡ newcomer_first → HasInHand v [] [] None []
+holds_first v e = subst (λ (z : View). HasInHand z [] [] None []) (sym e) (record { room = refl; kept = refl; fresh_are = refl; flight_is = refl; claims_are = refl })
 
 -- after a draw it keeps one entry more
-pub holds_drew : (v w : View) (es : List Entry) (fresh : List ℕ) (flight : Option ℕ) (cs : List Claim) (x b : ℕ) (what : What) (c : ℕ) → Holds v es fresh flight cs → w ≡ saw_count (drew v x b what) c → Holds w (entry x b what ∷ es) (fresh_after x what fresh) flight cs
-holds_drew v w es fresh flight cs x b what c h e = subst (λ (z : View). Holds z (entry x b what ∷ es) (fresh_after x what fresh) flight cs) (sym e) (record {
+pub holds_drew : (v w : View) (es : List Entry) (fresh : List ℕ) (flight : Option ℕ) (cs : List Claim) (x b : ℕ) (what : What) (c : ℕ) → HasInHand v es fresh flight cs → w ≡ saw_count (drew v x b what) c → HasInHand w (entry x b what ∷ es) (fresh_after x what fresh) flight cs
+holds_drew v w es fresh flight cs x b what c h e = subst (λ (z : View). HasInHand z (entry x b what ∷ es) (fresh_after x what fresh) flight cs) (sym e) (record {
   room = h.room;
   kept = ap (λ (z : List Entry). entry x b what ∷ z) h.kept;
   fresh_are = ap (fresh_after x what) h.fresh_are;
@@ -118,7 +121,7 @@ none_called (x ∷ es) quiet e q (inl t) c = quiet.0 q (subst (IsCall q) t c)
 none_called (x ∷ es) quiet e q (inr t) c = none_called es quiet.1 e q t c
 
 -- a desk may link a message that it sent, with a parcel that keeps nothing
-may_add : (p : Program) (v : View) (es : List Entry) (fresh : List ℕ) (m : ℕ) (o : Object) (j : ℕ) → Holds v es fresh None [] → HasNumber m fresh → IsIn (entry m 0 (Sent o j [])) es → kept (is_among []) es ≡ [] → left_by [] es ≡ es → IsTold p es → NoCalls es → MayLink p v m o j [] []
+may_add : (p : Program) (v : View) (es : List Entry) (fresh : List ℕ) (m : ℕ) (o : Object) (j : ℕ) → HasInHand v es fresh None [] → HasNumber m fresh → IsIn (entry m 0 (Sent o j [])) es → kept (is_among []) es ≡ [] → left_by [] es ≡ es → IsTold p es → NoCalls es → MayLink p v m o j [] []
 may_add p v es fresh m o j h has there none left told quiet = record {
   fresh = subst (HasNumber m) (sym h.fresh_are) has;
   idle = h.flight_is;
@@ -132,62 +135,65 @@ may_add p v es fresh m o j h has there none left told quiet = record {
   parked = λ b t. absurd t.1;
 }
 
--- the entries of the tests are no calls
+-- the beginning of `Main` is no call
 begun_no_call : (q : ℕ) → IsCall q (entry 0 0 Begun) → ⊥
 begun_no_call q c = let z : Begun ≡ Called c.1.0 c.1.1 c.1.2 = c.1.3 in cc
 
+-- nor is that of an object
 made_no_call : (x q : ℕ) → IsCall q (entry x 0 (Made 0)) → ⊥
 made_no_call x q c = let z : Made 0 ≡ Called c.1.0 c.1.1 c.1.2 = c.1.3 in cc
 
+-- nor that of a message which is sent
 sent_no_call : (x : ℕ) (o : Object) (j q : ℕ) → IsCall q (entry x 0 (Sent o j [])) → ⊥
 sent_no_call x o j q c = let z : Sent o j [] ≡ Called c.1.0 c.1.1 c.1.2 = c.1.3 in cc
 
 -- the first desk may link x
-pub may_add_x : (n : ℕ) (v : View) → Holds v sent_x (2 ∷ []) None [] → MayLink (pair_program false n) v 2 first_object 0 [] []
+pub may_add_x : (n : ℕ) (v : View) → HasInHand v sent_x (2 ∷ []) None [] → MayLink (pair_program false n) v 2 first_object 0 [] []
 may_add_x n v h = may_add (pair_program false n) v sent_x (2 ∷ []) 2 first_object 0 h (inl refl) (inl refl) refl refl (told_x n) (sent_no_call 2 first_object 0, (made_no_call 1, (begun_no_call, tt)))
 
 -- and y
-pub may_add_y : (n : ℕ) (v : View) → Holds v sent_both (3 ∷ []) None [] → MayLink (pair_program false n) v 3 first_object 1 [] []
+pub may_add_y : (n : ℕ) (v : View) → HasInHand v sent_both (3 ∷ []) None [] → MayLink (pair_program false n) v 3 first_object 1 [] []
 may_add_y n v h = may_add (pair_program false n) v sent_both (3 ∷ []) 3 first_object 1 h (inl refl) (inl refl) refl refl (told_both n) (sent_no_call 3 first_object 1, (sent_no_call 2 first_object 0, (made_no_call 1, (begun_no_call, tt))))
 
--- and x and y of two objects
-pub may_add_x_apart : (n : ℕ) (v : View) → Holds v sent_apart (4 ∷ 3 ∷ []) None [] → MayLink (pair_program true n) v 3 first_object 0 [] []
+-- and x where y goes to another object
+pub may_add_x_apart : (n : ℕ) (v : View) → HasInHand v sent_apart (4 ∷ 3 ∷ []) None [] → MayLink (pair_program true n) v 3 first_object 0 [] []
 may_add_x_apart n v h = may_add (pair_program true n) v sent_apart (4 ∷ 3 ∷ []) 3 first_object 0 h (inr (inl refl)) (inr (inl refl)) refl refl (told_apart n) (sent_no_call 4 second_object 1, (sent_no_call 3 first_object 0, (made_no_call 2, (made_no_call 1, (begun_no_call, tt)))))
 
-pub may_add_y_apart : (n : ℕ) (v : View) → Holds v sent_apart (4 ∷ []) None [] → MayLink (pair_program true n) v 4 second_object 1 [] []
+-- and then y
+pub may_add_y_apart : (n : ℕ) (v : View) → HasInHand v sent_apart (4 ∷ []) None [] → MayLink (pair_program true n) v 4 second_object 1 [] []
 may_add_y_apart n v h = may_add (pair_program true n) v sent_apart (4 ∷ []) 4 second_object 1 h (inl refl) (inl refl) refl refl (told_apart n) (sent_no_call 4 second_object 1, (sent_no_call 3 first_object 0, (made_no_call 2, (made_no_call 1, (begun_no_call, tt)))))
 
 -- once it is linked the message is in flight, in its bag
-pub holds_linked : (v w : View) (es : List Entry) (fresh : List ℕ) (m k : ℕ) (above : Option ℕ) (head : ℕ) → left_by [] es ≡ es → Holds v es fresh None [] → w ≡ saw_head (flown (address_set v m) m k above []) head (Some m) → Holds w es (without m fresh) (Some m) [] × (w.bag ≡ k)
-holds_linked v w es fresh m k above head left h e = subst (λ (z : View). Holds z es (without m fresh) (Some m) [] × (z.bag ≡ k)) (sym e) (
+pub holds_linked : (v w : View) (es : List Entry) (fresh : List ℕ) (m k : ℕ) (above : Option ℕ) (head : ℕ) → left_by [] es ≡ es → HasInHand v es fresh None [] → w ≡ saw_head (flown (address_set v m) m k above []) head (Some m) → HasInHand w es (without m fresh) (Some m) [] × (w.bag ≡ k)
+holds_linked v w es fresh m k above head left h e = subst (λ (z : View). HasInHand z es (without m fresh) (Some m) [] × (z.bag ≡ k)) (sym e) (
   record { room = h.room; kept = ap (left_by []) h.kept ∙ left; fresh_are = ap (without m) h.fresh_are; flight_is = refl; claims_are = h.claims_are },
   refl,
 )
 
 -- once it is armed the desk has a duty on it
-pub holds_armed : (v w : View) (es : List Entry) (fresh : List ℕ) (m k : ℕ) (flight : Option ℕ) (c : Word) → Holds v es fresh flight [] → v.bag ≡ k → w ≡ saw (armed v m) m c → Holds w es fresh None [] × Owes w m k
-holds_armed v w es fresh m k flight c h bag e = subst (λ (z : View). Holds z es fresh None [] × Owes z m k) (sym e) (
+pub holds_armed : (v w : View) (es : List Entry) (fresh : List ℕ) (m k : ℕ) (flight : Option ℕ) (c : Word) → HasInHand v es fresh flight [] → v.bag ≡ k → w ≡ saw (armed v m) m c → HasInHand w es fresh None [] × Owes w m k
+holds_armed v w es fresh m k flight c h bag e = subst (λ (z : View). HasInHand z es fresh None [] × Owes z m k) (sym e) (
   record { room = h.room; kept = h.kept; fresh_are = h.fresh_are; flight_is = refl; claims_are = h.claims_are },
   (duty_on m v.bag, inl refl, refl, bag),
 )
 
 -- a desk that is lent changes nothing else
-pub holds_lent : (v w : View) (es : List Entry) (fresh : List ℕ) (flight : Option ℕ) (cs : List Claim) (m k : ℕ) → Holds v es fresh flight cs → Owes v m k → w ≡ lent_one v → Holds w es fresh flight cs × Owes w m k
-holds_lent v w es fresh flight cs m k h d e = subst (λ (z : View). Holds z es fresh flight cs × Owes z m k) (sym e) (record { room = h.room; kept = h.kept; fresh_are = h.fresh_are; flight_is = h.flight_is; claims_are = h.claims_are }, d)
+pub holds_lent : (v w : View) (es : List Entry) (fresh : List ℕ) (flight : Option ℕ) (cs : List Claim) (m k : ℕ) → HasInHand v es fresh flight cs → Owes v m k → w ≡ lent_one v → HasInHand w es fresh flight cs × Owes w m k
+holds_lent v w es fresh flight cs m k h d e = subst (λ (z : View). HasInHand z es fresh flight cs × Owes z m k) (sym e) (record { room = h.room; kept = h.kept; fresh_are = h.fresh_are; flight_is = h.flight_is; claims_are = h.claims_are }, d)
 
 -- ## Looks and searches
 
 -- looks change nothing that a desk holds
 pub same_by_looks : (v w : View) → w ≡ with_looks v w.duties w.looked → IsAsBefore v w
-same_by_looks v w e es fresh flight cs h = subst (λ (z : View). Holds z es fresh flight cs) (sym e) (record { room = h.room; kept = h.kept; fresh_are = h.fresh_are; flight_is = h.flight_is; claims_are = h.claims_are })
+same_by_looks v w e es fresh flight cs h = subst (λ (z : View). HasInHand z es fresh flight cs) (sym e) (record { room = h.room; kept = h.kept; fresh_are = h.fresh_are; flight_is = h.flight_is; claims_are = h.claims_are })
 
 -- one look at a cell
 pub same_by_look : (v w : View) (i : ℕ) (c : Word) → w ≡ looked_cell v i c → IsAsBefore v w
-same_by_look v w i c e es fresh flight cs h = subst (λ (z : View). Holds z es fresh flight cs) (sym e) (record { room = h.room; kept = h.kept; fresh_are = h.fresh_are; flight_is = h.flight_is; claims_are = h.claims_are })
+same_by_look v w i c e es fresh flight cs h = subst (λ (z : View). HasInHand z es fresh flight cs) (sym e) (record { room = h.room; kept = h.kept; fresh_are = h.fresh_are; flight_is = h.flight_is; claims_are = h.claims_are })
 
 -- what is laid down is a duty alone
 same_by_rest : (v w : View) (i : ℕ) → w ≡ rested v i → IsAsBefore v w
-same_by_rest v w i e es fresh flight cs h = subst (λ (z : View). Holds z es fresh flight cs) (sym e) (record { room = h.room; kept = h.kept; fresh_are = h.fresh_are; flight_is = h.flight_is; claims_are = h.claims_are })
+same_by_rest v w i e es fresh flight cs h = subst (λ (z : View). HasInHand z es fresh flight cs) (sym e) (record { room = h.room; kept = h.kept; fresh_are = h.fresh_are; flight_is = h.flight_is; claims_are = h.claims_are })
 
 -- one change after another
 same_after : (u v w : View) → IsAsBefore u v → IsAsBefore v w → IsAsBefore u w
@@ -260,13 +266,13 @@ duties_by_saw v u w i c l e m k d = subst (λ (z : View). Owes z m k) (sym e) (d
 
 -- a claim that failed
 pub same_by_saw : (v w : View) (i : ℕ) (c : Word) → w ≡ saw v i c → IsAsBefore v w
-same_by_saw v w i c e es fresh flight cs h = subst (λ (z : View). Holds z es fresh flight cs) (sym e) (record { room = h.room; kept = h.kept; fresh_are = h.fresh_are; flight_is = h.flight_is; claims_are = h.claims_are })
+same_by_saw v w i c e es fresh flight cs h = subst (λ (z : View). HasInHand z es fresh flight cs) (sym e) (record { room = h.room; kept = h.kept; fresh_are = h.fresh_are; flight_is = h.flight_is; claims_are = h.claims_are })
 
 -- a claim that was made
 pub takes_claim : (v w : View) (i : ℕ) (next : Option ℕ) (c : Claim) → IsNewClaim v i next c → w ≡ saw (claimed v c) i (a_word Claimed next) → TakesClaim v w i
 takes_claim v w i next c new e es h = (
   c,
-  subst (λ (z : View). Holds z es [] None (c ∷ [])) (sym e) (record { room = h.room; kept = h.kept; fresh_are = h.fresh_are; flight_is = h.flight_is; claims_are = ap (λ (z : List Claim). c ∷ z) h.claims_are }),
+  subst (λ (z : View). HasInHand z es [] None (c ∷ [])) (sym e) (record { room = h.room; kept = h.kept; fresh_are = h.fresh_are; flight_is = h.flight_is; claims_are = ap (λ (z : List Claim). c ∷ z) h.claims_are }),
   new.numbered,
   new.unfired,
 )
@@ -277,7 +283,7 @@ may_give v es i h = (h.0, subst (HasThe h.0) (sym h.1.claims_are) (inl refl), h.
 
 -- a claim that was given back
 pub gives_claim : (v w : View) (i : ℕ) → ((c : Claim) → HasThe c v.claims → c.number ≡ i → w ≡ saw (unclaimed v i) i (a_word Pending c.next)) → GivesClaim v w i
-gives_claim v w i given es h = let t = may_give v es i h in subst (λ (z : View). Holds z es [] None []) (sym (given t.0 t.1 t.2)) (record {
+gives_claim v w i given es h = let t = may_give v es i h in subst (λ (z : View). HasInHand z es [] None []) (sym (given t.0 t.1 t.2)) (record {
   room = h.1.room;
   kept = h.1.kept;
   fresh_are = h.1.fresh_are;
@@ -290,7 +296,7 @@ gives_claim v w i given es h = let t = may_give v es i h in subst (λ (z : View)
 -- an attempt that was lost
 pub same_by_lost : (v w : View) → w ≡ record v { looked = w.looked } → IsAsBefore v w × KeepsDuties v w
 same_by_lost v w e = (
-  (λ es fresh flight cs h. subst (λ (z : View). Holds z es fresh flight cs) (sym e) (record { room = h.room; kept = h.kept; fresh_are = h.fresh_are; flight_is = h.flight_is; claims_are = h.claims_are })),
+  (λ es fresh flight cs h. subst (λ (z : View). HasInHand z es fresh flight cs) (sym e) (record { room = h.room; kept = h.kept; fresh_are = h.fresh_are; flight_is = h.flight_is; claims_are = h.claims_are })),
   (λ m k d. subst (λ (z : View). Owes z m k) (sym e) d),
 )
 
@@ -300,7 +306,7 @@ not_begun p es m s None before t = t
 not_begun p es m s (Some q) before t = t
 
 -- so the body of a firing whose entry stands alone is not
-not_parked : (p : Program) (es : List Entry) (m : Option ℕ) (f : ℕ) (what : What) (d : Doing) → IsFiring what → IsParkedThere p es m (own p f what (λ q. maker q []) (doing p []) d) → ⊥
+not_parked : (p : Program) (es : List Entry) (m : Option ℕ) (f : ℕ) (what : What) (d : Doing) → SaysFired what → IsParkedThere p es m (own p f what (λ q. maker q []) (doing p []) d) → ⊥
 not_parked p es m f (Fired k o ms vs) d is t = not_begun p es m (Chord k o vs) (served p (Fired k o ms vs)) (doing p []) t
 not_parked p es m f Begun d is t = is
 not_parked p es m f (Made c) d is t = is
@@ -334,24 +340,24 @@ module _ {P : Type 0} (entries : P → List Entry) (arguments : P → List Value
   no_values (q ∷ qs) = ap (λ (z : List Value). z ++ laid_together arguments qs) (none q) ∙ no_values qs
 
   -- the desk keeps what it kept, and the firing's entry
-  pub has_fired : (p : Program) (n : ℕ) (v w : View) (ms : List ℕ) (f : ℕ) (qs : List P) → Holds v sent_both [] None [] → IsFired entries arguments keeps_to p n v w first_object 0 ms f qs → HasFired w ms f
-  has_fired p n v w ms f qs h fired = let vs = no_values qs in record {
+  pub holds_fired : (p : Program) (n : ℕ) (v w : View) (ms : List ℕ) (f : ℕ) (qs : List P) → HasInHand v sent_both [] None [] → IsFired entries arguments keeps_to p n v w first_object 0 ms f qs → KeepsFiring w ms f
+  holds_fired p n v w ms f qs h fired = let vs = no_values qs in record {
     kept = ap (λ (z : View). z.kept) fired.view ∙ nothing_comes p first_object (firing_entry arguments first_object 0 ms f qs ∷ v.kept) fired.methods ms f qs fired.older fired.coming ∙ (λ k. entry f f (Fired 0 first_object ms (vs k)) ∷ h.kept k);
     fresh = ap (λ (z : View). z.fresh) fired.view ∙ h.fresh_are;
     unposted = subst (HasNumber f) (sym (ap (λ (z : View). z.unposted) fired.view)) (inl refl);
   }
 
 -- what was read of a cell changes nothing of that
-pub still_fired : (v w : View) (i : ℕ) (c : Word) → w ≡ saw v i c → (ms : List ℕ) (f : ℕ) → HasFired v ms f → HasFired w ms f
-still_fired v w i c e ms f h = subst (λ (z : View). HasFired z ms f) (sym e) (record { kept = h.kept; fresh = h.fresh; unposted = h.unposted })
+pub still_fired : (v w : View) (i : ℕ) (c : Word) → w ≡ saw v i c → (ms : List ℕ) (f : ℕ) → KeepsFiring v ms f → KeepsFiring w ms f
+still_fired v w i c e ms f h = subst (λ (z : View). KeepsFiring z ms f) (sym e) (record { kept = h.kept; fresh = h.fresh; unposted = h.unposted })
 
 -- the entry that is posted
 abbrev pub fourth : List ℕ → Entry
 fourth ms = entry 4 4 (Fired 0 first_object ms [])
 
 -- the desk may post the firing with its entry
-pub may_post : (n : ℕ) (v : View) (ms : List ℕ) → HasFired v ms 4 → MayPost (pair_program false n) v 4 (fourth ms ∷ [])
-may_post n v ms h = record {
+pub may_post_fourth : (n : ℕ) (v : View) (ms : List ℕ) → KeepsFiring v ms 4 → MayPost (pair_program false n) v 4 (fourth ms ∷ [])
+may_post_fourth n v ms h = record {
   unposted = h.unposted;
   goes = record { part = ap (kept (is_among (fourth ms ∷ []))) h.kept; goes = (tt, tt, refl); stays = subst (IsTold (pair_program false n)) (sym (ap (left_by (fourth ms ∷ [])) h.kept)) (told_both n) };
   linked = λ e x is says has. absurd (subst (HasNumber e.number) h.fresh has);

@@ -51,16 +51,16 @@ pair_code two = record {
 -- ## Their tables and desks
 
 -- the limits of their tables
-abbrev pub limits_of : ℕ → Limits
-limits_of n = record { events = n; turns = 9; depth = 9 }
+abbrev pub pair_limits : ℕ → Limits
+pair_limits n = record { events = n; turns = 9; depth = 9 }
 
 -- the meaning of the code under them
 abbrev pub pair_program : Bool → ℕ → Program
-pair_program two n = code_program (pair_code two) (limits_of n)
+pair_program two n = code_program (pair_code two) (pair_limits n)
 
 -- a table for the code
 abbrev pub IsPairTable : {P : Type 0} → Bool → Space P → Type 0
-IsPairTable two s = (space_code s ≡ pair_code two) × (space_limits s ≡ limits_of s.events)
+IsPairTable two s = (space_code s ≡ pair_code two) × (space_limits s ≡ pair_limits s.events)
 
 -- the object of `Main`
 abbrev pub first_object : Object
@@ -95,7 +95,7 @@ abbrev pub sent_apart : List Entry
 sent_apart = entry 4 0 (Sent second_object 1 []) ∷ sent_x_apart
 
 -- a desk keeps these entries, has these messages to link, this one in flight and these claims, and was not told of the limit
-pub record Holds (v : View) (es : List Entry) (fresh : List ℕ) (flight : Option ℕ) (claims : List Claim) : Type 0 where
+pub record HasInHand (v : View) (es : List Entry) (fresh : List ℕ) (flight : Option ℕ) (claims : List Claim) : Type 0 where
   pub room : v.spent ≡ false
   pub kept : v.kept ≡ es
   pub fresh_are : v.fresh ≡ fresh
@@ -112,7 +112,7 @@ Owes v m k = (d : Duty) × HasDuty d v.duties × (d.message ≡ m) × (d.bag ≡
 
 -- the desk holds what it held
 abbrev pub IsAsBefore : View → View → Type 0
-IsAsBefore v w = (es : List Entry) (fresh : List ℕ) (flight : Option ℕ) (cs : List Claim) → Holds v es fresh flight cs → Holds w es fresh flight cs
+IsAsBefore v w = (es : List Entry) (fresh : List ℕ) (flight : Option ℕ) (cs : List Claim) → HasInHand v es fresh flight cs → HasInHand w es fresh flight cs
 
 -- it has the duties that it had
 abbrev pub KeepsDuties : View → View → Type 0
@@ -124,15 +124,15 @@ KeepsSeen v w = (i : ℕ) (next : Option ℕ) → HasSeen v i next → HasSeen w
 
 -- the desk keeps these entries, and has one claim, on this message, with which no firing was drawn
 abbrev pub HoldsClaim : View → List Entry → ℕ → Type 0
-HoldsClaim v es i = (c : Claim) × Holds v es [] None (c ∷ []) × (c.number ≡ i) × (c.firing ≡ None)
+HoldsClaim v es i = (c : Claim) × HasInHand v es [] None (c ∷ []) × (c.number ≡ i) × (c.firing ≡ None)
 
 -- a desk without a claim has claimed the message, and else holds what it held
 abbrev pub TakesClaim : View → View → ℕ → Type 0
-TakesClaim v w i = (es : List Entry) → Holds v es [] None [] → HoldsClaim w es i
+TakesClaim v w i = (es : List Entry) → HasInHand v es [] None [] → HoldsClaim w es i
 
 -- the desk has given its claim on the message back, and else holds what it held
 abbrev pub GivesClaim : View → View → ℕ → Type 0
-GivesClaim v w i = (es : List Entry) → HoldsClaim v es i → Holds w es [] None []
+GivesClaim v w i = (es : List Entry) → HoldsClaim v es i → HasInHand w es [] None []
 
 -- what a search for a message leaves: its duty where it was not laid down, and the members of a match as they were seen
 abbrev pub LeavesDuty : Program → ℕ → View → ℕ → Object → ℕ → Finding → Type 0
@@ -142,21 +142,21 @@ LeavesDuty p n w m o method Left = Unit {0}
 LeavesDuty p n w m o method Taken = Unit {0}
 
 -- the desk keeps both messages and the entry of a firing of the chord with these members, which it has not posted
-pub record HasFired (v : View) (ms : List ℕ) (f : ℕ) : Type 0 where
+pub record KeepsFiring (v : View) (ms : List ℕ) (f : ℕ) : Type 0 where
   pub kept : v.kept ≡ entry f f (Fired 0 first_object ms []) ∷ sent_both
   pub fresh : v.fresh ≡ []
   pub unposted : HasNumber f v.unposted
 
 -- the entry of a firing
-abbrev pub IsFiring : What → Type 0
-IsFiring (Fired k o ms vs) = Unit {0}
-IsFiring Begun = ⊥
-IsFiring (Made c) = ⊥
-IsFiring (Sent o j vs) = ⊥
-IsFiring (Called o j vs) = ⊥
-IsFiring (Printed t) = ⊥
-IsFiring (Ended x) = ⊥
+abbrev pub SaysFired : What → Type 0
+SaysFired (Fired k o ms vs) = Unit {0}
+SaysFired Begun = ⊥
+SaysFired (Made c) = ⊥
+SaysFired (Sent o j vs) = ⊥
+SaysFired (Called o j vs) = ⊥
+SaysFired (Printed t) = ⊥
+SaysFired (Ended x) = ⊥
 
 -- a parcel of these tests keeps nothing, or the entry of a firing
 abbrev pub IsLetter : List Entry → Type 0
-IsLetter es = (es ≡ []) ⊎ ((f : ℕ) × (what : What) × (es ≡ entry f f what ∷ []) × IsFiring what)
+IsLetter es = (es ≡ []) ⊎ ((f : ℕ) × (what : What) × (es ≡ entry f f what ∷ []) × SaysFired what)

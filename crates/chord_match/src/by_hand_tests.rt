@@ -1,191 +1,38 @@
 //! Desks by hand: the steps of a firing one by one, of messages to one object and to two, with what each desk knows after them.
 #![tactic(auto)]
 
-ghost use Rattle.std.specs.Prelude.{◌≡◌, ◌⊎◌, ℕ, ◌≤◌, ◌<◌, ◌+◌, true, false, List, [], ◌∷◌, Option, Some, None, IfOk, IfErr, OnOk};
-ghost use Rattle.chord_base.specs.declared.event.What.TheVariants.{Begun, Made, Sent};
+ghost use Rattle.std.specs.Prelude.{◌≡◌, ℕ, ◌≤◌, ◌<◌, true, false, List, [], ◌∷◌, Option, Some, None, IfOk, IfErr, OnOk};
+ghost use Rattle.chord_base.specs.declared.event.Entry as event;
+ghost use Rattle.chord_bag.specs.declared.walk.Sought.TheVariants.{Found};
 ghost use Rattle.chord_rule.specs.Kinds.{newcomer, newcomer_first};
 ghost use Rattle.chord_rule.specs.Looks.{HasSeen};
 ghost use Rattle.chord_rule.specs.Made.{key};
 ghost use Rattle.chord_space.specs.Desks.{view, space_code, program_of, IsDeskOf, IsSameDesk};
-ghost use Rattle.chord_match.specs.Pairs.{main_body, main_slots, pair_code, pair_program, IsPairTable, first_object, second_object, made_one, sent_x, sent_both, made_two, sent_x_apart, sent_apart, Holds, HoldsClaim, IsUnsplit, Owes, KeepsSeen, KeepsDuties, IsAsBefore, TakesClaim, GivesClaim, LeavesDuty, HasFired, IsLetter};
+ghost use Rattle.chord_match.specs.Pairs.{IsPairTable, first_object, second_object, made_one, sent_x, sent_both, made_two, sent_x_apart, sent_apart, HasInHand, HoldsClaim, IsUnsplit, Owes, KeepsSeen, KeepsDuties, IsAsBefore, TakesClaim, GivesClaim, LeavesDuty, KeepsFiring};
 ghost use Rattle.chord_match.specs.Seen.{AreSeen};
 ghost use Rattle.chord_match.specs.declared.handing.Firing.TheVariants.{Fired, Lost};
-ghost use Rattle.chord_bag.specs.declared.walk.Sought.TheVariants.{Found};
-ghost use Rattle.chord_base.specs.declared.event.Entry as event;
+ghost use Rattle.chord_match.specs.declared.pair_tests.Letter as letter;
 
 use crate::handing::{Firing, fire};
 use crate::nexts::Nexts;
+use crate::pair_tests::{FIRST, Letter, SECOND, coded, table};
 use crate::search::{Finding, find};
 use chord_bag::{Sought, seek};
-use chord_base::event::{Entry, Limits, What};
+use chord_base::event::{Entry, What};
 use chord_base::members::Members;
-use chord_base::text::Text;
 use chord_base::value::{Object, Values};
-use chord_code::carry::Carry;
 use chord_code::code::Code;
-use chord_code::instruction::Instruction;
-use chord_code::lines::Lines;
-use chord_code::parts::{Block, ChordLine, ClassLine, MethodLine, MethodNumbers, Parts};
-use chord_code::valid::valid;
 use chord_space::{Desk, Space};
-use chord_word::{Cell, Word};
+use chord_word::Cell;
 use std::alloc::Global;
 use std::test::Fail;
-
-/// The object that `Main` makes first.
-const FIRST: Object = Object {
-    number: 1,
-    class: 0,
-};
-
-/// The object that it makes second, where it makes two.
-const SECOND: Object = Object {
-    number: 2,
-    class: 0,
-};
-
-/// A parcel that keeps nothing, or the entry of a firing.
-#[derive(Drop)]
-struct Letter {
-    past: Vec<Entry>,
-}
-
-impl Carry for Letter {
-    ghost entries = { λ q. q.past.items };
-
-    ghost arguments = { λ _. [] };
-
-    ghost keeps_to = { λ q _ _. IsLetter q.past.items };
-}
-
-/// What `Main` does.
-fn instructions(alloc: Global, two: bool) -> Result<Vec<Instruction>, Fail>
-    ensures { IfOk result (λ is. is.items ≡ main_body two) }
-{
-    if two {
-        return Ok(vec![in alloc;
-            Instruction::New(0, 0),
-            Instruction::Store(1),
-            Instruction::New(0, 0),
-            Instruction::Store(2),
-            Instruction::Load(1),
-            Instruction::Send(0, 0),
-            Instruction::Load(2),
-            Instruction::Send(1, 0),
-            Instruction::End,
-        ]?);
-    }
-    Ok(vec![in alloc;
-        Instruction::New(0, 0),
-        Instruction::Store(1),
-        Instruction::Load(1),
-        Instruction::Send(0, 0),
-        Instruction::Load(1),
-        Instruction::Send(1, 0),
-        Instruction::End,
-    ]?)
-}
-
-/// A name.
-fn named(alloc: Global, name: &[u8]) -> Result<Text, Fail>
-    ensures { IfOk result (λ text. text ≡ name.now) }
-{
-    match Text::of_bytes(alloc, name) {
-        Ok(text) => Ok(text),
-        Err(_) => Err(Fail::from("memory")),
-    }
-}
-
-/// The class with the chord.
-fn paired(alloc: Global) -> Result<ClassLine, Fail>
-    ensures { IfOk result (λ line. line ≡ record { name = 65 ∷ []; builder = None; methods = record { name = 120 ∷ []; sync = false; parameters = 0 } ∷ record { name = 121 ∷ []; sync = false; parameters = 0 } ∷ []; chords = record { block = 1; methods = 0 ∷ 1 ∷ [] } ∷ [] }) }
-{
-    let methods = vec![in alloc;
-        MethodLine {
-            name: named(alloc, b"x")?,
-            sync: false,
-            parameters: 0
-        },
-        MethodLine {
-            name: named(alloc, b"y")?,
-            sync: false,
-            parameters: 0
-        },
-    ]?;
-    let mut numbers = MethodNumbers::new(alloc);
-    numbers.push(0)?;
-    numbers.push(1)?;
-    let chords = vec![in alloc;
-        ChordLine {
-            block: 1,
-            methods: numbers
-        },
-    ]?;
-    Ok(ClassLine {
-        name: named(alloc, b"A")?,
-        builder: None,
-        methods: Lines::of_items(methods),
-        chords: Lines::of_items(chords),
-    })
-}
-
-/// The code.
-fn coded(alloc: Global, two: bool) -> Result<Code, Fail>
-    ensures { IfOk result (λ code. code ≡ pair_code two) }
-{
-    let main = ClassLine {
-        name: named(alloc, b"Q")?,
-        builder: None,
-        methods: Lines::of_items(Vec::new(alloc)),
-        chords: Lines::of_items(Vec::new(alloc)),
-    };
-    let classes = vec![in alloc; paired(alloc)?, main]?;
-    let end = vec![in alloc; Instruction::End]?;
-    let blocks = vec![in alloc;
-        Block {
-            slots: if two { 3 } else { 2 },
-            instructions: Lines::of_items(instructions(alloc, two)?),
-        },
-        Block {
-            slots: 1,
-            instructions: Lines::of_items(end),
-        },
-    ]?;
-    let parts = Parts {
-        classes: Lines::of_items(classes),
-        blocks: Lines::of_items(blocks),
-    };
-    if valid(&parts) {
-        Ok(Code::of_parts(parts))
-    } else {
-        Err(Fail::from("not valid"))
-    }
-}
-
-/// A table for the code.
-fn table(
-    alloc: Global,
-    code: &Code,
-    two: bool,
-    events: u32,
-) -> Result<(Space<Letter>, Desk<Letter>), Fail>
-    requires { (code.now ≡ pair_code two) × (0 < events) × (events ≤ 65536) }
-    ensures { IfOk result (λ r. IsPairTable two r.0 × (r.0.events ≡ events) × IsDeskOf r.0 r.1 × (view r.1 ≡ newcomer_first)) }
-{
-    let limits = Limits {
-        events,
-        turns: 9,
-        depth: 9,
-    };
-    Ok(Space::make(alloc, code, &limits)?)
-}
 
 /// `Main` begins, and makes object 1.
 fn begun(space: &Space<Letter>, desk: &mut Desk<Letter>, two: bool) -> Result<(), Fail>
     requires table { IsPairTable two space.now }
     requires desk { IsDeskOf space.now desk.old × (view desk.old ≡ newcomer_first) }
     ensures desk { IsSameDesk desk.old desk.new }
-    ensures begun { OnOk result (Holds (view desk.new) made_one [] None [] × IsUnsplit (view desk.new)) }
+    ensures begun { OnOk result (HasInHand (view desk.new) made_one [] None [] × IsUnsplit (view desk.new)) }
 {
     let Ok(0) = space.draw(desk, 0, &What::Begun) else {
         return Err(Fail::from("the first entry has another number"))
@@ -199,9 +46,9 @@ fn begun(space: &Space<Letter>, desk: &mut Desk<Letter>, two: bool) -> Result<()
 /// `Main` sends x, which is message 2.
 fn send_x(alloc: Global, space: &Space<Letter>, desk: &mut Desk<Letter>) -> Result<(), Fail>
     requires table { IsPairTable false space.now }
-    requires desk { IsDeskOf space.now desk.old × Holds (view desk.old) made_one [] None [] × IsUnsplit (view desk.old) }
+    requires desk { IsDeskOf space.now desk.old × HasInHand (view desk.old) made_one [] None [] × IsUnsplit (view desk.old) }
     ensures desk { IsSameDesk desk.old desk.new }
-    ensures sent { OnOk result (Holds (view desk.new) sent_x (2 ∷ []) None [] × IsUnsplit (view desk.new)) }
+    ensures sent { OnOk result (HasInHand (view desk.new) sent_x (2 ∷ []) None [] × IsUnsplit (view desk.new)) }
 {
     let what = What::Sent(FIRST, 0, Values::of_items(Vec::new(alloc)));
     let Ok(2) = space.draw(desk, 0, &what) else {
@@ -213,9 +60,9 @@ fn send_x(alloc: Global, space: &Space<Letter>, desk: &mut Desk<Letter>) -> Resu
 /// x is linked in its bag and armed, and a second desk is lent.
 fn add_x(alloc: Global, space: &Space<Letter>, desk: &mut Desk<Letter>) -> Desk<Letter>
     requires table { IsPairTable false space.now × (4 ≤ space.now.events) }
-    requires desk { IsDeskOf space.now desk.old × Holds (view desk.old) sent_x (2 ∷ []) None [] × IsUnsplit (view desk.old) }
+    requires desk { IsDeskOf space.now desk.old × HasInHand (view desk.old) sent_x (2 ∷ []) None [] × IsUnsplit (view desk.old) }
     ensures desk { IsSameDesk desk.old desk.new }
-    ensures added { Holds (view desk.new) sent_x [] None [] × Owes (view desk.new) 2 (key first_object 0) }
+    ensures added { HasInHand (view desk.new) sent_x [] None [] × Owes (view desk.new) 2 (key first_object 0) }
     ensures other { IsDeskOf space.now result × (view result ≡ newcomer) }
 {
     let letter = Letter {
@@ -249,8 +96,8 @@ fn look_for(
 /// Nothing is found for x, whose duty is laid down.
 fn leave_x(space: &Space<Letter>, desk: &mut Desk<Letter>, code: &Code) -> Result<(), Fail>
     requires table { (4 ≤ space.now.events) × (code.now ≡ space_code space.now) }
-    requires desk { IsDeskOf space.now desk.old × Holds (view desk.old) sent_x [] None [] × Owes (view desk.old) 2 (key first_object 0) }
-    ensures desk { IsSameDesk desk.old desk.new × Holds (view desk.new) sent_x [] None [] }
+    requires desk { IsDeskOf space.now desk.old × HasInHand (view desk.old) sent_x [] None [] × Owes (view desk.old) 2 (key first_object 0) }
+    ensures desk { IsSameDesk desk.old desk.new × HasInHand (view desk.new) sent_x [] None [] }
 {
     match look_for(space, desk, code, 2, FIRST, 0) {
         Finding::Left => Ok(()),
@@ -261,9 +108,9 @@ fn leave_x(space: &Space<Letter>, desk: &mut Desk<Letter>, code: &Code) -> Resul
 /// `Main` sends y, which is message 3.
 fn send_y(alloc: Global, space: &Space<Letter>, desk: &mut Desk<Letter>) -> Result<(), Fail>
     requires table { IsPairTable false space.now }
-    requires desk { IsDeskOf space.now desk.old × Holds (view desk.old) sent_x [] None [] }
+    requires desk { IsDeskOf space.now desk.old × HasInHand (view desk.old) sent_x [] None [] }
     ensures desk { IsSameDesk desk.old desk.new }
-    ensures sent { OnOk result (Holds (view desk.new) sent_both (3 ∷ []) None []) }
+    ensures sent { OnOk result (HasInHand (view desk.new) sent_both (3 ∷ []) None []) }
 {
     let what = What::Sent(FIRST, 1, Values::of_items(Vec::new(alloc)));
     let Ok(3) = space.draw(desk, 0, &what) else {
@@ -275,9 +122,9 @@ fn send_y(alloc: Global, space: &Space<Letter>, desk: &mut Desk<Letter>) -> Resu
 /// y is linked in its bag.
 fn link_y(alloc: Global, space: &Space<Letter>, desk: &mut Desk<Letter>)
     requires table { IsPairTable false space.now × (4 ≤ space.now.events) }
-    requires desk { IsDeskOf space.now desk.old × Holds (view desk.old) sent_both (3 ∷ []) None [] }
+    requires desk { IsDeskOf space.now desk.old × HasInHand (view desk.old) sent_both (3 ∷ []) None [] }
     ensures desk { IsSameDesk desk.old desk.new }
-    ensures linked { Holds (view desk.new) sent_both [] (Some 3) [] × ((view desk.new).bag ≡ key first_object 1) }
+    ensures linked { HasInHand (view desk.new) sent_both [] (Some 3) [] × ((view desk.new).bag ≡ key first_object 1) }
 {
     let letter = Letter {
         past: Vec::new(alloc),
@@ -288,9 +135,9 @@ fn link_y(alloc: Global, space: &Space<Letter>, desk: &mut Desk<Letter>)
 /// y is armed, and read pending with no next.
 fn arm_y(space: &Space<Letter>, desk: &mut Desk<Letter>)
     requires table { 4 ≤ space.now.events }
-    requires desk { IsDeskOf space.now desk.old × Holds (view desk.old) sent_both [] (Some 3) [] × ((view desk.old).bag ≡ key first_object 1) }
+    requires desk { IsDeskOf space.now desk.old × HasInHand (view desk.old) sent_both [] (Some 3) [] × ((view desk.old).bag ≡ key first_object 1) }
     ensures desk { IsSameDesk desk.old desk.new }
-    ensures armed { Holds (view desk.new) sent_both [] None [] × Owes (view desk.new) 3 (key first_object 1) }
+    ensures armed { HasInHand (view desk.new) sent_both [] None [] × Owes (view desk.new) 3 (key first_object 1) }
 {
     space.arm(desk, 3);
 }
@@ -380,7 +227,7 @@ fn open_table(
     requires table { IsPairTable false space.now × (4 ≤ space.now.events) }
     requires desk { IsDeskOf space.now desk.old × (view desk.old ≡ newcomer_first) }
     ensures desk { IsSameDesk desk.old desk.new }
-    ensures added { OnOk result (Holds (view desk.new) sent_x [] None [] × Owes (view desk.new) 2 (key first_object 0)) }
+    ensures added { OnOk result (HasInHand (view desk.new) sent_x [] None [] × Owes (view desk.new) 2 (key first_object 0)) }
     ensures other { IfOk result (λ other. IsDeskOf space.now other × (view other ≡ newcomer)) }
 {
     begun(space, desk, false)?;
@@ -397,11 +244,11 @@ fn add_both(
     other: &mut Desk<Letter>,
 ) -> Result<(), Fail>
     requires table { IsPairTable false space.now × (4 ≤ space.now.events) × (code.now ≡ space_code space.now) }
-    requires first { IsDeskOf space.now first.old × Holds (view first.old) sent_x [] None [] × Owes (view first.old) 2 (key first_object 0) }
-    requires other { IsDeskOf space.now other.old × Holds (view other.old) [] [] None [] }
+    requires first { IsDeskOf space.now first.old × HasInHand (view first.old) sent_x [] None [] × Owes (view first.old) 2 (key first_object 0) }
+    requires other { IsDeskOf space.now other.old × HasInHand (view other.old) [] [] None [] }
     ensures desks { IsSameDesk first.old first.new × IsSameDesk other.old other.new }
-    ensures first { OnOk result (Holds (view first.new) sent_both [] None [] × Owes (view first.new) 3 (key first_object 1) × HasSeen (view first.new) 3 None) }
-    ensures other { OnOk result (Holds (view other.new) [] [] None [] × HasSeen (view other.new) 2 None × HasSeen (view other.new) 3 None) }
+    ensures first { OnOk result (HasInHand (view first.new) sent_both [] None [] × Owes (view first.new) 3 (key first_object 1) × HasSeen (view first.new) 3 None) }
+    ensures other { OnOk result (HasInHand (view other.new) [] [] None [] × HasSeen (view other.new) 2 None × HasSeen (view other.new) 3 None) }
 {
     find_no_y(space, other, Sought::Bare)?;
     leave_x(space, first, code)?;
@@ -464,9 +311,9 @@ fn fire_seen(
     nexts: &Nexts,
 ) -> Firing<Letter>
     requires table { (4 ≤ space.now.events) × (code.now ≡ space_code space.now) }
-    requires desk { IsDeskOf space.now desk.old × Holds (view desk.old) sent_both [] None [] × AreSeen space.now.events (program_of space.now) (view desk.old) first_object 0 members.now nexts.now }
+    requires desk { IsDeskOf space.now desk.old × HasInHand (view desk.old) sent_both [] None [] × AreSeen space.now.events (program_of space.now) (view desk.old) first_object 0 members.now nexts.now }
     ensures desk { IsSameDesk desk.old desk.new }
-    ensures fired { (f : ℕ) (hand : List Letter) → result ≡ Fired f hand → HasFired (view desk.new) members.now f }
+    ensures fired { (f : ℕ) (hand : List letter.Letter) → result ≡ Fired f hand → KeepsFiring (view desk.new) members.now f }
     ensures lost { (i : ℕ) → result ≡ Lost i → IsAsBefore (view desk.old) (view desk.new) × KeepsDuties (view desk.old) (view desk.new) }
 {
     fire(space, desk, code, FIRST, 0, members, nexts)
@@ -480,7 +327,7 @@ fn post_fired(
     members: &Members,
 ) -> Result<(), Fail>
     requires table { IsPairTable false space.now × (5 ≤ space.now.events) }
-    requires desk { IsDeskOf space.now desk.old × HasFired (view desk.old) members.now 4 }
+    requires desk { IsDeskOf space.now desk.old × KeepsFiring (view desk.old) members.now 4 }
     ensures desk { IsSameDesk desk.old desk.new }
 {
     let entry = Entry {
@@ -506,11 +353,11 @@ fn contend(
     other: &mut Desk<Letter>,
 ) -> Result<(), Fail>
     requires table { (4 ≤ space.now.events) × (code.now ≡ space_code space.now) }
-    requires first { IsDeskOf space.now first.old × Holds (view first.old) sent_both [] None [] × Owes (view first.old) 3 (key first_object 1) × HasSeen (view first.old) 3 None }
-    requires other { IsDeskOf space.now other.old × Holds (view other.old) [] [] None [] × HasSeen (view other.old) 2 None × HasSeen (view other.old) 3 None }
+    requires first { IsDeskOf space.now first.old × HasInHand (view first.old) sent_both [] None [] × Owes (view first.old) 3 (key first_object 1) × HasSeen (view first.old) 3 None }
+    requires other { IsDeskOf space.now other.old × HasInHand (view other.old) [] [] None [] × HasSeen (view other.old) 2 None × HasSeen (view other.old) 3 None }
     ensures desks { IsSameDesk first.old first.new × IsSameDesk other.old other.new }
-    ensures first { OnOk result (Holds (view first.new) sent_both [] None [] × Owes (view first.new) 3 (key first_object 1)) }
-    ensures other { OnOk result (Holds (view other.new) [] [] None [] × HasSeen (view other.new) 2 None) }
+    ensures first { OnOk result (HasInHand (view first.new) sent_both [] None [] × Owes (view first.new) 3 (key first_object 1)) }
+    ensures other { OnOk result (HasInHand (view other.new) [] [] None [] × HasSeen (view other.new) 2 None) }
 {
     claim_for_good(space, first, 3)?;
     claim_in_vain(space, other, 3)?;
@@ -529,9 +376,9 @@ fn match_y(
     code: &Code,
 ) -> Result<(Members, Nexts), Fail>
     requires table { (4 ≤ space.now.events) × (code.now ≡ space_code space.now) }
-    requires desk { IsDeskOf space.now desk.old × Holds (view desk.old) sent_both [] None [] × Owes (view desk.old) 3 (key first_object 1) }
+    requires desk { IsDeskOf space.now desk.old × HasInHand (view desk.old) sent_both [] None [] × Owes (view desk.old) 3 (key first_object 1) }
     ensures desk { IsSameDesk desk.old desk.new }
-    ensures matched { IfOk result (λ r. Holds (view desk.new) sent_both [] None [] × Owes (view desk.new) 3 (key first_object 1) × AreSeen space.now.events (program_of space.now) (view desk.new) first_object 0 r.0 r.1) }
+    ensures matched { IfOk result (λ r. HasInHand (view desk.new) sent_both [] None [] × Owes (view desk.new) 3 (key first_object 1) × AreSeen space.now.events (program_of space.now) (view desk.new) first_object 0 r.0 r.1) }
 {
     match look_for(space, desk, code, 3, FIRST, 1) {
         Finding::Match(0, members, nexts) => {
@@ -559,10 +406,10 @@ fn lose(
     other: &mut Desk<Letter>,
 ) -> Result<(), Fail>
     requires table { (4 ≤ space.now.events) × (code.now ≡ space_code space.now) }
-    requires first { IsDeskOf space.now first.old × Holds (view first.old) sent_both [] None [] × Owes (view first.old) 3 (key first_object 1) }
-    requires other { IsDeskOf space.now other.old × Holds (view other.old) [] [] None [] × HasSeen (view other.old) 2 None }
+    requires first { IsDeskOf space.now first.old × HasInHand (view first.old) sent_both [] None [] × Owes (view first.old) 3 (key first_object 1) }
+    requires other { IsDeskOf space.now other.old × HasInHand (view other.old) [] [] None [] × HasSeen (view other.old) 2 None }
     ensures desks { IsSameDesk first.old first.new × IsSameDesk other.old other.new }
-    ensures first { OnOk result (Holds (view first.new) sent_both [] None [] × Owes (view first.new) 3 (key first_object 1)) }
+    ensures first { OnOk result (HasInHand (view first.new) sent_both [] None [] × Owes (view first.new) 3 (key first_object 1)) }
 {
     let (members, nexts) = match_y(space, first, code)?;
     claim_for_good(space, other, 2)?;
@@ -577,7 +424,7 @@ fn lose(
 /// The limit on events is reached, and nothing is fired.
 fn spend(space: &Space<Letter>, desk: &mut Desk<Letter>, code: &Code) -> Result<(), Fail>
     requires table { (4 ≤ space.now.events) × (code.now ≡ space_code space.now) }
-    requires desk { IsDeskOf space.now desk.old × Holds (view desk.old) sent_both [] None [] × Owes (view desk.old) 3 (key first_object 1) }
+    requires desk { IsDeskOf space.now desk.old × HasInHand (view desk.old) sent_both [] None [] × Owes (view desk.old) 3 (key first_object 1) }
     ensures desk { IsSameDesk desk.old desk.new }
 {
     let (members, nexts) = match_y(space, desk, code)?;
@@ -596,9 +443,9 @@ fn fire_fourth(
     nexts: &Nexts,
 ) -> Result<(), Fail>
     requires table { (4 ≤ space.now.events) × (code.now ≡ space_code space.now) }
-    requires desk { IsDeskOf space.now desk.old × Holds (view desk.old) sent_both [] None [] × AreSeen space.now.events (program_of space.now) (view desk.old) first_object 0 members.now nexts.now }
+    requires desk { IsDeskOf space.now desk.old × HasInHand (view desk.old) sent_both [] None [] × AreSeen space.now.events (program_of space.now) (view desk.old) first_object 0 members.now nexts.now }
     ensures desk { IsSameDesk desk.old desk.new }
-    ensures fired { OnOk result (HasFired (view desk.new) members.now 4) }
+    ensures fired { OnOk result (KeepsFiring (view desk.new) members.now 4) }
 {
     match fire_seen(space, desk, code, members, nexts) {
         Firing::Fired(4, _) => Ok(()),
@@ -610,7 +457,7 @@ fn fire_fourth(
 fn start_in_vain(space: &Space<Letter>, desk: &mut Desk<Letter>) -> Result<(), Fail>
     requires desk { IsDeskOf space.now desk.old × (5 ≤ space.now.events) }
     ensures desk { IsSameDesk desk.old desk.new }
-    ensures same { OnOk result ((ms : List ℕ) (f : ℕ) → HasFired (view desk.old) ms f → HasFired (view desk.new) ms f) }
+    ensures same { OnOk result ((ms : List ℕ) (f : ℕ) → KeepsFiring (view desk.old) ms f → KeepsFiring (view desk.new) ms f) }
 {
     match space.start(desk, 4) {
         Err(Cell::Empty) => Ok(()),
@@ -640,7 +487,7 @@ fn fire_once(
     code: &Code,
 ) -> Result<(), Fail>
     requires table { IsPairTable false space.now × (5 ≤ space.now.events) × (code.now ≡ space_code space.now) }
-    requires desk { IsDeskOf space.now desk.old × Holds (view desk.old) sent_both [] None [] × Owes (view desk.old) 3 (key first_object 1) }
+    requires desk { IsDeskOf space.now desk.old × HasInHand (view desk.old) sent_both [] None [] × Owes (view desk.old) 3 (key first_object 1) }
     ensures desk { IsSameDesk desk.old desk.new }
 {
     let (members, nexts) = match_y(space, desk, code)?;
@@ -660,7 +507,7 @@ fn play_to_loss(
     requires table { IsPairTable false space.now × (4 ≤ space.now.events) × (code.now ≡ space_code space.now) }
     requires first { IsDeskOf space.now first.old × (view first.old ≡ newcomer_first) }
     ensures desks { IsSameDesk first.old first.new × IfOk result (λ other. IsDeskOf space.now other) }
-    ensures first { OnOk result (Holds (view first.new) sent_both [] None [] × Owes (view first.new) 3 (key first_object 1)) }
+    ensures first { OnOk result (HasInHand (view first.new) sent_both [] None [] × Owes (view first.new) 3 (key first_object 1)) }
 {
     let mut other = open_table(alloc, space, first)?;
     add_both(alloc, space, code, first, &mut other)?;
@@ -687,9 +534,9 @@ fn send_no_x(alloc: Global, space: &Space<Letter>, desk: &mut Desk<Letter>) -> R
 /// `Main` makes object 2.
 fn make_second(space: &Space<Letter>, desk: &mut Desk<Letter>) -> Result<(), Fail>
     requires table { IsPairTable true space.now }
-    requires desk { IsDeskOf space.now desk.old × Holds (view desk.old) made_one [] None [] }
+    requires desk { IsDeskOf space.now desk.old × HasInHand (view desk.old) made_one [] None [] }
     ensures desk { IsSameDesk desk.old desk.new }
-    ensures made { OnOk result (Holds (view desk.new) made_two [] None []) }
+    ensures made { OnOk result (HasInHand (view desk.new) made_two [] None []) }
 {
     let Ok(2) = space.draw(desk, 0, &What::Made(0)) else {
         return Err(Fail::from("the second object has another number"))
@@ -700,9 +547,9 @@ fn make_second(space: &Space<Letter>, desk: &mut Desk<Letter>) -> Result<(), Fai
 /// `Main` sends x to object 1, which is message 3.
 fn send_x_apart(alloc: Global, space: &Space<Letter>, desk: &mut Desk<Letter>) -> Result<(), Fail>
     requires table { IsPairTable true space.now }
-    requires desk { IsDeskOf space.now desk.old × Holds (view desk.old) made_two [] None [] }
+    requires desk { IsDeskOf space.now desk.old × HasInHand (view desk.old) made_two [] None [] }
     ensures desk { IsSameDesk desk.old desk.new }
-    ensures sent { OnOk result (Holds (view desk.new) sent_x_apart (3 ∷ []) None []) }
+    ensures sent { OnOk result (HasInHand (view desk.new) sent_x_apart (3 ∷ []) None []) }
 {
     let what = What::Sent(FIRST, 0, Values::of_items(Vec::new(alloc)));
     let Ok(3) = space.draw(desk, 0, &what) else {
@@ -714,9 +561,9 @@ fn send_x_apart(alloc: Global, space: &Space<Letter>, desk: &mut Desk<Letter>) -
 /// `Main` sends y to object 2, which is message 4.
 fn send_y_apart(alloc: Global, space: &Space<Letter>, desk: &mut Desk<Letter>) -> Result<(), Fail>
     requires table { IsPairTable true space.now }
-    requires desk { IsDeskOf space.now desk.old × Holds (view desk.old) sent_x_apart (3 ∷ []) None [] }
+    requires desk { IsDeskOf space.now desk.old × HasInHand (view desk.old) sent_x_apart (3 ∷ []) None [] }
     ensures desk { IsSameDesk desk.old desk.new }
-    ensures sent { OnOk result (Holds (view desk.new) sent_apart (4 ∷ 3 ∷ []) None []) }
+    ensures sent { OnOk result (HasInHand (view desk.new) sent_apart (4 ∷ 3 ∷ []) None []) }
 {
     let what = What::Sent(SECOND, 1, Values::of_items(Vec::new(alloc)));
     let Ok(4) = space.draw(desk, 0, &what) else {
@@ -728,9 +575,9 @@ fn send_y_apart(alloc: Global, space: &Space<Letter>, desk: &mut Desk<Letter>) -
 /// x is linked in the bag of its object, and armed.
 fn add_x_apart(alloc: Global, space: &Space<Letter>, desk: &mut Desk<Letter>)
     requires table { IsPairTable true space.now × (5 ≤ space.now.events) }
-    requires desk { IsDeskOf space.now desk.old × Holds (view desk.old) sent_apart (4 ∷ 3 ∷ []) None [] }
+    requires desk { IsDeskOf space.now desk.old × HasInHand (view desk.old) sent_apart (4 ∷ 3 ∷ []) None [] }
     ensures desk { IsSameDesk desk.old desk.new }
-    ensures added { Holds (view desk.new) sent_apart (4 ∷ []) None [] }
+    ensures added { HasInHand (view desk.new) sent_apart (4 ∷ []) None [] }
 {
     let letter = Letter {
         past: Vec::new(alloc),
@@ -742,7 +589,7 @@ fn add_x_apart(alloc: Global, space: &Space<Letter>, desk: &mut Desk<Letter>)
 /// y is linked in the bag of the other object, and armed.
 fn add_y_apart(alloc: Global, space: &Space<Letter>, desk: &mut Desk<Letter>)
     requires table { IsPairTable true space.now × (5 ≤ space.now.events) }
-    requires desk { IsDeskOf space.now desk.old × Holds (view desk.old) sent_apart (4 ∷ []) None [] }
+    requires desk { IsDeskOf space.now desk.old × HasInHand (view desk.old) sent_apart (4 ∷ []) None [] }
     ensures desk { IsSameDesk desk.old desk.new }
     ensures added { Owes (view desk.new) 4 (key second_object 1) }
 {

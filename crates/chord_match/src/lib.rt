@@ -10,6 +10,8 @@ mod by_hand_tests;
 mod claiming;
 mod handing;
 pub mod nexts;
+#[cfg(test)]
+mod pair_tests;
 mod search;
 
 pub use handing::{Firing, fire};
