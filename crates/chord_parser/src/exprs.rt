@@ -211,14 +211,37 @@ fn links(
     ensures level { IfOk result (λ r. link_level (see_link r.0) ≡ operator_level operator) }
     ensures none { IfOk result (λ r. NoneUpTo (operator_level operator) (token_kinds r.2.now)) }
 {
-    let (first, mut left) = link(alloc, count, tokens, depth, operator)?;
+    let (first, rest) = link(alloc, count, tokens, depth, operator)?;
+    let Some(_following) = operator_of_level(rest, level_of(operator)) else {
+        return Ok((first, Vec::new(alloc), rest));
+    };
+    let (more, rest) = more_links(alloc, count, rest, depth, operator)?;
+    Ok((first, more, rest))
+}
+
+/// All links of the operator's level that come next.
+#[cycle(parser)]
+fn more_links(
+    alloc: Global,
+    count: u32,
+    tokens: &[Token],
+    depth: u32,
+    operator: Operator,
+) -> Result<(Vec<Link>, &[Token]), Fault>
+    requires depth { depth ≤ 201 }
+    requires none { NoneUpTo (operator_level operator - 1) (token_kinds tokens.now) }
+    ensures ok { IfOk result (λ r. Reads count (level_tail (operator_level operator)) depth (token_kinds tokens.now) (token_kinds r.1.now) (node_links (operator_level operator) (links (map see_link r.0.items)))) }
+    ensures err { IfErr result (λ fault. StopsAs (level_tail (operator_level operator)) depth (token_kinds tokens.now) fault) }
+    ensures none { IfOk result (λ r. NoneUpTo (operator_level operator) (token_kinds r.1.now)) }
+{
     let mut more = Vec::new(alloc);
+    let mut left = tokens;
     'each: while let Some(following) = operator_of_level(left, level_of(operator)) {
         let (one, rest) = link(alloc, count, left, depth, following)?;
         more.push(one)?;
         left = rest;
     }
-    Ok((first, more, left))
+    Ok((more, left))
 }
 
 /// An operator, which comes next, and its right operand.
@@ -251,35 +274,75 @@ fn unary(alloc: Global, count: u32, tokens: &[Token], depth: u32) -> Result<(Exp
 {
     let ahead = next(tokens);
     if ahead == terminal::MINUS {
-        let (at, rest) = take(count, tokens, terminal::MINUS, depth + 1)?;
-        let (inner, rest) = unary(alloc, count, rest, depth + 1)?;
-        return Ok((Expr::minus(alloc, at, inner)?, rest));
+        return unary_minus(alloc, count, tokens, depth);
     }
     if ahead == terminal::NOT {
-        let (at, rest) = take(count, tokens, terminal::NOT, depth + 1)?;
-        let (inner, rest) = unary(alloc, count, rest, depth + 1)?;
-        return Ok((Expr::not(alloc, at, inner)?, rest));
+        return unary_not(alloc, count, tokens, depth);
     }
-    let (first, rest) = start(alloc, count, tokens, depth + 1)?;
-    let (calls, rest) = dots_next(alloc, count, rest, depth + 1)?;
-    Ok((Expr::primary(first, calls), rest))
+    let (first, rest) = start(alloc, count, tokens, depth + 1, ahead)?;
+    if next(rest) == terminal::DOT {
+        let (calls, rest) = dots_next(alloc, count, rest, depth + 1)?;
+        return Ok((Expr::primary(first, calls), rest));
+    }
+    Ok((Expr::primary(first, Vec::new(alloc)), rest))
+}
+
+/// "-" Unary
+#[cycle(parser)]
+fn unary_minus(
+    alloc: Global,
+    count: u32,
+    tokens: &[Token],
+    depth: u32,
+) -> Result<(Expr, &[Token]), Fault>
+    requires depth { depth ≤ 201 }
+    requires first { next (token_kinds tokens.now) ≡ number_of grammar.MINUS }
+    ensures ok { IfOk result (λ r. Reads count grammar.Unary depth (token_kinds tokens.now) (token_kinds r.1.now) (node_at 0 (see_expr r.0))) }
+    ensures err { IfErr result (λ fault. StopsAs grammar.Unary depth (token_kinds tokens.now) fault) }
+    ensures precedence { IfOk result (λ r. precedence (see_expr r.0) ≡ 0) }
+{
+    let (at, rest) = take(count, tokens, terminal::MINUS, depth + 1)?;
+    let (inner, rest) = unary(alloc, count, rest, depth + 1)?;
+    Ok((Expr::minus(alloc, at, inner)?, rest))
+}
+
+/// "!" Unary
+#[cycle(parser)]
+fn unary_not(
+    alloc: Global,
+    count: u32,
+    tokens: &[Token],
+    depth: u32,
+) -> Result<(Expr, &[Token]), Fault>
+    requires depth { depth ≤ 201 }
+    requires first { next (token_kinds tokens.now) ≡ number_of grammar.NOT }
+    ensures ok { IfOk result (λ r. Reads count grammar.Unary depth (token_kinds tokens.now) (token_kinds r.1.now) (node_at 0 (see_expr r.0))) }
+    ensures err { IfErr result (λ fault. StopsAs grammar.Unary depth (token_kinds tokens.now) fault) }
+    ensures precedence { IfOk result (λ r. precedence (see_expr r.0) ≡ 0) }
+{
+    let (at, rest) = take(count, tokens, terminal::NOT, depth + 1)?;
+    let (inner, rest) = unary(alloc, count, rest, depth + 1)?;
+    Ok((Expr::not(alloc, at, inner)?, rest))
 }
 
 /// Start = Name [ Actuals ] | "this" | "new" Name Actuals
 ///     | Number | Literal | "true" | "false" | "(" Expr ")"
+///
+/// By the terminal of the next token, which the caller has read.
 #[cycle(parser)]
 fn start(
     alloc: Global,
     count: u32,
     tokens: &[Token],
     depth: u32,
+    ahead: u8,
 ) -> Result<(Start, &[Token]), Fault>
     requires depth { depth ≤ 202 }
+    requires ahead { ahead ≡ next (token_kinds tokens.now) }
     ensures ok { IfOk result (λ r. Reads count grammar.Operand_start depth (token_kinds tokens.now) (token_kinds r.1.now) (node_start (see_start r.0))) }
     ensures err { IfErr result (λ fault. StopsAs grammar.Operand_start depth (token_kinds tokens.now) fault) }
     ensures not_tall { IfOk result (λ _. depth ≤ 200) }
 {
-    let ahead = next(tokens);
     if ahead == terminal::NAME {
         return start_name(alloc, count, tokens, depth);
     }
@@ -289,7 +352,7 @@ fn start(
     if ahead == terminal::OPEN {
         return start_group(alloc, count, tokens, depth);
     }
-    start_token(alloc, count, tokens, depth)
+    start_token(alloc, count, tokens, depth, ahead)
 }
 
 /// Name [ Actuals ]
@@ -360,8 +423,10 @@ fn start_token(
     count: u32,
     tokens: &[Token],
     depth: u32,
+    ahead: u8,
 ) -> Result<(Start, &[Token]), Fault>
     requires depth { depth ≤ 202 }
+    requires ahead { ahead ≡ next (token_kinds tokens.now) }
     requires name { next (token_kinds tokens.now) ≢ number_of grammar.NAME }
     requires new { next (token_kinds tokens.now) ≢ number_of grammar.NEW }
     requires open { next (token_kinds tokens.now) ≢ number_of grammar.OPEN }
@@ -369,7 +434,6 @@ fn start_token(
     ensures err { IfErr result (λ fault. StopsAs grammar.Operand_start depth (token_kinds tokens.now) fault) }
     ensures not_tall { IfOk result (λ _. depth ≤ 200) }
 {
-    let ahead = next(tokens);
     if ahead == terminal::THIS {
         let (at, rest) = take(count, tokens, terminal::THIS, depth)?;
         return Ok((Start::this(at), rest));

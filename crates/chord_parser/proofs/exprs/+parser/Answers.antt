@@ -1,16 +1,16 @@
 use Rattle.std.proofs.Common.{refl, ◌+◌, ◌-◌, lit<, ◌∷◌, [], map, ◌++◌, sym, ap, subst, ◌∙◌, arith}
 use Rattle.chord_tree.specs.Symbol.{Terminal}
 use Rattle.chord_tree.specs.Program.{token_kinds}
-use Rattle.chord_tree.specs.ExprNodes.{operator_level, level_symbol, level_tail, node_at, node_start, node_actuals, node_dot, node_exprs}
-use Rattle.chord_tree.specs.Tree.{exprs}
-use Rattle.chord_tree.specs.ViewExprs.{see_expr, see_link, see_dot}
+use Rattle.chord_tree.specs.ExprNodes.{operator_level, level_symbol, level_tail, node_at, node_links, node_start, node_actuals, node_dot, node_exprs}
+use Rattle.chord_tree.specs.Tree.{PrimaryExpr, MoreLinks, links, dots, exprs}
+use Rattle.chord_tree.specs.ViewExprs.{see_expr, see_link, see_start, see_dot}
 use Rattle.chord_tree.proofs.Ahead.{next_small}
 use Rattle.chord_parser.specs.Reading.{StopsAs, IsOther, one_link, before_links}
 use Rattle.chord_parser.specs.Climbing.{NoneUpTo, Chains, IsLinkRead}
 use Rattle.chord_parser.specs.Runs.{Reads}
 use Rattle.chord_parser.proofs.Reading.{step, ends, goes_into}
-use Rattle.chord_parser.proofs.Chains.{stops, stops_in, exits, enters, then, renamed, as_node, no_link, begun_link, dots_all, dots_push, opt_push, opt_first, opt_all, shorter, shorter_dot, operator_read, pushed}
-use Rattle.chord_parser.proofs.Climb.{chain_read, link_read, operand_stops, fewer_left, chain_shorter, link_shorter, some_level, top_level, climb_begins, climb_goes_on, climb_ends, climb_stops, lifted_to_or, links_grow, links_done, one_more_level}
+use Rattle.chord_parser.proofs.Chains.{stops, stops_in, exits, enters, then, renamed, as_node, no_link, begun_link, dots_all, dots_push, opt_push, opt_first, opt_all, shorter, shorter_dot, operator_read, pushed, links_all, links_push}
+use Rattle.chord_parser.proofs.Climb.{chain_read, link_read, operand_stops, fewer_left, chain_shorter, link_shorter, some_level, top_level, climb_begins, climb_goes_on, climb_ends, climb_stops, lifted_to_or, links_done, one_more_level}
 use Rattle.chord_parser.proofs.made.ChainSteps.{expr_and, expr_and_at}
 use Rattle.chord_parser.proofs.made.ExprSteps.{actuals_open, actuals_open_at, dot_dot, dot_dot_at, dots_dot, dots_dot_at, dots_none, dots_none_at, more_exprs_comma, more_exprs_comma_at, more_exprs_none, more_exprs_none_at, optional_actuals_actuals, optional_actuals_actuals_at, optional_actuals_none, optional_actuals_none_at, optional_exprs_expr, optional_exprs_expr_at, optional_exprs_none, optional_exprs_none_at, primary_operand_start, primary_operand_start_at, operand_start_name, operand_start_name_at, operand_start_new, operand_start_new_at, operand_start_open, operand_start_open_at, unary_minus, unary_minus_at, unary_not, unary_not_at, unary_primary, unary_primary_at}
 use Rattle.chord_parser.proofs.exprs.+parser.Goals as goal
@@ -75,32 +75,35 @@ start_name-returns-then-next-eq-OPEN-clause-ok t c = as_node (ends (step (goes_i
 pub start_name-returns-clause-ok : goal.start_name-returns-clause-ok
 start_name-returns-clause-ok t c = as_node (ends (step (step (operand_start_name (operand_start_name_at _ c.requires.first)) c.in_ok-name.ensures.ok) (ends (optional_actuals_none (optional_actuals_none_at _ (next_small (token_kinds c.in_ok-name.rest.now)) (λ q. c.if-next-eq-OPEN.false (c.next.ensures ∙ q))))))) (sym (ap node_start c.variable.ensures))
 
-pub unary-returns-in_err-at-clause-err : goal.unary-returns-in_err-at-clause-err
-unary-returns-in_err-at-clause-err t c = exits _ _ _ _ _ c.from_residual.ensures.1 (stops {count = c.args.count} (unary_minus (unary_minus_at _ (sym c.next-ahead.ensures ∙ c.if-ahead-eq-MINUS.true))) _ c.in_err-at.ensures.err)
+pub unary_minus-returns-in_err-at-clause-err : goal.unary_minus-returns-in_err-at-clause-err
+unary_minus-returns-in_err-at-clause-err t c = exits _ _ _ _ _ c.from_residual.ensures.1 (stops {count = c.args.count} (unary_minus (unary_minus_at _ c.requires.first)) _ c.in_err-at.ensures.err)
 
-pub unary-returns-in_err-inner-clause-err : goal.unary-returns-in_err-inner-clause-err
-unary-returns-in_err-inner-clause-err t c = exits _ _ _ _ _ c.from_residual-in_err-inner.ensures.1 (stops {count = c.args.count} (step (unary_minus (unary_minus_at _ (sym c.next-ahead.ensures ∙ c.if-ahead-eq-MINUS.true))) c.in_ok-at.ensures.ok) _ c.in_err-inner.ensures.err)
+pub unary_minus-returns-in_err-inner-clause-err : goal.unary_minus-returns-in_err-inner-clause-err
+unary_minus-returns-in_err-inner-clause-err t c = exits _ _ _ _ _ c.from_residual-in_err-inner.ensures.1 (stops {count = c.args.count} (step (unary_minus (unary_minus_at _ c.requires.first)) c.in_ok-at.ensures.ok) _ c.in_err-inner.ensures.err)
 
-pub unary-returns-then-ahead-eq-MINUS-clause-ok : goal.unary-returns-then-ahead-eq-MINUS-clause-ok
-unary-returns-then-ahead-eq-MINUS-clause-ok t c = as_node (ends (step (step (unary_minus (unary_minus_at _ (sym c.next-ahead.ensures ∙ c.if-ahead-eq-MINUS.true))) c.in_ok-at.ensures.ok) c.in_ok-inner.ensures.ok)) (sym (ap (node_at 0) c.in_ok-minus.ensures))
+pub unary_minus-returns-clause-ok : goal.unary_minus-returns-clause-ok
+unary_minus-returns-clause-ok t c = as_node (ends (step (step (unary_minus (unary_minus_at _ c.requires.first)) c.in_ok-at.ensures.ok) c.in_ok-inner.ensures.ok)) (sym (ap (node_at 0) c.in_ok-minus.ensures))
 
-pub unary-returns-in_err-at-2-clause-err : goal.unary-returns-in_err-at-2-clause-err
-unary-returns-in_err-at-2-clause-err t c = exits _ _ _ _ _ c.from_residual-in_err-at-2.ensures.1 (stops {count = c.args.count} (unary_not (unary_not_at _ (sym c.next-ahead.ensures ∙ c.if-ahead-eq-NOT.true))) _ c.in_err-at-2.ensures.err)
+pub unary_not-returns-in_err-at-clause-err : goal.unary_not-returns-in_err-at-clause-err
+unary_not-returns-in_err-at-clause-err t c = exits _ _ _ _ _ c.from_residual.ensures.1 (stops {count = c.args.count} (unary_not (unary_not_at _ c.requires.first)) _ c.in_err-at.ensures.err)
 
-pub unary-returns-in_err-inner-2-clause-err : goal.unary-returns-in_err-inner-2-clause-err
-unary-returns-in_err-inner-2-clause-err t c = exits _ _ _ _ _ c.from_residual-in_err-inner-2.ensures.1 (stops {count = c.args.count} (step (unary_not (unary_not_at _ (sym c.next-ahead.ensures ∙ c.if-ahead-eq-NOT.true))) c.in_ok-at-2.ensures.ok) _ c.in_err-inner-2.ensures.err)
+pub unary_not-returns-in_err-inner-clause-err : goal.unary_not-returns-in_err-inner-clause-err
+unary_not-returns-in_err-inner-clause-err t c = exits _ _ _ _ _ c.from_residual-in_err-inner.ensures.1 (stops {count = c.args.count} (step (unary_not (unary_not_at _ c.requires.first)) c.in_ok-at.ensures.ok) _ c.in_err-inner.ensures.err)
 
-pub unary-returns-then-ahead-eq-NOT-clause-ok : goal.unary-returns-then-ahead-eq-NOT-clause-ok
-unary-returns-then-ahead-eq-NOT-clause-ok t c = as_node (ends (step (step (unary_not (unary_not_at _ (sym c.next-ahead.ensures ∙ c.if-ahead-eq-NOT.true))) c.in_ok-at-2.ensures.ok) c.in_ok-inner-2.ensures.ok)) (sym (ap (node_at 0) c.in_ok-not.ensures))
+pub unary_not-returns-clause-ok : goal.unary_not-returns-clause-ok
+unary_not-returns-clause-ok t c = as_node (ends (step (step (unary_not (unary_not_at _ c.requires.first)) c.in_ok-at.ensures.ok) c.in_ok-inner.ensures.ok)) (sym (ap (node_at 0) c.in_ok-not.ensures))
 
 pub unary-returns-in_err-first-clause-err : goal.unary-returns-in_err-first-clause-err
-unary-returns-in_err-first-clause-err t c = exits _ _ _ _ _ c.from_residual-in_err-first.ensures.1 (stops {count = c.args.count} (goes_into (unary_primary (unary_primary_at _ (next_small (token_kinds c.args.tokens.now)) (λ q. c.if-ahead-eq-MINUS.false (c.next-ahead.ensures ∙ q)) (λ q. c.if-ahead-eq-NOT.false (c.next-ahead.ensures ∙ q)))) (primary_operand_start (primary_operand_start_at _ (next_small (token_kinds c.args.tokens.now))))) _ c.in_err-first.ensures.err)
+unary-returns-in_err-first-clause-err t c = exits _ _ _ _ _ c.from_residual.ensures.1 (stops {count = c.args.count} (goes_into (unary_primary (unary_primary_at _ (next_small (token_kinds c.args.tokens.now)) (λ q. c.if-ahead-eq-MINUS.false (c.next-ahead.ensures ∙ q)) (λ q. c.if-ahead-eq-NOT.false (c.next-ahead.ensures ∙ q)))) (primary_operand_start (primary_operand_start_at _ (next_small (token_kinds c.args.tokens.now))))) _ c.in_err-first.ensures.err)
 
 pub unary-returns-in_err-calls-clause-err : goal.unary-returns-in_err-calls-clause-err
 unary-returns-in_err-calls-clause-err t c = exits _ _ _ _ _ c.from_residual-in_err-calls.ensures.1 (stops {count = c.args.count} (step (goes_into (unary_primary (unary_primary_at _ (next_small (token_kinds c.args.tokens.now)) (λ q. c.if-ahead-eq-MINUS.false (c.next-ahead.ensures ∙ q)) (λ q. c.if-ahead-eq-NOT.false (c.next-ahead.ensures ∙ q)))) (primary_operand_start (primary_operand_start_at _ (next_small (token_kinds c.args.tokens.now))))) c.in_ok-first.ensures.ok) _ c.in_err-calls.ensures.err)
 
+pub unary-returns-then-next-eq-DOT-clause-ok : goal.unary-returns-then-next-eq-DOT-clause-ok
+unary-returns-then-next-eq-DOT-clause-ok t c = as_node (ends (step (step (goes_into (unary_primary (unary_primary_at _ (next_small (token_kinds c.args.tokens.now)) (λ q. c.if-ahead-eq-MINUS.false (c.next-ahead.ensures ∙ q)) (λ q. c.if-ahead-eq-NOT.false (c.next-ahead.ensures ∙ q)))) (primary_operand_start (primary_operand_start_at _ (next_small (token_kinds c.args.tokens.now))))) c.in_ok-first.ensures.ok) c.in_ok-calls.ensures.ok)) (sym (ap (node_at 0) c.primary.ensures))
+
 pub unary-returns-clause-ok : goal.unary-returns-clause-ok
-unary-returns-clause-ok t c = as_node (ends (step (step (goes_into (unary_primary (unary_primary_at _ (next_small (token_kinds c.args.tokens.now)) (λ q. c.if-ahead-eq-MINUS.false (c.next-ahead.ensures ∙ q)) (λ q. c.if-ahead-eq-NOT.false (c.next-ahead.ensures ∙ q)))) (primary_operand_start (primary_operand_start_at _ (next_small (token_kinds c.args.tokens.now))))) c.in_ok-first.ensures.ok) c.in_ok-calls.ensures.ok)) (sym (ap (node_at 0) c.primary.ensures))
+unary-returns-clause-ok t c = as_node (ends (step (step (goes_into (unary_primary (unary_primary_at _ (next_small (token_kinds c.args.tokens.now)) (λ q. c.if-ahead-eq-MINUS.false (c.next-ahead.ensures ∙ q)) (λ q. c.if-ahead-eq-NOT.false (c.next-ahead.ensures ∙ q)))) (primary_operand_start (primary_operand_start_at _ (next_small (token_kinds c.args.tokens.now))))) c.in_ok-first.ensures.ok) (ends (dots_none (dots_none_at _ (next_small (token_kinds c.in_ok-first.rest.now)) (λ q. c.if-next-eq-DOT.false (c.next.ensures ∙ q))))))) (sym (ap (node_at 0) (c.primary-2.ensures ∙ ap (λ z. PrimaryExpr (see_start c.in_ok-first.first) (dots (map see_dot z))) c.new.ensures.items)))
 
 pub expr-returns-in_err-first-clause-err : goal.expr-returns-in_err-first-clause-err
 expr-returns-in_err-first-clause-err t c = exits _ _ _ _ _ c.from_residual.ensures.1 (stops {count = c.args.count} (expr_and (expr_and_at _ (next_small (token_kinds c.args.tokens.now)))) _ c.in_err-first.ensures.err)
@@ -149,28 +152,43 @@ chained-returns-clause-ok t c = chain_read _ _ _ _ c.in_ok-one.ensures.ok c.in_o
 pub links-returns-in_err-first-clause-err : goal.links-returns-in_err-first-clause-err
 links-returns-in_err-first-clause-err t c = exits _ _ _ _ _ c.from_residual.ensures.1 c.in_err-first.ensures.err
 
-pub links-each-init : goal.links-each-init
-links-each-init t c = (renamed c.in_ok-first.ensures.ok.goes_on (λ n. ap (λ z. one_link (operator_level c.args.operator) (see_link c.in_ok-first.first) (before_links (operator_level c.args.operator) (map see_link z) n)) (sym c.new-more.ensures.items)), c.in_ok-first.ensures.ok.level_is, c.in_ok-first.ensures.ok.none)
+pub links-returns-in_default-clause-ok : goal.links-returns-in_default-clause-ok
+links-returns-in_default-clause-ok t c = as_node (c.in_ok-first.ensures.ok.goes_on.reads _ _ (no_link (operator_level c.args.operator) (some_level c.args.operator) (top_level c.args.operator) (subst (λ z. IsOther z (token_kinds c.in_ok-first.rest.now)) c.level_of.ensures c.in_default.ensures.none))) (links_done (operator_level c.args.operator) (see_link c.in_ok-first.first) [] ∙ ap (λ z. node_links (operator_level c.args.operator) (MoreLinks (see_link c.in_ok-first.first) (links (map see_link z)))) (sym c.new.ensures.items))
 
-pub links-returns-in_err-one-clause-err : goal.links-returns-in_err-one-clause-err
-links-returns-in_err-one-clause-err t c = exits _ _ _ _ _ c.from_residual-in_err-one.ensures.1 (stops_in c.each.invariant.0 _ (subst (λ z. StopsAs (level_tail z) c.args.depth (token_kinds c.each.left.now) c.in_err-one.field-0.0) (c.in-Some.ensures.level ∙ c.level_of.ensures) c.in_err-one.ensures.err))
+pub links-returns-in_default-clause-level : goal.links-returns-in_default-clause-level
+links-returns-in_default-clause-level t c = c.in_ok-first.ensures.ok.level_is
 
-pub links-each-smaller : goal.links-each-smaller
-links-each-smaller t c = link_shorter _ _ c.in_ok-one.ensures.ok
+pub links-returns-in_default-clause-none : goal.links-returns-in_default-clause-none
+links-returns-in_default-clause-none t c = one_more_level _ (operator_level c.args.operator) (some_level c.args.operator) c.in_ok-first.ensures.ok.none (subst (λ z. IsOther z (token_kinds c.in_ok-first.rest.now)) c.level_of.ensures c.in_default.ensures.none)
 
-pub links-each-preserved : goal.links-each-preserved
-links-each-preserved t c =
-    let one : IsLinkRead c.args.count (operator_level c.args.operator) c.args.depth (token_kinds c.each.left.now) (token_kinds c.in_ok-one.rest.now) (see_link c.in_ok-one.one) = subst (λ z. IsLinkRead c.args.count z c.args.depth (token_kinds c.each.left.now) (token_kinds c.in_ok-one.rest.now) (see_link c.in_ok-one.one)) (c.in-Some.ensures.level ∙ c.level_of.ensures) c.in_ok-one.ensures.ok in
-    (renamed (then c.each.invariant.0 one.goes_on) (λ n. links_grow (operator_level c.args.operator) c.in_ok-first.first _ _ c.in_ok-one.one n c.in_ok-push.ensures.items), c.each.invariant.1, one.none)
+pub links-returns-in_err-more-clause-err : goal.links-returns-in_err-more-clause-err
+links-returns-in_err-more-clause-err t c = exits _ _ _ _ _ c.from_residual-in_err-more.ensures.1 (stops_in c.in_ok-first.ensures.ok.goes_on _ c.in_err-more.ensures.err)
 
 pub links-returns-clause-ok : goal.links-returns-clause-ok
-links-returns-clause-ok t c = as_node (c.each.invariant.0.reads _ _ (no_link (operator_level c.args.operator) (some_level c.args.operator) (top_level c.args.operator) (subst (λ z. IsOther z (token_kinds c.each.left.now)) c.level_of.ensures c.in_default.ensures.none))) (links_done (operator_level c.args.operator) (see_link c.in_ok-first.first) (map see_link c.each.more.items))
+links-returns-clause-ok t c = as_node (c.in_ok-first.ensures.ok.goes_on.reads _ _ c.in_ok-more.ensures.ok) (ap (one_link (operator_level c.args.operator) (see_link c.in_ok-first.first)) (sym (links_all (operator_level c.args.operator) (map see_link c.in_ok-more.more.items))) ∙ links_done (operator_level c.args.operator) (see_link c.in_ok-first.first) (map see_link c.in_ok-more.more.items))
 
 pub links-returns-clause-level : goal.links-returns-clause-level
-links-returns-clause-level t c = c.each.invariant.1
+links-returns-clause-level t c = c.in_ok-first.ensures.ok.level_is
 
-pub links-returns-clause-none : goal.links-returns-clause-none
-links-returns-clause-none t c = one_more_level _ (operator_level c.args.operator) (some_level c.args.operator) c.each.invariant.2 (subst (λ z. IsOther z (token_kinds c.each.left.now)) c.level_of.ensures c.in_default.ensures.none)
+pub more_links-each-init : goal.more_links-each-init
+more_links-each-init t c = (renamed {u = λ n. n} (record { reads = λ rest n r. r; runs = λ s v r. r }) (λ n. ap (λ z. before_links (operator_level c.args.operator) (map see_link z) n) (sym c.new-more.ensures.items)), c.requires.none)
+
+pub more_links-returns-in_err-one-clause-err : goal.more_links-returns-in_err-one-clause-err
+more_links-returns-in_err-one-clause-err t c = exits _ _ _ _ _ c.from_residual.ensures.1 (stops_in c.each.invariant.0 _ (subst (λ z. StopsAs (level_tail z) c.args.depth (token_kinds c.each.left.now) c.in_err-one.field-0.0) (c.in-Some.ensures.level ∙ c.level_of.ensures) c.in_err-one.ensures.err))
+
+pub more_links-each-smaller : goal.more_links-each-smaller
+more_links-each-smaller t c = link_shorter _ _ c.in_ok-one.ensures.ok
+
+pub more_links-each-preserved : goal.more_links-each-preserved
+more_links-each-preserved t c =
+    let one : IsLinkRead c.args.count (operator_level c.args.operator) c.args.depth (token_kinds c.each.left.now) (token_kinds c.in_ok-one.rest.now) (see_link c.in_ok-one.one) = subst (λ z. IsLinkRead c.args.count z c.args.depth (token_kinds c.each.left.now) (token_kinds c.in_ok-one.rest.now) (see_link c.in_ok-one.one)) (c.in-Some.ensures.level ∙ c.level_of.ensures) c.in_ok-one.ensures.ok in
+    (renamed (then c.each.invariant.0 one.goes_on) (λ n. links_push (operator_level c.args.operator) _ _ c.in_ok-one.one _ n c.in_ok-push.ensures.items refl), one.none)
+
+pub more_links-returns-clause-ok : goal.more_links-returns-clause-ok
+more_links-returns-clause-ok t c = as_node (c.each.invariant.0.reads _ _ (no_link (operator_level c.args.operator) (some_level c.args.operator) (top_level c.args.operator) (subst (λ z. IsOther z (token_kinds c.each.left.now)) c.level_of.ensures c.in_default.ensures.none))) (links_all (operator_level c.args.operator) (map see_link c.each.more.items))
+
+pub more_links-returns-clause-none : goal.more_links-returns-clause-none
+more_links-returns-clause-none t c = one_more_level _ (operator_level c.args.operator) (some_level c.args.operator) c.each.invariant.1 (subst (λ z. IsOther z (token_kinds c.each.left.now)) c.level_of.ensures c.in_default.ensures.none)
 
 pub link-returns-in_err-at-clause-err : goal.link-returns-in_err-at-clause-err
 link-returns-in_err-at-clause-err t c = exits _ _ _ _ _ c.from_residual.ensures.1 (stops {count = c.args.count} (begun_link c.args.operator _ refl c.requires.next) _ (subst (λ z. StopsAs (Terminal z) c.args.depth (token_kinds c.args.tokens.now) c.in_err-at.field-0.0) c.terminal_of_operator.ensures c.in_err-at.ensures.err))
