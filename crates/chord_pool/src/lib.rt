@@ -8,6 +8,7 @@
 mod closing;
 mod crew;
 mod ending;
+mod pause;
 mod player;
 mod pool;
 mod run;

@@ -4,10 +4,10 @@ ghost use Rattle.chord_space.specs.Desks.{view};
 ghost use Rattle.chord_worker.specs.Resting.{IsAtRest, IsSameRole};
 ghost use Rattle.chord_pool.specs.Players.{IsOneRun, IsFit, IsSettled, HasStopped, MayPlay, HasPlayed, PlaysOn};
 
+use crate::pause::Pause;
 use crate::run::Run;
 use chord_word::Cell;
 use chord_worker::{Gate, Worker};
-use crossbeam_utils::Backoff;
 use std::alloc::Global;
 use std::sync::Wait;
 
@@ -19,7 +19,14 @@ pub(crate) struct Player {
     pub failed: bool,
     /// The number from which it goes on to look for a firing.
     pub place: u32,
+    /// How many of its last looks found none.
+    pub misses: u32,
 }
+
+/// How many of the newest numbers are looked at again after a look that found nothing: a firing becomes ready soon after its draw.
+const NEAR: u32 = 256;
+/// One of so many looks that found nothing is followed by one over all numbers.
+const FAR_LOOK: u32 = 32;
 
 /// Looks at the cell of number i, and starts its firing where it is ready. Whether it plays it now.
 fn try_start<'a, G: Gate>(run: &Run<'a>, worker: &mut Worker, i: u32, gate: &G) -> bool
@@ -68,27 +75,18 @@ fn sweep<'a, G: Gate>(
     None
 }
 
-/// Looks for a firing from where the last look ended, all round. Whether it plays one now.
-fn find_work<'a, G: Gate>(run: &Run<'a>, worker: &mut Worker, place: &mut u32, gate: &G) -> bool
+/// Looks for a firing from this place on. Where the next look begins; whether it plays one now, the worker says.
+fn find_work<'a, G: Gate>(run: &Run<'a>, worker: &mut Worker, place: u32, gate: &G) -> u32
     requires run { IsOneRun run.now.space.now run.now.code.now run.now.limits.now }
     requires worker { IsFit run.now.space.now worker.old }
     requires idle { worker.old.task ≡ None }
     ensures worker { IsFit run.now.space.now worker.new }
     ensures role { IsSameRole (view worker.old.desk) (view worker.new.desk) }
-    ensures task { result ≡ is_some worker.new.task }
 {
     let count = worker.count(run.space);
-    let from = if *place < count { *place } else { 0 };
-    if let Some(i) = sweep(run, worker, from, count, gate) {
-        *place = i;
-        return true;
-    }
-    match sweep(run, worker, 0, from, gate) {
-        None => false,
-        Some(i) => {
-            *place = i;
-            true
-        }
+    match sweep(run, worker, place, count, gate) {
+        Some(i) => i,
+        None => count.saturating_sub(NEAR),
     }
 }
 
@@ -129,7 +127,7 @@ impl Player {
     }
 
     /// Looks for a firing to play. Whether the worker goes on: it does while it finds one, or another is at work.
-    fn idle<'a, G: Gate>(&mut self, run: &Run<'a>, gate: &G, pause: &Backoff) -> bool
+    fn idle<'a, R: Wait, G: Gate>(&mut self, rt: &R, run: &Run<'a>, gate: &G, pause: &Pause) -> bool
         requires run { IsOneRun run.now.space.now run.now.code.now run.now.limits.now }
         requires worker { IsFit run.now.space.now self.old.worker }
         requires idle { self.old.worker.task ≡ None }
@@ -141,15 +139,23 @@ impl Player {
     {
         // Read before the look: what is posted later is posted by a worker that is at work now, or by one of those whose work
         // this look finds.
-        let live = run.shared.is_live();
-        if find_work(run, &mut self.worker, &mut self.place, gate) {
+        let working = run.shared.working();
+        if working == 0 || self.misses == FAR_LOOK {
+            self.place = 0;
+            self.misses = 0;
+        }
+        self.place = find_work(run, &mut self.worker, self.place, gate);
+        if self.worker.has_task() {
+            self.misses = 0;
             pause.reset();
             return true;
         }
-        if live {
-            pause.snooze();
+        if working == 0 {
+            return false;
         }
-        live
+        self.misses = self.misses.saturating_add(1);
+        pause.rest(rt, run.shared, working);
+        true
     }
 
     /// One round: a step of the task, or a look for another. Whether the worker goes on.
@@ -159,7 +165,7 @@ impl Player {
         alloc: Global,
         run: &Run<'a>,
         gate: &G,
-        pause: &Backoff,
+        pause: &Pause,
     ) -> bool
         requires run { IsOneRun run.now.space.now run.now.code.now run.now.limits.now }
         requires may { MayPlay run.now.space.now self.old }
@@ -179,7 +185,7 @@ impl Player {
         if self.worker.has_task() {
             return self.advance(rt, alloc, run, gate);
         }
-        self.idle(run, gate, pause)
+        self.idle(rt, run, gate, pause)
     }
 }
 
@@ -197,7 +203,7 @@ pub(crate) fn work<'a, R: Wait, G: Gate>(
     ensures on { PlaysOn player result }
 {
     let mut player = player;
-    let pause = Backoff::new();
+    let pause = Pause::new();
     for _ in rt.forever() {
         if player.failed {
             return player;

@@ -65,6 +65,7 @@ fn play_together<'a, R: Threads + Wait + Sync, G: Gate + Sync>(
         worker: main,
         failed: false,
         place: 0,
+        misses: 0,
     };
     let (main, others) = share(rt, alloc, run, main, others, gate);
     let last = taken_in(run.space, main, others)?;

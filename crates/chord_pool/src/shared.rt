@@ -1,5 +1,7 @@
 //! What the workers of a run tell one another. No clause rests on it.
+use std::sync::Wait;
 use std::sync::atomic::{AtomicU64, Ordering};
+use std::time::Duration;
 
 /// Who is at work, and whether all are to stop.
 #[derive(Drop)]
@@ -19,9 +21,16 @@ impl Shared {
         }
     }
 
-    /// Whether some worker has a task, and so may post a firing.
-    pub(crate) fn is_live(&self) -> bool {
-        self.working.load(Ordering::SeqCst) != 0
+    /// How many workers have a task, and so may post a firing.
+    pub(crate) fn working(&self) -> u64 {
+        self.working.load(Ordering::SeqCst)
+    }
+
+    /// Sleeps for so long, or until no worker has a task, unless their number is another by now.
+    pub(crate) fn sleep<R: Wait>(&self, rt: &R, working: u64, micros: u64) {
+        let seen = (working % (1 << 32)) as u32;
+        self.working
+            .park_timeout(rt, seen, Duration::from_micros(micros));
     }
 
     /// One worker more has a task.
@@ -31,7 +40,9 @@ impl Shared {
 
     /// The task of a worker is over, or has gone away with a parcel.
     pub(crate) fn end(&self) {
-        self.working.fetch_sub(1, Ordering::SeqCst);
+        if self.working.fetch_sub(1, Ordering::SeqCst) == 1 {
+            self.working.wake_all();
+        }
     }
 
     /// Whether one of the workers met want of memory.
@@ -42,5 +53,6 @@ impl Shared {
     /// All are to stop before their next draw.
     pub(crate) fn stop(&self) {
         self.stopped.store(1, Ordering::SeqCst);
+        self.working.wake_all();
     }
 }
