@@ -140,11 +140,15 @@ impl Player {
         // Read before the look: what is posted later is posted by a worker that is at work now, or by one of those whose work
         // this look finds.
         let working = run.shared.working();
-        if working == 0 || self.misses == FAR_LOOK {
+        if self.misses == FAR_LOOK {
             self.place = 0;
             self.misses = 0;
         }
         self.place = find_work(run, &mut self.worker, self.place, gate);
+        // Where nobody is at work, what the near look did not find is looked for among all numbers, before the worker goes.
+        if working == 0 && !self.worker.has_task() {
+            self.place = find_work(run, &mut self.worker, 0, gate);
+        }
         if self.worker.has_task() {
             self.misses = 0;
             pause.reset();
