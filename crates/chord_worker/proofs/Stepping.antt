@@ -25,7 +25,7 @@ use Rattle.chord_worker.specs.declared.worker.Worker.{Worker}
 use Rattle.chord_worker.specs.Beginning.{HasBegun}
 use Rattle.chord_worker.specs.Playing.{IsNotedAs}
 use Rattle.chord_worker.specs.Sending.{IsSentOff}
-use Rattle.chord_worker.specs.Stepping.{HasNewer, AreAway, HasGoneOn, IsAsBefore, PlaysFiring, HasTakenOn, WasMinded}
+use Rattle.chord_worker.specs.Stepping.{HasNewer, AreAway, HasGoneOn, StillPlays, PlaysFiring, HasTakenOn, WasMinded}
 use Rattle.chord_worker.proofs.Parts.{all_kept, among_kept}
 use Rattle.chord_worker.proofs.Uniting.{among_self}
 
@@ -83,13 +83,13 @@ minded_since es es' x x' w m e k minded = subst (λ (y : Option Task). WasMinded
 
 module _ (before : List Entry) (t : Task) (n : ℕ) (x : Entry) (number : x.number ≡ n) (below : AllBelow n before) (w : Worker) where
   -- the newest entry is there
-  pub newest_there : IsIn x (view w.desk).kept → HasNewer before (view w.desk).kept
-  newest_there i = (x, i, subst (λ (k : ℕ). AllBelow k before) (sym number) below)
+  pub newest_is_kept : IsIn x (view w.desk).kept → HasNewer before (view w.desk).kept
+  newest_is_kept i = (x, i, subst (λ (k : ℕ). AllBelow k before) (sym number) below)
 
   -- an asynchronous message was minded, whose entry the desk kept
   pub went_sent : (es : List Entry) (y : Option Task) → es ≡ x ∷ before → WasMinded es y w n → HasGoneOn before t w
-  went_sent es y is (inl same) = inl (newest_there (subst (IsIn x) (sym (same.1 ∙ is)) (inl refl)))
-  went_sent es y is (inr (inl plays)) = inl (newest_there (plays.2.stay x (subst (IsIn x) (sym is) (inl refl))))
+  went_sent es y is (inl same) = inl (newest_is_kept (subst (IsIn x) (sym (same.1 ∙ is)) (inl refl)))
+  went_sent es y is (inr (inl plays)) = inl (newest_is_kept (plays.2.stay x (subst (IsIn x) (sym is) (inl refl))))
   went_sent es y is (inr (inr told)) = inr (inr told)
 
   -- a call was minded, whose task was away with it

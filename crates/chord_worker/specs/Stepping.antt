@@ -20,8 +20,8 @@ abbrev pub HasGoneOn : List Entry → Task → Worker → Type 0
 HasGoneOn before t w = HasNewer before (view w.desk).kept ⊎ (((w.task ≡ None) × AreAway (view_of t).past (view w.desk).kept) ⊎ ((view w.desk).spent ≡ true))
 
 -- the worker still plays this task, and its desk keeps these entries
-abbrev pub IsAsBefore : List Entry → Option Task → Worker → Type 0
-IsAsBefore before x w = (w.task ≡ x) × ((view w.desk).kept ≡ before)
+abbrev pub StillPlays : List Entry → Option Task → Worker → Type 0
+StillPlays before x w = (w.task ≡ x) × ((view w.desk).kept ≡ before)
 
 -- the worker, which had no task, plays the firing f, whose entry its desk keeps beside all that it kept
 pub record PlaysFiring (before : List Entry) (x : Option Task) (w : Worker) (f : ℕ) : Type 0 where
@@ -33,8 +33,8 @@ pub record PlaysFiring (before : List Entry) (x : Option Task) (w : Worker) (f :
 
 -- the firing f was posted, or is played
 abbrev pub HasTakenOn : List Entry → Option Task → Worker → ℕ → Type 0
-HasTakenOn before x w f = IsAsBefore before x w ⊎ PlaysFiring before x w f
+HasTakenOn before x w f = StillPlays before x w ⊎ PlaysFiring before x w f
 
 -- the message m was minded: nothing else is played than before, or a firing that was drawn after m is, or the desk was told that the limit is reached
 abbrev pub WasMinded : List Entry → Option Task → Worker → ℕ → Type 0
-WasMinded before x w m = IsAsBefore before x w ⊎ (((f : ℕ) × (m < f) × PlaysFiring before x w f) ⊎ ((view w.desk).spent ≡ true))
+WasMinded before x w m = StillPlays before x w ⊎ (((f : ℕ) × (m < f) × PlaysFiring before x w f) ⊎ ((view w.desk).spent ≡ true))

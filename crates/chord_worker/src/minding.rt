@@ -7,7 +7,7 @@ ghost use Rattle.chord_rule.specs.declared.view.View.{View};
 ghost use Rattle.chord_space.specs.Desks.{view, space_code, space_limits, program_of, IsDeskOf};
 ghost use Rattle.chord_worker.specs.Sending.{Minds, IsLaidDown};
 ghost use Rattle.chord_worker.specs.Resting.{IsAtRest, IsSameRole};
-ghost use Rattle.chord_worker.specs.Stepping.{IsAsBefore, WasMinded};
+ghost use Rattle.chord_worker.specs.Stepping.{StillPlays, WasMinded};
 
 use crate::fired::Drawn;
 use crate::worker::{Gate, Worker};
@@ -74,7 +74,7 @@ impl Worker {
         ensures again { IfOk result (λ b. b ≡ false → Minds space.now self.new message.number (key message.object message.method)) }
         ensures role { OnOk result (IsSameRole (view self.old.desk) (view self.new.desk)) }
         ensures minded { IfOk result (λ b. b ≡ true → WasMinded (view self.old.desk).kept self.old.task self.new message.number) }
-        ensures same { IfOk result (λ b. b ≡ false → IsAsBefore (view self.old.desk).kept self.old.task self.new) }
+        ensures same { IfOk result (λ b. b ≡ false → StillPlays (view self.old.desk).kept self.old.task self.new) }
     {
         let object = message.object;
         match fire(space, &mut self.desk, code, object, chord, &members, &nexts) {
@@ -116,7 +116,7 @@ impl Worker {
         ensures again { IfOk result (λ b. b ≡ false → Minds space.now self.new message.number (key message.object message.method)) }
         ensures role { OnOk result (IsSameRole (view self.old.desk) (view self.new.desk)) }
         ensures minded { IfOk result (λ b. b ≡ true → WasMinded (view self.old.desk).kept self.old.task self.new message.number) }
-        ensures same { IfOk result (λ b. b ≡ false → IsAsBefore (view self.old.desk).kept self.old.task self.new) }
+        ensures same { IfOk result (λ b. b ≡ false → StillPlays (view self.old.desk).kept self.old.task self.new) }
     {
         match find(
             space,

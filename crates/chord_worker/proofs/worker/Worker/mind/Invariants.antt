@@ -3,9 +3,9 @@ use Rattle.chord_rule.specs.Made.{key}
 use Rattle.chord_space.specs.Desks.{view}
 use Rattle.chord_worker.specs.Sending.{Minds}
 use Rattle.chord_worker.specs.Resting.{IsSameRole}
-use Rattle.chord_worker.specs.Stepping.{IsAsBefore}
+use Rattle.chord_worker.specs.Stepping.{StillPlays}
 use Rattle.chord_worker.proofs.worker.Worker.mind.Given as goal
 
 abbrev pub invariant-loop : goal.invariant-loop
 invariant-loop g l = (goal.iterator-loop g).can_next l.iterator' × (goal.iterator-loop g).is_finite l.iterator'
-    × Minds l.fn.space l.self l.fn.message.number (key l.fn.message.object l.fn.message.method) × IsSameRole (view l.fn.self.desk) (view l.self.desk) × IsAsBefore (view l.fn.self.desk).kept l.fn.self.task l.self
+    × Minds l.fn.space l.self l.fn.message.number (key l.fn.message.object l.fn.message.method) × IsSameRole (view l.fn.self.desk) (view l.self.desk) × StillPlays (view l.fn.self.desk).kept l.fn.self.task l.self

@@ -8,7 +8,7 @@ use Rattle.chord_space.specs.Desks.{view, space_code, space_limits, IsSameDesk}
 use Rattle.chord_task.specs.declared.parcel.Parcel.{Parcel}
 use Rattle.chord_worker.specs.Playing.{IsNotedAs, WasToldFull}
 use Rattle.chord_worker.proofs.Resting.{rest_noted, rest_told}
-use Rattle.chord_worker.proofs.Stepping.{newest_there}
+use Rattle.chord_worker.proofs.Stepping.{newest_is_kept}
 use Rattle.chord_worker.proofs.worker.Worker.play_own.Goals as goal
 
 pub returns-in_ok-settle-in-Ok-clause-rest : goal.returns-in_ok-settle-in-Ok-clause-rest
@@ -35,7 +35,7 @@ returns-in_ok-settle-in-Ok-clause-went c =
     let noted = c.in-Ok.ensures.drawn.1 in
     let kept = ap (λ (x : Desk Parcel). (view x).kept) c.settle.ensures.same.0 ∙ ap (λ (z : View). z.kept) noted.drawn in
     let x = entry c.in-Ok.field-0 noted.body c.args.what.now in
-    inl (newest_there (view c.args.self.now.desk).kept c.args.task c.in-Ok.field-0 x refl noted.below c.settle.new.self (subst (IsIn x) (sym kept) (inl refl)))
+    inl (newest_is_kept (view c.args.self.now.desk).kept c.args.task c.in-Ok.field-0 x refl noted.below c.settle.new.self (subst (IsIn x) (sym kept) (inl refl)))
 
 pub returns-in_ok-lay_down-in-Err-clause-went : goal.returns-in_ok-lay_down-in-Err-clause-went
 returns-in_ok-lay_down-in-Err-clause-went c = inr (inr (ap (λ (x : Desk Parcel). (view x).spent) c.lay_down.ensures.same.0 ∙ ap (λ (z : View). z.spent) c.in-Err.ensures.drawn.view))
