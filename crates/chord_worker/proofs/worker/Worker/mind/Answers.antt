@@ -6,8 +6,7 @@ use Rattle.chord_worker.proofs.worker.Worker.mind.Goals as goal
 
 pub loop-preserved : goal.loop-preserved
 loop-preserved g c =
-    let same = c.in_ok-attend.ensures.same c.if-branch.false in
-    (
+    let same = c.in_ok-attend.ensures.same c.if-branch.false in (
       tt,
       tt,
       c.in_ok-attend.ensures.again c.if-branch.false,
