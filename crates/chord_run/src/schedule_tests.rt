@@ -298,7 +298,7 @@ fn take_home(
             match task {
                 None => Ok(()),
                 Some(task) => {
-                    let mut past = task.into_past();
+                    let mut past = task.into_inner().into_past();
                     entries.append(&mut past)?;
                     Ok(())
                 }

@@ -5,6 +5,7 @@
 //! Not here: which body goes on next, and which chord fires (the engines).
 #![tactic(auto)]
 
+pub mod apart;
 pub mod args;
 pub mod body;
 pub mod cross;

@@ -5,6 +5,7 @@ ghost use Rattle.std.specs.Prelude.{◌≡◌, ◌≢◌, [], None};
 ghost use Rattle.chord_task.specs.Standing.{view_of, IsTaskOf};
 ghost use Rattle.chord_task.specs.Parcels.{entries_of, arguments_of, IsParcelOf};
 
+use crate::apart::Apart;
 use crate::args::Args;
 use crate::task::Task;
 use chord_base::event::Limits;
@@ -17,7 +18,7 @@ pub struct Parcel {
     /// The message's arguments.
     pub arguments: Args,
     /// The task whose body on top waits for the message, if it is a call.
-    pub task: Option<Task>,
+    pub task: Option<Apart<Task>>,
 }
 
 impl Carry for Parcel {
@@ -29,7 +30,7 @@ impl Carry for Parcel {
 }
 
 /// A parcel with a task that has a body left.
-pub fn packed(code: &Code, limits: &Limits, arguments: Args, task: Task) -> Parcel
+pub fn packed(code: &Code, limits: &Limits, arguments: Args, task: Apart<Task>) -> Parcel
     requires task { IsTaskOf code.now limits.now task }
     requires left { (view_of task).top ≢ None }
     requires twice { arguments.second ≡ arguments.first }

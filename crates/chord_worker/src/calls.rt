@@ -13,6 +13,7 @@ use crate::worker::{Gate, Worker};
 use chord_base::event::{Entry, Limits, What};
 use chord_code::code::Code;
 use chord_space::{Desk, Space};
+use chord_task::apart::Apart;
 use chord_task::parcel::Parcel;
 use chord_task::task::Task;
 use chord_word::Cell;
@@ -42,6 +43,7 @@ impl Worker {
     {
         let mut desk = desk;
         let task = Task::main(alloc, code, limits)?;
+        let task = Apart::new(alloc, task)?;
         let done = Vec::new(alloc);
         match space.draw(&mut desk, 0, &What::Begun) {
             Ok(_) => Ok(Worker {

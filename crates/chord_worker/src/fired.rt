@@ -17,6 +17,7 @@ use chord_base::value::{Object, Values};
 use chord_code::code::Code;
 use chord_code::laws::{chords_are_right, entries_are_within};
 use chord_space::Space;
+use chord_task::apart::Apart;
 use chord_task::args::Args;
 use chord_task::parcel::{Parcel, packed};
 use chord_task::task::Task;
@@ -32,7 +33,7 @@ pub(crate) struct Drawn {
 }
 
 /// Takes the parcels out of the hand: the arguments of each, and the task that one of them may have.
-fn unpack(hand: &mut Hand<Parcel>, arguments: &mut Hand<Args>) -> Option<Task>
+fn unpack(hand: &mut Hand<Parcel>, arguments: &mut Hand<Args>) -> Option<Apart<Task>>
     requires few { length hand.old + length arguments.old ≤ 8 }
     ensures arguments { arguments.new ≡ arguments.old ++ arguments_in hand.old }
     ensures task { result ≡ first_task hand.old }
@@ -56,7 +57,7 @@ fn unpack(hand: &mut Hand<Parcel>, arguments: &mut Hand<Args>) -> Option<Task>
 }
 
 /// The caller's task, or else the one in stock.
-fn take_task(caller: Option<Task>, spare: &mut Option<Task>) -> Task
+fn take_task(caller: Option<Apart<Task>>, spare: &mut Option<Apart<Task>>) -> Apart<Task>
     requires stock { spare.old ≢ None }
     ensures task { (stock : ATask) → spare.old ≡ Some stock → result ≡ caller_or caller stock }
     ensures spare { (spare.new ≡ spare.old) ⊎ (spare.new ≡ None) }
@@ -90,7 +91,7 @@ impl Worker {
         limits: &Limits,
         gate: &G,
         number: u32,
-        task: Task,
+        task: Apart<Task>,
     )
         requires code { code.now ≡ space_code space.now }
         requires limits { limits.now ≡ space_limits space.now }
@@ -140,7 +141,7 @@ impl Worker {
         let mut arguments = Hand::new();
         let caller = unpack(&mut hand, &mut arguments);
         let mut task = take_task(caller, &mut self.spare);
-        task.resume(
+        task.value.resume(
             code,
             drawn.number,
             drawn.chord,

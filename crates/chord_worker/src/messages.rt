@@ -20,6 +20,7 @@ use chord_base::event::{Limits, What};
 use chord_base::value::{Object, Values};
 use chord_code::code::Code;
 use chord_space::{Desk, Space};
+use chord_task::apart::Apart;
 use chord_task::args::Args;
 use chord_task::parcel::{Parcel, letter, packed};
 use chord_task::task::Task;
@@ -92,7 +93,7 @@ fn send_task(
     object: Object,
     method: u8,
     held: Args,
-    task: Task,
+    task: Apart<Task>,
 )
     requires desk { IsDeskOf space.now desk.old }
     requires code { code.now ≡ space_code space.now }
@@ -122,7 +123,7 @@ impl Worker {
         code: &Code,
         limits: &Limits,
         gate: &G,
-        task: Task,
+        task: Apart<Task>,
         object: Object,
         method: u8,
         arguments: Values,
@@ -181,7 +182,7 @@ impl Worker {
         code: &Code,
         limits: &Limits,
         gate: &G,
-        task: Task,
+        task: Apart<Task>,
         object: Object,
         method: u8,
         arguments: Values,

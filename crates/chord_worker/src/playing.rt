@@ -12,6 +12,7 @@ ghost use Rattle.chord_worker.specs.Resting.{IsInMemory, IsStock, IsStockTask};
 use chord_base::event::{Limits, What};
 use chord_code::code::Code;
 use chord_space::{Desk, Space, Spent};
+use chord_task::apart::Apart;
 use chord_task::parcel::Parcel;
 use chord_task::task::Task;
 use chord_vm::ask::Ask;
@@ -33,7 +34,7 @@ pub(crate) fn ready_ask(
     alloc: Global,
     code: &Code,
     limits: &Limits,
-    task: &mut Task,
+    task: &mut Apart<Task>,
 ) -> Result<Ask, AllocError>
     requires task { IsTaskOf code.now limits.now task.old }
     requires ready { is_ready_of task.old ≡ true }
@@ -41,8 +42,8 @@ pub(crate) fn ready_ask(
     ensures same { IfOk result (λ ask. view_of task.new ≡ view_of task.old) }
     ensures ready { IfOk result (λ ask. IsReadyTo code.now limits.now task.new (what_of_ask ask)) }
 {
-    let ask = task.ask(alloc, code, limits)?;
-    task.reserve(alloc, code)?;
+    let ask = task.value.ask(alloc, code, limits)?;
+    task.value.reserve(alloc, code)?;
     Ok(ask)
 }
 
@@ -51,14 +52,15 @@ pub(crate) fn stocked(
     alloc: Global,
     code: &Code,
     limits: &Limits,
-    stock: Option<Task>,
-) -> Result<Task, AllocError>
+    stock: Option<Apart<Task>>,
+) -> Result<Apart<Task>, AllocError>
     requires { IsStock code.now limits.now stock }
     ensures { IfOk result (λ t. IsStockTask code.now limits.now t) }
 {
     match stock {
         None => {
             let task = Task::spare(alloc, code, limits)?;
+            let task = Apart::new(alloc, task)?;
             Ok(task)
         }
         Some(task) => Ok(task),
@@ -69,7 +71,7 @@ pub(crate) fn stocked(
 pub(crate) fn draw_own(
     space: &Space<Parcel>,
     desk: &mut Desk<Parcel>,
-    task: &mut Task,
+    task: &mut Apart<Task>,
     what: &What,
 ) -> Result<u32, Spent>
     requires desk { IsDeskOf space.now desk.old }
@@ -80,8 +82,8 @@ pub(crate) fn draw_own(
     ensures desk { IsSameDesk desk.old desk.new }
     ensures drawn { MatchResult result (λ n. (n < space.now.events) × IsNotedAs (space_code space.now) (space_limits space.now) (view desk.old) (view desk.new) task.old task.new n what.now) (λ _. WasToldFull (view desk.old) (view desk.new) task.old task.new) }
 {
-    let body = top_number(task);
+    let body = top_number(&task.value);
     let number = space.draw(desk, body, what)?;
-    task.note(number);
+    task.value.note(number);
     Ok(number)
 }

@@ -16,6 +16,7 @@ use crate::worker::{Gate, Worker};
 use chord_base::event::{Limits, What};
 use chord_code::code::Code;
 use chord_space::Space;
+use chord_task::apart::Apart;
 use chord_task::parcel::Parcel;
 use chord_task::task::Task;
 use chord_vm::ask::Ask;
@@ -24,27 +25,27 @@ use std::sync::Wait;
 
 impl Worker {
     /// The task is played on if it may go on; else what it did is done.
-    pub(crate) fn settle(&mut self, task: Task) -> Result<(), AllocError>
+    pub(crate) fn settle(&mut self, task: Apart<Task>) -> Result<(), AllocError>
         requires none { self.old.task ≡ None }
         ensures same { (self.new.desk ≡ self.old.desk) × (self.new.spare ≡ self.old.spare) × (self.new.spent ≡ self.old.spent) }
         ensures settled { OnOk result ((code : Parts) (limits : TheLimits) (kept : List AnEntry) (spent : Bool) → IsInMemory code limits kept spent self.old.done.items (Some task) → IsInMemory code limits kept spent self.new.done.items self.new.task × MayContinue self.new.task) }
     {
-        if task.is_ready() {
+        if task.value.is_ready() {
             self.task = Some(task);
             return Ok(());
         }
-        let mut past = task.into_past();
+        let mut past = task.into_inner().into_past();
         self.done.append(&mut past)?;
         Ok(())
     }
 
     /// The limit on events is reached: what the task did is done.
-    pub(crate) fn lay_down(&mut self, task: Task) -> Result<(), AllocError>
+    pub(crate) fn lay_down(&mut self, task: Apart<Task>) -> Result<(), AllocError>
         ensures same { (self.new.desk ≡ self.old.desk) × (self.new.spare ≡ self.old.spare) × (self.new.task ≡ self.old.task) × (self.new.spent ≡ true) }
         ensures done { OnOk result (self.new.done.items ≡ self.old.done.items ++ task.past.items) }
     {
         self.spent = true;
-        let mut past = task.into_past();
+        let mut past = task.into_inner().into_past();
         self.done.append(&mut past)?;
         Ok(())
     }
@@ -53,7 +54,7 @@ impl Worker {
     pub(crate) fn play_own(
         &mut self,
         space: &Space<Parcel>,
-        task: Task,
+        task: Apart<Task>,
         what: &What,
     ) -> Result<(), AllocError>
         requires none { self.old.task ≡ None }
@@ -92,7 +93,7 @@ impl Worker {
         code: &Code,
         limits: &Limits,
         gate: &G,
-        task: Task,
+        task: Apart<Task>,
         ask: Ask,
     ) -> Result<(), AllocError>
         requires none { self.old.task ≡ None }

@@ -1,6 +1,7 @@
 //! A worker: its desk, the task that it plays, and what is done.
 use chord_base::event::Entry;
 use chord_space::Desk;
+use chord_task::apart::Apart;
 use chord_task::parcel::Parcel;
 use chord_task::task::Task;
 
@@ -16,9 +17,9 @@ pub struct Worker {
     /// The desk with which it makes its steps.
     pub(crate) desk: Desk<Parcel>,
     /// What it plays: the body on top may go on.
-    pub(crate) task: Option<Task>,
+    pub(crate) task: Option<Apart<Task>>,
     /// Room for the body of a firing that serves no call.
-    pub(crate) spare: Option<Task>,
+    pub(crate) spare: Option<Apart<Task>>,
     /// The entries of what is done.
     pub(crate) done: Vec<Entry>,
     /// Whether it was told that the limit on events is reached.
