@@ -7,15 +7,16 @@ use Rattle.chord_worker.proofs.Memory.{noted}
 use Rattle.chord_worker.proofs.playing.draw_own.Goals as goal
 
 pub draw-requires-clause-next : goal.draw-requires-clause-next
-draw-requires-clause-next c = inl (c.requires.ready.next.own, may_draw _ _ _ _ _ c.requires.memory.1 _ c.requires.ready _ c.top_number-body.ensures)
+draw-requires-clause-next c = inl (c.requires.ready.next.own, may_draw _ _ _ _ _ c.requires.memory.1 _ c.requires.ready _ (rw (c.deref.ensures ∙ c.task.view_is) at c.top_number-body.ensures))
 
 pub note-requires : goal.note-requires
 note-requires c =
     let m = c.requires.memory.1 in
     let ready = c.requires.ready in
     let body = c.top_number-body.result in
-    let top = c.top_number-body.ensures in
-    let below = c.in_ok-number.ensures.above.0 in (
+    let top = rw (c.deref.ensures ∙ c.task.view_is) at c.top_number-body.ensures in
+    let below = c.in_ok-number.ensures.above.0 in
+    rw (c.deref_mut.ensures.value ∙ c.task.view_is) (
       space_code c.args.space.now,
       space_limits c.args.space.now,
       m.played.0,
@@ -33,7 +34,7 @@ returns-clause-drawn c =
     let m = c.requires.memory.1 in
     let ready = c.requires.ready in
     let body = c.top_number-body.result in
-    let top = c.top_number-body.ensures in
+    let top = rw (c.deref.ensures ∙ c.task.view_is) at c.top_number-body.ensures in
     let below = c.in_ok-number.ensures.above.0 in
     let asks = asks_next _ _ _ _ _ m _ ready body top in
     let may : MayNote (space_code c.args.space.now) (space_limits c.args.space.now) c.args.task.now c.in_ok-number.number = record {
@@ -43,7 +44,8 @@ returns-clause-drawn c =
       stays = noted_stays _ _ _ _ _ m _ ready body top c.requires.sound _ below c.in_ok-number.ensures.place;
       above = noted_above _ _ _ _ _ m _ ready body top c.requires.sound _ below c.in_ok-number.ensures.place;
     } in
-    let said = c.note.ensures (space_code c.args.space.now) (space_limits c.args.space.now) m.played.0 may in
+    let noting = rw (c.deref_mut.ensures.value ∙ c.task.view_is) at c.note.ensures in
+    let said = noting (space_code c.args.space.now) (space_limits c.args.space.now) m.played.0 may in
     let past = subst (λ (k : ℕ). (view_of c.note.new.self).past ≡ entry c.in_ok-number.number k c.args.what.now ∷ (view_of c.args.task.now).past) (one_top (view_of c.args.task.now).top said.1.0 body said.1.1 top) said.1.2 in (
       c.in_ok-number.ensures.drawn.0,
       record {

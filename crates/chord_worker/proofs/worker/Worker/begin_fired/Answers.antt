@@ -11,12 +11,12 @@ pub take_task-task-requires : goal.take_task-task-requires
 take_task-task-requires g c = record { stock = λ e. let z : Some c.requires.fired.1.stock ≡ None = sym c.requires.fired.1.spare ∙ e in cc }
 
 pub resume-requires-clause-task : goal.resume-requires-clause-task
-resume-requires-clause-task g c = task_is _ _ _ _ _ _ _ _ c.requires.fired.1 c.requires.sound _ c.requires.code c.chords_are_right.ensures _ c.unpack-caller.ensures.task _ c.take_task-task.ensures.task
-    _ _ c.new-arguments.ensures c.unpack-caller.ensures.arguments
+resume-requires-clause-task g c = rw (c.deref_mut.ensures.value ∙ c.task.view_is) (task_is _ _ _ _ _ _ _ _ c.requires.fired.1 c.requires.sound _ c.requires.code c.chords_are_right.ensures _ c.unpack-caller.ensures.task _ c.take_task-task.ensures.task
+    _ _ c.new-arguments.ensures c.unpack-caller.ensures.arguments)
 
 pub resume-requires-clause-may : goal.resume-requires-clause-may
-resume-requires-clause-may g c = may_be_begun _ _ _ _ _ _ _ _ c.requires.fired.1 c.requires.sound _ c.requires.code c.chords_are_right.ensures _ c.unpack-caller.ensures.task _ c.take_task-task.ensures.task
-    _ _ c.new-arguments.ensures c.unpack-caller.ensures.arguments
+resume-requires-clause-may g c = rw (c.deref_mut.ensures.value ∙ c.task.view_is) (may_be_begun _ _ _ _ _ _ _ _ c.requires.fired.1 c.requires.sound _ c.requires.code c.chords_are_right.ensures _ c.unpack-caller.ensures.task _ c.take_task-task.ensures.task
+    _ _ c.new-arguments.ensures c.unpack-caller.ensures.arguments)
 
 pub resume-requires-clause-few : goal.resume-requires-clause-few
 resume-requires-clause-few g c = few_values _ _ _ _ _ _ _ _ c.requires.fired.1 c.requires.sound _ c.requires.code c.chords_are_right.ensures _ c.unpack-caller.ensures.task _ c.take_task-task.ensures.task
@@ -30,11 +30,11 @@ pub take_on-requires-clause-begun : goal.take_on-requires-clause-begun
 take_on-requires-clause-begun g c = (
   c.requires.fired.0,
   begun_there _ _ _ _ _ _ _ _ c.requires.fired.1 c.requires.sound _ c.requires.code c.chords_are_right.ensures _ c.unpack-caller.ensures.task _ c.take_task-task.ensures.task
-      _ _ c.new-arguments.ensures c.unpack-caller.ensures.arguments _ c.take_task-task.ensures.spare _ c.resume.ensures.task c.resume.ensures.past c.resume.ensures.top,
+      _ _ c.new-arguments.ensures c.unpack-caller.ensures.arguments _ c.take_task-task.ensures.spare _ (rw (c.deref_mut.ensures.value ∙ c.task.view_is) at c.resume.ensures.task) (rw (c.deref_mut.ensures.value ∙ c.task.view_is) at c.resume.ensures.past) c.resume.ensures.top,
 )
 
 pub returns-clause-taken : goal.returns-clause-taken
 returns-clause-taken g c = λ v fired.
     c.take_on.ensures.taken v
     (begun_there _ _ _ _ _ _ _ _ fired c.requires.sound _ c.requires.code c.chords_are_right.ensures _ c.unpack-caller.ensures.task _ c.take_task-task.ensures.task
-    _ _ c.new-arguments.ensures c.unpack-caller.ensures.arguments _ c.take_task-task.ensures.spare _ c.resume.ensures.task c.resume.ensures.past c.resume.ensures.top)
+    _ _ c.new-arguments.ensures c.unpack-caller.ensures.arguments _ c.take_task-task.ensures.spare _ (rw (c.deref_mut.ensures.value ∙ c.task.view_is) at c.resume.ensures.task) (rw (c.deref_mut.ensures.value ∙ c.task.view_is) at c.resume.ensures.past) c.resume.ensures.top)
