@@ -4,8 +4,9 @@ ghost use Rattle.std.specs.Prelude.{◌≡◌, IfOk};
 use std::alloc::{AllocError, Global};
 use std::marker::Model;
 
-/// A value in memory of its own. Contracts see the value.
+/// A value in memory of its own, so that what holds it is small where it is moved. Contracts see the value.
 pub struct Apart<T> {
+    /// The value, in its memory.
     pub value: Box<T>,
 }
 
@@ -24,6 +25,10 @@ impl<T: Drop> Drop for Apart<T> {
 
 impl<T: Drop> Apart<T> {
     /// The value, in new memory.
+    ///
+    /// # Errors
+    ///
+    /// `AllocError` where no memory is found.
     pub fn new(alloc: Global, value: T) -> Result<Apart<T>, AllocError>
         ensures { IfOk result (λ a. a ≡ value) }
     {
