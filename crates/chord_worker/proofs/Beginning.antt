@@ -109,7 +109,7 @@ module _ (code : Parts) (limits : Limits) where
     goes_next t b (nexts.Gave w) u past same = refl
     goes_next t b (nexts.Ends x y) u past same = refl
     goes_next t b (nexts.Fails x) u past same = refl
-    goes_next t b (nexts.Waits q) u past same = absurd (fired_waits u.start u.depth u.answers q (limits.depth - b.frames.value.top.room) (subst (λ (g : List Entry). doing p g f ≡ Waits u.start u.depth u.answers q (limits.depth - b.frames.top.room)) past (ap (doing p (view_of t).past) (sym same) ∙ u.is)))
+    goes_next t b (nexts.Waits q) u past same = absurd (fired_waits u.start u.depth u.answers q (limits.depth - b.frames.value.top.room) (subst (λ (g : List Entry). doing p g f ≡ Waits u.start u.depth u.answers q (limits.depth - b.frames.value.top.room)) past (ap (doing p (view_of t).past) (sym same) ∙ u.is)))
 
     -- the task may go on
     pub begun_goes : (t : Task) → IsTaskOf code limits t → (view_of t).past ≡ entry f f (Fired k o ms vs) ∷ h → (view_of t).top ≡ Some f → is_ready_of t ≡ true
