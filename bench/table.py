@@ -263,8 +263,8 @@ def in_c():
 def main():
     answers = [('table', SOUND), ('linked', MAY_LINK)]
     crates = ['chord_base', 'chord_code', 'chord_rule', 'chord_space', 'chord_word']
-    making, small, drawing, linking, arming, made, none, draws, links, arms = map(int, common.rows_of('steps', crates, filled(OURS), answers)[0])
-    assert (made, none, draws, links, arms) == (TABLES, 0, 2 * ROUNDS, 2 * ROUNDS, 2 * ROUNDS)
+    making, small, drawing, linking, arming, none, draws, links, arms = map(int, common.rows_of('steps', crates, filled(OURS), answers)[0])
+    assert (none, draws, links, arms) == (0, 2 * ROUNDS, 2 * ROUNDS, 2 * ROUNDS)
     bare = in_c()
     common.tell('make', making / TABLES / 1e3, bare[0] / 1e6, 'ms', '65,536 events')
     common.tell('draw', (drawing - small) * 1e3 / ROUNDS / 3, bare[1], 'ns')
