@@ -9,7 +9,7 @@ use chord_run::{Gate, chord};
 use std::alloc::Global;
 use std::process::ExitCode;
 use std::rt::Env;
-use std::{env, io};
+use std::{env, io, mem};
 
 /// The gate that does nothing.
 struct Open;
@@ -36,5 +36,8 @@ fn main(rt: HostRuntime) -> ExitCode {
     let mut source = StdSource::new(rt.stdin());
     let mut sink = StdSink::new(rt.stdout());
     let report = chord(&rt, rt.alloc(), &words, &mut source, &mut sink, &Open);
-    ExitCode::from(report.status)
+    let status = report.status;
+    // The process ends here and its memory goes back as a whole, so the journal and the table are not dropped entry by entry.
+    mem::forget(report);
+    ExitCode::from(status)
 }
