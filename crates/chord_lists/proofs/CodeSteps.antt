@@ -1,7 +1,7 @@
 -- What an entry makes of the bodies of a run of a code.
-use Rattle.std.proofs.Common.{◌≡◌, ℕ, ◌<◌, ◌≤◌, Bool, true, false, ◌==◌, List, [], ◌∷◌, ◌++◌, length, Option, Some, None, refl, sym, ap, ◌∙◌, subst, arith, inl, inr, set, reverse, length-append}
-use Rattle.std.specs.Prelude.{slice_get, if◌then◌else◌}
-use Rattle.std.proofs.lemmas.List.{length-set}
+use Rattle.std.proofs.Common.{◌≡◌, ℕ, ◌-◌, ◌<◌, ◌≤◌, Bool, true, false, ◌==◌, List, [], ◌∷◌, ◌++◌, length, Option, Some, None, refl, sym, ap, ◌∙◌, subst, arith, inl, inr, set, reverse, length-append}
+use Rattle.std.specs.Prelude.{slice_get, option_to_list, if◌then◌else◌}
+use Rattle.std.proofs.lemmas.List.{length-set, length-append, reverse-append, append-nil}
 use Rattle.std.proofs.lemmas.Bool.{eq-eqb, eqb-true, eqb-false}
 use Rattle.chord_base.specs.declared.value.Object.{Object}
 use Rattle.chord_base.specs.declared.value.Value.{Value}
@@ -207,6 +207,21 @@ tasks_set code limits tasks i t u s k f j x e =
           subst (λ (q : Task). IsTaskOf code limits q) (one_some t x (slice_get (set tasks i t) j) here e) k)
       | inr o ↦ f j x (sym (set_other tasks i j t (eqb-false i j o)) ∙ e)
     ]
+
+-- a task that may not go on is taken off the list
+pub ready_popped : (tasks : List Task) (xs ys : List ℕ) (o : Option ℕ) (at : ℕ) → xs ≡ ys ++ option_to_list o → Some at ≡ slice_get xs (length xs - 1) → ready_at tasks at ≡ false → AreReady tasks (reverse xs) → AreReady tasks (reverse ys)
+ready_popped tasks xs ys None at split last not r = subst (λ zs. AreReady tasks (reverse zs)) (split ∙ append-nil ys) r
+ready_popped tasks xs ys (Some x) at split last not r =
+    let whole : reverse xs ≡ x ∷ reverse ys = ap reverse split ∙ reverse-append ys (x ∷ []) in
+    let long : length xs - 1 ≡ length ys = ap (λ zs. length zs - 1) split ∙ (let l = length-append ys (x ∷ []) in omega (arith, l)) in
+    let here : at ≡ x = one_some at x (slice_get xs (length xs - 1)) (sym last) (ap (slice_get xs) long ∙ ap (λ zs. slice_get zs (length ys)) split ∙ end_at ys x) in record {
+      all = λ i goes.
+          let there : has i (x ∷ reverse ys) ≡ true = ap (has i) (sym whole) ∙ r.all i goes in
+          elim (either (i == x)) [
+            | inl y ↦ (let z : false ≡ true = sym not ∙ subst (λ k. ready_at tasks k ≡ true) (eqb-true i x y ∙ sym here) goes in cc)
+            | inr o ↦ rw o at there
+          ];
+    }
 
 -- a list of ready tasks serves while no other task becomes ready
 ready_set : (tasks : List Task) (i : ℕ) (t u : Task) (ready : List ℕ) → slice_get tasks i ≡ Some u → is_ready_of u ≡ true → AreReady tasks ready → AreReady (set tasks i t) ready

@@ -123,19 +123,20 @@ fn goes_at(tasks: &[Task], at: u32) -> bool
 }
 
 /// The place of a task that may go on. It stays on top of the list.
-pub fn next_ready(tasks: &[Task], ready: &mut Vec<u32>) -> Result<Option<u32>, AllocError>
+pub fn next_ready(tasks: &[Task], ready: &mut Vec<u32>) -> Option<u32>
     requires { AreReady tasks.now (reverse ready.old.items) }
-    ensures ready { IfOk result (λ _. AreReady tasks.now (reverse ready.new.items)) }
-    ensures some { IfOk result (λ place. IfSome place (λ at. ready_at tasks.now at ≡ true)) }
-    ensures none { IfOk result (λ place. IfNone place ((i : ℕ) → ready_at tasks.now i ≡ false)) }
+    ensures ready { AreReady tasks.now (reverse ready.new.items) }
+    ensures some { IfSome result (λ at. ready_at tasks.now at ≡ true) }
+    ensures none { IfNone result ((i : ℕ) → ready_at tasks.now i ≡ false) }
 {
-    while let Some(at) = ready.pop() {
+    while let Some(at) = ready.last() {
+        let at = *at;
         if goes_at(tasks, at) {
-            ready.push(at)?;
-            return Ok(Some(at));
+            return Some(at);
         }
+        let _ = ready.pop();
     }
-    Ok(None)
+    None
 }
 
 /// Whether the task of this place has no body left.
@@ -230,7 +231,7 @@ pub fn go_on(
     requires may { MayGoOn (code_program code.now limits.now) (StandsAfter code.now limits.now bodies.old) number }
     ensures { IfOk result (λ turn. Went (code_program code.now limits.now) (StandsAfter code.now limits.now bodies.old) (StandsAfter code.now limits.now bodies.new) number turn) }
 {
-    match next_ready(&bodies.tasks, &mut bodies.ready)? {
+    match next_ready(&bodies.tasks, &mut bodies.ready) {
         None => Ok(Turn::Over),
         Some(at) => {
             let turn = make(alloc, code, limits, bodies, at, number)?;

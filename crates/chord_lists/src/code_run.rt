@@ -152,7 +152,7 @@ pub fn may_go_on(
         return Ok(true);
     }
     let mut bodies = bodies_after(alloc, &program, entries)?;
-    match next_ready(&bodies.tasks, &mut bodies.ready)? {
+    match next_ready(&bodies.tasks, &mut bodies.ready) {
         Some(_) => Ok(true),
         None => {
             let bag = pending_bag(alloc, &bodies.tags, entries)?;

@@ -26,7 +26,7 @@ returns-in-Some-clause-yes c =
     let code = c.args.code.now in
     let limits = c.args.limits.now in
     let s : StandsAfter code limits c.in_ok-bodies.bodies (reverse c.args.journal.now) = rw c.entries-entries.ensures.entries at c.in_ok-bodies.ensures in
-    let ready = rw (c.in-Some.is, c.deref.ensures.value) at c.in_ok-next_ready.ensures.some in
+    let ready = rw (c.in-Some.is, c.deref.ensures.value) at c.next_ready.ensures.some in
     ready_follows code limits c.in_ok-bodies.bodies (reverse c.args.journal.now) c.in-Some.field-0 s ready
 
 pub returns-clause-yes : goal.returns-clause-yes
@@ -42,7 +42,7 @@ returns-clause-no c =
     let limits = c.args.limits.now in
     let p = code_program code limits in
     let s : StandsAfter code limits c.in_ok-bodies.bodies (reverse c.args.journal.now) = rw c.entries-entries.ensures.entries at c.in_ok-bodies.ensures in
-    let none = rw (c.in-None.is, c.deref.ensures.value) at c.in_ok-next_ready.ensures.none in
+    let none = rw (c.in-None.is, c.deref.ensures.value) at c.next_ready.ensures.none in
     let f = subst (λ (es : List Entry). NoneFires p (reverse es)) c.entries-entries.ensures.entries (c.fires.ensures.no no) in
     let apart = eqb-false (length c.entries-entries.result.now) 0 (sym c.is_empty.ensures ∙ c.if-is_empty.false) in
     let some : 0 < length (reverse c.args.journal.now) = (let l = length-reverse c.args.journal.now in let k = ap length c.entries-entries.ensures.entries in omega (arith, l, k, apart)) in
