@@ -26,7 +26,7 @@ use Rattle.chord_match.specs.declared.claiming.Missed.{Missed}
 use Rattle.chord_match.specs.declared.claiming.Missed.TheVariants.{Lost, Spent}
 use Rattle.chord_match.specs.Seen.{MayBeClaimed, MayAllBeClaimed, AreSeen}
 use Rattle.chord_match.specs.Fires.{AreLastPending, IsLost, IsTurnedAway}
-use Rattle.chord_match.specs.Claiming.{ClaimAt, Taking, IsDrawn, missed_by, IsWhy, IsMissed}
+use Rattle.chord_match.specs.Claiming.{ClaimAt, Taking, IsDrawn, missed_by, looked_by, IsWhy, IsMissed}
 use Rattle.chord_match.proofs.Growing.{has_look_left}
 use Rattle.chord_match.proofs.Lists.{all_below_more, has_at, different_at}
 
@@ -140,7 +140,7 @@ number_at (i ∷ ms) (suc q) l = inr (number_at ms q (omega (arith, l)))
 
 -- nothing was fired, since the journal is full
 pub missed_full : (n : ℕ) (v w : View) (ms : List ℕ) (xs : List (Option ℕ)) (at c : ℕ) → n < c → w ≡ saw_count (was_told v) c → IsMissed n v w ms xs at Spent
-missed_full n v w ms xs at c far is = subst (λ (z : View). IsMissed n v z ms xs at Spent) (sym is) record { frame = refl; looks = []; more = refl; why = (c, far, refl); alone = λ a b l. tt }
+missed_full n v w ms xs at c far is = subst (λ (z : View). IsMissed n v z ms xs at Spent) (sym is) record { frame = refl; looks = []; more = refl; why = (c, far, refl); remembered = refl; alone = λ a b l. tt }
 
 -- the exchange read another cell
 pub missed_one : (n : ℕ) (v w : View) (ms : List ℕ) (xs : List (Option ℕ)) (at : ℕ) (c : Cell) (after : Option ℕ) → at < length ms → slice_index_or ms at 0 < n → w ≡ saw v (slice_index_or ms at 0) (record { cell = c; next = after }) → c ≢ a_cell.Pending
@@ -150,6 +150,7 @@ missed_one n v w ms xs at c after low small is ne alone = let i : ℕ = slice_in
   looks = record { number = i; word = record { cell = c; next = after } } ∷ [];
   more = refl;
   why = (number_at ms at low, small, (record { cell = c; next = after }, inl (refl, refl), ne));
+  remembered = refl;
   alone = alone;
 }
 
@@ -158,9 +159,10 @@ pub missed_back : (n : ℕ) (v u w : View) (ms : List ℕ) (xs : List (Option �
     → IsMissed n (saw (claimed v c) (slice_index_or ms at 0) a) u ms xs (at + 1) x → w ≡ saw (unclaimed u (slice_index_or ms at 0)) (slice_index_or ms at 0) b → IsMissed n v w ms xs at x
 missed_back n v u w ms xs at c a b x number free apart m is = record {
   frame = is ∙ ap (λ (z : View). saw (unclaimed z i) i b) m.frame ∙ by x ∙ ap (missed_by v x) (sym (ap (λ (z : View). z.looked) is));
-  looks = record { number = i; word = b } ∷ (m.looks ++ record { number = i; word = a } ∷ []);
-  more = ap (λ (z : View). z.looked.seen) is ∙ ap (λ (z : List Look). record { number = i; word = b } ∷ z) (m.more ∙ sym (append_assoc m.looks (record { number = i; word = a } ∷ []) v.looked.seen));
+  looks = all;
+  more = ap (λ (z : View). z.looked.seen) is ∙ ap (λ (z : List Look). record { number = i; word = b } ∷ z) m.more ∙ joined;
   why = on x m.why;
+  remembered = still x m.remembered;
   alone = λ first lent l. m.alone first lent (λ q g h. inr ((λ e. apart q (omega (arith, g)) h (sym e)), l q (omega (arith, g)) h));
 }
   where
@@ -177,7 +179,20 @@ missed_back n v u w ms xs at c a b x number free apart m is = record {
     by (Lost j) = ap (λ (cs : List Claim). record v { claims = cs; looked = after }) gone
     by Spent = ap (λ (cs : List Claim). record v { claims = cs; looked = after; spent = true }) gone
 
-    on : (x : Missed) → IsWhy n ms u.looked m.looks x → IsWhy n ms w.looked (record { number = i; word = b } ∷ (m.looks ++ record { number = i; word = a } ∷ [])) x
+    -- the looks since the claim, with its own and that of giving it back
+    all : List Look
+    all = record { number = i; word = b } ∷ (m.looks ++ record { number = i; word = a } ∷ [])
+
+    joined : record { number = i; word = b } ∷ (m.looks ++ record { number = i; word = a } ∷ v.looked.seen) ≡ all ++ v.looked.seen
+    joined = ap (λ (z : List Look). record { number = i; word = b } ∷ z) (sym (append_assoc m.looks (record { number = i; word = a } ∷ []) v.looked.seen))
+
+    still : (x : Missed) → u.looked ≡ looked_by x (saw v i a).looked m.looks u.looked.count → w.looked ≡ looked_by x v.looked all w.looked.count
+    still (Lost j) e = ap (λ (z : View). z.looked) is ∙ ap (λ (l : Looked). record l { seen = record { number = i; word = b } ∷ l.seen }) e ∙ ap (λ (z : List Look). record v.looked { seen = z }) joined
+    still Spent e =
+        ap (λ (z : View). z.looked) is ∙ ap (λ (l : Looked). record l { seen = record { number = i; word = b } ∷ l.seen }) e
+        ∙ (λ k. record v.looked { seen = joined k; count = sym (ap (λ (z : View). z.looked.count) is) k })
+
+    on : (x : Missed) → IsWhy n ms u.looked m.looks x → IsWhy n ms w.looked all x
     on (Lost j) y = (y.0, y.1, (y.2.0, inr (has_look_left j y.2.0 m.looks (record { number = i; word = a } ∷ []) y.2.1), y.2.2))
     on Spent y = (y.0, y.1, ap (λ (z : View). z.looked.count) is ∙ y.2)
 
@@ -224,9 +239,10 @@ lost_all n v w ms xs i free m = record {
   looks = m.looks;
   more = m.more;
   read = m.why.2;
+  remembered = m.remembered;
   alone = m.alone;
 }
 
 -- the journal is full, and nothing is claimed
 pub refused_all : (n : ℕ) (v w : View) (ms : List ℕ) (xs : List (Option ℕ)) → v.claims ≡ [] → IsMissed n v w ms xs 0 Spent → IsTurnedAway n v w
-refused_all n v w ms xs free m = record { same = m.frame; claims = ap (λ (z : View). z.claims) m.frame ∙ free; counter = m.why }
+refused_all n v w ms xs free m = record { same = m.frame; claims = ap (λ (z : View). z.claims) m.frame ∙ free; counter = m.why; looks = m.looks; remembered = m.remembered }

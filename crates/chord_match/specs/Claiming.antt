@@ -68,10 +68,16 @@ abbrev pub IsNotLost : Missed → Type 0
 IsNotLost (Lost i) = ⊥
 IsNotLost Spent = Unit {0}
 
+-- what the desk remembers, with these looks at cells more, and where it was told with this count
+abbrev pub looked_by : Missed → Looked → List Look → Option ℕ → Looked
+looked_by (Lost i) l ls c = record l { seen = ls ++ l.seen }
+looked_by Spent l ls c = record l { seen = ls ++ l.seen; count = c }
+
 -- nothing was fired, and what was claimed from place `at` on was given back
 pub record IsMissed (n : ℕ) (v w : View) (ms : List ℕ) (xs : List (Option ℕ)) (at : ℕ) (x : Missed) : Type 0 where
   pub frame : w ≡ missed_by v x w.looked
   pub looks : List Look
   pub more : w.looked.seen ≡ looks ++ v.looked.seen
   pub why : IsWhy n ms w.looked looks x
+  pub remembered : w.looked ≡ looked_by x v.looked looks w.looked.count
   pub alone : v.first ≡ true → v.lent ≡ 0 → AreLastPending v ms xs at → IsNotLost x
