@@ -1,6 +1,6 @@
 -- What the desks of the tests by hand know after each step.
 use Rattle.std.proofs.lemmas.Bool.{eq-eqb}
-use Rattle.std.proofs.Common.{◌≡◌, ◌⊎◌, inl, inr, ℕ, ◌+◌, ◌<◌, true, false, Bool, List, [], ◌∷◌, ◌++◌, map, Option, Some, None, refl, sym, ap, ◌∙◌, subst, arith}
+use Rattle.std.proofs.Common.{◌≡◌, ◌⊎◌, inl, inr, ℕ, true, false, Bool, List, [], ◌∷◌, ◌++◌, map, Option, Some, None, refl, sym, ap, ◌∙◌, subst, arith}
 use Rattle.chord_base.specs.declared.event.Entry.{Entry}
 use Rattle.chord_base.specs.declared.event.Limits.{Limits}
 use Rattle.chord_base.specs.declared.event.What.{What}
@@ -18,7 +18,7 @@ use Rattle.chord_rule.specs.declared.view.Duty.{Duty}
 use Rattle.chord_rule.specs.declared.view.Looked.{Looked}
 use Rattle.chord_rule.specs.declared.view.View.{View}
 use Rattle.chord_rule.specs.Duties.{HasDuty, duty_on}
-use Rattle.chord_rule.specs.Kinds.{entry, newcomer, lent_one, claimed, unclaimed, drop_claim, looked_cell, rested, drew, saw_count, saw_head, saw, flown, address_set, armed, is_among, left_by, without, fresh_after, newcomer_first}
+use Rattle.chord_rule.specs.Kinds.{entry, lent_one, claimed, unclaimed, drop_claim, looked_cell, rested, drew, saw_count, saw_head, saw, flown, address_set, armed, is_among, left_by, without, fresh_after, newcomer_first}
 use Rattle.chord_rule.specs.Numbers.{HasNumber}
 use Rattle.chord_space.specs.Gives.{MayLink, MayPost}
 use Rattle.chord_word.specs.declared.cells.Word.{Word}
@@ -27,14 +27,14 @@ use Rattle.chord_word.specs.declared.cells.Cell.TheVariants.{Pending, Claimed, C
 use Rattle.chord_rule.specs.Claims.{HasThe}
 use Rattle.chord_rule.specs.Looks.{HasLook, HasSeen}
 use Rattle.chord_rule.specs.Made.{key}
-use Rattle.chord_rule.specs.Tells.{a_word, IsNewClaim, IsLook}
+use Rattle.chord_rule.specs.Tells.{a_word, IsNewClaim}
 use Rattle.chord_bag.specs.declared.walk.Sought.{Sought}
 use Rattle.chord_bag.specs.declared.walk.Sought.TheVariants as a_sought
-use Rattle.chord_bag.specs.Reads.{with_looks, messages_and_bags, IsOnlyLooks}
+use Rattle.chord_bag.specs.Reads.{with_looks, messages_and_bags}
 use Rattle.chord_bag.specs.Seeking.{IsSought}
 use Rattle.chord_match.specs.declared.search.Finding.{Finding}
 use Rattle.chord_match.specs.declared.search.Finding.TheVariants.{Match, Left, Taken, Busy}
-use Rattle.chord_match.specs.Findings.{IsFinding, IsMatch, IsBusyWith, read_so}
+use Rattle.chord_match.specs.Findings.{IsFinding, IsBusyWith, read_so}
 use Rattle.chord_match.specs.Seen.{HasSought, Grows, AreSeen}
 use Rattle.chord_match.specs.Pairs.{pair_code, pair_limits, pair_program, first_object, second_object, made_one, sent_x, sent_both, made_two, sent_x_apart, sent_apart, HasInHand, HoldsClaim, Owes, IsAsBefore, KeepsDuties, KeepsSeen, TakesClaim, GivesClaim, LeavesDuty, KeepsFiring, SaysFired, IsLetter}
 use Rattle.chord_rule.specs.Parcels.{IsParkedThere}
