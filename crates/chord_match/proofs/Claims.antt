@@ -1,5 +1,5 @@
 -- Members are claimed one after another, and given back.
-use Rattle.std.proofs.Common.{zero, suc, ◌≡◌, ◌≢◌, inl, inr, ⊎_elim, ℕ, ◌+◌, ◌<◌, true, false, ◌==◌, ne_eqb, List, [], ◌∷◌, ◌++◌, length, append_assoc, slice_get, slice_index_or, refl, sym, ap, ◌∙◌, subst, arith, Option, Some, None}
+use Rattle.std.proofs.Common.{zero, suc, ◌≡◌, ◌≢◌, inl, inr, ⊎_elim, ℕ, ◌+◌, ◌-◌, ◌<◌, true, false, ◌==◌, ne_eqb, List, [], ◌∷◌, ◌++◌, length, append_assoc, slice_get, slice_index_or, refl, sym, ap, ◌∙◌, subst, arith, Option, Some, None}
 use Rattle.std.specs.Prelude.{IfSome}
 use Rattle.std.proofs.lemmas.Bool.{eq-eqb}
 use Rattle.chord_base.specs.Meaning.{Program}
@@ -15,7 +15,7 @@ use Rattle.chord_rule.specs.declared.view.Claim.{Claim}
 use Rattle.chord_rule.specs.declared.view.Look.{Look}
 use Rattle.chord_rule.specs.declared.view.Looked.{Looked}
 use Rattle.chord_rule.specs.declared.view.View.{View}
-use Rattle.chord_rule.specs.Claims.{HasClaimOn, AreClaimed}
+use Rattle.chord_rule.specs.Claims.{HasThe, HasClaimOn, AreClaimed}
 use Rattle.chord_rule.specs.Coming.{IsPlace}
 use Rattle.chord_rule.specs.Kinds.{saw, saw_count, claimed, unclaimed, drop_claim, was_told, entry, firing_drawn}
 use Rattle.chord_rule.specs.Made.{key}
@@ -26,7 +26,7 @@ use Rattle.chord_match.specs.declared.claiming.Missed.{Missed}
 use Rattle.chord_match.specs.declared.claiming.Missed.TheVariants.{Lost, Spent}
 use Rattle.chord_match.specs.Seen.{MayBeClaimed, MayAllBeClaimed, AreSeen}
 use Rattle.chord_match.specs.Fires.{AreLastPending, IsLost, IsTurnedAway}
-use Rattle.chord_match.specs.Claiming.{ClaimAt, Taking, IsDrawn, missed_by, looked_by, IsWhy, IsMissed}
+use Rattle.chord_match.specs.Claiming.{ClaimAt, Taking, WasClaimed, WereClaimed, IsDrawn, missed_by, looked_by, IsWhy, IsMissed}
 use Rattle.chord_match.proofs.Growing.{has_look_left}
 use Rattle.chord_match.proofs.Lists.{all_below_more, has_at, different_at}
 
@@ -224,6 +224,34 @@ still_claims n v w ms xs at x m = ap (λ (z : View). z.claims) m.frame ∙ by x
     by : (x : Missed) → (missed_by v x w.looked).claims ≡ v.claims
     by (Lost i) = refl
     by Spent = refl
+
+-- all claims were made before
+pub drawn_from_first : (n : ℕ) (p : Program) (v w : View) (o : Object) (chord : ℕ) (ms : List ℕ) (xs : List (Option ℕ)) (f k : ℕ) (u : View) → WereClaimed n p v o chord ms xs k u → IsDrawn p u w o chord ms f → IsDrawn p v w o chord ms f
+drawn_from_first n p v w o chord ms xs f zero u e d = subst (λ (z : View). IsDrawn p z w o chord ms f) e d
+drawn_from_first n p v w o chord ms xs f (suc k) u t d = drawn_from_first n p v w o chord ms xs f k t.0 t.1 (taken_back p t.0 w o chord ms f (slice_index_or ms k 0) t.2.claim t.2.word (subst (λ (z : View). IsDrawn p z w o chord ms f) t.2.becomes d))
+
+-- the claim that was made last
+pub last_claimed : (n : ℕ) (p : Program) (v : View) (o : Object) (chord : ℕ) (ms : List ℕ) (xs : List (Option ℕ)) (q : ℕ) (u : View) → 0 < q → WereClaimed n p v o chord ms xs q u → (b : View) × WereClaimed n p v o chord ms xs (q - 1) b × WasClaimed n p b u o chord ms xs (q - 1)
+last_claimed n p v o chord ms xs zero u l t = absurd (omega (arith, l))
+last_claimed n p v o chord ms xs (suc k) u l t = let e : k ≡ suc k - 1 = omega arith in subst (λ (q : ℕ). (b : View) × WereClaimed n p v o chord ms xs q b × WasClaimed n p b u o chord ms xs q) e t
+
+module _ (n : ℕ) (p : Program) (right : ChordsAreRight p) (o : Object) (small : o.number < 65536) (chord : ℕ) (ms : List ℕ) (xs : List (Option ℕ)) (k : ℕ) (b u old : View) (t : WasClaimed n p b u o chord ms xs k) (x : Missed) (m : IsMissed n u old ms xs (k + 1) x) where
+  -- nothing was fired since it was made
+  since : IsMissed n (saw (claimed b t.claim) (slice_index_or ms k 0) t.word) old ms xs (k + 1) x
+  since = subst (λ (z : View). IsMissed n z old ms xs (k + 1) x) t.becomes m
+
+  -- so the desk has it
+  has_last : HasThe t.claim old.claims
+  has_last = subst (λ (z : List Claim). HasThe t.claim z) (sym (still_claims n (saw (claimed b t.claim) (slice_index_or ms k 0) t.word) old ms xs (k + 1) x since)) (inl refl)
+
+  -- and may give it back
+  pub may_give_last : (c : Claim) × HasThe c old.claims × (c.number ≡ slice_index_or ms k 0) × (c.firing ≡ None)
+  may_give_last = (t.claim, has_last, t.new.numbered, t.new.unfired)
+
+  -- it was given back
+  pub missed_last : (new : View) → ((c : Claim) → HasThe c old.claims → c.number ≡ slice_index_or ms k 0 → new ≡ saw (unclaimed old (slice_index_or ms k 0)) (slice_index_or ms k 0) (record { cell = a_cell.Pending; next = c.next })) → IsMissed n b new ms xs k x
+  missed_last new given =
+      missed_back n b old new ms xs k t.claim t.word (record { cell = a_cell.Pending; next = t.claim.next }) x t.new.numbered t.new.free (later_apart n p b o chord ms xs k t.taking t.low right small t.claim t.new) since (given t.claim has_last t.new.numbered)
 
 -- at first nothing is claimed
 pub taking_first : (n : ℕ) (p : Program) (v : View) (o : Object) (chord : ℕ) (ms : List ℕ) (xs : List (Option ℕ)) → AreSeen n p v o chord ms xs → v.claims ≡ [] → v.spent ≡ false → Taking n p v o chord ms xs 0
