@@ -1,6 +1,6 @@
 -- What the desks of the tests by hand know after each step.
 use Rattle.std.proofs.lemmas.Bool.{eq-eqb}
-use Rattle.std.proofs.Common.{◌≡◌, ◌⊎◌, inl, inr, ℕ, ◌+◌, ◌<◌, true, false, Bool, List, [], ◌∷◌, ◌++◌, map, Option, Some, None, refl, sym, ap, ◌∙◌, subst, arith}
+use Rattle.std.proofs.Common.{◌≡◌, ◌⊎◌, inl, inr, ℕ, true, false, Bool, List, [], ◌∷◌, ◌++◌, map, Option, Some, None, refl, sym, ap, ◌∙◌, subst, arith}
 use Rattle.chord_base.specs.declared.event.Entry.{Entry}
 use Rattle.chord_base.specs.declared.event.Limits.{Limits}
 use Rattle.chord_base.specs.declared.event.What.{What}
@@ -15,9 +15,10 @@ use Rattle.chord_code.specs.declared.parts.Parts.{Parts}
 use Rattle.chord_code.specs.Meaning.{code_program}
 use Rattle.chord_rule.specs.declared.view.Claim.{Claim}
 use Rattle.chord_rule.specs.declared.view.Duty.{Duty}
+use Rattle.chord_rule.specs.declared.view.Looked.{Looked}
 use Rattle.chord_rule.specs.declared.view.View.{View}
 use Rattle.chord_rule.specs.Duties.{HasDuty, duty_on}
-use Rattle.chord_rule.specs.Kinds.{entry, newcomer, lent_one, claimed, unclaimed, drop_claim, looked_cell, rested, drew, saw_count, saw_head, saw, flown, address_set, armed, is_among, left_by, without, fresh_after, newcomer_first}
+use Rattle.chord_rule.specs.Kinds.{entry, lent_one, claimed, unclaimed, drop_claim, looked_cell, rested, drew, saw_count, saw_head, saw, flown, address_set, armed, is_among, left_by, without, fresh_after, newcomer_first}
 use Rattle.chord_rule.specs.Numbers.{HasNumber}
 use Rattle.chord_space.specs.Gives.{MayLink, MayPost}
 use Rattle.chord_word.specs.declared.cells.Word.{Word}
@@ -26,19 +27,19 @@ use Rattle.chord_word.specs.declared.cells.Cell.TheVariants.{Pending, Claimed, C
 use Rattle.chord_rule.specs.Claims.{HasThe}
 use Rattle.chord_rule.specs.Looks.{HasLook, HasSeen}
 use Rattle.chord_rule.specs.Made.{key}
-use Rattle.chord_rule.specs.Tells.{a_word, IsNewClaim, IsLook}
+use Rattle.chord_rule.specs.Tells.{a_word, IsNewClaim}
 use Rattle.chord_bag.specs.declared.walk.Sought.{Sought}
 use Rattle.chord_bag.specs.declared.walk.Sought.TheVariants as a_sought
-use Rattle.chord_bag.specs.Reads.{with_looks, messages_and_bags, IsOnlyLooks}
+use Rattle.chord_bag.specs.Reads.{with_looks, messages_and_bags}
 use Rattle.chord_bag.specs.Seeking.{IsSought}
 use Rattle.chord_match.specs.declared.search.Finding.{Finding}
 use Rattle.chord_match.specs.declared.search.Finding.TheVariants.{Match, Left, Taken, Busy}
-use Rattle.chord_match.specs.Findings.{IsFinding, IsMatch, IsBusyWith, read_so}
-use Rattle.chord_match.specs.Seen.{HasSought, Grows}
+use Rattle.chord_match.specs.Findings.{IsFinding, IsBusyWith, read_so}
+use Rattle.chord_match.specs.Seen.{HasSought, Grows, AreSeen}
 use Rattle.chord_match.specs.Pairs.{pair_code, pair_limits, pair_program, first_object, second_object, made_one, sent_x, sent_both, made_two, sent_x_apart, sent_apart, HasInHand, HoldsClaim, Owes, IsAsBefore, KeepsDuties, KeepsSeen, TakesClaim, GivesClaim, LeavesDuty, KeepsFiring, SaysFired, IsLetter}
 use Rattle.chord_rule.specs.Parcels.{IsParkedThere}
-use Rattle.chord_match.specs.Fires.{AreOlder, AreComing, IsComing, IsFired, all_together, firing_entry, laid_together}
-use Rattle.chord_match.proofs.Growing.{duty_on as duty_kept, seen_on, sought_grows, found_ready}
+use Rattle.chord_match.specs.Fires.{AreOlder, AreComing, IsComing, IsLost, IsFired, all_together, firing_entry, laid_together}
+use Rattle.chord_match.proofs.Growing.{duty_on as duty_kept, seen_on, members_on, sought_grows, found_ready}
 
 -- ## The program of a table
 
@@ -293,12 +294,22 @@ gives_claim v w i given es h = let t = may_give v es i h in subst (λ (z : View)
 
 -- ## Firings
 
--- an attempt that was lost
-pub same_by_lost : (v w : View) → w ≡ record v { looked = w.looked } → IsAsBefore v w × KeepsDuties v w
-same_by_lost v w e = (
-  (λ es fresh flight cs h. subst (λ (z : View). HasInHand z es fresh flight cs) (sym e) (record { room = h.room; kept = h.kept; fresh_are = h.fresh_are; flight_is = h.flight_is; claims_are = h.claims_are })),
-  (λ m k d. subst (λ (z : View). Owes z m k) (sym e) d),
-)
+-- an attempt that was lost made looks alone
+grows_by_lost : (n : ℕ) (v w : View) (ms : List ℕ) (xs : List (Option ℕ)) (i : ℕ) → IsLost n v w ms xs i → Grows v w
+grows_by_lost n v w ms xs i t = record {
+  ways = [];
+  looks = t.looks;
+  more_ways = ap (λ (l : Looked). l.ways) t.remembered;
+  more_seen = t.more;
+  only = record { frame = t.same ∙ ap (λ (ds : List Duty). with_looks v ds w.looked) (sym duties); duties = ap (λ (ds : List Duty). messages_and_bags ds) duties };
+}
+  where
+    duties : w.duties ≡ v.duties
+    duties = ap (λ (z : View). z.duties) t.same
+
+-- so the desk holds what it held, and members that it saw it has seen
+pub stands_by_lost : (n : ℕ) (p : Program) (v w : View) (o : Object) (chord : ℕ) (ms : List ℕ) (xs : List (Option ℕ)) (i : ℕ) → AreSeen n p v o chord ms xs → IsLost n v w ms xs i → IsAsBefore v w × AreSeen n p w o chord ms xs
+stands_by_lost n p v w o chord ms xs i s t = let g = grows_by_lost n v w ms xs i t in (same_by_looks v w g.only.frame, members_on v v w g n p o chord ms xs s)
 
 -- a body whose call is not there, or that serves none, is not parked
 not_begun : (p : Program) (es : List Entry) (m : Option ℕ) (s : Start) (c : Option ℕ) (before : ℕ → Doing) → IsParkedThere p es m (begun s c (λ q. maker q []) before) → ⊥

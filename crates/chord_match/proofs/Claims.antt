@@ -1,5 +1,5 @@
 -- Members are claimed one after another, and given back.
-use Rattle.std.proofs.Common.{zero, suc, ◌≡◌, ◌≢◌, inl, inr, ⊎_elim, ℕ, ◌+◌, ◌<◌, true, false, ◌==◌, ne_eqb, List, [], ◌∷◌, ◌++◌, length, append_assoc, slice_get, slice_index_or, refl, sym, ap, ◌∙◌, subst, arith, Option, Some, None}
+use Rattle.std.proofs.Common.{zero, suc, ◌≡◌, ◌≢◌, inl, inr, ⊎_elim, ℕ, ◌+◌, ◌-◌, ◌<◌, true, false, ◌==◌, ne_eqb, List, [], ◌∷◌, ◌++◌, length, append_assoc, slice_get, slice_index_or, refl, sym, ap, ◌∙◌, subst, arith, Option, Some, None}
 use Rattle.std.specs.Prelude.{IfSome}
 use Rattle.std.proofs.lemmas.Bool.{eq-eqb}
 use Rattle.chord_base.specs.Meaning.{Program}
@@ -15,7 +15,7 @@ use Rattle.chord_rule.specs.declared.view.Claim.{Claim}
 use Rattle.chord_rule.specs.declared.view.Look.{Look}
 use Rattle.chord_rule.specs.declared.view.Looked.{Looked}
 use Rattle.chord_rule.specs.declared.view.View.{View}
-use Rattle.chord_rule.specs.Claims.{HasClaimOn, AreClaimed}
+use Rattle.chord_rule.specs.Claims.{HasThe, HasClaimOn, AreClaimed}
 use Rattle.chord_rule.specs.Coming.{IsPlace}
 use Rattle.chord_rule.specs.Kinds.{saw, saw_count, claimed, unclaimed, drop_claim, was_told, entry, firing_drawn}
 use Rattle.chord_rule.specs.Made.{key}
@@ -26,7 +26,7 @@ use Rattle.chord_match.specs.declared.claiming.Missed.{Missed}
 use Rattle.chord_match.specs.declared.claiming.Missed.TheVariants.{Lost, Spent}
 use Rattle.chord_match.specs.Seen.{MayBeClaimed, MayAllBeClaimed, AreSeen}
 use Rattle.chord_match.specs.Fires.{AreLastPending, IsLost, IsTurnedAway}
-use Rattle.chord_match.specs.Claiming.{ClaimAt, Taking, IsDrawn, missed_by, IsWhy, IsMissed}
+use Rattle.chord_match.specs.Claiming.{ClaimAt, Taking, WasClaimed, WereClaimed, IsDrawn, missed_by, looked_by, IsWhy, IsMissed}
 use Rattle.chord_match.proofs.Growing.{has_look_left}
 use Rattle.chord_match.proofs.Lists.{all_below_more, has_at, different_at}
 
@@ -140,7 +140,7 @@ number_at (i ∷ ms) (suc q) l = inr (number_at ms q (omega (arith, l)))
 
 -- nothing was fired, since the journal is full
 pub missed_full : (n : ℕ) (v w : View) (ms : List ℕ) (xs : List (Option ℕ)) (at c : ℕ) → n < c → w ≡ saw_count (was_told v) c → IsMissed n v w ms xs at Spent
-missed_full n v w ms xs at c far is = subst (λ (z : View). IsMissed n v z ms xs at Spent) (sym is) record { frame = refl; looks = []; more = refl; why = (c, far, refl); alone = λ a b l. tt }
+missed_full n v w ms xs at c far is = subst (λ (z : View). IsMissed n v z ms xs at Spent) (sym is) record { frame = refl; looks = []; more = refl; why = (c, far, refl); remembered = refl; alone = λ a b l. tt }
 
 -- the exchange read another cell
 pub missed_one : (n : ℕ) (v w : View) (ms : List ℕ) (xs : List (Option ℕ)) (at : ℕ) (c : Cell) (after : Option ℕ) → at < length ms → slice_index_or ms at 0 < n → w ≡ saw v (slice_index_or ms at 0) (record { cell = c; next = after }) → c ≢ a_cell.Pending
@@ -150,6 +150,7 @@ missed_one n v w ms xs at c after low small is ne alone = let i : ℕ = slice_in
   looks = record { number = i; word = record { cell = c; next = after } } ∷ [];
   more = refl;
   why = (number_at ms at low, small, (record { cell = c; next = after }, inl (refl, refl), ne));
+  remembered = refl;
   alone = alone;
 }
 
@@ -158,9 +159,10 @@ pub missed_back : (n : ℕ) (v u w : View) (ms : List ℕ) (xs : List (Option �
     → IsMissed n (saw (claimed v c) (slice_index_or ms at 0) a) u ms xs (at + 1) x → w ≡ saw (unclaimed u (slice_index_or ms at 0)) (slice_index_or ms at 0) b → IsMissed n v w ms xs at x
 missed_back n v u w ms xs at c a b x number free apart m is = record {
   frame = is ∙ ap (λ (z : View). saw (unclaimed z i) i b) m.frame ∙ by x ∙ ap (missed_by v x) (sym (ap (λ (z : View). z.looked) is));
-  looks = record { number = i; word = b } ∷ (m.looks ++ record { number = i; word = a } ∷ []);
-  more = ap (λ (z : View). z.looked.seen) is ∙ ap (λ (z : List Look). record { number = i; word = b } ∷ z) (m.more ∙ sym (append_assoc m.looks (record { number = i; word = a } ∷ []) v.looked.seen));
+  looks = all;
+  more = ap (λ (z : View). z.looked.seen) is ∙ ap (λ (z : List Look). record { number = i; word = b } ∷ z) m.more ∙ joined;
   why = on x m.why;
+  remembered = still x m.remembered;
   alone = λ first lent l. m.alone first lent (λ q g h. inr ((λ e. apart q (omega (arith, g)) h (sym e)), l q (omega (arith, g)) h));
 }
   where
@@ -177,7 +179,20 @@ missed_back n v u w ms xs at c a b x number free apart m is = record {
     by (Lost j) = ap (λ (cs : List Claim). record v { claims = cs; looked = after }) gone
     by Spent = ap (λ (cs : List Claim). record v { claims = cs; looked = after; spent = true }) gone
 
-    on : (x : Missed) → IsWhy n ms u.looked m.looks x → IsWhy n ms w.looked (record { number = i; word = b } ∷ (m.looks ++ record { number = i; word = a } ∷ [])) x
+    -- the looks since the claim, with its own and that of giving it back
+    all : List Look
+    all = record { number = i; word = b } ∷ (m.looks ++ record { number = i; word = a } ∷ [])
+
+    joined : record { number = i; word = b } ∷ (m.looks ++ record { number = i; word = a } ∷ v.looked.seen) ≡ all ++ v.looked.seen
+    joined = ap (λ (z : List Look). record { number = i; word = b } ∷ z) (sym (append_assoc m.looks (record { number = i; word = a } ∷ []) v.looked.seen))
+
+    still : (x : Missed) → u.looked ≡ looked_by x (saw v i a).looked m.looks u.looked.count → w.looked ≡ looked_by x v.looked all w.looked.count
+    still (Lost j) e = ap (λ (z : View). z.looked) is ∙ ap (λ (l : Looked). record l { seen = record { number = i; word = b } ∷ l.seen }) e ∙ ap (λ (z : List Look). record v.looked { seen = z }) joined
+    still Spent e =
+        ap (λ (z : View). z.looked) is ∙ ap (λ (l : Looked). record l { seen = record { number = i; word = b } ∷ l.seen }) e
+        ∙ (λ k. record v.looked { seen = joined k; count = sym (ap (λ (z : View). z.looked.count) is) k })
+
+    on : (x : Missed) → IsWhy n ms u.looked m.looks x → IsWhy n ms w.looked all x
     on (Lost j) y = (y.0, y.1, (y.2.0, inr (has_look_left j y.2.0 m.looks (record { number = i; word = a } ∷ []) y.2.1), y.2.2))
     on Spent y = (y.0, y.1, ap (λ (z : View). z.looked.count) is ∙ y.2)
 
@@ -210,6 +225,34 @@ still_claims n v w ms xs at x m = ap (λ (z : View). z.claims) m.frame ∙ by x
     by (Lost i) = refl
     by Spent = refl
 
+-- all claims were made before
+pub drawn_from_first : (n : ℕ) (p : Program) (v w : View) (o : Object) (chord : ℕ) (ms : List ℕ) (xs : List (Option ℕ)) (f k : ℕ) (u : View) → WereClaimed n p v o chord ms xs k u → IsDrawn p u w o chord ms f → IsDrawn p v w o chord ms f
+drawn_from_first n p v w o chord ms xs f zero u e d = subst (λ (z : View). IsDrawn p z w o chord ms f) e d
+drawn_from_first n p v w o chord ms xs f (suc k) u t d = drawn_from_first n p v w o chord ms xs f k t.0 t.1 (taken_back p t.0 w o chord ms f (slice_index_or ms k 0) t.2.claim t.2.word (subst (λ (z : View). IsDrawn p z w o chord ms f) t.2.becomes d))
+
+-- the claim that was made last
+pub last_claimed : (n : ℕ) (p : Program) (v : View) (o : Object) (chord : ℕ) (ms : List ℕ) (xs : List (Option ℕ)) (q : ℕ) (u : View) → 0 < q → WereClaimed n p v o chord ms xs q u → (b : View) × WereClaimed n p v o chord ms xs (q - 1) b × WasClaimed n p b u o chord ms xs (q - 1)
+last_claimed n p v o chord ms xs zero u l t = absurd (omega (arith, l))
+last_claimed n p v o chord ms xs (suc k) u l t = let e : k ≡ suc k - 1 = omega arith in subst (λ (q : ℕ). (b : View) × WereClaimed n p v o chord ms xs q b × WasClaimed n p b u o chord ms xs q) e t
+
+module _ (n : ℕ) (p : Program) (right : ChordsAreRight p) (o : Object) (small : o.number < 65536) (chord : ℕ) (ms : List ℕ) (xs : List (Option ℕ)) (k : ℕ) (b u old : View) (t : WasClaimed n p b u o chord ms xs k) (x : Missed) (m : IsMissed n u old ms xs (k + 1) x) where
+  -- nothing was fired since it was made
+  since : IsMissed n (saw (claimed b t.claim) (slice_index_or ms k 0) t.word) old ms xs (k + 1) x
+  since = subst (λ (z : View). IsMissed n z old ms xs (k + 1) x) t.becomes m
+
+  -- so the desk has it
+  has_last : HasThe t.claim old.claims
+  has_last = subst (λ (z : List Claim). HasThe t.claim z) (sym (still_claims n (saw (claimed b t.claim) (slice_index_or ms k 0) t.word) old ms xs (k + 1) x since)) (inl refl)
+
+  -- and may give it back
+  pub may_give_last : (c : Claim) × HasThe c old.claims × (c.number ≡ slice_index_or ms k 0) × (c.firing ≡ None)
+  may_give_last = (t.claim, has_last, t.new.numbered, t.new.unfired)
+
+  -- it was given back
+  pub missed_last : (new : View) → ((c : Claim) → HasThe c old.claims → c.number ≡ slice_index_or ms k 0 → new ≡ saw (unclaimed old (slice_index_or ms k 0)) (slice_index_or ms k 0) (record { cell = a_cell.Pending; next = c.next })) → IsMissed n b new ms xs k x
+  missed_last new given =
+      missed_back n b old new ms xs k t.claim t.word (record { cell = a_cell.Pending; next = t.claim.next }) x t.new.numbered t.new.free (later_apart n p b o chord ms xs k t.taking t.low right small t.claim t.new) since (given t.claim has_last t.new.numbered)
+
 -- at first nothing is claimed
 pub taking_first : (n : ℕ) (p : Program) (v : View) (o : Object) (chord : ℕ) (ms : List ℕ) (xs : List (Option ℕ)) → AreSeen n p v o chord ms xs → v.claims ≡ [] → v.spent ≡ false → Taking n p v o chord ms xs 0
 taking_first n p v o chord ms xs seen free room = record { seen = seen; most = omega arith; claimed = λ q l. absurd (omega (arith, l)); apart = λ q r g l. absurd (omega (arith, l)); many = ap length free; room = room }
@@ -224,9 +267,10 @@ lost_all n v w ms xs i free m = record {
   looks = m.looks;
   more = m.more;
   read = m.why.2;
+  remembered = m.remembered;
   alone = m.alone;
 }
 
 -- the journal is full, and nothing is claimed
 pub refused_all : (n : ℕ) (v w : View) (ms : List ℕ) (xs : List (Option ℕ)) → v.claims ≡ [] → IsMissed n v w ms xs 0 Spent → IsTurnedAway n v w
-refused_all n v w ms xs free m = record { same = m.frame; claims = ap (λ (z : View). z.claims) m.frame ∙ free; counter = m.why }
+refused_all n v w ms xs free m = record { same = m.frame; claims = ap (λ (z : View). z.claims) m.frame ∙ free; counter = m.why; looks = m.looks; remembered = m.remembered }

@@ -70,7 +70,7 @@ module _ (n : ℕ) (v w : View) (o : Object) (own : Own) (known : List (Option S
   held_up js i t = let r = told_at t.0 (a_sought.Busy i) t.2.1 in ((t.0, t.1, t.2.0, r.answered), r.below, r.says)
 
 -- p's chords are those that were gone through
-module _ (n : ℕ) (p : Program) (o : Object) (own : Own) (u w : View) (known : List (Option Sought)) (jss : List (List ℕ)) (same : jss ≡ p.chords o.class) where
+module _ (n : ℕ) (p : Program) (o : Object) (own : Own) (u w : View) (known : List (Option Sought)) (jss : List (List ℕ)) (same : jss ≡ p.chords o.class) (ms : List ℕ) (xs : List (Option ℕ)) where
   -- a chord of the class is one of those that were gone through
   within : (k : ℕ) (js : List ℕ) → slice_get (p.chords o.class) k ≡ Some js → (slice_get jss k ≡ Some js) × (k < length jss)
   within k js e = let here : slice_get jss k ≡ Some js = ap (λ (z : List (List ℕ)). slice_get z k) same ∙ e in (here, slice_get_within jss k js here)
@@ -87,8 +87,8 @@ module _ (n : ℕ) (p : Program) (o : Object) (own : Own) (u w : View) (known : 
 
   module _ (v : View) (only : IsOnlyLooks v u) (read : u ≡ read_so v own.message Pending own.next) where
     -- the first chord with all members is a match
-    pub is_match : own.method < 16 → (k : ℕ) (ms : List ℕ) (xs : List (Option ℕ)) → IsThrough n u w o own jss known (a_verdict.Match k ms xs) → IsMatch p n v w own.message o own.method k ms xs
-    is_match few k ms xs t = let r = t.verdict in let here = ap (λ (z : List (List ℕ)). slice_get z k) (sym same) ∙ r.1 in let d = t.stands.duty in record {
+    pub is_match : own.method < 16 → (k : ℕ) → IsThrough n u w o own jss known ms xs (a_verdict.Match k) → IsMatch p n v w own.message o own.method k ms xs
+    is_match few k t = let r = t.verdict in let here = ap (λ (z : List (List ℕ)). slice_get z k) (sym same) ∙ r.1 in let d = t.stands.duty in record {
       next = own.next;
       sought = subst (λ (z : View). HasSought z w) read t.stands.sought;
       seen = record { methods = r.0; is_chord = here; ready = r.4; object = (d.0, own.method, d.1, few, d.3) };
@@ -98,7 +98,7 @@ module _ (n : ℕ) (p : Program) (o : Object) (own : Own) (u w : View) (known : 
     }
 
     -- where each chord has a bare bag, nothing is left to do
-    pub is_left : IsThrough n u w o own jss known (a_verdict.Without None) → IsLeftAnswer p v w own.message o own.method
+    pub is_left : IsThrough n u w o own jss known ms xs (a_verdict.Without None) → IsLeftAnswer p v w own.message o own.method
     is_left t = record {
       next = own.next;
       sought = subst (λ (z : View). HasSought z w) read t.stands.sought;
@@ -106,7 +106,7 @@ module _ (n : ℕ) (p : Program) (o : Object) (own : Own) (u w : View) (known : 
     }
 
     -- the first message in another hand is told
-    pub is_busy : (i : ℕ) → IsThrough n u w o own jss known (a_verdict.Without (Some i)) → IsHeldBy p n v w own.message o own.method i
+    pub is_busy : (i : ℕ) → IsThrough n u w o own jss known ms xs (a_verdict.Without (Some i)) → IsHeldBy p n v w own.message o own.method i
     is_busy i t = record {
       one = inr record {
         next = own.next;

@@ -1,5 +1,6 @@
 -- What was read and answered stays so while the desk looks on.
 use Rattle.std.proofs.Common.{◌≡◌, inl, inr, ℕ, List, [], ◌∷◌, ◌++◌, append_assoc, refl, sym, ap, ◌∙◌, subst, arith, Option}
+use Rattle.chord_base.specs.Meaning.{Program}
 use Rattle.chord_base.specs.declared.value.Object.{Object}
 use Rattle.chord_word.specs.declared.cells.Cell.TheVariants.{Pending}
 use Rattle.chord_word.specs.declared.cells.Word.{Word}
@@ -10,12 +11,12 @@ use Rattle.chord_rule.specs.declared.view.Way.{Way}
 use Rattle.chord_rule.specs.Duties.{HasDuty}
 use Rattle.chord_rule.specs.Looks.{HasLook, HasSeen}
 use Rattle.chord_rule.specs.Made.{key}
-use Rattle.chord_rule.specs.Ways.{HasWay, WasRead, KnowsBag}
+use Rattle.chord_rule.specs.Ways.{HasWay, WasRead, KnowsBag, KnowsObject}
 use Rattle.chord_bag.specs.declared.walk.Sought.{Sought}
 use Rattle.chord_bag.specs.declared.walk.Sought.TheVariants.{Found}
 use Rattle.chord_bag.specs.Reads.{with_looks, messages_and_bags}
 use Rattle.chord_bag.specs.Seeking.{IsSought}
-use Rattle.chord_match.specs.Seen.{Grows, Answered, MayBeClaimed, IsMember}
+use Rattle.chord_match.specs.Seen.{Grows, Answered, MayBeClaimed, MayAllBeClaimed, AreSeen, IsMember}
 
 -- a way that was gone before is still one
 pub has_way_right : (x : Way) (us vs : List Way) → HasWay x vs → HasWay x (us ++ vs)
@@ -80,6 +81,23 @@ module _ (v u w : View) (g : Grows u w) where
   -- a member that may be claimed still may
   pub ready_on : (n : ℕ) (o : Object) (j i : ℕ) (next : Option ℕ) → MayBeClaimed n u o j i next → MayBeClaimed n w o j i next
   ready_on n o j i next r = record { seen = seen_on i next r.seen; known = knows_on i (key o j) r.known; below = r.below; next_below = r.next_below }
+
+  -- and all of them
+  pub all_ready_on : (n : ℕ) (o : Object) (js ms : List ℕ) (xs : List (Option ℕ)) → MayAllBeClaimed n u o js ms xs → MayAllBeClaimed n w o js ms xs
+  all_ready_on n o [] [] [] r = tt
+  all_ready_on n o [] [] (x ∷ xs) r = absurd r
+  all_ready_on n o [] (i ∷ is) xs r = absurd r
+  all_ready_on n o (j ∷ js) [] xs r = absurd r
+  all_ready_on n o (j ∷ js) (i ∷ is) [] r = absurd r
+  all_ready_on n o (j ∷ js) (i ∷ is) (x ∷ xs) r = (ready_on n o j i x r.0, all_ready_on n o js is xs r.1)
+
+  -- an object that is known stays so
+  pub object_on : (o : Object) → KnowsObject u o → KnowsObject w o
+  object_on o t = let r = duty_is_kept t.0 u.duties w.duties g.only.duties t.2 in (r.0, t.1, r.1, t.3, r.3 ∙ t.4)
+
+  -- members of a chord that were seen were seen
+  pub members_on : (n : ℕ) (p : Program) (o : Object) (chord : ℕ) (ms : List ℕ) (xs : List (Option ℕ)) → AreSeen n p u o chord ms xs → AreSeen n p w o chord ms xs
+  members_on n p o chord ms xs s = record { methods = s.methods; is_chord = s.is_chord; ready = all_ready_on n o s.methods ms xs s.ready; object = object_on o s.object }
 
   -- a member stays one
   pub member_on : (o : Object) (m method : ℕ) (own : Option ℕ) (j i : ℕ) (next : Option ℕ) → IsMember v u o m method own j i next → IsMember v w o m method own j i next

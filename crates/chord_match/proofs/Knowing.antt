@@ -20,9 +20,8 @@ use Rattle.chord_match.specs.declared.search.Own.{Own}
 use Rattle.chord_match.specs.declared.search.Pick.TheVariants as a_pick
 use Rattle.chord_match.specs.declared.search.Step.{Step}
 use Rattle.chord_match.specs.declared.search.Step.TheVariants as a_step
-use Rattle.chord_match.specs.declared.search.Outcome.TheVariants as an_outcome
 use Rattle.chord_match.specs.Seen.{bags_of, Grows, MayAllBeClaimed, AreMatched}
-use Rattle.chord_match.specs.Searching.{SaysOf, WasTold, WasToldIf, Searching, KeepsKnown, Moves, Learned, IsStuckAt, Picked, IsStuck, IsGathered, Gathered, IsOutcome}
+use Rattle.chord_match.specs.Searching.{SaysOf, WasTold, WasToldIf, Searching, KeepsKnown, Moves, Learned, IsStuckAt, Picked, IsStuck, IsGathered, Gathered}
 use Rattle.chord_match.proofs.Growing.{grows_refl, grows_trans, sought_grows, answered_on, seen_on, duty_on, knows_on, ready_on, member_on, key_cancels, found_ready, answered}
 
 -- nothing is forgotten where nothing is done
@@ -171,17 +170,34 @@ module _ (n : ℕ) where
       )
       on (a_step.Stuck q) g = (g.0, has_more g.0 j js g.1, g.2)
 
-  -- the members of a chord are those that were gathered
-  pub outcome_whole : (v u w : View) (o : Object) (own : Own) (js : List ℕ) (a b : List (Option Sought)) (ms ms' : List ℕ) (xs xs' : List (Option ℕ)) → ms ≡ [] → xs ≡ [] → Gathered n v u w o own js a b ms ms' xs xs' a_step.All
-      → IsOutcome n v u w o own js a b (an_outcome.Whole ms' xs')
-  outcome_whole v u w o own js a b ms ms' xs xs' e f g = record {
-    moves = g.moves;
-    comes =
-        let t = g.gathered in let x : ms' ≡ t.0 = t.2 ∙ ap (λ (z : List ℕ). z ++ t.0) e in let y : xs' ≡ t.1 = t.3 ∙ ap (λ (z : List (Option ℕ)). z ++ t.1) f in
-        (subst (λ (z : List ℕ × List (Option ℕ)). AreMatched v w o own.message own.method own.next js z.0 z.1) (λ i. (sym x i, sym y i)) t.4, subst (λ (z : List ℕ × List (Option ℕ)). MayAllBeClaimed n w o js z.0 z.1) (λ i. (sym x i, sym y i)) t.5);
-  }
+  -- the members of a chord are those that were gathered, where there were none before
+  pub all_gathered : (v u w : View) (o : Object) (own : Own) (js : List ℕ) (a b : List (Option Sought)) (ms ms' : List ℕ) (xs xs' : List (Option ℕ)) → ms ≡ [] → xs ≡ [] → Gathered n v u w o own js a b ms ms' xs xs' a_step.All
+      → AreMatched v w o own.message own.method own.next js ms' xs' × MayAllBeClaimed n w o js ms' xs'
+  all_gathered v u w o own js a b ms ms' xs xs' e f g =
+      let t = g.gathered in let x : ms' ≡ t.0 = t.2 ∙ ap (λ (z : List ℕ). z ++ t.0) e in let y : xs' ≡ t.1 = t.3 ∙ ap (λ (z : List (Option ℕ)). z ++ t.1) f in
+      (subst (λ (z : List ℕ × List (Option ℕ)). AreMatched v w o own.message own.method own.next js z.0 z.1) (λ i. (sym x i, sym y i)) t.4, subst (λ (z : List ℕ × List (Option ℕ)). MayAllBeClaimed n w o js z.0 z.1) (λ i. (sym x i, sym y i)) t.5)
 
-  -- a chord has no members where one of its methods has none
-  pub outcome_stuck : (v u w : View) (o : Object) (own : Own) (js : List ℕ) (a b : List (Option Sought)) (ms ms' : List ℕ) (xs xs' : List (Option ℕ)) (q : Option ℕ) → Gathered n v u w o own js a b ms ms' xs xs' (a_step.Stuck q)
-      → IsOutcome n v u w o own js a b (an_outcome.Stuck q)
-  outcome_stuck v u w o own js a b ms ms' xs xs' q g = record { moves = g.moves; comes = g.gathered }
+  -- what is gathered from here for the methods that are left is gathered for all
+  pub record IsPartGathered (v u x : View) (o : Object) (own : Own) (js rest : List ℕ) (a b : List (Option Sought)) (ms ms' : List ℕ) (xs xs' : List (Option ℕ)) : Type 0 where
+    pub stands : Searching n v x o own b
+    pub joins : (w : View) (after : List (Option Sought)) (is : List ℕ) (nexts : List (Option ℕ)) (s : Step) → Gathered n v x w o own rest b after ms' is xs' nexts s → Gathered n v u w o own js a after ms is xs nexts s
+
+  -- so before the first method
+  pub part_first : (v u : View) (o : Object) (own : Own) (js : List ℕ) (a : List (Option Sought)) (ms : List ℕ) (xs : List (Option ℕ)) → Searching n v u o own a → IsPartGathered v u u o own js js a a ms ms xs xs
+  part_first v u o own js a ms xs t = record { stands = t; joins = λ w after is nexts s g. g }
+
+  module _ (v u x y : View) (o : Object) (own : Own) (js : List ℕ) (j : ℕ) (rest rest' : List ℕ) (e : rest ≡ j ∷ rest') (a b c : List (Option Sought)) (ms ms' : List ℕ) (xs xs' : List (Option ℕ)) (t : IsPartGathered v u x o own js rest a b ms ms' xs xs') where
+    -- and where one method more has its member
+    pub part_more : (i : ℕ) (next : Option ℕ) → Picked n v x y o own j b c (a_pick.Take i next) → IsPartGathered v u y o own js rest' a c ms (ms' ++ i ∷ []) xs (xs' ++ next ∷ [])
+    part_more i next p = record {
+      stands = p.moves.stands;
+      joins = λ w after is nexts s g. t.joins w after is nexts s (subst (λ (z : List ℕ). Gathered n v x w o own z b after ms' is xs' nexts s) (sym e) (gathered_more v x y w o own j rest' b c after ms' is xs' nexts i next s p g));
+    }
+
+    -- where one has none, no more are gathered
+    pub part_stuck : (q : Option ℕ) → Picked n v x y o own j b c (a_pick.Stuck q) → Gathered n v u y o own js a c ms ms' xs xs' (a_step.Stuck q)
+    part_stuck q p = t.joins y c ms' xs' (a_step.Stuck q) (subst (λ (z : List ℕ). Gathered n v x y o own z b c ms' ms' xs' xs' (a_step.Stuck q)) (sym e) (gathered_stuck v x y o own j rest' b c ms' xs' q p))
+
+  -- where no method is left, all are gathered
+  pub part_all : (v u x : View) (o : Object) (own : Own) (js rest : List ℕ) (a b : List (Option Sought)) (ms ms' : List ℕ) (xs xs' : List (Option ℕ)) → rest ≡ [] → IsPartGathered v u x o own js rest a b ms ms' xs xs' → Gathered n v u x o own js a b ms ms' xs xs' a_step.All
+  part_all v u x o own js rest a b ms ms' xs xs' e t = t.joins x b ms' xs' a_step.All (subst (λ (z : List ℕ). Gathered n v x x o own z b b ms' ms' xs' xs' a_step.All) (sym e) (gathered_none v x o own b ms' xs' t.stands))

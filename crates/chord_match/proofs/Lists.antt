@@ -1,8 +1,9 @@
 -- Numbers in lists.
-use Rattle.std.proofs.Common.{zero, suc, ◌≢◌, slice_index_or, ◌≡◌, ◌⊎◌, inl, inr, ℕ, ◌+◌, ◌<◌, true, false, ◌++◌, List, [], ◌∷◌, length, refl, sym, ap, ◌∙◌, arith}
+use Rattle.std.proofs.Common.{zero, suc, ◌≢◌, slice_index_or, ◌≡◌, ◌⊎◌, inl, inr, ℕ, ◌+◌, ◌<◌, true, false, ◌++◌, List, [], ◌∷◌, drop, length, refl, sym, ap, ◌∙◌, arith}
 use mathlib.Core.Logic.{dite}
 use native.Mathlib.Decide.{ℕ_discrete}
 use Rattle.std.proofs.lemmas.Bool.{eq-eqb}
+use Rattle.std.proofs.Math.Seq.{drop-cons}
 use Rattle.chord_base.specs.Messages.{has, AreDifferent}
 use Rattle.chord_base.proofs.Pending.{has_more}
 
@@ -29,6 +30,10 @@ pub has_at : (js : List ℕ) (q : ℕ) → q < length js → has (slice_index_or
 has_at [] q l = absurd (omega (arith, l))
 has_at (j ∷ js) zero l = first_has j js
 has_at (j ∷ js) (suc q) l = has_more (slice_index_or js q 0) j js (has_at js q (omega (arith, l)))
+
+-- the numbers from a place on are that at this place, and those behind it
+pub from_place : (js : List ℕ) (q : ℕ) → q < length js → drop q js ≡ slice_index_or js q 0 ∷ drop (q + 1) js
+from_place js q l = let n : suc q ≡ q + 1 = omega arith in drop-cons js q 0 l ∙ ap (λ (m : ℕ). slice_index_or js q 0 ∷ drop m js) n
 
 -- what is among a list is another number than one that is not
 has_apart : (i j : ℕ) (js : List ℕ) → has i js ≡ false → has j js ≡ true → i ≢ j

@@ -1,5 +1,5 @@
 -- The codes of the tests by hand are sound.
-use Rattle.std.proofs.Common.{◌≡◌, ◌⊎◌, inl, inr, ℕ, zero, suc, ◌+◌, ◌++◌, ◌-◌, ◌<◌, ◌==◌, Bool, true, false, List, [], ◌∷◌, length, Option, Some, None, refl, sym, ap, ◌∙◌, subst, slice_get, map}
+use Rattle.std.proofs.Common.{◌≡◌, inl, inr, ℕ, zero, suc, ◌++◌, ◌-◌, ◌<◌, ◌==◌, Bool, true, false, List, [], ◌∷◌, length, Option, Some, None, refl, sym, ap, ◌∙◌, subst, slice_get, map}
 use Rattle.std.proofs.lemmas.Bool.{eq-eqb}
 use Rattle.chord_base.proofs.Waits.{either}
 use mathlib.Core.Path.{Path}
@@ -13,18 +13,17 @@ use Rattle.chord_base.specs.declared.event.Limits.{Limits}
 use Rattle.chord_base.specs.declared.event.What.{What}
 use Rattle.chord_base.specs.declared.event.What.TheVariants.{Begun, Made, Sent, Called, Printed, Fired, Ended}
 use Rattle.chord_base.specs.declared.static_type.StaticType.{StaticType}
-use Rattle.chord_base.specs.Bodies.{Doing, Absent, Unplaced, Ready, Waits, Over, doing, asked, serves, served_among}
-use Rattle.chord_base.specs.Machine.{IsPast, Comes, Fires, Takes}
+use Rattle.chord_base.specs.Bodies.{Doing, Absent, Unplaced, Ready, Waits, Over, doing, asked, served_among}
+use Rattle.chord_base.specs.Machine.{IsPast, Comes, Takes}
 use Rattle.chord_base.specs.Meaning.{Start, Main, Chord, Asked}
 use Rattle.chord_base.specs.Messages.{Message, message_of, members_of, has, pending}
-use Rattle.chord_base.specs.Story.{HasKind, AllBelow}
+use Rattle.chord_base.specs.Story.{HasKind}
 use Rattle.chord_base.specs.Types.{Signature, Signatures, HaveAll}
 use Rattle.chord_code.specs.declared.instruction.Instruction.TheVariants as instr
-use Rattle.chord_code.specs.declared.parts.Parts.{Parts}
 use Rattle.chord_code.specs.Machine.{IsForward, fetch, body_in_block}
 use Rattle.chord_code.specs.Meaning.{code_program, begins, chord_lines, method_is_sync, methods_of}
 use Rattle.chord_code.specs.Plays.{Play, MakesObject, SendsMessage, CallsMethod, PrintsLine, EndsBody, GoesWrong, Good, Plays, what_of}
-use Rattle.chord_code.specs.Runs.{AreLocal, IsPlan, AllGood, BodyPlays, IsFitMessage, IsDueType, sent}
+use Rattle.chord_code.specs.Runs.{AreLocal, IsPlan, AllGood, BodyPlays, IsFitMessage, sent}
 use Rattle.chord_code.specs.Sound.{IsSoundCode, NamesMethod, HasMethod}
 use Rattle.chord_match.specs.Pairs.{pair_code}
 use Rattle.chord_code.proofs.Runs.{playing_asks}

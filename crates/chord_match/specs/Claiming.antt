@@ -1,5 +1,5 @@
 -- Members are claimed one after another.
-use Rattle.std.specs.Prelude.{◌≡◌, ◌≢◌, ℕ, ◌<◌, ◌≤◌, true, false, List, ◌∷◌, ◌++◌, length, slice_get, slice_index_or, Option, Some, None}
+use Rattle.std.specs.Prelude.{◌≡◌, ◌≢◌, ℕ, zero, suc, ◌<◌, ◌≤◌, true, false, List, ◌∷◌, ◌++◌, length, slice_get, slice_index_or, Option, Some, None}
 use Rattle.chord_base.specs.Meaning.{Program}
 use Rattle.chord_base.specs.Story.{AllBelow}
 use Rattle.chord_base.specs.declared.event.What.TheVariants.{Fired}
@@ -13,10 +13,10 @@ use Rattle.chord_rule.specs.declared.view.Looked.{Looked}
 use Rattle.chord_rule.specs.declared.view.View.{View}
 use Rattle.chord_rule.specs.Claims.{HasThe, AreClaimed}
 use Rattle.chord_rule.specs.Coming.{IsPlace}
-use Rattle.chord_rule.specs.Kinds.{entry, firing_drawn}
+use Rattle.chord_rule.specs.Kinds.{entry, saw, claimed, firing_drawn}
 use Rattle.chord_rule.specs.Looks.{HasLook}
 use Rattle.chord_rule.specs.Numbers.{HasNumber}
-use Rattle.chord_rule.specs.Tells.{CameNext}
+use Rattle.chord_rule.specs.Tells.{CameNext, IsNewClaim}
 use Rattle.chord_match.specs.declared.claiming.Missed.{Missed}
 use Rattle.chord_match.specs.declared.claiming.Missed.TheVariants.{Lost, Spent}
 use Rattle.chord_match.specs.Fires.{AreLastPending}
@@ -34,6 +34,20 @@ pub record Taking (n : ℕ) (p : Program) (v : View) (o : Object) (chord : ℕ) 
   pub apart : (q r : ℕ) → q < r → r < at → slice_index_or ms q 0 ≢ slice_index_or ms r 0
   pub many : length v.claims ≡ at
   pub room : v.spent ≡ false
+
+-- the member of the place k was claimed from the view u, which left the view w
+pub record WasClaimed (n : ℕ) (p : Program) (u w : View) (o : Object) (chord : ℕ) (ms : List ℕ) (xs : List (Option ℕ)) (k : ℕ) : Type 0 where
+  pub taking : Taking n p u o chord ms xs k
+  pub low : k < length ms
+  pub claim : Claim
+  pub new : IsNewClaim u (slice_index_or ms k 0) (slice_index_or xs k None) claim
+  pub word : Word
+  pub becomes : w ≡ saw (claimed u claim) (slice_index_or ms k 0) word
+
+-- from the view v the first so many members were claimed one after another, up to the view w
+abbrev pub WereClaimed : ℕ → Program → View → Object → ℕ → List ℕ → List (Option ℕ) → ℕ → View → Type 0
+WereClaimed n p v o chord ms xs zero w = w ≡ v
+WereClaimed n p v o chord ms xs (suc k) w = (u : View) × WereClaimed n p v o chord ms xs k u × WasClaimed n p u w o chord ms xs k
 
 -- the desk with other claims and looks
 abbrev pub with_claims : View → List Claim → Looked → View
@@ -68,10 +82,16 @@ abbrev pub IsNotLost : Missed → Type 0
 IsNotLost (Lost i) = ⊥
 IsNotLost Spent = Unit {0}
 
+-- what the desk remembers, with these looks at cells more, and where it was told with this count
+abbrev pub looked_by : Missed → Looked → List Look → Option ℕ → Looked
+looked_by (Lost i) l ls c = record l { seen = ls ++ l.seen }
+looked_by Spent l ls c = record l { seen = ls ++ l.seen; count = c }
+
 -- nothing was fired, and what was claimed from place `at` on was given back
 pub record IsMissed (n : ℕ) (v w : View) (ms : List ℕ) (xs : List (Option ℕ)) (at : ℕ) (x : Missed) : Type 0 where
   pub frame : w ≡ missed_by v x w.looked
   pub looks : List Look
   pub more : w.looked.seen ≡ looks ++ v.looked.seen
   pub why : IsWhy n ms w.looked looks x
+  pub remembered : w.looked ≡ looked_by x v.looked looks w.looked.count
   pub alone : v.first ≡ true → v.lent ≡ 0 → AreLastPending v ms xs at → IsNotLost x

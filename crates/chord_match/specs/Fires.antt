@@ -36,6 +36,8 @@ pub record IsLost (n : ℕ) (v w : View) (ms : List ℕ) (xs : List (Option ℕ)
   pub looks : List Look
   pub more : w.looked.seen ≡ looks ++ v.looked.seen
   pub read : (c : Word) × HasLook i c looks × (c.cell ≢ Pending)
+  -- of what it remembers only these looks at cells are new: the ways, which tell it in what bags the members are, are those before
+  pub remembered : w.looked ≡ record v.looked { seen = looks ++ v.looked.seen }
   -- on a first desk alone no member is lost that it last read or wrote pending
   pub alone : v.first ≡ true → v.lent ≡ 0 → AreLastPending v ms xs 0 → ⊥
 
@@ -45,6 +47,9 @@ pub record IsTurnedAway (n : ℕ) (v w : View) : Type 0 where
   pub same : w ≡ record v { looked = w.looked; spent = true }
   pub claims : w.claims ≡ []
   pub counter : (c : ℕ) × (n < c) × (w.looked.count ≡ Some c)
+  pub looks : List Look
+  -- of what it remembers only these looks at cells are new, and the counter
+  pub remembered : w.looked ≡ record v.looked { seen = looks ++ v.looked.seen; count = w.looked.count }
 
 -- the entries of these parcels came, one parcel after another
 abbrev pub all_together : List Entry → List (List Entry) → List Entry

@@ -17,8 +17,6 @@ use Rattle.chord_match.specs.declared.search.Pick.{Pick}
 use Rattle.chord_match.specs.declared.search.Pick.TheVariants as a_pick
 use Rattle.chord_match.specs.declared.search.Step.{Step}
 use Rattle.chord_match.specs.declared.search.Step.TheVariants as a_step
-use Rattle.chord_match.specs.declared.search.Outcome.{Outcome}
-use Rattle.chord_match.specs.declared.search.Outcome.TheVariants as an_outcome
 use Rattle.chord_match.specs.declared.search.Verdict.{Verdict}
 use Rattle.chord_match.specs.declared.search.Verdict.TheVariants as a_verdict
 use Rattle.chord_match.specs.Seen.{Grows, HasSought, bags_of, Answered, MayBeClaimed, MayAllBeClaimed, IsMember, AreMatched}
@@ -100,16 +98,6 @@ pub record Gathered (n : ℕ) (v u w : View) (o : Object) (own : Own) (js : List
   pub moves : Moves n v u w o own known known'
   pub gathered : IsGathered n v w o own js known' ms ms' xs xs' t
 
--- the members of a chord with these methods, or why there are none
-abbrev pub IsOutcomeOf : ℕ → View → View → Object → Own → List ℕ → List (Option Sought) → Outcome → Type 0
-IsOutcomeOf n v w o own js known (an_outcome.Whole ms xs) = AreMatched v w o own.message own.method own.next js ms xs × MayAllBeClaimed n w o js ms xs
-IsOutcomeOf n v w o own js known (an_outcome.Stuck b) = IsStuck own js known b
-
--- the search went on for one chord
-pub record IsOutcome (n : ℕ) (v u w : View) (o : Object) (own : Own) (js : List ℕ) (known known' : List (Option Sought)) (t : Outcome) : Type 0 where
-  pub moves : Moves n v u w o own known known'
-  pub comes : IsOutcomeOf n v w o own js known' t
-
 -- the first of two messages that are in other hands
 abbrev pub firstly : Option ℕ → Option ℕ → Option ℕ
 firstly (Some i) more = Some i
@@ -121,12 +109,12 @@ AreStuck own jss m known None = (q : ℕ) (js : List ℕ) → q < m → slice_ge
 AreStuck own jss m known (Some i) = ((q : ℕ) (js : List ℕ) → q < m → slice_get jss q ≡ Some js → has own.method js ≡ true → (b : Option ℕ) × IsStuck own js known b)
     × ((q : ℕ) × (js : List ℕ) × (q < m) × (slice_get jss q ≡ Some js) × (has own.method js ≡ true) × IsStuck own js known (Some i))
 
--- a chord with its members, or each chord with the method is stuck
-abbrev pub IsVerdict : ℕ → View → View → Object → Own → List (List ℕ) → List (Option Sought) → Verdict → Type 0
-IsVerdict n v w o own jss known (a_verdict.Match k ms xs) = (js : List ℕ) × (slice_get jss k ≡ Some js) × (has own.method js ≡ true) × AreMatched v w o own.message own.method own.next js ms xs × MayAllBeClaimed n w o js ms xs
-IsVerdict n v w o own jss known (a_verdict.Without b) = AreStuck own jss (length jss) known b
+-- these are members of the chord of this number, or each chord with the method is stuck
+abbrev pub IsVerdict : ℕ → View → View → Object → Own → List (List ℕ) → List (Option Sought) → List ℕ → List (Option ℕ) → Verdict → Type 0
+IsVerdict n v w o own jss known ms xs (a_verdict.Match k) = (js : List ℕ) × (slice_get jss k ≡ Some js) × (has own.method js ≡ true) × AreMatched v w o own.message own.method own.next js ms xs × MayAllBeClaimed n w o js ms xs
+IsVerdict n v w o own jss known ms xs (a_verdict.Without b) = AreStuck own jss (length jss) known b
 
 -- the search went through all chords, or up to the first that has its members
-pub record IsThrough (n : ℕ) (v w : View) (o : Object) (own : Own) (jss : List (List ℕ)) (known' : List (Option Sought)) (t : Verdict) : Type 0 where
+pub record IsThrough (n : ℕ) (v w : View) (o : Object) (own : Own) (jss : List (List ℕ)) (known' : List (Option Sought)) (ms : List ℕ) (xs : List (Option ℕ)) (t : Verdict) : Type 0 where
   pub stands : Searching n v w o own known'
-  pub verdict : IsVerdict n v w o own jss known' t
+  pub verdict : IsVerdict n v w o own jss known' ms xs t

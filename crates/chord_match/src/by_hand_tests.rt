@@ -314,7 +314,7 @@ fn fire_seen(
     requires desk { IsDeskOf space.now desk.old × HasInHand (view desk.old) sent_both [] None [] × AreSeen space.now.events (program_of space.now) (view desk.old) first_object 0 members.now nexts.now }
     ensures desk { IsSameDesk desk.old desk.new }
     ensures fired { (f : ℕ) (hand : List letter.Letter) → result ≡ Fired f hand → KeepsFiring (view desk.new) members.now f }
-    ensures lost { (i : ℕ) → result ≡ Lost i → IsAsBefore (view desk.old) (view desk.new) × KeepsDuties (view desk.old) (view desk.new) }
+    ensures lost { (i : ℕ) → result ≡ Lost i → IsAsBefore (view desk.old) (view desk.new) × AreSeen space.now.events (program_of space.now) (view desk.new) first_object 0 members.now nexts.now }
 {
     fire(space, desk, code, FIRST, 0, members, nexts)
 }
@@ -378,7 +378,7 @@ fn match_y(
     requires table { (4 ≤ space.now.events) × (code.now ≡ space_code space.now) }
     requires desk { IsDeskOf space.now desk.old × HasInHand (view desk.old) sent_both [] None [] × Owes (view desk.old) 3 (key first_object 1) }
     ensures desk { IsSameDesk desk.old desk.new }
-    ensures matched { IfOk result (λ r. HasInHand (view desk.new) sent_both [] None [] × Owes (view desk.new) 3 (key first_object 1) × AreSeen space.now.events (program_of space.now) (view desk.new) first_object 0 r.0 r.1) }
+    ensures matched { IfOk result (λ r. HasInHand (view desk.new) sent_both [] None [] × AreSeen space.now.events (program_of space.now) (view desk.new) first_object 0 r.0 r.1) }
 {
     match look_for(space, desk, code, 3, FIRST, 1) {
         Finding::Match(0, members, nexts) => {
@@ -398,37 +398,58 @@ fn are(members: &Members, i: u32, j: u32) -> bool {
     items.len() == 2 && items[0] == i && items[1] == j
 }
 
-/// The chord is lost to a desk that has claimed x.
+/// The chord is not fired, since x is in another hand; both members are seen still.
+fn fire_in_vain(
+    space: &Space<Letter>,
+    desk: &mut Desk<Letter>,
+    code: &Code,
+    members: &Members,
+    nexts: &Nexts,
+) -> Result<(), Fail>
+    requires table { (4 ≤ space.now.events) × (code.now ≡ space_code space.now) }
+    requires desk { IsDeskOf space.now desk.old × HasInHand (view desk.old) sent_both [] None [] × AreSeen space.now.events (program_of space.now) (view desk.old) first_object 0 members.now nexts.now }
+    ensures desk { IsSameDesk desk.old desk.new }
+    ensures lost { OnOk result (HasInHand (view desk.new) sent_both [] None [] × AreSeen space.now.events (program_of space.now) (view desk.new) first_object 0 members.now nexts.now) }
+{
+    match fire_seen(space, desk, code, members, nexts) {
+        Firing::Lost(2) => Ok(()),
+        _ => Err(Fail::from("the chord is not lost")),
+    }
+}
+
+/// The chord is lost to a desk that has claimed x: its members.
 fn lose(
     space: &Space<Letter>,
     code: &Code,
     first: &mut Desk<Letter>,
     other: &mut Desk<Letter>,
-) -> Result<(), Fail>
+) -> Result<(Members, Nexts), Fail>
     requires table { (4 ≤ space.now.events) × (code.now ≡ space_code space.now) }
     requires first { IsDeskOf space.now first.old × HasInHand (view first.old) sent_both [] None [] × Owes (view first.old) 3 (key first_object 1) }
     requires other { IsDeskOf space.now other.old × HasInHand (view other.old) [] [] None [] × HasSeen (view other.old) 2 None }
     ensures desks { IsSameDesk first.old first.new × IsSameDesk other.old other.new }
-    ensures first { OnOk result (HasInHand (view first.new) sent_both [] None [] × Owes (view first.new) 3 (key first_object 1)) }
+    ensures seen { IfOk result (λ r. HasInHand (view first.new) sent_both [] None [] × AreSeen space.now.events (program_of space.now) (view first.new) first_object 0 r.0 r.1) }
 {
     let (members, nexts) = match_y(space, first, code)?;
     claim_for_good(space, other, 2)?;
-    match fire_seen(space, first, code, &members, &nexts) {
-        Firing::Lost(2) => {}
-        _ => return Err(Fail::from("the chord is not lost")),
-    }
+    fire_in_vain(space, first, code, &members, &nexts)?;
     give(space, other, 2);
-    Ok(())
+    Ok((members, nexts))
 }
 
 /// The limit on events is reached, and nothing is fired.
-fn spend(space: &Space<Letter>, desk: &mut Desk<Letter>, code: &Code) -> Result<(), Fail>
+fn spend(
+    space: &Space<Letter>,
+    desk: &mut Desk<Letter>,
+    code: &Code,
+    members: &Members,
+    nexts: &Nexts,
+) -> Result<(), Fail>
     requires table { (4 ≤ space.now.events) × (code.now ≡ space_code space.now) }
-    requires desk { IsDeskOf space.now desk.old × HasInHand (view desk.old) sent_both [] None [] × Owes (view desk.old) 3 (key first_object 1) }
+    requires desk { IsDeskOf space.now desk.old × HasInHand (view desk.old) sent_both [] None [] × AreSeen space.now.events (program_of space.now) (view desk.old) first_object 0 members.now nexts.now }
     ensures desk { IsSameDesk desk.old desk.new }
 {
-    let (members, nexts) = match_y(space, desk, code)?;
-    match fire_seen(space, desk, code, &members, &nexts) {
+    match fire_seen(space, desk, code, members, nexts) {
         Firing::Spent => Ok(()),
         _ => Err(Fail::from("the limit is not reached")),
     }
@@ -485,35 +506,36 @@ fn fire_once(
     space: &Space<Letter>,
     desk: &mut Desk<Letter>,
     code: &Code,
+    members: &Members,
+    nexts: &Nexts,
 ) -> Result<(), Fail>
     requires table { IsPairTable false space.now × (5 ≤ space.now.events) × (code.now ≡ space_code space.now) }
-    requires desk { IsDeskOf space.now desk.old × HasInHand (view desk.old) sent_both [] None [] × Owes (view desk.old) 3 (key first_object 1) }
+    requires desk { IsDeskOf space.now desk.old × HasInHand (view desk.old) sent_both [] None [] × AreSeen space.now.events (program_of space.now) (view desk.old) first_object 0 members.now nexts.now }
     ensures desk { IsSameDesk desk.old desk.new }
 {
-    let (members, nexts) = match_y(space, desk, code)?;
-    fire_fourth(space, desk, code, &members, &nexts)?;
+    fire_fourth(space, desk, code, members, nexts)?;
     start_in_vain(space, desk)?;
-    post_fired(alloc, space, desk, &members)?;
+    post_fired(alloc, space, desk, members)?;
     start_once(space, desk)
 }
 
-/// The steps of both desks up to a chord that one of them lost: the other desk.
+/// The steps of both desks up to a chord that one of them lost: the other desk, and the chord's members.
 fn play_to_loss(
     alloc: Global,
     space: &Space<Letter>,
     code: &Code,
     first: &mut Desk<Letter>,
-) -> Result<Desk<Letter>, Fail>
+) -> Result<(Desk<Letter>, Members, Nexts), Fail>
     requires table { IsPairTable false space.now × (4 ≤ space.now.events) × (code.now ≡ space_code space.now) }
     requires first { IsDeskOf space.now first.old × (view first.old ≡ newcomer_first) }
-    ensures desks { IsSameDesk first.old first.new × IfOk result (λ other. IsDeskOf space.now other) }
-    ensures first { OnOk result (HasInHand (view first.new) sent_both [] None [] × Owes (view first.new) 3 (key first_object 1)) }
+    ensures desks { IsSameDesk first.old first.new × IfOk result (λ r. IsDeskOf space.now r.0) }
+    ensures seen { IfOk result (λ r. HasInHand (view first.new) sent_both [] None [] × AreSeen space.now.events (program_of space.now) (view first.new) first_object 0 r.1 r.2) }
 {
     let mut other = open_table(alloc, space, first)?;
     add_both(alloc, space, code, first, &mut other)?;
     contend(space, code, first, &mut other)?;
-    lose(space, code, first, &mut other)?;
-    Ok(other)
+    let (members, nexts) = lose(space, code, first, &mut other)?;
+    Ok((other, members, nexts))
 }
 
 /// `Main` makes its object, and cannot send x.
@@ -627,8 +649,8 @@ fn leave_apart(
 fn desks_by_hand(rt: HostRuntime) -> Result<(), Fail> {
     let code = coded(rt.alloc(), false)?;
     let (space, mut first) = table(rt.alloc(), &code, false, 16)?;
-    let _ = play_to_loss(rt.alloc(), &space, &code, &mut first)?;
-    fire_once(rt.alloc(), &space, &mut first, &code)?;
+    let (_, members, nexts) = play_to_loss(rt.alloc(), &space, &code, &mut first)?;
+    fire_once(rt.alloc(), &space, &mut first, &code, &members, &nexts)?;
     Ok(())
 }
 
@@ -636,8 +658,8 @@ fn desks_by_hand(rt: HostRuntime) -> Result<(), Fail> {
 fn desks_by_hand_spent(rt: HostRuntime) -> Result<(), Fail> {
     let code = coded(rt.alloc(), false)?;
     let (space, mut first) = table(rt.alloc(), &code, false, 4)?;
-    let mut other = play_to_loss(rt.alloc(), &space, &code, &mut first)?;
-    spend(&space, &mut first, &code)?;
+    let (mut other, members, nexts) = play_to_loss(rt.alloc(), &space, &code, &mut first)?;
+    spend(&space, &mut first, &code, &members, &nexts)?;
     find_pending_y(&space, &mut other)?;
     Ok(())
 }

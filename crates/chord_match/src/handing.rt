@@ -6,7 +6,7 @@ ghost use Rattle.chord_match.specs.Consuming.{Consuming, Handed};
 ghost use Rattle.chord_match.specs.Fires.{IsFireAnswer};
 ghost use Rattle.chord_match.specs.Seen.{AreSeen};
 
-use crate::claiming::{Missed, take_from};
+use crate::claiming::{Missed, take_members};
 use crate::nexts::Nexts;
 use chord_base::hand::Hand;
 use chord_base::members::Members;
@@ -52,8 +52,8 @@ fn hand_out<P: Carry + Drop>(
 /// the firing, and takes their parcels in header order, or claims nothing and fires nothing. Fired: the desk keeps the firing's
 /// entry, whose values are those of the parcels laid together, and what the parcels keep; it has no claim, and its duties on the
 /// members are gone. `Lost(i)`: member i was no longer pending. `Spent`: the counter had reached the limit on events. Of both it
-/// has no claim afterwards, and is as it was but for what it read and wrote. On a first desk that has lent none it is never
-/// Lost where the desk last read or wrote all members pending.
+/// has no claim afterwards, and is as it was but for what it read and wrote; so members that it saw it has seen, and it may fire
+/// the chord again. On a first desk that has lent none it is never Lost where the desk last read or wrote all members pending.
 ///
 /// Claiming all messages of a chord one after another, and giving the claims back where one is gone, is from Turon and Russo,
 /// "Scalable Join Patterns" (OOPSLA 2011).
@@ -76,7 +76,7 @@ pub fn fire<P: Carry + Drop>(
     ensures firing { IsFireAnswer P.entries P.arguments (λ q. P.keeps_to q (space_code space.now) (space_limits space.now)) (program_of space.now) space.now.events (view desk.old) (view desk.new) object chord members.now nexts.now result }
 {
     chords_are_right(code);
-    match take_from(space, desk, object, chord, members, nexts, 0) {
+    match take_members(space, desk, object, chord, members, nexts) {
         Ok(f) => {
             let mut hand = Hand::new();
             hand_out(space, desk, members.items(), &mut hand);

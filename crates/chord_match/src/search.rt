@@ -10,7 +10,7 @@ ghost use Rattle.chord_rule.specs.Made.{key};
 ghost use Rattle.chord_space.specs.Desks.{view, space_code, program_of, IsDeskOf, IsSameDesk};
 ghost use Rattle.chord_word.specs.declared.cells.Cell.TheVariants.{Pending};
 ghost use Rattle.chord_match.specs.Findings.{IsFinding, read_so};
-ghost use Rattle.chord_match.specs.Searching.{Searching, Learned, Picked, Gathered, IsOutcome, IsThrough, firstly};
+ghost use Rattle.chord_match.specs.Searching.{Searching, Learned, Picked, Gathered, IsThrough, firstly};
 
 use crate::nexts::Nexts;
 use chord_bag::{Sought, seek};
@@ -58,17 +58,10 @@ enum Step {
     Stuck(Option<u32>),
 }
 
-/// The members of a chord, or why there are none.
-#[derive(Drop)]
-enum Outcome {
-    Whole(Members, Nexts),
-    Stuck(Option<u32>),
-}
-
-/// A chord with its members, or why there is none.
+/// The chord whose members were gathered, or why there is none.
 #[derive(Drop)]
 enum Verdict {
-    Match(u16, Members, Nexts),
+    Match(u16),
     Without(Option<u32>),
 }
 
@@ -139,49 +132,16 @@ fn gather<P: Carry>(
     ensures desk { IsSameDesk desk.old desk.new }
     ensures gathered { (v : View) → Searching space.now.events v (view desk.old) object own.now known.old → Gathered space.now.events v (view desk.old) (view desk.new) object own.now methods.now known.old known.new members.old members.new nexts.old nexts.new result }
 {
-    let Some((method, rest)) = methods.split_first() else {
-        return Step::All;
-    };
-    match pick_member(space, desk, object, own, *method, known) {
-        Pick::Take(i, next) => {
-            members.push(i);
-            nexts.push(next);
-            gather(space, desk, object, own, rest, known, members, nexts)
+    for method in methods {
+        match pick_member(space, desk, object, own, *method, known) {
+            Pick::Take(i, next) => {
+                members.push(i);
+                nexts.push(next);
+            }
+            Pick::Stuck(busy) => return Step::Stuck(busy),
         }
-        Pick::Stuck(busy) => Step::Stuck(busy),
     }
-}
-
-// The members of one chord.
-fn one_chord<P: Carry>(
-    space: &Space<P>,
-    desk: &mut Desk<P>,
-    object: Object,
-    own: &Own,
-    methods: &[u8],
-    known: &mut [Option<Sought>; 16],
-) -> Outcome
-    requires desk { IsDeskOf space.now desk.old }
-    requires bounds { (object.number < space.now.events) × (object.class < 1024) }
-    requires methods { ((j : ℕ) → has j methods.now ≡ true → j < 16) × (length methods.now ≤ 8) }
-    ensures desk { IsSameDesk desk.old desk.new }
-    ensures outcome { (v : View) → Searching space.now.events v (view desk.old) object own.now known.old → IsOutcome space.now.events v (view desk.old) (view desk.new) object own.now methods.now known.old known.new result }
-{
-    let mut members = Members::new();
-    let mut nexts = Nexts::new();
-    match gather(
-        space,
-        desk,
-        object,
-        own,
-        methods,
-        known,
-        &mut members,
-        &mut nexts,
-    ) {
-        Step::All => Outcome::Whole(members, nexts),
-        Step::Stuck(busy) => Outcome::Stuck(busy),
-    }
+    Step::All
 }
 
 // Of two messages in other hands the first.
@@ -203,7 +163,8 @@ fn has_method(methods: &[u8], method: u8) -> bool
     method == *first || has_method(rest, method)
 }
 
-// The first chord with the message that has its members.
+// The first chord with the message that has its members, and these; the caller's place is filled, since to give them back they would
+// be moved from function to function.
 fn through<P: Carry>(
     space: &Space<P>,
     desk: &mut Desk<P>,
@@ -211,22 +172,27 @@ fn through<P: Carry>(
     own: &Own,
     lines: &[ChordLine],
     known: &mut [Option<Sought>; 16],
+    members: &mut Members,
+    nexts: &mut Nexts,
 ) -> Verdict
     requires desk { IsDeskOf space.now desk.old }
     requires bounds { (object.number < space.now.events) × (object.class < 1024) }
+    requires none { (members.old ≡ []) × (nexts.old ≡ []) }
     requires lines { (length lines.now ≤ 256) × ((k : ℕ) (js : List ℕ) → slice_get (map methods_of lines.now) k ≡ Some js → ((j : ℕ) → has j js ≡ true → j < 16) × (length js ≤ 8)) }
     ensures desk { IsSameDesk desk.old desk.new }
-    ensures through { (v : View) → Searching space.now.events v (view desk.old) object own.now known.old → IsThrough space.now.events v (view desk.new) object own.now (map methods_of lines.now) known.new result }
+    ensures through { (v : View) → Searching space.now.events v (view desk.old) object own.now known.old → IsThrough space.now.events v (view desk.new) object own.now (map methods_of lines.now) known.new members.new nexts.new result }
 {
     let mut busy = None;
     for at in 0..lines.len() {
         let methods = lines[at].methods.items();
         if has_method(methods, own.method) {
-            match one_chord(space, desk, object, own, methods, known) {
-                Outcome::Whole(members, nexts) => {
-                    return Verdict::Match(at as u16, members, nexts);
+            match gather(space, desk, object, own, methods, known, members, nexts) {
+                Step::All => return Verdict::Match(at as u16),
+                Step::Stuck(more) => {
+                    busy = first(busy, more);
+                    *members = Members::new();
+                    *nexts = Nexts::new();
                 }
-                Outcome::Stuck(more) => busy = first(busy, more),
             }
         }
     }
@@ -240,40 +206,6 @@ fn lines_of(code: &Code, class: u16) -> &[ChordLine]
     match code.parts().classes.items().get(class as usize) {
         Some(line) => line.chords.items(),
         None => &[],
-    }
-}
-
-// The own message was read pending.
-fn find_more<P: Carry>(
-    space: &Space<P>,
-    desk: &mut Desk<P>,
-    code: &Code,
-    object: Object,
-    own: &Own,
-) -> Finding
-    requires desk { IsDeskOf space.now desk.old }
-    requires code { code.now ≡ space_code space.now }
-    requires bounds { (object.number < space.now.events) × (object.class < 1024) × (own.now.method < 16) }
-    requires read { Searching space.now.events (view desk.old) (view desk.old) object own.now [] }
-    ensures desk { IsSameDesk desk.old desk.new }
-    ensures finding { (v : View) → IsOnlyLooks v (view desk.old) → view desk.old ≡ read_so v own.now.message Pending own.now.next → IsFinding (program_of space.now) space.now.events v (view desk.new) own.now.message object own.now.method result }
-{
-    chords_are_right(code);
-    let mut known = [None; 16];
-    match through(
-        space,
-        desk,
-        object,
-        own,
-        lines_of(code, object.class),
-        &mut known,
-    ) {
-        Verdict::Match(chord, members, nexts) => Finding::Match(chord, members, nexts),
-        Verdict::Without(Some(i)) => Finding::Busy(i),
-        Verdict::Without(None) => {
-            space.rest(desk, own.message);
-            Finding::Left
-        }
     }
 }
 
@@ -299,24 +231,43 @@ pub fn find<P: Carry>(
     ensures desk { IsSameDesk desk.old desk.new }
     ensures finding { IsFinding (program_of space.now) space.now.events (view desk.old) (view desk.new) m object method result }
 {
+    let mut known = [None; 16];
     let word = space.look_cell(desk, m);
     match word.cell {
-        Cell::Pending => {
-            let own = Own {
-                message: m,
-                method,
-                next: word.next,
-            };
-            find_more(space, desk, code, object, &own)
-        }
+        Cell::Pending => {}
         Cell::Consumed => {
             space.rest(desk, m);
-            Finding::Taken
+            return Finding::Taken;
         }
         Cell::Woken(_) => {
             space.rest(desk, m);
-            Finding::Left
+            return Finding::Left;
         }
-        _ => Finding::Busy(m),
+        _ => return Finding::Busy(m),
     }
+    chords_are_right(code);
+    let own = Own {
+        message: m,
+        method,
+        next: word.next,
+    };
+    let lines = lines_of(code, object.class);
+    let mut members = Members::new();
+    let mut nexts = Nexts::new();
+    match through(
+        space,
+        desk,
+        object,
+        &own,
+        lines,
+        &mut known,
+        &mut members,
+        &mut nexts,
+    ) {
+        Verdict::Match(chord) => return Finding::Match(chord, members, nexts),
+        Verdict::Without(Some(i)) => return Finding::Busy(i),
+        Verdict::Without(None) => {}
+    }
+    space.rest(desk, m);
+    Finding::Left
 }

@@ -11,27 +11,27 @@ use Rattle.chord_match.proofs.Claims.{taking_first, ready_at, lost_all, refused_
 use Rattle.chord_match.proofs.Handovers.{drawn_consuming, is_fired}
 use Rattle.chord_match.proofs.handing.fire.Goals as goal
 
-pub take_from-requires-clause-right : goal.take_from-requires-clause-right
-take_from-requires-clause-right g c =
+pub take_members-requires-clause-right : goal.take_members-requires-clause-right
+take_members-requires-clause-right g c =
     let low = c.requires.bounds.0 in let small = c.args.space.now.sized.4 in
     (omega (arith, low, small), subst (λ (z : Parts). ChordsAreRight (code_program z (space_limits c.args.space.now))) c.requires.code (c.chords_are_right.ensures (space_limits c.args.space.now)))
 
-pub take_from-requires-clause-taking : goal.take_from-requires-clause-taking
-take_from-requires-clause-taking g c =
+pub take_members-requires-clause-taking : goal.take_members-requires-clause-taking
+take_members-requires-clause-taking g c =
     taking_first c.args.space.now.events (program_of c.args.space.now) (view c.args.desk.now) c.args.object c.args.chord c.args.members.now c.args.nexts.now c.requires.seen c.requires.free c.requires.room
 
 pub hand_out-requires : goal.hand_out-requires
 hand_out-requires g c =
     let ms = c.args.members.now in let t = c.in-Ok.ensures.taken in let n = c.args.space.now.events in let s = c.requires.seen in let v = view c.args.desk.now in
-    let k = subst (λ (z : List ℕ). Consuming n (view c.take_from.new.desk) c.args.object t.1.methods z c.in-Ok.f t.1.values) (sym c.items.ensures.numbers)
-    (drawn_consuming n (program_of c.args.space.now) v (view c.take_from.new.desk) c.args.object c.args.chord ms c.in-Ok.f t.1 (λ q l. (ready_at n v c.args.object s.methods ms c.args.nexts.now s.ready q l).below) c.args.desk.now.settled.7) in
+    let k = subst (λ (z : List ℕ). Consuming n (view c.take_members.new.desk) c.args.object t.1.methods z c.in-Ok.f t.1.values) (sym c.items.ensures.numbers)
+    (drawn_consuming n (program_of c.args.space.now) v (view c.take_members.new.desk) c.args.object c.args.chord ms c.in-Ok.f t.1 (λ q l. (ready_at n v c.args.object s.methods ms c.args.nexts.now s.ready q l).below) c.args.desk.now.settled.7) in
     let few = c.items.ensures.few in let e = ap length c.items.ensures.numbers in let none = ap length c.new-hand.ensures in
-    record { desk = c.take_from.ensures.desk.0 ∙ c.requires.desk; consuming = (c.args.object, t.1.methods, c.in-Ok.f, t.1.values, k); room = omega (arith, few, e, none) }
+    record { desk = c.take_members.ensures.desk.0 ∙ c.requires.desk; consuming = (c.args.object, t.1.methods, c.in-Ok.f, t.1.values, k); room = omega (arith, few, e, none) }
 
 pub returns-in-Ok-clause-firing : goal.returns-in-Ok-clause-firing
 returns-in-Ok-clause-firing g c =
     let ms = c.args.members.now in let t = c.in-Ok.ensures.taken in let n = c.args.space.now.events in let s = c.requires.seen in let p = program_of c.args.space.now in let o = c.args.object in
-    let v = view c.args.desk.now in let u = view c.take_from.new.desk in let w = view c.hand_out.new.desk in
+    let v = view c.args.desk.now in let u = view c.take_members.new.desk in let w = view c.hand_out.new.desk in
     let k = subst (λ (z : List ℕ). Consuming n u o t.1.methods z c.in-Ok.f t.1.values) (sym c.items.ensures.numbers)
     (drawn_consuming n p v u o c.args.chord ms c.in-Ok.f t.1 (λ q l. (ready_at n v o s.methods ms c.args.nexts.now s.ready q l).below) c.args.desk.now.settled.7) in
     let h = c.hand_out.ensures.handed o t.1.methods c.in-Ok.f t.1.values k in
@@ -42,10 +42,10 @@ returns-in-Ok-clause-firing g c =
 
 pub returns-in-Err-Lost-clause-firing : goal.returns-in-Err-Lost-clause-firing
 returns-in-Err-Lost-clause-firing g c =
-    let n = c.args.space.now.events in let v = view c.args.desk.now in let w = view c.take_from.new.desk in
+    let n = c.args.space.now.events in let v = view c.args.desk.now in let w = view c.take_members.new.desk in
     lost_all n v w c.args.members.now c.args.nexts.now c.in-Err-Lost.i c.requires.free (subst (λ (x : Missed). IsMissed n v w c.args.members.now c.args.nexts.now 0 x) c.in-Err-Lost.field-0-is c.in-Err-Lost.ensures.taken)
 
 pub returns-in-Err-Spent-clause-firing : goal.returns-in-Err-Spent-clause-firing
 returns-in-Err-Spent-clause-firing g c =
-    let n = c.args.space.now.events in let v = view c.args.desk.now in let w = view c.take_from.new.desk in
+    let n = c.args.space.now.events in let v = view c.args.desk.now in let w = view c.take_members.new.desk in
     refused_all n v w c.args.members.now c.args.nexts.now c.requires.free (subst (λ (x : Missed). IsMissed n v w c.args.members.now c.args.nexts.now 0 x) c.in-Err-Spent.field-0-is c.in-Err-Spent.ensures.taken)

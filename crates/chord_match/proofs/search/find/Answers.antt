@@ -1,16 +1,30 @@
-use Rattle.std.proofs.Common.{inr, subst, ap}
+use Rattle.std.proofs.Common.{◌≡◌, ◌<◌, ℕ, List, Some, length, map, slice_get, inr, sym, ap, ◌∙◌, subst, arith}
+use Rattle.chord_code.specs.declared.parts.Parts.{Parts}
+use Rattle.chord_code.specs.Laws.{ChordsAreRight}
+use Rattle.chord_code.specs.Meaning.{methods_of, chord_lines, code_program}
 use Rattle.chord_word.specs.declared.cells.Cell.{Cell}
+use Rattle.chord_word.specs.declared.cells.Cell.TheVariants.{Pending}
+use Rattle.chord_rule.specs.declared.view.View.{View}
 use Rattle.chord_rule.specs.Made.{key}
 use Rattle.chord_rule.specs.Kinds.{is_down}
 use Rattle.chord_rule.specs.Tells.{IsLook}
-use Rattle.chord_space.specs.Desks.{view, program_of}
-use Rattle.chord_match.proofs.Finds.{stands_read, down_rests, claimed_by_another}
+use Rattle.chord_space.specs.Desks.{view, program_of, space_limits}
+use Rattle.chord_bag.specs.Reads.{IsOnlyLooks}
+use Rattle.chord_match.specs.declared.search.Own.{Own}
+use Rattle.chord_match.specs.declared.search.Verdict.{Verdict}
+use Rattle.chord_match.specs.declared.search.Verdict.TheVariants as a_verdict
+use Rattle.chord_match.specs.Searching.{IsThrough}
+use Rattle.chord_match.proofs.Chords.{length_mapped}
+use Rattle.chord_match.proofs.Finds.{stands_first, stands_read, may_rest, is_match, is_left, is_busy, look_only, down_rests, claimed_by_another}
 use Rattle.chord_match.proofs.search.find.Goals as goal
 
-pub find_more-requires-clause-read : goal.find_more-requires-clause-read
-find_more-requires-clause-read g c =
-    let word = c.look_cell-word.result in let v = view c.args.desk.now in let u = view c.look_cell-word.new.desk in let n = c.args.space.now.events in
-    stands_read n v u c.args.object (record { message = c.args.m; method = c.args.method; next = word.next }) (subst (λ (z : Cell). IsLook n v u c.args.m (record { cell = z; next = word.next })) c.in-Pending.is c.look_cell-word.ensures.looked) c.requires.bounds.0 c.requires.duty
+pub through-requires-clause-lines : goal.through-requires-clause-lines
+through-requires-clause-lines g c =
+    let o = c.args.object in let p = program_of c.args.space.now in let lines = c.lines_of-lines.result.now in
+    let right = subst (λ (z : Parts). ChordsAreRight (code_program z (space_limits c.args.space.now))) c.requires.code (c.chords_are_right.ensures (space_limits c.args.space.now)) in
+    let same : map methods_of lines ≡ p.chords o.class = ap (map methods_of) (c.lines_of-lines.ensures ∙ ap (λ (z : Parts). chord_lines z o.class) c.requires.code) in
+    let few = right.few_chords o.class in let mapped = length_mapped lines in let long = ap length same in
+    (omega (arith, few, mapped, long), (λ k js e. let here : slice_get (p.chords o.class) k ≡ Some js = ap (λ (z : List (List ℕ)). slice_get z k) (sym same) ∙ e in ((λ j y. right.few o.class k j js here y), right.few_headers o.class k js here)))
 
 pub rest-requires-clause-may : goal.rest-requires-clause-may
 rest-requires-clause-may g c =
@@ -27,3 +41,46 @@ returns-in_default g c =
       desk = e.desk;
       finding = claimed_by_another (program_of c.args.space.now) c.args.space.now.events (view c.args.desk.now) (view c.look_cell-word.new.desk) c.args.m c.args.object c.args.method word.next word.cell c.requires.bounds.0 e.looked.looked (e.looked.armed (d.0, d.1, d.2)) (λ a. e.looked.alone a (inr (d.0, d.1, d.2))) c.in_default.not-Pending c.in_default.not-Consumed c.in_default.not-Woken;
     }
+
+pub rest-requires-2-clause-may : goal.rest-requires-2-clause-may
+rest-requires-2-clause-may g c =
+    let o = c.args.object in let n = c.args.space.now.events in let v = view c.args.desk.now in let u = view c.look_cell-word.new.desk in let w = view c.through.new.desk in let word = c.look_cell-word.result in
+    let own : Own = record { message = c.args.m; method = c.args.method; next = word.next } in
+    let look = subst (λ (z : Cell). IsLook n v u c.args.m (record { cell = z; next = word.next })) c.in-Pending.is c.look_cell-word.ensures.looked in
+    let only = subst (λ (z : View). IsOnlyLooks v z) (sym look.looked) (look_only v c.args.m (record { cell = Pending; next = word.next })) in
+    let same = ap (map methods_of) (c.lines_of-lines.ensures ∙ ap (λ (z : Parts). chord_lines z o.class) c.requires.code) in
+    let t = subst (λ (z : Verdict). IsThrough n u w o own (map methods_of c.lines_of-lines.result.now) c.through.new.known c.through.new.members c.through.new.nexts z) (c.in-Without-None.is ∙ ap a_verdict.Without c.in-Without-None.field-0-is) (c.through.ensures.through u (stands_first n u o own (stands_read n v u o own look c.requires.bounds.0 c.requires.duty))) in
+    let right = subst (λ (z : Parts). ChordsAreRight (code_program z (space_limits c.args.space.now))) c.requires.code (c.chords_are_right.ensures (space_limits c.args.space.now)) in
+    let d = t.stands.duty in
+    let low : o.number < 65536 = (let a = c.requires.bounds.1 in let b = c.args.space.now.sized.4 in omega (arith, a, b)) in
+    (d.0, d.1, d.2, λ e h q b. may_rest n (program_of c.args.space.now) o own u w c.through.new.known (map methods_of c.lines_of-lines.result.now) same c.through.new.members c.through.new.nexts right low c.requires.bounds.3 t.stands t.verdict e h (b ∙ d.3))
+
+pub returns-in-Match-clause-finding : goal.returns-in-Match-clause-finding
+returns-in-Match-clause-finding g c =
+    let o = c.args.object in let n = c.args.space.now.events in let v = view c.args.desk.now in let u = view c.look_cell-word.new.desk in let w = view c.through.new.desk in let word = c.look_cell-word.result in
+    let own : Own = record { message = c.args.m; method = c.args.method; next = word.next } in
+    let look = subst (λ (z : Cell). IsLook n v u c.args.m (record { cell = z; next = word.next })) c.in-Pending.is c.look_cell-word.ensures.looked in
+    let only = subst (λ (z : View). IsOnlyLooks v z) (sym look.looked) (look_only v c.args.m (record { cell = Pending; next = word.next })) in
+    let same = ap (map methods_of) (c.lines_of-lines.ensures ∙ ap (λ (z : Parts). chord_lines z o.class) c.requires.code) in
+    let t = subst (λ (z : Verdict). IsThrough n u w o own (map methods_of c.lines_of-lines.result.now) c.through.new.known c.through.new.members c.through.new.nexts z) (c.in-Match.is) (c.through.ensures.through u (stands_first n u o own (stands_read n v u o own look c.requires.bounds.0 c.requires.duty))) in
+    is_match n (program_of c.args.space.now) o own u w c.through.new.known (map methods_of c.lines_of-lines.result.now) same c.through.new.members c.through.new.nexts v only look.looked c.requires.bounds.3 c.in-Match.chord t
+
+pub returns-in-Without-Some-clause-finding : goal.returns-in-Without-Some-clause-finding
+returns-in-Without-Some-clause-finding g c =
+    let o = c.args.object in let n = c.args.space.now.events in let v = view c.args.desk.now in let u = view c.look_cell-word.new.desk in let w = view c.through.new.desk in let word = c.look_cell-word.result in
+    let own : Own = record { message = c.args.m; method = c.args.method; next = word.next } in
+    let look = subst (λ (z : Cell). IsLook n v u c.args.m (record { cell = z; next = word.next })) c.in-Pending.is c.look_cell-word.ensures.looked in
+    let only = subst (λ (z : View). IsOnlyLooks v z) (sym look.looked) (look_only v c.args.m (record { cell = Pending; next = word.next })) in
+    let same = ap (map methods_of) (c.lines_of-lines.ensures ∙ ap (λ (z : Parts). chord_lines z o.class) c.requires.code) in
+    let t = subst (λ (z : Verdict). IsThrough n u w o own (map methods_of c.lines_of-lines.result.now) c.through.new.known c.through.new.members c.through.new.nexts z) (c.in-Without-Some.is ∙ ap a_verdict.Without c.in-Without-Some.field-0-is) (c.through.ensures.through u (stands_first n u o own (stands_read n v u o own look c.requires.bounds.0 c.requires.duty))) in
+    rw c.in-Without-Some.field-0-is (is_busy n (program_of c.args.space.now) o own u w c.through.new.known (map methods_of c.lines_of-lines.result.now) same c.through.new.members c.through.new.nexts v only look.looked c.in-Without-Some.i t)
+
+pub returns-clause-finding : goal.returns-clause-finding
+returns-clause-finding g c =
+    let o = c.args.object in let n = c.args.space.now.events in let v = view c.args.desk.now in let u = view c.look_cell-word.new.desk in let w = view c.through.new.desk in let word = c.look_cell-word.result in
+    let own : Own = record { message = c.args.m; method = c.args.method; next = word.next } in
+    let look = subst (λ (z : Cell). IsLook n v u c.args.m (record { cell = z; next = word.next })) c.in-Pending.is c.look_cell-word.ensures.looked in
+    let only = subst (λ (z : View). IsOnlyLooks v z) (sym look.looked) (look_only v c.args.m (record { cell = Pending; next = word.next })) in
+    let same = ap (map methods_of) (c.lines_of-lines.ensures ∙ ap (λ (z : Parts). chord_lines z o.class) c.requires.code) in
+    let t = subst (λ (z : Verdict). IsThrough n u w o own (map methods_of c.lines_of-lines.result.now) c.through.new.known c.through.new.members c.through.new.nexts z) (c.in-Without-None.is ∙ ap a_verdict.Without c.in-Without-None.field-0-is) (c.through.ensures.through u (stands_first n u o own (stands_read n v u o own look c.requires.bounds.0 c.requires.duty))) in
+    inr (w, is_left n (program_of c.args.space.now) o own u w c.through.new.known (map methods_of c.lines_of-lines.result.now) same c.through.new.members c.through.new.nexts v only look.looked t, c.rest-2.ensures.desk.1)

@@ -1,25 +1,32 @@
-use Rattle.std.proofs.Common.{◌≡◌, ◌+◌, ℕ, List, Option, Some, map, slice_get, sym, ap, ◌∙◌, subst}
+use Rattle.std.proofs.Common.{◌≡◌, ◌+◌, ℕ, List, Option, Some, length, map, slice_get, sym, ap, ◌∙◌, subst, arith}
 use Rattle.chord_code.specs.Meaning.{methods_of}
 use Rattle.chord_space.specs.Desks.{view}
 use Rattle.chord_space.specs.declared.space.Desk.{Desk}
 use Rattle.chord_rule.specs.declared.view.View.{View}
 use Rattle.chord_bag.specs.declared.walk.Sought.{Sought}
-use Rattle.chord_match.specs.declared.search.Outcome.{Outcome}
-use Rattle.chord_match.specs.Searching.{Searching, IsOutcome, AreStuck}
+use Rattle.chord_match.specs.declared.search.Step.{Step}
+use Rattle.chord_match.specs.Searching.{Searching, Gathered, AreStuck}
 use Rattle.chord_match.proofs.Chords.{chord_line_at, all_lines, are_kept, are_skipped, are_more}
+use Rattle.chord_match.proofs.Knowing.{all_gathered}
 use Rattle.chord_match.proofs.search.through.Goals.{then-has_method+in-Stuck, else-has_method}
 use Rattle.chord_match.proofs.search.through.Goals as goal
 
-pub one_chord-requires-clause-methods : goal.one_chord-requires-clause-methods
-one_chord-requires-clause-methods g c =
-    c.requires.lines.1 c.loop-at.at c.items-methods.result.now (chord_line_at c.args.lines.now c.loop-at.at c.index-lines-at.result c.index-lines-at.is c.loop-at-test.true ∙ ap (λ (z : List ℕ). Some z) (ap methods_of c.index-lines-at.is ∙ sym c.items-methods.ensures.numbers))
+pub gather-requires-clause-methods : goal.gather-requires-clause-methods
+gather-requires-clause-methods g c = (c.requires.lines.1 c.loop-at.at c.items-methods.result.now (chord_line_at c.args.lines.now c.loop-at.at c.index-lines-at.result c.index-lines-at.is c.loop-at-test.true ∙ ap (λ (z : List ℕ). Some z) (ap methods_of c.index-lines-at.is ∙ sym c.items-methods.ensures.numbers))).0
 
-pub returns-in-Whole-clause-through : goal.returns-in-Whole-clause-through
-returns-in-Whole-clause-through g c v t =
-    let s = (c.loop-at.invariant.2 v t).0 in
-    let o = subst (λ (z : Outcome). IsOutcome c.args.space.now.events v (view c.loop-at.desk) (view c.one_chord.new.desk) c.args.object c.args.own.now c.items-methods.result.now c.loop-at.known c.one_chord.new.known z) c.in-Whole.is (c.one_chord.ensures.outcome v s) in
+pub gather-requires-clause-room : goal.gather-requires-clause-room
+gather-requires-clause-room g c =
+    let few = (c.requires.lines.1 c.loop-at.at c.items-methods.result.now (chord_line_at c.args.lines.now c.loop-at.at c.index-lines-at.result c.index-lines-at.is c.loop-at-test.true ∙ ap (λ (z : List ℕ). Some z) (ap methods_of c.index-lines-at.is ∙ sym c.items-methods.ensures.numbers))).1 in
+    let members = ap length c.loop-at.invariant.3 in let nexts = ap length c.loop-at.invariant.4 in
+    (omega (arith, few, members), omega (arith, few, nexts))
+
+pub returns-in-All-clause-through : goal.returns-in-All-clause-through
+returns-in-All-clause-through g c v t =
+    let i = c.loop-at.invariant in let s = (i.2 v t).0 in
+    let o = subst (λ (z : Step). Gathered c.args.space.now.events v (view c.loop-at.desk) (view c.gather.new.desk) c.args.object c.args.own.now c.items-methods.result.now c.loop-at.known c.gather.new.known c.loop-at.members c.gather.new.members c.loop-at.nexts c.gather.new.nexts z) c.in-All.is (c.gather.ensures.gathered v s) in
     let here : slice_get (map methods_of c.args.lines.now) c.loop-at.at ≡ Some c.items-methods.result.now = chord_line_at c.args.lines.now c.loop-at.at c.index-lines-at.result c.index-lines-at.is c.loop-at-test.true ∙ ap (λ (z : List ℕ). Some z) (ap methods_of c.index-lines-at.is ∙ sym c.items-methods.ensures.numbers) in
-    record { stands = o.moves.stands; verdict = (c.items-methods.result.now, here, sym c.has_method.ensures ∙ c.if-has_method.true, o.comes.0, o.comes.1) }
+    let all = all_gathered c.args.space.now.events v (view c.loop-at.desk) (view c.gather.new.desk) c.args.object c.args.own.now c.items-methods.result.now c.loop-at.known c.gather.new.known c.loop-at.members c.gather.new.members c.loop-at.nexts c.gather.new.nexts i.3 i.4 o in
+    record { stands = o.moves.stands; verdict = (c.items-methods.result.now, here, sym c.has_method.ensures ∙ c.if-has_method.true, all.0, all.1) }
 
 pub loop-at-preserved : goal.loop-at-preserved
 loop-at-preserved g c =
@@ -27,24 +34,28 @@ loop-at-preserved g c =
     let i = c.loop-at.invariant in
     elim c.if-has_method.branch [
       | then-has_method+in-Stuck w ↦ (
-        ap (λ (d : Desk g.row.P.Denot). d.seat.table_id) w.desk-is ∙ w.one_chord.ensures.desk.0 ∙ i.0,
-        (ap (λ (d : Desk g.row.P.Denot). d.seat.table_id) w.desk-is ∙ w.one_chord.ensures.desk.0 ∙ i.1.0, ap (λ (d : Desk g.row.P.Denot). d.seat.id) w.desk-is ∙ w.one_chord.ensures.desk.1 ∙ i.1.1),
-        λ v t. let s = i.2 v t in
-            let o = subst (λ (z : Outcome). IsOutcome c.args.space.now.events v (view c.loop-at.desk) (view w.one_chord.new.desk) c.args.object c.args.own.now c.items-methods.result.now c.loop-at.known w.one_chord.new.known z) w.in-Stuck.is (w.one_chord.ensures.outcome v s.0) in
-            let more = are_more c.args.own.now (map methods_of c.args.lines.now) c.loop-at.at c.items-methods.result.now w.one_chord.new.known c.loop-at.busy w.in-Stuck.more here (sym c.has_method.ensures ∙ w.if-has_method.true) o.comes
-            (are_kept c.args.own.now (map methods_of c.args.lines.now) c.loop-at.at c.loop-at.known w.one_chord.new.known c.loop-at.busy o.moves.kept s.1) in (
+        ap (λ (d : Desk g.row.P.Denot). d.seat.table_id) w.desk-is ∙ w.gather.ensures.desk.0 ∙ i.0,
+        (ap (λ (d : Desk g.row.P.Denot). d.seat.table_id) w.desk-is ∙ w.gather.ensures.desk.0 ∙ i.1.0, ap (λ (d : Desk g.row.P.Denot). d.seat.id) w.desk-is ∙ w.gather.ensures.desk.1 ∙ i.1.1),
+        (λ v t. let s = i.2 v t in
+            let o = subst (λ (z : Step). Gathered c.args.space.now.events v (view c.loop-at.desk) (view w.gather.new.desk) c.args.object c.args.own.now c.items-methods.result.now c.loop-at.known w.gather.new.known c.loop-at.members w.gather.new.members c.loop-at.nexts w.gather.new.nexts z) w.in-Stuck.is (w.gather.ensures.gathered v s.0) in
+            let more = are_more c.args.own.now (map methods_of c.args.lines.now) c.loop-at.at c.items-methods.result.now w.gather.new.known c.loop-at.busy w.in-Stuck.more here (sym c.has_method.ensures ∙ w.if-has_method.true) o.gathered
+            (are_kept c.args.own.now (map methods_of c.args.lines.now) c.loop-at.at c.loop-at.known w.gather.new.known c.loop-at.busy o.moves.kept s.1) in (
               subst (λ (z : View × List (Option Sought)). Searching c.args.space.now.events v z.0 c.args.object c.args.own.now z.1) (λ k. (view (sym w.desk-is k), sym w.known-is k)) o.moves.stands,
               subst (λ (z : List (Option Sought) × Option ℕ). AreStuck c.args.own.now (map methods_of c.args.lines.now) (c.loop-at.at + 1) z.0 z.1) (λ k. (sym w.known-is k, sym (w.busy-is ∙ w.first-busy.ensures) k)) more,
-            ),
+            )),
+        w.members-is ∙ w.new.ensures,
+        w.nexts-is ∙ w.new-in-Stuck.ensures,
       )
       | else-has_method w ↦ (
         ap (λ (d : Desk g.row.P.Denot). d.seat.table_id) w.desk-is ∙ i.0,
         (ap (λ (d : Desk g.row.P.Denot). d.seat.table_id) w.desk-is ∙ i.1.0, ap (λ (d : Desk g.row.P.Denot). d.seat.id) w.desk-is ∙ i.1.1),
-        λ v t. let s = i.2 v t in (
+        (λ v t. let s = i.2 v t in (
           subst (λ (z : View × List (Option Sought)). Searching c.args.space.now.events v z.0 c.args.object c.args.own.now z.1) (λ k. (view (sym w.desk-is k), sym w.known-is k)) s.0,
           subst (λ (z : List (Option Sought) × Option ℕ). AreStuck c.args.own.now (map methods_of c.args.lines.now) (c.loop-at.at + 1) z.0 z.1) (λ k. (sym w.known-is k, sym w.busy-is k))
               (are_skipped c.args.own.now (map methods_of c.args.lines.now) c.loop-at.at c.items-methods.result.now c.loop-at.known c.loop-at.busy here (sym c.has_method.ensures ∙ w.if-has_method.false) s.1),
-        ),
+        )),
+        w.members-is ∙ i.3,
+        w.nexts-is ∙ i.4,
       )
     ]
 
