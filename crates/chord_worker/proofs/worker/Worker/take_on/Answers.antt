@@ -39,7 +39,7 @@ pub returns-clause-role : goal.returns-clause-role
 returns-clause-role g c = role_posted _ _ _ _ _ c.requires.begun.1 c.post.new.desk c.post.ensures.desk _ c.packed-parcel.ensures.entries _ c.post.ensures.posted
 
 pub returns-then-is_none-clause-taken : goal.returns-then-is_none-clause-taken
-returns-then-is_none-clause-taken g c = λ v b. inr (plays_it _ _ _ _ _ b (no_task c.args.self.now.task c.if-is_none.ensures))
+returns-then-is_none-clause-taken g c = λ v b. inr (plays_it g.G.Gate.knows _ _ _ _ _ b c.started.ensures.told (no_task c.args.self.now.task c.if-is_none.ensures))
 
 pub returns-clause-taken : goal.returns-clause-taken
 returns-clause-taken g c = λ v b. inl (refl, kept_posted _ _ _ _ _ b c.post.new.desk c.post.ensures.desk _ c.packed-parcel.ensures.entries _ c.post.ensures.posted)
