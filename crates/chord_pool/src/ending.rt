@@ -97,6 +97,7 @@ pub(crate) fn play_alone<'a, R: Wait, G: Gate>(
     requires run { IsOneRun run.now.space.now run.now.code.now run.now.limits.now }
     requires worker { IsLast run.now.space.now worker }
     ensures over { IfOk result (λ last. IsRunOver run.now.space.now last) }
+    ensures splits { IfOk result (λ last. (view last.desk).splits ≡ (view worker.desk).splits) }
 {
     let mut worker = worker;
     for _ in rt.forever() {
