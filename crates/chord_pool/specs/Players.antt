@@ -9,10 +9,12 @@ use Rattle.chord_rule.specs.Ways.{LastSeen}
 use Rattle.chord_space.specs.declared.space.Space.{Space}
 use Rattle.chord_space.specs.Desks.{view, space_code, space_limits, program_of}
 use Rattle.chord_task.specs.declared.parcel.Parcel.{Parcel}
+use Rattle.chord_task.specs.declared.task.Task.{Task}
 use Rattle.chord_word.specs.declared.cells.Cell.TheVariants.{Ready}
 use Rattle.chord_word.specs.declared.cells.Word.{Word}
 use Rattle.chord_worker.specs.declared.worker.Worker.{Worker}
 use Rattle.chord_worker.specs.Resting.{IsAtRest, IsSameRole}
+use Rattle.chord_worker.specs.Stepping.{HasGoneOn}
 use Rattle.chord_pool.specs.declared.player.Player.{Player}
 
 -- the code and the limits are those of the space, and its runs are those of a sound program
@@ -40,15 +42,24 @@ pub record HasStopped (s : Space Parcel) (w : Worker) : Type 0 where
 abbrev pub AreUnready : ℕ → ℕ → List Look → Type 0
 AreUnready from to looks = (i : ℕ) → from ≤ i → i < to → (x : Word) × LastSeen i x looks × (x.cell ≢ Ready)
 
--- the desk looked at the counter, and last saw no firing ready below it
-pub record FoundNone (s : Space Parcel) (v : View) : Type 0 where
+-- the desk looked at the counter, and last saw no firing ready below it, from this number on
+pub record FoundNone (s : Space Parcel) (from : ℕ) (v : View) : Type 0 where
   pub count : ℕ
   pub counted : v.looked.count ≡ Some count
-  pub unready : AreUnready 0 (min count s.events) v.looked.seen
+  pub unready : AreUnready from (min count s.events) v.looked.seen
 
 -- a worker goes home where it was told that the limit is reached, or found no firing to start
 abbrev pub MayGoHome : Space Parcel → Worker → Type 0
-MayGoHome s w = ((view w.desk).spent ≡ true) ⊎ FoundNone s (view w.desk)
+MayGoHome s w = ((view w.desk).spent ≡ true) ⊎ FoundNone s 0 (view w.desk)
+
+-- a worker that had no task has one now, or found no firing to start from this number or a lower one on
+abbrev pub HasLookedFrom : Space Parcel → ℕ → Worker → Type 0
+HasLookedFrom s place w = (w.task ≢ None) ⊎ ((from : ℕ) × (from ≤ place) × FoundNone s from (view w.desk))
+
+-- a worker went on with its task, or looked for one from this number on
+pub record HadARound (s : Space Parcel) (place : ℕ) (v w : Worker) : Type 0 where
+  pub went : (t : Task) → v.task ≡ Some t → HasGoneOn (view v.desk).kept t w
+  pub looked : v.task ≡ None → HasLookedFrom s place w
 
 -- between these views the cell i was seen, last in another state than ready, and no other cell and no counter
 pub record SawUnready (v w : View) (i : ℕ) : Type 0 where

@@ -1,8 +1,10 @@
 //! A worker at its thread: it plays what it has, and looks for more.
 ghost use Rattle.std.specs.Prelude.{◌≡◌, ◌≢◌, ℕ, ◌<◌, ◌≤◌, true, false, None, Some, is_some, OnOk, IfSome, IfNone};
 ghost use Rattle.chord_space.specs.Desks.{view};
+ghost use Rattle.chord_task.specs.declared.task.Task.{Task as TheTask};
 ghost use Rattle.chord_worker.specs.Resting.{IsAtRest, IsSameRole};
-ghost use Rattle.chord_pool.specs.Players.{IsOneRun, IsFit, IsSettled, HasStopped, AreUnready, FoundNone, SawUnready, MayPlay, HasPlayed, PlaysOn};
+ghost use Rattle.chord_worker.specs.Stepping.{HasGoneOn};
+ghost use Rattle.chord_pool.specs.Players.{IsOneRun, IsFit, IsSettled, HasStopped, AreUnready, FoundNone, SawUnready, HasLookedFrom, HadARound, MayPlay, HasPlayed, PlaysOn};
 
 use crate::pause::Pause;
 use crate::run::Run;
@@ -85,7 +87,7 @@ fn find_work<'a, G: Gate>(run: &Run<'a>, worker: &mut Worker, place: u32, gate: 
     requires idle { worker.old.task ≡ None }
     ensures worker { IsFit run.now.space.now worker.new }
     ensures role { IsSameRole (view worker.old.desk) (view worker.new.desk) }
-    ensures none { place ≡ 0 → worker.new.task ≡ None → FoundNone run.now.space.now (view worker.new.desk) }
+    ensures none { worker.new.task ≡ None → FoundNone run.now.space.now place (view worker.new.desk) }
 {
     let count = worker.count(run.space);
     match sweep(run, worker, place, count, gate) {
@@ -111,6 +113,7 @@ impl Player {
         ensures on { PlaysOn self.old self.new }
         ensures sane { result ≡ true → self.new.failed ≡ false }
         ensures failed { result ≡ false → self.new.failed ≡ true }
+        ensures went { result ≡ true → (t : TheTask) → self.old.worker.task ≡ Some t → HasGoneOn (view self.old.worker.desk).kept t self.new.worker }
     {
         match self
             .worker
@@ -140,6 +143,7 @@ impl Player {
         ensures on { PlaysOn self.old self.new }
         ensures sane { result ≡ true → self.new.failed ≡ false }
         ensures stops { result ≡ false → HasPlayed run.now.space.now self.new }
+        ensures looked { result ≡ true → HasLookedFrom run.now.space.now self.old.place self.new.worker }
     {
         // Read before the look: what is posted later is posted by a worker that is at work now, or by one of those whose work
         // this look finds.
@@ -182,6 +186,7 @@ impl Player {
         ensures on { PlaysOn self.old self.new }
         ensures sane { result ≡ true → self.new.failed ≡ false }
         ensures stops { result ≡ false → HasPlayed run.now.space.now self.new }
+        ensures went { result ≡ true → HadARound run.now.space.now self.old.place self.old.worker self.new.worker }
     {
         if self.worker.is_spent() {
             return false;
