@@ -73,7 +73,7 @@ module _ (knows : ℕ → Type 0) (s : Space Parcel) (w : Worker) (v : View) (f 
 
 -- a firing that was posted or is played is one of a message before it
 pub taken_minded : (knows : ℕ → Type 0) (es : List Entry) (x : Option Task) (w : Worker) (f m : ℕ) → m < f → HasTakenOn knows es x w f → WasMinded knows es x w m
-taken_minded knows es x w f m low (inl same) = inl same
+taken_minded knows es x w f m low (inl same) = inl same.1
 taken_minded knows es x w f m low (inr plays) = inr (inl (f, low, plays))
 
 -- what is minded later is minded

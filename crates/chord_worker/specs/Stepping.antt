@@ -1,5 +1,5 @@
 -- What a step leaves behind: an entry that the desk keeps, a task that is away with its call, or the word that the limit is reached.
-use Rattle.std.specs.Prelude.{◌≡◌, ◌⊎◌, ◌<◌, ℕ, true, List, ◌∷◌, Option, Some, None}
+use Rattle.std.specs.Prelude.{◌≡◌, ◌≢◌, ◌⊎◌, ◌<◌, ℕ, true, List, ◌∷◌, Option, Some, None}
 use Rattle.chord_base.specs.declared.event.Entry.{Entry}
 use Rattle.chord_base.specs.Story.{AllBelow, IsIn}
 use Rattle.chord_space.specs.Desks.{view}
@@ -45,9 +45,9 @@ pub record PlaysFiring (knows : ℕ → Type 0) (before : List Entry) (x : Optio
   pub there : IsIn fired (view w.desk).kept
   pub stay : (e : Entry) → IsIn e before → IsIn e (view w.desk).kept
 
--- the firing f was posted, or is played
+-- the firing f was posted by a worker that has a task, or is played
 abbrev pub HasTakenOn : (ℕ → Type 0) → List Entry → Option Task → Worker → ℕ → Type 0
-HasTakenOn knows before x w f = StillPlays before x w ⊎ PlaysFiring knows before x w f
+HasTakenOn knows before x w f = ((x ≢ None) × StillPlays before x w) ⊎ PlaysFiring knows before x w f
 
 -- the message m was minded: nothing else is played than before, or a firing that was drawn after m is, or the desk was told that the limit is reached
 abbrev pub WasMinded : (ℕ → Type 0) → List Entry → Option Task → Worker → ℕ → Type 0
