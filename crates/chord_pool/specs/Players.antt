@@ -48,9 +48,9 @@ pub record FoundNone (s : Space Parcel) (from : ℕ) (v : View) : Type 0 where
   pub counted : v.looked.count ≡ Some count
   pub unready : AreUnready from (min count s.events) v.looked.seen
 
--- a worker goes home where it was told that the limit is reached, or found no firing to start
-abbrev pub MayGoHome : Space Parcel → Worker → Type 0
-MayGoHome s w = ((view w.desk).spent ≡ true) ⊎ FoundNone s 0 (view w.desk)
+-- a worker may stop where it was told that the limit is reached, or found no firing to start
+abbrev pub MayStop : Space Parcel → Worker → Type 0
+MayStop s w = ((view w.desk).spent ≡ true) ⊎ FoundNone s 0 (view w.desk)
 
 -- a worker that had no task has one now, or found no firing to start from this number or a lower one on
 abbrev pub HasLookedFrom : Space Parcel → ℕ → Worker → Type 0
@@ -73,9 +73,9 @@ pub record SawUnready (v w : View) (i : ℕ) : Type 0 where
 abbrev pub MayPlay : Space Parcel → Player → Type 0
 MayPlay s x = x.failed ≡ false → IsSettled s x.worker
 
--- a player that has not failed has nothing to play, and may go home
+-- a player that has not failed has nothing to play, and may stop
 abbrev pub HasPlayed : Space Parcel → Player → Type 0
-HasPlayed s x = x.failed ≡ false → HasStopped s x.worker × MayGoHome s x.worker
+HasPlayed s x = x.failed ≡ false → HasStopped s x.worker × MayStop s x.worker
 
 -- it plays at the same desk, unless it fails
 abbrev pub PlaysOn : Player → Player → Type 0
