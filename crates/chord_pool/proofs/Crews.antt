@@ -60,7 +60,7 @@ crew_begins s v main new rest role drawn over = (
 pub come_back : (s : Space Parcel) (main back : Player) (others backs : List Player) → IsCrew s main.worker others → HasPlayed s back → PlaysOn main back → HaveAllPlayed s backs → length backs ≡ length others → back.failed ≡ false → IsBack s back.worker backs
 come_back s main back others backs crew played on all count sane =
     let role = on sane in record {
-      stopped = played sane;
+      stopped = (played sane).0;
       first = role.first ∙ crew.first;
       drawn = role.drawn crew.drawn;
       lent = role.lent ∙ crew.lent ∙ sym count;

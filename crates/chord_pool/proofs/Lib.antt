@@ -3,5 +3,6 @@ pub mod Homes
 pub mod Journals
 pub mod Ended
 pub mod Handing
+pub mod Looking
 pub mod Crews
 pub mod Endings

@@ -1,5 +1,5 @@
 -- When the first worker may close the table.
-use Rattle.std.specs.Prelude.{◌≡◌, ◌<◌, ◌⊎◌, ℕ, true, false, List, Some, None, min}
+use Rattle.std.specs.Prelude.{◌≡◌, ◌≢◌, ◌<◌, ◌⊎◌, ℕ, true, false, List, [], ◌∷◌, Some, None, min}
 use Rattle.chord_rule.specs.declared.view.Look.{Look}
 use Rattle.chord_rule.specs.declared.view.View.{View}
 use Rattle.chord_rule.specs.Closing.{IsAsleep, MayClose}
@@ -7,13 +7,29 @@ use Rattle.chord_rule.specs.Ways.{LastSeen}
 use Rattle.chord_space.specs.declared.space.Space.{Space}
 use Rattle.chord_space.specs.Desks.{view, events}
 use Rattle.chord_task.specs.declared.parcel.Parcel.{Parcel}
+use Rattle.chord_task.specs.declared.task.Task.{Task}
 use Rattle.chord_word.specs.declared.cells.Word.{Word}
 use Rattle.chord_worker.specs.declared.worker.Worker.{Worker}
 use Rattle.chord_worker.specs.Resting.{IsAtRest}
+use Rattle.chord_worker.specs.Stepping.{HasGoneOn}
 
 -- each cell below the count was looked at, and was last neither woken nor ready
 abbrev pub AreAwake : ℕ → List Look → Type 0
 AreAwake count looks = (i : ℕ) → i < count → (x : Word) × LastSeen i x looks × (IsAsleep x.cell → ⊥)
+
+-- one of these looks saw a cell asleep
+abbrev pub SawAsleep : List Look → Type 0
+SawAsleep [] = ⊥
+SawAsleep (l ∷ ls) = IsAsleep l.word.cell ⊎ SawAsleep ls
+
+-- the worker has a task, or saw a cell that somebody has to look after
+abbrev pub IsStirred : Worker → Type 0
+IsStirred w = (w.task ≢ None) ⊎ SawAsleep (view w.desk).looked.seen
+
+-- the first worker, alone, went on with its task, or looked at the cells and has cause to go on
+pub record HadATurn (v w : Worker) : Type 0 where
+  pub went : (t : Task) → v.task ≡ Some t → HasGoneOn (view v.desk).kept t w
+  pub stirred : v.task ≡ None → IsStirred w
 
 -- the worker looked at the counter, which had reached the limit
 abbrev pub SawLimit : ℕ → View → Type 0

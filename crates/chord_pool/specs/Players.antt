@@ -1,13 +1,20 @@
 -- Workers of one run: which of them may draw, which have nothing to play, and how they are handed to threads and come back.
-use Rattle.std.specs.Prelude.{◌≡◌, false, true, List, [], ◌∷◌, length, None}
+use Rattle.std.specs.Prelude.{◌≡◌, ◌≢◌, ◌⊎◌, ◌<◌, ◌≤◌, ℕ, false, true, List, [], ◌∷◌, length, min, Some, None}
 use Rattle.chord_base.specs.declared.event.Limits.{Limits}
 use Rattle.chord_base.specs.Story.{IsSound}
 use Rattle.chord_code.specs.declared.parts.Parts.{Parts}
+use Rattle.chord_rule.specs.declared.view.Look.{Look}
+use Rattle.chord_rule.specs.declared.view.View.{View}
+use Rattle.chord_rule.specs.Ways.{LastSeen}
 use Rattle.chord_space.specs.declared.space.Space.{Space}
 use Rattle.chord_space.specs.Desks.{view, space_code, space_limits, program_of}
 use Rattle.chord_task.specs.declared.parcel.Parcel.{Parcel}
+use Rattle.chord_task.specs.declared.task.Task.{Task}
+use Rattle.chord_word.specs.declared.cells.Cell.TheVariants.{Ready}
+use Rattle.chord_word.specs.declared.cells.Word.{Word}
 use Rattle.chord_worker.specs.declared.worker.Worker.{Worker}
 use Rattle.chord_worker.specs.Resting.{IsAtRest, IsSameRole}
+use Rattle.chord_worker.specs.Stepping.{HasGoneOn}
 use Rattle.chord_pool.specs.declared.player.Player.{Player}
 
 -- the code and the limits are those of the space, and its runs are those of a sound program
@@ -31,13 +38,44 @@ pub record HasStopped (s : Space Parcel) (w : Worker) : Type 0 where
   pub rest : IsAtRest s w
   pub task : w.task ≡ None
 
+-- each cell from `from` up to below `to` was last seen in another state than ready
+abbrev pub AreUnready : ℕ → ℕ → List Look → Type 0
+AreUnready from to looks = (i : ℕ) → from ≤ i → i < to → (x : Word) × LastSeen i x looks × (x.cell ≢ Ready)
+
+-- the desk looked at the counter, and last saw no firing ready below it, from this number on
+pub record FoundNone (s : Space Parcel) (from : ℕ) (v : View) : Type 0 where
+  pub count : ℕ
+  pub counted : v.looked.count ≡ Some count
+  pub unready : AreUnready from (min count s.events) v.looked.seen
+
+-- a worker may stop where it was told that the limit is reached, or found no firing to start
+abbrev pub MayStop : Space Parcel → Worker → Type 0
+MayStop s w = ((view w.desk).spent ≡ true) ⊎ FoundNone s 0 (view w.desk)
+
+-- a worker that had no task has one now, or found no firing to start from this number or a lower one on
+abbrev pub HasLookedFrom : Space Parcel → ℕ → Worker → Type 0
+HasLookedFrom s place w = (w.task ≢ None) ⊎ ((from : ℕ) × (from ≤ place) × FoundNone s from (view w.desk))
+
+-- a worker went on with its task, or looked for one from this number on
+pub record HadARound (s : Space Parcel) (place : ℕ) (v w : Worker) : Type 0 where
+  pub went : (t : Task) → v.task ≡ Some t → HasGoneOn (view v.desk).kept t w
+  pub looked : v.task ≡ None → HasLookedFrom s place w
+
+-- between these views the cell i was seen, last in another state than ready, and no other cell and no counter
+pub record SawUnready (v w : View) (i : ℕ) : Type 0 where
+  pub word : Word
+  pub last : LastSeen i word w.looked.seen
+  pub unready : word.cell ≢ Ready
+  pub count : w.looked.count ≡ v.looked.count
+  pub others : (k : ℕ) (x : Word) → k ≢ i → LastSeen k x v.looked.seen → LastSeen k x w.looked.seen
+
 -- a player that has not failed may go on
 abbrev pub MayPlay : Space Parcel → Player → Type 0
 MayPlay s x = x.failed ≡ false → IsSettled s x.worker
 
--- a player that has not failed has nothing to play
+-- a player that has not failed has nothing to play, and may stop
 abbrev pub HasPlayed : Space Parcel → Player → Type 0
-HasPlayed s x = x.failed ≡ false → HasStopped s x.worker
+HasPlayed s x = x.failed ≡ false → HasStopped s x.worker × MayStop s x.worker
 
 -- it plays at the same desk, unless it fails
 abbrev pub PlaysOn : Player → Player → Type 0

@@ -40,6 +40,7 @@ pub(crate) fn hire(
     requires crew { IsCrew space.now main.old [] × ((view main.old.desk).splits ≡ 0) }
     requires few { (1 ≤ workers) × (workers ≤ 64) }
     ensures crew { IfOk result (λ others. IsCrew space.now main.new others.items) }
+    ensures count { IfOk result (λ others. ((view main.new.desk).splits ≡ length others.items) × (length others.items + 1 ≡ workers)) }
 {
     let mut others = Vec::new(alloc);
     for _ in 1..workers {
@@ -52,6 +53,7 @@ pub(crate) fn hire(
 fn take_one(space: &Space<Parcel>, main: &mut Worker, player: Player) -> Result<(), AllocError>
     requires back { (rest : List ThePlayer) × IsBack space.now main.old (player ∷ rest) }
     ensures back { IfOk result (λ _. (rest : List ThePlayer) → IsBack space.now main.old (player ∷ rest) → IsBack space.now main.new rest) }
+    ensures splits { (view main.new.desk).splits ≡ (view main.old.desk).splits }
 {
     if player.failed {
         return Err(AllocError);
@@ -72,6 +74,7 @@ pub(crate) fn take_all(
 ) -> Result<(), AllocError>
     requires back { IsBack space.now main.old others.items }
     ensures back { IfOk result (λ _. IsBack space.now main.new []) }
+    ensures splits { IfOk result (λ _. (view main.new.desk).splits ≡ (view main.old.desk).splits) }
 {
     for player in others {
         take_one(space, main, player)?;

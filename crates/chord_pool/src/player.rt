@@ -1,8 +1,10 @@
 //! A worker at its thread: it plays what it has, and looks for more.
-ghost use Rattle.std.specs.Prelude.{◌≡◌, ◌≢◌, ℕ, ◌<◌, ◌≤◌, true, false, None, Some, is_some, OnOk, IfSome};
+ghost use Rattle.std.specs.Prelude.{◌≡◌, ◌≢◌, ℕ, ◌<◌, ◌≤◌, true, false, None, Some, is_some, OnOk, IfSome, IfNone};
 ghost use Rattle.chord_space.specs.Desks.{view};
+ghost use Rattle.chord_task.specs.declared.task.Task.{Task as TheTask};
 ghost use Rattle.chord_worker.specs.Resting.{IsAtRest, IsSameRole};
-ghost use Rattle.chord_pool.specs.Players.{IsOneRun, IsFit, IsSettled, HasStopped, MayPlay, HasPlayed, PlaysOn};
+ghost use Rattle.chord_worker.specs.Stepping.{HasGoneOn};
+ghost use Rattle.chord_pool.specs.Players.{IsOneRun, IsFit, IsSettled, HasStopped, AreUnready, FoundNone, SawUnready, HasLookedFrom, HadARound, MayPlay, HasPlayed, PlaysOn};
 
 use crate::pause::Pause;
 use crate::run::Run;
@@ -37,6 +39,7 @@ fn try_start<'a, G: Gate>(run: &Run<'a>, worker: &mut Worker, i: u32, gate: &G) 
     ensures worker { IsFit run.now.space.now worker.new }
     ensures role { IsSameRole (view worker.old.desk) (view worker.new.desk) }
     ensures task { result ≡ is_some worker.new.task }
+    ensures seen { result ≡ false → SawUnready (view worker.old.desk) (view worker.new.desk) i }
 {
     match worker.look(run.space, i) {
         Cell::Ready => {
@@ -66,6 +69,8 @@ fn sweep<'a, G: Gate>(
     ensures worker { IsFit run.now.space.now worker.new }
     ensures role { IsSameRole (view worker.old.desk) (view worker.new.desk) }
     ensures task { is_some result ≡ is_some worker.new.task }
+    ensures count { IfNone result ((view worker.new.desk).looked.count ≡ (view worker.old.desk).looked.count) }
+    ensures seen { IfNone result (AreUnready from below (view worker.new.desk).looked.seen) }
 {
     for i in from..below {
         if try_start(run, worker, i, gate) {
@@ -82,6 +87,7 @@ fn find_work<'a, G: Gate>(run: &Run<'a>, worker: &mut Worker, place: u32, gate: 
     requires idle { worker.old.task ≡ None }
     ensures worker { IsFit run.now.space.now worker.new }
     ensures role { IsSameRole (view worker.old.desk) (view worker.new.desk) }
+    ensures none { worker.new.task ≡ None → FoundNone run.now.space.now place (view worker.new.desk) }
 {
     let count = worker.count(run.space);
     match sweep(run, worker, place, count, gate) {
@@ -107,6 +113,7 @@ impl Player {
         ensures on { PlaysOn self.old self.new }
         ensures sane { result ≡ true → self.new.failed ≡ false }
         ensures failed { result ≡ false → self.new.failed ≡ true }
+        ensures went { result ≡ true → (t : TheTask) → self.old.worker.task ≡ Some t → HasGoneOn (view self.old.worker.desk).kept t self.new.worker }
     {
         match self
             .worker
@@ -136,6 +143,7 @@ impl Player {
         ensures on { PlaysOn self.old self.new }
         ensures sane { result ≡ true → self.new.failed ≡ false }
         ensures stops { result ≡ false → HasPlayed run.now.space.now self.new }
+        ensures looked { result ≡ true → HasLookedFrom run.now.space.now self.old.place self.new.worker }
     {
         // Read before the look: what is posted later is posted by a worker that is at work now, or by one of those whose work
         // this look finds.
@@ -148,14 +156,14 @@ impl Player {
         // Where nobody is at work, what the near look did not find is looked for among all numbers, before the worker goes.
         if working == 0 && !self.worker.has_task() {
             self.place = find_work(run, &mut self.worker, 0, gate);
+            if !self.worker.has_task() {
+                return false;
+            }
         }
         if self.worker.has_task() {
             self.misses = 0;
             pause.reset();
             return true;
-        }
-        if working == 0 {
-            return false;
         }
         self.misses = self.misses.saturating_add(1);
         pause.rest(rt, run.shared, working);
@@ -178,6 +186,7 @@ impl Player {
         ensures on { PlaysOn self.old self.new }
         ensures sane { result ≡ true → self.new.failed ≡ false }
         ensures stops { result ≡ false → HasPlayed run.now.space.now self.new }
+        ensures went { result ≡ true → HadARound run.now.space.now self.old.place self.old.worker self.new.worker }
     {
         if self.worker.is_spent() {
             return false;
@@ -193,7 +202,8 @@ impl Player {
     }
 }
 
-/// A worker plays until no work is left, or the run is full, or one of the workers met want of memory.
+/// A worker plays until the run is full, or one of the workers met want of memory, or it finds no firing to start among all numbers
+/// and nobody is at work. Of the last no clause says that nobody is.
 pub(crate) fn work<'a, R: Wait, G: Gate>(
     rt: &R,
     alloc: Global,

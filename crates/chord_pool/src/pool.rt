@@ -1,5 +1,5 @@
 //! Many threads play one run.
-ghost use Rattle.std.specs.Prelude.{◌≡◌, ◌⊎◌, ℕ, ◌<◌, ◌≤◌, false, [], IfOk, length};
+ghost use Rattle.std.specs.Prelude.{◌≡◌, ◌⊎◌, ℕ, ◌+◌, ◌<◌, ◌≤◌, false, [], IfOk, length};
 ghost use Rattle.chord_base.specs.declared.event.Entry.{Entry};
 ghost use Rattle.chord_base.specs.Machine.{IsRun, IsComplete};
 ghost use Rattle.chord_base.specs.Story.{IsIn};
@@ -36,6 +36,8 @@ use std::thread::Threads;
 fn taken_in(space: &Space<Parcel>, main: Player, others: Vec<Player>) -> Result<Worker, AllocError>
     requires back { main.failed ≡ false → IsBack space.now main.worker others.items }
     ensures last { IfOk result (λ last. IsLast space.now last) }
+    ensures sane { IfOk result (λ _. main.failed ≡ false) }
+    ensures splits { IfOk result (λ last. (view last.desk).splits ≡ (view main.worker.desk).splits) }
 {
     if main.failed {
         return Err(AllocError);
@@ -58,6 +60,8 @@ fn play_together<'a, R: Threads + Wait + Sync, G: Gate + Sync>(
     requires main { IsCrew run.now.space.now main [] × ((view main.desk).splits ≡ 0) }
     requires workers { (1 ≤ workers) × (workers ≤ 64) }
     ensures last { IfOk result (λ last. IsLast run.now.space.now last) }
+    ensures crew { IfOk result (λ last. (view last.desk).splits + 1 ≡ workers) }
+    ensures told { IfOk result (λ _. G.knows 0) }
 {
     let mut main = main;
     let others = hire(alloc, run.space, &mut main, workers)?;
@@ -85,6 +89,8 @@ fn play_all<'a, R: Threads + Wait + Sync, G: Gate + Sync>(
     requires desk { IsDeskOf run.now.space.now desk × (view desk ≡ newcomer_first) }
     requires workers { (1 ≤ workers) × (workers ≤ 64) }
     ensures over { IfOk result (λ last. IsRunOver run.now.space.now last) }
+    ensures crew { IfOk result (λ last. (view last.desk).splits + 1 ≡ workers) }
+    ensures told { IfOk result (λ _. G.knows 0) }
 {
     let main = Worker::main(alloc, run.space, run.code, run.limits, desk)?;
     let last = play_together(rt, alloc, run, main, workers, gate)?;
@@ -96,8 +102,9 @@ fn play_all<'a, R: Threads + Wait + Sync, G: Gate + Sync>(
 /// `limits.events` entries, and the closed table of that run.
 ///
 /// `limits.events` is 1 to 65,536, `limits.depth` 1 to 256, `workers` 1 to 64. A journal of fewer entries is complete. The table
-/// drew as many entries as the journal has, and each entry that the desk that closed it kept stands in the journal.
-/// `gate.started` is called once for each body, on the worker that begins to play it. It is not promised that the call returns.
+/// drew as many entries as the journal has, and each entry that the desk that closed it kept stands in the journal. That desk is
+/// the first one, and each other worker had a desk that was split from it. `gate.started` is called once for each body, on the
+/// worker that begins to play it; the clauses say so of `Main`. It is not promised that the call returns.
 ///
 /// # Errors
 ///
@@ -119,6 +126,8 @@ pub fn play<R: Threads + Wait + Sync, G: Gate + Sync>(
     ensures few { IfOk result (λ r. length r.0 ≤ limits.now.events) }
     ensures short { IfOk result (λ r. length r.0 < limits.now.events → IsComplete (code_program code.now limits.now) r.0) }
     ensures closed { IfOk result (λ r. (r.1.drawn ≡ length r.0) × ((e : Entry) → IsIn e (closing_view r.1).kept → IsIn e r.0)) }
+    ensures crew { IfOk result (λ r. (closing_view r.1).splits + 1 ≡ workers) }
+    ensures told { IfOk result (λ _. G.knows 0) }
 {
     let (space, desk) = Space::make(alloc, code, limits)?;
     let shared = Shared::new();

@@ -108,6 +108,7 @@ pub(crate) fn share<'a, R: Threads + Wait + Sync, G: Gate + Sync>(
     requires main { MayPlay run.now.space.now main }
     requires others { MayAllPlay run.now.space.now others.items }
     ensures main { HasPlayed run.now.space.now result.0 × PlaysOn main result.0 }
+    ensures told { G.knows 0 }
     ensures others { HaveAllPlayed run.now.space.now result.1.items × (length result.1.items ≡ length others.items) }
 {
     let (space, code, limits, shared) = (run.space, run.code, run.limits, run.shared);
@@ -115,7 +116,7 @@ pub(crate) fn share<'a, R: Threads + Wait + Sync, G: Gate + Sync>(
         rt,
         move || -> Player
             requires { IsOneRun space.now code.now limits.now × MayPlay space.now main }
-            ensures { HasPlayed space.entry.now result × PlaysOn main result }
+            ensures { HasPlayed space.entry.now result × PlaysOn main result × G.knows 0 }
         {
             gate.started(0);
             work(

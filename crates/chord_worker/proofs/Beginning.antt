@@ -1,5 +1,5 @@
 -- A firing's body begins in the task of the caller that it serves or in one in stock; then it is played, or posted.
-use Rattle.std.proofs.Common.{◌≡◌, ◌⊎◌, inl, inr, ⊎_elim, ℕ, ◌+◌, ◌-◌, ◌≤◌, length, Bool, true, false, ◌==◌, List, [], ◌∷◌, ◌++◌, map, Option, Some, None, refl, sym, ap, ◌∙◌, subst, arith}
+use Rattle.std.proofs.Common.{◌≡◌, ◌≢◌, ◌⊎◌, inl, inr, ⊎_elim, ℕ, ◌+◌, ◌-◌, ◌≤◌, length, Bool, true, false, ◌==◌, List, [], ◌∷◌, ◌++◌, map, Option, Some, None, refl, sym, ap, ◌∙◌, subst, arith}
 use Rattle.std.specs.Prelude.{IsPermutation, is_some}
 use Rattle.std.proofs.lemmas.Bool.{eq-eqb}
 use mathlib.Core.Path.{Path}
@@ -270,6 +270,10 @@ module _ (s : Space Parcel) (w : Worker) (v : View) (o : Object) (k : ℕ) (ms :
 pub no_task : (x : Option Task) → is_some x ≡ false → x ≡ None
 no_task None e = refl
 no_task (Some t) e = let z : true ≡ false = e in cc
+
+-- there is one where there is some
+pub a_task : (x : Option Task) → is_some x ≡ true → x ≢ None
+a_task x e q = let z : false ≡ true = sym (ap is_some q) ∙ e in absurd (cc)
 
 module _ (s : Space Parcel) (w : Worker) (v : View) (f : ℕ) (t : Task) (b : HasBegun s w v f t) where
   -- the firing may be posted with the task

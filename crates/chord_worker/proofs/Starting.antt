@@ -31,6 +31,7 @@ use Rattle.chord_space.specs.Desks.{view, space_code, space_limits, program_of, 
 use Rattle.chord_word.specs.declared.cells.Word.{Word}
 use Rattle.chord_worker.specs.declared.worker.Worker.{Worker}
 use Rattle.chord_rule.specs.Parcels.{BeginsThere}
+use Rattle.chord_rule.proofs.Lists.{together_left, together_right}
 use Rattle.chord_task.specs.declared.body.Body.{Body}
 use Rattle.chord_task.specs.declared.body.Next.{Next}
 use Rattle.chord_task.specs.declared.body.Next.TheVariants as nexts
@@ -40,6 +41,7 @@ use Rattle.chord_task.specs.Parcels.{past_in, TaskIn, entries_of, IsParcelOf}
 use Rattle.chord_task.specs.Standing.{view_of, body_number, may_go, body_may_go, is_ready_of, IsTop, IsBodyStack, IsTaskOf, MainBegins}
 use Rattle.chord_worker.specs.Parted.{IsParted, with_part, two}
 use Rattle.chord_worker.specs.Resting.{IsInMemory, MayContinue, IsHandFree, IsAtRest, IsSameRole}
+use Rattle.chord_worker.specs.Stepping.{PlaysFiring}
 use Rattle.chord_worker.proofs.Parts.{kept_agree, kept_nothing, all_kept, none_kept, left_is, part_goes, part_came, parts_told}
 
 -- ## Bodies that may go on
@@ -271,6 +273,18 @@ module _ (s : Space Parcel) (w : Worker) (r : IsAtRest s w) (none : w.task ≡ N
     splits = ap (λ (z : View). z.splits) view_is;
     drawn = λ e. ap (λ (z : View). z.drawn) view_is ∙ e;
   }
+
+  -- and plays it, once the gate knows
+  pub plays_started : (knows : ℕ → Type 0) → knows f → PlaysFiring knows (view w.desk).kept w.task (record w { desk = d; task = q.task }) f
+  plays_started knows known =
+      let now : (view d).kept ≡ together (view w.desk).kept (entries_of q) = ap (λ (z : View). z.kept) view_is in record {
+        idle = none;
+        known = known;
+        fired = comes.begins.0;
+        numbered = comes.begins.2;
+        there = subst (IsIn comes.begins.0) (sym now) (together_right comes.begins.0 (view w.desk).kept (entries_of q) comes.begins.1);
+        stay = λ e i. subst (IsIn e) (sym now) (together_left e (view w.desk).kept (entries_of q) i);
+      }
 
 -- `Main` begins in a sound program
 pub main_starts : (code : Parts) (limits : Limits) → IsSound (code_program code limits) → MainBegins code limits

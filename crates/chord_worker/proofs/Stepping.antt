@@ -25,7 +25,7 @@ use Rattle.chord_worker.specs.declared.worker.Worker.{Worker}
 use Rattle.chord_worker.specs.Beginning.{HasBegun}
 use Rattle.chord_worker.specs.Playing.{IsNotedAs}
 use Rattle.chord_worker.specs.Sending.{IsSentOff}
-use Rattle.chord_worker.specs.Stepping.{HasNewer, AreAway, HasGoneOn, StillPlays, PlaysFiring, HasTakenOn, WasMinded}
+use Rattle.chord_worker.specs.Stepping.{HasNewer, AreAway, HasGoneOn, PlaysNoOther, PlaysNext, StillPlays, PlaysFiring, HasTakenOn, WasMinded}
 use Rattle.chord_worker.proofs.Parts.{all_kept, among_kept}
 use Rattle.chord_worker.proofs.Uniting.{among_self}
 
@@ -57,11 +57,12 @@ message_older p f k o ms vs m came own =
     let low = pending_within p came.0 m x.0 came.1.0 x.1 in
     let number = came.1.1.numbered in omega (arith, low, number)
 
-module _ (s : Space Parcel) (w : Worker) (v : View) (f : ℕ) (t : Task) (b : HasBegun s w v f t) where
-  -- a worker without a task plays it
-  pub plays_it : w.task ≡ None → PlaysFiring v.kept w.task (record w { task = Some t }) f
-  plays_it none = record {
+module _ (knows : ℕ → Type 0) (s : Space Parcel) (w : Worker) (v : View) (f : ℕ) (t : Task) (b : HasBegun s w v f t) where
+  -- a worker without a task plays it, once the gate knows
+  pub plays_it : knows f → w.task ≡ None → PlaysFiring knows v.kept w.task (record w { task = Some t }) f
+  plays_it known none = record {
     idle = none;
+    known = known;
     fired = b.begins.0;
     numbered = b.begins.2;
     there = view_in (is_among (view_of t).past) b.begins.0 (view w.desk).kept (subst (IsIn b.begins.0) (sym b.both.goes.part) b.begins.1);
@@ -71,13 +72,13 @@ module _ (s : Space Parcel) (w : Worker) (v : View) (f : ℕ) (t : Task) (b : Ha
 -- ## A message that was minded
 
 -- a firing that was posted or is played is one of a message before it
-pub taken_minded : (es : List Entry) (x : Option Task) (w : Worker) (f m : ℕ) → m < f → HasTakenOn es x w f → WasMinded es x w m
-taken_minded es x w f m low (inl same) = inl same
-taken_minded es x w f m low (inr plays) = inr (inl (f, low, plays))
+pub taken_minded : (knows : ℕ → Type 0) (es : List Entry) (x : Option Task) (w : Worker) (f m : ℕ) → m < f → HasTakenOn knows es x w f → WasMinded knows es x w m
+taken_minded knows es x w f m low (inl same) = inl same.1
+taken_minded knows es x w f m low (inr plays) = inr (inl (f, low, plays))
 
 -- what is minded later is minded
-pub minded_since : (es es' : List Entry) (x x' : Option Task) (w : Worker) (m : ℕ) → x' ≡ x → es' ≡ es → WasMinded es' x' w m → WasMinded es x w m
-minded_since es es' x x' w m e k minded = subst (λ (y : Option Task). WasMinded es y w m) e (subst (λ (h : List Entry). WasMinded h x' w m) k minded)
+pub minded_since : (knows : ℕ → Type 0) (es es' : List Entry) (x x' : Option Task) (w : Worker) (m : ℕ) → x' ≡ x → es' ≡ es → WasMinded knows es' x' w m → WasMinded knows es x w m
+minded_since knows es es' x x' w m e k minded = subst (λ (y : Option Task). WasMinded knows es y w m) e (subst (λ (h : List Entry). WasMinded knows h x' w m) k minded)
 
 -- ## A step
 
@@ -87,20 +88,45 @@ module _ (before : List Entry) (t : Task) (n : ℕ) (x : Entry) (number : x.numb
   newest_is_kept i = (x, i, subst (λ (k : ℕ). AllBelow k before) (sym number) below)
 
   -- an asynchronous message was minded, whose entry the desk kept
-  pub went_sent : (es : List Entry) (y : Option Task) → es ≡ x ∷ before → WasMinded es y w n → HasGoneOn before t w
-  went_sent es y is (inl same) = inl (newest_is_kept (subst (IsIn x) (sym (same.1 ∙ is)) (inl refl)))
-  went_sent es y is (inr (inl plays)) = inl (newest_is_kept (plays.2.stay x (subst (IsIn x) (sym is) (inl refl))))
-  went_sent es y is (inr (inr told)) = inr (inr told)
+  pub went_sent : (knows : ℕ → Type 0) (es : List Entry) (y : Option Task) → es ≡ x ∷ before → WasMinded knows es y w n → HasGoneOn before t w
+  went_sent knows es y is (inl same) = inl (newest_is_kept (subst (IsIn x) (sym (same.1 ∙ is)) (inl refl)))
+  went_sent knows es y is (inr (inl plays)) = inl (newest_is_kept (plays.2.stay x (subst (IsIn x) (sym is) (inl refl))))
+  went_sent knows es y is (inr (inr told)) = inr (inr told)
 
   -- a call was minded, whose task was away with it
-  pub went_called : (es : List Entry) → es ≡ left_by (x ∷ (view_of t).past) (x ∷ before) → WasMinded es None w n → HasGoneOn before t w
-  went_called es is (inl same) = inr (inl (same.0, λ e i k. left_apart (x ∷ (view_of t).past) (x ∷ before) e (inr i) (subst (IsIn e) (same.1 ∙ is) k)))
-  went_called es is (inr (inl plays)) =
+  pub went_called : (knows : ℕ → Type 0) (es : List Entry) → es ≡ left_by (x ∷ (view_of t).past) (x ∷ before) → WasMinded knows es None w n → HasGoneOn before t w
+  went_called knows es is (inl same) = inr (inl (same.0, λ e i k. left_apart (x ∷ (view_of t).past) (x ∷ before) e (inr i) (subst (IsIn e) (same.1 ∙ is) k)))
+  went_called knows es is (inr (inl plays)) =
       let p = plays.2 in
       let low = plays.1 in
       let fired = p.numbered in
       inl (p.fired, p.there, all_below n p.fired.number before (omega (arith, low, fired)) below)
-  went_called es is (inr (inr told)) = inr (inr told)
+  went_called knows es is (inr (inr told)) = inr (inr told)
+
+-- a task that took this entry, if it is played, is no other
+pub no_other : (t t' : Task) (x : Entry) (y : Option Task) → (view_of t').past ≡ x ∷ (view_of t).past → (y ≡ None) ⊎ (y ≡ Some t') → PlaysNoOther t y
+no_other t t' x y is (inl none) = subst (PlaysNoOther t) (sym none) tt
+no_other t t' x y is (inr same) = subst (PlaysNoOther t) (sym same) (x, is)
+
+-- after a message that was minded no other task is played, or a body of which the gate knows
+pub plays_minded : (knows : ℕ → Type 0) (before es : List Entry) (t : Task) (n : ℕ) (y : Option Task) (w : Worker) → AllBelow n before → PlaysNoOther t y → ((view w.desk).spent ≡ true → w.task ≡ None) → WasMinded knows es y w n → PlaysNext knows before t w
+plays_minded knows before es t n y w below same_one over (inl same) = inl (subst (PlaysNoOther t) (sym same.0) same_one)
+plays_minded knows before es t n y w below same_one over (inr (inl plays)) =
+    let p = plays.2 in
+    let low = plays.1 in
+    let fired = p.numbered in
+    inr (p.fired, p.there, all_below n p.fired.number before (omega (arith, low, fired)) below, subst knows (sym fired) p.known)
+plays_minded knows before es t n y w below same_one over (inr (inr told)) = inl (subst (PlaysNoOther t) (sym (over told)) tt)
+
+-- it is no other than a task that is seen alike
+no_other_than : (t t' : Task) (y : Option Task) → view_of t' ≡ view_of t → PlaysNoOther t' y → PlaysNoOther t y
+no_other_than t t' None e same_one = tt
+no_other_than t t' (Some u) e same_one = (same_one.0, subst (λ (x : TaskView). (view_of u).past ≡ same_one.0 ∷ x.past) e same_one.1)
+
+-- so it is of a task that is seen alike
+pub plays_next : (knows : ℕ → Type 0) (before : List Entry) (t t' : Task) (w : Worker) → view_of t' ≡ view_of t → PlaysNext knows before t' w → PlaysNext knows before t w
+plays_next knows before t t' w e (inl same_one) = inl (no_other_than t t' w.task e same_one)
+plays_next knows before t t' w e (inr known) = inr known
 
 -- so it is of a task that is seen alike
 pub gone_on : (before : List Entry) (t t' : Task) (w : Worker) → view_of t' ≡ view_of t → HasGoneOn before t' w → HasGoneOn before t w

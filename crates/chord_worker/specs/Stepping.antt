@@ -1,5 +1,5 @@
 -- What a step leaves behind: an entry that the desk keeps, a task that is away with its call, or the word that the limit is reached.
-use Rattle.std.specs.Prelude.{◌≡◌, ◌⊎◌, ◌<◌, ℕ, true, List, Option, None}
+use Rattle.std.specs.Prelude.{◌≡◌, ◌≢◌, ◌⊎◌, ◌<◌, ℕ, true, List, ◌∷◌, Option, Some, None}
 use Rattle.chord_base.specs.declared.event.Entry.{Entry}
 use Rattle.chord_base.specs.Story.{AllBelow, IsIn}
 use Rattle.chord_space.specs.Desks.{view}
@@ -19,22 +19,36 @@ AreAway gone now = (e : Entry) → IsIn e gone → IsIn e now → ⊥
 abbrev pub HasGoneOn : List Entry → Task → Worker → Type 0
 HasGoneOn before t w = HasNewer before (view w.desk).kept ⊎ (((w.task ≡ None) × AreAway (view_of t).past (view w.desk).kept) ⊎ ((view w.desk).spent ≡ true))
 
+-- no other task is played: none, or this one with one entry more
+abbrev pub PlaysNoOther : Task → Option Task → Type 0
+PlaysNoOther t None = Unit {0}
+PlaysNoOther t (Some t') = (x : Entry) × ((view_of t').past ≡ x ∷ (view_of t).past)
+
+-- one of these entries was drawn after all of those, and the gate knows of the body that began with it
+abbrev pub HasKnownBody : (ℕ → Type 0) → List Entry → List Entry → Type 0
+HasKnownBody knows before now = (e : Entry) × IsIn e now × AllBelow e.number before × knows e.number
+
+-- the worker, whose desk kept these entries, plays no other task than this one, or a body of which the gate knows
+abbrev pub PlaysNext : (ℕ → Type 0) → List Entry → Task → Worker → Type 0
+PlaysNext knows before t w = PlaysNoOther t w.task ⊎ HasKnownBody knows before (view w.desk).kept
+
 -- the worker still plays this task, and its desk keeps these entries
 abbrev pub StillPlays : List Entry → Option Task → Worker → Type 0
 StillPlays before x w = (w.task ≡ x) × ((view w.desk).kept ≡ before)
 
--- the worker, which had no task, plays the firing f, whose entry its desk keeps beside all that it kept
-pub record PlaysFiring (before : List Entry) (x : Option Task) (w : Worker) (f : ℕ) : Type 0 where
+-- the worker, which had no task, plays the firing f, of which the gate knows, and whose entry its desk keeps beside all that it kept
+pub record PlaysFiring (knows : ℕ → Type 0) (before : List Entry) (x : Option Task) (w : Worker) (f : ℕ) : Type 0 where
   pub idle : x ≡ None
+  pub known : knows f
   pub fired : Entry
   pub numbered : fired.number ≡ f
   pub there : IsIn fired (view w.desk).kept
   pub stay : (e : Entry) → IsIn e before → IsIn e (view w.desk).kept
 
--- the firing f was posted, or is played
-abbrev pub HasTakenOn : List Entry → Option Task → Worker → ℕ → Type 0
-HasTakenOn before x w f = StillPlays before x w ⊎ PlaysFiring before x w f
+-- the firing f was posted by a worker that has a task, or is played
+abbrev pub HasTakenOn : (ℕ → Type 0) → List Entry → Option Task → Worker → ℕ → Type 0
+HasTakenOn knows before x w f = ((x ≢ None) × StillPlays before x w) ⊎ PlaysFiring knows before x w f
 
 -- the message m was minded: nothing else is played than before, or a firing that was drawn after m is, or the desk was told that the limit is reached
-abbrev pub WasMinded : List Entry → Option Task → Worker → ℕ → Type 0
-WasMinded before x w m = StillPlays before x w ⊎ (((f : ℕ) × (m < f) × PlaysFiring before x w f) ⊎ ((view w.desk).spent ≡ true))
+abbrev pub WasMinded : (ℕ → Type 0) → List Entry → Option Task → Worker → ℕ → Type 0
+WasMinded knows before x w m = StillPlays before x w ⊎ (((f : ℕ) × (m < f) × PlaysFiring knows before x w f) ⊎ ((view w.desk).spent ≡ true))

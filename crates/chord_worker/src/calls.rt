@@ -1,13 +1,14 @@
 //! The calls of a worker that the pool makes, but for its steps.
 ghost use Rattle.std.specs.Prelude.{◌≡◌, ◌≢◌, ◌||◌, ℕ, ◌<◌, ◌-◌, List, Option, true, false, None, OnOk, IfOk, min, is_some, IsPermutation};
 ghost use Rattle.chord_base.specs.Story.{IsSound};
-ghost use Rattle.chord_rule.specs.Kinds.{newcomer, newcomer_first, lent_one, saw, saw_count};
+ghost use Rattle.chord_rule.specs.Kinds.{newcomer, newcomer_first, lent_one, saw, saw_count, united};
 ghost use Rattle.chord_rule.specs.Tells.{a_word};
 ghost use Rattle.chord_word.specs.declared.cells.Cell.{Cell as TheCell};
 ghost use Rattle.chord_word.specs.declared.cells.Cell.TheVariants.{Ready};
 ghost use Rattle.chord_space.specs.Desks.{view, space_code, space_limits, program_of, IsDeskOf};
 ghost use Rattle.chord_word.specs.declared.cells.Word.{Word};
 ghost use Rattle.chord_worker.specs.Resting.{IsAtRest, IsSameRole, IsSeen};
+ghost use Rattle.chord_worker.specs.Stepping.{PlaysFiring};
 
 use crate::worker::{Gate, Worker};
 use chord_base::event::{Entry, Limits, What};
@@ -127,6 +128,7 @@ impl Worker {
         ensures rest { IsAtRest space.now self.new × IsSameRole (view self.old.desk) (view self.new.desk) }
         ensures room { (view self.new.desk).spent ≡ false }
         ensures task { result ≡ is_some self.new.task }
+        ensures plays { result ≡ true → PlaysFiring G.knows (view self.old.desk).kept self.old.task self.new i }
         ensures refused { result ≡ false → (c : TheCell) × (next : Option ℕ) × (c ≢ Ready) × (view self.new.desk ≡ saw (view self.old.desk) i (a_word c next)) }
     {
         let _parts = code.parts();
@@ -147,6 +149,7 @@ impl Worker {
         requires rest { IsAtRest space.now self.old × IsAtRest space.now other }
         requires tasks { (self.old.task ≡ None) × (other.task ≡ None) }
         requires first { (view self.old.desk).first ≡ true }
+        ensures united { view self.new.desk ≡ united (view self.old.desk) (view other.desk) }
         ensures rest { OnOk result (IsAtRest space.now self.new × (self.new.task ≡ None)) }
         ensures role { OnOk result (((view self.new.desk).first ≡ true) × ((view self.new.desk).lent ≡ (view self.old.desk).lent - 1) × ((view self.old.desk).drawn ≡ true → (view self.new.desk).drawn ≡ true)) }
     {

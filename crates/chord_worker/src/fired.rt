@@ -100,7 +100,7 @@ impl Worker {
         ensures rest { IsAtRest space.now self.new }
         ensures role { IsSameRole (view self.old.desk) (view self.new.desk) }
         ensures told { self.new.spent ≡ false }
-        ensures taken { (v : View) → HasBegun space.now self.old v number task → HasTakenOn v.kept self.old.task self.new number }
+        ensures taken { (v : View) → HasBegun space.now self.old v number task → HasTakenOn G.knows v.kept self.old.task self.new number }
     {
         if self.task.is_none() {
             gate.started(number);
@@ -132,7 +132,7 @@ impl Worker {
         ensures rest { IsAtRest space.now self.new }
         ensures role { IsSameRole (view self.old.desk) (view self.new.desk) }
         ensures told { self.new.spent ≡ false }
-        ensures taken { (v : View) → HasFired space.now self.old v drawn.object drawn.chord drawn.members drawn.number hand → HasTakenOn v.kept self.old.task self.new drawn.number }
+        ensures taken { (v : View) → HasFired space.now self.old v drawn.object drawn.chord drawn.members drawn.number hand → HasTakenOn G.knows v.kept self.old.task self.new drawn.number }
     {
         chords_are_right(code);
         entries_are_within(code);

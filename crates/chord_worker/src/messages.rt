@@ -11,7 +11,7 @@ ghost use Rattle.chord_task.specs.Standing.{view_of, IsTaskOf};
 ghost use Rattle.chord_worker.specs.Playing.{IsReadyTo};
 ghost use Rattle.chord_worker.specs.Resting.{IsAtRest, IsSameRole};
 ghost use Rattle.chord_worker.specs.Sending.{IsSentOff};
-ghost use Rattle.chord_worker.specs.Stepping.{HasGoneOn};
+ghost use Rattle.chord_worker.specs.Stepping.{HasGoneOn, PlaysNext};
 
 use crate::minding::Minded;
 use crate::playing::draw_own;
@@ -141,6 +141,7 @@ impl Worker {
         ensures role { OnOk result (IsSameRole (view self.old.desk) (view self.new.desk)) }
         ensures over { OnOk result (self.new.spent ≡ true → self.new.task ≡ None) }
         ensures went { OnOk result (HasGoneOn (view self.old.desk).kept task self.new) }
+        ensures plays { OnOk result (PlaysNext G.knows (view self.old.desk).kept task self.new) }
     {
         let held = doubled(alloc, &arguments)?;
         let what = What::Sent(object, method, arguments);
@@ -200,6 +201,7 @@ impl Worker {
         ensures role { OnOk result (IsSameRole (view self.old.desk) (view self.new.desk)) }
         ensures over { OnOk result (self.new.spent ≡ true → self.new.task ≡ None) }
         ensures went { OnOk result (HasGoneOn (view self.old.desk).kept task self.new) }
+        ensures plays { OnOk result (PlaysNext G.knows (view self.old.desk).kept task self.new) }
     {
         let held = doubled(alloc, &arguments)?;
         let what = What::Called(object, method, arguments);

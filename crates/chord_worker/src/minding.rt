@@ -73,7 +73,7 @@ impl Worker {
         ensures over { IfOk result (λ b. b ≡ true → IsAtRest space.now self.new × (self.new.spent ≡ true → self.new.task ≡ None)) }
         ensures again { IfOk result (λ b. b ≡ false → Minds space.now self.new message.number (key message.object message.method)) }
         ensures role { OnOk result (IsSameRole (view self.old.desk) (view self.new.desk)) }
-        ensures minded { IfOk result (λ b. b ≡ true → WasMinded (view self.old.desk).kept self.old.task self.new message.number) }
+        ensures minded { IfOk result (λ b. b ≡ true → WasMinded G.knows (view self.old.desk).kept self.old.task self.new message.number) }
         ensures same { IfOk result (λ b. b ≡ false → StillPlays (view self.old.desk).kept self.old.task self.new) }
     {
         let object = message.object;
@@ -115,7 +115,7 @@ impl Worker {
         ensures over { IfOk result (λ b. b ≡ true → IsAtRest space.now self.new × (self.new.spent ≡ true → self.new.task ≡ None)) }
         ensures again { IfOk result (λ b. b ≡ false → Minds space.now self.new message.number (key message.object message.method)) }
         ensures role { OnOk result (IsSameRole (view self.old.desk) (view self.new.desk)) }
-        ensures minded { IfOk result (λ b. b ≡ true → WasMinded (view self.old.desk).kept self.old.task self.new message.number) }
+        ensures minded { IfOk result (λ b. b ≡ true → WasMinded G.knows (view self.old.desk).kept self.old.task self.new message.number) }
         ensures same { IfOk result (λ b. b ≡ false → StillPlays (view self.old.desk).kept self.old.task self.new) }
     {
         match find(
@@ -157,7 +157,7 @@ impl Worker {
         ensures desk { IsDeskOf space.now self.new.desk }
         ensures over { OnOk result (IsAtRest space.now self.new × (self.new.spent ≡ true → self.new.task ≡ None)) }
         ensures role { OnOk result (IsSameRole (view self.old.desk) (view self.new.desk)) }
-        ensures minded { OnOk result (WasMinded (view self.old.desk).kept self.old.task self.new message.number) }
+        ensures minded { OnOk result (WasMinded G.knows (view self.old.desk).kept self.old.task self.new message.number) }
     {
         let backoff = Backoff::new();
         for _ in rt.forever() {

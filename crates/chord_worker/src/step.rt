@@ -1,5 +1,5 @@
 //! A worker plays its task to the next ask, and does what follows from it.
-ghost use Rattle.std.specs.Prelude.{◌≡◌, ◌≢◌, ℕ, Bool, true, false, List, ◌++◌, Some, None, OnOk};
+ghost use Rattle.std.specs.Prelude.{◌≡◌, ◌≢◌, ◌⊎◌, ℕ, Bool, true, false, List, ◌++◌, Some, None, OnOk};
 ghost use Rattle.chord_base.specs.declared.event.Entry.{Entry as AnEntry};
 ghost use Rattle.chord_base.specs.declared.event.Limits.{Limits as TheLimits};
 ghost use Rattle.chord_base.specs.Story.{IsSound};
@@ -9,7 +9,7 @@ ghost use Rattle.chord_task.specs.declared.task.Task.{Task as TheTask};
 ghost use Rattle.chord_vm.specs.Frames.{what_of_ask};
 ghost use Rattle.chord_worker.specs.Playing.{IsReadyTo, IsNoMessage};
 ghost use Rattle.chord_worker.specs.Resting.{IsInMemory, MayContinue, IsAtRest, IsSameRole};
-ghost use Rattle.chord_worker.specs.Stepping.{HasGoneOn};
+ghost use Rattle.chord_worker.specs.Stepping.{HasGoneOn, PlaysNoOther, PlaysNext};
 
 use crate::playing::{draw_own, ready_ask, stocked};
 use crate::worker::{Gate, Worker};
@@ -28,6 +28,7 @@ impl Worker {
     pub(crate) fn settle(&mut self, task: Apart<Task>) -> Result<(), AllocError>
         requires none { self.old.task ≡ None }
         ensures same { (self.new.desk ≡ self.old.desk) × (self.new.spare ≡ self.old.spare) × (self.new.spent ≡ self.old.spent) }
+        ensures task { OnOk result ((self.new.task ≡ None) ⊎ (self.new.task ≡ Some task)) }
         ensures settled { OnOk result ((code : Parts) (limits : TheLimits) (kept : List AnEntry) (spent : Bool) → IsInMemory code limits kept spent self.old.done.items (Some task) → IsInMemory code limits kept spent self.new.done.items self.new.task × MayContinue self.new.task) }
     {
         if task.value.is_ready() {
@@ -68,6 +69,7 @@ impl Worker {
         ensures role { OnOk result (IsSameRole (view self.old.desk) (view self.new.desk)) }
         ensures over { OnOk result (self.new.spent ≡ true → self.new.task ≡ None) }
         ensures went { OnOk result (HasGoneOn (view self.old.desk).kept task self.new) }
+        ensures plays { OnOk result (PlaysNoOther task self.new.task) }
     {
         let mut task = task;
         match draw_own(space, &mut self.desk, &mut task, what) {
@@ -108,6 +110,7 @@ impl Worker {
         ensures role { OnOk result (IsSameRole (view self.old.desk) (view self.new.desk)) }
         ensures over { OnOk result (self.new.spent ≡ true → self.new.task ≡ None) }
         ensures went { OnOk result (HasGoneOn (view self.old.desk).kept task self.new) }
+        ensures plays { OnOk result (PlaysNext G.knows (view self.old.desk).kept task self.new) }
     {
         match ask {
             Ask::Make(class) => {
@@ -143,7 +146,8 @@ impl Worker {
     /// Plays the task to its next ask, which becomes an entry of the run, and does what follows: a message is linked and armed, and
     /// minded until it is taken or no chord with it is enabled; a firing's body begins; what a task did that is over is done. Where
     /// the limit on events is reached the task is laid down. So afterwards the desk keeps a newer entry than all that it kept, or the
-    /// task went away with its call, or the desk was told of the limit. Want of memory is an `Err`, after which entries may be lost.
+    /// task went away with its call, or the desk was told of the limit. The gate knows of each body that the worker begins to play.
+    /// Want of memory is an `Err`, after which entries may be lost.
     pub fn step<R: Wait, G: Gate>(
         &mut self,
         rt: &R,
@@ -161,6 +165,7 @@ impl Worker {
         ensures rest { OnOk result (IsAtRest space.now self.new × IsSameRole (view self.old.desk) (view self.new.desk)) }
         ensures over { OnOk result ((view self.new.desk).spent ≡ true → self.new.task ≡ None) }
         ensures went { OnOk result ((t : TheTask) → self.old.task ≡ Some t → HasGoneOn (view self.old.desk).kept t self.new) }
+        ensures plays { OnOk result ((t : TheTask) → self.old.task ≡ Some t → PlaysNext G.knows (view self.old.desk).kept t self.new) }
     {
         match self.task.take() {
             None => unreachable!(),

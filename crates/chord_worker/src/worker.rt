@@ -1,4 +1,6 @@
 //! A worker: its desk, the task that it plays, and what is done.
+ghost use Rattle.std.specs.Prelude.{ℕ};
+
 use chord_base::event::Entry;
 use chord_space::Desk;
 use chord_task::apart::Apart;
@@ -7,8 +9,12 @@ use chord_task::task::Task;
 
 /// Is told of each body that begins to be played.
 pub trait Gate {
+    /// The gate knows of this body. A caller that has any gate learns so by telling it, and in no other way.
+    ghost knows: { ℕ → Type 0 } = { λ _. Unit {0} };
+
     /// The body of this number begins.
-    fn started(&self, body: u32);
+    fn started(&self, body: u32)
+        ensures told { knows body };
 }
 
 /// A desk of the shared table, and what is played at it.

@@ -5,4 +5,4 @@ use Rattle.chord_pool.specs.Players.{IsCrew}
 use Rattle.chord_pool.proofs.crew.hire.Given as goal
 
 abbrev pub invariant-loop : goal.invariant-loop
-invariant-loop l = IsCrew l.space l.main l.others.items × ((view l.main.desk).splits ≡ length l.others.items) × (length l.others.items + 1 ≡ l.counter) × (l.counter ≤ 64) × (l.workers ≤ 64)
+invariant-loop l = IsCrew l.space l.main l.others.items × ((view l.main.desk).splits ≡ length l.others.items) × (length l.others.items + 1 ≡ l.counter) × (l.counter ≤ l.workers) × (l.workers ≤ 64)

@@ -8,3 +8,4 @@ abbrev pub invariant-loop : goal.invariant-loop
 invariant-loop g l =
     (goal.iterator-loop g).can_next l.iterator' × (goal.iterator-loop g).is_finite l.iterator'
     × IsSettled l.run.space.now l.worker × ((view l.worker.desk).first ≡ true) × ((view l.worker.desk).drawn ≡ true) × ((view l.worker.desk).lent ≡ 0)
+    × ((view l.worker.desk).splits ≡ (view l.fn.worker.desk).splits)

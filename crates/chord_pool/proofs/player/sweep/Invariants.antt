@@ -1,9 +1,11 @@
--- The worker has found nothing so far.
+-- The worker has found nothing so far: each cell up to here was not ready.
 use Rattle.std.proofs.Common.{◌≡◌, None}
 use Rattle.chord_space.specs.Desks.{view}
 use Rattle.chord_worker.specs.Resting.{IsSameRole}
-use Rattle.chord_pool.specs.Players.{IsFit}
+use Rattle.chord_pool.specs.Players.{IsFit, AreUnready}
 use Rattle.chord_pool.proofs.player.sweep.Given as goal
 
 abbrev pub invariant-loop-i : goal.invariant-loop-i
-invariant-loop-i g l = IsFit l.run.space.now l.worker × (l.worker.task ≡ None) × IsSameRole (view l.fn.worker.desk) (view l.worker.desk)
+invariant-loop-i g l =
+    IsFit l.run.space.now l.worker × (l.worker.task ≡ None) × IsSameRole (view l.fn.worker.desk) (view l.worker.desk)
+    × ((view l.worker.desk).looked.count ≡ (view l.fn.worker.desk).looked.count) × AreUnready l.from l.i (view l.worker.desk).looked.seen

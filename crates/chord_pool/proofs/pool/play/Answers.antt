@@ -1,6 +1,10 @@
-use Rattle.std.proofs.Common.{length, ⊎_elim, arith}
+use Rattle.std.proofs.Common.{◌+◌, length, ⊎_elim, arith, ap, ◌∙◌}
 use Rattle.chord_base.specs.Machine.{IsComplete}
 use Rattle.chord_code.specs.Meaning.{code_program}
+use Rattle.chord_rule.specs.declared.view.View.{View}
+use Rattle.chord_space.specs.declared.space.Desk.{Desk}
+use Rattle.chord_space.specs.Desks.{view}
+use Rattle.chord_task.specs.declared.parcel.Parcel.{Parcel}
 use Rattle.chord_pool.proofs.Crews.{one_run}
 use Rattle.chord_pool.proofs.Endings.{ended_as}
 use Rattle.chord_pool.proofs.pool.play.Goals as goal
@@ -20,3 +24,6 @@ returns-clause-short g c =
     ⊎_elim (λ complete. complete) (λ full. absurd (omega (arith, less, full)))
     (ended_as c.in_ok-space.space c.in_ok-last.last c.into_parts-desk.result.0 c.args.code.now c.args.limits.now (length c.in_ok-ended.ended.0) (IsComplete (code_program c.args.code.now c.args.limits.now) c.in_ok-ended.ended.0)
     c.in_ok-last.ensures.over c.into_parts-desk.ensures.desk c.in_ok-space.ensures.0 c.in_ok-space.ensures.1 ended.whole ended.full ended.counted)
+
+pub returns-clause-crew : goal.returns-clause-crew
+returns-clause-crew g c = ap (λ (v : View). v.splits + 1) (c.in_ok-ended.ensures.view ∙ ap (λ (d : Desk Parcel). view d) c.into_parts-desk.ensures.desk) ∙ c.in_ok-last.ensures.crew

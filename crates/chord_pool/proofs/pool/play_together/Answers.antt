@@ -1,4 +1,4 @@
-use Rattle.std.proofs.Common.{false}
+use Rattle.std.proofs.Common.{ℕ, ◌+◌, false, ap, ◌∙◌}
 use Rattle.chord_pool.proofs.Crews.{come_back}
 use Rattle.chord_pool.proofs.pool.play_together.Goals as goal
 
@@ -8,3 +8,9 @@ taken_in-requires g c =
     record {
       back = come_back c.args.run.now.space.now (record { worker = c.hire.new.main; failed = false; place = 0; misses = 0 }) c.share-main.result.0 c.in_ok-others.others.items c.share-main.result.1.items c.in_ok-others.ensures.crew back.main.0 back.main.1 back.others.0 back.others.1;
     }
+
+pub returns-clause-crew : goal.returns-clause-crew
+returns-clause-crew g c =
+    let hired = c.in_ok-others.ensures.count in
+    let role = c.share-main.ensures.main.1 c.in_ok-last.ensures.sane in
+    ap (λ (n : ℕ). n + 1) (c.in_ok-last.ensures.splits ∙ role.splits ∙ hired.0) ∙ hired.1

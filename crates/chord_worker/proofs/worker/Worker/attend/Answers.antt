@@ -54,7 +54,7 @@ returns-in-Taken-clause-over g c = λ e.
 
 pub returns-in_ok-over-in-Match-clause-minded : goal.returns-in_ok-over-in-Match-clause-minded
 returns-in_ok-over-in-Match-clause-minded g c = λ e.
-    minded_since _ _ _ _ _ _ refl (looks_kept (view c.args.self.now.desk) (view c.find.new.desk) (looks_on _ _ _ (cell_looks (view c.args.self.now.desk) c.args.message.number (record { cell = a_cell.Pending; next = c.in-Match.ensures.finding.next })) c.in-Match.ensures.finding.sought.grows.only))
+    minded_since g.G.Gate.knows _ _ _ _ _ _ refl (looks_kept (view c.args.self.now.desk) (view c.find.new.desk) (looks_on _ _ _ (cell_looks (view c.args.self.now.desk) c.args.message.number (record { cell = a_cell.Pending; next = c.in-Match.ensures.finding.next })) c.in-Match.ensures.finding.sought.grows.only))
     (c.in_ok-over-in-Match.ensures.minded e)
 
 pub returns-in_ok-over-in-Match-clause-same : goal.returns-in_ok-over-in-Match-clause-same

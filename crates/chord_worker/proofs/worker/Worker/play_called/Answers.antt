@@ -16,8 +16,8 @@ use Rattle.chord_worker.specs.Resting.{IsInMemory, MayContinue}
 use Rattle.chord_worker.specs.Sending.{IsSentOff}
 use Rattle.chord_worker.proofs.Resting.{rest_told}
 use Rattle.chord_worker.proofs.Sent.{task_may, task_memory, now_minds}
-use Rattle.chord_worker.proofs.Stepping.{went_called}
-use Rattle.chord_worker.specs.Stepping.{WasMinded}
+use Rattle.chord_worker.proofs.Stepping.{went_called, plays_minded}
+use Rattle.chord_worker.specs.Stepping.{PlaysNoOther, WasMinded}
 use Rattle.chord_worker.proofs.worker.Worker.play_called.Goals as goal
 
 pub send_task-requires-clause-bounds : goal.send_task-requires-clause-bounds
@@ -67,8 +67,17 @@ returns-in_ok-mind-in-Ok-clause-went g c =
     let es = (view c.send_task.new.desk).kept in
     let gone = ap (λ (ps : List Entry). left_by ps (view c.draw_own.new.desk).kept) noted.past in
     let kept = c.send_task.ensures.sent.kept ∙ gone ∙ ap (λ (z : View). left_by (x ∷ (view_of c.args.task).past) z.kept) noted.drawn in
-    went_called (view c.args.self.now.desk).kept c.args.task c.in-Ok.number x refl noted.below c.mind.new.self es kept
-    (subst (λ (y : Option Task). WasMinded es y c.mind.new.self c.in-Ok.number) c.requires.none c.in_ok-mind-in-Ok.ensures.minded)
+    went_called (view c.args.self.now.desk).kept c.args.task c.in-Ok.number x refl noted.below c.mind.new.self g.G.Gate.knows es kept
+    (subst (λ (y : Option Task). WasMinded g.G.Gate.knows es y c.mind.new.self c.in-Ok.number) c.requires.none c.in_ok-mind-in-Ok.ensures.minded)
 
 pub returns-in_ok-lay_down-in-Err-clause-went : goal.returns-in_ok-lay_down-in-Err-clause-went
 returns-in_ok-lay_down-in-Err-clause-went g c = inr (inr (ap (λ (x : Desk Parcel). (view x).spent) c.lay_down.ensures.same.0 ∙ ap (λ (z : View). z.spent) c.in-Err.ensures.drawn.view))
+
+pub returns-in_ok-mind-in-Ok-clause-plays : goal.returns-in_ok-mind-in-Ok-clause-plays
+returns-in_ok-mind-in-Ok-clause-plays g c =
+    plays_minded g.G.Gate.knows (view c.args.self.now.desk).kept (view c.send_task.new.desk).kept c.args.task c.in-Ok.number c.args.self.now.task c.mind.new.self c.in-Ok.ensures.drawn.1.below
+    (subst (PlaysNoOther c.args.task) (sym c.requires.none) tt)
+    (λ told. c.in_ok-mind-in-Ok.ensures.over.1 (c.in_ok-mind-in-Ok.ensures.over.0.told ∙ told)) c.in_ok-mind-in-Ok.ensures.minded
+
+pub returns-in_ok-lay_down-in-Err-clause-plays : goal.returns-in_ok-lay_down-in-Err-clause-plays
+returns-in_ok-lay_down-in-Err-clause-plays g c = inl (subst (PlaysNoOther c.args.task) (sym (c.lay_down.ensures.same.2 ∙ c.requires.none)) tt)

@@ -8,7 +8,8 @@ use Rattle.chord_space.specs.Desks.{view, space_code, space_limits, IsSameDesk}
 use Rattle.chord_task.specs.declared.parcel.Parcel.{Parcel}
 use Rattle.chord_worker.specs.Playing.{IsNotedAs, WasToldFull}
 use Rattle.chord_worker.proofs.Resting.{rest_noted, rest_told}
-use Rattle.chord_worker.proofs.Stepping.{newest_is_kept}
+use Rattle.chord_worker.specs.Stepping.{PlaysNoOther}
+use Rattle.chord_worker.proofs.Stepping.{newest_is_kept, no_other}
 use Rattle.chord_worker.proofs.worker.Worker.play_own.Goals as goal
 
 pub returns-in_ok-settle-in-Ok-clause-rest : goal.returns-in_ok-settle-in-Ok-clause-rest
@@ -39,3 +40,11 @@ returns-in_ok-settle-in-Ok-clause-went c =
 
 pub returns-in_ok-lay_down-in-Err-clause-went : goal.returns-in_ok-lay_down-in-Err-clause-went
 returns-in_ok-lay_down-in-Err-clause-went c = inr (inr (ap (λ (x : Desk Parcel). (view x).spent) c.lay_down.ensures.same.0 ∙ ap (λ (z : View). z.spent) c.in-Err.ensures.drawn.view))
+
+pub returns-in_ok-settle-in-Ok-clause-plays : goal.returns-in_ok-settle-in-Ok-clause-plays
+returns-in_ok-settle-in-Ok-clause-plays c =
+    let noted = c.in-Ok.ensures.drawn.1 in
+    no_other c.args.task c.draw_own.new.task (entry c.in-Ok.field-0 noted.body c.args.what.now) c.settle.new.self.task noted.past c.in_ok-settle-in-Ok.ensures.task
+
+pub returns-in_ok-lay_down-in-Err-clause-plays : goal.returns-in_ok-lay_down-in-Err-clause-plays
+returns-in_ok-lay_down-in-Err-clause-plays c = subst (PlaysNoOther c.args.task) (sym (c.lay_down.ensures.same.2 ∙ c.requires.none)) tt

@@ -17,7 +17,8 @@ use Rattle.chord_worker.specs.Sending.{IsSentOff}
 use Rattle.chord_worker.proofs.Resting.{rest_told}
 use Rattle.chord_worker.proofs.Sent.{letter_may, letter_memory, now_minds}
 use Rattle.chord_worker.proofs.Parts.{all_kept}
-use Rattle.chord_worker.proofs.Stepping.{went_sent}
+use Rattle.chord_worker.specs.Stepping.{PlaysNoOther}
+use Rattle.chord_worker.proofs.Stepping.{went_sent, no_other, plays_minded}
 use Rattle.chord_worker.proofs.worker.Worker.play_sent.Goals as goal
 
 pub send_letter-requires-clause-bounds : goal.send_letter-requires-clause-bounds
@@ -65,7 +66,18 @@ returns-in_ok-mind-in-Ok-clause-went g c =
     let noted = c.in-Ok.ensures.drawn.1 in
     let x = entry c.in-Ok.number noted.body (Sent c.args.object c.args.method c.args.arguments) in
     let kept = ap (λ (d : Desk Parcel). (view d).kept) c.settle.ensures.same.0 ∙ c.send_letter.ensures.sent.kept ∙ all_kept (view c.draw_own.new.desk).kept ∙ ap (λ (z : View). z.kept) noted.drawn in
-    went_sent (view c.args.self.now.desk).kept c.args.task c.in-Ok.number x refl noted.below c.mind.new.self (view c.settle.new.self.desk).kept c.settle.new.self.task kept c.in_ok-mind-in-Ok.ensures.minded
+    went_sent (view c.args.self.now.desk).kept c.args.task c.in-Ok.number x refl noted.below c.mind.new.self g.G.Gate.knows (view c.settle.new.self.desk).kept c.settle.new.self.task kept c.in_ok-mind-in-Ok.ensures.minded
 
 pub returns-in_ok-lay_down-in-Err-clause-went : goal.returns-in_ok-lay_down-in-Err-clause-went
 returns-in_ok-lay_down-in-Err-clause-went g c = inr (inr (ap (λ (x : Desk Parcel). (view x).spent) c.lay_down.ensures.same.0 ∙ ap (λ (z : View). z.spent) c.in-Err.ensures.drawn.view))
+
+pub returns-in_ok-mind-in-Ok-clause-plays : goal.returns-in_ok-mind-in-Ok-clause-plays
+returns-in_ok-mind-in-Ok-clause-plays g c =
+    let noted = c.in-Ok.ensures.drawn.1 in
+    let x = entry c.in-Ok.number noted.body (Sent c.args.object c.args.method c.args.arguments) in
+    plays_minded g.G.Gate.knows (view c.args.self.now.desk).kept (view c.settle.new.self.desk).kept c.args.task c.in-Ok.number c.settle.new.self.task c.mind.new.self noted.below
+    (no_other c.args.task c.draw_own.new.task x c.settle.new.self.task noted.past c.in_ok-settle-in-Ok.ensures.task)
+    (λ told. c.in_ok-mind-in-Ok.ensures.over.1 (c.in_ok-mind-in-Ok.ensures.over.0.told ∙ told)) c.in_ok-mind-in-Ok.ensures.minded
+
+pub returns-in_ok-lay_down-in-Err-clause-plays : goal.returns-in_ok-lay_down-in-Err-clause-plays
+returns-in_ok-lay_down-in-Err-clause-plays g c = inl (subst (PlaysNoOther c.args.task) (sym (c.lay_down.ensures.same.2 ∙ c.requires.none)) tt)

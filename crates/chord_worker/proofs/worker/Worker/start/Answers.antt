@@ -1,4 +1,4 @@
-use Rattle.chord_worker.proofs.Starting.{rest_started, role_started}
+use Rattle.chord_worker.proofs.Starting.{rest_started, role_started, plays_started}
 use Rattle.chord_worker.proofs.worker.Worker.start.Goals as goal
 
 pub returns-in-Ok-clause-rest : goal.returns-in-Ok-clause-rest
@@ -9,3 +9,7 @@ returns-in-Ok-clause-rest g c =
       rest_started s w c.requires.rest c.requires.task c.requires.room c.start.new.desk c.start.ensures.desk q c.args.i _ c.in-Ok.ensures.started c.in-Ok.ensures.parcel c.in-Ok.ensures.comes,
       role_started s w c.requires.rest c.requires.task c.requires.room c.start.new.desk c.start.ensures.desk q c.args.i _ c.in-Ok.ensures.started c.in-Ok.ensures.parcel c.in-Ok.ensures.comes,
     )
+
+pub returns-in-Ok-clause-plays : goal.returns-in-Ok-clause-plays
+returns-in-Ok-clause-plays g c = λ e.
+    plays_started c.args.space.now c.args.self.now c.requires.rest c.requires.task c.requires.room c.start.new.desk c.start.ensures.desk c.in-Ok.field-0 c.args.i _ c.in-Ok.ensures.started c.in-Ok.ensures.parcel c.in-Ok.ensures.comes g.G.Gate.knows c.started.ensures.told

@@ -5,7 +5,7 @@ use Rattle.chord_space.specs.Desks.{view, space_code, space_limits, program_of}
 use Rattle.chord_space.specs.Gives.{MayPost}
 use Rattle.chord_task.specs.Parcels.{IsParcelOf}
 use Rattle.chord_task.specs.Standing.{IsTaskOf}
-use Rattle.chord_worker.proofs.Beginning.{kept_posted, may_post, no_task, rest_played, rest_posted, role_posted}
+use Rattle.chord_worker.proofs.Beginning.{kept_posted, may_post, no_task, a_task, rest_played, rest_posted, role_posted}
 use Rattle.chord_worker.proofs.Stepping.{plays_it}
 use Rattle.chord_worker.proofs.worker.Worker.take_on.Goals as goal
 
@@ -39,7 +39,7 @@ pub returns-clause-role : goal.returns-clause-role
 returns-clause-role g c = role_posted _ _ _ _ _ c.requires.begun.1 c.post.new.desk c.post.ensures.desk _ c.packed-parcel.ensures.entries _ c.post.ensures.posted
 
 pub returns-then-is_none-clause-taken : goal.returns-then-is_none-clause-taken
-returns-then-is_none-clause-taken g c = λ v b. inr (plays_it _ _ _ _ _ b (no_task c.args.self.now.task c.if-is_none.ensures))
+returns-then-is_none-clause-taken g c = λ v b. inr (plays_it g.G.Gate.knows _ _ _ _ _ b c.started.ensures.told (no_task c.args.self.now.task c.if-is_none.ensures))
 
 pub returns-clause-taken : goal.returns-clause-taken
-returns-clause-taken g c = λ v b. inl (refl, kept_posted _ _ _ _ _ b c.post.new.desk c.post.ensures.desk _ c.packed-parcel.ensures.entries _ c.post.ensures.posted)
+returns-clause-taken g c = λ v b. inl (a_task c.args.self.now.task c.if-is_none.ensures, (refl, kept_posted _ _ _ _ _ b c.post.new.desk c.post.ensures.desk _ c.packed-parcel.ensures.entries _ c.post.ensures.posted))

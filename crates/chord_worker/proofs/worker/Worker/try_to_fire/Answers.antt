@@ -14,7 +14,7 @@ pub returns-in-Fired-clause-minded : goal.returns-in-Fired-clause-minded
 returns-in-Fired-clause-minded g c = λ e.
     let found = c.requires.found.1 in
     let fired = c.in-Fired.ensures.firing in
-    taken_minded _ _ _ _ _ (message_older _ _ _ _ _ _ _ fired.came found.own)
+    taken_minded g.G.Gate.knows _ _ _ _ _ (message_older _ _ _ _ _ _ _ fired.came found.own)
     (c.begin_fired.ensures.taken (view c.args.self.now.desk) (found_fired _ _ _ _ _ c.requires.minds _ _ _ _ found _ c.fire.ensures.desk _ _ fired))
 
 pub returns-in-Lost-clause-again : goal.returns-in-Lost-clause-again

@@ -1,0 +1,49 @@
+-- What a worker that looks for a firing has seen.
+use Rattle.std.proofs.Common.{◌≡◌, ◌≢◌, ℕ, ◌+◌, true, false, Option, Some, None, is_some, refl, sym, ap, ◌∙◌, subst, inl, inr, arith}
+use mathlib.Core.Logic.{dite}
+use native.Mathlib.Decide.{ℕ_discrete}
+use Rattle.chord_rule.specs.declared.view.View.{View}
+use Rattle.chord_rule.specs.Kinds.{saw}
+use Rattle.chord_rule.specs.Tells.{a_word}
+use Rattle.chord_rule.specs.Ways.{LastSeen}
+use Rattle.chord_task.specs.declared.task.Task.{Task}
+use Rattle.chord_word.specs.declared.cells.Cell.{Cell}
+use Rattle.chord_word.specs.declared.cells.Cell.TheVariants.{Ready}
+use Rattle.chord_word.specs.declared.cells.Word.{Word}
+use Rattle.chord_worker.specs.Resting.{IsSeen}
+use Rattle.chord_pool.specs.Players.{AreUnready, SawUnready}
+
+-- a look at a cell that is not ready
+pub seen_once : (v w : View) (i : ℕ) (x : Word) → IsSeen v w i x → x.cell ≢ Ready → SawUnready v w i
+seen_once v w i x look unready = record {
+  word = x;
+  last = subst (LastSeen i x) (sym look.seen) (inl (refl, refl));
+  unready = unready;
+  count = look.count;
+  others = λ k y apart was. subst (LastSeen k y) (sym look.seen) (inr (apart, was));
+}
+
+-- a look at a cell that was ready, and at the next one no longer
+pub seen_twice : (v u w : View) (i : ℕ) (x : Word) (c : Cell) (next : Option ℕ) → IsSeen v u i x → w ≡ saw u i (a_word c next) → c ≢ Ready → SawUnready v w i
+seen_twice v u w i x c next look again unready = record {
+  word = a_word c next;
+  last = subst (λ (z : View). LastSeen i (a_word c next) z.looked.seen) (sym again) (inl (refl, refl));
+  unready = unready;
+  count = ap (λ (z : View). z.looked.count) again ∙ look.count;
+  others = λ k y apart was. subst (λ (z : View). LastSeen k y z.looked.seen) (sym again) (inr (apart, subst (LastSeen k y) (sym look.seen) (inr (apart, was))));
+}
+
+-- one more cell that was not ready
+pub unready_more : (from i : ℕ) (v w : View) → AreUnready from i v.looked.seen → SawUnready v w i → AreUnready from (i + 1) w.looked.seen
+unready_more from i v w was saw_it k above low = dite (ℕ_discrete k i)
+    (λ e. (saw_it.word, subst (λ (n : ℕ). LastSeen n saw_it.word w.looked.seen) (sym e) saw_it.last, saw_it.unready))
+    (λ ne. let r = was k above (omega (arith, low, ne)) in (r.0, saw_it.others k r.0 ne r.1, r.2))
+
+-- no cell was looked at yet
+pub unready_none : (n : ℕ) (v : View) → AreUnready n n v.looked.seen
+unready_none n v k above low = absurd (omega (arith, above, low))
+
+-- a worker without a task has none
+pub none_there : (x : Option Task) → is_some x ≡ false → x ≡ None
+none_there None e = refl
+none_there (Some t) e = let z : true ≡ false = e in absurd (cc)
