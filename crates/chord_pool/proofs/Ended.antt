@@ -41,7 +41,7 @@ sealed_for was before code limits id v slots drawn same s =
 module _ (code : Parts) (limits : Limits) (id : ℕ) (v : View) (slots : List (Option Parcel)) (drawn : ℕ) (s : IsSealed entries_of arguments_of IsParcelOf code limits id v slots drawn)
     (small : limits.events ≤ 65536) (here : v.gone ≡ false) (first : v.first ≡ true) (alone : v.lent ≡ 0)
     (bounds : (h : List Entry) → IsPast (code_program code limits) h → length h ≤ 65536 → AreWithin h)
-    (held es : List Entry) (is : es ≡ held ++ home_items slots limits.events) (same : IsPermutation held v.kept) where
+    (held es : List Entry) (is : es ≡ held ++ home_items slots drawn) (same : IsPermutation held v.kept) where
   -- the run has as many entries as the counter says, or as are allowed
   long : length s.unseen.journal ≡ min s.moment.count limits.events
   long = s.rule.agrees.stands.keeping.long

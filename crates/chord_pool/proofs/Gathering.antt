@@ -11,6 +11,7 @@ use native.Mathlib.Decide.{ℕ_discrete, dec_lt}
 use lib.ListN.{get_elem?}
 use Rattle.chord_base.specs.declared.event.Entry.{Entry}
 use Rattle.chord_base.specs.declared.event.Limits.{Limits}
+use Rattle.chord_base.specs.Messages.{Message}
 use Rattle.chord_base.specs.Story.{IsIn, kept}
 use Rattle.chord_base.proofs.Merged.{past_below}
 use Rattle.chord_base.proofs.Waits.{either}
@@ -21,12 +22,12 @@ use Rattle.chord_rule.specs.Agrees.{Agrees}
 use Rattle.chord_rule.specs.Keeping.{desk, parcel, at_desk, at_home, kept_at}
 use Rattle.chord_rule.specs.Kinds.{gone}
 use Rattle.chord_rule.specs.Moment.{Home}
-use Rattle.chord_rule.specs.Stages.{said_at}
+use Rattle.chord_rule.specs.Stages.{said_at, message_in}
 use Rattle.chord_rule.proofs.Keeping.{desk_keeps, parcel_keeps}
 use Rattle.chord_rule.proofs.KeepSteps.{place_of}
 use Rattle.chord_rule.proofs.Knowing as knowing
 use Rattle.chord_rule.proofs.Staging.{what_none}
-use Rattle.chord_rule.proofs.Standing.{in_kept, full_home, number_low, no_entry_blank}
+use Rattle.chord_rule.proofs.Standing.{in_kept, full_home, no_entry_blank}
 use Rattle.chord_word.specs.declared.cells.Cell.TheVariants as a_cell
 use Rattle.chord_word.specs.declared.cells.Word.{Word}
 use Rattle.chord_space.specs.Sealed.{IsSealed}
@@ -131,17 +132,21 @@ module _ (code : Parts) (limits : Limits) (id : ℕ) (v : View) (slots : List (O
   who : (j : ℕ) (w : View) → get_elem? s.moment.views j ≡ some w → (w ≡ v) ⊎ (w ≡ gone)
   who = knowing.who entries_of arguments_of keeps_to (code_program code limits) limits.events few s.moment s.unseen s.rule id v s.desk here first alone
 
-  -- a parcel is at home for a number of the table alone
-  low : (i : ℕ) (q : Parcel) → s.moment.homes i ≡ some (Some q) → i < limits.events
-  low i q home = dite (dec_lt i limits.events) (λ l. l) (λ far. absurd (⊎_elim
-      (λ x. far (number_low entries_of arguments_of keeps_to (code_program code limits) limits.events s.moment s.unseen law.stands i x.0 x.1))
-      (λ r. let none : said_at i s.unseen.journal ≡ None = what_none i s.unseen.journal (past_below (code_program code limits) s.unseen.journal i law.stands.keeping.merged.past (let k = law.stands.keeping.long in omega arith)) in
-      let z : a_cell.Empty ≡ a_cell.Ready = sym (ap (λ (w : Word). w.cell) (no_entry_blank entries_of arguments_of keeps_to (code_program code limits) limits.events s.moment s.unseen law.stands i none)) ∙ r in cc)
+  -- a parcel is at home for a number that was drawn alone
+  low : (i : ℕ) (q : Parcel) → s.moment.homes i ≡ some (Some q) → i < drawn
+  low i q home = dite (dec_lt i drawn) (λ l. l) (λ far.
+      let none : said_at i s.unseen.journal ≡ None = what_none i s.unseen.journal (past_below (code_program code limits) s.unseen.journal i law.stands.keeping.merged.past (let k = s.drawn_is in omega (arith, k, far))) in absurd (⊎_elim
+      (λ x. let z : ◌≡◌ {A = Option Message} None (Some x.0) = ap message_in (sym none) ∙ x.1 in cc)
+      (λ r. let z : a_cell.Empty ≡ a_cell.Ready = sym (ap (λ (w : Word). w.cell) (no_entry_blank entries_of arguments_of keeps_to (code_program code limits) limits.events s.moment s.unseen law.stands i none)) ∙ r in cc)
       (full_home entries_of arguments_of keeps_to (code_program code limits) limits.events s.moment s.unseen law.stands i q home)))
 
-  -- a place that keeps an entry is that of the closing desk or of a parcel of the table
+  -- a number that was drawn is one of the table
+  pub drawn_low : drawn ≤ limits.events
+  drawn_low = let d = s.drawn_is in let l = law.stands.keeping.long in omega (arith, d, l)
+
+  -- a place that keeps an entry is that of the closing desk or of a parcel of a number that was drawn
   abbrev IsKeeper : ℕ → Type 0
-  IsKeeper c = ((c == desk 0) || is_parcel_below limits.events c) ≡ true
+  IsKeeper c = ((c == desk 0) || is_parcel_below drawn c) ≡ true
 
   -- a desk that keeps an entry is the one that closes
   by_desk : (e : Entry) (j : ℕ) (x : maybe.Option View) → get_elem? s.moment.views j ≡ x → IsIn e (at_desk x) → IsKeeper (desk j)
@@ -150,11 +155,11 @@ module _ (code : Parts) (limits : Limits) (id : ℕ) (v : View) (slots : List (O
       (λ (y : w ≡ v). let zero_j : j ≡ 0 = law.firsts.leads j w there (ap (λ (z : View). z.first) y ∙ first) in rw (eq-eqb (desk j) (desk 0) (ap desk zero_j)) refl)
       (λ g. absurd (subst (λ (z : View). IsIn e z.kept) g i)) (who j w there)
 
-  -- a slot that keeps an entry is one of the table
+  -- a slot that keeps an entry is that of a number that was drawn
   by_home : (e : Entry) (i : ℕ) (x : Home Parcel) → s.moment.homes i ≡ x → IsIn e (at_home entries_of x) → IsKeeper (parcel i)
   by_home e i none there k = absurd k
   by_home e i (some None) there k = absurd k
-  by_home e i (some (Some q)) there k = rw (is_below limits.events i (low i q there)) (or_true (parcel i == desk 0))
+  by_home e i (some (Some q)) there k = rw (is_below drawn i (low i q there)) (or_true (parcel i == desk 0))
     where
       or_true : (b : Bool) → (b || true) ≡ true
       or_true true = refl
@@ -180,17 +185,17 @@ module _ (code : Parts) (limits : Limits) (id : ℕ) (v : View) (slots : List (O
       rw (is, h.2) (parcel_items h.0)
 
   -- what the closing desk keeps and the slots have in memory are the entries of the run
-  pub gathered : (held : List Entry) → IsPermutation held v.kept → IsPermutation (held ++ home_items slots limits.events) s.unseen.journal
+  pub gathered : (held : List Entry) → IsPermutation held v.kept → IsPermutation (held ++ home_items slots drawn) s.unseen.journal
   gathered held same =
       let mine : IsPermutation held (kept (λ k. place k == desk 0) s.unseen.journal) = subst (IsPermutation held) (sym desk_entries) same in
-      let homes = homes_keep slots place s.unseen.journal limits.events slot_keeps in
-      let both = parts_of (λ k. place k == desk 0) (λ k. is_parcel_below limits.events (place k)) s.unseen.journal apart in
-      let all : kept (λ k. (place k == desk 0) || is_parcel_below limits.events (place k)) s.unseen.journal ≡ s.unseen.journal = all_kept (λ k. (place k == desk 0) || is_parcel_below limits.events (place k)) s.unseen.journal kept_there in
-      subst (IsPermutation (held ++ home_items slots limits.events)) all (IsPermutation-trans _ _ _ (IsPermutation-append _ _ _ _ mine homes) both)
+      let homes = homes_keep slots place s.unseen.journal drawn (λ i l. slot_keeps i (let d = drawn_low in omega (arith, d, l))) in
+      let both = parts_of (λ k. place k == desk 0) (λ k. is_parcel_below drawn (place k)) s.unseen.journal apart in
+      let all : kept (λ k. (place k == desk 0) || is_parcel_below drawn (place k)) s.unseen.journal ≡ s.unseen.journal = all_kept (λ k. (place k == desk 0) || is_parcel_below drawn (place k)) s.unseen.journal kept_there in
+      subst (IsPermutation (held ++ home_items slots drawn)) all (IsPermutation-trans _ _ _ (IsPermutation-append _ _ _ _ mine homes) both)
     where
       no_parcel : (n : ℕ) → is_parcel_below n (desk 0) ≡ false
       no_parcel zero = refl
       no_parcel (suc n) = rw (ne_eqb (desk 0) (parcel n) (λ e. omega (arith, e))) (no_parcel n)
 
-      apart : (k : ℕ) → (place k == desk 0) ≡ true → is_parcel_below limits.events (place k) ≡ false
-      apart k e = ap (is_parcel_below limits.events) (eqb-true (place k) (desk 0) e) ∙ no_parcel limits.events
+      apart : (k : ℕ) → (place k == desk 0) ≡ true → is_parcel_below drawn (place k) ≡ false
+      apart k e = ap (is_parcel_below drawn) (eqb-true (place k) (desk 0) e) ∙ no_parcel drawn

@@ -45,17 +45,17 @@ fn take_home(
     }
 }
 
-/// Takes the parcels at home; the entries of their tasks go behind those that are there.
+/// Takes the parcels at home of the numbers below the count; the entries of their tasks go behind those that are there.
 fn take_homes(
     closed: &mut Closed<Parcel>,
-    events: u32,
+    count: u32,
     entries: &mut Vec<Entry>,
 ) -> Result<(), AllocError>
-    requires bounds { events ≤ closed.old.events }
-    ensures entries { IfOk result (λ _. entries.new.items ≡ entries.old.items ++ home_items (parcels closed.old) events) }
+    requires bounds { count ≤ closed.old.events }
+    ensures entries { IfOk result (λ _. entries.new.items ≡ entries.old.items ++ home_items (parcels closed.old) count) }
     ensures rest { (closed.new.drawn ≡ closed.old.drawn) × (closing_view closed.new ≡ closing_view closed.old) }
 {
-    for i in 0..events {
+    for i in 0..count {
         take_home(closed, i, entries)?;
     }
     Ok(())
@@ -91,7 +91,9 @@ pub(crate) fn finish(
     entries_are_within(code);
     let mut entries = entries;
     let mut closed = space.close(desk);
-    take_homes(&mut closed, limits.events, &mut entries)?;
+    // no parcel is at home for a number that was not drawn
+    let drawn = closed.drawn();
+    take_homes(&mut closed, drawn, &mut entries)?;
     let journal = gather(alloc, entries)?;
     let _within = journal.entries();
     Ok((journal, closed))

@@ -1,9 +1,10 @@
-use Rattle.std.proofs.Common.{◌≡◌, ap, ◌∙◌, subst, arith}
+use Rattle.std.proofs.Common.{◌≡◌, ℕ, ◌++◌, ap, ◌∙◌, subst, arith}
 use Rattle.chord_base.specs.declared.event.Limits.{Limits}
 use Rattle.chord_base.specs.Story.{IsIn}
 use Rattle.chord_rule.specs.declared.view.View.{View}
 use Rattle.chord_space.specs.Desks.{view, space_code, space_limits}
 use Rattle.chord_space.specs.Ends.{parcels}
+use Rattle.chord_pool.specs.Homes.{home_items}
 use Rattle.chord_pool.proofs.Ended.{IsGathered, sealed_for, of_run, ended}
 use Rattle.chord_pool.proofs.closing.finish.Goals as goal
 
@@ -13,7 +14,7 @@ gather-requires c =
     let same : (space_limits c.args.space).events ≡ limits.events = ap (λ (y : Limits). y.events) c.requires.code.1 in
     let s = sealed_for (space_code c.args.space) (space_limits c.args.space) code limits c.args.desk.seat.id (view c.args.desk) slots drawn c.requires.code c.close-closed.ensures.sealed in
     of_run code limits c.args.desk.seat.id (view c.args.desk) slots drawn s (omega (arith, sized, same)) c.args.desk.settled.6 c.requires.alone.0 c.requires.alone.1 (c.entries_are_within.ensures.within limits)
-    c.args.entries.items c.take_homes.new.entries.items c.in_ok-take_homes.ensures.entries c.requires.held
+    c.args.entries.items c.take_homes.new.entries.items (c.in_ok-take_homes.ensures.entries ∙ ap (λ (n : ℕ). c.args.entries.items ++ home_items slots n) c.drawn-drawn.ensures) c.requires.held
 
 -- what is known of the journal
 known : (c : goal.After-entries-within) → IsGathered c.args.code.now c.args.limits.now (view c.args.desk) c.close-closed.result.drawn c.in_ok-journal.journal
@@ -22,7 +23,7 @@ known c =
     let same : (space_limits c.args.space).events ≡ limits.events = ap (λ (y : Limits). y.events) c.requires.code.1 in
     let s = sealed_for (space_code c.args.space) (space_limits c.args.space) code limits c.args.desk.seat.id (view c.args.desk) slots drawn c.requires.code c.close-closed.ensures.sealed in
     ended code limits c.args.desk.seat.id (view c.args.desk) slots drawn s (omega (arith, sized, same)) c.args.desk.settled.6 c.requires.alone.0 c.requires.alone.1 (c.entries_are_within.ensures.within limits)
-    c.args.entries.items c.take_homes.new.entries.items c.in_ok-take_homes.ensures.entries c.requires.held c.in_ok-journal.journal c.in_ok-journal.ensures c.entries-within.ensures.within
+    c.args.entries.items c.take_homes.new.entries.items (c.in_ok-take_homes.ensures.entries ∙ ap (λ (n : ℕ). c.args.entries.items ++ home_items slots n) c.drawn-drawn.ensures) c.requires.held c.in_ok-journal.journal c.in_ok-journal.ensures c.entries-within.ensures.within
 
 pub returns-clause-run : goal.returns-clause-run
 returns-clause-run c = (known c).run
