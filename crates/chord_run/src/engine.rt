@@ -42,7 +42,7 @@ pub fn play_code<R: Threads + Wait + Sync, G: Gate + Sync>(
     ensures run { IfOk result (λ played. IsRun (code_program code.now request.now.limits) played.journal) }
     ensures few { IfOk result (λ played. length played.journal ≤ request.now.limits.events) }
     ensures whole { IfOk result (λ played. length played.journal < request.now.limits.events → IsComplete (code_program code.now request.now.limits) played.journal) }
-    ensures table { IfOk result (λ played. HasTable request.now.one (Some played.journal) played.table) }
+    ensures table { IfOk result (λ played. HasTable G.knows request.now.one request.now.workers (Some played.journal) played.table) }
 {
     match request.one {
         true => {

@@ -79,8 +79,9 @@ pub fn chord<R: Threads + Wait + Sync, S: Source, K: Sink, G: Gate + Sync>(
     ensures silent { IsSilent result.status → IsSilence result (K.taken sink.old) (K.taken sink.new) }
 
     // The report has the closed table of a run that workers made: as many draws on the table gave a number as the journal has
-    // entries, and each entry that the desk which closed it kept stands in the journal.
-    ensures table { (request : asked.Request) → Requests (argument_bytes arguments.now) request → HasTable request.one result.journal result.table }
+    // entries, each entry that the desk which closed it kept stands in the journal, and a desk was split from that one for each
+    // other worker that was asked for. The gate knows of `Main`.
+    ensures table { (request : asked.Request) → Requests (argument_bytes arguments.now) request → HasTable G.knows request.one request.workers result.journal result.table }
 
     // Each cause has its status, where the contents of source and sink are specified: what was due and was written whole is
     // never followed by 5.
@@ -108,7 +109,7 @@ fn answer<R: Threads + Wait + Sync, S: Source, K: Sink, G: Gate + Sync>(
     sink: &mut K,
     gate: &G,
 ) -> Report
-    ensures table { (request : asked.Request) → Requests (argument_bytes arguments.now) request → HasTable request.one result.journal result.table }
+    ensures table { (request : asked.Request) → Requests (argument_bytes arguments.now) request → HasTable G.knows request.one request.workers result.journal result.table }
     ensures not_accepted { result.status ≡ 2 → AreAccepted (argument_bytes arguments.now) → ⊥ }
     ensures accepted { (result.status ≡ 2) ⊎ (result.status ≡ 7) ⊎ AreAccepted (argument_bytes arguments.now) }
     ensures unread { result.status ≡ 2 → S.left source.new ≡ S.left source.old }
@@ -134,7 +135,7 @@ fn answer_request<R: Threads + Wait + Sync, S: Source, K: Sink, G: Gate + Sync>(
     gate: &G,
 ) -> Report
     requires { IsBounded request.now }
-    ensures table { HasTable request.now.one result.journal result.table }
+    ensures table { HasTable G.knows request.now.one request.now.workers result.journal result.table }
     ensures answered { IsSilence result (K.taken sink.old) (K.taken sink.new)
         ⊎ AnswersContents request.now (source_contents request.now (S.left source.old)) result (K.taken sink.old) (K.taken sink.new) }
     ensures not_silent { result.status ≡ 2 → ⊥ }
@@ -159,7 +160,7 @@ fn answer_made<R: Threads + Wait + Sync, K: Sink, G: Gate + Sync>(
     requires bounded { IsBounded request.now }
     requires from_one { 1 ≤ k }
     requires to_sixty { k ≤ 60 }
-    ensures table { HasTable request.now.one result.journal result.table }
+    ensures table { HasTable G.knows request.now.one request.now.workers result.journal result.table }
     ensures answered { IsSilence result (K.taken sink.old) (K.taken sink.new)
         ⊎ AnswersContents request.now (Some (load_text k)) result (K.taken sink.old) (K.taken sink.new) }
     ensures not_silent { result.status ≡ 2 → ⊥ }
@@ -182,7 +183,7 @@ fn answer_read<R: Threads + Wait + Sync, S: Source, K: Sink, G: Gate + Sync>(
     gate: &G,
 ) -> Report
     requires bounded { IsBounded request.now }
-    ensures table { HasTable request.now.one result.journal result.table }
+    ensures table { HasTable G.knows request.now.one request.now.workers result.journal result.table }
     ensures answered { IsSilence result (K.taken sink.old) (K.taken sink.new)
         ⊎ AnswersContents request.now (S.left source.old) result (K.taken sink.old) (K.taken sink.new) }
     ensures not_silent { result.status ≡ 2 → ⊥ }
@@ -208,7 +209,7 @@ fn answer_source<R: Threads + Wait + Sync, K: Sink, G: Gate + Sync>(
 ) -> Report
     requires short { IsShort source.now }
     requires bounded { IsBounded request.now }
-    ensures table { HasTable request.now.one result.journal result.table }
+    ensures table { HasTable G.knows request.now.one request.now.workers result.journal result.table }
     ensures answered { ReportsNoMemory result (K.taken sink.old) (K.taken sink.new)
         ⊎ AnswersSource request.now source.now result (K.taken sink.old) (K.taken sink.new) }
     ensures not_silent { result.status ≡ 2 → ⊥ }
@@ -235,7 +236,7 @@ fn answer_code<R: Threads + Wait + Sync, K: Sink, G: Gate + Sync>(
 ) -> Report
     requires bounded { IsBounded request.now }
     requires sound { IsSoundCode code.now }
-    ensures table { HasTable request.now.one result.journal result.table }
+    ensures table { HasTable G.knows request.now.one request.now.workers result.journal result.table }
     ensures answered { ReportsNoMemory result (K.taken sink.old) (K.taken sink.new)
         ⊎ ReportsCode request.now code.now result (K.taken sink.old) (K.taken sink.new) }
     ensures not_silent { result.status ≡ 2 → ⊥ }
@@ -307,7 +308,7 @@ fn run<R: Threads + Wait + Sync, K: Sink, G: Gate + Sync>(
 ) -> Report
     requires bounded { IsBounded request.now }
     requires sound { IsSoundCode code.now }
-    ensures table { HasTable request.now.one result.journal result.table }
+    ensures table { HasTable G.knows request.now.one request.now.workers result.journal result.table }
     ensures answered { ReportsNoMemory result (K.taken sink.old) (K.taken sink.new)
         ⊎ ReportsRun request.now (code_program code.now request.now.limits) result (K.taken sink.old) (K.taken sink.new) }
     ensures not_silent { result.status ≡ 2 → ⊥ }
