@@ -104,6 +104,24 @@ impl Cell {
             _ => None,
         }
     }
+
+    // The cell of this state and this waking message, where it is known that there is one.
+    fn of_state(state: u64, waker: u64) -> Cell
+        requires waker { waker < 65536 }
+        requires cell { (c : Cell) × (state_of c ≡ state) × (waker_of c ≡ waker) }
+        ensures back { (c : Cell) → state_of c ≡ state → waker_of c ≡ waker → result ≡ c }
+    {
+        match state {
+            0 => Cell::Empty,
+            1 => Cell::Pending,
+            2 => Cell::Claimed,
+            3 => Cell::Consumed,
+            4 => Cell::Woken(waker as u32),
+            5 => Cell::Ready,
+            6 => Cell::Started,
+            _ => unreachable!(),
+        }
+    }
 }
 
 /// The word of a bag's head, or the next of a cell: 0 for no message, else the message's number plus 1.
@@ -165,4 +183,28 @@ pub fn unpack(word: u64) -> Option<Word>
         cell,
         next: unpack_head(next),
     })
+}
+
+/// The cell of a word that was packed from one. It asks nothing of the word: who reads a cell of the table knows that each
+/// store there was of a packed cell.
+#[inline]
+pub fn unpack_cell(word: u64) -> Word
+    requires cell { (w : Word) × WordFits w × (word_of w ≡ word) }
+    ensures back { (w : Word) → WordFits w → word_of w ≡ word → result ≡ w }
+{
+    let state = part(word, 0, STATE_BITS);
+    let waker = part(word, WAKER_FROM, WAKER_BITS);
+    Word {
+        cell: Cell::of_state(state, waker),
+        next: unpack_next(word),
+    }
+}
+
+/// The next of a word that was packed from a cell.
+#[inline]
+pub fn unpack_next(word: u64) -> Option<u32>
+    requires cell { (w : Word) × WordFits w × (word_of w ≡ word) }
+    ensures next { (w : Word) → WordFits w → word_of w ≡ word → result ≡ w.next }
+{
+    unpack_head(part(word, NEXT_FROM, NEXT_BITS))
 }

@@ -3,7 +3,10 @@ ghost use Rattle.std.specs.Prelude.{◌≡◌, ℕ, ◌+◌, ◌*◌, ◌^◌, �
 ghost use Rattle.chord_word.specs.Cells.{WordFits};
 ghost use Rattle.chord_word.specs.Places.{PlaceFits};
 
-use crate::{Cell, Word, pack, pack_head, pack_place, unpack, unpack_head, unpack_place};
+use crate::{
+    Cell, Word, pack, pack_head, pack_place, unpack, unpack_cell, unpack_head, unpack_next,
+    unpack_place,
+};
 use chord_base::value::Object;
 use std::process::Abort;
 
@@ -11,8 +14,11 @@ use std::process::Abort;
 fn both_ways(rt: &impl Abort, word: Word, value: u64)
     requires fits { WordFits word }
 {
-    assert_eq!(rt; pack(&word), value, "{word:?}");
+    let packed = pack(&word);
+    assert_eq!(rt; packed, value, "{word:?}");
     assert_eq!(rt; unpack(value), Some(word), "{value}");
+    assert_eq!(rt; unpack_cell(packed), word, "{value}");
+    assert_eq!(rt; unpack_next(packed), word.next, "{value}");
 }
 
 #[test]
