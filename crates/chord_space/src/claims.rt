@@ -15,7 +15,7 @@ ghost use Rattle.chord_space.specs.Desks.{view, space_code, space_limits, progra
 use crate::plays::{Consume, GiveBack, Governed, Hold, ReturnSlot, Take};
 use crate::space::{Desk, Space};
 use chord_code::carry::Carry;
-use chord_word::{Cell, Word, pack, unpack};
+use chord_word::{Cell, Word, pack, unpack_cell, unpack_next};
 use std::marker::Brand;
 
 /// The word of a message's cell.
@@ -52,10 +52,7 @@ impl<P: Carry> Space<P> {
         if found == pending {
             return Ok(());
         }
-        match unpack(found) {
-            Some(word) => Err(word.cell),
-            None => unreachable!(),
-        }
+        Err(unpack_cell(found).cell)
     }
 
     // The next of a message that the desk has claimed: nobody else changes its cell.
@@ -72,10 +69,7 @@ impl<P: Carry> Space<P> {
             .table
             .shared
             .load::<Hold>(&mut desk.seat, 1 + i as usize);
-        match unpack(found) {
-            Some(word) => word.next,
-            None => unreachable!(),
-        }
+        unpack_next(found)
     }
 
     /// Gives back the claim on message i, with which no firing was drawn: its word is what it was before the claim.

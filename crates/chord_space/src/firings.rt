@@ -10,7 +10,7 @@ ghost use Rattle.chord_space.specs.Gives.{MayPost};
 use crate::plays::{GiveSlot, Governed, Post, Start, TakeSlot};
 use crate::space::{Desk, Space};
 use chord_code::carry::Carry;
-use chord_word::{Cell, Word, pack, unpack};
+use chord_word::{Cell, Word, pack, unpack_cell};
 use std::marker::Brand;
 
 /// The word of a firing's cell.
@@ -66,10 +66,7 @@ impl<P: Carry> Space<P> {
             words.load::<GiveSlot>(&mut desk.seat, 0);
             return Ok(parcel.unwrap());
         }
-        match unpack(found) {
-            Some(word) => Err(word.cell),
-            None => unreachable!(),
-        }
+        Err(unpack_cell(found).cell)
     }
 
     /// Starts firing f, whose parcel comes with its entries: the firing's own, and those of bodies that have ended or wait. Or gives

@@ -16,7 +16,7 @@ use crate::plays::{Headed, LayDown, Resting, SeeCell, SeeCount, SeeHead, SeePlac
 use crate::space::{Desk, Space};
 use chord_base::value::Object;
 use chord_code::carry::Carry;
-use chord_word::{Word, unpack, unpack_head, unpack_place};
+use chord_word::{Word, unpack_cell, unpack_head, unpack_place};
 use std::marker::Brand;
 
 /// The lesser of the counter and the limit.
@@ -92,10 +92,7 @@ impl<P: Carry> Space<P> {
             .table
             .shared
             .load::<SeeCell>(&mut desk.seat, 1 + i as usize);
-        match unpack(found) {
-            Some(word) => word,
-            None => unreachable!(),
-        }
+        unpack_cell(found)
     }
 
     /// The object and the method of message i, None exactly where the place word that the one load reads is 0. A message on which

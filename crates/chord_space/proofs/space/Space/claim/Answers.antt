@@ -7,11 +7,8 @@ use Rattle.atomic_table.specs.Table.{Allows, step}
 use Rattle.chord_code.specs.Meaning.{code_program}
 use Rattle.chord_word.specs.declared.cells.Cell.TheVariants as a_cell
 use Rattle.chord_word.specs.declared.cells.Word.{Word}
-use Rattle.chord_word.specs.Cells.{IsNoCell}
-use Rattle.chord_word.proofs.Packing.{some_cell}
 use Rattle.chord_rule.specs.Kinds.{saw}
 use Rattle.chord_rule.specs.Tells.{word, a_word, claims}
-use Rattle.chord_rule.proofs.Lists.{some_is}
 use Rattle.chord_rule.proofs.Moving.{claim_step}
 use Rattle.chord_space.specs.Ruled.{Ruled}
 use Rattle.chord_space.proofs.Nexts.{next_fits}
@@ -41,13 +38,13 @@ invariant_of-desk g c = let settled = c.args.desk.now.settled in let told = c.co
 pub returns-then-found-pending-clause-claimed : goal.returns-then-found-pending-clause-claimed
 returns-then-found-pending-clause-claimed g c = let told = c.compare_exchange-found.ensures.2 c.args.i c.args.next refl c.message_word-pending.ensures in let new = told.1 c.if-found-pending.true in (new.0, new.1, new.2)
 
-pub unreachable-requires : goal.unreachable-requires
-unreachable-requires g c = let told = c.compare_exchange-found.ensures.2 c.args.i c.args.next refl c.message_word-pending.ensures in let missed = told.2 c.if-found-pending.false in
-    some_cell missed.0 missed.1 (subst IsNoCell missed.3 (c.in-None.ensures.none.0 refl))
+pub unpack_cell-requires : goal.unpack_cell-requires
+unpack_cell-requires g c = let told = c.compare_exchange-found.ensures.2 c.args.i c.args.next refl c.message_word-pending.ensures in let missed = told.2 c.if-found-pending.false in
+    record { cell = (missed.0, missed.1, sym missed.3) }
 
 pub returns-clause-refused : goal.returns-clause-refused
 returns-clause-refused g c = let told = c.compare_exchange-found.ensures.2 c.args.i c.args.next refl c.message_word-pending.ensures in let missed = told.2 c.if-found-pending.false in
-    let same : missed.0 ≡ c.in-Some.word = some_is missed.0 c.in-Some.word (sym (c.unpack.ensures.back missed.0 missed.1 (sym missed.3)) ∙ c.in-Some.is) in
+    let same : missed.0 ≡ c.unpack_cell.result = sym (c.unpack_cell.ensures.back missed.0 missed.1 (sym missed.3)) in
     subst (λ (w : Word). (w.cell ≢ a_cell.Pending) × ((next : Option ℕ) × (c.compare_exchange-found.new.seat.me.0 ≡ saw c.args.desk.now.seat.me.0 c.args.i (a_word w.cell next)))) same (missed.2, (missed.0.next, missed.4))
 
 pub returns-clause-alone : goal.returns-clause-alone

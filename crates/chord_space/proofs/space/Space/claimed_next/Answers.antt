@@ -3,12 +3,9 @@ use mathlib.Core.Option.{none}
 use Rattle.atomic_table.specs.Table.{Me, Allows, step}
 use Rattle.chord_code.specs.Meaning.{code_program}
 use Rattle.chord_word.specs.declared.cells.Cell.TheVariants as a_cell
-use Rattle.chord_word.specs.declared.cells.Word.{Word}
-use Rattle.chord_word.specs.Cells.{IsNoCell}
-use Rattle.chord_word.proofs.Packing.{some_cell}
+use Rattle.chord_word.specs.Cells.{WordFits}
 use Rattle.chord_rule.specs.declared.view.View.{View}
 use Rattle.chord_rule.specs.Tells.{a_word, holds}
-use Rattle.chord_rule.proofs.Lists.{some_is}
 use Rattle.chord_rule.proofs.Moving.{claim_word_step}
 use Rattle.chord_space.specs.Ruled.{Ruled}
 use Rattle.chord_space.proofs.Settling.{settling, stays_settled}
@@ -30,13 +27,17 @@ invariant_of-desk g c = let settled = c.args.desk.now.settled in let told = c.lo
   settled = (let t = stays_settled c.args.desk.now.above (settling c.args.desk.now.seat.me.0) (settling c.load-found.new.seat.me.0) (ap (λ (m : Me (Option g.row.P.Denot) View). settling m.0) told.0) (settled.1, settled.2, settled.3, settled.4, settled.5, settled.6, settled.7) in (ap (λ (m : Me (Option g.row.P.Denot) View). m.1) told.0 ∙ settled.0, t.0, t.1, t.2, t.3, t.4, t.5, t.6));
 }
 
-pub unreachable-requires : goal.unreachable-requires
-unreachable-requires g c = let claim = c.requires.claimed in let t = c.load-found.ensures.2.1 claim.0 claim.1 (ap (λ (k : ℕ). 1 + k) (sym claim.2)) in
-    some_cell (a_word a_cell.Claimed claim.0.next) t.1 (subst IsNoCell t.0 (c.in-None.ensures.none.0 refl))
+pub unpack_next-requires : goal.unpack_next-requires
+unpack_next-requires g c = let claim = c.requires.claimed in let t = c.load-found.ensures.2.1 claim.0 claim.1 (ap (λ (k : ℕ). 1 + k) (sym claim.2)) in
+    record { cell = (a_word a_cell.Claimed claim.0.next, t.1, sym t.0) }
 
 pub returns-clause-next : goal.returns-clause-next
 returns-clause-next g c = λ claim has num. let t = c.load-found.ensures.2.1 claim has (ap (λ (k : ℕ). 1 + k) (sym num)) in
-    ap (λ (w : Word). w.next) (some_is c.in-Some.word (a_word a_cell.Claimed claim.next) (sym c.in-Some.is ∙ c.unpack.ensures.back (a_word a_cell.Claimed claim.next) t.1 (sym t.0)))
+    c.unpack_next.ensures.next (a_word a_cell.Claimed claim.next) t.1 (sym t.0)
+
+pub returns-clause-fits : goal.returns-clause-fits
+returns-clause-fits g c = let claim = c.requires.claimed in let t = c.load-found.ensures.2.1 claim.0 claim.1 (ap (λ (k : ℕ). 1 + k) (sym claim.2)) in
+    subst (λ (n : Option ℕ). WordFits (a_word a_cell.Claimed n)) (sym (c.unpack_next.ensures.next (a_word a_cell.Claimed claim.0.next) t.1 (sym t.0))) t.1
 
 pub returns-clause-one : goal.returns-clause-one
 returns-clause-one g c = λ a b has there num other. c.load-found.ensures.2.2 a b has there (num ∙ sym other)

@@ -3,10 +3,7 @@ use mathlib.Core.Option.{none}
 use Rattle.atomic_table.specs.Table.{Allows, step}
 use Rattle.chord_code.specs.Meaning.{code_program}
 use Rattle.chord_word.specs.declared.cells.Word.{Word}
-use Rattle.chord_word.specs.Cells.{IsNoCell}
-use Rattle.chord_word.proofs.Packing.{some_cell}
 use Rattle.chord_rule.specs.Tells.{IsLook, looks_cell}
-use Rattle.chord_rule.proofs.Lists.{some_is}
 use Rattle.chord_rule.proofs.Seeing.{look_cell_step}
 use Rattle.chord_space.specs.Ruled.{Ruled}
 use Rattle.chord_space.proofs.Settling.{settling, stays_settled}
@@ -28,10 +25,10 @@ invariant_of-desk g c = let settled = c.args.desk.now.settled in let told = c.lo
   settled = (let t = stays_settled c.args.desk.now.above (settling c.args.desk.now.seat.me.0) (settling c.load-found.new.seat.me.0) (ap settling told.3.looked) (settled.1, settled.2, settled.3, settled.4, settled.5, settled.6, settled.7) in (told.4 ∙ settled.0, t.0, t.1, t.2, t.3, t.4, t.5, t.6));
 }
 
-pub unreachable-requires : goal.unreachable-requires
-unreachable-requires g c = let told = c.load-found.ensures.2 c.args.i refl in some_cell told.0 told.1 (subst IsNoCell told.2 (c.in-None.ensures.none.0 refl))
+pub unpack_cell-requires : goal.unpack_cell-requires
+unpack_cell-requires g c = let told = c.load-found.ensures.2 c.args.i refl in record { cell = (told.0, told.1, sym told.2) }
 
 pub returns-clause-looked : goal.returns-clause-looked
 returns-clause-looked g c = let told = c.load-found.ensures.2 c.args.i refl in let sized = c.args.self.now.sized in
-    let same : told.0 ≡ c.in-Some.word = some_is told.0 c.in-Some.word (sym (c.unpack.ensures.back told.0 told.1 (sym told.2)) ∙ c.in-Some.is) in
+    let same : told.0 ≡ c.unpack_cell.result = sym (c.unpack_cell.ensures.back told.0 told.1 (sym told.2)) in
     subst (λ (y : ℕ × Word). IsLook y.0 c.args.desk.now.seat.me.0 c.load-found.new.seat.me.0 c.args.i y.1) (λ k. (sized.2 k, same k)) told.3

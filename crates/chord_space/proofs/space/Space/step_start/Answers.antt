@@ -6,8 +6,7 @@ use Rattle.atomic_table.specs.Table.{Me, Allows, step, rest}
 use Rattle.chord_base.specs.declared.event.Limits.{Limits}
 use Rattle.chord_code.specs.declared.parts.Parts.{Parts}
 use Rattle.chord_code.specs.Meaning.{code_program}
-use Rattle.chord_word.specs.Cells.{link_of, IsNoCell}
-use Rattle.chord_word.proofs.Packing.{some_cell}
+use Rattle.chord_word.specs.Cells.{link_of}
 use Rattle.chord_rule.specs.Coming.{ComesWithFiring}
 use Rattle.chord_rule.specs.declared.view.View.{View}
 use Rattle.chord_rule.specs.Kinds.{firing_started, played, saw}
@@ -17,7 +16,6 @@ use Rattle.chord_space.specs.Ruled.{Ruled}
 use Rattle.chord_space.proofs.Under.{under_rule}
 use Rattle.chord_rule.proofs.Moving.{start_step, play_step}
 use Rattle.chord_word.specs.declared.cells.Word.{Word}
-use Rattle.chord_rule.proofs.Lists.{some_is}
 use Rattle.chord_space.proofs.Slots.{out_slot}
 use Rattle.chord_space.proofs.space.Space.step_start.Goals as goal
 
@@ -111,11 +109,11 @@ invariant_of-desk-else-found-ready g c = let settled = c.args.desk.now.settled i
       );
     }
 
-pub unreachable-requires : goal.unreachable-requires
-unreachable-requires g c = let missed = (c.compare_exchange-found.ensures.2 c.args.f refl).1 c.if-found-ready.false in
-    some_cell missed.1.0 missed.1.1 (subst IsNoCell missed.1.3 (c.in-None.ensures.none.0 refl))
+pub unpack_cell-requires : goal.unpack_cell-requires
+unpack_cell-requires g c = let missed = (c.compare_exchange-found.ensures.2 c.args.f refl).1 c.if-found-ready.false in
+    record { cell = (missed.1.0, missed.1.1, sym missed.1.3) }
 
 pub returns-clause-refused : goal.returns-clause-refused
 returns-clause-refused g c = let missed = (c.compare_exchange-found.ensures.2 c.args.f refl).1 c.if-found-ready.false in
-    let same : missed.1.0 ≡ c.in-Some.word = some_is missed.1.0 c.in-Some.word (sym (c.unpack.ensures.back missed.1.0 missed.1.1 (sym missed.1.3)) ∙ c.in-Some.is) in
+    let same : missed.1.0 ≡ c.unpack_cell.result = sym (c.unpack_cell.ensures.back missed.1.0 missed.1.1 (sym missed.1.3)) in
     subst (λ (w : Word). (w.cell ≢ a_cell.Ready) × ((next : Option ℕ) × (c.compare_exchange-found.new.seat.me.0 ≡ saw c.args.desk.now.seat.me.0 c.args.f (a_word w.cell next)))) same (missed.1.2, (missed.1.0.next, missed.1.4))
