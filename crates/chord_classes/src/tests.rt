@@ -9,80 +9,92 @@ use chord_tree::names::Name;
 use chord_tree::stmts::Block;
 use std::alloc::{AllocError, Global};
 use std::process::Abort;
-use std::test::Fail;
 
-fn named(alloc: Global, bytes: &[u8]) -> Result<Name, AllocError> {
-    match Text::of_bytes(alloc, bytes) {
+/// The letters of a class, of its base and of its method; a blank for no base.
+const CLASSES: [[u8; 3]; 3] = [*b"A m", *b"BAn", *b"ABm"];
+
+/// A class, a method's letter, and the number and owner of what is found.
+type Case = (u32, u8, Option<(u32, u32)>);
+
+const CASES: [Case; 6] = [
+    (0, b'm', Some((0, 0))),
+    (0, b'n', None),
+    (1, b'm', Some((0, 0))),
+    (1, b'n', Some((1, 1))),
+    (2, b'm', Some((0, 0))),
+    (3, b'm', None),
+];
+
+fn named(alloc: Global, letter: u8) -> Result<Name, AllocError> {
+    match Text::of_bytes(alloc, &[letter]) {
         Ok(text) => Ok(Name::new(text, 0)),
         Err(_) => Err(AllocError),
     }
 }
 
-/// A class with a chord of one asynchronous method.
-fn class(
-    alloc: Global,
-    name: &[u8],
-    base: Option<Name>,
-    method: &[u8],
-) -> Result<Class, AllocError> {
-    let header = Header {
-        modifiers: Vec::new(alloc),
-        result_type: ReturnType::Async { at: 0 },
-        name: named(alloc, method)?,
-        formals: Formals {
-            at: 0,
-            parameters: Vec::new(alloc),
-        },
-    };
-    let mut headers = Vec::new(alloc);
-    headers.push(header)?;
-    let body = Block {
-        items: Vec::new(alloc),
-        end: 0,
-    };
-    let mut members = Vec::new(alloc);
-    members.push(Member::Chord { headers, body })?;
-    Ok(Class {
-        public: None,
-        name: named(alloc, name)?,
-        base,
-        members,
-        end: 0,
-    })
+fn base_named(alloc: Global, letter: u8) -> Result<Option<Name>, AllocError> {
+    if letter == b' ' {
+        return Ok(None);
+    }
+    let name = named(alloc, letter)?;
+    Ok(Some(name))
 }
 
-/// A class, a method's name, and the number and owner of what is found.
-type Case = (u32, &'static [u8], Option<(u32, u32)>);
+fn one<T: Drop>(alloc: Global, item: T) -> Result<Vec<T>, AllocError> {
+    let mut items = Vec::new(alloc);
+    items.push(item)?;
+    Ok(items)
+}
 
-fn finds(rt: &impl Abort, table: &Table, case: &Case) {
-    let found = match table.method_named(case.0, case.1) {
+/// An asynchronous method.
+fn header(alloc: Global, name: Name) -> Header {
+    let formals = Formals::new(0, Vec::new(alloc));
+    Header::new(Vec::new(alloc), ReturnType::asynchronous(0), name, formals)
+}
+
+/// A chord of one asynchronous method.
+fn members(alloc: Global, method: u8) -> Result<Vec<Member>, AllocError> {
+    let name = named(alloc, method)?;
+    let headers = one(alloc, header(alloc, name))?;
+    one(
+        alloc,
+        Member::chord(headers, Block::new(Vec::new(alloc), 0)),
+    )
+}
+
+fn class(alloc: Global, [own, base, method]: [u8; 3]) -> Result<Class, AllocError> {
+    let name = named(alloc, own)?;
+    let base = base_named(alloc, base)?;
+    let members = members(alloc, method)?;
+    Ok(Class::new(None, name, base, members, 0))
+}
+
+fn classes(alloc: Global) -> Result<Vec<Class>, AllocError> {
+    let mut classes = Vec::new(alloc);
+    for letters in CLASSES {
+        let class = class(alloc, letters)?;
+        classes.push(class)?;
+    }
+    Ok(classes)
+}
+
+fn table<'a>(alloc: Global, classes: &'a [Class]) -> Result<Table<'a>, AllocError> {
+    let mut table = Table::new(alloc);
+    for class in classes {
+        table = with_class(alloc, table, class)?;
+    }
+    Ok(table)
+}
+
+fn finds(rt: &impl Abort, table: &Table, (class, letter, wanted): Case) {
+    let found = match table.method_named(class, &[letter]) {
         Some(found) => Some((found.number, found.method.owner)),
         None => None,
     };
-    assert_eq!(rt; found, case.2, "a method of class {}", case.0);
+    assert_eq!(rt; found, wanted, "a method of class {class}");
 }
 
-#[test]
-fn methods_are_inherited_by_number(rt: HostRuntime) -> Result<(), Fail> {
-    let alloc = rt.alloc();
-    let first = class(alloc, b"A", None, b"m")?;
-    let derived = class(alloc, b"B", Some(named(alloc, b"A")?), b"n")?;
-    let again = class(alloc, b"A", Some(named(alloc, b"B")?), b"m")?;
-    let mut table = Table::new(alloc);
-    for class in [&first, &derived, &again] {
-        table = with_class(alloc, table, class)?;
-    }
-    let cases: [Case; 6] = [
-        (0, b"m", Some((0, 0))),
-        (0, b"n", None),
-        (1, b"m", Some((0, 0))),
-        (1, b"n", Some((1, 1))),
-        (2, b"m", Some((0, 0))),
-        (3, b"m", None),
-    ];
-    for case in &cases {
-        finds(&rt, &table, case);
-    }
+fn derives(rt: &impl Abort, table: &Table) {
     assert_eq!(rt;
         table.class_named(b"A"),
         Some(0),
@@ -91,6 +103,16 @@ fn methods_are_inherited_by_number(rt: HostRuntime) -> Result<(), Fail> {
     assert_eq!(rt; table.class_named(b"C"), None, "no class");
     assert_eq!(rt; table.derives(2, 0), true, "along two bases");
     assert_eq!(rt; table.derives(0, 2), false, "not the other way");
+}
+
+#[test]
+fn methods_are_inherited_by_number(rt: HostRuntime) -> Result<(), AllocError> {
+    let classes = classes(rt.alloc())?;
+    let table = table(rt.alloc(), &classes)?;
+    for case in CASES {
+        finds(&rt, &table, case);
+    }
+    derives(&rt, &table);
     Ok(())
 }
 
