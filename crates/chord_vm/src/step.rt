@@ -273,7 +273,7 @@ fn store(frames: &mut Frames, i: usize)
 }
 
 /// The operators of two operands. The right one stands on top.
-#[inline(never)]
+#[inline(always)]
 fn operate(
     alloc: Global,
     frames: &mut Frames,
