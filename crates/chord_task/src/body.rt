@@ -14,6 +14,7 @@ use chord_vm::ask::Ask;
 use chord_vm::frames::{Frames, answer};
 use chord_vm::step::advance;
 use std::alloc::{AllocError, Global};
+use std::mem;
 
 /// What a body does next.
 #[derive(Drop)]
@@ -41,6 +42,17 @@ pub struct Body {
     pub next: Next,
 }
 
+/// What a body that ran does next. There is nothing to drop in its place, which an assignment would not know.
+fn put(place: &mut Next, next: Next)
+    requires runs { place.old ≡ Next.Runs }
+    ensures put { place.new ≡ next }
+{
+    match mem::replace(place, next) {
+        Next::Runs => {}
+        _ => unreachable!(),
+    }
+}
+
 /// The body comes to its next ask.
 pub(crate) fn come_to_ask(
     alloc: Global,
@@ -65,23 +77,26 @@ pub(crate) fn come_to_ask(
 
 /// The frames of the body run on to its next ask.
 fn run_on(alloc: Global, code: &Code, body: &mut Body, limits: &Limits) -> Result<(), AllocError>
-    requires { ComesToAsk code.now (machine_of body.old.frames.value) }
+    requires asks { ComesToAsk code.now (machine_of body.old.frames.value) }
+    requires runs { body.old.next ≡ Next.Runs }
     ensures number { body.new.number ≡ body.old.number }
     ensures asked { OnOk result (HasRun code.now body.old.frames.value body.new) }
 {
     // each arm writes on its own: what arms hand on is merged field by field, which takes longer than the rest of a turn
     match advance(alloc, code, &mut *body.frames, limits)? {
-        Ask::Make(class) => body.next = Next::Gave(What::Made(class)),
+        Ask::Make(class) => put(&mut body.next, Next::Gave(What::Made(class))),
         Ask::Send(object, method, arguments) => {
-            body.next = Next::Gave(What::Sent(object, method, arguments));
+            let what = What::Sent(object, method, arguments);
+            put(&mut body.next, Next::Gave(what));
         }
         Ask::Call(object, method, arguments) => {
-            body.next = Next::Gave(What::Called(object, method, arguments));
+            let what = What::Called(object, method, arguments);
+            put(&mut body.next, Next::Gave(what));
         }
-        Ask::Print(text) => body.next = Next::Gave(What::Printed(text)),
+        Ask::Print(text) => put(&mut body.next, Next::Gave(What::Printed(text))),
         Ask::End(first) => {
             let second = first.copied(alloc)?;
-            body.next = Next::Ends(first, second);
+            put(&mut body.next, Next::Ends(first, second));
         }
     }
     Ok(())
@@ -91,17 +106,18 @@ fn run_on(alloc: Global, code: &Code, body: &mut Body, limits: &Limits) -> Resul
 fn reply(body: &mut Body, value: Value)
     requires ready { IsReady body.old.frames.value.awaited body.old.frames.value }
     requires fits { with_answer (machine_of body.old.frames.value) body.old.frames.value.awaited value ≢ None }
+    requires runs { body.old.next ≡ Next.Runs }
     ensures number { body.new.number ≡ body.old.number }
     ensures answered { AnsweredWith (Some value) 0 body.old.frames.value body.new }
 {
     answer(&mut *body.frames, value);
-    body.next = Next::Runs;
 }
 
 /// The body's ask became the entry of this number.
 pub(crate) fn note_ask(body: &mut Body, number: u32, what: &What)
     requires own { IsAnsweredByNote what.now }
     requires may { MayAnswer (answer_of number what.now) body.old.frames.value }
+    requires runs { body.old.next ≡ Next.Runs }
     ensures number { body.new.number ≡ body.old.number }
     ensures answered { AnsweredWith (answer_of number what.now) number body.old.frames.value body.new }
 {
@@ -112,7 +128,7 @@ pub(crate) fn note_ask(body: &mut Body, number: u32, what: &What)
         }
         What::Sent(..) => reply(body, Value::Unit),
         What::Printed(_) => reply(body, Value::Unit),
-        What::Called(..) => body.next = Next::Waits(number),
+        What::Called(..) => put(&mut body.next, Next::Waits(number)),
         _ => unreachable!(),
     }
 }
@@ -124,7 +140,10 @@ pub(crate) fn call_back(caller: &mut Body, end: End)
     ensures { CalledBack end caller.old caller.new }
 {
     match end {
-        End::Gives(value) => reply(caller, value),
+        End::Gives(value) => {
+            answer(&mut *caller.frames, value);
+            caller.next = Next::Runs;
+        }
         End::Traps(trap) => caller.next = Next::Fails(trap),
     }
 }

@@ -5,7 +5,7 @@ ghost use Rattle.std.specs.Prelude.{◌≡◌, ◌≢◌, ℕ, suc, ◌+◌, ◌
 ghost use Rattle.chord_base.specs.Operators.{Computed, Is, Trapped, Mistyped, compute as compute_of, text_of, negated, denied, IsComputed};
 ghost use Rattle.chord_code.specs.Valid.{IsValid};
 ghost use Rattle.chord_code.specs.Within.{IsInstructionWithin};
-ghost use Rattle.chord_code.specs.Machine.{Did, Goes, Asking, Bad, act, operate as operate_of, negates, denies, skips, again as again_of, if_deeper, makes_object, builder_of, init_by, fetch, ComesToAsk, loads, store_top, pops, send_by, call_by, print_top, end_with};
+ghost use Rattle.chord_code.specs.Machine.{Did, Goes, Asking, Bad, act, operate as operate_of, negates, denies, skips, again as again_of, if_deeper, makes_object, builder_of, init_by, fetch, ComesToAsk, loads, store_top, pops, pop_top, goes_back, send_by, call_by, print_top, end_with};
 ghost use Rattle.chord_vm.specs.Frames.{shown_frame, machine_of, WentOn, frame_with, Advanced, IsMoved};
 
 use crate::ask::Ask;
@@ -74,16 +74,10 @@ fn step(
     match instruction {
         Instruction::Int(number) => push_value(frames, Value::Int(*number))?,
         Instruction::Flag(flag) => push_value(frames, Value::Flag(*flag))?,
-        Instruction::Text(text) => {
-            let text = text.copied(alloc)?;
-            push_value(frames, Value::Text(text))?
-        }
+        Instruction::Text(text) => push_text(alloc, frames, text)?,
         Instruction::Load(slot) => load(alloc, frames, *slot as usize)?,
         Instruction::Store(slot) => store(frames, *slot as usize),
-        Instruction::Drop => {
-            let _ = take(&mut frames.top);
-            frames.top.place += 1;
-        }
+        Instruction::Drop => drop_top(frames),
         Instruction::Neg => negated_top(frames)?,
         Instruction::Not => denied_top(frames)?,
         Instruction::Add => return operate(alloc, frames, Operation::Add, asked),
@@ -108,7 +102,7 @@ fn step(
         Instruction::Print => return print(alloc, frames, asked),
         Instruction::End => return end(asked),
         Instruction::Endv => return end_with_top(frames, asked),
-        Instruction::Back => frames.top = frames.below.take_last(),
+        Instruction::Back => back(frames),
     }
     Ok(true)
 }
@@ -142,7 +136,37 @@ fn end_with_top(frames: &mut Frames, asked: &mut Option<Ask>) -> Step
     Ok(false)
 }
 
-/// `int`, `flag` and `text`.
+/// `text`.
+#[inline(never)]
+fn push_text(alloc: Global, frames: &mut Frames, text: &Text) -> Result<(), AllocError>
+    requires { frames.old.top.place + 1 < 2 ^ 64 }
+    ensures { OnOk result (loads (machine_of frames.old) (Some (Value.Text text.now)) ≡ Goes (machine_of frames.new)) }
+{
+    let text = text.copied(alloc)?;
+    push_value(frames, Value::Text(text))
+}
+
+/// `drop`.
+#[inline(never)]
+fn drop_top(frames: &mut Frames)
+    requires fits { frames.old.top.place + 1 < 2 ^ 64 }
+    requires sound { pop_top (machine_of frames.old) (machine_of frames.old).top.stack ≢ Bad }
+    ensures { pop_top (machine_of frames.old) (machine_of frames.old).top.stack ≡ Goes (machine_of frames.new) }
+{
+    let _ = take(&mut frames.top);
+    frames.top.place += 1;
+}
+
+/// `back`: the builder at work is done.
+#[inline(never)]
+fn back(frames: &mut Frames)
+    requires sound { goes_back (machine_of frames.old) (machine_of frames.old).below ≢ Bad }
+    ensures { goes_back (machine_of frames.old) (machine_of frames.old).below ≡ Goes (machine_of frames.new) }
+{
+    frames.top = frames.below.take_last();
+}
+
+/// `int` and `flag`.
 #[inline(always)]
 fn push_value(frames: &mut Frames, value: Value) -> Result<(), AllocError>
     requires { frames.old.top.place + 1 < 2 ^ 64 }
@@ -152,7 +176,7 @@ fn push_value(frames: &mut Frames, value: Value) -> Result<(), AllocError>
 }
 
 /// `neg`.
-#[inline(always)]
+#[inline(never)]
 fn negated_top(frames: &mut Frames) -> Result<(), AllocError>
     requires fits { frames.old.top.place + 1 < 2 ^ 64 }
     requires sound { negates (machine_of frames.old) (machine_of frames.old).top.stack ≢ Bad }
@@ -163,7 +187,7 @@ fn negated_top(frames: &mut Frames) -> Result<(), AllocError>
 }
 
 /// `not`.
-#[inline(always)]
+#[inline(never)]
 fn denied_top(frames: &mut Frames) -> Result<(), AllocError>
     requires fits { frames.old.top.place + 1 < 2 ^ 64 }
     requires sound { denies (machine_of frames.old) (machine_of frames.old).top.stack ≢ Bad }
@@ -199,9 +223,9 @@ fn print(alloc: Global, frames: &mut Frames, asked: &mut Option<Ask>) -> Step
     Ok(false)
 }
 
-/// `load`.
-#[inline(always)]
-fn load(alloc: Global, frames: &mut Frames, slot: usize) -> Result<(), AllocError>
+/// A copy of a value that may be a text is pushed.
+#[inline(never)]
+fn push_copy(alloc: Global, frames: &mut Frames, slot: usize) -> Result<(), AllocError>
     requires fits { frames.old.top.place + 1 < 2 ^ 64 }
     requires sound { loads (machine_of frames.old) (slice_get frames.old.top.slots.items slot) ≢ Bad }
     ensures { OnOk result (loads (machine_of frames.old) (slice_get frames.old.top.slots.items slot) ≡ Goes (machine_of frames.new)) }
@@ -210,8 +234,29 @@ fn load(alloc: Global, frames: &mut Frames, slot: usize) -> Result<(), AllocErro
         None => unreachable!(),
         Some(value) => {
             let value = value.copied(alloc)?;
-            push(&mut frames.top, value)
+            push_value(frames, value)
         }
+    }
+}
+
+/// `load`. A number and an object are written where they are pushed.
+#[inline(always)]
+fn load(alloc: Global, frames: &mut Frames, slot: usize) -> Result<(), AllocError>
+    requires fits { frames.old.top.place + 1 < 2 ^ 64 }
+    requires sound { loads (machine_of frames.old) (slice_get frames.old.top.slots.items slot) ≢ Bad }
+    ensures { OnOk result (loads (machine_of frames.old) (slice_get frames.old.top.slots.items slot) ≡ Goes (machine_of frames.new)) }
+{
+    match frames.top.slots.get(slot) {
+        None => unreachable!(),
+        Some(Value::Int(number)) => {
+            let number = *number;
+            push_value(frames, Value::Int(number))
+        }
+        Some(Value::Ref(object)) => {
+            let object = *object;
+            push_value(frames, Value::Ref(object))
+        }
+        Some(_) => push_copy(alloc, frames, slot),
     }
 }
 
