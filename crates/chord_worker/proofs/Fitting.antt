@@ -1,12 +1,11 @@
 -- Which body of a task waits for the message with which the task comes: the one on top.
-use Rattle.std.proofs.Common.{◌≡◌, ◌≢◌, ◌⊎◌, inl, inr, ⊎_elim, ℕ, ◌+◌, ◌-◌, ◌<◌, ◌≤◌, ◌==◌, true, false, Bool, List, [], ◌∷◌, ◌++◌, length, Option, Some, None, refl, sym, ap, ◌∙◌, subst, zero, suc, arith}
+use Rattle.std.proofs.Common.{◌≡◌, ◌≢◌, inl, inr, ⊎_elim, ℕ, ◌+◌, ◌-◌, ◌<◌, ◌≤◌, ◌==◌, true, false, Bool, List, [], ◌∷◌, ◌++◌, length, Option, Some, None, refl, sym, ap, ◌∙◌, subst, zero, suc, arith}
 use Rattle.std.proofs.lemmas.Bool.{eqb-true}
 use Rattle.chord_base.specs.Meaning.{Program, Start, HasOneSync}
 use Rattle.chord_base.specs.Machine.{IsPast, Comes}
 use Rattle.chord_base.specs.Messages.{has, maker, members_of, IsCall}
 use Rattle.chord_base.specs.Bodies.{Doing, Absent, Unplaced, Ready, Waits, Over, WaitsFor, replied, waiting, placed, begun, begun_by, own, answered, heard, served, serves, doing, Asks}
 use Rattle.chord_base.specs.Story.{IsIn, IsSound, IsMerged, kept}
-use Rattle.chord_base.specs.declared.value.Value as value
 use Rattle.chord_base.specs.declared.event.End.{End}
 use Rattle.chord_base.specs.declared.event.Limits.{Limits}
 use Rattle.chord_base.specs.declared.event.What.{What}

@@ -8,7 +8,6 @@ use Rattle.chord_base.specs.declared.event.Entry.{Entry}
 use Rattle.chord_base.specs.declared.event.Limits.{Limits}
 use Rattle.chord_base.specs.declared.value.Object.{Object}
 use Rattle.chord_base.specs.declared.value.Value as value
-use Rattle.chord_base.specs.Story.{kept}
 use Rattle.chord_bag.specs.Reads.{messages_and_bags}
 use Rattle.chord_code.specs.declared.parts.Parts.{Parts}
 use Rattle.chord_rule.specs.declared.view.Duty.{Duty}
