@@ -1,5 +1,5 @@
 -- A task that came to its ask is played on by the worker that it was played by.
-use Rattle.std.proofs.Common.{◌≡◌, ◌≢◌, ℕ, Bool, true, List, Option, Some, None, refl, sym, ap, ◌∙◌, subst}
+use Rattle.std.proofs.Common.{◌≡◌, Bool, List, Option, Some, sym, ap, subst}
 use Rattle.chord_base.specs.declared.event.Entry.{Entry}
 use Rattle.chord_base.specs.declared.event.Limits.{Limits}
 use Rattle.chord_base.specs.declared.event.What.{What}
@@ -7,12 +7,12 @@ use Rattle.chord_code.specs.declared.parts.Parts.{Parts}
 use Rattle.chord_code.specs.Meaning.{code_program}
 use Rattle.chord_rule.specs.Closing.{AreQuiet}
 use Rattle.chord_rule.specs.Kinds.{left_by, MayGo}
-use Rattle.std.specs.Prelude.{IsPermutation, false}
+use Rattle.std.specs.Prelude.{IsPermutation}
 use Rattle.chord_space.specs.declared.space.Space.{Space}
 use Rattle.chord_space.specs.Desks.{view, space_code, space_limits}
 use Rattle.chord_task.specs.declared.parcel.Parcel.{Parcel}
 use Rattle.chord_task.specs.declared.task.Task.{Task}
-use Rattle.chord_task.specs.Standing.{view_of, IsTaskOf, is_ready_of}
+use Rattle.chord_task.specs.Standing.{view_of, IsTaskOf}
 use Rattle.chord_worker.specs.declared.worker.Worker.{Worker}
 use Rattle.chord_worker.specs.Playing.{IsReadyTo}
 use Rattle.chord_worker.specs.Resting.{IsInMemory, IsStockTask, IsAtRest}

@@ -1,5 +1,5 @@
 -- What looking for chords, and firing one, make of a worker that minds a message.
-use Rattle.std.proofs.Common.{◌≡◌, ℕ, Bool, true, false, not, ◌==◌, ◌++◌, List, [], ◌∷◌, map, Option, Some, None, refl, sym, ap, ◌∙◌, subst, ◌⊎◌, inl, inr, ⊎_elim, if◌then◌else◌}
+use Rattle.std.proofs.Common.{◌≡◌, ℕ, Bool, true, false, ◌==◌, List, [], ◌∷◌, map, Option, Some, None, refl, sym, ap, ◌∙◌, subst, inl, inr, ⊎_elim}
 use Rattle.std.proofs.lemmas.Bool.{eq-eqb, eqb-true, eqb-false, ne_eqb}
 use mathlib.Core.Path.{Path}
 use Rattle.chord_base.specs.declared.value.Object.{Object}
@@ -8,24 +8,22 @@ use Rattle.chord_base.specs.declared.event.Limits.{Limits}
 use Rattle.chord_code.specs.declared.parts.Parts.{Parts}
 use Rattle.chord_task.specs.declared.task.Task.{Task}
 use Rattle.chord_worker.proofs.Memory.{task_laid}
-use Rattle.chord_base.specs.Meaning.{Program}
 use Rattle.chord_base.specs.Messages.{has}
 use Rattle.chord_base.proofs.Waits.{either}
 use Rattle.chord_bag.specs.Reads.{messages_and_bags, IsOnlyLooks}
 use Rattle.chord_match.specs.Fires.{drop_duties, IsFired}
-use Rattle.chord_match.specs.Findings.{read_so, IsMatch}
-use Rattle.chord_match.specs.Seen.{AreMatched, IsMember}
+use Rattle.chord_match.specs.Findings.{IsMatch}
+use Rattle.chord_match.specs.Seen.{AreMatched}
 use Rattle.chord_rule.specs.declared.view.Duty.{Duty}
 use Rattle.chord_rule.specs.declared.view.View.{View}
-use Rattle.chord_rule.specs.Duties.{HasDuty, drop_duty, move_duty}
+use Rattle.chord_rule.specs.Duties.{drop_duty, move_duty}
 use Rattle.chord_rule.specs.Kinds.{is_down, looked_cell, rested}
 use Rattle.chord_rule.specs.Made.{key}
 use Rattle.chord_rule.specs.Numbers.{HasNumber}
-use Rattle.chord_word.specs.declared.cells.Cell.{Cell}
 use Rattle.chord_word.specs.declared.cells.Word.{Word}
 use Rattle.chord_space.specs.declared.space.Desk.{Desk}
 use Rattle.chord_space.specs.declared.space.Space.{Space}
-use Rattle.chord_space.specs.Desks.{view, space_code, space_limits, program_of, IsDeskOf, IsSameDesk}
+use Rattle.chord_space.specs.Desks.{view, space_code, space_limits, program_of, IsSameDesk}
 use Rattle.chord_task.specs.declared.parcel.Parcel.{Parcel}
 use Rattle.chord_worker.specs.declared.worker.Worker.{Worker}
 use Rattle.chord_task.specs.Parcels.{entries_of, arguments_of, IsParcelOf}

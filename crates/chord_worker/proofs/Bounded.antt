@@ -1,15 +1,11 @@
 -- The bounds of an address that a message of the code names.
-use Rattle.std.proofs.Common.{◌≡◌, ◌≢◌, ℕ, ◌<◌, ◌≤◌, List, [], ◌∷◌, length, Option, Some, None, slice_get, refl, sym, ap, ◌∙◌, subst, inl, arith}
+use Rattle.std.proofs.Common.{◌≡◌, ℕ, ◌<◌, ◌≤◌, length, Option, Some, None, slice_get, refl, arith}
 use Rattle.std.proofs.lemmas.Option.{slice_get_within}
-use mathlib.Core.Path.{Path}
-use Rattle.chord_base.specs.declared.value.Object.{Object}
-use Rattle.chord_base.specs.declared.event.What.{What}
 use Rattle.chord_code.specs.declared.parts.ClassLine.{ClassLine}
-use Rattle.chord_code.specs.declared.parts.MethodLine.{MethodLine}
 use Rattle.chord_code.specs.declared.parts.Parts.{Parts}
 use Rattle.chord_code.specs.Meaning.{methods_of_line, listed_methods}
 use Rattle.chord_code.specs.Sound.{HasMethod}
-use Rattle.chord_code.specs.Valid.{IsValid, IsClassLine}
+use Rattle.chord_code.specs.Valid.{IsValid}
 
 -- a class has at most sixteen methods
 few_methods : (code : Parts) → IsValid code → (c : ℕ) (line : Option ClassLine) → slice_get code.classes c ≡ line → length (methods_of_line line) ≤ 16

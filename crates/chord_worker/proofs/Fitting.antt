@@ -1,21 +1,17 @@
 -- Which body of a task waits for the message with which the task comes: the one on top.
-use Rattle.std.proofs.Common.{◌≡◌, ◌≢◌, ◌⊎◌, inl, inr, ⊎_elim, ℕ, ◌+◌, ◌-◌, ◌<◌, ◌≤◌, ◌==◌, true, false, Bool, List, [], ◌∷◌, ◌++◌, length, Option, Some, None, refl, sym, ap, ◌∙◌, subst, zero, suc, arith}
+use Rattle.std.proofs.Common.{◌≡◌, ◌≢◌, inl, inr, ⊎_elim, ℕ, ◌+◌, ◌-◌, ◌<◌, ◌≤◌, ◌==◌, true, false, Bool, List, [], ◌∷◌, ◌++◌, length, Option, Some, None, refl, sym, ap, ◌∙◌, subst, zero, suc, arith}
 use Rattle.std.proofs.lemmas.Bool.{eqb-true}
 use Rattle.chord_base.specs.Meaning.{Program, Start, HasOneSync}
 use Rattle.chord_base.specs.Machine.{IsPast, Comes}
 use Rattle.chord_base.specs.Messages.{has, maker, members_of, IsCall}
 use Rattle.chord_base.specs.Bodies.{Doing, Absent, Unplaced, Ready, Waits, Over, WaitsFor, replied, waiting, placed, begun, begun_by, own, answered, heard, served, serves, doing, Asks}
-use Rattle.chord_base.specs.Served.{IsServed, HasEnded}
-use Rattle.chord_base.specs.Story.{IsIn, IsTold, IsSound, IsMerged, kept}
-use Rattle.chord_base.specs.declared.value.Value as value
-use Rattle.chord_base.specs.declared.value.Object.{Object}
+use Rattle.chord_base.specs.Story.{IsIn, IsSound, IsMerged, kept}
 use Rattle.chord_base.specs.declared.event.End.{End}
 use Rattle.chord_base.specs.declared.event.Limits.{Limits}
 use Rattle.chord_base.specs.declared.event.What.{What}
 use Rattle.chord_base.specs.declared.event.What.TheVariants.{Begun, Made, Sent, Called, Printed, Fired, Ended}
 use Rattle.chord_base.specs.declared.event.Entry.{Entry}
 use Rattle.chord_base.proofs.Waits.{either, WaitsOn, replied_waits, waiting_waits, heard_waits, begun_waits, below_length, waits_for_own}
-use Rattle.chord_base.proofs.Local.{waits_on_it}
 use Rattle.chord_base.proofs.Calls.{number_within, entry_pending, serves_only_calls}
 use Rattle.chord_base.proofs.Callers.{served_has, serves_entry, entry_serves, served_waits_no_more}
 use Rattle.chord_base.proofs.Firings.{takes_pending}

@@ -1,5 +1,5 @@
 -- How what a worker has in memory changes.
-use Rattle.std.proofs.Common.{◌≡◌, ℕ, Bool, true, false, not, ◌==◌, ◌||◌, ◌++◌, List, [], ◌∷◌, Option, Some, None, IsSome, reverse, refl, sym, ap, ◌∙◌, subst, ◌⊎◌, inl, inr, ⊎_elim, arith, if◌then◌else◌}
+use Rattle.std.proofs.Common.{◌≡◌, ℕ, Bool, true, false, not, ◌==◌, ◌||◌, ◌++◌, List, [], ◌∷◌, Option, Some, None, IsSome, reverse, refl, sym, ap, ◌∙◌, subst, inl, inr, arith, if◌then◌else◌}
 use Rattle.std.proofs.lemmas.Bool.{eq-eqb, eqb-true, eqb-false, ne_eqb}
 use Rattle.std.proofs.lemmas.List.Sorted.{IsPermutation-refl, IsPermutation-cons, IsPermutation-trans, IsPermutation-append, IsPermutation-middle, IsPermutation-reverse}
 use Rattle.std.specs.Prelude.{IsPermutation}
@@ -9,7 +9,7 @@ use Rattle.chord_base.specs.declared.event.Entry.{Entry}
 use Rattle.chord_base.specs.declared.event.Limits.{Limits}
 use Rattle.chord_base.specs.Meaning.{Program}
 use Rattle.chord_base.specs.Bodies.{Doing, Absent, Unplaced, Ready, Waits, Over, doing, asked, Asks}
-use Rattle.chord_base.specs.Story.{kept, IsTold, IsMerged, IsStory, IsSound, IsRising, IsOwn, IsIn, IsDefined, AllBelow, Tells, grown, insert, together}
+use Rattle.chord_base.specs.Story.{kept, IsMerged, IsStory, IsSound, IsRising, IsOwn, IsDefined, AllBelow, grown}
 use Rattle.chord_base.proofs.Waits.{either}
 use Rattle.chord_base.proofs.Merged.{own_tells, merged_story}
 use Rattle.chord_base.proofs.Places.{kept_below}
@@ -21,10 +21,9 @@ use Rattle.chord_task.specs.declared.body.Body.{Body}
 use Rattle.chord_task.specs.declared.body.Next.{Next}
 use Rattle.chord_task.specs.declared.body.Next.TheVariants as nexts
 use Rattle.chord_task.specs.declared.task.Task.{Task}
-use Rattle.chord_task.specs.Stacks.{TaskView, IsTask}
 use Rattle.chord_task.specs.Standing.{view_of, body_number, may_go, body_may_go, is_ready_of, IsTop, IsBodyStack, IsTaskOf}
-use Rattle.chord_worker.specs.Parted.{IsParted, with_part, two}
-use Rattle.chord_worker.specs.Resting.{beside_task, MayBePlayed, IsInMemory}
+use Rattle.chord_worker.specs.Parted.{IsParted, two}
+use Rattle.chord_worker.specs.Resting.{IsInMemory}
 use Rattle.chord_worker.proofs.Parts.{kept_agree, kept_nothing, flag_is, in_below, part_goes, part_asks, parts_quiet, part_drawn, place_of_some, parts_told}
 
 -- ## Two parts

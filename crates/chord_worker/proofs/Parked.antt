@@ -1,6 +1,6 @@
 -- The bodies of a task that waits are parked, and its parcel may go with its call; a message goes with a letter.
-use Rattle.std.proofs.Common.{◌≡◌, ℕ, ◌<◌, ◌+◌, Bool, true, false, ◌==◌, List, [], ◌∷◌, Option, Some, None, IsSome, refl, sym, ap, ◌∙◌, subst, ◌⊎◌, inl, inr, ⊎_elim, arith}
-use Rattle.std.proofs.lemmas.Bool.{eq-eqb, eqb-true, eqb-false, ne_eqb}
+use Rattle.std.proofs.Common.{◌≡◌, ℕ, ◌+◌, true, false, ◌==◌, List, [], ◌∷◌, Option, Some, None, IsSome, refl, sym, ap, ◌∙◌, subst, inl, inr, ⊎_elim, arith}
+use Rattle.std.proofs.lemmas.Bool.{eq-eqb, eqb-true, eqb-false}
 use mathlib.Core.Path.{Path}
 use Rattle.chord_base.specs.declared.value.Object.{Object}
 use Rattle.chord_base.specs.declared.value.Value as value
@@ -9,13 +9,13 @@ use Rattle.chord_base.specs.declared.event.What.{What}
 use Rattle.chord_base.specs.declared.event.What.TheVariants.{Begun, Made, Sent, Called, Printed, Fired, Ended}
 use Rattle.chord_base.specs.declared.event.Entry.{Entry}
 use Rattle.chord_base.specs.Meaning.{Program, Start, Chord, Asked}
-use Rattle.chord_base.specs.Messages.{Message, message_of, IsCall, maker}
+use Rattle.chord_base.specs.Messages.{maker}
 use Rattle.chord_base.specs.Bodies.{Doing, Absent, Unplaced, Ready, Waits, Over, WaitsFor as IsParkedOn, replied, waiting, placed, begun_by, begun, answered, heard, served, serves, own, doing, asked, Asks}
 use Rattle.chord_base.specs.Story.{IsTold, IsIn, IsDefined, AllBelow, Tells}
 use Rattle.chord_base.proofs.Waits.{either}
-use Rattle.chord_base.proofs.Merge.{IsSeen, first_or_next, asked_placed, placed_seen}
+use Rattle.chord_base.proofs.Merge.{IsSeen, asked_placed, placed_seen}
 use Rattle.chord_rule.specs.declared.view.View.{View}
-use Rattle.chord_rule.specs.Kinds.{entry, drew, saw_count, left_by, MayGo}
+use Rattle.chord_rule.specs.Kinds.{entry, drew, saw_count, MayGo}
 use Rattle.chord_rule.specs.Numbers.{HasNumber}
 use Rattle.chord_rule.specs.Parcels.{BeginsThere, IsParkedThere}
 use Rattle.chord_space.specs.Gives.{MayLink}

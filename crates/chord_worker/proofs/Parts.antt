@@ -1,11 +1,11 @@
 -- Lists of entries in parts: which of them may go, what each of them asks, and when all are quiet.
-use Rattle.std.proofs.Common.{◌≡◌, ℕ, Bool, true, false, not, ◌==◌, ◌||◌, ◌&&◌, ◌+◌, ◌≤◌, ◌<◌, List, [], ◌∷◌, Option, Some, None, refl, sym, ap, ap₂, ◌∙◌, subst, ◌⊎◌, inl, inr, ⊎_elim, arith, if◌then◌else◌}
+use Rattle.std.proofs.Common.{◌≡◌, ℕ, Bool, true, false, not, ◌==◌, ◌||◌, ◌&&◌, ◌+◌, ◌≤◌, ◌<◌, List, [], ◌∷◌, refl, sym, ap, ap₂, ◌∙◌, subst, inl, inr, ⊎_elim, arith, if◌then◌else◌}
 use Rattle.std.proofs.lemmas.Bool.{eq-eqb, eqb-true, ne_eqb}
 use Rattle.chord_base.specs.declared.event.What.{What}
 use Rattle.chord_base.specs.declared.event.Entry.{Entry}
 use Rattle.chord_base.specs.Meaning.{Program}
 use Rattle.chord_base.specs.Bodies.{Doing, Absent, Unplaced, Ready, Waits, Over, doing, Asks}
-use Rattle.chord_base.specs.Story.{kept, IsTold, AreTold, IsMerged, IsStory, IsSound, IsRising, Rises, IsIn, AllBelow, Tells, grown, together, parted}
+use Rattle.chord_base.specs.Story.{kept, IsTold, AreTold, IsMerged, IsRising, Rises, IsIn, AllBelow, Tells, grown, together, parted}
 use Rattle.chord_base.proofs.Waits.{either}
 use Rattle.chord_base.proofs.Merge.{Agrees, agrees, whole_of_told, next_in_story}
 use Rattle.chord_base.proofs.Places.{kept_below, below_rises, union_told}

@@ -1,5 +1,5 @@
 -- A worker whose message was sent off minds it.
-use Rattle.std.proofs.Common.{◌≡◌, ◌≢◌, ℕ, ◌+◌, Bool, true, false, not, ◌==◌, List, [], ◌∷◌, Option, Some, None, refl, sym, ap, ◌∙◌, subst, inl, inr}
+use Rattle.std.proofs.Common.{◌≡◌, ◌≢◌, ℕ, Bool, false, not, List, [], ◌∷◌, Option, Some, None, refl, sym, ap, ◌∙◌, subst}
 use Rattle.std.proofs.lemmas.Bool.{eq-eqb}
 use mathlib.Core.Path.{Path}
 use Rattle.chord_base.specs.declared.event.What.{What}
@@ -8,23 +8,21 @@ use Rattle.chord_base.specs.declared.event.Entry.{Entry}
 use Rattle.chord_base.specs.declared.event.Limits.{Limits}
 use Rattle.chord_base.specs.declared.value.Object.{Object}
 use Rattle.chord_base.specs.declared.value.Value as value
-use Rattle.chord_base.specs.Story.{kept}
 use Rattle.chord_bag.specs.Reads.{messages_and_bags}
 use Rattle.chord_code.specs.declared.parts.Parts.{Parts}
-use Rattle.chord_code.specs.Meaning.{code_program}
 use Rattle.chord_rule.specs.declared.view.Duty.{Duty}
 use Rattle.chord_rule.specs.declared.view.View.{View}
 use Rattle.chord_rule.specs.Duties.{duty_on}
-use Rattle.chord_rule.specs.Kinds.{is_among, entry, drew, saw_count, left_by, without, fresh_after}
+use Rattle.chord_rule.specs.Kinds.{is_among, entry, left_by, without, fresh_after}
 use Rattle.chord_space.specs.declared.space.Space.{Space}
-use Rattle.chord_space.specs.Desks.{view, space_code, space_limits, program_of, IsDeskOf, IsSameDesk}
+use Rattle.chord_space.specs.Desks.{view, space_code, space_limits, program_of, IsSameDesk}
 use Rattle.chord_space.specs.Gives.{MayLink}
 use Rattle.chord_task.specs.declared.parcel.Parcel.{Parcel}
 use Rattle.chord_task.specs.declared.task.Task.{Task}
 use Rattle.chord_task.specs.Standing.{view_of}
 use Rattle.chord_worker.specs.declared.worker.Worker.{Worker}
 use Rattle.chord_worker.specs.Playing.{IsNotedAs}
-use Rattle.chord_worker.specs.Resting.{IsHandFree, IsInMemory, MayContinue, IsStock, IsStockTask, IsAtRest, IsSameRole}
+use Rattle.chord_worker.specs.Resting.{IsInMemory, MayContinue, IsStock, IsStockTask, IsAtRest, IsSameRole}
 use Rattle.chord_worker.specs.Sending.{IsSentOff, Minds}
 use Rattle.chord_worker.proofs.Attending.{role_on}
 use Rattle.chord_worker.proofs.Parked.{letter_links, call_links}

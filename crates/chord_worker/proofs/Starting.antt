@@ -1,33 +1,29 @@
 -- A worker that begins: the first one with `Main`, another one with nothing, and one that starts a firing.
-use Rattle.std.proofs.Common.{◌≡◌, ◌≢◌, ℕ, ◌<◌, Bool, true, false, not, ◌==◌, List, [], ◌∷◌, Option, Some, None, IsSome, reverse, refl, sym, ap, ◌∙◌, subst, ◌⊎◌, inl, inr, ⊎_elim, arith, if◌then◌else◌, is_some}
+use Rattle.std.proofs.Common.{◌≡◌, ℕ, Bool, true, false, not, ◌==◌, List, [], ◌∷◌, Option, Some, None, IsSome, reverse, refl, sym, ap, ◌∙◌, subst, inl, inr, ⊎_elim, arith, if◌then◌else◌}
 use Rattle.std.proofs.lemmas.Bool.{eq-eqb, eqb-true, eqb-false, ne_eqb}
-use Rattle.std.proofs.lemmas.List.Sorted.{IsPermutation-refl}
 use Rattle.std.specs.Prelude.{IsPermutation}
 use mathlib.Core.Path.{Path}
-use Rattle.chord_base.specs.declared.value.Object.{Object}
-use Rattle.chord_base.specs.declared.value.Value as value
 use Rattle.chord_base.specs.declared.event.End.{End}
 use Rattle.chord_base.specs.declared.event.What.{What}
 use Rattle.chord_base.specs.declared.event.What.TheVariants.{Begun, Made, Sent, Called, Printed, Fired, Ended}
 use Rattle.chord_base.specs.declared.event.Entry.{Entry}
 use Rattle.chord_base.specs.declared.event.Limits.{Limits}
-use Rattle.chord_base.specs.Meaning.{Program, Start, Main, Chord}
+use Rattle.chord_base.specs.Meaning.{Program, Start, Chord}
 use Rattle.chord_base.specs.Messages.{maker}
-use Rattle.chord_base.specs.Machine.{IsPast, MayFollow}
 use Rattle.chord_base.specs.Bodies.{Doing, Absent, Unplaced, Ready, Waits, Over, placed, begun_by, begun, answered, heard, own, served, serves, doing, asked, Asks}
 use Rattle.chord_base.specs.Story.{kept, IsTold, IsSound, IsRising, IsIn, IsDefined, AllBelow, Tells, together}
 use Rattle.chord_base.proofs.Waits.{either}
-use Rattle.chord_base.proofs.Merge.{IsSeen as HasEntry, asked_placed, placed_seen, body_known}
+use Rattle.chord_base.proofs.Merge.{asked_placed, placed_seen, body_known}
 use Rattle.chord_base.proofs.Places.{told_below, known_under}
 use Rattle.chord_code.specs.declared.parts.Parts.{Parts}
 use Rattle.chord_code.specs.Meaning.{code_program}
 use Rattle.chord_rule.specs.Coming.{ComesWithFiring, ArePlaces}
-use Rattle.chord_rule.specs.Closing.{IsQuiet, AreQuiet}
-use Rattle.chord_rule.specs.Kinds.{is_among, entry, left_by, MayGo, played, saw, firing_started}
+use Rattle.chord_rule.specs.Closing.{AreQuiet}
+use Rattle.chord_rule.specs.Kinds.{entry, left_by, played, saw, firing_started}
 use Rattle.chord_rule.specs.declared.view.View.{View}
 use Rattle.chord_space.specs.declared.space.Desk.{Desk}
 use Rattle.chord_space.specs.declared.space.Space.{Space}
-use Rattle.chord_space.specs.Desks.{view, space_code, space_limits, program_of, IsDeskOf, IsSameDesk}
+use Rattle.chord_space.specs.Desks.{view, space_code, space_limits, program_of, IsSameDesk}
 use Rattle.chord_word.specs.declared.cells.Word.{Word}
 use Rattle.chord_worker.specs.declared.worker.Worker.{Worker}
 use Rattle.chord_rule.specs.Parcels.{BeginsThere}

@@ -1,7 +1,6 @@
 -- What a step leaves behind: what is kept after a firing that was posted or is played, and after a message that was minded.
-use Rattle.std.proofs.Common.{◌≡◌, ℕ, ◌<◌, true, false, not, List, [], ◌∷◌, Option, Some, None, refl, sym, ap, ◌∙◌, subst, ◌⊎◌, inl, inr, ⊎_elim, arith}
+use Rattle.std.proofs.Common.{◌≡◌, ℕ, ◌<◌, true, not, List, [], ◌∷◌, Option, Some, None, refl, sym, ap, ◌∙◌, subst, ◌⊎◌, inl, inr, arith}
 use Rattle.chord_base.specs.declared.event.Entry.{Entry}
-use Rattle.chord_base.specs.declared.event.What.{What}
 use Rattle.chord_base.specs.declared.event.What.TheVariants.{Fired}
 use Rattle.chord_base.specs.declared.value.Object.{Object}
 use Rattle.chord_base.specs.declared.value.Value as value
@@ -12,21 +11,19 @@ use Rattle.chord_base.specs.Story.{AllBelow, IsIn}
 use Rattle.chord_base.proofs.Collected.{view_in}
 use Rattle.chord_base.proofs.Firings.{pending_within}
 use Rattle.chord_rule.specs.declared.view.View.{View}
-use Rattle.chord_rule.specs.Kinds.{is_among, entry, left_by, drew, saw_count}
+use Rattle.chord_rule.specs.Kinds.{is_among, entry, left_by}
 use Rattle.chord_rule.specs.Numbers.{HasNumber}
 use Rattle.chord_rule.specs.Tells.{CameNext}
 use Rattle.chord_space.specs.declared.space.Space.{Space}
-use Rattle.chord_space.specs.Desks.{view, space_code, space_limits}
+use Rattle.chord_space.specs.Desks.{view}
 use Rattle.chord_task.specs.declared.parcel.Parcel.{Parcel}
 use Rattle.chord_task.specs.declared.task.Task.{Task}
 use Rattle.chord_task.specs.Stacks.{TaskView}
 use Rattle.chord_task.specs.Standing.{view_of}
 use Rattle.chord_worker.specs.declared.worker.Worker.{Worker}
 use Rattle.chord_worker.specs.Beginning.{HasBegun}
-use Rattle.chord_worker.specs.Playing.{IsNotedAs}
-use Rattle.chord_worker.specs.Sending.{IsSentOff}
-use Rattle.chord_worker.specs.Stepping.{HasNewer, AreAway, HasGoneOn, PlaysNoOther, PlaysNext, StillPlays, PlaysFiring, HasTakenOn, WasMinded}
-use Rattle.chord_worker.proofs.Parts.{all_kept, among_kept}
+use Rattle.chord_worker.specs.Stepping.{HasNewer, AreAway, HasGoneOn, PlaysNoOther, PlaysNext, PlaysFiring, HasTakenOn, WasMinded}
+use Rattle.chord_worker.proofs.Parts.{among_kept}
 use Rattle.chord_worker.proofs.Uniting.{among_self}
 
 -- ## Entries

@@ -1,5 +1,5 @@
-use Rattle.std.proofs.Common.{rules, ◌≡◌, ◌<◌, ℕ, true, false, List, Some, None, IfOk, OnOk, MatchResult, ◌+◌, ◌∷◌, [], inl, inr, refl, sym, subst, ◌∙◌, Bool}
-use Rattle.chord_space.specs.Desks.{view, space_code, space_limits}
+use Rattle.std.proofs.Common.{◌≡◌, ℕ, ◌∷◌, inl, refl, subst, ◌∙◌}
+use Rattle.chord_space.specs.Desks.{space_code, space_limits}
 use Rattle.chord_rule.specs.Kinds.{entry}
 use Rattle.chord_task.specs.Standing.{view_of, MayNote}
 use Rattle.chord_worker.proofs.Given.{may_draw, noted_stays, noted_above, asks_next, one_top}

@@ -3,8 +3,6 @@ use Rattle.chord_bag.specs.Reads.{IsOnlyLooks}
 use Rattle.chord_match.specs.Findings.{read_so}
 use Rattle.chord_rule.specs.declared.view.View.{View}
 use Rattle.chord_rule.specs.Duties.{HasDuty}
-use Rattle.chord_rule.specs.Made.{key}
-use Rattle.chord_rule.specs.Kinds.{rested}
 use Rattle.chord_space.specs.Desks.{view}
 use Rattle.chord_word.specs.declared.cells.Cell.TheVariants as a_cell
 use Rattle.chord_worker.proofs.Attending.{the_duty, still_minds, minded, looks_kept, looks_on, cell_looks}

@@ -1,7 +1,6 @@
 use Rattle.std.proofs.Common.{◌∙◌}
 use Rattle.chord_space.specs.Desks.{view}
 use Rattle.chord_worker.proofs.Attending.{role_on}
-use Rattle.chord_worker.proofs.Stepping.{minded_since}
 use Rattle.chord_worker.proofs.worker.Worker.mind.Goals as goal
 
 pub loop-preserved : goal.loop-preserved

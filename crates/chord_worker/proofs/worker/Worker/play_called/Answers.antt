@@ -1,6 +1,6 @@
-use Rattle.std.proofs.Common.{◌≡◌, ◌<◌, ℕ, List, [], ◌∷◌, None, Option, refl, sym, ap, ◌∙◌, subst, inl, inr, arith}
+use Rattle.std.proofs.Common.{List, ◌∷◌, Option, refl, sym, ap, ◌∙◌, subst, inl, inr, arith}
 use Rattle.chord_base.specs.declared.event.Entry.{Entry}
-use Rattle.chord_base.specs.declared.event.What.TheVariants.{Sent, Called}
+use Rattle.chord_base.specs.declared.event.What.TheVariants.{Called}
 use Rattle.chord_base.specs.declared.value.Value as value
 use Rattle.chord_rule.specs.declared.view.View.{View}
 use Rattle.chord_rule.specs.Kinds.{entry, left_by}
@@ -13,7 +13,6 @@ use Rattle.chord_task.specs.declared.task.Task.{Task}
 use Rattle.chord_task.specs.Standing.{view_of}
 use Rattle.chord_worker.specs.Playing.{WasToldFull}
 use Rattle.chord_worker.specs.Resting.{IsInMemory, MayContinue}
-use Rattle.chord_worker.specs.Sending.{IsSentOff}
 use Rattle.chord_worker.proofs.Resting.{rest_told}
 use Rattle.chord_worker.proofs.Sent.{task_may, task_memory, now_minds}
 use Rattle.chord_worker.proofs.Stepping.{went_called, plays_minded}

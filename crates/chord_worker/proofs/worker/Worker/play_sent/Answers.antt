@@ -1,6 +1,5 @@
-use Rattle.std.proofs.Common.{◌≡◌, ◌<◌, ℕ, List, [], None, Option, refl, sym, ap, ◌∙◌, subst, inl, inr, arith}
-use Rattle.chord_base.specs.declared.event.Entry.{Entry}
-use Rattle.chord_base.specs.declared.event.What.TheVariants.{Sent, Called}
+use Rattle.std.proofs.Common.{List, [], refl, sym, ap, ◌∙◌, subst, inl, inr, arith}
+use Rattle.chord_base.specs.declared.event.What.TheVariants.{Sent}
 use Rattle.chord_base.specs.declared.value.Value as value
 use Rattle.chord_rule.specs.declared.view.View.{View}
 use Rattle.chord_rule.specs.Kinds.{entry}
@@ -9,10 +8,7 @@ use Rattle.chord_space.specs.declared.space.Desk.{Desk}
 use Rattle.chord_space.specs.Desks.{view, space_code, space_limits, program_of, IsSameDesk}
 use Rattle.chord_space.specs.Gives.{MayLink}
 use Rattle.chord_task.specs.declared.parcel.Parcel.{Parcel}
-use Rattle.chord_task.specs.declared.task.Task.{Task}
-use Rattle.chord_task.specs.Standing.{view_of}
 use Rattle.chord_worker.specs.Playing.{WasToldFull}
-use Rattle.chord_worker.specs.Resting.{IsInMemory, MayContinue}
 use Rattle.chord_worker.specs.Sending.{IsSentOff}
 use Rattle.chord_worker.proofs.Resting.{rest_told}
 use Rattle.chord_worker.proofs.Sent.{letter_may, letter_memory, now_minds}

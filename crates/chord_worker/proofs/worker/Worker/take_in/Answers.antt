@@ -1,4 +1,4 @@
-use Rattle.std.proofs.Common.{◌≡◌, refl}
+use Rattle.std.proofs.Common.{refl}
 use Rattle.chord_worker.proofs.Uniting.{united_rest}
 use Rattle.chord_worker.proofs.worker.Worker.take_in.Goals as goal
 
