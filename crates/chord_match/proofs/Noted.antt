@@ -1,5 +1,5 @@
 -- What is known where a note is read or written.
-use Rattle.std.proofs.Common.{zero, suc, ◌≡◌, ℕ, ◌<◌, List, [], ◌∷◌, length, slice_index_or, slice_set, refl, ap, Option, Some, None, arith}
+use Rattle.std.proofs.Common.{zero, suc, ◌≡◌, ℕ, ◌<◌, List, [], ◌∷◌, length, slice_index_or, slice_set, refl, ap, Option, None, arith}
 use Rattle.chord_bag.specs.declared.walk.Sought.{Sought}
 use Rattle.chord_match.specs.declared.notes.Note.{Note}
 use Rattle.chord_match.specs.Noting.{told_by, all_told}

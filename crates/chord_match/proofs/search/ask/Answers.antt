@@ -1,4 +1,4 @@
-use Rattle.std.proofs.Common.{◌≡◌, ◌<◌, ℕ, List, length, slice_index_or, slice_set, sym, ap, ◌∙◌, subst, Option, Some, arith}
+use Rattle.std.proofs.Common.{◌≡◌, ◌<◌, ℕ, List, length, slice_set, sym, ap, ◌∙◌, subst, Option, Some, arith}
 use Rattle.chord_space.specs.Desks.{view}
 use Rattle.chord_bag.specs.declared.walk.Sought.{Sought}
 use Rattle.chord_match.specs.Noting.{all_told}
@@ -10,7 +10,7 @@ use Rattle.chord_match.proofs.search.ask.Goals as goal
 pub returns-in-Some-clause-learned : goal.returns-in-Some-clause-learned
 returns-in-Some-clause-learned g c =
     let known = c.args.known.now in let j = c.args.method in
-    let low : j < length known = (let l = c.in-Some.known_told-1-own.array_long in let b = c.requires.bounds.2 in omega (arith, l, b)) in
+    let low : j < length known = (let b = c.requires.bounds.2 in omega (arith, b)) in
     learned_before c.args.space.now.events (view c.args.desk.now) c.args.object j (all_told known) c.in-Some.sought (told_at_place known j _ low ∙ sym c.answer.ensures ∙ c.in-Some.is)
 
 pub returns-in-None-clause-learned : goal.returns-in-None-clause-learned
