@@ -1,5 +1,6 @@
 pub mod Lists
 pub mod Growing
+pub mod Noted
 pub mod Knowing
 pub mod Chords
 pub mod Finds

@@ -10,6 +10,8 @@ pub mod Findings
 pub mod Fires
 -- ## What only the code's own contracts use
 
+-- what the notes of a search say of the bags
+pub mod Noting
 -- what is known while a chord is looked for
 pub mod Searching
 -- members are claimed one after another

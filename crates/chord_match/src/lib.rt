@@ -10,6 +10,7 @@ mod by_hand_tests;
 mod claiming;
 mod handing;
 pub mod nexts;
+mod notes;
 #[cfg(test)]
 mod pair_tests;
 mod search;

@@ -10,9 +10,11 @@ ghost use Rattle.chord_rule.specs.Made.{key};
 ghost use Rattle.chord_space.specs.Desks.{view, space_code, program_of, IsDeskOf, IsSameDesk};
 ghost use Rattle.chord_word.specs.declared.cells.Cell.TheVariants.{Pending};
 ghost use Rattle.chord_match.specs.Findings.{IsFinding, read_so};
+ghost use Rattle.chord_match.specs.Noting.{all_told};
 ghost use Rattle.chord_match.specs.Searching.{Searching, Learned, Picked, Gathered, IsThrough, firstly};
 
 use crate::nexts::Nexts;
+use crate::notes::Note;
 use chord_bag::{Sought, seek};
 use chord_base::members::Members;
 use chord_base::value::Object;
@@ -72,18 +74,18 @@ fn ask<P: Carry>(
     desk: &mut Desk<P>,
     object: Object,
     method: u8,
-    known: &mut [Option<Sought>; 16],
+    known: &mut [Note; 16],
 ) -> Sought
     requires desk { IsDeskOf space.now desk.old }
     requires bounds { (object.number < space.now.events) × (object.class < 1024) × (method < 16) }
     ensures desk { IsSameDesk desk.old desk.new }
-    ensures learned { Learned space.now.events (view desk.old) (view desk.new) object method known.old known.new result }
+    ensures learned { Learned space.now.events (view desk.old) (view desk.new) object method (all_told known.old) (all_told known.new) result }
 {
-    match known[method as usize] {
+    match known[method as usize].answer() {
         Some(sought) => sought,
         None => {
             let sought = seek(space, desk, object, method);
-            known[method as usize] = Some(sought);
+            known[method as usize] = Note::of(sought);
             sought
         }
     }
@@ -96,12 +98,12 @@ fn pick_member<P: Carry>(
     object: Object,
     own: &Own,
     method: u8,
-    known: &mut [Option<Sought>; 16],
+    known: &mut [Note; 16],
 ) -> Pick
     requires desk { IsDeskOf space.now desk.old }
     requires bounds { (object.number < space.now.events) × (object.class < 1024) × (method < 16) }
     ensures desk { IsSameDesk desk.old desk.new }
-    ensures picked { (v : View) → Searching space.now.events v (view desk.old) object own.now known.old → Picked space.now.events v (view desk.old) (view desk.new) object own.now method known.old known.new result }
+    ensures picked { (v : View) → Searching space.now.events v (view desk.old) object own.now (all_told known.old) → Picked space.now.events v (view desk.old) (view desk.new) object own.now method (all_told known.old) (all_told known.new) result }
 {
     if method == own.method {
         Pick::Take(own.message, own.next)
@@ -121,7 +123,7 @@ fn gather<P: Carry>(
     object: Object,
     own: &Own,
     methods: &[u8],
-    known: &mut [Option<Sought>; 16],
+    known: &mut [Note; 16],
     members: &mut Members,
     nexts: &mut Nexts,
 ) -> Step
@@ -130,7 +132,7 @@ fn gather<P: Carry>(
     requires methods { (j : ℕ) → has j methods.now ≡ true → j < 16 }
     requires room { (length members.old + length methods.now ≤ 8) × (length nexts.old + length methods.now ≤ 8) }
     ensures desk { IsSameDesk desk.old desk.new }
-    ensures gathered { (v : View) → Searching space.now.events v (view desk.old) object own.now known.old → Gathered space.now.events v (view desk.old) (view desk.new) object own.now methods.now known.old known.new members.old members.new nexts.old nexts.new result }
+    ensures gathered { (v : View) → Searching space.now.events v (view desk.old) object own.now (all_told known.old) → Gathered space.now.events v (view desk.old) (view desk.new) object own.now methods.now (all_told known.old) (all_told known.new) members.old members.new nexts.old nexts.new result }
 {
     for method in methods {
         match pick_member(space, desk, object, own, *method, known) {
@@ -171,7 +173,7 @@ fn through<P: Carry>(
     object: Object,
     own: &Own,
     lines: &[ChordLine],
-    known: &mut [Option<Sought>; 16],
+    known: &mut [Note; 16],
     members: &mut Members,
     nexts: &mut Nexts,
 ) -> Verdict
@@ -180,7 +182,7 @@ fn through<P: Carry>(
     requires none { (members.old ≡ []) × (nexts.old ≡ []) }
     requires lines { (length lines.now ≤ 256) × ((k : ℕ) (js : List ℕ) → slice_get (map methods_of lines.now) k ≡ Some js → ((j : ℕ) → has j js ≡ true → j < 16) × (length js ≤ 8)) }
     ensures desk { IsSameDesk desk.old desk.new }
-    ensures through { (v : View) → Searching space.now.events v (view desk.old) object own.now known.old → IsThrough space.now.events v (view desk.new) object own.now (map methods_of lines.now) known.new members.new nexts.new result }
+    ensures through { (v : View) → Searching space.now.events v (view desk.old) object own.now (all_told known.old) → IsThrough space.now.events v (view desk.new) object own.now (map methods_of lines.now) (all_told known.new) members.new nexts.new result }
 {
     let mut busy = None;
     for at in 0..lines.len() {
@@ -231,7 +233,7 @@ pub fn find<P: Carry>(
     ensures desk { IsSameDesk desk.old desk.new }
     ensures finding { IsFinding (program_of space.now) space.now.events (view desk.old) (view desk.new) m object method result }
 {
-    let mut known = [None; 16];
+    let mut known = [Note::Nothing; 16];
     let word = space.look_cell(desk, m);
     match word.cell {
         Cell::Pending => {}

@@ -1,10 +1,22 @@
-use Rattle.std.proofs.Common.{arith}
+use Rattle.std.proofs.Common.{◌≡◌, ◌<◌, ℕ, List, length, slice_set, sym, ap, ◌∙◌, subst, Option, Some, arith}
 use Rattle.chord_space.specs.Desks.{view}
+use Rattle.chord_bag.specs.declared.walk.Sought.{Sought}
+use Rattle.chord_match.specs.Noting.{all_told}
+use Rattle.chord_match.specs.Searching.{Learned}
 use Rattle.chord_match.proofs.Knowing.{learned_before, learned_now}
+use Rattle.chord_match.proofs.Noted.{told_at_place, told_where_set, all_long}
 use Rattle.chord_match.proofs.search.ask.Goals as goal
 
 pub returns-in-Some-clause-learned : goal.returns-in-Some-clause-learned
-returns-in-Some-clause-learned g c = learned_before c.args.space.now.events (view c.args.desk.now) c.args.object c.args.method c.args.known.now c.in-Some.sought c.in-Some.is
+returns-in-Some-clause-learned g c =
+    let known = c.args.known.now in let j = c.args.method in
+    let low : j < length known = (let b = c.requires.bounds.2 in omega (arith, b)) in
+    learned_before c.args.space.now.events (view c.args.desk.now) c.args.object j (all_told known) c.in-Some.sought (told_at_place known j _ low ∙ sym c.answer.ensures ∙ c.in-Some.is)
 
 pub returns-in-None-clause-learned : goal.returns-in-None-clause-learned
-returns-in-None-clause-learned g c = learned_now c.args.space.now.events (view c.args.desk.now) (view c.seek-sought.new.desk) c.args.object c.args.method c.args.known.now c.seek-sought.result c.in-None.is (let l = c.seek-sought.array_long in let b = c.requires.bounds.2 in omega (arith, l, b)) c.seek-sought.ensures.sought
+returns-in-None-clause-learned g c =
+    let known = c.args.known.now in let j = c.args.method in let s = c.seek-sought.result in
+    let low : j < length known = (let l = c.of.array_long in let b = c.requires.bounds.2 in omega (arith, l, b)) in
+    let set : all_told (slice_set known j c.of.result) ≡ slice_set (all_told known) j (Some s) = told_where_set known j c.of.result ∙ ap (slice_set (all_told known) j) c.of.ensures in
+    subst (λ (z : List (Option Sought)). Learned c.args.space.now.events (view c.args.desk.now) (view c.seek-sought.new.desk) c.args.object j (all_told known) z s) (sym set)
+    (learned_now c.args.space.now.events (view c.args.desk.now) (view c.seek-sought.new.desk) c.args.object j (all_told known) s (told_at_place known j _ low ∙ sym c.answer.ensures ∙ c.in-None.is) (subst (λ (z : ℕ). j < z) (sym (all_long known)) low) c.seek-sought.ensures.sought)

@@ -14,6 +14,7 @@ use Rattle.chord_match.specs.declared.search.Own.{Own}
 use Rattle.chord_match.specs.declared.search.Verdict.{Verdict}
 use Rattle.chord_match.specs.declared.search.Verdict.TheVariants as a_verdict
 use Rattle.chord_match.specs.Searching.{IsThrough}
+use Rattle.chord_match.specs.Noting.{all_told}
 use Rattle.chord_match.proofs.Chords.{length_mapped}
 use Rattle.chord_match.proofs.Finds.{stands_first, stands_read, may_rest, is_match, is_left, is_busy, look_only, down_rests, claimed_by_another}
 use Rattle.chord_match.proofs.search.find.Goals as goal
@@ -49,11 +50,11 @@ rest-requires-2-clause-may g c =
     let look = subst (λ (z : Cell). IsLook n v u c.args.m (record { cell = z; next = word.next })) c.in-Pending.is c.look_cell-word.ensures.looked in
     let only = subst (λ (z : View). IsOnlyLooks v z) (sym look.looked) (look_only v c.args.m (record { cell = Pending; next = word.next })) in
     let same = ap (map methods_of) (c.lines_of-lines.ensures ∙ ap (λ (z : Parts). chord_lines z o.class) c.requires.code) in
-    let t = subst (λ (z : Verdict). IsThrough n u w o own (map methods_of c.lines_of-lines.result.now) c.through.new.known c.through.new.members c.through.new.nexts z) (c.in-Without-None.is ∙ ap a_verdict.Without c.in-Without-None.field-0-is) (c.through.ensures.through u (stands_first n u o own (stands_read n v u o own look c.requires.bounds.0 c.requires.duty))) in
+    let t = subst (λ (z : Verdict). IsThrough n u w o own (map methods_of c.lines_of-lines.result.now) (all_told c.through.new.known) c.through.new.members c.through.new.nexts z) (c.in-Without-None.is ∙ ap a_verdict.Without c.in-Without-None.field-0-is) (c.through.ensures.through u (stands_first n u o own (stands_read n v u o own look c.requires.bounds.0 c.requires.duty))) in
     let right = subst (λ (z : Parts). ChordsAreRight (code_program z (space_limits c.args.space.now))) c.requires.code (c.chords_are_right.ensures (space_limits c.args.space.now)) in
     let d = t.stands.duty in
     let low : o.number < 65536 = (let a = c.requires.bounds.1 in let b = c.args.space.now.sized.4 in omega (arith, a, b)) in
-    (d.0, d.1, d.2, λ e h q b. may_rest n (program_of c.args.space.now) o own u w c.through.new.known (map methods_of c.lines_of-lines.result.now) same c.through.new.members c.through.new.nexts right low c.requires.bounds.3 t.stands t.verdict e h (b ∙ d.3))
+    (d.0, d.1, d.2, λ e h q b. may_rest n (program_of c.args.space.now) o own u w (all_told c.through.new.known) (map methods_of c.lines_of-lines.result.now) same c.through.new.members c.through.new.nexts right low c.requires.bounds.3 t.stands t.verdict e h (b ∙ d.3))
 
 pub returns-in-Match-clause-finding : goal.returns-in-Match-clause-finding
 returns-in-Match-clause-finding g c =
@@ -62,8 +63,8 @@ returns-in-Match-clause-finding g c =
     let look = subst (λ (z : Cell). IsLook n v u c.args.m (record { cell = z; next = word.next })) c.in-Pending.is c.look_cell-word.ensures.looked in
     let only = subst (λ (z : View). IsOnlyLooks v z) (sym look.looked) (look_only v c.args.m (record { cell = Pending; next = word.next })) in
     let same = ap (map methods_of) (c.lines_of-lines.ensures ∙ ap (λ (z : Parts). chord_lines z o.class) c.requires.code) in
-    let t = subst (λ (z : Verdict). IsThrough n u w o own (map methods_of c.lines_of-lines.result.now) c.through.new.known c.through.new.members c.through.new.nexts z) (c.in-Match.is) (c.through.ensures.through u (stands_first n u o own (stands_read n v u o own look c.requires.bounds.0 c.requires.duty))) in
-    is_match n (program_of c.args.space.now) o own u w c.through.new.known (map methods_of c.lines_of-lines.result.now) same c.through.new.members c.through.new.nexts v only look.looked c.requires.bounds.3 c.in-Match.chord t
+    let t = subst (λ (z : Verdict). IsThrough n u w o own (map methods_of c.lines_of-lines.result.now) (all_told c.through.new.known) c.through.new.members c.through.new.nexts z) (c.in-Match.is) (c.through.ensures.through u (stands_first n u o own (stands_read n v u o own look c.requires.bounds.0 c.requires.duty))) in
+    is_match n (program_of c.args.space.now) o own u w (all_told c.through.new.known) (map methods_of c.lines_of-lines.result.now) same c.through.new.members c.through.new.nexts v only look.looked c.requires.bounds.3 c.in-Match.chord t
 
 pub returns-in-Without-Some-clause-finding : goal.returns-in-Without-Some-clause-finding
 returns-in-Without-Some-clause-finding g c =
@@ -72,8 +73,8 @@ returns-in-Without-Some-clause-finding g c =
     let look = subst (λ (z : Cell). IsLook n v u c.args.m (record { cell = z; next = word.next })) c.in-Pending.is c.look_cell-word.ensures.looked in
     let only = subst (λ (z : View). IsOnlyLooks v z) (sym look.looked) (look_only v c.args.m (record { cell = Pending; next = word.next })) in
     let same = ap (map methods_of) (c.lines_of-lines.ensures ∙ ap (λ (z : Parts). chord_lines z o.class) c.requires.code) in
-    let t = subst (λ (z : Verdict). IsThrough n u w o own (map methods_of c.lines_of-lines.result.now) c.through.new.known c.through.new.members c.through.new.nexts z) (c.in-Without-Some.is ∙ ap a_verdict.Without c.in-Without-Some.field-0-is) (c.through.ensures.through u (stands_first n u o own (stands_read n v u o own look c.requires.bounds.0 c.requires.duty))) in
-    rw c.in-Without-Some.field-0-is (is_busy n (program_of c.args.space.now) o own u w c.through.new.known (map methods_of c.lines_of-lines.result.now) same c.through.new.members c.through.new.nexts v only look.looked c.in-Without-Some.i t)
+    let t = subst (λ (z : Verdict). IsThrough n u w o own (map methods_of c.lines_of-lines.result.now) (all_told c.through.new.known) c.through.new.members c.through.new.nexts z) (c.in-Without-Some.is ∙ ap a_verdict.Without c.in-Without-Some.field-0-is) (c.through.ensures.through u (stands_first n u o own (stands_read n v u o own look c.requires.bounds.0 c.requires.duty))) in
+    rw c.in-Without-Some.field-0-is (is_busy n (program_of c.args.space.now) o own u w (all_told c.through.new.known) (map methods_of c.lines_of-lines.result.now) same c.through.new.members c.through.new.nexts v only look.looked c.in-Without-Some.i t)
 
 pub returns-clause-finding : goal.returns-clause-finding
 returns-clause-finding g c =
@@ -82,5 +83,5 @@ returns-clause-finding g c =
     let look = subst (λ (z : Cell). IsLook n v u c.args.m (record { cell = z; next = word.next })) c.in-Pending.is c.look_cell-word.ensures.looked in
     let only = subst (λ (z : View). IsOnlyLooks v z) (sym look.looked) (look_only v c.args.m (record { cell = Pending; next = word.next })) in
     let same = ap (map methods_of) (c.lines_of-lines.ensures ∙ ap (λ (z : Parts). chord_lines z o.class) c.requires.code) in
-    let t = subst (λ (z : Verdict). IsThrough n u w o own (map methods_of c.lines_of-lines.result.now) c.through.new.known c.through.new.members c.through.new.nexts z) (c.in-Without-None.is ∙ ap a_verdict.Without c.in-Without-None.field-0-is) (c.through.ensures.through u (stands_first n u o own (stands_read n v u o own look c.requires.bounds.0 c.requires.duty))) in
-    inr (w, is_left n (program_of c.args.space.now) o own u w c.through.new.known (map methods_of c.lines_of-lines.result.now) same c.through.new.members c.through.new.nexts v only look.looked t, c.rest-2.ensures.desk.1)
+    let t = subst (λ (z : Verdict). IsThrough n u w o own (map methods_of c.lines_of-lines.result.now) (all_told c.through.new.known) c.through.new.members c.through.new.nexts z) (c.in-Without-None.is ∙ ap a_verdict.Without c.in-Without-None.field-0-is) (c.through.ensures.through u (stands_first n u o own (stands_read n v u o own look c.requires.bounds.0 c.requires.duty))) in
+    inr (w, is_left n (program_of c.args.space.now) o own u w (all_told c.through.new.known) (map methods_of c.lines_of-lines.result.now) same c.through.new.members c.through.new.nexts v only look.looked t, c.rest-2.ensures.desk.1)

@@ -6,6 +6,7 @@ use Rattle.chord_rule.specs.declared.view.View.{View}
 use Rattle.chord_bag.specs.declared.walk.Sought.{Sought}
 use Rattle.chord_match.specs.declared.search.Step.{Step}
 use Rattle.chord_match.specs.Searching.{Searching, Gathered, AreStuck}
+use Rattle.chord_match.specs.Noting.{all_told}
 use Rattle.chord_match.proofs.Chords.{chord_line_at, all_lines, are_kept, are_skipped, are_more}
 use Rattle.chord_match.proofs.Knowing.{all_gathered}
 use Rattle.chord_match.proofs.search.through.Goals.{then-has_method+in-Stuck, else-has_method}
@@ -23,9 +24,9 @@ gather-requires-clause-room g c =
 pub returns-in-All-clause-through : goal.returns-in-All-clause-through
 returns-in-All-clause-through g c v t =
     let i = c.loop-at.invariant in let s = (i.2 v t).0 in
-    let o = subst (λ (z : Step). Gathered c.args.space.now.events v (view c.loop-at.desk) (view c.gather.new.desk) c.args.object c.args.own.now c.items-methods.result.now c.loop-at.known c.gather.new.known c.loop-at.members c.gather.new.members c.loop-at.nexts c.gather.new.nexts z) c.in-All.is (c.gather.ensures.gathered v s) in
+    let o = subst (λ (z : Step). Gathered c.args.space.now.events v (view c.loop-at.desk) (view c.gather.new.desk) c.args.object c.args.own.now c.items-methods.result.now (all_told c.loop-at.known) (all_told c.gather.new.known) c.loop-at.members c.gather.new.members c.loop-at.nexts c.gather.new.nexts z) c.in-All.is (c.gather.ensures.gathered v s) in
     let here : slice_get (map methods_of c.args.lines.now) c.loop-at.at ≡ Some c.items-methods.result.now = chord_line_at c.args.lines.now c.loop-at.at c.index-lines-at.result c.index-lines-at.is c.loop-at-test.true ∙ ap (λ (z : List ℕ). Some z) (ap methods_of c.index-lines-at.is ∙ sym c.items-methods.ensures.numbers) in
-    let all = all_gathered c.args.space.now.events v (view c.loop-at.desk) (view c.gather.new.desk) c.args.object c.args.own.now c.items-methods.result.now c.loop-at.known c.gather.new.known c.loop-at.members c.gather.new.members c.loop-at.nexts c.gather.new.nexts i.3 i.4 o in
+    let all = all_gathered c.args.space.now.events v (view c.loop-at.desk) (view c.gather.new.desk) c.args.object c.args.own.now c.items-methods.result.now (all_told c.loop-at.known) (all_told c.gather.new.known) c.loop-at.members c.gather.new.members c.loop-at.nexts c.gather.new.nexts i.3 i.4 o in
     record { stands = o.moves.stands; verdict = (c.items-methods.result.now, here, sym c.has_method.ensures ∙ c.if-has_method.true, all.0, all.1) }
 
 pub loop-at-preserved : goal.loop-at-preserved
@@ -37,11 +38,11 @@ loop-at-preserved g c =
         ap (λ (d : Desk g.row.P.Denot). d.seat.table_id) w.desk-is ∙ w.gather.ensures.desk.0 ∙ i.0,
         (ap (λ (d : Desk g.row.P.Denot). d.seat.table_id) w.desk-is ∙ w.gather.ensures.desk.0 ∙ i.1.0, ap (λ (d : Desk g.row.P.Denot). d.seat.id) w.desk-is ∙ w.gather.ensures.desk.1 ∙ i.1.1),
         (λ v t. let s = i.2 v t in
-            let o = subst (λ (z : Step). Gathered c.args.space.now.events v (view c.loop-at.desk) (view w.gather.new.desk) c.args.object c.args.own.now c.items-methods.result.now c.loop-at.known w.gather.new.known c.loop-at.members w.gather.new.members c.loop-at.nexts w.gather.new.nexts z) w.in-Stuck.is (w.gather.ensures.gathered v s.0) in
-            let more = are_more c.args.own.now (map methods_of c.args.lines.now) c.loop-at.at c.items-methods.result.now w.gather.new.known c.loop-at.busy w.in-Stuck.more here (sym c.has_method.ensures ∙ w.if-has_method.true) o.gathered
-            (are_kept c.args.own.now (map methods_of c.args.lines.now) c.loop-at.at c.loop-at.known w.gather.new.known c.loop-at.busy o.moves.kept s.1) in (
-              subst (λ (z : View × List (Option Sought)). Searching c.args.space.now.events v z.0 c.args.object c.args.own.now z.1) (λ k. (view (sym w.desk-is k), sym w.known-is k)) o.moves.stands,
-              subst (λ (z : List (Option Sought) × Option ℕ). AreStuck c.args.own.now (map methods_of c.args.lines.now) (c.loop-at.at + 1) z.0 z.1) (λ k. (sym w.known-is k, sym (w.busy-is ∙ w.first-busy.ensures) k)) more,
+            let o = subst (λ (z : Step). Gathered c.args.space.now.events v (view c.loop-at.desk) (view w.gather.new.desk) c.args.object c.args.own.now c.items-methods.result.now (all_told c.loop-at.known) (all_told w.gather.new.known) c.loop-at.members w.gather.new.members c.loop-at.nexts w.gather.new.nexts z) w.in-Stuck.is (w.gather.ensures.gathered v s.0) in
+            let more = are_more c.args.own.now (map methods_of c.args.lines.now) c.loop-at.at c.items-methods.result.now (all_told w.gather.new.known) c.loop-at.busy w.in-Stuck.more here (sym c.has_method.ensures ∙ w.if-has_method.true) o.gathered
+            (are_kept c.args.own.now (map methods_of c.args.lines.now) c.loop-at.at (all_told c.loop-at.known) (all_told w.gather.new.known) c.loop-at.busy o.moves.kept s.1) in (
+              subst (λ (z : View × List (Option Sought)). Searching c.args.space.now.events v z.0 c.args.object c.args.own.now z.1) (λ k. (view (sym w.desk-is k), all_told (sym w.known-is k))) o.moves.stands,
+              subst (λ (z : List (Option Sought) × Option ℕ). AreStuck c.args.own.now (map methods_of c.args.lines.now) (c.loop-at.at + 1) z.0 z.1) (λ k. (all_told (sym w.known-is k), sym (w.busy-is ∙ w.first-busy.ensures) k)) more,
             )),
         w.members-is ∙ w.new.ensures,
         w.nexts-is ∙ w.new-in-Stuck.ensures,
@@ -50,9 +51,9 @@ loop-at-preserved g c =
         ap (λ (d : Desk g.row.P.Denot). d.seat.table_id) w.desk-is ∙ i.0,
         (ap (λ (d : Desk g.row.P.Denot). d.seat.table_id) w.desk-is ∙ i.1.0, ap (λ (d : Desk g.row.P.Denot). d.seat.id) w.desk-is ∙ i.1.1),
         (λ v t. let s = i.2 v t in (
-          subst (λ (z : View × List (Option Sought)). Searching c.args.space.now.events v z.0 c.args.object c.args.own.now z.1) (λ k. (view (sym w.desk-is k), sym w.known-is k)) s.0,
-          subst (λ (z : List (Option Sought) × Option ℕ). AreStuck c.args.own.now (map methods_of c.args.lines.now) (c.loop-at.at + 1) z.0 z.1) (λ k. (sym w.known-is k, sym w.busy-is k))
-              (are_skipped c.args.own.now (map methods_of c.args.lines.now) c.loop-at.at c.items-methods.result.now c.loop-at.known c.loop-at.busy here (sym c.has_method.ensures ∙ w.if-has_method.false) s.1),
+          subst (λ (z : View × List (Option Sought)). Searching c.args.space.now.events v z.0 c.args.object c.args.own.now z.1) (λ k. (view (sym w.desk-is k), all_told (sym w.known-is k))) s.0,
+          subst (λ (z : List (Option Sought) × Option ℕ). AreStuck c.args.own.now (map methods_of c.args.lines.now) (c.loop-at.at + 1) z.0 z.1) (λ k. (all_told (sym w.known-is k), sym w.busy-is k))
+              (are_skipped c.args.own.now (map methods_of c.args.lines.now) c.loop-at.at c.items-methods.result.now (all_told c.loop-at.known) c.loop-at.busy here (sym c.has_method.ensures ∙ w.if-has_method.false) s.1),
         )),
         w.members-is ∙ i.3,
         w.nexts-is ∙ i.4,
@@ -62,4 +63,4 @@ loop-at-preserved g c =
 pub returns-clause-through : goal.returns-clause-through
 returns-clause-through g c v t =
     let s = c.loop-at.invariant.2 v t in
-    record { stands = s.0; verdict = all_lines c.args.own.now c.args.lines.now c.loop-at.at c.loop-at.known c.loop-at.busy c.loop-at-test.false c.loop-at.auto.at-end s.1 }
+    record { stands = s.0; verdict = all_lines c.args.own.now c.args.lines.now c.loop-at.at (all_told c.loop-at.known) c.loop-at.busy c.loop-at-test.false c.loop-at.auto.at-end s.1 }
