@@ -171,7 +171,11 @@ fn frames_of(body: Option<Body>) -> Option<Box<Frames>> {
 
 /// The body below comes on top, if there is one, and the frames of the one that ended are kept.
 #[inline(never)]
-pub(crate) fn pop_caller(top: &mut Option<Body>, below: &mut Vec<Body>, ended: &mut Option<Box<Frames>>)
+pub(crate) fn pop_caller(
+    top: &mut Option<Body>,
+    below: &mut Vec<Body>,
+    ended: &mut Option<Box<Frames>>,
+)
     ensures items { below.old.items ≡ below.new.items ++ option_to_list top.new }
     ensures capacity { vec_capacity below.new ≡ vec_capacity below.old }
     ensures cases { MatchOption top.new ((vec_len below.old ≡ 0) × (vec_len below.new ≡ 0)) (λ _. vec_len below.new + 1 ≡ vec_len below.old) }

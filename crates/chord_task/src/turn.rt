@@ -120,26 +120,27 @@ impl Task {
             None => unreachable!(),
             Some(body) => {
                 let maker = body.number;
+                let past = &mut self.past;
                 match ask {
                     Ask::Make(class) => {
                         answer(&mut *body.frames, Value::Ref(Object { number, class }));
-                        append(&mut self.past, number, maker, What::Made(class));
+                        append(past, number, maker, What::Made(class));
                     }
                     Ask::Send(object, method, arguments) => {
                         answer(&mut *body.frames, Value::Unit);
-                        append(&mut self.past, number, maker, What::Sent(object, method, arguments));
+                        append(past, number, maker, What::Sent(object, method, arguments));
                     }
                     Ask::Call(object, method, arguments) => {
                         body.next = Next::Waits(number);
-                        append(&mut self.past, number, maker, What::Called(object, method, arguments));
+                        append(past, number, maker, What::Called(object, method, arguments));
                     }
                     Ask::Print(text) => {
                         answer(&mut *body.frames, Value::Unit);
-                        append(&mut self.past, number, maker, What::Printed(text));
+                        append(past, number, maker, What::Printed(text));
                     }
                     Ask::End(first) => {
                         let second = first.copied(alloc)?;
-                        append(&mut self.past, number, maker, What::Ended(first));
+                        append(past, number, maker, What::Ended(first));
                         pop_caller(&mut self.top, &mut self.below, &mut self.ended);
                         match &mut self.top {
                             None => {}
