@@ -1,5 +1,5 @@
 -- A task whose ask is with its caller, before and after the ask becomes an entry.
-use Rattle.std.proofs.Common.{◌≡◌, ℕ, true, false, List, [], ◌∷◌, Option, Some, None, refl, sym, ap, ◌∙◌, subst, Box, Global, Vec, ◌+◌, ◌++◌, vec_len, vec_capacity}
+use Rattle.std.proofs.Common.{◌≡◌, ℕ, suc, true, false, List, [], ◌∷◌, Option, Some, None, refl, sym, ap, ◌∙◌, subst, Box, Global, Vec, ◌+◌, ◌++◌, vec_len, vec_capacity}
 use Rattle.std.specs.Prelude.{reverse}
 use Rattle.chord_base.specs.declared.event.End.{End}
 use Rattle.chord_base.specs.declared.event.Entry.{Entry}
@@ -11,11 +11,13 @@ use Rattle.chord_base.specs.Printed.{is_end}
 use Rattle.chord_base.specs.Story.{AllBelow, IsDefined}
 use Rattle.chord_code.specs.declared.parts.Parts.{Parts}
 use Rattle.chord_code.specs.Machine.{ComesToAsk}
-use Rattle.chord_code.specs.Meaning.{code_program}
+use Rattle.chord_code.specs.Fuel.{weight}
+use Rattle.chord_code.specs.Meaning.{IsAsked, code_program}
+use Rattle.chord_code.proofs.Asks.{run_asked}
 use Rattle.chord_vm.specs.declared.frames.Frames.{Frames}
 use Rattle.chord_vm.specs.declared.ask.Ask.{Ask}
 use Rattle.chord_vm.specs.declared.ask.Ask.TheVariants as ask
-use Rattle.chord_vm.specs.Frames.{machine_of, what_of_ask, Advanced}
+use Rattle.chord_vm.specs.Frames.{machine_of, waiting_of, what_of_ask, Advanced}
 use Rattle.chord_task.specs.declared.body.Next.{Next}
 use Rattle.chord_task.specs.declared.body.Next.TheVariants as nexts
 use Rattle.chord_task.specs.declared.body.Body.{Body}
@@ -26,8 +28,9 @@ use Rattle.chord_task.specs.Standing.{body_number, view_of, IsTaskOf, IsRunnable
 use Rattle.chord_task.specs.Turning.{MayTurn, Turned, RunsOn, IsAskedFor, MaySettle, HasSettled}
 use Rattle.chord_task.proofs.Asking.{may_run, task_asked, view_asked, given_is, given_next}
 use Rattle.chord_task.proofs.Resuming.{task_roomier}
-use Rattle.chord_task.proofs.Standing.{entry}
-use Rattle.chord_task.proofs.Tasks.{may_answer, task_gave, task_last, task_back}
+use Rattle.chord_task.proofs.Notes.{gave_up}
+use Rattle.chord_task.proofs.Standing.{entry, gave_by}
+use Rattle.chord_task.proofs.Tasks.{stack_at, may_answer, task_gave, task_last, task_back}
 
 -- a task with another body on top
 abbrev pub with_body : Task → Body → Task
@@ -187,6 +190,15 @@ has_settled code t s t' n w b x y =
 -- the answer of an ask fits
 pub roomy_fits : (code : Parts) (t s : Task) (n : ℕ) (w : What) (b : Body) (x : Roomy code t s n w b) (v : What) → x.asked ≡ nexts.Gave v → MayAnswer (answer_of n v) b.frames.value
 roomy_fits code t s n w b x v e = may_answer code t.limits (with_body s (with_next b x.asked)) (with_next b x.asked) n v x.task x.may refl e
+
+-- the body waits for an answer of the kind of its ask
+pub roomy_asked : (code : Parts) (t s : Task) (n : ℕ) (w : What) (b : Body) (x : Roomy code t s n w b) (v : What) → x.asked ≡ nexts.Gave v → IsAsked v b.frames.value.awaited
+roomy_asked code t s n w b x v e =
+    let r = with_body s (with_next b x.asked) in
+    let h = (view_of r).past in
+    let u = gave_up code t.limits h (with_next b x.asked) v e (stack_at code t.limits r (with_next b x.asked) x.task refl).0 in
+    let g = gave_by code t.limits h (with_next b x.asked) v u e in
+    run_asked code x.task.forward v (waiting_of b.frames.value) (suc (weight code g.2.0)) g.2.0 g.2.2
 
 -- the ask became an entry, and the body goes on, or waits
 pub settled_gave : (code : Parts) (t s : Task) (n : ℕ) (w : What) (b : Body) (x : Roomy code t s n w b) (v : What) → x.asked ≡ nexts.Gave v → (past : Vec Entry Global) (b' : Body) → b'.number ≡ b.number → AnsweredWith (answer_of n v) n b.frames.value b' → past.items ≡ s.past.items ++ entry n b.number v ∷ [] → vec_len past ≡ vec_len s.past + 1 → vec_capacity past ≡ vec_capacity s.past → HasSettled code t n w (record { past = past; top = Some b'; below = s.below; spare = s.spare; ended = s.ended; values = s.values; limits = s.limits })

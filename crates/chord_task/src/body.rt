@@ -14,6 +14,7 @@ use chord_vm::ask::Ask;
 use chord_vm::frames::{Frames, answer};
 use chord_vm::step::advance;
 use std::alloc::{AllocError, Global};
+use std::mem;
 
 /// What a body does next.
 #[derive(Drop)]
@@ -95,7 +96,8 @@ fn reply(body: &mut Body, value: Value)
     ensures answered { AnsweredWith (Some value) 0 body.old.frames.value body.new }
 {
     answer(&mut *body.frames, value);
-    body.next = Next::Runs;
+    // a body that is answered ran or waited, so there is nothing to drop
+    mem::forget(mem::replace(&mut body.next, Next::Runs));
 }
 
 /// The body's ask became the entry of this number.

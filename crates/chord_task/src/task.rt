@@ -142,6 +142,7 @@ fn reserve_spare(
 }
 
 /// Sees to a list in stock.
+#[inline(always)]
 fn reserve_values(alloc: Global, values: &mut Option<Vec<Value>>) -> Result<(), AllocError>
     requires { MayBeList values.old }
     ensures kept { MayBeList values.new }
@@ -162,8 +163,10 @@ fn frames_of(body: Option<Body>) -> Option<Box<Frames>> {
             let Body {
                 number: _,
                 frames,
-                next: _,
+                next,
             } = body;
+            // a body that has ended owns its frames alone
+            mem::forget(next);
             Some(frames)
         }
     }
@@ -185,6 +188,7 @@ pub(crate) fn pop_caller(
 }
 
 /// Room for the answer of the body on top.
+#[inline(always)]
 fn reserve_top(alloc: Global, top: &mut Option<Body>) -> Result<(), AllocError>
     ensures same { IsRoomierTop top.old top.new }
     ensures ready { OnOk result (IsReadyFor top.new) }
@@ -301,6 +305,7 @@ impl Task {
     }
 
     /// Takes the room for one more entry and for a firing after it, and changes nothing else.
+    #[inline(always)]
     pub(crate) fn take_room(&mut self, alloc: Global, code: &Code) -> Result<(), AllocError>
         requires spare { HasRoomFor code.now self.old.limits self.old.spare }
         requires values { MayBeList self.old.values }

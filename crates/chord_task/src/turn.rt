@@ -16,6 +16,7 @@ use chord_vm::ask::Ask;
 use chord_vm::frames::answer;
 use chord_vm::step::advance;
 use std::alloc::{AllocError, Global};
+use std::mem;
 
 /// Adds an entry, for which there is room.
 fn append(past: &mut Vec<Entry>, number: u32, body: u32, what: What)
@@ -126,18 +127,16 @@ impl Task {
                         answer(&mut *body.frames, Value::Ref(Object { number, class }));
                         append(past, number, maker, What::Made(class));
                     }
+                    // what was sent or printed is not answered: the body runs on
                     Ask::Send(object, method, arguments) => {
-                        answer(&mut *body.frames, Value::Unit);
                         append(past, number, maker, What::Sent(object, method, arguments));
                     }
                     Ask::Call(object, method, arguments) => {
-                        body.next = Next::Waits(number);
+                        // the body ran, so there is nothing to drop
+                        mem::forget(mem::replace(&mut body.next, Next::Waits(number)));
                         append(past, number, maker, What::Called(object, method, arguments));
                     }
-                    Ask::Print(text) => {
-                        answer(&mut *body.frames, Value::Unit);
-                        append(past, number, maker, What::Printed(text));
-                    }
+                    Ask::Print(text) => append(past, number, maker, What::Printed(text)),
                     Ask::End(first) => {
                         let second = first.copied(alloc)?;
                         append(past, number, maker, What::Ended(first));

@@ -9,7 +9,7 @@ use Rattle.chord_task.specs.declared.body.Body.{Body}
 use Rattle.chord_task.specs.declared.body.Next.TheVariants as nexts
 use Rattle.chord_task.specs.Standing.{GivenBy, CalledBack}
 use Rattle.chord_task.proofs.Tasks.{no_length}
-use Rattle.chord_task.proofs.Turning.{roomy, roomy_fits, settled_gave, settled_back, settled_last}
+use Rattle.chord_task.proofs.Turning.{roomy, roomy_fits, roomy_asked, settled_gave, settled_back, settled_last}
 use Rattle.chord_task.proofs.task.Task.settle.Goals as goal
 
 pub answer-requires-clause-fits : goal.answer-requires-clause-fits
@@ -27,41 +27,27 @@ returns-in-Make c =
     (x.runs, subst (λ (f : Frames). with_answer (machine_of f) f.awaited (a_value.Ref (record { number = c.args.number; class = c.in-Make.class })) ≡ Some (machine_of c.answer.new.frames)) c.deref_mut.ensures.value c.answer.ensures)
     c.append.ensures.items c.append.ensures.len c.append.ensures.capacity
 
-pub answer-requires-in-Send-clause-fits : goal.answer-requires-in-Send-clause-fits
-answer-requires-in-Send-clause-fits c =
-    let x = roomy c.args.code.now c.args.self.now c.take_room.new.self c.args.number (what_of_ask c.args.ask) c.in-Some.body c.requires.asked c.requires.may c.take_room.ensures.past c.take_room.ensures.below c.take_room.ensures.top c.take_room.ensures.spare c.take_room.ensures.values c.take_room.ensures.limits c.in_ok-take_room.ensures.ready c.in-Some.is in
-    let g : x.asked ≡ nexts.Gave (Sent c.in-Send.object c.in-Send.method c.in-Send.arguments) = subst (λ a. GivenBy (what_of_ask a) x.asked) c.in-Send.is x.given in
-    subst (λ (f : Frames). with_answer (machine_of f) f.awaited (a_value.Unit) ≡ None → ⊥) (sym c.deref_mut-in-Send.ensures.value)
-    (roomy_fits c.args.code.now c.args.self.now c.take_room.new.self c.args.number (what_of_ask c.args.ask) c.in-Some.body x (Sent c.in-Send.object c.in-Send.method c.in-Send.arguments) g).1
-
 pub returns-in-Send : goal.returns-in-Send
 returns-in-Send c =
     let x = roomy c.args.code.now c.args.self.now c.take_room.new.self c.args.number (what_of_ask c.args.ask) c.in-Some.body c.requires.asked c.requires.may c.take_room.ensures.past c.take_room.ensures.below c.take_room.ensures.top c.take_room.ensures.spare c.take_room.ensures.values c.take_room.ensures.limits c.in_ok-take_room.ensures.ready c.in-Some.is in
     let g : x.asked ≡ nexts.Gave (Sent c.in-Send.object c.in-Send.method c.in-Send.arguments) = subst (λ a. GivenBy (what_of_ask a) x.asked) c.in-Send.is x.given in
     settled_gave c.args.code.now c.args.self.now c.take_room.new.self c.args.number (what_of_ask c.args.ask) c.in-Some.body x (Sent c.in-Send.object c.in-Send.method c.in-Send.arguments) g c.append-in-Send.new.past _ refl
-    (x.runs, subst (λ (f : Frames). with_answer (machine_of f) f.awaited (a_value.Unit) ≡ Some (machine_of c.answer-in-Send.new.frames)) c.deref_mut-in-Send.ensures.value c.answer-in-Send.ensures)
+    (x.runs, ap (λ p. with_answer (machine_of c.in-Some.body.frames.value) p a_value.Unit) (roomy_asked c.args.code.now c.args.self.now c.take_room.new.self c.args.number (what_of_ask c.args.ask) c.in-Some.body x (Sent c.in-Send.object c.in-Send.method c.in-Send.arguments) g))
     c.append-in-Send.ensures.items c.append-in-Send.ensures.len c.append-in-Send.ensures.capacity
-
-pub answer-requires-in-Print-clause-fits : goal.answer-requires-in-Print-clause-fits
-answer-requires-in-Print-clause-fits c =
-    let x = roomy c.args.code.now c.args.self.now c.take_room.new.self c.args.number (what_of_ask c.args.ask) c.in-Some.body c.requires.asked c.requires.may c.take_room.ensures.past c.take_room.ensures.below c.take_room.ensures.top c.take_room.ensures.spare c.take_room.ensures.values c.take_room.ensures.limits c.in_ok-take_room.ensures.ready c.in-Some.is in
-    let g : x.asked ≡ nexts.Gave (Printed c.in-Print.text) = subst (λ a. GivenBy (what_of_ask a) x.asked) c.in-Print.is x.given in
-    subst (λ (f : Frames). with_answer (machine_of f) f.awaited (a_value.Unit) ≡ None → ⊥) (sym c.deref_mut-in-Print.ensures.value)
-    (roomy_fits c.args.code.now c.args.self.now c.take_room.new.self c.args.number (what_of_ask c.args.ask) c.in-Some.body x (Printed c.in-Print.text) g).1
 
 pub returns-in-Print : goal.returns-in-Print
 returns-in-Print c =
     let x = roomy c.args.code.now c.args.self.now c.take_room.new.self c.args.number (what_of_ask c.args.ask) c.in-Some.body c.requires.asked c.requires.may c.take_room.ensures.past c.take_room.ensures.below c.take_room.ensures.top c.take_room.ensures.spare c.take_room.ensures.values c.take_room.ensures.limits c.in_ok-take_room.ensures.ready c.in-Some.is in
     let g : x.asked ≡ nexts.Gave (Printed c.in-Print.text) = subst (λ a. GivenBy (what_of_ask a) x.asked) c.in-Print.is x.given in
     settled_gave c.args.code.now c.args.self.now c.take_room.new.self c.args.number (what_of_ask c.args.ask) c.in-Some.body x (Printed c.in-Print.text) g c.append-in-Print.new.past _ refl
-    (x.runs, subst (λ (f : Frames). with_answer (machine_of f) f.awaited (a_value.Unit) ≡ Some (machine_of c.answer-in-Print.new.frames)) c.deref_mut-in-Print.ensures.value c.answer-in-Print.ensures)
+    (x.runs, ap (λ p. with_answer (machine_of c.in-Some.body.frames.value) p a_value.Unit) (roomy_asked c.args.code.now c.args.self.now c.take_room.new.self c.args.number (what_of_ask c.args.ask) c.in-Some.body x (Printed c.in-Print.text) g))
     c.append-in-Print.ensures.items c.append-in-Print.ensures.len c.append-in-Print.ensures.capacity
 
 pub returns-in-Call : goal.returns-in-Call
 returns-in-Call c =
     let x = roomy c.args.code.now c.args.self.now c.take_room.new.self c.args.number (what_of_ask c.args.ask) c.in-Some.body c.requires.asked c.requires.may c.take_room.ensures.past c.take_room.ensures.below c.take_room.ensures.top c.take_room.ensures.spare c.take_room.ensures.values c.take_room.ensures.limits c.in_ok-take_room.ensures.ready c.in-Some.is in
     let g : x.asked ≡ nexts.Gave (Called c.in-Call.object c.in-Call.method c.in-Call.arguments) = subst (λ a. GivenBy (what_of_ask a) x.asked) c.in-Call.is x.given in
-    settled_gave c.args.code.now c.args.self.now c.take_room.new.self c.args.number (what_of_ask c.args.ask) c.in-Some.body x (Called c.in-Call.object c.in-Call.method c.in-Call.arguments) g c.append-in-Call.new.past _ refl (refl, refl) c.append-in-Call.ensures.items c.append-in-Call.ensures.len c.append-in-Call.ensures.capacity
+    settled_gave c.args.code.now c.args.self.now c.take_room.new.self c.args.number (what_of_ask c.args.ask) c.in-Some.body x (Called c.in-Call.object c.in-Call.method c.in-Call.arguments) g c.append-in-Call.new.past _ refl (c.replace.ensures.after, refl) c.append-in-Call.ensures.items c.append-in-Call.ensures.len c.append-in-Call.ensures.capacity
 
 pub returns-in-Some-top : goal.returns-in-Some-top
 returns-in-Some-top c =
