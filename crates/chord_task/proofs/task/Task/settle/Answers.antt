@@ -1,7 +1,7 @@
-use Rattle.std.proofs.Common.{◌≡◌, ◌+◌, ◌++◌, sym, ap, refl, ◌∙◌, subst, [], None, Some, arith, Option, vec_len, vec_capacity}
+use Rattle.std.proofs.Common.{◌≡◌, ◌+◌, ◌++◌, sym, ap, refl, ◌∙◌, subst, [], None, Some, arith, Option, vec_len}
 use Rattle.std.specs.Prelude.{MatchOption, option_to_list}
 use Rattle.chord_base.specs.declared.value.Value.TheVariants as a_value
-use Rattle.chord_base.specs.declared.event.What.TheVariants.{Made, Sent, Called, Printed, Ended}
+use Rattle.chord_base.specs.declared.event.What.TheVariants.{Made, Sent, Called, Printed}
 use Rattle.chord_code.specs.Machine.{with_answer}
 use Rattle.chord_vm.specs.Frames.{machine_of, what_of_ask}
 use Rattle.chord_vm.specs.declared.frames.Frames.{Frames}

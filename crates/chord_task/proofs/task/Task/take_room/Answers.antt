@@ -1,4 +1,4 @@
-use Rattle.std.proofs.Common.{refl, arith}
+use Rattle.std.proofs.Common.{arith}
 use Rattle.chord_task.specs.Standing.{IsReadyFor, IsReserved}
 use Rattle.chord_task.proofs.Tasks.{on_ok_follows}
 use Rattle.chord_task.proofs.task.Task.take_room.Goals as goal
