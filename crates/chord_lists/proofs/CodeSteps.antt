@@ -39,7 +39,8 @@ use Rattle.chord_lists.specs.Engine.{IsRunOfLength}
 use Rattle.chord_lists.specs.declared.engine.Turn.{Turn}
 use Rattle.chord_lists.specs.declared.code_bodies.Tag.{Tag}
 use Rattle.chord_lists.specs.declared.code_bodies.CodeBodies.{CodeBodies}
-use Rattle.chord_lists.specs.CodeStands.{past_of, views, home_in, home, held_in, held_at, ready_in, ready_at, AreReady, Awaits, entry_message, message_there, message_held, StandsAfter, MayTurn, Turned, tag_of, IsTagged, WentAt}
+use Rattle.chord_task.specs.Turning.{MayTurn, Turned}
+use Rattle.chord_lists.specs.CodeStands.{past_of, views, home_in, home, held_in, held_at, ready_in, ready_at, AreReady, Awaits, entry_message, message_there, message_held, StandsAfter, tag_of, IsTagged, WentAt}
 use Rattle.chord_lists.proofs.Spots.{set_same, set_other, end_at, before_end, one_some, nothing_some}
 use Rattle.chord_lists.proofs.Held.{newest_there, held_on}
 use Rattle.chord_lists.proofs.CodeTasks.{ready_not_waiting, call_waits}

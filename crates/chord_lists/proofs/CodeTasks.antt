@@ -23,7 +23,7 @@ use Rattle.chord_task.specs.Stacks.{TaskView, IsNext, TopWaitsFor, StaysDefined,
 use Rattle.chord_task.specs.Standing.{view_of, IsTaskOf, is_ready_of, waits_of, may_go, body_may_go, waits_on, body_waits, HasGiven, IsReserved, IsResumable, HasRoomIf, MayNote}
 use Rattle.chord_task.proofs.Stacks.{called_waits}
 use Rattle.chord_task.proofs.Asking.{given_next, not_ready_nothing, waits_no}
-use Rattle.chord_lists.specs.CodeStands.{MayTurn, Turned}
+use Rattle.chord_task.specs.Turning.{Turned}
 
 -- ---- ready and waiting tasks
 
@@ -82,36 +82,6 @@ asks_ready code limits t b a k e =
     ]
 
 -- ---- a task goes on
-
--- a task whose ask was given and which has its room may note it
-abbrev pub may_note : (code : Parts) (limits : Limits) (t r : Task) (n : ℕ) (w : What) → MayTurn (code_program code limits) (view_of t) n → IsTaskOf code limits r → view_of r ≡ view_of t → HasGiven r w → IsReserved code r → MayNote code limits r n × IsNext (code_program code limits) (view_of t) w
-may_note code limits t r n w may k v g room =
-    let p = code_program code limits in
-    let next : IsNext p (view_of t) w = subst (λ x. IsNext p x w) v (given_next code limits r w k g) in (
-      record {
-        what = w;
-        gave = g;
-        reserved = room;
-        stays = subst (λ x. StaysDefined p x n w) (sym v) (may.stays w next);
-        above = subst (λ (x : TaskView). AllBelow n x.past) (sym v) may.above;
-      },
-      next,
-    )
-
--- the task after its next ask became an entry
-pub turned : (code : Parts) (limits : Limits) (t r t' : Task) (n : ℕ) (w : What) (may : MayTurn (code_program code limits) (view_of t) n) (k : IsTaskOf code limits r) (v : view_of r ≡ view_of t) (g : HasGiven r w) (room : IsReserved code r) → IsTaskOf code limits t' × task_noted (view_of r) n w (view_of t') × (is_end w ≡ false → (view_of t').top ≡ (view_of r).top) → Turned code limits t t' n w
-turned code limits t r t' n w may k v g room x =
-    record {
-      task = x.0;
-      next = (may_note code limits t r n w may k v g room).1;
-      noted = subst (λ u. task_noted u n w (view_of t')) v x.1;
-      top = subst (λ (u : TaskView). (is_end w ≡ false → (view_of t').top ≡ u.top)) v x.2;
-    }
-
--- an ask that is there is one
-pub some_given : (o : Option What) → (o ≡ None → ⊥) → (w : What) × (o ≡ Some w)
-some_given None n = absurd (n refl)
-some_given (Some w) n = (w, refl)
 
 -- the newest entry of a past
 pub newest_at : (es : List Entry) (e : Entry) (h : List Entry) → reverse es ≡ e ∷ h → slice_get es (length es - 1) ≡ Some e

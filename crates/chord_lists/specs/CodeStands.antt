@@ -114,22 +114,6 @@ pub record StandsAfter (code : Parts) (limits : Limits) (bodies : CodeBodies) (h
 
 -- ## A task goes on
 
--- the next ask of the body on top may become the entry of this number
-pub record MayTurn (p : Program) (t : TaskView) (n : ℕ) : Type 0 where
-  pub stays : (w : What) → IsNext p t w → StaysDefined p t n w
-  pub above : AllBelow n t.past
-
--- the task before and after its next ask became the entry of this number
-pub record Turned (code : Parts) (limits : Limits) (before after : Task) (n : ℕ) (w : What) : Type 0 where
-  pub task : IsTaskOf code limits after
-  pub next : IsNext (code_program code limits) (view_of before) w
-  pub noted : task_noted (view_of before) n w (view_of after)
-  pub top : is_end w ≡ false → (view_of after).top ≡ (view_of before).top
-
--- its next ask became the entry of this number
-abbrev pub HasTurned : Parts → Limits → Task → Task → ℕ → Type 0
-HasTurned code limits before after n = (w : What) × Turned code limits before after n w
-
 -- the task of this place has an entry
 abbrev pub IsNewest : List Task → ℕ → Type 0
 IsNewest tasks at = (t : Task) × (e : Entry) × (h : List Entry) × (slice_get tasks at ≡ Some t) × ((view_of t).past ≡ e ∷ h)

@@ -9,8 +9,9 @@ ghost use Rattle.chord_base.specs.Messages.{AreDifferent, Message};
 ghost use Rattle.chord_code.specs.Meaning.{code_program, method_is_sync};
 ghost use Rattle.chord_task.specs.declared.task.Task.{Task as T};
 ghost use Rattle.chord_task.specs.Standing.{view_of, IsTaskOf, is_ready_of};
+ghost use Rattle.chord_task.specs.Turning.{MayTurn, HasTurned};
 ghost use Rattle.chord_lists.specs.Engine.{main_begun, IsRunOfLength, MayGoOn, Went, MayBegin, Began, Ends};
-ghost use Rattle.chord_lists.specs.CodeStands.{StandsAfter, AreReady, ready_at, over_at, MayTurn, HasTurned, IsNewest, IsTagged, WentAt, AreLeft, IsLeft, HasNewest, IsNewestTaken, views, held_at, entry_message, arguments_held, IsHeldAt, AllHeld, held_values, Emptied, EmptiedAll, HasAdded, home, Serves, FitsAt, MayReplay, Replayed};
+ghost use Rattle.chord_lists.specs.CodeStands.{StandsAfter, AreReady, ready_at, over_at, IsNewest, IsTagged, WentAt, AreLeft, IsLeft, HasNewest, IsNewestTaken, views, held_at, entry_message, arguments_held, IsHeldAt, AllHeld, held_values, Emptied, EmptiedAll, HasAdded, home, Serves, FitsAt, MayReplay, Replayed};
 
 use crate::engine::Turn;
 use chord_base::event::{Entry, Limits, What};
@@ -54,10 +55,7 @@ fn take_turn(
     requires may { MayTurn (code_program code.now limits.now) (view_of task.old) number }
     ensures { IfOk result (λ _. HasTurned code.now limits.now task.old task.new number) }
 {
-    task.prepare(alloc, code, limits)?;
-    task.reserve(alloc, code)?;
-    task.note(number);
-    Ok(())
+    task.turn(alloc, code, limits, number)
 }
 
 /// Marks a message of this task, at this place of its past.

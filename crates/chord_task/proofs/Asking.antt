@@ -258,7 +258,7 @@ given_next code limits t w k g = by_top t.top refl
     by_top (Some b) e = subst (λ z. IsNext (code_program code limits) (stack_view (view_of t).past z) w) (sym (ap body_number e)) (by_next b e b.next refl (sym (ap given_by e) ∙ g))
 
 -- a body that came to an ask gave it
-given_is : (w : What) (n : Next) → GivenBy w n → given_of n ≡ Some w
+pub given_is : (w : What) (n : Next) → GivenBy w n → given_of n ≡ Some w
 given_is (Ended e) n g = ap given_of g
 given_is Begun n g = ap given_of g
 given_is (Made c) n g = ap given_of g

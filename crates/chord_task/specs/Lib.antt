@@ -7,3 +7,5 @@ pub mod Stacks
 pub mod Standing
 -- what a parcel keeps and holds
 pub mod Parcels
+-- a turn of a task
+pub mod Turning

@@ -43,7 +43,7 @@ pub struct Body {
 }
 
 /// What a body that ran does next. There is nothing to drop in its place, which an assignment would not know.
-fn put(place: &mut Next, next: Next)
+pub(crate) fn put(place: &mut Next, next: Next)
     requires runs { place.old ≡ Next.Runs }
     ensures put { place.new ≡ next }
 {

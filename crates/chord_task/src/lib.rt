@@ -13,3 +13,4 @@ pub mod parcel;
 pub mod task;
 #[cfg(test)]
 mod task_tests;
+pub mod turn;

@@ -142,6 +142,7 @@ fn reserve_spare(
 }
 
 /// Sees to a list in stock.
+#[inline(always)]
 fn reserve_values(alloc: Global, values: &mut Option<Vec<Value>>) -> Result<(), AllocError>
     requires { MayBeList values.old }
     ensures kept { MayBeList values.new }
@@ -162,8 +163,10 @@ fn frames_of(body: Option<Body>) -> Option<Box<Frames>> {
             let Body {
                 number: _,
                 frames,
-                next: _,
+                next,
             } = body;
+            // a body that has ended owns its frames alone
+            mem::forget(next);
             Some(frames)
         }
     }
@@ -171,7 +174,11 @@ fn frames_of(body: Option<Body>) -> Option<Box<Frames>> {
 
 /// The body below comes on top, if there is one, and the frames of the one that ended are kept.
 #[inline(never)]
-fn pop_caller(top: &mut Option<Body>, below: &mut Vec<Body>, ended: &mut Option<Box<Frames>>)
+pub(crate) fn pop_caller(
+    top: &mut Option<Body>,
+    below: &mut Vec<Body>,
+    ended: &mut Option<Box<Frames>>,
+)
     ensures items { below.old.items ≡ below.new.items ++ option_to_list top.new }
     ensures capacity { vec_capacity below.new ≡ vec_capacity below.old }
     ensures cases { MatchOption top.new ((vec_len below.old ≡ 0) × (vec_len below.new ≡ 0)) (λ _. vec_len below.new + 1 ≡ vec_len below.old) }
@@ -181,6 +188,7 @@ fn pop_caller(top: &mut Option<Body>, below: &mut Vec<Body>, ended: &mut Option<
 }
 
 /// Room for the answer of the body on top.
+#[inline(always)]
 fn reserve_top(alloc: Global, top: &mut Option<Body>) -> Result<(), AllocError>
     ensures same { IsRoomierTop top.old top.new }
     ensures ready { OnOk result (IsReadyFor top.new) }
@@ -291,6 +299,22 @@ impl Task {
         ensures task { (limits : TheLimits) → IsTaskOf code.now limits self.old → IsTaskOf code.now limits self.new }
         ensures same { view_of self.new ≡ view_of self.old }
         ensures gave { given_by self.new.top ≡ given_by self.old.top }
+        ensures ready { OnOk result (IsReserved code.now self.new) }
+    {
+        self.take_room(alloc, code)
+    }
+
+    /// Takes the room for one more entry and for a firing after it, and changes nothing else.
+    #[inline(always)]
+    pub(crate) fn take_room(&mut self, alloc: Global, code: &Code) -> Result<(), AllocError>
+        requires spare { HasRoomFor code.now self.old.limits self.old.spare }
+        requires values { MayBeList self.old.values }
+        ensures past { self.new.past.items ≡ self.old.past.items }
+        ensures below { self.new.below.items ≡ self.old.below.items }
+        ensures top { IsRoomierTop self.old.top self.new.top }
+        ensures spare { HasRoomFor code.now self.old.limits self.new.spare }
+        ensures values { MayBeList self.new.values }
+        ensures limits { self.new.limits ≡ self.old.limits }
         ensures ready { OnOk result (IsReserved code.now self.new) }
     {
         self.past.reserve(2)?;

@@ -4,7 +4,8 @@ use Rattle.chord_code.specs.Meaning.{code_program}
 use Rattle.chord_task.specs.declared.task.Task.{Task}
 use Rattle.chord_task.specs.Standing.{view_of, IsTaskOf, is_ready_of}
 use Rattle.std.specs.Prelude.{slice_get}
-use Rattle.chord_lists.specs.CodeStands.{IsTagged, MayTurn, Turned}
+use Rattle.chord_task.specs.Turning.{MayTurn, Turned}
+use Rattle.chord_lists.specs.CodeStands.{IsTagged}
 use Rattle.chord_lists.proofs.Spots.{set_same}
 use Rattle.chord_lists.proofs.CodeSteps.{ready_task, may_turn, noted_body, went_at}
 use Rattle.chord_lists.proofs.code_bodies.make.Goals as goal

@@ -1,6 +1,6 @@
 use Rattle.std.proofs.Common.{◌∙◌}
-use Rattle.chord_lists.proofs.CodeTasks.{may_note, turned, some_given}
-use Rattle.chord_lists.proofs.code_bodies.take_turn.Goals as goal
+use Rattle.chord_task.proofs.Turning.{may_note, turned, some_given}
+use Rattle.chord_task.proofs.task.Task.kept_turn.Goals as goal
 
 pub note-requires : goal.note-requires
 note-requires c =
@@ -9,7 +9,7 @@ note-requires c =
     let k = c.reserve.ensures.task limits c.in_ok-prepare.ensures.task in
     let v = c.reserve.ensures.same ∙ c.in_ok-prepare.ensures.same in
     let w = some_given _ c.in_ok-prepare.ensures.gave in
-    let m = may_note code limits c.args.task.now c.reserve.new.self c.args.number w.0 c.requires.may k v (c.reserve.ensures.gave ∙ w.1) c.in_ok-reserve.ensures.ready in
+    let m = may_note code limits c.args.self.now c.reserve.new.self c.args.number w.0 c.requires.may k v (c.reserve.ensures.gave ∙ w.1) c.in_ok-reserve.ensures.ready in
     (code, limits, k, m.0)
 
 pub returns : goal.returns
@@ -21,5 +21,5 @@ returns c =
     let w = some_given _ c.in_ok-prepare.ensures.gave in
     let g = c.reserve.ensures.gave ∙ w.1 in
     let room = c.in_ok-reserve.ensures.ready in
-    let m = may_note code limits c.args.task.now c.reserve.new.self c.args.number w.0 c.requires.may k v g room in
-    (w.0, turned code limits c.args.task.now c.reserve.new.self c.note.new.self c.args.number w.0 c.requires.may k v g room (c.note.ensures code limits k m.0))
+    let m = may_note code limits c.args.self.now c.reserve.new.self c.args.number w.0 c.requires.may k v g room in
+    (w.0, turned code limits c.args.self.now c.reserve.new.self c.note.new.self c.args.number w.0 c.requires.may k v g room (c.note.ensures code limits k m.0))

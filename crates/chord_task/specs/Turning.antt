@@ -1,0 +1,56 @@
+-- A turn of a task: its next ask becomes an entry.
+use Rattle.std.specs.Prelude.{◌≡◌, ℕ, Option, Some, false}
+use Rattle.chord_base.specs.declared.event.Limits.{Limits}
+use Rattle.chord_base.specs.declared.event.What.{What}
+use Rattle.chord_base.specs.Meaning.{Program}
+use Rattle.chord_base.specs.Printed.{is_end}
+use Rattle.chord_base.specs.Story.{AllBelow}
+use Rattle.chord_code.specs.declared.parts.Parts.{Parts}
+use Rattle.chord_code.specs.Meaning.{code_program}
+use Rattle.chord_task.specs.declared.body.Next.TheVariants as nexts
+use Rattle.chord_task.specs.declared.body.Body.{Body}
+use Rattle.chord_task.specs.declared.task.Task.{Task}
+use Rattle.chord_task.specs.Stacks.{TaskView, IsNext, StaysDefined, task_noted}
+use Rattle.chord_task.specs.Standing.{view_of, IsTaskOf, GivenBy}
+
+-- what is known of an ask before it becomes the entry of this number
+pub record MayTurn (p : Program) (t : TaskView) (n : ℕ) : Type 0 where
+  pub stays : (w : What) → IsNext p t w → StaysDefined p t n w
+  pub above : AllBelow n t.past
+
+-- the task before and after its next ask became the entry of this number
+pub record Turned (code : Parts) (limits : Limits) (before after : Task) (n : ℕ) (w : What) : Type 0 where
+  pub task : IsTaskOf code limits after
+  pub next : IsNext (code_program code limits) (view_of before) w
+  pub noted : task_noted (view_of before) n w (view_of after)
+  pub top : is_end w ≡ false → (view_of after).top ≡ (view_of before).top
+
+-- its next ask became the entry of this number
+abbrev pub HasTurned : Parts → Limits → Task → Task → ℕ → Type 0
+HasTurned code limits before after n = (w : What) × Turned code limits before after n w
+
+-- the frames of a body run
+abbrev pub RunsOn : Option Body → Type 0
+RunsOn top = (b : Body) × (top ≡ Some b) × (b.next ≡ nexts.Runs)
+
+-- the frames of the body on top came to this ask, which is with its caller: once the body has it, this is a task again
+pub record IsAskedFor (code : Parts) (t : Task) (w : What) : Type 0 where
+  pub body : Body
+  pub asked : Body
+  pub on_top : t.top ≡ Some body
+  pub runs : body.next ≡ nexts.Runs
+  pub number : asked.number ≡ body.number
+  pub frames : asked.frames ≡ body.frames
+  pub given : GivenBy w asked.next
+  pub task : IsTaskOf code t.limits (record { past = t.past; top = Some asked; below = t.below; spare = t.spare; ended = t.ended; values = t.values; limits = t.limits })
+
+-- what is known of an ask that is with its caller, before it becomes the entry of this number
+pub record MaySettle (code : Parts) (t : Task) (n : ℕ) (w : What) : Type 0 where
+  pub stays : StaysDefined (code_program code t.limits) (view_of t) n w
+  pub above : AllBelow n (view_of t).past
+
+-- the ask became the entry of this number
+pub record HasSettled (code : Parts) (before : Task) (n : ℕ) (w : What) (after : Task) : Type 0 where
+  pub task : IsTaskOf code before.limits after
+  pub noted : task_noted (view_of before) n w (view_of after)
+  pub top : is_end w ≡ false → (view_of after).top ≡ (view_of before).top

@@ -1,0 +1,154 @@
+//! A turn of a task: its next ask becomes an entry.
+#![tactic(auto)]
+
+ghost use Rattle.std.specs.Prelude.{◌≡◌, ◌<◌, ◌+◌, ◌++◌, ◌∷◌, [], IfOk, true, vec_len, vec_capacity};
+ghost use Rattle.chord_code.specs.Meaning.{code_program};
+ghost use Rattle.chord_vm.specs.Frames.{what_of_ask};
+ghost use Rattle.chord_task.specs.Standing.{view_of, IsTaskOf, is_ready_of};
+ghost use Rattle.chord_task.specs.Turning.{MayTurn, HasTurned, IsAskedFor, RunsOn, HasSettled, MaySettle};
+
+use crate::body::{Next, call_back};
+use crate::task::{Task, pop_caller};
+use chord_base::event::{Entry, Limits, What};
+use chord_base::value::{Object, Value};
+use chord_code::code::Code;
+use chord_vm::ask::Ask;
+use chord_vm::frames::answer;
+use chord_vm::step::advance;
+use std::alloc::{AllocError, Global};
+use std::mem;
+
+/// Adds an entry, for which there is room.
+fn append(past: &mut Vec<Entry>, number: u32, body: u32, what: What)
+    requires { vec_len past.old < vec_capacity past.old }
+    ensures items { past.new.items ≡ past.old.items ++ record { number = number; body = body; what = what } ∷ [] }
+    ensures len { vec_len past.new ≡ vec_len past.old + 1 }
+    ensures capacity { vec_capacity past.new ≡ vec_capacity past.old }
+{
+    past.push_reserved(Entry { number, body, what });
+}
+
+impl Task {
+    /// The next ask of the body on top becomes the entry of this number. As `prepare`, `reserve` and `note`, but the ask is
+    /// moved once. Where no memory is found, the task can only be dropped.
+    pub fn turn(
+        &mut self,
+        alloc: Global,
+        code: &Code,
+        limits: &Limits,
+        number: u32,
+    ) -> Result<(), AllocError>
+        requires task { IsTaskOf code.now limits.now self.old }
+        requires left { is_ready_of self.old ≡ true }
+        requires may { MayTurn (code_program code.now limits.now) (view_of self.old) number }
+        ensures { IfOk result (λ _. HasTurned code.now limits.now self.old self.new number) }
+    {
+        if self.runs() {
+            return self.run_turn(alloc, code, limits, number);
+        }
+        self.kept_turn(alloc, code, limits, number)
+    }
+
+    /// Whether the frames of the body on top run.
+    fn runs(&self) -> bool
+        ensures { result ≡ true → RunsOn self.now.top }
+    {
+        match &self.top {
+            None => false,
+            Some(body) => match body.next {
+                Next::Runs => true,
+                _ => false,
+            },
+        }
+    }
+
+    /// A turn of a body that keeps its ask, or ends by a trap of the body that it called.
+    #[inline(never)]
+    fn kept_turn(
+        &mut self,
+        alloc: Global,
+        code: &Code,
+        limits: &Limits,
+        number: u32,
+    ) -> Result<(), AllocError>
+        requires task { IsTaskOf code.now limits.now self.old }
+        requires left { is_ready_of self.old ≡ true }
+        requires may { MayTurn (code_program code.now limits.now) (view_of self.old) number }
+        ensures { IfOk result (λ _. HasTurned code.now limits.now self.old self.new number) }
+    {
+        self.prepare(alloc, code, limits)?;
+        self.reserve(alloc, code)?;
+        self.note(number);
+        Ok(())
+    }
+
+    /// A turn of a body whose frames run.
+    fn run_turn(
+        &mut self,
+        alloc: Global,
+        code: &Code,
+        limits: &Limits,
+        number: u32,
+    ) -> Result<(), AllocError>
+        requires task { IsTaskOf code.now limits.now self.old }
+        requires runs { RunsOn self.old.top }
+        requires may { MayTurn (code_program code.now limits.now) (view_of self.old) number }
+        ensures { IfOk result (λ _. HasTurned code.now limits.now self.old self.new number) }
+    {
+        match &mut self.top {
+            None => unreachable!(),
+            Some(body) => {
+                let ask = advance(alloc, code, &mut *body.frames, limits)?;
+                self.settle(alloc, code, number, ask)
+            }
+        }
+    }
+
+    /// The ask to which the frames of the body on top came becomes the entry of this number.
+    fn settle(
+        &mut self,
+        alloc: Global,
+        code: &Code,
+        number: u32,
+        ask: Ask,
+    ) -> Result<(), AllocError>
+        requires asked { IsAskedFor code.now self.old (what_of_ask ask) }
+        requires may { MaySettle code.now self.old number (what_of_ask ask) }
+        ensures { IfOk result (λ _. HasSettled code.now self.old number (what_of_ask ask) self.new) }
+    {
+        self.take_room(alloc, code)?;
+        match &mut self.top {
+            None => unreachable!(),
+            Some(body) => {
+                let maker = body.number;
+                let past = &mut self.past;
+                match ask {
+                    Ask::Make(class) => {
+                        answer(&mut *body.frames, Value::Ref(Object { number, class }));
+                        append(past, number, maker, What::Made(class));
+                    }
+                    // what was sent or printed is not answered: the body runs on
+                    Ask::Send(object, method, arguments) => {
+                        append(past, number, maker, What::Sent(object, method, arguments));
+                    }
+                    Ask::Call(object, method, arguments) => {
+                        // the body ran, so there is nothing to drop
+                        mem::forget(mem::replace(&mut body.next, Next::Waits(number)));
+                        append(past, number, maker, What::Called(object, method, arguments));
+                    }
+                    Ask::Print(text) => append(past, number, maker, What::Printed(text)),
+                    Ask::End(first) => {
+                        let second = first.copied(alloc)?;
+                        append(past, number, maker, What::Ended(first));
+                        pop_caller(&mut self.top, &mut self.below, &mut self.ended);
+                        match &mut self.top {
+                            None => {}
+                            Some(caller) => call_back(caller, second),
+                        }
+                    }
+                }
+                Ok(())
+            }
+        }
+    }
+}
