@@ -1,7 +1,7 @@
 //! A stack of bodies, each waiting for the one above it, and the entries that they made.
 #![tactic(auto)]
 
-ghost use Rattle.std.specs.Prelude.{◌≡◌, ◌≢◌, ℕ, ◌+◌, ◌-◌, ◌≤◌, List, [], ◌∷◌, ◌++◌, true, false, IfOk, OnOk, Some, None, length, slice_get, is_none, option_copied, option_to_list, vec_len, vec_capacity, MatchOption, Box};
+ghost use Rattle.std.specs.Prelude.{◌≡◌, ◌≢◌, ℕ, ◌+◌, ◌-◌, ◌≤◌, List, [], ◌∷◌, ◌++◌, true, false, IfOk, OnOk, IfSome, Some, None, length, slice_get, is_none, option_copied, option_to_list, vec_len, vec_capacity, MatchOption, Box};
 ghost use Rattle.chord_base.specs.declared.event.Limits.{Limits as TheLimits};
 ghost use Rattle.chord_base.specs.declared.event.What.{What as AWhat};
 ghost use Rattle.chord_base.specs.Printed.{is_end};
@@ -155,8 +155,10 @@ fn reserve_values(alloc: Global, values: &mut Option<Vec<Value>>) -> Result<(), 
     Ok(())
 }
 
-/// The frames of a body, if there is one.
-fn frames_of(body: Option<Body>) -> Option<Box<Frames>> {
+/// The frames of a body that has ended, if there is one.
+fn frames_of(body: Option<Body>) -> Option<Box<Frames>>
+    requires runs { IfSome body (λ b. b.next ≡ Next.Runs) }
+{
     match body {
         None => None,
         Some(body) => {
@@ -165,8 +167,11 @@ fn frames_of(body: Option<Body>) -> Option<Box<Frames>> {
                 frames,
                 next,
             } = body;
-            // a body that has ended owns its frames alone
-            mem::forget(next);
+            // nothing is to be dropped, which a drop would look for
+            match next {
+                Next::Runs => {}
+                _ => unreachable!(),
+            }
             Some(frames)
         }
     }
@@ -179,6 +184,7 @@ pub(crate) fn pop_caller(
     below: &mut Vec<Body>,
     ended: &mut Option<Box<Frames>>,
 )
+    requires runs { IfSome top.old (λ b. b.next ≡ Next.Runs) }
     ensures items { below.old.items ≡ below.new.items ++ option_to_list top.new }
     ensures capacity { vec_capacity below.new ≡ vec_capacity below.old }
     ensures cases { MatchOption top.new ((vec_len below.old ≡ 0) × (vec_len below.new ≡ 0)) (λ _. vec_len below.new + 1 ≡ vec_len below.old) }

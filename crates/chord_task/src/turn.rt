@@ -7,7 +7,7 @@ ghost use Rattle.chord_vm.specs.Frames.{what_of_ask};
 ghost use Rattle.chord_task.specs.Standing.{view_of, IsTaskOf, is_ready_of};
 ghost use Rattle.chord_task.specs.Turning.{MayTurn, HasTurned, IsAskedFor, RunsOn, HasSettled, MaySettle};
 
-use crate::body::{Next, call_back};
+use crate::body::{Next, call_back, put};
 use crate::task::{Task, pop_caller};
 use chord_base::event::{Entry, Limits, What};
 use chord_base::value::{Object, Value};
@@ -16,7 +16,6 @@ use chord_vm::ask::Ask;
 use chord_vm::frames::answer;
 use chord_vm::step::advance;
 use std::alloc::{AllocError, Global};
-use std::mem;
 
 /// Adds an entry, for which there is room.
 fn append(past: &mut Vec<Entry>, number: u32, body: u32, what: What)
@@ -132,8 +131,7 @@ impl Task {
                         append(past, number, maker, What::Sent(object, method, arguments));
                     }
                     Ask::Call(object, method, arguments) => {
-                        // the body ran, so there is nothing to drop
-                        mem::forget(mem::replace(&mut body.next, Next::Waits(number)));
+                        put(&mut body.next, Next::Waits(number));
                         append(past, number, maker, What::Called(object, method, arguments));
                     }
                     Ask::Print(text) => append(past, number, maker, What::Printed(text)),

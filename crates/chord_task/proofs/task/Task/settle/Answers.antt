@@ -47,7 +47,7 @@ pub returns-in-Call : goal.returns-in-Call
 returns-in-Call c =
     let x = roomy c.args.code.now c.args.self.now c.take_room.new.self c.args.number (what_of_ask c.args.ask) c.in-Some.body c.requires.asked c.requires.may c.take_room.ensures.past c.take_room.ensures.below c.take_room.ensures.top c.take_room.ensures.spare c.take_room.ensures.values c.take_room.ensures.limits c.in_ok-take_room.ensures.ready c.in-Some.is in
     let g : x.asked ≡ nexts.Gave (Called c.in-Call.object c.in-Call.method c.in-Call.arguments) = subst (λ a. GivenBy (what_of_ask a) x.asked) c.in-Call.is x.given in
-    settled_gave c.args.code.now c.args.self.now c.take_room.new.self c.args.number (what_of_ask c.args.ask) c.in-Some.body x (Called c.in-Call.object c.in-Call.method c.in-Call.arguments) g c.append-in-Call.new.past _ refl (c.replace.ensures.after, refl) c.append-in-Call.ensures.items c.append-in-Call.ensures.len c.append-in-Call.ensures.capacity
+    settled_gave c.args.code.now c.args.self.now c.take_room.new.self c.args.number (what_of_ask c.args.ask) c.in-Some.body x (Called c.in-Call.object c.in-Call.method c.in-Call.arguments) g c.append-in-Call.new.past _ refl (c.put.ensures.put, refl) c.append-in-Call.ensures.items c.append-in-Call.ensures.len c.append-in-Call.ensures.capacity
 
 pub returns-in-Some-top : goal.returns-in-Some-top
 returns-in-Some-top c =
