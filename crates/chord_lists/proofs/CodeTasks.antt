@@ -1,5 +1,5 @@
 -- What the engine over a code uses of one task.
-use Rattle.std.proofs.Common.{◌≡◌, ℕ, true, false, ◌==◌, inl, inr, List, [], ◌∷◌, length, Option, Some, None, refl, sym, ap, ◌∙◌, subst, arith, ◌⊎◌, reverse, ◌++◌, ◌-◌, length-append}
+use Rattle.std.proofs.Common.{◌≡◌, ℕ, true, false, ◌==◌, inl, inr, List, [], ◌∷◌, length, Option, Some, None, refl, sym, ap, ◌∙◌, arith, ◌⊎◌, reverse, ◌++◌, ◌-◌, length-append}
 use Rattle.std.specs.Prelude.{slice_get}
 use Rattle.std.proofs.lemmas.Bool.{eqb-true, eqb-false}
 use Rattle.std.proofs.lemmas.List.{reverse-append, reverse-reverse}
@@ -11,7 +11,6 @@ use Rattle.chord_base.specs.declared.event.What.TheVariants.{Begun, Made, Sent, 
 use Rattle.chord_base.specs.Meaning.{Program, Asked}
 use Rattle.chord_base.specs.Bodies.{Doing, Absent, Unplaced, Ready, Waits, Over, doing, asked}
 use Rattle.chord_base.specs.Printed.{is_end}
-use Rattle.chord_base.specs.Story.{AllBelow}
 use Rattle.chord_base.proofs.Waits.{either}
 use Rattle.chord_code.specs.declared.parts.Parts.{Parts}
 use Rattle.chord_code.specs.Meaning.{code_program}
@@ -19,10 +18,10 @@ use Rattle.chord_task.specs.declared.task.Task.{Task}
 use Rattle.chord_task.specs.declared.body.Body.{Body}
 use Rattle.chord_task.specs.declared.body.Next.{Next}
 use Rattle.chord_task.specs.declared.body.Next.TheVariants as nexts
-use Rattle.chord_task.specs.Stacks.{TaskView, IsNext, TopWaitsFor, StaysDefined, task_noted}
-use Rattle.chord_task.specs.Standing.{view_of, IsTaskOf, is_ready_of, waits_of, may_go, body_may_go, waits_on, body_waits, HasGiven, IsReserved, IsResumable, HasRoomIf, MayNote}
+use Rattle.chord_task.specs.Stacks.{TaskView, IsNext, TopWaitsFor, task_noted}
+use Rattle.chord_task.specs.Standing.{view_of, IsTaskOf, is_ready_of, waits_of, may_go, body_may_go, waits_on, body_waits, IsResumable, HasRoomIf}
 use Rattle.chord_task.proofs.Stacks.{called_waits}
-use Rattle.chord_task.proofs.Asking.{given_next, not_ready_nothing, waits_no}
+use Rattle.chord_task.proofs.Asking.{not_ready_nothing, waits_no}
 use Rattle.chord_task.specs.Turning.{Turned}
 
 -- ---- ready and waiting tasks

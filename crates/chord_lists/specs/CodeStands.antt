@@ -12,12 +12,10 @@ use Rattle.chord_base.specs.Bodies.{served_among}
 use Rattle.chord_base.specs.Messages.{Message, message_of, pending, has}
 use Rattle.chord_base.specs.Machine.{IsPast, MayFollow}
 use Rattle.chord_base.specs.Bounds.{AreWithin}
-use Rattle.chord_base.specs.Story.{IsOwn, AllBelow, kept}
-use Rattle.chord_base.specs.Printed.{is_end}
+use Rattle.chord_base.specs.Story.{IsOwn, kept}
 use Rattle.chord_code.specs.declared.parts.Parts.{Parts}
 use Rattle.chord_code.specs.Meaning.{code_program}
 use Rattle.chord_task.specs.declared.task.Task.{Task}
-use Rattle.chord_task.specs.Stacks.{TaskView, IsNext, StaysDefined, task_noted}
 use Rattle.chord_task.specs.Standing.{view_of, IsTaskOf, is_ready_of, waits_of}
 use Rattle.chord_lists.specs.Engine.{IsRunOfLength, Made}
 use Rattle.chord_lists.specs.declared.engine.Turn.{Turn}

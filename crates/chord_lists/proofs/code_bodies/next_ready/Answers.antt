@@ -1,4 +1,4 @@
-use Rattle.std.proofs.Common.{◌≡◌, ◌-◌, length, sym, ap, ◌∙◌}
+use Rattle.std.proofs.Common.{◌-◌, length, sym, ap, ◌∙◌}
 use Rattle.std.specs.Prelude.{slice_get}
 use Rattle.chord_lists.proofs.CodeSteps.{ready_popped}
 use Rattle.chord_lists.proofs.code_bodies.next_ready.Goals as goal
