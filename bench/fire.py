@@ -178,8 +178,10 @@ fn found(space: &Space<Letter>, desk: &mut Desk<Letter>, code: &Code, steps: usi
     requires table { (space.now.events ≡ 5) × (code.now ≡ space_code space.now) }
     requires desk { IsDeskOf space.now desk.old × HasInHand (view desk.old) sent_both [] None [] × Owes (view desk.old) 3 (key first_object 1) }
 {
-    match find(space, desk, code, 3, OBJECT, 1) {
-        Finding::Match(chord, members, nexts) => {
+    let mut members = Members::new();
+    let mut nexts = Nexts::new();
+    match find(space, desk, code, 3, OBJECT, 1, &mut members, &mut nexts) {
+        Finding::Match(chord) => {
             if steps == 1 {
                 return 2;
             }
@@ -338,7 +340,7 @@ use Rattle.chord_match.specs.Pairs.{first_object, sent_both}
 use Rattle.chord_match.proofs.ByHand.{same_by_find}
 
 pub fired-requires-clause-desk : goal.fired-requires-clause-desk
-fired-requires-clause-desk c = (c.find.ensures.desk.0 ∙ c.requires.desk.0, same_by_find (program_of c.args.space.now) c.args.space.now.events (view c.args.desk.now) (view c.find.new.desk) 3 first_object 1 c.find.result c.find.ensures.finding sent_both [] None [] c.requires.desk.1, c.in-Match.ensures.finding.seen)
+fired-requires-clause-desk c = (c.find.ensures.desk.0 ∙ c.requires.desk.0, same_by_find (program_of c.args.space.now) c.args.space.now.events (view c.args.desk.now) (view c.find.new.desk) 3 first_object 1 c.find.new.members c.find.new.nexts c.find.result c.find.ensures.finding sent_both [] None [] c.requires.desk.1, c.in-Match.ensures.finding.seen)
 '''
 
 

@@ -209,23 +209,23 @@ same_by_search : (v w : View) (m : ℕ) (c : Cell) (next : Option ℕ) → HasSo
 same_by_search v w m c next s = same_after v (read_so v m c next) w (same_by_read v m c next) (same_by_looks (read_so v m c next) w s.grows.only.frame)
 
 -- a desk holds after a search what it held before it
-pub same_by_find : (p : Program) (n : ℕ) (v w : View) (m : ℕ) (o : Object) (method : ℕ) (r : Finding) → IsFinding p n v w m o method r → IsAsBefore v w
-same_by_find p n v w m o method (Match k ms xs) f = same_by_search v w m Pending f.next f.sought
-same_by_find p n v w m o method Taken f = same_after v (read_so v m Consumed f.0) w (same_by_read v m Consumed f.0) (same_by_rest (read_so v m Consumed f.0) w m f.1)
-same_by_find p n v w m o method Left (inl f) = same_after v (read_so v m (Woken f.0) f.1) w (same_by_read v m (Woken f.0) f.1) (same_by_rest (read_so v m (Woken f.0) f.1) w m f.2)
-same_by_find p n v w m o method Left (inr f) = same_after v f.0 w (same_by_search v f.0 m Pending f.1.next f.1.sought) (same_by_rest f.0 w m f.2)
-same_by_find p n v w m o method (Busy i) f = by_one f.one
+pub same_by_find : (p : Program) (n : ℕ) (v w : View) (m : ℕ) (o : Object) (method : ℕ) (ms : List ℕ) (xs : List (Option ℕ)) (r : Finding) → IsFinding p n v w m o method ms xs r → IsAsBefore v w
+same_by_find p n v w m o method ms xs (Match k) f = same_by_search v w m Pending f.next f.sought
+same_by_find p n v w m o method ms xs Taken f = same_after v (read_so v m Consumed f.0) w (same_by_read v m Consumed f.0) (same_by_rest (read_so v m Consumed f.0) w m f.1)
+same_by_find p n v w m o method ms xs Left (inl f) = same_after v (read_so v m (Woken f.0) f.1) w (same_by_read v m (Woken f.0) f.1) (same_by_rest (read_so v m (Woken f.0) f.1) w m f.2)
+same_by_find p n v w m o method ms xs Left (inr f) = same_after v f.0 w (same_by_search v f.0 m Pending f.1.next f.1.sought) (same_by_rest f.0 w m f.2)
+same_by_find p n v w m o method ms xs (Busy i) f = by_one f.one
   where
     by_one : ((i ≡ m) × ((next : Option ℕ) × (w ≡ read_so v m Claimed next))) ⊎ IsBusyWith p v w m o method i → IsAsBefore v w
     by_one (inl t) = same_by_look v w m (a_word Claimed t.1.0) t.1.1
     by_one (inr t) = same_by_search v w m Pending t.next t.sought
 
 -- its duty on the message is left where it was not laid down
-pub duty_by_find : (p : Program) (n : ℕ) (v w : View) (m : ℕ) (o : Object) (method : ℕ) (r : Finding) → Owes v m (key o method) → IsFinding p n v w m o method r → LeavesDuty p n w m o method r
-duty_by_find p n v w m o method (Match k ms xs) d f = (duty_kept v (read_so v m Pending f.next) w f.sought.grows m (key o method) d, f.seen)
-duty_by_find p n v w m o method Taken d f = tt
-duty_by_find p n v w m o method Left d f = tt
-duty_by_find p n v w m o method (Busy i) d f = by_one f.one
+pub duty_by_find : (p : Program) (n : ℕ) (v w : View) (m : ℕ) (o : Object) (method : ℕ) (ms : List ℕ) (xs : List (Option ℕ)) (r : Finding) → Owes v m (key o method) → IsFinding p n v w m o method ms xs r → LeavesDuty p n w m o method ms xs r
+duty_by_find p n v w m o method ms xs (Match k) d f = (duty_kept v (read_so v m Pending f.next) w f.sought.grows m (key o method) d, f.seen)
+duty_by_find p n v w m o method ms xs Taken d f = tt
+duty_by_find p n v w m o method ms xs Left d f = tt
+duty_by_find p n v w m o method ms xs (Busy i) d f = by_one f.one
   where
     by_one : ((i ≡ m) × ((next : Option ℕ) × (w ≡ read_so v m Claimed next))) ⊎ IsBusyWith p v w m o method i → Owes w m (key o method)
     by_one (inl t) = subst (λ (z : View). Owes z m (key o method)) (sym t.1.1) d

@@ -63,9 +63,9 @@ pub record IsHeldBy (p : Program) (n : ℕ) (v w : View) (m : ℕ) (o : Object) 
   pub below : i < n
   pub alone : IsAloneDesk v → ⊥
 
--- what a search from the view v, which left the view w, answers for m to this method of the object
-abbrev pub IsFinding : Program → ℕ → View → View → ℕ → Object → ℕ → Finding → Type 0
-IsFinding p n v w m o method (Match k ms xs) = IsMatch p n v w m o method k ms xs
-IsFinding p n v w m o method Taken = (next : Option ℕ) × (w ≡ rested (read_so v m Consumed next) m)
-IsFinding p n v w m o method Left = ((q : ℕ) × (next : Option ℕ) × (w ≡ rested (read_so v m (Woken q) next) m)) ⊎ ((u : View) × IsLeftAnswer p v u m o method × (w ≡ rested u m))
-IsFinding p n v w m o method (Busy i) = IsHeldBy p n v w m o method i
+-- what a search from the view v, which left the view w, answers for m to this method of the object, with these members and nexts in the caller's places
+abbrev pub IsFinding : Program → ℕ → View → View → ℕ → Object → ℕ → List ℕ → List (Option ℕ) → Finding → Type 0
+IsFinding p n v w m o method ms xs (Match k) = IsMatch p n v w m o method k ms xs
+IsFinding p n v w m o method ms xs Taken = (next : Option ℕ) × (w ≡ rested (read_so v m Consumed next) m)
+IsFinding p n v w m o method ms xs Left = ((q : ℕ) × (next : Option ℕ) × (w ≡ rested (read_so v m (Woken q) next) m)) ⊎ ((u : View) × IsLeftAnswer p v u m o method × (w ≡ rested u m))
+IsFinding p n v w m o method ms xs (Busy i) = IsHeldBy p n v w m o method i

@@ -135,11 +135,11 @@ abbrev pub GivesClaim : View → View → ℕ → Type 0
 GivesClaim v w i = (es : List Entry) → HoldsClaim v es i → HasInHand w es [] None []
 
 -- what a search for a message leaves: its duty where it was not laid down, and the members of a match as they were seen
-abbrev pub LeavesDuty : Program → ℕ → View → ℕ → Object → ℕ → Finding → Type 0
-LeavesDuty p n w m o method (Match k ms xs) = Owes w m (key o method) × AreSeen n p w o k ms xs
-LeavesDuty p n w m o method (Busy i) = Owes w m (key o method)
-LeavesDuty p n w m o method Left = Unit {0}
-LeavesDuty p n w m o method Taken = Unit {0}
+abbrev pub LeavesDuty : Program → ℕ → View → ℕ → Object → ℕ → List ℕ → List (Option ℕ) → Finding → Type 0
+LeavesDuty p n w m o method ms xs (Match k) = Owes w m (key o method) × AreSeen n p w o k ms xs
+LeavesDuty p n w m o method ms xs (Busy i) = Owes w m (key o method)
+LeavesDuty p n w m o method ms xs Left = Unit {0}
+LeavesDuty p n w m o method ms xs Taken = Unit {0}
 
 -- the desk keeps both messages and the entry of a firing of the chord with these members, which it has not posted
 pub record KeepsFiring (v : View) (ms : List ℕ) (f : ℕ) : Type 0 where

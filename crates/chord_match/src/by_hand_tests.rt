@@ -81,16 +81,28 @@ fn look_for(
     m: u32,
     object: Object,
     method: u8,
-) -> Finding
+) -> (Finding, Members, Nexts)
     requires desk { IsDeskOf space.now desk.old }
     requires code { code.now ≡ space_code space.now }
     requires bounds { (m < space.now.events) × (object.number < space.now.events) × (object.class < 1024) × (method < 16) }
     requires duty { Owes (view desk.old) m (key object method) }
     ensures desk { IsSameDesk desk.old desk.new }
     ensures same { IsAsBefore (view desk.old) (view desk.new) }
-    ensures duty { LeavesDuty (program_of space.now) space.now.events (view desk.new) m object method result }
+    ensures duty { LeavesDuty (program_of space.now) space.now.events (view desk.new) m object method result.1 result.2 result.0 }
 {
-    find(space, desk, code, m, object, method)
+    let mut members = Members::new();
+    let mut nexts = Nexts::new();
+    let found = find(
+        space,
+        desk,
+        code,
+        m,
+        object,
+        method,
+        &mut members,
+        &mut nexts,
+    );
+    (found, members, nexts)
 }
 
 /// Nothing is found for x, whose duty is laid down.
@@ -100,7 +112,7 @@ fn leave_x(space: &Space<Letter>, desk: &mut Desk<Letter>, code: &Code) -> Resul
     ensures desk { IsSameDesk desk.old desk.new × HasInHand (view desk.new) sent_x [] None [] }
 {
     match look_for(space, desk, code, 2, FIRST, 0) {
-        Finding::Left => Ok(()),
+        (Finding::Left, _, _) => Ok(()),
         _ => Err(Fail::from("x is not left")),
     }
 }
@@ -297,7 +309,7 @@ fn find_busy_x(space: &Space<Letter>, desk: &mut Desk<Letter>, code: &Code) -> R
     ensures duty { OnOk result (Owes (view desk.new) 3 (key first_object 1)) }
 {
     match look_for(space, desk, code, 3, FIRST, 1) {
-        Finding::Busy(2) => Ok(()),
+        (Finding::Busy(2), _, _) => Ok(()),
         _ => Err(Fail::from("x is in no other hand")),
     }
 }
@@ -381,7 +393,7 @@ fn match_y(
     ensures matched { IfOk result (λ r. HasInHand (view desk.new) sent_both [] None [] × AreSeen space.now.events (program_of space.now) (view desk.new) first_object 0 r.0 r.1) }
 {
     match look_for(space, desk, code, 3, FIRST, 1) {
-        Finding::Match(0, members, nexts) => {
+        (Finding::Match(0), members, nexts) => {
             if are(&members, 2, 3) {
                 Ok((members, nexts))
             } else {
@@ -640,7 +652,7 @@ fn leave_apart(
     add_x_apart(alloc, space, desk);
     add_y_apart(alloc, space, desk);
     match look_for(space, desk, code, 4, SECOND, 1) {
-        Finding::Left => Ok(()),
+        (Finding::Left, _, _) => Ok(()),
         _ => Err(Fail::from("y is not left")),
     }
 }

@@ -28,8 +28,9 @@ use chord_word::Cell;
 /// What a desk found for a message that it has a duty on.
 #[derive(Drop)]
 pub enum Finding {
-    /// The number of a chord of the object's class, a pending message for each of its methods in header order, and their nexts.
-    Match(u16, Members, Nexts),
+    /// The number of a chord of the object's class. In the caller's places stand a pending message for each of its methods, in header
+    /// order, and their nexts.
+    Match(u16),
     /// No chord with the message has all its others, or the message is a caller that is woken: the duty is laid down.
     Left,
     /// A firing took the message: the duty is laid down.
@@ -216,6 +217,8 @@ fn lines_of(code: &Code, class: u16) -> &[ChordLine]
 /// `Left`. The duty is laid down with `Left` and `Taken` alone. On a first desk that has lent none and has nothing in hand it is
 /// never Busy. On a desk without a claim, what was read claimed is claimed by another.
 ///
+/// The members of a match and their nexts are put into the caller's places, which are empty before; else what stands there says nothing.
+///
 /// That the one who adds a message has to look for a chord with it, and may stop where one bag is empty, is from Turon and Russo,
 /// "Scalable Join Patterns" (OOPSLA 2011).
 pub fn find<P: Carry>(
@@ -225,13 +228,16 @@ pub fn find<P: Carry>(
     m: u32,
     object: Object,
     method: u8,
+    members: &mut Members,
+    nexts: &mut Nexts,
 ) -> Finding
     requires desk { IsDeskOf space.now desk.old }
+    requires places { (members.old ≡ []) × (nexts.old ≡ []) }
     requires code { code.now ≡ space_code space.now }
     requires bounds { (m < space.now.events) × (object.number < space.now.events) × (object.class < 1024) × (method < 16) }
     requires duty { (d : Duty) × HasDuty d (view desk.old).duties × (d.message ≡ m) × (d.bag ≡ key object method) }
     ensures desk { IsSameDesk desk.old desk.new }
-    ensures finding { IsFinding (program_of space.now) space.now.events (view desk.old) (view desk.new) m object method result }
+    ensures finding { IsFinding (program_of space.now) space.now.events (view desk.old) (view desk.new) m object method members.new nexts.new result }
 {
     let mut known = [Note::Nothing; 16];
     let word = space.look_cell(desk, m);
@@ -254,19 +260,8 @@ pub fn find<P: Carry>(
         next: word.next,
     };
     let lines = lines_of(code, object.class);
-    let mut members = Members::new();
-    let mut nexts = Nexts::new();
-    match through(
-        space,
-        desk,
-        object,
-        &own,
-        lines,
-        &mut known,
-        &mut members,
-        &mut nexts,
-    ) {
-        Verdict::Match(chord) => return Finding::Match(chord, members, nexts),
+    match through(space, desk, object, &own, lines, &mut known, members, nexts) {
+        Verdict::Match(chord) => return Finding::Match(chord),
         Verdict::Without(Some(i)) => return Finding::Busy(i),
         Verdict::Without(None) => {}
     }

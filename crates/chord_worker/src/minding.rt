@@ -118,6 +118,8 @@ impl Worker {
         ensures minded { IfOk result (λ b. b ≡ true → WasMinded G.knows (view self.old.desk).kept self.old.task self.new message.number) }
         ensures same { IfOk result (λ b. b ≡ false → StillPlays (view self.old.desk).kept self.old.task self.new) }
     {
+        let mut members = Members::new();
+        let mut nexts = Nexts::new();
         match find(
             space,
             &mut self.desk,
@@ -125,8 +127,10 @@ impl Worker {
             message.number,
             message.object,
             message.method,
+            &mut members,
+            &mut nexts,
         ) {
-            Finding::Match(chord, members, nexts) => {
+            Finding::Match(chord) => {
                 let over = self.try_to_fire(
                     alloc, space, code, limits, gate, message, chord, members, nexts,
                 )?;

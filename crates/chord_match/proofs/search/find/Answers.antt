@@ -74,7 +74,7 @@ returns-in-Without-Some-clause-finding g c =
     let only = subst (λ (z : View). IsOnlyLooks v z) (sym look.looked) (look_only v c.args.m (record { cell = Pending; next = word.next })) in
     let same = ap (map methods_of) (c.lines_of-lines.ensures ∙ ap (λ (z : Parts). chord_lines z o.class) c.requires.code) in
     let t = subst (λ (z : Verdict). IsThrough n u w o own (map methods_of c.lines_of-lines.result.now) (all_told c.through.new.known) c.through.new.members c.through.new.nexts z) (c.in-Without-Some.is ∙ ap a_verdict.Without c.in-Without-Some.field-0-is) (c.through.ensures.through u (stands_first n u o own (stands_read n v u o own look c.requires.bounds.0 c.requires.duty))) in
-    rw c.in-Without-Some.field-0-is (is_busy n (program_of c.args.space.now) o own u w (all_told c.through.new.known) (map methods_of c.lines_of-lines.result.now) same c.through.new.members c.through.new.nexts v only look.looked c.in-Without-Some.i t)
+    is_busy n (program_of c.args.space.now) o own u w (all_told c.through.new.known) (map methods_of c.lines_of-lines.result.now) same c.through.new.members c.through.new.nexts v only look.looked c.in-Without-Some.i t
 
 pub returns-clause-finding : goal.returns-clause-finding
 returns-clause-finding g c =
