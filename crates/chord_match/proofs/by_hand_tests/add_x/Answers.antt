@@ -1,4 +1,4 @@
-use Rattle.std.proofs.Common.{false, List, [], ◌∷◌, None, Some, refl, ◌≡◌, subst, sym, ap, ◌∙◌}
+use Rattle.std.proofs.Common.{false, List, [], ◌∷◌, None, Some, refl, ◌≡◌, subst, sym}
 use Rattle.chord_base.specs.declared.event.Entry.{Entry}
 use Rattle.chord_base.specs.Meaning.{Program}
 use Rattle.chord_rule.specs.declared.view.View.{View}
@@ -9,7 +9,7 @@ use Rattle.chord_rule.specs.Tells.{a_word}
 use Rattle.chord_space.specs.Desks.{view, space_code, space_limits}
 use Rattle.chord_space.specs.Gives.{MayLink}
 use Rattle.chord_word.specs.declared.cells.Cell.TheVariants.{Pending}
-use Rattle.chord_match.specs.Pairs.{pair_program, first_object, sent_x, HasInHand, Owes}
+use Rattle.chord_match.specs.Pairs.{pair_program, first_object, sent_x}
 use Rattle.chord_match.proofs.ByHand.{of_table, may_add_x, holds_linked, holds_armed, holds_lent}
 use Rattle.chord_match.proofs.by_hand_tests.add_x.Goals as goal
 

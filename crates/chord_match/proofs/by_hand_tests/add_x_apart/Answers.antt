@@ -9,7 +9,7 @@ use Rattle.chord_rule.specs.Tells.{a_word}
 use Rattle.chord_space.specs.Desks.{view, space_code, space_limits}
 use Rattle.chord_space.specs.Gives.{MayLink}
 use Rattle.chord_word.specs.declared.cells.Cell.TheVariants.{Pending}
-use Rattle.chord_match.specs.Pairs.{pair_program, first_object, second_object, sent_apart}
+use Rattle.chord_match.specs.Pairs.{pair_program, first_object, sent_apart}
 use Rattle.chord_match.proofs.ByHand.{of_table, may_add_x_apart, holds_linked, holds_armed}
 use Rattle.chord_match.proofs.by_hand_tests.add_x_apart.Goals as goal
 

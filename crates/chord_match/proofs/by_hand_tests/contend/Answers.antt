@@ -1,6 +1,5 @@
 use Rattle.std.proofs.Common.{[], None}
-use Rattle.chord_rule.specs.Made.{key}
-use Rattle.chord_match.specs.Pairs.{first_object, sent_both}
+use Rattle.chord_match.specs.Pairs.{sent_both}
 use Rattle.chord_match.proofs.by_hand_tests.contend.Goals as goal
 
 pub give-requires-clause-claim : goal.give-requires-clause-claim

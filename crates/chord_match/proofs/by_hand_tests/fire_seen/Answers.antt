@@ -1,4 +1,4 @@
-use Rattle.std.proofs.Common.{[], List, refl, subst, sym}
+use Rattle.std.proofs.Common.{[], refl, subst}
 use Rattle.chord_space.specs.Desks.{view, program_of}
 use Rattle.chord_match.specs.Pairs.{first_object, IsLetter}
 use Rattle.chord_match.specs.Fires.{IsFireAnswer}

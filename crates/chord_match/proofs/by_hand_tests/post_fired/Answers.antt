@@ -1,5 +1,4 @@
-use Rattle.std.proofs.Common.{false, [], ◌∷◌, List, ℕ, ◌∙◌, ap, subst, sym}
-use Rattle.chord_base.specs.declared.event.Entry.{Entry}
+use Rattle.std.proofs.Common.{false, [], ◌∷◌, ◌∙◌, subst, sym}
 use Rattle.chord_base.specs.declared.event.What.TheVariants.{Fired}
 use Rattle.chord_base.specs.Meaning.{Program}
 use Rattle.chord_rule.specs.declared.view.View.{View}
@@ -7,7 +6,7 @@ use Rattle.chord_rule.specs.Kinds.{entry}
 use Rattle.chord_space.specs.Desks.{view, space_code, space_limits}
 use Rattle.chord_space.specs.Gives.{MayPost}
 use Rattle.chord_match.specs.Pairs.{pair_program, first_object}
-use Rattle.chord_match.proofs.ByHand.{of_table, may_post_fourth, fourth}
+use Rattle.chord_match.proofs.ByHand.{of_table, may_post_fourth}
 use Rattle.chord_match.proofs.by_hand_tests.post_fired.Goals as goal
 
 pub post-requires-clause-post : goal.post-requires-clause-post
