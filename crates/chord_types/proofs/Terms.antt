@@ -3,8 +3,8 @@ use Rattle.std.proofs.Common.{◌≡◌, Bool, map, refl, ap, ◌∙◌}
 use Rattle.chord_tree.specs.declared.exprs.Link.{Link, out-Link}
 use Rattle.chord_tree.specs.declared.exprs.Dot.{Dot, out-Dot}
 use Rattle.chord_tree.specs.declared.exprs.Actuals.{out-Actuals}
-use Rattle.chord_tree.specs.Tree.{ExprTree, LinkTree, LinkTrees, ChainExpr, MakeLink, MakeDot, exprs}
-use Rattle.chord_tree.specs.Terms.{Term, term, terms, term_after, operated, OperationTerm, CallTerm}
+use Rattle.chord_tree.specs.Tree.{ExprTree, LinkTree, LinkTrees, DotTree, DotTrees, ChainExpr, MakeLink, MoreDots, MakeDot, MakeActuals, exprs}
+use Rattle.chord_tree.specs.Terms.{Term, term, terms, term_after, called, operated, OperationTerm, CallTerm}
 use Rattle.chord_tree.specs.ViewExprs.{see_expr, see_link, see_dot}
 use Rattle.chord_tree.proofs.SeenExprs.{seen_link, seen_dot, seen_actuals}
 use Rattle.chord_types.specs.Checked.{on_link, on_dot}
@@ -16,6 +16,10 @@ chain_term first (MakeLink operator at operand) more minus = refl
 -- an operator of memory with its operands
 pub link_term : (link : Link) (left : Term) → on_link left (see_link link) ≡ OperationTerm (out-Link link).operator (out-Link link).at left (term (see_expr (out-Link link).operand))
 link_term link left = ap (on_link left) (seen_link link)
+
+-- calls go on from what the first one gives
+pub first_called_on : (first : DotTree) (more : DotTrees) (receiver : Term) → called (MoreDots first more) receiver ≡ called more (on_dot receiver first)
+first_called_on (MakeDot dot name (MakeActuals at arguments)) more receiver = refl
 
 -- a call of memory on its receiver
 pub dot_term : (dot : Dot) (receiver : Term) → on_dot receiver (see_dot dot) ≡ CallTerm receiver (out-Dot dot).at (out-Dot dot).name (out-Actuals (out-Dot dot).actuals).at (terms (exprs (map see_expr (out-Actuals (out-Dot dot).actuals).arguments.items)))
