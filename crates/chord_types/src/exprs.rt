@@ -5,7 +5,7 @@ ghost use Rattle.std.specs.Prelude.{◌≡◌, Bool, true, false, map, IfOk};
 ghost use Rattle.chord_tree.specs.Tree.{exprs, dots, links};
 ghost use Rattle.chord_tree.specs.Terms.{Term, term_after, term, started, terms, called, operated, GroupTerm, MinusTerm, NotTerm, OwnCallTerm, NewTerm};
 ghost use Rattle.chord_tree.specs.Walk.{Used, Receiver};
-ghost use Rattle.chord_tree.specs.ViewExprs.{see_expr, see_start, see_chain, see_link, see_dot};
+ghost use Rattle.chord_tree.specs.ViewExprs.{see_expr, see_calls, see_start, see_chain, see_link, see_dot};
 ghost use Rattle.chord_types.specs.Checked.{IsChecked, AreChecked, IsReceiver, GoesOn, Operates, on_dot, on_link};
 ghost use Rattle.chord_types.specs.Views.{see_role};
 ghost use Rattle.chord_types.specs.Sites.{see_site};
@@ -148,7 +148,7 @@ fn with_calls(
     calls: &Calls,
     breaks: &mut Least,
 ) -> Result<Operand, AllocError>
-    ensures { IfOk result (λ r. IsChecked (see_site site.now) Used (called (dots (map see_dot calls.now.more.items)) (on_dot (started (see_start calls.now.start) minus) (see_dot calls.now.first))) breaks.old.found breaks.new.found r) }
+    ensures { IfOk result (λ r. IsChecked (see_site site.now) Used (term_after (see_calls calls.now) minus) breaks.old.found breaks.new.found r) }
 {
     let receiver = start(alloc, site, Role::Receiver, minus, &calls.start, breaks)?;
     match calls.more.split_last() {

@@ -10,7 +10,7 @@ use Rattle.chord_tree.specs.Terms.{term_after, term, terms, called, started, ope
 use Rattle.chord_tree.specs.Walk.{Used, Receiver}
 use Rattle.chord_tree.specs.ViewExprs.{see_expr, see_dot, see_link, see_start, see_chain, see_calls, see_actuals}
 use Rattle.chord_tree.proofs.SeenExprs.{seen_chain, seen_chained, seen_minus, seen_not, seen_alone, seen_calls, seen_called, seen_actuals, seen_start_variable, seen_start_call, seen_start_this, seen_start_new, seen_start_number, seen_start_literal, seen_start_true, seen_start_false, seen_start_group}
-use Rattle.chord_tree.proofs.Weights.{total, weigh_expr, weigh_link, weigh_start, weigh_dot, weigh_parts, of_chain, weigh_chain, weigh_minus, weigh_not, weigh_alone, weigh_calls, weigh_called, of_calls, weigh_start_call, weigh_start_new, weigh_start_group, of_link, of_actuals, of_dot, one_of}
+use Rattle.chord_tree.proofs.Weights.{total, weigh_expr, weigh_link, weigh_start, weigh_dot, weigh_actuals, weigh_calls, weigh_parts, of_chain, weigh_chain, weigh_minus, weigh_not, weigh_alone, weigh_calls, weigh_called, of_calls, weigh_start_call, weigh_start_new, weigh_start_group, of_link, of_actuals, of_dot, one_of}
 use Rattle.chord_bodies.specs.Resolved as to
 use Rattle.chord_bodies.specs.View.{LinkOf, view_expr, binary, expr_list}
 use Rattle.chord_bodies.proofs.Viewed.{viewed_negate, viewed_deny, viewed_this, viewed_new, viewed_link}
@@ -26,7 +26,7 @@ use Rattle.chord_types.specs.CallKeys.{call_keys, call_type}
 use Rattle.chord_types.specs.Checked.{IsChecked, AreChecked, IsReceiver, on_link, on_dot}
 use Rattle.chord_tree.proofs.Words.{length_zero}
 use Rattle.chord_types.proofs.Oks.{if_ok}
-use Rattle.chord_types.proofs.Terms.{chain_term, link_term, first_called_on, dot_term}
+use Rattle.chord_types.proofs.Terms.{chain_term, link_term, called_term, dot_term}
 use Rattle.chord_types.proofs.Lists.{map_last, take_step, take_all, dots_taken, dots_last, links_taken, total_ends}
 use Rattle.chord_types.proofs.Nodes.{AreAll, none_yet, minus_checked, not_checked, group_checked, operation_checked, own_checked, new_checked, call_checked, are_checked, one_more_checked, moved}
 use Rattle.chord_types.proofs.exprs.+exprs.Goals as goal
@@ -77,13 +77,13 @@ pub new_object-arguments-requires : goal.new_object-arguments-requires
 new_object-arguments-requires t c = let e = of_actuals c.args.actuals.now in let f = ap (λ z. total (map weigh_expr z)) c.deref.ensures.value in (omega arith, tt)
 
 pub start-own_call-requires : goal.start-own_call-requires
-start-own_call-requires t c = let e = ap weigh_start c.in-Call.is ∙ weigh_start_call c.in-Call.name c.in-Call.actuals in let f = ap weigh_actuals c.deref-in-Call.ensures in (omega arith, tt)
+start-own_call-requires t c = let e = ap weigh_start c.in-Call.is ∙ weigh_start_call c.in-Call.name c.in-Call.actuals in let f = ap weigh_actuals c.deref.ensures in (omega arith, tt)
 
 pub start-new_object-requires : goal.start-new_object-requires
 start-new_object-requires t c = let e = ap weigh_start c.in-New.is ∙ weigh_start_new c.in-New.at c.in-New.name c.in-New.actuals in let f = ap weigh_actuals c.deref-in-New.ensures in (omega arith, tt)
 
 pub start-group-requires : goal.start-group-requires
-start-group-requires t c = let e = ap weigh_start c.in-Group.is ∙ weigh_start_group c.in-Group.at c.in-Group.inner in let f = ap weigh_expr c.deref.ensures in (omega arith, tt)
+start-group-requires t c = let e = ap weigh_start c.in-Group.is ∙ weigh_start_group c.in-Group.at c.in-Group.inner in let f = ap weigh_expr c.deref-in-Group.ensures in (omega arith, tt)
 
 pub call_on-arguments-requires : goal.call_on-arguments-requires
 call_on-arguments-requires t c = let d = of_dot c.args.dot.now in let e = of_actuals (out-Dot c.args.dot.now).actuals in let f = ap (λ z. total (map weigh_expr z)) c.deref.ensures.value in (omega arith, tt)
@@ -136,9 +136,7 @@ expr-returns-in-Start t c =
 pub expr-returns-in-Calls : goal.expr-returns-in-Calls
 expr-returns-in-Calls t c =
     let site = see_site c.args.site.now in
-    let calls = out-Calls c.deref-in-Calls.result.now in
-    let same = ap (λ z. term_after z c.args.minus) (ap see_expr c.in-Calls.is ∙ seen_called c.in-Calls.calls ∙ ap see_calls (sym c.deref-in-Calls.ensures) ∙ seen_calls c.deref-in-Calls.result.now)
-    ∙ first_called_on (see_dot calls.first) (dots (map see_dot calls.more.items)) (started (see_start calls.start) c.args.minus) in
+    let same = ap (λ z. term_after z c.args.minus) (ap see_expr c.in-Calls.is ∙ seen_called c.in-Calls.calls ∙ ap see_calls (sym c.deref-in-Calls.ensures)) in
     if_ok c.with_calls.result _ _ (λ r h. subst (λ z. IsChecked site Used z c.args.breaks.now.found c.with_calls.new.breaks.found r) (sym same) h) c.with_calls.ensures
 
 pub minus_of-returns : goal.minus_of-returns
@@ -191,10 +189,10 @@ with_calls-returns-in-None t c =
     let site = see_site c.args.site.now in
     let calls = out-Calls c.args.calls.now in
     let begin = started (see_start calls.start) c.args.minus in
-    let none = sym c.deref.ensures.value ∙ length_zero _ c.in-None.ensures.cases in
+    let whole = called_term c.args.calls.now c.args.minus ∙ ap (λ z. called (dots (map see_dot z)) (on_dot begin (see_dot calls.first))) (sym c.deref.ensures.value ∙ length_zero _ c.in-None.ensures.cases) in
     if_ok c.call_on.result _ _ (λ r h.
     let all = h _ c.args.breaks.now.found c.in_ok-receiver.ensures in
-    subst (λ z. IsChecked site Used (called (dots (map see_dot z)) (on_dot begin (see_dot calls.first))) c.args.breaks.now.found c.call_on.new.breaks.found r) (sym none) all.checked)
+    subst (λ z. IsChecked site Used z c.args.breaks.now.found c.call_on.new.breaks.found r) (sym whole) all.checked)
     c.call_on.ensures
 
 pub with_calls-returns-in_ok-receiver-in-Some-2 : goal.with_calls-returns-in_ok-receiver-in-Some-2
@@ -202,7 +200,7 @@ with_calls-returns-in_ok-receiver-in-Some-2 t c =
     let site = see_site c.args.site.now in
     let calls = out-Calls c.args.calls.now in
     let begin = started (see_start calls.start) c.args.minus in
-    let whole = ap (λ z. called (dots (map see_dot z)) (on_dot begin (see_dot calls.first))) (sym c.deref.ensures.value) ∙ dots_last see_dot c.deref.result.now c.in-Some.front.now c.in-Some.last.now (on_dot begin (see_dot calls.first)) c.in-Some.ensures.cases.0 in
+    let whole = called_term c.args.calls.now c.args.minus ∙ ap (λ z. called (dots (map see_dot z)) (on_dot begin (see_dot calls.first))) (sym c.deref.ensures.value) ∙ dots_last see_dot c.deref.result.now c.in-Some.front.now c.in-Some.last.now (on_dot begin (see_dot calls.first)) c.in-Some.ensures.cases.0 in
     if_ok c.call_on-in-Some-2.result _ _ (λ r h.
     let all = h _ c.args.breaks.now.found (c.in_ok-receiver-in-Some-2.ensures _ c.args.breaks.now.found (c.in_ok-receiver-in-Some.ensures _ c.args.breaks.now.found c.in_ok-receiver.ensures)) in
     subst (λ z. IsChecked site Used z c.args.breaks.now.found c.call_on-in-Some-2.new.breaks.found r) (sym whole) all.checked)
@@ -240,7 +238,7 @@ start-returns-in-False t c =
 
 pub start-returns-in-Call : goal.start-returns-in-Call
 start-returns-in-Call t c =
-    let same = ap (λ z. started z c.args.minus) (ap see_start c.in-Call.is ∙ seen_start_call c.in-Call.name c.in-Call.actuals ∙ ap (CallStart c.in-Call.name) (ap see_actuals (sym c.deref-in-Call.ensures) ∙ seen_actuals c.deref-in-Call.result.now)) in
+    let same = ap (λ z. started z c.args.minus) (ap see_start c.in-Call.is ∙ seen_start_call c.in-Call.name c.in-Call.actuals ∙ ap (CallStart c.in-Call.name) (ap see_actuals (sym c.deref.ensures) ∙ seen_actuals c.deref.result.now)) in
     if_ok c.own_call.result _ _ (λ r h. subst (λ z. IsReceiver (see_site c.args.site.now) (see_role c.args.role) z c.args.breaks.now.found c.own_call.new.breaks.found r) (sym same) h) c.own_call.ensures
 
 pub start-returns-in-New : goal.start-returns-in-New
@@ -250,7 +248,7 @@ start-returns-in-New t c =
 
 pub start-returns-in-Group : goal.start-returns-in-Group
 start-returns-in-Group t c =
-    let same = ap (λ z. started z c.args.minus) (ap see_start c.in-Group.is ∙ seen_start_group c.in-Group.at c.in-Group.inner ∙ ap (λ z. GroupStart c.in-Group.at (see_expr z)) (sym c.deref.ensures)) in
+    let same = ap (λ z. started z c.args.minus) (ap see_start c.in-Group.is ∙ seen_start_group c.in-Group.at c.in-Group.inner ∙ ap (λ z. GroupStart c.in-Group.at (see_expr z)) (sym c.deref-in-Group.ensures)) in
     if_ok c.group.result _ _ (λ r h. subst (λ z. IsReceiver (see_site c.args.site.now) (see_role c.args.role) z c.args.breaks.now.found c.group.new.breaks.found r) (sym same) h) c.group.ensures
 
 pub group-returns : goal.group-returns
