@@ -190,7 +190,7 @@ pub dots_push : (xs ys : List Dot) (x : Dot) (n : Node) → ys ≡ xs ++ (x ∷ 
 dots_push xs ys x n e = sym (dots_grown (map see_dot xs) (see_dot x) n) ∙ ap (λ z. before_dots z n) (sym (map-append see_dot xs (x ∷ []))) ∙ ap (λ z. before_dots (map see_dot z) n) (sym e)
 
 -- a call before calls is the node of them all
-one_dot : (x : DotTree) (ds : DotTrees) → Made grammar.Dots (node_dot x ▸ node_dots ds ▸ End) ≡ node_dots (MoreDots x ds)
+pub one_dot : (x : DotTree) (ds : DotTrees) → Made grammar.Dots (node_dot x ▸ node_dots ds ▸ End) ≡ node_dots (MoreDots x ds)
 one_dot (MakeDot at y a) ds = refl
 
 -- calls before no others are the calls

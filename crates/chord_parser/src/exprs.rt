@@ -7,7 +7,7 @@ ghost use Rattle.chord_tree.specs.Symbol.{number_of};
 ghost use Rattle.chord_tree.specs.Program.{token_kinds};
 ghost use Rattle.chord_tree.specs.ExprNodes.{operator_level, link_level, level_symbol, level_tail, precedence, node_at, node_links, node_start, node_actuals, node_exprs, node_dots, node_dot};
 ghost use Rattle.chord_tree.specs.Symbols as grammar;
-ghost use Rattle.chord_tree.specs.Tree.{MoreLinks, links, dots, exprs};
+ghost use Rattle.chord_tree.specs.Tree.{DotTrees, PrimaryExpr, MoreLinks, links, dots, exprs};
 ghost use Rattle.chord_tree.specs.ViewExprs.{see_expr, see_link, see_start, see_actuals, see_dot};
 ghost use Rattle.chord_parser.specs.Reading.{StopsAs, IsOther, operator_at, operator_terminal};
 ghost use Rattle.chord_parser.specs.Climbing.{NoneUpTo, Chains, IsLinkRead};
@@ -259,8 +259,29 @@ fn link(
     ensures err { IfErr result (λ fault. StopsAs (level_tail (operator_level operator)) depth (token_kinds tokens.now) fault) }
 {
     let (at, rest) = take(count, tokens, terminal_of_operator(operator), depth)?;
-    let (operand, rest) = chain(alloc, count, rest, depth, level_of(operator) - 1)?;
+    let (operand, rest) = operand(alloc, count, rest, depth, level_of(operator) - 1)?;
     Ok((Link::new(operator, at, operand), rest))
+}
+
+/// The right operand of an operator of the level above. Below the lowest level no operator is looked for.
+#[cycle(parser)]
+fn operand(
+    alloc: Global,
+    count: u32,
+    tokens: &[Token],
+    depth: u32,
+    level: u8,
+) -> Result<(Expr, &[Token]), Fault>
+    requires depth { depth ≤ 201 }
+    requires level { level ≤ 5 }
+    ensures ok { IfOk result (λ r. Reads count (level_symbol level) depth (token_kinds tokens.now) (token_kinds r.1.now) (node_at level (see_expr r.0))) }
+    ensures err { IfErr result (λ fault. StopsAs (level_symbol level) depth (token_kinds tokens.now) fault) }
+    ensures none { IfOk result (λ r. NoneUpTo level (token_kinds r.1.now)) }
+{
+    if level == 0 {
+        return unary(alloc, count, tokens, depth);
+    }
+    chain(alloc, count, tokens, depth, level)
 }
 
 /// Unary = ( "-" | "!" ) Unary | Primary
@@ -281,10 +302,30 @@ fn unary(alloc: Global, count: u32, tokens: &[Token], depth: u32) -> Result<(Exp
     }
     let (first, rest) = start(alloc, count, tokens, depth + 1, ahead)?;
     if next(rest) == terminal::DOT {
-        let (calls, rest) = dots_next(alloc, count, rest, depth + 1)?;
-        return Ok((Expr::primary(first, calls), rest));
+        let (whole, rest) = calls_on(alloc, count, rest, depth + 1, first)?;
+        return Ok((whole, rest));
     }
-    Ok((Expr::primary(first, Vec::new(alloc)), rest))
+    Ok((Expr::start(first), rest))
+}
+
+/// Dot { Dot }, on the start before
+#[inline(never)]
+#[cycle(parser)]
+fn calls_on(
+    alloc: Global,
+    count: u32,
+    tokens: &[Token],
+    depth: u32,
+    start: Start,
+) -> Result<(Expr, &[Token]), Fault>
+    requires depth { depth ≤ 200 }
+    requires first { next (token_kinds tokens.now) ≡ number_of grammar.DOT }
+    ensures ok { IfOk result (λ r. (calls : DotTrees) × (see_expr r.0 ≡ PrimaryExpr (see_start start) calls) × Reads count grammar.Dots depth (token_kinds tokens.now) (token_kinds r.1.now) (node_dots calls)) }
+    ensures err { IfErr result (λ fault. StopsAs grammar.Dots depth (token_kinds tokens.now) fault) }
+{
+    let (first, rest) = dot(alloc, count, tokens, depth)?;
+    let (more, rest) = dots_next(alloc, count, rest, depth)?;
+    Ok((Expr::calls(alloc, start, first, more)?, rest))
 }
 
 /// "-" Unary
@@ -372,7 +413,7 @@ fn start_name(
     let (name, rest) = name_of(alloc, count, tokens, depth)?;
     if next(rest) == terminal::OPEN {
         let (passed, rest) = actuals(alloc, count, rest, depth)?;
-        return Ok((Start::call(name, passed), rest));
+        return Ok((Start::call(alloc, name, passed)?, rest));
     }
     Ok((Start::variable(name), rest))
 }
@@ -394,7 +435,7 @@ fn start_new(
     let (at, rest) = take(count, tokens, terminal::NEW, depth)?;
     let (name, rest) = name_of(alloc, count, rest, depth)?;
     let (passed, rest) = actuals(alloc, count, rest, depth)?;
-    Ok((Start::new_object(at, name, passed), rest))
+    Ok((Start::new_object(alloc, at, name, passed)?, rest))
 }
 
 /// "(" Expr ")"

@@ -13,7 +13,5 @@ pub mod parser;
 mod plain;
 mod stmts;
 mod terminal;
-#[cfg(test)]
-mod tests;
 mod tokens;
 mod words;

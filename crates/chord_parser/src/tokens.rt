@@ -88,6 +88,7 @@ fn terminal_of_mark(mark: Mark) -> u8
 }
 
 /// The terminal of a kind.
+#[inline]
 fn terminal_of_kind(kind: &Kind) -> u8
     ensures { result ≡ terminal_of kind.now }
 {
@@ -101,6 +102,7 @@ fn terminal_of_kind(kind: &Kind) -> u8
 }
 
 /// The terminal of the next token, or `END`.
+#[inline]
 pub fn next(tokens: &[Token]) -> u8
     ensures { result ≡ next (token_kinds tokens.now) }
 {
@@ -118,6 +120,7 @@ pub fn token_number(count: u32, tokens: &[Token]) -> u32
 }
 
 /// The next token, which is the terminal, and those after it.
+#[inline]
 fn one(tokens: &[Token], wanted: u8, depth: u32) -> Result<(&Token, &[Token]), Fault>
     requires { wanted < 52 }
     ensures ok { IfOk result (λ r. Heads wanted (token_kinds tokens.now) (token_kinds r.1.now) r.0.now.kind) }

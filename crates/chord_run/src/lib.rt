@@ -28,6 +28,8 @@ pub use top::chord;
 #[cfg(test)]
 mod engine_tests;
 #[cfg(test)]
+mod parse_tests;
+#[cfg(test)]
 mod schedule_tests;
 #[cfg(test)]
 mod tests;

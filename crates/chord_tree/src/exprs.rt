@@ -2,7 +2,7 @@
 #![tactic(auto)]
 
 ghost use Rattle.std.specs.Prelude.{◌≡◌, false, IfOk, map};
-ghost use Rattle.chord_tree.specs.Tree.{links, exprs, dots, ChainExpr, MinusExpr, NotExpr, PrimaryExpr, MakeLink, VariableStart, CallStart, ThisStart, NewStart, NumberStart, LiteralStart, TrueStart, FalseStart, GroupStart, MakeActuals, MakeDot};
+ghost use Rattle.chord_tree.specs.Tree.{links, exprs, dots, ChainExpr, MinusExpr, NotExpr, PrimaryExpr, MakeLink, VariableStart, CallStart, ThisStart, NewStart, NumberStart, LiteralStart, TrueStart, FalseStart, GroupStart, MakeActuals, MakeDot, NoDots, MoreDots};
 ghost use Rattle.chord_tree.specs.Terms.{term, started, first_token};
 ghost use Rattle.chord_tree.specs.ViewExprs.{see_expr, see_link, see_start, see_actuals, see_dot};
 
@@ -51,8 +51,10 @@ pub enum Expr {
     Minus { at: u32, operand: Box<Expr> },
     /// `!` and its operand.
     Not { at: u32, operand: Box<Expr> },
-    /// A start and the calls on it, each on what those before it give.
-    Primary { start: Start, calls: Vec<Dot> },
+    /// A start on which nothing is called.
+    Start(Start),
+    /// A start and the calls on it.
+    Calls(Box<Calls>),
 }
 
 /// Operands joined by operators of one level, which group from the left. There is one operator at least.
@@ -79,6 +81,18 @@ pub struct Link {
     pub operand: Expr,
 }
 
+/// A start and the calls on it, each on what those before it give. There is one call at least.
+#[cycle(exprs)]
+#[derive(Drop)]
+pub struct Calls {
+    /// What the first call is on.
+    pub start: Start,
+    /// The first call.
+    pub first: Dot,
+    /// The other calls.
+    pub more: Vec<Dot>,
+}
+
 /// What an expression without operators begins with.
 #[cycle(exprs)]
 #[derive(Drop)]
@@ -88,7 +102,7 @@ pub enum Start {
     /// A call without receiver.
     Call {
         name: Name,
-        actuals: Actuals,
+        actuals: Box<Actuals>,
     },
     /// `this`
     This {
@@ -98,7 +112,7 @@ pub enum Start {
     New {
         at: u32,
         name: Name,
-        actuals: Actuals,
+        actuals: Box<Actuals>,
     },
     /// A number.
     Number {
@@ -181,11 +195,24 @@ impl Expr {
         })
     }
 
-    /// A start and the calls on it.
-    pub fn primary(start: Start, calls: Vec<Dot>) -> Expr
-        ensures { see_expr result ≡ PrimaryExpr (see_start start) (dots (map see_dot calls.items)) }
+    /// A start on which nothing is called.
+    pub fn start(start: Start) -> Expr
+        ensures { see_expr result ≡ PrimaryExpr (see_start start) NoDots }
     {
-        Expr::Primary { start, calls }
+        Expr::Start(start)
+    }
+
+    /// A start and the calls on it: the first one, and the others.
+    pub fn calls(
+        alloc: Global,
+        start: Start,
+        first: Dot,
+        more: Vec<Dot>,
+    ) -> Result<Expr, AllocError>
+        ensures { IfOk result (λ e. see_expr e ≡ PrimaryExpr (see_start start) (MoreDots (see_dot first) (dots (map see_dot more.items)))) }
+    {
+        let calls = Box::new(alloc, Calls { start, first, more })?;
+        Ok(Expr::Calls(calls))
     }
 
     /// The number of its first token.
@@ -196,7 +223,8 @@ impl Expr {
             Expr::Chain(chain) => chain.first.first_token(),
             Expr::Minus { at, operand: _ } => *at,
             Expr::Not { at, operand: _ } => *at,
-            Expr::Primary { start, calls: _ } => start.first_token(),
+            Expr::Start(start) => start.first_token(),
+            Expr::Calls(calls) => calls.start.first_token(),
         }
     }
 }
@@ -223,10 +251,11 @@ impl Start {
     }
 
     /// A call without receiver.
-    pub fn call(name: Name, actuals: Actuals) -> Start
-        ensures { see_start result ≡ CallStart name (see_actuals actuals) }
+    pub fn call(alloc: Global, name: Name, actuals: Actuals) -> Result<Start, AllocError>
+        ensures { IfOk result (λ s. see_start s ≡ CallStart name (see_actuals actuals)) }
     {
-        Start::Call { name, actuals }
+        let actuals = Box::new(alloc, actuals)?;
+        Ok(Start::Call { name, actuals })
     }
 
     /// `this`
@@ -237,10 +266,16 @@ impl Start {
     }
 
     /// `new`, a class and the arguments of its constructor.
-    pub fn new_object(at: u32, name: Name, actuals: Actuals) -> Start
-        ensures { see_start result ≡ NewStart at name (see_actuals actuals) }
+    pub fn new_object(
+        alloc: Global,
+        at: u32,
+        name: Name,
+        actuals: Actuals,
+    ) -> Result<Start, AllocError>
+        ensures { IfOk result (λ s. see_start s ≡ NewStart at name (see_actuals actuals)) }
     {
-        Start::New { at, name, actuals }
+        let actuals = Box::new(alloc, actuals)?;
+        Ok(Start::New { at, name, actuals })
     }
 
     /// A number.

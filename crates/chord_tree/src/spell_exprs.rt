@@ -5,9 +5,9 @@ ghost use Rattle.std.specs.Prelude.{map, OnOk};
 ghost use Rattle.chord_tree.specs.Program.{Adds};
 ghost use Rattle.chord_tree.specs.ExprNodes.{bare, node_links, node_start, node_actuals, node_dot, node_dots, node_exprs};
 ghost use Rattle.chord_tree.specs.Tree.{links, dots, exprs, MoreLinks, NoLinks};
-ghost use Rattle.chord_tree.specs.ViewExprs.{see_expr, see_chain, see_link, see_start, see_actuals, see_dot};
+ghost use Rattle.chord_tree.specs.ViewExprs.{see_expr, see_chain, see_calls, see_link, see_start, see_actuals, see_dot};
 
-use crate::exprs::{Actuals, Chain, Dot, Expr, Link, Start};
+use crate::exprs::{Actuals, Calls, Chain, Dot, Expr, Link, Start};
 use crate::puts::{operator_mark, put, put_keyword, put_literal, put_mark, put_name};
 use chord_lexer::token::{Keyword, Kind, Mark, Token};
 use std::alloc::{AllocError, Global};
@@ -26,10 +26,8 @@ pub fn put_expr(alloc: Global, out: &mut Vec<Token>, expr: &Expr) -> Result<(), 
             put_mark(out, Mark::Not)?;
             put_expr(alloc, out, operand)
         }
-        Expr::Primary { start, calls } => {
-            put_start(alloc, out, start)?;
-            put_dots(alloc, out, calls)
-        }
+        Expr::Start(start) => put_start(alloc, out, start),
+        Expr::Calls(calls) => put_calls(alloc, out, calls),
     }
 }
 
@@ -40,6 +38,15 @@ fn put_chain(alloc: Global, out: &mut Vec<Token>, chain: &Chain) -> Result<(), A
     put_expr(alloc, out, &chain.first)?;
     put_link(alloc, out, &chain.link)?;
     put_links(alloc, out, &chain.more)
+}
+
+#[cycle(spell)]
+fn put_calls(alloc: Global, out: &mut Vec<Token>, calls: &Calls) -> Result<(), AllocError>
+    ensures { OnOk result (Adds out.old.items out.new.items (bare (see_calls calls.now))) }
+{
+    put_start(alloc, out, &calls.start)?;
+    put_dot(alloc, out, &calls.first)?;
+    put_dots(alloc, out, &calls.more)
 }
 
 #[cycle(spell)]

@@ -88,7 +88,7 @@ fn give(alloc: Global) -> Result<Item, AllocError>
     ensures { IfOk result (λ i. see_item i ≡ give_item) }
 {
     let name = named(alloc, b"s", 18)?;
-    let value = Expr::primary(Start::variable(name), Vec::new(alloc));
+    let value = Expr::start(Start::variable(name));
     Ok(Item::stmt(Stmt::return_value(17, value)))
 }
 
@@ -114,8 +114,8 @@ fn made(alloc: Global) -> Result<Expr, AllocError>
     ensures { IfOk result (λ e. see_expr e ≡ PrimaryExpr (NewStart 34 (record { text = codes "Buffer"; at = 35 }) (MakeActuals 36 NoExprs)) NoDots) }
 {
     let name = named(alloc, b"Buffer", 35)?;
-    let start = Start::new_object(34, name, Actuals::new(36, Vec::new(alloc)));
-    Ok(Expr::primary(start, Vec::new(alloc)))
+    let start = Start::new_object(alloc, 34, name, Actuals::new(36, Vec::new(alloc)))?;
+    Ok(Expr::start(start))
 }
 
 fn local(alloc: Global) -> Result<Item, AllocError>
@@ -133,7 +133,7 @@ fn put_call(alloc: Global) -> Result<Item, AllocError>
     let receiver = named(alloc, b"b", 39)?;
     let name = named(alloc, b"Put", 41)?;
     let bytes = Bytes::of_items(Vec::from_slice(alloc, b"hi")?);
-    let text = Expr::primary(Start::literal(bytes, 43), Vec::new(alloc));
+    let text = Expr::start(Start::literal(bytes, 43));
     let passed = one(alloc, text)?;
     let dot = Dot::new(40, name, Actuals::new(42, passed));
     let call = Stmt::method_call(receiver, dot, Vec::new(alloc));
@@ -147,8 +147,7 @@ fn got(alloc: Global) -> Result<Expr, AllocError>
     let receiver = named(alloc, b"b", 50)?;
     let name = named(alloc, b"Get", 52)?;
     let dot = Dot::new(51, name, Actuals::new(53, Vec::new(alloc)));
-    let dots = one(alloc, dot)?;
-    Ok(Expr::primary(Start::variable(receiver), dots))
+    Expr::calls(alloc, Start::variable(receiver), dot, Vec::new(alloc))
 }
 
 fn print_call(alloc: Global) -> Result<Item, AllocError>
@@ -218,21 +217,21 @@ fn same(one: &Kind, other: &Kind) -> bool {
 
 // ! ( - 1 < 2 )
 fn test(alloc: Global) -> Result<Expr, AllocError> {
-    let number = Expr::primary(Start::number(1, 6), Vec::new(alloc));
+    let number = Expr::start(Start::number(1, 6));
     let negative = Expr::minus(alloc, 5, number)?;
-    let number = Expr::primary(Start::number(2, 8), Vec::new(alloc));
+    let number = Expr::start(Start::number(2, 8));
     let link = Link::new(Operator::Less, 7, number);
     let chain = Expr::chain(alloc, negative, link, Vec::new(alloc))?;
     let group = Start::group(alloc, 4, chain)?;
-    Expr::not(alloc, 3, Expr::primary(group, Vec::new(alloc)))
+    Expr::not(alloc, 3, Expr::start(group))
 }
 
 // while ( true ) if ( false ) return ;
 fn turns(alloc: Global) -> Result<Stmt, AllocError> {
     let nothing = Box::new(alloc, Stmt::return_nothing(21))?;
-    let never = Expr::primary(Start::false_word(19), Vec::new(alloc));
+    let never = Expr::start(Start::false_word(19));
     let body = Box::new(alloc, Stmt::if_then(17, 18, never, nothing))?;
-    let always = Expr::primary(Start::true_word(15), Vec::new(alloc));
+    let always = Expr::start(Start::true_word(15));
     Ok(Stmt::while_loop(13, 14, always, body))
 }
 
@@ -299,11 +298,11 @@ fn branches_spell_their_tokens(rt: HostRuntime) -> Result<(), AllocError> {
 fn long_chain(alloc: Global) -> Result<Expr, AllocError> {
     let mut links = Vec::new(alloc);
     for at in 0..100_000u32 {
-        let operand = Expr::primary(Start::this(at), Vec::new(alloc));
+        let operand = Expr::start(Start::this(at));
         links.push(Link::new(Operator::Plus, at, operand))?;
     }
-    let first = Expr::primary(Start::this(7), Vec::new(alloc));
-    let operand = Expr::primary(Start::this(9), Vec::new(alloc));
+    let first = Expr::start(Start::this(7));
+    let operand = Expr::start(Start::this(9));
     let link = Link::new(Operator::Plus, 8, operand);
     Expr::chain(alloc, first, link, links)
 }

@@ -1,9 +1,9 @@
 -- Whether items surely return, by the first of them.
-use Rattle.std.proofs.Common.{◌≡◌, Bool, true, false, ℕ, [], ◌∷◌, ◌++◌, List, refl}
+use Rattle.std.proofs.Common.{◌≡◌, Bool, true, false, ℕ, [], ◌∷◌, List, refl}
 use Rattle.std.specs.Prelude.{◌||◌}
 use Rattle.chord_tree.specs.declared.names.Name.{Name}
 use Rattle.chord_tree.specs.declared.exprs.Operator.{Operator}
-use Rattle.chord_tree.specs.Tree.{ExprTree, LinkTree, LinkTrees, DotTree, DotTrees, ItemTree, LocalItem, StmtItem, NoDots, MoreDots, MakeDot, MakeActuals, NoLinks, MoreLinks, MakeLink, ChainExpr, items, dots}
+use Rattle.chord_tree.specs.Tree.{ExprTree, LinkTree, LinkTrees, DotTree, DotTrees, ItemTree, LocalItem, StmtItem, NoDots, MoreDots, MakeDot, MakeActuals, NoLinks, MoreLinks, MakeLink, ChainExpr, items}
 use Rattle.chord_tree.specs.Terms.{Term, Terms, CallTerm, OperationTerm, term, terms, called, operated}
 use Rattle.chord_classes.specs.ItemRules.{is_true_word, surely, items_surely}
 
@@ -32,6 +32,5 @@ pub chain_is_no_word : (first : ExprTree) (link : LinkTree) (more : LinkTrees) �
 chain_is_no_word first (MakeLink operator at operand) more = operated_is_no_word more operator at (term first) (term operand)
 
 -- calls are not the word `true`
-pub dots_are_no_word : (front : List DotTree) (last : DotTree) (t : Term) → is_true_word (called (dots (front ++ (last ∷ []))) t) ≡ false
-dots_are_no_word [] (MakeDot at name (MakeActuals bracket args)) t = refl
-dots_are_no_word (MakeDot at name (MakeActuals bracket args) ∷ front) last t = dots_are_no_word front last (CallTerm t at name bracket (terms args))
+pub dots_are_no_word : (first : DotTree) (more : DotTrees) (t : Term) → is_true_word (called (MoreDots first more) t) ≡ false
+dots_are_no_word (MakeDot at name (MakeActuals bracket args)) more t = called_is_no_word more t at name bracket (terms args)

@@ -5,7 +5,7 @@ ghost use Rattle.std.specs.Prelude.{◌≡◌, Bool, true, false, map, IfOk};
 ghost use Rattle.chord_tree.specs.Tree.{exprs, dots, links};
 ghost use Rattle.chord_tree.specs.Terms.{Term, term_after, term, started, terms, called, operated, GroupTerm, MinusTerm, NotTerm, OwnCallTerm, NewTerm};
 ghost use Rattle.chord_tree.specs.Walk.{Used, Receiver};
-ghost use Rattle.chord_tree.specs.ViewExprs.{see_expr, see_start, see_chain, see_link, see_dot};
+ghost use Rattle.chord_tree.specs.ViewExprs.{see_expr, see_calls, see_start, see_chain, see_link, see_dot};
 ghost use Rattle.chord_types.specs.Checked.{IsChecked, AreChecked, IsReceiver, GoesOn, Operates, on_dot, on_link};
 ghost use Rattle.chord_types.specs.Views.{see_role};
 ghost use Rattle.chord_types.specs.Sites.{see_site};
@@ -17,7 +17,7 @@ use crate::operators::{judge_minus, judge_not, judge_operation, resolved_operato
 use crate::site::{Passed, Role, Site};
 use chord_bodies::expr as built;
 use chord_classes::least::Least;
-use chord_tree::exprs::{Actuals, Chain, Dot, Expr, Link, Start};
+use chord_tree::exprs::{Actuals, Calls, Chain, Dot, Expr, Link, Start};
 use chord_tree::names::Name;
 use std::alloc::{AllocError, Global};
 
@@ -36,7 +36,8 @@ pub fn expr(
         Expr::Chain(chain) => joined(alloc, site, chain, breaks),
         Expr::Minus { at, operand } => minus_of(alloc, site, *at, operand, breaks),
         Expr::Not { at, operand } => not_of(alloc, site, *at, operand, breaks),
-        Expr::Primary { start, calls } => primary(alloc, site, minus, start, calls, breaks),
+        Expr::Start(begin) => start(alloc, site, Role::Used, minus, begin, breaks),
+        Expr::Calls(calls) => with_calls(alloc, site, minus, calls, breaks),
     }
 }
 
@@ -140,20 +141,20 @@ fn link_on(
 
 /// A start and the calls on it.
 #[cycle(exprs)]
-fn primary(
+fn with_calls(
     alloc: Global,
     site: &Site,
     minus: bool,
-    begin: &Start,
-    calls: &[Dot],
+    calls: &Calls,
     breaks: &mut Least,
 ) -> Result<Operand, AllocError>
-    ensures { IfOk result (λ r. IsChecked (see_site site.now) Used (called (dots (map see_dot calls.now)) (started (see_start begin.now) minus)) breaks.old.found breaks.new.found r) }
+    ensures { IfOk result (λ r. IsChecked (see_site site.now) Used (term_after (see_calls calls.now) minus) breaks.old.found breaks.new.found r) }
 {
-    match calls.split_last() {
-        None => start(alloc, site, Role::Used, minus, begin, breaks),
+    let receiver = start(alloc, site, Role::Receiver, minus, &calls.start, breaks)?;
+    match calls.more.split_last() {
+        None => call_on(alloc, site, Role::Used, receiver, &calls.first, breaks),
         Some((last, front)) => {
-            let receiver = start(alloc, site, Role::Receiver, minus, begin, breaks)?;
+            let receiver = call_on(alloc, site, Role::Receiver, receiver, &calls.first, breaks)?;
             let receiver = calls_on(alloc, site, receiver, front, breaks)?;
             call_on(alloc, site, Role::Used, receiver, last, breaks)
         }

@@ -28,16 +28,6 @@ fn begins_true(start: &Start) -> bool
     }
 }
 
-/// Whether a start with calls on it is the word `true`.
-fn is_true_alone(start: &Start, calls: &[Dot]) -> bool
-    ensures { result ≡ is_true_word (called (dots (map see_dot calls.now)) (started (see_start start.now) false)) }
-{
-    match calls.split_last() {
-        None => begins_true(start),
-        Some(_) => false,
-    }
-}
-
 /// Whether an expression is the word `true`.
 fn is_true_word(expr: &Expr) -> bool
     ensures { result ≡ is_true_word (term (see_expr expr.now)) }
@@ -46,7 +36,8 @@ fn is_true_word(expr: &Expr) -> bool
         Expr::Chain(_) => false,
         Expr::Minus { .. } => false,
         Expr::Not { .. } => false,
-        Expr::Primary { start, calls } => is_true_alone(start, calls),
+        Expr::Start(start) => begins_true(start),
+        Expr::Calls(_) => false,
     }
 }
 

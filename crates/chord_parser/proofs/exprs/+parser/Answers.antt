@@ -1,16 +1,18 @@
 use Rattle.std.proofs.Common.{refl, ◌+◌, ◌-◌, lit<, ◌∷◌, [], map, ◌++◌, sym, ap, subst, ◌∙◌, arith}
+use Rattle.std.proofs.lemmas.Result.{IfOk-weaker}
+use Rattle.std.specs.Prelude.{IfOk, IfErr}
 use Rattle.chord_tree.specs.Symbol.{Terminal}
 use Rattle.chord_tree.specs.Program.{token_kinds}
-use Rattle.chord_tree.specs.ExprNodes.{operator_level, level_symbol, level_tail, node_at, node_links, node_start, node_actuals, node_dot, node_exprs}
-use Rattle.chord_tree.specs.Tree.{PrimaryExpr, MoreLinks, links, dots, exprs}
-use Rattle.chord_tree.specs.ViewExprs.{see_expr, see_link, see_start, see_dot}
+use Rattle.chord_tree.specs.ExprNodes.{precedence, operator_level, level_symbol, level_tail, node_at, node_links, node_start, node_actuals, node_dot, node_exprs}
+use Rattle.chord_tree.specs.Tree.{MoreDots, MoreLinks, links, dots, exprs}
+use Rattle.chord_tree.specs.ViewExprs.{see_expr, see_link, see_dot}
 use Rattle.chord_tree.proofs.Ahead.{next_small}
 use Rattle.chord_parser.specs.Reading.{StopsAs, IsOther, one_link, before_links}
 use Rattle.chord_parser.specs.Climbing.{NoneUpTo, Chains, IsLinkRead}
 use Rattle.chord_parser.specs.Runs.{Reads}
 use Rattle.chord_parser.proofs.Reading.{step, ends, goes_into}
-use Rattle.chord_parser.proofs.Chains.{stops, stops_in, exits, enters, then, renamed, as_node, no_link, begun_link, dots_all, dots_push, opt_push, opt_first, opt_all, shorter, shorter_dot, operator_read, pushed, links_all, links_push}
-use Rattle.chord_parser.proofs.Climb.{chain_read, link_read, operand_stops, fewer_left, chain_shorter, link_shorter, some_level, top_level, climb_begins, climb_goes_on, climb_ends, climb_stops, lifted_to_or, links_done, one_more_level}
+use Rattle.chord_parser.proofs.Chains.{stops, stops_in, exits, enters, then, renamed, as_node, no_link, begun_link, dots_all, dots_push, opt_push, opt_first, opt_all, shorter, shorter_dot, operator_read, pushed, links_all, links_push, one_dot}
+use Rattle.chord_parser.proofs.Climb.{chain_read, link_read, operand_stops, fewer_left, chain_shorter, link_shorter, some_level, top_level, none_at_zero, climb_begins, climb_goes_on, climb_ends, climb_stops, lifted_to_or, links_done, one_more_level}
 use Rattle.chord_parser.proofs.made.ChainSteps.{expr_and, expr_and_at}
 use Rattle.chord_parser.proofs.made.ExprSteps.{actuals_open, actuals_open_at, dot_dot, dot_dot_at, dots_dot, dots_dot_at, dots_none, dots_none_at, more_exprs_comma, more_exprs_comma_at, more_exprs_none, more_exprs_none_at, optional_actuals_actuals, optional_actuals_actuals_at, optional_actuals_none, optional_actuals_none_at, optional_exprs_expr, optional_exprs_expr_at, optional_exprs_none, optional_exprs_none_at, primary_operand_start, primary_operand_start_at, operand_start_name, operand_start_name_at, operand_start_new, operand_start_new_at, operand_start_open, operand_start_open_at, unary_minus, unary_minus_at, unary_not, unary_not_at, unary_primary, unary_primary_at}
 use Rattle.chord_parser.proofs.exprs.+parser.Goals as goal
@@ -61,7 +63,7 @@ pub start_new-returns-in_err-passed-clause-err : goal.start_new-returns-in_err-p
 start_new-returns-in_err-passed-clause-err t c = exits _ _ _ _ _ c.from_residual-in_err-passed.ensures.1 (stops {count = c.args.count} (step (step (operand_start_new (operand_start_new_at _ c.requires.first)) c.in_ok-at.ensures.ok) c.in_ok-name.ensures.ok) _ c.in_err-passed.ensures.err)
 
 pub start_new-returns-clause-ok : goal.start_new-returns-clause-ok
-start_new-returns-clause-ok t c = as_node (ends (step (step (step (operand_start_new (operand_start_new_at _ c.requires.first)) c.in_ok-at.ensures.ok) c.in_ok-name.ensures.ok) c.in_ok-passed.ensures.ok)) (sym (ap node_start c.new_object.ensures))
+start_new-returns-clause-ok t c = as_node (ends (step (step (step (operand_start_new (operand_start_new_at _ c.requires.first)) c.in_ok-at.ensures.ok) c.in_ok-name.ensures.ok) c.in_ok-passed.ensures.ok)) (sym (ap node_start c.in_ok-new_object.ensures))
 
 pub start_name-returns-in_err-name-clause-err : goal.start_name-returns-in_err-name-clause-err
 start_name-returns-in_err-name-clause-err t c = exits _ _ _ _ _ c.from_residual.ensures.1 (stops {count = c.args.count} (operand_start_name (operand_start_name_at _ c.requires.first)) _ c.in_err-name.ensures.err)
@@ -70,7 +72,7 @@ pub start_name-returns-in_err-passed-clause-err : goal.start_name-returns-in_err
 start_name-returns-in_err-passed-clause-err t c = exits _ _ _ _ _ c.from_residual-in_err-passed.ensures.1 (stops {count = c.args.count} (goes_into (step (operand_start_name (operand_start_name_at _ c.requires.first)) c.in_ok-name.ensures.ok) (optional_actuals_actuals (optional_actuals_actuals_at _ (sym c.next.ensures ∙ c.if-next-eq-OPEN.true)))) _ c.in_err-passed.ensures.err)
 
 pub start_name-returns-then-next-eq-OPEN-clause-ok : goal.start_name-returns-then-next-eq-OPEN-clause-ok
-start_name-returns-then-next-eq-OPEN-clause-ok t c = as_node (ends (step (goes_into (step (operand_start_name (operand_start_name_at _ c.requires.first)) c.in_ok-name.ensures.ok) (optional_actuals_actuals (optional_actuals_actuals_at _ (sym c.next.ensures ∙ c.if-next-eq-OPEN.true)))) c.in_ok-passed.ensures.ok)) (sym (ap node_start c.call.ensures))
+start_name-returns-then-next-eq-OPEN-clause-ok t c = as_node (ends (step (goes_into (step (operand_start_name (operand_start_name_at _ c.requires.first)) c.in_ok-name.ensures.ok) (optional_actuals_actuals (optional_actuals_actuals_at _ (sym c.next.ensures ∙ c.if-next-eq-OPEN.true)))) c.in_ok-passed.ensures.ok)) (sym (ap node_start c.in_ok-call.ensures))
 
 pub start_name-returns-clause-ok : goal.start_name-returns-clause-ok
 start_name-returns-clause-ok t c = as_node (ends (step (step (operand_start_name (operand_start_name_at _ c.requires.first)) c.in_ok-name.ensures.ok) (ends (optional_actuals_none (optional_actuals_none_at _ (next_small (token_kinds c.in_ok-name.rest.now)) (λ q. c.if-next-eq-OPEN.false (c.next.ensures ∙ q))))))) (sym (ap node_start c.variable.ensures))
@@ -96,14 +98,26 @@ unary_not-returns-clause-ok t c = as_node (ends (step (step (unary_not (unary_no
 pub unary-returns-in_err-first-clause-err : goal.unary-returns-in_err-first-clause-err
 unary-returns-in_err-first-clause-err t c = exits _ _ _ _ _ c.from_residual.ensures.1 (stops {count = c.args.count} (goes_into (unary_primary (unary_primary_at _ (next_small (token_kinds c.args.tokens.now)) (λ q. c.if-ahead-eq-MINUS.false (c.next-ahead.ensures ∙ q)) (λ q. c.if-ahead-eq-NOT.false (c.next-ahead.ensures ∙ q)))) (primary_operand_start (primary_operand_start_at _ (next_small (token_kinds c.args.tokens.now))))) _ c.in_err-first.ensures.err)
 
-pub unary-returns-in_err-calls-clause-err : goal.unary-returns-in_err-calls-clause-err
-unary-returns-in_err-calls-clause-err t c = exits _ _ _ _ _ c.from_residual-in_err-calls.ensures.1 (stops {count = c.args.count} (step (goes_into (unary_primary (unary_primary_at _ (next_small (token_kinds c.args.tokens.now)) (λ q. c.if-ahead-eq-MINUS.false (c.next-ahead.ensures ∙ q)) (λ q. c.if-ahead-eq-NOT.false (c.next-ahead.ensures ∙ q)))) (primary_operand_start (primary_operand_start_at _ (next_small (token_kinds c.args.tokens.now))))) c.in_ok-first.ensures.ok) _ c.in_err-calls.ensures.err)
+pub unary-returns-in_err-whole-clause-err : goal.unary-returns-in_err-whole-clause-err
+unary-returns-in_err-whole-clause-err t c = exits _ _ _ _ _ c.from_residual-in_err-whole.ensures.1 (stops {count = c.args.count} (step (goes_into (unary_primary (unary_primary_at _ (next_small (token_kinds c.args.tokens.now)) (λ q. c.if-ahead-eq-MINUS.false (c.next-ahead.ensures ∙ q)) (λ q. c.if-ahead-eq-NOT.false (c.next-ahead.ensures ∙ q)))) (primary_operand_start (primary_operand_start_at _ (next_small (token_kinds c.args.tokens.now))))) c.in_ok-first.ensures.ok) _ c.in_err-whole.ensures.err)
 
 pub unary-returns-then-next-eq-DOT-clause-ok : goal.unary-returns-then-next-eq-DOT-clause-ok
-unary-returns-then-next-eq-DOT-clause-ok t c = as_node (ends (step (step (goes_into (unary_primary (unary_primary_at _ (next_small (token_kinds c.args.tokens.now)) (λ q. c.if-ahead-eq-MINUS.false (c.next-ahead.ensures ∙ q)) (λ q. c.if-ahead-eq-NOT.false (c.next-ahead.ensures ∙ q)))) (primary_operand_start (primary_operand_start_at _ (next_small (token_kinds c.args.tokens.now))))) c.in_ok-first.ensures.ok) c.in_ok-calls.ensures.ok)) (sym (ap (node_at 0) c.primary.ensures))
+unary-returns-then-next-eq-DOT-clause-ok t c = as_node (ends (step (step (goes_into (unary_primary (unary_primary_at _ (next_small (token_kinds c.args.tokens.now)) (λ q. c.if-ahead-eq-MINUS.false (c.next-ahead.ensures ∙ q)) (λ q. c.if-ahead-eq-NOT.false (c.next-ahead.ensures ∙ q)))) (primary_operand_start (primary_operand_start_at _ (next_small (token_kinds c.args.tokens.now))))) c.in_ok-first.ensures.ok) c.in_ok-whole.ensures.ok.2)) (sym (ap (node_at 0) c.in_ok-whole.ensures.ok.1))
+
+pub unary-returns-then-next-eq-DOT-clause-precedence : goal.unary-returns-then-next-eq-DOT-clause-precedence
+unary-returns-then-next-eq-DOT-clause-precedence t c = ap precedence c.in_ok-whole.ensures.ok.1
 
 pub unary-returns-clause-ok : goal.unary-returns-clause-ok
-unary-returns-clause-ok t c = as_node (ends (step (step (goes_into (unary_primary (unary_primary_at _ (next_small (token_kinds c.args.tokens.now)) (λ q. c.if-ahead-eq-MINUS.false (c.next-ahead.ensures ∙ q)) (λ q. c.if-ahead-eq-NOT.false (c.next-ahead.ensures ∙ q)))) (primary_operand_start (primary_operand_start_at _ (next_small (token_kinds c.args.tokens.now))))) c.in_ok-first.ensures.ok) (ends (dots_none (dots_none_at _ (next_small (token_kinds c.in_ok-first.rest.now)) (λ q. c.if-next-eq-DOT.false (c.next.ensures ∙ q))))))) (sym (ap (node_at 0) (c.primary-2.ensures ∙ ap (λ z. PrimaryExpr (see_start c.in_ok-first.first) (dots (map see_dot z))) c.new.ensures.items)))
+unary-returns-clause-ok t c = as_node (ends (step (step (goes_into (unary_primary (unary_primary_at _ (next_small (token_kinds c.args.tokens.now)) (λ q. c.if-ahead-eq-MINUS.false (c.next-ahead.ensures ∙ q)) (λ q. c.if-ahead-eq-NOT.false (c.next-ahead.ensures ∙ q)))) (primary_operand_start (primary_operand_start_at _ (next_small (token_kinds c.args.tokens.now))))) c.in_ok-first.ensures.ok) (ends (dots_none (dots_none_at _ (next_small (token_kinds c.in_ok-first.rest.now)) (λ q. c.if-next-eq-DOT.false (c.next.ensures ∙ q))))))) (sym (ap (node_at 0) c.start-2.ensures))
+
+pub calls_on-returns-in_err-first-clause-err : goal.calls_on-returns-in_err-first-clause-err
+calls_on-returns-in_err-first-clause-err t c = exits _ _ _ _ _ c.from_residual.ensures.1 (stops {count = c.args.count} (dots_dot (dots_dot_at _ c.requires.first)) _ c.in_err-first.ensures.err)
+
+pub calls_on-returns-in_err-more-clause-err : goal.calls_on-returns-in_err-more-clause-err
+calls_on-returns-in_err-more-clause-err t c = exits _ _ _ _ _ c.from_residual-in_err-more.ensures.1 (stops {count = c.args.count} (step (dots_dot (dots_dot_at _ c.requires.first)) c.in_ok-first.ensures.ok) _ c.in_err-more.ensures.err)
+
+pub calls_on-returns-clause-ok : goal.calls_on-returns-clause-ok
+calls_on-returns-clause-ok t c = (MoreDots (see_dot c.in_ok-first.first) (dots (map see_dot c.in_ok-more.more.items)), c.in_ok-calls.ensures, as_node (ends (step (step (dots_dot (dots_dot_at _ c.requires.first)) c.in_ok-first.ensures.ok) c.in_ok-more.ensures.ok)) (one_dot (see_dot c.in_ok-first.first) (dots (map see_dot c.in_ok-more.more.items))))
 
 pub expr-returns-in_err-first-clause-err : goal.expr-returns-in_err-first-clause-err
 expr-returns-in_err-first-clause-err t c = exits _ _ _ _ _ c.from_residual.ensures.1 (stops {count = c.args.count} (expr_and (expr_and_at _ (next_small (token_kinds c.args.tokens.now)))) _ c.in_err-first.ensures.err)
@@ -200,6 +214,15 @@ pub link-returns-clause-ok : goal.link-returns-clause-ok
 link-returns-clause-ok t c =
     let operand : Reads c.args.count (level_symbol (operator_level c.args.operator - 1)) c.args.depth (token_kinds c.in_ok-at.rest.now) (token_kinds c.in_ok-operand.rest.now) (node_at (operator_level c.args.operator - 1) (see_expr c.in_ok-operand.operand)) = subst (λ z. Reads c.args.count (level_symbol (z - 1)) c.args.depth (token_kinds c.in_ok-at.rest.now) (token_kinds c.in_ok-operand.rest.now) (node_at (z - 1) (see_expr c.in_ok-operand.operand))) c.level_of.ensures c.in_ok-operand.ensures.ok in
     link_read c.args.operator c.in_ok-at.at (see_expr c.in_ok-operand.operand) _ (enters (step (step (begun_link c.args.operator _ refl c.requires.next) (operator_read _ c.args.operator c.terminal_of_operator.ensures c.in_ok-at.ensures.ok)) operand)) refl (fewer_left c.in_ok-at.ensures.ok c.in_ok-operand.ensures.ok) (subst (λ z. NoneUpTo (z - 1) (token_kinds c.in_ok-operand.rest.now)) c.level_of.ensures c.in_ok-operand.ensures.none) c.new.ensures
+
+pub operand-returns-then-level-eq0-clause-ok : goal.operand-returns-then-level-eq0-clause-ok
+operand-returns-then-level-eq0-clause-ok t c = subst (λ z. IfOk c.unary.result (λ r. Reads c.args.count (level_symbol z) c.args.depth (token_kinds c.args.tokens.now) (token_kinds r.1.now) (node_at z (see_expr r.0)))) (sym c.if-level-eq0.true) c.unary.ensures.ok
+
+pub operand-returns-then-level-eq0-clause-err : goal.operand-returns-then-level-eq0-clause-err
+operand-returns-then-level-eq0-clause-err t c = subst (λ z. IfErr c.unary.result (λ fault. StopsAs (level_symbol z) c.args.depth (token_kinds c.args.tokens.now) fault)) (sym c.if-level-eq0.true) c.unary.ensures.err
+
+pub operand-returns-then-level-eq0-clause-none : goal.operand-returns-then-level-eq0-clause-none
+operand-returns-then-level-eq0-clause-none t c = subst (λ z. IfOk c.unary.result (λ r. NoneUpTo z (token_kinds r.1.now))) (sym c.if-level-eq0.true) (IfOk-weaker c.unary.result _ (λ r. NoneUpTo 0 (token_kinds r.1.now)) (λ r h. none_at_zero _) c.unary.ensures.ok)
 
 pub dots_next-returns-in_err-one-clause-err : goal.dots_next-returns-in_err-one-clause-err
 dots_next-returns-in_err-one-clause-err t c = exits _ _ _ _ _ c.from_residual.ensures.1 (stops_in c.each.invariant _ (stops {count = c.args.count} (dots_dot (dots_dot_at _ (sym c.next.ensures ∙ c.each-test.true))) _ c.in_err-one.ensures.err))

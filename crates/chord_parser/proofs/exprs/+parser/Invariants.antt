@@ -14,22 +14,28 @@ abbrev pub decreases-actuals_inside : goal.decreases-actuals_inside
 decreases-actuals_inside l = 64 * (203 - l.depth) + 10
 
 abbrev pub decreases-chain : goal.decreases-chain
-decreases-chain l = 64 * (203 - l.depth) + (5 * l.level + 5)
+decreases-chain l = 64 * (203 - l.depth) + (6 * l.level + 6)
 
 abbrev pub decreases-chained : goal.decreases-chained
-decreases-chained l = 64 * (203 - l.depth) + (5 * operator_level l.operator + 4)
+decreases-chained l = 64 * (203 - l.depth) + (6 * operator_level l.operator + 5)
 
 abbrev pub decreases-links : goal.decreases-links
-decreases-links l = 64 * (203 - l.depth) + (5 * operator_level l.operator + 3)
+decreases-links l = 64 * (203 - l.depth) + (6 * operator_level l.operator + 4)
 
 abbrev pub decreases-more_links : goal.decreases-more_links
-decreases-more_links l = 64 * (203 - l.depth) + (5 * operator_level l.operator + 2)
+decreases-more_links l = 64 * (203 - l.depth) + (6 * operator_level l.operator + 3)
 
 abbrev pub decreases-link : goal.decreases-link
-decreases-link l = 64 * (203 - l.depth) + (5 * operator_level l.operator + 1)
+decreases-link l = 64 * (203 - l.depth) + (6 * operator_level l.operator + 2)
+
+abbrev pub decreases-operand : goal.decreases-operand
+decreases-operand l = 64 * (203 - l.depth) + (6 * l.level + 7)
 
 abbrev pub decreases-dot : goal.decreases-dot
 decreases-dot l = 64 * (203 - l.depth) + 12
+
+abbrev pub decreases-calls_on : goal.decreases-calls_on
+decreases-calls_on l = 64 * (203 - l.depth) + 14
 
 abbrev pub decreases-dots_next : goal.decreases-dots_next
 decreases-dots_next l = 64 * (203 - l.depth) + 13

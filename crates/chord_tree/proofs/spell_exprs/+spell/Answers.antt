@@ -1,10 +1,10 @@
 use Rattle.std.proofs.Common.{◌≡◌, [], map, sym, ap, ◌∙◌, arith, ◌+◌}
 use Rattle.chord_tree.specs.ExprNodes.{bare, mark_leaf, node_links, node_dots, node_dot, node_start, node_actuals, node_exprs, node_more}
 use Rattle.chord_tree.specs.Tree.{links, dots, exprs}
-use Rattle.chord_tree.specs.ViewExprs.{see_expr, see_chain, see_link, see_dot, see_start}
-use Rattle.chord_tree.proofs.SeenExprs.{seen_chain, seen_chained, seen_minus, seen_not, seen_primary, seen_actuals, seen_dot, seen_start_variable, seen_start_call, seen_start_this, seen_start_new, seen_start_number, seen_start_literal, seen_start_true, seen_start_false, seen_start_group}
+use Rattle.chord_tree.specs.ViewExprs.{see_expr, see_chain, see_calls, see_link, see_dot, see_start, see_actuals}
+use Rattle.chord_tree.proofs.SeenExprs.{seen_chain, seen_chained, seen_minus, seen_not, seen_alone, seen_calls, seen_called, seen_actuals, seen_dot, seen_start_variable, seen_start_call, seen_start_this, seen_start_new, seen_start_number, seen_start_literal, seen_start_true, seen_start_false, seen_start_group}
 use Rattle.chord_tree.proofs.Words.{nil, cons, made, leaf, as_level, links_added, more_links_added, chain_added, dots_added, seen_as, on_ok, dropped, drop_end, length_zero}
-use Rattle.chord_tree.proofs.Weights.{total, weigh_expr, weigh_link, weigh_start, weigh_dot, weigh_parts, of_chain, weigh_chain, weigh_minus, weigh_not, weigh_primary, weigh_start_call, weigh_start_new, weigh_start_group, of_link, of_actuals, of_dot, one_of}
+use Rattle.chord_tree.proofs.Weights.{total, weigh_expr, weigh_link, weigh_start, weigh_dot, weigh_actuals, weigh_parts, of_chain, weigh_chain, weigh_minus, weigh_not, weigh_alone, weigh_calls, weigh_called, of_calls, weigh_start_call, weigh_start_new, weigh_start_group, of_link, of_actuals, of_dot, one_of}
 use Rattle.chord_tree.proofs.spell_exprs.+spell.Goals as goal
 
 pub put_actuals-returns : goal.put_actuals-returns
@@ -58,8 +58,14 @@ put_expr-returns-in_ok-put_mark-in-Minus t c = on_ok _ _ _ (λ h. seen_as bare _
 pub put_expr-returns-in_ok-put_mark-in-Not : goal.put_expr-returns-in_ok-put_mark-in-Not
 put_expr-returns-in_ok-put_mark-in-Not t c = on_ok _ _ _ (λ h. seen_as bare _ _ (ap see_expr c.in-Not.is ∙ seen_not c.in-Not.at c.in-Not.operand) (made (cons (leaf c.in_ok-put_mark-in-Not.ensures) (cons (seen_as (λ z. bare (see_expr z)) _ _ (sym c.deref-in-Not.ensures) h) nil)))) c.put_expr-in-Not.ensures
 
-pub put_expr-returns-in_ok-put_start-in-Primary : goal.put_expr-returns-in_ok-put_start-in-Primary
-put_expr-returns-in_ok-put_start-in-Primary t c = on_ok _ _ _ (λ h. seen_as bare _ _ (ap see_expr c.in-Primary.is ∙ seen_primary c.in-Primary.start c.in-Primary.calls) (made (cons (made (cons c.in_ok-put_start-in-Primary.ensures (cons (seen_as (λ z. node_dots (dots (map see_dot z))) _ _ (sym c.deref-in-Primary.ensures.value) h) nil))) nil))) c.put_dots.ensures
+pub put_expr-returns-in-Start : goal.put_expr-returns-in-Start
+put_expr-returns-in-Start t c = on_ok _ _ _ (λ h. seen_as bare _ _ (ap see_expr c.in-Start.is ∙ seen_alone c.in-Start.start) (made (cons (made (cons h (cons (made nil) nil))) nil))) c.put_start.ensures
+
+pub put_expr-returns-in-Calls : goal.put_expr-returns-in-Calls
+put_expr-returns-in-Calls t c = on_ok _ _ _ (λ h. seen_as bare _ _ (ap see_expr c.in-Calls.is ∙ seen_called c.in-Calls.calls) (seen_as (λ z. bare (see_calls z)) _ _ (sym c.deref-in-Calls.ensures) h)) c.put_calls.ensures
+
+pub put_calls-returns : goal.put_calls-returns
+put_calls-returns t c = on_ok _ _ _ (λ h. seen_as bare _ _ (seen_calls c.args.calls.now) (made (cons (made (cons c.in_ok-put_start.ensures (cons (dots_added _ _ c.in_ok-put_dot.ensures (seen_as (λ z. node_dots (dots (map see_dot z))) _ _ (sym c.deref.ensures.value) h)) nil))) nil))) c.put_dots.ensures
 
 pub put_start-returns-in-Variable : goal.put_start-returns-in-Variable
 put_start-returns-in-Variable t c = on_ok _ _ _ (λ h. seen_as node_start _ _ (ap see_start c.in-Variable.is ∙ seen_start_variable c.in-Variable.name) (made (cons h (cons (made nil) nil)))) c.put_name.ensures
@@ -80,13 +86,13 @@ pub put_start-returns-in-Literal : goal.put_start-returns-in-Literal
 put_start-returns-in-Literal t c = on_ok _ _ _ (λ h. seen_as node_start _ _ (ap see_start c.in-Literal.is ∙ seen_start_literal c.in-Literal.bytes c.in-Literal.at) (made (cons (leaf h) nil))) c.put_literal.ensures
 
 pub put_start-returns-in_ok-put_name-in-Call : goal.put_start-returns-in_ok-put_name-in-Call
-put_start-returns-in_ok-put_name-in-Call t c = on_ok _ _ _ (λ h. seen_as node_start _ _ (ap see_start c.in-Call.is ∙ seen_start_call c.in-Call.name c.in-Call.actuals) (made (cons c.in_ok-put_name-in-Call.ensures (cons (made (cons h nil)) nil)))) c.put_actuals.ensures
+put_start-returns-in_ok-put_name-in-Call t c = on_ok _ _ _ (λ h. seen_as node_start _ _ (ap see_start c.in-Call.is ∙ seen_start_call c.in-Call.name c.in-Call.actuals) (made (cons c.in_ok-put_name-in-Call.ensures (cons (made (cons (seen_as (λ z. node_actuals (see_actuals z)) _ _ (sym c.deref.ensures) h) nil)) nil)))) c.put_actuals.ensures
 
 pub put_start-returns-in_ok-put_name-in-New : goal.put_start-returns-in_ok-put_name-in-New
-put_start-returns-in_ok-put_name-in-New t c = on_ok _ _ _ (λ h. seen_as node_start _ _ (ap see_start c.in-New.is ∙ seen_start_new c.in-New.at c.in-New.name c.in-New.actuals) (made (cons (leaf c.in_ok-put_keyword-in-New.ensures) (cons c.in_ok-put_name-in-New.ensures (cons h nil))))) c.put_actuals-in-New.ensures
+put_start-returns-in_ok-put_name-in-New t c = on_ok _ _ _ (λ h. seen_as node_start _ _ (ap see_start c.in-New.is ∙ seen_start_new c.in-New.at c.in-New.name c.in-New.actuals) (made (cons (leaf c.in_ok-put_keyword-in-New.ensures) (cons c.in_ok-put_name-in-New.ensures (cons (seen_as (λ z. node_actuals (see_actuals z)) _ _ (sym c.deref-in-New.ensures) h) nil))))) c.put_actuals-in-New.ensures
 
 pub put_start-returns-in_ok-put_expr-in-Group : goal.put_start-returns-in_ok-put_expr-in-Group
-put_start-returns-in_ok-put_expr-in-Group t c = on_ok _ _ _ (λ h. seen_as node_start _ _ (ap see_start c.in-Group.is ∙ seen_start_group c.in-Group.at c.in-Group.inner) (made (cons (leaf c.in_ok-put_mark-in-Group.ensures) (cons (as_level 6 _ (seen_as (λ z. bare (see_expr z)) _ _ (sym c.deref.ensures) c.in_ok-put_expr-in-Group.ensures)) (cons (leaf h) nil))))) c.put_mark-in-Group.ensures
+put_start-returns-in_ok-put_expr-in-Group t c = on_ok _ _ _ (λ h. seen_as node_start _ _ (ap see_start c.in-Group.is ∙ seen_start_group c.in-Group.at c.in-Group.inner) (made (cons (leaf c.in_ok-put_mark-in-Group.ensures) (cons (as_level 6 _ (seen_as (λ z. bare (see_expr z)) _ _ (sym c.deref-in-Group.ensures) c.in_ok-put_expr-in-Group.ensures)) (cons (leaf h) nil))))) c.put_mark-in-Group.ensures
 
 pub put_expr-put_chain-requires : goal.put_expr-put_chain-requires
 put_expr-put_chain-requires t c = let e = ap weigh_expr c.in-Chain.is ∙ weigh_chain c.in-Chain.chain in let f = ap weigh_parts c.deref.ensures in (omega arith, tt)
@@ -110,10 +116,19 @@ pub put_expr-put_expr-requires-in-Not : goal.put_expr-put_expr-requires-in-Not
 put_expr-put_expr-requires-in-Not t c = let e = ap weigh_expr c.in-Not.is ∙ weigh_not c.in-Not.at c.in-Not.operand in let f = ap weigh_expr c.deref-in-Not.ensures in (omega arith, tt)
 
 pub put_expr-put_start-requires : goal.put_expr-put_start-requires
-put_expr-put_start-requires t c = let e = ap weigh_expr c.in-Primary.is ∙ weigh_primary c.in-Primary.start c.in-Primary.calls in (omega arith, tt)
+put_expr-put_start-requires t c = let e = ap weigh_expr c.in-Start.is ∙ weigh_alone c.in-Start.start in (omega arith, tt)
 
-pub put_expr-put_dots-requires : goal.put_expr-put_dots-requires
-put_expr-put_dots-requires t c = let e = ap weigh_expr c.in-Primary.is ∙ weigh_primary c.in-Primary.start c.in-Primary.calls in let f = ap (λ z. total (map weigh_dot z)) c.deref-in-Primary.ensures.value in (omega arith, tt)
+pub put_expr-put_calls-requires : goal.put_expr-put_calls-requires
+put_expr-put_calls-requires t c = let e = ap weigh_expr c.in-Calls.is ∙ weigh_called c.in-Calls.calls in let f = ap weigh_calls c.deref-in-Calls.ensures in (omega arith, tt)
+
+pub put_calls-put_start-requires : goal.put_calls-put_start-requires
+put_calls-put_start-requires t c = let e = of_calls c.args.calls.now in (omega arith, tt)
+
+pub put_calls-put_dot-requires : goal.put_calls-put_dot-requires
+put_calls-put_dot-requires t c = let e = of_calls c.args.calls.now in (omega arith, tt)
+
+pub put_calls-put_dots-requires : goal.put_calls-put_dots-requires
+put_calls-put_dots-requires t c = let e = of_calls c.args.calls.now in let f = ap (λ z. total (map weigh_dot z)) c.deref.ensures.value in (omega arith, tt)
 
 pub put_links-put_link-requires : goal.put_links-put_link-requires
 put_links-put_link-requires t c = let f = one_of weigh_link c.args.more.now _ _ c.each-test.true c.link-item.is in (omega arith, tt)
@@ -134,10 +149,10 @@ pub put_exprs-put_expr-requires-in-each : goal.put_exprs-put_expr-requires-in-ea
 put_exprs-put_expr-requires-in-each t c = let e : total (map weigh_expr c.args.arguments.now) ≡ weigh_expr c.in-Some.first.now + total (map weigh_expr c.in-Some.more.now) = ap (λ z. total (map weigh_expr z)) c.in-Some.ensures.cases.0 in let f = one_of weigh_expr c.in-Some.more.now _ _ c.each-test.true c.expr-item.is in (omega arith, tt)
 
 pub put_start-put_actuals-requires : goal.put_start-put_actuals-requires
-put_start-put_actuals-requires t c = let e = ap weigh_start c.in-Call.is ∙ weigh_start_call c.in-Call.name c.in-Call.actuals in (omega arith, tt)
+put_start-put_actuals-requires t c = let e = ap weigh_start c.in-Call.is ∙ weigh_start_call c.in-Call.name c.in-Call.actuals in let f = ap weigh_actuals c.deref.ensures in (omega arith, tt)
 
 pub put_start-put_actuals-requires-in-New : goal.put_start-put_actuals-requires-in-New
-put_start-put_actuals-requires-in-New t c = let e = ap weigh_start c.in-New.is ∙ weigh_start_new c.in-New.at c.in-New.name c.in-New.actuals in (omega arith, tt)
+put_start-put_actuals-requires-in-New t c = let e = ap weigh_start c.in-New.is ∙ weigh_start_new c.in-New.at c.in-New.name c.in-New.actuals in let f = ap weigh_actuals c.deref-in-New.ensures in (omega arith, tt)
 
 pub put_start-put_expr-requires : goal.put_start-put_expr-requires
-put_start-put_expr-requires t c = let e = ap weigh_start c.in-Group.is ∙ weigh_start_group c.in-Group.at c.in-Group.inner in let f = ap weigh_expr c.deref.ensures in (omega arith, tt)
+put_start-put_expr-requires t c = let e = ap weigh_start c.in-Group.is ∙ weigh_start_group c.in-Group.at c.in-Group.inner in let f = ap weigh_expr c.deref-in-Group.ensures in (omega arith, tt)

@@ -1,5 +1,5 @@
 use Rattle.std.proofs.Common.{List, map, drop, ◌+◌}
-use Rattle.chord_tree.proofs.Weights.{total, weigh_expr, weigh_parts, weigh_link, weigh_start, weigh_actuals, weigh_dot}
+use Rattle.chord_tree.proofs.Weights.{total, weigh_expr, weigh_parts, weigh_calls, weigh_link, weigh_start, weigh_actuals, weigh_dot}
 use Rattle.chord_lexer.specs.declared.token.Token.{Token}
 use Rattle.chord_tree.specs.Program.{Adds}
 use Rattle.chord_tree.specs.ExprNodes.{node_links, node_more, node_dots}
@@ -21,6 +21,9 @@ decreases-put_expr l = weigh_expr l.expr.now
 
 abbrev pub decreases-put_chain : goal.decreases-put_chain
 decreases-put_chain l = weigh_parts l.chain.now
+
+abbrev pub decreases-put_calls : goal.decreases-put_calls
+decreases-put_calls l = weigh_calls l.calls.now
 
 abbrev pub decreases-put_link : goal.decreases-put_link
 decreases-put_link l = weigh_link l.link.now

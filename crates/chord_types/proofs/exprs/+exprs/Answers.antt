@@ -1,15 +1,16 @@
 use Rattle.std.proofs.Common.{false, map, take, option_map, arith, refl, sym, ap, subst, ◌∙◌}
 use Rattle.std.specs.Prelude.{unwrap_or}
+use Rattle.chord_tree.specs.declared.exprs.Calls.{out-Calls}
 use Rattle.chord_tree.specs.declared.exprs.Chain.{out-Chain}
 use Rattle.chord_tree.specs.declared.exprs.Link.{out-Link}
 use Rattle.chord_tree.specs.declared.exprs.Dot.{out-Dot}
 use Rattle.chord_tree.specs.declared.exprs.Actuals.{out-Actuals}
-use Rattle.chord_tree.specs.Tree.{exprs, dots, links, MinusExpr, NotExpr, PrimaryExpr, CallStart, NewStart, GroupStart}
+use Rattle.chord_tree.specs.Tree.{exprs, dots, links, MinusExpr, NotExpr, CallStart, NewStart, GroupStart}
 use Rattle.chord_tree.specs.Terms.{term_after, term, terms, called, started, operated, LiteralTerm}
 use Rattle.chord_tree.specs.Walk.{Used, Receiver}
-use Rattle.chord_tree.specs.ViewExprs.{see_expr, see_dot, see_link, see_start, see_chain}
-use Rattle.chord_tree.proofs.SeenExprs.{seen_chain, seen_chained, seen_minus, seen_not, seen_primary, seen_actuals, seen_start_variable, seen_start_call, seen_start_this, seen_start_new, seen_start_number, seen_start_literal, seen_start_true, seen_start_false, seen_start_group}
-use Rattle.chord_tree.proofs.Weights.{total, weigh_expr, weigh_link, weigh_start, weigh_dot, weigh_parts, of_chain, weigh_chain, weigh_minus, weigh_not, weigh_primary, weigh_start_call, weigh_start_new, weigh_start_group, of_link, of_actuals, of_dot, one_of}
+use Rattle.chord_tree.specs.ViewExprs.{see_expr, see_dot, see_link, see_start, see_chain, see_calls, see_actuals}
+use Rattle.chord_tree.proofs.SeenExprs.{seen_chain, seen_chained, seen_minus, seen_not, seen_alone, seen_calls, seen_called, seen_actuals, seen_start_variable, seen_start_call, seen_start_this, seen_start_new, seen_start_number, seen_start_literal, seen_start_true, seen_start_false, seen_start_group}
+use Rattle.chord_tree.proofs.Weights.{total, weigh_expr, weigh_link, weigh_start, weigh_dot, weigh_actuals, weigh_calls, weigh_parts, of_chain, weigh_chain, weigh_minus, weigh_not, weigh_alone, weigh_calls, weigh_called, of_calls, weigh_start_call, weigh_start_new, weigh_start_group, of_link, of_actuals, of_dot, one_of}
 use Rattle.chord_bodies.specs.Resolved as to
 use Rattle.chord_bodies.specs.View.{LinkOf, view_expr, binary, expr_list}
 use Rattle.chord_bodies.proofs.Viewed.{viewed_negate, viewed_deny, viewed_this, viewed_new, viewed_link}
@@ -22,10 +23,10 @@ use Rattle.chord_types.specs.Views.{see_passed, see_role, see_target}
 use Rattle.chord_types.specs.Sites.{see_site}
 use Rattle.chord_classes.specs.AllNotes.{typed_term_keys}
 use Rattle.chord_types.specs.CallKeys.{call_keys, call_type}
-use Rattle.chord_types.specs.Checked.{IsChecked, AreChecked, IsReceiver, on_link}
+use Rattle.chord_types.specs.Checked.{IsChecked, AreChecked, IsReceiver, on_link, on_dot}
 use Rattle.chord_tree.proofs.Words.{length_zero}
 use Rattle.chord_types.proofs.Oks.{if_ok}
-use Rattle.chord_types.proofs.Terms.{chain_term, link_term, dot_term}
+use Rattle.chord_types.proofs.Terms.{chain_term, link_term, called_term, dot_term}
 use Rattle.chord_types.proofs.Lists.{map_last, take_step, take_all, dots_taken, dots_last, links_taken, total_ends}
 use Rattle.chord_types.proofs.Nodes.{AreAll, none_yet, minus_checked, not_checked, group_checked, operation_checked, own_checked, new_checked, call_checked, are_checked, one_more_checked, moved}
 use Rattle.chord_types.proofs.exprs.+exprs.Goals as goal
@@ -39,8 +40,11 @@ expr-minus_of-requires t c = let e = ap weigh_expr c.in-Minus.is ∙ weigh_minus
 pub expr-not_of-requires : goal.expr-not_of-requires
 expr-not_of-requires t c = let e = ap weigh_expr c.in-Not.is ∙ weigh_not c.in-Not.at c.in-Not.operand in let f = ap weigh_expr c.deref-in-Not.ensures in (omega arith, tt)
 
-pub expr-primary-requires : goal.expr-primary-requires
-expr-primary-requires t c = let e = ap weigh_expr c.in-Primary.is ∙ weigh_primary c.in-Primary.start c.in-Primary.calls in let f = ap (λ z. total (map weigh_dot z)) c.deref-in-Primary.ensures.value in (omega arith, tt)
+pub expr-start-requires : goal.expr-start-requires
+expr-start-requires t c = let e = ap weigh_expr c.in-Start.is ∙ weigh_alone c.in-Start.begin in (omega arith, tt)
+
+pub expr-with_calls-requires : goal.expr-with_calls-requires
+expr-with_calls-requires t c = let e = ap weigh_expr c.in-Calls.is ∙ weigh_called c.in-Calls.calls in let f = ap weigh_calls c.deref-in-Calls.ensures in (omega arith, tt)
 
 pub joined-expr-requires : goal.joined-expr-requires
 joined-expr-requires t c = let e = of_chain c.args.chain.now in (omega arith, tt)
@@ -63,11 +67,8 @@ not_of-expr-requires t c = (omega arith, tt)
 pub group-expr-requires : goal.group-expr-requires
 group-expr-requires t c = (omega arith, tt)
 
-pub primary-start-requires : goal.primary-start-requires
-primary-start-requires t c = (omega arith, tt)
-
-pub primary-start-requires-in-Some : goal.primary-start-requires-in-Some
-primary-start-requires-in-Some t c = (omega arith, tt)
+pub with_calls-start-requires : goal.with_calls-start-requires
+with_calls-start-requires t c = let e = of_calls c.args.calls.now in (omega arith, tt)
 
 pub own_call-arguments-requires : goal.own_call-arguments-requires
 own_call-arguments-requires t c = let e = of_actuals c.args.actuals.now in let f = ap (λ z. total (map weigh_expr z)) c.deref.ensures.value in (omega arith, tt)
@@ -76,13 +77,13 @@ pub new_object-arguments-requires : goal.new_object-arguments-requires
 new_object-arguments-requires t c = let e = of_actuals c.args.actuals.now in let f = ap (λ z. total (map weigh_expr z)) c.deref.ensures.value in (omega arith, tt)
 
 pub start-own_call-requires : goal.start-own_call-requires
-start-own_call-requires t c = let e = ap weigh_start c.in-Call.is ∙ weigh_start_call c.in-Call.name c.in-Call.actuals in (omega arith, tt)
+start-own_call-requires t c = let e = ap weigh_start c.in-Call.is ∙ weigh_start_call c.in-Call.name c.in-Call.actuals in let f = ap weigh_actuals c.deref.ensures in (omega arith, tt)
 
 pub start-new_object-requires : goal.start-new_object-requires
-start-new_object-requires t c = let e = ap weigh_start c.in-New.is ∙ weigh_start_new c.in-New.at c.in-New.name c.in-New.actuals in (omega arith, tt)
+start-new_object-requires t c = let e = ap weigh_start c.in-New.is ∙ weigh_start_new c.in-New.at c.in-New.name c.in-New.actuals in let f = ap weigh_actuals c.deref-in-New.ensures in (omega arith, tt)
 
 pub start-group-requires : goal.start-group-requires
-start-group-requires t c = let e = ap weigh_start c.in-Group.is ∙ weigh_start_group c.in-Group.at c.in-Group.inner in let f = ap weigh_expr c.deref.ensures in (omega arith, tt)
+start-group-requires t c = let e = ap weigh_start c.in-Group.is ∙ weigh_start_group c.in-Group.at c.in-Group.inner in let f = ap weigh_expr c.deref-in-Group.ensures in (omega arith, tt)
 
 pub call_on-arguments-requires : goal.call_on-arguments-requires
 call_on-arguments-requires t c = let d = of_dot c.args.dot.now in let e = of_actuals (out-Dot c.args.dot.now).actuals in let f = ap (λ z. total (map weigh_expr z)) c.deref.ensures.value in (omega arith, tt)
@@ -96,11 +97,17 @@ links_on-link_on-requires t c = let e = one_of weigh_link c.args.more.now _ _ c.
 pub arguments-expr-requires : goal.arguments-expr-requires
 arguments-expr-requires t c = let e = one_of weigh_expr c.args.actuals.now _ _ c.each-test.true c.actual-item.is in (omega arith, tt)
 
-pub primary-calls_on-requires : goal.primary-calls_on-requires
-primary-calls_on-requires t c = let e = total_ends weigh_dot c.args.calls.now c.in-Some.front.now c.in-Some.last.now c.in-Some.ensures.cases.0 in (omega arith, tt)
+pub with_calls-call_on-requires : goal.with_calls-call_on-requires
+with_calls-call_on-requires t c = let e = of_calls c.args.calls.now in (omega arith, tt)
 
-pub primary-call_on-requires : goal.primary-call_on-requires
-primary-call_on-requires t c = let e = total_ends weigh_dot c.args.calls.now c.in-Some.front.now c.in-Some.last.now c.in-Some.ensures.cases.0 in (omega arith, tt)
+pub with_calls-call_on-requires-in-Some : goal.with_calls-call_on-requires-in-Some
+with_calls-call_on-requires-in-Some t c = let e = of_calls c.args.calls.now in (omega arith, tt)
+
+pub with_calls-calls_on-requires : goal.with_calls-calls_on-requires
+with_calls-calls_on-requires t c = let d = of_calls c.args.calls.now in let f = ap (λ z. total (map weigh_dot z)) c.deref.ensures.value in let e = total_ends weigh_dot c.deref.result.now c.in-Some.front.now c.in-Some.last.now c.in-Some.ensures.cases.0 in (omega arith, tt)
+
+pub with_calls-call_on-requires-in-Some-2 : goal.with_calls-call_on-requires-in-Some-2
+with_calls-call_on-requires-in-Some-2 t c = let d = of_calls c.args.calls.now in let f = ap (λ z. total (map weigh_dot z)) c.deref.ensures.value in let e = total_ends weigh_dot c.deref.result.now c.in-Some.front.now c.in-Some.last.now c.in-Some.ensures.cases.0 in (omega arith, tt)
 
 pub expr-returns-in-Chain : goal.expr-returns-in-Chain
 expr-returns-in-Chain t c =
@@ -120,11 +127,17 @@ expr-returns-in-Not t c =
     let same = ap (λ z. term_after z c.args.minus) (ap see_expr c.in-Not.is ∙ seen_not c.in-Not.at c.in-Not.operand ∙ ap (λ z. NotExpr c.in-Not.at (see_expr z)) (sym c.deref-in-Not.ensures)) in
     if_ok c.not_of.result _ _ (λ r h. subst (λ z. IsChecked site Used z c.args.breaks.now.found c.not_of.new.breaks.found r) (sym same) h) c.not_of.ensures
 
-pub expr-returns-in-Primary : goal.expr-returns-in-Primary
-expr-returns-in-Primary t c =
+pub expr-returns-in-Start : goal.expr-returns-in-Start
+expr-returns-in-Start t c =
     let site = see_site c.args.site.now in
-    let same = ap (λ z. term_after z c.args.minus) (ap see_expr c.in-Primary.is ∙ seen_primary c.in-Primary.start c.in-Primary.calls ∙ ap (λ z. PrimaryExpr (see_start c.in-Primary.start) (dots (map see_dot z))) (sym c.deref-in-Primary.ensures.value)) in
-    if_ok c.primary.result _ _ (λ r h. subst (λ z. IsChecked site Used z c.args.breaks.now.found c.primary.new.breaks.found r) (sym same) h) c.primary.ensures
+    let same = ap (λ z. term_after z c.args.minus) (ap see_expr c.in-Start.is ∙ seen_alone c.in-Start.begin) in
+    if_ok c.start.result _ _ (λ r h. subst (λ z. IsChecked site Used z c.args.breaks.now.found c.start.new.breaks.found r) (sym same) h.checked) c.start.ensures
+
+pub expr-returns-in-Calls : goal.expr-returns-in-Calls
+expr-returns-in-Calls t c =
+    let site = see_site c.args.site.now in
+    let same = ap (λ z. term_after z c.args.minus) (ap see_expr c.in-Calls.is ∙ seen_called c.in-Calls.calls ∙ ap see_calls (sym c.deref-in-Calls.ensures)) in
+    if_ok c.with_calls.result _ _ (λ r h. subst (λ z. IsChecked site Used z c.args.breaks.now.found c.with_calls.new.breaks.found r) (sym same) h) c.with_calls.ensures
 
 pub minus_of-returns : goal.minus_of-returns
 minus_of-returns t c =
@@ -171,18 +184,27 @@ pub links_on-returns : goal.links_on-returns
 links_on-returns t c = λ u o h.
     subst (λ z. IsChecked (see_site c.args.site.now) Used (operated (links (map see_link z)) u) o c.each.breaks.found c.each.left) (take_all c.args.more.now c.each.link-index c.each-test.false) (c.each.invariant u o h)
 
-pub primary-returns-in-None : goal.primary-returns-in-None
-primary-returns-in-None t c =
-    if_ok c.start.result _ _ (λ r h. subst (λ z. IsChecked (see_site c.args.site.now) Used (called (dots (map see_dot z)) (started (see_start c.args.begin.now) c.args.minus)) c.args.breaks.now.found c.start.new.breaks.found r) (sym (length_zero _ c.in-None.ensures.cases)) h.checked) c.start.ensures
-
-pub primary-returns-in_ok-receiver-in-Some-2 : goal.primary-returns-in_ok-receiver-in-Some-2
-primary-returns-in_ok-receiver-in-Some-2 t c =
+pub with_calls-returns-in-None : goal.with_calls-returns-in-None
+with_calls-returns-in-None t c =
     let site = see_site c.args.site.now in
-    let whole = dots_last see_dot c.args.calls.now c.in-Some.front.now c.in-Some.last.now (started (see_start c.args.begin.now) c.args.minus) c.in-Some.ensures.cases.0 in
+    let calls = out-Calls c.args.calls.now in
+    let begin = started (see_start calls.start) c.args.minus in
+    let whole = called_term c.args.calls.now c.args.minus ∙ ap (λ z. called (dots (map see_dot z)) (on_dot begin (see_dot calls.first))) (sym c.deref.ensures.value ∙ length_zero _ c.in-None.ensures.cases) in
     if_ok c.call_on.result _ _ (λ r h.
-    let all = h _ c.args.breaks.now.found (c.in_ok-receiver-in-Some-2.ensures _ c.args.breaks.now.found c.in_ok-receiver-in-Some.ensures) in
+    let all = h _ c.args.breaks.now.found c.in_ok-receiver.ensures in
     subst (λ z. IsChecked site Used z c.args.breaks.now.found c.call_on.new.breaks.found r) (sym whole) all.checked)
     c.call_on.ensures
+
+pub with_calls-returns-in_ok-receiver-in-Some-2 : goal.with_calls-returns-in_ok-receiver-in-Some-2
+with_calls-returns-in_ok-receiver-in-Some-2 t c =
+    let site = see_site c.args.site.now in
+    let calls = out-Calls c.args.calls.now in
+    let begin = started (see_start calls.start) c.args.minus in
+    let whole = called_term c.args.calls.now c.args.minus ∙ ap (λ z. called (dots (map see_dot z)) (on_dot begin (see_dot calls.first))) (sym c.deref.ensures.value) ∙ dots_last see_dot c.deref.result.now c.in-Some.front.now c.in-Some.last.now (on_dot begin (see_dot calls.first)) c.in-Some.ensures.cases.0 in
+    if_ok c.call_on-in-Some-2.result _ _ (λ r h.
+    let all = h _ c.args.breaks.now.found (c.in_ok-receiver-in-Some-2.ensures _ c.args.breaks.now.found (c.in_ok-receiver-in-Some.ensures _ c.args.breaks.now.found c.in_ok-receiver.ensures)) in
+    subst (λ z. IsChecked site Used z c.args.breaks.now.found c.call_on-in-Some-2.new.breaks.found r) (sym whole) all.checked)
+    c.call_on-in-Some-2.ensures
 
 pub start-returns-in-Variable : goal.start-returns-in-Variable
 start-returns-in-Variable t c =
@@ -216,17 +238,17 @@ start-returns-in-False t c =
 
 pub start-returns-in-Call : goal.start-returns-in-Call
 start-returns-in-Call t c =
-    let same = ap (λ z. started z c.args.minus) (ap see_start c.in-Call.is ∙ seen_start_call c.in-Call.name c.in-Call.actuals ∙ ap (CallStart c.in-Call.name) (seen_actuals c.in-Call.actuals)) in
+    let same = ap (λ z. started z c.args.minus) (ap see_start c.in-Call.is ∙ seen_start_call c.in-Call.name c.in-Call.actuals ∙ ap (CallStart c.in-Call.name) (ap see_actuals (sym c.deref.ensures) ∙ seen_actuals c.deref.result.now)) in
     if_ok c.own_call.result _ _ (λ r h. subst (λ z. IsReceiver (see_site c.args.site.now) (see_role c.args.role) z c.args.breaks.now.found c.own_call.new.breaks.found r) (sym same) h) c.own_call.ensures
 
 pub start-returns-in-New : goal.start-returns-in-New
 start-returns-in-New t c =
-    let same = ap (λ z. started z c.args.minus) (ap see_start c.in-New.is ∙ seen_start_new c.in-New.at c.in-New.name c.in-New.actuals ∙ ap (NewStart c.in-New.at c.in-New.name) (seen_actuals c.in-New.actuals)) in
+    let same = ap (λ z. started z c.args.minus) (ap see_start c.in-New.is ∙ seen_start_new c.in-New.at c.in-New.name c.in-New.actuals ∙ ap (NewStart c.in-New.at c.in-New.name) (ap see_actuals (sym c.deref-in-New.ensures) ∙ seen_actuals c.deref-in-New.result.now)) in
     if_ok c.new_object.result _ _ (λ r h. subst (λ z. IsReceiver (see_site c.args.site.now) (see_role c.args.role) z c.args.breaks.now.found c.new_object.new.breaks.found r) (sym same) h) c.new_object.ensures
 
 pub start-returns-in-Group : goal.start-returns-in-Group
 start-returns-in-Group t c =
-    let same = ap (λ z. started z c.args.minus) (ap see_start c.in-Group.is ∙ seen_start_group c.in-Group.at c.in-Group.inner ∙ ap (λ z. GroupStart c.in-Group.at (see_expr z)) (sym c.deref.ensures)) in
+    let same = ap (λ z. started z c.args.minus) (ap see_start c.in-Group.is ∙ seen_start_group c.in-Group.at c.in-Group.inner ∙ ap (λ z. GroupStart c.in-Group.at (see_expr z)) (sym c.deref-in-Group.ensures)) in
     if_ok c.group.result _ _ (λ r h. subst (λ z. IsReceiver (see_site c.args.site.now) (see_role c.args.role) z c.args.breaks.now.found c.group.new.breaks.found r) (sym same) h) c.group.ensures
 
 pub group-returns : goal.group-returns

@@ -3,7 +3,7 @@ use Rattle.chord_tree.specs.Tree.{dots, links}
 use Rattle.chord_tree.specs.Terms.{Term, called, operated}
 use Rattle.chord_tree.specs.Walk.{Used, Receiver}
 use Rattle.chord_tree.specs.ViewExprs.{see_expr, see_dot, see_link}
-use Rattle.chord_tree.proofs.Weights.{total, weigh_expr, weigh_parts, weigh_link, weigh_start, weigh_actuals, weigh_dot}
+use Rattle.chord_tree.proofs.Weights.{total, weigh_expr, weigh_parts, weigh_calls, weigh_link, weigh_start, weigh_actuals, weigh_dot}
 use Rattle.chord_bodies.specs.View.{view_expr}
 use Rattle.chord_types.specs.Views.{see_passed}
 use Rattle.chord_types.specs.Sites.{see_site}
@@ -38,8 +38,8 @@ decreases-links_on l = 2 * total (map weigh_link l.more.now) + 1
 abbrev pub decreases-link_on : goal.decreases-link_on
 decreases-link_on l = 2 * weigh_link l.link.now
 
-abbrev pub decreases-primary : goal.decreases-primary
-decreases-primary l = 2 * (weigh_start l.begin.now + total (map weigh_dot l.calls.now)) + 3
+abbrev pub decreases-with_calls : goal.decreases-with_calls
+decreases-with_calls l = 2 * weigh_calls l.calls.now
 
 abbrev pub decreases-start : goal.decreases-start
 decreases-start l = 2 * weigh_start l.start.now

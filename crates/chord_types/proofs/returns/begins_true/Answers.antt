@@ -10,13 +10,13 @@ pub returns-in-Variable : goal.returns-in-Variable
 returns-in-Variable c = sym (ap (λ z. is_true_word (started z false)) (ap see_start c.in-Variable.is ∙ seen_start_variable _))
 
 pub returns-in-Call : goal.returns-in-Call
-returns-in-Call c = sym (ap (λ z. is_true_word (started z false)) (ap see_start c.in-Call.is ∙ seen_start_call c.in-Call.name c.in-Call.actuals ∙ ap (CallStart c.in-Call.name) (seen_actuals c.in-Call.actuals)))
+returns-in-Call c = sym (ap (λ z. is_true_word (started z false)) (ap see_start c.in-Call.is ∙ seen_start_call c.in-Call.name c.in-Call.actuals ∙ ap (CallStart c.in-Call.name) (seen_actuals c.in-Call.actuals.value)))
 
 pub returns-in-This : goal.returns-in-This
 returns-in-This c = sym (ap (λ z. is_true_word (started z false)) (ap see_start c.in-This.is ∙ seen_start_this _))
 
 pub returns-in-New : goal.returns-in-New
-returns-in-New c = sym (ap (λ z. is_true_word (started z false)) (ap see_start c.in-New.is ∙ seen_start_new c.in-New.at c.in-New.name c.in-New.actuals ∙ ap (NewStart c.in-New.at c.in-New.name) (seen_actuals c.in-New.actuals)))
+returns-in-New c = sym (ap (λ z. is_true_word (started z false)) (ap see_start c.in-New.is ∙ seen_start_new c.in-New.at c.in-New.name c.in-New.actuals ∙ ap (NewStart c.in-New.at c.in-New.name) (seen_actuals c.in-New.actuals.value)))
 
 pub returns-in-Number : goal.returns-in-Number
 returns-in-Number c = sym (ap (λ z. is_true_word (started z false)) (ap see_start c.in-Number.is ∙ seen_start_number _ _))
