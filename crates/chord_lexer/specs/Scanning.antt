@@ -1,8 +1,9 @@
 -- What the scanner's own functions say of their answers. No definition of a reading stands on these.
-use Rattle.std.specs.Prelude.{◌≡◌, ℕ, ◌≤◌, Bool, true, cond, ◌&&◌, List, [], ◌∷◌, ◌++◌, length, take, drop, nat_eq, Option, Some, None, filter, slice_index}
+use Rattle.std.specs.Prelude.{◌≡◌, ℕ, ◌+◌, ◌≤◌, Bool, true, cond, ◌&&◌, List, [], ◌∷◌, ◌++◌, length, take, drop, nat_eq, Option, Some, None, filter, slice_index}
 use Rattle.chord_lexer.specs.declared.token.Keyword.{Keyword}
 use Rattle.chord_lexer.specs.declared.token.Mark.{Mark}
 use Rattle.chord_lexer.specs.declared.token.Mark.TheVariants as marks
+use Rattle.chord_lexer.specs.declared.token.Token.{Token}
 use Rattle.chord_lexer.specs.declared.piece.Piece.{Piece}
 use Rattle.chord_lexer.specs.declared.scan.ByteKind.{ByteKind}
 use Rattle.chord_lexer.specs.declared.scan.ByteKind.TheVariants as byte_kinds
@@ -15,6 +16,7 @@ use Rattle.chord_lexer.specs.Letters.{is_blank, is_digit, is_letter, is_identifi
 use Rattle.chord_lexer.specs.Comments.{begins_comment, is_in_line, IsDelimited, IsUnclosed}
 use Rattle.chord_lexer.specs.Literals.{is_plain, escaped}
 use Rattle.chord_lexer.specs.Pieces.{IsLongest, IsNone}
+use Rattle.chord_lexer.specs.Reading.{tokens_of}
 
 -- the test of a kind of bytes
 abbrev pub test_of : ByteKind → ℕ → Bool
@@ -31,6 +33,12 @@ lead_of (b ∷ bs) = cond (is_digit b) leads.Digit (cond (is_letter b) leads.Let
 pub record Begins (text : List ℕ) (p : Piece) (n : ℕ) : Type 0 where
   pub within : n ≤ length text
   pub longest : IsLongest p (take n text) (drop n text)
+
+-- the longest piece that begins the text has n bytes, and the token that it is, if it is one, stands at `start` and was added
+pub record IsAdded (text : List ℕ) (start : ℕ) (before now : List Token) (n : ℕ) : Type 0 where
+  pub piece : Piece
+  pub begins : Begins text piece n
+  pub tokens : now ≡ before ++ tokens_of piece start (start + n)
 
 -- Why no piece was found: for want of memory, or because none begins the text.
 abbrev pub IsStop : List ℕ → Stop → Type 0

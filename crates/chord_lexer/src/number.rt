@@ -1,16 +1,14 @@
 //! Numbers.
 #![tactic(auto)]
 
-ghost use Rattle.std.specs.Prelude.{◌≡◌, ◌<◌, ◌≤◌, true, IfSome, IfNone};
+ghost use Rattle.std.specs.Prelude.{◌≡◌, ◌+◌, ◌<◌, ◌≤◌, true, length, IfSome, IfNone, IfOk, IfErr};
 ghost use Rattle.chord_lexer.specs.Letters.{is_digit, all_pass};
 ghost use Rattle.chord_lexer.specs.Numbers.{value_after};
-ghost use Rattle.chord_lexer.specs.Pieces.{IsNone};
-ghost use Rattle.chord_lexer.specs.Scanning.{lead_of, Begins};
+ghost use Rattle.chord_lexer.specs.Scanning.{lead_of, IsAdded, IsStop};
 ghost use Rattle.chord_lexer.specs.declared.scan.Lead.TheVariants as leads;
 
-use crate::piece::Piece;
-use crate::scan::{ByteKind, follows, run};
-use crate::token::Kind;
+use crate::scan::{ByteKind, Stop, add, follows, run};
+use crate::token::{Kind, Token};
 
 /// The largest number that a token has. It stands only after a unary `-`, which is a rule on programs.
 const MAX_NUMBER: u64 = 2147483648;
@@ -31,16 +29,19 @@ fn decimal(digits: &[u8]) -> Option<u32>
     Some(n as u32)
 }
 
-/// The number at the front: digits with no letter after them, of a value that is not too large.
-pub fn number(text: &[u8]) -> Option<(Piece, usize)>
-    requires { lead_of text.now ≡ leads.Digit }
-    ensures found { IfSome result (λ r. Begins text.now r.0 r.1) }
-    ensures none { IfNone result (IsNone text.now) }
+/// Adds the number at the front: digits with no letter after them, of a value that is not too large.
+pub fn number(text: &[u8], start: u32, tokens: &mut Vec<Token>) -> Result<usize, Stop>
+    requires lead { lead_of text.now ≡ leads.Digit }
+    requires few { start + length text.now ≤ 1048576 }
+    ensures found { IfOk result (IsAdded text.now start tokens.old.items tokens.new.items) }
+    ensures none { IfErr result (IsStop text.now) }
 {
     let length = run(text, ByteKind::Digit);
     if follows(text, length, ByteKind::Identifier) {
-        return None;
+        return Err(Stop::Nothing);
     }
-    let n = decimal(&text[..length])?;
-    Some((Piece::Token(Kind::Number(n)), length))
+    match decimal(&text[..length]) {
+        Some(n) => add(tokens, Kind::Number(n), start, length),
+        None => Err(Stop::Nothing),
+    }
 }
