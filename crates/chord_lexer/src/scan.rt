@@ -2,7 +2,7 @@
 #![tactic(auto)]
 
 ghost use Rattle.std.specs.Prelude.{◌≡◌, ◌+◌, ◌<◌, ◌≤◌, ◌++◌, ◌∷◌, [], length, take, drop, IfOk, IfErr};
-ghost use Rattle.chord_lexer.specs.Letters.{IsMaximalRun, first_passes, is_blank};
+ghost use Rattle.chord_lexer.specs.Letters.{IsMaximalRun, first_passes, is_blank, is_letter};
 ghost use Rattle.chord_lexer.specs.Comments.{begins_comment};
 ghost use Rattle.chord_lexer.specs.Scanning.{test_of, lead_of, IsAdded, IsStop};
 
@@ -44,13 +44,21 @@ pub enum Lead {
     Mark,
 }
 
+/// Whether an identifier may begin with the byte. Most bytes that are no letter are told by the first test.
+#[inline]
+fn is_letter(byte: u8) -> bool
+    ensures { result ≡ is_letter byte }
+{
+    byte >= b'A' && (byte.is_ascii_alphabetic() || byte == b'_')
+}
+
 #[inline]
 fn fits(kind: ByteKind, byte: u8) -> bool
     ensures { result ≡ test_of kind byte }
 {
     match kind {
         ByteKind::Digit => byte.is_ascii_digit(),
-        ByteKind::Identifier => byte.is_ascii_alphabetic() || byte == b'_' || byte.is_ascii_digit(),
+        ByteKind::Identifier => is_letter(byte) || byte.is_ascii_digit(),
         ByteKind::Line => byte != b'\r' && byte != b'\n',
     }
 }
@@ -110,11 +118,11 @@ fn leading(text: &[u8]) -> Lead
         Lead::Blank
     } else if first.is_ascii_digit() {
         Lead::Digit
-    } else if first.is_ascii_alphabetic() || first == b'_' {
+    } else if is_letter(first) {
         Lead::Letter
     } else if first == b'"' {
         Lead::Quote
-    } else if begins_comment(text) {
+    } else if first == b'/' && begins_comment(text) {
         Lead::Comment
     } else {
         Lead::Mark
