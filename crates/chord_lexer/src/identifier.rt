@@ -1,7 +1,7 @@
 //! Identifiers: reserved words and names.
 #![tactic(auto)]
 
-ghost use Rattle.std.specs.Prelude.{◌≡◌, ◌+◌, ◌<◌, ◌≤◌, length, map, IfOk, IfErr};
+ghost use Rattle.std.specs.Prelude.{◌≡◌, ◌+◌, ◌<◌, ◌≤◌, length, map, bytes_eq, IfOk, IfErr};
 ghost use Rattle.chord_lexer.specs.Identifiers.{find_reserved, keyword_of};
 ghost use Rattle.chord_lexer.specs.Scanning.{lead_of, reserved_with, IsAdded, IsStop};
 ghost use Rattle.chord_lexer.specs.declared.scan.Lead.TheVariants as leads;
@@ -141,12 +141,21 @@ const V_WORDS: [(&[u8], Keyword); 3] = [
 
 const W_WORDS: [(&[u8], Keyword); 1] = [(b"while", Keyword::While)];
 
+/// Whether the bytes are equal. Most words of a table have another length, which is told without a call.
+#[inline(always)]
+fn same(these: &[u8], those: &[u8]) -> bool
+    ensures { result ≡ bytes_eq these.now those.now }
+{
+    these.len() == those.len() && these == those
+}
+
 /// What the table has for the identifier.
+#[inline(always)]
 fn find(table: &[(&[u8], Keyword)], identifier: &[u8]) -> Option<Keyword>
     ensures { result ≡ find_reserved (map (λ entry. (entry.0.now, entry.1)) table.now) identifier.now }
 {
     for (text, keyword) in table {
-        if identifier == *text {
+        if same(identifier, text) {
             return Some(*keyword);
         }
     }
