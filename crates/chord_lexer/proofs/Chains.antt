@@ -1,5 +1,5 @@
 -- Chains: they grow at their end, and a text has one that ends where nothing begins.
-use Rattle.std.proofs.Common.{◌≡◌, ℕ, ◌+◌, ◌-◌, ◌<◌, ◌≤◌, true, false, cond, List, [], ◌∷◌, ◌++◌, length, take, drop, refl, sym, ap, subst, ◌∙◌, arith, append_assoc, append-nil, length-append, length-drop, inl, inr, ◌⊎◌, Some, Result, Ok, Err, IfOk, IfErr, MatchResult, Vec, Global}
+use Rattle.std.proofs.Common.{◌≡◌, ℕ, zero, suc, ◌+◌, ◌-◌, ◌<◌, ◌≤◌, true, false, cond, List, [], ◌∷◌, ◌++◌, length, take, drop, refl, sym, ap, subst, ◌∙◌, arith, append_assoc, append-nil, length-append, length-drop, drop-drop, get_or, inl, inr, ◌⊎◌, Some, Result, Ok, Err, IfOk, IfErr, MatchResult, Vec, Global}
 use Rattle.std.proofs.lemmas.List.{take-append-drop, length-take-le}
 use Rattle.std.specs.Prelude.{bytes_eq}
 use Rattle.chord_lexer.specs.declared.token.Token.{Token}
@@ -12,8 +12,11 @@ use Rattle.chord_lexer.specs.declared.lexer.LexFault.TheVariants as faults
 use Rattle.chord_lexer.specs.Marks.{mark_bytes}
 use Rattle.chord_lexer.specs.Pieces.{IsPiece, IsLongest, IsNone}
 use Rattle.chord_lexer.specs.Reading.{byte_order_mark, after_byte_order_mark, tokens_of, Chain, none, more, IsRead, IsRefused, IsFault}
-use Rattle.chord_lexer.specs.Scanning.{single_mark, pair_mark, Begins}
-use Rattle.chord_lexer.proofs.Leads.{lead_for, lead_is}
+use Rattle.chord_lexer.specs.Letters.{is_blank}
+use Rattle.chord_lexer.specs.Scanning.{lead_of, single_mark, pair_mark, Begins, IsAdded}
+use Rattle.chord_lexer.proofs.Runs.{drop_first}
+use Rattle.chord_lexer.proofs.Leads.{lead_for, lead_is, blank_led}
+use Rattle.chord_lexer.proofs.Adding.{blank_added}
 use Rattle.chord_lexer.proofs.Marking.{sized, one, two}
 use Rattle.chord_lexer.proofs.Quoting.{body_same, bytewise_of, one_meaning}
 
@@ -196,6 +199,43 @@ refused_at source text ts left e c l n =
       there = l;
       nothing = n;
     }
+
+-- a longest piece has a byte
+pub some_byte : (text : List ℕ) (p : Piece) (n : ℕ) → Begins text p n → 0 < n
+some_byte text p zero b = absurd (some_piece p (take 0 text) (drop 0 text) b.longest.is refl)
+some_byte text p (suc n) b = omega arith
+
+-- one more piece at the place up to which the text is a chain
+pub grown_at : (text : List ℕ) (ts new : List Token) (at n : ℕ) → at ≤ length text → Chain 0 text ts (drop at text) → IsAdded (drop at text) at ts new n → (at + n ≤ length text) × Chain 0 text new (drop (at + n) text)
+grown_at text ts new at n l c a =
+    let d = length-drop at text in
+    let w = a.begins.within in
+    let s : length text - length (drop at text) ≡ at = omega arith in
+    let g = grown_by text ts new (drop at text) a.piece n c a.begins (a.tokens ∙ ap (λ z. ts ++ tokens_of a.piece z (z + n)) (sym s)) in
+    (omega arith, subst (λ z. Chain 0 text new z) (drop-drop n at text) g)
+
+-- what was added to the list, or was none, has a byte
+pub added_byte : (text : List ℕ) (start n : ℕ) (before now : List Token) → IsAdded text start before now n → 0 < n
+added_byte text start n before now a = some_byte text a.piece n a.begins
+
+-- a blank at that place adds no token
+pub blank_at : (text : List ℕ) (ts : List Token) (at : ℕ) → at < length text → is_blank (get_or text at 0) ≡ true → IsAdded (drop at text) at ts ts 1
+blank_at text ts at l h =
+    let d = length-drop at text in
+    blank_added (drop at text) at ts (omega arith) (ap lead_of (drop_first at text l) ∙ blank_led (get_or text at 0) (drop (at + 1) text) h)
+
+-- where nothing begins at that place, the source is refused there
+pub refused_there : (source text : List ℕ) (ts : List Token) (at : ℕ) → text ≡ after_byte_order_mark source → at < length text → Chain 0 text ts (drop at text) → IsNone (drop at text) → IsRefused source at
+refused_there source text ts at e l c n =
+    let d = length-drop at text in
+    let s : length text - length (drop at text) ≡ at = omega arith in
+    subst (λ z. IsRefused source z) s (refused_at source text ts (drop at text) e c (omega arith) n)
+
+-- a chain up to the end reads the source
+pub whole_read : (source text : List ℕ) (ts : List Token) (at : ℕ) → text ≡ after_byte_order_mark source → length text ≤ at → Chain 0 text ts (drop at text) → IsRead source ts
+whole_read source text ts at e l c =
+    let d = length-drop at text in
+    subst (λ z. Chain 0 z ts []) e (all_read text ts (drop at text) c (omega arith))
 
 -- One source reads as one list, is refused at one byte, and is not both read and refused.
 pub one_list : (source : List ℕ) (ts us : List Token) → IsRead source ts → IsRead source us → ts ≡ us

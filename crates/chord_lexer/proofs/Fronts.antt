@@ -29,7 +29,7 @@ use Rattle.chord_lexer.proofs.Numbering.{number_begins, followed, too_large}
 use Rattle.chord_lexer.proofs.Quoting.{no_body, body_byte, body_pair, unquoted_end, unquoted_byte, unquoted_escape, literal_begins, body_not_utf8, not_quoted}
 use Rattle.chord_lexer.proofs.Commenting.{IsPassed, passed_none, passed_more, passed_all, closed_here, line_extent, block_extent, never_closed, comment_begins, not_utf8, not_delimited}
 use Rattle.chord_lexer.proofs.Marking.{pair_begins, single_begins, no_mark}
-use Rattle.chord_lexer.proofs.Chains.{some_piece, all_read, grown_by, refused_at}
+use Rattle.chord_lexer.proofs.Chains.{some_byte, all_read, grown_by, refused_at}
 
 -- an option is something or nothing
 told_option : {A : Type 0} (o : Option A) → ((a : A) × (o ≡ Some a)) ⊎ (o ≡ None)
@@ -282,11 +282,6 @@ by_lead text leads.Mark l h = mark_told text l h
 -- a longest piece begins a text that is not empty, or nothing does
 front_told : (text : List ℕ) → 0 < length text → IsDecided text
 front_told text l = by_lead text (lead_of text) l refl
-
--- a longest piece has a byte
-some_byte : (text : List ℕ) (p : Piece) (n : ℕ) → Begins text p n → 0 < n
-some_byte text p zero b = absurd (some_piece p (take 0 text) (drop 0 text) b.longest.is refl)
-some_byte text p (suc n) b = omega arith
 
 -- the source is read, or refused at a byte
 abbrev IsReadOrRefused : List ℕ → Type 0

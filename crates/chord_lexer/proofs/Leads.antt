@@ -34,7 +34,7 @@ pub letter_digit : (b : ℕ) → is_letter b ≡ true → is_digit b ≡ false
 letter_digit b h = grind (arith, nat_tests)
 
 -- a text that begins with a blank may begin with a blank alone
-blank_led : (b : ℕ) (bs : List ℕ) → is_blank b ≡ true → lead_of (b ∷ bs) ≡ leads.Blank
+pub blank_led : (b : ℕ) (bs : List ℕ) → is_blank b ≡ true → lead_of (b ∷ bs) ≡ leads.Blank
 blank_led b bs h =
     elim (or_cases _ (nat_eq b 10) h) [
       | inr e ↦ rw (eqb-true b 10 e) refl

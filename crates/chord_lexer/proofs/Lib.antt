@@ -6,5 +6,6 @@ pub mod Numbering
 pub mod Quoting
 pub mod Commenting
 pub mod Marking
+pub mod Adding
 pub mod Chains
 pub mod Fronts

@@ -7,10 +7,10 @@ use Rattle.chord_lexer.specs.declared.token.Kind.TheVariants as kinds
 use Rattle.chord_lexer.specs.declared.piece.Piece.{Piece}
 use Rattle.chord_lexer.specs.declared.piece.Piece.TheVariants as pieces
 use Rattle.chord_lexer.specs.declared.scan.Lead.TheVariants as leads
-use Rattle.chord_lexer.specs.Letters.{is_letter, is_digit, is_identifier_byte, first_passes, IsMaximalRun}
+use Rattle.chord_lexer.specs.Letters.{is_letter, is_digit, is_identifier_byte, first_passes, IsMaximalRun, all_pass}
 use Rattle.chord_lexer.specs.Numbers.{IsNumber, value_after}
 use Rattle.chord_lexer.specs.Pieces.{IsPiece, IsNone}
-use Rattle.chord_lexer.specs.Scanning.{lead_of, Begins}
+use Rattle.chord_lexer.specs.Scanning.{lead_of, Begins, IsTooLarge}
 use Rattle.chord_lexer.proofs.Runs.{run_same, and_left, and_right}
 use Rattle.chord_lexer.proofs.Leads.{leads_to, only_number, told}
 
@@ -72,16 +72,39 @@ value_grows : (digits : List ℕ) (n : ℕ) → n ≤ value_after n digits
 value_grows [] n = omega arith
 value_grows (b ∷ digits) n = let h = value_grows digits (10 * n + (b - 48)) in omega arith
 
--- the value of the digits from a place on is that of the digits after it, with the digit there among those before
-step_at : (digits : List ℕ) (i n : ℕ) → i < length digits → value_after n (drop i digits) ≡ value_after (10 * n + (get_or digits i 0 - 48)) (drop (suc i) digits)
-step_at [] i n l = absurd (omega arith)
-step_at (b ∷ digits) zero n l = refl
-step_at (b ∷ digits) (suc i) n l = step_at digits i n (omega arith)
+-- digits at the front of a text have no greater value than all that stand there
+value_of_some : (v more : List ℕ) (n m : ℕ) → all_pass is_digit (take n (v ++ more)) ≡ true → first_passes is_digit more ≡ false → value_after m (take n (v ++ more)) ≤ value_after m v
+value_of_some [] more zero m a f = omega arith
+value_of_some [] [] (suc n) m a f = omega arith
+value_of_some [] (b ∷ more) (suc n) m a f = let g = sym f ∙ and_left _ _ a in cc
+value_of_some (b ∷ v) more zero m a f = value_grows (b ∷ v) m
+value_of_some (b ∷ v) more (suc n) m a f = value_of_some v more n (10 * m + (b - 48)) (and_right (is_digit b) _ a) f
+
+-- where some first digits have a greater value, nothing begins
+pub none_so_large : (text : List ℕ) → lead_of text ≡ leads.Digit → IsTooLarge text → IsNone text
+none_so_large text h l q v more e k =
+    let w = only_number q v more (leads_to text leads.Digit h q v more e k) k in
+    let a = subst (λ z. all_pass is_digit (take l.size z) ≡ true) (sym e) l.digits in
+    let m : 2147483648 < value_after 0 (take l.size (v ++ more)) = subst (λ z. 2147483648 < value_after 0 (take l.size z)) (sym e) l.large in
+    let g : value_after 0 (take l.size (v ++ more)) ≤ value_after 0 v = value_of_some v more l.size 0 a (no_digit more w.1.end) in
+    let i : value_after 0 v ≡ w.0 = w.1.value in
+    let s : w.0 ≤ 2147483648 = w.1.small in
+    omega arith
+
+-- the value of one digit more
+next_value : (text : List ℕ) (i m : ℕ) → i < length text → value_after m (take (suc i) text) ≡ 10 * value_after m (take i text) + (get_or text i 0 - 48)
+next_value [] i m l = absurd (omega arith)
+next_value (b ∷ text) zero m l = refl
+next_value (b ∷ text) (suc i) m l = next_value text i (10 * m + (b - 48)) (omega arith)
 
 -- one more digit
-pub value_more : (digits : List ℕ) (i n : ℕ) → i < length digits → value_after n (drop i digits) ≡ value_after (10 * n + (get_or digits i 0 - 48)) (drop (i + 1) digits)
-value_more digits i n l = rw add-one (step_at digits i n l)
+pub value_more : (text : List ℕ) (i : ℕ) → i < length text → value_after 0 (take (i + 1) text) ≡ 10 * value_after 0 (take i text) + (get_or text i 0 - 48)
+value_more text i l = rw add-one (next_value text i 0 l)
 
--- what is too large stays so
-pub value_large : (digits : List ℕ) (i n : ℕ) → i < length digits → value_after 0 digits ≡ value_after n (drop i digits) → 2147483648 < 10 * n + (get_or digits i 0 - 48) → 2147483648 < value_after 0 digits
-value_large digits i n l e h = let s = e ∙ value_more digits i n l in let g = value_grows (drop (i + 1) digits) (10 * n + (get_or digits i 0 - 48)) in omega arith
+-- the value with one digit more
+pub value_step : (text : List ℕ) (i value : ℕ) → i < length text → value ≡ value_after 0 (take i text) → 10 * value + (get_or text i 0 - 48) ≡ value_after 0 (take (i + 1) text)
+value_step text i value l e = ap (λ z. 10 * z + (get_or text i 0 - 48)) e ∙ sym (value_more text i l)
+
+-- where one digit more makes the value too large
+pub value_large : (text : List ℕ) (i value : ℕ) → i < length text → value ≡ value_after 0 (take i text) → 2147483648 < 10 * value + (get_or text i 0 - 48) → 2147483648 < value_after 0 (take (i + 1) text)
+value_large text i value l e h = subst (λ z. 2147483648 < z) (value_step text i value l e) h

@@ -1,10 +1,12 @@
 -- Reserved words, looked up by their first letter.
-use Rattle.std.proofs.Common.{◌≡◌, ℕ, zero, suc, ◌+◌, ◌<◌, true, false, List, [], ◌∷◌, length, drop, get_or, map, refl, arith, add-one, Some, inl, inr}
+use Rattle.std.proofs.Common.{sym, ◌∙◌, ne_eqb, nat_eq, ◌≡◌, ℕ, zero, suc, ◌+◌, ◌<◌, true, false, List, [], ◌∷◌, length, drop, get_or, map, refl, arith, add-one, Some, inl, inr}
+use Rattle.std.proofs.lemmas.Bool.{cases_Bool}
 use Rattle.std.proofs.lemmas.Bool.Decides.{eqb_tells}
 use Rattle.std.specs.Prelude.{bytes_eq}
 use Rattle.chord_lexer.specs.declared.token.Keyword.{Keyword}
 use Rattle.chord_lexer.specs.Identifiers.{find_reserved, keyword_of}
 use Rattle.chord_lexer.specs.Scanning.{reserved_with}
+use Rattle.chord_lexer.proofs.Runs.{and_right}
 
 -- the reserved words that begin with a byte are enough to look up an identifier that begins with it
 by_letter : (b : ℕ) (bs : List ℕ) → find_reserved (reserved_with b) (b ∷ bs) ≡ keyword_of (b ∷ bs)
@@ -104,3 +106,17 @@ not_here entry (x ∷ table) identifier (suc i) d l e = not_here entry table ide
 -- an entry of another word is passed over
 pub entry_not_here : {X : Type 0} (entry : X → List ℕ × Keyword) (table : List X) (identifier : List ℕ) (i : ℕ) (d : X) → i < length table → bytes_eq identifier (entry (get_or table i d)).0 ≡ false → find_reserved (drop i (map entry table)) identifier ≡ find_reserved (drop (i + 1) (map entry table)) identifier
 entry_not_here entry table identifier i d l e = rw add-one (not_here entry table identifier i d l e)
+
+-- equal words have one length
+one_length : (these those : List ℕ) → bytes_eq these those ≡ true → length these ≡ length those
+one_length [] [] h = refl
+one_length [] (b ∷ those) h = cc
+one_length (a ∷ these) [] h = cc
+one_length (a ∷ these) (b ∷ those) h = let r = one_length these those (and_right (nat_eq a b) _ h) in omega arith
+
+-- words of two lengths are not equal
+pub other_length : (these those : List ℕ) → (length these ≡ length those → ⊥) → nat_eq (length these) (length those) ≡ bytes_eq these those
+other_length these those n = elim (cases_Bool (bytes_eq these those)) [
+  | inl e ↦ absurd (n (one_length these those e))
+  | inr e ↦ ne_eqb (length these) (length those) n ∙ sym e
+]

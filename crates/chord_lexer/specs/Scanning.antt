@@ -1,8 +1,9 @@
 -- What the scanner's own functions say of their answers. No definition of a reading stands on these.
-use Rattle.std.specs.Prelude.{◌≡◌, ℕ, ◌≤◌, Bool, true, cond, ◌&&◌, List, [], ◌∷◌, ◌++◌, length, take, drop, nat_eq, Option, Some, None, filter, slice_index}
+use Rattle.std.specs.Prelude.{◌≡◌, ℕ, ◌+◌, ◌<◌, ◌≤◌, Bool, true, cond, ◌&&◌, List, [], ◌∷◌, ◌++◌, length, take, drop, nat_eq, Option, Some, None, filter, slice_index}
 use Rattle.chord_lexer.specs.declared.token.Keyword.{Keyword}
 use Rattle.chord_lexer.specs.declared.token.Mark.{Mark}
 use Rattle.chord_lexer.specs.declared.token.Mark.TheVariants as marks
+use Rattle.chord_lexer.specs.declared.token.Token.{Token}
 use Rattle.chord_lexer.specs.declared.piece.Piece.{Piece}
 use Rattle.chord_lexer.specs.declared.scan.ByteKind.{ByteKind}
 use Rattle.chord_lexer.specs.declared.scan.ByteKind.TheVariants as byte_kinds
@@ -11,10 +12,12 @@ use Rattle.chord_lexer.specs.declared.scan.Lead.TheVariants as leads
 use Rattle.chord_lexer.specs.declared.scan.Stop.{Stop}
 use Rattle.chord_lexer.specs.declared.scan.Stop.TheVariants as stops
 use Rattle.chord_lexer.specs.Identifiers.{reserved_words}
-use Rattle.chord_lexer.specs.Letters.{is_blank, is_digit, is_letter, is_identifier_byte}
+use Rattle.chord_lexer.specs.Letters.{is_blank, is_digit, is_letter, is_identifier_byte, all_pass, IsMaximalRun}
+use Rattle.chord_lexer.specs.Numbers.{value_after}
 use Rattle.chord_lexer.specs.Comments.{begins_comment, is_in_line, IsDelimited, IsUnclosed}
 use Rattle.chord_lexer.specs.Literals.{is_plain, escaped}
 use Rattle.chord_lexer.specs.Pieces.{IsLongest, IsNone}
+use Rattle.chord_lexer.specs.Reading.{tokens_of}
 
 -- the test of a kind of bytes
 abbrev pub test_of : ByteKind → ℕ → Bool
@@ -32,10 +35,29 @@ pub record Begins (text : List ℕ) (p : Piece) (n : ℕ) : Type 0 where
   pub within : n ≤ length text
   pub longest : IsLongest p (take n text) (drop n text)
 
+-- the longest piece that begins the text has n bytes, and the token that it is, if it is one, stands at `start` and was added
+pub record IsAdded (text : List ℕ) (start : ℕ) (before now : List Token) (n : ℕ) : Type 0 where
+  pub piece : Piece
+  pub begins : Begins text piece n
+  pub tokens : now ≡ before ++ tokens_of piece start (start + n)
+
 -- Why no piece was found: for want of memory, or because none begins the text.
 abbrev pub IsStop : List ℕ → Stop → Type 0
 IsStop text stops.Memory = Unit {0}
 IsStop text stops.Nothing = IsNone text
+
+-- the first n bytes are all the digits at the front, and their value is not too large
+pub record IsValue (text : List ℕ) (value n : ℕ) : Type 0 where
+  pub within : n ≤ length text
+  pub run : IsMaximalRun is_digit (take n text) (drop n text)
+  pub is : value ≡ value_after 0 (take n text)
+  pub small : value ≤ 2147483648
+
+-- some first bytes are digits whose value is too large
+pub record IsTooLarge (text : List ℕ) : Type 0 where
+  pub size : ℕ
+  pub digits : all_pass is_digit (take size text) ≡ true
+  pub large : 2147483648 < value_after 0 (take size text)
 
 -- a literal's body, byte by byte: a byte of a longer character is no quote, no `\` and no end of a line
 pub data Bytewise : List ℕ → List ℕ → Type 0 where

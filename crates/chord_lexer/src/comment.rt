@@ -1,14 +1,13 @@
 //! Comments.
 #![tactic(auto)]
 
-ghost use Rattle.std.specs.Prelude.{◌≡◌, ◌↔◌, IsTrue, ◌<◌, ◌≤◌, ◌+◌, length, IfSome, IfNone};
+ghost use Rattle.std.specs.Prelude.{◌≡◌, ◌↔◌, IsTrue, ◌<◌, ◌≤◌, ◌+◌, length, IfSome, IfNone, IfOk, IfErr};
 ghost use Rattle.chord_lexer.specs.Comments.{IsUnclosed};
-ghost use Rattle.chord_lexer.specs.Pieces.{IsNone};
-ghost use Rattle.chord_lexer.specs.Scanning.{lead_of, Begins, IsClosedAt, IsExtent, IsUndelimited};
+ghost use Rattle.chord_lexer.specs.Scanning.{lead_of, Begins, IsClosedAt, IsExtent, IsStop, IsUndelimited};
+ghost use Rattle.chord_lexer.specs.declared.piece.Piece.TheVariants as pieces;
 ghost use Rattle.chord_lexer.specs.declared.scan.Lead.TheVariants as leads;
 
-use crate::piece::Piece;
-use crate::scan::{ByteKind, after, run};
+use crate::scan::{ByteKind, Stop, after, run};
 
 /// Whether the two bytes are `*/`.
 fn is_close(first: u8, second: u8) -> bool
@@ -47,17 +46,19 @@ fn extent(text: &[u8]) -> Option<usize>
     }
 }
 
-/// The comment at the front.
+/// How many bytes the comment at the front has.
 ///
 /// Its bytes are UTF-8. One that is not, or that `*/` does not close, is none.
-pub fn comment(text: &[u8]) -> Option<(Piece, usize)>
+pub fn comment(text: &[u8]) -> Result<usize, Stop>
     requires { lead_of text.now ≡ leads.Comment }
-    ensures found { IfSome result (λ r. Begins text.now r.0 r.1) }
-    ensures none { IfNone result (IsNone text.now) }
+    ensures found { IfOk result (Begins text.now pieces.Comment) }
+    ensures none { IfErr result (IsStop text.now) }
 {
-    let length = extent(text)?;
-    match str::from_utf8(&text[..length]) {
-        Ok(_) => Some((Piece::Comment, length)),
-        Err(_) => None,
+    match extent(text) {
+        Some(length) => match str::from_utf8(&text[..length]) {
+            Ok(_) => Ok(length),
+            Err(_) => Err(Stop::Nothing),
+        },
+        None => Err(Stop::Nothing),
     }
 }

@@ -1,14 +1,13 @@
 //! Identifiers: reserved words and names.
 #![tactic(auto)]
 
-ghost use Rattle.std.specs.Prelude.{◌≡◌, ◌<◌, length, map, IfOk, IfErr};
+ghost use Rattle.std.specs.Prelude.{◌≡◌, ◌+◌, ◌<◌, ◌≤◌, length, map, bytes_eq, IfOk, IfErr};
 ghost use Rattle.chord_lexer.specs.Identifiers.{find_reserved, keyword_of};
-ghost use Rattle.chord_lexer.specs.Scanning.{lead_of, reserved_with, Begins, IsStop};
+ghost use Rattle.chord_lexer.specs.Scanning.{lead_of, reserved_with, IsAdded, IsStop};
 ghost use Rattle.chord_lexer.specs.declared.scan.Lead.TheVariants as leads;
 
-use crate::piece::Piece;
-use crate::scan::{ByteKind, Stop, run};
-use crate::token::{Keyword, Kind};
+use crate::scan::{ByteKind, Stop, add, run};
+use crate::token::{Keyword, Kind, Token};
 use chord_base::text::Text;
 use std::alloc::Global;
 
@@ -142,12 +141,21 @@ const V_WORDS: [(&[u8], Keyword); 3] = [
 
 const W_WORDS: [(&[u8], Keyword); 1] = [(b"while", Keyword::While)];
 
+/// Whether the bytes are equal. Most words of a table have another length, which is told without a call.
+#[inline(always)]
+fn same(these: &[u8], those: &[u8]) -> bool
+    ensures { result ≡ bytes_eq these.now those.now }
+{
+    these.len() == those.len() && these == those
+}
+
 /// What the table has for the identifier.
+#[inline(always)]
 fn find(table: &[(&[u8], Keyword)], identifier: &[u8]) -> Option<Keyword>
     ensures { result ≡ find_reserved (map (λ entry. (entry.0.now, entry.1)) table.now) identifier.now }
 {
     for (text, keyword) in table {
-        if identifier == *text {
+        if same(identifier, text) {
             return Some(*keyword);
         }
     }
@@ -189,10 +197,16 @@ fn keyword(identifier: &[u8]) -> Option<Keyword>
     find_with(identifier[0], identifier)
 }
 
-/// The identifier at the front.
-pub fn identifier(alloc: Global, text: &[u8]) -> Result<(Piece, usize), Stop>
-    requires { lead_of text.now ≡ leads.Letter }
-    ensures found { IfOk result (λ r. Begins text.now r.0 r.1) }
+/// Adds the identifier at the front.
+pub fn identifier(
+    alloc: Global,
+    text: &[u8],
+    start: u32,
+    tokens: &mut Vec<Token>,
+) -> Result<usize, Stop>
+    requires lead { lead_of text.now ≡ leads.Letter }
+    requires few { start + length text.now ≤ 1048576 }
+    ensures found { IfOk result (IsAdded text.now start tokens.old.items tokens.new.items) }
     ensures none { IfErr result (IsStop text.now) }
 {
     let length = run(text, ByteKind::Identifier);
@@ -201,9 +215,9 @@ pub fn identifier(alloc: Global, text: &[u8]) -> Result<(Piece, usize), Stop>
     }
     let identifier = &text[..length];
     match keyword(identifier) {
-        Some(keyword) => Ok((Piece::Token(Kind::Word(keyword)), length)),
+        Some(keyword) => add(tokens, Kind::Word(keyword), start, length),
         None => match Text::of_bytes(alloc, identifier) {
-            Ok(name) => Ok((Piece::Token(Kind::Name(name)), length)),
+            Ok(name) => add(tokens, Kind::Name(name), start, length),
             Err(_) => Err(Stop::Memory),
         },
     }

@@ -1,12 +1,11 @@
 //! From bytes to tokens.
 #![tactic(auto)]
 
-ghost use Rattle.std.specs.Prelude.{◌≡◌, ℕ, ◌≤◌, ◌⊎◌, ◌++◌, List, length, IfOk, IfErr, OnOk, MatchResult};
-ghost use Rattle.chord_lexer.specs.Reading.{after_byte_order_mark, tokens_of, IsRead, IsRefused, IsFault};
+ghost use Rattle.std.specs.Prelude.{◌≡◌, ℕ, ◌≤◌, ◌⊎◌, List, length, IfOk, IfErr, MatchResult};
+ghost use Rattle.chord_lexer.specs.Reading.{after_byte_order_mark, IsRead, IsRefused, IsFault};
 ghost use Rattle.chord_lexer.specs.declared.token.Token.{Token};
 
-use crate::piece::Piece;
-use crate::scan::{Stop, after, longest};
+use crate::scan::{Stop, after, is_blank, longest};
 use crate::token::Token;
 use std::alloc::Global;
 use thiserror::Error;
@@ -33,21 +32,6 @@ pub fn unmarked(source: &[u8]) -> &[u8]
     }
 }
 
-/// Adds the token that a piece is, if it is one.
-fn note(tokens: &mut Vec<Token>, piece: Piece, start: u32, end: u32) -> Result<(), LexFault>
-    ensures ok { OnOk result (tokens.new.items ≡ tokens.old.items ++ tokens_of piece start end) }
-    ensures err { IfErr result (λ fault. fault ≡ LexFault.Memory) }
-{
-    match piece {
-        Piece::Blank => Ok(()),
-        Piece::Comment => Ok(()),
-        Piece::Token(kind) => match tokens.push(Token { kind, start, end }) {
-            Ok(()) => Ok(()),
-            Err(_) => Err(LexFault::Memory),
-        },
-    }
-}
-
 /// The tokens of the text after the mark.
 fn read(alloc: Global, source: &[u8], text: &[u8]) -> Result<Vec<Token>, LexFault>
     requires few { length source.now ≤ 1048576 }
@@ -56,19 +40,18 @@ fn read(alloc: Global, source: &[u8], text: &[u8]) -> Result<Vec<Token>, LexFaul
     ensures fault { IfErr result (IsFault source.now) }
 {
     let mut tokens = Vec::new(alloc);
-    let mut left = text;
-    while left.len() > 0 {
-        let start = (text.len() - left.len()) as u32;
-        match longest(alloc, left) {
-            Ok((piece, length)) => {
-                match note(&mut tokens, piece, start, start + length as u32) {
-                    Ok(()) => {}
-                    Err(fault) => return Err(fault),
-                }
-                left = after(left, length);
+    let mut at = 0;
+    while at < text.len() {
+        // Nearly half of the pieces are blanks.
+        if is_blank(text[at]) {
+            at += 1;
+        } else {
+            let start = at as u32;
+            match longest(alloc, after(text, at), start, &mut tokens) {
+                Ok(length) => at += length,
+                Err(Stop::Memory) => return Err(LexFault::Memory),
+                Err(Stop::Nothing) => return Err(LexFault::Bad(start)),
             }
-            Err(Stop::Memory) => return Err(LexFault::Memory),
-            Err(Stop::Nothing) => return Err(LexFault::Bad(start)),
         }
     }
     Ok(tokens)

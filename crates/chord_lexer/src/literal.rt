@@ -1,15 +1,14 @@
 //! Text literals.
 #![tactic(auto)]
 
-ghost use Rattle.std.specs.Prelude.{◌≡◌, ◌<◌, length, slice_index, IfSome, IfNone, IfOk, IfErr};
+ghost use Rattle.std.specs.Prelude.{◌≡◌, ◌+◌, ◌<◌, ◌≤◌, length, slice_index, IfSome, IfNone, IfOk, IfErr};
 ghost use Rattle.chord_lexer.specs.Literals.{is_plain, escaped};
-ghost use Rattle.chord_lexer.specs.Scanning.{lead_of, Begins, IsStop, Bytewise, IsBody, IsQuoted, IsUnquoted};
+ghost use Rattle.chord_lexer.specs.Scanning.{lead_of, IsAdded, IsStop, Bytewise, IsBody, IsQuoted, IsUnquoted};
 ghost use Rattle.chord_lexer.specs.declared.scan.Lead.TheVariants as leads;
 
 use crate::bytes::Bytes;
-use crate::piece::Piece;
-use crate::scan::{Stop, after};
-use crate::token::Kind;
+use crate::scan::{Stop, add, after};
+use crate::token::{Kind, Token};
 use std::alloc::{AllocError, Global};
 
 /// Whether a byte is part of a character that stands for itself.
@@ -89,10 +88,16 @@ fn meaning(alloc: Global, body: &[u8]) -> Result<Vec<u8>, AllocError>
     Ok(bytes)
 }
 
-/// The literal at the front.
-pub fn literal(alloc: Global, text: &[u8]) -> Result<(Piece, usize), Stop>
-    requires { lead_of text.now ≡ leads.Quote }
-    ensures found { IfOk result (λ r. Begins text.now r.0 r.1) }
+/// Adds the literal at the front.
+pub fn literal(
+    alloc: Global,
+    text: &[u8],
+    start: u32,
+    tokens: &mut Vec<Token>,
+) -> Result<usize, Stop>
+    requires lead { lead_of text.now ≡ leads.Quote }
+    requires few { start + length text.now ≤ 1048576 }
+    ensures found { IfOk result (IsAdded text.now start tokens.old.items tokens.new.items) }
     ensures none { IfErr result (IsStop text.now) }
 {
     let tail = after(text, 1);
@@ -103,10 +108,12 @@ pub fn literal(alloc: Global, text: &[u8]) -> Result<(Piece, usize), Stop>
     let body = &tail[..length];
     match str::from_utf8(body) {
         Ok(_) => match meaning(alloc, body) {
-            Ok(bytes) => Ok((
-                Piece::Token(Kind::Literal(Bytes::of_items(bytes))),
+            Ok(bytes) => add(
+                tokens,
+                Kind::Literal(Bytes::of_items(bytes)),
+                start,
                 length + 2,
-            )),
+            ),
             Err(_) => Err(Stop::Memory),
         },
         Err(_) => Err(Stop::Nothing),

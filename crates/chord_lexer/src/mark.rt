@@ -1,14 +1,13 @@
 //! Marks, by the longest reading.
 #![tactic(auto)]
 
-ghost use Rattle.std.specs.Prelude.{◌≡◌, ◌<◌, ◌∷◌, [], length, take, IfSome, IfNone};
+ghost use Rattle.std.specs.Prelude.{◌≡◌, ◌+◌, ◌<◌, ◌≤◌, ◌∷◌, [], length, take, IfSome, IfOk, IfErr};
 ghost use Rattle.chord_lexer.specs.Marks.{mark_bytes};
-ghost use Rattle.chord_lexer.specs.Pieces.{IsNone};
-ghost use Rattle.chord_lexer.specs.Scanning.{lead_of, single_mark, pair_mark, pair_mark_of, Begins};
+ghost use Rattle.chord_lexer.specs.Scanning.{lead_of, single_mark, pair_mark, pair_mark_of, IsAdded, IsStop};
 ghost use Rattle.chord_lexer.specs.declared.scan.Lead.TheVariants as leads;
 
-use crate::piece::Piece;
-use crate::token::{Kind, Mark};
+use crate::scan::{Stop, add};
+use crate::token::{Kind, Mark, Token};
 
 /// The mark of one byte.
 fn single(byte: u8) -> Option<Mark>
@@ -67,18 +66,19 @@ fn pair_at(text: &[u8]) -> Option<Mark>
     }
 }
 
-/// The mark at the front, of two bytes if it can be.
-pub fn mark(text: &[u8]) -> Option<(Piece, usize)>
+/// Adds the mark at the front, of two bytes if it can be.
+pub fn mark(text: &[u8], start: u32, tokens: &mut Vec<Token>) -> Result<usize, Stop>
     requires some { 0 < length text.now }
     requires lead { lead_of text.now ≡ leads.Mark }
-    ensures found { IfSome result (λ r. Begins text.now r.0 r.1) }
-    ensures none { IfNone result (IsNone text.now) }
+    requires few { start + length text.now ≤ 1048576 }
+    ensures found { IfOk result (IsAdded text.now start tokens.old.items tokens.new.items) }
+    ensures none { IfErr result (IsStop text.now) }
 {
     match pair_at(text) {
-        Some(mark) => Some((Piece::Token(Kind::Mark(mark)), 2)),
+        Some(mark) => add(tokens, Kind::Mark(mark), start, 2),
         None => match single(text[0]) {
-            Some(mark) => Some((Piece::Token(Kind::Mark(mark)), 1)),
-            None => None,
+            Some(mark) => add(tokens, Kind::Mark(mark), start, 1),
+            None => Err(Stop::Nothing),
         },
     }
 }

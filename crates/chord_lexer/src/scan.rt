@@ -1,17 +1,17 @@
 //! The longest piece at the front of a text: what its first bytes say of it, and runs of bytes.
 #![tactic(auto)]
 
-ghost use Rattle.std.specs.Prelude.{◌≡◌, ◌<◌, ◌≤◌, length, take, drop, IfOk, IfErr};
-ghost use Rattle.chord_lexer.specs.Letters.{IsMaximalRun, first_passes, is_blank};
+ghost use Rattle.std.specs.Prelude.{◌≡◌, ◌+◌, ◌<◌, ◌≤◌, ◌++◌, ◌∷◌, [], length, take, drop, IfOk, IfErr};
+ghost use Rattle.chord_lexer.specs.Letters.{IsMaximalRun, first_passes, is_blank, is_letter};
 ghost use Rattle.chord_lexer.specs.Comments.{begins_comment};
-ghost use Rattle.chord_lexer.specs.Scanning.{test_of, lead_of, Begins, IsStop};
+ghost use Rattle.chord_lexer.specs.Scanning.{test_of, lead_of, IsAdded, IsStop};
 
 use crate::comment::comment;
 use crate::identifier::identifier;
 use crate::literal::literal;
 use crate::mark::mark;
 use crate::number::number;
-use crate::piece::Piece;
+use crate::token::{Kind, Token};
 use std::alloc::Global;
 
 /// Why no piece was found.
@@ -44,13 +44,21 @@ pub enum Lead {
     Mark,
 }
 
+/// Whether an identifier may begin with the byte. Most bytes that are no letter are told by the first test.
+#[inline]
+fn is_letter(byte: u8) -> bool
+    ensures { result ≡ is_letter byte }
+{
+    byte >= b'A' && (byte.is_ascii_alphabetic() || byte == b'_')
+}
+
 #[inline]
 fn fits(kind: ByteKind, byte: u8) -> bool
     ensures { result ≡ test_of kind byte }
 {
     match kind {
         ByteKind::Digit => byte.is_ascii_digit(),
-        ByteKind::Identifier => byte.is_ascii_alphabetic() || byte == b'_' || byte.is_ascii_digit(),
+        ByteKind::Identifier => is_letter(byte) || byte.is_ascii_digit(),
         ByteKind::Line => byte != b'\r' && byte != b'\n',
     }
 }
@@ -94,7 +102,7 @@ fn begins_comment(text: &[u8]) -> bool
 }
 
 #[inline]
-fn is_blank(byte: u8) -> bool
+pub fn is_blank(byte: u8) -> bool
     ensures { result ≡ is_blank byte }
 {
     byte == b' ' || byte == b'\t' || byte == b'\r' || byte == b'\n'
@@ -110,31 +118,56 @@ fn leading(text: &[u8]) -> Lead
         Lead::Blank
     } else if first.is_ascii_digit() {
         Lead::Digit
-    } else if first.is_ascii_alphabetic() || first == b'_' {
+    } else if is_letter(first) {
         Lead::Letter
     } else if first == b'"' {
         Lead::Quote
-    } else if begins_comment(text) {
+    } else if first == b'/' && begins_comment(text) {
         Lead::Comment
     } else {
         Lead::Mark
     }
 }
 
-/// The longest piece at the front, and how many bytes it has.
+/// Adds the token of this kind that stands at `start`, and gives its length.
+// It is written where it is called, so that each kind of token stores the fields that it has and no other's.
+#[inline(always)]
+pub fn add(tokens: &mut Vec<Token>, kind: Kind, start: u32, length: usize) -> Result<usize, Stop>
+    requires { start + length ≤ 1048576 }
+    ensures length { IfOk result (λ n. n ≡ length) }
+    ensures added { IfOk result (λ _. tokens.new.items ≡ tokens.old.items ++ record { kind = kind; start = start; end = start + length } ∷ []) }
+    ensures memory { IfErr result (λ stop. stop ≡ Stop.Memory) }
+{
+    match tokens.push(Token {
+        kind,
+        start,
+        end: start + length as u32,
+    }) {
+        Ok(()) => Ok(length),
+        Err(_) => Err(Stop::Memory),
+    }
+}
+
+/// Adds the token that the longest piece at the front is, if it is one, and gives the length of that piece.
 ///
 /// `Nothing` comes exactly where no piece begins the text.
-pub fn longest(alloc: Global, text: &[u8]) -> Result<(Piece, usize), Stop>
-    requires { 0 < length text.now }
-    ensures found { IfOk result (λ r. Begins text.now r.0 r.1) }
+pub fn longest(
+    alloc: Global,
+    text: &[u8],
+    start: u32,
+    tokens: &mut Vec<Token>,
+) -> Result<usize, Stop>
+    requires some { 0 < length text.now }
+    requires few { start + length text.now ≤ 1048576 }
+    ensures found { IfOk result (IsAdded text.now start tokens.old.items tokens.new.items) }
     ensures none { IfErr result (IsStop text.now) }
 {
     match leading(text) {
-        Lead::Digit => number(text).ok_or(Stop::Nothing),
-        Lead::Letter => identifier(alloc, text),
-        Lead::Blank => Ok((Piece::Blank, 1)),
-        Lead::Quote => literal(alloc, text),
-        Lead::Comment => comment(text).ok_or(Stop::Nothing),
-        Lead::Mark => mark(text).ok_or(Stop::Nothing),
+        Lead::Blank => Ok(1),
+        Lead::Digit => number(text, start, tokens),
+        Lead::Letter => identifier(alloc, text, start, tokens),
+        Lead::Quote => literal(alloc, text, start, tokens),
+        Lead::Comment => comment(text),
+        Lead::Mark => mark(text, start, tokens),
     }
 }
