@@ -9,6 +9,7 @@ use Rattle.chord_rule.specs.Made.{key}
 use Rattle.chord_rule.specs.Kinds.{is_down}
 use Rattle.chord_rule.specs.Tells.{IsLook}
 use Rattle.chord_space.specs.Desks.{view, program_of, space_limits}
+use Rattle.chord_space.specs.Widest.{widest}
 use Rattle.chord_bag.specs.Reads.{IsOnlyLooks}
 use Rattle.chord_match.specs.declared.search.Own.{Own}
 use Rattle.chord_match.specs.declared.search.Verdict.{Verdict}
@@ -23,9 +24,9 @@ pub through-requires-clause-lines : goal.through-requires-clause-lines
 through-requires-clause-lines g c =
     let o = c.args.object in let p = program_of c.args.space.now in let lines = c.lines_of-lines.result.now in
     let right = subst (λ (z : Parts). ChordsAreRight (code_program z (space_limits c.args.space.now))) c.requires.code (c.chords_are_right.ensures (space_limits c.args.space.now)) in
-    let same : map methods_of lines ≡ p.chords o.class = ap (map methods_of) (c.lines_of-lines.ensures ∙ ap (λ (z : Parts). chord_lines z o.class) c.requires.code) in
+    let same : map methods_of lines ≡ p.chords o.class = ap (map methods_of) (c.lines_of-lines.ensures.lines ∙ ap (λ (z : Parts). chord_lines z o.class) c.requires.code) in
     let few = right.few_chords o.class in let mapped = length_mapped lines in let long = ap length same in
-    (omega (arith, few, mapped, long), (λ k js e. let here : slice_get (p.chords o.class) k ≡ Some js = ap (λ (z : List (List ℕ)). slice_get z k) (sym same) ∙ e in ((λ j y. right.few o.class k j js here y), right.few_headers o.class k js here)))
+    (omega (arith, few, mapped, long), (λ k js e. let here : slice_get (p.chords o.class) k ≡ Some js = ap (λ (z : List (List ℕ)). slice_get z k) (sym same) ∙ e in ((λ j y. subst (λ (z : Parts). j < widest z) c.requires.code (c.lines_of-lines.ensures.few k j js e y)), right.few_headers o.class k js here)))
 
 pub rest-requires-clause-may : goal.rest-requires-clause-may
 rest-requires-clause-may g c =
@@ -49,12 +50,12 @@ rest-requires-2-clause-may g c =
     let own : Own = record { message = c.args.m; method = c.args.method; next = word.next } in
     let look = subst (λ (z : Cell). IsLook n v u c.args.m (record { cell = z; next = word.next })) c.in-Pending.is c.look_cell-word.ensures.looked in
     let only = subst (λ (z : View). IsOnlyLooks v z) (sym look.looked) (look_only v c.args.m (record { cell = Pending; next = word.next })) in
-    let same = ap (map methods_of) (c.lines_of-lines.ensures ∙ ap (λ (z : Parts). chord_lines z o.class) c.requires.code) in
+    let same = ap (map methods_of) (c.lines_of-lines.ensures.lines ∙ ap (λ (z : Parts). chord_lines z o.class) c.requires.code) in
     let t = subst (λ (z : Verdict). IsThrough n u w o own (map methods_of c.lines_of-lines.result.now) (all_told c.through.new.known) c.through.new.members c.through.new.nexts z) (c.in-Without-None.is ∙ ap a_verdict.Without c.in-Without-None.field-0-is) (c.through.ensures.through u (stands_first n u o own (stands_read n v u o own look c.requires.bounds.0 c.requires.duty))) in
     let right = subst (λ (z : Parts). ChordsAreRight (code_program z (space_limits c.args.space.now))) c.requires.code (c.chords_are_right.ensures (space_limits c.args.space.now)) in
     let d = t.stands.duty in
     let low : o.number < 65536 = (let a = c.requires.bounds.1 in let b = c.args.space.now.sized.4 in omega (arith, a, b)) in
-    (d.0, d.1, d.2, λ e h q b. may_rest n (program_of c.args.space.now) o own u w (all_told c.through.new.known) (map methods_of c.lines_of-lines.result.now) same c.through.new.members c.through.new.nexts right low c.requires.bounds.3 t.stands t.verdict e h (b ∙ d.3))
+    (d.0, d.1, d.2, λ e h q b. may_rest n (program_of c.args.space.now) o own u w (all_told c.through.new.known) (map methods_of c.lines_of-lines.result.now) same c.through.new.members c.through.new.nexts right low (let a = c.requires.bounds.3 in let b = c.args.space.now.sized.5 in let d = c.args.space.now.sized.6 in omega (arith, a, b, d)) t.stands t.verdict e h (b ∙ d.3))
 
 pub returns-in-Match-clause-finding : goal.returns-in-Match-clause-finding
 returns-in-Match-clause-finding g c =
@@ -62,9 +63,9 @@ returns-in-Match-clause-finding g c =
     let own : Own = record { message = c.args.m; method = c.args.method; next = word.next } in
     let look = subst (λ (z : Cell). IsLook n v u c.args.m (record { cell = z; next = word.next })) c.in-Pending.is c.look_cell-word.ensures.looked in
     let only = subst (λ (z : View). IsOnlyLooks v z) (sym look.looked) (look_only v c.args.m (record { cell = Pending; next = word.next })) in
-    let same = ap (map methods_of) (c.lines_of-lines.ensures ∙ ap (λ (z : Parts). chord_lines z o.class) c.requires.code) in
+    let same = ap (map methods_of) (c.lines_of-lines.ensures.lines ∙ ap (λ (z : Parts). chord_lines z o.class) c.requires.code) in
     let t = subst (λ (z : Verdict). IsThrough n u w o own (map methods_of c.lines_of-lines.result.now) (all_told c.through.new.known) c.through.new.members c.through.new.nexts z) (c.in-Match.is) (c.through.ensures.through u (stands_first n u o own (stands_read n v u o own look c.requires.bounds.0 c.requires.duty))) in
-    is_match n (program_of c.args.space.now) o own u w (all_told c.through.new.known) (map methods_of c.lines_of-lines.result.now) same c.through.new.members c.through.new.nexts v only look.looked c.requires.bounds.3 c.in-Match.chord t
+    is_match n (program_of c.args.space.now) o own u w (all_told c.through.new.known) (map methods_of c.lines_of-lines.result.now) same c.through.new.members c.through.new.nexts v only look.looked (let a = c.requires.bounds.3 in let b = c.args.space.now.sized.5 in let d = c.args.space.now.sized.6 in omega (arith, a, b, d)) c.in-Match.chord t
 
 pub returns-in-Without-Some-clause-finding : goal.returns-in-Without-Some-clause-finding
 returns-in-Without-Some-clause-finding g c =
@@ -72,7 +73,7 @@ returns-in-Without-Some-clause-finding g c =
     let own : Own = record { message = c.args.m; method = c.args.method; next = word.next } in
     let look = subst (λ (z : Cell). IsLook n v u c.args.m (record { cell = z; next = word.next })) c.in-Pending.is c.look_cell-word.ensures.looked in
     let only = subst (λ (z : View). IsOnlyLooks v z) (sym look.looked) (look_only v c.args.m (record { cell = Pending; next = word.next })) in
-    let same = ap (map methods_of) (c.lines_of-lines.ensures ∙ ap (λ (z : Parts). chord_lines z o.class) c.requires.code) in
+    let same = ap (map methods_of) (c.lines_of-lines.ensures.lines ∙ ap (λ (z : Parts). chord_lines z o.class) c.requires.code) in
     let t = subst (λ (z : Verdict). IsThrough n u w o own (map methods_of c.lines_of-lines.result.now) (all_told c.through.new.known) c.through.new.members c.through.new.nexts z) (c.in-Without-Some.is ∙ ap a_verdict.Without c.in-Without-Some.field-0-is) (c.through.ensures.through u (stands_first n u o own (stands_read n v u o own look c.requires.bounds.0 c.requires.duty))) in
     is_busy n (program_of c.args.space.now) o own u w (all_told c.through.new.known) (map methods_of c.lines_of-lines.result.now) same c.through.new.members c.through.new.nexts v only look.looked c.in-Without-Some.i t
 
@@ -82,6 +83,6 @@ returns-clause-finding g c =
     let own : Own = record { message = c.args.m; method = c.args.method; next = word.next } in
     let look = subst (λ (z : Cell). IsLook n v u c.args.m (record { cell = z; next = word.next })) c.in-Pending.is c.look_cell-word.ensures.looked in
     let only = subst (λ (z : View). IsOnlyLooks v z) (sym look.looked) (look_only v c.args.m (record { cell = Pending; next = word.next })) in
-    let same = ap (map methods_of) (c.lines_of-lines.ensures ∙ ap (λ (z : Parts). chord_lines z o.class) c.requires.code) in
+    let same = ap (map methods_of) (c.lines_of-lines.ensures.lines ∙ ap (λ (z : Parts). chord_lines z o.class) c.requires.code) in
     let t = subst (λ (z : Verdict). IsThrough n u w o own (map methods_of c.lines_of-lines.result.now) (all_told c.through.new.known) c.through.new.members c.through.new.nexts z) (c.in-Without-None.is ∙ ap a_verdict.Without c.in-Without-None.field-0-is) (c.through.ensures.through u (stands_first n u o own (stands_read n v u o own look c.requires.bounds.0 c.requires.duty))) in
     inr (w, is_left n (program_of c.args.space.now) o own u w (all_told c.through.new.known) (map methods_of c.lines_of-lines.result.now) same c.through.new.members c.through.new.nexts v only look.looked t, c.rest-2.ensures.desk.1)
