@@ -45,7 +45,7 @@ invariant_of-desk g c = let settled = c.args.desk.now.settled in
 pub returns-clause-moved : goal.returns-clause-moved
 returns-clause-moved g c = λ hit. let told = c.compare_exchange-found.ensures.2 c.args.from c.args.to c.pack_head-first.ensures.value c.pack_head-last.ensures.value in
     subst (λ (y : Object × ℕ). c.compare_exchange-found.new.seat.me.0 ≡ saw_head c.args.desk.now.seat.me.0 (head_number (key y.0 y.1)) c.args.to) (λ k. (c.requires.address.0 k, c.requires.address.1 k))
-        (told.1 (eqb-true c.compare_exchange-found.result c.pack_head-first.result hit))
+    (told.1 (eqb-true c.compare_exchange-found.result c.pack_head-first.result hit))
 
 pub returns-clause-refused : goal.returns-clause-refused
 returns-clause-refused g c = λ miss. let told = c.compare_exchange-found.ensures.2 c.args.from c.args.to c.pack_head-first.ensures.value c.pack_head-last.ensures.value in
