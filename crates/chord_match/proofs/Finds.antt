@@ -1,5 +1,5 @@
 -- What a search for a chord answers, from what is known of the bags.
-use Rattle.std.proofs.Common.{◌||◌, ne_eqb, zero, suc, map, replicate, ◌≡◌, ◌≢◌, ◌⊎◌, inl, inr, ℕ, ◌<◌, Bool, true, false, ◌==◌, List, [], ◌∷◌, length, slice_get, slice_index_or, refl, sym, ap, ◌∙◌, subst, Option, Some, None, if◌then◌else◌}
+use Rattle.std.proofs.Common.{◌||◌, ne_eqb, zero, suc, map, replicate, ◌≡◌, ◌≢◌, ◌⊎◌, inl, inr, ℕ, ◌<◌, Bool, true, false, ◌==◌, List, [], ◌∷◌, slice_get, slice_index_or, refl, sym, ap, ◌∙◌, subst, Option, Some, None, if◌then◌else◌}
 use Rattle.std.proofs.lemmas.Bool.{eqb-true, eq-eqb}
 use Rattle.std.proofs.lemmas.Option.{slice_get_within}
 use Rattle.chord_base.specs.Meaning.{Program}
@@ -27,9 +27,10 @@ use Rattle.chord_bag.specs.Reads.{IsOnlyLooks, after_cell}
 use Rattle.chord_bag.proofs.Turning.{still_alone, only_more}
 use Rattle.chord_bag.proofs.Walks.{cell_keeps_messages}
 use Rattle.chord_match.specs.declared.search.Own.{Own}
+use Rattle.chord_match.specs.declared.search.Verdict.{Verdict}
 use Rattle.chord_match.specs.declared.search.Verdict.TheVariants as a_verdict
-use Rattle.chord_match.specs.Seen.{HasSought, AreMatched}
-use Rattle.chord_match.specs.Searching.{WasTold, WasToldIf, Searching, IsStuck, AreStuck, IsThrough}
+use Rattle.chord_match.specs.Seen.{AreMatched}
+use Rattle.chord_match.specs.Searching.{WasTold, WasToldIf, Searching, IsStuck, IsThrough}
 use Rattle.chord_match.specs.Findings.{IsLacking, IsHeldUp, IsMatch, IsLeftAnswer, IsHeldBy, read_so}
 use Rattle.chord_match.proofs.Growing.{duty_is_kept, key_cancels}
 
@@ -69,62 +70,6 @@ module _ (n : ℕ) (v w : View) (o : Object) (own : Own) (known : List (Option S
   held_up : (js : List ℕ) (i : ℕ) → IsStuck own js known (Some i) → IsHeldUp v w o own.method js i × (i < n) × (IsAloneDesk v → ⊥)
   held_up js i t = let r = told_at t.0 (a_sought.Busy i) t.2.1 in ((t.0, t.1, t.2.0, r.answered), r.below, r.says)
 
--- p's chords are those that were gone through
-module _ (n : ℕ) (p : Program) (o : Object) (own : Own) (u w : View) (known : List (Option Sought)) (jss : List (List ℕ)) (same : jss ≡ p.chords o.class) (ms : List ℕ) (xs : List (Option ℕ)) where
-  -- a chord of the class is one of those that were gone through
-  within : (k : ℕ) (js : List ℕ) → slice_get (p.chords o.class) k ≡ Some js → (slice_get jss k ≡ Some js) × (k < length jss)
-  within k js e = let here : slice_get jss k ≡ Some js = ap (λ (z : List (List ℕ)). slice_get z k) same ∙ e in (here, slice_get_within jss k js here)
-
-  -- where each chord has a bare bag, the duty may be laid down
-  pub may_rest : ChordsAreRight p → o.number < 65536 → own.method < 16 → Searching n u w o own known → AreStuck own jss (length jss) known None → (e : Duty) → HasDuty e w.duties → e.bag ≡ key o own.method → MayRest (IsChord p) e
-  may_rest right low few t s e h b = inr (λ ks c i.
-      let q = has_keys c.0 c.2 e.bag (subst (λ (z : List ℕ). HasNumber e.bag z) c.5 i) in
-      let same_one = same_key o c.0 own.method q.0 low few c.4 (right.few c.0.class c.1 q.0 c.2 c.3 q.1) (sym b ∙ q.2) in
-      let x = within c.1 c.2 (subst (λ (z : Object). slice_get (p.chords z.class) c.1 ≡ Some c.2) (sym same_one.0) c.3) in
-      let r = s c.1 c.2 x.1 x.0 (subst (λ (z : ℕ). has z c.2 ≡ true) (sym same_one.1) q.1) in
-      let a = told_at n u w o own known t r.0 a_sought.Bare r.2.1 in
-      (record { bag = key o r.0; place = None }, a.says e h, subst (λ (z : Object). HasNumber (key z r.0) ks) (sym same_one.0) (subst (λ (z : List ℕ). HasNumber (key c.0 r.0) z) (sym c.5) (key_has c.0 c.2 r.0 r.1)), (λ z. r.2.0 (key_cancels o r.0 own.method (z ∙ b))), refl))
-
-  module _ (v : View) (only : IsOnlyLooks v u) (read : u ≡ read_so v own.message Pending own.next) where
-    -- the first chord with all members is a match
-    pub is_match : own.method < 16 → (k : ℕ) → IsThrough n u w o own jss known ms xs (a_verdict.Match k) → IsMatch p n v w own.message o own.method k ms xs
-    is_match few k t = let r = t.verdict in let here = ap (λ (z : List (List ℕ)). slice_get z k) (sym same) ∙ r.1 in let d = t.stands.duty in record {
-      next = own.next;
-      sought = subst (λ (z : View). HasSought z w) read t.stands.sought;
-      seen = record { methods = r.0; is_chord = here; ready = r.4; object = (d.0, own.method, d.1, few, d.3) };
-      chord = (here, r.2);
-      own = own_member u w o own.message own.method own.next r.0 ms xs r.3 r.2;
-      matched = subst (λ (z : View). AreMatched z w o own.message own.method own.next r.0 ms xs) read r.3;
-    }
-
-    -- where each chord has a bare bag, nothing is left to do
-    pub is_left : IsThrough n u w o own jss known ms xs (a_verdict.Without None) → IsLeftAnswer p v w own.message o own.method
-    is_left t = record {
-      next = own.next;
-      sought = subst (λ (z : View). HasSought z w) read t.stands.sought;
-      lacking = λ k js c. let x = within k js c.0 in subst (λ (z : View). IsLacking z w o own.method js) read (lacking n u w o own known t.stands js (t.verdict k js x.1 x.0 c.1));
-    }
-
-    -- the first message in another hand is told
-    pub is_busy : (i : ℕ) → IsThrough n u w o own jss known ms xs (a_verdict.Without (Some i)) → IsHeldBy p n v w own.message o own.method i
-    is_busy i t = record {
-      one = inr record {
-        next = own.next;
-        sought = subst (λ (z : View). HasSought z w) read t.stands.sought;
-        each = λ k js c. let x = within k js c.0 in let r = t.verdict.0 k js x.1 x.0 c.1 in either_way js r.0 r.1;
-        one = let r = t.verdict.1 in (r.0, r.1, (ap (λ (z : List (List ℕ)). slice_get z r.0) (sym same) ∙ r.3, r.4), subst (λ (z : View). IsHeldUp z w o own.method r.1 i) read one.0);
-      };
-      below = one.1;
-      alone = λ a. one.2 (still_alone v u only a);
-    }
-      where
-        one : IsHeldUp u w o own.method t.verdict.1.1 i × (i < n) × (IsAloneDesk u → ⊥)
-        one = held_up n u w o own known t.stands t.verdict.1.1 i t.verdict.1.5
-
-        either_way : (js : List ℕ) (b : Option ℕ) → IsStuck own js known b → IsLacking (read_so v own.message Pending own.next) w o own.method js ⊎ ((x : ℕ) × IsHeldUp (read_so v own.message Pending own.next) w o own.method js x)
-        either_way js None s = inl (subst (λ (z : View). IsLacking z w o own.method js) read (lacking n u w o own known t.stands js s))
-        either_way js (Some x) s = inr (x, subst (λ (z : View). IsHeldUp z w o own.method js x) read (held_up n u w o own known t.stands js x s).0)
-
 -- ## The own message
 
 -- a look at m that finds it down marks the duty as off
@@ -134,7 +79,7 @@ off_marked m next (d ∷ ds) e (inl h) q = ap (λ (z : Duty). z.off) h ∙ (let 
 off_marked m next (d ∷ ds) e (inr h) q = off_marked m next ds e h q
 
 -- a look changes only looks and walks
-pub look_only : (v : View) (m : ℕ) (c : Word) → IsOnlyLooks v (looked_cell v m c)
+look_only : (v : View) (m : ℕ) (c : Word) → IsOnlyLooks v (looked_cell v m c)
 look_only v m c = only_more v v (after_cell m c v.duties) (looked_cell v m c).looked (record { frame = refl; duties = refl }) (cell_keeps_messages m c v.duties)
 
 -- the duty that was on m still is
@@ -161,12 +106,8 @@ all_none zero q = refl
 all_none (suc n) zero = refl
 all_none (suc n) (suc q) = all_none n q
 
--- nothing is known at first
-pub stands_first : (n : ℕ) (v : View) (o : Object) (own : Own) → Searching n v v o own [] → Searching n v v o own (replicate 16 None)
-stands_first n v o own t = record { sought = t.sought; listed = λ k h. let r = t.listed k h in let z : Path (Option Sought) None (Some r.1) = r.3 in absurd (cc); read = t.read; below = t.below; next_below = t.next_below; duty = t.duty; cached = λ q. subst (λ (z : Option Sought). WasToldIf n v v (key o q) z) (sym (all_none 16 q)) tt }
-
--- m was read pending
-pub stands_read : (n : ℕ) (v u : View) (o : Object) (own : Own) → IsLook n v u own.message (record { cell = Pending; next = own.next }) → own.message < n → (d : Duty) × HasDuty d v.duties × (d.message ≡ own.message) × (d.bag ≡ key o own.method) → Searching n u u o own []
+-- m was read pending, and nothing is known of the bags
+stands_read : (n : ℕ) (v u : View) (o : Object) (own : Own) → IsLook n v u own.message (record { cell = Pending; next = own.next }) → own.message < n → (d : Duty) × HasDuty d v.duties × (d.message ≡ own.message) × (d.bag ≡ key o own.method) → Searching n u u o own (replicate 16 None)
 stands_read n v u o own look low d = record {
   sought = record { grows = record { ways = []; looks = []; more_ways = refl; more_seen = refl; only = record { frame = refl; duties = refl } }; once = tt };
   listed = λ k h. let z : false ≡ true = h in absurd (cc);
@@ -174,7 +115,7 @@ stands_read n v u o own look low d = record {
   below = low;
   next_below = look.within tt;
   duty = duty_stays v u own.message (key o own.method) (subst (λ (z : View). IsOnlyLooks v z) (sym look.looked) (look_only v own.message (record { cell = Pending; next = own.next }))) d;
-  cached = λ q. tt;
+  cached = λ q. subst (λ (z : Option Sought). WasToldIf n u u (key o q) z) (sym (all_none 16 q)) tt;
 }
 
 -- m was read neither pending nor down, so it is claimed, and by another desk
@@ -187,3 +128,78 @@ claimed_by_another p n v w m o method next (Woken q) low is armed alone a b d = 
 claimed_by_another p n v w m o method next Empty low is armed alone a b d = absurd armed
 claimed_by_another p n v w m o method next Ready low is armed alone a b d = absurd armed
 claimed_by_another p n v w m o method next Started low is armed alone a b d = absurd armed
+
+-- ## What the verdict says
+
+module _ (n : ℕ) (p : Program) (v w : View) (o : Object) (own : Own) (known : List (Option Sought)) (ms : List ℕ) (xs : List (Option ℕ)) where
+  -- the view after the own message was read pending
+  abbrev seen : View
+  seen = read_so v own.message Pending own.next
+
+  -- the own message was read pending, and then the chords of its object were gone through
+  abbrev WentThrough : Verdict → Type 0
+  WentThrough t = IsThrough n seen w o own (p.chords o.class) known ms xs t
+
+  -- where each chord has a bare bag, the duty may be laid down
+  may_rest : ChordsAreRight p → o.number < 65536 → own.method < 16 → WentThrough (a_verdict.Without None) → (e : Duty) → HasDuty e w.duties → e.bag ≡ key o own.method → MayRest (IsChord p) e
+  may_rest right low few t e h b = inr (λ ks c i.
+      let q = has_keys c.0 c.2 e.bag (subst (λ (z : List ℕ). HasNumber e.bag z) c.5 i) in
+      let same_one = same_key o c.0 own.method q.0 low few c.4 (right.few c.0.class c.1 q.0 c.2 c.3 q.1) (sym b ∙ q.2) in
+      let here = subst (λ (z : Object). slice_get (p.chords z.class) c.1 ≡ Some c.2) (sym same_one.0) c.3 in
+      let r = t.verdict c.1 c.2 (slice_get_within (p.chords o.class) c.1 c.2 here) here (subst (λ (z : ℕ). has z c.2 ≡ true) (sym same_one.1) q.1) in
+      let a = told_at n seen w o own known t.stands r.0 a_sought.Bare r.2.1 in
+      (record { bag = key o r.0; place = None }, a.says e h, subst (λ (z : Object). HasNumber (key z r.0) ks) (sym same_one.0) (subst (λ (z : List ℕ). HasNumber (key c.0 r.0) z) (sym c.5) (key_has c.0 c.2 r.0 r.1)), (λ z. r.2.0 (key_cancels o r.0 own.method (z ∙ b))), refl))
+
+  -- what a verdict says to the caller
+  abbrev pub Tells : Verdict → Type 0
+  Tells (a_verdict.Match k) = IsMatch p n v w own.message o own.method k ms xs
+  Tells (a_verdict.Without None) = IsLeftAnswer p v w own.message o own.method
+      × ((d : Duty) × HasDuty d w.duties × (d.message ≡ own.message) × ((e : Duty) → HasDuty e w.duties → e.message ≡ own.message → e.bag ≡ d.bag → MayRest (IsChord p) e))
+  Tells (a_verdict.Without (Some i)) = IsHeldBy p n v w own.message o own.method i
+
+  -- the first chord with all members is a match; where each has a bare bag, nothing is left to do; else the first message in another hand is told
+  tells : ChordsAreRight p → o.number < 65536 → own.method < 16 → (t : Verdict) → WentThrough t → Tells t
+  tells right low few (a_verdict.Match k) t = let r = t.verdict in let d = t.stands.duty in record {
+    next = own.next;
+    sought = t.stands.sought;
+    seen = record { methods = r.0; is_chord = r.1; ready = r.4; object = (d.0, own.method, d.1, few, d.3) };
+    chord = (r.1, r.2);
+    own = own_member seen w o own.message own.method own.next r.0 ms xs r.3 r.2;
+    matched = r.3;
+  }
+  tells right low few (a_verdict.Without None) t = let d = t.stands.duty in (
+    record {
+      next = own.next;
+      sought = t.stands.sought;
+      lacking = λ k js c. lacking n seen w o own known t.stands js (t.verdict k js (slice_get_within (p.chords o.class) k js c.0) c.0 c.1);
+    },
+    (d.0, d.1, d.2, λ e h q b. may_rest right low few t e h (b ∙ d.3)),
+  )
+  tells right low few (a_verdict.Without (Some i)) t = record {
+    one = inr record {
+      next = own.next;
+      sought = t.stands.sought;
+      each = λ k js c. let r = t.verdict.0 k js (slice_get_within (p.chords o.class) k js c.0) c.0 c.1 in either_way js r.0 r.1;
+      one = let r = t.verdict.1 in (r.0, r.1, (r.3, r.4), one.0);
+    };
+    below = one.1;
+    alone = λ a. one.2 (still_alone v seen (look_only v own.message (record { cell = Pending; next = own.next })) a);
+  }
+    where
+      one : IsHeldUp seen w o own.method t.verdict.1.1 i × (i < n) × (IsAloneDesk seen → ⊥)
+      one = held_up n seen w o own known t.stands t.verdict.1.1 i t.verdict.1.5
+
+      either_way : (js : List ℕ) (b : Option ℕ) → IsStuck own js known b → IsLacking seen w o own.method js ⊎ ((x : ℕ) × IsHeldUp seen w o own.method js x)
+      either_way js None s = inl (lacking n seen w o own known t.stands js s)
+      either_way js (Some x) s = inr (x, (held_up n seen w o own known t.stands js x s).0)
+
+-- what the verdict says where m was read pending, and from then on the chords of its object were gone through
+pub told_through : (n : ℕ) (p : Program) (v u w : View) (o : Object) (m method : ℕ) (c : Word) (known : List (Option Sought)) (jss : List (List ℕ)) (ms : List ℕ) (xs : List (Option ℕ)) (t : Verdict)
+    → ChordsAreRight p → o.number < 65536 → method < 16 → jss ≡ p.chords o.class → IsLook n v u m c → c.cell ≡ Pending → m < n → (d : Duty) × HasDuty d v.duties × (d.message ≡ m) × (d.bag ≡ key o method)
+    → ((z : View) → Searching n z u o (record { message = m; method = method; next = c.next }) (replicate 16 None) → IsThrough n z w o (record { message = m; method = method; next = c.next }) jss known ms xs t)
+    → Tells n p v w o (record { message = m; method = method; next = c.next }) known ms xs t
+told_through n p v u w o m method c known jss ms xs t right low few same look pending below duty goes =
+    let own : Own = record { message = m; method = method; next = c.next } in
+    let read = subst (λ (z : Cell). IsLook n v u m (record { cell = z; next = c.next })) pending look in
+    tells n p v w o own known ms xs right low few t
+    (subst (λ (z : View × List (List ℕ)). IsThrough n z.0 w o own z.1 known ms xs t) (λ i. (read.looked i, same i)) (goes u (stands_read n v u o own read below duty)))

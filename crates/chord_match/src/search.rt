@@ -219,7 +219,7 @@ fn lines_of(code: &Code, class: u16) -> &[ChordLine]
 /// `Left`. The duty is laid down with `Left` and `Taken` alone. On a first desk that has lent none and has nothing in hand it is
 /// never Busy. On a desk without a claim, what was read claimed is claimed by another.
 ///
-/// The members of a match and their nexts are put into the caller's places, which are empty before; else what stands there says nothing.
+/// The members of a match and their nexts are put into the caller's places, whatever stood there; else what stands there says nothing.
 ///
 /// That the one who adds a message has to look for a chord with it, and may stop where one bag is empty, is from Turon and Russo,
 /// "Scalable Join Patterns" (OOPSLA 2011).
@@ -234,13 +234,14 @@ pub fn find<P: Carry>(
     nexts: &mut Nexts,
 ) -> Finding
     requires desk { IsDeskOf space.now desk.old }
-    requires places { (members.old ≡ []) × (nexts.old ≡ []) }
     requires code { code.now ≡ space_code space.now }
     requires bounds { (m < space.now.events) × (object.number < space.now.events) × (object.class < 1024) × (method < heads space.now) }
     requires duty { (d : Duty) × HasDuty d (view desk.old).duties × (d.message ≡ m) × (d.bag ≡ key object method) }
     ensures desk { IsSameDesk desk.old desk.new }
     ensures finding { IsFinding (program_of space.now) space.now.events (view desk.old) (view desk.new) m object method members.new nexts.new result }
 {
+    *members = Members::new();
+    *nexts = Nexts::new();
     let mut known = [Note::Nothing; 16];
     let word = space.look_cell(desk, m);
     match word.cell {

@@ -2,22 +2,17 @@ use Rattle.std.proofs.Common.{◌≡◌, ◌<◌, ℕ, List, Some, length, map, 
 use Rattle.chord_code.specs.declared.parts.Parts.{Parts}
 use Rattle.chord_code.specs.Laws.{ChordsAreRight}
 use Rattle.chord_code.specs.Meaning.{methods_of, chord_lines, code_program}
-use Rattle.chord_word.specs.declared.cells.Cell.{Cell}
-use Rattle.chord_word.specs.declared.cells.Cell.TheVariants.{Pending}
-use Rattle.chord_rule.specs.declared.view.View.{View}
 use Rattle.chord_rule.specs.Made.{key}
 use Rattle.chord_rule.specs.Kinds.{is_down}
-use Rattle.chord_rule.specs.Tells.{IsLook}
 use Rattle.chord_space.specs.Desks.{view, program_of, space_limits}
 use Rattle.chord_space.specs.Widest.{widest}
-use Rattle.chord_bag.specs.Reads.{IsOnlyLooks}
-use Rattle.chord_match.specs.declared.search.Own.{Own}
 use Rattle.chord_match.specs.declared.search.Verdict.{Verdict}
 use Rattle.chord_match.specs.declared.search.Verdict.TheVariants as a_verdict
-use Rattle.chord_match.specs.Searching.{IsThrough}
 use Rattle.chord_match.specs.Noting.{all_told}
 use Rattle.chord_match.proofs.Chords.{length_mapped}
-use Rattle.chord_match.proofs.Finds.{stands_first, stands_read, may_rest, is_match, is_left, is_busy, look_only, down_rests, claimed_by_another}
+use Rattle.chord_match.proofs.Finds.{Tells, told_through, down_rests, claimed_by_another}
+use Rattle.chord_match.proofs.search.find.Given.{Over}
+use Rattle.chord_match.proofs.search.find.Goals.{After-through}
 use Rattle.chord_match.proofs.search.find.Goals as goal
 
 pub through-requires-clause-lines : goal.through-requires-clause-lines
@@ -44,45 +39,33 @@ returns-in_default g c =
       finding = claimed_by_another (program_of c.args.space.now) c.args.space.now.events (view c.args.desk.now) (view c.look_cell-word.new.desk) c.args.m c.args.object c.args.method word.next word.cell c.requires.bounds.0 e.looked.looked (e.looked.armed (d.0, d.1, d.2)) (λ a. e.looked.alone a (inr (d.0, d.1, d.2))) c.in_default.not-Pending c.in_default.not-Consumed c.in_default.not-Woken;
     }
 
+-- what the verdict says, since the message was read pending
+module _ (g : Over) (c : After-through g) where
+  abbrev Told : Verdict → Type 0
+  Told t = Tells c.args.space.now.events (program_of c.args.space.now) (view c.args.desk.now) (view c.through.new.desk) c.args.object (record { message = c.args.m; method = c.args.method; next = c.look_cell-word.result.next }) (all_told c.through.new.known) c.through.new.members c.through.new.nexts t
+
+  told : Told c.through.result
+  told =
+      let s = c.args.space.now in let o = c.args.object in let lines = c.lines_of-lines.result.now in
+      let right = subst (λ (z : Parts). ChordsAreRight (code_program z (space_limits s))) c.requires.code (c.chords_are_right.ensures (space_limits s)) in
+      let low : o.number < 65536 = (let a = c.requires.bounds.1 in let b = s.sized.4 in omega (arith, a, b)) in
+      let few : c.args.method < 16 = (let a = c.requires.bounds.3 in let is = s.sized.5 in let b = s.sized.6 in omega (arith, a, is, b)) in
+      let same = ap (map methods_of) (c.lines_of-lines.ensures.lines ∙ ap (λ (z : Parts). chord_lines z o.class) c.requires.code) in
+      told_through s.events (program_of s) (view c.args.desk.now) (view c.look_cell-word.new.desk) (view c.through.new.desk) o c.args.m c.args.method c.look_cell-word.result (all_told c.through.new.known) (map methods_of lines) c.through.new.members c.through.new.nexts c.through.result
+      right low few same c.look_cell-word.ensures.looked c.in-Pending.is c.requires.bounds.0 c.requires.duty c.through.ensures.through
+
 pub rest-requires-2-clause-may : goal.rest-requires-2-clause-may
 rest-requires-2-clause-may g c =
-    let o = c.args.object in let n = c.args.space.now.events in let v = view c.args.desk.now in let u = view c.look_cell-word.new.desk in let w = view c.through.new.desk in let word = c.look_cell-word.result in
-    let own : Own = record { message = c.args.m; method = c.args.method; next = word.next } in
-    let look = subst (λ (z : Cell). IsLook n v u c.args.m (record { cell = z; next = word.next })) c.in-Pending.is c.look_cell-word.ensures.looked in
-    let only = subst (λ (z : View). IsOnlyLooks v z) (sym look.looked) (look_only v c.args.m (record { cell = Pending; next = word.next })) in
-    let same = ap (map methods_of) (c.lines_of-lines.ensures.lines ∙ ap (λ (z : Parts). chord_lines z o.class) c.requires.code) in
-    let t = subst (λ (z : Verdict). IsThrough n u w o own (map methods_of c.lines_of-lines.result.now) (all_told c.through.new.known) c.through.new.members c.through.new.nexts z) (c.in-Without-None.is ∙ ap a_verdict.Without c.in-Without-None.field-0-is) (c.through.ensures.through u (stands_first n u o own (stands_read n v u o own look c.requires.bounds.0 c.requires.duty))) in
-    let right = subst (λ (z : Parts). ChordsAreRight (code_program z (space_limits c.args.space.now))) c.requires.code (c.chords_are_right.ensures (space_limits c.args.space.now)) in
-    let d = t.stands.duty in
-    let low : o.number < 65536 = (let a = c.requires.bounds.1 in let b = c.args.space.now.sized.4 in omega (arith, a, b)) in
-    (d.0, d.1, d.2, λ e h q b. may_rest n (program_of c.args.space.now) o own u w (all_told c.through.new.known) (map methods_of c.lines_of-lines.result.now) same c.through.new.members c.through.new.nexts right low (let a = c.requires.bounds.3 in let b = c.args.space.now.sized.5 in let d = c.args.space.now.sized.6 in omega (arith, a, b, d)) t.stands t.verdict e h (b ∙ d.3))
+    let a = (goal.at.rest-requires-2-clause-may g c).After-through in (subst (Told g a) (c.in-Without-None.is ∙ ap a_verdict.Without c.in-Without-None.field-0-is) (told g a)).1
 
 pub returns-in-Match-clause-finding : goal.returns-in-Match-clause-finding
-returns-in-Match-clause-finding g c =
-    let o = c.args.object in let n = c.args.space.now.events in let v = view c.args.desk.now in let u = view c.look_cell-word.new.desk in let w = view c.through.new.desk in let word = c.look_cell-word.result in
-    let own : Own = record { message = c.args.m; method = c.args.method; next = word.next } in
-    let look = subst (λ (z : Cell). IsLook n v u c.args.m (record { cell = z; next = word.next })) c.in-Pending.is c.look_cell-word.ensures.looked in
-    let only = subst (λ (z : View). IsOnlyLooks v z) (sym look.looked) (look_only v c.args.m (record { cell = Pending; next = word.next })) in
-    let same = ap (map methods_of) (c.lines_of-lines.ensures.lines ∙ ap (λ (z : Parts). chord_lines z o.class) c.requires.code) in
-    let t = subst (λ (z : Verdict). IsThrough n u w o own (map methods_of c.lines_of-lines.result.now) (all_told c.through.new.known) c.through.new.members c.through.new.nexts z) (c.in-Match.is) (c.through.ensures.through u (stands_first n u o own (stands_read n v u o own look c.requires.bounds.0 c.requires.duty))) in
-    is_match n (program_of c.args.space.now) o own u w (all_told c.through.new.known) (map methods_of c.lines_of-lines.result.now) same c.through.new.members c.through.new.nexts v only look.looked (let a = c.requires.bounds.3 in let b = c.args.space.now.sized.5 in let d = c.args.space.now.sized.6 in omega (arith, a, b, d)) c.in-Match.chord t
+returns-in-Match-clause-finding g c = let a = (goal.at.returns-in-Match-clause-finding g c).After-through in subst (Told g a) c.in-Match.is (told g a)
 
 pub returns-in-Without-Some-clause-finding : goal.returns-in-Without-Some-clause-finding
 returns-in-Without-Some-clause-finding g c =
-    let o = c.args.object in let n = c.args.space.now.events in let v = view c.args.desk.now in let u = view c.look_cell-word.new.desk in let w = view c.through.new.desk in let word = c.look_cell-word.result in
-    let own : Own = record { message = c.args.m; method = c.args.method; next = word.next } in
-    let look = subst (λ (z : Cell). IsLook n v u c.args.m (record { cell = z; next = word.next })) c.in-Pending.is c.look_cell-word.ensures.looked in
-    let only = subst (λ (z : View). IsOnlyLooks v z) (sym look.looked) (look_only v c.args.m (record { cell = Pending; next = word.next })) in
-    let same = ap (map methods_of) (c.lines_of-lines.ensures.lines ∙ ap (λ (z : Parts). chord_lines z o.class) c.requires.code) in
-    let t = subst (λ (z : Verdict). IsThrough n u w o own (map methods_of c.lines_of-lines.result.now) (all_told c.through.new.known) c.through.new.members c.through.new.nexts z) (c.in-Without-Some.is ∙ ap a_verdict.Without c.in-Without-Some.field-0-is) (c.through.ensures.through u (stands_first n u o own (stands_read n v u o own look c.requires.bounds.0 c.requires.duty))) in
-    is_busy n (program_of c.args.space.now) o own u w (all_told c.through.new.known) (map methods_of c.lines_of-lines.result.now) same c.through.new.members c.through.new.nexts v only look.looked c.in-Without-Some.i t
+    let a = (goal.at.returns-in-Without-Some-clause-finding g c).After-through in subst (Told g a) (c.in-Without-Some.is ∙ ap a_verdict.Without c.in-Without-Some.field-0-is) (told g a)
 
 pub returns-clause-finding : goal.returns-clause-finding
 returns-clause-finding g c =
-    let o = c.args.object in let n = c.args.space.now.events in let v = view c.args.desk.now in let u = view c.look_cell-word.new.desk in let w = view c.through.new.desk in let word = c.look_cell-word.result in
-    let own : Own = record { message = c.args.m; method = c.args.method; next = word.next } in
-    let look = subst (λ (z : Cell). IsLook n v u c.args.m (record { cell = z; next = word.next })) c.in-Pending.is c.look_cell-word.ensures.looked in
-    let only = subst (λ (z : View). IsOnlyLooks v z) (sym look.looked) (look_only v c.args.m (record { cell = Pending; next = word.next })) in
-    let same = ap (map methods_of) (c.lines_of-lines.ensures.lines ∙ ap (λ (z : Parts). chord_lines z o.class) c.requires.code) in
-    let t = subst (λ (z : Verdict). IsThrough n u w o own (map methods_of c.lines_of-lines.result.now) (all_told c.through.new.known) c.through.new.members c.through.new.nexts z) (c.in-Without-None.is ∙ ap a_verdict.Without c.in-Without-None.field-0-is) (c.through.ensures.through u (stands_first n u o own (stands_read n v u o own look c.requires.bounds.0 c.requires.duty))) in
-    inr (w, is_left n (program_of c.args.space.now) o own u w (all_told c.through.new.known) (map methods_of c.lines_of-lines.result.now) same c.through.new.members c.through.new.nexts v only look.looked t, c.rest-2.ensures.desk.1)
+    let a = (goal.at.returns-clause-finding g c).After-through in
+    inr (view c.through.new.desk, (subst (Told g a) (c.in-Without-None.is ∙ ap a_verdict.Without c.in-Without-None.field-0-is) (told g a)).0, c.rest-2.ensures.desk.1)
