@@ -3,12 +3,12 @@ ghost use Rattle.std.specs.Prelude.{◌≡◌, ℕ, ◌<◌, ◌≤◌, ◌+◌,
 ghost use Rattle.chord_base.specs.Messages.{has};
 ghost use Rattle.chord_bag.specs.Reads.{IsOnlyLooks};
 ghost use Rattle.chord_code.specs.Meaning.{chord_lines, methods_of};
+ghost use Rattle.chord_code.specs.Valid.{IsValid};
 ghost use Rattle.chord_rule.specs.declared.view.View.{View};
 ghost use Rattle.chord_rule.specs.declared.view.Duty.{Duty};
 ghost use Rattle.chord_rule.specs.Duties.{HasDuty};
 ghost use Rattle.chord_rule.specs.Made.{key};
 ghost use Rattle.chord_space.specs.Desks.{view, heads, space_code, program_of, IsDeskOf, IsSameDesk};
-ghost use Rattle.chord_space.specs.Widest.{widest};
 ghost use Rattle.chord_word.specs.declared.cells.Cell.TheVariants.{Pending};
 ghost use Rattle.chord_match.specs.Findings.{IsFinding, read_so};
 ghost use Rattle.chord_match.specs.Noting.{all_told};
@@ -206,7 +206,7 @@ fn through<P: Carry>(
 // The chords of a class; of one that is not there, none.
 fn lines_of(code: &Code, class: u16) -> &[ChordLine]
     ensures lines { result.now ≡ chord_lines code.now class }
-    ensures few { (k j : ℕ) (js : List ℕ) → slice_get (map methods_of result.now) k ≡ Some js → has j js ≡ true → j < widest code.now }
+    ensures valid { IsValid code.now }
 {
     match code.parts().classes.items().get(class as usize) {
         Some(line) => line.chords.items(),

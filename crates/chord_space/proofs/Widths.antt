@@ -14,7 +14,7 @@ use Rattle.chord_code.proofs.Validity.{line_valid}
 use Rattle.chord_space.specs.Widest.{most_methods, widest}
 
 -- the number from which the count begins is within
-at_least : (k : ℕ) (cs : List ClassLine) → k ≤ most_methods k cs
+pub at_least : (k : ℕ) (cs : List ClassLine) → k ≤ most_methods k cs
 at_least k [] = omega arith
 at_least k (c ∷ cs) = let more = at_least (max k (length c.methods)) cs in omega (arith, more)
 

@@ -1,4 +1,5 @@
 use Rattle.std.proofs.Common.{◌≡◌, ◌<◌, ℕ, List, Some, length, map, slice_get, inr, sym, ap, ◌∙◌, subst, arith}
+use Rattle.chord_code.specs.declared.parts.ChordLine.{ChordLine}
 use Rattle.chord_code.specs.declared.parts.Parts.{Parts}
 use Rattle.chord_code.specs.Laws.{ChordsAreRight}
 use Rattle.chord_code.specs.Meaning.{methods_of, chord_lines, code_program}
@@ -6,6 +7,7 @@ use Rattle.chord_rule.specs.Made.{key}
 use Rattle.chord_rule.specs.Kinds.{is_down}
 use Rattle.chord_space.specs.Desks.{view, program_of, space_limits}
 use Rattle.chord_space.specs.Widest.{widest}
+use Rattle.chord_space.proofs.Widths.{chord_within}
 use Rattle.chord_match.specs.declared.search.Verdict.{Verdict}
 use Rattle.chord_match.specs.declared.search.Verdict.TheVariants as a_verdict
 use Rattle.chord_match.specs.Noting.{all_told}
@@ -21,7 +23,7 @@ through-requires-clause-lines g c =
     let right = subst (λ (z : Parts). ChordsAreRight (code_program z (space_limits c.args.space.now))) c.requires.code (c.chords_are_right.ensures (space_limits c.args.space.now)) in
     let same : map methods_of lines ≡ p.chords o.class = ap (map methods_of) (c.lines_of-lines.ensures.lines ∙ ap (λ (z : Parts). chord_lines z o.class) c.requires.code) in
     let few = right.few_chords o.class in let mapped = length_mapped lines in let long = ap length same in
-    (omega (arith, few, mapped, long), (λ k js e. let here : slice_get (p.chords o.class) k ≡ Some js = ap (λ (z : List (List ℕ)). slice_get z k) (sym same) ∙ e in ((λ j y. subst (λ (z : Parts). j < widest z) c.requires.code (c.lines_of-lines.ensures.few k j js e y)), right.few_headers o.class k js here)))
+    (omega (arith, few, mapped, long), (λ k js e. let here : slice_get (p.chords o.class) k ≡ Some js = ap (λ (z : List (List ℕ)). slice_get z k) (sym same) ∙ e in ((λ j y. subst (λ (z : Parts). j < widest z) c.requires.code (chord_within c.args.code.now c.lines_of-lines.ensures.valid o.class k j js (ap (λ (z : List ChordLine). slice_get (map methods_of z) k) (sym c.lines_of-lines.ensures.lines) ∙ e) y)), right.few_headers o.class k js here)))
 
 pub rest-requires-clause-may : goal.rest-requires-clause-may
 rest-requires-clause-may g c =

@@ -1,4 +1,4 @@
-use Rattle.std.proofs.Common.{ℕ, List, ◌+◌, ◌*◌, refl, replicate, None, sym, subst, ◌∙◌, ap}
+use Rattle.std.proofs.Common.{ℕ, List, ◌+◌, ◌*◌, replicate, None, sym, subst, ◌∙◌, ap}
 use Rattle.atomic_table.specs.Table.{opening}
 use Rattle.chord_code.specs.Valid.{IsValid}
 use Rattle.chord_code.specs.Sound.{IsSoundCode}
