@@ -202,6 +202,8 @@ THEIRS = '''
 
 #define STEPS 50000000l
 #define EVENTS 65536
+/* the code's class has one method, so an object has one head */
+#define WORDS (1 + 3 * EVENTS)
 
 struct slot { uint32_t tag; uint32_t value; };
 
@@ -210,10 +212,10 @@ static double since(clock_t start) { return (double)(clock() - start) * 1e9 / CL
 /* Writes the words and the slots of one table into fresh memory: the nanoseconds of that. */
 static double write_table(uint64_t *sum) {
     clock_t start = clock();
-    uint64_t *table = malloc((1 + 18 * EVENTS) * sizeof *table);
+    uint64_t *table = malloc(WORDS * sizeof *table);
     struct slot *slots = malloc(EVENTS * sizeof *slots);
     for (volatile long k = 0, n = 1; k < n; k++)
-        for (long j = 0; j < 1 + 18 * EVENTS; j++) table[j] = k;
+        for (long j = 0; j < WORDS; j++) table[j] = k;
     for (long j = 0; j < EVENTS; j++) slots[j].tag = *sum;
     double took = since(start);
     *sum += table[*sum % EVENTS] + slots[*sum % EVENTS].tag;

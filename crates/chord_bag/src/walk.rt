@@ -4,7 +4,7 @@ ghost use Rattle.chord_rule.specs.Bags.{head_number};
 ghost use Rattle.chord_rule.specs.Kinds.{saw_head};
 ghost use Rattle.chord_rule.specs.Made.{key};
 ghost use Rattle.chord_rule.specs.Ways.{WentPast};
-ghost use Rattle.chord_space.specs.Desks.{view, IsDeskOf, IsSameDesk};
+ghost use Rattle.chord_space.specs.Desks.{view, heads, IsDeskOf, IsSameDesk};
 ghost use Rattle.chord_bag.specs.Seeking.{IsSought, BeganAtHead};
 ghost use Rattle.chord_bag.specs.Walking.{IsTurn};
 
@@ -62,7 +62,7 @@ fn tidy<P: Carry>(
     next: Option<u32>,
 ) -> bool
     requires desk { IsDeskOf space.now desk.old }
-    requires bounds { (object.number < space.now.events) × (object.class < 1024) × (method < 16) × (i < space.now.events) × IfSome next (λ x. x < space.now.events) }
+    requires bounds { (object.number < space.now.events) × (object.class < 1024) × (method < heads space.now) × (i < space.now.events) × IfSome next (λ x. x < space.now.events) }
     requires past { WentPast (view desk.old) i next }
     ensures desk { IsSameDesk desk.old desk.new }
     ensures looked { (head : Option ℕ) × (view desk.new ≡ saw_head (view desk.old) (head_number (key object method)) head) }
@@ -83,7 +83,7 @@ fn tidy<P: Carry>(
 /// Patterns" (OOPSLA 2011); there the bag is a queue that is walked in the same way.
 pub fn seek<P: Carry>(space: &Space<P>, desk: &mut Desk<P>, object: Object, method: u8) -> Sought
     requires desk { IsDeskOf space.now desk.old }
-    requires bounds { (object.number < space.now.events) × (object.class < 1024) × (method < 16) }
+    requires bounds { (object.number < space.now.events) × (object.class < 1024) × (method < heads space.now) }
     ensures desk { IsSameDesk desk.old desk.new }
     ensures sought { IsSought space.now.events (key object method) (view desk.old) (view desk.new) result }
     ensures began { BeganAtHead P.entries P.arguments P.keeps_to space.now (view desk.old) (view desk.new) (key object method) }

@@ -25,7 +25,10 @@ use Rattle.chord_code.specs.Meaning.{code_program, begins, chord_lines, method_i
 use Rattle.chord_code.specs.Plays.{Play, MakesObject, SendsMessage, CallsMethod, PrintsLine, EndsBody, GoesWrong, Good, Plays, what_of}
 use Rattle.chord_code.specs.Runs.{AreLocal, IsPlan, AllGood, BodyPlays, IsFitMessage, sent}
 use Rattle.chord_code.specs.Sound.{IsSoundCode, NamesMethod, HasMethod}
-use Rattle.chord_match.specs.Pairs.{pair_code}
+use Rattle.chord_space.specs.Desks.{heads}
+use Rattle.chord_space.specs.Widest.{widest}
+use Rattle.chord_space.specs.declared.space.Space.{Space}
+use Rattle.chord_match.specs.Pairs.{pair_code, IsPairTable}
 use Rattle.chord_code.proofs.Runs.{playing_asks}
 use Rattle.chord_code.proofs.Sound.{all_good, all_defined}
 
@@ -310,3 +313,7 @@ pair_is_sound two limits some low = record {
     method h e (Printed t) is r = subst (NamesMethod (pair_code two)) (sym is) tt
     method h e (Fired k o ms vs) is r = subst (NamesMethod (pair_code two)) (sym is) tt
     method h e (Ended x) is r = subst (NamesMethod (pair_code two)) (sym is) tt
+
+-- each object of their tables has two heads
+pub pair_heads : {P : Type 0} (two : Bool) (s : Space P) → IsPairTable two s → heads s ≡ 2
+pair_heads two s t = ap widest t.0

@@ -7,7 +7,7 @@ ghost use Rattle.chord_bag.specs.declared.walk.Sought.TheVariants.{Found};
 ghost use Rattle.chord_rule.specs.Kinds.{newcomer, newcomer_first};
 ghost use Rattle.chord_rule.specs.Looks.{HasSeen};
 ghost use Rattle.chord_rule.specs.Made.{key};
-ghost use Rattle.chord_space.specs.Desks.{view, space_code, program_of, IsDeskOf, IsSameDesk};
+ghost use Rattle.chord_space.specs.Desks.{view, heads, space_code, program_of, IsDeskOf, IsSameDesk};
 ghost use Rattle.chord_match.specs.Pairs.{IsPairTable, first_object, second_object, made_one, sent_x, sent_both, made_two, sent_x_apart, sent_apart, HasInHand, HoldsClaim, IsUnsplit, Owes, KeepsSeen, KeepsDuties, IsAsBefore, TakesClaim, GivesClaim, LeavesDuty, KeepsFiring};
 ghost use Rattle.chord_match.specs.Seen.{AreSeen};
 ghost use Rattle.chord_match.specs.declared.handing.Firing.TheVariants.{Fired, Lost};
@@ -84,7 +84,7 @@ fn look_for(
 ) -> (Finding, Members, Nexts)
     requires desk { IsDeskOf space.now desk.old }
     requires code { code.now ≡ space_code space.now }
-    requires bounds { (m < space.now.events) × (object.number < space.now.events) × (object.class < 1024) × (method < 16) }
+    requires bounds { (m < space.now.events) × (object.number < space.now.events) × (object.class < 1024) × (method < heads space.now) }
     requires duty { Owes (view desk.old) m (key object method) }
     ensures desk { IsSameDesk desk.old desk.new }
     ensures same { IsAsBefore (view desk.old) (view desk.new) }
@@ -107,7 +107,7 @@ fn look_for(
 
 /// Nothing is found for x, whose duty is laid down.
 fn leave_x(space: &Space<Letter>, desk: &mut Desk<Letter>, code: &Code) -> Result<(), Fail>
-    requires table { (4 ≤ space.now.events) × (code.now ≡ space_code space.now) }
+    requires table { (4 ≤ space.now.events) × (code.now ≡ space_code space.now) × (heads space.now ≡ 2) }
     requires desk { IsDeskOf space.now desk.old × HasInHand (view desk.old) sent_x [] None [] × Owes (view desk.old) 2 (key first_object 0) }
     ensures desk { IsSameDesk desk.old desk.new × HasInHand (view desk.new) sent_x [] None [] }
 {
@@ -196,7 +196,7 @@ fn give(space: &Space<Letter>, desk: &mut Desk<Letter>, i: u32)
 
 /// The bag of y is walked.
 fn seek_y(space: &Space<Letter>, desk: &mut Desk<Letter>) -> Sought
-    requires desk { IsDeskOf space.now desk.old × (4 ≤ space.now.events) }
+    requires desk { IsDeskOf space.now desk.old × (4 ≤ space.now.events) × (heads space.now ≡ 2) }
     ensures desk { IsSameDesk desk.old desk.new }
     ensures same { IsAsBefore (view desk.old) (view desk.new) × KeepsSeen (view desk.old) (view desk.new) }
     ensures found { (i : ℕ) (next : Option ℕ) → result ≡ Found i next → HasSeen (view desk.new) i next }
@@ -206,7 +206,7 @@ fn seek_y(space: &Space<Letter>, desk: &mut Desk<Letter>) -> Sought
 
 /// y is found in its bag, with no other behind it.
 fn find_pending_y(space: &Space<Letter>, desk: &mut Desk<Letter>) -> Result<(), Fail>
-    requires desk { IsDeskOf space.now desk.old × (4 ≤ space.now.events) }
+    requires desk { IsDeskOf space.now desk.old × (4 ≤ space.now.events) × (heads space.now ≡ 2) }
     ensures desk { IsSameDesk desk.old desk.new }
     ensures same { IsAsBefore (view desk.old) (view desk.new) × KeepsSeen (view desk.old) (view desk.new) }
     ensures seen { OnOk result (HasSeen (view desk.new) 3 None) }
@@ -219,7 +219,7 @@ fn find_pending_y(space: &Space<Letter>, desk: &mut Desk<Letter>) -> Result<(), 
 
 /// The bag of y is walked with this answer, which finds no message.
 fn find_no_y(space: &Space<Letter>, desk: &mut Desk<Letter>, answer: Sought) -> Result<(), Fail>
-    requires desk { IsDeskOf space.now desk.old × (4 ≤ space.now.events) }
+    requires desk { IsDeskOf space.now desk.old × (4 ≤ space.now.events) × (heads space.now ≡ 2) }
     ensures desk { IsSameDesk desk.old desk.new }
     ensures same { IsAsBefore (view desk.old) (view desk.new) × KeepsSeen (view desk.old) (view desk.new) }
 {
@@ -302,7 +302,7 @@ fn claim_in_vain(space: &Space<Letter>, desk: &mut Desk<Letter>, i: u32) -> Resu
 
 /// y has to wait for x, which is in another hand.
 fn find_busy_x(space: &Space<Letter>, desk: &mut Desk<Letter>, code: &Code) -> Result<(), Fail>
-    requires table { (4 ≤ space.now.events) × (code.now ≡ space_code space.now) }
+    requires table { (4 ≤ space.now.events) × (code.now ≡ space_code space.now) × (heads space.now ≡ 2) }
     requires desk { IsDeskOf space.now desk.old × Owes (view desk.old) 3 (key first_object 1) }
     ensures desk { IsSameDesk desk.old desk.new }
     ensures same { IsAsBefore (view desk.old) (view desk.new) }
@@ -364,7 +364,7 @@ fn contend(
     first: &mut Desk<Letter>,
     other: &mut Desk<Letter>,
 ) -> Result<(), Fail>
-    requires table { (4 ≤ space.now.events) × (code.now ≡ space_code space.now) }
+    requires table { (4 ≤ space.now.events) × (code.now ≡ space_code space.now) × (heads space.now ≡ 2) }
     requires first { IsDeskOf space.now first.old × HasInHand (view first.old) sent_both [] None [] × Owes (view first.old) 3 (key first_object 1) × HasSeen (view first.old) 3 None }
     requires other { IsDeskOf space.now other.old × HasInHand (view other.old) [] [] None [] × HasSeen (view other.old) 2 None × HasSeen (view other.old) 3 None }
     ensures desks { IsSameDesk first.old first.new × IsSameDesk other.old other.new }
@@ -387,7 +387,7 @@ fn match_y(
     desk: &mut Desk<Letter>,
     code: &Code,
 ) -> Result<(Members, Nexts), Fail>
-    requires table { (4 ≤ space.now.events) × (code.now ≡ space_code space.now) }
+    requires table { (4 ≤ space.now.events) × (code.now ≡ space_code space.now) × (heads space.now ≡ 2) }
     requires desk { IsDeskOf space.now desk.old × HasInHand (view desk.old) sent_both [] None [] × Owes (view desk.old) 3 (key first_object 1) }
     ensures desk { IsSameDesk desk.old desk.new }
     ensures matched { IfOk result (λ r. HasInHand (view desk.new) sent_both [] None [] × AreSeen space.now.events (program_of space.now) (view desk.new) first_object 0 r.0 r.1) }
@@ -436,7 +436,7 @@ fn lose(
     first: &mut Desk<Letter>,
     other: &mut Desk<Letter>,
 ) -> Result<(Members, Nexts), Fail>
-    requires table { (4 ≤ space.now.events) × (code.now ≡ space_code space.now) }
+    requires table { (4 ≤ space.now.events) × (code.now ≡ space_code space.now) × (heads space.now ≡ 2) }
     requires first { IsDeskOf space.now first.old × HasInHand (view first.old) sent_both [] None [] × Owes (view first.old) 3 (key first_object 1) }
     requires other { IsDeskOf space.now other.old × HasInHand (view other.old) [] [] None [] × HasSeen (view other.old) 2 None }
     ensures desks { IsSameDesk first.old first.new × IsSameDesk other.old other.new }

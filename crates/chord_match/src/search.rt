@@ -3,11 +3,12 @@ ghost use Rattle.std.specs.Prelude.{◌≡◌, ℕ, ◌<◌, ◌≤◌, ◌+◌,
 ghost use Rattle.chord_base.specs.Messages.{has};
 ghost use Rattle.chord_bag.specs.Reads.{IsOnlyLooks};
 ghost use Rattle.chord_code.specs.Meaning.{chord_lines, methods_of};
+ghost use Rattle.chord_code.specs.Valid.{IsValid};
 ghost use Rattle.chord_rule.specs.declared.view.View.{View};
 ghost use Rattle.chord_rule.specs.declared.view.Duty.{Duty};
 ghost use Rattle.chord_rule.specs.Duties.{HasDuty};
 ghost use Rattle.chord_rule.specs.Made.{key};
-ghost use Rattle.chord_space.specs.Desks.{view, space_code, program_of, IsDeskOf, IsSameDesk};
+ghost use Rattle.chord_space.specs.Desks.{view, heads, space_code, program_of, IsDeskOf, IsSameDesk};
 ghost use Rattle.chord_word.specs.declared.cells.Cell.TheVariants.{Pending};
 ghost use Rattle.chord_match.specs.Findings.{IsFinding, read_so};
 ghost use Rattle.chord_match.specs.Noting.{all_told};
@@ -78,7 +79,7 @@ fn ask<P: Carry>(
     known: &mut [Note; 16],
 ) -> Sought
     requires desk { IsDeskOf space.now desk.old }
-    requires bounds { (object.number < space.now.events) × (object.class < 1024) × (method < 16) }
+    requires bounds { (object.number < space.now.events) × (object.class < 1024) × (method < heads space.now) }
     ensures desk { IsSameDesk desk.old desk.new }
     ensures learned { Learned space.now.events (view desk.old) (view desk.new) object method (all_told known.old) (all_told known.new) result }
 {
@@ -102,7 +103,7 @@ fn pick_member<P: Carry>(
     known: &mut [Note; 16],
 ) -> Pick
     requires desk { IsDeskOf space.now desk.old }
-    requires bounds { (object.number < space.now.events) × (object.class < 1024) × (method < 16) }
+    requires bounds { (object.number < space.now.events) × (object.class < 1024) × (method < heads space.now) }
     ensures desk { IsSameDesk desk.old desk.new }
     ensures picked { (v : View) → Searching space.now.events v (view desk.old) object own.now (all_told known.old) → Picked space.now.events v (view desk.old) (view desk.new) object own.now method (all_told known.old) (all_told known.new) result }
 {
@@ -130,7 +131,7 @@ fn gather<P: Carry>(
 ) -> Step
     requires desk { IsDeskOf space.now desk.old }
     requires bounds { (object.number < space.now.events) × (object.class < 1024) }
-    requires methods { (j : ℕ) → has j methods.now ≡ true → j < 16 }
+    requires methods { (j : ℕ) → has j methods.now ≡ true → j < heads space.now }
     requires room { (length members.old + length methods.now ≤ 8) × (length nexts.old + length methods.now ≤ 8) }
     ensures desk { IsSameDesk desk.old desk.new }
     ensures gathered { (v : View) → Searching space.now.events v (view desk.old) object own.now (all_told known.old) → Gathered space.now.events v (view desk.old) (view desk.new) object own.now methods.now (all_told known.old) (all_told known.new) members.old members.new nexts.old nexts.new result }
@@ -181,7 +182,7 @@ fn through<P: Carry>(
     requires desk { IsDeskOf space.now desk.old }
     requires bounds { (object.number < space.now.events) × (object.class < 1024) }
     requires none { (members.old ≡ []) × (nexts.old ≡ []) }
-    requires lines { (length lines.now ≤ 256) × ((k : ℕ) (js : List ℕ) → slice_get (map methods_of lines.now) k ≡ Some js → ((j : ℕ) → has j js ≡ true → j < 16) × (length js ≤ 8)) }
+    requires lines { (length lines.now ≤ 256) × ((k : ℕ) (js : List ℕ) → slice_get (map methods_of lines.now) k ≡ Some js → ((j : ℕ) → has j js ≡ true → j < heads space.now) × (length js ≤ 8)) }
     ensures desk { IsSameDesk desk.old desk.new }
     ensures through { (v : View) → Searching space.now.events v (view desk.old) object own.now (all_told known.old) → IsThrough space.now.events v (view desk.new) object own.now (map methods_of lines.now) (all_told known.new) members.new nexts.new result }
 {
@@ -204,7 +205,8 @@ fn through<P: Carry>(
 
 // The chords of a class; of one that is not there, none.
 fn lines_of(code: &Code, class: u16) -> &[ChordLine]
-    ensures { result.now ≡ chord_lines code.now class }
+    ensures lines { result.now ≡ chord_lines code.now class }
+    ensures valid { IsValid code.now }
 {
     match code.parts().classes.items().get(class as usize) {
         Some(line) => line.chords.items(),
@@ -233,7 +235,7 @@ pub fn find<P: Carry>(
 ) -> Finding
     requires desk { IsDeskOf space.now desk.old }
     requires code { code.now ≡ space_code space.now }
-    requires bounds { (m < space.now.events) × (object.number < space.now.events) × (object.class < 1024) × (method < 16) }
+    requires bounds { (m < space.now.events) × (object.number < space.now.events) × (object.class < 1024) × (method < heads space.now) }
     requires duty { (d : Duty) × HasDuty d (view desk.old).duties × (d.message ≡ m) × (d.bag ≡ key object method) }
     ensures desk { IsSameDesk desk.old desk.new }
     ensures finding { IsFinding (program_of space.now) space.now.events (view desk.old) (view desk.new) m object method members.new nexts.new result }

@@ -1,8 +1,11 @@
 -- From a step of a moment to a step of the table: one lemma for each kind of word.
-use Rattle.std.proofs.Common.{◌≡◌, ◌≢◌, ℕ, ◌+◌, ◌*◌, ◌<◌, List, [], ◌∷◌, length, get_or, set, sym, ap, ◌∙◌, subst, arith, length-set, get_or-set_other, get_or-set_same, Bool, eqb, eq-eqb, ne_eqb, Option}
+use Rattle.std.proofs.Common.{◌≡◌, ◌≢◌, ◌⊎◌, ⊎_elim, ℕ, suc, ◌+◌, ◌*◌, ◌<◌, ◌≤◌, List, [], ◌∷◌, length, get_or, set, refl, sym, ap, ◌∙◌, subst, arith, length-set, get_or-set_other, get_or-set_same, Bool, eqb, eq-eqb, ne_eqb, Option}
 use mathlib.Core.Option.{some, none}
 use mathlib.Core.Logic.{dite}
 use native.Mathlib.Decide.{ℕ_discrete}
+use Rattle.std.proofs.Math.Nat.{mul-le-mul_right}
+use Rattle.std.proofs.lemmas.Bool.{cases_order}
+use Rattle.std.proofs.lemmas.Nat.{mul-add-lt}
 use lib.ListN.{get_elem?}
 use lib.Seq.{set-get_or}
 use Rattle.atomic_table.specs.Table.{State, Me, Act, keeps, takes, gives, chain, put_back, carried_after, homes_after, Valid, stepped, Allows}
@@ -12,9 +15,17 @@ use Rattle.chord_word.proofs.Packing.{same_word, same_link}
 use Rattle.chord_word.specs.declared.cells.Word.{Word}
 use Rattle.chord_word.specs.Cells.{word_of, link_of, WordFits}
 use Rattle.chord_rule.specs.declared.view.View.{View}
-use Rattle.chord_rule.specs.Moment.{Moment, Shows, Home, Place, word_at_place, PlaceOk, LinkOk}
+use Rattle.chord_rule.specs.Moment.{Moment, Shows, head_at, Home, Place, word_at_place, PlaceOk, LinkOk}
 use Rattle.chord_rule.specs.Held.{HeldBy}
 use Rattle.chord_rule.proofs.Puts.{put, put_here, put_else, put_all}
+
+-- a place in rows of one width is of one row, and of one place in it
+one_row : (width o j q i : ℕ) → j < width → i < width → o * width + j ≡ q * width + i → (o ≡ q) × (j ≡ i)
+one_row width o j q i few within e = ⊎_elim
+    (λ same. (same, (let rows = ap (λ (z : ℕ). z * width) same in omega (arith, rows))))
+    (λ other. absurd (⊎_elim
+    (λ less. let more = mul-le-mul_right {m = suc o} {n = q} width less in omega (arith, more))
+    (λ above. let more = mul-le-mul_right {m = suc q} {n = o} width above in omega (arith, more)) other)) (cases_order o q)
 
 module _ {P : Type 0} where
   -- the slots once those that are out with a desk are home again
@@ -69,72 +80,78 @@ module _ {P : Type 0} where
   valid_after n hs h c (chain a b) s can = (valid_after n hs h c a s can.0, valid_after n (homes_after hs c a) (after_act h c a) (carried_after c a) b (shown_after n hs h c a s) can.1)
 
   -- the words other than word i
-  shows_counter : (n : ℕ) (m : Moment P) (s : State (Option P) View) (x id : ℕ) (c : List (ℕ × Option P)) (w : View) (a : Act (Option P)) → Shows n m s
-      → Shows n (record m { count = x; homes = after_act m.homes c a; views = set m.views id w }) (stepped s 0 x id c w a)
-  shows_counter n m s x id c w a k = let h = shown_after n s.homes m.homes c a (k.deep, k.homes) in let wide = k.wide in record {
+  shows_counter : (n width : ℕ) (m : Moment P) (s : State (Option P) View) (x id : ℕ) (c : List (ℕ × Option P)) (w : View) (a : Act (Option P)) → Shows n width m s
+      → Shows n width (record m { count = x; homes = after_act m.homes c a; views = set m.views id w }) (stepped s 0 x id c w a)
+  shows_counter n width m s x id c w a k = let h = shown_after n s.homes m.homes c a (k.deep, k.homes) in let wide = k.wide in record {
     wide = length-set s.words 0 x ∙ k.wide;
     deep = h.0;
     count = get_or-set_same s.words 0 x 0 (omega arith);
     cells = λ i l. (get_or-set_other s.words 0 (1 + i) x 0 (omega arith) ∙ (k.cells i l).0, (k.cells i l).1);
-    heads = λ i l. (get_or-set_other s.words 0 (1 + n + i) x 0 (omega arith) ∙ (k.heads i l).0, (k.heads i l).1);
-    places = λ i l. (get_or-set_other s.words 0 (1 + 17 * n + i) x 0 (omega arith) ∙ (k.places i l).0, (k.places i l).1);
+    heads = λ o j low few. (get_or-set_other s.words 0 (head_at n width o j) x 0 (omega arith) ∙ (k.heads o j low few).0, (k.heads o j low few).1);
+    places = λ i l. (get_or-set_other s.words 0 (1 + n + i) x 0 (omega arith) ∙ (k.places i l).0, (k.places i l).1);
     homes = h.1;
     views = ap (λ (vs : List View). set vs id w) k.views;
   }
 
   -- a table with another cell shows the moment with that cell
-  shows_cell : (n : ℕ) (m : Moment P) (s : State (Option P) View) (i id : ℕ) (x : Word) (c : List (ℕ × Option P)) (w : View) (a : Act (Option P)) → i < n → WordFits x → Shows n m s
-      → Shows n (record m { cells = put m.cells i x; homes = after_act m.homes c a; views = set m.views id w }) (stepped s (1 + i) (word_of x) id c w a)
-  shows_cell n m s i id x c w a low fits k = let h = shown_after n s.homes m.homes c a (k.deep, k.homes) in let wide = k.wide in record {
+  shows_cell : (n width : ℕ) (m : Moment P) (s : State (Option P) View) (i id : ℕ) (x : Word) (c : List (ℕ × Option P)) (w : View) (a : Act (Option P)) → i < n → WordFits x → Shows n width m s
+      → Shows n width (record m { cells = put m.cells i x; homes = after_act m.homes c a; views = set m.views id w }) (stepped s (1 + i) (word_of x) id c w a)
+  shows_cell n width m s i id x c w a low fits k = let h = shown_after n s.homes m.homes c a (k.deep, k.homes) in let wide = k.wide in record {
     wide = length-set s.words (1 + i) (word_of x) ∙ k.wide;
     deep = h.0;
     count = get_or-set_other s.words (1 + i) 0 (word_of x) 0 (omega arith) ∙ k.count;
     cells = λ j l. put_all m.cells i x (λ j y. (get_or (set s.words (1 + i) (word_of x)) (1 + j) 0 ≡ word_of y) × WordFits y) j
         (get_or-set_same s.words (1 + i) (word_of x) 0 (omega arith), fits)
         (λ ne. (get_or-set_other s.words (1 + i) (1 + j) (word_of x) 0 (λ e. ne (omega arith)) ∙ (k.cells j l).0, (k.cells j l).1));
-    heads = λ j l. (get_or-set_other s.words (1 + i) (1 + n + j) (word_of x) 0 (omega arith) ∙ (k.heads j l).0, (k.heads j l).1);
-    places = λ j l. (get_or-set_other s.words (1 + i) (1 + 17 * n + j) (word_of x) 0 (omega arith) ∙ (k.places j l).0, (k.places j l).1);
+    heads = λ o j below few. (get_or-set_other s.words (1 + i) (head_at n width o j) (word_of x) 0 (omega arith) ∙ (k.heads o j below few).0, (k.heads o j below few).1);
+    places = λ j l. (get_or-set_other s.words (1 + i) (1 + n + j) (word_of x) 0 (omega arith) ∙ (k.places j l).0, (k.places j l).1);
     homes = h.1;
     views = ap (λ (vs : List View). set vs id w) k.views;
   }
 
   -- a table with another head shows the moment with that head
-  shows_head : (n : ℕ) (m : Moment P) (s : State (Option P) View) (i id : ℕ) (x : Option ℕ) (c : List (ℕ × Option P)) (w : View) (a : Act (Option P)) → i < 16 * n → LinkOk x → Shows n m s
-      → Shows n (record m { heads = put m.heads i x; homes = after_act m.homes c a; views = set m.views id w }) (stepped s (1 + n + i) (link_of x) id c w a)
-  shows_head n m s i id x c w a low fits k = let h = shown_after n s.homes m.homes c a (k.deep, k.homes) in let wide = k.wide in record {
-    wide = length-set s.words (1 + n + i) (link_of x) ∙ k.wide;
+  shows_head : (n width : ℕ) (m : Moment P) (s : State (Option P) View) (o j number id : ℕ) (x : Option ℕ) (c : List (ℕ × Option P)) (w : View) (a : Act (Option P)) → o < n → j < width → width ≤ 16 → number ≡ 16 * o + j → LinkOk x → Shows n width m s
+      → Shows n width (record m { heads = put m.heads number x; homes = after_act m.homes c a; views = set m.views id w }) (stepped s (head_at n width o j) (link_of x) id c w a)
+  shows_head n width m s o j number id x c w a low few most numbered fits k = let h = shown_after n s.homes m.homes c a (k.deep, k.homes) in let wide = k.wide in let at : ℕ = head_at n width o j in let inside = mul-add-lt o width j n low few in record {
+    wide = length-set s.words at (link_of x) ∙ k.wide;
     deep = h.0;
-    count = get_or-set_other s.words (1 + n + i) 0 (link_of x) 0 (omega arith) ∙ k.count;
-    cells = λ j l. (get_or-set_other s.words (1 + n + i) (1 + j) (link_of x) 0 (omega arith) ∙ (k.cells j l).0, (k.cells j l).1);
-    heads = λ j l. put_all m.heads i x (λ j y. (get_or (set s.words (1 + n + i) (link_of x)) (1 + n + j) 0 ≡ link_of y) × LinkOk y) j
-        (get_or-set_same s.words (1 + n + i) (link_of x) 0 (omega arith), fits)
-        (λ ne. (get_or-set_other s.words (1 + n + i) (1 + n + j) (link_of x) 0 (λ e. ne (omega arith)) ∙ (k.heads j l).0, (k.heads j l).1));
-    places = λ j l. (get_or-set_other s.words (1 + n + i) (1 + 17 * n + j) (link_of x) 0 (omega arith) ∙ (k.places j l).0, (k.places j l).1);
+    count = get_or-set_other s.words at 0 (link_of x) 0 (omega arith) ∙ k.count;
+    cells = λ i l. (get_or-set_other s.words at (1 + i) (link_of x) 0 (omega arith) ∙ (k.cells i l).0, (k.cells i l).1);
+    heads = λ q i below within. put_all m.heads number x (λ z y. z ≡ 16 * q + i → (get_or (set s.words at (link_of x)) (head_at n width q i) 0 ≡ link_of y) × LinkOk y) (16 * q + i)
+        (λ same. let of : o ≡ q = omega arith in let by : j ≡ i = omega arith in (
+          ap (λ (z : ℕ × ℕ). get_or (set s.words at (link_of x)) (head_at n width z.0 z.1) 0) (λ b. (sym of b, sym by b)) ∙ get_or-set_same s.words at (link_of x) 0 (omega (arith, wide, inside)),
+          fits,
+        ))
+        (λ ne same. (
+          get_or-set_other s.words at (head_at n width q i) (link_of x) 0 (λ e. let both = one_row width o j q i few within (omega arith) in let of = both.0 in let by = both.1 in ne (omega arith)) ∙ (k.heads q i below within).0,
+          (k.heads q i below within).1,
+        )) refl;
+    places = λ i l. (get_or-set_other s.words at (1 + n + i) (link_of x) 0 (omega arith) ∙ (k.places i l).0, (k.places i l).1);
     homes = h.1;
     views = ap (λ (vs : List View). set vs id w) k.views;
   }
 
   -- a table with another place word shows the moment with that place
-  shows_place : (n : ℕ) (m : Moment P) (s : State (Option P) View) (i id : ℕ) (x : Option Place) (c : List (ℕ × Option P)) (w : View) (a : Act (Option P)) → i < n → PlaceOk x → Shows n m s
-      → Shows n (record m { places = put m.places i x; homes = after_act m.homes c a; views = set m.views id w }) (stepped s (1 + 17 * n + i) (word_at_place x) id c w a)
-  shows_place n m s i id x c w a low fits k = let h = shown_after n s.homes m.homes c a (k.deep, k.homes) in let wide = k.wide in record {
-    wide = length-set s.words (1 + 17 * n + i) (word_at_place x) ∙ k.wide;
+  shows_place : (n width : ℕ) (m : Moment P) (s : State (Option P) View) (i id : ℕ) (x : Option Place) (c : List (ℕ × Option P)) (w : View) (a : Act (Option P)) → i < n → PlaceOk x → Shows n width m s
+      → Shows n width (record m { places = put m.places i x; homes = after_act m.homes c a; views = set m.views id w }) (stepped s (1 + n + i) (word_at_place x) id c w a)
+  shows_place n width m s i id x c w a low fits k = let h = shown_after n s.homes m.homes c a (k.deep, k.homes) in let wide = k.wide in record {
+    wide = length-set s.words (1 + n + i) (word_at_place x) ∙ k.wide;
     deep = h.0;
-    count = get_or-set_other s.words (1 + 17 * n + i) 0 (word_at_place x) 0 (omega arith) ∙ k.count;
-    cells = λ j l. (get_or-set_other s.words (1 + 17 * n + i) (1 + j) (word_at_place x) 0 (omega arith) ∙ (k.cells j l).0, (k.cells j l).1);
-    heads = λ j l. (get_or-set_other s.words (1 + 17 * n + i) (1 + n + j) (word_at_place x) 0 (omega arith) ∙ (k.heads j l).0, (k.heads j l).1);
-    places = λ j l. put_all m.places i x (λ j y. (get_or (set s.words (1 + 17 * n + i) (word_at_place x)) (1 + 17 * n + j) 0 ≡ word_at_place y) × PlaceOk y) j
-        (get_or-set_same s.words (1 + 17 * n + i) (word_at_place x) 0 (omega arith), fits)
-        (λ ne. (get_or-set_other s.words (1 + 17 * n + i) (1 + 17 * n + j) (word_at_place x) 0 (λ e. ne (omega arith)) ∙ (k.places j l).0, (k.places j l).1));
+    count = get_or-set_other s.words (1 + n + i) 0 (word_at_place x) 0 (omega arith) ∙ k.count;
+    cells = λ j l. (get_or-set_other s.words (1 + n + i) (1 + j) (word_at_place x) 0 (omega arith) ∙ (k.cells j l).0, (k.cells j l).1);
+    heads = λ o j below few. (get_or-set_other s.words (1 + n + i) (head_at n width o j) (word_at_place x) 0 (omega arith) ∙ (k.heads o j below few).0, (k.heads o j below few).1);
+    places = λ j l. put_all m.places i x (λ j y. (get_or (set s.words (1 + n + i) (word_at_place x)) (1 + n + j) 0 ≡ word_at_place y) × PlaceOk y) j
+        (get_or-set_same s.words (1 + n + i) (word_at_place x) 0 (omega arith), fits)
+        (λ ne. (get_or-set_other s.words (1 + n + i) (1 + n + j) (word_at_place x) 0 (λ e. ne (omega arith)) ∙ (k.places j l).0, (k.places j l).1));
     homes = h.1;
     views = ap (λ (vs : List View). set vs id w) k.views;
   }
 
   -- a load of the word i
-  shows_look : (n : ℕ) (m : Moment P) (s : State (Option P) View) (i id : ℕ) (c : List (ℕ × Option P)) (w : View) (a : Act (Option P)) → Shows n m s
-      → Shows n (record m { homes = after_act m.homes c a; views = set m.views id w }) (stepped s i (get_or s.words i 0) id c w a)
-  shows_look n m s i id c w a k = let h = shown_after n s.homes m.homes c a (k.deep, k.homes) in
-      subst (λ (ws : List ℕ). Shows n (record m { homes = after_act m.homes c a; views = set m.views id w }) record { words = ws; homes = homes_after s.homes c a; views = set s.views id w }) (sym (set-get_or s.words i 0)) record {
+  shows_look : (n width : ℕ) (m : Moment P) (s : State (Option P) View) (i id : ℕ) (c : List (ℕ × Option P)) (w : View) (a : Act (Option P)) → Shows n width m s
+      → Shows n width (record m { homes = after_act m.homes c a; views = set m.views id w }) (stepped s i (get_or s.words i 0) id c w a)
+  shows_look n width m s i id c w a k = let h = shown_after n s.homes m.homes c a (k.deep, k.homes) in
+      subst (λ (ws : List ℕ). Shows n width (record m { homes = after_act m.homes c a; views = set m.views id w }) record { words = ws; homes = homes_after s.homes c a; views = set s.views id w }) (sym (set-get_or s.words i 0)) record {
         wide = k.wide;
         deep = h.0;
         count = k.count;
@@ -145,13 +162,13 @@ module _ {P : Type 0} where
         views = ap (λ (vs : List View). set vs id w) k.views;
       }
 
-  module _ (G : Type 0) (R : Moment P → G → Type 0) (n : ℕ) where
+  module _ (G : Type 0) (R : Moment P → G → Type 0) (n width : ℕ) where
     -- a step on the counter
     pub counter_step : (id : ℕ) (me : Me (Option P) View) (f : ℕ → ℕ) (then : ℕ → Me (Option P) View → Type 0)
         → ((m : Moment P) (g : G) → R m g → get_elem? m.views id ≡ some me.0 → m.count < 18446744073709551616
         → (w : View) × (a : Act (Option P)) × (g' : G) × Can n m.homes me.1 a
         × R (record m { count = f m.count; homes = after_act m.homes me.1 a; views = set m.views id w }) g' × then m.count (w, carried_after me.1 a))
-        → Allows (HeldBy G R n) n id me 0 f then
+        → Allows (HeldBy G R n width) n id me 0 f then
     counter_step id me f then k s h deep at fits = let sh = h.shows in let m = h.moment in
         let r = k m h.ghosts h.rule (subst (λ (vs : List View). get_elem? vs id ≡ some me.0) sh.views at) (subst (λ (x : ℕ). x < 18446744073709551616) sh.count fits) in (
           r.0,
@@ -160,7 +177,7 @@ module _ {P : Type 0} where
           record {
             moment = record m { count = f (get_or s.words 0 0); homes = after_act m.homes me.1 r.1; views = set m.views id r.0 };
             ghosts = r.2;
-            shows = shows_counter n m s (f (get_or s.words 0 0)) id me.1 r.0 r.1 sh;
+            shows = shows_counter n width m s (f (get_or s.words 0 0)) id me.1 r.0 r.1 sh;
             rule = subst (λ (x : ℕ). R (record m { count = f x; homes = after_act m.homes me.1 r.1; views = set m.views id r.0 }) r.2) (sym sh.count) r.4;
           },
           subst (λ (x : ℕ). then x (r.0, carried_after me.1 r.1)) (sym sh.count) r.5,
@@ -171,45 +188,50 @@ module _ {P : Type 0} where
     Goes m me to then = (w : View) × (a : Act (Option P)) × (g : G) × Can n m.homes me.1 a × R (to w a) g × then w a
 
     -- the view of a desk in the table is its view in the moment
-    found : (m : Moment P) (s : State (Option P) View) (id : ℕ) (v : View) → Shows n m s → get_elem? s.views id ≡ some v → get_elem? m.views id ≡ some v
+    found : (m : Moment P) (s : State (Option P) View) (id : ℕ) (v : View) → Shows n width m s → get_elem? s.views id ≡ some v → get_elem? m.views id ≡ some v
     found m s id v sh at = subst (λ (vs : List View). get_elem? vs id ≡ some v) sh.views at
 
     -- a store to the cell i
     pub store_cell : (id : ℕ) (me : Me (Option P) View) (i : ℕ) (x : Word) (then : Me (Option P) View → Type 0) → i < n
         → ((m : Moment P) (g : G) → R m g → get_elem? m.views id ≡ some me.0 → WordFits (m.cells i)
         → WordFits x × Goes m me (λ w a. record m { cells = put m.cells i x; homes = after_act m.homes me.1 a; views = set m.views id w }) (λ w a. then (w, carried_after me.1 a)))
-        → Allows (HeldBy G R n) n id me (1 + i) (λ _. word_of x) (λ _. then)
+        → Allows (HeldBy G R n width) n id me (1 + i) (λ _. word_of x) (λ _. then)
     store_cell id me i x then low k s h deep at word = let sh = h.shows in let m = h.moment in let kr = k m h.ghosts h.rule (found m s id me.0 sh at) (sh.cells i low).1 in let fits = kr.0 in let r = kr.1 in (
       r.0,
       r.1,
       valid_after n s.homes m.homes me.1 r.1 (sh.deep, sh.homes) r.3,
-      record { moment = record m { cells = put m.cells i x; homes = after_act m.homes me.1 r.1; views = set m.views id r.0 }; ghosts = r.2; shows = shows_cell n m s i id x me.1 r.0 r.1 low fits sh; rule = r.4 },
+      record { moment = record m { cells = put m.cells i x; homes = after_act m.homes me.1 r.1; views = set m.views id r.0 }; ghosts = r.2; shows = shows_cell n width m s i id x me.1 r.0 r.1 low fits sh; rule = r.4 },
       r.5,
     )
 
-    -- a swap of the head i
-    pub swap_head : (id : ℕ) (me : Me (Option P) View) (i : ℕ) (x : Option ℕ) (then : ℕ → Me (Option P) View → Type 0) → i < 16 * n → LinkOk x
-        → ((m : Moment P) (g : G) → R m g → get_elem? m.views id ≡ some me.0 → LinkOk (m.heads i)
-        → Goes m me (λ w a. record m { heads = put m.heads i x; homes = after_act m.homes me.1 a; views = set m.views id w }) (λ w a. then (link_of (m.heads i)) (w, carried_after me.1 a)))
-        → Allows (HeldBy G R n) n id me (1 + n + i) (λ _. link_of x) then
-    swap_head id me i x then low fits k s h deep at word = let sh = h.shows in let m = h.moment in let r = k m h.ghosts h.rule (found m s id me.0 sh at) (sh.heads i low).1 in (
+    -- the word of the head of this number
+    head_shown : (m : Moment P) (s : State (Option P) View) (o j number : ℕ) → o < n → j < width → number ≡ 16 * o + j → Shows n width m s
+        → (get_or s.words (head_at n width o j) 0 ≡ link_of (m.heads number)) × LinkOk (m.heads number)
+    head_shown m s o j number low few numbered sh = subst (λ (z : ℕ). (get_or s.words (head_at n width o j) 0 ≡ link_of (m.heads z)) × LinkOk (m.heads z)) (sym numbered) (sh.heads o j low few)
+
+    -- a swap of the head for the method j of the object o
+    pub swap_head : (id : ℕ) (me : Me (Option P) View) (o j number : ℕ) (x : Option ℕ) (then : ℕ → Me (Option P) View → Type 0) → o < n → j < width → width ≤ 16 → number ≡ 16 * o + j → LinkOk x
+        → ((m : Moment P) (g : G) → R m g → get_elem? m.views id ≡ some me.0 → LinkOk (m.heads number)
+        → Goes m me (λ w a. record m { heads = put m.heads number x; homes = after_act m.homes me.1 a; views = set m.views id w }) (λ w a. then (link_of (m.heads number)) (w, carried_after me.1 a)))
+        → Allows (HeldBy G R n width) n id me (head_at n width o j) (λ _. link_of x) then
+    swap_head id me o j number x then low few most numbered fits k s h deep at word = let sh = h.shows in let m = h.moment in let r = k m h.ghosts h.rule (found m s id me.0 sh at) (head_shown m s o j number low few numbered sh).1 in (
       r.0,
       r.1,
       valid_after n s.homes m.homes me.1 r.1 (sh.deep, sh.homes) r.3,
-      record { moment = record m { heads = put m.heads i x; homes = after_act m.homes me.1 r.1; views = set m.views id r.0 }; ghosts = r.2; shows = shows_head n m s i id x me.1 r.0 r.1 low fits sh; rule = r.4 },
-      subst (λ (y : ℕ). then y (r.0, carried_after me.1 r.1)) (sym (sh.heads i low).0) r.5,
+      record { moment = record m { heads = put m.heads number x; homes = after_act m.homes me.1 r.1; views = set m.views id r.0 }; ghosts = r.2; shows = shows_head n width m s o j number id x me.1 r.0 r.1 low few most numbered fits sh; rule = r.4 },
+      subst (λ (y : ℕ). then y (r.0, carried_after me.1 r.1)) (sym (head_shown m s o j number low few numbered sh).0) r.5,
     )
 
     -- a store to the place i
     pub store_place : (id : ℕ) (me : Me (Option P) View) (i : ℕ) (x : Option Place) (then : Me (Option P) View → Type 0) → i < n → PlaceOk x
         → ((m : Moment P) (g : G) → R m g → get_elem? m.views id ≡ some me.0
         → Goes m me (λ w a. record m { places = put m.places i x; homes = after_act m.homes me.1 a; views = set m.views id w }) (λ w a. then (w, carried_after me.1 a)))
-        → Allows (HeldBy G R n) n id me (1 + 17 * n + i) (λ _. word_at_place x) (λ _. then)
+        → Allows (HeldBy G R n width) n id me (1 + n + i) (λ _. word_at_place x) (λ _. then)
     store_place id me i x then low fits k s h deep at word = let sh = h.shows in let m = h.moment in let r = k m h.ghosts h.rule (found m s id me.0 sh at) in (
       r.0,
       r.1,
       valid_after n s.homes m.homes me.1 r.1 (sh.deep, sh.homes) r.3,
-      record { moment = record m { places = put m.places i x; homes = after_act m.homes me.1 r.1; views = set m.views id r.0 }; ghosts = r.2; shows = shows_place n m s i id x me.1 r.0 r.1 low fits sh; rule = r.4 },
+      record { moment = record m { places = put m.places i x; homes = after_act m.homes me.1 r.1; views = set m.views id r.0 }; ghosts = r.2; shows = shows_place n width m s i id x me.1 r.0 r.1 low fits sh; rule = r.4 },
       r.5,
     )
 
@@ -217,12 +239,12 @@ module _ {P : Type 0} where
     pub load_cell : (id : ℕ) (me : Me (Option P) View) (i : ℕ) (then : ℕ → Me (Option P) View → Type 0) → i < n
         → ((m : Moment P) (g : G) → R m g → get_elem? m.views id ≡ some me.0 → WordFits (m.cells i)
         → Goes m me (λ w a. record m { homes = after_act m.homes me.1 a; views = set m.views id w }) (λ w a. then (word_of (m.cells i)) (w, carried_after me.1 a)))
-        → Allows (HeldBy G R n) n id me (1 + i) (λ x. x) then
+        → Allows (HeldBy G R n width) n id me (1 + i) (λ x. x) then
     load_cell id me i then low k s h deep at word = let sh = h.shows in let m = h.moment in let r = k m h.ghosts h.rule (found m s id me.0 sh at) (sh.cells i low).1 in (
       r.0,
       r.1,
       valid_after n s.homes m.homes me.1 r.1 (sh.deep, sh.homes) r.3,
-      record { moment = record m { homes = after_act m.homes me.1 r.1; views = set m.views id r.0 }; ghosts = r.2; shows = shows_look n m s (1 + i) id me.1 r.0 r.1 sh; rule = r.4 },
+      record { moment = record m { homes = after_act m.homes me.1 r.1; views = set m.views id r.0 }; ghosts = r.2; shows = shows_look n width m s (1 + i) id me.1 r.0 r.1 sh; rule = r.4 },
       subst (λ (y : ℕ). then y (r.0, carried_after me.1 r.1)) (sym (sh.cells i low).0) r.5,
     )
 
@@ -232,7 +254,7 @@ module _ {P : Type 0} where
         → Goes m me (λ w a. record m { cells = put m.cells i y; homes = after_act m.homes me.1 a; views = set m.views id w }) (λ w a. then (word_of x) (w, carried_after me.1 a)))
         → ((m : Moment P) (g : G) → R m g → get_elem? m.views id ≡ some me.0 → WordFits (m.cells i) → word_of (m.cells i) ≢ word_of x
         → Goes m me (λ w a. record m { homes = after_act m.homes me.1 a; views = set m.views id w }) (λ w a. then (word_of (m.cells i)) (w, carried_after me.1 a)))
-        → Allows (HeldBy G R n) n id me (1 + i) (λ z. either (eqb z (word_of x)) (word_of y) z) then
+        → Allows (HeldBy G R n width) n id me (1 + i) (λ z. either (eqb z (word_of x)) (word_of y) z) then
     exchange_cell id me i x y then low xfits yfits hit miss s h deep at word = let sh = h.shows in let m = h.moment in let c = sh.cells i low in let at' = found m s id me.0 sh at in dite (ℕ_discrete (word_of (m.cells i)) (word_of x))
         (λ e. let r = hit m h.ghosts h.rule at' (same_word (m.cells i) x c.1 xfits e) in (
           r.0,
@@ -241,8 +263,8 @@ module _ {P : Type 0} where
           record {
             moment = record m { cells = put m.cells i y; homes = after_act m.homes me.1 r.1; views = set m.views id r.0 };
             ghosts = r.2;
-            shows = subst (λ (z : ℕ). Shows n (record m { cells = put m.cells i y; homes = after_act m.homes me.1 r.1; views = set m.views id r.0 }) (stepped s (1 + i) z id me.1 r.0 r.1))
-                (ap (λ (b : Bool). either b (word_of y) (get_or s.words (1 + i) 0)) (sym (eq-eqb (get_or s.words (1 + i) 0) (word_of x) (c.0 ∙ e)))) (shows_cell n m s i id y me.1 r.0 r.1 low yfits sh);
+            shows = subst (λ (z : ℕ). Shows n width (record m { cells = put m.cells i y; homes = after_act m.homes me.1 r.1; views = set m.views id r.0 }) (stepped s (1 + i) z id me.1 r.0 r.1))
+                (ap (λ (b : Bool). either b (word_of y) (get_or s.words (1 + i) 0)) (sym (eq-eqb (get_or s.words (1 + i) 0) (word_of x) (c.0 ∙ e)))) (shows_cell n width m s i id y me.1 r.0 r.1 low yfits sh);
             rule = r.4;
           },
           subst (λ (z : ℕ). then z (r.0, carried_after me.1 r.1)) (sym (c.0 ∙ e)) r.5,
@@ -254,30 +276,30 @@ module _ {P : Type 0} where
           record {
             moment = record m { homes = after_act m.homes me.1 r.1; views = set m.views id r.0 };
             ghosts = r.2;
-            shows = subst (λ (z : ℕ). Shows n (record m { homes = after_act m.homes me.1 r.1; views = set m.views id r.0 }) (stepped s (1 + i) z id me.1 r.0 r.1))
-                (ap (λ (b : Bool). either b (word_of y) (get_or s.words (1 + i) 0)) (sym (ne_eqb (get_or s.words (1 + i) 0) (word_of x) (λ q. ne (sym c.0 ∙ q))))) (shows_look n m s (1 + i) id me.1 r.0 r.1 sh);
+            shows = subst (λ (z : ℕ). Shows n width (record m { homes = after_act m.homes me.1 r.1; views = set m.views id r.0 }) (stepped s (1 + i) z id me.1 r.0 r.1))
+                (ap (λ (b : Bool). either b (word_of y) (get_or s.words (1 + i) 0)) (sym (ne_eqb (get_or s.words (1 + i) 0) (word_of x) (λ q. ne (sym c.0 ∙ q))))) (shows_look n width m s (1 + i) id me.1 r.0 r.1 sh);
             rule = r.4;
           },
           subst (λ (z : ℕ). then z (r.0, carried_after me.1 r.1)) (sym c.0) r.5,
         ))
 
-    -- a compare-exchange of the head i, which goes from x to y
-    pub exchange_head : (id : ℕ) (me : Me (Option P) View) (i : ℕ) (x y : Option ℕ) (then : ℕ → Me (Option P) View → Type 0) → i < 16 * n → LinkOk y
-        → ((m : Moment P) (g : G) → R m g → get_elem? m.views id ≡ some me.0 → m.heads i ≡ x
-        → Goes m me (λ w a. record m { heads = put m.heads i y; homes = after_act m.homes me.1 a; views = set m.views id w }) (λ w a. then (link_of x) (w, carried_after me.1 a)))
-        → ((m : Moment P) (g : G) → R m g → get_elem? m.views id ≡ some me.0 → LinkOk (m.heads i) → m.heads i ≢ x
-        → Goes m me (λ w a. record m { homes = after_act m.homes me.1 a; views = set m.views id w }) (λ w a. then (link_of (m.heads i)) (w, carried_after me.1 a)))
-        → Allows (HeldBy G R n) n id me (1 + n + i) (λ z. either (eqb z (link_of x)) (link_of y) z) then
-    exchange_head id me i x y then low yfits hit miss s h deep at word = let sh = h.shows in let m = h.moment in let c = sh.heads i low in let at' = found m s id me.0 sh at in dite (ℕ_discrete (link_of (m.heads i)) (link_of x))
-        (λ e. let r = hit m h.ghosts h.rule at' (same_link (m.heads i) x e) in (
+    -- a compare-exchange of that head, which goes from x to y
+    pub exchange_head : (id : ℕ) (me : Me (Option P) View) (o j number : ℕ) (x y : Option ℕ) (then : ℕ → Me (Option P) View → Type 0) → o < n → j < width → width ≤ 16 → number ≡ 16 * o + j → LinkOk y
+        → ((m : Moment P) (g : G) → R m g → get_elem? m.views id ≡ some me.0 → m.heads number ≡ x
+        → Goes m me (λ w a. record m { heads = put m.heads number y; homes = after_act m.homes me.1 a; views = set m.views id w }) (λ w a. then (link_of x) (w, carried_after me.1 a)))
+        → ((m : Moment P) (g : G) → R m g → get_elem? m.views id ≡ some me.0 → LinkOk (m.heads number) → m.heads number ≢ x
+        → Goes m me (λ w a. record m { homes = after_act m.homes me.1 a; views = set m.views id w }) (λ w a. then (link_of (m.heads number)) (w, carried_after me.1 a)))
+        → Allows (HeldBy G R n width) n id me (head_at n width o j) (λ z. either (eqb z (link_of x)) (link_of y) z) then
+    exchange_head id me o j number x y then low few most numbered yfits hit miss s h deep at word = let sh = h.shows in let m = h.moment in let c = head_shown m s o j number low few numbered sh in let at' = found m s id me.0 sh at in dite (ℕ_discrete (link_of (m.heads number)) (link_of x))
+        (λ e. let r = hit m h.ghosts h.rule at' (same_link (m.heads number) x e) in (
           r.0,
           r.1,
           valid_after n s.homes m.homes me.1 r.1 (sh.deep, sh.homes) r.3,
           record {
-            moment = record m { heads = put m.heads i y; homes = after_act m.homes me.1 r.1; views = set m.views id r.0 };
+            moment = record m { heads = put m.heads number y; homes = after_act m.homes me.1 r.1; views = set m.views id r.0 };
             ghosts = r.2;
-            shows = subst (λ (z : ℕ). Shows n (record m { heads = put m.heads i y; homes = after_act m.homes me.1 r.1; views = set m.views id r.0 }) (stepped s (1 + n + i) z id me.1 r.0 r.1))
-                (ap (λ (b : Bool). either b (link_of y) (get_or s.words (1 + n + i) 0)) (sym (eq-eqb (get_or s.words (1 + n + i) 0) (link_of x) (c.0 ∙ e)))) (shows_head n m s i id y me.1 r.0 r.1 low yfits sh);
+            shows = subst (λ (z : ℕ). Shows n width (record m { heads = put m.heads number y; homes = after_act m.homes me.1 r.1; views = set m.views id r.0 }) (stepped s (head_at n width o j) z id me.1 r.0 r.1))
+                (ap (λ (b : Bool). either b (link_of y) (get_or s.words (head_at n width o j) 0)) (sym (eq-eqb (get_or s.words (head_at n width o j) 0) (link_of x) (c.0 ∙ e)))) (shows_head n width m s o j number id y me.1 r.0 r.1 low few most numbered yfits sh);
             rule = r.4;
           },
           subst (λ (z : ℕ). then z (r.0, carried_after me.1 r.1)) (sym (c.0 ∙ e)) r.5,
@@ -289,35 +311,35 @@ module _ {P : Type 0} where
           record {
             moment = record m { homes = after_act m.homes me.1 r.1; views = set m.views id r.0 };
             ghosts = r.2;
-            shows = subst (λ (z : ℕ). Shows n (record m { homes = after_act m.homes me.1 r.1; views = set m.views id r.0 }) (stepped s (1 + n + i) z id me.1 r.0 r.1))
-                (ap (λ (b : Bool). either b (link_of y) (get_or s.words (1 + n + i) 0)) (sym (ne_eqb (get_or s.words (1 + n + i) 0) (link_of x) (λ q. ne (sym c.0 ∙ q))))) (shows_look n m s (1 + n + i) id me.1 r.0 r.1 sh);
+            shows = subst (λ (z : ℕ). Shows n width (record m { homes = after_act m.homes me.1 r.1; views = set m.views id r.0 }) (stepped s (head_at n width o j) z id me.1 r.0 r.1))
+                (ap (λ (b : Bool). either b (link_of y) (get_or s.words (head_at n width o j) 0)) (sym (ne_eqb (get_or s.words (head_at n width o j) 0) (link_of x) (λ q. ne (sym c.0 ∙ q))))) (shows_look n width m s (head_at n width o j) id me.1 r.0 r.1 sh);
             rule = r.4;
           },
           subst (λ (z : ℕ). then z (r.0, carried_after me.1 r.1)) (sym c.0) r.5,
         ))
 
-    -- a load of the head i
-    pub load_head : (id : ℕ) (me : Me (Option P) View) (i : ℕ) (then : ℕ → Me (Option P) View → Type 0) → i < 16 * n
-        → ((m : Moment P) (g : G) → R m g → get_elem? m.views id ≡ some me.0 → LinkOk (m.heads i)
-        → Goes m me (λ w a. record m { homes = after_act m.homes me.1 a; views = set m.views id w }) (λ w a. then (link_of (m.heads i)) (w, carried_after me.1 a)))
-        → Allows (HeldBy G R n) n id me (1 + n + i) (λ x. x) then
-    load_head id me i then low k s h deep at word = let sh = h.shows in let m = h.moment in let r = k m h.ghosts h.rule (found m s id me.0 sh at) (sh.heads i low).1 in (
+    -- a load of that head
+    pub load_head : (id : ℕ) (me : Me (Option P) View) (o j number : ℕ) (then : ℕ → Me (Option P) View → Type 0) → o < n → j < width → number ≡ 16 * o + j
+        → ((m : Moment P) (g : G) → R m g → get_elem? m.views id ≡ some me.0 → LinkOk (m.heads number)
+        → Goes m me (λ w a. record m { homes = after_act m.homes me.1 a; views = set m.views id w }) (λ w a. then (link_of (m.heads number)) (w, carried_after me.1 a)))
+        → Allows (HeldBy G R n width) n id me (head_at n width o j) (λ x. x) then
+    load_head id me o j number then low few numbered k s h deep at word = let sh = h.shows in let m = h.moment in let r = k m h.ghosts h.rule (found m s id me.0 sh at) (head_shown m s o j number low few numbered sh).1 in (
       r.0,
       r.1,
       valid_after n s.homes m.homes me.1 r.1 (sh.deep, sh.homes) r.3,
-      record { moment = record m { homes = after_act m.homes me.1 r.1; views = set m.views id r.0 }; ghosts = r.2; shows = shows_look n m s (1 + n + i) id me.1 r.0 r.1 sh; rule = r.4 },
-      subst (λ (y : ℕ). then y (r.0, carried_after me.1 r.1)) (sym (sh.heads i low).0) r.5,
+      record { moment = record m { homes = after_act m.homes me.1 r.1; views = set m.views id r.0 }; ghosts = r.2; shows = shows_look n width m s (head_at n width o j) id me.1 r.0 r.1 sh; rule = r.4 },
+      subst (λ (y : ℕ). then y (r.0, carried_after me.1 r.1)) (sym (head_shown m s o j number low few numbered sh).0) r.5,
     )
 
     -- a load of the place i
     pub load_place : (id : ℕ) (me : Me (Option P) View) (i : ℕ) (then : ℕ → Me (Option P) View → Type 0) → i < n
         → ((m : Moment P) (g : G) → R m g → get_elem? m.views id ≡ some me.0 → PlaceOk (m.places i)
         → Goes m me (λ w a. record m { homes = after_act m.homes me.1 a; views = set m.views id w }) (λ w a. then (word_at_place (m.places i)) (w, carried_after me.1 a)))
-        → Allows (HeldBy G R n) n id me (1 + 17 * n + i) (λ x. x) then
+        → Allows (HeldBy G R n width) n id me (1 + n + i) (λ x. x) then
     load_place id me i then low k s h deep at word = let sh = h.shows in let m = h.moment in let r = k m h.ghosts h.rule (found m s id me.0 sh at) (sh.places i low).1 in (
       r.0,
       r.1,
       valid_after n s.homes m.homes me.1 r.1 (sh.deep, sh.homes) r.3,
-      record { moment = record m { homes = after_act m.homes me.1 r.1; views = set m.views id r.0 }; ghosts = r.2; shows = shows_look n m s (1 + 17 * n + i) id me.1 r.0 r.1 sh; rule = r.4 },
+      record { moment = record m { homes = after_act m.homes me.1 r.1; views = set m.views id r.0 }; ghosts = r.2; shows = shows_look n width m s (1 + n + i) id me.1 r.0 r.1 sh; rule = r.4 },
       subst (λ (y : ℕ). then y (r.0, carried_after me.1 r.1)) (sym (sh.places i low).0) r.5,
     )

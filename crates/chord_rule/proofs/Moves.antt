@@ -11,7 +11,7 @@ use Rattle.chord_base.specs.declared.event.Entry.{Entry}
 use Rattle.chord_base.specs.declared.value.Value as value
 use Rattle.chord_base.specs.declared.event.What.{What}
 use Rattle.chord_rule.specs.declared.view.View.{View}
-use Rattle.chord_rule.specs.Moment.{Moment, empty_word}
+use Rattle.chord_rule.specs.Moment.{Moment, empty_word, head_at}
 use Rattle.chord_rule.specs.Keeping.{kept_at, at_desk}
 use Rattle.chord_rule.specs.Tells.{draws, HasNotBegun}
 use Rattle.chord_rule.specs.Kinds.{saw_count, drew, was_told, entry, newcomer_first, drawn_stage}
@@ -43,11 +43,11 @@ pub unbegun_count : {P : Type 0} (entries : P → List Entry) (arguments : P →
     → (id : ℕ) (v : View) → get_elem? m.views id ≡ some v → HasNotBegun v → m.count ≡ 0
 unbegun_count entries arguments keeps_to p n m u whole id v at h = let firsts = whole.agrees.firsts in firsts.untouched v (subst (λ (j : ℕ). get_elem? m.views j ≡ some v) (firsts.leads id v at h.0) at) h.1 h.2
 
-module _ {P : Type 0} (entries : P → List Entry) (arguments : P → List value.Value) (keeps_to : P → Type 0) (p : Program) (n : ℕ) (any : 0 < n) (small : n ≤ 65536) where
+module _ {P : Type 0} (entries : P → List Entry) (arguments : P → List value.Value) (keeps_to : P → Type 0) (p : Program) (n width : ℕ) (any : 0 < n) (small : n ≤ 65536) where
   -- the draw of an own entry
   pub draw_step : (id : ℕ) (me : Me (Option P) View) (body : ℕ) (what : What) → me.0.gone ≡ false → me.0.spent ≡ false → IsOwn what → Asks p me.0.kept body what
-      → Allows (Held entries arguments keeps_to p n) n id me 0 (λ x. (x + 1) % 2 ^ 64) (draws p body what (step n 0 1 0 none) me)
-  draw_step id me body what live untold own next = counter_step Unseen (Whole entries arguments keeps_to p n) n id me (λ x. (x + 1) % 2 ^ 64) (draws p body what (step n 0 1 0 none) me)
+      → Allows (Held entries arguments keeps_to p n width) n id me 0 (λ x. (x + 1) % 2 ^ 64) (draws p body what (step n 0 1 0 none) me)
+  draw_step id me body what live untold own next = counter_step Unseen (Whole entries arguments keeps_to p n) n width id me (λ x. (x + 1) % 2 ^ 64) (draws p body what (step n 0 1 0 none) me)
       (λ m u whole at fits. go m u whole at (dec_le n m.count))
     where
       -- a desk that has not begun is the first one, and the counter is 0
@@ -119,8 +119,8 @@ module _ {P : Type 0} (entries : P → List Entry) (arguments : P → List value
       cases false = refl
 
   -- the table at the start meets the rule
-  pub opens : IsTabled p → (n words_count : ℕ) → words_count ≡ 1 + 18 * n → Held entries arguments keeps_to p n (opening (replicate words_count 0) (replicate n None) newcomer_first)
-  opens tabled n words_count wide = record {
+  pub opens : IsTabled p → (n width words_count : ℕ) → words_count ≡ 1 + 2 * n + width * n → Held entries arguments keeps_to p n width (opening (replicate words_count 0) (replicate n None) newcomer_first)
+  opens tabled n width words_count wide = record {
     moment = first_moment;
     ghosts = record { journal = []; stage = λ i. Vacant; order = nothing_linked };
     shows = record {
@@ -128,8 +128,8 @@ module _ {P : Type 0} (entries : P → List Entry) (arguments : P → List value
       deep = length-map (replicate n None) (λ (x : Option P). some x) ∙ length-replicate n None;
       count = zero_at words_count 0;
       cells = λ i l. (zero_at words_count (1 + i), (omega arith, tt));
-      heads = λ k l. (zero_at words_count (1 + n + k), tt);
-      places = λ i l. (zero_at words_count (1 + 17 * n + i), tt);
+      heads = λ o j l few. (zero_at words_count (head_at n width o j), tt);
+      places = λ i l. (zero_at words_count (1 + n + i), tt);
       homes = λ i l. all_vacant n i None l;
       views = refl;
     };

@@ -1,5 +1,5 @@
 -- What the steps on messages ask of the table.
-use Rattle.std.proofs.Common.{◌≡◌, ◌⊎◌, false, ℕ, ◌+◌, ◌*◌, ◌%◌, ◌^◌, ◌<◌, ◌≤◌, eqb, List, [], ◌∷◌, ◌++◌, true, set, slice_get, refl, sym, ap, ◌∙◌, subst, arith, Option, Some, None}
+use Rattle.std.proofs.Common.{◌≡◌, ◌⊎◌, false, ℕ, ◌+◌, ◌%◌, ◌^◌, ◌<◌, ◌≤◌, eqb, List, [], ◌∷◌, ◌++◌, true, set, slice_get, refl, sym, ap, ◌∙◌, subst, arith, Option, Some, None}
 use mathlib.Core.Option.{none, some}
 use native.Mathlib.Decide.{dec_le}
 use lib.ListN.{get_elem?}
@@ -21,7 +21,7 @@ use Rattle.chord_word.specs.Cells.{word_of, link_of, WordFits, NextFits}
 use Rattle.chord_word.specs.Places.{place_word, PlaceFits}
 use Rattle.chord_rule.specs.declared.view.Claim.{Claim}
 use Rattle.chord_rule.specs.declared.view.View.{View}
-use Rattle.chord_rule.specs.Moment.{Moment, LinkOk}
+use Rattle.chord_rule.specs.Moment.{Moment, LinkOk, head_at}
 use Rattle.chord_rule.specs.Numbers.{HasNumber}
 use Rattle.chord_rule.specs.Kinds.{newcomer, gone, MayGo, entry, drew, was_told, claimed, saw, saw_count, saw_head}
 use Rattle.chord_rule.specs.Bags.{head_number, IsConsumed}
@@ -35,6 +35,7 @@ use Rattle.chord_rule.specs.Kinds as kinds
 use Rattle.chord_rule.specs.StandsFor.{Unseen}
 use Rattle.chord_rule.specs.Tells.{word, a_word, CameNext, ClaimTells, draws, draws_firing, places, link_adds, arms, claims, holds, unclaims, consumes, slot_returns, posts_out, posts, starts, plays, finds_place}
 use Rattle.chord_rule.specs.Whole.{Held, Whole}
+use Rattle.chord_rule.proofs.KeySteps.{head_key}
 use Rattle.chord_rule.proofs.Puts.{put, at_inside}
 use Rattle.chord_rule.proofs.BagSteps.{linked_order}
 use Rattle.chord_rule.proofs.Bridge.{Can, after_act, counter_step, store_cell, swap_head, store_place, exchange_cell, load_cell}
@@ -70,14 +71,14 @@ same_out {P} i j q r e = (ap (λ (xs : List (ℕ × Option P)). number_out xs) e
     parcel_out [] = q
     parcel_out (x ∷ xs) = parcel_of x.1
 
-module _ {P : Type 0} (entries : P → List Entry) (arguments : P → List value.Value) (keeps_to : P → Type 0) (p : Program) (n : ℕ) (any : 0 < n) (small : n ≤ 65536) where
+module _ {P : Type 0} (entries : P → List Entry) (arguments : P → List value.Value) (keeps_to : P → Type 0) (p : Program) (n width : ℕ) (any : 0 < n) (small : n ≤ 65536) where
   -- the rule at a moment
   abbrev W : Moment P → Unseen → Type 0
   W = Whole entries arguments keeps_to p n
 
   -- the table shows a moment that meets the rule
   abbrev H : State (Option P) View → Type 0
-  H = Held entries arguments keeps_to p n
+  H = Held entries arguments keeps_to p n width
 
   -- a step that changes nothing
   pub unmoved : (m : Moment P) (u : Unseen) → W m u → (id : ℕ) (v : View) → get_elem? m.views id ≡ some v → W (record m { views = set m.views id v }) u
@@ -86,7 +87,7 @@ module _ {P : Type 0} (entries : P → List Entry) (arguments : P → List value
   -- the draw of a firing
   pub draw_firing_step : (id : ℕ) (me : Me (Option P) View) (k : ℕ) (object : Object) (js ms : List ℕ) (vs : List value.Value) → me.0.gone ≡ false → me.0.spent ≡ false → slice_get (p.chords object.class) k ≡ Some js → AreClaimed me.0.claims object js ms vs
       → Allows H n id me 0 (λ x. (x + 1) % 2 ^ 64) (draws_firing p k object ms (step n 0 1 0 none) me)
-  draw_firing_step id me k object js ms vs live untold chord members = counter_step Unseen W n id me (λ x. (x + 1) % 2 ^ 64) (draws_firing p k object ms (step n 0 1 0 none) me)
+  draw_firing_step id me k object js ms vs live untold chord members = counter_step Unseen W n width id me (λ x. (x + 1) % 2 ^ 64) (draws_firing p k object ms (step n 0 1 0 none) me)
       (λ m u whole at fits. go m u whole at (dec_le n m.count))
     where
       go : (m : Moment P) (u : Unseen) (whole : W m u) (at : get_elem? m.views id ≡ some me.0) → Dec (n ≤ m.count)
@@ -127,8 +128,8 @@ module _ {P : Type 0} (entries : P → List Entry) (arguments : P → List value
 
   -- the place word of a message is set
   pub place_step : (id : ℕ) (me : Me (Option P) View) (i : ℕ) (e : Entry) (x : Message) → me.0.gone ≡ false → x.object.number < n → x.method < 16 → PlaceFits x.object x.method → i < n → IsIn e me.0.kept → e.number ≡ i → message_of e.what ≡ Some x → HasNumber i me.0.fresh → me.0.placing ≡ None
-      → Allows H n id me (1 + 17 * n + i) (λ _. place_word x.object x.method) (λ _. places (step n (1 + 17 * n + i) (place_word x.object x.method) 0 none) me (place_word x.object x.method))
-  place_step id me i e x live near few fits low is num says has free = store_place Unseen W n id me i (Some (x.object, x.method)) (places (step n (1 + 17 * n + i) (place_word x.object x.method) 0 none) me (place_word x.object x.method)) low fits
+      → Allows H n id me (1 + n + i) (λ _. place_word x.object x.method) (λ _. places (step n (1 + n + i) (place_word x.object x.method) 0 none) me (place_word x.object x.method))
+  place_step id me i e x live near few fits low is num says has free = store_place Unseen W n width id me i (Some (x.object, x.method)) (places (step n (1 + n + i) (place_word x.object x.method) 0 none) me (place_word x.object x.method)) low fits
       (λ m u whole at. (
         kinds.address_set me.0 i,
         takes i None,
@@ -139,25 +140,25 @@ module _ {P : Type 0} (entries : P → List Entry) (arguments : P → List value
       ))
 
   -- a message is linked at the head of its bag
-  pub linking_step : (id : ℕ) (v : View) (i : ℕ) (q : P) (e : Entry) (x : Message) → v.gone ≡ false → x.object.number < n → IsIn e v.kept → e.number ≡ i → i < 65536 → message_of e.what ≡ Some x → x.method < 16 → v.placing ≡ Some i → v.flight ≡ None
+  pub linking_step : (id : ℕ) (v : View) (i : ℕ) (q : P) (e : Entry) (x : Message) → v.gone ≡ false → x.object.number < n → IsIn e v.kept → e.number ≡ i → i < 65536 → message_of e.what ≡ Some x → x.method < width → width ≤ 16 → v.placing ≡ Some i → v.flight ≡ None
       → MayGo p v.kept (entries q) → ((e : Entry) (x : Message) → IsIn e (entries q) → message_of e.what ≡ Some x → (e.number ≡ i) ⊎ (IsUnlinked (hand v) e.number → ⊥)) → x.arguments ≡ arguments q → ((e : Entry) → IsIn e v.kept → IsCall i e → IsIn e (entries q))
       → ((b : ℕ) → BeginsThere b (entries q) → IsParkedThere p (entries q) (Some i) (doing p (entries q) b)) → keeps_to q
-      → Allows H n id (v, (i, Some q) ∷ []) (1 + n + head_number (key x.object x.method)) (λ _. link_of (Some i)) (link_adds entries x.object x.method (step n (1 + n + head_number (key x.object x.method)) (link_of (Some i)) 0 none) (v, (i, Some q) ∷ []))
-  linking_step id v i q e x live object is num small_i says method placing free may others args call parked task =
-      swap_head Unseen W n id (v, (i, Some q) ∷ []) (head_number (key x.object x.method)) (Some i) (link_adds entries x.object x.method (step n (1 + n + head_number (key x.object x.method)) (link_of (Some i)) 0 none) (v, (i, Some q) ∷ [])) (omega arith) small_i
+      → Allows H n id (v, (i, Some q) ∷ []) (head_at n width x.object.number x.method) (λ _. link_of (Some i)) (link_adds entries x.object x.method (step n (head_at n width x.object.number x.method) (link_of (Some i)) 0 none) (v, (i, Some q) ∷ []))
+  linking_step id v i q e x live object is num small_i says method most placing free may others args call parked task =
+      swap_head Unseen W n width id (v, (i, Some q) ∷ []) x.object.number x.method (head_number (key x.object x.method)) (Some i) (link_adds entries x.object x.method (step n (head_at n width x.object.number x.method) (link_of (Some i)) 0 none) (v, (i, Some q) ∷ [])) object method most (head_key x.object x.method (omega arith) (omega arith)) small_i
       (λ m u whole at fits. let k = key x.object x.method in let above = m.heads (head_number k) in (
         saw_head (kinds.flown v i k above (entries q)) (head_number k) (Some i),
         gives,
         record u { stage = put u.stage i (InHand id (Flying k above)); order = linked_order u.order i k above },
         tt,
-        wholes.whole_link entries arguments keeps_to p n small m u whole id v at live i q e x is num says method placing free may others args call parked task,
+        wholes.whole_link entries arguments keeps_to p n small m u whole id v at live i q e x is num says (omega arith) placing free may others args call parked task,
         (λ j r e. let same = same_out i j q r e in (refl, (above, refl, fits, λ z. saw_head (kinds.flown v (same.0 z) k above (entries (same.1 z))) (head_number k) (Some (same.0 z))))),
       ))
 
   -- a linked message is armed
   pub arm_step : (id : ℕ) (me : Me (Option P) View) (i : ℕ) → me.0.gone ≡ false → i < n → me.0.flight ≡ Some i
       → Allows H n id me (1 + i) (λ _. word a_cell.Pending me.0.above) (λ _. arms (step n (1 + i) (word a_cell.Pending me.0.above) 0 none) me (word a_cell.Pending me.0.above))
-  arm_step id me i live low flying = store_cell Unseen W n id me i (record { cell = a_cell.Pending; next = me.0.above }) (arms (step n (1 + i) (word a_cell.Pending me.0.above) 0 none) me (word a_cell.Pending me.0.above)) low
+  arm_step id me i live low flying = store_cell Unseen W n width id me i (record { cell = a_cell.Pending; next = me.0.above }) (arms (step n (1 + i) (word a_cell.Pending me.0.above) 0 none) me (word a_cell.Pending me.0.above)) low
       (λ m u whole at good. (
         (omega arith, fits me.0.above (bagging.above_low entries arguments keeps_to p n small m u whole.agrees.stands whole.agrees.heads whole.agrees.bags id me.0 at i flying)),
         (saw (kinds.armed me.0 i) i (a_word a_cell.Pending me.0.above), keeps, record u { stage = put u.stage i Armed }, tt, wholes.whole_arm entries arguments keeps_to p n small m u whole id me.0 at live i flying, (λ j q. let same : i ≡ j = (let z = sym flying ∙ q in cc) in λ k. (saw (kinds.armed me.0 (same k)) (same k) (a_word a_cell.Pending me.0.above), me.1))),
@@ -170,7 +171,7 @@ module _ {P : Type 0} (entries : P → List Entry) (arguments : P → List value
   -- a pending message is claimed, if its cell is as it was seen
   pub claim_step : (id : ℕ) (me : Me (Option P) View) (i : ℕ) (next : Option ℕ) → me.0.gone ≡ false → i < n → NextFits a_cell.Pending next → HasSeen me.0 i next
       → Allows H n id me (1 + i) (λ z. either (eqb z (word a_cell.Pending next)) (word a_cell.Claimed next) z) (claims (step n (1 + i) (word a_cell.Pending next) (word a_cell.Claimed next) none) me)
-  claim_step id me i next live low fits saw_it = exchange_cell Unseen W n id me i (a_word a_cell.Pending next) (a_word a_cell.Claimed next) (claims (step n (1 + i) (word a_cell.Pending next) (word a_cell.Claimed next) none) me) low
+  claim_step id me i next live low fits saw_it = exchange_cell Unseen W n width id me i (a_word a_cell.Pending next) (a_word a_cell.Claimed next) (claims (step n (1 + i) (word a_cell.Pending next) (word a_cell.Claimed next) none) me) low
       (omega arith, fits) (omega arith, (link_low a_cell.Pending next fits).0)
       (λ m u whole at is. let x = standing.pending_message entries arguments keeps_to p n m u whole.agrees.stands id me.0 at i next is in let c : Claim = claim_on i next x.0 in (
         saw (claimed me.0 c) i (a_word a_cell.Claimed next),
@@ -218,7 +219,7 @@ module _ {P : Type 0} (entries : P → List Entry) (arguments : P → List value
 
   -- a load of the cell of a claim
   pub claim_word_step : (id : ℕ) (me : Me (Option P) View) (i : ℕ) → i < n → Allows H n id me (1 + i) (λ x. x) (holds (step n (1 + i) 0 0 none) me)
-  claim_word_step id me i low = load_cell Unseen W n id me i (holds (step n (1 + i) 0 0 none) me) low
+  claim_word_step id me i low = load_cell Unseen W n width id me i (holds (step n (1 + i) 0 0 none) me) low
       (λ m u whole at good. (
         me.0,
         keeps,
@@ -235,7 +236,7 @@ module _ {P : Type 0} (entries : P → List Entry) (arguments : P → List value
   -- the table allows a desk to give back a claim for no firing
   pub give_step : (id : ℕ) (me : Me (Option P) View) (c : Claim) → me.0.gone ≡ false → c.number < n → HasThe c me.0.claims → c.firing ≡ None
       → Allows H n id me (1 + c.number) (λ _. word a_cell.Pending c.next) (λ _. unclaims (step n (1 + c.number) (word a_cell.Pending c.next) 0 none) me (word a_cell.Pending c.next))
-  give_step id me c live low has free = store_cell Unseen W n id me c.number (record { cell = a_cell.Pending; next = c.next }) (unclaims (step n (1 + c.number) (word a_cell.Pending c.next) 0 none) me (word a_cell.Pending c.next)) low
+  give_step id me c live low has free = store_cell Unseen W n width id me c.number (record { cell = a_cell.Pending; next = c.next }) (unclaims (step n (1 + c.number) (word a_cell.Pending c.next) 0 none) me (word a_cell.Pending c.next)) low
       (λ m u whole at good. let is = standing.claim_word entries arguments keeps_to p n m u whole.agrees.stands id me.0 at c has in (
         (omega arith, (link_low a_cell.Claimed c.next (subst WordFits is good).1).1),
         (
@@ -251,7 +252,7 @@ module _ {P : Type 0} (entries : P → List Entry) (arguments : P → List value
   -- the table allows a desk to consume a message that it has claimed for a firing
   pub consume_step : (id : ℕ) (me : Me (Option P) View) (c : Claim) (f : ℕ) → me.0.gone ≡ false → c.number < n → HasThe c me.0.claims → c.firing ≡ Some f → me.0.emptying ≡ None
       → Allows H n id me (1 + c.number) (λ _. word a_cell.Consumed c.next) (λ _. consumes p entries arguments keeps_to (step n (1 + c.number) (word a_cell.Consumed c.next) 0 none) me (word a_cell.Consumed c.next))
-  consume_step id me c f live low has for free = store_cell Unseen W n id me c.number (record { cell = a_cell.Consumed; next = c.next }) (consumes p entries arguments keeps_to (step n (1 + c.number) (word a_cell.Consumed c.next) 0 none) me (word a_cell.Consumed c.next)) low
+  consume_step id me c f live low has for free = store_cell Unseen W n width id me c.number (record { cell = a_cell.Consumed; next = c.next }) (consumes p entries arguments keeps_to (step n (1 + c.number) (word a_cell.Consumed c.next) 0 none) me (word a_cell.Consumed c.next)) low
       (λ m u whole at good. let is = standing.claim_word entries arguments keeps_to p n m u whole.agrees.stands id me.0 at c has in let home = standing.claim_home entries arguments keeps_to p n m u whole.agrees.stands id me.0 at c has in
       let comes = standing.claim_comes entries arguments keeps_to p n m u whole.agrees.stands id me.0 at c home.0 has home.1 in (
         (omega arith, (link_low a_cell.Claimed c.next (subst WordFits is good).1).2),
@@ -277,14 +278,14 @@ module _ {P : Type 0} (entries : P → List Entry) (arguments : P → List value
 
   -- the table allows a desk to bring the empty slot of a message that it consumed home
   pub empty_step : (id : ℕ) (v : View) (i : ℕ) → v.gone ≡ false → v.emptying ≡ Some i → Allows H n id (v, (i, None) ∷ []) 0 (λ x. x) (slot_returns (step n 0 0 0 none) (v, (i, None) ∷ []))
-  empty_step id v i live is = counter_step Unseen W n id (v, (i, None) ∷ []) (λ x. x) (slot_returns (step n 0 0 0 none) (v, (i, None) ∷ []))
+  empty_step id v i live is = counter_step Unseen W n width id (v, (i, None) ∷ []) (λ x. x) (slot_returns (step n 0 0 0 none) (v, (i, None) ∷ []))
       (λ m u whole at fits. (kinds.emptied v, gives, record u { stage = put u.stage i Spent }, tt, wholes.whole_empty entries arguments keeps_to p n small m u whole id v at live i is, (λ j e q. refl)))
 
   -- ## Firings
 
   -- the table allows a desk to take out the empty slot of a firing that it has not posted
   pub post_out_step : (id : ℕ) (me : Me (Option P) View) (f : ℕ) → me.0.gone ≡ false → f < n → HasNumber f me.0.unposted → me.0.posting ≡ None → Allows H n id me (1 + f) (λ x. x) (posts_out (step n (1 + f) 0 0 none) me)
-  post_out_step id me f live low has free = load_cell Unseen W n id me f (posts_out (step n (1 + f) 0 0 none) me) low
+  post_out_step id me f live low has free = load_cell Unseen W n width id me f (posts_out (step n (1 + f) 0 0 none) me) low
       (λ m u whole at good. (
         kinds.posting me.0 f,
         takes f None,
@@ -298,7 +299,7 @@ module _ {P : Type 0} (entries : P → List Entry) (arguments : P → List value
   pub post_step : (id : ℕ) (v : View) (f : ℕ) (q : P) → v.gone ≡ false → f < n → v.posting ≡ Some f → MayGo p v.kept (entries q) → ((e : Entry) (x : Message) → IsIn e (entries q) → message_of e.what ≡ Some x → IsUnlinked (hand v) e.number → ⊥)
       → BeginsThere f (entries q) → ((e : Entry) → IsIn e (entries q) → e.body ≡ f → e.number ≡ f) → ((b : ℕ) → (b ≡ f → ⊥) → BeginsThere b (entries q) → IsParkedThere p (entries q) None (doing p (entries q) b)) → keeps_to q
       → Allows H n id (v, (f, Some q) ∷ []) (1 + f) (λ _. word a_cell.Ready None) (λ _. posts entries (step n (1 + f) (word a_cell.Ready None) 0 none) (v, (f, Some q) ∷ []) (word a_cell.Ready None))
-  post_step id v f q live low posting may others begins only parked task = store_cell Unseen W n id (v, (f, Some q) ∷ []) f (record { cell = a_cell.Ready; next = None }) (posts entries (step n (1 + f) (word a_cell.Ready None) 0 none) (v, (f, Some q) ∷ []) (word a_cell.Ready None)) low
+  post_step id v f q live low posting may others begins only parked task = store_cell Unseen W n width id (v, (f, Some q) ∷ []) f (record { cell = a_cell.Ready; next = None }) (posts entries (step n (1 + f) (word a_cell.Ready None) 0 none) (v, (f, Some q) ∷ []) (word a_cell.Ready None)) low
       (λ m u whole at good. (
         (omega arith, tt),
         (saw (kinds.posted v (entries q)) f (a_word a_cell.Ready None), gives, record u { stage = put u.stage f Posted }, tt, wholes.whole_post entries arguments keeps_to p n small m u whole id v at live f q posting may others begins only parked task, (λ g r e. let same = same_out f g q r e in (λ z. saw (kinds.posted v (entries (same.1 z))) (same.0 z) (a_word a_cell.Ready None), refl))),
@@ -307,7 +308,7 @@ module _ {P : Type 0} (entries : P → List Entry) (arguments : P → List value
   -- the table allows a desk to start a firing if its cell is ready, and to remember its cell if not
   pub start_step : (id : ℕ) (me : Me (Option P) View) (f : ℕ) → me.0.gone ≡ false → f < n → me.0.starting ≡ None
       → Allows H n id me (1 + f) (λ z. either (eqb z (word a_cell.Ready None)) (word a_cell.Started None) z) (starts p entries keeps_to (step n (1 + f) (word a_cell.Ready None) (word a_cell.Started None) none) me)
-  start_step id me f live low free = exchange_cell Unseen W n id me f (record { cell = a_cell.Ready; next = None }) (record { cell = a_cell.Started; next = None }) (starts p entries keeps_to (step n (1 + f) (word a_cell.Ready None) (word a_cell.Started None) none) me) low
+  start_step id me f live low free = exchange_cell Unseen W n width id me f (record { cell = a_cell.Ready; next = None }) (record { cell = a_cell.Started; next = None }) (starts p entries keeps_to (step n (1 + f) (word a_cell.Ready None) (word a_cell.Started None) none) me) low
       (omega arith, tt) (omega arith, tt)
       (λ m u whole at is.
       let ready : (m.cells f).cell ≡ a_cell.Ready = ap (λ (c : Word). c.cell) is in
@@ -333,14 +334,14 @@ module _ {P : Type 0} (entries : P → List Entry) (arguments : P → List value
 
   -- the slot of a started firing is home again
   pub play_step : (id : ℕ) (v : View) (f : ℕ) → v.gone ≡ false → v.starting ≡ Some f → Allows H n id (v, (f, None) ∷ []) 0 (λ x. x) (plays (step n 0 0 0 none) (v, (f, None) ∷ []))
-  play_step id v f live is = counter_step Unseen W n id (v, (f, None) ∷ []) (λ x. x) (plays (step n 0 0 0 none) (v, (f, None) ∷ []))
+  play_step id v f live is = counter_step Unseen W n width id (v, (f, None) ∷ []) (λ x. x) (plays (step n 0 0 0 none) (v, (f, None) ∷ []))
       (λ m u whole at fits. (kinds.played v, gives, record u { stage = put u.stage f Played }, tt, wholes.whole_play entries arguments keeps_to p n small m u whole id v at live f is, (λ j e q. refl)))
 
   -- ## Desks
 
   -- a look at the counter tells the desk that what it keeps is a place of the run
   pub find_place_step : (id : ℕ) (me : Me (Option P) View) → me.0.gone ≡ false → Allows H n id me 0 (λ x. x) (finds_place p (step n 0 0 0 none) me)
-  find_place_step id me live = counter_step Unseen W n id me (λ x. x) (finds_place p (step n 0 0 0 none) me)
+  find_place_step id me live = counter_step Unseen W n width id me (λ x. x) (finds_place p (step n 0 0 0 none) me)
       (λ m u whole at fits. (me.0, keeps, u, tt, unmoved m u whole id me.0 at, (refl, coming.desk_place entries arguments keeps_to p n m u whole.agrees.stands id me.0 at)))
 
   -- the first desk lends one
@@ -366,7 +367,7 @@ module _ {P : Type 0} (entries : P → List Entry) (arguments : P → List value
   -- Main begins
   pub begun_step : (id : ℕ) (me : Me (Option P) View) → me.0.gone ≡ false → me.0.first ≡ true → me.0.drawn ≡ false → me.0.splits ≡ 0
       → Allows H n id me 0 (λ x. (x + 1) % 2 ^ 64) (draws p 0 Begun (step n 0 1 0 none) me)
-  begun_step id me live is_first not_drawn not_split = counter_step Unseen W n id me (λ x. (x + 1) % 2 ^ 64) (draws p 0 Begun (step n 0 1 0 none) me)
+  begun_step id me live is_first not_drawn not_split = counter_step Unseen W n width id me (λ x. (x + 1) % 2 ^ 64) (draws p 0 Begun (step n 0 1 0 none) me)
       (λ m u whole at fits.
       let none_drawn = whole.agrees.firsts.untouched me.0 (ap (get_elem? m.views) (sym (whole.agrees.firsts.leads id me.0 at is_first)) ∙ at) not_drawn not_split in
       let w : View = saw_count (drew me.0 m.count 0 Begun) (m.count + 1) in let u' : Unseen = record u { journal = entry m.count 0 Begun ∷ u.journal; stage = u.stage } in (

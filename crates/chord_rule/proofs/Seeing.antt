@@ -1,5 +1,5 @@
 -- What looks and rests ask of the table.
-use Rattle.std.proofs.Common.{◌≡◌, inl, ⊎_elim, false, ℕ, ◌+◌, ◌*◌, ◌<◌, ◌≤◌, List, [], ◌∷◌, set, refl, sym, ap, ◌∙◌, subst, arith, Option, Some}
+use Rattle.std.proofs.Common.{◌≡◌, inl, ⊎_elim, false, ℕ, ◌+◌, ◌<◌, ◌≤◌, List, [], ◌∷◌, set, refl, sym, ap, ◌∙◌, subst, arith, Option, Some}
 use mathlib.Core.Option.{none, some}
 use lib.ListN.{get_elem?}
 use Rattle.atomic_table.specs.Table.{State, Allows, Me, keeps, step}
@@ -12,7 +12,7 @@ use Rattle.chord_word.specs.declared.cells.Word.{Word}
 use Rattle.chord_word.specs.Cells.{word_of, WordFits}
 use Rattle.chord_rule.specs.declared.view.Duty.{Duty}
 use Rattle.chord_rule.specs.declared.view.View.{View}
-use Rattle.chord_rule.specs.Moment.{Moment, Place}
+use Rattle.chord_rule.specs.Moment.{Moment, Place, head_at}
 use Rattle.chord_rule.specs.Bags.{IsArmed, cell_of, head_number}
 use Rattle.chord_rule.specs.Duties.{HasDuty, MayRest}
 use Rattle.chord_rule.specs.Kinds.{saw_count, looked_head, looked_cell, rested}
@@ -35,18 +35,18 @@ use Rattle.chord_rule.proofs.WaySteps.{way_room, linked_numbers, were_linked}
 use Rattle.chord_rule.proofs.Wholes as wholes
 use Rattle.atomic_table.proofs.Lists.{set_here}
 
-module _ {P : Type 0} (entries : P → List Entry) (arguments : P → List value.Value) (keeps_to : P → Type 0) (p : Program) (n : ℕ) (any : 0 < n) (small : n ≤ 65536) where
+module _ {P : Type 0} (entries : P → List Entry) (arguments : P → List value.Value) (keeps_to : P → Type 0) (p : Program) (n width : ℕ) (any : 0 < n) (small : n ≤ 65536) where
   -- the rule at a moment
   abbrev W : Moment P → Unseen → Type 0
   W = Whole entries arguments keeps_to p n
 
   -- the table shows a moment that meets the rule
   abbrev H : State (Option P) View → Type 0
-  H = Held entries arguments keeps_to p n
+  H = Held entries arguments keeps_to p n width
 
   -- a look at the counter
   pub look_count_step : (id : ℕ) (me : Me (Option P) View) → me.0.gone ≡ false → Allows H n id me 0 (λ x. x) (looks_count (step n 0 0 0 none) me)
-  look_count_step id me live = counter_step Unseen W n id me (λ x. x) (looks_count (step n 0 0 0 none) me)
+  look_count_step id me live = counter_step Unseen W n width id me (λ x. x) (looks_count (step n 0 0 0 none) me)
       (λ m u whole at fits. (saw_count me.0 m.count, keeps, u, tt, wholes.whole_look_count entries arguments keeps_to p n small m u whole id me.0 at live, refl))
 
   -- the ways of a desk have room
@@ -54,26 +54,23 @@ module _ {P : Type 0} (entries : P → List Entry) (arguments : P → List value
   room_of m u id v w at after_act = (after_act.desks.right id w (set_here m.views id w (at_inside m.views id v at))).ways
 
   -- a look at the head of a bag
-  pub look_head_step : (id : ℕ) (me : Me (Option P) View) (o : Object) (j : ℕ) → me.0.gone ≡ false → o.number < n → j < 16
-      → Allows H n id me (1 + n + (16 * o.number + j)) (λ x. x) (looks_head entries arguments keeps_to p o j (step n (1 + n + (16 * o.number + j)) 0 0 none) me)
-  look_head_step id me o j live low few = load_head Unseen W n id me (16 * o.number + j) (looks_head entries arguments keeps_to p o j (step n (1 + n + (16 * o.number + j)) 0 0 none) me) (omega arith)
-      (λ m u whole at fits.
-      let h = m.heads (16 * o.number + j) in let are = linked m u whole at in let is = linked_numbers n u.order (head_number (key o j)) in let w : View = looked_head me.0 (key o j) is h in
-      let headed = head_key o j (omega (arith, low, small)) few in
-      let after_act : W (record m { views = set m.views id w }) u = subst (λ (k : ℕ). W (record m { views = set m.views id (looked_head me.0 (key o j) is (m.heads k)) }) u) headed (wholes.whole_look_head entries arguments keeps_to p n small m u whole id me.0 at live (key o j) is are) in (
+  pub look_head_step : (id : ℕ) (me : Me (Option P) View) (o : Object) (j : ℕ) → me.0.gone ≡ false → o.number < n → j < width → width ≤ 16
+      → Allows H n id me (head_at n width o.number j) (λ x. x) (looks_head entries arguments keeps_to p o j (step n (head_at n width o.number j) 0 0 none) me)
+  look_head_step id me o j live low few most = load_head Unseen W n width id me o.number j (head_number (key o j)) (looks_head entries arguments keeps_to p o j (step n (head_at n width o.number j) 0 0 none) me) low few (head_key o j (omega arith) (omega arith))
+      (λ m u whole at fits. let h = m.heads (head_number (key o j)) in let are = linked m u whole at in let is = linked_numbers n u.order (head_number (key o j)) in let w : View = looked_head me.0 (key o j) is h in (
         w,
         keeps,
         u,
         tt,
-        subst (λ (k : ℕ). W (record m { views = set m.views id (looked_head me.0 (key o j) is (m.heads k)) }) u) headed (wholes.whole_look_head entries arguments keeps_to p n small m u whole id me.0 at live (key o j) is are),
+        wholes.whole_look_head entries arguments keeps_to p n small m u whole id me.0 at live (key o j) is are,
         (
           h,
           is,
           refl,
           fits,
           refl,
-          way_room n m.cells u.order w.looked.ways (room_of m u id me.0 w at after_act),
-          record { moment = m; unseen = u; rule = whole; desk = (id, at); read = ap m.heads headed; linked = are },
+          way_room n m.cells u.order w.looked.ways (room_of m u id me.0 w at (wholes.whole_look_head entries arguments keeps_to p n small m u whole id me.0 at live (key o j) is are)),
+          record { moment = m; unseen = u; rule = whole; desk = (id, at); read = refl; linked = are },
         ),
       ))
     where
@@ -82,7 +79,7 @@ module _ {P : Type 0} (entries : P → List Entry) (arguments : P → List value
 
   -- a look at a cell
   pub look_cell_step : (id : ℕ) (me : Me (Option P) View) (i : ℕ) → me.0.gone ≡ false → i < n → Allows H n id me (1 + i) (λ x. x) (looks_cell (step n (1 + i) 0 0 none) me)
-  look_cell_step id me i live low = load_cell Unseen W n id me i (looks_cell (step n (1 + i) 0 0 none) me) low
+  look_cell_step id me i live low = load_cell Unseen W n width id me i (looks_cell (step n (1 + i) 0 0 none) me) low
       (λ m u whole at good. let w : View = looked_cell me.0 i (m.cells i) in let after_act = wholes.whole_look_cell entries arguments keeps_to p n small m u whole id me.0 at live i in (
         w,
         keeps,
@@ -110,14 +107,14 @@ module _ {P : Type 0} (entries : P → List Entry) (arguments : P → List value
       }
 
   -- a look at a place word
-  pub look_place_step : (id : ℕ) (me : Me (Option P) View) (i : ℕ) → i < n → Allows H n id me (1 + 17 * n + i) (λ x. x) (looks_place (step n (1 + 17 * n + i) 0 0 none) me)
-  look_place_step id me i low = load_place Unseen W n id me i (looks_place (step n (1 + 17 * n + i) 0 0 none) me) low
+  pub look_place_step : (id : ℕ) (me : Me (Option P) View) (i : ℕ) → i < n → Allows H n id me (1 + n + i) (λ x. x) (looks_place (step n (1 + n + i) 0 0 none) me)
+  look_place_step id me i low = load_place Unseen W n width id me i (looks_place (step n (1 + n + i) 0 0 none) me) low
       (λ m u whole at good. (
         me.0,
         keeps,
         u,
         tt,
-        unmoved entries arguments keeps_to p n any small m u whole id me.0 at,
+        unmoved entries arguments keeps_to p n width any small m u whole id me.0 at,
         (
           refl,
           (λ j e. let same : i ≡ j = omega arith in (
@@ -159,7 +156,7 @@ module _ {P : Type 0} (entries : P → List Entry) (arguments : P → List value
   -- a duty is laid down: each duty on this message in one of its bags may rest
   pub rest_step : (id : ℕ) (me : Me (Option P) View) (d : Duty) → me.0.gone ≡ false → HasDuty d me.0.duties → ((e : Duty) → HasDuty e me.0.duties → e.message ≡ d.message → e.bag ≡ d.bag → MayRest (IsChord p) e)
       → Allows H n id me 0 (λ x. x) (rests d.message (step n 0 0 0 none) me)
-  rest_step id me d live has may = counter_step Unseen W n id me (λ x. x) (rests d.message (step n 0 0 0 none) me)
+  rest_step id me d live has may = counter_step Unseen W n width id me (λ x. x) (rests d.message (step n 0 0 0 none) me)
       (λ m u whole at fits. (
         rested me.0 d.message,
         keeps,

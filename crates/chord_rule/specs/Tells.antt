@@ -1,5 +1,5 @@
 -- What each step tells: of the step, the desk before, the word found, and the desk after.
-use Rattle.std.specs.Prelude.{◌≡◌, ◌≢◌, ◌⊎◌, ℕ, ◌+◌, ◌*◌, ◌<◌, ◌≤◌, true, false, List, [], ◌∷◌, Option, Some, None, slice_get}
+use Rattle.std.specs.Prelude.{◌≡◌, ◌≢◌, ◌⊎◌, ℕ, ◌+◌, ◌<◌, ◌≤◌, true, false, List, [], ◌∷◌, Option, Some, None, slice_get}
 use Rattle.atomic_table.specs.Table.{Me, Step}
 use Rattle.chord_base.specs.declared.value.Object.{Object}
 use Rattle.chord_base.specs.declared.value.Value as value
@@ -81,7 +81,7 @@ module _ {S : Type 0} where
 
   -- the place word is set, and the empty slot is out
   abbrev pub places : Step (Option S) → Me (Option S) View → ℕ → Me (Option S) View → Type 0
-  places s m x w = (i : ℕ) → s.word ≡ 1 + 17 * s.slots + i → (w.0 ≡ address_set m.0 i) × (w.1 ≡ (i, None) ∷ m.1)
+  places s m x w = (i : ℕ) → s.word ≡ 1 + s.slots + i → (w.0 ≡ address_set m.0 i) × (w.1 ≡ (i, None) ∷ m.1)
 
   -- the message of the slot that is out is linked in the bag of its object and method, and the parcel goes with its entries
   abbrev pub link_adds : (S → List Entry) → Object → ℕ → Step (Option S) → Me (Option S) View → ℕ → Me (Option S) View → Type 0
@@ -162,7 +162,7 @@ module _ {S : Type 0} where
 
   -- a place word: it is within the table, and it is the place of each bag in which the desk knows the message to be
   abbrev pub looks_place : Step (Option S) → Me (Option S) View → ℕ → Me (Option S) View → Type 0
-  looks_place s m x w = (w ≡ m) × ((i : ℕ) → s.word ≡ 1 + 17 * s.slots + i → (pl : Option Place) × (x ≡ word_at_place pl) × PlaceOk pl
+  looks_place s m x w = (w ≡ m) × ((i : ℕ) → s.word ≡ 1 + s.slots + i → (pl : Option Place) × (x ≡ word_at_place pl) × PlaceOk pl
       × ((q : Place) → pl ≡ Some q → (q.0.number < s.slots) × (q.1 < 16))
       × ((d : Duty) → HasDuty d m.0.duties → d.message ≡ i → (q : Place) × (pl ≡ Some q) × (d.bag ≡ key q.0 q.1))
       × ((c : Claim) → HasThe c m.0.claims → c.number ≡ i → pl ≡ Some (c.object, c.method)))
@@ -176,8 +176,8 @@ module _ {S : Type 0} where
       × (x ≢ s.first → (h : Option ℕ) × (x ≡ link_of h) × LinkOk h × (h ≢ Some from) × (w.0 ≡ saw_head m.0 head h))
 
   -- a head is moved past consumed messages, or was read
-  abbrev pub bypasses_head : Step (Option S) → Me (Option S) View → ℕ → Me (Option S) View → Type 0
-  bypasses_head s m x w = (head from : ℕ) (to : Option ℕ) → s.word ≡ 1 + s.slots + head → s.first ≡ link_of (Some from) → s.second ≡ link_of to → BypassTells head from to s m x w
+  abbrev pub bypasses_head : Object → ℕ → Step (Option S) → Me (Option S) View → ℕ → Me (Option S) View → Type 0
+  bypasses_head o j s m x w = (from : ℕ) (to : Option ℕ) → s.first ≡ link_of (Some from) → s.second ≡ link_of to → BypassTells (head_number (key o j)) from to s m x w
 
   -- where the word was that of the consumed message i with the next `from`, its next is `to`; else it was another
   abbrev pub BypassCellTells : ℕ → (from to : Option ℕ) → Step (Option S) → Me (Option S) View → ℕ → Me (Option S) View → Type 0

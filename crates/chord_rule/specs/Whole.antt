@@ -23,6 +23,6 @@ pub record Whole {P : Type 0} (entries : P → List Entry) (arguments : P → Li
   pub places : PlaceLaw n m.places
   pub alone : AloneLaw m.count m.heads m.cells m.views
 
--- the table shows a moment that meets the whole rule
-abbrev pub Held : {P : Type 0} → (P → List Entry) → (P → List value.Value) → (P → Type 0) → Program → ℕ → State (Option P) View → Type 0
-Held entries arguments keeps_to p n = HeldBy Unseen (Whole entries arguments keeps_to p n) n
+-- the table, for n events and with so many heads an object, shows a moment that meets the whole rule
+abbrev pub Held : {P : Type 0} → (P → List Entry) → (P → List value.Value) → (P → Type 0) → Program → (n width : ℕ) → State (Option P) View → Type 0
+Held entries arguments keeps_to p n width = HeldBy Unseen (Whole entries arguments keeps_to p n) n width

@@ -1,5 +1,5 @@
 -- The code of the tests is sound: its `Main` makes an object, sends it one message and ends.
-use Rattle.std.proofs.Common.{◌≡◌, inl, inr, ℕ, zero, suc, ◌+◌, ◌-◌, ◌<◌, true, false, List, [], ◌∷◌, length, Option, Some, None, refl, sym, ap, ◌∙◌, subst, slice_get, map}
+use Rattle.std.proofs.Common.{◌≡◌, inl, inr, ℕ, zero, suc, ◌+◌, ◌-◌, ◌<◌, true, false, List, [], ◌∷◌, length, Option, Some, None, refl, sym, ap, ◌∙◌, subst, arith, slice_get, map}
 use Rattle.std.proofs.lemmas.Bool.{eq-eqb}
 use mathlib.Core.Path.{Path}
 use Rattle.chord_base.specs.declared.value.Object.{Object}
@@ -31,7 +31,10 @@ use Rattle.chord_base.specs.Story.{IsIn}
 use Rattle.chord_rule.specs.declared.view.View.{View}
 use Rattle.chord_rule.specs.Kinds.{newcomer_first, entry, drew, saw_count}
 use Rattle.chord_rule.specs.Tells.{CameNext}
+use Rattle.chord_space.specs.Desks.{heads, space_code}
 use Rattle.chord_space.specs.Gives.{MayLink}
+use Rattle.chord_space.specs.Widest.{widest}
+use Rattle.chord_space.specs.declared.space.Space.{Space}
 use Rattle.chord_code.proofs.Runs.{playing_asks}
 use Rattle.chord_code.proofs.Sound.{all_good, all_defined}
 
@@ -229,3 +232,7 @@ may_link limits deep b o m zero_b above later = record {
     no_call_there e (inr (inl q)) call = let t = subst (IsCall m) q call in absurd (let z = t in cc)
     no_call_there e (inr (inr (inl q))) call = let t = subst (IsCall m) q call in absurd (let z = t in cc)
     no_call_there e (inr (inr (inr k))) call = absurd k
+
+-- each object of a table for the code has a head
+pub sending_is_wide : {P : Type 0} (s : Space P) → space_code s ≡ sending → 0 < heads s
+sending_is_wide s e = subst (λ (y : Parts). 0 < widest y) (sym e) (omega arith)

@@ -11,11 +11,12 @@ use Rattle.chord_code.specs.Valid.{IsValid}
 use Rattle.chord_rule.specs.declared.view.View.{View}
 use Rattle.chord_rule.specs.Whole.{Held}
 use Rattle.chord_space.specs.Ruled.{Ruled}
+use Rattle.chord_space.specs.Widest.{widest}
 
 module _ {P : Type 0} (entries : P → List Entry) (arguments : P → List value.Value) (keeps_to : P → Parts → Limits → Type 0) (code : Parts) (limits : Limits) where
   -- the rule of chord_rule for this code
   abbrev H : State (Option P) View → Type 0
-  H = Held entries arguments (λ q. keeps_to q code limits) (code_program code limits) limits.events
+  H = Held entries arguments (λ q. keeps_to q code limits) (code_program code limits) limits.events (widest code)
 
   -- a step may tell, of a valid and sound code, what follows from it
   pub under_telling : (slots id : ℕ) (me : Me (Option P) View) (i : ℕ) (f : ℕ → ℕ) (then more : ℕ → Me (Option P) View → Type 0) → ((x : ℕ) (w : Me (Option P) View) → IsValid code → IsSoundUnder code limits → then x w → more x w) → Allows H slots id me i f then → Allows (Ruled entries arguments keeps_to code limits) slots id me i f more

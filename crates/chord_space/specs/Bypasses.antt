@@ -11,10 +11,10 @@ use Rattle.chord_rule.specs.Ways.{WentPast}
 use Rattle.chord_space.specs.declared.bypasses.Pointer.{Pointer}
 use Rattle.chord_space.specs.declared.bypasses.Pointer.TheVariants.{Head, Next}
 
--- the object and the method of a head, or the message of a next, are of a table for n events
-abbrev pub IsPointerBelow : ℕ → Pointer → Type 0
-IsPointerBelow n (Head o j) = (o.number < n) × (o.class < 1024) × (j < 16)
-IsPointerBelow n (Next i) = i < n
+-- the object and the method of a head, or the message of a next, are of a table for n events with so many heads an object
+abbrev pub IsPointerBelow : (n width : ℕ) → Pointer → Type 0
+IsPointerBelow n width (Head o j) = (o.number < n) × (o.class < 1024) × (j < width)
+IsPointerBelow n width (Next i) = i < n
 
 -- the desk read consumed the message of the next, or the first one from the head, and each that followed before `to`, where that way led
 abbrev pub MayBypass : View → Pointer → (from to : Option ℕ) → Type 0

@@ -11,6 +11,7 @@ use Rattle.chord_base.specs.declared.event.Limits.{Limits}
 use Rattle.chord_code.specs.declared.parts.Parts.{Parts}
 use Rattle.chord_code.specs.Meaning.{code_program}
 use Rattle.chord_rule.specs.declared.view.View.{View}
+use Rattle.chord_space.specs.Widest.{widest}
 use Rattle.chord_space.specs.declared.space.Space.{Space}
 use Rattle.chord_space.specs.declared.space.Desk.{Desk}
 
@@ -38,6 +39,10 @@ module _ {P : Type 0} where
   -- the code of the space
   abbrev pub space_code : Space P → Parts
   space_code s = s.table.shared.key.code.value
+
+  -- how many heads each object has: one a method of the largest class
+  abbrev pub heads : Space P → ℕ
+  heads s = widest (space_code s)
 
   -- the limits of the space's runs
   abbrev pub space_limits : Space P → Limits

@@ -17,10 +17,11 @@ use Rattle.chord_rule.specs.Kinds.{looked_head}
 use Rattle.chord_rule.specs.Made.{Names}
 use Rattle.chord_rule.specs.Tells.{draws}
 use Rattle.chord_rule.specs.Whole.{Held}
+use Rattle.chord_space.specs.Widest.{widest}
 
 -- the table holds the rule for the runs of a code that is valid and sound
 abbrev pub Ruled : {P : Type 0} → (P → List Entry) → (P → List value.Value) → (P → Parts → Limits → Type 0) → Parts → Limits → State (Option P) View → Type 0
-Ruled entries arguments keeps_to code limits s = Held entries arguments (λ q. keeps_to q code limits) (code_program code limits) limits.events s × IsValid code × IsSoundUnder code limits
+Ruled entries arguments keeps_to code limits s = Held entries arguments (λ q. keeps_to q code limits) (code_program code limits) limits.events (widest code) s × IsValid code × IsSoundUnder code limits
 
 -- what an entry says is of the code: the objects that it names are of its classes, and a message names a method of its object's class, with its parameters
 pub record IsOfCode (code : Parts) (what : What) : Type 0 where

@@ -8,14 +8,15 @@ ghost use Rattle.chord_rule.specs.Ways.{WentPast};
 ghost use Rattle.chord_word.specs.declared.cells.Cell.TheVariants.{Consumed};
 ghost use Rattle.chord_word.specs.declared.cells.Word.{Word};
 ghost use Rattle.chord_space.specs.Bypasses.{IsPointerBelow, MayBypass, pointed, PointsElsewhere};
-ghost use Rattle.chord_space.specs.Desks.{view, IsDeskOf, IsSameDesk};
+ghost use Rattle.chord_space.specs.Desks.{view, heads, IsDeskOf, IsSameDesk};
 
 use crate::claims::message_word;
-use crate::plays::{MoveHead, MoveNext};
+use crate::plays::{Addressed, MoveHead, MoveNext};
 use crate::space::{Desk, Space};
 use chord_base::value::Object;
 use chord_code::carry::Carry;
 use chord_word::{Cell, pack_head};
+use std::marker::Brand;
 
 /// What points to a message of a bag.
 #[derive(Clone, Copy, Drop)]
@@ -27,6 +28,30 @@ pub enum Pointer {
 }
 
 impl<P: Carry> Space<P> {
+    fn step_bypass_head<J: Addressed>(
+        &self,
+        desk: &mut Desk<P>,
+        object: Object,
+        method: u8,
+        from: u32,
+        to: Option<u32>,
+    ) -> bool
+        requires address { (J.object ≡ object) × (J.method ≡ method) }
+        requires desk { IsDeskOf self.now desk.old }
+        requires bounds { (object.number < self.now.events) × (method < heads self.now) × IfSome to (λ x. x < self.now.events) }
+        requires past { WentPast (view desk.old) from to }
+        ensures desk { IsSameDesk desk.old desk.new }
+        ensures moved { result ≡ true → view desk.new ≡ saw_head (view desk.old) (head_number (key object method)) to }
+        ensures refused { result ≡ false → (h : Option ℕ) × (h ≢ Some from) × (view desk.new ≡ saw_head (view desk.old) (head_number (key object method)) h) }
+    {
+        let words = &self.table.shared;
+        let head = self.head_word(object, method);
+        let first = pack_head(Some(from));
+        let last = pack_head(to);
+        let found = words.compare_exchange::<MoveHead<J>>(&mut desk.seat, head, first, last);
+        found == first
+    }
+
     fn bypass_head(
         &self,
         desk: &mut Desk<P>,
@@ -36,24 +61,13 @@ impl<P: Carry> Space<P> {
         to: Option<u32>,
     ) -> bool
         requires desk { IsDeskOf self.now desk.old }
-        requires bounds { (object.number < self.now.events) × (method < 16) × IfSome to (λ x. x < self.now.events) }
+        requires bounds { (object.number < self.now.events) × (method < heads self.now) × IfSome to (λ x. x < self.now.events) }
         requires past { WentPast (view desk.old) from to }
         ensures desk { IsSameDesk desk.old desk.new }
         ensures moved { result ≡ true → view desk.new ≡ saw_head (view desk.old) (head_number (key object method)) to }
         ensures refused { result ≡ false → (h : Option ℕ) × (h ≢ Some from) × (view desk.new ≡ saw_head (view desk.old) (head_number (key object method)) h) }
     {
-        let words = &self.table.shared;
-        let head = 16 * object.number as usize + method as usize;
-        let count = self.events as usize;
-        let first = pack_head(Some(from));
-        let last = pack_head(to);
-        let found = words.compare_exchange::<MoveHead>(
-            &mut desk.seat,
-            1 + count + head,
-            first,
-            last,
-        );
-        found == first
+        self.step_bypass_head::<Brand>(desk, object, method, from, to)
     }
 
     fn bypass_next(&self, desk: &mut Desk<P>, i: u32, from: Option<u32>, to: Option<u32>) -> bool
@@ -85,7 +99,7 @@ impl<P: Carry> Space<P> {
         to: Option<u32>,
     ) -> bool
         requires desk { IsDeskOf self.now desk.old }
-        requires bounds { IsPointerBelow self.now.events at × IfSome from (λ x. x < self.now.events) × IfSome to (λ x. x < self.now.events) }
+        requires bounds { IsPointerBelow self.now.events (heads self.now) at × IfSome from (λ x. x < self.now.events) × IfSome to (λ x. x < self.now.events) }
         requires past { MayBypass (view desk.old) at from to }
         ensures desk { IsSameDesk desk.old desk.new }
         ensures moved { result ≡ true → view desk.new ≡ pointed (view desk.old) at to }

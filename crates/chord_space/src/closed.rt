@@ -36,7 +36,11 @@ impl<P: Carry> Space<P> {
         ensures events { result.events ≡ self.events }
     {
         let closing = Snapshot::of(&desk);
-        let Space { table, events } = self;
+        let Space {
+            table,
+            events,
+            heads: _,
+        } = self;
         let Desk { seat, above: _ } = desk;
         let slots = table.close_with(seat);
         let drawn = at_most(slots.word(0), events);

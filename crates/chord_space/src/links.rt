@@ -5,7 +5,7 @@ ghost use Rattle.chord_rule.specs.Tells.{a_word};
 ghost use Rattle.chord_word.specs.declared.cells.Cell.TheVariants.{Pending};
 ghost use Rattle.chord_rule.specs.Bags.{head_number};
 ghost use Rattle.chord_rule.specs.Made.{key};
-ghost use Rattle.chord_space.specs.Desks.{view, space_code, space_limits, program_of, IsDeskOf, IsSameDesk};
+ghost use Rattle.chord_space.specs.Desks.{view, heads, space_code, space_limits, program_of, IsDeskOf, IsSameDesk};
 ghost use Rattle.chord_space.specs.Gives.{MayLink};
 
 use crate::plays::{Addressed, Arm, Link, Set};
@@ -28,7 +28,7 @@ impl<P: Carry> Space<P> {
     )
         requires address { (J.object ≡ object) × (J.method ≡ method) }
         requires desk { IsDeskOf self.now desk.old }
-        requires bounds { (m < self.now.events) × (object.number < self.now.events) × (object.class < 1024) × (method < 16) }
+        requires bounds { (m < self.now.events) × (object.number < self.now.events) × (object.class < 1024) × (method < heads self.now) }
         requires link { MayLink (program_of self.now) (view desk.old) m object method (P.entries parcel) (P.arguments parcel) }
         requires task { P.keeps_to parcel (space_code self.now) (space_limits self.now) }
         ensures desk { IsSameDesk desk.old desk.new }
@@ -38,22 +38,22 @@ impl<P: Carry> Space<P> {
         let count = self.events as usize;
         words.store::<Set>(
             &mut desk.seat,
-            1 + 17 * count + m as usize,
+            1 + count + m as usize,
             pack_place(object, method),
         );
         match words.exchange(&mut desk.seat, m as usize, Some(parcel)) {
             None => {}
             Some(_) => unreachable!(),
         }
-        let head = 16 * object.number as usize + method as usize;
-        desk.above = words.swap::<Link<P, J>>(&mut desk.seat, 1 + count + head, pack_head(Some(m)));
+        let head = self.head_word(object, method);
+        desk.above = words.swap::<Link<P, J>>(&mut desk.seat, head, pack_head(Some(m)));
     }
 
     /// Adds message m to the bag of its object and method, and gives its parcel away with the entries that it keeps. The message
     /// is in flight until it is armed.
     pub fn link(&self, desk: &mut Desk<P>, m: u32, object: Object, method: u8, parcel: P)
         requires desk { IsDeskOf self.now desk.old }
-        requires bounds { (m < self.now.events) × (object.number < self.now.events) × (object.class < 1024) × (method < 16) }
+        requires bounds { (m < self.now.events) × (object.number < self.now.events) × (object.class < 1024) × (method < heads self.now) }
         requires link { MayLink (program_of self.now) (view desk.old) m object method (P.entries parcel) (P.arguments parcel) }
         requires task { P.keeps_to parcel (space_code self.now) (space_limits self.now) }
         ensures desk { IsSameDesk desk.old desk.new }

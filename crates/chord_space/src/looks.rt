@@ -9,7 +9,7 @@ ghost use Rattle.chord_rule.specs.Made.{key, IsChord};
 ghost use Rattle.chord_rule.specs.Moment.{Place};
 ghost use Rattle.chord_rule.specs.Tells.{IsLook};
 ghost use Rattle.chord_rule.specs.Ways.{HasLooksLeft};
-ghost use Rattle.chord_space.specs.Desks.{view, space_code, space_limits, program_of, IsDeskOf, IsSameDesk};
+ghost use Rattle.chord_space.specs.Desks.{view, heads, space_code, space_limits, program_of, IsDeskOf, IsSameDesk};
 ghost use Rattle.chord_space.specs.Ruled.{LooksAtHead};
 
 use crate::plays::{Headed, LayDown, Resting, SeeCell, SeeCount, SeeHead, SeePlace};
@@ -49,17 +49,13 @@ impl<P: Carry> Space<P> {
     ) -> Option<u32>
         requires address { (J.object ≡ object) × (J.method ≡ method) × (J.parts ≡ space_code self.now) × (J.limits ≡ space_limits self.now) }
         requires desk { IsDeskOf self.now desk.old }
-        requires bounds { (object.number < self.now.events) × (object.class < 1024) × (method < 16) }
+        requires bounds { (object.number < self.now.events) × (object.class < 1024) × (method < heads self.now) }
         ensures desk { IsSameDesk desk.old desk.new }
         ensures looked { LooksAtHead P.entries P.arguments P.keeps_to (space_code self.now) (space_limits self.now) (view desk.old) (view desk.new) (key object method) result }
         ensures room { HasLooksLeft self.now.events (view desk.new).looked.ways }
     {
-        let head = 16 * object.number as usize + method as usize;
-        let count = self.events as usize;
-        let found = self
-            .table
-            .shared
-            .load::<SeeHead<J>>(&mut desk.seat, 1 + count + head);
+        let head = self.head_word(object, method);
+        let found = self.table.shared.load::<SeeHead<J>>(&mut desk.seat, head);
         unpack_head(found)
     }
 
@@ -70,7 +66,7 @@ impl<P: Carry> Space<P> {
     /// Pairs with the swap of `link`: the place words of those messages are set by then.
     pub fn look_head(&self, desk: &mut Desk<P>, object: Object, method: u8) -> Option<u32>
         requires desk { IsDeskOf self.now desk.old }
-        requires bounds { (object.number < self.now.events) × (object.class < 1024) × (method < 16) }
+        requires bounds { (object.number < self.now.events) × (object.class < 1024) × (method < heads self.now) }
         ensures desk { IsSameDesk desk.old desk.new }
         ensures looked { LooksAtHead P.entries P.arguments P.keeps_to (space_code self.now) (space_limits self.now) (view desk.old) (view desk.new) (key object method) result }
         ensures room { HasLooksLeft self.now.events (view desk.new).looked.ways }
@@ -109,7 +105,7 @@ impl<P: Carry> Space<P> {
         let found = self
             .table
             .shared
-            .load::<SeePlace>(&mut desk.seat, 1 + 17 * count + i as usize);
+            .load::<SeePlace>(&mut desk.seat, 1 + count + i as usize);
         unpack_place(found)
     }
 

@@ -37,7 +37,7 @@ impl Said for Brand {
     ghost what = { Begun };
 }
 
-/// The object and the method of a message that is linked. Each call picks them.
+/// The object and the method of the bag of a message that is linked, or whose head is moved. Each call picks them.
 pub trait Addressed {
     ghost object: { Object };
 
@@ -259,10 +259,12 @@ impl<P> Play<Option<P>, View> for SeePlace {
 }
 
 /// A head is moved past consumed messages.
-pub struct MoveHead;
+pub struct MoveHead<J> {
+    of: PhantomData<J>,
+}
 
-impl<P> Play<Option<P>, View> for MoveHead {
-    ghost then = { bypasses_head };
+impl<P, J: Addressed> Play<Option<P>, View> for MoveHead<J> {
+    ghost then = { bypasses_head J.object J.method };
 }
 
 /// The next of a consumed message is moved past consumed messages.

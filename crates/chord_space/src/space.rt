@@ -3,10 +3,12 @@ ghost use Rattle.std.specs.Prelude.{◌≡◌, ℕ, ◌+◌, ◌*◌, ◌<◌, �
 ghost use Rattle.chord_code.specs.Sound.{IsSoundCode};
 ghost use Rattle.chord_rule.specs.Kinds.{newcomer_first};
 ghost use Rattle.chord_space.specs.Ruled.{Ruled};
+ghost use Rattle.chord_space.specs.Widest.{widest};
 ghost use Rattle.chord_word.specs.Cells.{link_of};
 
 use atomic_table::{Seat, Table, TableRule};
 use chord_base::event::Limits;
+use chord_base::value::Object;
 use chord_code::carry::Carry;
 use chord_code::code::Code;
 use chord_rule::view::View;
@@ -32,13 +34,14 @@ impl<P: Carry> TableRule<Option<P>, View, Key> for Law<P> {
     ghost first = { λ _. newcomer_first };
 }
 
-/// A shared table for the runs of one code: a counter, and for each event a cell, a place word and a slot for a parcel, and
-/// 16 heads of bags. Threads share it, and each makes its steps with a desk of its own.
+/// A shared table for the runs of one code: a counter, and for each event a cell, a place word and a slot for a parcel, and as
+/// many heads of bags as the code's largest class has methods. Threads share it, and each makes its steps with a desk of its own.
 #[derive(Drop)]
 pub struct Space<P: Carry> {
     pub(crate) table: Table<Option<P>, View, Key, Law<P>, Global>,
     pub(crate) events: u32,
-    ghost sized: { (table.shared.key.limits.events ≡ events) × (table.shared.table_id.words ≡ 1 + 18 * events) × (table.shared.table_id.slots ≡ events) × (0 < events) × (events ≤ 65536) },
+    pub(crate) heads: usize,
+    ghost sized: { (table.shared.key.limits.events ≡ events) × (table.shared.table_id.words ≡ 1 + 2 * events + heads * events) × (table.shared.table_id.slots ≡ events) × (0 < events) × (events ≤ 65536) × (heads ≡ widest table.shared.key.code.value) × (heads ≤ 16) },
 }
 
 /// A seat at the table: what its view says it keeps and has in hand. Between two calls no slot is out with it.
@@ -54,10 +57,27 @@ pub struct Desk<P> {
 #[derive(Clone, Copy, Debug, PartialEq, Eq, Drop)]
 pub struct Spent;
 
-impl<P: Carry> Space<P> {
-    ghost use Rattle.chord_space.specs.Desks.{view, space_code, space_limits, IsDeskOf};
+/// How many methods the code's largest class has. Each object of a table has as many heads: an event of a code whose classes
+/// are small takes a few words, where the limit on methods would ask for all sixteen.
+fn heads_of(code: &Code) -> usize
+    ensures widest { result ≡ widest code.now }
+    ensures few { result ≤ 16 }
+{
+    let mut most = 0;
+    for class in code.parts().classes.items() {
+        if most < class.methods.items().len() {
+            most = class.methods.items().len();
+        }
+    }
+    most
+}
 
-    /// A table for the runs of the code under these limits, and its first desk. It takes memory for 18 words and a slot an event.
+impl<P: Carry> Space<P> {
+    ghost use Rattle.chord_rule.specs.Moment.{head_at};
+    ghost use Rattle.chord_space.specs.Desks.{view, heads, space_code, space_limits, IsDeskOf};
+
+    /// A table for the runs of the code under these limits, and its first desk. It takes memory for a slot and two words an event, and
+    /// for a head for each method of the code's largest class.
     pub fn make(
         alloc: Global,
         code: &Code,
@@ -71,12 +91,28 @@ impl<P: Carry> Space<P> {
         let _ = code.parts();
         let events = limits.events;
         let count = events as usize;
-        let words = vec![in alloc; 0u64; 1 + 18 * count]?;
+        let heads = heads_of(code);
+        let words = vec![in alloc; 0u64; 1 + 2 * count + heads * count]?;
         let key = Key {
             code: Snapshot::of(code),
             limits: *limits,
         };
         let (table, seat) = Table::vacant(alloc, words.as_slice(), count, &key)?;
-        Ok((Space { table, events }, Desk { seat, above: 0 }))
+        let space = Space {
+            table,
+            events,
+            heads,
+        };
+        Ok((space, Desk { seat, above: 0 }))
+    }
+
+    /// The word of the head for this method of the object: the heads lie behind the counter, the cells and the place words.
+    pub(crate) fn head_word(&self, object: Object, method: u8) -> usize
+        requires bounds { (object.number < self.now.events) × (method < heads self.now) }
+        ensures word { result ≡ head_at self.now.events (heads self.now) object.number method }
+        ensures inside { result < self.now.table.shared.table_id.words }
+    {
+        let first = 1 + 2 * self.events as usize;
+        first + object.number as usize * self.heads + method as usize
     }
 }

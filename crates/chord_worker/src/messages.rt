@@ -3,7 +3,7 @@ ghost use Rattle.std.specs.Prelude.{◌≡◌, ◌≢◌, ◌<◌, ℕ, true, fa
 ghost use Rattle.chord_base.specs.Story.{IsSound};
 ghost use Rattle.chord_base.specs.declared.event.What.TheVariants.{Sent, Called};
 ghost use Rattle.chord_rule.specs.Made.{key};
-ghost use Rattle.chord_space.specs.Desks.{view, space_code, space_limits, program_of, IsDeskOf, IsSameDesk};
+ghost use Rattle.chord_space.specs.Desks.{view, heads, space_code, space_limits, program_of, IsDeskOf, IsSameDesk};
 ghost use Rattle.chord_space.specs.Gives.{MayLink};
 ghost use Rattle.chord_space.specs.Ruled.{IsOfCode};
 ghost use Rattle.chord_task.specs.Parcels.{entries_of, arguments_of, IsParcelOf};
@@ -37,7 +37,7 @@ pub(crate) fn send_off(
     parcel: Parcel,
 )
     requires desk { IsDeskOf space.now desk.old }
-    requires bounds { (m < space.now.events) × (object.number < space.now.events) × (object.class < 1024) × (method < 16) }
+    requires bounds { (m < space.now.events) × (object.number < space.now.events) × (object.class < 1024) × (method < heads space.now) }
     requires link { MayLink (program_of space.now) (view desk.old) m object method (entries_of parcel) (arguments_of parcel) }
     requires task { IsParcelOf parcel (space_code space.now) (space_limits space.now) }
     ensures desk { IsSameDesk desk.old desk.new }
@@ -76,7 +76,7 @@ fn send_letter(
     requires link { MayLink (program_of space.now) (view desk.old) m object method [] held.first }
     ensures desk { IsSameDesk desk.old desk.new }
     ensures sent { IsSentOff (view desk.old) (view desk.new) m (key object method) [] }
-    ensures bounds { (object.class < 1024) × (method < 16) }
+    ensures bounds { (object.class < 1024) × (method < heads space.now) }
 {
     let _parts = code.parts();
     let parcel = letter(code, limits, held);
@@ -106,7 +106,7 @@ fn send_task(
     requires link { MayLink (program_of space.now) (view desk.old) m object method (view_of task).past held.first }
     ensures desk { IsSameDesk desk.old desk.new }
     ensures sent { IsSentOff (view desk.old) (view desk.new) m (key object method) (view_of task).past }
-    ensures bounds { (object.class < 1024) × (method < 16) }
+    ensures bounds { (object.class < 1024) × (method < heads space.now) }
 {
     let _parts = code.parts();
     let parcel = packed(code, limits, held, task);

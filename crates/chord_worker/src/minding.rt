@@ -4,7 +4,7 @@ ghost use Rattle.chord_base.specs.Story.{IsSound};
 ghost use Rattle.chord_match.specs.Findings.{IsMatch};
 ghost use Rattle.chord_rule.specs.Made.{key};
 ghost use Rattle.chord_rule.specs.declared.view.View.{View};
-ghost use Rattle.chord_space.specs.Desks.{view, space_code, space_limits, program_of, IsDeskOf};
+ghost use Rattle.chord_space.specs.Desks.{view, heads, space_code, space_limits, program_of, IsDeskOf};
 ghost use Rattle.chord_worker.specs.Sending.{Minds, IsLaidDown};
 ghost use Rattle.chord_worker.specs.Resting.{IsAtRest, IsSameRole};
 ghost use Rattle.chord_worker.specs.Stepping.{StillPlays, WasMinded};
@@ -66,7 +66,7 @@ impl Worker {
         requires code { code.now ≡ space_code space.now }
         requires limits { limits.now ≡ space_limits space.now }
         requires sound { IsSound (program_of space.now) }
-        requires bounds { (message.object.number < space.now.events) × (message.object.class < 1024) × (message.method < 16) }
+        requires bounds { (message.object.number < space.now.events) × (message.object.class < 1024) × (message.method < heads space.now) }
         requires minds { Minds space.now self.old message.number (key message.object message.method) }
         requires found { (v : View) × IsMatch (program_of space.now) space.now.events v (view self.old.desk) message.number message.object message.method chord members nexts }
         ensures desk { IsDeskOf space.now self.new.desk }
@@ -109,7 +109,7 @@ impl Worker {
         requires code { code.now ≡ space_code space.now }
         requires limits { limits.now ≡ space_limits space.now }
         requires sound { IsSound (program_of space.now) }
-        requires bounds { (message.number < space.now.events) × (message.object.number < space.now.events) × (message.object.class < 1024) × (message.method < 16) }
+        requires bounds { (message.number < space.now.events) × (message.object.number < space.now.events) × (message.object.class < 1024) × (message.method < heads space.now) }
         requires minds { Minds space.now self.old message.number (key message.object message.method) }
         ensures desk { IsDeskOf space.now self.new.desk }
         ensures over { IfOk result (λ b. b ≡ true → IsAtRest space.now self.new × (self.new.spent ≡ true → self.new.task ≡ None)) }
@@ -156,7 +156,7 @@ impl Worker {
         requires code { code.now ≡ space_code space.now }
         requires limits { limits.now ≡ space_limits space.now }
         requires sound { IsSound (program_of space.now) }
-        requires bounds { (message.number < space.now.events) × (message.object.number < space.now.events) × (message.object.class < 1024) × (message.method < 16) }
+        requires bounds { (message.number < space.now.events) × (message.object.number < space.now.events) × (message.object.class < 1024) × (message.method < heads space.now) }
         requires minds { Minds space.now self.old message.number (key message.object message.method) }
         ensures desk { IsDeskOf space.now self.new.desk }
         ensures over { OnOk result (IsAtRest space.now self.new × (self.new.spent ≡ true → self.new.task ≡ None)) }

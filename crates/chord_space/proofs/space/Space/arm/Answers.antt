@@ -16,5 +16,5 @@ store-requires g c = let sized = c.args.self.now.sized in let key = c.args.self.
       c.requires.desk,
       omega arith,
       subst (λ (y : ℕ × ℕ). Allows (Ruled g.P.Carry.entries g.P.Carry.arguments g.P.Carry.keeps_to key.code.value key.limits) y.0 seat.id seat.me (1 + i) (λ _. y.1) (λ _. arms (step y.0 (1 + i) y.1 0 none) seat.me y.1)) (λ k. ((sized.0 ∙ sym sized.2) k, stored k))
-          (under_rule g.P.Carry.entries g.P.Carry.arguments g.P.Carry.keeps_to key.code.value key.limits key.limits.events seat.id seat.me (1 + i) (λ _. word a_cell.Pending seat.me.0.above) (λ _. arms (step key.limits.events (1 + i) (word a_cell.Pending seat.me.0.above) 0 none) seat.me (word a_cell.Pending seat.me.0.above)) (arm_step g.P.Carry.entries g.P.Carry.arguments keeps p key.limits.events (omega arith) (omega arith) seat.id seat.me i c.args.desk.now.settled.6 (omega arith) flight.0)),
+          (under_rule g.P.Carry.entries g.P.Carry.arguments g.P.Carry.keeps_to key.code.value key.limits key.limits.events seat.id seat.me (1 + i) (λ _. word a_cell.Pending seat.me.0.above) (λ _. arms (step key.limits.events (1 + i) (word a_cell.Pending seat.me.0.above) 0 none) seat.me (word a_cell.Pending seat.me.0.above)) (arm_step g.P.Carry.entries g.P.Carry.arguments keeps p key.limits.events _ (omega arith) (omega arith) seat.id seat.me i c.args.desk.now.settled.6 (omega arith) flight.0)),
     )

@@ -24,7 +24,7 @@ compare_exchange-found-requires g c = let sized = c.args.self.now.sized in let k
       subst (λ (y : ℕ × ℕ × ℕ). Allows (Ruled g.P.Carry.entries g.P.Carry.arguments g.P.Carry.keeps_to key.code.value key.limits) y.0 seat.id seat.me (1 + i) (λ x. either (eqb x y.1) y.2 x) (bypasses_cell (step y.0 (1 + i) y.1 y.2 none) seat.me))
           (λ k. ((sized.0 ∙ sym sized.2) k, sym c.message_word-first.ensures k, sym c.message_word-last.ensures k))
           (under_rule g.P.Carry.entries g.P.Carry.arguments g.P.Carry.keeps_to key.code.value key.limits n seat.id seat.me (1 + i) (λ x. either (eqb x (word a_cell.Consumed from)) (word a_cell.Consumed to) x) (bypasses_cell (step n (1 + i) (word a_cell.Consumed from) (word a_cell.Consumed to) none) seat.me)
-          (bypass_cell_step g.P.Carry.entries g.P.Carry.arguments keeps p n (omega arith) (omega arith) seat.id seat.me i from to live (omega arith) (consumed_fits events from (omega arith) bounds.1) (consumed_fits events to (omega arith) bounds.2) c.requires.past)),
+          (bypass_cell_step g.P.Carry.entries g.P.Carry.arguments keeps p n _ (omega arith) (omega arith) seat.id seat.me i from to live (omega arith) (consumed_fits events from (omega arith) bounds.1) (consumed_fits events to (omega arith) bounds.2) c.requires.past)),
     )
 
 pub invariant_of-desk : goal.invariant_of-desk

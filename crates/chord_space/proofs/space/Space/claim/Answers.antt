@@ -25,7 +25,7 @@ compare_exchange-found-requires g c = let sized = c.args.self.now.sized in let k
       subst (λ (y : ℕ × ℕ × ℕ). Allows (Ruled g.P.Carry.entries g.P.Carry.arguments g.P.Carry.keeps_to key.code.value key.limits) y.0 seat.id seat.me (1 + i) (λ x. either (eqb x y.1) y.2 x) (claims (step y.0 (1 + i) y.1 y.2 none) seat.me))
           (λ k. ((sized.0 ∙ sym sized.2) k, sym c.message_word-pending.ensures k, sym c.message_word-claimed.ensures k))
           (under_rule g.P.Carry.entries g.P.Carry.arguments g.P.Carry.keeps_to key.code.value key.limits n seat.id seat.me (1 + i) (λ x. either (eqb x (word a_cell.Pending next)) (word a_cell.Claimed next) x) (claims (step n (1 + i) (word a_cell.Pending next) (word a_cell.Claimed next) none) seat.me)
-          (claim_step g.P.Carry.entries g.P.Carry.arguments keeps p n (omega arith) (omega arith) seat.id seat.me i next live (omega arith) (next_fits c.args.self.now.events next (omega arith) bounds.1) c.requires.seen)),
+          (claim_step g.P.Carry.entries g.P.Carry.arguments keeps p n _ (omega arith) (omega arith) seat.id seat.me i next live (omega arith) (next_fits c.args.self.now.events next (omega arith) bounds.1) c.requires.seen)),
     )
 
 pub invariant_of-desk : goal.invariant_of-desk

@@ -19,7 +19,7 @@ load-found-requires g c = let sized = c.args.self.now.sized in let key = c.args.
       c.requires.desk,
       omega arith,
       subst (λ (y : ℕ). Allows (Ruled g.P.Carry.entries g.P.Carry.arguments g.P.Carry.keeps_to key.code.value key.limits) y seat.id seat.me (1 + i) (λ x. x) (holds (step y (1 + i) 0 0 none) seat.me)) (sized.0 ∙ sym sized.2)
-          (under_rule g.P.Carry.entries g.P.Carry.arguments g.P.Carry.keeps_to key.code.value key.limits n seat.id seat.me (1 + i) (λ x. x) (holds (step n (1 + i) 0 0 none) seat.me) (claim_word_step g.P.Carry.entries g.P.Carry.arguments keeps p n (omega arith) (omega arith) seat.id seat.me i (omega arith))),
+          (under_rule g.P.Carry.entries g.P.Carry.arguments g.P.Carry.keeps_to key.code.value key.limits n seat.id seat.me (1 + i) (λ x. x) (holds (step n (1 + i) 0 0 none) seat.me) (claim_word_step g.P.Carry.entries g.P.Carry.arguments keeps p n _ (omega arith) (omega arith) seat.id seat.me i (omega arith))),
     )
 
 pub invariant_of-desk : goal.invariant_of-desk

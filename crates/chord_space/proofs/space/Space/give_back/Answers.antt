@@ -25,7 +25,7 @@ store-requires g c = let sized = c.args.self.now.sized in let key = c.args.self.
       omega arith,
       subst (λ (y : ℕ × ℕ × ℕ). Allows (Ruled g.P.Carry.entries g.P.Carry.arguments g.P.Carry.keeps_to key.code.value key.limits) y.0 seat.id seat.me y.1 (λ _. y.2) (λ _. unclaims (step y.0 y.1 y.2 0 none) seat.me y.2)) (λ k. ((sized.0 ∙ sym sized.2) k, 1 + num k, stored k))
           (under_rule g.P.Carry.entries g.P.Carry.arguments g.P.Carry.keeps_to key.code.value key.limits n seat.id seat.me (1 + claim.number) (λ _. word a_cell.Pending claim.next) (λ _. unclaims (step n (1 + claim.number) (word a_cell.Pending claim.next) 0 none) seat.me (word a_cell.Pending claim.next))
-          (give_step g.P.Carry.entries g.P.Carry.arguments keeps p n (omega arith) (omega arith) seat.id seat.me claim live low has claimed.3)),
+          (give_step g.P.Carry.entries g.P.Carry.arguments keeps p n _ (omega arith) (omega arith) seat.id seat.me claim live low has claimed.3)),
     )
 
 pub invariant_of-desk : goal.invariant_of-desk

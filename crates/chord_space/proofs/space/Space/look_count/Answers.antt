@@ -14,5 +14,5 @@ load-found-requires g c = let sized = c.args.self.now.sized in let key = c.args.
       c.requires.desk,
       omega arith,
       subst (λ (y : ℕ). Allows (Ruled g.P.Carry.entries g.P.Carry.arguments g.P.Carry.keeps_to key.code.value key.limits) y seat.id seat.me 0 (λ x. x) (looks_count (step y 0 0 0 none) seat.me)) (sized.0 ∙ sym sized.2)
-          (under_rule g.P.Carry.entries g.P.Carry.arguments g.P.Carry.keeps_to key.code.value key.limits n seat.id seat.me 0 (λ x. x) (looks_count (step n 0 0 0 none) seat.me) (look_count_step g.P.Carry.entries g.P.Carry.arguments keeps p n (omega arith) (omega arith) seat.id seat.me live)),
+          (under_rule g.P.Carry.entries g.P.Carry.arguments g.P.Carry.keeps_to key.code.value key.limits n seat.id seat.me 0 (λ x. x) (looks_count (step n 0 0 0 none) seat.me) (look_count_step g.P.Carry.entries g.P.Carry.arguments keeps p n _ (omega arith) (omega arith) seat.id seat.me live)),
     )

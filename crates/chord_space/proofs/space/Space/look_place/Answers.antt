@@ -1,4 +1,4 @@
-use Rattle.std.proofs.Common.{◌≡◌, ℕ, ◌+◌, ◌*◌, ◌<◌, Option, IfSome, sym, ◌∙◌, subst, arith}
+use Rattle.std.proofs.Common.{◌≡◌, ℕ, ◌+◌, ◌<◌, Option, IfSome, sym, ◌∙◌, subst, arith}
 use mathlib.Core.Option.{none}
 use Rattle.atomic_table.specs.Table.{Allows, step}
 use Rattle.chord_code.specs.Meaning.{code_program}
@@ -13,11 +13,11 @@ use Rattle.chord_space.proofs.space.Space.look_place.Goals as goal
 pub load-found-requires : goal.load-found-requires
 load-found-requires g c = let sized = c.args.self.now.sized in let key = c.args.self.now.table.shared.key in let n : ℕ = key.limits.events in let seat = c.args.desk.now.seat in let live = c.args.desk.now.settled.6 in
     let keeps : g.row.P.Denot → Type 0 = λ q. g.P.Carry.keeps_to q key.code.value key.limits in let p = code_program key.code.value key.limits in
-    let i : ℕ = c.args.i in let bounds = c.requires.bounds in let at : 1 + 17 * n + i ≡ 1 + 17 * c.args.self.now.events + i = omega arith in (
+    let i : ℕ = c.args.i in let bounds = c.requires.bounds in let at : 1 + n + i ≡ 1 + c.args.self.now.events + i = omega arith in (
       c.requires.desk,
       omega arith,
       subst (λ (y : ℕ × ℕ). Allows (Ruled g.P.Carry.entries g.P.Carry.arguments g.P.Carry.keeps_to key.code.value key.limits) y.0 seat.id seat.me y.1 (λ x. x) (looks_place (step y.0 y.1 0 0 none) seat.me)) (λ k. ((sized.0 ∙ sym sized.2) k, at k))
-          (under_rule g.P.Carry.entries g.P.Carry.arguments g.P.Carry.keeps_to key.code.value key.limits n seat.id seat.me (1 + 17 * n + i) (λ x. x) (looks_place (step n (1 + 17 * n + i) 0 0 none) seat.me) (look_place_step g.P.Carry.entries g.P.Carry.arguments keeps p n (omega arith) (omega arith) seat.id seat.me i (omega arith))),
+          (under_rule g.P.Carry.entries g.P.Carry.arguments g.P.Carry.keeps_to key.code.value key.limits n seat.id seat.me (1 + n + i) (λ x. x) (looks_place (step n (1 + n + i) 0 0 none) seat.me) (look_place_step g.P.Carry.entries g.P.Carry.arguments keeps p n _ (omega arith) (omega arith) seat.id seat.me i (omega arith))),
     )
 
 pub returns-clause-within : goal.returns-clause-within

@@ -23,7 +23,7 @@ load-requires g c = let sized = c.args.self.now.sized in let key = c.args.self.n
       c.requires.desk,
       omega arith,
       subst (λ (y : ℕ). Allows (Ruled g.P.Carry.entries g.P.Carry.arguments g.P.Carry.keeps_to key.code.value key.limits) y seat.id seat.me (1 + f) (λ x. x) (posts_out (step y (1 + f) 0 0 none) seat.me)) (sized.0 ∙ sym sized.2)
-          (under_rule g.P.Carry.entries g.P.Carry.arguments g.P.Carry.keeps_to key.code.value key.limits n seat.id seat.me (1 + f) (λ x. x) (posts_out (step n (1 + f) 0 0 none) seat.me) (post_out_step g.P.Carry.entries g.P.Carry.arguments keeps p n (omega arith) (omega arith) seat.id seat.me f c.args.desk.now.settled.6 (omega arith) c.requires.post.unposted c.args.desk.now.settled.4)),
+          (under_rule g.P.Carry.entries g.P.Carry.arguments g.P.Carry.keeps_to key.code.value key.limits n seat.id seat.me (1 + f) (λ x. x) (posts_out (step n (1 + f) 0 0 none) seat.me) (post_out_step g.P.Carry.entries g.P.Carry.arguments keeps p n _ (omega arith) (omega arith) seat.id seat.me f c.args.desk.now.settled.6 (omega arith) c.requires.post.unposted c.args.desk.now.settled.4)),
     )
 
 pub exchange-requires : goal.exchange-requires
@@ -48,7 +48,7 @@ store-requires g c = let sized = c.args.self.now.sized in let key = c.args.self.
       omega arith,
       subst (λ (y : ℕ × ℕ × Me (Option g.row.P.Denot) View). Allows (Ruled g.P.Carry.entries g.P.Carry.arguments g.P.Carry.keeps_to key.code.value key.limits) y.0 c.exchange.new.seat.id y.2 (1 + f) (λ _. y.1) (λ _. posts g.P.Carry.entries (step y.0 (1 + f) y.1 0 none) y.2 y.1))
           (λ k. ((sized.0 ∙ sym sized.2) k, sym c.firing_word.ensures k, sym me k))
-          (under_rule g.P.Carry.entries g.P.Carry.arguments g.P.Carry.keeps_to key.code.value key.limits n c.exchange.new.seat.id (v, (f, Some q) ∷ []) (1 + f) (λ _. word a_cell.Ready None) (λ _. posts g.P.Carry.entries (step n (1 + f) (word a_cell.Ready None) 0 none) (v, (f, Some q) ∷ []) (word a_cell.Ready None)) (post_step g.P.Carry.entries g.P.Carry.arguments keeps p n (omega arith) (omega arith) c.exchange.new.seat.id v f q settled.6 (omega arith) refl may.goes others may.begins may.only may.parked c.requires.task)),
+          (under_rule g.P.Carry.entries g.P.Carry.arguments g.P.Carry.keeps_to key.code.value key.limits n c.exchange.new.seat.id (v, (f, Some q) ∷ []) (1 + f) (λ _. word a_cell.Ready None) (λ _. posts g.P.Carry.entries (step n (1 + f) (word a_cell.Ready None) 0 none) (v, (f, Some q) ∷ []) (word a_cell.Ready None)) (post_step g.P.Carry.entries g.P.Carry.arguments keeps p n _ (omega arith) (omega arith) c.exchange.new.seat.id v f q settled.6 (omega arith) refl may.goes others may.begins may.only may.parked c.requires.task)),
     )
 
 pub invariant_of-desk : goal.invariant_of-desk

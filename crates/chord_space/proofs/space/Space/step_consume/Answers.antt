@@ -33,7 +33,7 @@ store-requires g c = let sized = c.args.self.now.sized in let key = c.args.self.
       omega arith,
       subst (λ (y : ℕ × ℕ × ℕ × Parts × Limits). Allows (Ruled g.P.Carry.entries g.P.Carry.arguments g.P.Carry.keeps_to key.code.value key.limits) y.0 seat.id seat.me y.1 (λ _. y.2) (λ _. consumes (code_program y.3 y.4) g.P.Carry.entries g.P.Carry.arguments (λ q. g.P.Carry.keeps_to q y.3 y.4) (step y.0 y.1 y.2 0 none) seat.me y.2)) (λ k. ((sized.0 ∙ sym sized.2) k, 1 + num k, stored k, sym governed.0 k, sym governed.1 k))
           (under_rule g.P.Carry.entries g.P.Carry.arguments g.P.Carry.keeps_to key.code.value key.limits n seat.id seat.me (1 + claim.number) (λ _. word a_cell.Consumed claim.next) (λ _. consumes p g.P.Carry.entries g.P.Carry.arguments keeps (step n (1 + claim.number) (word a_cell.Consumed claim.next) 0 none) seat.me (word a_cell.Consumed claim.next))
-          (consume_step g.P.Carry.entries g.P.Carry.arguments keeps p n (omega arith) (omega arith) seat.id seat.me claim claimed.1 live low has claimed.4 d.settled.7)),
+          (consume_step g.P.Carry.entries g.P.Carry.arguments keeps p n _ (omega arith) (omega arith) seat.id seat.me claim claimed.1 live low has claimed.4 d.settled.7)),
     )
 
 pub exchange-parcel-requires : goal.exchange-parcel-requires
@@ -55,7 +55,7 @@ load-requires g c = let sized = c.args.self.now.sized in let key = c.args.self.n
       c.exchange-parcel.ensures.0 ∙ c.store.ensures.0 ∙ same.0.0 ∙ c.requires.desk,
       omega arith,
       subst (λ (y : ℕ × Me (Option g.row.P.Denot) View). Allows (Ruled g.P.Carry.entries g.P.Carry.arguments g.P.Carry.keeps_to key.code.value key.limits) y.0 seat.id y.1 0 (λ x. x) (slot_returns (step y.0 0 0 0 none) y.1)) (λ k. ((sized.0 ∙ sym sized.2) k, sym me k))
-          (under_rule g.P.Carry.entries g.P.Carry.arguments g.P.Carry.keeps_to key.code.value key.limits n seat.id (v, (i, None) ∷ []) 0 (λ x. x) (slot_returns (step n 0 0 0 none) (v, (i, None) ∷ [])) (empty_step g.P.Carry.entries g.P.Carry.arguments keeps p n (omega arith) (omega arith) seat.id v i settled.6 (ap (λ (k : ℕ). Some k) num))),
+          (under_rule g.P.Carry.entries g.P.Carry.arguments g.P.Carry.keeps_to key.code.value key.limits n seat.id (v, (i, None) ∷ []) 0 (λ x. x) (slot_returns (step n 0 0 0 none) (v, (i, None) ∷ [])) (empty_step g.P.Carry.entries g.P.Carry.arguments keeps p n _ (omega arith) (omega arith) seat.id v i settled.6 (ap (λ (k : ℕ). Some k) num))),
     )
 
 pub invariant_of-desk : goal.invariant_of-desk

@@ -19,5 +19,5 @@ fetch_add-requires g c = let sized = c.args.self.now.sized in let key = c.args.s
       subst (λ (y : ℕ × ℕ × _ × List ℕ × Parts × Limits). Allows (Ruled g.P.Carry.entries g.P.Carry.arguments g.P.Carry.keeps_to key.code.value key.limits) y.0 seat.id seat.me 0 (λ x. (x + 1) % 2 ^ 64) (draws_firing (code_program y.4 y.5) y.1 y.2 y.3 (step y.0 0 1 0 none) seat.me))
           (λ i. ((sized.0 ∙ sym sized.2) i, sym said.0 i, sym said.1 i, sym said.2 i, sym said.3 i, sym said.4 i))
           (under_rule g.P.Carry.entries g.P.Carry.arguments g.P.Carry.keeps_to key.code.value key.limits n seat.id seat.me 0 (λ x. (x + 1) % 2 ^ 64) (draws_firing p k o ms (step n 0 1 0 none) seat.me)
-          (draw_firing_step g.P.Carry.entries g.P.Carry.arguments keeps p n (omega arith) (omega arith) seat.id seat.me k o may.methods ms may.values live c.requires.room may.found may.claimed)),
+          (draw_firing_step g.P.Carry.entries g.P.Carry.arguments keeps p n _ (omega arith) (omega arith) seat.id seat.me k o may.methods ms may.values live c.requires.room may.found may.claimed)),
     )

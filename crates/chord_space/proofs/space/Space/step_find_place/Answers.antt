@@ -17,7 +17,7 @@ load-requires g c = let sized = c.args.self.now.sized in let key = c.args.self.n
       c.requires.desk,
       omega arith,
       subst (λ (y : ℕ × Parts × Limits). Allows (Ruled g.P.Carry.entries g.P.Carry.arguments g.P.Carry.keeps_to key.code.value key.limits) y.0 seat.id seat.me 0 (λ x. x) (finds_place (code_program y.1 y.2) (step y.0 0 0 0 none) seat.me)) (λ k. ((sized.0 ∙ sym sized.2) k, sym governed.0 k, sym governed.1 k))
-          (under_rule g.P.Carry.entries g.P.Carry.arguments g.P.Carry.keeps_to key.code.value key.limits n seat.id seat.me 0 (λ x. x) (finds_place p (step n 0 0 0 none) seat.me) (find_place_step g.P.Carry.entries g.P.Carry.arguments keeps p n (omega arith) (omega arith) seat.id seat.me live)),
+          (under_rule g.P.Carry.entries g.P.Carry.arguments g.P.Carry.keeps_to key.code.value key.limits n seat.id seat.me 0 (λ x. x) (finds_place p (step n 0 0 0 none) seat.me) (find_place_step g.P.Carry.entries g.P.Carry.arguments keeps p n _ (omega arith) (omega arith) seat.id seat.me live)),
     )
 
 pub returns-clause-place : goal.returns-clause-place

@@ -1,4 +1,4 @@
-use Rattle.std.proofs.Common.{◌≡◌, ℕ, ◌+◌, ◌*◌, ap, sym, ◌∙◌, subst, arith, Option}
+use Rattle.std.proofs.Common.{◌≡◌, ℕ, ap, sym, ◌∙◌, subst, arith, Option}
 use mathlib.Core.Option.{none}
 use Rattle.atomic_table.specs.Table.{Allows, Me, step}
 use Rattle.chord_base.specs.declared.event.Limits.{Limits}
@@ -9,8 +9,10 @@ use Rattle.chord_rule.specs.declared.view.View.{View}
 use Rattle.chord_rule.specs.Bags.{head_number}
 use Rattle.chord_rule.specs.Heading.{WasHead}
 use Rattle.chord_rule.specs.Made.{key}
+use Rattle.chord_rule.specs.Moment.{head_at}
 use Rattle.chord_rule.specs.Tells.{looks_head}
 use Rattle.chord_rule.proofs.Seeing.{look_head_step}
+use Rattle.chord_space.specs.Widest.{widest}
 use Rattle.chord_space.specs.Ruled.{Ruled, LooksAtHead}
 use Rattle.chord_rule.specs.Ways.{HasLooksLeft}
 use Rattle.chord_space.proofs.Under.{under_rule}
@@ -19,12 +21,12 @@ use Rattle.chord_space.proofs.space.Space.step_look_head.Goals as goal
 pub load-found-requires : goal.load-found-requires
 load-found-requires g c = let sized = c.args.self.now.sized in let key = c.args.self.now.table.shared.key in let n : ℕ = key.limits.events in let seat = c.args.desk.now.seat in let live = c.args.desk.now.settled.6 in
     let keeps : g.row.P.Denot → Type 0 = λ q. g.P.Carry.keeps_to q key.code.value key.limits in let p = code_program key.code.value key.limits in
-    let o = c.args.object in let j : ℕ = c.args.method in let bounds = c.requires.bounds in
-    let at : 1 + n + (16 * o.number + j) ≡ 1 + c.args.self.now.events + (16 * o.number + j) = omega arith in (
+    let o = c.args.object in let j : ℕ = c.args.method in let bounds = c.requires.bounds in let width : ℕ = widest key.code.value in
+    let word = c.head_word-head.ensures.word in let at : head_at n width o.number j ≡ c.head_word-head.result = omega (arith, word, sized.0) in (
       c.requires.desk,
-      omega arith,
+      c.head_word-head.ensures.inside,
       subst (λ (y : ℕ × ℕ × Object × ℕ × Parts × Limits). Allows (Ruled g.P.Carry.entries g.P.Carry.arguments g.P.Carry.keeps_to key.code.value key.limits) y.0 seat.id seat.me y.1 (λ x. x) (looks_head g.P.Carry.entries g.P.Carry.arguments (λ q. g.P.Carry.keeps_to q y.4 y.5) (code_program y.4 y.5) y.2 y.3 (step y.0 y.1 0 0 none) seat.me)) (λ k. ((sized.0 ∙ sym sized.2) k, at k, sym c.requires.address.0 k, sym c.requires.address.1 k, sym c.requires.address.2 k, sym c.requires.address.3 k))
-          (under_rule g.P.Carry.entries g.P.Carry.arguments g.P.Carry.keeps_to key.code.value key.limits n seat.id seat.me (1 + n + (16 * o.number + j)) (λ x. x) (looks_head g.P.Carry.entries g.P.Carry.arguments keeps p o j (step n (1 + n + (16 * o.number + j)) 0 0 none) seat.me) (look_head_step g.P.Carry.entries g.P.Carry.arguments keeps p n (omega arith) (omega arith) seat.id seat.me o j live (omega arith) (omega arith))),
+          (under_rule g.P.Carry.entries g.P.Carry.arguments g.P.Carry.keeps_to key.code.value key.limits n seat.id seat.me (head_at n width o.number j) (λ x. x) (looks_head g.P.Carry.entries g.P.Carry.arguments keeps p o j (step n (head_at n width o.number j) 0 0 none) seat.me) (look_head_step g.P.Carry.entries g.P.Carry.arguments keeps p n _ (omega arith) (omega arith) seat.id seat.me o j live (omega arith) bounds.2 (omega (arith, sized.5, sized.6)))),
     )
 
 pub returns-clause-room : goal.returns-clause-room

@@ -16,5 +16,5 @@ load-requires g c = let sized = c.args.self.now.sized in let key = c.args.self.n
       omega arith,
       subst (λ (y : ℕ × ℕ). Allows (Ruled g.P.Carry.entries g.P.Carry.arguments g.P.Carry.keeps_to key.code.value key.limits) y.0 seat.id seat.me 0 (λ x. x) (rests y.1 (step y.0 0 0 0 none) seat.me)) (λ k. ((sized.0 ∙ sym sized.2) k, (may.2 ∙ sym c.requires.message) k))
           (under_rule g.P.Carry.entries g.P.Carry.arguments g.P.Carry.keeps_to key.code.value key.limits n seat.id seat.me 0 (λ x. x) (rests may.0.message (step n 0 0 0 none) seat.me)
-          (rest_step g.P.Carry.entries g.P.Carry.arguments keeps p n (omega arith) (omega arith) seat.id seat.me may.0 live may.1 (λ e h same bag. may.3 e h (same ∙ may.2) bag))),
+          (rest_step g.P.Carry.entries g.P.Carry.arguments keeps p n _ (omega arith) (omega arith) seat.id seat.me may.0 live may.1 (λ e h same bag. may.3 e h (same ∙ may.2) bag))),
     )

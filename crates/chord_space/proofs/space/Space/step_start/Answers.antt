@@ -26,7 +26,7 @@ compare_exchange-found-requires g c = let sized = c.args.self.now.sized in let k
       omega arith,
       subst (λ (y : ℕ × ℕ × ℕ × Parts × Limits). Allows (Ruled g.P.Carry.entries g.P.Carry.arguments g.P.Carry.keeps_to key.code.value key.limits) y.0 seat.id seat.me (1 + f) (λ x. either (eqb x y.1) y.2 x) (starts (code_program y.3 y.4) g.P.Carry.entries (λ q. g.P.Carry.keeps_to q y.3 y.4) (step y.0 (1 + f) y.1 y.2 none) seat.me))
           (λ k. ((sized.0 ∙ sym sized.2) k, sym c.firing_word-ready.ensures k, sym c.firing_word.ensures k, sym governed.0 k, sym governed.1 k))
-          (under_rule g.P.Carry.entries g.P.Carry.arguments g.P.Carry.keeps_to key.code.value key.limits n seat.id seat.me (1 + f) (λ x. either (eqb x (word a_cell.Ready None)) (word a_cell.Started None) x) (starts p g.P.Carry.entries keeps (step n (1 + f) (word a_cell.Ready None) (word a_cell.Started None) none) seat.me) (start_step g.P.Carry.entries g.P.Carry.arguments keeps p n (omega arith) (omega arith) seat.id seat.me f c.args.desk.now.settled.6 (omega arith) c.args.desk.now.settled.5)),
+          (under_rule g.P.Carry.entries g.P.Carry.arguments g.P.Carry.keeps_to key.code.value key.limits n seat.id seat.me (1 + f) (λ x. either (eqb x (word a_cell.Ready None)) (word a_cell.Started None) x) (starts p g.P.Carry.entries keeps (step n (1 + f) (word a_cell.Ready None) (word a_cell.Started None) none) seat.me) (start_step g.P.Carry.entries g.P.Carry.arguments keeps p n _ (omega arith) (omega arith) seat.id seat.me f c.args.desk.now.settled.6 (omega arith) c.args.desk.now.settled.5)),
     )
 
 pub exchange-parcel-requires : goal.exchange-parcel-requires
@@ -45,7 +45,7 @@ load-requires g c = let sized = c.args.self.now.sized in let key = c.args.self.n
       c.exchange-parcel.ensures.0 ∙ c.compare_exchange-found.ensures.0 ∙ c.requires.desk,
       omega arith,
       subst (λ (y : ℕ × Me (Option g.row.P.Denot) View). Allows (Ruled g.P.Carry.entries g.P.Carry.arguments g.P.Carry.keeps_to key.code.value key.limits) y.0 seat.id y.1 0 (λ x. x) (plays (step y.0 0 0 0 none) y.1)) (λ k. ((sized.0 ∙ sym sized.2) k, sym me k))
-          (under_rule g.P.Carry.entries g.P.Carry.arguments g.P.Carry.keeps_to key.code.value key.limits n seat.id (v, (f, None) ∷ []) 0 (λ x. x) (plays (step n 0 0 0 none) (v, (f, None) ∷ [])) (play_step g.P.Carry.entries g.P.Carry.arguments keeps p n (omega arith) (omega arith) seat.id v f c.args.desk.now.settled.6 refl)),
+          (under_rule g.P.Carry.entries g.P.Carry.arguments g.P.Carry.keeps_to key.code.value key.limits n seat.id (v, (f, None) ∷ []) 0 (λ x. x) (plays (step n 0 0 0 none) (v, (f, None) ∷ [])) (play_step g.P.Carry.entries g.P.Carry.arguments keeps p n _ (omega arith) (omega arith) seat.id v f c.args.desk.now.settled.6 refl)),
     )
 
 pub invariant_of-desk : goal.invariant_of-desk
