@@ -142,6 +142,7 @@ fn one(tokens: &[Token], wanted: u8, depth: u32) -> Result<(&Token, &[Token]), F
 }
 
 /// The tokens after the terminal, which has no number in the tree.
+#[inline]
 pub fn skip(count: u32, tokens: &[Token], wanted: u8, depth: u32) -> Result<&[Token], Fault>
     requires unnumbered { includes unnumbered wanted ≡ true }
     requires bare { includes valued wanted ≡ false }
@@ -155,6 +156,7 @@ pub fn skip(count: u32, tokens: &[Token], wanted: u8, depth: u32) -> Result<&[To
 }
 
 /// The number of the terminal's token, and the tokens after it.
+#[inline]
 pub fn take(count: u32, tokens: &[Token], wanted: u8, depth: u32) -> Result<(u32, &[Token]), Fault>
     requires marked { includes unnumbered wanted ≡ false }
     requires bare { includes valued wanted ≡ false }
@@ -190,6 +192,7 @@ pub fn name_of(
 }
 
 /// The number that comes next, the number of its token, and the tokens after it.
+#[inline]
 pub fn number_next(count: u32, tokens: &[Token], depth: u32) -> Result<(u32, u32, &[Token]), Fault>
     ensures ok { IfOk result (λ r. Reads count grammar.NUMBER depth (token_kinds tokens.now) (token_kinds r.2.now) (Leaf (kinds.Number r.0) r.1)) }
     ensures err { IfErr result (λ fault. StopsAs grammar.NUMBER depth (token_kinds tokens.now) fault) }
