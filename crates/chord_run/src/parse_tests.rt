@@ -1,8 +1,8 @@
 //! What no clause says: which whole sources are programs, and at which token the others are refused.
 //! The numbers of tokens were counted by another reader of sources.
-use chord_parser::parser::{ParseFault, parse};
 use chord_lexer::lexer::lex;
 use chord_lexer::token::{Kind, Token};
+use chord_parser::parser::{ParseFault, parse};
 use chord_tree::program::Program;
 use chord_tree::spelling::spell;
 use std::alloc::{AllocError, Global};
