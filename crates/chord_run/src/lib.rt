@@ -32,6 +32,8 @@ mod parse_tests;
 #[cfg(test)]
 mod schedule_tests;
 #[cfg(test)]
+mod sources;
+#[cfg(test)]
 mod tests;
 #[cfg(test)]
 mod worker_tests;

@@ -1,5 +1,6 @@
 //! What no clause says: which whole sources are programs, and at which token the others are refused.
 //! The numbers of tokens were counted by another reader of sources.
+use crate::sources::{READERS_AND_WRITERS, SANTA};
 use chord_lexer::lexer::lex;
 use chord_lexer::token::{Kind, Token};
 use chord_parser::parser::{ParseFault, parse};
@@ -16,61 +17,6 @@ class Program {
     Buffer b = new Buffer();
     b.Put(\"hi\");
     Console.WriteLine(b.Get());
-  }
-}
-";
-
-const READERS_AND_WRITERS: &[u8] = b"class Lock {
-  public Lock() { idle(); }
-  public void Shared() & async idle() { held(1); }
-  public void Shared() & async held(int n) { held(n + 1); }
-  public void ReleaseShared() & async held(int n) {
-    if (n == 1) idle(); else held(n - 1);
-  }
-  public void Exclusive() & async idle() { }
-  public void ReleaseExclusive() { idle(); }
-}
-class Total {
-  public Total(int n) { sum(0, n); }
-  public async Add(int v) & async sum(int s, int n) {
-    if (n == 1) done(s + v); else sum(s + v, n - 1);
-  }
-  public int Wait() & async done(int s) { return s; }
-}
-class Work {
-  public async Reader(Lock k, Total t) { k.Shared(); k.ReleaseShared(); t.Add(1); }
-  public async Writer(Lock k, Total t) { k.Exclusive(); k.ReleaseExclusive(); t.Add(1); }
-}
-class Program {
-  static void Main() {
-    Lock k = new Lock(); Total t = new Total(4); Work w = new Work();
-    w.Reader(k, t); w.Reader(k, t); w.Writer(k, t); w.Reader(k, t);
-    Console.WriteLine(t.Wait());
-  }
-}
-";
-
-const SANTA: &[u8] = b"class Santa {
-  public Santa() { deer(0); elves(0); }
-  public async Back() & async deer(int n) {
-    if (n == 8) { deer(0); sleigh(); } else deer(n + 1);
-  }
-  public async Ask() & async elves(int n) {
-    if (n == 2) { elves(0); group(); } else elves(n + 1);
-  }
-  public void Work() & async sleigh() { Console.WriteLine(\"Santa delivers toys\"); }
-  public void Work() & async group() { Console.WriteLine(\"Santa meets elves\"); }
-}
-class Folk {
-  public async Reindeer(Santa s) { s.Back(); }
-  public async Elf(Santa s) { s.Ask(); }
-}
-class Program {
-  static void Main() {
-    Santa s = new Santa(); Folk f = new Folk();
-    int i = 0;
-    while (i < 10) { if (i < 9) f.Reindeer(s); f.Elf(s); i = i + 1; }
-    s.Work(); s.Work(); s.Work(); s.Work();
   }
 }
 ";
@@ -228,10 +174,10 @@ fn sources_are_programs_or_refused_at_a_token(rt: HostRuntime) -> Result<(), Fai
         ("buffer", BUFFER, "program of 59 tokens"),
         (
             "readers and writers",
-            READERS_AND_WRITERS,
+            READERS_AND_WRITERS.as_bytes(),
             "program of 336 tokens",
         ),
-        ("santa", SANTA, "program of 260 tokens"),
+        ("santa", SANTA.as_bytes(), "program of 260 tokens"),
     ];
     for (name, source, wanted) in cases {
         let found = answer(rt.alloc(), source)?;

@@ -1,4 +1,5 @@
 //! The top call on whole sources: what is written, the status, and what the report has.
+use crate::sources::READERS_AND_WRITERS;
 use crate::{Gate, Refusal, Report, chord};
 use chord_io::{MemSink, MemSource};
 use std::alloc::{AllocError, Global};
@@ -301,35 +302,7 @@ class P { static void Main() { A a = new A(); a.Bad(0); } }
     },
     Played {
         name: "a lock of readers and writers",
-        source: "class Lock {
-  public Lock() { idle(); }
-  public void Shared() & async idle() { held(1); }
-  public void Shared() & async held(int n) { held(n + 1); }
-  public void ReleaseShared() & async held(int n) {
-    if (n == 1) idle(); else held(n - 1);
-  }
-  public void Exclusive() & async idle() { }
-  public void ReleaseExclusive() { idle(); }
-}
-class Total {
-  public Total(int n) { sum(0, n); }
-  public async Add(int v) & async sum(int s, int n) {
-    if (n == 1) done(s + v); else sum(s + v, n - 1);
-  }
-  public int Wait() & async done(int s) { return s; }
-}
-class Work {
-  public async Reader(Lock k, Total t) { k.Shared(); k.ReleaseShared(); t.Add(1); }
-  public async Writer(Lock k, Total t) { k.Exclusive(); k.ReleaseExclusive(); t.Add(1); }
-}
-class Program {
-  static void Main() {
-    Lock k = new Lock(); Total t = new Total(4); Work w = new Work();
-    w.Reader(k, t); w.Reader(k, t); w.Writer(k, t); w.Reader(k, t);
-    Console.WriteLine(t.Wait());
-  }
-}
-",
+        source: READERS_AND_WRITERS,
         written: "4\n",
         status: 0,
         entries: 70,

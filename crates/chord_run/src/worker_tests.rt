@@ -1,4 +1,5 @@
 //! Runs that workers make: what they write and how many entries they have, however many workers there are; and two bodies side by side.
+use crate::sources::SANTA;
 use crate::tests::{PLAYED, words_of};
 use crate::{Gate, Report, chord};
 use chord_base::event::{Entry, What};
@@ -19,31 +20,6 @@ const WORDS: [&str; 5] = [
     "run --workers 8",
     "run --workers 64",
 ];
-
-const SANTA: &str = "class Santa {
-  public Santa() { deer(0); elves(0); }
-  public async Back() & async deer(int n) {
-    if (n == 8) { deer(0); sleigh(); } else deer(n + 1);
-  }
-  public async Ask() & async elves(int n) {
-    if (n == 2) { elves(0); group(); } else elves(n + 1);
-  }
-  public void Work() & async sleigh() { Console.WriteLine(\"Santa delivers toys\"); }
-  public void Work() & async group() { Console.WriteLine(\"Santa meets elves\"); }
-}
-class Folk {
-  public async Reindeer(Santa s) { s.Back(); }
-  public async Elf(Santa s) { s.Ask(); }
-}
-class Program {
-  static void Main() {
-    Santa s = new Santa(); Folk f = new Folk();
-    int i = 0;
-    while (i < 10) { if (i < 9) f.Reindeer(s); f.Elf(s); i = i + 1; }
-    s.Work(); s.Work(); s.Work(); s.Work();
-  }
-}
-";
 
 const SIDE_BY_SIDE: &str = "class A { public async a() { } public async b() { } }
 class P { static void Main() { A o = new A(); o.a(); o.b(); } }
