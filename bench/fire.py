@@ -34,7 +34,7 @@ ghost use Rattle.std.specs.Prelude.{◌≡◌, ◌≤◌, ◌<◌, true, false, 
 ghost use Rattle.chord_rule.specs.Kinds.{newcomer_first};
 ghost use Rattle.chord_rule.specs.Made.{key};
 ghost use Rattle.chord_space.specs.Desks.{view, space_code, program_of, IsDeskOf, IsSameDesk};
-ghost use Rattle.chord_match.specs.Pairs.{main_body, pair_code, IsPairTable, first_object, made_one, sent_x, sent_both, HasInHand, Owes};
+ghost use Rattle.chord_tests.specs.Pairs.{main_body, pair_code, IsPairTable, first_object, made_one, sent_x, sent_both, HasInHand, Owes};
 ghost use Rattle.chord_match.specs.Seen.{AreSeen};
 
 /// A parcel that keeps no entry.
@@ -297,8 +297,8 @@ int main(int count, char **given) {
 
 ASKS = '''use Rattle.std.proofs.Common.{false, inl, ◌∙◌}
 use Rattle.chord_space.specs.Desks.{view, space_code, space_limits}
-use Rattle.chord_match.specs.Pairs.{first_object, KEPT}
-use Rattle.chord_match.proofs.ByHand.{ASKS, may_send}
+use Rattle.chord_tests.specs.Pairs.{first_object, KEPT}
+use Rattle.chord_tests.proofs.ByHand.{ASKS, may_send}
 
 pub draw-requires-clause-next : goal.draw-requires-clause-next
 draw-requires-clause-next c = let s = c.args.space.now in inl (tt, may_send false s.events (space_code s) (space_limits s) KEPT (view c.args.desk.now).kept first_object METHOD c.of_items.result c.requires.table.0 c.requires.table.1 c.requires.desk.1.kept (c.of_items.ensures ∙ c.new.ensures.items) (ASKS s.events))
@@ -313,8 +313,8 @@ use Rattle.chord_rule.specs.Tells.{a_word}
 use Rattle.chord_space.specs.Desks.{view, space_code, space_limits}
 use Rattle.chord_space.specs.Gives.{MayLink}
 use Rattle.chord_word.specs.declared.cells.Cell.TheVariants.{Pending}
-use Rattle.chord_match.specs.Pairs.{first_object, KEPT}
-use Rattle.chord_match.proofs.ByHand.{of_table, MAY, holds_linked, holds_armed}
+use Rattle.chord_tests.specs.Pairs.{first_object, KEPT}
+use Rattle.chord_tests.proofs.ByHand.{of_table, MAY, holds_linked, holds_armed}
 
 pub link-requires-clause-link : goal.link-requires-clause-link
 link-requires-clause-link c = let s = c.args.space.now in let v : View = view c.args.desk.now in of_table (λ (p : Program). MayLink p v NUMBER first_object METHOD [] []) false s.events (space_code s) (space_limits s) c.requires.table.0.0 c.requires.table.0.1 (MAY s.events v c.requires.desk.1)
@@ -328,7 +328,7 @@ returns-clause-added c =
 
 SOUND = '''use Rattle.std.proofs.Common.{false, sym, subst}
 use Rattle.chord_code.specs.Sound.{IsSoundCode}
-use Rattle.chord_match.proofs.Pairs.{pair_is_sound}
+use Rattle.chord_tests.proofs.Pairs.{pair_is_sound}
 
 pub make-requires-clause-sound : goal.make-requires-clause-sound
 make-requires-clause-sound c = subst IsSoundCode (sym c.requires) (pair_is_sound false)
@@ -336,8 +336,8 @@ make-requires-clause-sound c = subst IsSoundCode (sym c.requires) (pair_is_sound
 
 FOUND = '''use Rattle.std.proofs.Common.{[], None, ◌∙◌}
 use Rattle.chord_space.specs.Desks.{view, program_of}
-use Rattle.chord_match.specs.Pairs.{first_object, sent_both}
-use Rattle.chord_match.proofs.ByHand.{same_by_find}
+use Rattle.chord_tests.specs.Pairs.{first_object, sent_both}
+use Rattle.chord_tests.proofs.ByHand.{same_by_find}
 
 pub fired-requires-clause-desk : goal.fired-requires-clause-desk
 fired-requires-clause-desk c = (c.find.ensures.desk.0 ∙ c.requires.desk.0, same_by_find (program_of c.args.space.now) c.args.space.now.events (view c.args.desk.now) (view c.find.new.desk) 3 first_object 1 c.find.new.members c.find.new.nexts c.find.result c.find.ensures.finding sent_both [] None [] c.requires.desk.1, c.in-Match.ensures.finding.seen)
@@ -360,7 +360,7 @@ ANSWERS = [
     ('add_y', adds('sent_both', 'may_add_y', '3', '1', '(')),
     ('found', FOUND),
 ]
-CRATES = ['chord_base', 'chord_code', 'chord_match', 'chord_rule', 'chord_space', 'chord_word']
+CRATES = ['chord_base', 'chord_code', 'chord_match', 'chord_rule', 'chord_space', 'chord_tests', 'chord_word']
 
 
 def counted(command, words):

@@ -171,7 +171,7 @@ fn main(rt: HostRuntime) -> io::Result<()> {
 
 SOUND = '''use Rattle.std.proofs.Common.{sym, subst}
 use Rattle.chord_code.specs.Sound.{IsSoundCode}
-use Rattle.chord_space.proofs.Sending.{sending_is_sound}
+use Rattle.chord_tests.proofs.Sending.{sending_is_sound}
 
 pub make-requires-clause-sound : goal.make-requires-clause-sound
 make-requires-clause-sound c = subst IsSoundCode (sym c.requires.0) sending_is_sound
@@ -184,7 +184,7 @@ use Rattle.chord_code.specs.Meaning.{code_program}
 use Rattle.chord_rule.specs.declared.view.View.{View}
 use Rattle.chord_space.specs.Desks.{space_limits}
 use Rattle.chord_space.specs.Gives.{MayLink}
-use Rattle.chord_space.proofs.Sending.{may_link}
+use Rattle.chord_tests.proofs.Sending.{may_link}
 
 pub link-requires-clause-link : goal.link-requires-clause-link
 link-requires-clause-link c = let code = c.requires.code in let sent = c.requires.sent in let limits : Limits = space_limits c.args.space.now in
@@ -264,7 +264,7 @@ def in_c():
 
 def main():
     answers = [('table', SOUND), ('linked', MAY_LINK)]
-    crates = ['chord_base', 'chord_code', 'chord_rule', 'chord_space', 'chord_word']
+    crates = ['chord_base', 'chord_code', 'chord_rule', 'chord_space', 'chord_tests', 'chord_word']
     making, small, drawing, linking, arming, none, draws, links, arms = map(int, common.rows_of('steps', crates, filled(OURS), answers)[0])
     assert (none, draws, links, arms) == (0, 2 * ROUNDS, 2 * ROUNDS, 2 * ROUNDS)
     bare = in_c()

@@ -22,8 +22,6 @@ pub mod operation;
 pub mod origins;
 mod past;
 pub mod prefix;
-#[cfg(test)]
-mod prefix_tests;
 pub mod spelled;
 pub mod static_type;
 pub mod text;

@@ -1,5 +1,5 @@
 //! The journal as text, in both directions, and a journal gathered from its entries.
-//! Stands on: arrayvec, chord_base (the journal), chord_io (sinks), itoa (decimals), thiserror. Used by: chord_pool, chord_run.
+//! Stands on: arrayvec, chord_base (the journal), chord_io (sinks), itoa (decimals), thiserror. Used by: chord_pool, chord_run, chord_tests.
 //! Promise: `write_text` writes exactly the text of a journal (specs/Text.antt), `write_counts` how many entries of each kind it
 //! has (specs/Counts.antt), and `read` takes exactly these texts and names the least line that is wrong (specs/Wrong.antt).
 //! Not here: what a journal means (chord_base).
@@ -19,6 +19,3 @@ pub use gathered::gather;
 pub use lines::write_lines;
 pub use reading::{JournalFault, read};
 pub use write::write_text;
-
-#[cfg(test)]
-mod tests;

@@ -7,5 +7,3 @@ pub mod Finds
 pub mod Claims
 pub mod Unions
 pub mod Handovers
-pub mod Pairs
-pub mod ByHand

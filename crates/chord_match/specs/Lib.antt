@@ -18,7 +18,3 @@ pub mod Searching
 pub mod Claiming
 -- members are consumed one after another
 pub mod Consuming
--- ## What the tests by hand use
-
--- the codes of the tests, and what their desks know
-pub mod Pairs

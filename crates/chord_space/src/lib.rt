@@ -17,8 +17,6 @@ mod links;
 mod looks;
 mod plays;
 mod space;
-#[cfg(test)]
-mod table_tests;
 
 pub use bypasses::Pointer;
 pub use closed::Closed;

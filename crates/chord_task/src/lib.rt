@@ -11,6 +11,4 @@ pub mod body;
 pub mod cross;
 pub mod parcel;
 pub mod task;
-#[cfg(test)]
-mod task_tests;
 pub mod turn;

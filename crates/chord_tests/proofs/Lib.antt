@@ -1,0 +1,4 @@
+pub mod Ending
+pub mod Sending
+pub mod Pairs
+pub mod ByHand

@@ -1,0 +1,267 @@
+//! What no clause says: journals of the language's own examples byte for byte, a text at each bound and one past it,
+//! that calls succeed with memory, and a write that fails in mid-stream.
+ghost use Rattle.std.specs.Prelude.{IfOk};
+ghost use Rattle.chord_journal.specs.Gathered.{AreOfJournal};
+
+use chord_base::event::{Entry, What};
+use chord_io::{Failed, MemSink};
+use chord_journal::{JournalFault, gather, read, write_lines, write_text};
+use std::alloc::{AllocError, Global};
+use std::fmt::Write;
+use std::process::Abort;
+use std::test::Fail;
+
+/// A buffer: one text is put and got, and printed.
+const BUFFER: &str = "journal 1 8\n\
+    0 0 begun\n\
+    1 0 made 0\n\
+    2 0 sent o1.0 1 x6869\n\
+    3 0 called o1.0 0\n\
+    4 4 fired 0 o1.0 2 3 2 x6869\n\
+    5 4 ended x6869\n\
+    6 0 printed x6869\n\
+    7 0 ended u\n";
+
+/// Calls of an overridden group, with texts.
+const GROUPS: &str = "journal 1 24\n\
+    0 0 begun\n\
+    1 0 made 0\n\
+    2 0 made 1\n\
+    3 0 called o1.0 1\n\
+    4 4 fired 1 o1.0 1 3\n\
+    5 4 called o1.0 0\n\
+    6 6 fired 0 o1.0 1 5\n\
+    7 6 ended x41\n\
+    8 4 called o1.0 0\n\
+    9 9 fired 0 o1.0 1 8\n\
+    10 9 ended x41\n\
+    11 4 ended x4141\n\
+    12 0 called o2.1 1\n\
+    13 13 fired 0 o2.1 1 12\n\
+    14 13 called o2.1 0\n\
+    15 15 fired 1 o2.1 1 14\n\
+    16 15 ended x4235\n\
+    17 13 called o2.1 0\n\
+    18 18 fired 1 o2.1 1 17\n\
+    19 18 ended x4235\n\
+    20 13 ended x42354235\n\
+    21 0 printed x414142354235\n\
+    22 0 printed x46616c7365\n\
+    23 0 ended u\n";
+
+/// A recursion, with ints.
+const RECURSION: &str = "journal 1 13\n\
+    0 0 begun\n\
+    1 0 made 0\n\
+    2 0 called o1.0 0 i2\n\
+    3 3 fired 0 o1.0 1 2 i2\n\
+    4 3 called o1.0 0 i1\n\
+    5 5 fired 0 o1.0 1 4 i1\n\
+    6 5 ended i1\n\
+    7 3 called o1.0 0 i0\n\
+    8 8 fired 0 o1.0 1 7 i0\n\
+    9 8 ended i0\n\
+    10 3 ended i1\n\
+    11 0 printed x31\n\
+    12 0 ended u\n";
+
+/// A caller that is never served.
+const PARKED: &str = "journal 1 3\n\
+    0 0 begun\n\
+    1 0 made 0\n\
+    2 0 called o1.0 0\n";
+
+/// The line at which a text is wrong, if it is.
+fn wrong_line(alloc: Global, text: &str) -> Option<u32> {
+    match read(alloc, text.as_bytes()) {
+        Ok(_) => None,
+        Err(JournalFault::At(line)) => Some(line),
+        Err(JournalFault::Memory) => Some(u32::MAX),
+    }
+}
+
+/// The text of a journal of one entry whose line goes on with `line`.
+fn one_entry(alloc: Global, line: &str) -> Result<String, AllocError> {
+    format!(in alloc; "journal 1 1\n0 {line}\n")
+}
+
+#[test]
+fn writes_what_it_read(rt: HostRuntime) -> Result<(), Fail> {
+    for text in [BUFFER, GROUPS, RECURSION, PARKED] {
+        let journal = read(rt.alloc(), text.as_bytes())?;
+        let mut sink = MemSink::new(rt.alloc(), 2000, 7, Vec::new(rt.alloc()))?;
+        assert_eq!(rt; write_text(&journal, &mut sink), Ok(()), "{text}");
+        assert!(rt; sink.taken() == text.as_bytes(), "{text}");
+    }
+    Ok(())
+}
+
+#[test]
+fn names_the_least_wrong_line(rt: HostRuntime) -> Result<(), Fail> {
+    let buffer = BUFFER;
+    let changed = buffer.replace(rt.alloc(), "2 0 sent", "3 0 sent")?;
+    let followed = format!(in rt.alloc(); "{buffer}x")?;
+    let unended = buffer.strip_suffix("\n");
+    let headed = buffer.replace(rt.alloc(), "journal 1 8", "journal 1 08")?;
+    let cases = [
+        ("whole", buffer, None),
+        ("empty", "", Some(0)),
+        ("another number", changed.as_str(), Some(3)),
+        ("a byte behind the end", followed.as_str(), Some(9)),
+        ("no end of the last line", unended.unwrap_or(""), Some(8)),
+        ("a leading zero", headed.as_str(), Some(0)),
+        ("a missing line", "journal 1 2\n0 0 begun\n", Some(2)),
+        ("another version", "journal 2 0\n", Some(0)),
+        ("no entries", "journal 1 0\n", None),
+        ("too many entries", "journal 1 65537\n", Some(0)),
+        ("the most entries, missing", "journal 1 65536\n", Some(1)),
+    ];
+    for (name, text, line) in cases {
+        assert_eq!(rt; wrong_line(rt.alloc(), text), line, "{name}");
+    }
+    Ok(())
+}
+
+#[test]
+fn keeps_the_bounds_of_each_part(rt: HostRuntime) -> Result<(), Fail> {
+    let cases = [
+        ("65535 begun", true),
+        ("65536 begun", false),
+        ("00 begun", false),
+        ("0 begun ", false),
+        ("0 Begun", false),
+        ("0 made 1023", true),
+        ("0 made 1024", false),
+        ("0 sent o65535.1023 15", true),
+        ("0 sent o65536.0 0", false),
+        ("0 sent o0.1024 0", false),
+        ("0 sent o0.0 16", false),
+        ("0 sent o0 0", false),
+        ("0 called o0.0 0 i2147483647 i-2147483648", true),
+        ("0 called o0.0 0 i2147483648", false),
+        ("0 called o0.0 0 i-2147483649", false),
+        ("0 called o0.0 0 i-0", false),
+        ("0 called o0.0 0 i01", false),
+        ("0 called o0.0 0 i", false),
+        ("0 called o0.0 0 u t f o1.2 x x00ff", true),
+        ("0 called o0.0 0 o1", false),
+        ("0 called o0.0 0 xF0", false),
+        ("0 called o0.0 0 x0", false),
+        ("0 fired 255 o0.0 1 65535", true),
+        ("0 fired 256 o0.0 1 0", false),
+        ("0 fired 0 o0.0 1 65536", false),
+        ("0 fired 0 o0.0 0", false),
+        ("0 fired 0 o0.0 8 1 2 3 4 5 6 7 8", true),
+        ("0 fired 0 o0.0 9 1 2 3 4 5 6 7 8 9", false),
+        ("0 fired 0 o0.0 2 1", false),
+        ("0 ended !divide", true),
+        ("0 ended !turns", true),
+        ("0 ended !deep", true),
+        ("0 ended !long", true),
+        ("0 ended !short", false),
+        ("0 printed", false),
+    ];
+    for (line, right) in cases {
+        let text = one_entry(rt.alloc(), line)?;
+        let expected = if right { None } else { Some(1) };
+        assert_eq!(rt; wrong_line(rt.alloc(), text.as_str()), expected, "{line}");
+    }
+    Ok(())
+}
+
+#[test]
+fn keeps_the_bounds_of_each_list(rt: HostRuntime) -> Result<(), Fail> {
+    let cases = [
+        ("0 sent o0.0 0", " u", 8u32, true),
+        ("0 sent o0.0 0", " u", 9, false),
+        ("0 fired 0 o0.0 1 0", " t", 64, true),
+        ("0 fired 0 o0.0 1 0", " t", 65, false),
+        ("0 printed x", "0a", 1024, true),
+        ("0 printed x", "0a", 1025, false),
+    ];
+    for (front, part, times, right) in cases {
+        let mut line = String::from_str(rt.alloc(), front)?;
+        for _ in 0..times {
+            line.push_str(part)?;
+        }
+        let text = one_entry(rt.alloc(), line.as_str())?;
+        let expected = if right { None } else { Some(1) };
+        assert_eq!(rt;
+            wrong_line(rt.alloc(), text.as_str()),
+            expected,
+            "{front}, {times} times"
+        );
+    }
+    Ok(())
+}
+
+#[test]
+fn faults_say_what_is_wrong(rt: HostRuntime) -> Result<(), Fail> {
+    for (fault, expected) in [
+        (JournalFault::Memory, "out of memory"),
+        (JournalFault::At(0), "line 0 is no line of a journal"),
+        (
+            JournalFault::At(65_537),
+            "line 65537 is no line of a journal",
+        ),
+    ] {
+        assert_eq!(rt; format!(in rt.alloc(); "{fault}")?.as_str(), expected);
+    }
+    Ok(())
+}
+
+#[test]
+fn reads_the_most_entries(rt: HostRuntime) -> Result<(), Fail> {
+    let mut text = String::from_str(rt.alloc(), "journal 1 65536\n")?;
+    for number in 0..65_536u32 {
+        writeln!(text, "{number} 0 made 1")?;
+    }
+    let journal = read(rt.alloc(), text.as_bytes())?;
+    assert_eq!(rt; journal.entries().len(), 65_536);
+    let mut sink = MemSink::new(rt.alloc(), 2_000_000, 100_000, Vec::new(rt.alloc()))?;
+    assert_eq!(rt; write_text(&journal, &mut sink), Ok(()));
+    assert!(rt; sink.taken() == text.as_bytes());
+    Ok(())
+}
+
+#[test]
+fn a_write_fails_in_mid_stream(rt: HostRuntime) -> Result<(), Fail> {
+    let journal = read(rt.alloc(), GROUPS.as_bytes())?;
+    let mut whole = MemSink::new(rt.alloc(), 100, 5, Vec::new(rt.alloc()))?;
+    assert_eq!(rt; write_lines(&journal, &mut whole), Ok(()));
+    assert!(rt; whole.taken() == b"AAB5B5\nFalse\n".as_slice());
+    let mut failing = MemSink::new(rt.alloc(), 100, 5, vec![in rt.alloc(); 3]?)?;
+    assert_eq!(rt; write_lines(&journal, &mut failing), Err(Failed));
+    assert!(rt; failing.taken() == b"AAB5B5\n".as_slice());
+    let mut full = MemSink::new(rt.alloc(), 14, 5, Vec::new(rt.alloc()))?;
+    assert_eq!(rt; write_text(&journal, &mut full), Err(Failed));
+    assert!(rt; full.taken() == b"journal 1 24\n0".as_slice());
+    Ok(())
+}
+
+/// Two entries of a journal, the later one first.
+fn swapped(alloc: Global) -> Result<Vec<Entry>, AllocError>
+    ensures { IfOk result (λ entries. AreOfJournal entries.items) }
+{
+    let mut entries = Vec::new(alloc);
+    entries.push(Entry {
+        number: 1,
+        body: 0,
+        what: What::Made(7),
+    })?;
+    entries.push(Entry {
+        number: 0,
+        body: 0,
+        what: What::Begun,
+    })?;
+    Ok(entries)
+}
+
+#[test]
+fn gathers_entries_by_their_numbers(rt: HostRuntime) -> Result<(), Fail> {
+    let journal = gather(rt.alloc(), swapped(rt.alloc())?)?;
+    let mut sink = MemSink::new(rt.alloc(), 100, 100, Vec::new(rt.alloc()))?;
+    assert_eq!(rt; write_text(&journal, &mut sink), Ok(()));
+    assert!(rt; sink.taken() == b"journal 1 2\n0 0 begun\n1 0 made 7\n".as_slice());
+    Ok(())
+}

@@ -1,0 +1,667 @@
+//! Whole journals and changed ones: how many of their entries are a run.
+
+use chord_base::event::{End, Entry, Trap, What};
+use chord_base::listed::{Class, Listed, Tale};
+use chord_base::meaning::{Next, Start};
+use chord_base::members::Members;
+use chord_base::prefix::run_length;
+use chord_base::text::Text;
+use chord_base::value::{MAX_VALUES, Object, Value, Values};
+use std::alloc::Global;
+use std::test::Fail;
+
+const FIRST: Object = Object {
+    number: 1,
+    class: 0,
+};
+
+const SECOND: Object = Object {
+    number: 2,
+    class: 0,
+};
+
+/// A text, by name.
+#[derive(Clone, Copy)]
+enum Word {
+    Hi,
+    Ho,
+    Before,
+    One,
+    Two,
+}
+
+/// A value, written short.
+#[derive(Clone, Copy)]
+enum Part {
+    Unit,
+    Int(i32),
+    Text(Word),
+    Ref(Object),
+}
+
+/// At most two values, written short.
+#[derive(Clone, Copy)]
+enum Parts {
+    None,
+    One(Part),
+    Two(Part, Part),
+}
+
+/// The members of a firing, written short.
+#[derive(Clone, Copy)]
+enum Taken {
+    One(u32),
+    Two(u32, u32),
+}
+
+/// An end, written short.
+#[derive(Clone, Copy)]
+enum Ends {
+    Gives(Part),
+    Traps(Trap),
+}
+
+/// What an entry says, written short.
+#[derive(Clone, Copy)]
+enum Says {
+    Begun,
+    Made,
+    Sent(Object, u8, Parts),
+    Called(Object, u8, Parts),
+    Printed(Word),
+    Fired(u16, Object, Taken, Parts),
+    Ended(Ends),
+}
+
+/// An entry, written short: its number, its body, and what it says.
+type Line = (u32, u32, Says);
+
+fn bytes_of(word: Word) -> &'static [u8] {
+    match word {
+        Word::Hi => b"hi",
+        Word::Ho => b"ho",
+        Word::Before => b"before",
+        Word::One => b"1",
+        Word::Two => b"2",
+    }
+}
+
+fn text(alloc: Global, word: Word) -> Result<Text, Fail> {
+    Ok(Text::of_bytes(alloc, bytes_of(word)).ok().ok_or("no text")?)
+}
+
+fn value(alloc: Global, part: Part) -> Result<Value, Fail> {
+    match part {
+        Part::Unit => Ok(Value::Unit),
+        Part::Int(number) => Ok(Value::Int(number)),
+        Part::Text(word) => Ok(Value::Text(text(alloc, word)?)),
+        Part::Ref(object) => Ok(Value::Ref(object)),
+    }
+}
+
+fn values(alloc: Global, parts: Parts) -> Result<Values, Fail> {
+    let mut list = Vec::new(alloc);
+    match parts {
+        Parts::None => {}
+        Parts::One(part) => list.push(value(alloc, part)?)?,
+        Parts::Two(first, second) => {
+            list.push(value(alloc, first)?)?;
+            list.push(value(alloc, second)?)?;
+        }
+    }
+    if list.len() > MAX_VALUES {
+        return Err(Fail::from("too many values"));
+    }
+    Ok(Values::of_items(list))
+}
+
+fn members(taken: Taken) -> Members {
+    let mut members = Members::new();
+    match taken {
+        Taken::One(number) => members.push(number),
+        Taken::Two(first, second) => {
+            members.push(first);
+            members.push(second);
+        }
+    }
+    members
+}
+
+fn end(alloc: Global, ends: Ends) -> Result<End, Fail> {
+    match ends {
+        Ends::Gives(part) => Ok(End::Gives(value(alloc, part)?)),
+        Ends::Traps(trap) => Ok(End::Traps(trap)),
+    }
+}
+
+fn what(alloc: Global, says: Says) -> Result<What, Fail> {
+    match says {
+        Says::Begun => Ok(What::Begun),
+        Says::Made => Ok(What::Made(0)),
+        Says::Sent(object, method, parts) => Ok(What::Sent(object, method, values(alloc, parts)?)),
+        Says::Called(object, method, parts) => Ok(What::Called(
+            object,
+            method,
+            values(alloc, parts)?,
+        )),
+        Says::Printed(word) => Ok(What::Printed(text(alloc, word)?)),
+        Says::Fired(chord, object, taken, parts) => Ok(What::Fired(
+            chord,
+            object,
+            members(taken),
+            values(alloc, parts)?,
+        )),
+        Says::Ended(ends) => Ok(What::Ended(end(alloc, ends)?)),
+    }
+}
+
+/// The journal of these lines, but with another line at one place.
+fn journal(alloc: Global, lines: &[Line], place: usize, other: Line) -> Result<Vec<Entry>, Fail> {
+    let mut entries = Vec::new(alloc);
+    for i in 0..lines.len() {
+        let (number, body, says) = if i == place { other } else { lines[i] };
+        let what = what(alloc, says)?;
+        entries.push(Entry { number, body, what })?;
+    }
+    Ok(entries)
+}
+
+/// How many entries of that journal are a run.
+fn length(
+    alloc: Global,
+    program: &Listed,
+    lines: &[Line],
+    place: usize,
+    other: Line,
+) -> Result<usize, Fail> {
+    let entries = journal(alloc, lines, place, other)?;
+    Ok(run_length(alloc, program, &entries)?)
+}
+
+fn asks_of(alloc: Global, depth: u32, asks: &[Says]) -> Result<Vec<Next>, Fail> {
+    let mut list = Vec::new(alloc);
+    for says in asks {
+        let what = what(alloc, *says)?;
+        list.push(Next { what, depth })?;
+    }
+    Ok(list)
+}
+
+fn answers_of(alloc: Global, answers: &[Ends]) -> Result<Vec<End>, Fail> {
+    let mut list = Vec::new(alloc);
+    for ends in answers {
+        list.push(end(alloc, *ends)?)?;
+    }
+    Ok(list)
+}
+
+/// A body that began so at this depth, asks these in turn, and gets these answers.
+fn tell(
+    program: &mut Listed,
+    alloc: Global,
+    start: Start,
+    depth: u32,
+    asks: &[Says],
+    answers: &[Ends],
+) -> Result<(), Fail> {
+    let tale = Tale {
+        start,
+        depth: u64::from(depth),
+        asks: asks_of(alloc, depth, asks)?,
+        answers: answers_of(alloc, answers)?,
+    };
+    program.tales.push(tale)?;
+    Ok(())
+}
+
+/// The start of the body of a chord of the first object.
+fn begins(alloc: Global, chord: u16, arguments: Parts) -> Result<Start, Fail> {
+    Ok(Start::Chord(chord, FIRST, values(alloc, arguments)?))
+}
+
+/// A program of no body, whose one class has no chord and a method 0 with callers that wait.
+fn program(alloc: Global) -> Result<Listed, Fail> {
+    let mut waits = Vec::new(alloc);
+    waits.push(true)?;
+    let mut classes = Vec::new(alloc);
+    classes.push(Class {
+        chords: Vec::new(alloc),
+        waits,
+    })?;
+    Ok(Listed {
+        tales: Vec::new(alloc),
+        classes,
+    })
+}
+
+/// One more chord of the class.
+fn chord(program: &mut Listed, alloc: Global, methods: &[u8]) -> Result<(), Fail> {
+    let methods = Vec::from_slice(alloc, methods)?;
+    program
+        .classes
+        .get_mut(0)
+        .ok_or("no class")?
+        .chords
+        .push(methods)?;
+    Ok(())
+}
+
+const HI: Parts = Parts::One(Part::Text(Word::Hi));
+
+const GIVES_HI: Ends = Ends::Gives(Part::Text(Word::Hi));
+
+const GIVES_UNIT: Ends = Ends::Gives(Part::Unit);
+
+const GIVES_FIRST: Ends = Ends::Gives(Part::Ref(FIRST));
+
+const GIVES_SECOND: Ends = Ends::Gives(Part::Ref(SECOND));
+
+/// `Main` makes a buffer, puts `hi` into it, gets it and prints it.
+#[test]
+fn buffer(rt: HostRuntime) -> Result<(), Fail> {
+    let alloc = rt.alloc();
+    let mut program = program(alloc)?;
+    chord(&mut program, alloc, &[0, 1])?;
+    tell(
+        &mut program,
+        alloc,
+        Start::Main,
+        1,
+        &[
+            Says::Made,
+            Says::Sent(FIRST, 1, HI),
+            Says::Called(FIRST, 0, Parts::None),
+            Says::Printed(Word::Hi),
+            Says::Ended(GIVES_UNIT),
+        ],
+        &[GIVES_FIRST, GIVES_UNIT, GIVES_HI, GIVES_UNIT],
+    )?;
+    let get = begins(alloc, 0, HI)?;
+    tell(&mut program, alloc, get, 2, &[Says::Ended(GIVES_HI)], &[])?;
+    let lines = [
+        (0, 0, Says::Begun),
+        (1, 0, Says::Made),
+        (2, 0, Says::Sent(FIRST, 1, HI)),
+        (3, 0, Says::Called(FIRST, 0, Parts::None)),
+        (4, 4, Says::Fired(0, FIRST, Taken::Two(3, 2), HI)),
+        (5, 4, Says::Ended(GIVES_HI)),
+        (6, 0, Says::Printed(Word::Hi)),
+        (7, 0, Says::Ended(GIVES_UNIT)),
+    ];
+    for (name, place, other, expected) in [
+        ("as it is", 0, lines[0], 8),
+        (
+            "members in the wrong order",
+            4,
+            (4, 4, Says::Fired(0, FIRST, Taken::Two(2, 3), HI)),
+            4,
+        ),
+        (
+            "one message twice",
+            4,
+            (4, 4, Says::Fired(0, FIRST, Taken::Two(3, 3), HI)),
+            4,
+        ),
+        (
+            "a member that is no message",
+            4,
+            (4, 4, Says::Fired(0, FIRST, Taken::Two(3, 1), HI)),
+            4,
+        ),
+        (
+            "a member less",
+            4,
+            (4, 4, Says::Fired(0, FIRST, Taken::One(3), Parts::None)),
+            4,
+        ),
+        (
+            "no arguments",
+            4,
+            (4, 4, Says::Fired(0, FIRST, Taken::Two(3, 2), Parts::None)),
+            4,
+        ),
+        (
+            "no such chord",
+            4,
+            (4, 4, Says::Fired(1, FIRST, Taken::Two(3, 2), HI)),
+            4,
+        ),
+        (
+            "a firing of another body",
+            4,
+            (4, 0, Says::Fired(0, FIRST, Taken::Two(3, 2), HI)),
+            4,
+        ),
+        (
+            "the end of `Main` for that of the chord's body",
+            5,
+            (5, 0, Says::Ended(GIVES_HI)),
+            5,
+        ),
+        ("a wrong number", 6, (7, 0, Says::Printed(Word::Hi)), 6),
+        ("another line", 6, (6, 0, Says::Printed(Word::Ho)), 6),
+        ("a second beginning", 6, (6, 6, Says::Begun), 6),
+    ] {
+        assert_eq!(rt;
+            length(alloc, &program, &lines, place, other)?,
+            expected,
+            "{name}"
+        );
+    }
+    Ok(())
+}
+
+/// `Main` gets from a buffer into which nothing was put, and waits.
+#[test]
+fn parked_main(rt: HostRuntime) -> Result<(), Fail> {
+    let alloc = rt.alloc();
+    let mut program = program(alloc)?;
+    chord(&mut program, alloc, &[0, 1])?;
+    tell(
+        &mut program,
+        alloc,
+        Start::Main,
+        1,
+        &[
+            Says::Made,
+            Says::Called(FIRST, 0, Parts::None),
+            Says::Ended(GIVES_UNIT),
+        ],
+        &[GIVES_FIRST, GIVES_UNIT],
+    )?;
+    let lines = [
+        (0, 0, Says::Begun),
+        (1, 0, Says::Made),
+        (2, 0, Says::Called(FIRST, 0, Parts::None)),
+        (3, 0, Says::Ended(GIVES_UNIT)),
+    ];
+    assert_eq!(rt;
+        length(alloc, &program, &lines[..3], 0, lines[0])?,
+        3,
+        "as it is"
+    );
+    for (name, other) in [
+        (
+            "the end of a body that waits",
+            (3, 0, Says::Ended(GIVES_UNIT)),
+        ),
+        (
+            "a chord that lacks a message",
+            (3, 3, Says::Fired(0, FIRST, Taken::One(2), Parts::None)),
+        ),
+        (
+            "one message in two places",
+            (3, 3, Says::Fired(0, FIRST, Taken::Two(2, 2), Parts::None)),
+        ),
+    ] {
+        assert_eq!(rt; length(alloc, &program, &lines, 3, other)?, 3, "{name}");
+    }
+    Ok(())
+}
+
+/// A method divides 1 by 0 for `Main`, which has printed `before`.
+#[test]
+fn division_trap_through_a_call(rt: HostRuntime) -> Result<(), Fail> {
+    let alloc = rt.alloc();
+    let trap = Ends::Traps(Trap::DivideByZero);
+    let arguments = Parts::Two(Part::Int(1), Part::Int(0));
+    let mut program = program(alloc)?;
+    chord(&mut program, alloc, &[0])?;
+    tell(
+        &mut program,
+        alloc,
+        Start::Main,
+        1,
+        &[
+            Says::Made,
+            Says::Printed(Word::Before),
+            Says::Called(FIRST, 0, arguments),
+            Says::Ended(trap),
+        ],
+        &[GIVES_FIRST, GIVES_UNIT, trap],
+    )?;
+    let div = begins(alloc, 0, arguments)?;
+    tell(&mut program, alloc, div, 2, &[Says::Ended(trap)], &[])?;
+    let lines = [
+        (0, 0, Says::Begun),
+        (1, 0, Says::Made),
+        (2, 0, Says::Printed(Word::Before)),
+        (3, 0, Says::Called(FIRST, 0, arguments)),
+        (4, 4, Says::Fired(0, FIRST, Taken::One(3), arguments)),
+        (5, 4, Says::Ended(trap)),
+        (6, 0, Says::Ended(trap)),
+    ];
+    for (name, place, other, expected) in [
+        ("as it is", 0, lines[0], 7),
+        (
+            "another trap than the caller got",
+            6,
+            (6, 0, Says::Ended(Ends::Traps(Trap::TooDeep))),
+            6,
+        ),
+        ("the caller ends first", 5, (5, 0, Says::Ended(trap)), 5),
+        (
+            "arguments in another order",
+            4,
+            (
+                4,
+                4,
+                Says::Fired(
+                    0,
+                    FIRST,
+                    Taken::One(3),
+                    Parts::Two(Part::Int(0), Part::Int(1)),
+                ),
+            ),
+            4,
+        ),
+    ] {
+        assert_eq!(rt;
+            length(alloc, &program, &lines, place, other)?,
+            expected,
+            "{name}"
+        );
+    }
+    Ok(())
+}
+
+/// A method calls itself until the depth limit, here 3.
+#[test]
+fn too_deep_in_small(rt: HostRuntime) -> Result<(), Fail> {
+    let alloc = rt.alloc();
+    let trap = Ends::Traps(Trap::TooDeep);
+    let one = Parts::One(Part::Int(1));
+    let two = Parts::One(Part::Int(2));
+    let mut program = program(alloc)?;
+    chord(&mut program, alloc, &[0])?;
+    tell(
+        &mut program,
+        alloc,
+        Start::Main,
+        1,
+        &[Says::Made, Says::Called(FIRST, 0, one), Says::Ended(trap)],
+        &[GIVES_FIRST, trap],
+    )?;
+    let second = begins(alloc, 0, one)?;
+    tell(
+        &mut program,
+        alloc,
+        second,
+        2,
+        &[Says::Called(FIRST, 0, two), Says::Ended(trap)],
+        &[trap],
+    )?;
+    let third = begins(alloc, 0, two)?;
+    tell(&mut program, alloc, third, 3, &[Says::Ended(trap)], &[])?;
+    let lines = [
+        (0, 0, Says::Begun),
+        (1, 0, Says::Made),
+        (2, 0, Says::Called(FIRST, 0, one)),
+        (3, 3, Says::Fired(0, FIRST, Taken::One(2), one)),
+        (4, 3, Says::Called(FIRST, 0, two)),
+        (5, 5, Says::Fired(0, FIRST, Taken::One(4), two)),
+        (6, 5, Says::Ended(trap)),
+        (7, 3, Says::Ended(trap)),
+        (8, 0, Says::Ended(trap)),
+    ];
+    for (name, place, other, expected) in [
+        ("as it is", 0, lines[0], 9),
+        (
+            "a caller ends before the body that serves it",
+            6,
+            (6, 3, Says::Ended(trap)),
+            6,
+        ),
+        ("a body ends twice", 7, (7, 5, Says::Ended(trap)), 7),
+        ("the end skips a caller", 7, (7, 0, Says::Ended(trap)), 7),
+    ] {
+        assert_eq!(rt;
+            length(alloc, &program, &lines, place, other)?,
+            expected,
+            "{name}"
+        );
+    }
+    Ok(())
+}
+
+/// `Main` makes two objects, puts into the first and gets from the second.
+#[test]
+fn another_object(rt: HostRuntime) -> Result<(), Fail> {
+    let alloc = rt.alloc();
+    let mut program = program(alloc)?;
+    chord(&mut program, alloc, &[0, 1])?;
+    chord(&mut program, alloc, &[1])?;
+    tell(
+        &mut program,
+        alloc,
+        Start::Main,
+        1,
+        &[
+            Says::Made,
+            Says::Made,
+            Says::Sent(FIRST, 1, HI),
+            Says::Called(SECOND, 0, Parts::None),
+        ],
+        &[GIVES_FIRST, GIVES_SECOND, GIVES_UNIT],
+    )?;
+    let lines = [
+        (0, 0, Says::Begun),
+        (1, 0, Says::Made),
+        (2, 0, Says::Made),
+        (3, 0, Says::Sent(FIRST, 1, HI)),
+        (4, 0, Says::Called(SECOND, 0, Parts::None)),
+        (5, 5, Says::Fired(0, SECOND, Taken::Two(4, 3), HI)),
+    ];
+    for (name, other, expected) in [
+        ("a message of another object", lines[5], 5),
+        (
+            "the message of the object",
+            (5, 5, Says::Fired(1, FIRST, Taken::One(3), HI)),
+            6,
+        ),
+    ] {
+        assert_eq!(rt;
+            length(alloc, &program, &lines, 5, other)?,
+            expected,
+            "{name}"
+        );
+    }
+    Ok(())
+}
+
+/// Two bodies call one method at a time, each with its own number, and get it back; the second is served first.
+#[test]
+fn two_callers(rt: HostRuntime) -> Result<(), Fail> {
+    let alloc = rt.alloc();
+    let one = Part::Int(1);
+    let two = Part::Int(2);
+    let start = Says::Sent(FIRST, 1, Parts::None);
+    let call = Says::Called(FIRST, 0, Parts::One(one));
+    let mut program = program(alloc)?;
+    chord(&mut program, alloc, &[0])?;
+    chord(&mut program, alloc, &[1])?;
+    tell(
+        &mut program,
+        alloc,
+        Start::Main,
+        1,
+        &[Says::Made, start, call, Says::Printed(Word::One)],
+        &[GIVES_FIRST, GIVES_UNIT, Ends::Gives(one)],
+    )?;
+    tell(
+        &mut program,
+        alloc,
+        Start::Main,
+        1,
+        &[Says::Made, start, call, Says::Printed(Word::Two)],
+        &[GIVES_FIRST, GIVES_UNIT, Ends::Gives(two)],
+    )?;
+    let started = begins(alloc, 1, Parts::None)?;
+    tell(
+        &mut program,
+        alloc,
+        started,
+        1,
+        &[Says::Called(FIRST, 0, Parts::One(two))],
+        &[],
+    )?;
+    let first = begins(alloc, 0, Parts::One(one))?;
+    tell(
+        &mut program,
+        alloc,
+        first,
+        2,
+        &[Says::Ended(Ends::Gives(one))],
+        &[],
+    )?;
+    let second = begins(alloc, 0, Parts::One(two))?;
+    tell(
+        &mut program,
+        alloc,
+        second,
+        2,
+        &[Says::Ended(Ends::Gives(two))],
+        &[],
+    )?;
+    let lines = [
+        (0, 0, Says::Begun),
+        (1, 0, Says::Made),
+        (2, 0, start),
+        (3, 0, call),
+        (4, 4, Says::Fired(1, FIRST, Taken::One(2), Parts::None)),
+        (5, 4, Says::Called(FIRST, 0, Parts::One(two))),
+        (6, 6, Says::Fired(0, FIRST, Taken::One(3), Parts::One(one))),
+        (7, 7, Says::Fired(0, FIRST, Taken::One(5), Parts::One(two))),
+        (8, 7, Says::Ended(Ends::Gives(two))),
+        (9, 6, Says::Ended(Ends::Gives(one))),
+        (10, 0, Says::Printed(Word::One)),
+    ];
+    for (name, place, other, expected) in [
+        ("each caller gets its own", 0, lines[0], 11),
+        (
+            "`Main` gets the end of the other body",
+            10,
+            (10, 0, Says::Printed(Word::Two)),
+            10,
+        ),
+        (
+            "a message taken twice",
+            10,
+            (10, 10, Says::Fired(1, FIRST, Taken::One(2), Parts::None)),
+            10,
+        ),
+        (
+            "`Main` goes on at the end of the other body",
+            9,
+            (9, 0, Says::Printed(Word::Two)),
+            9,
+        ),
+    ] {
+        assert_eq!(rt;
+            length(alloc, &program, &lines, place, other)?,
+            expected,
+            "{name}"
+        );
+    }
+    Ok(())
+}
