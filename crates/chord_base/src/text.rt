@@ -1,26 +1,50 @@
-//! Texts of the language: bytes, at most 1,024.
+//! Texts of the language: bytes, at most 1,024, of which up to 22 lie in the text itself.
 #![tactic(auto)]
 
-ghost use Rattle.std.specs.Prelude.{◌≡◌, ℕ, ◌+◌, ◌<◌, ◌≤◌, List, ◌++◌, length, IfOk, ◌↔◌};
+ghost use Rattle.std.specs.Prelude.{◌≡◌, ℕ, ◌+◌, ◌<◌, ◌≤◌, List, ◌++◌, length, IsOk, IfOk, ◌↔◌};
+ghost use Rattle.chord_base.specs.Texts.{stored_bytes, IsStored};
 
 use std::alloc::{AllocError, Global};
 use std::marker::Model;
+use std::mem::size_of;
 
 /// The most bytes that a text has.
 pub const MAX_TEXT_BYTES: usize = 1024;
 
+/// The most bytes that lie in a text itself.
+const MAX_SHORT_BYTES: usize = 22;
+
+// Most texts are names and short lines, and a text is moved by value: so a short one asks for no memory, and none is larger than a `Vec`.
+const _: () = prove!(size_of::<Text>() == size_of::<Vec<u8>>());
+
 /// A text of at most 1,024 bytes. Contracts see the list of its bytes.
 #[derive(Drop)]
 pub struct Text {
-    bytes: Vec<u8>,
+    bytes: Storage,
 }
 
 impl Model for Text {
+    ghost use Rattle.std.specs.Prelude.{ℕ, List};
+
     ghost Value = { List ℕ };
 
-    ghost view = { λ t. t.bytes.items };
+    ghost use Rattle.chord_base.specs.Texts.{stored_bytes, IsStored};
 
-    ghost invariant = { λ t. length t.bytes.items ≤ 1024 };
+    ghost view = { λ t. stored_bytes t.bytes };
+
+    ghost invariant = { λ t. IsStored t.bytes };
+}
+
+/// Where the bytes of a text lie.
+#[derive(Drop)]
+enum Storage {
+    /// In the text, the first so many of these.
+    Short {
+        length: u8,
+        bytes: [u8; MAX_SHORT_BYTES],
+    },
+    /// In a box, since a `Vec` and a tag would be larger than a text is to be.
+    Long(Box<Vec<u8>>),
 }
 
 /// Why a text was not made.
@@ -35,57 +59,111 @@ pub enum TextFault {
 impl Text {
     /// The text of these bytes.
     ///
-    /// `TooLong` comes exactly for more than 1,024 bytes.
+    /// `TooLong` comes exactly for more than 1,024 bytes, and none of up to 22 asks for memory.
     pub fn of_bytes(alloc: Global, bytes: &[u8]) -> Result<Text, TextFault>
         ensures made { IfOk result (λ t. t ≡ bytes.now) }
         ensures fits { IfOk result (λ _. length bytes.now ≤ 1024) }
         ensures too_long { (result ≡ Err TextFault.TooLong) ↔ (1024 < length bytes.now) }
+        ensures short { length bytes.now ≤ 22 → IsOk result }
     {
+        if bytes.len() <= MAX_SHORT_BYTES {
+            return Ok(Text {
+                bytes: in_place(bytes, b""),
+            });
+        }
         if bytes.len() > MAX_TEXT_BYTES {
             return Err(TextFault::TooLong);
         }
-        match Vec::from_slice(alloc, bytes) {
+        match in_memory(alloc, bytes, b"") {
             Ok(bytes) => Ok(Text { bytes }),
             Err(_) => Err(TextFault::Memory),
         }
     }
 
     /// The bytes.
+    #[inline]
     pub fn items(&self) -> &[u8]
         ensures bytes { result.now ≡ self.now }
         ensures few { length self.now ≤ 1024 }
     {
-        self.bytes.as_slice()
+        match &self.bytes {
+            Storage::Short { length, bytes } => &bytes[..*length as usize],
+            Storage::Long(bytes) => bytes.as_slice(),
+        }
     }
 
     /// The two texts joined.
     ///
-    /// `TooLong` comes exactly where they have more than 1,024 bytes together.
+    /// `TooLong` comes exactly where they have more than 1,024 bytes together, and up to 22 ask for no memory.
     pub fn joined(alloc: Global, left: &Text, right: &Text) -> Result<Text, TextFault>
         ensures made { IfOk result (λ t. t ≡ left.now ++ right.now) }
         ensures fits { IfOk result (λ _. length left.now + length right.now ≤ 1024) }
         ensures too_long { (result ≡ Err TextFault.TooLong) ↔ (1024 < length left.now + length right.now) }
+        ensures short { length left.now + length right.now ≤ 22 → IsOk result }
     {
-        if left.bytes.len() + right.bytes.len() > MAX_TEXT_BYTES {
+        let left = left.items();
+        let right = right.items();
+        if left.len() + right.len() <= MAX_SHORT_BYTES {
+            return Ok(Text {
+                bytes: in_place(left, right),
+            });
+        }
+        if left.len() + right.len() > MAX_TEXT_BYTES {
             return Err(TextFault::TooLong);
         }
-        let mut bytes = Vec::new(alloc);
-        match bytes.extend_from_slice(&left.bytes) {
-            Ok(()) => {}
-            Err(_) => return Err(TextFault::Memory),
+        match in_memory(alloc, left, right) {
+            Ok(bytes) => Ok(Text { bytes }),
+            Err(_) => Err(TextFault::Memory),
         }
-        match bytes.extend_from_slice(&right.bytes) {
-            Ok(()) => {}
-            Err(_) => return Err(TextFault::Memory),
-        }
-        Ok(Text { bytes })
     }
 
-    /// An equal text.
+    /// An equal text. One of up to 22 bytes asks for no memory.
     pub fn copied(&self, alloc: Global) -> Result<Text, AllocError>
-        ensures { IfOk result (λ t. t ≡ self.now) }
+        ensures equal { IfOk result (λ t. t ≡ self.now) }
+        ensures short { length self.now ≤ 22 → IsOk result }
     {
-        let bytes = Vec::from_slice(alloc, self.bytes.as_slice())?;
-        Ok(Text { bytes })
+        match &self.bytes {
+            Storage::Short { length, bytes } => Ok(Text {
+                bytes: Storage::Short {
+                    length: *length,
+                    bytes: *bytes,
+                },
+            }),
+            Storage::Long(bytes) => {
+                let bytes = in_memory(alloc, bytes.as_slice(), b"")?;
+                Ok(Text { bytes })
+            }
+        }
     }
+}
+
+/// The bytes of both, in place.
+#[inline]
+fn in_place(left: &[u8], right: &[u8]) -> Storage
+    requires few { length left.now + length right.now ≤ 22 }
+    ensures bytes { stored_bytes result ≡ left.now ++ right.now }
+    ensures stored { IsStored result }
+{
+    let length = left.len() + right.len();
+    let mut bytes = [0; MAX_SHORT_BYTES];
+    bytes[..left.len()].copy_from_slice(left);
+    bytes[left.len()..length].copy_from_slice(right);
+    Storage::Short {
+        length: length as u8,
+        bytes,
+    }
+}
+
+/// The bytes of both, in memory that is asked for.
+#[inline(never)]
+fn in_memory(alloc: Global, left: &[u8], right: &[u8]) -> Result<Storage, AllocError>
+    requires many { 22 < length left.now + length right.now }
+    requires fit { length left.now + length right.now ≤ 1024 }
+    ensures bytes { IfOk result (λ b. stored_bytes b ≡ left.now ++ right.now) }
+    ensures stored { IfOk result IsStored }
+{
+    let mut bytes = Vec::with_capacity(alloc, left.len() + right.len())?;
+    bytes.extend_from_slice(left)?;
+    bytes.extend_from_slice(right)?;
+    Ok(Storage::Long(Box::new(alloc, bytes)?))
 }

@@ -35,7 +35,7 @@ fn a_text_has_at_most_1024_bytes(rt: HostRuntime) -> Result<(), Fail> {
     for (left, right, expected) in [
         (0, 0, 0),
         (2, 3, 5),
-        (11, 11, 22),
+        (2, 20, 22),
         (22, 1, 23),
         (1024, 0, 1024),
         (1000, 24, 1024),

@@ -1,0 +1,14 @@
+-- Where the bytes of a text lie. No public clause names this file.
+use Rattle.std.specs.Prelude.{ℕ, ◌<◌, ◌≤◌, List, length, take}
+use Rattle.chord_base.specs.declared.text.Storage.{Storage}
+use Rattle.chord_base.specs.declared.text.Storage.TheVariants.{Short, Long}
+
+-- the bytes of a text
+abbrev pub stored_bytes : Storage → List ℕ
+stored_bytes (Short count bytes) = take count bytes
+stored_bytes (Long bytes) = bytes.value.items
+
+-- up to 22 lie in the text, and more, at most 1,024, in a box
+abbrev pub IsStored : Storage → Type 0
+IsStored (Short count bytes) = count ≤ 22
+IsStored (Long bytes) = (22 < length bytes.value.items) × (length bytes.value.items ≤ 1024)
