@@ -1,4 +1,4 @@
-//! Texts of the language: bytes, at most 1,024, of which up to 22 lie in the text itself.
+//! Texts of the language: bytes, at most 1,024, of which up to 16 lie in the text itself.
 #![tactic(auto)]
 
 ghost use Rattle.std.specs.Prelude.{◌≡◌, ℕ, ◌+◌, ◌<◌, ◌≤◌, List, ◌++◌, length, IsOk, IfOk, ◌↔◌};
@@ -12,7 +12,7 @@ use std::mem::size_of;
 pub const MAX_TEXT_BYTES: usize = 1024;
 
 /// The most bytes that lie in a text itself.
-const MAX_SHORT_BYTES: usize = 22;
+const MAX_SHORT_BYTES: usize = 16;
 
 // Most texts are names and short lines, and a text is moved by value: so a short one asks for no memory, and none is larger than a `Vec`.
 const _: () = prove!(size_of::<Text>() == size_of::<Vec<u8>>());
@@ -40,7 +40,7 @@ impl Model for Text {
 enum Storage {
     /// In the text, the first so many of these.
     Short {
-        length: u8,
+        length: u32,
         bytes: [u8; MAX_SHORT_BYTES],
     },
     /// In a box, since a `Vec` and a tag would be larger than a text is to be.
@@ -59,12 +59,12 @@ pub enum TextFault {
 impl Text {
     /// The text of these bytes.
     ///
-    /// `TooLong` comes exactly for more than 1,024 bytes, and none of up to 22 asks for memory.
+    /// `TooLong` comes exactly for more than 1,024 bytes, and none of up to 16 asks for memory.
     pub fn of_bytes(alloc: Global, bytes: &[u8]) -> Result<Text, TextFault>
         ensures made { IfOk result (λ t. t ≡ bytes.now) }
         ensures fits { IfOk result (λ _. length bytes.now ≤ 1024) }
         ensures too_long { (result ≡ Err TextFault.TooLong) ↔ (1024 < length bytes.now) }
-        ensures short { length bytes.now ≤ 22 → IsOk result }
+        ensures short { length bytes.now ≤ 16 → IsOk result }
     {
         if bytes.len() <= MAX_SHORT_BYTES {
             return Ok(Text {
@@ -94,12 +94,12 @@ impl Text {
 
     /// The two texts joined.
     ///
-    /// `TooLong` comes exactly where they have more than 1,024 bytes together, and up to 22 ask for no memory.
+    /// `TooLong` comes exactly where they have more than 1,024 bytes together, and up to 16 ask for no memory.
     pub fn joined(alloc: Global, left: &Text, right: &Text) -> Result<Text, TextFault>
         ensures made { IfOk result (λ t. t ≡ left.now ++ right.now) }
         ensures fits { IfOk result (λ _. length left.now + length right.now ≤ 1024) }
         ensures too_long { (result ≡ Err TextFault.TooLong) ↔ (1024 < length left.now + length right.now) }
-        ensures short { length left.now + length right.now ≤ 22 → IsOk result }
+        ensures short { length left.now + length right.now ≤ 16 → IsOk result }
     {
         let left = left.items();
         let right = right.items();
@@ -117,10 +117,10 @@ impl Text {
         }
     }
 
-    /// An equal text. One of up to 22 bytes asks for no memory.
+    /// An equal text. One of up to 16 bytes asks for no memory.
     pub fn copied(&self, alloc: Global) -> Result<Text, AllocError>
         ensures equal { IfOk result (λ t. t ≡ self.now) }
-        ensures short { length self.now ≤ 22 → IsOk result }
+        ensures short { length self.now ≤ 16 → IsOk result }
     {
         match &self.bytes {
             Storage::Short { length, bytes } => Ok(Text {
@@ -140,7 +140,7 @@ impl Text {
 /// The bytes of both, in place.
 #[inline]
 fn in_place(left: &[u8], right: &[u8]) -> Storage
-    requires few { length left.now + length right.now ≤ 22 }
+    requires few { length left.now + length right.now ≤ 16 }
     ensures bytes { stored_bytes result ≡ left.now ++ right.now }
     ensures stored { IsStored result }
 {
@@ -149,7 +149,7 @@ fn in_place(left: &[u8], right: &[u8]) -> Storage
     bytes[..left.len()].copy_from_slice(left);
     bytes[left.len()..length].copy_from_slice(right);
     Storage::Short {
-        length: length as u8,
+        length: length as u32,
         bytes,
     }
 }
@@ -157,7 +157,7 @@ fn in_place(left: &[u8], right: &[u8]) -> Storage
 /// The bytes of both, in memory that is asked for.
 #[inline(never)]
 fn in_memory(alloc: Global, left: &[u8], right: &[u8]) -> Result<Storage, AllocError>
-    requires many { 22 < length left.now + length right.now }
+    requires many { 16 < length left.now + length right.now }
     requires fit { length left.now + length right.now ≤ 1024 }
     ensures bytes { IfOk result (λ b. stored_bytes b ≡ left.now ++ right.now) }
     ensures stored { IfOk result IsStored }
