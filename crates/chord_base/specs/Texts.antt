@@ -8,7 +8,7 @@ abbrev pub stored_bytes : Storage → List ℕ
 stored_bytes (Short count bytes) = take count bytes
 stored_bytes (Long bytes) = bytes.value.items
 
--- up to 16 lie in the text, and more, at most 1,024, in a box
+-- up to 8 lie in the text, and more, at most 1,024, in a box
 abbrev pub IsStored : Storage → Type 0
-IsStored (Short count bytes) = count ≤ 16
-IsStored (Long bytes) = (16 < length bytes.value.items) × (length bytes.value.items ≤ 1024)
+IsStored (Short count bytes) = count ≤ 8
+IsStored (Long bytes) = (8 < length bytes.value.items) × (length bytes.value.items ≤ 1024)

@@ -1,4 +1,4 @@
-//! Texts of the language: bytes, at most 1,024, of which up to 16 lie in the text itself.
+//! Texts of the language: bytes, at most 1,024, of which up to 8 lie in the text itself.
 #![tactic(auto)]
 
 ghost use Rattle.std.specs.Prelude.{◌≡◌, ℕ, ◌+◌, ◌<◌, ◌≤◌, List, ◌++◌, length, IsOk, IfOk, ◌↔◌};
@@ -11,11 +11,12 @@ use std::mem::size_of;
 /// The most bytes that a text has.
 pub const MAX_TEXT_BYTES: usize = 1024;
 
-/// The most bytes that lie in a text itself.
-const MAX_SHORT_BYTES: usize = 16;
+/// The most bytes that lie in a text itself: as many as a pointer has.
+const MAX_SHORT_BYTES: usize = 8;
 
-// Most texts are names and short lines, and a text is moved by value: so a short one asks for no memory, and none is larger than a `Vec`.
-const _: () = prove!(size_of::<Text>() == size_of::<Vec<u8>>());
+// Most texts are names, and a text is moved by value: so it is two words, and a short one asks for no memory. Room for more bytes than a register holds
+// is cleared and copied in memory wherever a text passes: 22 bytes in three words made a firing dearer, and lexing and parsing gained half as much.
+const _: () = prove!(size_of::<Text>() == 2 * size_of::<usize>());
 
 /// A text of at most 1,024 bytes. Contracts see the list of its bytes.
 #[derive(Drop)]
@@ -43,7 +44,7 @@ enum Storage {
         length: u32,
         bytes: [u8; MAX_SHORT_BYTES],
     },
-    /// In a box, since a `Vec` and a tag would be larger than a text is to be.
+    /// In a box, since a `Vec` and a tag are four words.
     Long(Box<Vec<u8>>),
 }
 
@@ -59,12 +60,12 @@ pub enum TextFault {
 impl Text {
     /// The text of these bytes.
     ///
-    /// `TooLong` comes exactly for more than 1,024 bytes, and none of up to 16 asks for memory.
+    /// `TooLong` comes exactly for more than 1,024 bytes, and none of up to 8 asks for memory.
     pub fn of_bytes(alloc: Global, bytes: &[u8]) -> Result<Text, TextFault>
         ensures made { IfOk result (λ t. t ≡ bytes.now) }
         ensures fits { IfOk result (λ _. length bytes.now ≤ 1024) }
         ensures too_long { (result ≡ Err TextFault.TooLong) ↔ (1024 < length bytes.now) }
-        ensures short { length bytes.now ≤ 16 → IsOk result }
+        ensures short { length bytes.now ≤ 8 → IsOk result }
     {
         if bytes.len() <= MAX_SHORT_BYTES {
             return Ok(Text {
@@ -94,12 +95,12 @@ impl Text {
 
     /// The two texts joined.
     ///
-    /// `TooLong` comes exactly where they have more than 1,024 bytes together, and up to 16 ask for no memory.
+    /// `TooLong` comes exactly where they have more than 1,024 bytes together, and up to 8 ask for no memory.
     pub fn joined(alloc: Global, left: &Text, right: &Text) -> Result<Text, TextFault>
         ensures made { IfOk result (λ t. t ≡ left.now ++ right.now) }
         ensures fits { IfOk result (λ _. length left.now + length right.now ≤ 1024) }
         ensures too_long { (result ≡ Err TextFault.TooLong) ↔ (1024 < length left.now + length right.now) }
-        ensures short { length left.now + length right.now ≤ 16 → IsOk result }
+        ensures short { length left.now + length right.now ≤ 8 → IsOk result }
     {
         let left = left.items();
         let right = right.items();
@@ -117,10 +118,10 @@ impl Text {
         }
     }
 
-    /// An equal text. One of up to 16 bytes asks for no memory.
+    /// An equal text. One of up to 8 bytes asks for no memory.
     pub fn copied(&self, alloc: Global) -> Result<Text, AllocError>
         ensures equal { IfOk result (λ t. t ≡ self.now) }
-        ensures short { length self.now ≤ 16 → IsOk result }
+        ensures short { length self.now ≤ 8 → IsOk result }
     {
         match &self.bytes {
             Storage::Short { length, bytes } => Ok(Text {
@@ -140,7 +141,7 @@ impl Text {
 /// The bytes of both, in place.
 #[inline]
 fn in_place(left: &[u8], right: &[u8]) -> Storage
-    requires few { length left.now + length right.now ≤ 16 }
+    requires few { length left.now + length right.now ≤ 8 }
     ensures bytes { stored_bytes result ≡ left.now ++ right.now }
     ensures stored { IsStored result }
 {
@@ -157,7 +158,7 @@ fn in_place(left: &[u8], right: &[u8]) -> Storage
 /// The bytes of both, in memory that is asked for.
 #[inline(never)]
 fn in_memory(alloc: Global, left: &[u8], right: &[u8]) -> Result<Storage, AllocError>
-    requires many { 16 < length left.now + length right.now }
+    requires many { 8 < length left.now + length right.now }
     requires fit { length left.now + length right.now ≤ 1024 }
     ensures bytes { IfOk result (λ b. stored_bytes b ≡ left.now ++ right.now) }
     ensures stored { IfOk result IsStored }
