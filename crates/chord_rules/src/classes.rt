@@ -220,6 +220,13 @@ fn with_class<'a>(
     with_plan(alloc, shaped, class, base, parts)
 }
 
+/// The plans of the classes so far.
+fn into_plans(progress: Progress) -> Vec<ClassPlan>
+    ensures { result.items ≡ progress.entry.plans.items }
+{
+    progress.plans
+}
+
 /// The plans of classes, if they break no rule; notes the least break of the first class that breaks one.
 ///
 /// It goes no further: all that a later class breaks stands behind that, and the classes before are within the limits,
@@ -243,9 +250,9 @@ pub fn look<'a>(
     for class in classes {
         let looked = class_breaks(alloc, classes, &progress, class, breaks)?;
         if breaks.found.is_some() {
-            return Ok(progress.plans);
+            return Ok(into_plans(progress));
         }
         progress = with_class(alloc, progress, class, looked)?;
     }
-    Ok(progress.plans)
+    Ok(into_plans(progress))
 }
