@@ -2,7 +2,7 @@
 #![tactic(auto)]
 
 ghost use Rattle.std.specs.Prelude.{ℕ, IfOk, map};
-ghost use Rattle.chord_tree.specs.Tree.{IfStmt, IfElseStmt, WhileStmt, StmtItem};
+ghost use Rattle.chord_tree.specs.Tree.{BlockStmt, IfStmt, IfElseStmt, WhileStmt, StmtItem};
 ghost use Rattle.chord_tree.specs.ViewExprs.{see_expr};
 ghost use Rattle.chord_tree.specs.ViewStmts.{see_stmt, see_item, see_block};
 ghost use Rattle.chord_types.specs.StmtChecked.{IsItemChecked, AreItemsChecked, IsBlockChecked};
@@ -48,7 +48,7 @@ fn stmt<'t, 'a>(
             actuals,
             calls,
         } => new_alone(alloc, site, *at, name, actuals, calls, breaks),
-        Stmt::Block(inner) => Ok(built::Stmt::Block(block(alloc, site, inner, breaks)?)),
+        Stmt::Block(inner) => block_stmt(alloc, site, inner, breaks),
         Stmt::Empty => Ok(built::Stmt::Block(Vec::new(alloc))),
         Stmt::If {
             at,
@@ -139,6 +139,20 @@ fn while_loop<'t, 'a>(
     let test = condition(alloc, site, at, test, breaks)?;
     let body = boxed_stmt(alloc, site, body, breaks)?;
     Ok(built::Stmt::While(test, body))
+}
+
+/// A block as a statement.
+#[cycle(stmts)]
+fn block_stmt<'t, 'a>(
+    alloc: Global,
+    site: &mut Site<'t, 'a>,
+    inner: &'a Block,
+    breaks: &mut Least,
+) -> Result<built::Stmt, AllocError>
+    ensures { IfOk result (λ r. IsItemChecked site.old site.new (StmtItem (BlockStmt (see_block inner.now))) breaks.old.found breaks.new.found r) }
+{
+    let stmts = block(alloc, site, inner, breaks)?;
+    Ok(built::Stmt::Block(stmts))
 }
 
 /// A block, whose locals are in scope up to its end.

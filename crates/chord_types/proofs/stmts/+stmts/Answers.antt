@@ -17,8 +17,11 @@ use Rattle.chord_types.proofs.Lists.{map_last}
 use Rattle.chord_types.proofs.Items.{AreLeft, block_item, if_item, if_else_item, while_item, all_left, one_less, no_items_left, block_checked, scope_grows, seen_plain}
 use Rattle.chord_types.proofs.stmts.+stmts.Goals as goal
 
-pub stmt-block-requires : goal.stmt-block-requires
-stmt-block-requires t c = let e = ap weigh_stmt c.in-Block.is ∙ of_block c.in-Block.inner in (omega arith, tt)
+pub block_stmt-block-requires : goal.block_stmt-block-requires
+block_stmt-block-requires t c = (omega arith, tt)
+
+pub stmt-block_stmt-requires : goal.stmt-block_stmt-requires
+stmt-block_stmt-requires t c = let e = ap weigh_stmt c.in-Block.is ∙ of_block c.in-Block.inner in (omega arith, tt)
 
 pub stmt-if_then-requires : goal.stmt-if_then-requires
 stmt-if_then-requires t c = let e = ap weigh_stmt c.in-If.is ∙ of_if c.in-If.at c.in-If.bracket c.in-If.test c.in-If.first in let f = ap weigh_stmt c.deref-in-If.ensures in (omega arith, tt)
@@ -86,10 +89,12 @@ pub stmt-returns-in-Return : goal.stmt-returns-in-Return
 stmt-returns-in-Return t c =
     seen_plain c.args.site.now (see_stmt c.args.stmt.now) (ReturnStmt c.in-Return.at) c.args.breaks.now.found c.return_nothing.new.breaks.found c.return_nothing.result (ap see_stmt c.in-Return.is ∙ seen_stmt_return c.in-Return.at) refl c.return_nothing.ensures
 
-pub stmt-returns-in_ok-block-in-Block : goal.stmt-returns-in_ok-block-in-Block
-stmt-returns-in_ok-block-in-Block t c =
-    subst (λ z. IsItemChecked c.args.site.now c.block.new.site (StmtItem z) c.args.breaks.now.found c.block.new.breaks.found (stmt.Block c.in_ok-block-in-Block.field-0)) (sym (ap see_stmt c.in-Block.is ∙ seen_stmt_block c.in-Block.inner))
-    (block_item c.args.site.now c.block.new.site (see_block c.in-Block.inner) c.args.breaks.now.found c.block.new.breaks.found c.in_ok-block-in-Block.field-0.items (stmt.Block c.in_ok-block-in-Block.field-0) c.in_ok-block-in-Block.ensures (viewed_block c.in_ok-block-in-Block.field-0))
+pub stmt-returns-in-Block : goal.stmt-returns-in-Block
+stmt-returns-in-Block t c =
+    if_ok c.block_stmt.result _ _ (λ r h. subst (λ z. IsItemChecked c.args.site.now c.block_stmt.new.site (StmtItem z) c.args.breaks.now.found c.block_stmt.new.breaks.found r) (sym (ap see_stmt c.in-Block.is ∙ seen_stmt_block c.in-Block.inner)) h) c.block_stmt.ensures
+
+pub block_stmt-returns : goal.block_stmt-returns
+block_stmt-returns t c = block_item c.args.site.now c.block.new.site (see_block c.args.inner.now) c.args.breaks.now.found c.block.new.breaks.found c.in_ok-stmts.stmts.items (stmt.Block c.in_ok-stmts.stmts) c.in_ok-stmts.ensures (viewed_block c.in_ok-stmts.stmts)
 
 pub stmt-returns-in-If : goal.stmt-returns-in-If
 stmt-returns-in-If t c =

@@ -24,6 +24,9 @@ decreases-if_else l = 2 * (weigh_stmt l.first.now + weigh_stmt l.second.now) + 2
 abbrev pub decreases-while_loop : goal.decreases-while_loop
 decreases-while_loop l = 2 * weigh_stmt l.body.now + 2
 
+abbrev pub decreases-block_stmt : goal.decreases-block_stmt
+decreases-block_stmt l = 2 * weigh_block l.inner.now + 1
+
 abbrev pub decreases-block : goal.decreases-block
 decreases-block l = 2 * weigh_block l.block.now
 
