@@ -156,7 +156,7 @@ fn plan_parts<'a>(
     })
 }
 
-/// The classes so far, with one after them in the table, that has these methods, but no plan of it.
+/// The classes so far, and one after them with these own methods, which has no plan yet.
 fn with_shape<'a>(
     progress: Progress<'a>,
     class: &'a Class,
@@ -184,7 +184,7 @@ fn with_shape<'a>(
     })
 }
 
-/// The classes of a table, of which the last one gets its plan.
+/// The classes so far, of which the last gets its plan.
 fn with_plan<'a>(
     alloc: Global,
     progress: Progress<'a>,
