@@ -4,6 +4,7 @@ mod NamesInBodies
 mod NamesBefore
 mod MainHeaders
 mod ClassPlans
+mod NextClasses
 mod ClassNotes
 mod Within
 mod Tokens

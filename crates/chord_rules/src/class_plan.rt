@@ -245,28 +245,71 @@ pub fn base_chords<'a>(plans: &'a [ClassPlan], base: Option<u32>) -> &'a [ChordP
     }
 }
 
-/// The plan of the class of this number, of its methods, the chords that it inherits, and the number of its first member.
-pub fn class_plan(
+/// The chords of a class, and the bodies of those among them that are its own.
+#[derive(Drop)]
+struct ClassChords {
+    chords: Vec<ChordPlan>,
+    own: Vec<u32>,
+}
+
+/// The chords that a class inherits and its own, by its members, of which the first has this number.
+fn class_chords(
     alloc: Global,
     table: &Table,
     number: u32,
-    base: Option<u32>,
-    class: &Class,
-    methods: Vec<MethodPlan>,
-    inherited: Vec<ChordPlan>,
     first: u32,
-) -> Result<ClassPlan, AllocError>
-    ensures { IfOk result (λ plan. view_class_plan plan ≡ plan_parts (methods_at table.now number) base (see_class class.now) (map view_method_plan methods.items) (map view_chord_plan inherited.items) first) }
+    members: &[Member],
+    inherited: Vec<ChordPlan>,
+) -> Result<ClassChords, AllocError>
+    ensures chords { IfOk result (λ all. map view_chord_plan all.chords.items ≡ map view_chord_plan inherited.items ++ own_chords (methods_at table.now number) first (map see_member members.now)) }
+    ensures own { IfOk result (λ all. all.own.items ≡ chord_bodies (own_chords (methods_at table.now number) first (map see_member members.now))) }
 {
-    let mine = own_chords(alloc, table, number, first, &class.members)?;
+    let mine = own_chords(alloc, table, number, first, members)?;
     let own = chord_bodies(alloc, &mine)?;
     let chords = joined(inherited, mine)?;
+    Ok(ClassChords { chords, own })
+}
+
+/// What the plan of a class has of the classes before it: its number among them, its methods, and the chords that it inherits.
+#[derive(Drop)]
+pub struct PlanParts {
+    pub number: u32,
+    pub methods: Vec<MethodPlan>,
+    pub inherited: Vec<ChordPlan>,
+}
+
+/// The plan of a class, of which the first member has this number.
+pub fn class_plan(
+    alloc: Global,
+    table: &Table,
+    base: Option<u32>,
+    class: &Class,
+    parts: PlanParts,
+    first: u32,
+) -> Result<ClassPlan, AllocError>
+    ensures { IfOk result (λ plan. view_class_plan plan ≡ plan_parts (methods_at table.now parts.number) base (see_class class.now) (map view_method_plan parts.methods.items) (map view_chord_plan parts.inherited.items) first) }
+{
+    let constructor_body = own_builder(first, &class.members)?;
+    let name = class.name.text.copied(alloc)?;
+    let PlanParts {
+        number,
+        methods,
+        inherited,
+    } = parts;
+    let ClassChords { chords, own } = class_chords(
+        alloc,
+        table,
+        number,
+        first,
+        &class.members,
+        inherited,
+    )?;
     Ok(ClassPlan {
-        name: class.name.text.copied(alloc)?,
+        name,
         base,
         methods,
         chords,
         own,
-        constructor_body: own_builder(first, &class.members)?,
+        constructor_body,
     })
 }

@@ -1,23 +1,23 @@
 //! The one pass over the classes of a program: what each breaks, and its plan.
 #![tactic(auto)]
 
-ghost use Rattle.std.specs.Prelude.{◌≡◌, ◌-◌, [], None, IfOk, OnOk, map, length};
+ghost use Rattle.std.specs.Prelude.{◌≡◌, ◌-◌, [], ◌++◌, None, IfOk, OnOk, map, length};
 ghost use Rattle.chord_tree.specs.View.{see_class};
 ghost use Rattle.chord_tree.specs.Walk.{headers_of};
-ghost use Rattle.chord_bodies.specs.View.{view_chord_plan, view_class_plan};
-ghost use Rattle.chord_classes.specs.Table.{base_of, inherited};
-ghost use Rattle.chord_classes.specs.Plan.{overridden, plans_after};
+ghost use Rattle.chord_bodies.specs.View.{view_method_plan, view_chord_plan, view_class_plan};
+ghost use Rattle.chord_classes.specs.Table.{base_of, inherited, methods_at};
+ghost use Rattle.chord_classes.specs.Plan.{method_plan, overridden, chords_without, base_chords, plans_after};
+ghost use Rattle.chord_classes.specs.MethodViews.{see_method};
 ghost use Rattle.chord_classes.specs.ChordRules.{over_plans};
 ghost use Rattle.chord_classes.specs.Entries.{IsGrown};
 ghost use Rattle.chord_classes.specs.Least.{least};
 ghost use Rattle.chord_rules.specs.ClassKeys.{name_keys, place_keys, inner_keys, class_keys};
-ghost use Rattle.chord_rules.specs.FirstHeaders.{see_lent};
-ghost use Rattle.chord_rules.specs.Planning.{AreAlike, depths_of};
-ghost use Rattle.chord_rules.specs.Passing.{IsNextClass, ClassesNumbered};
+ghost use Rattle.chord_rules.specs.Planning.{AreAlike, base_methods, depths_of, plan_parts};
+ghost use Rattle.chord_rules.specs.Passing.{IsNextClass, IsPlanned, IsShaped, ClassesNumbered};
 
-use crate::class_plan::{base_chords, chords_without, class_plan, method_plans};
+use crate::class_plan::{PlanParts, base_chords, chords_without, class_plan, method_plans};
 use crate::declarations::{base_built, base_missing, declared_again, misnamed_constructors};
-use crate::first_headers::{FirstHeaders, first_headers};
+use crate::first_headers::first_headers;
 use crate::limits::{base_depth, base_past, chords_past, class_past};
 use crate::members::members_break;
 use crate::numbers::{after, narrow};
@@ -67,27 +67,26 @@ fn chord_room(chords: &[ChordPlan]) -> usize
     MAX_CHORDS.saturating_sub(chords.len())
 }
 
-/// Notes what a class breaks by its members and their headers.
+/// Notes what a class breaks by its members and their headers, and gives the methods of its base that it overrides.
 fn inner_breaks(
     alloc: Global,
     table: &Table,
     plans: &[ClassPlan],
     class: &Class,
-    firsts: &FirstHeaders,
-    taken: &[u32],
     breaks: &mut Least,
-) -> Result<(), AllocError>
-    requires firsts { map see_lent firsts.now.all.items ≡ headers_of (see_class class.now) }
-    requires taken { taken.now ≡ overridden (inherited table.now (base_of table.now (see_class class.now))) (headers_of (see_class class.now)) }
-    ensures { OnOk result (breaks.new.found ≡ least breaks.old.found (inner_keys table.now (map view_class_plan plans.now) (see_class class.now))) }
+) -> Result<Vec<u32>, AllocError>
+    ensures taken { IfOk result (λ taken. taken.items ≡ overridden (inherited table.now (base_of table.now (see_class class.now))) (headers_of (see_class class.now))) }
+    ensures noted { OnOk result (breaks.new.found ≡ least breaks.old.found (inner_keys table.now (map view_class_plan plans.now) (see_class class.now))) }
 {
     let base = table.base_of(class);
     let chords = base_chords(plans, base);
     members_break(alloc, &class.members, breaks)?;
     chords_past(chord_room(chords), &class.members, breaks);
-    headers_break(table, base, firsts, breaks);
-    splits(alloc, table, base, chords, taken, firsts, breaks)?;
-    Ok(())
+    let firsts = first_headers(alloc, &class.members)?;
+    headers_break(table, base, &firsts, breaks);
+    let taken = overridden(alloc, table, base, &firsts)?;
+    splits(alloc, table, base, chords, &taken, &firsts, breaks)?;
+    Ok(taken)
 }
 
 /// What the rules and the plan of a class need of its headers: its own methods, and those of its base that it overrides.
@@ -113,20 +112,10 @@ fn class_breaks<'a>(
     let table = &progress.table;
     let base = table.base_of(class);
     let owner = narrow(table.class_count())?;
-    let firsts = first_headers(alloc, &class.members)?;
-    let taken = overridden(alloc, table, base, &firsts)?;
     names_break(classes, table, class, breaks);
     places_break(table, &progress.depths, class, breaks)?;
     let own = own_methods(alloc, table, base, owner, &class.members, breaks)?;
-    inner_breaks(
-        alloc,
-        table,
-        &progress.plans,
-        class,
-        &firsts,
-        &taken,
-        breaks,
-    )?;
+    let taken = inner_breaks(alloc, table, &progress.plans, class, breaks)?;
     Ok(Looked { own, taken })
 }
 
@@ -146,6 +135,73 @@ fn member_count(class: &Class) -> usize
     class.members.len()
 }
 
+/// What the plan of a class after these has of its base and its own methods.
+fn plan_parts<'a>(
+    alloc: Global,
+    progress: &Progress<'a>,
+    base: Option<u32>,
+    looked: &Looked<'a>,
+) -> Result<PlanParts, AllocError>
+    ensures number { IfOk result (λ parts. parts.number ≡ length progress.now.table) }
+    ensures methods { IfOk result (λ parts. map view_method_plan parts.methods.items ≡ base_methods (map view_class_plan progress.now.plans.items) base ++ map method_plan (map see_method looked.now.own.all.items)) }
+    ensures inherited { IfOk result (λ parts. map view_chord_plan parts.inherited.items ≡ chords_without looked.now.taken.items (base_chords (map view_class_plan progress.now.plans.items) base)) }
+{
+    let number = narrow(progress.table.class_count())?;
+    let methods = method_plans(alloc, &progress.plans, base, &looked.own.all)?;
+    let chords = base_chords(&progress.plans, base);
+    Ok(PlanParts {
+        number,
+        methods,
+        inherited: chords_without(alloc, &looked.taken, chords)?,
+    })
+}
+
+/// The classes so far, and one after them with these own methods, which has no plan yet.
+fn with_shape<'a>(
+    progress: Progress<'a>,
+    class: &'a Class,
+    base: Option<u32>,
+    own: Methods<'a>,
+) -> Result<Progress<'a>, AllocError>
+    requires base { base ≡ base_of progress.table (see_class class.now) }
+    requires own { IsGrown (inherited progress.table (base_of progress.table (see_class class.now))) (length progress.table) (headers_of (see_class class.now)) [] own.all.items }
+    ensures { IfOk result (λ next. IsShaped progress.entry (see_class class.now) base next) }
+{
+    let mut progress = progress;
+    let depth = base_depth(&progress.depths, base)?;
+    progress.depths.push(depth)?;
+    let Progress {
+        table,
+        plans,
+        depths,
+        number,
+    } = progress;
+    Ok(Progress {
+        table: table.with(class, base, own, first_builder(&class.members))?,
+        plans,
+        depths,
+        number,
+    })
+}
+
+/// The classes so far, of which the last gets its plan.
+fn with_plan<'a>(
+    alloc: Global,
+    progress: Progress<'a>,
+    class: &'a Class,
+    base: Option<u32>,
+    parts: PlanParts,
+) -> Result<Progress<'a>, AllocError>
+    ensures { IfOk result (λ next. IsPlanned progress.entry (see_class class.now) (plan_parts (methods_at progress.entry.table parts.number) base (see_class class.now) (map view_method_plan parts.methods.items) (map view_chord_plan parts.inherited.items) progress.entry.number) next) }
+{
+    let mut progress = progress;
+    let first = progress.number;
+    let plan = class_plan(alloc, &progress.table, base, class, parts, first)?;
+    progress.plans.push(plan)?;
+    progress.number = after(first, member_count(class))?;
+    Ok(progress)
+}
+
 /// The classes so far, and one after them.
 fn with_class<'a>(
     alloc: Global,
@@ -158,30 +214,17 @@ fn with_class<'a>(
     requires taken { looked.taken.items ≡ overridden (inherited progress.table (base_of progress.table (see_class class.now))) (headers_of (see_class class.now)) }
     ensures { IfOk result (λ next. IsNextClass progress.entry (see_class class.now) next) }
 {
-    let Progress {
-        table,
-        mut plans,
-        mut depths,
-        number,
-    } = progress;
-    let Looked { own, taken } = looked;
-    let base = table.base_of(class);
-    let owner = narrow(table.class_count())?;
-    let methods = method_plans(alloc, &plans, base, &own.all)?;
-    let inherited = chords_without(alloc, &taken, base_chords(&plans, base))?;
-    depths.push(base_depth(&depths, base)?)?;
-    let table = table.with(class, base, own, first_builder(&class.members))?;
-    let plan = class_plan(
-        alloc, &table, owner, base, class, methods, inherited, number,
-    )?;
-    plans.push(plan)?;
-    let number = after(number, member_count(class))?;
-    Ok(Progress {
-        table,
-        plans,
-        depths,
-        number,
-    })
+    let base = progress.table.base_of(class);
+    let parts = plan_parts(alloc, &progress, base, &looked)?;
+    let shaped = with_shape(progress, class, base, looked.own)?;
+    with_plan(alloc, shaped, class, base, parts)
+}
+
+/// The plans of the classes so far.
+fn into_plans(progress: Progress) -> Vec<ClassPlan>
+    ensures { result.items ≡ progress.entry.plans.items }
+{
+    progress.plans
 }
 
 /// The plans of classes, if they break no rule; notes the least break of the first class that breaks one.
@@ -207,9 +250,9 @@ pub fn look<'a>(
     for class in classes {
         let looked = class_breaks(alloc, classes, &progress, class, breaks)?;
         if breaks.found.is_some() {
-            return Ok(progress.plans);
+            return Ok(into_plans(progress));
         }
         progress = with_class(alloc, progress, class, looked)?;
     }
-    Ok(progress.plans)
+    Ok(into_plans(progress))
 }

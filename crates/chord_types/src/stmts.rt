@@ -2,7 +2,7 @@
 #![tactic(auto)]
 
 ghost use Rattle.std.specs.Prelude.{ℕ, IfOk, map};
-ghost use Rattle.chord_tree.specs.Tree.{IfStmt, IfElseStmt, WhileStmt, StmtItem};
+ghost use Rattle.chord_tree.specs.Tree.{BlockStmt, IfStmt, IfElseStmt, WhileStmt, StmtItem};
 ghost use Rattle.chord_tree.specs.ViewExprs.{see_expr};
 ghost use Rattle.chord_tree.specs.ViewStmts.{see_stmt, see_item, see_block};
 ghost use Rattle.chord_types.specs.StmtChecked.{IsItemChecked, AreItemsChecked, IsBlockChecked};
@@ -48,7 +48,7 @@ fn stmt<'t, 'a>(
             actuals,
             calls,
         } => new_alone(alloc, site, *at, name, actuals, calls, breaks),
-        Stmt::Block(inner) => Ok(built::Stmt::Block(block(alloc, site, inner, breaks)?)),
+        Stmt::Block(inner) => block_stmt(alloc, site, inner, breaks),
         Stmt::Empty => Ok(built::Stmt::Block(Vec::new(alloc))),
         Stmt::If {
             at,
@@ -74,6 +74,20 @@ fn stmt<'t, 'a>(
     }
 }
 
+/// A statement in a box, as a branch or as the body of a loop.
+#[cycle(stmts)]
+fn boxed_stmt<'t, 'a>(
+    alloc: Global,
+    site: &mut Site<'t, 'a>,
+    inner: &'a Stmt,
+    breaks: &mut Least,
+) -> Result<Box<built::Stmt>, AllocError>
+    ensures { IfOk result (λ r. IsItemChecked site.old site.new (StmtItem (see_stmt inner.now)) breaks.old.found breaks.new.found r.value) }
+{
+    let made = stmt(alloc, site, inner, breaks)?;
+    Ok(Box::new(alloc, made)?)
+}
+
 /// `if` without `else`.
 #[cycle(stmts)]
 fn if_then<'t, 'a>(
@@ -87,8 +101,8 @@ fn if_then<'t, 'a>(
     ensures { IfOk result (λ r. (bracket : ℕ) → IsItemChecked site.old site.new (StmtItem (IfStmt at bracket (see_expr test.now) (see_stmt first.now))) breaks.old.found breaks.new.found r) }
 {
     let test = condition(alloc, site, at, test, breaks)?;
-    let first = stmt(alloc, site, first, breaks)?;
-    Ok(built::Stmt::If(test, Box::new(alloc, first)?))
+    let first = boxed_stmt(alloc, site, first, breaks)?;
+    Ok(built::Stmt::If(test, first))
 }
 
 /// `if` with `else`.
@@ -105,10 +119,9 @@ fn if_else<'t, 'a>(
     ensures { IfOk result (λ r. (bracket : ℕ) → IsItemChecked site.old site.new (StmtItem (IfElseStmt at bracket (see_expr test.now) (see_stmt first.now) (see_stmt second.now))) breaks.old.found breaks.new.found r) }
 {
     let test = condition(alloc, site, at, test, breaks)?;
-    let first = stmt(alloc, site, first, breaks)?;
-    let second = stmt(alloc, site, second, breaks)?;
-    let first = Box::new(alloc, first)?;
-    Ok(built::Stmt::IfElse(test, first, Box::new(alloc, second)?))
+    let first = boxed_stmt(alloc, site, first, breaks)?;
+    let second = boxed_stmt(alloc, site, second, breaks)?;
+    Ok(built::Stmt::IfElse(test, first, second))
 }
 
 /// `while`
@@ -124,8 +137,22 @@ fn while_loop<'t, 'a>(
     ensures { IfOk result (λ r. (bracket : ℕ) → IsItemChecked site.old site.new (StmtItem (WhileStmt at bracket (see_expr test.now) (see_stmt body.now))) breaks.old.found breaks.new.found r) }
 {
     let test = condition(alloc, site, at, test, breaks)?;
-    let body = stmt(alloc, site, body, breaks)?;
-    Ok(built::Stmt::While(test, Box::new(alloc, body)?))
+    let body = boxed_stmt(alloc, site, body, breaks)?;
+    Ok(built::Stmt::While(test, body))
+}
+
+/// A block as a statement.
+#[cycle(stmts)]
+fn block_stmt<'t, 'a>(
+    alloc: Global,
+    site: &mut Site<'t, 'a>,
+    inner: &'a Block,
+    breaks: &mut Least,
+) -> Result<built::Stmt, AllocError>
+    ensures { IfOk result (λ r. IsItemChecked site.old site.new (StmtItem (BlockStmt (see_block inner.now))) breaks.old.found breaks.new.found r) }
+{
+    let stmts = block(alloc, site, inner, breaks)?;
+    Ok(built::Stmt::Block(stmts))
 }
 
 /// A block, whose locals are in scope up to its end.

@@ -1,4 +1,4 @@
-use Rattle.std.proofs.Common.{◌+◌, map, drop, sym, subst, ◌∙◌}
+use Rattle.std.proofs.Common.{◌+◌, map, drop, sym, subst, ap, ◌∙◌}
 use Rattle.chord_tree.specs.View.{see_class}
 use Rattle.chord_bodies.specs.View.{view_class_plan}
 use Rattle.chord_classes.specs.Plan.{plans_after}
@@ -7,7 +7,7 @@ use Rattle.chord_classes.specs.Least.{least}
 use Rattle.chord_classes.proofs.Facts.{there_is_some}
 use Rattle.chord_rules.specs.ClassKeys.{class_keys}
 use Rattle.chord_rules.specs.Passing.{ClassesNumbered}
-use Rattle.chord_classes.proofs.Search.{item_by_item, item_here}
+use Rattle.chord_classes.proofs.Search.{item_by_item, item_here, behind_end}
 use Rattle.chord_rules.proofs.ClassNotes.{next_class, next_plans}
 use Rattle.chord_rules.proofs.Stopping.{classes_stopped, numbered_rest, no_some}
 use Rattle.chord_rules.proofs.classes.look.Goals as goal
@@ -42,3 +42,10 @@ returns-then-is_some-clause-noted c =
     item_by_item (λ cs. least c.loop-class.breaks.found (over_plans (class_keys classes) before.table plans before.number (map see_class cs))) c.args.classes.now c.loop-class.class-index c.class-item.result _ _ c.loop-class-test.true c.class-item.is
     (classes_stopped classes before.table plans before.number class rest c.loop-class.breaks.found c.class_breaks.new.breaks.found found.0 (subst (λ cs. ClassesNumbered (map see_class cs)) here c.loop-class.invariant.numbered)
     c.loop-class.invariant.none c.in_ok-looked.ensures.noted found.1) c.loop-class.invariant.noted
+
+pub returns-clause-plans : goal.returns-clause-plans
+returns-clause-plans c = λ none.
+    let last = c.loop-class.progress in
+    ap (map view_class_plan) c.into_plans-2.ensures
+    ∙ ap (λ cs. plans_after last.table (map view_class_plan last.plans.items) last.number (map see_class cs)) (sym (behind_end c.args.classes.now c.loop-class.class-index c.loop-class-test.false))
+    ∙ c.loop-class.invariant.planned

@@ -9,7 +9,7 @@ use Rattle.chord_tree.proofs.WeightsStmts.{weigh_item, weigh_stmt, of_block, of_
 use Rattle.chord_tree.proofs.Words.{dropped, drop_end}
 use Rattle.chord_bodies.specs.declared.stmt.Stmt.TheVariants as stmt
 use Rattle.chord_bodies.specs.Resolved as to
-use Rattle.chord_bodies.specs.View.{view_expr, view_stmt, stmt_list}
+use Rattle.chord_bodies.specs.View.{view_stmt, stmt_list}
 use Rattle.chord_bodies.proofs.Viewed.{viewed_block, viewed_if, viewed_if_else, viewed_while}
 use Rattle.chord_types.specs.StmtChecked.{IsItemChecked, IsBlockChecked, AreItemsChecked}
 use Rattle.chord_types.proofs.Oks.{if_ok}
@@ -17,8 +17,11 @@ use Rattle.chord_types.proofs.Lists.{map_last}
 use Rattle.chord_types.proofs.Items.{AreLeft, block_item, if_item, if_else_item, while_item, all_left, one_less, no_items_left, block_checked, scope_grows, seen_plain}
 use Rattle.chord_types.proofs.stmts.+stmts.Goals as goal
 
-pub stmt-block-requires : goal.stmt-block-requires
-stmt-block-requires t c = let e = ap weigh_stmt c.in-Block.is ∙ of_block c.in-Block.inner in (omega arith, tt)
+pub block_stmt-block-requires : goal.block_stmt-block-requires
+block_stmt-block-requires t c = (omega arith, tt)
+
+pub stmt-block_stmt-requires : goal.stmt-block_stmt-requires
+stmt-block_stmt-requires t c = let e = ap weigh_stmt c.in-Block.is ∙ of_block c.in-Block.inner in (omega arith, tt)
 
 pub stmt-if_then-requires : goal.stmt-if_then-requires
 stmt-if_then-requires t c = let e = ap weigh_stmt c.in-If.is ∙ of_if c.in-If.at c.in-If.bracket c.in-If.test c.in-If.first in let f = ap weigh_stmt c.deref-in-If.ensures in (omega arith, tt)
@@ -29,17 +32,20 @@ stmt-if_else-requires t c = let e = ap weigh_stmt c.in-IfElse.is ∙ of_if_else 
 pub stmt-while_loop-requires : goal.stmt-while_loop-requires
 stmt-while_loop-requires t c = let e = ap weigh_stmt c.in-While.is ∙ of_while c.in-While.at c.in-While.bracket c.in-While.test c.in-While.body in let f = ap weigh_stmt c.deref-in-While.ensures in (omega arith, tt)
 
-pub if_then-stmt-requires : goal.if_then-stmt-requires
-if_then-stmt-requires t c = (omega arith, tt)
+pub boxed_stmt-stmt-requires : goal.boxed_stmt-stmt-requires
+boxed_stmt-stmt-requires t c = (omega arith, tt)
 
-pub while_loop-stmt-requires : goal.while_loop-stmt-requires
-while_loop-stmt-requires t c = (omega arith, tt)
+pub if_then-boxed_stmt-requires : goal.if_then-boxed_stmt-requires
+if_then-boxed_stmt-requires t c = (omega arith, tt)
 
-pub if_else-stmt-requires : goal.if_else-stmt-requires
-if_else-stmt-requires t c = (omega arith, tt)
+pub while_loop-boxed_stmt-requires : goal.while_loop-boxed_stmt-requires
+while_loop-boxed_stmt-requires t c = (omega arith, tt)
 
-pub if_else-stmt-requires-2 : goal.if_else-stmt-requires-2
-if_else-stmt-requires-2 t c = (omega arith, tt)
+pub if_else-boxed_stmt-requires : goal.if_else-boxed_stmt-requires
+if_else-boxed_stmt-requires t c = (omega arith, tt)
+
+pub if_else-boxed_stmt-requires-2 : goal.if_else-boxed_stmt-requires-2
+if_else-boxed_stmt-requires-2 t c = (omega arith, tt)
 
 pub block-items-requires : goal.block-items-requires
 block-items-requires t c = let e = of_braces c.args.block.now in let f = ap (λ z. total (map weigh_item z)) c.deref.ensures.value in (omega arith, tt)
@@ -83,10 +89,12 @@ pub stmt-returns-in-Return : goal.stmt-returns-in-Return
 stmt-returns-in-Return t c =
     seen_plain c.args.site.now (see_stmt c.args.stmt.now) (ReturnStmt c.in-Return.at) c.args.breaks.now.found c.return_nothing.new.breaks.found c.return_nothing.result (ap see_stmt c.in-Return.is ∙ seen_stmt_return c.in-Return.at) refl c.return_nothing.ensures
 
-pub stmt-returns-in_ok-block-in-Block : goal.stmt-returns-in_ok-block-in-Block
-stmt-returns-in_ok-block-in-Block t c =
-    subst (λ z. IsItemChecked c.args.site.now c.block.new.site (StmtItem z) c.args.breaks.now.found c.block.new.breaks.found (stmt.Block c.in_ok-block-in-Block.field-0)) (sym (ap see_stmt c.in-Block.is ∙ seen_stmt_block c.in-Block.inner))
-    (block_item c.args.site.now c.block.new.site (see_block c.in-Block.inner) c.args.breaks.now.found c.block.new.breaks.found c.in_ok-block-in-Block.field-0.items (stmt.Block c.in_ok-block-in-Block.field-0) c.in_ok-block-in-Block.ensures (viewed_block c.in_ok-block-in-Block.field-0))
+pub stmt-returns-in-Block : goal.stmt-returns-in-Block
+stmt-returns-in-Block t c =
+    if_ok c.block_stmt.result _ _ (λ r h. subst (λ z. IsItemChecked c.args.site.now c.block_stmt.new.site (StmtItem z) c.args.breaks.now.found c.block_stmt.new.breaks.found r) (sym (ap see_stmt c.in-Block.is ∙ seen_stmt_block c.in-Block.inner)) h) c.block_stmt.ensures
+
+pub block_stmt-returns : goal.block_stmt-returns
+block_stmt-returns t c = block_item c.args.site.now c.block.new.site (see_block c.args.inner.now) c.args.breaks.now.found c.block.new.breaks.found c.in_ok-stmts.stmts.items (stmt.Block c.in_ok-stmts.stmts) c.in_ok-stmts.ensures (viewed_block c.in_ok-stmts.stmts)
 
 pub stmt-returns-in-If : goal.stmt-returns-in-If
 stmt-returns-in-If t c =
@@ -105,21 +113,24 @@ stmt-returns-in-While t c =
     let same = ap see_stmt c.in-While.is ∙ seen_stmt_while c.in-While.at c.in-While.bracket c.in-While.test c.in-While.body ∙ ap (λ z. WhileStmt c.in-While.at c.in-While.bracket (see_expr c.in-While.test) (see_stmt z)) (sym c.deref-in-While.ensures) in
     if_ok c.while_loop.result _ _ (λ r h. subst (λ z. IsItemChecked c.args.site.now c.while_loop.new.site (StmtItem z) c.args.breaks.now.found c.while_loop.new.breaks.found r) (sym same) (h c.in-While.bracket)) c.while_loop.ensures
 
+pub boxed_stmt-returns : goal.boxed_stmt-returns
+boxed_stmt-returns t c = subst (λ z. IsItemChecked c.args.site.now c.stmt.new.site (StmtItem (see_stmt c.args.inner.now)) c.args.breaks.now.found c.stmt.new.breaks.found z) (sym c.in_ok-new.ensures.ok) c.in_ok-made.ensures
+
 pub if_then-returns : goal.if_then-returns
 if_then-returns t c = λ bracket.
-    if_item c.args.site.now c.args.at bracket (see_expr c.args.test.now) c.args.breaks.now.found c.condition.new.breaks.found c.in_ok-test.test c.stmt.new.site (see_stmt c.args.first.now) c.stmt.new.breaks.found c.in_ok-first.first (stmt.If c.in_ok-test.test c.in_ok-new.field-0)
-    c.in_ok-test.ensures c.in_ok-first.ensures (viewed_if c.in_ok-test.test c.in_ok-new.field-0 ∙ ap (λ z. to.IfThen (view_expr c.in_ok-test.test) (view_stmt z)) c.in_ok-new.ensures.ok)
+    if_item c.args.site.now c.args.at bracket (see_expr c.args.test.now) c.args.breaks.now.found c.condition.new.breaks.found c.in_ok-test.test c.boxed_stmt.new.site (see_stmt c.args.first.now) c.boxed_stmt.new.breaks.found c.in_ok-first.first.value (stmt.If c.in_ok-test.test c.in_ok-first.first)
+    c.in_ok-test.ensures c.in_ok-first.ensures (viewed_if c.in_ok-test.test c.in_ok-first.first)
 
 pub while_loop-returns : goal.while_loop-returns
 while_loop-returns t c = λ bracket.
-    while_item c.args.site.now c.args.at bracket (see_expr c.args.test.now) c.args.breaks.now.found c.condition.new.breaks.found c.in_ok-test.test c.stmt.new.site (see_stmt c.args.body.now) c.stmt.new.breaks.found c.in_ok-body.body (stmt.While c.in_ok-test.test c.in_ok-new.field-0)
-    c.in_ok-test.ensures c.in_ok-body.ensures (viewed_while c.in_ok-test.test c.in_ok-new.field-0 ∙ ap (λ z. to.While (view_expr c.in_ok-test.test) (view_stmt z)) c.in_ok-new.ensures.ok)
+    while_item c.args.site.now c.args.at bracket (see_expr c.args.test.now) c.args.breaks.now.found c.condition.new.breaks.found c.in_ok-test.test c.boxed_stmt.new.site (see_stmt c.args.body.now) c.boxed_stmt.new.breaks.found c.in_ok-body.body.value (stmt.While c.in_ok-test.test c.in_ok-body.body)
+    c.in_ok-test.ensures c.in_ok-body.ensures (viewed_while c.in_ok-test.test c.in_ok-body.body)
 
 pub if_else-returns : goal.if_else-returns
 if_else-returns t c = λ bracket.
-    if_else_item c.args.site.now c.args.at bracket (see_expr c.args.test.now) c.args.breaks.now.found c.condition.new.breaks.found c.in_ok-test.test c.stmt.new.site c.stmt-2.new.site (see_stmt c.args.first.now) (see_stmt c.args.second.now) c.stmt.new.breaks.found c.stmt-2.new.breaks.found
-    c.in_ok-first.first c.in_ok-second.second (stmt.IfElse c.in_ok-test.test c.in_ok-first-2.first c.in_ok-new.field-0) c.in_ok-test.ensures c.in_ok-first.ensures c.in_ok-second.ensures
-    (viewed_if_else c.in_ok-test.test c.in_ok-first-2.first c.in_ok-new.field-0 ∙ ap (λ z. to.IfElse (view_expr c.in_ok-test.test) (view_stmt z) (view_stmt c.in_ok-new.field-0.value)) c.in_ok-first-2.ensures.ok ∙ ap (λ z. to.IfElse (view_expr c.in_ok-test.test) (view_stmt c.in_ok-first.first) (view_stmt z)) c.in_ok-new.ensures.ok)
+    if_else_item c.args.site.now c.args.at bracket (see_expr c.args.test.now) c.args.breaks.now.found c.condition.new.breaks.found c.in_ok-test.test c.boxed_stmt.new.site c.boxed_stmt-2.new.site (see_stmt c.args.first.now) (see_stmt c.args.second.now) c.boxed_stmt.new.breaks.found c.boxed_stmt-2.new.breaks.found
+    c.in_ok-first.first.value c.in_ok-second.second.value (stmt.IfElse c.in_ok-test.test c.in_ok-first.first c.in_ok-second.second) c.in_ok-test.ensures c.in_ok-first.ensures c.in_ok-second.ensures
+    (viewed_if_else c.in_ok-test.test c.in_ok-first.first c.in_ok-second.second)
 
 pub block-truncate-requires : goal.block-truncate-requires
 block-truncate-requires t c =
