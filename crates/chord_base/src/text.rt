@@ -7,6 +7,7 @@ ghost use Rattle.chord_base.specs.Texts.{stored_bytes, IsStored};
 use std::alloc::{AllocError, Global};
 use std::marker::Model;
 use std::mem::size_of;
+use std::sync::Arc;
 
 /// The most bytes that a text has.
 pub const MAX_TEXT_BYTES: usize = 1024;
@@ -15,7 +16,7 @@ pub const MAX_TEXT_BYTES: usize = 1024;
 const MAX_SHORT_BYTES: usize = 8;
 
 // Most texts are names, and a text is moved by value: so it is two words, and a short one asks for no memory. Room for more bytes than a register holds
-// is cleared and copied in memory wherever a text passes: 22 bytes in three words made a firing dearer, and lexing and parsing gained half as much.
+// is cleared and copied in memory wherever a text passes: with 22 in three words a firing was dearer, and lexing and parsing gained half as much.
 const _: () = prove!(size_of::<Text>() == 2 * size_of::<usize>());
 
 /// A text of at most 1,024 bytes. Contracts see the list of its bytes.
@@ -44,8 +45,8 @@ enum Storage {
         length: u32,
         bytes: [u8; MAX_SHORT_BYTES],
     },
-    /// In a box, since a `Vec` and a tag are four words.
-    Long(Box<Vec<u8>>),
+    /// Shared with its copies, so that a copy asks for no memory.
+    Long(Arc<Vec<u8>>),
 }
 
 /// Why a text was not made.
@@ -118,8 +119,8 @@ impl Text {
         }
     }
 
-    /// An equal text. One of up to 8 bytes asks for no memory.
-    pub fn copied(&self, alloc: Global) -> Result<Text, AllocError>
+    /// An equal text. One of up to 8 bytes always is made; a longer one shares its bytes, and fails where their owners are too many to be counted.
+    pub fn copied(&self, _alloc: Global) -> Result<Text, AllocError>
         ensures equal { IfOk result (λ t. t ≡ self.now) }
         ensures short { length self.now ≤ 8 → IsOk result }
     {
@@ -130,10 +131,9 @@ impl Text {
                     bytes: *bytes,
                 },
             }),
-            Storage::Long(bytes) => {
-                let bytes = in_memory(alloc, bytes.as_slice(), b"")?;
-                Ok(Text { bytes })
-            }
+            Storage::Long(bytes) => Ok(Text {
+                bytes: Storage::Long(Arc::clone(bytes)?),
+            }),
         }
     }
 }
@@ -166,5 +166,5 @@ fn in_memory(alloc: Global, left: &[u8], right: &[u8]) -> Result<Storage, AllocE
     let mut bytes = Vec::with_capacity(alloc, left.len() + right.len())?;
     bytes.extend_from_slice(left)?;
     bytes.extend_from_slice(right)?;
-    Ok(Storage::Long(Box::new(alloc, bytes)?))
+    Ok(Storage::Long(Arc::new(alloc, bytes)?))
 }

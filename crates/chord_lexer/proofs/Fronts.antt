@@ -255,7 +255,7 @@ pair_marks =
     ∷ (0x26, 0x26, marks.And) ∷ (0x7C, 0x7C, marks.Or) ∷ (0x2B, 0x2B, marks.Increment) ∷ (0x2D, 0x2D, marks.Decrement) ∷ []
 
 -- the mark of the first two bytes is written as those bytes
-pair_spelled : (text : List ℕ) (mark : Mark) → pair_mark_of text ≡ Some mark → mark_bytes mark ≡ take 2 text
+pub pair_spelled : (text : List ℕ) (mark : Mark) → pair_mark_of text ≡ Some mark → mark_bytes mark ≡ take 2 text
 pair_spelled [] mark e = cc
 pair_spelled (a ∷ []) mark e = cc
 pair_spelled (a ∷ b ∷ text) mark e = pair_entry_spelled pair_marks (refl, (refl, (refl, (refl, (refl, (refl, (refl, (refl, tt)))))))) a b mark e

@@ -1,5 +1,6 @@
 -- Marks: the longest is the one of two bytes, if there is one.
-use Rattle.std.proofs.Common.{◌≡◌, ℕ, ◌<◌, ◌≤◌, false, List, [], ◌∷◌, ◌++◌, length, take, get_or, refl, sym, ap, subst, ◌∙◌, arith, ◌⊎◌, inl, inr, Some, None}
+use Rattle.std.proofs.Common.{◌≡◌, ℕ, ◌<◌, ◌≤◌, Bool, true, false, cond, ◌&&◌, List, [], ◌∷◌, ◌++◌, length, take, get_or, refl, sym, ap, subst, ◌∙◌, arith, ◌⊎◌, inl, inr, Some, None, Option, eqb-true}
+use Rattle.std.specs.Prelude.{nat_eq, slice_index}
 use Rattle.std.proofs.lemmas.List.{take-append-drop, length-take-le}
 use Rattle.chord_lexer.specs.declared.token.Kind.TheVariants as kinds
 use Rattle.chord_lexer.specs.declared.token.Mark.{Mark}
@@ -10,7 +11,7 @@ use Rattle.chord_lexer.specs.declared.scan.Lead.TheVariants as leads
 use Rattle.chord_lexer.specs.Comments.{begins_comment}
 use Rattle.chord_lexer.specs.Marks.{mark_bytes}
 use Rattle.chord_lexer.specs.Pieces.{IsPiece, IsNone}
-use Rattle.chord_lexer.specs.Scanning.{lead_of, single_mark, pair_mark, pair_mark_of, Begins}
+use Rattle.chord_lexer.specs.Scanning.{lead_of, single_mark, pair_mark, pair_mark_of, pair_after, Begins}
 use Rattle.chord_lexer.proofs.Leads.{leads_to, only_mark, mark_told}
 
 -- A mark has one byte or two, and the tables know it.
@@ -46,6 +47,40 @@ sized marks.Or = two 124 124 refl refl
 sized marks.Ampersand = one 38 refl refl
 sized marks.Increment = two 43 43 refl refl
 sized marks.Decrement = two 45 45 refl refl
+
+-- where both ways give none, so does the choice
+no_mark_either : (t : Bool) (x : Option Mark) → x ≡ None → cond t None x ≡ None
+no_mark_either true x e = refl
+no_mark_either false x e = e
+
+-- a test of the first byte and then of the second is a test of both, where another first byte goes on
+one_test : (t u : Bool) (m x y : Option Mark) → (t ≡ true → y ≡ None) → x ≡ y → cond t (cond u m None) x ≡ cond (t && u) m y
+one_test true true m x y f e = refl
+one_test true false m x y f e = sym (f refl)
+one_test false u m x y f e = e
+
+-- the mark of two bytes is that by the first one and then by the second
+pub pair_by_first : (text : List ℕ) → pair_after (slice_index text 0) text ≡ pair_mark_of text
+pair_by_first [] = refl
+pair_by_first (a ∷ []) =
+    no_mark_either (nat_eq a 61) _ (
+    no_mark_either (nat_eq a 33) _ (
+    no_mark_either (nat_eq a 60) _ (
+    no_mark_either (nat_eq a 62) _ (
+    no_mark_either (nat_eq a 38) _ (
+    no_mark_either (nat_eq a 124) _ (
+    no_mark_either (nat_eq a 43) _ (
+    no_mark_either (nat_eq a 45) _ refl)))))))
+pair_by_first (a ∷ b ∷ text) =
+    let is = λ (n : ℕ) (t : nat_eq a n ≡ true). eqb-true a n t in
+    one_test (nat_eq a 61) (nat_eq b 61) _ _ _ (λ t. rw (is 61 t) refl) (
+    one_test (nat_eq a 33) (nat_eq b 61) _ _ _ (λ t. rw (is 33 t) refl) (
+    one_test (nat_eq a 60) (nat_eq b 61) _ _ _ (λ t. rw (is 60 t) refl) (
+    one_test (nat_eq a 62) (nat_eq b 61) _ _ _ (λ t. rw (is 62 t) refl) (
+    one_test (nat_eq a 38) (nat_eq b 38) _ _ _ (λ t. rw (is 38 t) refl) (
+    one_test (nat_eq a 124) (nat_eq b 124) _ _ _ (λ t. rw (is 124 t) refl) (
+    one_test (nat_eq a 43) (nat_eq b 43) _ _ _ (λ t. rw (is 43 t) refl) (
+    one_test (nat_eq a 45) (nat_eq b 45) _ _ _ (λ t. refl) refl)))))))
 
 -- a mark at the front of a text: of one byte or two
 pub at_front : (text : List ℕ) → lead_of text ≡ leads.Mark → (q : Piece) (v more : List ℕ) → v ++ more ≡ text → IsPiece q v more

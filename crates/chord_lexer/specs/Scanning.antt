@@ -131,6 +131,23 @@ abbrev pub pair_mark_of : List ℕ → Option Mark
 pair_mark_of (a ∷ b ∷ text) = pair_mark a b
 pair_mark_of text = None
 
+-- the mark, where this byte stands second
+abbrev pub second_mark : List ℕ → ℕ → Mark → Option Mark
+second_mark (a ∷ b ∷ text) second mark = cond (nat_eq b second) (Some mark) None
+second_mark text second mark = None
+
+-- the mark of the first two bytes, by the first one and then by the second
+abbrev pub pair_after : ℕ → List ℕ → Option Mark
+pair_after a text =
+    cond (nat_eq a 0x3D) (second_mark text 0x3D marks.Equal) (
+    cond (nat_eq a 0x21) (second_mark text 0x3D marks.NotEqual) (
+    cond (nat_eq a 0x3C) (second_mark text 0x3D marks.LessOrEqual) (
+    cond (nat_eq a 0x3E) (second_mark text 0x3D marks.GreaterOrEqual) (
+    cond (nat_eq a 0x26) (second_mark text 0x26 marks.And) (
+    cond (nat_eq a 0x7C) (second_mark text 0x7C marks.Or) (
+    cond (nat_eq a 0x2B) (second_mark text 0x2B marks.Increment) (
+    cond (nat_eq a 0x2D) (second_mark text 0x2D marks.Decrement) None)))))))
+
 -- the reserved words that begin with the letter
 abbrev pub begins_with : ℕ → List ℕ × Keyword → Bool
 begins_with letter entry = nat_eq letter (slice_index entry.0 0)

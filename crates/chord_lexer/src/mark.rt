@@ -1,9 +1,9 @@
 //! Marks, by the longest reading.
 #![tactic(auto)]
 
-ghost use Rattle.std.specs.Prelude.{◌≡◌, ◌+◌, ◌<◌, ◌≤◌, ◌∷◌, [], length, take, IfSome, IfOk, IfErr};
+ghost use Rattle.std.specs.Prelude.{◌≡◌, ◌+◌, ◌<◌, ◌≤◌, ◌∷◌, [], length, slice_index, IfSome, IfOk, IfErr};
 ghost use Rattle.chord_lexer.specs.Marks.{mark_bytes};
-ghost use Rattle.chord_lexer.specs.Scanning.{lead_of, single_mark, pair_mark, pair_mark_of, IsAdded, IsStop};
+ghost use Rattle.chord_lexer.specs.Scanning.{lead_of, single_mark, second_mark, pair_after, IsAdded, IsStop};
 ghost use Rattle.chord_lexer.specs.declared.scan.Lead.TheVariants as leads;
 
 use crate::scan::{Stop, add};
@@ -37,31 +37,34 @@ fn single(byte: u8) -> Option<Mark>
     }
 }
 
-/// The mark of two bytes.
-fn pair(first: u8, second: u8) -> Option<Mark>
-    ensures value { result ≡ pair_mark first second }
-    ensures spelled { IfSome result (λ mark. mark_bytes mark ≡ first ∷ second ∷ []) }
+/// The mark of two bytes, if this is the second one.
+// In line, so that a mark is told by one jump on its first byte and not by a test of the length before.
+#[inline(always)]
+fn second(text: &[u8], byte: u8, mark: Mark) -> Option<Mark>
+    ensures { result ≡ second_mark text.now byte mark }
 {
-    match (first, second) {
-        (b'=', b'=') => Some(Mark::Equal),
-        (b'!', b'=') => Some(Mark::NotEqual),
-        (b'<', b'=') => Some(Mark::LessOrEqual),
-        (b'>', b'=') => Some(Mark::GreaterOrEqual),
-        (b'&', b'&') => Some(Mark::And),
-        (b'|', b'|') => Some(Mark::Or),
-        (b'+', b'+') => Some(Mark::Increment),
-        (b'-', b'-') => Some(Mark::Decrement),
-        _ => None,
+    if text.len() > 1 && text[1] == byte {
+        Some(mark)
+    } else {
+        None
     }
 }
 
 /// The mark of the first two bytes.
+#[inline(always)]
 fn pair_at(text: &[u8]) -> Option<Mark>
-    ensures value { result ≡ pair_mark_of text.now }
-    ensures spelled { IfSome result (λ mark. mark_bytes mark ≡ take 2 text.now) }
+    requires { 0 < length text.now }
+    ensures { result ≡ pair_after (slice_index text.now 0) text.now }
 {
-    match text {
-        [first, second, ..] => pair(*first, *second),
+    match text[0] {
+        b'=' => second(text, b'=', Mark::Equal),
+        b'!' => second(text, b'=', Mark::NotEqual),
+        b'<' => second(text, b'=', Mark::LessOrEqual),
+        b'>' => second(text, b'=', Mark::GreaterOrEqual),
+        b'&' => second(text, b'&', Mark::And),
+        b'|' => second(text, b'|', Mark::Or),
+        b'+' => second(text, b'+', Mark::Increment),
+        b'-' => second(text, b'-', Mark::Decrement),
         _ => None,
     }
 }
