@@ -257,7 +257,8 @@ fn more_links(
     ensures err { IfErr result (λ fault. StopsAs (level_tail (operator_level operator)) depth (token_kinds tokens.now) fault) }
     ensures none { IfOk result (λ r. NoneUpTo (operator_level operator) (token_kinds r.1.now)) }
 {
-    let mut more = Vec::new(alloc);
+    // most chains that have further links have one
+    let mut more = Vec::with_capacity(alloc, 1)?;
     let mut left = tokens;
     'each: while let Some(following) = operator_of_level(left, level_of(operator)) {
         let (one, rest) = link(alloc, count, left, depth, following)?;

@@ -208,10 +208,10 @@ pub links-returns-clause-level : goal.links-returns-clause-level
 links-returns-clause-level t c = c.in_ok-first.ensures.ok.level_is
 
 pub more_links-each-init : goal.more_links-each-init
-more_links-each-init t c = (renamed {u = λ n. n} (record { reads = λ rest n r. r; runs = λ s v r. r }) (λ n. ap (λ z. before_links (operator_level c.args.operator) (map see_link z) n) (sym c.new-more.ensures.items)), c.requires.none)
+more_links-each-init t c = (renamed {u = λ n. n} (record { reads = λ rest n r. r; runs = λ s v r. r }) (λ n. ap (λ z. before_links (operator_level c.args.operator) (map see_link z) n) (sym c.in_ok-more.ensures.items)), c.requires.none)
 
 pub more_links-returns-in_err-one-clause-err : goal.more_links-returns-in_err-one-clause-err
-more_links-returns-in_err-one-clause-err t c = exits _ _ _ _ _ c.from_residual.ensures.1 (stops_in c.each.invariant.0 _ (subst (λ z. StopsAs (level_tail z) c.args.depth (token_kinds c.each.left.now) c.in_err-one.field-0.0) (c.in-Some.ensures.level ∙ c.level_of.ensures) c.in_err-one.ensures.err))
+more_links-returns-in_err-one-clause-err t c = exits _ _ _ _ _ c.from_residual-in_err-one.ensures.1 (stops_in c.each.invariant.0 _ (subst (λ z. StopsAs (level_tail z) c.args.depth (token_kinds c.each.left.now) c.in_err-one.field-0.0) (c.in-Some.ensures.level ∙ c.level_of.ensures) c.in_err-one.ensures.err))
 
 pub more_links-each-smaller : goal.more_links-each-smaller
 more_links-each-smaller t c = link_shorter _ _ c.in_ok-one.ensures.ok
