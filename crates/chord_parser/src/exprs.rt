@@ -305,9 +305,11 @@ fn operand(
     ensures none { IfOk result (λ r. NoneUpTo level (token_kinds r.1.now)) }
 {
     if level == 0 {
-        return unary(alloc, count, tokens, depth);
+        let (bare, rest) = unary(alloc, count, tokens, depth)?;
+        return Ok((bare, rest));
     }
-    chain(alloc, count, tokens, depth, level)
+    let (whole, rest) = chain(alloc, count, tokens, depth, level)?;
+    Ok((whole, rest))
 }
 
 /// Unary = ( "-" | "!" ) Unary | Primary
@@ -329,7 +331,9 @@ fn unary(alloc: Global, count: u32, tokens: &[Token], depth: u32) -> Result<(Exp
             return Ok((Expr::start(Start::number(value, at)), rest));
         }
     }
-    any_unary(alloc, count, tokens, depth)
+    // taken apart, so that a number's parts above need no place in memory
+    let (whole, rest) = any_unary(alloc, count, tokens, depth)?;
+    Ok((whole, rest))
 }
 
 /// Unary = ( "-" | "!" ) Unary | Primary

@@ -1,6 +1,4 @@
 use Rattle.std.proofs.Common.{◌≡◌, ℕ, List, refl, ◌+◌, ◌-◌, ◌∷◌, [], map, ◌++◌, sym, ap, subst, ◌∙◌, arith}
-use Rattle.std.proofs.lemmas.Result.{IfOk-weaker}
-use Rattle.std.specs.Prelude.{IfOk, IfErr}
 use Rattle.chord_lexer.specs.declared.token.Kind.{Kind}
 use Rattle.chord_tree.specs.Symbol.{Terminal, number_of}
 use Rattle.chord_tree.specs.Symbols as grammar
@@ -138,6 +136,9 @@ unary-returns-in_err-value-clause-err t c = exits _ _ _ _ _ c.from_residual.ensu
 pub unary-returns-then-after-ne-DOT-clause-ok : goal.unary-returns-then-after-ne-DOT-clause-ok
 unary-returns-then-after-ne-DOT-clause-ok t c = as_node (ends (step (step (number_begun (sym c.next-ahead.ensures ∙ c.if-ahead-eq-NUMBER.true)) (ends (step (operand_start_number (operand_start_number_at _ (sym c.next-ahead.ensures ∙ c.if-ahead-eq-NUMBER.true))) c.in_ok-value.ensures.ok))) (ends (dots_none (dots_none_at _ (next_small (token_kinds c.in_ok-value.rest.now)) (λ q. c.if-after-ne-DOT.true (c.next-after.ensures ∙ q))))))) (sym (ap (node_at 0) (c.start.ensures ∙ ap (λ z. PrimaryExpr z NoDots) c.number.ensures)))
 
+pub unary-returns-in_err-whole-clause-err : goal.unary-returns-in_err-whole-clause-err
+unary-returns-in_err-whole-clause-err t c = exits _ _ _ _ _ c.from_residual-in_err-whole.ensures.1 c.in_err-whole.ensures.err
+
 pub chained_by_or-returns-clause-ok : goal.chained_by_or-returns-clause-ok
 chained_by_or-returns-clause-ok t c = c.chained.ensures.ok
 
@@ -238,14 +239,17 @@ link-returns-clause-ok t c =
     let operand : Reads c.args.count (level_symbol (operator_level c.args.operator - 1)) c.args.depth (token_kinds c.in_ok-at.rest.now) (token_kinds c.in_ok-operand.rest.now) (node_at (operator_level c.args.operator - 1) (see_expr c.in_ok-operand.operand)) = subst (λ z. Reads c.args.count (level_symbol (z - 1)) c.args.depth (token_kinds c.in_ok-at.rest.now) (token_kinds c.in_ok-operand.rest.now) (node_at (z - 1) (see_expr c.in_ok-operand.operand))) c.level_of.ensures c.in_ok-operand.ensures.ok in
     link_read c.args.operator c.in_ok-at.at (see_expr c.in_ok-operand.operand) _ (enters (step (step (begun_link c.args.operator _ refl c.requires.next) (operator_read _ c.args.operator c.terminal_of_operator.ensures c.in_ok-at.ensures.ok)) operand)) refl (fewer_left c.in_ok-at.ensures.ok c.in_ok-operand.ensures.ok) (subst (λ z. NoneUpTo (z - 1) (token_kinds c.in_ok-operand.rest.now)) c.level_of.ensures c.in_ok-operand.ensures.none) c.new.ensures
 
-pub operand-returns-then-level-eq0-clause-ok : goal.operand-returns-then-level-eq0-clause-ok
-operand-returns-then-level-eq0-clause-ok t c = subst (λ z. IfOk c.unary.result (λ r. Reads c.args.count (level_symbol z) c.args.depth (token_kinds c.args.tokens.now) (token_kinds r.1.now) (node_at z (see_expr r.0)))) (sym c.if-level-eq0.true) c.unary.ensures.ok
+pub operand-returns-in_err-bare-clause-err : goal.operand-returns-in_err-bare-clause-err
+operand-returns-in_err-bare-clause-err t c = exits _ _ _ _ _ c.from_residual.ensures.1 (subst (λ z. StopsAs (level_symbol z) c.args.depth (token_kinds c.args.tokens.now) c.in_err-bare.field-0.0) (sym c.if-level-eq0.true) c.in_err-bare.ensures.err)
 
-pub operand-returns-then-level-eq0-clause-err : goal.operand-returns-then-level-eq0-clause-err
-operand-returns-then-level-eq0-clause-err t c = subst (λ z. IfErr c.unary.result (λ fault. StopsAs (level_symbol z) c.args.depth (token_kinds c.args.tokens.now) fault)) (sym c.if-level-eq0.true) c.unary.ensures.err
+pub operand-returns-then-level-eq0-clause-ok : goal.operand-returns-then-level-eq0-clause-ok
+operand-returns-then-level-eq0-clause-ok t c = subst (λ z. Reads c.args.count (level_symbol z) c.args.depth (token_kinds c.args.tokens.now) (token_kinds c.in_ok-bare.rest.now) (node_at z (see_expr c.in_ok-bare.bare))) (sym c.if-level-eq0.true) c.in_ok-bare.ensures.ok
 
 pub operand-returns-then-level-eq0-clause-none : goal.operand-returns-then-level-eq0-clause-none
-operand-returns-then-level-eq0-clause-none t c = subst (λ z. IfOk c.unary.result (λ r. NoneUpTo z (token_kinds r.1.now))) (sym c.if-level-eq0.true) (IfOk-weaker c.unary.result _ (λ r. NoneUpTo 0 (token_kinds r.1.now)) (λ r h. none_at_zero _) c.unary.ensures.ok)
+operand-returns-then-level-eq0-clause-none t c = subst (λ z. NoneUpTo z (token_kinds c.in_ok-bare.rest.now)) (sym c.if-level-eq0.true) (none_at_zero _)
+
+pub operand-returns-in_err-whole-clause-err : goal.operand-returns-in_err-whole-clause-err
+operand-returns-in_err-whole-clause-err t c = exits _ _ _ _ _ c.from_residual-in_err-whole.ensures.1 c.in_err-whole.ensures.err
 
 pub dots_next-returns-in_err-one-clause-err : goal.dots_next-returns-in_err-one-clause-err
 dots_next-returns-in_err-one-clause-err t c = exits _ _ _ _ _ c.from_residual.ensures.1 (stops_in c.each.invariant _ (stops {count = c.args.count} (dots_dot (dots_dot_at _ (sym c.next.ensures ∙ c.each-test.true))) _ c.in_err-one.ensures.err))
