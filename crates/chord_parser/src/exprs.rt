@@ -124,6 +124,7 @@ fn operator_up_to(tokens: &[Token], level: u8) -> Option<Operator>
 }
 
 /// Expr = And { "||" And }
+#[inline(always)]
 #[cycle(parser)]
 pub fn expr(
     alloc: Global,

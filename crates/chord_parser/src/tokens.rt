@@ -120,7 +120,7 @@ pub fn token_number(count: u32, tokens: &[Token]) -> u32
 }
 
 /// The next token, which is the terminal, and those after it.
-#[inline]
+#[inline(always)]
 fn one(tokens: &[Token], wanted: u8, depth: u32) -> Result<(&Token, &[Token]), Fault>
     requires { wanted < 52 }
     ensures ok { IfOk result (λ r. Heads wanted (token_kinds tokens.now) (token_kinds r.1.now) r.0.now.kind) }
@@ -142,7 +142,7 @@ fn one(tokens: &[Token], wanted: u8, depth: u32) -> Result<(&Token, &[Token]), F
 }
 
 /// The tokens after the terminal, which has no number in the tree.
-#[inline]
+#[inline(always)]
 pub fn skip(count: u32, tokens: &[Token], wanted: u8, depth: u32) -> Result<&[Token], Fault>
     requires unnumbered { includes unnumbered wanted ≡ true }
     requires bare { includes valued wanted ≡ false }
