@@ -15,7 +15,7 @@ ghost use Rattle.chord_parser.specs.Runs.{Reads};
 
 use crate::faults::Fault;
 use crate::terminal;
-use crate::tokens::{literal_next, name_of, next, number_next, skip, take};
+use crate::tokens::{literal_next, name_of, next, number_next, skip, take, take_known};
 use chord_lexer::token::{Kind, Mark, Token};
 use chord_tree::exprs::{Actuals, Dot, Expr, Link, Operator, Start};
 use std::alloc::Global;
@@ -124,6 +124,7 @@ fn operator_up_to(tokens: &[Token], level: u8) -> Option<Operator>
 }
 
 /// Expr = And { "||" And }
+#[inline(always)]
 #[cycle(parser)]
 pub fn expr(
     alloc: Global,
@@ -136,11 +137,31 @@ pub fn expr(
     ensures err { IfErr result (λ fault. StopsAs grammar.Expr depth (token_kinds tokens.now) fault) }
 {
     let (first, rest) = chain(alloc, count, tokens, depth + 1, 5)?;
-    let Some(operator) = operator_of_level(rest, 6) else {
+    if next(rest) != terminal::OR {
         return Ok((first, rest));
-    };
-    let (whole, rest) = chained(alloc, count, rest, depth + 1, operator, first)?;
+    }
+    let (whole, rest) = chained_by_or(alloc, count, rest, depth + 1, first)?;
     Ok((whole, rest))
+}
+
+/// The chain of the operand before and the links of `||`, which comes next.
+///
+/// Apart from `expr`, since few expressions have one: what it takes on the stack would be cleared for each.
+#[inline(never)]
+#[cycle(parser)]
+fn chained_by_or(
+    alloc: Global,
+    count: u32,
+    tokens: &[Token],
+    depth: u32,
+    first: Expr,
+) -> Result<(Expr, &[Token]), Fault>
+    requires depth { depth ≤ 201 }
+    requires next { next (token_kinds tokens.now) ≡ number_of grammar.OR }
+    ensures ok { IfOk result (λ r. Chains count 6 depth (see_expr first) (see_expr r.0) (token_kinds tokens.now) (token_kinds r.1.now)) }
+    ensures err { IfErr result (λ fault. StopsAs (level_tail 6) depth (token_kinds tokens.now) fault) }
+{
+    chained(alloc, count, tokens, depth, Operator::Or, first)
 }
 
 /// And = Equal { "&&" Equal }
@@ -175,6 +196,7 @@ fn chain(
 }
 
 /// The chain of the operand before and the links of the operator's level, of which this is the first.
+#[inline(always)]
 #[cycle(parser)]
 fn chained(
     alloc: Global,
@@ -196,6 +218,7 @@ fn chained(
 }
 
 /// The links of the operator's level, of which this is the first: one, and those after it.
+#[inline(always)]
 #[cycle(parser)]
 fn links(
     alloc: Global,
@@ -220,6 +243,7 @@ fn links(
 }
 
 /// All links of the operator's level that come next.
+#[inline(never)]
 #[cycle(parser)]
 fn more_links(
     alloc: Global,
@@ -234,7 +258,8 @@ fn more_links(
     ensures err { IfErr result (λ fault. StopsAs (level_tail (operator_level operator)) depth (token_kinds tokens.now) fault) }
     ensures none { IfOk result (λ r. NoneUpTo (operator_level operator) (token_kinds r.1.now)) }
 {
-    let mut more = Vec::new(alloc);
+    // most chains that have further links have one
+    let mut more = Vec::with_capacity(alloc, 1)?;
     let mut left = tokens;
     'each: while let Some(following) = operator_of_level(left, level_of(operator)) {
         let (one, rest) = link(alloc, count, left, depth, following)?;
@@ -245,6 +270,7 @@ fn more_links(
 }
 
 /// An operator, which comes next, and its right operand.
+#[inline(always)]
 #[cycle(parser)]
 fn link(
     alloc: Global,
@@ -258,12 +284,13 @@ fn link(
     ensures ok { IfOk result (λ r. IsLinkRead count (operator_level operator) depth (token_kinds tokens.now) (token_kinds r.1.now) (see_link r.0)) }
     ensures err { IfErr result (λ fault. StopsAs (level_tail (operator_level operator)) depth (token_kinds tokens.now) fault) }
 {
-    let (at, rest) = take(count, tokens, terminal_of_operator(operator), depth)?;
+    let (at, rest) = take_known(count, tokens, terminal_of_operator(operator), depth)?;
     let (operand, rest) = operand(alloc, count, rest, depth, level_of(operator) - 1)?;
     Ok((Link::new(operator, at, operand), rest))
 }
 
 /// The right operand of an operator of the level above. Below the lowest level no operator is looked for.
+#[inline(always)]
 #[cycle(parser)]
 fn operand(
     alloc: Global,
@@ -279,15 +306,47 @@ fn operand(
     ensures none { IfOk result (λ r. NoneUpTo level (token_kinds r.1.now)) }
 {
     if level == 0 {
-        return unary(alloc, count, tokens, depth);
+        let (bare, rest) = unary(alloc, count, tokens, depth)?;
+        return Ok((bare, rest));
     }
-    chain(alloc, count, tokens, depth, level)
+    let (whole, rest) = chain(alloc, count, tokens, depth, level)?;
+    Ok((whole, rest))
+}
+
+/// Unary = ( "-" | "!" ) Unary | Primary
+///
+/// A number on which nothing is called is read in line.
+#[inline(always)]
+#[cycle(parser)]
+fn unary(alloc: Global, count: u32, tokens: &[Token], depth: u32) -> Result<(Expr, &[Token]), Fault>
+    requires depth { depth ≤ 201 }
+    ensures ok { IfOk result (λ r. Reads count grammar.Unary depth (token_kinds tokens.now) (token_kinds r.1.now) (node_at 0 (see_expr r.0))) }
+    ensures err { IfErr result (λ fault. StopsAs grammar.Unary depth (token_kinds tokens.now) fault) }
+    ensures precedence { IfOk result (λ r. precedence (see_expr r.0) ≡ 0) }
+{
+    let ahead = next(tokens);
+    if ahead == terminal::NUMBER {
+        let (value, at, rest) = number_next(count, tokens, depth + 1)?;
+        let after = next(rest);
+        if after != terminal::DOT {
+            return Ok((Expr::start(Start::number(value, at)), rest));
+        }
+    }
+    // taken apart, so that a number's parts above need no place in memory
+    let (whole, rest) = any_unary(alloc, count, tokens, depth)?;
+    Ok((whole, rest))
 }
 
 /// Unary = ( "-" | "!" ) Unary | Primary
 /// Primary = Start { Dot }
+#[inline(never)]
 #[cycle(parser)]
-fn unary(alloc: Global, count: u32, tokens: &[Token], depth: u32) -> Result<(Expr, &[Token]), Fault>
+fn any_unary(
+    alloc: Global,
+    count: u32,
+    tokens: &[Token],
+    depth: u32,
+) -> Result<(Expr, &[Token]), Fault>
     requires depth { depth ≤ 201 }
     ensures ok { IfOk result (λ r. Reads count grammar.Unary depth (token_kinds tokens.now) (token_kinds r.1.now) (node_at 0 (see_expr r.0))) }
     ensures err { IfErr result (λ fault. StopsAs grammar.Unary depth (token_kinds tokens.now) fault) }

@@ -120,7 +120,7 @@ pub fn token_number(count: u32, tokens: &[Token]) -> u32
 }
 
 /// The next token, which is the terminal, and those after it.
-#[inline]
+#[inline(always)]
 fn one(tokens: &[Token], wanted: u8, depth: u32) -> Result<(&Token, &[Token]), Fault>
     requires { wanted < 52 }
     ensures ok { IfOk result (λ r. Heads wanted (token_kinds tokens.now) (token_kinds r.1.now) r.0.now.kind) }
@@ -142,7 +142,7 @@ fn one(tokens: &[Token], wanted: u8, depth: u32) -> Result<(&Token, &[Token]), F
 }
 
 /// The tokens after the terminal, which has no number in the tree.
-#[inline]
+#[inline(always)]
 pub fn skip(count: u32, tokens: &[Token], wanted: u8, depth: u32) -> Result<&[Token], Fault>
     requires unnumbered { includes unnumbered wanted ≡ true }
     requires bare { includes valued wanted ≡ false }
@@ -167,6 +167,32 @@ pub fn take(count: u32, tokens: &[Token], wanted: u8, depth: u32) -> Result<(u32
 {
     let (_, rest) = one(tokens, wanted, depth)?;
     Ok((token_number(count, tokens), rest))
+}
+
+/// The number of the next token, which is the terminal, and the tokens after it. Its kind is not looked at again.
+#[inline]
+pub fn take_known(
+    count: u32,
+    tokens: &[Token],
+    wanted: u8,
+    depth: u32,
+) -> Result<(u32, &[Token]), Fault>
+    requires next { next (token_kinds tokens.now) ≡ wanted }
+    requires marked { includes unnumbered wanted ≡ false }
+    requires bare { includes valued wanted ≡ false }
+    requires small { wanted < 52 }
+    ensures ok { IfOk result (λ r. Reads count (Terminal wanted) depth (token_kinds tokens.now) (token_kinds r.1.now) (Leaf (sample wanted) r.0)) }
+    ensures err { IfErr result (λ fault. StopsAs (Terminal wanted) depth (token_kinds tokens.now) fault) }
+    ensures not_tall { IfOk result (λ _. depth ≤ 200) }
+{
+    let Some((_, rest)) = tokens.split_first() else {
+        unreachable!()
+    };
+    if depth > MAX_DEPTH {
+        return Err(Fault::Tall(tokens.len()));
+    }
+    let number = token_number(count, tokens);
+    Ok((number, rest))
 }
 
 /// The name that comes next, and the tokens after it.

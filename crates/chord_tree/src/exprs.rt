@@ -163,6 +163,7 @@ pub struct Dot {
 
 impl Expr {
     /// Operands joined by operators of one level: the first, an operator with its right operand, and the others.
+    #[inline(always)]
     pub fn chain(
         alloc: Global,
         first: Expr,

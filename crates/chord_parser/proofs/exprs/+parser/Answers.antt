@@ -1,21 +1,29 @@
-use Rattle.std.proofs.Common.{refl, ◌+◌, ◌-◌, lit<, ◌∷◌, [], map, ◌++◌, sym, ap, subst, ◌∙◌, arith}
-use Rattle.std.proofs.lemmas.Result.{IfOk-weaker}
-use Rattle.std.specs.Prelude.{IfOk, IfErr}
-use Rattle.chord_tree.specs.Symbol.{Terminal}
+use Rattle.std.proofs.Common.{◌≡◌, ℕ, List, refl, ◌+◌, ◌-◌, ◌∷◌, [], map, ◌++◌, sym, ap, subst, ◌∙◌, arith}
+use Rattle.chord_lexer.specs.declared.token.Kind.{Kind}
+use Rattle.chord_tree.specs.Symbol.{Terminal, number_of}
+use Rattle.chord_tree.specs.Symbols as grammar
+use Rattle.chord_tree.specs.Derivation.{next}
+use Rattle.chord_tree.specs.Node.{End, ◌▸◌, Made}
 use Rattle.chord_tree.specs.Program.{token_kinds}
 use Rattle.chord_tree.specs.ExprNodes.{precedence, operator_level, level_symbol, level_tail, node_at, node_links, node_start, node_actuals, node_dot, node_exprs}
-use Rattle.chord_tree.specs.Tree.{MoreDots, MoreLinks, links, dots, exprs}
+use Rattle.chord_tree.specs.Tree.{PrimaryExpr, NoDots, MoreDots, MoreLinks, links, dots, exprs}
 use Rattle.chord_tree.specs.ViewExprs.{see_expr, see_link, see_dot}
 use Rattle.chord_tree.proofs.Ahead.{next_small}
 use Rattle.chord_parser.specs.Reading.{StopsAs, IsOther, one_link, before_links}
-use Rattle.chord_parser.specs.Climbing.{NoneUpTo, Chains, IsLinkRead}
-use Rattle.chord_parser.specs.Runs.{Reads}
+use Rattle.chord_parser.specs.Climbing.{NoneUpTo, IsLinkRead}
+use Rattle.chord_parser.specs.Runs.{Reads, Onward}
 use Rattle.chord_parser.proofs.Reading.{step, ends, goes_into}
 use Rattle.chord_parser.proofs.Chains.{stops, stops_in, exits, enters, then, renamed, as_node, no_link, begun_link, dots_all, dots_push, opt_push, opt_first, opt_all, shorter, shorter_dot, operator_read, pushed, links_all, links_push, one_dot}
 use Rattle.chord_parser.proofs.Climb.{chain_read, link_read, operand_stops, fewer_left, chain_shorter, link_shorter, some_level, top_level, none_at_zero, climb_begins, climb_goes_on, climb_ends, climb_stops, lifted_to_or, links_done, one_more_level}
-use Rattle.chord_parser.proofs.made.ChainSteps.{expr_and, expr_and_at}
-use Rattle.chord_parser.proofs.made.ExprSteps.{actuals_open, actuals_open_at, dot_dot, dot_dot_at, dots_dot, dots_dot_at, dots_none, dots_none_at, more_exprs_comma, more_exprs_comma_at, more_exprs_none, more_exprs_none_at, optional_actuals_actuals, optional_actuals_actuals_at, optional_actuals_none, optional_actuals_none_at, optional_exprs_expr, optional_exprs_expr_at, optional_exprs_none, optional_exprs_none_at, primary_operand_start, primary_operand_start_at, operand_start_name, operand_start_name_at, operand_start_new, operand_start_new_at, operand_start_open, operand_start_open_at, unary_minus, unary_minus_at, unary_not, unary_not_at, unary_primary, unary_primary_at}
+use Rattle.chord_parser.proofs.made.ChainSteps.{expr_and, expr_and_at, more_or_none, more_or_none_at}
+use Rattle.chord_parser.proofs.made.ExprSteps.{actuals_open, actuals_open_at, dot_dot, dot_dot_at, dots_dot, dots_dot_at, dots_none, dots_none_at, more_exprs_comma, more_exprs_comma_at, more_exprs_none, more_exprs_none_at, optional_actuals_actuals, optional_actuals_actuals_at, optional_actuals_none, optional_actuals_none_at, optional_exprs_expr, optional_exprs_expr_at, optional_exprs_none, optional_exprs_none_at, primary_operand_start, primary_operand_start_at, operand_start_name, operand_start_name_at, operand_start_new, operand_start_new_at, operand_start_open, operand_start_open_at, operand_start_number, operand_start_number_at, unary_minus, unary_minus_at, unary_not, unary_not_at, unary_primary, unary_primary_at}
 use Rattle.chord_parser.proofs.exprs.+parser.Goals as goal
+
+-- where a number comes next, what has no operator before it begins with a start
+number_begun : {count d : ℕ} {ks : List Kind} → next ks ≡ number_of grammar.NUMBER → Onward count grammar.Unary d ks (grammar.Operand_start ∷ grammar.Dots ∷ []) (d + 1) ks (λ ns. Made grammar.Unary (Made grammar.Primary ns ▸ End))
+number_begun {ks = ks} e =
+    let n : next ks ≡ 44 = e in
+    goes_into (unary_primary (unary_primary_at _ (next_small ks) (λ q. omega arith) (λ q. omega arith))) (primary_operand_start (primary_operand_start_at _ (next_small ks)))
 
 pub actuals-returns-in_err-at-clause-err : goal.actuals-returns-in_err-at-clause-err
 actuals-returns-in_err-at-clause-err t c = exits _ _ _ _ _ c.from_residual.ensures.1 (stops {count = c.args.count} (actuals_open (actuals_open_at _ (next_small (token_kinds c.args.tokens.now)))) _ c.in_err-at.ensures.err)
@@ -95,20 +103,20 @@ unary_not-returns-in_err-inner-clause-err t c = exits _ _ _ _ _ c.from_residual-
 pub unary_not-returns-clause-ok : goal.unary_not-returns-clause-ok
 unary_not-returns-clause-ok t c = as_node (ends (step (step (unary_not (unary_not_at _ c.requires.first)) c.in_ok-at.ensures.ok) c.in_ok-inner.ensures.ok)) (sym (ap (node_at 0) c.in_ok-not.ensures))
 
-pub unary-returns-in_err-first-clause-err : goal.unary-returns-in_err-first-clause-err
-unary-returns-in_err-first-clause-err t c = exits _ _ _ _ _ c.from_residual.ensures.1 (stops {count = c.args.count} (goes_into (unary_primary (unary_primary_at _ (next_small (token_kinds c.args.tokens.now)) (λ q. c.if-ahead-eq-MINUS.false (c.next-ahead.ensures ∙ q)) (λ q. c.if-ahead-eq-NOT.false (c.next-ahead.ensures ∙ q)))) (primary_operand_start (primary_operand_start_at _ (next_small (token_kinds c.args.tokens.now))))) _ c.in_err-first.ensures.err)
+pub any_unary-returns-in_err-first-clause-err : goal.any_unary-returns-in_err-first-clause-err
+any_unary-returns-in_err-first-clause-err t c = exits _ _ _ _ _ c.from_residual.ensures.1 (stops {count = c.args.count} (goes_into (unary_primary (unary_primary_at _ (next_small (token_kinds c.args.tokens.now)) (λ q. c.if-ahead-eq-MINUS.false (c.next-ahead.ensures ∙ q)) (λ q. c.if-ahead-eq-NOT.false (c.next-ahead.ensures ∙ q)))) (primary_operand_start (primary_operand_start_at _ (next_small (token_kinds c.args.tokens.now))))) _ c.in_err-first.ensures.err)
 
-pub unary-returns-in_err-whole-clause-err : goal.unary-returns-in_err-whole-clause-err
-unary-returns-in_err-whole-clause-err t c = exits _ _ _ _ _ c.from_residual-in_err-whole.ensures.1 (stops {count = c.args.count} (step (goes_into (unary_primary (unary_primary_at _ (next_small (token_kinds c.args.tokens.now)) (λ q. c.if-ahead-eq-MINUS.false (c.next-ahead.ensures ∙ q)) (λ q. c.if-ahead-eq-NOT.false (c.next-ahead.ensures ∙ q)))) (primary_operand_start (primary_operand_start_at _ (next_small (token_kinds c.args.tokens.now))))) c.in_ok-first.ensures.ok) _ c.in_err-whole.ensures.err)
+pub any_unary-returns-in_err-whole-clause-err : goal.any_unary-returns-in_err-whole-clause-err
+any_unary-returns-in_err-whole-clause-err t c = exits _ _ _ _ _ c.from_residual-in_err-whole.ensures.1 (stops {count = c.args.count} (step (goes_into (unary_primary (unary_primary_at _ (next_small (token_kinds c.args.tokens.now)) (λ q. c.if-ahead-eq-MINUS.false (c.next-ahead.ensures ∙ q)) (λ q. c.if-ahead-eq-NOT.false (c.next-ahead.ensures ∙ q)))) (primary_operand_start (primary_operand_start_at _ (next_small (token_kinds c.args.tokens.now))))) c.in_ok-first.ensures.ok) _ c.in_err-whole.ensures.err)
 
-pub unary-returns-then-next-eq-DOT-clause-ok : goal.unary-returns-then-next-eq-DOT-clause-ok
-unary-returns-then-next-eq-DOT-clause-ok t c = as_node (ends (step (step (goes_into (unary_primary (unary_primary_at _ (next_small (token_kinds c.args.tokens.now)) (λ q. c.if-ahead-eq-MINUS.false (c.next-ahead.ensures ∙ q)) (λ q. c.if-ahead-eq-NOT.false (c.next-ahead.ensures ∙ q)))) (primary_operand_start (primary_operand_start_at _ (next_small (token_kinds c.args.tokens.now))))) c.in_ok-first.ensures.ok) c.in_ok-whole.ensures.ok.2)) (sym (ap (node_at 0) c.in_ok-whole.ensures.ok.1))
+pub any_unary-returns-then-next-eq-DOT-clause-ok : goal.any_unary-returns-then-next-eq-DOT-clause-ok
+any_unary-returns-then-next-eq-DOT-clause-ok t c = as_node (ends (step (step (goes_into (unary_primary (unary_primary_at _ (next_small (token_kinds c.args.tokens.now)) (λ q. c.if-ahead-eq-MINUS.false (c.next-ahead.ensures ∙ q)) (λ q. c.if-ahead-eq-NOT.false (c.next-ahead.ensures ∙ q)))) (primary_operand_start (primary_operand_start_at _ (next_small (token_kinds c.args.tokens.now))))) c.in_ok-first.ensures.ok) c.in_ok-whole.ensures.ok.2)) (sym (ap (node_at 0) c.in_ok-whole.ensures.ok.1))
 
-pub unary-returns-then-next-eq-DOT-clause-precedence : goal.unary-returns-then-next-eq-DOT-clause-precedence
-unary-returns-then-next-eq-DOT-clause-precedence t c = ap precedence c.in_ok-whole.ensures.ok.1
+pub any_unary-returns-then-next-eq-DOT-clause-precedence : goal.any_unary-returns-then-next-eq-DOT-clause-precedence
+any_unary-returns-then-next-eq-DOT-clause-precedence t c = ap precedence c.in_ok-whole.ensures.ok.1
 
-pub unary-returns-clause-ok : goal.unary-returns-clause-ok
-unary-returns-clause-ok t c = as_node (ends (step (step (goes_into (unary_primary (unary_primary_at _ (next_small (token_kinds c.args.tokens.now)) (λ q. c.if-ahead-eq-MINUS.false (c.next-ahead.ensures ∙ q)) (λ q. c.if-ahead-eq-NOT.false (c.next-ahead.ensures ∙ q)))) (primary_operand_start (primary_operand_start_at _ (next_small (token_kinds c.args.tokens.now))))) c.in_ok-first.ensures.ok) (ends (dots_none (dots_none_at _ (next_small (token_kinds c.in_ok-first.rest.now)) (λ q. c.if-next-eq-DOT.false (c.next.ensures ∙ q))))))) (sym (ap (node_at 0) c.start-2.ensures))
+pub any_unary-returns-clause-ok : goal.any_unary-returns-clause-ok
+any_unary-returns-clause-ok t c = as_node (ends (step (step (goes_into (unary_primary (unary_primary_at _ (next_small (token_kinds c.args.tokens.now)) (λ q. c.if-ahead-eq-MINUS.false (c.next-ahead.ensures ∙ q)) (λ q. c.if-ahead-eq-NOT.false (c.next-ahead.ensures ∙ q)))) (primary_operand_start (primary_operand_start_at _ (next_small (token_kinds c.args.tokens.now))))) c.in_ok-first.ensures.ok) (ends (dots_none (dots_none_at _ (next_small (token_kinds c.in_ok-first.rest.now)) (λ q. c.if-next-eq-DOT.false (c.next.ensures ∙ q))))))) (sym (ap (node_at 0) c.start-2.ensures))
 
 pub calls_on-returns-in_err-first-clause-err : goal.calls_on-returns-in_err-first-clause-err
 calls_on-returns-in_err-first-clause-err t c = exits _ _ _ _ _ c.from_residual.ensures.1 (stops {count = c.args.count} (dots_dot (dots_dot_at _ c.requires.first)) _ c.in_err-first.ensures.err)
@@ -122,16 +130,32 @@ calls_on-returns-clause-ok t c = (MoreDots (see_dot c.in_ok-first.first) (dots (
 pub expr-returns-in_err-first-clause-err : goal.expr-returns-in_err-first-clause-err
 expr-returns-in_err-first-clause-err t c = exits _ _ _ _ _ c.from_residual.ensures.1 (stops {count = c.args.count} (expr_and (expr_and_at _ (next_small (token_kinds c.args.tokens.now)))) _ c.in_err-first.ensures.err)
 
-pub expr-returns-in_default-clause-ok : goal.expr-returns-in_default-clause-ok
-expr-returns-in_default-clause-ok t c = as_node (ends (step (step (expr_and (expr_and_at _ (next_small (token_kinds c.args.tokens.now)))) c.in_ok-first.ensures.ok) (no_link 6 (lit< tt) (omega arith) c.in_default.ensures.none))) (lifted_to_or _ c.in_ok-first.ensures.within)
+pub unary-returns-in_err-value-clause-err : goal.unary-returns-in_err-value-clause-err
+unary-returns-in_err-value-clause-err t c = exits _ _ _ _ _ c.from_residual.ensures.1 (stops {count = c.args.count} (number_begun (sym c.next-ahead.ensures ∙ c.if-ahead-eq-NUMBER.true)) _ (stops {count = c.args.count} (operand_start_number (operand_start_number_at _ (sym c.next-ahead.ensures ∙ c.if-ahead-eq-NUMBER.true))) _ c.in_err-value.ensures.err))
+
+pub unary-returns-then-after-ne-DOT-clause-ok : goal.unary-returns-then-after-ne-DOT-clause-ok
+unary-returns-then-after-ne-DOT-clause-ok t c = as_node (ends (step (step (number_begun (sym c.next-ahead.ensures ∙ c.if-ahead-eq-NUMBER.true)) (ends (step (operand_start_number (operand_start_number_at _ (sym c.next-ahead.ensures ∙ c.if-ahead-eq-NUMBER.true))) c.in_ok-value.ensures.ok))) (ends (dots_none (dots_none_at _ (next_small (token_kinds c.in_ok-value.rest.now)) (λ q. c.if-after-ne-DOT.true (c.next-after.ensures ∙ q))))))) (sym (ap (node_at 0) (c.start.ensures ∙ ap (λ z. PrimaryExpr z NoDots) c.number.ensures)))
+
+pub unary-returns-in_err-whole-clause-err : goal.unary-returns-in_err-whole-clause-err
+unary-returns-in_err-whole-clause-err t c = exits _ _ _ _ _ c.from_residual-in_err-whole.ensures.1 c.in_err-whole.ensures.err
+
+pub chained_by_or-returns-clause-ok : goal.chained_by_or-returns-clause-ok
+chained_by_or-returns-clause-ok t c = c.chained.ensures.ok
+
+pub chained_by_or-returns-clause-err : goal.chained_by_or-returns-clause-err
+chained_by_or-returns-clause-err t c = c.chained.ensures.err
+
+pub expr-returns-then-next-ne-OR-clause-ok : goal.expr-returns-then-next-ne-OR-clause-ok
+expr-returns-then-next-ne-OR-clause-ok t c = as_node (ends (step (step (expr_and (expr_and_at _ (next_small (token_kinds c.args.tokens.now)))) c.in_ok-first.ensures.ok) (ends (more_or_none (more_or_none_at _ (next_small (token_kinds c.in_ok-first.rest.now)) (λ q. c.if-next-ne-OR.true (c.next.ensures ∙ q))))))) (lifted_to_or _ c.in_ok-first.ensures.within)
 
 pub expr-returns-in_err-whole-clause-err : goal.expr-returns-in_err-whole-clause-err
-expr-returns-in_err-whole-clause-err t c = exits _ _ _ _ _ c.from_residual-in_err-whole.ensures.1 (stops {count = c.args.count} (step (expr_and (expr_and_at _ (next_small (token_kinds c.args.tokens.now)))) c.in_ok-first.ensures.ok) _ (subst (λ z. StopsAs (level_tail z) (c.args.depth + 1) (token_kinds c.in_ok-first.rest.now) c.in_err-whole.field-0.0) c.in-Some.ensures.level c.in_err-whole.ensures.err))
+expr-returns-in_err-whole-clause-err t c = exits _ _ _ _ _ c.from_residual-in_err-whole.ensures.1 (stops {count = c.args.count} (step (expr_and (expr_and_at _ (next_small (token_kinds c.args.tokens.now)))) c.in_ok-first.ensures.ok) _ c.in_err-whole.ensures.err)
 
 pub expr-returns-clause-ok : goal.expr-returns-clause-ok
-expr-returns-clause-ok t c =
-    let chain : Chains c.args.count 6 (c.args.depth + 1) (see_expr c.in_ok-first.first) (see_expr c.in_ok-whole.whole) (token_kinds c.in_ok-first.rest.now) (token_kinds c.in_ok-whole.rest.now) = subst (λ z. Chains c.args.count z (c.args.depth + 1) (see_expr c.in_ok-first.first) (see_expr c.in_ok-whole.whole) (token_kinds c.in_ok-first.rest.now) (token_kinds c.in_ok-whole.rest.now)) c.in-Some.ensures.level c.in_ok-whole.ensures.ok in
-    as_node (ends (step (step (expr_and (expr_and_at _ (next_small (token_kinds c.args.tokens.now)))) c.in_ok-first.ensures.ok) chain.reads)) (sym chain.node)
+expr-returns-clause-ok t c = as_node (ends (step (step (expr_and (expr_and_at _ (next_small (token_kinds c.args.tokens.now)))) c.in_ok-first.ensures.ok) c.in_ok-whole.ensures.ok.reads)) (sym c.in_ok-whole.ensures.ok.node)
+
+pub link-take_known-requires-clause-next : goal.link-take_known-requires-clause-next
+link-take_known-requires-clause-next t c = c.requires.next ∙ sym c.terminal_of_operator.ensures
 
 pub chain-returns-in_err-whole-clause-err : goal.chain-returns-in_err-whole-clause-err
 chain-returns-in_err-whole-clause-err t c = exits _ _ _ _ _ c.from_residual.ensures.1 (operand_stops _ _ c.args.level c.requires.level _ c.in_err-whole.ensures.err)
@@ -185,10 +209,10 @@ pub links-returns-clause-level : goal.links-returns-clause-level
 links-returns-clause-level t c = c.in_ok-first.ensures.ok.level_is
 
 pub more_links-each-init : goal.more_links-each-init
-more_links-each-init t c = (renamed {u = λ n. n} (record { reads = λ rest n r. r; runs = λ s v r. r }) (λ n. ap (λ z. before_links (operator_level c.args.operator) (map see_link z) n) (sym c.new-more.ensures.items)), c.requires.none)
+more_links-each-init t c = (renamed {u = λ n. n} (record { reads = λ rest n r. r; runs = λ s v r. r }) (λ n. ap (λ z. before_links (operator_level c.args.operator) (map see_link z) n) (sym c.in_ok-more.ensures.items)), c.requires.none)
 
 pub more_links-returns-in_err-one-clause-err : goal.more_links-returns-in_err-one-clause-err
-more_links-returns-in_err-one-clause-err t c = exits _ _ _ _ _ c.from_residual.ensures.1 (stops_in c.each.invariant.0 _ (subst (λ z. StopsAs (level_tail z) c.args.depth (token_kinds c.each.left.now) c.in_err-one.field-0.0) (c.in-Some.ensures.level ∙ c.level_of.ensures) c.in_err-one.ensures.err))
+more_links-returns-in_err-one-clause-err t c = exits _ _ _ _ _ c.from_residual-in_err-one.ensures.1 (stops_in c.each.invariant.0 _ (subst (λ z. StopsAs (level_tail z) c.args.depth (token_kinds c.each.left.now) c.in_err-one.field-0.0) (c.in-Some.ensures.level ∙ c.level_of.ensures) c.in_err-one.ensures.err))
 
 pub more_links-each-smaller : goal.more_links-each-smaller
 more_links-each-smaller t c = link_shorter _ _ c.in_ok-one.ensures.ok
@@ -215,14 +239,17 @@ link-returns-clause-ok t c =
     let operand : Reads c.args.count (level_symbol (operator_level c.args.operator - 1)) c.args.depth (token_kinds c.in_ok-at.rest.now) (token_kinds c.in_ok-operand.rest.now) (node_at (operator_level c.args.operator - 1) (see_expr c.in_ok-operand.operand)) = subst (λ z. Reads c.args.count (level_symbol (z - 1)) c.args.depth (token_kinds c.in_ok-at.rest.now) (token_kinds c.in_ok-operand.rest.now) (node_at (z - 1) (see_expr c.in_ok-operand.operand))) c.level_of.ensures c.in_ok-operand.ensures.ok in
     link_read c.args.operator c.in_ok-at.at (see_expr c.in_ok-operand.operand) _ (enters (step (step (begun_link c.args.operator _ refl c.requires.next) (operator_read _ c.args.operator c.terminal_of_operator.ensures c.in_ok-at.ensures.ok)) operand)) refl (fewer_left c.in_ok-at.ensures.ok c.in_ok-operand.ensures.ok) (subst (λ z. NoneUpTo (z - 1) (token_kinds c.in_ok-operand.rest.now)) c.level_of.ensures c.in_ok-operand.ensures.none) c.new.ensures
 
-pub operand-returns-then-level-eq0-clause-ok : goal.operand-returns-then-level-eq0-clause-ok
-operand-returns-then-level-eq0-clause-ok t c = subst (λ z. IfOk c.unary.result (λ r. Reads c.args.count (level_symbol z) c.args.depth (token_kinds c.args.tokens.now) (token_kinds r.1.now) (node_at z (see_expr r.0)))) (sym c.if-level-eq0.true) c.unary.ensures.ok
+pub operand-returns-in_err-bare-clause-err : goal.operand-returns-in_err-bare-clause-err
+operand-returns-in_err-bare-clause-err t c = exits _ _ _ _ _ c.from_residual.ensures.1 (subst (λ z. StopsAs (level_symbol z) c.args.depth (token_kinds c.args.tokens.now) c.in_err-bare.field-0.0) (sym c.if-level-eq0.true) c.in_err-bare.ensures.err)
 
-pub operand-returns-then-level-eq0-clause-err : goal.operand-returns-then-level-eq0-clause-err
-operand-returns-then-level-eq0-clause-err t c = subst (λ z. IfErr c.unary.result (λ fault. StopsAs (level_symbol z) c.args.depth (token_kinds c.args.tokens.now) fault)) (sym c.if-level-eq0.true) c.unary.ensures.err
+pub operand-returns-then-level-eq0-clause-ok : goal.operand-returns-then-level-eq0-clause-ok
+operand-returns-then-level-eq0-clause-ok t c = subst (λ z. Reads c.args.count (level_symbol z) c.args.depth (token_kinds c.args.tokens.now) (token_kinds c.in_ok-bare.rest.now) (node_at z (see_expr c.in_ok-bare.bare))) (sym c.if-level-eq0.true) c.in_ok-bare.ensures.ok
 
 pub operand-returns-then-level-eq0-clause-none : goal.operand-returns-then-level-eq0-clause-none
-operand-returns-then-level-eq0-clause-none t c = subst (λ z. IfOk c.unary.result (λ r. NoneUpTo z (token_kinds r.1.now))) (sym c.if-level-eq0.true) (IfOk-weaker c.unary.result _ (λ r. NoneUpTo 0 (token_kinds r.1.now)) (λ r h. none_at_zero _) c.unary.ensures.ok)
+operand-returns-then-level-eq0-clause-none t c = subst (λ z. NoneUpTo z (token_kinds c.in_ok-bare.rest.now)) (sym c.if-level-eq0.true) (none_at_zero _)
+
+pub operand-returns-in_err-whole-clause-err : goal.operand-returns-in_err-whole-clause-err
+operand-returns-in_err-whole-clause-err t c = exits _ _ _ _ _ c.from_residual-in_err-whole.ensures.1 c.in_err-whole.ensures.err
 
 pub dots_next-returns-in_err-one-clause-err : goal.dots_next-returns-in_err-one-clause-err
 dots_next-returns-in_err-one-clause-err t c = exits _ _ _ _ _ c.from_residual.ensures.1 (stops_in c.each.invariant _ (stops {count = c.args.count} (dots_dot (dots_dot_at _ (sym c.next.ensures ∙ c.each-test.true))) _ c.in_err-one.ensures.err))

@@ -19,6 +19,9 @@ decreases-chain l = 64 * (203 - l.depth) + (6 * l.level + 6)
 abbrev pub decreases-chained : goal.decreases-chained
 decreases-chained l = 64 * (203 - l.depth) + (6 * operator_level l.operator + 5)
 
+abbrev pub decreases-chained_by_or : goal.decreases-chained_by_or
+decreases-chained_by_or l = 64 * (203 - l.depth) + 42
+
 abbrev pub decreases-links : goal.decreases-links
 decreases-links l = 64 * (203 - l.depth) + (6 * operator_level l.operator + 4)
 
@@ -56,7 +59,10 @@ abbrev pub decreases-start_new : goal.decreases-start_new
 decreases-start_new l = 64 * (203 - l.depth) + 14
 
 abbrev pub decreases-unary : goal.decreases-unary
-decreases-unary l = 64 * (203 - l.depth) + 1
+decreases-unary l = 64 * (203 - l.depth) + 2
+
+abbrev pub decreases-any_unary : goal.decreases-any_unary
+decreases-any_unary l = 64 * (203 - l.depth) + 1
 
 abbrev pub decreases-unary_minus : goal.decreases-unary_minus
 decreases-unary_minus l = 64 * (203 - l.depth)
