@@ -4,7 +4,7 @@
 ghost use Rattle.std.specs.Prelude.{◌≡◌, ◌≢◌, ℕ, ◌+◌, ◌-◌, ◌<◌, ◌≤◌, true, false, List, [], ◌∷◌, ◌++◌, IfOk, OnOk, Some, None, length, slice_get, vec_len, vec_capacity, reverse, replicate};
 ghost use Rattle.chord_code.specs.Slots.{first_slots};
 ghost use Rattle.chord_code.specs.Machine.{body_in_block, with_answer, with_object, pops};
-ghost use Rattle.chord_vm.specs.Frames.{machine_of, IsSpacious, IsReady, IsMoved, IsRoomFor, laid};
+ghost use Rattle.chord_vm.specs.Frames.{machine_of, IsSpacious, IsReady, HasRoom, IsMoved, IsRoomFor, laid};
 
 use chord_base::event::Limits;
 use chord_base::hand::Hand;
@@ -216,6 +216,7 @@ fn fill_with(
 }
 
 /// A block whose slots are filled comes to work, at its first instruction.
+#[inline(always)]
 fn open(frames: &mut Frames, block: usize, depth: u32)
     ensures { machine_of frames.new ≡ record { top = record { block = block; place = 0; room = frames.old.limits.depth - depth; stack = []; slots = frames.old.top.slots.items }; below = []; turns = frames.old.limits.turns } }
 {
@@ -269,21 +270,33 @@ pub fn begin_with(
 }
 
 /// Takes the room that the next answer needs. Where there is none the body is as it was.
+#[inline(always)]
 pub fn reserve(alloc: Global, frames: &mut Frames) -> Result<(), AllocError>
     ensures same { (machine_of frames.new ≡ machine_of frames.old) × (frames.new.awaited ≡ frames.old.awaited) }
     ensures ready { OnOk result (IsReady frames.new.awaited frames.new) }
 {
     frames.top.stack.reserve(1)?;
-    if let Awaited::ForObject(Some((_, slots)), _) = frames.awaited {
-        frames.below.reserve(1)?;
-        frames.spare = Some(Frame {
-            block: 0,
-            place: 0,
-            room: 0,
-            stack: Vec::new(alloc),
-            slots: Vec::with_capacity(alloc, slots as usize)?,
-        });
+    match frames.awaited {
+        Awaited::ForObject(Some((_, slots)), _) => reserve_builder(alloc, frames, slots),
+        _ => Ok(()),
     }
+}
+
+/// Takes the room for a builder with so many slots.
+#[inline(never)]
+fn reserve_builder(alloc: Global, frames: &mut Frames, slots: u32) -> Result<(), AllocError>
+    requires stack { vec_len frames.old.top.stack < vec_capacity frames.old.top.stack }
+    ensures same { (machine_of frames.new ≡ machine_of frames.old) × (frames.new.awaited ≡ frames.old.awaited) }
+    ensures ready { OnOk result ((vec_len frames.new.top.stack < vec_capacity frames.new.top.stack) × (vec_len frames.new.below < vec_capacity frames.new.below) × HasRoom frames.new.spare slots) }
+{
+    frames.below.reserve(1)?;
+    frames.spare = Some(Frame {
+        block: 0,
+        place: 0,
+        room: 0,
+        stack: Vec::new(alloc),
+        slots: Vec::with_capacity(alloc, slots as usize)?,
+    });
     Ok(())
 }
 
