@@ -343,6 +343,7 @@ impl Task {
                 let maker = body.number;
                 match mem::replace(&mut body.next, Next::Runs) {
                     Next::Gave(what) => {
+                        let what = what.into_inner();
                         note_ask(body, number, &what);
                         self.past.push_reserved(Entry {
                             number,
@@ -351,6 +352,8 @@ impl Task {
                         });
                     }
                     Next::Ends(first, second) => {
+                        let first = first.into_inner();
+                        let second = second.into_inner();
                         self.past.push_reserved(Entry {
                             number,
                             body: maker,
