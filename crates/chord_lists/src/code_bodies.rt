@@ -382,6 +382,7 @@ fn take_arguments(
 }
 
 /// Takes these messages, and gives their arguments, one after another.
+#[inline(always)]
 fn take_all_held(
     alloc: Global,
     tasks: &[Task],
@@ -402,6 +403,7 @@ fn take_all_held(
 }
 
 /// Begins the body of a firing in the task of this place: above the caller that it serves, or where no body is left.
+#[inline(always)]
 fn begin_at(
     alloc: Global,
     code: &Code,
@@ -440,6 +442,7 @@ fn place_after(tasks: &[Task]) -> u32
 }
 
 /// Begins the body of a firing that serves no caller in a task of its own.
+#[inline(never)]
 fn begin_alone(
     alloc: Global,
     code: &Code,
