@@ -366,6 +366,7 @@ fn add_arguments(
 }
 
 /// Takes the message of this number, and adds its arguments to the values.
+#[inline(always)]
 fn take_arguments(
     alloc: Global,
     tasks: &[Task],

@@ -301,6 +301,7 @@ fn reserve_builder(alloc: Global, frames: &mut Frames, slots: u32) -> Result<(),
 }
 
 /// Goes on with an answer. Takes no memory.
+#[inline(always)]
 pub fn answer(frames: &mut Frames, value: Value)
     requires ready { IsReady frames.old.awaited frames.old }
     requires fits { with_answer (machine_of frames.old) frames.old.awaited value ≢ None }
@@ -329,6 +330,7 @@ fn place(frames: &mut Frames, n: u32, object: Object)
 }
 
 /// The new object's builder begins with its arguments.
+#[inline(never)]
 fn build(frames: &mut Frames, block: u32, slots: u32, n: u32, object: Object)
     requires ready { IsReady (Awaited.ForObject (Some (block, slots)) n) frames.old }
     requires fits { with_object (machine_of frames.old) (Some (block, slots)) object (pops n [] (machine_of frames.old).top.stack) ≢ None }
