@@ -349,6 +349,7 @@ fn add_copies(alloc: Global, values: &mut Vec<Value>, more: &[Value]) -> Result<
 }
 
 /// Adds the arguments of the message at this place of a past.
+#[inline(always)]
 fn add_arguments(
     alloc: Global,
     values: &mut Vec<Value>,

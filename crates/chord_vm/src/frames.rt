@@ -184,6 +184,7 @@ fn fill_from(slots: &mut Vec<Value>, n: usize, this: Value, arguments: Hand<Valu
 }
 
 /// Adds a copy of each value.
+#[inline(always)]
 pub fn lay_copies(alloc: Global, slots: &mut Vec<Value>, values: &[Value]) -> Result<(), AllocError>
     requires { vec_len slots.old + length values.now ≤ vec_capacity slots.old }
     ensures items { OnOk result (slots.new.items ≡ slots.old.items ++ values.now) }
@@ -196,6 +197,7 @@ pub fn lay_copies(alloc: Global, slots: &mut Vec<Value>, values: &[Value]) -> Re
 }
 
 /// Fills the slots of a block with `this` and copies of the values, and the rest with the unit value.
+#[inline(always)]
 fn fill_with(
     alloc: Global,
     slots: &mut Vec<Value>,
@@ -249,6 +251,7 @@ pub fn begin(
 }
 
 /// Begins a body in a block with copies of these arguments. Takes memory for texts alone. Where none is found, the frames are of no body.
+#[inline(always)]
 pub fn begin_with(
     alloc: Global,
     code: &Code,
