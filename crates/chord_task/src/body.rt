@@ -6,9 +6,7 @@ ghost use Rattle.chord_code.specs.declared.awaited.Awaited.TheVariants as Awaite
 ghost use Rattle.chord_code.specs.Machine.{with_answer, ComesToAsk};
 ghost use Rattle.chord_vm.specs.Frames.{machine_of, IsReady, what_of_ask};
 ghost use Rattle.chord_task.specs.Standing.{AskedBody, IsRunnable, MayAnswer, AnsweredWith, CalledBack, answer_of, given_of, HasRun, IsAskGiven, IsAnsweredByNote};
-ghost use Rattle.chord_base.specs.Story.{IsOwn};
 
-use crate::apart::Apart;
 use chord_base::event::{End, Limits, Trap, What};
 use chord_base::value::{Object, Value};
 use chord_code::code::Code;
@@ -23,10 +21,10 @@ use std::mem;
 pub enum Next {
     /// Its frames run on.
     Runs,
-    /// It gave this ask. It lies apart, as ends do, so that a body is small where it is moved.
-    Gave(Apart<What>),
+    /// It gave this ask.
+    Gave(What),
     /// It gave its end, which is held twice: for the entry and for the caller.
-    Ends(Apart<End>, Apart<End>),
+    Ends(End, End),
     /// It ends by the trap of the body that it called.
     Fails(Trap),
     /// It waits for the end of this call.
@@ -68,27 +66,13 @@ pub(crate) fn come_to_ask(
     match body.next {
         Next::Runs => run_on(alloc, code, body, limits),
         Next::Fails(trap) => {
-            let first = Apart::new(alloc, End::Traps(trap))?;
-            let second = Apart::new(alloc, End::Traps(trap))?;
-            body.next = Next::Ends(first, second);
+            body.next = Next::Ends(End::Traps(trap), End::Traps(trap));
             Ok(())
         }
         Next::Gave(_) => Ok(()),
         Next::Ends(..) => Ok(()),
         Next::Waits(_) => unreachable!(),
     }
-}
-
-/// The body keeps the ask that it gave.
-fn give(alloc: Global, body: &mut Body, what: What) -> Result<(), AllocError>
-    requires runs { body.old.next ≡ Next.Runs }
-    ensures number { body.new.number ≡ body.old.number }
-    ensures frames { body.new.frames ≡ body.old.frames }
-    ensures gave { OnOk result (body.new.next ≡ Next.Gave what) }
-{
-    let what = Apart::new(alloc, what)?;
-    put(&mut body.next, Next::Gave(what));
-    Ok(())
 }
 
 /// The frames of the body run on to its next ask.
@@ -100,21 +84,22 @@ fn run_on(alloc: Global, code: &Code, body: &mut Body, limits: &Limits) -> Resul
 {
     // each arm writes on its own: what arms hand on is merged field by field, which takes longer than the rest of a turn
     match advance(alloc, code, &mut *body.frames, limits)? {
-        Ask::Make(class) => give(alloc, body, What::Made(class)),
+        Ask::Make(class) => put(&mut body.next, Next::Gave(What::Made(class))),
         Ask::Send(object, method, arguments) => {
-            give(alloc, body, What::Sent(object, method, arguments))
+            let what = What::Sent(object, method, arguments);
+            put(&mut body.next, Next::Gave(what));
         }
         Ask::Call(object, method, arguments) => {
-            give(alloc, body, What::Called(object, method, arguments))
+            let what = What::Called(object, method, arguments);
+            put(&mut body.next, Next::Gave(what));
         }
-        Ask::Print(text) => give(alloc, body, What::Printed(text)),
+        Ask::Print(text) => put(&mut body.next, Next::Gave(What::Printed(text))),
         Ask::End(first) => {
-            let second = Apart::new(alloc, first.copied(alloc)?)?;
-            let first = Apart::new(alloc, first)?;
+            let second = first.copied(alloc)?;
             put(&mut body.next, Next::Ends(first, second));
-            Ok(())
         }
     }
+    Ok(())
 }
 
 /// The body gets its answer, so that it runs on.
@@ -164,45 +149,27 @@ pub(crate) fn call_back(caller: &mut Body, end: End)
     }
 }
 
-/// A copy of the ask that says this, as an entry does.
-fn ask_like(alloc: Global, what: &What) -> Result<Ask, AllocError>
-    requires own { IsOwn what.now }
-    ensures { IfOk result (λ ask. what.now ≡ what_of_ask ask) }
-{
-    match what {
-        What::Made(class) => Ok(Ask::Make(*class)),
-        What::Sent(object, method, arguments) => {
-            let arguments = arguments.copied(alloc)?;
-            Ok(Ask::Send(*object, *method, arguments))
-        }
-        What::Called(object, method, arguments) => {
-            let arguments = arguments.copied(alloc)?;
-            Ok(Ask::Call(*object, *method, arguments))
-        }
-        What::Printed(text) => {
-            let text = text.copied(alloc)?;
-            Ok(Ask::Print(text))
-        }
-        What::Ended(end) => {
-            let end = end.copied(alloc)?;
-            Ok(Ask::End(end))
-        }
-        _ => unreachable!(),
-    }
-}
-
 /// A copy of the ask that a body gave.
 pub(crate) fn given(alloc: Global, next: &Next) -> Result<Ask, AllocError>
     requires { IsAskGiven next.now }
     ensures { IfOk result (λ ask. given_of next.now ≡ Some (what_of_ask ask)) }
 {
     match next {
-        Next::Gave(what) => {
-            let ask = ask_like(alloc, &*what.value)?;
-            Ok(ask)
+        Next::Gave(What::Made(class)) => Ok(Ask::Make(*class)),
+        Next::Gave(What::Sent(object, method, arguments)) => {
+            let arguments = arguments.copied(alloc)?;
+            Ok(Ask::Send(*object, *method, arguments))
+        }
+        Next::Gave(What::Called(object, method, arguments)) => {
+            let arguments = arguments.copied(alloc)?;
+            Ok(Ask::Call(*object, *method, arguments))
+        }
+        Next::Gave(What::Printed(text)) => {
+            let text = text.copied(alloc)?;
+            Ok(Ask::Print(text))
         }
         Next::Ends(first, _) => {
-            let end = (*first.value).copied(alloc)?;
+            let end = first.copied(alloc)?;
             Ok(Ask::End(end))
         }
         _ => unreachable!(),

@@ -343,7 +343,6 @@ impl Task {
                 let maker = body.number;
                 match mem::replace(&mut body.next, Next::Runs) {
                     Next::Gave(what) => {
-                        let what = what.into_inner();
                         note_ask(body, number, &what);
                         self.past.push_reserved(Entry {
                             number,
@@ -352,8 +351,6 @@ impl Task {
                         });
                     }
                     Next::Ends(first, second) => {
-                        let first = first.into_inner();
-                        let second = second.into_inner();
                         self.past.push_reserved(Entry {
                             number,
                             body: maker,

@@ -79,7 +79,7 @@ impl Task {
         match &self.top {
             None => None,
             Some(body) => match &body.next {
-                Next::Gave(what) => sent_by(&*what.value),
+                Next::Gave(what) => sent_by(what),
                 Next::Ends(..) => None,
                 Next::Runs => None,
                 Next::Fails(_) => None,
