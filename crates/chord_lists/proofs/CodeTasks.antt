@@ -1,13 +1,10 @@
 -- What the engine over a code uses of one task.
-use Rattle.std.proofs.Common.{◌≡◌, ℕ, true, false, ◌==◌, inl, inr, List, [], ◌∷◌, length, Option, Some, None, refl, sym, ap, ◌∙◌, arith, ◌⊎◌, reverse, ◌++◌, ◌-◌, length-append}
-use Rattle.std.specs.Prelude.{slice_get}
+use Rattle.std.proofs.Common.{◌≡◌, ℕ, true, false, ◌==◌, inl, inr, List, ◌∷◌, Option, Some, None, refl, sym, ap, ◌∙◌, subst, ◌⊎◌}
 use Rattle.std.proofs.lemmas.Bool.{eqb-true, eqb-false}
-use Rattle.std.proofs.lemmas.List.{reverse-append, reverse-reverse}
-use Rattle.chord_lists.proofs.Spots.{end_at, one_some}
-use Rattle.chord_base.specs.declared.event.Entry.{Entry}
 use Rattle.chord_base.specs.declared.event.Limits.{Limits}
 use Rattle.chord_base.specs.declared.event.What.{What}
 use Rattle.chord_base.specs.declared.event.What.TheVariants.{Begun, Made, Sent, Called, Printed, Fired, Ended}
+use Rattle.chord_base.specs.declared.value.Object.{Object}
 use Rattle.chord_base.specs.Meaning.{Program, Asked}
 use Rattle.chord_base.specs.Bodies.{Doing, Absent, Unplaced, Ready, Waits, Over, doing, asked}
 use Rattle.chord_base.specs.Printed.{is_end}
@@ -22,7 +19,10 @@ use Rattle.chord_task.specs.Stacks.{TaskView, IsNext, TopWaitsFor, task_noted}
 use Rattle.chord_task.specs.Standing.{view_of, IsTaskOf, is_ready_of, waits_of, may_go, body_may_go, waits_on, body_waits, IsResumable, HasRoomIf}
 use Rattle.chord_task.proofs.Stacks.{called_waits}
 use Rattle.chord_task.proofs.Asking.{not_ready_nothing, waits_no}
-use Rattle.chord_task.specs.Turning.{Turned}
+use Rattle.chord_task.specs.Turning.{Turned, sent_to}
+use Rattle.chord_lists.specs.declared.engine.Turn.{Turn}
+use Rattle.chord_lists.specs.declared.code_bodies.Tag.{Tag}
+use Rattle.chord_lists.specs.CodeStands.{IsTagged, IsTaggedAs}
 
 -- ---- ready and waiting tasks
 
@@ -82,18 +82,18 @@ asks_ready code limits t b a k e =
 
 -- ---- a task goes on
 
--- the newest entry of a past
-pub newest_at : (es : List Entry) (e : Entry) (h : List Entry) → reverse es ≡ e ∷ h → slice_get es (length es - 1) ≡ Some e
-newest_at es e h i =
-    let parts : es ≡ reverse h ++ e ∷ [] = sym (reverse-reverse es) ∙ ap reverse i ∙ reverse-append (e ∷ []) h in
-    let long : length es - 1 ≡ length (reverse h) = (let l = ap length parts in let k = length-append (reverse h) (e ∷ []) in omega (arith, l, k)) in
-    ap (λ l. slice_get l (length es - 1)) parts ∙ ap (slice_get (reverse h ++ e ∷ [])) long ∙ end_at (reverse h) e
-
--- the last item of a past is its newest entry
-pub newest_is : (t task : Task) (e x : Entry) (h xs : List Entry) → task ≡ t → (view_of t).past ≡ e ∷ h → xs ≡ task.past.items → Some x ≡ slice_get xs (length xs - 1) → x ≡ e
-newest_is t task e x h xs same past is last =
-    let items : xs ≡ t.past.items = is ∙ ap (λ (z : Task). z.past.items) same in
-    one_some x e (slice_get xs (length xs - 1)) (sym last) (ap (λ (l : List Entry). slice_get l (length l - 1)) items ∙ newest_at t.past.items e h past)
+-- an entry that got the tag of what it is to got its tag
+pub tagged_as : (at place : ℕ) (sent : Option (Object × ℕ)) (w : What) (before after : List Tag) (turn : Turn) → sent ≡ sent_to w → IsTaggedAs at place sent before after turn → IsTagged at place w before after turn
+tagged_as at place sent w before after turn e x = by_what w (subst (λ s. IsTaggedAs at place s before after turn) e x)
+  where
+    by_what : (v : What) → IsTaggedAs at place (sent_to v) before after turn → IsTagged at place v before after turn
+    by_what Begun x = record { tags = x.tags; is = x.is }
+    by_what (Made c) x = record { tags = x.tags; is = x.is }
+    by_what (Sent o j vs) x = record { tags = x.tags; is = x.is }
+    by_what (Called o j vs) x = record { tags = x.tags; is = x.is }
+    by_what (Printed t) x = record { tags = x.tags; is = x.is }
+    by_what (Fired k o ms vs) x = record { tags = x.tags; is = x.is }
+    by_what (Ended y) x = record { tags = x.tags; is = x.is }
 
 -- after a call the body on top waits for it
 waits_called : (p : Program) (u t : TaskView) (n : ℕ) (w : What) → IsNext p u w → task_noted u n w t → (is_end w ≡ false → t.top ≡ u.top) → is_end w ≡ false → (o : _) (j : ℕ) (vs : _) → w ≡ Called o j vs → TopWaitsFor p t n

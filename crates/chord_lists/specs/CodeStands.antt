@@ -112,10 +112,6 @@ pub record StandsAfter (code : Parts) (limits : Limits) (bodies : CodeBodies) (h
 
 -- ## A task goes on
 
--- the task of this place has an entry
-abbrev pub IsNewest : List Task → ℕ → Type 0
-IsNewest tasks at = (t : Task) × (e : Entry) × (h : List Entry) × (slice_get tasks at ≡ Some t) × ((view_of t).past ≡ e ∷ h)
-
 -- what is kept of an entry of a task, which stands at this place of its past
 abbrev pub tag_of : ℕ → ℕ → What → Tag
 tag_of at place w = record { task = at; held = option_map (λ _. place) (message_of w) }
@@ -128,6 +124,16 @@ turn_by (Some m) = a_turn.Message m.object m.method
 -- what an entry is to the engine
 abbrev pub turn_of : What → Turn
 turn_of w = turn_by (message_of w)
+
+-- what an entry is to the engine that is a message to this, or none
+abbrev pub turn_to : Option (Object × ℕ) → Turn
+turn_to None = a_turn.Plain
+turn_to (Some to) = a_turn.Message to.0 to.1
+
+-- an entry that is a message to this, or none, got its tag, and the engine is told what it is
+pub record IsTaggedAs (at place : ℕ) (sent : Option (Object × ℕ)) (before after : List Tag) (turn : Turn) : Type 0 where
+  pub tags : after ≡ before ++ record { task = at; held = option_map (λ _. place) sent } ∷ []
+  pub is : turn ≡ turn_to sent
 
 -- an entry of this task, at this place of its past, got its tag, and the engine is told what it is
 pub record IsTagged (at place : ℕ) (w : What) (before after : List Tag) (turn : Turn) : Type 0 where

@@ -34,6 +34,7 @@ fn lengthen<T: Drop>(alloc: Global, lists: &mut Vec<Vec<T>>, count: usize) -> Re
 }
 
 /// Puts a number on the stack of a method.
+#[inline(always)]
 fn push_on(
     alloc: Global,
     stacks: &mut Vec<Vec<u32>>,

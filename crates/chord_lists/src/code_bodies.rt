@@ -7,11 +7,8 @@ ghost use Rattle.chord_base.specs.declared.event.Entry.{Entry};
 ghost use Rattle.chord_base.specs.Bodies.{served_among};
 ghost use Rattle.chord_base.specs.Messages.{AreDifferent, Message};
 ghost use Rattle.chord_code.specs.Meaning.{code_program, method_is_sync};
-ghost use Rattle.chord_task.specs.declared.task.Task.{Task as T};
-ghost use Rattle.chord_task.specs.Standing.{view_of, IsTaskOf, is_ready_of};
-ghost use Rattle.chord_task.specs.Turning.{MayTurn, HasTurned};
 ghost use Rattle.chord_lists.specs.Engine.{main_begun, IsRunOfLength, MayGoOn, Went, MayBegin, Began, Ends};
-ghost use Rattle.chord_lists.specs.CodeStands.{StandsAfter, AreReady, ready_at, over_at, IsNewest, IsTagged, WentAt, AreLeft, IsLeft, HasNewest, IsNewestTaken, views, held_at, entry_message, arguments_held, IsHeldAt, AllHeld, held_values, Emptied, EmptiedAll, HasAdded, home, Serves, FitsAt, MayReplay, Replayed};
+ghost use Rattle.chord_lists.specs.CodeStands.{StandsAfter, AreReady, ready_at, over_at, IsTaggedAs, WentAt, AreLeft, IsLeft, HasNewest, IsNewestTaken, views, held_at, entry_message, arguments_held, IsHeldAt, AllHeld, held_values, Emptied, EmptiedAll, HasAdded, home, Serves, FitsAt, MayReplay, Replayed};
 
 use crate::engine::Turn;
 use chord_base::event::{Entry, Limits, What};
@@ -42,22 +39,6 @@ pub struct CodeBodies {
     pub over: Vec<u32>,
 }
 
-/// The next ask of the task becomes the entry of this number.
-fn take_turn(
-    alloc: Global,
-    code: &Code,
-    limits: &Limits,
-    task: &mut Task,
-    number: u32,
-) -> Result<(), AllocError>
-    requires task { IsTaskOf code.now limits.now task.old }
-    requires ready { is_ready_of task.old ≡ true }
-    requires may { MayTurn (code_program code.now limits.now) (view_of task.old) number }
-    ensures { IfOk result (λ _. HasTurned code.now limits.now task.old task.new number) }
-{
-    task.turn(alloc, code, limits, number)
-}
-
 /// Marks a message of this task, at this place of its past.
 fn tag_message(
     tags: &mut Vec<Tag>,
@@ -75,38 +56,24 @@ fn tag_message(
     Ok(Turn::Message(object, method))
 }
 
-/// Marks an entry of this task, at this place of its past.
-fn tag_entry(tags: &mut Vec<Tag>, at: u32, place: usize, what: &What) -> Result<Turn, AllocError>
-    ensures { IfOk result (λ turn. IsTagged at place what.now tags.old.items tags.new.items turn) }
+/// Marks an entry of this task, at this place of its past. If it is a message, this is what it is to.
+fn tag_entry(
+    tags: &mut Vec<Tag>,
+    at: u32,
+    place: usize,
+    sent: Option<(Object, u8)>,
+) -> Result<Turn, AllocError>
+    ensures { IfOk result (λ turn. IsTaggedAs at place sent tags.old.items tags.new.items turn) }
 {
-    match what {
-        What::Sent(object, method, _) => tag_message(tags, at, place, *object, *method),
-        What::Called(object, method, _) => tag_message(tags, at, place, *object, *method),
-        _ => {
+    match sent {
+        Some((object, method)) => tag_message(tags, at, place, object, method),
+        None => {
             tags.push(Tag {
                 task: at,
                 held: None,
             })?;
             Ok(Turn::Plain)
         }
-    }
-}
-
-/// Marks the newest entry of the task of this place.
-fn tag_newest(tasks: &[Task], tags: &mut Vec<Tag>, at: u32) -> Result<Turn, AllocError>
-    requires { IsNewest tasks.now at }
-    ensures { IfOk result (λ turn. (t : T) (e : Entry) (h : List Entry) → slice_get tasks.now at ≡ Some t → (view_of t).past ≡ e ∷ h → IsTagged at (length h) e.what tags.old.items tags.new.items turn) }
-{
-    match tasks.get(at as usize) {
-        None => unreachable!(),
-        Some(task) => match task.past.last() {
-            None => unreachable!(),
-            Some(entry) => {
-                let place = task.past.len().saturating_sub(1);
-                let turn = tag_entry(tags, at, place, &entry.what)?;
-                Ok(turn)
-            }
-        },
     }
 }
 
@@ -183,8 +150,10 @@ fn make(
     ensures { IfOk result (λ turn. (h : List Entry) → IsRunOfLength (code_program code.now limits.now) number h → StandsAfter code.now limits.now bodies.old h → WentAt (code_program code.now limits.now) bodies.old.tasks.items at (StandsAfter code.now limits.now bodies.new) h turn) }
 {
     let _parts = code.parts();
-    take_turn(alloc, code, limits, &mut bodies.tasks[at as usize], number)?;
-    let turn = tag_newest(&bodies.tasks, &mut bodies.tags, at)?;
+    let task = &mut bodies.tasks[at as usize];
+    let place = task.past.len();
+    let sent = task.turn(alloc, code, limits, number)?;
+    let turn = tag_entry(&mut bodies.tags, at, place, sent)?;
     keep_over(&bodies.tasks, &mut bodies.over, at)?;
     Ok(turn)
 }
@@ -380,6 +349,7 @@ fn add_copies(alloc: Global, values: &mut Vec<Value>, more: &[Value]) -> Result<
 }
 
 /// Adds the arguments of the message at this place of a past.
+#[inline(always)]
 fn add_arguments(
     alloc: Global,
     values: &mut Vec<Value>,
@@ -397,6 +367,7 @@ fn add_arguments(
 }
 
 /// Takes the message of this number, and adds its arguments to the values.
+#[inline(always)]
 fn take_arguments(
     alloc: Global,
     tasks: &[Task],
@@ -413,6 +384,7 @@ fn take_arguments(
 }
 
 /// Takes these messages, and gives their arguments, one after another.
+#[inline(always)]
 fn take_all_held(
     alloc: Global,
     tasks: &[Task],
@@ -433,6 +405,7 @@ fn take_all_held(
 }
 
 /// Begins the body of a firing in the task of this place: above the caller that it serves, or where no body is left.
+#[inline(always)]
 fn begin_at(
     alloc: Global,
     code: &Code,
@@ -471,6 +444,7 @@ fn place_after(tasks: &[Task]) -> u32
 }
 
 /// Begins the body of a firing that serves no caller in a task of its own.
+#[inline(never)]
 fn begin_alone(
     alloc: Global,
     code: &Code,

@@ -1,7 +1,9 @@
 -- A turn of a task: its next ask becomes an entry.
-use Rattle.std.specs.Prelude.{◌≡◌, ℕ, Option, Some, false}
+use Rattle.std.specs.Prelude.{◌≡◌, ℕ, Option, Some, None, false}
 use Rattle.chord_base.specs.declared.event.Limits.{Limits}
 use Rattle.chord_base.specs.declared.event.What.{What}
+use Rattle.chord_base.specs.declared.event.What.TheVariants.{Begun, Made, Sent, Called, Printed, Fired, Ended}
+use Rattle.chord_base.specs.declared.value.Object.{Object}
 use Rattle.chord_base.specs.Meaning.{Program}
 use Rattle.chord_base.specs.Printed.{is_end}
 use Rattle.chord_base.specs.Story.{AllBelow}
@@ -25,9 +27,24 @@ pub record Turned (code : Parts) (limits : Limits) (before after : Task) (n : �
   pub noted : task_noted (view_of before) n w (view_of after)
   pub top : is_end w ≡ false → (view_of after).top ≡ (view_of before).top
 
--- its next ask became the entry of this number
-abbrev pub HasTurned : Parts → Limits → Task → Task → ℕ → Type 0
-HasTurned code limits before after n = (w : What) × Turned code limits before after n w
+-- what the message of an entry is to, if the entry is one: a method of an object
+abbrev pub sent_to : What → Option (Object × ℕ)
+sent_to Begun = None
+sent_to (Made c) = None
+sent_to (Sent o j vs) = Some (o, j)
+sent_to (Called o j vs) = Some (o, j)
+sent_to (Printed t) = None
+sent_to (Fired k o ms vs) = None
+sent_to (Ended e) = None
+
+-- what the message is to that an ask says, if there is an ask and it is one
+abbrev pub sent_of : Option What → Option (Object × ℕ)
+sent_of None = None
+sent_of (Some w) = sent_to w
+
+-- its next ask became the entry of this number, and this is what its message is to
+abbrev pub HasTurned : Parts → Limits → Task → Task → ℕ → Option (Object × ℕ) → Type 0
+HasTurned code limits before after n sent = (w : What) × Turned code limits before after n w × (sent ≡ sent_to w)
 
 -- the frames of a body run
 abbrev pub RunsOn : Option Body → Type 0

@@ -134,6 +134,7 @@ pub(crate) fn note_ask(body: &mut Body, number: u32, what: &What)
 }
 
 /// The body that it called has ended.
+#[inline(always)]
 pub(crate) fn call_back(caller: &mut Body, end: End)
     requires ready { IsReady Awaited.ForValue caller.old.frames.value }
     requires awaited { caller.old.frames.value.awaited ≡ Awaited.ForValue }

@@ -414,6 +414,7 @@ impl Task {
 
     /// Puts the body of a firing on top, with copies of these values in its slots. Takes memory for texts alone. Where none is found, the task can only
     /// be dropped.
+    #[inline(always)]
     pub fn resume_with(
         &mut self,
         alloc: Global,

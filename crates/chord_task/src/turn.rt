@@ -4,8 +4,8 @@
 ghost use Rattle.std.specs.Prelude.{◌≡◌, ◌<◌, ◌+◌, ◌++◌, ◌∷◌, [], IfOk, true, vec_len, vec_capacity};
 ghost use Rattle.chord_code.specs.Meaning.{code_program};
 ghost use Rattle.chord_vm.specs.Frames.{what_of_ask};
-ghost use Rattle.chord_task.specs.Standing.{view_of, IsTaskOf, is_ready_of};
-ghost use Rattle.chord_task.specs.Turning.{MayTurn, HasTurned, IsAskedFor, RunsOn, HasSettled, MaySettle};
+ghost use Rattle.chord_task.specs.Standing.{view_of, IsTaskOf, is_ready_of, given_by};
+ghost use Rattle.chord_task.specs.Turning.{sent_to, sent_of, MayTurn, HasTurned, IsAskedFor, RunsOn, HasSettled, MaySettle};
 
 use crate::body::{Next, call_back, put};
 use crate::task::{Task, pop_caller};
@@ -27,20 +27,31 @@ fn append(past: &mut Vec<Entry>, number: u32, body: u32, what: What)
     past.push_reserved(Entry { number, body, what });
 }
 
+/// What the message is to that this says, if it says one.
+fn sent_by(what: &What) -> Option<(Object, u8)>
+    ensures { result ≡ sent_to what.now }
+{
+    match what {
+        What::Sent(object, method, _) => Some((*object, *method)),
+        What::Called(object, method, _) => Some((*object, *method)),
+        _ => None,
+    }
+}
+
 impl Task {
     /// The next ask of the body on top becomes the entry of this number. As `prepare`, `reserve` and `note`, but the ask is
-    /// moved once. Where no memory is found, the task can only be dropped.
+    /// moved once. Gives what a message is to, where the entry is one. Where no memory is found, the task can only be dropped.
     pub fn turn(
         &mut self,
         alloc: Global,
         code: &Code,
         limits: &Limits,
         number: u32,
-    ) -> Result<(), AllocError>
+    ) -> Result<Option<(Object, u8)>, AllocError>
         requires task { IsTaskOf code.now limits.now self.old }
         requires left { is_ready_of self.old ≡ true }
         requires may { MayTurn (code_program code.now limits.now) (view_of self.old) number }
-        ensures { IfOk result (λ _. HasTurned code.now limits.now self.old self.new number) }
+        ensures { IfOk result (λ sent. HasTurned code.now limits.now self.old self.new number sent) }
     {
         if self.runs() {
             return self.run_turn(alloc, code, limits, number);
@@ -61,6 +72,22 @@ impl Task {
         }
     }
 
+    /// What the message is to that the body on top gave, if it gave one.
+    fn kept_message(&self) -> Option<(Object, u8)>
+        ensures { result ≡ sent_of (given_by self.now.top) }
+    {
+        match &self.top {
+            None => None,
+            Some(body) => match &body.next {
+                Next::Gave(what) => sent_by(what),
+                Next::Ends(..) => None,
+                Next::Runs => None,
+                Next::Fails(_) => None,
+                Next::Waits(_) => None,
+            },
+        }
+    }
+
     /// A turn of a body that keeps its ask, or ends by a trap of the body that it called.
     #[inline(never)]
     fn kept_turn(
@@ -69,16 +96,17 @@ impl Task {
         code: &Code,
         limits: &Limits,
         number: u32,
-    ) -> Result<(), AllocError>
+    ) -> Result<Option<(Object, u8)>, AllocError>
         requires task { IsTaskOf code.now limits.now self.old }
         requires left { is_ready_of self.old ≡ true }
         requires may { MayTurn (code_program code.now limits.now) (view_of self.old) number }
-        ensures { IfOk result (λ _. HasTurned code.now limits.now self.old self.new number) }
+        ensures { IfOk result (λ sent. HasTurned code.now limits.now self.old self.new number sent) }
     {
         self.prepare(alloc, code, limits)?;
         self.reserve(alloc, code)?;
+        let sent = self.kept_message();
         self.note(number);
-        Ok(())
+        Ok(sent)
     }
 
     /// A turn of a body whose frames run.
@@ -88,11 +116,11 @@ impl Task {
         code: &Code,
         limits: &Limits,
         number: u32,
-    ) -> Result<(), AllocError>
+    ) -> Result<Option<(Object, u8)>, AllocError>
         requires task { IsTaskOf code.now limits.now self.old }
         requires runs { RunsOn self.old.top }
         requires may { MayTurn (code_program code.now limits.now) (view_of self.old) number }
-        ensures { IfOk result (λ _. HasTurned code.now limits.now self.old self.new number) }
+        ensures { IfOk result (λ sent. HasTurned code.now limits.now self.old self.new number sent) }
     {
         match &mut self.top {
             None => unreachable!(),
@@ -110,10 +138,10 @@ impl Task {
         code: &Code,
         number: u32,
         ask: Ask,
-    ) -> Result<(), AllocError>
+    ) -> Result<Option<(Object, u8)>, AllocError>
         requires asked { IsAskedFor code.now self.old (what_of_ask ask) }
         requires may { MaySettle code.now self.old number (what_of_ask ask) }
-        ensures { IfOk result (λ _. HasSettled code.now self.old number (what_of_ask ask) self.new) }
+        ensures { IfOk result (λ sent. HasSettled code.now self.old number (what_of_ask ask) self.new × (sent ≡ sent_to (what_of_ask ask))) }
     {
         self.take_room(alloc, code)?;
         match &mut self.top {
@@ -125,16 +153,22 @@ impl Task {
                     Ask::Make(class) => {
                         answer(&mut *body.frames, Value::Ref(Object { number, class }));
                         append(past, number, maker, What::Made(class));
+                        Ok(None)
                     }
                     // what was sent or printed is not answered: the body runs on
                     Ask::Send(object, method, arguments) => {
                         append(past, number, maker, What::Sent(object, method, arguments));
+                        Ok(Some((object, method)))
                     }
                     Ask::Call(object, method, arguments) => {
                         put(&mut body.next, Next::Waits(number));
                         append(past, number, maker, What::Called(object, method, arguments));
+                        Ok(Some((object, method)))
                     }
-                    Ask::Print(text) => append(past, number, maker, What::Printed(text)),
+                    Ask::Print(text) => {
+                        append(past, number, maker, What::Printed(text));
+                        Ok(None)
+                    }
                     Ask::End(first) => {
                         let second = first.copied(alloc)?;
                         append(past, number, maker, What::Ended(first));
@@ -143,9 +177,9 @@ impl Task {
                             None => {}
                             Some(caller) => call_back(caller, second),
                         }
+                        Ok(None)
                     }
                 }
-                Ok(())
             }
         }
     }

@@ -4,7 +4,7 @@
 ghost use Rattle.std.specs.Prelude.{◌≡◌, ◌≢◌, ℕ, ◌+◌, ◌-◌, ◌<◌, ◌≤◌, true, false, List, [], ◌∷◌, ◌++◌, IfOk, OnOk, Some, None, length, slice_get, vec_len, vec_capacity, reverse, replicate};
 ghost use Rattle.chord_code.specs.Slots.{first_slots};
 ghost use Rattle.chord_code.specs.Machine.{body_in_block, with_answer, with_object, pops};
-ghost use Rattle.chord_vm.specs.Frames.{machine_of, IsSpacious, IsReady, IsMoved, IsRoomFor, laid};
+ghost use Rattle.chord_vm.specs.Frames.{machine_of, IsSpacious, IsReady, HasRoom, IsMoved, IsRoomFor, laid};
 
 use chord_base::event::Limits;
 use chord_base::hand::Hand;
@@ -184,6 +184,7 @@ fn fill_from(slots: &mut Vec<Value>, n: usize, this: Value, arguments: Hand<Valu
 }
 
 /// Adds a copy of each value.
+#[inline(always)]
 pub fn lay_copies(alloc: Global, slots: &mut Vec<Value>, values: &[Value]) -> Result<(), AllocError>
     requires { vec_len slots.old + length values.now ≤ vec_capacity slots.old }
     ensures items { OnOk result (slots.new.items ≡ slots.old.items ++ values.now) }
@@ -196,6 +197,7 @@ pub fn lay_copies(alloc: Global, slots: &mut Vec<Value>, values: &[Value]) -> Re
 }
 
 /// Fills the slots of a block with `this` and copies of the values, and the rest with the unit value.
+#[inline(always)]
 fn fill_with(
     alloc: Global,
     slots: &mut Vec<Value>,
@@ -216,6 +218,7 @@ fn fill_with(
 }
 
 /// A block whose slots are filled comes to work, at its first instruction.
+#[inline(always)]
 fn open(frames: &mut Frames, block: usize, depth: u32)
     ensures { machine_of frames.new ≡ record { top = record { block = block; place = 0; room = frames.old.limits.depth - depth; stack = []; slots = frames.old.top.slots.items }; below = []; turns = frames.old.limits.turns } }
 {
@@ -248,6 +251,7 @@ pub fn begin(
 }
 
 /// Begins a body in a block with copies of these arguments. Takes memory for texts alone. Where none is found, the frames are of no body.
+#[inline(always)]
 pub fn begin_with(
     alloc: Global,
     code: &Code,
@@ -269,25 +273,38 @@ pub fn begin_with(
 }
 
 /// Takes the room that the next answer needs. Where there is none the body is as it was.
+#[inline(always)]
 pub fn reserve(alloc: Global, frames: &mut Frames) -> Result<(), AllocError>
     ensures same { (machine_of frames.new ≡ machine_of frames.old) × (frames.new.awaited ≡ frames.old.awaited) }
     ensures ready { OnOk result (IsReady frames.new.awaited frames.new) }
 {
     frames.top.stack.reserve(1)?;
-    if let Awaited::ForObject(Some((_, slots)), _) = frames.awaited {
-        frames.below.reserve(1)?;
-        frames.spare = Some(Frame {
-            block: 0,
-            place: 0,
-            room: 0,
-            stack: Vec::new(alloc),
-            slots: Vec::with_capacity(alloc, slots as usize)?,
-        });
+    match frames.awaited {
+        Awaited::ForObject(Some((_, slots)), _) => reserve_builder(alloc, frames, slots),
+        _ => Ok(()),
     }
+}
+
+/// Takes the room for a builder with so many slots.
+#[inline(never)]
+fn reserve_builder(alloc: Global, frames: &mut Frames, slots: u32) -> Result<(), AllocError>
+    requires stack { vec_len frames.old.top.stack < vec_capacity frames.old.top.stack }
+    ensures same { (machine_of frames.new ≡ machine_of frames.old) × (frames.new.awaited ≡ frames.old.awaited) }
+    ensures ready { OnOk result ((vec_len frames.new.top.stack < vec_capacity frames.new.top.stack) × (vec_len frames.new.below < vec_capacity frames.new.below) × HasRoom frames.new.spare slots) }
+{
+    frames.below.reserve(1)?;
+    frames.spare = Some(Frame {
+        block: 0,
+        place: 0,
+        room: 0,
+        stack: Vec::new(alloc),
+        slots: Vec::with_capacity(alloc, slots as usize)?,
+    });
     Ok(())
 }
 
 /// Goes on with an answer. Takes no memory.
+#[inline(always)]
 pub fn answer(frames: &mut Frames, value: Value)
     requires ready { IsReady frames.old.awaited frames.old }
     requires fits { with_answer (machine_of frames.old) frames.old.awaited value ≢ None }
@@ -316,6 +333,7 @@ fn place(frames: &mut Frames, n: u32, object: Object)
 }
 
 /// The new object's builder begins with its arguments.
+#[inline(never)]
 fn build(frames: &mut Frames, block: u32, slots: u32, n: u32, object: Object)
     requires ready { IsReady (Awaited.ForObject (Some (block, slots)) n) frames.old }
     requires fits { with_object (machine_of frames.old) (Some (block, slots)) object (pops n [] (machine_of frames.old).top.stack) ≢ None }

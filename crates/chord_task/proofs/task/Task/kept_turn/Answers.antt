@@ -1,4 +1,5 @@
-use Rattle.std.proofs.Common.{◌∙◌}
+use Rattle.std.proofs.Common.{ap, ◌∙◌}
+use Rattle.chord_task.specs.Turning.{sent_of}
 use Rattle.chord_task.proofs.Turning.{may_note, turned, some_given}
 use Rattle.chord_task.proofs.task.Task.kept_turn.Goals as goal
 
@@ -22,4 +23,4 @@ returns c =
     let g = c.reserve.ensures.gave ∙ w.1 in
     let room = c.in_ok-reserve.ensures.ready in
     let m = may_note code limits c.args.self.now c.reserve.new.self c.args.number w.0 c.requires.may k v g room in
-    (w.0, turned code limits c.args.self.now c.reserve.new.self c.note.new.self c.args.number w.0 c.requires.may k v g room (c.note.ensures code limits k m.0))
+    (w.0, turned code limits c.args.self.now c.reserve.new.self c.note.new.self c.args.number w.0 c.requires.may k v g room (c.note.ensures code limits k m.0), c.kept_message-sent.ensures ∙ ap sent_of g)

@@ -1,10 +1,10 @@
-use Rattle.std.proofs.Common.{sym, subst}
+use Rattle.std.proofs.Common.{◌≡◌, sym, subst}
 use Rattle.std.specs.Box.{with_value}
 use Rattle.std.proofs.lemmas.Result.{IfOk-weaker}
 use Rattle.chord_code.specs.Machine.{ComesToAsk}
 use Rattle.chord_vm.specs.Frames.{machine_of, what_of_ask, Advanced}
 use Rattle.chord_vm.specs.declared.frames.Frames.{Frames}
-use Rattle.chord_task.specs.Turning.{HasTurned, HasSettled}
+use Rattle.chord_task.specs.Turning.{sent_to, HasTurned, HasSettled}
 use Rattle.chord_task.proofs.Turning.{with_body, with_frames, runs_to_ask, is_asked_for, may_settle, settled_turned}
 use Rattle.chord_task.proofs.task.Task.run_turn.Goals as goal
 
@@ -34,5 +34,5 @@ returns c =
     let a = c.in_ok-ask-in-Some.ask in
     let f = with_value c.in-Some.body.frames c.advance.new.frames in
     let adv = subst (λ (f : Frames). Advanced c.args.code.now (machine_of f) a c.advance.new.frames) c.deref_mut.ensures.value c.in_ok-ask-in-Some.ensures in
-    IfOk-weaker c.settle.result (λ _. HasSettled c.args.code.now (with_body t (with_frames c.in-Some.body f)) c.args.number (what_of_ask a) c.settle.new.self) (λ _. HasTurned c.args.code.now c.args.limits.now t c.settle.new.self c.args.number)
-    (λ _ s. (what_of_ask a, settled_turned c.args.code.now c.args.limits.now t c.in-Some.body f a c.args.number c.settle.new.self c.requires.task c.requires.runs c.in-Some.is adv s)) c.settle.ensures
+    IfOk-weaker c.settle.result (λ sent. HasSettled c.args.code.now (with_body t (with_frames c.in-Some.body f)) c.args.number (what_of_ask a) c.settle.new.self × (sent ≡ sent_to (what_of_ask a))) (λ sent. HasTurned c.args.code.now c.args.limits.now t c.settle.new.self c.args.number sent)
+    (λ _ s. (what_of_ask a, settled_turned c.args.code.now c.args.limits.now t c.in-Some.body f a c.args.number c.settle.new.self c.requires.task c.requires.runs c.in-Some.is adv s.0, s.1)) c.settle.ensures

@@ -8,6 +8,7 @@ use Rattle.chord_vm.specs.declared.frames.Frames.{Frames}
 use Rattle.chord_task.specs.declared.body.Body.{Body}
 use Rattle.chord_task.specs.declared.body.Next.TheVariants as nexts
 use Rattle.chord_task.specs.Standing.{GivenBy, CalledBack}
+use Rattle.chord_task.specs.Turning.{sent_to}
 use Rattle.chord_task.proofs.Tasks.{no_length}
 use Rattle.chord_task.proofs.Turning.{roomy, roomy_fits, roomy_asked, settled_gave, settled_back, settled_last}
 use Rattle.chord_task.proofs.task.Task.settle.Goals as goal
@@ -22,41 +23,49 @@ answer-requires-clause-fits c =
 pub returns-in-Make : goal.returns-in-Make
 returns-in-Make c =
     let x = roomy c.args.code.now c.args.self.now c.take_room.new.self c.args.number (what_of_ask c.args.ask) c.in-Some.body c.requires.asked c.requires.may c.take_room.ensures.past c.take_room.ensures.below c.take_room.ensures.top c.take_room.ensures.spare c.take_room.ensures.values c.take_room.ensures.limits c.in_ok-take_room.ensures.ready c.in-Some.is in
-    let g : x.asked ≡ nexts.Gave (Made c.in-Make.class) = subst (λ a. GivenBy (what_of_ask a) x.asked) c.in-Make.is x.given in
-    settled_gave c.args.code.now c.args.self.now c.take_room.new.self c.args.number (what_of_ask c.args.ask) c.in-Some.body x (Made c.in-Make.class) g c.append.new.past _ refl
-    (x.runs, subst (λ (f : Frames). with_answer (machine_of f) f.awaited (a_value.Ref (record { number = c.args.number; class = c.in-Make.class })) ≡ Some (machine_of c.answer.new.frames)) c.deref_mut.ensures.value c.answer.ensures)
-    c.append.ensures.items c.append.ensures.len c.append.ensures.capacity
+    let g : x.asked ≡ nexts.Gave (Made c.in-Make.class) = subst (λ a. GivenBy (what_of_ask a) x.asked) c.in-Make.is x.given in (
+      settled_gave c.args.code.now c.args.self.now c.take_room.new.self c.args.number (what_of_ask c.args.ask) c.in-Some.body x (Made c.in-Make.class) g c.append.new.past _ refl
+          (x.runs, subst (λ (f : Frames). with_answer (machine_of f) f.awaited (a_value.Ref (record { number = c.args.number; class = c.in-Make.class })) ≡ Some (machine_of c.answer.new.frames)) c.deref_mut.ensures.value c.answer.ensures)
+          c.append.ensures.items c.append.ensures.len c.append.ensures.capacity,
+      sym (ap (λ a. sent_to (what_of_ask a)) c.in-Make.is),
+    )
 
 pub returns-in-Send : goal.returns-in-Send
 returns-in-Send c =
     let x = roomy c.args.code.now c.args.self.now c.take_room.new.self c.args.number (what_of_ask c.args.ask) c.in-Some.body c.requires.asked c.requires.may c.take_room.ensures.past c.take_room.ensures.below c.take_room.ensures.top c.take_room.ensures.spare c.take_room.ensures.values c.take_room.ensures.limits c.in_ok-take_room.ensures.ready c.in-Some.is in
-    let g : x.asked ≡ nexts.Gave (Sent c.in-Send.object c.in-Send.method c.in-Send.arguments) = subst (λ a. GivenBy (what_of_ask a) x.asked) c.in-Send.is x.given in
-    settled_gave c.args.code.now c.args.self.now c.take_room.new.self c.args.number (what_of_ask c.args.ask) c.in-Some.body x (Sent c.in-Send.object c.in-Send.method c.in-Send.arguments) g c.append-in-Send.new.past _ refl
-    (x.runs, ap (λ p. with_answer (machine_of c.in-Some.body.frames.value) p a_value.Unit) (roomy_asked c.args.code.now c.args.self.now c.take_room.new.self c.args.number (what_of_ask c.args.ask) c.in-Some.body x (Sent c.in-Send.object c.in-Send.method c.in-Send.arguments) g))
-    c.append-in-Send.ensures.items c.append-in-Send.ensures.len c.append-in-Send.ensures.capacity
+    let g : x.asked ≡ nexts.Gave (Sent c.in-Send.object c.in-Send.method c.in-Send.arguments) = subst (λ a. GivenBy (what_of_ask a) x.asked) c.in-Send.is x.given in (
+      settled_gave c.args.code.now c.args.self.now c.take_room.new.self c.args.number (what_of_ask c.args.ask) c.in-Some.body x (Sent c.in-Send.object c.in-Send.method c.in-Send.arguments) g c.append-in-Send.new.past _ refl
+          (x.runs, ap (λ p. with_answer (machine_of c.in-Some.body.frames.value) p a_value.Unit) (roomy_asked c.args.code.now c.args.self.now c.take_room.new.self c.args.number (what_of_ask c.args.ask) c.in-Some.body x (Sent c.in-Send.object c.in-Send.method c.in-Send.arguments) g))
+          c.append-in-Send.ensures.items c.append-in-Send.ensures.len c.append-in-Send.ensures.capacity,
+      sym (ap (λ a. sent_to (what_of_ask a)) c.in-Send.is),
+    )
 
 pub returns-in-Print : goal.returns-in-Print
 returns-in-Print c =
     let x = roomy c.args.code.now c.args.self.now c.take_room.new.self c.args.number (what_of_ask c.args.ask) c.in-Some.body c.requires.asked c.requires.may c.take_room.ensures.past c.take_room.ensures.below c.take_room.ensures.top c.take_room.ensures.spare c.take_room.ensures.values c.take_room.ensures.limits c.in_ok-take_room.ensures.ready c.in-Some.is in
-    let g : x.asked ≡ nexts.Gave (Printed c.in-Print.text) = subst (λ a. GivenBy (what_of_ask a) x.asked) c.in-Print.is x.given in
-    settled_gave c.args.code.now c.args.self.now c.take_room.new.self c.args.number (what_of_ask c.args.ask) c.in-Some.body x (Printed c.in-Print.text) g c.append-in-Print.new.past _ refl
-    (x.runs, ap (λ p. with_answer (machine_of c.in-Some.body.frames.value) p a_value.Unit) (roomy_asked c.args.code.now c.args.self.now c.take_room.new.self c.args.number (what_of_ask c.args.ask) c.in-Some.body x (Printed c.in-Print.text) g))
-    c.append-in-Print.ensures.items c.append-in-Print.ensures.len c.append-in-Print.ensures.capacity
+    let g : x.asked ≡ nexts.Gave (Printed c.in-Print.text) = subst (λ a. GivenBy (what_of_ask a) x.asked) c.in-Print.is x.given in (
+      settled_gave c.args.code.now c.args.self.now c.take_room.new.self c.args.number (what_of_ask c.args.ask) c.in-Some.body x (Printed c.in-Print.text) g c.append-in-Print.new.past _ refl
+          (x.runs, ap (λ p. with_answer (machine_of c.in-Some.body.frames.value) p a_value.Unit) (roomy_asked c.args.code.now c.args.self.now c.take_room.new.self c.args.number (what_of_ask c.args.ask) c.in-Some.body x (Printed c.in-Print.text) g))
+          c.append-in-Print.ensures.items c.append-in-Print.ensures.len c.append-in-Print.ensures.capacity,
+      sym (ap (λ a. sent_to (what_of_ask a)) c.in-Print.is),
+    )
 
 pub returns-in-Call : goal.returns-in-Call
 returns-in-Call c =
     let x = roomy c.args.code.now c.args.self.now c.take_room.new.self c.args.number (what_of_ask c.args.ask) c.in-Some.body c.requires.asked c.requires.may c.take_room.ensures.past c.take_room.ensures.below c.take_room.ensures.top c.take_room.ensures.spare c.take_room.ensures.values c.take_room.ensures.limits c.in_ok-take_room.ensures.ready c.in-Some.is in
     let g : x.asked ≡ nexts.Gave (Called c.in-Call.object c.in-Call.method c.in-Call.arguments) = subst (λ a. GivenBy (what_of_ask a) x.asked) c.in-Call.is x.given in
-    settled_gave c.args.code.now c.args.self.now c.take_room.new.self c.args.number (what_of_ask c.args.ask) c.in-Some.body x (Called c.in-Call.object c.in-Call.method c.in-Call.arguments) g c.append-in-Call.new.past _ refl (c.put.ensures.put, refl) c.append-in-Call.ensures.items c.append-in-Call.ensures.len c.append-in-Call.ensures.capacity
+    (settled_gave c.args.code.now c.args.self.now c.take_room.new.self c.args.number (what_of_ask c.args.ask) c.in-Some.body x (Called c.in-Call.object c.in-Call.method c.in-Call.arguments) g c.append-in-Call.new.past _ refl (c.put.ensures.put, refl) c.append-in-Call.ensures.items c.append-in-Call.ensures.len c.append-in-Call.ensures.capacity, sym (ap (λ a. sent_to (what_of_ask a)) c.in-Call.is))
 
 pub returns-in-Some-top : goal.returns-in-Some-top
 returns-in-Some-top c =
     let x = roomy c.args.code.now c.args.self.now c.take_room.new.self c.args.number (what_of_ask c.args.ask) c.in-Some.body c.requires.asked c.requires.may c.take_room.ensures.past c.take_room.ensures.below c.take_room.ensures.top c.take_room.ensures.spare c.take_room.ensures.values c.take_room.ensures.limits c.in_ok-take_room.ensures.ready c.in-Some.is in
     let y = c.in-End.first in
     let g : x.asked ≡ nexts.Ends y y = subst (λ a. GivenBy (what_of_ask a) x.asked) c.in-End.is x.given in
-    let parts = c.pop_caller.ensures.items ∙ ap (λ (o : Option Body). c.pop_caller.new.below.items ++ option_to_list o) c.in-Some-top.is in
-    settled_back c.args.code.now c.args.self.now c.take_room.new.self c.args.number (what_of_ask c.args.ask) c.in-Some.body x y g c.append-in-End.new.past c.pop_caller.new.below c.pop_caller.new.ended c.in-Some-top.caller c.call_back.new.caller parts
-    (subst (λ z. CalledBack z c.in-Some-top.caller c.call_back.new.caller) c.in_ok-second-in-End.ensures c.call_back.ensures) c.append-in-End.ensures.items
+    let parts = c.pop_caller.ensures.items ∙ ap (λ (o : Option Body). c.pop_caller.new.below.items ++ option_to_list o) c.in-Some-top.is in (
+      settled_back c.args.code.now c.args.self.now c.take_room.new.self c.args.number (what_of_ask c.args.ask) c.in-Some.body x y g c.append-in-End.new.past c.pop_caller.new.below c.pop_caller.new.ended c.in-Some-top.caller c.call_back.new.caller parts
+          (subst (λ z. CalledBack z c.in-Some-top.caller c.call_back.new.caller) c.in_ok-second-in-End.ensures c.call_back.ensures) c.append-in-End.ensures.items,
+      sym (ap (λ a. sent_to (what_of_ask a)) c.in-End.is),
+    )
 
 pub returns-in-None-top : goal.returns-in-None-top
 returns-in-None-top c =
@@ -67,4 +76,4 @@ returns-in-None-top c =
     let cases = subst (λ (o : Option Body). MatchOption o ((vec_len s.below ≡ 0) × (vec_len c.pop_caller.new.below ≡ 0)) (λ _. vec_len c.pop_caller.new.below + 1 ≡ vec_len s.below)) c.in-None-top.is c.pop_caller.ensures.cases in
     let before : s.below.items ≡ [] = no_length s.below.items (omega (arith, cases.0, s.below.ok.0)) in
     let after : c.pop_caller.new.below.items ≡ [] = no_length c.pop_caller.new.below.items (omega (arith, cases.1, c.pop_caller.new.below.ok.0)) in
-    rw c.in-None-top.is (settled_last c.args.code.now c.args.self.now s c.args.number (what_of_ask c.args.ask) c.in-Some.body x y g c.append-in-End.new.past c.pop_caller.new.below c.pop_caller.new.ended before after c.append-in-End.ensures.items c.append-in-End.ensures.len c.append-in-End.ensures.capacity (omega (arith, cases.0, cases.1)) c.pop_caller.ensures.capacity)
+    (rw c.in-None-top.is (settled_last c.args.code.now c.args.self.now s c.args.number (what_of_ask c.args.ask) c.in-Some.body x y g c.append-in-End.new.past c.pop_caller.new.below c.pop_caller.new.ended before after c.append-in-End.ensures.items c.append-in-End.ensures.len c.append-in-End.ensures.capacity (omega (arith, cases.0, cases.1)) c.pop_caller.ensures.capacity), sym (ap (λ a. sent_to (what_of_ask a)) c.in-End.is))
