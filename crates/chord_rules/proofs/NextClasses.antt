@@ -12,7 +12,7 @@ use Rattle.chord_classes.specs.Entries.{IsGrown}
 use Rattle.chord_rules.specs.declared.classes.Progress.{Progress}
 use Rattle.chord_rules.specs.Limits.{base_depth}
 use Rattle.chord_rules.specs.Planning.{base_methods, AreAlike, plan_parts}
-use Rattle.chord_rules.specs.Passing.{IsShaped, IsPlanned, IsNextClass}
+use Rattle.chord_rules.specs.Passing.{HasNextShape, HasNextPlan, IsNextClass}
 use Rattle.chord_rules.proofs.ClassPlans.{last_methods, methods_planned, plan_by_parts, alike_more}
 
 -- the pass goes on by a class that has its shape in the table and then its plan, of these methods and chords
@@ -23,7 +23,7 @@ pub next_is : (before shaped next : Progress) (class : ClassTree) (base : Option
     → IsGrown (inherited before.table (base_of before.table class)) (length before.table) (headers_of class) [] own
     → taken ≡ overridden (inherited before.table (base_of before.table class)) (headers_of class)
     → AreAlike before.table (map view_class_plan before.plans.items) before.depths.items
-    → IsShaped before class base shaped → IsPlanned shaped class (plan_parts (methods_at shaped.table number) base class methods chords shaped.number) next → IsNextClass before class next
+    → HasNextShape before class base shaped → HasNextPlan shaped class (plan_parts (methods_at shaped.table number) base class methods chords shaped.number) next → IsNextClass before class next
 next_is before shaped next class base number methods chords own taken b n m c g t alike s p =
     let done = before.table in
     let plans = map view_class_plan before.plans.items in

@@ -12,14 +12,14 @@ use Rattle.chord_rules.specs.Limits.{base_depth}
 use Rattle.chord_rules.specs.Planning.{AreAlike}
 
 -- The table went on by one class, and the plans stay.
-pub record IsShaped (before : Progress) (class : ClassTree) (base : Option ℕ) (next : Progress) : Type 0 where
+pub record HasNextShape (before : Progress) (class : ClassTree) (base : Option ℕ) (next : Progress) : Type 0 where
   pub table : next.table ≡ before.table ++ (shape_of before.table class ∷ [])
   pub plans : next.plans.items ≡ before.plans.items
   pub depths : next.depths.items ≡ before.depths.items ++ (base_depth before.depths.items base ∷ [])
   pub number : next.number ≡ before.number
 
 -- The plans went on by this one of a class, and the table stays.
-pub record IsPlanned (before : Progress) (class : ClassTree) (plan : ClassOf) (next : Progress) : Type 0 where
+pub record HasNextPlan (before : Progress) (class : ClassTree) (plan : ClassOf) (next : Progress) : Type 0 where
   pub table : next.table ≡ before.table
   pub plans : map view_class_plan next.plans.items ≡ map view_class_plan before.plans.items ++ (plan ∷ [])
   pub depths : next.depths.items ≡ before.depths.items

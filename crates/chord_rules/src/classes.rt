@@ -13,7 +13,7 @@ ghost use Rattle.chord_classes.specs.Entries.{IsGrown};
 ghost use Rattle.chord_classes.specs.Least.{least};
 ghost use Rattle.chord_rules.specs.ClassKeys.{name_keys, place_keys, inner_keys, class_keys};
 ghost use Rattle.chord_rules.specs.Planning.{AreAlike, base_methods, depths_of, plan_parts};
-ghost use Rattle.chord_rules.specs.Passing.{IsNextClass, IsPlanned, IsShaped, ClassesNumbered};
+ghost use Rattle.chord_rules.specs.Passing.{IsNextClass, HasNextPlan, HasNextShape, ClassesNumbered};
 
 use crate::class_plan::{PlanParts, base_chords, chords_without, class_plan, method_plans};
 use crate::declarations::{base_built, base_missing, declared_again, misnamed_constructors};
@@ -165,7 +165,7 @@ fn with_shape<'a>(
 ) -> Result<Progress<'a>, AllocError>
     requires base { base ≡ base_of progress.table (see_class class.now) }
     requires own { IsGrown (inherited progress.table (base_of progress.table (see_class class.now))) (length progress.table) (headers_of (see_class class.now)) [] own.all.items }
-    ensures { IfOk result (λ next. IsShaped progress.entry (see_class class.now) base next) }
+    ensures { IfOk result (λ next. HasNextShape progress.entry (see_class class.now) base next) }
 {
     let mut progress = progress;
     let depth = base_depth(&progress.depths, base)?;
@@ -192,7 +192,7 @@ fn with_plan<'a>(
     base: Option<u32>,
     parts: PlanParts,
 ) -> Result<Progress<'a>, AllocError>
-    ensures { IfOk result (λ next. IsPlanned progress.entry (see_class class.now) (plan_parts (methods_at progress.entry.table parts.number) base (see_class class.now) (map view_method_plan parts.methods.items) (map view_chord_plan parts.inherited.items) progress.entry.number) next) }
+    ensures { IfOk result (λ next. HasNextPlan progress.entry (see_class class.now) (plan_parts (methods_at progress.entry.table parts.number) base (see_class class.now) (map view_method_plan parts.methods.items) (map view_chord_plan parts.inherited.items) progress.entry.number) next) }
 {
     let mut progress = progress;
     let first = progress.number;
