@@ -11,9 +11,9 @@ ghost use Rattle.chord_space.specs.Desks.{view, heads, space_code, program_of, I
 ghost use Rattle.chord_tests.specs.Pairs.{IsPairTable, first_object, second_object, made_one, sent_x, sent_both, made_two, sent_x_apart, sent_apart, HasInHand, HoldsClaim, IsUnsplit, Owes, KeepsSeen, KeepsDuties, IsAsBefore, TakesClaim, GivesClaim, LeavesDuty, KeepsFiring};
 ghost use Rattle.chord_match.specs.Seen.{AreSeen};
 ghost use Rattle.chord_match.specs.declared.handing.Firing.TheVariants.{Fired, Lost};
-ghost use Rattle.chord_tests.specs.declared.pairs.Letter as letter;
+ghost use Rattle.chord_tests.specs.declared.codes.Letter as letter;
 
-use crate::pairs::{FIRST, Letter, SECOND, coded, table};
+use crate::codes::{FIRST, Letter, SECOND, coded, table};
 use chord_bag::{Sought, seek};
 use chord_base::event::{Entry, What};
 use chord_base::members::Members;

@@ -5,6 +5,8 @@
 #![tactic(auto)]
 
 #[cfg(test)]
+mod codes;
+#[cfg(test)]
 mod entries;
 #[cfg(test)]
 mod hands;
@@ -12,8 +14,6 @@ mod hands;
 mod journals;
 #[cfg(test)]
 mod operators;
-#[cfg(test)]
-mod pairs;
 #[cfg(test)]
 mod prefixes;
 #[cfg(test)]

@@ -4,4 +4,4 @@ use Rattle.chord_parser.proofs.Single.{read_as}
 use Rattle.chord_parser.proofs.tokens.name_of.Goals as goal
 
 pub returns-clause-ok : goal.returns-clause-ok
-returns-clause-ok c = read_as _ _ _ _ _ _ _ _ c.in_ok-first.ensures.ok c.in_ok-first.ensures.not_tall (c.in-Name.is ∙ ap kinds.Name (sym c.in_ok-text-in-Name.ensures)) c.token_number-at.ensures refl
+returns-clause-ok c = read_as _ _ _ _ _ _ _ _ c.in_ok-first.ensures.ok c.in_ok-first.ensures.not_tall (c.in-Name.is ∙ ap kinds.Name (sym c.in_ok-text-in-Name.ensures.equal)) c.token_number-at.ensures refl

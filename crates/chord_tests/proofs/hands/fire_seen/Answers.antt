@@ -3,7 +3,7 @@ use Rattle.chord_space.specs.Desks.{view, program_of}
 use Rattle.chord_tests.specs.Pairs.{first_object, IsLetter}
 use Rattle.chord_match.specs.Fires.{IsFireAnswer}
 use Rattle.chord_match.specs.declared.handing.Firing.{Firing}
-use Rattle.chord_tests.specs.declared.pairs.Letter.{Letter}
+use Rattle.chord_tests.specs.declared.codes.Letter.{Letter}
 use Rattle.chord_tests.proofs.ByHand.{stands_by_lost, holds_fired}
 use Rattle.chord_tests.proofs.hands.fire_seen.Goals as goal
 
