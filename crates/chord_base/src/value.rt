@@ -1,7 +1,7 @@
 //! Values of the language, and lists of them.
 #![tactic(auto)]
 
-ghost use Rattle.std.specs.Prelude.{◌≡◌, ℕ, ◌≤◌, List, length, IfOk};
+ghost use Rattle.std.specs.Prelude.{◌≡◌, ℕ, ◌+◌, ◌≤◌, List, ◌++◌, length, IfOk};
 
 use crate::text::Text;
 use std::alloc::{AllocError, Global};
@@ -97,6 +97,24 @@ impl Values {
         for value in &self.values {
             values.push(value.copied(alloc)?)?;
         }
+        Ok(Values { values })
+    }
+
+    /// The values of both lists, one list after the other. Where one of them is empty, the other one is the result, and no memory is
+    /// taken.
+    pub fn joined(self, more: Values) -> Result<Values, AllocError>
+        requires { length self + length more ≤ 64 }
+        ensures { IfOk result (λ v. v ≡ self ++ more) }
+    {
+        if more.values.is_empty() {
+            return Ok(self);
+        }
+        if self.values.is_empty() {
+            return Ok(more);
+        }
+        let mut values = self.values;
+        let mut more = more.values;
+        values.append(&mut more)?;
         Ok(Values { values })
     }
 }

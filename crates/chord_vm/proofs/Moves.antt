@@ -11,7 +11,7 @@ use Rattle.chord_code.specs.Slots.{first_slots}
 use Rattle.chord_code.specs.Machine.{Machine, pops, begins_block, body_in, with_object, with_stack, pred_of}
 use Rattle.chord_vm.specs.declared.frames.Frames.{Frames}
 use Rattle.chord_vm.specs.Frames.{IsMoved, IsSpacious}
-use Rattle.chord_vm.proofs.Slots.{slots_room, slots_of_fits, pops_fits, pops_split, pops_tail, append_nil}
+use Rattle.chord_vm.proofs.Slots.{slots_room, slots_of_fits, pops_fits, pops_split, append_nil}
 
 -- one more value moves
 pub moved_more : (n k : ℕ) (from mid from' to between to' : List Value) (v : Value) → suc k ≡ n → from ≡ mid ++ v ∷ [] → IsMoved k mid from' to between → to' ≡ between ++ v ∷ [] → IsMoved n from from' to to'
@@ -42,12 +42,6 @@ filled n k this from from' first to l h m t =
 
     slots_fit : (n : ℕ) (xs : List Value) → length xs ≤ n → first_slots n xs ≡ Some (xs ++ replicate (n - length xs) a_value.Unit)
     slots_fit n xs h = slots_of_fits n xs h
-
--- a list of values that is moved whole
-pub whole_pops : (xs ys : List Value) (k : ℕ) (r : List Value) → length xs ≡ k → pops k [] (reverse xs) ≡ Some (ys, r) → xs ≡ ys
-whole_pops xs ys k r e p =
-    let z : ◌≡◌ {A = Option (List Value × List Value)} (Some (xs, [])) (Some (ys, r)) = sym (pops_tail [] xs k e) ∙ p in
-    let w : ◌≡◌ {A = List Value × List Value} (xs, []) (ys, r) = cc in ap (λ q. q.0) w
 
 -- a block for which there is room is there
 pub spacious_block : (f : Frames) (o : Option Block) → IsSpacious f o → (b : Block) × (o ≡ Some b)

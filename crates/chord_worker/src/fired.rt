@@ -1,10 +1,12 @@
 //! The body of a firing begins: in the task of the caller that it serves, or in a new one.
-ghost use Rattle.std.specs.Prelude.{◌≡◌, ◌≢◌, ◌⊎◌, ℕ, ◌+◌, ◌≤◌, false, List, ◌++◌, length, None, Some};
+ghost use Rattle.std.specs.Prelude.{◌≡◌, ◌≢◌, ◌⊎◌, ℕ, ◌≤◌, false, length, None, Some, IfOk, OnOk};
 ghost use Rattle.chord_base.specs.Story.{IsSound};
 ghost use Rattle.chord_rule.specs.declared.view.View.{View};
+ghost use Rattle.chord_match.specs.Fires.{laid_together};
 ghost use Rattle.chord_space.specs.Desks.{view, space_code, space_limits, program_of, IsDeskOf};
 ghost use Rattle.chord_task.specs.declared.task.Task.{Task as ATask};
-ghost use Rattle.chord_worker.specs.Beginning.{first_task, arguments_in, caller_or, HasBegun};
+ghost use Rattle.chord_task.specs.Parcels.{arguments_of};
+ghost use Rattle.chord_worker.specs.Beginning.{first_of, first_task, caller_or, HasBegun};
 ghost use Rattle.chord_worker.specs.Firing.{HasFired};
 ghost use Rattle.chord_worker.specs.Resting.{IsAtRest, IsSameRole};
 ghost use Rattle.chord_worker.specs.Stepping.{HasTakenOn};
@@ -18,10 +20,9 @@ use chord_code::code::Code;
 use chord_code::laws::{chords_are_right, entries_are_within};
 use chord_space::Space;
 use chord_task::apart::Apart;
-use chord_task::args::Args;
 use chord_task::parcel::{Parcel, packed};
 use chord_task::task::Task;
-use std::alloc::Global;
+use std::alloc::{AllocError, Global};
 
 /// A firing that was drawn.
 #[derive(Drop)]
@@ -32,26 +33,40 @@ pub(crate) struct Drawn {
     pub members: Members,
 }
 
-/// Takes the parcels out of the hand: the arguments of each, and the task that one of them may have.
-fn unpack(hand: &mut Hand<Parcel>, arguments: &mut Hand<Args>) -> Option<Apart<Task>>
-    requires few { length hand.old + length arguments.old ≤ 8 }
-    ensures arguments { arguments.new ≡ arguments.old ++ arguments_in hand.old }
-    ensures task { result ≡ first_task hand.old }
+/// What stood in the parcels of a firing: their arguments, one after another, and the task that one of them may have.
+#[derive(Drop)]
+struct Unpacked {
+    arguments: Values,
+    caller: Option<Apart<Task>>,
+}
+
+/// The first task, if there is one, else the second.
+fn first_of_two(task: Option<Apart<Task>>, later: Option<Apart<Task>>) -> Option<Apart<Task>>
+    ensures { result ≡ first_of task later }
+{
+    match task {
+        None => later,
+        Some(task) => Some(task),
+    }
+}
+
+/// Takes the parcels out of the hand.
+fn unpack(alloc: Global, hand: &mut Hand<Parcel>) -> Result<Unpacked, AllocError>
+    requires few { length (laid_together arguments_of hand.old) ≤ 64 }
+    ensures arguments { IfOk result (λ u. u.arguments ≡ laid_together arguments_of hand.old) }
+    ensures caller { IfOk result (λ u. u.caller ≡ first_task hand.old) }
 {
     match hand.take_first() {
-        None => None,
-        Some(
-            Parcel {
-                arguments: own,
-                task,
-            },
-        ) => {
-            arguments.put(own);
-            let later = unpack(hand, arguments);
-            match task {
-                None => later,
-                Some(task) => Some(task),
-            }
+        None => Ok(Unpacked {
+            arguments: Values::of_items(Vec::new(alloc)),
+            caller: None,
+        }),
+        Some(Parcel { arguments, task }) => {
+            let later = unpack(alloc, hand)?;
+            Ok(Unpacked {
+                arguments: arguments.joined(later.arguments)?,
+                caller: first_of_two(task, later.caller),
+            })
         }
     }
 }
@@ -68,16 +83,6 @@ fn take_task(caller: Option<Apart<Task>>, spare: &mut Option<Apart<Task>>) -> Ap
             None => unreachable!(),
             Some(stock) => stock,
         },
-    }
-}
-
-/// No arguments, held twice as others are.
-fn no_arguments(alloc: Global) -> Args
-    ensures { result.second ≡ result.first }
-{
-    Args {
-        first: Values::of_items(Vec::new(alloc)),
-        second: Values::of_items(Vec::new(alloc)),
     }
 }
 
@@ -107,13 +112,14 @@ impl Worker {
             self.task = Some(task);
             return;
         }
-        let parcel = packed(code, limits, no_arguments(alloc), task);
+        let arguments = Values::of_items(Vec::new(alloc));
+        let parcel = packed(code, limits, arguments, task);
         space.post(&mut self.desk, number, parcel);
     }
 
     /// The parcels of a firing's members are handed over: the arguments go to the firing's body, which begins in the task of the
     /// caller that it serves, or in the one in stock. A worker that has no task plays the body itself; else the body is posted
-    /// with its task. Takes no memory.
+    /// with its task. Want of memory is an `Err`, after which entries are lost.
     pub(crate) fn begin_fired<G: Gate>(
         &mut self,
         alloc: Global,
@@ -123,32 +129,31 @@ impl Worker {
         gate: &G,
         drawn: Drawn,
         hand: Hand<Parcel>,
-    )
+    ) -> Result<(), AllocError>
         requires code { code.now ≡ space_code space.now }
         requires limits { limits.now ≡ space_limits space.now }
         requires sound { IsSound (program_of space.now) }
         requires fired { (v : View) × HasFired space.now self.old v drawn.object drawn.chord drawn.members drawn.number hand }
         ensures desk { IsDeskOf space.now self.new.desk }
-        ensures rest { IsAtRest space.now self.new }
-        ensures role { IsSameRole (view self.old.desk) (view self.new.desk) }
-        ensures told { self.new.spent ≡ false }
-        ensures taken { (v : View) → HasFired space.now self.old v drawn.object drawn.chord drawn.members drawn.number hand → HasTakenOn G.knows v.kept self.old.task self.new drawn.number }
+        ensures rest { OnOk result (IsAtRest space.now self.new) }
+        ensures role { OnOk result (IsSameRole (view self.old.desk) (view self.new.desk)) }
+        ensures told { OnOk result (self.new.spent ≡ false) }
+        ensures taken { OnOk result ((v : View) → HasFired space.now self.old v drawn.object drawn.chord drawn.members drawn.number hand → HasTakenOn G.knows v.kept self.old.task self.new drawn.number) }
     {
         chords_are_right(code);
         entries_are_within(code);
-        let _full = hand.is_full();
         let mut hand = hand;
-        let mut arguments = Hand::new();
-        let caller = unpack(&mut hand, &mut arguments);
+        let Unpacked { arguments, caller } = unpack(alloc, &mut hand)?;
+        let Drawn {
+            number,
+            object,
+            chord,
+            members,
+        } = drawn;
         let mut task = take_task(caller, &mut self.spare);
-        task.value.resume(
-            code,
-            drawn.number,
-            drawn.chord,
-            drawn.object,
-            &drawn.members,
-            arguments,
-        );
-        self.take_on(alloc, space, code, limits, gate, drawn.number, task);
+        task.value
+            .resume(alloc, code, number, chord, object, members, arguments)?;
+        self.take_on(alloc, space, code, limits, gate, number, task);
+        Ok(())
     }
 }
