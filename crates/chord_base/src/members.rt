@@ -1,10 +1,8 @@
 //! The messages that a firing takes, by their numbers.
 #![tactic(auto)]
 
-ghost use Rattle.std.specs.Prelude.{◌≡◌, ℕ, ◌<◌, ◌≤◌, List, [], ◌∷◌, ◌++◌, length};
-ghost use Rattle.arrayvec.specs.ArrayVec.{array_vec_len};
+ghost use Rattle.std.specs.Prelude.{◌≡◌, ℕ, ◌<◌, ◌≤◌, List, [], ◌∷◌, ◌++◌, length, take};
 
-use arrayvec::ArrayVec;
 use std::marker::Model;
 
 /// The most headers of a chord, and so the most members of a firing.
@@ -15,15 +13,18 @@ pub const MAX_MEMBERS: usize = 8;
 /// They stand in the value itself: a firing takes no memory.
 #[derive(Drop)]
 pub struct Members {
-    numbers: ArrayVec<u32, MAX_MEMBERS>,
+    numbers: [u32; MAX_MEMBERS],
+    count: u32,
 }
 
 impl Model for Members {
+    ghost use Rattle.std.specs.Prelude.{◌≡◌, ℕ, ◌≤◌, List, length, take};
+
     ghost Value = { List ℕ };
 
-    ghost view = { λ m. m.numbers.items };
+    ghost view = { λ m. take m.count m.numbers };
 
-    ghost invariant = { λ m. length m.numbers.items ≤ 8 };
+    ghost invariant = { λ m. (m.count ≤ 8) × (length m.numbers ≡ 8) };
 }
 
 impl Members {
@@ -32,7 +33,8 @@ impl Members {
         ensures { result ≡ [] }
     {
         Members {
-            numbers: ArrayVec::new(),
+            numbers: [0; MAX_MEMBERS],
+            count: 0,
         }
     }
 
@@ -41,7 +43,8 @@ impl Members {
         requires { length self.old < 8 }
         ensures { self.new ≡ self.old ++ number ∷ [] }
     {
-        self.numbers.push(number);
+        self.numbers[self.count as usize] = number;
+        self.count += 1;
     }
 
     /// The members.
@@ -49,17 +52,16 @@ impl Members {
         ensures numbers { result.now ≡ self.now }
         ensures few { length self.now ≤ 8 }
     {
-        self.numbers.as_slice()
+        &self.numbers[..self.count as usize]
     }
 
     /// An equal list.
     pub fn copied(&self) -> Members
         ensures { result ≡ self.now }
     {
-        let mut copy = Members::new();
-        for number in self.numbers.as_slice() {
-            copy.push(*number);
+        Members {
+            numbers: self.numbers,
+            count: self.count,
         }
-        copy
     }
 }

@@ -1,11 +1,14 @@
 //! Values of the language, and lists of them.
 #![tactic(auto)]
 
-ghost use Rattle.std.specs.Prelude.{◌≡◌, ℕ, ◌+◌, ◌≤◌, List, ◌++◌, length, IfOk};
+ghost use Rattle.std.specs.Prelude.{◌≡◌, ℕ, ◌+◌, ◌≤◌, List, [], ◌∷◌, ◌++◌, length, IfOk, OnOk};
+ghost use Rattle.chord_base.specs.Stores.{values_in};
 
 use crate::text::Text;
 use std::alloc::{AllocError, Global};
 use std::marker::Model;
+use std::mem;
+use std::slice::from_ref;
 
 /// The most values that a list of values has: eight methods of a chord with eight parameters each.
 pub const MAX_VALUES: usize = 64;
@@ -47,74 +50,195 @@ impl Value {
     }
 }
 
-/// At most 64 values, as the arguments of a message or of a firing.
+/// At most 64 values, as the arguments of a message or of a firing. Most messages have one, which lies in the list itself and asks for no memory.
 #[derive(Drop)]
 pub struct Values {
-    values: Vec<Value>,
+    values: Store,
+}
+
+/// Where the values of a list lie.
+#[derive(Drop)]
+enum Store {
+    /// There is none.
+    Nothing,
+    /// In the list.
+    One(Value),
+    /// In memory.
+    Several(Vec<Value>),
 }
 
 impl Model for Values {
     ghost use Rattle.std.specs.Prelude.{◌≤◌, List, length};
     ghost use Rattle.chord_base.specs.declared.value.Value as value;
+    ghost use Rattle.chord_base.specs.Stores.{values_in};
 
     ghost Value = { List value.Value };
 
-    ghost view = { λ v. v.values.items };
+    ghost view = { λ v. values_in v.values };
 
-    ghost invariant = { λ v. length v.values.items ≤ 64 };
+    ghost invariant = { λ v. length (values_in v.values) ≤ 64 };
+}
+
+/// Copies of these values.
+fn copies_of(alloc: Global, values: &[Value]) -> Result<Vec<Value>, AllocError>
+    ensures { IfOk result (λ copies. copies.items ≡ values.now) }
+{
+    let mut copies = Vec::with_capacity(alloc, values.len())?;
+    for value in values {
+        copies.push(value.copied(alloc)?)?;
+    }
+    Ok(copies)
+}
+
+/// Copies of these values. One value asks for no memory.
+#[inline(always)]
+fn stored_copies(alloc: Global, values: &[Value]) -> Result<Store, AllocError>
+    ensures { IfOk result (λ store. values_in store ≡ values.now) }
+{
+    match values {
+        [value] => {
+            let copy = value.copied(alloc)?;
+            Ok(Store::One(copy))
+        }
+        _ => {
+            let copies = copies_of(alloc, values)?;
+            Ok(Store::Several(copies))
+        }
+    }
+}
+
+/// Adds values to a list.
+fn add_stored(values: &mut Vec<Value>, more: Store) -> Result<(), AllocError>
+    ensures { OnOk result (values.new.items ≡ values.old.items ++ values_in more) }
+{
+    match more {
+        Store::Nothing => Ok(()),
+        Store::One(value) => {
+            values.push(value)?;
+            Ok(())
+        }
+        Store::Several(more) => {
+            let mut more = more;
+            values.append(&mut more)?;
+            Ok(())
+        }
+    }
+}
+
+/// The values of both, one list after the other, in memory.
+#[inline(never)]
+fn stored_together(alloc: Global, values: Store, more: Store) -> Result<Vec<Value>, AllocError>
+    ensures { IfOk result (λ all. all.items ≡ values_in values ++ values_in more) }
+{
+    match values {
+        Store::Several(values) => {
+            let mut all = values;
+            add_stored(&mut all, more)?;
+            Ok(all)
+        }
+        Store::One(value) => {
+            let mut all = Vec::new(alloc);
+            all.push(value)?;
+            add_stored(&mut all, more)?;
+            Ok(all)
+        }
+        Store::Nothing => {
+            let mut all = Vec::new(alloc);
+            add_stored(&mut all, more)?;
+            Ok(all)
+        }
+    }
 }
 
 impl Values {
+    /// No values.
+    #[inline(always)]
+    pub fn none() -> Values
+        ensures { result ≡ [] }
+    {
+        Values {
+            values: Store::Nothing,
+        }
+    }
+
+    /// This value alone. It asks for no memory.
+    #[inline(always)]
+    pub fn one(value: Value) -> Values
+        ensures { result ≡ value ∷ [] }
+    {
+        Values {
+            values: Store::One(value),
+        }
+    }
+
     /// The list of these values.
     pub fn of_items(values: Vec<Value>) -> Values
         requires { length values.items ≤ 64 }
         ensures { result ≡ values.items }
     {
-        Values { values }
+        Values {
+            values: Store::Several(values),
+        }
     }
 
     /// The values.
+    #[inline(always)]
     pub fn items(&self) -> &[Value]
         ensures values { result.now ≡ self.now }
         ensures few { length self.now ≤ 64 }
     {
-        self.values.as_slice()
-    }
-
-    /// The values, taken out.
-    pub fn into_items(self) -> Vec<Value>
-        ensures values { result.items ≡ self }
-        ensures few { length self ≤ 64 }
-    {
-        self.values
+        match &self.values {
+            Store::Nothing => &[],
+            Store::One(value) => from_ref(value),
+            Store::Several(values) => values.as_slice(),
+        }
     }
 
     /// An equal list.
     pub fn copied(&self, alloc: Global) -> Result<Values, AllocError>
         ensures { IfOk result (λ v. v ≡ self.now) }
     {
-        let mut values = Vec::new(alloc);
-        for value in &self.values {
-            values.push(value.copied(alloc)?)?;
-        }
+        let values = stored_copies(alloc, self.items())?;
         Ok(Values { values })
+    }
+
+    /// Adds copies of these values. The first value asks for no memory.
+    #[inline(always)]
+    pub fn add_copies(&mut self, alloc: Global, more: &[Value]) -> Result<(), AllocError>
+        requires { length self.old + length more.now ≤ 64 }
+        ensures { OnOk result (self.new ≡ self.old ++ more.now) }
+    {
+        if more.is_empty() {
+            return Ok(());
+        }
+        match mem::replace(&mut self.values, Store::Nothing) {
+            Store::Nothing => {
+                self.values = stored_copies(alloc, more)?;
+                Ok(())
+            }
+            before => {
+                let copies = stored_copies(alloc, more)?;
+                self.values = Store::Several(stored_together(alloc, before, copies)?);
+                Ok(())
+            }
+        }
     }
 
     /// The values of both lists, one list after the other. Where one of them is empty, the other one is the result, and no memory is
     /// taken.
-    pub fn joined(self, more: Values) -> Result<Values, AllocError>
+    pub fn joined(self, alloc: Global, more: Values) -> Result<Values, AllocError>
         requires { length self + length more ≤ 64 }
         ensures { IfOk result (λ v. v ≡ self ++ more) }
     {
-        if more.values.is_empty() {
+        if more.items().is_empty() {
             return Ok(self);
         }
-        if self.values.is_empty() {
+        if self.items().is_empty() {
             return Ok(more);
         }
-        let mut values = self.values;
-        let mut more = more.values;
-        values.append(&mut more)?;
-        Ok(Values { values })
+        let all = stored_together(alloc, self.values, more.values)?;
+        Ok(Values {
+            values: Store::Several(all),
+        })
     }
 }

@@ -152,7 +152,7 @@ stands_left code limits bodies pasts h s a =
     }
 
 -- no more is kept than there is
-kept_few : (f : ℕ → Bool) (h : List Entry) → length (kept f h) ≤ length h
+pub kept_few : (f : ℕ → Bool) (h : List Entry) → length (kept f h) ≤ length h
 kept_few f [] = omega arith
 kept_few f (e ∷ h) = let l = kept_few f h in elim (either (f e.number)) [ inl y ↦ rw y (omega (arith, l)) | inr o ↦ rw o (omega (arith, l)) ]
 

@@ -1,6 +1,6 @@
 -- The arguments of messages are taken one after another.
-use Rattle.std.proofs.Common.{◌≡◌, ℕ, zero, suc, ◌<◌, true, false, ◌==◌, ◌||◌, List, [], ◌∷◌, ◌++◌, length, Option, Some, refl, sym, ap, ◌∙◌, arith, inl, inr, take, get_or}
-use Rattle.std.proofs.lemmas.List.{append-nil, append_assoc}
+use Rattle.std.proofs.Common.{◌≡◌, ℕ, zero, suc, ◌+◌, ◌<◌, ◌≤◌, true, false, ◌==◌, ◌||◌, List, [], ◌∷◌, ◌++◌, length, Option, Some, refl, sym, ap, ◌∙◌, arith, inl, inr, take, get_or}
+use Rattle.std.proofs.lemmas.List.{append-nil, append_assoc, length-append}
 use Rattle.std.proofs.lemmas.Bool.{eq-eqb, eqb-true, eqb-false, ne_eqb}
 use Rattle.chord_base.specs.declared.value.Object.{Object}
 use Rattle.chord_base.specs.declared.value.Value.{Value}
@@ -92,3 +92,14 @@ takes_held view tags h o (j ∷ js) (i ∷ ms) vs f t =
     let k = f i m t.2 in
     let r = takes_held view tags h o js ms t.1 f t.4 in
     (((m, k), r.0), ap (λ x. x ++ held_values view tags ms) (ap arguments_held k) ∙ ap (λ x. t.0 ++ x) r.1 ∙ sym t.3)
+
+-- the values of the messages before one, and its own, are no more than those of all
+pub few_laid : (view : ℕ → List Entry) (tags : List Tag) (ns : List ℕ) (k : ℕ) → k < length ns → length (held_values view tags (take k ns)) + length (arguments_held (message_held view tags (get_or ns k 0))) ≤ length (held_values view tags ns)
+few_laid view tags [] k l = absurd (omega (arith, l))
+few_laid view tags (n ∷ ns) zero l = let all = length-append (arguments_held (message_held view tags n)) (held_values view tags ns) in omega (arith, all)
+few_laid view tags (n ∷ ns) (suc k) l =
+    let own = arguments_held (message_held view tags n) in
+    let rest = few_laid view tags ns k (omega (arith, l)) in
+    let before = length-append own (held_values view tags (take k ns)) in
+    let all = length-append own (held_values view tags ns) in
+    omega (arith, rest, before, all)

@@ -1,14 +1,14 @@
 //! The bodies of a run of a code: tasks, and where each entry and each pending message stands.
 #![tactic(auto)]
 
-ghost use Rattle.std.specs.Prelude.{◌^◌, ◌≡◌, ◌<◌, ◌≤◌, ℕ, ◌++◌, ◌∷◌, [], List, reverse, length, IfOk, OnOk, IfSome, IfNone, Some, None, true, false, slice_get};
+ghost use Rattle.std.specs.Prelude.{◌^◌, ◌≡◌, ◌<◌, ◌≤◌, ◌+◌, ℕ, ◌++◌, ◌∷◌, [], List, reverse, length, IfOk, OnOk, IfSome, IfNone, Some, None, true, false, slice_get};
 ghost use Rattle.chord_base.specs.Story.{IsOwn, IsSound};
 ghost use Rattle.chord_base.specs.declared.event.Entry.{Entry};
 ghost use Rattle.chord_base.specs.Bodies.{served_among};
 ghost use Rattle.chord_base.specs.Messages.{AreDifferent, Message};
 ghost use Rattle.chord_code.specs.Meaning.{code_program, method_is_sync};
 ghost use Rattle.chord_lists.specs.Engine.{main_begun, IsRunOfLength, MayGoOn, Went, MayBegin, Began, Ends};
-ghost use Rattle.chord_lists.specs.CodeStands.{StandsAfter, AreReady, ready_at, over_at, IsTaggedAs, WentAt, AreLeft, IsLeft, HasNewest, IsNewestTaken, views, held_at, entry_message, arguments_held, IsHeldAt, AllHeld, held_values, Emptied, EmptiedAll, HasAdded, home, Serves, FitsAt, MayReplay, Replayed};
+ghost use Rattle.chord_lists.specs.CodeStands.{StandsAfter, AreReady, ready_at, over_at, IsTaggedAs, WentAt, AreLeft, IsLeft, HasNewest, IsNewestTaken, views, held_at, entry_message, arguments_held, message_held, IsHeldAt, AllHeld, held_values, Emptied, EmptiedAll, HasAdded, home, Serves, FitsAt, MayReplay, Replayed};
 
 use crate::engine::Turn;
 use chord_base::event::{Entry, Limits, What};
@@ -17,14 +17,13 @@ use chord_base::members::Members;
 use chord_base::value::{Object, Value, Values};
 use chord_code::code::Code;
 use chord_task::task::Task;
-use chord_vm::frames::lay_copies;
 use std::alloc::{AllocError, Global};
 
 /// What is kept of an entry: the task in whose past it stands, and, of a message that no firing has taken, its place there.
 #[derive(Drop)]
 pub struct Tag {
     pub task: u32,
-    pub held: Option<usize>,
+    pub held: Option<u32>,
 }
 
 /// The bodies of a run of a code: the tasks, the places of those that may go on, and a tag for each entry.
@@ -43,7 +42,7 @@ pub struct CodeBodies {
 fn tag_message(
     tags: &mut Vec<Tag>,
     at: u32,
-    place: usize,
+    place: u32,
     object: Object,
     method: u8,
 ) -> Result<Turn, AllocError>
@@ -60,7 +59,7 @@ fn tag_message(
 fn tag_entry(
     tags: &mut Vec<Tag>,
     at: u32,
-    place: usize,
+    place: u32,
     sent: Option<(Object, u8)>,
 ) -> Result<Turn, AllocError>
     ensures { IfOk result (λ turn. IsTaggedAs at place sent tags.old.items tags.new.items turn) }
@@ -115,8 +114,8 @@ fn is_over_at(tasks: &[Task], at: u32) -> bool
 }
 
 /// Keeps the place of a task that has no body left.
-fn keep_over(tasks: &[Task], over: &mut Vec<u32>, at: u32) -> Result<(), AllocError> {
-    if is_over_at(tasks, at) {
+fn keep_over(task: &Task, over: &mut Vec<u32>, at: u32) -> Result<(), AllocError> {
+    if task.over() {
         over.push(at)?;
     }
     Ok(())
@@ -132,6 +131,15 @@ fn next_over(tasks: &[Task], over: &mut Vec<u32>) -> Option<u32>
         }
     }
     None
+}
+
+/// The place of the next entry of a past.
+#[inline(always)]
+fn place_in(past: &[Entry]) -> u32
+    requires { length past.now < 2 ^ 32 }
+    ensures { result ≡ length past.now }
+{
+    past.len() as u32
 }
 
 /// The task of this place makes the entry of this number.
@@ -151,10 +159,10 @@ fn make(
 {
     let _parts = code.parts();
     let task = &mut bodies.tasks[at as usize];
-    let place = task.past.len();
+    let place = place_in(&task.past);
     let sent = task.turn(alloc, code, limits, number)?;
     let turn = tag_entry(&mut bodies.tags, at, place, sent)?;
-    keep_over(&bodies.tasks, &mut bodies.over, at)?;
+    keep_over(task, &mut bodies.over, at)?;
     Ok(turn)
 }
 
@@ -333,35 +341,25 @@ fn take_held(tags: &mut Vec<Tag>, number: u32) -> usize
     let tag = &mut tags[number as usize];
     match tag.held.take() {
         None => unreachable!(),
-        Some(place) => place,
+        Some(place) => place as usize,
     }
-}
-
-/// Adds a copy of each of these values.
-fn add_copies(alloc: Global, values: &mut Vec<Value>, more: &[Value]) -> Result<(), AllocError>
-    ensures { OnOk result (values.new.items ≡ values.old.items ++ more.now) }
-{
-    if more.is_empty() {
-        return Ok(());
-    }
-    values.reserve_exact(more.len())?;
-    lay_copies(alloc, values, more)
 }
 
 /// Adds the arguments of the message at this place of a past.
 #[inline(always)]
 fn add_arguments(
     alloc: Global,
-    values: &mut Vec<Value>,
+    values: &mut Values,
     past: &[Entry],
     place: usize,
 ) -> Result<(), AllocError>
-    requires { (m : Message) × (entry_message (slice_get past.now place) ≡ Some m) }
-    ensures { OnOk result (values.new.items ≡ values.old.items ++ arguments_held (entry_message (slice_get past.now place))) }
+    requires there { (m : Message) × (entry_message (slice_get past.now place) ≡ Some m) }
+    requires few { length values.old + length (arguments_held (entry_message (slice_get past.now place))) ≤ 64 }
+    ensures { OnOk result (values.new ≡ values.old ++ arguments_held (entry_message (slice_get past.now place))) }
 {
     match &past[place].what {
-        What::Sent(_, _, arguments) => add_copies(alloc, values, arguments.items()),
-        What::Called(_, _, arguments) => add_copies(alloc, values, arguments.items()),
+        What::Sent(_, _, arguments) => values.add_copies(alloc, arguments.items()),
+        What::Called(_, _, arguments) => values.add_copies(alloc, arguments.items()),
         _ => unreachable!(),
     }
 }
@@ -373,10 +371,11 @@ fn take_arguments(
     tasks: &[Task],
     tags: &mut Vec<Tag>,
     number: u32,
-    values: &mut Vec<Value>,
+    values: &mut Values,
 ) -> Result<(), AllocError>
-    requires { IsHeldAt (views tasks.now) tags.old.items number }
-    ensures { OnOk result (HasAdded (views tasks.now) number tags.old.items values.old.items tags.new.items values.new.items) }
+    requires held { IsHeldAt (views tasks.now) tags.old.items number }
+    requires few { length values.old + length (arguments_held (message_held (views tasks.now) tags.old.items number)) ≤ 64 }
+    ensures { OnOk result (HasAdded (views tasks.now) number tags.old.items values.old tags.new.items values.new) }
 {
     let at = home_of(tags, number);
     let place = take_held(tags, number);
@@ -397,11 +396,11 @@ fn take_all_held(
     ensures values { IfOk result (λ values. values ≡ held_values (views tasks.now) tags.old.items members.now) }
     ensures rest { IfOk result (λ _. EmptiedAll members.now tags.old.items tags.new.items) }
 {
-    let mut values = Vec::new(alloc);
+    let mut values = Values::none();
     for number in members {
         take_arguments(alloc, tasks, tags, *number, &mut values)?;
     }
-    Ok(Values::of_items(values))
+    Ok(values)
 }
 
 /// Begins the body of a firing in the task of this place: above the caller that it serves, or where no body is left.

@@ -52,6 +52,12 @@ fn take_all(alloc: Global, frame: &mut Frame, n: usize) -> Result<Values, AllocE
     ensures values { IfOk result (λ xs. pops n [] (shown_frame frame.old).stack ≡ Some (xs, (shown_frame frame.new).stack)) }
     ensures rest { IfOk result (λ xs. shown_frame frame.new ≡ frame_with (shown_frame frame.old) frame.old.place (shown_frame frame.new).stack (shown_frame frame.old).slots) }
 {
+    if n == 0 {
+        return Ok(Values::none());
+    }
+    if n == 1 {
+        return Ok(Values::one(take(frame)));
+    }
     let mut xs = Vec::with_capacity(alloc, n)?;
     move_last(&mut frame.stack, &mut xs, n);
     Ok(Values::of_items(xs))
@@ -107,12 +113,20 @@ fn step(
     Ok(true)
 }
 
+/// Puts an ask where there is none. There is nothing to drop in its place, which an assignment would look for.
+#[inline(always)]
+fn put_ask(asked: &mut Option<Ask>, ask: Ask)
+    ensures { asked.new ≡ Some ask }
+{
+    mem::forget(mem::replace(asked, Some(ask)));
+}
+
 /// A trap ends the body.
 #[inline(never)]
 fn ends_by(trap: Trap, asked: &mut Option<Ask>) -> Step
     ensures { IfOk result (λ goes_on. (goes_on ≡ false) × (asked.new ≡ Some (Ask.End (End.Traps trap)))) }
 {
-    *asked = Some(Ask::End(End::Traps(trap)));
+    put_ask(asked, Ask::End(End::Traps(trap)));
     Ok(false)
 }
 
@@ -121,7 +135,7 @@ fn ends_by(trap: Trap, asked: &mut Option<Ask>) -> Step
 fn end(asked: &mut Option<Ask>) -> Step
     ensures { IfOk result (λ goes_on. (goes_on ≡ false) × (asked.new ≡ Some (Ask.End (End.Gives Value.Unit)))) }
 {
-    *asked = Some(Ask::End(End::Gives(Value::Unit)));
+    put_ask(asked, Ask::End(End::Gives(Value::Unit)));
     Ok(false)
 }
 
@@ -132,7 +146,7 @@ fn end_with_top(frames: &mut Frames, asked: &mut Option<Ask>) -> Step
     ensures { IfOk result (λ goes_on. WentOn (end_with (machine_of frames.old) (machine_of frames.old).top.stack) goes_on asked.new frames.new) }
 {
     let value = take(&mut frames.top);
-    *asked = Some(Ask::End(End::Gives(value)));
+    put_ask(asked, Ask::End(End::Gives(value)));
     Ok(false)
 }
 
@@ -219,7 +233,7 @@ fn print(alloc: Global, frames: &mut Frames, asked: &mut Option<Ask>) -> Step
     let text = into_text(alloc, value)?;
     frames.top.place += 1;
     frames.awaited = Awaited::ForNothing;
-    *asked = Some(Ask::Print(text));
+    put_ask(asked, Ask::Print(text));
     Ok(false)
 }
 
@@ -347,7 +361,7 @@ fn send(alloc: Global, frames: &mut Frames, method: u8, n: usize, asked: &mut Op
         Value::Ref(object) => {
             frames.top.place += 1;
             frames.awaited = Awaited::ForNothing;
-            *asked = Some(Ask::Send(object, method, arguments));
+            put_ask(asked, Ask::Send(object, method, arguments));
             Ok(false)
         }
         _ => unreachable!(),
@@ -370,7 +384,7 @@ fn call(alloc: Global, frames: &mut Frames, method: u8, n: usize, asked: &mut Op
             }
             frames.top.place += 1;
             frames.awaited = Awaited::ForValue;
-            *asked = Some(Ask::Call(object, method, arguments));
+            put_ask(asked, Ask::Call(object, method, arguments));
             Ok(false)
         }
         _ => unreachable!(),
@@ -393,7 +407,7 @@ fn make(parts: &Parts, frames: &mut Frames, class: u16, n: u32, asked: &mut Opti
     };
     frames.top.place += 1;
     frames.awaited = Awaited::ForObject(builder, n);
-    *asked = Some(Ask::Make(class));
+    put_ask(asked, Ask::Make(class));
     Ok(false)
 }
 

@@ -64,7 +64,7 @@ fn unpack(alloc: Global, hand: &mut Hand<Parcel>) -> Result<Unpacked, AllocError
         Some(Parcel { arguments, task }) => {
             let later = unpack(alloc, hand)?;
             Ok(Unpacked {
-                arguments: arguments.joined(later.arguments)?,
+                arguments: arguments.joined(alloc, later.arguments)?,
                 caller: first_of_two(task, later.caller),
             })
         }
