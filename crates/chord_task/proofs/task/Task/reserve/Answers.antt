@@ -3,8 +3,8 @@ use Rattle.chord_task.specs.Standing.{IsTaskOf}
 use Rattle.chord_task.proofs.Resuming.{task_roomier}
 use Rattle.chord_task.proofs.task.Task.reserve.Goals as goal
 
-pub take_room-requires-clause-spare : goal.take_room-requires-clause-spare
-take_room-requires-clause-spare c = c.requires.task.1.kept
+pub take_room-requires : goal.take_room-requires
+take_room-requires c = record { spare = c.requires.task.1.kept }
 
 pub returns-clause-task : goal.returns-clause-task
 returns-clause-task c = λ limits k.
