@@ -67,11 +67,6 @@ stored_goes i m v s vs st sl h =
 pub pops_fits : (n : ℕ) (s : List Value) → (pops n [] (reverse s) ≡ None → ⊥) → n ≤ length s
 pops_fits n s h = ⊎_elim (λ lt. absurd (h (pops_short n [] (reverse s) (omega (arith, length-reverse s))))) (λ le. le) (cases_lt (length s) n)
 
--- where one value is popped there is one
-pub one_pops : (n : ℕ) (s : List Value) → n ≡ 1 → (pops n [] s ≡ None → ⊥) → s ≡ [] → ⊥
-one_pops n [] e h i = h (ap (λ k. pops k [] []) e)
-one_pops n (x ∷ s) e h i = let z : x ∷ s ≡ [] = i in cc
-
 -- what is popped, and what is left
 pub pops_split : (s : List Value) (n k : ℕ) → n ≤ length s → k + n ≡ length s → pops n [] (reverse s) ≡ Some (drop k s, reverse (take k s))
 pops_split s n k h e =
