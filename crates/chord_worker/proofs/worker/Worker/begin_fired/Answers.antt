@@ -1,6 +1,4 @@
-use Rattle.std.proofs.Common.{◌≡◌, length, subst, sym, ◌≤◌, List, Some, None}
-use Rattle.chord_match.specs.Fires.{laid_together}
-use Rattle.chord_task.specs.Parcels.{arguments_of}
+use Rattle.std.proofs.Common.{◌≡◌, sym, ◌∙◌, Some, None}
 use Rattle.chord_worker.proofs.Beginning.{task_is, may_be_begun, few_values, begun_there}
 use Rattle.chord_worker.proofs.worker.Worker.begin_fired.Goals as goal
 
@@ -11,22 +9,22 @@ pub take_task-task-requires : goal.take_task-task-requires
 take_task-task-requires g c = record { stock = λ e. let z : Some c.requires.fired.1.stock ≡ None = sym c.requires.fired.1.spare ∙ e in cc }
 
 pub resume-requires-clause-task : goal.resume-requires-clause-task
-resume-requires-clause-task g c = rw (c.deref_mut.ensures.value ∙ c.task.view_is) (task_is _ _ _ _ _ _ _ _ c.requires.fired.1 c.requires.sound _ c.requires.code c.chords_are_right.ensures _ c.in_ok-unpack.ensures.caller _ c.take_task-task.ensures.task
-    _ c.in_ok-unpack.ensures.arguments)
+resume-requires-clause-task g c = rw (c.deref_mut.ensures.value ∙ c.task.view_is) (task_is _ _ _ _ _ _ _ _ c.requires.fired.1 c.requires.sound _ c.requires.code c.chords_are_right.ensures _ c.in_ok-arguments.ensures.caller _ c.take_task-task.ensures.task
+    _ c.in_ok-arguments.ensures.arguments)
 
 pub resume-requires-clause-may : goal.resume-requires-clause-may
-resume-requires-clause-may g c = rw (c.deref_mut.ensures.value ∙ c.task.view_is) (may_be_begun _ _ _ _ _ _ _ _ c.requires.fired.1 c.requires.sound _ c.requires.code c.chords_are_right.ensures _ c.in_ok-unpack.ensures.caller _ c.take_task-task.ensures.task
-    _ c.in_ok-unpack.ensures.arguments)
+resume-requires-clause-may g c = rw (c.deref_mut.ensures.value ∙ c.task.view_is) (may_be_begun _ _ _ _ _ _ _ _ c.requires.fired.1 c.requires.sound _ c.requires.code c.chords_are_right.ensures _ c.in_ok-arguments.ensures.caller _ c.take_task-task.ensures.task
+    _ c.in_ok-arguments.ensures.arguments)
 
 pub take_on-requires-clause-begun : goal.take_on-requires-clause-begun
 take_on-requires-clause-begun g c = (
   c.requires.fired.0,
-  begun_there _ _ _ _ _ _ _ _ c.requires.fired.1 c.requires.sound _ c.requires.code c.chords_are_right.ensures _ c.in_ok-unpack.ensures.caller _ c.take_task-task.ensures.task
-      _ c.in_ok-unpack.ensures.arguments _ c.take_task-task.ensures.spare _ (rw (c.deref_mut.ensures.value ∙ c.task.view_is) at c.in_ok-resume.ensures.task) (rw (c.deref_mut.ensures.value ∙ c.task.view_is) at c.in_ok-resume.ensures.past) c.in_ok-resume.ensures.top,
+  begun_there _ _ _ _ _ _ _ _ c.requires.fired.1 c.requires.sound _ c.requires.code c.chords_are_right.ensures _ c.in_ok-arguments.ensures.caller _ c.take_task-task.ensures.task
+      _ c.in_ok-arguments.ensures.arguments _ c.take_task-task.ensures.spare _ (rw (c.deref_mut.ensures.value ∙ c.task.view_is) at c.in_ok-resume.ensures.task) (rw (c.deref_mut.ensures.value ∙ c.task.view_is) at c.in_ok-resume.ensures.past) c.in_ok-resume.ensures.top,
 )
 
-pub returns-in_ok-resume-clause-taken : goal.returns-in_ok-resume-clause-taken
-returns-in_ok-resume-clause-taken g c = λ v fired.
+pub returns-clause-taken : goal.returns-clause-taken
+returns-clause-taken g c = λ v fired.
     c.take_on.ensures.taken v
-    (begun_there _ _ _ _ _ _ _ _ fired c.requires.sound _ c.requires.code c.chords_are_right.ensures _ c.in_ok-unpack.ensures.caller _ c.take_task-task.ensures.task
-    _ c.in_ok-unpack.ensures.arguments _ c.take_task-task.ensures.spare _ (rw (c.deref_mut.ensures.value ∙ c.task.view_is) at c.in_ok-resume.ensures.task) (rw (c.deref_mut.ensures.value ∙ c.task.view_is) at c.in_ok-resume.ensures.past) c.in_ok-resume.ensures.top)
+    (begun_there _ _ _ _ _ _ _ _ fired c.requires.sound _ c.requires.code c.chords_are_right.ensures _ c.in_ok-arguments.ensures.caller _ c.take_task-task.ensures.task
+    _ c.in_ok-arguments.ensures.arguments _ c.take_task-task.ensures.spare _ (rw (c.deref_mut.ensures.value ∙ c.task.view_is) at c.in_ok-resume.ensures.task) (rw (c.deref_mut.ensures.value ∙ c.task.view_is) at c.in_ok-resume.ensures.past) c.in_ok-resume.ensures.top)
