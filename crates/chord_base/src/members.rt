@@ -1,8 +1,10 @@
 //! The messages that a firing takes, by their numbers.
 #![tactic(auto)]
 
-ghost use Rattle.std.specs.Prelude.{◌≡◌, ℕ, ◌<◌, ◌≤◌, List, [], ◌∷◌, ◌++◌, length, take};
+ghost use Rattle.std.specs.Prelude.{◌≡◌, ℕ, ◌<◌, ◌≤◌, List, [], ◌∷◌, ◌++◌, length};
+ghost use Rattle.arrayvec.specs.ArrayVec.{array_vec_len};
 
+use arrayvec::ArrayVec;
 use std::marker::Model;
 
 /// The most headers of a chord, and so the most members of a firing.
@@ -13,18 +15,15 @@ pub const MAX_MEMBERS: usize = 8;
 /// They stand in the value itself: a firing takes no memory.
 #[derive(Drop)]
 pub struct Members {
-    numbers: [u32; MAX_MEMBERS],
-    count: u32,
+    numbers: ArrayVec<u32, MAX_MEMBERS>,
 }
 
 impl Model for Members {
-    ghost use Rattle.std.specs.Prelude.{◌≡◌, ℕ, ◌≤◌, List, length, take};
-
     ghost Value = { List ℕ };
 
-    ghost view = { λ m. take m.count m.numbers };
+    ghost view = { λ m. m.numbers.items };
 
-    ghost invariant = { λ m. (m.count ≤ 8) × (length m.numbers ≡ 8) };
+    ghost invariant = { λ m. length m.numbers.items ≤ 8 };
 }
 
 impl Members {
@@ -33,8 +32,7 @@ impl Members {
         ensures { result ≡ [] }
     {
         Members {
-            numbers: [0; MAX_MEMBERS],
-            count: 0,
+            numbers: ArrayVec::new(),
         }
     }
 
@@ -43,8 +41,7 @@ impl Members {
         requires { length self.old < 8 }
         ensures { self.new ≡ self.old ++ number ∷ [] }
     {
-        self.numbers[self.count as usize] = number;
-        self.count += 1;
+        self.numbers.push(number);
     }
 
     /// The members.
@@ -52,16 +49,17 @@ impl Members {
         ensures numbers { result.now ≡ self.now }
         ensures few { length self.now ≤ 8 }
     {
-        &self.numbers[..self.count as usize]
+        self.numbers.as_slice()
     }
 
     /// An equal list.
     pub fn copied(&self) -> Members
         ensures { result ≡ self.now }
     {
-        Members {
-            numbers: self.numbers,
-            count: self.count,
+        let mut copy = Members::new();
+        for number in self.numbers.as_slice() {
+            copy.push(*number);
         }
+        copy
     }
 }

@@ -1,7 +1,7 @@
 //! Values of the language, and lists of them.
 #![tactic(auto)]
 
-ghost use Rattle.std.specs.Prelude.{◌≡◌, ℕ, ◌+◌, ◌≤◌, List, [], ◌∷◌, ◌++◌, length, IfOk, OnOk};
+ghost use Rattle.std.specs.Prelude.{◌≡◌, ℕ, ◌+◌, ◌≤◌, List, [], ◌∷◌, ◌++◌, length, vec_len, vec_capacity, IfOk, OnOk};
 ghost use Rattle.chord_base.specs.Stores.{values_in};
 
 use crate::text::Text;
@@ -150,6 +150,18 @@ fn stored_together(alloc: Global, values: Store, more: Store) -> Result<Vec<Valu
     }
 }
 
+/// Moves all values of one list to the end of another one that has room for them.
+#[inline(never)]
+fn move_all(values: Vec<Value>, list: &mut Vec<Value>)
+    requires { vec_len list.old + length values.items ≤ vec_capacity list.old }
+    ensures items { list.new.items ≡ list.old.items ++ values.items }
+    ensures capacity { vec_capacity list.new ≡ vec_capacity list.old }
+{
+    for value in values {
+        list.push_reserved(value);
+    }
+}
+
 impl Values {
     /// No values.
     #[inline(always)]
@@ -224,21 +236,17 @@ impl Values {
         }
     }
 
-    /// The values of both lists, one list after the other. Where one of them is empty, the other one is the result, and no memory is
-    /// taken.
-    pub fn joined(self, alloc: Global, more: Values) -> Result<Values, AllocError>
-        requires { length self + length more ≤ 64 }
-        ensures { IfOk result (λ v. v ≡ self ++ more) }
+    /// Moves the values to the end of a list that has room for them. Takes no memory.
+    #[inline(always)]
+    pub fn move_to(self, list: &mut Vec<Value>)
+        requires { vec_len list.old + length self ≤ vec_capacity list.old }
+        ensures items { list.new.items ≡ list.old.items ++ self }
+        ensures capacity { vec_capacity list.new ≡ vec_capacity list.old }
     {
-        if more.items().is_empty() {
-            return Ok(self);
+        match self.values {
+            Store::Nothing => {}
+            Store::One(value) => list.push_reserved(value),
+            Store::Several(values) => move_all(values, list),
         }
-        if self.items().is_empty() {
-            return Ok(more);
-        }
-        let all = stored_together(alloc, self.values, more.values)?;
-        Ok(Values {
-            values: Store::Several(all),
-        })
     }
 }

@@ -25,7 +25,7 @@ pub main_begins : (code : Parts) (limits : Limits) → IsSound (code_program cod
 main_begins code limits s = s.is_defined main_begun 0 (tt, record { numbered = refl; comes = (refl, refl) })
 
 -- a task with the same past in a longer list, and room where there was room, is one of the code
-pub longer_task : (code : Parts) (limits : Limits) (t : Task) (past : Vec Entry Global) → past.items ≡ t.past.items → vec_len past ≡ vec_len t.past → vec_capacity t.past ≤ vec_capacity past → IsTaskOf code limits t → IsTaskOf code limits (record { past = past; top = t.top; below = t.below; spare = t.spare; ended = t.ended; limits = t.limits })
+pub longer_task : (code : Parts) (limits : Limits) (t : Task) (past : Vec Entry Global) → past.items ≡ t.past.items → vec_len past ≡ vec_len t.past → vec_capacity t.past ≤ vec_capacity past → IsTaskOf code limits t → IsTaskOf code limits (record { past = past; top = t.top; below = t.below; spare = t.spare; ended = t.ended; values = t.values; limits = t.limits })
 longer_task code limits t past items len capacity k =
     let same : t.past.items ≡ past.items = sym items in
     record {
@@ -36,9 +36,10 @@ longer_task code limits t past items len capacity k =
       stack = subst (λ (xs : List Entry). IsBodyStack code limits (reverse xs) t.top (reverse t.below.items)) same k.stack;
       room = room_if t.top k.room;
       kept = k.kept;
+      kept_values = k.kept_values;
     }
   where
-    resumable : IsResumable code t → IsResumable code (record { past = past; top = t.top; below = t.below; spare = t.spare; ended = t.ended; limits = t.limits })
+    resumable : IsResumable code t → IsResumable code (record { past = past; top = t.top; below = t.below; spare = t.spare; ended = t.ended; values = t.values; limits = t.limits })
     resumable r =
         record {
           past = (let l = r.past in omega (arith, l, len, capacity));
@@ -46,9 +47,10 @@ longer_task code limits t past items len capacity k =
           frames = r.frames;
           spare = r.spare;
           room = r.room;
+          values = r.values;
         }
 
-    room_if : (top : Option Body) → HasRoomIf code t top → HasRoomIf code (record { past = past; top = t.top; below = t.below; spare = t.spare; ended = t.ended; limits = t.limits }) top
+    room_if : (top : Option Body) → HasRoomIf code t top → HasRoomIf code (record { past = past; top = t.top; below = t.below; spare = t.spare; ended = t.ended; values = t.values; limits = t.limits }) top
     room_if None r = resumable r
     room_if (Some b) r = λ q e. resumable (r q e)
 

@@ -425,7 +425,7 @@ fn begin_at(
     let _parts = code.parts();
     let values = take_all_held(alloc, &bodies.tasks, &mut bodies.tags, members.items())?;
     let task = &mut bodies.tasks[at as usize];
-    task.resume(alloc, code, number, chord, object, members, values)?;
+    task.resume_with(alloc, code, number, chord, object, members, values)?;
     bodies.ready.push(at)?;
     bodies.tags.push(Tag {
         task: at,
@@ -464,7 +464,7 @@ fn begin_alone(
     let _parts = code.parts();
     let values = take_all_held(alloc, &bodies.tasks, &mut bodies.tags, members.items())?;
     let mut task = Task::spare(alloc, code, limits)?;
-    task.resume(alloc, code, number, chord, object, members, values)?;
+    task.resume_with(alloc, code, number, chord, object, members, values)?;
     bodies.tasks.push(task)?;
     bodies.ready.push(at)?;
     bodies.tags.push(Tag {

@@ -27,6 +27,9 @@ use Rattle.chord_task.specs.declared.body.Next.TheVariants as nexts
 use Rattle.chord_task.specs.declared.body.Body.{Body}
 use Rattle.chord_task.specs.declared.task.Task.{Task}
 use Rattle.chord_task.specs.Stacks.{IsTask, TopWaitsFor, FitsCall}
+use Rattle.chord_vm.specs.Frames.{laid}
+use Rattle.chord_task.specs.declared.args.Args.{Args}
+use Rattle.chord_task.specs.Arguments.{MayBeList, for_entry, for_body, AreTwice}
 use Rattle.chord_task.specs.Standing.{body_number, view_of, NextIs, IsUp, IsParked, IsTop, AreParked, IsBodyStack, HasRoomFor, IsTaskOf, MayResume, room_of, may_go, body_may_go, is_ready_of, IsRoomier, IsRoomierTop}
 use Rattle.chord_task.proofs.Stacks.{task_resume, task_spare, begun_ready}
 use Rattle.chord_task.proofs.Standing.{entry, parked_more, all_parked, parked_under}
@@ -166,8 +169,8 @@ begun_up code limits h top bs n k o ms vs f line b l s =
     }
 
 -- the task with the new body on top
-pub task_resumed : (code : Parts) (limits : Limits) (t : Task) (past : Vec Entry Global) (below : Vec Body Global) (n k : ℕ) (o : Object) (ms : List ℕ) (vs : List Value) (f : Box Frames Global) (line : ChordLine) → IsTaskOf code limits t → MayResume code limits t n k o ms vs → slice_get (chord_lines code o.class) k ≡ Some line → body_in_block code line.block (room_of limits t.top) (a_value.Ref o ∷ vs) limits.turns ≡ Some (machine_of f.value) → past.items ≡ t.past.items ++ entry n n (Fired k o ms vs) ∷ [] → reverse below.items ≡ with_top t.top (reverse t.below.items) → IsTaskOf code limits (record { past = past; top = Some (record { number = n; frames = f; next = nexts.Runs }); below = below; spare = None; ended = t.ended; limits = t.limits })
-task_resumed code limits t past below n k o ms vs f line task may l s items bodies =
+pub task_resumed : (code : Parts) (limits : Limits) (t : Task) (past : Vec Entry Global) (below : Vec Body Global) (values : Option (Vec Value Global)) (n k : ℕ) (o : Object) (ms : List ℕ) (vs : List Value) (f : Box Frames Global) (line : ChordLine) → MayBeList values → IsTaskOf code limits t → MayResume code limits t n k o ms vs → slice_get (chord_lines code o.class) k ≡ Some line → body_in_block code line.block (room_of limits t.top) (a_value.Ref o ∷ vs) limits.turns ≡ Some (machine_of f.value) → past.items ≡ t.past.items ++ entry n n (Fired k o ms vs) ∷ [] → reverse below.items ≡ with_top t.top (reverse t.below.items) → IsTaskOf code limits (record { past = past; top = Some (record { number = n; frames = f; next = nexts.Runs }); below = below; spare = None; ended = t.ended; values = values; limits = t.limits })
+task_resumed code limits t past below values n k o ms vs f line list task may l s items bodies =
     let p = code_program code limits in
     let h = (view_of t).past in
     let e = entry n n (Fired k o ms vs) in
@@ -185,6 +188,7 @@ task_resumed code limits t past below n k o ms vs f line task may l s items bodi
           );
       room = λ q z. let x : nexts.Runs ≡ nexts.Waits q = z in cc;
       kept = tt;
+      kept_values = list;
     }
 
 -- frames in stock have room for the block of the chord
@@ -237,10 +241,10 @@ waits_goes : (n : Next) (q : ℕ) → n ≡ nexts.Waits q → may_go n ≡ true 
 waits_goes n q e g = (let z : false ≡ true = sym (ap may_go e) ∙ g in cc)
 
 -- the task with more room
-pub task_roomier : (code : Parts) (limits : Limits) (t : Task) (past : Vec Entry Global) (below : Vec Body Global) (top top' : Option Body) (spare ended : Option (Box Frames Global)) → t.top ≡ top → IsTaskOf code limits t → is_ready_of t ≡ true → past.items ≡ t.past.items → below.items ≡ t.below.items → IsRoomierTop top top' → HasRoomFor code t.limits spare → IsTaskOf code limits (record { past = past; top = top'; below = below; spare = spare; ended = ended; limits = t.limits })
-task_roomier code limits t past below None top' spare ended i k g p q r s = (let z : false ≡ true = sym (ap body_may_go i) ∙ g in cc)
-task_roomier code limits t past below (Some b) None spare ended i k g p q r s = absurd r
-task_roomier code limits t past below (Some b) (Some b') spare ended i k g p q r s =
+pub task_roomier : (code : Parts) (limits : Limits) (t : Task) (past : Vec Entry Global) (below : Vec Body Global) (top top' : Option Body) (spare ended : Option (Box Frames Global)) (values : Option (Vec Value Global)) → t.top ≡ top → IsTaskOf code limits t → is_ready_of t ≡ true → past.items ≡ t.past.items → below.items ≡ t.below.items → IsRoomierTop top top' → HasRoomFor code t.limits spare → MayBeList values → IsTaskOf code limits (record { past = past; top = top'; below = below; spare = spare; ended = ended; values = values; limits = t.limits })
+task_roomier code limits t past below None top' spare ended values i k g p q r s v = (let z : false ≡ true = sym (ap body_may_go i) ∙ g in cc)
+task_roomier code limits t past below (Some b) None spare ended values i k g p q r s v = absurd r
+task_roomier code limits t past below (Some b) (Some b') spare ended values i k g p q r s v =
     let m = code_program code limits in
     let h = (view_of t).past in
     let up : may_go b.next ≡ true = sym (ap body_may_go i) ∙ g in
@@ -259,8 +263,19 @@ task_roomier code limits t past below (Some b) (Some b') spare ended i k g p q r
       stack = subst (λ z. IsBodyStack code limits z (Some b') (reverse below.items)) (sym same) (top, rest);
       room = λ j e. absurd (waits_goes b.next j (sym r.1 ∙ e) up);
       kept = s;
+      kept_values = v;
     }
 
+-- arguments that are held twice are the same for the entry and for the body
+twice_same : (as_ : List Args) → AreTwice as_ → for_body as_ ≡ for_entry as_
+twice_same [] t = refl
+twice_same (a ∷ as_) t = ap (λ z. z ∷ for_body as_) t.0 ∙ ap (λ z. a.first ∷ z) (twice_same as_ t.1)
+
 -- the body begins on these values as the meaning of the code has it
-pub begun_same : (code : Parts) (limits l : Limits) (b depth room : ℕ) (this : Value) (vs : List Value) → l ≡ limits → limits.depth - depth ≡ room → body_in_block code b (l.depth - depth) (this ∷ vs) l.turns ≡ body_in_block code b room (this ∷ vs) limits.turns
-begun_same code limits l b depth room this vs e d = ap (λ (x : Limits). body_in_block code b (x.depth - depth) (this ∷ vs) x.turns) e ∙ ap (λ r. body_in_block code b r (this ∷ vs) limits.turns) d
+pub begun_with : (code : Parts) (limits l : Limits) (b depth room : ℕ) (this : Value) (vs : List Value) → l ≡ limits → limits.depth - depth ≡ room → body_in_block code b (l.depth - depth) (this ∷ vs) l.turns ≡ body_in_block code b room (this ∷ vs) limits.turns
+begun_with code limits l b depth room this vs e d = ap (λ (x : Limits). body_in_block code b (x.depth - depth) (this ∷ vs) x.turns) e ∙ ap (λ r. body_in_block code b r (this ∷ vs) limits.turns) d
+
+-- the body begins as the meaning of the code has it
+pub begun_same : (code : Parts) (limits l : Limits) (b depth room : ℕ) (this : Value) (xs : List (List Value)) (as_ : List Args) → l ≡ limits → limits.depth - depth ≡ room → xs ≡ for_body as_ → AreTwice as_ → body_in_block code b (l.depth - depth) (this ∷ laid xs) l.turns ≡ body_in_block code b room (this ∷ laid (for_entry as_)) limits.turns
+begun_same code limits l b depth room this xs as_ e d s t =
+    begun_with code limits l b depth room this (laid xs) e d ∙ ap (λ (ys : List (List Value)). body_in_block code b room (this ∷ laid ys) limits.turns) (s ∙ twice_same as_ t)

@@ -20,6 +20,7 @@ use Rattle.chord_task.specs.declared.body.Next.TheVariants as nexts
 use Rattle.chord_task.specs.declared.body.Body.{Body}
 use Rattle.chord_task.specs.declared.task.Task.{Task}
 use Rattle.chord_task.specs.Stacks.{IsServedThere, IsTask, task_noted}
+use Rattle.chord_task.specs.Arguments.{MayBeList}
 use Rattle.chord_task.specs.Standing.{body_number, view_of, NextIs, IsTop, IsBodyStack, IsResumable, HasRoomIf, HasRoomFor, IsTaskOf, given_of, given_by, answer_of, MayAnswer, AnsweredWith, CalledBack, IsReadyFor, MayNote}
 use Rattle.chord_task.proofs.Standing.{entry, noted_answer_fits}
 use Rattle.chord_task.proofs.Notes.{stack_view, gave_up, note_gave, note_last, note_end, back_top}
@@ -68,7 +69,7 @@ may_answer code limits t b n w k may top e = by_value (answer_of n w) refl
         )
 
 -- the task after its ask became an entry
-pub task_gave : (code : Parts) (limits : Limits) (t : Task) (past : Vec Entry Global) (b b' : Body) (n : ℕ) (w : What) → IsTaskOf code limits t → (may : MayNote code limits t n) → t.top ≡ Some b → b.next ≡ nexts.Gave w → b'.number ≡ b.number → AnsweredWith (answer_of n w) n b.frames.value b' → past.items ≡ t.past.items ++ entry n b.number w ∷ [] → vec_len past ≡ vec_len t.past + 1 → vec_capacity past ≡ vec_capacity t.past → IsTaskOf code limits (record { past = past; top = Some b'; below = t.below; spare = t.spare; ended = t.ended; limits = t.limits }) × task_noted (view_of t) n may.what (view_of (record { past = past; top = Some b'; below = t.below; spare = t.spare; ended = t.ended; limits = t.limits })) × (is_end may.what ≡ false → (view_of (record { past = past; top = Some b'; below = t.below; spare = t.spare; ended = t.ended; limits = t.limits })).top ≡ (view_of t).top)
+pub task_gave : (code : Parts) (limits : Limits) (t : Task) (past : Vec Entry Global) (b b' : Body) (n : ℕ) (w : What) → IsTaskOf code limits t → (may : MayNote code limits t n) → t.top ≡ Some b → b.next ≡ nexts.Gave w → b'.number ≡ b.number → AnsweredWith (answer_of n w) n b.frames.value b' → past.items ≡ t.past.items ++ entry n b.number w ∷ [] → vec_len past ≡ vec_len t.past + 1 → vec_capacity past ≡ vec_capacity t.past → IsTaskOf code limits (record { past = past; top = Some b'; below = t.below; spare = t.spare; ended = t.ended; values = t.values; limits = t.limits }) × task_noted (view_of t) n may.what (view_of (record { past = past; top = Some b'; below = t.below; spare = t.spare; ended = t.ended; values = t.values; limits = t.limits })) × (is_end may.what ≡ false → (view_of (record { past = past; top = Some b'; below = t.below; spare = t.spare; ended = t.ended; values = t.values; limits = t.limits })).top ≡ (view_of t).top)
 task_gave code limits t past b b' n w k may top e i r items len capacity =
     let p = code_program code limits in
     let h = (view_of t).past in
@@ -78,6 +79,7 @@ task_gave code limits t past b b' n w k may top e i r items len capacity =
       record {
         forward = k.forward;
         kept = k.kept;
+        kept_values = k.kept_values;
         limited = k.limited;
         task = subst (λ z. IsTask p (stack_view z (Some b'.number))) (sym new) whole.task;
         is_defined = λ c. subst (λ z. StaysDefinedAt p (doing p z c)) (sym new) (stays_at code limits t b n w may top j c);
@@ -90,6 +92,7 @@ task_gave code limits t past b b' n w k may top e i r items len capacity =
               frames = may.reserved.frames;
               spare = may.reserved.spare;
               room = may.reserved.room;
+              values = may.reserved.values;
             };
       },
       (b.number, ap body_number top, subst (λ z. reverse past.items ≡ entry n b.number z ∷ h) (sym j) new),
@@ -97,7 +100,7 @@ task_gave code limits t past b b' n w k may top e i r items len capacity =
     )
 
 -- the last body of a task ends
-pub task_last : (code : Parts) (limits : Limits) (t : Task) (past : Vec Entry Global) (below : Vec Body Global) (ended : Option (Box Frames Global)) (b : Body) (n : ℕ) (x y : End) → IsTaskOf code limits t → (may : MayNote code limits t n) → t.top ≡ Some b → b.next ≡ nexts.Ends x y → t.below.items ≡ [] → below.items ≡ [] → past.items ≡ t.past.items ++ entry n b.number (Ended x) ∷ [] → vec_len past ≡ vec_len t.past + 1 → vec_capacity past ≡ vec_capacity t.past → vec_len below ≡ vec_len t.below → vec_capacity below ≡ vec_capacity t.below → IsTaskOf code limits (record { past = past; top = None; below = below; spare = t.spare; ended = ended; limits = t.limits }) × task_noted (view_of t) n may.what (view_of (record { past = past; top = None; below = below; spare = t.spare; ended = ended; limits = t.limits })) × (is_end may.what ≡ false → (view_of (record { past = past; top = None; below = below; spare = t.spare; ended = ended; limits = t.limits })).top ≡ (view_of t).top)
+pub task_last : (code : Parts) (limits : Limits) (t : Task) (past : Vec Entry Global) (below : Vec Body Global) (ended : Option (Box Frames Global)) (b : Body) (n : ℕ) (x y : End) → IsTaskOf code limits t → (may : MayNote code limits t n) → t.top ≡ Some b → b.next ≡ nexts.Ends x y → t.below.items ≡ [] → below.items ≡ [] → past.items ≡ t.past.items ++ entry n b.number (Ended x) ∷ [] → vec_len past ≡ vec_len t.past + 1 → vec_capacity past ≡ vec_capacity t.past → vec_len below ≡ vec_len t.below → vec_capacity below ≡ vec_capacity t.below → IsTaskOf code limits (record { past = past; top = None; below = below; spare = t.spare; ended = ended; values = t.values; limits = t.limits }) × task_noted (view_of t) n may.what (view_of (record { past = past; top = None; below = below; spare = t.spare; ended = ended; values = t.values; limits = t.limits })) × (is_end may.what ≡ false → (view_of (record { past = past; top = None; below = below; spare = t.spare; ended = ended; values = t.values; limits = t.limits })).top ≡ (view_of t).top)
 task_last code limits t past below ended b n x y k may top e none left items len capacity long room =
     let p = code_program code limits in
     let h = (view_of t).past in
@@ -108,6 +111,7 @@ task_last code limits t past below ended b n x y k may top e none left items len
       record {
         forward = k.forward;
         kept = k.kept;
+        kept_values = k.kept_values;
         limited = k.limited;
         task = subst (λ z. IsTask p (stack_view z None)) (sym new) whole.task;
         is_defined = λ c. subst (λ z. StaysDefinedAt p (doing p z c)) (sym new) (stays_at code limits t b n (Ended x) may top j c);
@@ -119,6 +123,7 @@ task_last code limits t past below ended b n x y k may top e none left items len
               frames = may.reserved.frames;
               spare = may.reserved.spare;
               room = may.reserved.room;
+              values = may.reserved.values;
             };
       },
       (b.number, ap body_number top, subst (λ z. reverse past.items ≡ entry n b.number z ∷ h) (sym j) new),
@@ -144,7 +149,7 @@ pub caller_at : (code : Parts) (limits : Limits) (t : Task) (rest : List Body) (
 caller_at code limits t rest b c k top e = subst (λ z. IsBodyStack code limits (view_of t).past (Some b) z) (last_of t.below.items rest c e) (stack_at code limits t b k top)
 
 -- a body ends, and its caller goes on
-pub task_back : (code : Parts) (limits : Limits) (t : Task) (past : Vec Entry Global) (below : Vec Body Global) (ended : Option (Box Frames Global)) (b c c' : Body) (n : ℕ) (x y : End) → IsTaskOf code limits t → (may : MayNote code limits t n) → t.top ≡ Some b → b.next ≡ nexts.Ends x y → t.below.items ≡ below.items ++ c ∷ [] → CalledBack y c c' → past.items ≡ t.past.items ++ entry n b.number (Ended x) ∷ [] → IsTaskOf code limits (record { past = past; top = Some c'; below = below; spare = t.spare; ended = ended; limits = t.limits }) × task_noted (view_of t) n may.what (view_of (record { past = past; top = Some c'; below = below; spare = t.spare; ended = ended; limits = t.limits })) × (is_end may.what ≡ false → (view_of (record { past = past; top = Some c'; below = below; spare = t.spare; ended = ended; limits = t.limits })).top ≡ (view_of t).top)
+pub task_back : (code : Parts) (limits : Limits) (t : Task) (past : Vec Entry Global) (below : Vec Body Global) (ended : Option (Box Frames Global)) (b c c' : Body) (n : ℕ) (x y : End) → IsTaskOf code limits t → (may : MayNote code limits t n) → t.top ≡ Some b → b.next ≡ nexts.Ends x y → t.below.items ≡ below.items ++ c ∷ [] → CalledBack y c c' → past.items ≡ t.past.items ++ entry n b.number (Ended x) ∷ [] → IsTaskOf code limits (record { past = past; top = Some c'; below = below; spare = t.spare; ended = ended; values = t.values; limits = t.limits }) × task_noted (view_of t) n may.what (view_of (record { past = past; top = Some c'; below = below; spare = t.spare; ended = ended; values = t.values; limits = t.limits })) × (is_end may.what ≡ false → (view_of (record { past = past; top = Some c'; below = below; spare = t.spare; ended = ended; values = t.values; limits = t.limits })).top ≡ (view_of t).top)
 task_back code limits t past below ended b c c' n x y k may top e parts back items =
     let p = code_program code limits in
     let h = (view_of t).past in
@@ -157,6 +162,7 @@ task_back code limits t past below ended b c c' n x y k may top e parts back ite
       record {
         forward = k.forward;
         kept = k.kept;
+        kept_values = k.kept_values;
         limited = k.limited;
         task = subst (λ z. IsTask p (stack_view z (Some c'.number))) (sym new) whole.task;
         is_defined = λ d. subst (λ z. StaysDefinedAt p (doing p z d)) (sym new) (stays_at code limits t b n (Ended x) may top j d);
@@ -183,8 +189,8 @@ on_ok_follows P Q (Ok x) f p = f p
 on_ok_follows P Q (Err e) f p = tt
 
 -- a task without a body, with room for one
-pub spare_task : (code : Parts) (limits : Limits) (t : Task) → IsForward code → t.limits ≡ limits → t.top ≡ None → t.past.items ≡ [] → t.below.items ≡ [] → IsResumable code t → HasRoomFor code t.limits t.spare → IsTaskOf code limits t
-spare_task code limits t forward limited top past below room kept =
+pub spare_task : (code : Parts) (limits : Limits) (t : Task) → IsForward code → t.limits ≡ limits → t.top ≡ None → t.past.items ≡ [] → t.below.items ≡ [] → IsResumable code t → HasRoomFor code t.limits t.spare → MayBeList t.values → IsTaskOf code limits t
+spare_task code limits t forward limited top past below room kept list =
     let p = code_program code limits in
     let none : (view_of t).past ≡ [] = ap reverse past in
     record {
@@ -201,4 +207,5 @@ spare_task code limits t forward limited top past below room kept =
       stack = subst (λ z. IsBodyStack code limits (view_of t).past z (reverse t.below.items)) (sym top) (ap reverse below);
       room = subst (λ z. HasRoomIf code t z) (sym top) room;
       kept = kept;
+      kept_values = list;
     }

@@ -22,6 +22,7 @@ use Rattle.chord_task.specs.declared.body.Next.{Next}
 use Rattle.chord_task.specs.declared.body.Next.TheVariants as nexts
 use Rattle.chord_task.specs.declared.body.Body.{Body}
 use Rattle.chord_task.specs.declared.task.Task.{Task}
+use Rattle.chord_task.specs.Arguments.{MayBeList}
 use Rattle.chord_task.specs.Stacks.{TaskView, IsNext, StaysDefined, task_noted}
 use Rattle.chord_task.specs.Standing.{body_number, view_of, IsTaskOf, GivenBy, AskedBy, AskedBody, may_go, body_may_go, is_ready_of, HasGiven, HasRoomFor, IsReadyFor, IsReserved, IsRoomier, IsRoomierTop, MayNote, MayAnswer, AnsweredWith, CalledBack, answer_of}
 use Rattle.chord_task.specs.Turning.{MayTurn, Turned, RunsOn, IsAskedFor, MaySettle, HasSettled}
@@ -33,7 +34,7 @@ use Rattle.chord_task.proofs.Tasks.{stack_at, may_answer, task_gave, task_last, 
 
 -- a task with another body on top
 abbrev pub with_body : Task → Body → Task
-with_body t b = record { past = t.past; top = Some b; below = t.below; spare = t.spare; ended = t.ended; limits = t.limits }
+with_body t b = record { past = t.past; top = Some b; below = t.below; spare = t.spare; ended = t.ended; values = t.values; limits = t.limits }
 
 -- a body with other frames
 abbrev pub with_frames : Body → Box Frames Global → Body
@@ -99,7 +100,7 @@ is_asked_for code limits t b f a k r top adv =
       number = refl;
       frames = refl;
       given = (next_given a).1;
-      task = subst (λ l. IsTaskOf code l (record { past = t.past; top = Some (record { number = b.number; frames = f; next = (next_given a).0 }); below = t.below; spare = t.spare; ended = t.ended; limits = t.limits })) (sym k.limited) (task_asked code limits t b (record { number = b.number; frames = f; next = (next_given a).0 }) (what_of_ask a) k top (has_asked code t b f a r top adv) (given_is (what_of_ask a) (next_given a).0 (next_given a).1));
+      task = subst (λ l. IsTaskOf code l (record { past = t.past; top = Some (record { number = b.number; frames = f; next = (next_given a).0 }); below = t.below; spare = t.spare; ended = t.ended; values = t.values; limits = t.limits })) (sym k.limited) (task_asked code limits t b (record { number = b.number; frames = f; next = (next_given a).0 }) (what_of_ask a) k top (has_asked code t b f a r top adv) (given_is (what_of_ask a) (next_given a).0 (next_given a).1));
     }
 
 -- the ask is the next ask
@@ -148,15 +149,15 @@ pub record Roomy (code : Parts) (t s : Task) (n : ℕ) (w : What) (b : Body) : T
   pub top : (view_of t).top ≡ Some b.number
 
 -- there is room
-pub roomy : (code : Parts) (t s : Task) (n : ℕ) (w : What) (b : Body) → IsAskedFor code t w → MaySettle code t n w → s.past.items ≡ t.past.items → s.below.items ≡ t.below.items → IsRoomierTop t.top s.top → HasRoomFor code t.limits s.spare → s.limits ≡ t.limits → IsReserved code s → s.top ≡ Some b → Roomy code t s n w b
-roomy code t s n w b a m past below top spare limits ready is =
+pub roomy : (code : Parts) (t s : Task) (n : ℕ) (w : What) (b : Body) → IsAskedFor code t w → MaySettle code t n w → s.past.items ≡ t.past.items → s.below.items ≡ t.below.items → IsRoomierTop t.top s.top → HasRoomFor code t.limits s.spare → MayBeList s.values → s.limits ≡ t.limits → IsReserved code s → s.top ≡ Some b → Roomy code t s n w b
+roomy code t s n w b a m past below top spare values limits ready is =
     let p = code_program code t.limits in
     let r = roomier_top t.top s.top a.body a.on_top top in
     let e : r.0 ≡ b = same_body r.0 b (sym r.1 ∙ is) in
     let q : IsRoomier a.body b = subst (λ (z : Body). IsRoomier a.body z) e r.2 in
     let q' : IsRoomier a.asked (with_next b a.asked.next) = (q.0 ∙ sym a.number, refl, q.2 ∙ sym (ap (λ (x : Box Frames Global). machine_of x.value) a.frames), q.3 ∙ sym (ap (λ (x : Box Frames Global). x.value.awaited) a.frames)) in
-    let k0 = task_roomier code t.limits (with_body t a.asked) s.past s.below (Some a.asked) (Some (with_next b a.asked.next)) s.spare s.ended refl a.task (given_goes w a.asked.next a.given) past below q' spare in
-    let k : IsTaskOf code t.limits (with_body s (with_next b a.asked.next)) = subst (λ l. IsTaskOf code t.limits (record { past = s.past; top = Some (with_next b a.asked.next); below = s.below; spare = s.spare; ended = s.ended; limits = l })) (sym limits) k0 in
+    let k0 = task_roomier code t.limits (with_body t a.asked) s.past s.below (Some a.asked) (Some (with_next b a.asked.next)) s.spare s.ended s.values refl a.task (given_goes w a.asked.next a.given) past below q' spare values in
+    let k : IsTaskOf code t.limits (with_body s (with_next b a.asked.next)) = subst (λ l. IsTaskOf code t.limits (record { past = s.past; top = Some (with_next b a.asked.next); below = s.below; spare = s.spare; ended = s.ended; values = s.values; limits = l })) (sym limits) k0 in
     let h : (view_of s).past ≡ (view_of t).past = ap reverse past in
     let view : (view_of t).top ≡ Some b.number = ap body_number a.on_top ∙ ap Some (sym q.0) in
     record {
@@ -168,7 +169,7 @@ roomy code t s n w b a m past below top spare limits ready is =
           record {
             what = w;
             gave = given_is w a.asked.next a.given;
-            reserved = record { past = ready.past; below = ready.below; frames = ready.frames; spare = ready.spare; room = ready.room; top = subst IsReadyFor is ready.top };
+            reserved = record { past = ready.past; below = ready.below; frames = ready.frames; spare = ready.spare; room = ready.room; values = ready.values; top = subst IsReadyFor is ready.top };
             stays = λ c z d. subst (λ (g : List Entry). IsDefined p (doing p (record { number = n; body = c; what = w } ∷ g) d)) (sym h) (m.stays c (view ∙ z) d);
             above = subst (λ (g : List Entry). AllBelow n g) (sym h) m.above;
           };
@@ -200,17 +201,17 @@ roomy_asked code t s n w b x v e =
     run_asked code x.task.forward v (waiting_of b.frames.value) (suc (weight code g.2.0)) g.2.0 g.2.2
 
 -- the ask became an entry, and the body goes on, or waits
-pub settled_gave : (code : Parts) (t s : Task) (n : ℕ) (w : What) (b : Body) (x : Roomy code t s n w b) (v : What) → x.asked ≡ nexts.Gave v → (past : Vec Entry Global) (b' : Body) → b'.number ≡ b.number → AnsweredWith (answer_of n v) n b.frames.value b' → past.items ≡ s.past.items ++ entry n b.number v ∷ [] → vec_len past ≡ vec_len s.past + 1 → vec_capacity past ≡ vec_capacity s.past → HasSettled code t n w (record { past = past; top = Some b'; below = s.below; spare = s.spare; ended = s.ended; limits = s.limits })
+pub settled_gave : (code : Parts) (t s : Task) (n : ℕ) (w : What) (b : Body) (x : Roomy code t s n w b) (v : What) → x.asked ≡ nexts.Gave v → (past : Vec Entry Global) (b' : Body) → b'.number ≡ b.number → AnsweredWith (answer_of n v) n b.frames.value b' → past.items ≡ s.past.items ++ entry n b.number v ∷ [] → vec_len past ≡ vec_len s.past + 1 → vec_capacity past ≡ vec_capacity s.past → HasSettled code t n w (record { past = past; top = Some b'; below = s.below; spare = s.spare; ended = s.ended; values = s.values; limits = s.limits })
 settled_gave code t s n w b x v e past b' i r items len capacity =
     has_settled code t s _ n w b x (task_gave code t.limits (with_body s (with_next b x.asked)) past (with_next b x.asked) b' n v x.task x.may refl e i r items len capacity)
 
 -- the end became an entry, and the caller goes on
-pub settled_back : (code : Parts) (t s : Task) (n : ℕ) (w : What) (b : Body) (x : Roomy code t s n w b) (y : End) → x.asked ≡ nexts.Ends y y → (past : Vec Entry Global) (below : Vec Body Global) (ended : Option (Box Frames Global)) (c c' : Body) → s.below.items ≡ below.items ++ c ∷ [] → CalledBack y c c' → past.items ≡ s.past.items ++ entry n b.number (Ended y) ∷ [] → HasSettled code t n w (record { past = past; top = Some c'; below = below; spare = s.spare; ended = ended; limits = s.limits })
+pub settled_back : (code : Parts) (t s : Task) (n : ℕ) (w : What) (b : Body) (x : Roomy code t s n w b) (y : End) → x.asked ≡ nexts.Ends y y → (past : Vec Entry Global) (below : Vec Body Global) (ended : Option (Box Frames Global)) (c c' : Body) → s.below.items ≡ below.items ++ c ∷ [] → CalledBack y c c' → past.items ≡ s.past.items ++ entry n b.number (Ended y) ∷ [] → HasSettled code t n w (record { past = past; top = Some c'; below = below; spare = s.spare; ended = ended; values = s.values; limits = s.limits })
 settled_back code t s n w b x y e past below ended c c' parts back items =
     has_settled code t s _ n w b x (task_back code t.limits (with_body s (with_next b x.asked)) past below ended (with_next b x.asked) c c' n y y x.task x.may refl e parts back items)
 
 -- the end became an entry, and no body is left
-pub settled_last : (code : Parts) (t s : Task) (n : ℕ) (w : What) (b : Body) (x : Roomy code t s n w b) (y : End) → x.asked ≡ nexts.Ends y y → (past : Vec Entry Global) (below : Vec Body Global) (ended : Option (Box Frames Global)) → s.below.items ≡ [] → below.items ≡ [] → past.items ≡ s.past.items ++ entry n b.number (Ended y) ∷ [] → vec_len past ≡ vec_len s.past + 1 → vec_capacity past ≡ vec_capacity s.past → vec_len below ≡ vec_len s.below → vec_capacity below ≡ vec_capacity s.below → HasSettled code t n w (record { past = past; top = None; below = below; spare = s.spare; ended = ended; limits = s.limits })
+pub settled_last : (code : Parts) (t s : Task) (n : ℕ) (w : What) (b : Body) (x : Roomy code t s n w b) (y : End) → x.asked ≡ nexts.Ends y y → (past : Vec Entry Global) (below : Vec Body Global) (ended : Option (Box Frames Global)) → s.below.items ≡ [] → below.items ≡ [] → past.items ≡ s.past.items ++ entry n b.number (Ended y) ∷ [] → vec_len past ≡ vec_len s.past + 1 → vec_capacity past ≡ vec_capacity s.past → vec_len below ≡ vec_len s.below → vec_capacity below ≡ vec_capacity s.below → HasSettled code t n w (record { past = past; top = None; below = below; spare = s.spare; ended = ended; values = s.values; limits = s.limits })
 settled_last code t s n w b x y e past below ended none left items len capacity long room =
     has_settled code t s _ n w b x (task_last code t.limits (with_body s (with_next b x.asked)) past below ended (with_next b x.asked) n y y x.task x.may refl e none left items len capacity long room)
 

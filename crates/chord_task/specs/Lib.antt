@@ -1,4 +1,6 @@
 -- ## What callers read
+-- the arguments of messages, held twice
+pub mod Arguments
 -- stacks of bodies of any program
 pub mod Stacks
 -- what the bodies of a task stand for

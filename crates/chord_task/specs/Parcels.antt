@@ -1,5 +1,5 @@
 -- What a parcel keeps, holds and keeps to.
-use Rattle.std.specs.Prelude.{◌≢◌, List, [], Option, Some, None}
+use Rattle.std.specs.Prelude.{◌≡◌, ◌≢◌, List, [], Option, Some, None}
 use Rattle.chord_base.specs.declared.value.Value.{Value}
 use Rattle.chord_base.specs.declared.event.Entry.{Entry}
 use Rattle.chord_base.specs.declared.event.Limits.{Limits}
@@ -19,13 +19,13 @@ entries_of p = past_in p.task
 
 -- the arguments that a parcel holds
 abbrev pub arguments_of : Parcel → List Value
-arguments_of p = p.arguments
+arguments_of p = p.arguments.first
 
 -- a task, if there is one, is of this code under these limits, and a body is left
 abbrev pub TaskIn : Parts → Limits → Option Task → Type 0
 TaskIn code limits None = Unit {0}
 TaskIn code limits (Some t) = IsTaskOf code limits t × ((view_of t).top ≢ None)
 
--- its task, if there is one, is of this code under these limits, and a body is left
+-- its arguments are held twice, and its task is one of this code under these limits, with a body
 abbrev pub IsParcelOf : Parcel → Parts → Limits → Type 0
-IsParcelOf p code limits = TaskIn code limits p.task
+IsParcelOf p code limits = (p.arguments.second ≡ p.arguments.first) × TaskIn code limits p.task

@@ -21,6 +21,7 @@ use Rattle.chord_code.specs.Meaning.{Point, At, FailsBy, code_program, stands, a
 use Rattle.chord_vm.specs.declared.frames.Frames.{Frames}
 use Rattle.chord_vm.specs.Frames.{machine_of, waiting_of, what_of_ask, Advanced, IsReady, IsRoomFor}
 use Rattle.chord_vm.specs.declared.ask.Ask.{Ask}
+use Rattle.chord_task.specs.Arguments.{IsList, MayBeList}
 use Rattle.chord_base.specs.Printed.{is_end}
 use Rattle.chord_task.specs.declared.body.Next.{Next}
 use Rattle.chord_task.specs.declared.body.Next.TheVariants as nexts
@@ -110,6 +111,7 @@ pub record IsResumable (code : Parts) (t : Task) : Type 0 where
   pub frames : Box Frames Global
   pub spare : t.spare ≡ Some frames
   pub room : IsSpareOf code t.limits frames.value
+  pub values : IsList t.values
 
 -- there is room for a firing, if this body on top waits for one, or none is left
 abbrev pub HasRoomIf : Parts → Task → Option Body → Type 0
@@ -130,6 +132,7 @@ pub record IsTaskOf (code : Parts) (limits : Limits) (t : Task) : Type 0 where
   pub stack : IsBodyStack code limits (view_of t).past t.top (reverse t.below.items)
   pub room : HasRoomIf code t t.top
   pub kept : HasRoomFor code t.limits t.spare
+  pub kept_values : MayBeList t.values
 
 -- the body can go on to an ask
 abbrev pub IsRunnable : Parts → Body → Type 0
@@ -258,6 +261,7 @@ pub record IsReserved (code : Parts) (t : Task) : Type 0 where
   pub frames : Box Frames Global
   pub spare : t.spare ≡ Some frames
   pub room : IsSpareOf code t.limits frames.value
+  pub values : IsList t.values
   pub top : IsReadyFor t.top
 
 -- the ask that was given may become the entry of this number

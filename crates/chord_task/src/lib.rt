@@ -1,11 +1,12 @@
 //! Tasks: stacks of bodies, each waiting for the one above it, and the entries that they made.
 //! Stands on: chord_base (entries), chord_code (what a code means), chord_vm (the machine of a body). Used by: many crates.
-//! Promise: the past of a task is a story of its code; `note` and `resume` add exactly the entry that they are told, and `note`
-//! takes no memory.
+//! Promise: the past of a task is a story of its code; `note` and `resume` add exactly the entry that they are told, and take
+//! no memory.
 //! Not here: which body goes on next, and which chord fires (the engines).
 #![tactic(auto)]
 
 pub mod apart;
+pub mod args;
 pub mod body;
 pub mod cross;
 pub mod parcel;

@@ -8,22 +8,28 @@ ghost use Rattle.chord_base.specs.Printed.{is_end};
 ghost use Rattle.chord_code.specs.declared.parts.Parts.{Parts};
 ghost use Rattle.chord_code.specs.Meaning.{code_program, chord_lines};
 ghost use Rattle.chord_vm.specs.declared.frames.Frames.{Frames as TheFrames};
-ghost use Rattle.chord_vm.specs.Frames.{what_of_ask};
+ghost use Rattle.chord_vm.specs.Frames.{laid, what_of_ask};
+ghost use Rattle.chord_task.specs.Arguments.{for_entry, AreTwice, MayBeList, IsList};
 ghost use Rattle.chord_task.specs.Stacks.{task_noted, task_begun, IsNext};
 ghost use Rattle.chord_task.specs.Standing.{view_of, IsTaskOf, HasGiven, IsReserved, IsResumable, MayNote, MayResume, is_ready_of, waits_of, room_of, given_by, IsRoomierTop, HasRoomFor, IsSpareOf, IsReadyFor, MainBegins, CanNote};
 
+use crate::args::{Args, part_all};
 use crate::body::{Body, Next, call_back, come_to_ask, given, note_ask};
 use chord_base::event::{Entry, Limits, What};
+use chord_base::hand::Hand;
 use chord_base::members::Members;
 use chord_base::value::{Object, Value, Values};
 use chord_code::code::Code;
 use chord_code::parts::ChordLine;
 use chord_vm::ask::Ask;
 use chord_vm::frames::{
-    Frames, begin, can_begin, reserve as reserve_frames, spare as spare_frames,
+    Frames, begin, begin_with, can_begin, reserve as reserve_frames, spare as spare_frames,
 };
 use std::alloc::{AllocError, Global};
 use std::mem;
+
+/// The most values of an entry.
+const MAX_ENTRY_VALUES: usize = 64;
 
 /// A stack of bodies, and what they did.
 #[derive(Drop)]
@@ -38,6 +44,8 @@ pub struct Task {
     pub spare: Option<Box<Frames>>,
     /// Frames of a body that has ended.
     pub ended: Option<Box<Frames>>,
+    /// A list for the values of the next firing's entry.
+    pub values: Option<Vec<Value>>,
     /// The limits of its run.
     pub limits: Limits,
 }
@@ -133,6 +141,20 @@ fn reserve_spare(
     }
 }
 
+/// Sees to a list in stock.
+#[inline(always)]
+fn reserve_values(alloc: Global, values: &mut Option<Vec<Value>>) -> Result<(), AllocError>
+    requires { MayBeList values.old }
+    ensures kept { MayBeList values.new }
+    ensures some { OnOk result (IsList values.new) }
+{
+    if values.is_some() {
+        return Ok(());
+    }
+    *values = Some(Vec::with_capacity(alloc, MAX_ENTRY_VALUES)?);
+    Ok(())
+}
+
 /// The frames of a body that has ended, if there is one.
 fn frames_of(body: Option<Body>) -> Option<Box<Frames>>
     requires runs { IfSome body (λ b. b.next ≡ Next.Runs) }
@@ -200,7 +222,7 @@ impl Task {
         });
         let _parts = code.parts();
         let mut frames = new_frames(alloc, code, limits)?;
-        begin(alloc, code, &mut *frames, 0, Value::Unit, &[], 1)?;
+        begin(code, &mut *frames, 0, Value::Unit, Hand::new(), 1);
         Ok(Task {
             past,
             top: Some(Body {
@@ -211,6 +233,7 @@ impl Task {
             below: Vec::new(alloc),
             spare: None,
             ended: None,
+            values: None,
             limits: *limits,
         })
     }
@@ -225,6 +248,7 @@ impl Task {
         let _parts = code.parts();
         let past = Vec::with_capacity(alloc, 1)?;
         let below = Vec::with_capacity(alloc, 1)?;
+        let values = Vec::with_capacity(alloc, MAX_ENTRY_VALUES)?;
         let frames = new_frames(alloc, code, limits)?;
         Ok(Task {
             past,
@@ -232,6 +256,7 @@ impl Task {
             below,
             spare: Some(frames),
             ended: None,
+            values: Some(values),
             limits: *limits,
         })
     }
@@ -289,16 +314,19 @@ impl Task {
     #[inline(always)]
     pub(crate) fn take_room(&mut self, alloc: Global, code: &Code) -> Result<(), AllocError>
         requires spare { HasRoomFor code.now self.old.limits self.old.spare }
+        requires values { MayBeList self.old.values }
         ensures past { self.new.past.items ≡ self.old.past.items }
         ensures below { self.new.below.items ≡ self.old.below.items }
         ensures top { IsRoomierTop self.old.top self.new.top }
         ensures spare { HasRoomFor code.now self.old.limits self.new.spare }
+        ensures values { MayBeList self.new.values }
         ensures limits { self.new.limits ≡ self.old.limits }
         ensures ready { OnOk result (IsReserved code.now self.new) }
     {
         self.past.reserve(2)?;
         self.below.reserve(1)?;
         reserve_spare(alloc, code, &self.limits, &mut self.spare, &mut self.ended)?;
+        reserve_values(alloc, &mut self.values)?;
         reserve_top(alloc, &mut self.top)
     }
 
@@ -340,10 +368,54 @@ impl Task {
         }
     }
 
+    /// Puts the body of a firing on top. Takes no memory.
+    pub fn resume(
+        &mut self,
+        code: &Code,
+        number: u32,
+        chord: u16,
+        object: Object,
+        members: &Members,
+        arguments: Hand<Args>,
+    )
+        requires task { IsTaskOf code.now self.old.limits self.old }
+        requires may { MayResume code.now self.old.limits self.old number chord object members.now (laid (for_entry arguments)) }
+        requires few { length (laid (for_entry arguments)) ≤ 64 }
+        requires twice { AreTwice arguments }
+        ensures task { IsTaskOf code.now self.old.limits self.new }
+        ensures past { task_begun (view_of self.old) number chord object members.now (laid (for_entry arguments)) (view_of self.new) }
+        ensures top { (view_of self.new).top ≡ Some number }
+    {
+        let depth = depth_over(self.limits.depth, &self.top);
+        let parts = part_all(&mut self.values, arguments);
+        match self.spare.take() {
+            None => unreachable!(),
+            Some(frames) => {
+                let mut frames = frames;
+                let block = line_of(code, object.class, chord).block;
+                let this = Value::Ref(object);
+                begin(code, &mut *frames, block, this, parts.body, depth);
+                self.past.push_reserved(Entry {
+                    number,
+                    body: number,
+                    what: What::Fired(chord, object, members.copied(), parts.entry),
+                });
+                let body = Body {
+                    number,
+                    frames,
+                    next: Next::Runs,
+                };
+                if let Some(caller) = mem::replace(&mut self.top, Some(body)) {
+                    self.below.push_reserved(caller);
+                }
+            }
+        }
+    }
+
     /// Puts the body of a firing on top, with copies of these values in its slots. Takes memory for texts alone. Where none is found, the task can only
     /// be dropped.
     #[inline(always)]
-    pub fn resume(
+    pub fn resume_with(
         &mut self,
         alloc: Global,
         code: &Code,
@@ -365,7 +437,7 @@ impl Task {
             None => unreachable!(),
             Some(frames) => {
                 let this = Value::Ref(object);
-                begin(
+                begin_with(
                     alloc,
                     code,
                     &mut **frames,

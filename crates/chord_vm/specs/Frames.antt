@@ -59,6 +59,11 @@ Advanced code m (ask.Send o j xs) f = ComesTo code m (Sent o j xs) (waiting_of f
 Advanced code m (ask.Call o j xs) f = ComesTo code m (Called o j xs) (waiting_of f)
 Advanced code m (ask.Print t) f = ComesTo code m (Printed t) (waiting_of f)
 
+-- the arguments of several messages, concatenated
+abbrev pub laid : List (List Value) → List Value
+laid [] = []
+laid (xs ∷ rest) = xs ++ laid rest
+
 -- the slots have room for this block's
 abbrev pub IsSpacious : Frames → Option Block → Type 0
 IsSpacious f None = ⊥

@@ -1,13 +1,14 @@
-//! The frames of one body: its blocks at work, how they begin, and how they are answered without memory.
+//! The frames of one body: its blocks at work, and how they begin and are answered without memory.
 #![tactic(auto)]
 
 ghost use Rattle.std.specs.Prelude.{◌≡◌, ◌≢◌, ℕ, ◌+◌, ◌-◌, ◌<◌, ◌≤◌, true, false, List, [], ◌∷◌, ◌++◌, IfOk, OnOk, Some, None, length, slice_get, vec_len, vec_capacity, reverse, replicate};
 ghost use Rattle.chord_code.specs.Slots.{first_slots};
 ghost use Rattle.chord_code.specs.Machine.{body_in_block, with_answer, with_object, pops};
-ghost use Rattle.chord_vm.specs.Frames.{machine_of, IsSpacious, IsReady, HasRoom, IsMoved, IsRoomFor};
+ghost use Rattle.chord_vm.specs.Frames.{machine_of, IsSpacious, IsReady, HasRoom, IsMoved, IsRoomFor, laid};
 
 use chord_base::event::Limits;
-use chord_base::value::{Object, Value};
+use chord_base::hand::Hand;
+use chord_base::value::{Object, Value, Values};
 use chord_code::awaited::Awaited;
 use chord_code::code::Code;
 use std::alloc::{AllocError, Global};
@@ -142,6 +143,35 @@ pub(crate) fn fill(slots: &mut Vec<Value>, n: usize, this: Value, from: &mut Vec
     pad(slots, n - 1 - k);
 }
 
+/// Adds the values of each message, one message after the other.
+fn lay(slots: &mut Vec<Value>, arguments: &mut Hand<Values>)
+    requires { vec_len slots.old + length (laid arguments.old) ≤ vec_capacity slots.old }
+    ensures items { slots.new.items ≡ slots.old.items ++ laid arguments.old }
+    ensures capacity { vec_capacity slots.new ≡ vec_capacity slots.old }
+{
+    match arguments.take_first() {
+        None => {}
+        Some(values) => {
+            values.move_to(slots);
+            lay(slots, arguments);
+        }
+    }
+}
+
+/// Fills the slots of a block with `this` and the values of the messages, and the rest with the unit value.
+fn fill_from(slots: &mut Vec<Value>, n: usize, this: Value, arguments: Hand<Values>)
+    requires fits { first_slots n (this ∷ laid arguments) ≢ None }
+    requires room { n ≤ vec_capacity slots.old }
+    ensures filled { first_slots n (this ∷ laid arguments) ≡ Some slots.new.items }
+{
+    let mut arguments = arguments;
+    slots.truncate(0);
+    slots.push_reserved(this);
+    lay(slots, &mut arguments);
+    let rest = n - slots.len();
+    pad(slots, rest);
+}
+
 /// Adds a copy of each value.
 #[inline(always)]
 pub fn lay_copies(alloc: Global, slots: &mut Vec<Value>, values: &[Value]) -> Result<(), AllocError>
@@ -190,9 +220,28 @@ fn open(frames: &mut Frames, block: usize, depth: u32)
     frames.awaited = Awaited::ForNothing;
 }
 
+/// Begins a body in a block. Takes no memory.
+pub fn begin(
+    code: &Code,
+    frames: &mut Frames,
+    block: u32,
+    this: Value,
+    arguments: Hand<Values>,
+    depth: u32,
+)
+    requires fits { body_in_block code.now block (frames.old.limits.depth - depth) (this ∷ laid arguments) frames.old.limits.turns ≢ None }
+    requires space { IsSpacious frames.old (slice_get code.now.blocks block) }
+    ensures { body_in_block code.now block (frames.old.limits.depth - depth) (this ∷ laid arguments) frames.old.limits.turns ≡ Some (machine_of frames.new) }
+{
+    let block = block as usize;
+    let slots = code.parts().blocks.items()[block].slots as usize;
+    fill_from(&mut frames.top.slots, slots, this, arguments);
+    open(frames, block, depth);
+}
+
 /// Begins a body in a block with copies of these arguments. Takes memory for texts alone. Where none is found, the frames are of no body.
 #[inline(always)]
-pub fn begin(
+pub fn begin_with(
     alloc: Global,
     code: &Code,
     frames: &mut Frames,

@@ -1,5 +1,5 @@
 -- A firing's body begins in the task of the caller that it serves or in one in stock; then it is played, or posted.
-use Rattle.std.proofs.Common.{◌≡◌, ◌≢◌, ◌⊎◌, inl, inr, ⊎_elim, ℕ, ◌+◌, ◌-◌, ◌≤◌, length, Bool, true, false, ◌==◌, List, [], ◌∷◌, map, Option, Some, None, refl, sym, ap, ◌∙◌, subst, arith}
+use Rattle.std.proofs.Common.{◌≡◌, ◌≢◌, ◌⊎◌, inl, inr, ⊎_elim, ℕ, ◌+◌, ◌-◌, ◌≤◌, length, Bool, true, false, ◌==◌, List, [], ◌∷◌, ◌++◌, map, Option, Some, None, refl, sym, ap, ◌∙◌, subst, arith}
 use Rattle.std.specs.Prelude.{IsPermutation, is_some}
 use Rattle.std.proofs.lemmas.Bool.{eq-eqb}
 use mathlib.Core.Path.{Path}
@@ -31,18 +31,21 @@ use Rattle.chord_space.specs.declared.space.Desk.{Desk}
 use Rattle.chord_space.specs.declared.space.Space.{Space}
 use Rattle.chord_space.specs.Desks.{view, space_code, space_limits, program_of, IsSameDesk}
 use Rattle.chord_space.specs.Gives.{MayPost}
+use Rattle.chord_task.specs.declared.args.Args.{Args}
 use Rattle.chord_task.specs.declared.body.Body.{Body}
 use Rattle.chord_task.specs.declared.body.Next.{Next}
 use Rattle.chord_task.specs.declared.body.Next.TheVariants as nexts
 use Rattle.chord_task.specs.declared.parcel.Parcel.{Parcel}
 use Rattle.chord_task.specs.declared.task.Task.{Task}
+use Rattle.chord_task.specs.Arguments.{for_entry, AreTwice}
 use Rattle.chord_task.specs.Parcels.{entries_of, arguments_of}
 use Rattle.chord_task.specs.Stacks.{FitsCall, TopWaitsFor}
 use Rattle.chord_task.specs.Standing.{body_number, view_of, IsTop, HasRoomIf, IsResumable, IsTaskOf, MayResume, may_go, body_may_go, is_ready_of}
 use Rattle.chord_task.proofs.Tasks.{stack_at}
+use Rattle.chord_vm.specs.Frames.{laid}
 use Rattle.chord_word.specs.declared.cells.Word.{Word}
 use Rattle.chord_worker.specs.declared.worker.Worker.{Worker}
-use Rattle.chord_worker.specs.Beginning.{first_task, caller_or, HasBoth, FitsFiring, HasBegun}
+use Rattle.chord_worker.specs.Beginning.{first_task, arguments_in, caller_or, HasBoth, FitsFiring, HasBegun}
 use Rattle.chord_worker.specs.Firing.{HasFired}
 use Rattle.chord_worker.specs.Resting.{IsInMemory, IsStock, IsAtRest, IsSameRole}
 use Rattle.chord_worker.proofs.Begun.{alone_both, alone_defined, called_both, called_defined}
@@ -50,7 +53,7 @@ use Rattle.chord_worker.proofs.Fitting.{comes_waiting}
 use Rattle.chord_worker.proofs.Given.{one_top}
 use Rattle.chord_worker.proofs.Parked.{below_parked, seen_there}
 use Rattle.chord_worker.proofs.Parts.{in_below}
-use Rattle.chord_worker.proofs.Unpacked.{HasNone, HasCaller, one_caller}
+use Rattle.chord_worker.proofs.Unpacked.{HasNone, HasCaller, held_twice, one_caller, values_in}
 
 -- ## Tasks
 
@@ -217,38 +220,49 @@ module _ (s : Space Parcel) (w : Worker) (v : View) (o : Object) (k : ℕ) (ms :
   pub stock_left : (x : Option Task) → (x ≡ w.spare) ⊎ (x ≡ None) → IsStock (space_code s) (space_limits s) x
   stock_left x = ⊎_elim (λ e. subst (IsStock (space_code s) (space_limits s)) (sym (e ∙ fired.spare)) fired.is_stock) (λ e. subst (IsStock (space_code s) (space_limits s)) (sym e) tt)
 
-  module _ (code : Parts) (same : code ≡ space_code s) where
+  module _ (code : Parts) (same : code ≡ space_code s) (law : (l : Limits) → ChordsAreRight (code_program code l)) (caller : Option Task) (is_caller : caller ≡ first_task qs) (t : Task) (taken : (stock : Task) → w.spare ≡ Some stock → t ≡ caller_or caller stock)
+      (none arguments : List Args) (is_none : none ≡ []) (unpacked : arguments ≡ none ++ arguments_in qs) where
+    -- the arguments are those in the parcels
+    arguments_are : arguments ≡ arguments_in qs
+    arguments_are = unpacked ∙ ap (λ (xs : List Args). xs ++ arguments_in qs) is_none
+
+    -- the values of the arguments are those of the firing
+    values_are : values ≡ laid (for_entry arguments)
+    values_are = values_in qs ∙ ap (λ (xs : List Args). laid (for_entry xs)) (sym arguments_are)
+
+    -- the firing's body fits the task
+    fits_task : Fits t
+    fits_task = subst Fits (sym (taken fired.stock fired.spare ∙ ap (λ (x : Option Task). caller_or x fired.stock) is_caller))
+        (fitted (subst (λ (c : Parts). ChordsAreRight (code_program c (space_limits s))) same (law (space_limits s))).one_sync)
+
+    -- the task is of this code under its own limits
+    pub task_is : IsTaskOf code t.limits t
+    task_is = subst (λ (c : Parts). IsTaskOf c t.limits t) (sym same) (subst (λ (l : Limits). IsTaskOf (space_code s) l t) (sym fits_task.task.limited) fits_task.task)
+
+    -- the body may begin in the task
+    pub may_be_begun : MayResume code t.limits t f k o ms (laid (for_entry arguments))
+    may_be_begun = subst (λ (c : Parts). MayResume c t.limits t f k o ms (laid (for_entry arguments))) (sym same)
+        (subst (λ (l : Limits). MayResume (space_code s) l t f k o ms (laid (for_entry arguments))) (sym fits_task.task.limited)
+        (subst (MayResume (space_code s) (space_limits s) t f k o ms) values_are fits_task.may))
+
+    -- the arguments are held twice
+    pub twice : AreTwice arguments
+    twice = subst AreTwice (sym arguments_are) (held_twice (space_code s) (space_limits s) f qs fired.fired.older)
+
     -- the firing has no more values than an entry may have
-    pub few_values : ((l : Limits) (h : List Entry) → IsPast (code_program code l) h → length h ≤ 65536 → AreWithin h) → s.events ≤ 65536 → length values ≤ 64
+    pub few_values : ((l : Limits) (h : List Entry) → IsPast (code_program code l) h → length h ≤ 65536 → AreWithin h) → s.events ≤ 65536 → length (laid (for_entry arguments)) ≤ 64
     few_values bounds most =
         let came = fired.fired.came in
         let number = came.1.1.numbered in
         let low = fired.fired.low in
         let within = bounds (space_limits s) (newest ∷ came.0) (subst (λ (c : Parts). IsPast (code_program c (space_limits s)) (newest ∷ came.0)) (sym same) came.1) (omega (arith, number, low, most)) in
-        within.3.few_values
+        subst (λ (vs : List value.Value). length vs ≤ 64) values_are within.3.few_values
 
-    module _ (law : (l : Limits) → ChordsAreRight (code_program code l)) (caller : Option Task) (is_caller : caller ≡ first_task qs) (t : Task) (taken : (stock : Task) → w.spare ≡ Some stock → t ≡ caller_or caller stock)
-        (vs : List value.Value) (values_are : vs ≡ values) where
-      -- the firing's body fits the task
-      fits_task : Fits t
-      fits_task = subst Fits (sym (taken fired.stock fired.spare ∙ ap (λ (x : Option Task). caller_or x fired.stock) is_caller))
-          (fitted (subst (λ (c : Parts). ChordsAreRight (code_program c (space_limits s))) same (law (space_limits s))).one_sync)
-
-      -- the task is of this code under its own limits
-      pub task_is : IsTaskOf code t.limits t
-      task_is = subst (λ (c : Parts). IsTaskOf c t.limits t) (sym same) (subst (λ (l : Limits). IsTaskOf (space_code s) l t) (sym fits_task.task.limited) fits_task.task)
-
-      -- the body may begin in the task
-      pub may_be_begun : MayResume code t.limits t f k o ms vs
-      may_be_begun = subst (λ (c : Parts). MayResume c t.limits t f k o ms vs) (sym same)
-          (subst (λ (l : Limits). MayResume (space_code s) l t f k o ms vs) (sym fits_task.task.limited)
-          (subst (MayResume (space_code s) (space_limits s) t f k o ms) (sym values_are) fits_task.may))
-
-      -- the body has begun in it
-      pub begun_there : (stock : Option Task) → (stock ≡ w.spare) ⊎ (stock ≡ None) → (u : Task) → IsTaskOf code t.limits u → (view_of u).past ≡ entry f f (Fired k o ms vs) ∷ (view_of t).past → (view_of u).top ≡ Some f → HasBegun s (record w { spare = stock }) v f u
-      begun_there stock left u is_task past top = has_begun stock (stock_left stock left) t u fits_task
-          (subst (λ (l : Limits). IsTaskOf (space_code s) l u) fits_task.task.limited (subst (λ (c : Parts). IsTaskOf c t.limits u) same is_task))
-          (past ∙ ap (λ (xs : List value.Value). entry f f (Fired k o ms xs) ∷ (view_of t).past) values_are) top
+    -- the body has begun in it
+    pub begun_there : (stock : Option Task) → (stock ≡ w.spare) ⊎ (stock ≡ None) → (u : Task) → IsTaskOf code t.limits u → (view_of u).past ≡ entry f f (Fired k o ms (laid (for_entry arguments))) ∷ (view_of t).past → (view_of u).top ≡ Some f → HasBegun s (record w { spare = stock }) v f u
+    begun_there stock left u is_task past top = has_begun stock (stock_left stock left) t u fits_task
+        (subst (λ (l : Limits). IsTaskOf (space_code s) l u) fits_task.task.limited (subst (λ (c : Parts). IsTaskOf c t.limits u) same is_task))
+        (past ∙ ap (λ (vs : List value.Value). entry f f (Fired k o ms vs) ∷ (view_of t).past) (sym values_are)) top
 
 -- ## It is played, or posted
 

@@ -249,7 +249,7 @@ module _ (s : Space Parcel) (w : Worker) (r : IsAtRest s w) (none : w.task ≡ N
   rest_started =
       let memory : IsInMemory (space_code s) (space_limits s) (view w.desk).kept false w.done.items None = subst (λ (x : Option Task). IsInMemory (space_code s) (space_limits s) (view w.desk).kept false w.done.items x) none
       (subst (λ (b : Bool). IsInMemory (space_code s) (space_limits s) (view w.desk).kept b w.done.items w.task) room r.memory) in
-      let with_it = started_with (space_code s) (space_limits s) (view w.desk).kept w.done.items q.task f memory keeps comes in
+      let with_it = started_with (space_code s) (space_limits s) (view w.desk).kept w.done.items q.task f memory keeps.1 comes in
       let spent : (view d).spent ≡ false = ap (λ (z : View). z.spent) view_is ∙ room in record {
         desk = same.0 ∙ r.desk;
         told = r.told ∙ room ∙ sym spent;

@@ -1,22 +1,25 @@
--- What stands in the parcels of a firing's members: one task at most, that of the caller.
+-- What stands in the parcels of a firing's members: their values, and one task at most, that of the caller.
 use Rattle.std.proofs.Common.{◌≡◌, ◌≢◌, ◌⊎◌, inl, inr, ⊎_elim, ℕ, Bool, true, false, List, [], ◌∷◌, ◌++◌, map, Option, Some, None, refl, sym, ap, ◌∙◌, subst}
 use Rattle.chord_base.specs.declared.event.Entry.{Entry}
 use Rattle.chord_base.specs.declared.event.Limits.{Limits}
 use Rattle.chord_base.specs.declared.value.Object.{Object}
+use Rattle.chord_base.specs.declared.value.Value as value
 use Rattle.chord_base.specs.Meaning.{Program, NoneSync, OneSync, HasOneSync}
 use Rattle.chord_base.specs.Bodies.{served_among}
 use Rattle.chord_base.specs.Story.{IsIn, IsSound, AllBelow, together}
 use Rattle.chord_base.proofs.Waits.{either}
 use Rattle.chord_code.specs.declared.parts.Parts.{Parts}
 use Rattle.chord_code.specs.Meaning.{code_program}
-use Rattle.chord_match.specs.Fires.{all_together, AreOlder, IsComing, AreComing}
+use Rattle.chord_match.specs.Fires.{all_together, laid_together, AreOlder, IsComing, AreComing}
 use Rattle.chord_rule.specs.declared.view.Claim.{Claim}
 use Rattle.chord_rule.specs.Coming.{ComesWithMessage}
 use Rattle.chord_task.specs.declared.parcel.Parcel.{Parcel}
 use Rattle.chord_task.specs.declared.task.Task.{Task}
-use Rattle.chord_task.specs.Parcels.{past_in, entries_of, TaskIn, IsParcelOf}
+use Rattle.chord_task.specs.Arguments.{for_entry, AreTwice}
+use Rattle.chord_task.specs.Parcels.{past_in, entries_of, arguments_of, TaskIn, IsParcelOf}
 use Rattle.chord_task.specs.Standing.{view_of, IsTaskOf}
-use Rattle.chord_worker.specs.Beginning.{first_of, first_task}
+use Rattle.chord_vm.specs.Frames.{laid}
+use Rattle.chord_worker.specs.Beginning.{first_of, first_task, arguments_in}
 use Rattle.chord_worker.proofs.Fitting.{letter_alone}
 
 -- the parcels to these methods for these members have no task, so that the firing serves no call
@@ -37,7 +40,17 @@ pub record HasCaller (code : Parts) (limits : Limits) (sync : ℕ → Bool) (f :
   pub left : (view_of caller).top ≢ None
   pub below : AllBelow f (view_of caller).past
 
+-- the values of a firing are those in the parcels
+pub values_in : (qs : List Parcel) → laid_together arguments_of qs ≡ laid (for_entry (arguments_in qs))
+values_in [] = refl
+values_in (q ∷ qs) = ap (λ (vs : List value.Value). q.arguments.first ++ vs) (values_in qs)
+
 module _ (code : Parts) (limits : Limits) where
+  -- the parcels' arguments are held twice
+  pub held_twice : (f : ℕ) (qs : List Parcel) → AreOlder entries_of (λ q. IsParcelOf q code limits) f qs → AreTwice (arguments_in qs)
+  held_twice f [] older = tt
+  held_twice f (q ∷ qs) older = (older.1.0, held_twice f qs older.2)
+
   module _ (sound : IsSound (code_program code limits)) (one : HasOneSync (code_program code limits)) (o : Object) (f : ℕ) where
     -- the program that is played
     abbrev p : Program
@@ -89,7 +102,7 @@ module _ (code : Parts) (limits : Limits) where
     letters es (j ∷ js) [] qs plain older coming = absurd coming
     letters es (j ∷ js) (i ∷ ms) [] plain older coming = absurd coming
     letters es (j ∷ js) (i ∷ ms) (q ∷ qs) plain older coming =
-        let none = no_task es j i q.task older.1 coming.0 plain.0 in
+        let none = no_task es j i q.task older.1.1 coming.0 plain.0 in
         none_more es j i q js ms qs plain.0 none (letters es js ms qs plain.1 older.2 (same_rest es js ms q qs none coming.1))
 
     -- the parcel to the synchronous method has a task
@@ -120,9 +133,9 @@ module _ (code : Parts) (limits : Limits) where
     one_caller es (j ∷ js) (i ∷ ms) [] only older coming = absurd coming
     one_caller es (j ∷ js) (i ∷ ms) (q ∷ qs) only older coming =
         elim (either (sync j)) [
-          | inl y ↦ inr (of_call es j i q js ms qs y older.0 coming.0 (letters (together es (entries_of q)) js ms qs (only.0 y) older.2 coming.1) q.task refl older.1)
+          | inl y ↦ inr (of_call es j i q js ms qs y older.0 coming.0 (letters (together es (entries_of q)) js ms qs (only.0 y) older.2 coming.1) q.task refl older.1.1)
           | inr z ↦
-              (let none = no_task es j i q.task older.1 coming.0 z in
+              (let none = no_task es j i q.task older.1.1 coming.0 z in
               ⊎_elim (λ k. inl (none_more es j i q js ms qs z none k)) (λ k. inr (caller_more es j i q js ms qs z none k))
               (one_caller es js ms qs only.1 older.2 (same_rest es js ms q qs none coming.1)))
         ]

@@ -14,6 +14,7 @@ use Rattle.chord_rule.specs.Kinds.{entry, left_by, MayGo}
 use Rattle.chord_rule.specs.Parcels.{BeginsThere}
 use Rattle.chord_space.specs.declared.space.Space.{Space}
 use Rattle.chord_space.specs.Desks.{view, space_code, space_limits, program_of, IsDeskOf}
+use Rattle.chord_task.specs.declared.args.Args.{Args}
 use Rattle.chord_task.specs.declared.parcel.Parcel.{Parcel}
 use Rattle.chord_task.specs.declared.task.Task.{Task}
 use Rattle.chord_task.specs.Standing.{view_of, IsTaskOf, MayResume, is_ready_of}
@@ -29,6 +30,11 @@ first_of None u = u
 abbrev pub first_task : List Parcel → Option Task
 first_task [] = None
 first_task (q ∷ qs) = first_of q.task (first_task qs)
+
+-- the arguments in these parcels, parcel by parcel
+abbrev pub arguments_in : List Parcel → List Args
+arguments_in [] = []
+arguments_in (q ∷ qs) = q.arguments ∷ arguments_in qs
 
 -- the task of a caller, if there is one, else the one in stock
 abbrev pub caller_or : Option Task → Task → Task

@@ -1,6 +1,5 @@
 //! Messages are sent off with their parcels, and followed until somebody else minds them.
-ghost use Rattle.std.specs.Prelude.{◌≡◌, ◌≢◌, ◌<◌, ℕ, true, false, [], Some, None, OnOk, IfSome};
-ghost use Rattle.chord_base.specs.Messages.{message_of};
+ghost use Rattle.std.specs.Prelude.{◌≡◌, ◌≢◌, ◌<◌, ℕ, true, false, [], Some, None, IfOk, OnOk};
 ghost use Rattle.chord_base.specs.Story.{IsSound};
 ghost use Rattle.chord_base.specs.declared.event.What.TheVariants.{Sent, Called};
 ghost use Rattle.chord_rule.specs.Made.{key};
@@ -22,6 +21,7 @@ use chord_base::value::{Object, Values};
 use chord_code::code::Code;
 use chord_space::{Desk, Space};
 use chord_task::apart::Apart;
+use chord_task::args::Args;
 use chord_task::parcel::{Parcel, letter, packed};
 use chord_task::task::Task;
 use std::alloc::{AllocError, Global};
@@ -47,16 +47,13 @@ pub(crate) fn send_off(
     space.arm(desk, m);
 }
 
-/// The arguments of the message that this says.
-fn arguments_said(what: What) -> Values
-    requires { message_of what ≢ None }
-    ensures { IfSome (message_of what) (λ m. result ≡ m.arguments) }
+/// A list of values, twice.
+fn doubled(alloc: Global, values: &Values) -> Result<Args, AllocError>
+    ensures { IfOk result (λ a. (a.first ≡ values.now) × (a.second ≡ values.now)) }
 {
-    match what {
-        What::Sent(_, _, arguments) => arguments,
-        What::Called(_, _, arguments) => arguments,
-        _ => unreachable!(),
-    }
+    let first = values.copied(alloc)?;
+    let second = values.copied(alloc)?;
+    Ok(Args { first, second })
 }
 
 /// What an asynchronous message goes with: its arguments, and no task.
@@ -68,14 +65,15 @@ fn send_letter(
     m: u32,
     object: Object,
     method: u8,
-    held: Values,
+    held: Args,
 )
     requires desk { IsDeskOf space.now desk.old }
     requires code { code.now ≡ space_code space.now }
     requires limits { limits.now ≡ space_limits space.now }
     requires bounds { (m < space.now.events) × (object.number < m) }
-    requires named { IsOfCode (space_code space.now) (Sent object method held) }
-    requires link { MayLink (program_of space.now) (view desk.old) m object method [] held }
+    requires named { IsOfCode (space_code space.now) (Sent object method held.first) }
+    requires twice { held.second ≡ held.first }
+    requires link { MayLink (program_of space.now) (view desk.old) m object method [] held.first }
     ensures desk { IsSameDesk desk.old desk.new }
     ensures sent { IsSentOff (view desk.old) (view desk.new) m (key object method) [] }
     ensures bounds { (object.class < 1024) × (method < heads space.now) }
@@ -94,17 +92,18 @@ fn send_task(
     m: u32,
     object: Object,
     method: u8,
-    held: Values,
+    held: Args,
     task: Apart<Task>,
 )
     requires desk { IsDeskOf space.now desk.old }
     requires code { code.now ≡ space_code space.now }
     requires limits { limits.now ≡ space_limits space.now }
     requires bounds { (m < space.now.events) × (object.number < m) }
-    requires named { IsOfCode (space_code space.now) (Called object method held) }
+    requires named { IsOfCode (space_code space.now) (Called object method held.first) }
+    requires twice { held.second ≡ held.first }
     requires task { IsTaskOf (space_code space.now) (space_limits space.now) task }
     requires left { (view_of task).top ≢ None }
-    requires link { MayLink (program_of space.now) (view desk.old) m object method (view_of task).past held }
+    requires link { MayLink (program_of space.now) (view desk.old) m object method (view_of task).past held.first }
     ensures desk { IsSameDesk desk.old desk.new }
     ensures sent { IsSentOff (view desk.old) (view desk.new) m (key object method) (view_of task).past }
     ensures bounds { (object.class < 1024) × (method < heads space.now) }
@@ -144,6 +143,7 @@ impl Worker {
         ensures went { OnOk result (HasGoneOn (view self.old.desk).kept task self.new) }
         ensures plays { OnOk result (PlaysNext G.knows (view self.old.desk).kept task self.new) }
     {
+        let held = doubled(alloc, &arguments)?;
         let what = What::Sent(object, method, arguments);
         let mut task = task;
         match draw_own(space, &mut self.desk, &mut task, &what) {
@@ -156,7 +156,7 @@ impl Worker {
                     number,
                     object,
                     method,
-                    arguments_said(what),
+                    held,
                 );
                 self.settle(task)?;
                 let message = Minded {
@@ -203,6 +203,7 @@ impl Worker {
         ensures went { OnOk result (HasGoneOn (view self.old.desk).kept task self.new) }
         ensures plays { OnOk result (PlaysNext G.knows (view self.old.desk).kept task self.new) }
     {
+        let held = doubled(alloc, &arguments)?;
         let what = What::Called(object, method, arguments);
         let mut task = task;
         match draw_own(space, &mut self.desk, &mut task, &what) {
@@ -215,7 +216,7 @@ impl Worker {
                     number,
                     object,
                     method,
-                    arguments_said(what),
+                    held,
                     task,
                 );
                 let message = Minded {

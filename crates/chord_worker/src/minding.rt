@@ -85,7 +85,7 @@ impl Worker {
                     chord,
                     members,
                 };
-                self.begin_fired(alloc, space, code, limits, gate, drawn, hand)?;
+                self.begin_fired(space, code, limits, gate, drawn, hand);
                 Ok(true)
             }
             Firing::Lost(_) => Ok(false),

@@ -38,8 +38,8 @@ take_all_held-requires-clause-different c =
     let m = c.requires.may in
     rw c.items.ensures.numbers (firing_different c.args.code.now c.args.limits.now m.0 c.args.chord c.args.object c.args.members m.1 c.parts-parts.ensures.valid m.4)
 
-pub resume-requires-clause-may : goal.resume-requires-clause-may
-resume-requires-clause-may c =
+pub resume_with-requires-clause-may : goal.resume_with-requires-clause-may
+resume_with-requires-clause-may c =
     let m = c.requires.may in
     let f = m.4 in
     let code = c.args.code.now in
@@ -60,14 +60,14 @@ returns c =
     let held = firing_held code limits c.args.bodies.now h c.args.chord c.args.object c.args.members vs s f in
     let first : c.in_ok-values.values ≡ vs = (rw c.deref-2.ensures.value at c.in_ok-values.ensures.values) ∙ ap (λ (ms : List ℕ). held_values (views c.args.bodies.now.tasks.items) c.args.bodies.now.tags.items ms) c.items.ensures.numbers ∙ held.1 in
     let spare = c.in_ok-task.ensures in
-    let past : (view_of c.resume.new.self).past ≡ fired c.args.number c.args.chord c.args.object c.args.members vs ∷ [] =
-    c.in_ok-resume.ensures.past ∙ ap (λ (z : List Value). fired c.args.number c.args.chord c.args.object c.args.members z ∷ (view_of c.in_ok-task.task).past) first
+    let past : (view_of c.resume_with.new.self).past ≡ fired c.args.number c.args.chord c.args.object c.args.members vs ∷ [] =
+    c.in_ok-resume_with.ensures.past ∙ ap (λ (z : List Value). fired c.args.number c.args.chord c.args.object c.args.members z ∷ (view_of c.in_ok-task.task).past) first
     ∙ ap (λ (z : List Entry). fired c.args.number c.args.chord c.args.object c.args.members vs ∷ z) spare.past
     in
-    let task = subst (λ l. IsTaskOf code l c.resume.new.self) spare.task.limited c.in_ok-resume.ensures.task in
+    let task = subst (λ l. IsTaskOf code l c.resume_with.new.self) spare.task.limited c.in_ok-resume_with.ensures.task in
     let at : c.place_after-at.result ≡ length c.args.bodies.now.tasks.items = c.place_after-at.ensures ∙ ap length c.deref.ensures.value in
     let emptied = rw c.items.ensures.numbers at c.in_ok-values.ensures.rest in
-    fired_alone code limits c.args.bodies.now _ c.take_all_held.new.tags.items h c.args.number c.args.chord c.args.object c.args.members vs c.resume.new.self played s f emptied task past
+    fired_alone code limits c.args.bodies.now _ c.take_all_held.new.tags.items h c.args.number c.args.chord c.args.object c.args.members vs c.resume_with.new.self played s f emptied task past
     c.in_ok-push.ensures.items
     (ap reverse c.in_ok-push-2.ensures.items ∙ reverse-append c.args.bodies.now.ready.items (c.place_after-at.result ∷ []) ∙ ap (λ i. i ∷ reverse c.args.bodies.now.ready.items) at)
     (c.in_ok-push-3.ensures.items ∙ ap (λ i. c.take_all_held.new.tags.items ++ bare_tag i ∷ []) at)

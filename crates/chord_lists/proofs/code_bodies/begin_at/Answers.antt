@@ -37,8 +37,8 @@ index_mut-task-requires c =
     let l = slice_get_within c.args.bodies.now.tasks.items c.args.at k.task k.there in
     omega (arith, l)
 
-pub resume-requires-clause-task : goal.resume-requires-clause-task
-resume-requires-clause-task c =
+pub resume_with-requires-clause-task : goal.resume_with-requires-clause-task
+resume_with-requires-clause-task c =
     let m = c.requires.may in
     let f = m.4 in
     let code = c.args.code.now in
@@ -48,8 +48,8 @@ resume-requires-clause-task c =
     let e : c.index_mut-task.result.now ≡ k.task = c.index_mut-task.ensures.value ∙ get_or_from_slice_get c.args.bodies.now.tasks.items c.args.at k.task c.index_mut-task.result.now there in
     subst (λ (t : Task). IsTaskOf code t.limits t) (sym e) (subst (λ l. IsTaskOf code l k.task) (sym k.is.limited) k.is)
 
-pub resume-requires-clause-may : goal.resume-requires-clause-may
-resume-requires-clause-may c =
+pub resume_with-requires-clause-may : goal.resume_with-requires-clause-may
+resume_with-requires-clause-may c =
     let m = c.requires.may in
     let f = m.4 in
     let code = c.args.code.now in
@@ -72,13 +72,13 @@ returns c =
     let e : c.index_mut-task.result.now ≡ k.task = c.index_mut-task.ensures.value ∙ get_or_from_slice_get c.args.bodies.now.tasks.items c.args.at k.task c.index_mut-task.result.now there in
     let held = firing_held code limits c.args.bodies.now h c.args.chord c.args.object c.args.members vs s f in
     let first : c.in_ok-values.values ≡ vs = (rw c.deref.ensures.value at c.in_ok-values.ensures.values) ∙ ap (λ (ms : List ℕ). held_values (views c.args.bodies.now.tasks.items) c.args.bodies.now.tags.items ms) c.items.ensures.numbers ∙ held.1 in
-    let past : (view_of c.resume.new.self).past ≡ fired c.args.number c.args.chord c.args.object c.args.members vs ∷ (view_of k.task).past =
-    c.in_ok-resume.ensures.past ∙ ap (λ (z : List Value). fired c.args.number c.args.chord c.args.object c.args.members z ∷ (view_of c.index_mut-task.result.now).past) first
+    let past : (view_of c.resume_with.new.self).past ≡ fired c.args.number c.args.chord c.args.object c.args.members vs ∷ (view_of k.task).past =
+    c.in_ok-resume_with.ensures.past ∙ ap (λ (z : List Value). fired c.args.number c.args.chord c.args.object c.args.members z ∷ (view_of c.index_mut-task.result.now).past) first
     ∙ ap (λ (t : Task). fired c.args.number c.args.chord c.args.object c.args.members vs ∷ (view_of t).past) e
     in
-    let task = subst (λ l. IsTaskOf code l c.resume.new.self) (ap (λ (t : Task). t.limits) e ∙ k.is.limited) c.in_ok-resume.ensures.task in
+    let task = subst (λ l. IsTaskOf code l c.resume_with.new.self) (ap (λ (t : Task). t.limits) e ∙ k.is.limited) c.in_ok-resume_with.ensures.task in
     let emptied = rw c.items.ensures.numbers at c.in_ok-values.ensures.rest in
-    fired_at code limits c.args.bodies.now _ c.take_all_held.new.tags.items h c.args.at c.args.number c.args.chord c.args.object c.args.members vs c.resume.new.self played s f k emptied task past
+    fired_at code limits c.args.bodies.now _ c.take_all_held.new.tags.items h c.args.at c.args.number c.args.chord c.args.object c.args.members vs c.resume_with.new.self played s f k emptied task past
     refl
     (ap reverse c.in_ok-push.ensures.items ∙ reverse-append c.args.bodies.now.ready.items (c.args.at ∷ []))
     c.in_ok-push-2.ensures.items

@@ -9,7 +9,7 @@ main-requires c = main_begins c.args.code.now c.args.limits.now c.requires.sound
 pub returns : goal.returns
 returns c =
     let t = c.in_ok-main.main in
-    let main : Task = record { past = c.reserve.new.self; top = t.top; below = t.below; spare = t.spare; ended = t.ended; limits = t.limits } in
+    let main : Task = record { past = c.reserve.new.self; top = t.top; below = t.below; spare = t.spare; ended = t.ended; values = t.values; limits = t.limits } in
     started c.args.code.now c.args.limits.now _ main c.requires.sound
     (longer_task c.args.code.now c.args.limits.now t c.reserve.new.self c.reserve.ensures.items c.reserve.ensures.len c.reserve.ensures.capacity c.in_ok-main.ensures.task)
     (ap reverse c.reserve.ensures.items ∙ c.in_ok-main.ensures.past)

@@ -1,47 +1,51 @@
-use Rattle.std.proofs.Common.{◌≡◌, ◌∷◌, [], Option, Some, None, refl, sym, ap, ◌∙◌, subst}
-use Rattle.std.specs.Prelude.{reverse, option_map, Box}
+use Rattle.std.proofs.Common.{◌≡◌, ◌∷◌, ◌++◌, [], List, ℕ, Some, None, refl, sym, ap, ◌∙◌, subst}
+use Rattle.std.specs.Prelude.{reverse, Box}
 use Rattle.std.specs.Global.{Global}
 use Rattle.std.proofs.lemmas.List.{reverse-append}
+use Rattle.chord_base.specs.declared.value.Value.{Value}
 use Rattle.chord_base.specs.declared.value.Value.TheVariants as a_value
+use Rattle.chord_base.specs.declared.event.What.TheVariants.{Fired}
 use Rattle.chord_code.specs.Machine.{body_in_block}
 use Rattle.chord_code.specs.declared.parts.ChordLine.{ChordLine}
-use Rattle.chord_vm.specs.Frames.{IsRoomFor, machine_of}
+use Rattle.chord_vm.specs.Frames.{IsRoomFor, laid}
 use Rattle.chord_vm.specs.declared.frames.Frames.{Frames}
+use Rattle.chord_task.specs.Arguments.{for_entry}
 use Rattle.chord_task.specs.Standing.{room_of}
+use Rattle.chord_task.proofs.Standing.{entry}
 use Rattle.chord_task.proofs.Resuming.{opening, task_resumed, spacious_at, with_top, begun_same}
 use Rattle.chord_task.proofs.task.Task.resume.Goals as goal
 
 pub line_of-requires : goal.line_of-requires
 line_of-requires c =
     let limits = c.args.self.now.limits in
-    let o = opening c.args.code.now limits c.args.self.now c.args.number c.args.chord c.args.object c.args.members c.args.values c.requires.task c.requires.may in
+    let vs = laid (for_entry c.args.arguments) in
+    let o = opening c.args.code.now limits c.args.self.now c.args.number c.args.chord c.args.object c.args.members.now vs c.requires.task c.requires.may in
     λ e. let z : None ≡ Some o.line = sym e ∙ o.found in cc
 
 pub begin-requires-clause-fits : goal.begin-requires-clause-fits
 begin-requires-clause-fits c =
     let limits = c.args.self.now.limits in
-    let vs = c.args.values in
-    let o = opening c.args.code.now limits c.args.self.now c.args.number c.args.chord c.args.object c.args.members vs c.requires.task c.requires.may in
+    let vs = laid (for_entry c.args.arguments) in
+    let o = opening c.args.code.now limits c.args.self.now c.args.number c.args.chord c.args.object c.args.members.now vs c.requires.task c.requires.may in
     let z : Some o.line ≡ Some c.line_of.result.now = sym o.found ∙ c.line_of.ensures in
     let l : o.line ≡ c.line_of.result.now = cc in
     let r = c.requires.may.room in
-    let y : Some r.frames ≡ Some c.in-Some.frames = sym r.spare ∙ c.in-Some.is in
+    let y : Some r.frames ≡ Some c.in-Some.frames = sym r.spare ∙ sym c.take.ensures.value ∙ c.in-Some.is in
     let f : r.frames ≡ c.in-Some.frames = cc in
-    let same = begun_same c.args.code.now limits c.deref_mut.result.now.limits c.line_of.result.now.block c.depth_over-depth.result (room_of limits c.args.self.now.top) (a_value.Ref c.args.object) vs (ap (λ (x : Frames). x.limits) c.deref_mut.ensures.value ∙ ap (λ (x : Box Frames Global). x.value.limits) (sym f) ∙ r.room.limited) (c.depth_over-depth.ensures limits refl) in
-    rw c.items.ensures.values
-    (λ e.
+    let same = begun_same c.args.code.now limits c.deref_mut.result.now.limits c.line_of.result.now.block c.depth_over-depth.result (room_of limits c.args.self.now.top) (a_value.Ref c.args.object) c.part_all-parts.result.body c.args.arguments (ap (λ (x : Frames). x.limits) c.deref_mut.ensures.value ∙ ap (λ (x : Box Frames Global). x.value.limits) (sym f) ∙ r.room.limited) (c.depth_over-depth.ensures limits refl) c.part_all-parts.ensures.body c.requires.twice in
+    λ e.
     let w : Some o.machine ≡ None = sym o.starts ∙ ap (λ (x : ChordLine). body_in_block c.args.code.now x.block (room_of limits c.args.self.now.top) (a_value.Ref c.args.object ∷ vs) limits.turns) l ∙ sym same ∙ e in
-    cc)
+    cc
 
 pub begin-requires-clause-space : goal.begin-requires-clause-space
 begin-requires-clause-space c =
     let limits = c.args.self.now.limits in
-    let vs = c.args.values in
-    let o = opening c.args.code.now limits c.args.self.now c.args.number c.args.chord c.args.object c.args.members vs c.requires.task c.requires.may in
+    let vs = laid (for_entry c.args.arguments) in
+    let o = opening c.args.code.now limits c.args.self.now c.args.number c.args.chord c.args.object c.args.members.now vs c.requires.task c.requires.may in
     let z : Some o.line ≡ Some c.line_of.result.now = sym o.found ∙ c.line_of.ensures in
     let l : o.line ≡ c.line_of.result.now = cc in
     let r = c.requires.may.room in
-    let y : Some r.frames ≡ Some c.in-Some.frames = sym r.spare ∙ c.in-Some.is in
+    let y : Some r.frames ≡ Some c.in-Some.frames = sym r.spare ∙ sym c.take.ensures.value ∙ c.in-Some.is in
     let f : r.frames ≡ c.in-Some.frames = cc in
     spacious_at c.args.code.now c.deref_mut.result.now c.line_of.result.now.block (room_of limits c.args.self.now.top) limits.turns (a_value.Ref c.args.object ∷ vs) o.machine
     (subst (IsRoomFor c.args.code.now) (sym c.deref_mut.ensures.value) (subst (λ (x : Box Frames Global). IsRoomFor c.args.code.now x.value) f r.room.room))
@@ -50,31 +54,37 @@ begin-requires-clause-space c =
 pub returns-in-Some-replace-clause-task : goal.returns-in-Some-replace-clause-task
 returns-in-Some-replace-clause-task c =
     let limits = c.args.self.now.limits in
-    let vs = c.args.values in
+    let vs = laid (for_entry c.args.arguments) in
+    let o = opening c.args.code.now limits c.args.self.now c.args.number c.args.chord c.args.object c.args.members.now vs c.requires.task c.requires.may in
     let r = c.requires.may.room in
-    let y : Some r.frames ≡ Some c.in-Some.frames = sym r.spare ∙ c.in-Some.is in
+    let y : Some r.frames ≡ Some c.in-Some.frames = sym r.spare ∙ sym c.take.ensures.value ∙ c.in-Some.is in
     let f : r.frames ≡ c.in-Some.frames = cc in
-    let same = begun_same c.args.code.now limits c.deref_mut.result.now.limits c.line_of.result.now.block c.depth_over-depth.result (room_of limits c.args.self.now.top) (a_value.Ref c.args.object) vs (ap (λ (x : Frames). x.limits) c.deref_mut.ensures.value ∙ ap (λ (x : Box Frames Global). x.value.limits) (sym f) ∙ r.room.limited) (c.depth_over-depth.ensures limits refl) in
-    let begun = rw c.items.ensures.values at c.in_ok-begin-in-Some.ensures in
-    let z : Some c.begin.new.frames ≡ Some c.in-Some-take.frames.value = ap (λ (o : Option (Box Frames Global)). option_map (λ (x : Box Frames Global). x.value) o) (sym c.take.ensures.value ∙ c.in-Some-take.is) in
-    let g : c.begin.new.frames ≡ c.in-Some-take.frames.value = cc in
+    let same = begun_same c.args.code.now limits c.deref_mut.result.now.limits c.line_of.result.now.block c.depth_over-depth.result (room_of limits c.args.self.now.top) (a_value.Ref c.args.object) c.part_all-parts.result.body c.args.arguments (ap (λ (x : Frames). x.limits) c.deref_mut.ensures.value ∙ ap (λ (x : Box Frames Global). x.value.limits) (sym f) ∙ r.room.limited) (c.depth_over-depth.ensures limits refl) c.part_all-parts.ensures.body c.requires.twice in
+    let items =
+    c.push_reserved.ensures.items
+    ∙ ap (λ (ms : List ℕ). c.args.self.now.past.items ++ entry c.args.number c.args.number (Fired c.args.chord c.args.object ms c.part_all-parts.result.entry) ∷ []) c.copied.ensures
+    ∙ ap (λ (xs : List Value). c.args.self.now.past.items ++ entry c.args.number c.args.number (Fired c.args.chord c.args.object c.args.members.now xs) ∷ []) c.part_all-parts.ensures.entry
+    in
     let top : c.args.self.now.top ≡ Some c.in-Some-replace.caller = sym c.replace.ensures.value ∙ c.in-Some-replace.is in
     let bodies = ap reverse c.push_reserved-in-Some-replace.ensures.items ∙ reverse-append c.args.self.now.below.items (c.in-Some-replace.caller ∷ []) ∙ ap (λ x. with_top x (reverse c.args.self.now.below.items)) (sym top) in
     rw (c.replace.ensures.after, c.take.ensures.after)
-    (task_resumed c.args.code.now limits c.args.self.now c.push_reserved.new.self c.push_reserved-in-Some-replace.new.self c.args.number c.args.chord c.args.object c.args.members vs c.in-Some-take.frames c.line_of.result.now c.requires.task c.requires.may c.line_of.ensures (sym same ∙ begun ∙ ap (λ (x : Frames). Some (machine_of x)) g) c.push_reserved.ensures.items bodies)
+    (task_resumed c.args.code.now limits c.args.self.now c.push_reserved.new.self c.push_reserved-in-Some-replace.new.self c.part_all-parts.new.wide c.args.number c.args.chord c.args.object c.args.members.now vs _ c.line_of.result.now c.part_all-parts.ensures.list c.requires.task c.requires.may c.line_of.ensures (sym same ∙ c.begin.ensures) items bodies)
 
 pub returns-in_default-clause-task : goal.returns-in_default-clause-task
 returns-in_default-clause-task c =
     let limits = c.args.self.now.limits in
-    let vs = c.args.values in
+    let vs = laid (for_entry c.args.arguments) in
+    let o = opening c.args.code.now limits c.args.self.now c.args.number c.args.chord c.args.object c.args.members.now vs c.requires.task c.requires.may in
     let r = c.requires.may.room in
-    let y : Some r.frames ≡ Some c.in-Some.frames = sym r.spare ∙ c.in-Some.is in
+    let y : Some r.frames ≡ Some c.in-Some.frames = sym r.spare ∙ sym c.take.ensures.value ∙ c.in-Some.is in
     let f : r.frames ≡ c.in-Some.frames = cc in
-    let same = begun_same c.args.code.now limits c.deref_mut.result.now.limits c.line_of.result.now.block c.depth_over-depth.result (room_of limits c.args.self.now.top) (a_value.Ref c.args.object) vs (ap (λ (x : Frames). x.limits) c.deref_mut.ensures.value ∙ ap (λ (x : Box Frames Global). x.value.limits) (sym f) ∙ r.room.limited) (c.depth_over-depth.ensures limits refl) in
-    let begun = rw c.items.ensures.values at c.in_ok-begin-in-Some.ensures in
-    let z : Some c.begin.new.frames ≡ Some c.in-Some-take.frames.value = ap (λ (o : Option (Box Frames Global)). option_map (λ (x : Box Frames Global). x.value) o) (sym c.take.ensures.value ∙ c.in-Some-take.is) in
-    let g : c.begin.new.frames ≡ c.in-Some-take.frames.value = cc in
+    let same = begun_same c.args.code.now limits c.deref_mut.result.now.limits c.line_of.result.now.block c.depth_over-depth.result (room_of limits c.args.self.now.top) (a_value.Ref c.args.object) c.part_all-parts.result.body c.args.arguments (ap (λ (x : Frames). x.limits) c.deref_mut.ensures.value ∙ ap (λ (x : Box Frames Global). x.value.limits) (sym f) ∙ r.room.limited) (c.depth_over-depth.ensures limits refl) c.part_all-parts.ensures.body c.requires.twice in
+    let items =
+    c.push_reserved.ensures.items
+    ∙ ap (λ (ms : List ℕ). c.args.self.now.past.items ++ entry c.args.number c.args.number (Fired c.args.chord c.args.object ms c.part_all-parts.result.entry) ∷ []) c.copied.ensures
+    ∙ ap (λ (xs : List Value). c.args.self.now.past.items ++ entry c.args.number c.args.number (Fired c.args.chord c.args.object c.args.members.now xs) ∷ []) c.part_all-parts.ensures.entry
+    in
     let top : c.args.self.now.top ≡ None = sym c.replace.ensures.value ∙ c.in_default.is in
     let bodies = ap (λ x. with_top x (reverse c.args.self.now.below.items)) (sym top) in
     rw (c.replace.ensures.after, c.take.ensures.after)
-    (task_resumed c.args.code.now limits c.args.self.now c.push_reserved.new.self c.args.self.now.below c.args.number c.args.chord c.args.object c.args.members vs c.in-Some-take.frames c.line_of.result.now c.requires.task c.requires.may c.line_of.ensures (sym same ∙ begun ∙ ap (λ (x : Frames). Some (machine_of x)) g) c.push_reserved.ensures.items bodies)
+    (task_resumed c.args.code.now limits c.args.self.now c.push_reserved.new.self c.args.self.now.below c.part_all-parts.new.wide c.args.number c.args.chord c.args.object c.args.members.now vs _ c.line_of.result.now c.part_all-parts.ensures.list c.requires.task c.requires.may c.line_of.ensures (sym same ∙ c.begin.ensures) items bodies)

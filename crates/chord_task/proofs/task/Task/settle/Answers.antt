@@ -15,14 +15,14 @@ use Rattle.chord_task.proofs.task.Task.settle.Goals as goal
 
 pub answer-requires-clause-fits : goal.answer-requires-clause-fits
 answer-requires-clause-fits c =
-    let x = roomy c.args.code.now c.args.self.now c.take_room.new.self c.args.number (what_of_ask c.args.ask) c.in-Some.body c.requires.asked c.requires.may c.take_room.ensures.past c.take_room.ensures.below c.take_room.ensures.top c.take_room.ensures.spare c.take_room.ensures.limits c.in_ok-take_room.ensures.ready c.in-Some.is in
+    let x = roomy c.args.code.now c.args.self.now c.take_room.new.self c.args.number (what_of_ask c.args.ask) c.in-Some.body c.requires.asked c.requires.may c.take_room.ensures.past c.take_room.ensures.below c.take_room.ensures.top c.take_room.ensures.spare c.take_room.ensures.values c.take_room.ensures.limits c.in_ok-take_room.ensures.ready c.in-Some.is in
     let g : x.asked ≡ nexts.Gave (Made c.in-Make.class) = subst (λ a. GivenBy (what_of_ask a) x.asked) c.in-Make.is x.given in
     subst (λ (f : Frames). with_answer (machine_of f) f.awaited (a_value.Ref (record { number = c.args.number; class = c.in-Make.class })) ≡ None → ⊥) (sym c.deref_mut.ensures.value)
     (roomy_fits c.args.code.now c.args.self.now c.take_room.new.self c.args.number (what_of_ask c.args.ask) c.in-Some.body x (Made c.in-Make.class) g).1
 
 pub returns-in-Make : goal.returns-in-Make
 returns-in-Make c =
-    let x = roomy c.args.code.now c.args.self.now c.take_room.new.self c.args.number (what_of_ask c.args.ask) c.in-Some.body c.requires.asked c.requires.may c.take_room.ensures.past c.take_room.ensures.below c.take_room.ensures.top c.take_room.ensures.spare c.take_room.ensures.limits c.in_ok-take_room.ensures.ready c.in-Some.is in
+    let x = roomy c.args.code.now c.args.self.now c.take_room.new.self c.args.number (what_of_ask c.args.ask) c.in-Some.body c.requires.asked c.requires.may c.take_room.ensures.past c.take_room.ensures.below c.take_room.ensures.top c.take_room.ensures.spare c.take_room.ensures.values c.take_room.ensures.limits c.in_ok-take_room.ensures.ready c.in-Some.is in
     let g : x.asked ≡ nexts.Gave (Made c.in-Make.class) = subst (λ a. GivenBy (what_of_ask a) x.asked) c.in-Make.is x.given in (
       settled_gave c.args.code.now c.args.self.now c.take_room.new.self c.args.number (what_of_ask c.args.ask) c.in-Some.body x (Made c.in-Make.class) g c.append.new.past _ refl
           (x.runs, subst (λ (f : Frames). with_answer (machine_of f) f.awaited (a_value.Ref (record { number = c.args.number; class = c.in-Make.class })) ≡ Some (machine_of c.answer.new.frames)) c.deref_mut.ensures.value c.answer.ensures)
@@ -32,7 +32,7 @@ returns-in-Make c =
 
 pub returns-in-Send : goal.returns-in-Send
 returns-in-Send c =
-    let x = roomy c.args.code.now c.args.self.now c.take_room.new.self c.args.number (what_of_ask c.args.ask) c.in-Some.body c.requires.asked c.requires.may c.take_room.ensures.past c.take_room.ensures.below c.take_room.ensures.top c.take_room.ensures.spare c.take_room.ensures.limits c.in_ok-take_room.ensures.ready c.in-Some.is in
+    let x = roomy c.args.code.now c.args.self.now c.take_room.new.self c.args.number (what_of_ask c.args.ask) c.in-Some.body c.requires.asked c.requires.may c.take_room.ensures.past c.take_room.ensures.below c.take_room.ensures.top c.take_room.ensures.spare c.take_room.ensures.values c.take_room.ensures.limits c.in_ok-take_room.ensures.ready c.in-Some.is in
     let g : x.asked ≡ nexts.Gave (Sent c.in-Send.object c.in-Send.method c.in-Send.arguments) = subst (λ a. GivenBy (what_of_ask a) x.asked) c.in-Send.is x.given in (
       settled_gave c.args.code.now c.args.self.now c.take_room.new.self c.args.number (what_of_ask c.args.ask) c.in-Some.body x (Sent c.in-Send.object c.in-Send.method c.in-Send.arguments) g c.append-in-Send.new.past _ refl
           (x.runs, ap (λ p. with_answer (machine_of c.in-Some.body.frames.value) p a_value.Unit) (roomy_asked c.args.code.now c.args.self.now c.take_room.new.self c.args.number (what_of_ask c.args.ask) c.in-Some.body x (Sent c.in-Send.object c.in-Send.method c.in-Send.arguments) g))
@@ -42,7 +42,7 @@ returns-in-Send c =
 
 pub returns-in-Print : goal.returns-in-Print
 returns-in-Print c =
-    let x = roomy c.args.code.now c.args.self.now c.take_room.new.self c.args.number (what_of_ask c.args.ask) c.in-Some.body c.requires.asked c.requires.may c.take_room.ensures.past c.take_room.ensures.below c.take_room.ensures.top c.take_room.ensures.spare c.take_room.ensures.limits c.in_ok-take_room.ensures.ready c.in-Some.is in
+    let x = roomy c.args.code.now c.args.self.now c.take_room.new.self c.args.number (what_of_ask c.args.ask) c.in-Some.body c.requires.asked c.requires.may c.take_room.ensures.past c.take_room.ensures.below c.take_room.ensures.top c.take_room.ensures.spare c.take_room.ensures.values c.take_room.ensures.limits c.in_ok-take_room.ensures.ready c.in-Some.is in
     let g : x.asked ≡ nexts.Gave (Printed c.in-Print.text) = subst (λ a. GivenBy (what_of_ask a) x.asked) c.in-Print.is x.given in (
       settled_gave c.args.code.now c.args.self.now c.take_room.new.self c.args.number (what_of_ask c.args.ask) c.in-Some.body x (Printed c.in-Print.text) g c.append-in-Print.new.past _ refl
           (x.runs, ap (λ p. with_answer (machine_of c.in-Some.body.frames.value) p a_value.Unit) (roomy_asked c.args.code.now c.args.self.now c.take_room.new.self c.args.number (what_of_ask c.args.ask) c.in-Some.body x (Printed c.in-Print.text) g))
@@ -52,13 +52,13 @@ returns-in-Print c =
 
 pub returns-in-Call : goal.returns-in-Call
 returns-in-Call c =
-    let x = roomy c.args.code.now c.args.self.now c.take_room.new.self c.args.number (what_of_ask c.args.ask) c.in-Some.body c.requires.asked c.requires.may c.take_room.ensures.past c.take_room.ensures.below c.take_room.ensures.top c.take_room.ensures.spare c.take_room.ensures.limits c.in_ok-take_room.ensures.ready c.in-Some.is in
+    let x = roomy c.args.code.now c.args.self.now c.take_room.new.self c.args.number (what_of_ask c.args.ask) c.in-Some.body c.requires.asked c.requires.may c.take_room.ensures.past c.take_room.ensures.below c.take_room.ensures.top c.take_room.ensures.spare c.take_room.ensures.values c.take_room.ensures.limits c.in_ok-take_room.ensures.ready c.in-Some.is in
     let g : x.asked ≡ nexts.Gave (Called c.in-Call.object c.in-Call.method c.in-Call.arguments) = subst (λ a. GivenBy (what_of_ask a) x.asked) c.in-Call.is x.given in
     (settled_gave c.args.code.now c.args.self.now c.take_room.new.self c.args.number (what_of_ask c.args.ask) c.in-Some.body x (Called c.in-Call.object c.in-Call.method c.in-Call.arguments) g c.append-in-Call.new.past _ refl (c.put.ensures.put, refl) c.append-in-Call.ensures.items c.append-in-Call.ensures.len c.append-in-Call.ensures.capacity, sym (ap (λ a. sent_to (what_of_ask a)) c.in-Call.is))
 
 pub returns-in-Some-top : goal.returns-in-Some-top
 returns-in-Some-top c =
-    let x = roomy c.args.code.now c.args.self.now c.take_room.new.self c.args.number (what_of_ask c.args.ask) c.in-Some.body c.requires.asked c.requires.may c.take_room.ensures.past c.take_room.ensures.below c.take_room.ensures.top c.take_room.ensures.spare c.take_room.ensures.limits c.in_ok-take_room.ensures.ready c.in-Some.is in
+    let x = roomy c.args.code.now c.args.self.now c.take_room.new.self c.args.number (what_of_ask c.args.ask) c.in-Some.body c.requires.asked c.requires.may c.take_room.ensures.past c.take_room.ensures.below c.take_room.ensures.top c.take_room.ensures.spare c.take_room.ensures.values c.take_room.ensures.limits c.in_ok-take_room.ensures.ready c.in-Some.is in
     let y = c.in-End.first in
     let g : x.asked ≡ nexts.Ends y y = subst (λ a. GivenBy (what_of_ask a) x.asked) c.in-End.is x.given in
     let parts = c.pop_caller.ensures.items ∙ ap (λ (o : Option Body). c.pop_caller.new.below.items ++ option_to_list o) c.in-Some-top.is in (
@@ -69,7 +69,7 @@ returns-in-Some-top c =
 
 pub returns-in-None-top : goal.returns-in-None-top
 returns-in-None-top c =
-    let x = roomy c.args.code.now c.args.self.now c.take_room.new.self c.args.number (what_of_ask c.args.ask) c.in-Some.body c.requires.asked c.requires.may c.take_room.ensures.past c.take_room.ensures.below c.take_room.ensures.top c.take_room.ensures.spare c.take_room.ensures.limits c.in_ok-take_room.ensures.ready c.in-Some.is in
+    let x = roomy c.args.code.now c.args.self.now c.take_room.new.self c.args.number (what_of_ask c.args.ask) c.in-Some.body c.requires.asked c.requires.may c.take_room.ensures.past c.take_room.ensures.below c.take_room.ensures.top c.take_room.ensures.spare c.take_room.ensures.values c.take_room.ensures.limits c.in_ok-take_room.ensures.ready c.in-Some.is in
     let y = c.in-End.first in
     let g : x.asked ≡ nexts.Ends y y = subst (λ a. GivenBy (what_of_ask a) x.asked) c.in-End.is x.given in
     let s = c.take_room.new.self in

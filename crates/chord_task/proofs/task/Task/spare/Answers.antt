@@ -10,6 +10,7 @@ returns-clause-room c = record {
   frames = _;
   spare = refl;
   room = c.in_ok-frames.ensures;
+  values = record { bare = c.in_ok-values.ensures.items; wide = omega (arith, c.in_ok-values.ensures.exact) };
 }
 
 pub returns-clause-task : goal.returns-clause-task
@@ -20,5 +21,7 @@ returns-clause-task c =
       frames = _;
       spare = refl;
       room = c.in_ok-frames.ensures;
+      values = record { bare = c.in_ok-values.ensures.items; wide = omega (arith, c.in_ok-values.ensures.exact) };
     })
     c.in_ok-frames.ensures
+    (record { bare = c.in_ok-values.ensures.items; wide = omega (arith, c.in_ok-values.ensures.exact) })

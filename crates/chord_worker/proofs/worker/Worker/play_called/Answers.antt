@@ -25,7 +25,7 @@ send_task-requires-clause-bounds g c = (c.in-Ok.ensures.drawn.0, c.in-Ok.ensures
 pub send_task-requires-clause-link : goal.send_task-requires-clause-link
 send_task-requires-clause-link g c =
     let s = c.args.space.now in
-    subst (λ (vs : List value.Value). MayLink (program_of s) (view c.draw_own.new.desk) c.in-Ok.number c.args.object c.args.method (view_of c.draw_own.new.task).past vs) (sym c.arguments_said.ensures)
+    subst (λ (vs : List value.Value). MayLink (program_of s) (view c.draw_own.new.desk) c.in-Ok.number c.args.object c.args.method (view_of c.draw_own.new.task).past vs) (sym c.in_ok-held.ensures.0)
     (task_may s c.args.self.now c.args.task c.requires.rest c.draw_own.new.task c.in-Ok.number (view c.draw_own.new.desk) c.args.object c.args.method c.args.arguments c.in-Ok.ensures.drawn.1)
 
 pub mind-requires-clause-bounds : goal.mind-requires-clause-bounds

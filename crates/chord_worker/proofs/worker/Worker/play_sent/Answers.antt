@@ -23,7 +23,7 @@ send_letter-requires-clause-bounds g c = (c.in-Ok.ensures.drawn.0, c.in-Ok.ensur
 pub send_letter-requires-clause-link : goal.send_letter-requires-clause-link
 send_letter-requires-clause-link g c =
     let s = c.args.space.now in
-    subst (λ (vs : List value.Value). MayLink (program_of s) (view c.draw_own.new.desk) c.in-Ok.number c.args.object c.args.method [] vs) (sym c.arguments_said.ensures)
+    subst (λ (vs : List value.Value). MayLink (program_of s) (view c.draw_own.new.desk) c.in-Ok.number c.args.object c.args.method [] vs) (sym c.in_ok-held.ensures.0)
     (letter_may s c.args.self.now c.args.task c.requires.rest c.draw_own.new.task c.in-Ok.number (view c.draw_own.new.desk) c.args.object c.args.method c.args.arguments c.in-Ok.ensures.drawn.1)
 
 pub mind-requires-clause-bounds : goal.mind-requires-clause-bounds

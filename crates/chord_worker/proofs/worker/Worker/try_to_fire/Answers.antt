@@ -10,12 +10,12 @@ use Rattle.chord_worker.proofs.worker.Worker.try_to_fire.Goals as goal
 pub begin_fired-requires-clause-fired : goal.begin_fired-requires-clause-fired
 begin_fired-requires-clause-fired g c = (view c.args.self.now.desk, found_fired _ _ _ _ _ c.requires.minds _ _ _ _ c.requires.found.1 _ c.fire.ensures.desk _ _ c.in-Fired.ensures.firing)
 
-pub returns-in_ok-begin_fired-in-Fired-clause-minded : goal.returns-in_ok-begin_fired-in-Fired-clause-minded
-returns-in_ok-begin_fired-in-Fired-clause-minded g c = λ e.
+pub returns-in-Fired-clause-minded : goal.returns-in-Fired-clause-minded
+returns-in-Fired-clause-minded g c = λ e.
     let found = c.requires.found.1 in
     let fired = c.in-Fired.ensures.firing in
     taken_minded g.G.Gate.knows _ _ _ _ _ (message_older _ _ _ _ _ _ _ fired.came found.own)
-    (c.in_ok-begin_fired-in-Fired.ensures.taken (view c.args.self.now.desk) (found_fired _ _ _ _ _ c.requires.minds _ _ _ _ found _ c.fire.ensures.desk _ _ fired))
+    (c.begin_fired.ensures.taken (view c.args.self.now.desk) (found_fired _ _ _ _ _ c.requires.minds _ _ _ _ found _ c.fire.ensures.desk _ _ fired))
 
 pub returns-in-Lost-clause-again : goal.returns-in-Lost-clause-again
 returns-in-Lost-clause-again g c = λ e.
