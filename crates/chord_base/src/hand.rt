@@ -59,18 +59,39 @@ impl<T: Drop> Hand<T> {
         }
     }
 
-    /// Adds an item at the back.
+    /// Adds an item at the back. The places behind the first empty one are not looked at.
     pub fn put(&mut self, item: T)
         requires { length self.old < 8 }
         ensures { self.new ≡ self.old ++ item ∷ [] }
     {
         let item = settle(&mut self.first, Some(item));
+        if item.is_none() {
+            return;
+        }
         let item = settle(&mut self.second, item);
+        if item.is_none() {
+            return;
+        }
         let item = settle(&mut self.third, item);
+        if item.is_none() {
+            return;
+        }
         let item = settle(&mut self.fourth, item);
+        if item.is_none() {
+            return;
+        }
         let item = settle(&mut self.fifth, item);
+        if item.is_none() {
+            return;
+        }
         let item = settle(&mut self.sixth, item);
+        if item.is_none() {
+            return;
+        }
         let item = settle(&mut self.seventh, item);
+        if item.is_none() {
+            return;
+        }
         let _ = settle(&mut self.eighth, item);
     }
 
@@ -82,17 +103,38 @@ impl<T: Drop> Hand<T> {
         self.eighth.is_some()
     }
 
-    /// Takes the first item out. None exactly where there is none.
+    /// Takes the first item out. None exactly where there is none. The places behind the first empty one are not looked at.
     pub fn take_first(&mut self) -> Option<T>
         ensures { MatchOption result ((self.old ≡ []) × (self.new ≡ [])) (λ item. self.old ≡ item ∷ self.new) }
     {
         let first = self.first.take();
+        if self.second.is_none() {
+            return first;
+        }
         mem::swap(&mut self.first, &mut self.second);
+        if self.third.is_none() {
+            return first;
+        }
         mem::swap(&mut self.second, &mut self.third);
+        if self.fourth.is_none() {
+            return first;
+        }
         mem::swap(&mut self.third, &mut self.fourth);
+        if self.fifth.is_none() {
+            return first;
+        }
         mem::swap(&mut self.fourth, &mut self.fifth);
+        if self.sixth.is_none() {
+            return first;
+        }
         mem::swap(&mut self.fifth, &mut self.sixth);
+        if self.seventh.is_none() {
+            return first;
+        }
         mem::swap(&mut self.sixth, &mut self.seventh);
+        if self.eighth.is_none() {
+            return first;
+        }
         mem::swap(&mut self.seventh, &mut self.eighth);
         first
     }
