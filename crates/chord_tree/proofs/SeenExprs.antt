@@ -76,8 +76,8 @@ pub seen_start_number : (value at : ℕ) → see_start (start.Number value at) �
 seen_start_number value at = ap see_start (sym (start.rolls-Number value at)) ∙ fold-roll-Start ExprTree StartTree ActualsTree ExprTree ExprTree StartTree DotTree LinkTree StartTree expr_step start_step actuals_step calls_step chain_step creation_step dot_step link_step own_call_step (open_nodes.Number value at)
 
 -- the tree of a start literal in memory, by its parts
-pub seen_start_literal : (bytes : List ℕ) (at : ℕ) → see_start (start.Literal bytes at) ≡ LiteralStart bytes at
-seen_start_literal bytes at = ap see_start (sym (start.rolls-Literal bytes at)) ∙ fold-roll-Start ExprTree StartTree ActualsTree ExprTree ExprTree StartTree DotTree LinkTree StartTree expr_step start_step actuals_step calls_step chain_step creation_step dot_step link_step own_call_step (open_nodes.Literal bytes at)
+pub seen_start_literal : (at : ℕ) (bytes : List ℕ) → see_start (start.Literal at bytes) ≡ LiteralStart bytes at
+seen_start_literal at bytes = ap see_start (sym (start.rolls-Literal at bytes)) ∙ fold-roll-Start ExprTree StartTree ActualsTree ExprTree ExprTree StartTree DotTree LinkTree StartTree expr_step start_step actuals_step calls_step chain_step creation_step dot_step link_step own_call_step (open_nodes.Literal at bytes)
 
 -- the tree of a start true in memory, by its parts
 pub seen_start_true : (at : ℕ) → see_start (start.True at) ≡ TrueStart at

@@ -108,7 +108,7 @@ pub enum Start {
     /// A number.
     Number { value: u32, at: u32 },
     /// A text literal.
-    Literal { bytes: Bytes, at: u32 },
+    Literal { at: u32, bytes: Bytes },
     /// `true`
     True { at: u32 },
     /// `false`
@@ -290,7 +290,7 @@ impl Start {
     pub fn literal(bytes: Bytes, at: u32) -> Start
         ensures { see_start result ≡ LiteralStart bytes at }
     {
-        Start::Literal { bytes, at }
+        Start::Literal { at, bytes }
     }
 
     /// `true`
@@ -327,7 +327,7 @@ impl Start {
             Start::This { at } => *at,
             Start::New(creation) => creation.at,
             Start::Number { value: _, at } => *at,
-            Start::Literal { bytes: _, at } => *at,
+            Start::Literal { at, bytes: _ } => *at,
             Start::True { at } => *at,
             Start::False { at } => *at,
             Start::Group { at, inner: _ } => *at,

@@ -77,7 +77,7 @@ fn put_start(alloc: Global, out: &mut Vec<Token>, start: &Start) -> Result<(), A
         Start::This { at: _ } => put_keyword(out, Keyword::This),
         Start::New(creation) => put_creation(alloc, out, creation),
         Start::Number { value, at: _ } => put(out, Kind::Number(*value)),
-        Start::Literal { bytes, at: _ } => put_literal(alloc, out, bytes),
+        Start::Literal { at: _, bytes } => put_literal(alloc, out, bytes),
         Start::True { at: _ } => put_keyword(out, Keyword::True),
         Start::False { at: _ } => put_keyword(out, Keyword::False),
         Start::Group { at: _, inner } => {

@@ -179,7 +179,7 @@ fn start(
         Start::Call(call) => start_call(alloc, site, role, call, breaks),
         Start::New(creation) => start_new(alloc, site, role, creation, breaks),
         Start::Number { value, at } => Ok(number(site, role, *value, *at, minus, breaks)),
-        Start::Literal { bytes, at } => literal(alloc, site, role, bytes.items(), *at, breaks),
+        Start::Literal { at, bytes } => literal(alloc, site, role, bytes.items(), *at, breaks),
         Start::True { at } => Ok(flag(site, role, true, *at, breaks)),
         Start::False { at } => Ok(flag(site, role, false, *at, breaks)),
         Start::Group { at, inner } => group(alloc, site, role, *at, inner, breaks),

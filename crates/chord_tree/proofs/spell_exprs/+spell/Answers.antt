@@ -83,7 +83,7 @@ pub put_start-returns-in-Number : goal.put_start-returns-in-Number
 put_start-returns-in-Number t c = on_ok _ _ _ (λ h. seen_as node_start _ _ (ap see_start c.in-Number.is ∙ seen_start_number c.in-Number.value c.in-Number.at) (made (cons (leaf h) nil))) c.put.ensures
 
 pub put_start-returns-in-Literal : goal.put_start-returns-in-Literal
-put_start-returns-in-Literal t c = on_ok _ _ _ (λ h. seen_as node_start _ _ (ap see_start c.in-Literal.is ∙ seen_start_literal c.in-Literal.bytes c.in-Literal.at) (made (cons (leaf h) nil))) c.put_literal.ensures
+put_start-returns-in-Literal t c = on_ok _ _ _ (λ h. seen_as node_start _ _ (ap see_start c.in-Literal.is ∙ seen_start_literal c.in-Literal.at c.in-Literal.bytes) (made (cons (leaf h) nil))) c.put_literal.ensures
 
 pub put_start-returns-in-Call : goal.put_start-returns-in-Call
 put_start-returns-in-Call t c = on_ok _ _ _ (λ h. seen_as node_start _ _ (ap see_start c.in-Call.is ∙ seen_start_call c.in-Call.call) (seen_as (λ z. node_start (see_own_call z)) _ _ (sym c.deref.ensures) h)) c.put_own_call.ensures
