@@ -87,6 +87,10 @@ seen_start_true at = ap see_start (sym (start.rolls-True at)) ∙ fold-roll-Star
 pub seen_start_false : (at : ℕ) → see_start (start.False at) ≡ FalseStart at
 seen_start_false at = ap see_start (sym (start.rolls-False at)) ∙ fold-roll-Start ExprTree StartTree ActualsTree ExprTree ExprTree StartTree DotTree LinkTree StartTree expr_step start_step actuals_step calls_step chain_step creation_step dot_step link_step own_call_step (open_nodes.False at)
 
+-- the tree of a chain in brackets in memory, by its parts
+pub seen_start_chain_group : (at : ℕ) (chain : Box Chain Global) → see_start (start.ChainGroup at chain) ≡ GroupStart at (see_chain chain.value)
+seen_start_chain_group at chain = ap see_start (sym (start.rolls-ChainGroup at chain)) ∙ fold-roll-Start ExprTree StartTree ActualsTree ExprTree ExprTree StartTree DotTree LinkTree StartTree expr_step start_step actuals_step calls_step chain_step creation_step dot_step link_step own_call_step (open_nodes.ChainGroup at chain)
+
 -- the tree of a start group in memory, by its parts
 pub seen_start_group : (at : ℕ) (inner : Box Expr Global) → see_start (start.Group at inner) ≡ GroupStart at (see_expr inner.value)
 seen_start_group at inner = ap see_start (sym (start.rolls-Group at inner)) ∙ fold-roll-Start ExprTree StartTree ActualsTree ExprTree ExprTree StartTree DotTree LinkTree StartTree expr_step start_step actuals_step calls_step chain_step creation_step dot_step link_step own_call_step (open_nodes.Group at inner)

@@ -42,6 +42,7 @@ calls_weight calls = calls.start + calls.first + total calls.more.items + 2
 abbrev pub start_weight : Start-F ℕ ℕ ℕ ℕ ℕ ℕ ℕ ℕ ℕ → ℕ
 start_weight (open_nodes.Call call) = call.value + 1
 start_weight (open_nodes.New creation) = creation.value + 1
+start_weight (open_nodes.ChainGroup at chain) = chain.value + 1
 start_weight (open_nodes.Group at inner) = inner.value + 1
 start_weight _ = 1
 
@@ -144,6 +145,10 @@ weigh_start_new creation = ap weigh_start (sym (start.rolls-New creation)) ∙ f
 -- the weight of `new` and a class by its arguments
 pub of_creation : (creation : Creation) → weigh_creation creation ≡ weigh_actuals (out-Creation creation).actuals + 1
 of_creation creation = fold_out-Creation ℕ ℕ ℕ ℕ ℕ ℕ ℕ ℕ ℕ expr_weight start_weight actuals_weight calls_weight chain_weight creation_weight dot_weight link_weight own_call_weight creation
+
+-- the weight of a chain in brackets
+pub weigh_start_chain_group : (at : ℕ) (chain : Box Chain Global) → weigh_start (start.ChainGroup at chain) ≡ weigh_parts chain.value + 1
+weigh_start_chain_group at chain = ap weigh_start (sym (start.rolls-ChainGroup at chain)) ∙ fold-roll-Start ℕ ℕ ℕ ℕ ℕ ℕ ℕ ℕ ℕ expr_weight start_weight actuals_weight calls_weight chain_weight creation_weight dot_weight link_weight own_call_weight (open_nodes.ChainGroup at chain)
 
 -- the weight of a start group
 pub weigh_start_group : (at : ℕ) (inner : Box Expr Global) → weigh_start (start.Group at inner) ≡ weigh_expr inner.value + 1

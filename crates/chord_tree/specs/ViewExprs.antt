@@ -39,6 +39,7 @@ start_step (parts.Number value at) = NumberStart value at
 start_step (parts.Literal at bytes) = LiteralStart bytes at
 start_step (parts.True at) = TrueStart at
 start_step (parts.False at) = FalseStart at
+start_step (parts.ChainGroup at chain) = GroupStart at chain.value
 start_step (parts.Group at inner) = GroupStart at inner.value
 
 -- a call without receiver

@@ -113,7 +113,9 @@ pub enum Start {
     True { at: u32 },
     /// `false`
     False { at: u32 },
-    /// An expression in brackets; the number is that of `(`.
+    /// A chain in brackets, which needs no box of its own; the number is that of `(`.
+    ChainGroup { at: u32, chain: Box<Chain> },
+    /// Another expression in brackets; the number is that of `(`.
     Group { at: u32, inner: Box<Expr> },
 }
 
@@ -311,10 +313,13 @@ impl Start {
     pub fn group(alloc: Global, at: u32, inner: Expr) -> Result<Start, AllocError>
         ensures { IfOk result (λ s. see_start s ≡ GroupStart at (see_expr inner)) }
     {
-        Ok(Start::Group {
-            at,
-            inner: Box::new(alloc, inner)?,
-        })
+        match inner {
+            Expr::Chain(chain) => Ok(Start::ChainGroup { at, chain }),
+            other => Ok(Start::Group {
+                at,
+                inner: Box::new(alloc, other)?,
+            }),
+        }
     }
 
     /// The number of its first token.
@@ -330,6 +335,7 @@ impl Start {
             Start::Literal { at, bytes: _ } => *at,
             Start::True { at } => *at,
             Start::False { at } => *at,
+            Start::ChainGroup { at, chain: _ } => *at,
             Start::Group { at, inner: _ } => *at,
         }
     }

@@ -85,6 +85,11 @@ fn put_start(alloc: Global, out: &mut Vec<Token>, start: &Start) -> Result<(), A
             put_expr(alloc, out, inner)?;
             put_mark(out, Mark::CloseParenthesis)
         }
+        Start::ChainGroup { at: _, chain } => {
+            put_mark(out, Mark::OpenParenthesis)?;
+            put_chain(alloc, out, chain)?;
+            put_mark(out, Mark::CloseParenthesis)
+        }
     }
 }
 

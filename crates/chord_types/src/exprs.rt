@@ -183,10 +183,31 @@ fn start(
         Start::True { at } => Ok(flag(site, role, true, *at, breaks)),
         Start::False { at } => Ok(flag(site, role, false, *at, breaks)),
         Start::Group { at, inner } => group(alloc, site, role, *at, inner, breaks),
+        Start::ChainGroup { at, chain } => chain_group(alloc, site, role, *at, chain, breaks),
     }
 }
 
-/// An expression in brackets.
+/// A chain in brackets.
+#[cycle(exprs)]
+fn chain_group(
+    alloc: Global,
+    site: &Site,
+    role: Role,
+    at: u32,
+    chain: &Chain,
+    breaks: &mut Least,
+) -> Result<Operand, AllocError>
+    ensures { IfOk result (λ r. IsReceiver (see_site site.now) (see_role role) (GroupTerm at (term (see_chain chain.now))) breaks.old.found breaks.new.found r) }
+{
+    let inner = joined(alloc, site, chain, breaks)?;
+    Ok(Operand {
+        expr: inner.expr,
+        static_type: inner.static_type,
+        is_console: false,
+    })
+}
+
+/// Another expression in brackets.
 #[cycle(exprs)]
 fn group(
     alloc: Global,

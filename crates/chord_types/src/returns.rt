@@ -24,6 +24,7 @@ fn begins_true(start: &Start) -> bool
         Start::Literal { .. } => false,
         Start::True { .. } => true,
         Start::False { .. } => false,
+        Start::ChainGroup { .. } => false,
         Start::Group { .. } => false,
     }
 }

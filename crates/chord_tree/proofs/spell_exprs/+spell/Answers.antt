@@ -2,9 +2,9 @@ use Rattle.std.proofs.Common.{◌≡◌, [], map, sym, ap, ◌∙◌, arith, ◌
 use Rattle.chord_tree.specs.ExprNodes.{bare, mark_leaf, node_links, node_dots, node_dot, node_start, node_actuals, node_exprs, node_more}
 use Rattle.chord_tree.specs.Tree.{links, dots, exprs}
 use Rattle.chord_tree.specs.ViewExprs.{see_expr, see_chain, see_calls, see_link, see_dot, see_start, see_own_call, see_creation, see_actuals}
-use Rattle.chord_tree.proofs.SeenExprs.{seen_chain, seen_chained, seen_minus, seen_not, seen_alone, seen_calls, seen_called, seen_actuals, seen_dot, seen_start_variable, seen_start_call, seen_own_call, seen_start_this, seen_start_new, seen_creation, seen_start_number, seen_start_literal, seen_start_true, seen_start_false, seen_start_group}
+use Rattle.chord_tree.proofs.SeenExprs.{seen_chain, seen_chained, seen_minus, seen_not, seen_alone, seen_calls, seen_called, seen_actuals, seen_dot, seen_start_variable, seen_start_call, seen_own_call, seen_start_this, seen_start_new, seen_creation, seen_start_number, seen_start_literal, seen_start_true, seen_start_false, seen_start_chain_group, seen_start_group}
 use Rattle.chord_tree.proofs.Words.{nil, cons, made, leaf, as_level, links_added, more_links_added, chain_added, dots_added, seen_as, on_ok, dropped, drop_end, length_zero}
-use Rattle.chord_tree.proofs.Weights.{total, weigh_expr, weigh_link, weigh_start, weigh_dot, weigh_actuals, weigh_parts, of_chain, weigh_chain, weigh_minus, weigh_not, weigh_alone, weigh_calls, weigh_called, of_calls, weigh_start_call, weigh_start_new, weigh_start_group, weigh_own_call, weigh_creation, of_own_call, of_creation, of_link, of_actuals, of_dot, one_of}
+use Rattle.chord_tree.proofs.Weights.{total, weigh_expr, weigh_link, weigh_start, weigh_dot, weigh_actuals, weigh_parts, of_chain, weigh_chain, weigh_minus, weigh_not, weigh_alone, weigh_calls, weigh_called, of_calls, weigh_start_call, weigh_start_new, weigh_start_chain_group, weigh_start_group, weigh_own_call, weigh_creation, of_own_call, of_creation, of_link, of_actuals, of_dot, one_of}
 use Rattle.chord_tree.proofs.spell_exprs.+spell.Goals as goal
 
 pub put_actuals-returns : goal.put_actuals-returns
@@ -168,3 +168,9 @@ put_creation-put_actuals-requires t c = let e = of_creation c.args.creation.now 
 
 pub put_start-put_expr-requires : goal.put_start-put_expr-requires
 put_start-put_expr-requires t c = let e = ap weigh_start c.in-Group.is ∙ weigh_start_group c.in-Group.at c.in-Group.inner in let f = ap weigh_expr c.deref-in-Group.ensures in (omega arith, tt)
+
+pub put_start-returns-in_ok-put_chain-in-ChainGroup : goal.put_start-returns-in_ok-put_chain-in-ChainGroup
+put_start-returns-in_ok-put_chain-in-ChainGroup t c = on_ok _ _ _ (λ h. seen_as node_start _ _ (ap see_start c.in-ChainGroup.is ∙ seen_start_chain_group c.in-ChainGroup.at c.in-ChainGroup.chain) (made (cons (leaf c.in_ok-put_mark-in-ChainGroup.ensures) (cons (as_level 6 _ (seen_as (λ z. bare (see_chain z)) _ _ (sym c.deref-in-ChainGroup.ensures) c.in_ok-put_chain-in-ChainGroup.ensures)) (cons (leaf h) nil))))) c.put_mark-in-ChainGroup-2.ensures
+
+pub put_start-put_chain-requires : goal.put_start-put_chain-requires
+put_start-put_chain-requires t c = let e = ap weigh_start c.in-ChainGroup.is ∙ weigh_start_chain_group c.in-ChainGroup.at c.in-ChainGroup.chain in let f = ap weigh_parts c.deref-in-ChainGroup.ensures in (omega arith, tt)

@@ -9,8 +9,8 @@ use Rattle.chord_tree.specs.Tree.{exprs, dots, links, MinusExpr, NotExpr, GroupS
 use Rattle.chord_tree.specs.Terms.{term_after, term, terms, called, started, operated, LiteralTerm}
 use Rattle.chord_tree.specs.Walk.{Used, Receiver}
 use Rattle.chord_tree.specs.ViewExprs.{see_expr, see_dot, see_link, see_start, see_own_call, see_creation, see_chain, see_calls}
-use Rattle.chord_tree.proofs.SeenExprs.{seen_chain, seen_chained, seen_minus, seen_not, seen_alone, seen_calls, seen_called, seen_start_variable, seen_start_call, seen_start_this, seen_start_new, seen_start_number, seen_start_literal, seen_start_true, seen_start_false, seen_start_group}
-use Rattle.chord_tree.proofs.Weights.{total, weigh_expr, weigh_link, weigh_start, weigh_dot, weigh_actuals, weigh_calls, weigh_parts, of_chain, weigh_chain, weigh_minus, weigh_not, weigh_alone, weigh_calls, weigh_called, of_calls, weigh_start_call, weigh_start_new, weigh_start_group, weigh_own_call, weigh_creation, of_own_call, of_creation, of_link, of_actuals, of_dot, one_of}
+use Rattle.chord_tree.proofs.SeenExprs.{seen_chain, seen_chained, seen_minus, seen_not, seen_alone, seen_calls, seen_called, seen_start_variable, seen_start_call, seen_start_this, seen_start_new, seen_start_number, seen_start_literal, seen_start_true, seen_start_false, seen_start_chain_group, seen_start_group}
+use Rattle.chord_tree.proofs.Weights.{total, weigh_expr, weigh_link, weigh_start, weigh_dot, weigh_actuals, weigh_calls, weigh_parts, of_chain, weigh_chain, weigh_minus, weigh_not, weigh_alone, weigh_calls, weigh_called, of_calls, weigh_start_call, weigh_start_new, weigh_start_chain_group, weigh_start_group, weigh_own_call, weigh_creation, of_own_call, of_creation, of_link, of_actuals, of_dot, one_of}
 use Rattle.chord_bodies.specs.Resolved as to
 use Rattle.chord_bodies.specs.View.{LinkOf, view_expr, binary, expr_list}
 use Rattle.chord_bodies.proofs.Viewed.{viewed_negate, viewed_deny, viewed_this, viewed_new, viewed_link}
@@ -63,6 +63,12 @@ minus_of-expr-requires t c = (omega arith, tt)
 
 pub not_of-expr-requires : goal.not_of-expr-requires
 not_of-expr-requires t c = (omega arith, tt)
+
+pub start-chain_group-requires : goal.start-chain_group-requires
+start-chain_group-requires t c = let e = ap weigh_start c.in-ChainGroup.is ∙ weigh_start_chain_group c.in-ChainGroup.at c.in-ChainGroup.chain in let f = ap weigh_parts c.deref-in-ChainGroup.ensures in (omega arith, tt)
+
+pub chain_group-joined-requires : goal.chain_group-joined-requires
+chain_group-joined-requires t c = (omega arith, tt)
 
 pub group-expr-requires : goal.group-expr-requires
 group-expr-requires t c = (omega arith, tt)
@@ -266,6 +272,14 @@ pub start-returns-in-Group : goal.start-returns-in-Group
 start-returns-in-Group t c =
     let same = ap (λ z. started z c.args.minus) (ap see_start c.in-Group.is ∙ seen_start_group c.in-Group.at c.in-Group.inner ∙ ap (λ z. GroupStart c.in-Group.at (see_expr z)) (sym c.deref-in-Group.ensures)) in
     if_ok c.group.result _ _ (λ r h. subst (λ z. IsReceiver (see_site c.args.site.now) (see_role c.args.role) z c.args.breaks.now.found c.group.new.breaks.found r) (sym same) h) c.group.ensures
+
+pub start-returns-in-ChainGroup : goal.start-returns-in-ChainGroup
+start-returns-in-ChainGroup t c =
+    let same = ap (λ z. started z c.args.minus) (ap see_start c.in-ChainGroup.is ∙ seen_start_chain_group c.in-ChainGroup.at c.in-ChainGroup.chain ∙ ap (λ z. GroupStart c.in-ChainGroup.at (see_chain z)) (sym c.deref-in-ChainGroup.ensures)) in
+    if_ok c.chain_group.result _ _ (λ r h. subst (λ z. IsReceiver (see_site c.args.site.now) (see_role c.args.role) z c.args.breaks.now.found c.chain_group.new.breaks.found r) (sym same) h) c.chain_group.ensures
+
+pub chain_group-returns : goal.chain_group-returns
+chain_group-returns t c = group_checked (see_site c.args.site.now) (see_role c.args.role) c.args.at _ c.args.breaks.now.found c.joined.new.breaks.found c.in_ok-inner.inner _ (c.in_ok-inner.ensures false) refl refl refl
 
 pub group-returns : goal.group-returns
 group-returns t c = group_checked (see_site c.args.site.now) (see_role c.args.role) c.args.at _ c.args.breaks.now.found c.expr.new.breaks.found c.in_ok-inner.inner _ c.in_ok-inner.ensures refl refl refl

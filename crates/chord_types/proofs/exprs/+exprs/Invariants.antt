@@ -47,6 +47,9 @@ decreases-start l = 2 * weigh_start l.start.now
 abbrev pub decreases-group : goal.decreases-group
 decreases-group l = 2 * weigh_expr l.inner.now + 1
 
+abbrev pub decreases-chain_group : goal.decreases-chain_group
+decreases-chain_group l = 2 * weigh_parts l.chain.now + 1
+
 abbrev pub decreases-start_call : goal.decreases-start_call
 decreases-start_call l = 2 * weigh_own_call l.call.now
 

@@ -1,7 +1,7 @@
 use Rattle.std.proofs.Common.{false, sym, ap, ◌∙◌}
 use Rattle.chord_tree.specs.Terms.{started}
 use Rattle.chord_tree.specs.ViewExprs.{see_start}
-use Rattle.chord_tree.proofs.SeenExprs.{seen_start_variable, seen_start_call, seen_start_this, seen_start_new, seen_start_number, seen_start_literal, seen_start_true, seen_start_false, seen_start_group}
+use Rattle.chord_tree.proofs.SeenExprs.{seen_start_variable, seen_start_call, seen_start_this, seen_start_new, seen_start_number, seen_start_literal, seen_start_true, seen_start_false, seen_start_chain_group, seen_start_group}
 use Rattle.chord_classes.specs.ItemRules.{is_true_word}
 use Rattle.chord_types.proofs.Terms.{own_call_term, creation_term}
 use Rattle.chord_types.proofs.returns.begins_true.Goals as goal
@@ -32,3 +32,6 @@ returns-in-False c = sym (ap (λ z. is_true_word (started z false)) (ap see_star
 
 pub returns-in-Group : goal.returns-in-Group
 returns-in-Group c = sym (ap (λ z. is_true_word (started z false)) (ap see_start c.in-Group.is ∙ seen_start_group _ _))
+
+pub returns-in-ChainGroup : goal.returns-in-ChainGroup
+returns-in-ChainGroup c = sym (ap (λ z. is_true_word (started z false)) (ap see_start c.in-ChainGroup.is ∙ seen_start_chain_group _ _))
