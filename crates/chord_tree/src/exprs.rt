@@ -310,6 +310,7 @@ impl Start {
     }
 
     /// An expression in brackets; the number is that of `(`.
+    #[inline(always)]
     pub fn group(alloc: Global, at: u32, inner: Expr) -> Result<Start, AllocError>
         ensures { IfOk result (λ s. see_start s ≡ GroupStart at (see_expr inner)) }
     {

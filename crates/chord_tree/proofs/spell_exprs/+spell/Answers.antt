@@ -1,10 +1,10 @@
 use Rattle.std.proofs.Common.{◌≡◌, [], map, sym, ap, ◌∙◌, arith, ◌+◌}
 use Rattle.chord_tree.specs.ExprNodes.{bare, mark_leaf, node_links, node_dots, node_dot, node_start, node_actuals, node_exprs, node_more}
 use Rattle.chord_tree.specs.Tree.{links, dots, exprs}
-use Rattle.chord_tree.specs.ViewExprs.{see_expr, see_chain, see_calls, see_link, see_dot, see_start, see_own_call, see_creation, see_actuals}
+use Rattle.chord_tree.specs.ViewExprs.{see_expr, see_chain, see_calls, see_link, see_dot, see_start, see_own_call, see_creation}
 use Rattle.chord_tree.proofs.SeenExprs.{seen_chain, seen_chained, seen_minus, seen_not, seen_alone, seen_calls, seen_called, seen_actuals, seen_dot, seen_start_variable, seen_start_call, seen_own_call, seen_start_this, seen_start_new, seen_creation, seen_start_number, seen_start_literal, seen_start_true, seen_start_false, seen_start_chain_group, seen_start_group}
 use Rattle.chord_tree.proofs.Words.{nil, cons, made, leaf, as_level, links_added, more_links_added, chain_added, dots_added, seen_as, on_ok, dropped, drop_end, length_zero}
-use Rattle.chord_tree.proofs.Weights.{total, weigh_expr, weigh_link, weigh_start, weigh_dot, weigh_actuals, weigh_parts, of_chain, weigh_chain, weigh_minus, weigh_not, weigh_alone, weigh_calls, weigh_called, of_calls, weigh_start_call, weigh_start_new, weigh_start_chain_group, weigh_start_group, weigh_own_call, weigh_creation, of_own_call, of_creation, of_link, of_actuals, of_dot, one_of}
+use Rattle.chord_tree.proofs.Weights.{total, weigh_expr, weigh_link, weigh_start, weigh_dot, weigh_parts, of_chain, weigh_chain, weigh_minus, weigh_not, weigh_alone, weigh_calls, weigh_called, of_calls, weigh_start_call, weigh_start_new, weigh_start_chain_group, weigh_start_group, weigh_own_call, weigh_creation, of_own_call, of_creation, of_link, of_actuals, of_dot, one_of}
 use Rattle.chord_tree.proofs.spell_exprs.+spell.Goals as goal
 
 pub put_actuals-returns : goal.put_actuals-returns
