@@ -243,7 +243,7 @@ fn links(
 }
 
 /// All links of the operator's level that come next.
-#[inline(never)]
+#[inline(always)]
 #[cycle(parser)]
 fn more_links(
     alloc: Global,
@@ -498,6 +498,7 @@ fn start_new(
 }
 
 /// "(" Expr ")"
+#[inline(always)]
 #[cycle(parser)]
 fn start_group(
     alloc: Global,

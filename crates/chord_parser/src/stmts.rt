@@ -98,6 +98,7 @@ fn item(alloc: Global, count: u32, tokens: &[Token], depth: u32) -> Result<(Item
 }
 
 /// ( "int" | "bool" | "string" ) Name "=" Expr ";"
+#[inline(always)]
 fn local(
     alloc: Global,
     count: u32,

@@ -100,43 +100,45 @@ pub enum Start {
     /// A variable, or the word `Console` before a dot.
     Variable(Name),
     /// A call without receiver.
-    Call {
-        name: Name,
-        actuals: Box<Actuals>,
-    },
+    Call(Box<OwnCall>),
     /// `this`
-    This {
-        at: u32,
-    },
+    This { at: u32 },
     /// `new` and a class, with the arguments of its constructor.
-    New {
-        at: u32,
-        name: Name,
-        actuals: Box<Actuals>,
-    },
+    New(Box<Creation>),
     /// A number.
-    Number {
-        value: u32,
-        at: u32,
-    },
+    Number { value: u32, at: u32 },
     /// A text literal.
-    Literal {
-        bytes: Bytes,
-        at: u32,
-    },
+    Literal { at: u32, bytes: Bytes },
     /// `true`
-    True {
-        at: u32,
-    },
+    True { at: u32 },
     /// `false`
-    False {
-        at: u32,
-    },
-    /// An expression in brackets; the number is that of `(`.
-    Group {
-        at: u32,
-        inner: Box<Expr>,
-    },
+    False { at: u32 },
+    /// A chain in brackets, which needs no box of its own; the number is that of `(`.
+    ChainGroup { at: u32, chain: Box<Chain> },
+    /// Another expression in brackets; the number is that of `(`.
+    Group { at: u32, inner: Box<Expr> },
+}
+
+/// A call without receiver.
+#[cycle(exprs)]
+#[derive(Drop)]
+pub struct OwnCall {
+    /// The method.
+    pub name: Name,
+    /// The arguments.
+    pub actuals: Actuals,
+}
+
+/// `new` and a class, with the arguments of its constructor.
+#[cycle(exprs)]
+#[derive(Drop)]
+pub struct Creation {
+    /// The number of `new`.
+    pub at: u32,
+    /// The class.
+    pub name: Name,
+    /// The arguments.
+    pub actuals: Actuals,
 }
 
 /// Arguments in brackets.
@@ -255,8 +257,8 @@ impl Start {
     pub fn call(alloc: Global, name: Name, actuals: Actuals) -> Result<Start, AllocError>
         ensures { IfOk result (λ s. see_start s ≡ CallStart name (see_actuals actuals)) }
     {
-        let actuals = Box::new(alloc, actuals)?;
-        Ok(Start::Call { name, actuals })
+        let call = Box::new(alloc, OwnCall { name, actuals })?;
+        Ok(Start::Call(call))
     }
 
     /// `this`
@@ -275,8 +277,8 @@ impl Start {
     ) -> Result<Start, AllocError>
         ensures { IfOk result (λ s. see_start s ≡ NewStart at name (see_actuals actuals)) }
     {
-        let actuals = Box::new(alloc, actuals)?;
-        Ok(Start::New { at, name, actuals })
+        let creation = Box::new(alloc, Creation { at, name, actuals })?;
+        Ok(Start::New(creation))
     }
 
     /// A number.
@@ -290,7 +292,7 @@ impl Start {
     pub fn literal(bytes: Bytes, at: u32) -> Start
         ensures { see_start result ≡ LiteralStart bytes at }
     {
-        Start::Literal { bytes, at }
+        Start::Literal { at, bytes }
     }
 
     /// `true`
@@ -308,13 +310,17 @@ impl Start {
     }
 
     /// An expression in brackets; the number is that of `(`.
+    #[inline(always)]
     pub fn group(alloc: Global, at: u32, inner: Expr) -> Result<Start, AllocError>
         ensures { IfOk result (λ s. see_start s ≡ GroupStart at (see_expr inner)) }
     {
-        Ok(Start::Group {
-            at,
-            inner: Box::new(alloc, inner)?,
-        })
+        match inner {
+            Expr::Chain(chain) => Ok(Start::ChainGroup { at, chain }),
+            other => Ok(Start::Group {
+                at,
+                inner: Box::new(alloc, other)?,
+            }),
+        }
     }
 
     /// The number of its first token.
@@ -323,17 +329,14 @@ impl Start {
     {
         match self {
             Start::Variable(name) => name.at,
-            Start::Call { name, actuals: _ } => name.at,
+            Start::Call(call) => call.name.at,
             Start::This { at } => *at,
-            Start::New {
-                at,
-                name: _,
-                actuals: _,
-            } => *at,
+            Start::New(creation) => creation.at,
             Start::Number { value: _, at } => *at,
-            Start::Literal { bytes: _, at } => *at,
+            Start::Literal { at, bytes: _ } => *at,
             Start::True { at } => *at,
             Start::False { at } => *at,
+            Start::ChainGroup { at, chain: _ } => *at,
             Start::Group { at, inner: _ } => *at,
         }
     }

@@ -5,9 +5,9 @@ ghost use Rattle.std.specs.Prelude.{map, OnOk};
 ghost use Rattle.chord_tree.specs.Program.{Adds};
 ghost use Rattle.chord_tree.specs.ExprNodes.{bare, node_links, node_start, node_actuals, node_dot, node_dots, node_exprs};
 ghost use Rattle.chord_tree.specs.Tree.{links, dots, exprs, MoreLinks, NoLinks};
-ghost use Rattle.chord_tree.specs.ViewExprs.{see_expr, see_chain, see_calls, see_link, see_start, see_actuals, see_dot};
+ghost use Rattle.chord_tree.specs.ViewExprs.{see_expr, see_chain, see_calls, see_link, see_start, see_own_call, see_creation, see_actuals, see_dot};
 
-use crate::exprs::{Actuals, Calls, Chain, Dot, Expr, Link, Start};
+use crate::exprs::{Actuals, Calls, Chain, Creation, Dot, Expr, Link, OwnCall, Start};
 use crate::puts::{operator_mark, put, put_keyword, put_literal, put_mark, put_name};
 use chord_lexer::token::{Keyword, Kind, Mark, Token};
 use std::alloc::{AllocError, Global};
@@ -73,22 +73,11 @@ fn put_start(alloc: Global, out: &mut Vec<Token>, start: &Start) -> Result<(), A
 {
     match start {
         Start::Variable(name) => put_name(alloc, out, name),
-        Start::Call { name, actuals } => {
-            put_name(alloc, out, name)?;
-            put_actuals(alloc, out, actuals)
-        }
+        Start::Call(call) => put_own_call(alloc, out, call),
         Start::This { at: _ } => put_keyword(out, Keyword::This),
-        Start::New {
-            at: _,
-            name,
-            actuals,
-        } => {
-            put_keyword(out, Keyword::New)?;
-            put_name(alloc, out, name)?;
-            put_actuals(alloc, out, actuals)
-        }
+        Start::New(creation) => put_creation(alloc, out, creation),
         Start::Number { value, at: _ } => put(out, Kind::Number(*value)),
-        Start::Literal { bytes, at: _ } => put_literal(alloc, out, bytes),
+        Start::Literal { at: _, bytes } => put_literal(alloc, out, bytes),
         Start::True { at: _ } => put_keyword(out, Keyword::True),
         Start::False { at: _ } => put_keyword(out, Keyword::False),
         Start::Group { at: _, inner } => {
@@ -96,7 +85,29 @@ fn put_start(alloc: Global, out: &mut Vec<Token>, start: &Start) -> Result<(), A
             put_expr(alloc, out, inner)?;
             put_mark(out, Mark::CloseParenthesis)
         }
+        Start::ChainGroup { at: _, chain } => {
+            put_mark(out, Mark::OpenParenthesis)?;
+            put_chain(alloc, out, chain)?;
+            put_mark(out, Mark::CloseParenthesis)
+        }
     }
+}
+
+#[cycle(spell)]
+fn put_own_call(alloc: Global, out: &mut Vec<Token>, call: &OwnCall) -> Result<(), AllocError>
+    ensures { OnOk result (Adds out.old.items out.new.items (node_start (see_own_call call.now))) }
+{
+    put_name(alloc, out, &call.name)?;
+    put_actuals(alloc, out, &call.actuals)
+}
+
+#[cycle(spell)]
+fn put_creation(alloc: Global, out: &mut Vec<Token>, creation: &Creation) -> Result<(), AllocError>
+    ensures { OnOk result (Adds out.old.items out.new.items (node_start (see_creation creation.now))) }
+{
+    put_keyword(out, Keyword::New)?;
+    put_name(alloc, out, &creation.name)?;
+    put_actuals(alloc, out, &creation.actuals)
 }
 
 #[cycle(spell)]

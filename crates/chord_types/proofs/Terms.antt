@@ -3,11 +3,13 @@ use Rattle.std.proofs.Common.{◌≡◌, Bool, map, refl, ap, ◌∙◌}
 use Rattle.chord_tree.specs.declared.exprs.Calls.{Calls, out-Calls}
 use Rattle.chord_tree.specs.declared.exprs.Link.{Link, out-Link}
 use Rattle.chord_tree.specs.declared.exprs.Dot.{Dot, out-Dot}
+use Rattle.chord_tree.specs.declared.exprs.OwnCall.{OwnCall, out-OwnCall}
+use Rattle.chord_tree.specs.declared.exprs.Creation.{Creation, out-Creation}
 use Rattle.chord_tree.specs.declared.exprs.Actuals.{out-Actuals}
-use Rattle.chord_tree.specs.Tree.{ExprTree, LinkTree, LinkTrees, DotTree, DotTrees, ChainExpr, MakeLink, MoreDots, MakeDot, MakeActuals, exprs, dots}
-use Rattle.chord_tree.specs.Terms.{Term, term, terms, term_after, started, called, operated, OperationTerm, CallTerm}
-use Rattle.chord_tree.specs.ViewExprs.{see_expr, see_link, see_start, see_calls, see_dot}
-use Rattle.chord_tree.proofs.SeenExprs.{seen_link, seen_calls, seen_dot, seen_actuals}
+use Rattle.chord_tree.specs.Tree.{ExprTree, LinkTree, LinkTrees, DotTree, DotTrees, ChainExpr, MakeLink, MoreDots, MakeDot, MakeActuals, CallStart, NewStart, exprs, dots}
+use Rattle.chord_tree.specs.Terms.{Term, term, terms, term_after, started, called, operated, OperationTerm, CallTerm, OwnCallTerm, NewTerm}
+use Rattle.chord_tree.specs.ViewExprs.{see_expr, see_link, see_start, see_own_call, see_creation, see_calls, see_dot}
+use Rattle.chord_tree.proofs.SeenExprs.{seen_link, seen_calls, seen_dot, seen_own_call, seen_creation, seen_actuals}
 use Rattle.chord_types.specs.Checked.{on_link, on_dot}
 
 -- a chain is its further operators on the first one
@@ -29,3 +31,11 @@ called_term calls minus = ap (λ z. term_after z minus) (seen_calls calls) ∙ f
 -- a call of memory on its receiver
 pub dot_term : (dot : Dot) (receiver : Term) → on_dot receiver (see_dot dot) ≡ CallTerm receiver (out-Dot dot).at (out-Dot dot).name (out-Actuals (out-Dot dot).actuals).at (terms (exprs (map see_expr (out-Actuals (out-Dot dot).actuals).arguments.items)))
 dot_term dot receiver = ap (on_dot receiver) (seen_dot dot ∙ ap (MakeDot (out-Dot dot).at (out-Dot dot).name) (seen_actuals (out-Dot dot).actuals))
+
+-- a call without receiver of memory, with or without a minus before
+pub own_call_term : (call : OwnCall) (minus : Bool) → started (see_own_call call) minus ≡ OwnCallTerm (out-OwnCall call).name (out-Actuals (out-OwnCall call).actuals).at (terms (exprs (map see_expr (out-Actuals (out-OwnCall call).actuals).arguments.items)))
+own_call_term call minus = ap (λ z. started z minus) (seen_own_call call ∙ ap (CallStart (out-OwnCall call).name) (seen_actuals (out-OwnCall call).actuals))
+
+-- `new` and a class of memory, with or without a minus before
+pub creation_term : (creation : Creation) (minus : Bool) → started (see_creation creation) minus ≡ NewTerm (out-Creation creation).at (out-Creation creation).name (out-Actuals (out-Creation creation).actuals).at (terms (exprs (map see_expr (out-Actuals (out-Creation creation).actuals).arguments.items)))
+creation_term creation minus = ap (λ z. started z minus) (seen_creation creation ∙ ap (NewStart (out-Creation creation).at (out-Creation creation).name) (seen_actuals (out-Creation creation).actuals))

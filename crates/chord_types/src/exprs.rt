@@ -5,7 +5,7 @@ ghost use Rattle.std.specs.Prelude.{◌≡◌, Bool, true, false, map, IfOk};
 ghost use Rattle.chord_tree.specs.Tree.{exprs, dots, links};
 ghost use Rattle.chord_tree.specs.Terms.{Term, term_after, term, started, terms, called, operated, GroupTerm, MinusTerm, NotTerm, OwnCallTerm, NewTerm};
 ghost use Rattle.chord_tree.specs.Walk.{Used, Receiver};
-ghost use Rattle.chord_tree.specs.ViewExprs.{see_expr, see_calls, see_start, see_chain, see_link, see_dot};
+ghost use Rattle.chord_tree.specs.ViewExprs.{see_expr, see_calls, see_start, see_own_call, see_creation, see_chain, see_link, see_dot};
 ghost use Rattle.chord_types.specs.Checked.{IsChecked, AreChecked, IsReceiver, GoesOn, Operates, on_dot, on_link};
 ghost use Rattle.chord_types.specs.Views.{see_role};
 ghost use Rattle.chord_types.specs.Sites.{see_site};
@@ -17,7 +17,7 @@ use crate::operators::{judge_minus, judge_not, judge_operation, resolved_operato
 use crate::site::{Passed, Role, Site};
 use chord_bodies::expr as built;
 use chord_classes::least::Least;
-use chord_tree::exprs::{Actuals, Calls, Chain, Dot, Expr, Link, Start};
+use chord_tree::exprs::{Actuals, Calls, Chain, Creation, Dot, Expr, Link, OwnCall, Start};
 use chord_tree::names::Name;
 use std::alloc::{AllocError, Global};
 
@@ -176,19 +176,38 @@ fn start(
     match start {
         Start::Variable(name) => Ok(variable(site, role, name, breaks)),
         Start::This { at } => Ok(this(site, role, *at, breaks)),
-        Start::Call { name, actuals } => own_call(alloc, site, role, name, actuals, breaks),
-        Start::New { at, name, actuals } => {
-            new_object(alloc, site, role, *at, name, actuals, breaks)
-        }
+        Start::Call(call) => start_call(alloc, site, role, call, breaks),
+        Start::New(creation) => start_new(alloc, site, role, creation, breaks),
         Start::Number { value, at } => Ok(number(site, role, *value, *at, minus, breaks)),
-        Start::Literal { bytes, at } => literal(alloc, site, role, bytes.items(), *at, breaks),
+        Start::Literal { at, bytes } => literal(alloc, site, role, bytes.items(), *at, breaks),
         Start::True { at } => Ok(flag(site, role, true, *at, breaks)),
         Start::False { at } => Ok(flag(site, role, false, *at, breaks)),
         Start::Group { at, inner } => group(alloc, site, role, *at, inner, breaks),
+        Start::ChainGroup { at, chain } => chain_group(alloc, site, role, *at, chain, breaks),
     }
 }
 
-/// An expression in brackets.
+/// A chain in brackets.
+#[cycle(exprs)]
+fn chain_group(
+    alloc: Global,
+    site: &Site,
+    role: Role,
+    at: u32,
+    chain: &Chain,
+    breaks: &mut Least,
+) -> Result<Operand, AllocError>
+    ensures { IfOk result (λ r. IsReceiver (see_site site.now) (see_role role) (GroupTerm at (term (see_chain chain.now))) breaks.old.found breaks.new.found r) }
+{
+    let inner = joined(alloc, site, chain, breaks)?;
+    Ok(Operand {
+        expr: inner.expr,
+        static_type: inner.static_type,
+        is_console: false,
+    })
+}
+
+/// Another expression in brackets.
 #[cycle(exprs)]
 fn group(
     alloc: Global,
@@ -206,6 +225,42 @@ fn group(
         static_type: inner.static_type,
         is_console: false,
     })
+}
+
+/// A call without receiver, as it stands in an expression.
+#[cycle(exprs)]
+fn start_call(
+    alloc: Global,
+    site: &Site,
+    role: Role,
+    call: &OwnCall,
+    breaks: &mut Least,
+) -> Result<Operand, AllocError>
+    ensures { IfOk result (λ r. IsReceiver (see_site site.now) (see_role role) (started (see_own_call call.now) false) breaks.old.found breaks.new.found r) }
+{
+    own_call(alloc, site, role, &call.name, &call.actuals, breaks)
+}
+
+/// `new` and a class, as they stand in an expression.
+#[cycle(exprs)]
+fn start_new(
+    alloc: Global,
+    site: &Site,
+    role: Role,
+    creation: &Creation,
+    breaks: &mut Least,
+) -> Result<Operand, AllocError>
+    ensures { IfOk result (λ r. IsReceiver (see_site site.now) (see_role role) (started (see_creation creation.now) false) breaks.old.found breaks.new.found r) }
+{
+    new_object(
+        alloc,
+        site,
+        role,
+        creation.at,
+        &creation.name,
+        &creation.actuals,
+        breaks,
+    )
 }
 
 /// A call without receiver.

@@ -17,13 +17,14 @@ fn begins_true(start: &Start) -> bool
 {
     match start {
         Start::Variable(_) => false,
-        Start::Call { .. } => false,
+        Start::Call(_) => false,
         Start::This { .. } => false,
-        Start::New { .. } => false,
+        Start::New(_) => false,
         Start::Number { .. } => false,
         Start::Literal { .. } => false,
         Start::True { .. } => true,
         Start::False { .. } => false,
+        Start::ChainGroup { .. } => false,
         Start::Group { .. } => false,
     }
 }

@@ -1,10 +1,10 @@
 use Rattle.std.proofs.Common.{◌≡◌, [], map, sym, ap, ◌∙◌, arith, ◌+◌}
 use Rattle.chord_tree.specs.ExprNodes.{bare, mark_leaf, node_links, node_dots, node_dot, node_start, node_actuals, node_exprs, node_more}
 use Rattle.chord_tree.specs.Tree.{links, dots, exprs}
-use Rattle.chord_tree.specs.ViewExprs.{see_expr, see_chain, see_calls, see_link, see_dot, see_start, see_actuals}
-use Rattle.chord_tree.proofs.SeenExprs.{seen_chain, seen_chained, seen_minus, seen_not, seen_alone, seen_calls, seen_called, seen_actuals, seen_dot, seen_start_variable, seen_start_call, seen_start_this, seen_start_new, seen_start_number, seen_start_literal, seen_start_true, seen_start_false, seen_start_group}
+use Rattle.chord_tree.specs.ViewExprs.{see_expr, see_chain, see_calls, see_link, see_dot, see_start, see_own_call, see_creation}
+use Rattle.chord_tree.proofs.SeenExprs.{seen_chain, seen_chained, seen_minus, seen_not, seen_alone, seen_calls, seen_called, seen_actuals, seen_dot, seen_start_variable, seen_start_call, seen_own_call, seen_start_this, seen_start_new, seen_creation, seen_start_number, seen_start_literal, seen_start_true, seen_start_false, seen_start_chain_group, seen_start_group}
 use Rattle.chord_tree.proofs.Words.{nil, cons, made, leaf, as_level, links_added, more_links_added, chain_added, dots_added, seen_as, on_ok, dropped, drop_end, length_zero}
-use Rattle.chord_tree.proofs.Weights.{total, weigh_expr, weigh_link, weigh_start, weigh_dot, weigh_actuals, weigh_parts, of_chain, weigh_chain, weigh_minus, weigh_not, weigh_alone, weigh_calls, weigh_called, of_calls, weigh_start_call, weigh_start_new, weigh_start_group, of_link, of_actuals, of_dot, one_of}
+use Rattle.chord_tree.proofs.Weights.{total, weigh_expr, weigh_link, weigh_start, weigh_dot, weigh_parts, of_chain, weigh_chain, weigh_minus, weigh_not, weigh_alone, weigh_calls, weigh_called, of_calls, weigh_start_call, weigh_start_new, weigh_start_chain_group, weigh_start_group, weigh_own_call, weigh_creation, of_own_call, of_creation, of_link, of_actuals, of_dot, one_of}
 use Rattle.chord_tree.proofs.spell_exprs.+spell.Goals as goal
 
 pub put_actuals-returns : goal.put_actuals-returns
@@ -83,13 +83,19 @@ pub put_start-returns-in-Number : goal.put_start-returns-in-Number
 put_start-returns-in-Number t c = on_ok _ _ _ (λ h. seen_as node_start _ _ (ap see_start c.in-Number.is ∙ seen_start_number c.in-Number.value c.in-Number.at) (made (cons (leaf h) nil))) c.put.ensures
 
 pub put_start-returns-in-Literal : goal.put_start-returns-in-Literal
-put_start-returns-in-Literal t c = on_ok _ _ _ (λ h. seen_as node_start _ _ (ap see_start c.in-Literal.is ∙ seen_start_literal c.in-Literal.bytes c.in-Literal.at) (made (cons (leaf h) nil))) c.put_literal.ensures
+put_start-returns-in-Literal t c = on_ok _ _ _ (λ h. seen_as node_start _ _ (ap see_start c.in-Literal.is ∙ seen_start_literal c.in-Literal.at c.in-Literal.bytes) (made (cons (leaf h) nil))) c.put_literal.ensures
 
-pub put_start-returns-in_ok-put_name-in-Call : goal.put_start-returns-in_ok-put_name-in-Call
-put_start-returns-in_ok-put_name-in-Call t c = on_ok _ _ _ (λ h. seen_as node_start _ _ (ap see_start c.in-Call.is ∙ seen_start_call c.in-Call.name c.in-Call.actuals) (made (cons c.in_ok-put_name-in-Call.ensures (cons (made (cons (seen_as (λ z. node_actuals (see_actuals z)) _ _ (sym c.deref.ensures) h) nil)) nil)))) c.put_actuals.ensures
+pub put_start-returns-in-Call : goal.put_start-returns-in-Call
+put_start-returns-in-Call t c = on_ok _ _ _ (λ h. seen_as node_start _ _ (ap see_start c.in-Call.is ∙ seen_start_call c.in-Call.call) (seen_as (λ z. node_start (see_own_call z)) _ _ (sym c.deref.ensures) h)) c.put_own_call.ensures
 
-pub put_start-returns-in_ok-put_name-in-New : goal.put_start-returns-in_ok-put_name-in-New
-put_start-returns-in_ok-put_name-in-New t c = on_ok _ _ _ (λ h. seen_as node_start _ _ (ap see_start c.in-New.is ∙ seen_start_new c.in-New.at c.in-New.name c.in-New.actuals) (made (cons (leaf c.in_ok-put_keyword-in-New.ensures) (cons c.in_ok-put_name-in-New.ensures (cons (seen_as (λ z. node_actuals (see_actuals z)) _ _ (sym c.deref-in-New.ensures) h) nil))))) c.put_actuals-in-New.ensures
+pub put_own_call-returns : goal.put_own_call-returns
+put_own_call-returns t c = on_ok _ _ _ (λ h. seen_as node_start _ _ (seen_own_call c.args.call.now) (made (cons c.in_ok-put_name.ensures (cons (made (cons h nil)) nil)))) c.put_actuals.ensures
+
+pub put_start-returns-in-New : goal.put_start-returns-in-New
+put_start-returns-in-New t c = on_ok _ _ _ (λ h. seen_as node_start _ _ (ap see_start c.in-New.is ∙ seen_start_new c.in-New.creation) (seen_as (λ z. node_start (see_creation z)) _ _ (sym c.deref-in-New.ensures) h)) c.put_creation.ensures
+
+pub put_creation-returns : goal.put_creation-returns
+put_creation-returns t c = on_ok _ _ _ (λ h. seen_as node_start _ _ (seen_creation c.args.creation.now) (made (cons (leaf c.in_ok-put_keyword.ensures) (cons c.in_ok-put_name.ensures (cons h nil))))) c.put_actuals.ensures
 
 pub put_start-returns-in_ok-put_expr-in-Group : goal.put_start-returns-in_ok-put_expr-in-Group
 put_start-returns-in_ok-put_expr-in-Group t c = on_ok _ _ _ (λ h. seen_as node_start _ _ (ap see_start c.in-Group.is ∙ seen_start_group c.in-Group.at c.in-Group.inner) (made (cons (leaf c.in_ok-put_mark-in-Group.ensures) (cons (as_level 6 _ (seen_as (λ z. bare (see_expr z)) _ _ (sym c.deref-in-Group.ensures) c.in_ok-put_expr-in-Group.ensures)) (cons (leaf h) nil))))) c.put_mark-in-Group.ensures
@@ -148,11 +154,23 @@ put_exprs-put_expr-requires t c = let e : total (map weigh_expr c.args.arguments
 pub put_exprs-put_expr-requires-in-each : goal.put_exprs-put_expr-requires-in-each
 put_exprs-put_expr-requires-in-each t c = let e : total (map weigh_expr c.args.arguments.now) ≡ weigh_expr c.in-Some.first.now + total (map weigh_expr c.in-Some.more.now) = ap (λ z. total (map weigh_expr z)) c.in-Some.ensures.cases.0 in let f = one_of weigh_expr c.in-Some.more.now _ _ c.each-test.true c.expr-item.is in (omega arith, tt)
 
-pub put_start-put_actuals-requires : goal.put_start-put_actuals-requires
-put_start-put_actuals-requires t c = let e = ap weigh_start c.in-Call.is ∙ weigh_start_call c.in-Call.name c.in-Call.actuals in let f = ap weigh_actuals c.deref.ensures in (omega arith, tt)
+pub put_start-put_own_call-requires : goal.put_start-put_own_call-requires
+put_start-put_own_call-requires t c = let e = ap weigh_start c.in-Call.is ∙ weigh_start_call c.in-Call.call in let f = ap weigh_own_call c.deref.ensures in (omega arith, tt)
 
-pub put_start-put_actuals-requires-in-New : goal.put_start-put_actuals-requires-in-New
-put_start-put_actuals-requires-in-New t c = let e = ap weigh_start c.in-New.is ∙ weigh_start_new c.in-New.at c.in-New.name c.in-New.actuals in let f = ap weigh_actuals c.deref-in-New.ensures in (omega arith, tt)
+pub put_own_call-put_actuals-requires : goal.put_own_call-put_actuals-requires
+put_own_call-put_actuals-requires t c = let e = of_own_call c.args.call.now in (omega arith, tt)
+
+pub put_start-put_creation-requires : goal.put_start-put_creation-requires
+put_start-put_creation-requires t c = let e = ap weigh_start c.in-New.is ∙ weigh_start_new c.in-New.creation in let f = ap weigh_creation c.deref-in-New.ensures in (omega arith, tt)
+
+pub put_creation-put_actuals-requires : goal.put_creation-put_actuals-requires
+put_creation-put_actuals-requires t c = let e = of_creation c.args.creation.now in (omega arith, tt)
 
 pub put_start-put_expr-requires : goal.put_start-put_expr-requires
 put_start-put_expr-requires t c = let e = ap weigh_start c.in-Group.is ∙ weigh_start_group c.in-Group.at c.in-Group.inner in let f = ap weigh_expr c.deref-in-Group.ensures in (omega arith, tt)
+
+pub put_start-returns-in_ok-put_chain-in-ChainGroup : goal.put_start-returns-in_ok-put_chain-in-ChainGroup
+put_start-returns-in_ok-put_chain-in-ChainGroup t c = on_ok _ _ _ (λ h. seen_as node_start _ _ (ap see_start c.in-ChainGroup.is ∙ seen_start_chain_group c.in-ChainGroup.at c.in-ChainGroup.chain) (made (cons (leaf c.in_ok-put_mark-in-ChainGroup.ensures) (cons (as_level 6 _ (seen_as (λ z. bare (see_chain z)) _ _ (sym c.deref-in-ChainGroup.ensures) c.in_ok-put_chain-in-ChainGroup.ensures)) (cons (leaf h) nil))))) c.put_mark-in-ChainGroup-2.ensures
+
+pub put_start-put_chain-requires : goal.put_start-put_chain-requires
+put_start-put_chain-requires t c = let e = ap weigh_start c.in-ChainGroup.is ∙ weigh_start_chain_group c.in-ChainGroup.at c.in-ChainGroup.chain in let f = ap weigh_parts c.deref-in-ChainGroup.ensures in (omega arith, tt)

@@ -1,5 +1,5 @@
 use Rattle.std.proofs.Common.{List, map, drop, ◌+◌}
-use Rattle.chord_tree.proofs.Weights.{total, weigh_expr, weigh_parts, weigh_calls, weigh_link, weigh_start, weigh_actuals, weigh_dot}
+use Rattle.chord_tree.proofs.Weights.{total, weigh_expr, weigh_parts, weigh_calls, weigh_link, weigh_start, weigh_own_call, weigh_creation, weigh_actuals, weigh_dot}
 use Rattle.chord_lexer.specs.declared.token.Token.{Token}
 use Rattle.chord_tree.specs.Program.{Adds}
 use Rattle.chord_tree.specs.ExprNodes.{node_links, node_more, node_dots}
@@ -33,6 +33,12 @@ decreases-put_links l = total (map weigh_link l.more.now) + 1
 
 abbrev pub decreases-put_start : goal.decreases-put_start
 decreases-put_start l = weigh_start l.start.now
+
+abbrev pub decreases-put_own_call : goal.decreases-put_own_call
+decreases-put_own_call l = weigh_own_call l.call.now
+
+abbrev pub decreases-put_creation : goal.decreases-put_creation
+decreases-put_creation l = weigh_creation l.creation.now
 
 abbrev pub decreases-put_actuals : goal.decreases-put_actuals
 decreases-put_actuals l = weigh_actuals l.actuals.now

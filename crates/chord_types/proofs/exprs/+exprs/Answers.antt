@@ -5,12 +5,12 @@ use Rattle.chord_tree.specs.declared.exprs.Chain.{out-Chain}
 use Rattle.chord_tree.specs.declared.exprs.Link.{out-Link}
 use Rattle.chord_tree.specs.declared.exprs.Dot.{out-Dot}
 use Rattle.chord_tree.specs.declared.exprs.Actuals.{out-Actuals}
-use Rattle.chord_tree.specs.Tree.{exprs, dots, links, MinusExpr, NotExpr, CallStart, NewStart, GroupStart}
+use Rattle.chord_tree.specs.Tree.{exprs, dots, links, MinusExpr, NotExpr, GroupStart}
 use Rattle.chord_tree.specs.Terms.{term_after, term, terms, called, started, operated, LiteralTerm}
 use Rattle.chord_tree.specs.Walk.{Used, Receiver}
-use Rattle.chord_tree.specs.ViewExprs.{see_expr, see_dot, see_link, see_start, see_chain, see_calls, see_actuals}
-use Rattle.chord_tree.proofs.SeenExprs.{seen_chain, seen_chained, seen_minus, seen_not, seen_alone, seen_calls, seen_called, seen_actuals, seen_start_variable, seen_start_call, seen_start_this, seen_start_new, seen_start_number, seen_start_literal, seen_start_true, seen_start_false, seen_start_group}
-use Rattle.chord_tree.proofs.Weights.{total, weigh_expr, weigh_link, weigh_start, weigh_dot, weigh_actuals, weigh_calls, weigh_parts, of_chain, weigh_chain, weigh_minus, weigh_not, weigh_alone, weigh_calls, weigh_called, of_calls, weigh_start_call, weigh_start_new, weigh_start_group, of_link, of_actuals, of_dot, one_of}
+use Rattle.chord_tree.specs.ViewExprs.{see_expr, see_dot, see_link, see_start, see_own_call, see_creation, see_chain, see_calls}
+use Rattle.chord_tree.proofs.SeenExprs.{seen_chain, seen_chained, seen_minus, seen_not, seen_alone, seen_calls, seen_called, seen_start_variable, seen_start_call, seen_start_this, seen_start_new, seen_start_number, seen_start_literal, seen_start_true, seen_start_false, seen_start_chain_group, seen_start_group}
+use Rattle.chord_tree.proofs.Weights.{total, weigh_expr, weigh_link, weigh_start, weigh_dot, weigh_actuals, weigh_calls, weigh_parts, of_chain, weigh_chain, weigh_minus, weigh_not, weigh_alone, weigh_calls, weigh_called, of_calls, weigh_start_call, weigh_start_new, weigh_start_chain_group, weigh_start_group, weigh_own_call, weigh_creation, of_own_call, of_creation, of_link, of_actuals, of_dot, one_of}
 use Rattle.chord_bodies.specs.Resolved as to
 use Rattle.chord_bodies.specs.View.{LinkOf, view_expr, binary, expr_list}
 use Rattle.chord_bodies.proofs.Viewed.{viewed_negate, viewed_deny, viewed_this, viewed_new, viewed_link}
@@ -26,7 +26,7 @@ use Rattle.chord_types.specs.CallKeys.{call_keys, call_type}
 use Rattle.chord_types.specs.Checked.{IsChecked, AreChecked, IsReceiver, on_link, on_dot}
 use Rattle.chord_tree.proofs.Words.{length_zero}
 use Rattle.chord_types.proofs.Oks.{if_ok}
-use Rattle.chord_types.proofs.Terms.{chain_term, link_term, called_term, dot_term}
+use Rattle.chord_types.proofs.Terms.{chain_term, link_term, called_term, dot_term, own_call_term, creation_term}
 use Rattle.chord_types.proofs.Lists.{map_last, take_step, take_all, dots_taken, dots_last, links_taken, total_ends}
 use Rattle.chord_types.proofs.Nodes.{AreAll, none_yet, minus_checked, not_checked, group_checked, operation_checked, own_checked, new_checked, call_checked, are_checked, one_more_checked, moved}
 use Rattle.chord_types.proofs.exprs.+exprs.Goals as goal
@@ -64,6 +64,12 @@ minus_of-expr-requires t c = (omega arith, tt)
 pub not_of-expr-requires : goal.not_of-expr-requires
 not_of-expr-requires t c = (omega arith, tt)
 
+pub start-chain_group-requires : goal.start-chain_group-requires
+start-chain_group-requires t c = let e = ap weigh_start c.in-ChainGroup.is ∙ weigh_start_chain_group c.in-ChainGroup.at c.in-ChainGroup.chain in let f = ap weigh_parts c.deref-in-ChainGroup.ensures in (omega arith, tt)
+
+pub chain_group-joined-requires : goal.chain_group-joined-requires
+chain_group-joined-requires t c = (omega arith, tt)
+
 pub group-expr-requires : goal.group-expr-requires
 group-expr-requires t c = (omega arith, tt)
 
@@ -76,11 +82,17 @@ own_call-arguments-requires t c = let e = of_actuals c.args.actuals.now in let f
 pub new_object-arguments-requires : goal.new_object-arguments-requires
 new_object-arguments-requires t c = let e = of_actuals c.args.actuals.now in let f = ap (λ z. total (map weigh_expr z)) c.deref.ensures.value in (omega arith, tt)
 
-pub start-own_call-requires : goal.start-own_call-requires
-start-own_call-requires t c = let e = ap weigh_start c.in-Call.is ∙ weigh_start_call c.in-Call.name c.in-Call.actuals in let f = ap weigh_actuals c.deref.ensures in (omega arith, tt)
+pub start-start_call-requires : goal.start-start_call-requires
+start-start_call-requires t c = let e = ap weigh_start c.in-Call.is ∙ weigh_start_call c.in-Call.call in let f = ap weigh_own_call c.deref.ensures in (omega arith, tt)
 
-pub start-new_object-requires : goal.start-new_object-requires
-start-new_object-requires t c = let e = ap weigh_start c.in-New.is ∙ weigh_start_new c.in-New.at c.in-New.name c.in-New.actuals in let f = ap weigh_actuals c.deref-in-New.ensures in (omega arith, tt)
+pub start_call-own_call-requires : goal.start_call-own_call-requires
+start_call-own_call-requires t c = let e = of_own_call c.args.call.now in (omega arith, tt)
+
+pub start-start_new-requires : goal.start-start_new-requires
+start-start_new-requires t c = let e = ap weigh_start c.in-New.is ∙ weigh_start_new c.in-New.creation in let f = ap weigh_creation c.deref-in-New.ensures in (omega arith, tt)
+
+pub start_new-new_object-requires : goal.start_new-new_object-requires
+start_new-new_object-requires t c = let e = of_creation c.args.creation.now in (omega arith, tt)
 
 pub start-group-requires : goal.start-group-requires
 start-group-requires t c = let e = ap weigh_start c.in-Group.is ∙ weigh_start_group c.in-Group.at c.in-Group.inner in let f = ap weigh_expr c.deref-in-Group.ensures in (omega arith, tt)
@@ -223,7 +235,7 @@ start-returns-in-Number t c =
 
 pub start-returns-in-Literal : goal.start-returns-in-Literal
 start-returns-in-Literal t c =
-    let same = ap (λ z. started z c.args.minus) (ap see_start c.in-Literal.is ∙ seen_start_literal c.in-Literal.bytes c.in-Literal.at) ∙ ap (λ z. LiteralTerm z c.in-Literal.at) (sym c.items.ensures) in
+    let same = ap (λ z. started z c.args.minus) (ap see_start c.in-Literal.is ∙ seen_start_literal c.in-Literal.at c.in-Literal.bytes) ∙ ap (λ z. LiteralTerm z c.in-Literal.at) (sym c.items.ensures) in
     if_ok c.literal.result _ _ (λ r h. subst (λ z. IsReceiver (see_site c.args.site.now) (see_role c.args.role) z c.args.breaks.now.found c.literal.new.breaks.found r) (sym same) h) c.literal.ensures
 
 pub start-returns-in-True : goal.start-returns-in-True
@@ -238,18 +250,36 @@ start-returns-in-False t c =
 
 pub start-returns-in-Call : goal.start-returns-in-Call
 start-returns-in-Call t c =
-    let same = ap (λ z. started z c.args.minus) (ap see_start c.in-Call.is ∙ seen_start_call c.in-Call.name c.in-Call.actuals ∙ ap (CallStart c.in-Call.name) (ap see_actuals (sym c.deref.ensures) ∙ seen_actuals c.deref.result.now)) in
+    let same = ap (λ z. started z c.args.minus) (ap see_start c.in-Call.is ∙ seen_start_call c.in-Call.call ∙ ap see_own_call (sym c.deref.ensures)) ∙ own_call_term c.deref.result.now c.args.minus ∙ sym (own_call_term c.deref.result.now false) in
+    if_ok c.start_call.result _ _ (λ r h. subst (λ z. IsReceiver (see_site c.args.site.now) (see_role c.args.role) z c.args.breaks.now.found c.start_call.new.breaks.found r) (sym same) h) c.start_call.ensures
+
+pub start_call-returns : goal.start_call-returns
+start_call-returns t c =
+    let same = own_call_term c.args.call.now false in
     if_ok c.own_call.result _ _ (λ r h. subst (λ z. IsReceiver (see_site c.args.site.now) (see_role c.args.role) z c.args.breaks.now.found c.own_call.new.breaks.found r) (sym same) h) c.own_call.ensures
 
 pub start-returns-in-New : goal.start-returns-in-New
 start-returns-in-New t c =
-    let same = ap (λ z. started z c.args.minus) (ap see_start c.in-New.is ∙ seen_start_new c.in-New.at c.in-New.name c.in-New.actuals ∙ ap (NewStart c.in-New.at c.in-New.name) (ap see_actuals (sym c.deref-in-New.ensures) ∙ seen_actuals c.deref-in-New.result.now)) in
+    let same = ap (λ z. started z c.args.minus) (ap see_start c.in-New.is ∙ seen_start_new c.in-New.creation ∙ ap see_creation (sym c.deref-in-New.ensures)) ∙ creation_term c.deref-in-New.result.now c.args.minus ∙ sym (creation_term c.deref-in-New.result.now false) in
+    if_ok c.start_new.result _ _ (λ r h. subst (λ z. IsReceiver (see_site c.args.site.now) (see_role c.args.role) z c.args.breaks.now.found c.start_new.new.breaks.found r) (sym same) h) c.start_new.ensures
+
+pub start_new-returns : goal.start_new-returns
+start_new-returns t c =
+    let same = creation_term c.args.creation.now false in
     if_ok c.new_object.result _ _ (λ r h. subst (λ z. IsReceiver (see_site c.args.site.now) (see_role c.args.role) z c.args.breaks.now.found c.new_object.new.breaks.found r) (sym same) h) c.new_object.ensures
 
 pub start-returns-in-Group : goal.start-returns-in-Group
 start-returns-in-Group t c =
     let same = ap (λ z. started z c.args.minus) (ap see_start c.in-Group.is ∙ seen_start_group c.in-Group.at c.in-Group.inner ∙ ap (λ z. GroupStart c.in-Group.at (see_expr z)) (sym c.deref-in-Group.ensures)) in
     if_ok c.group.result _ _ (λ r h. subst (λ z. IsReceiver (see_site c.args.site.now) (see_role c.args.role) z c.args.breaks.now.found c.group.new.breaks.found r) (sym same) h) c.group.ensures
+
+pub start-returns-in-ChainGroup : goal.start-returns-in-ChainGroup
+start-returns-in-ChainGroup t c =
+    let same = ap (λ z. started z c.args.minus) (ap see_start c.in-ChainGroup.is ∙ seen_start_chain_group c.in-ChainGroup.at c.in-ChainGroup.chain ∙ ap (λ z. GroupStart c.in-ChainGroup.at (see_chain z)) (sym c.deref-in-ChainGroup.ensures)) in
+    if_ok c.chain_group.result _ _ (λ r h. subst (λ z. IsReceiver (see_site c.args.site.now) (see_role c.args.role) z c.args.breaks.now.found c.chain_group.new.breaks.found r) (sym same) h) c.chain_group.ensures
+
+pub chain_group-returns : goal.chain_group-returns
+chain_group-returns t c = group_checked (see_site c.args.site.now) (see_role c.args.role) c.args.at _ c.args.breaks.now.found c.joined.new.breaks.found c.in_ok-inner.inner _ (c.in_ok-inner.ensures false) refl refl refl
 
 pub group-returns : goal.group-returns
 group-returns t c = group_checked (see_site c.args.site.now) (see_role c.args.role) c.args.at _ c.args.breaks.now.found c.expr.new.breaks.found c.in_ok-inner.inner _ c.in_ok-inner.ensures refl refl refl

@@ -3,7 +3,7 @@ use Rattle.chord_tree.specs.Tree.{dots, links}
 use Rattle.chord_tree.specs.Terms.{Term, called, operated}
 use Rattle.chord_tree.specs.Walk.{Used, Receiver}
 use Rattle.chord_tree.specs.ViewExprs.{see_expr, see_dot, see_link}
-use Rattle.chord_tree.proofs.Weights.{total, weigh_expr, weigh_parts, weigh_calls, weigh_link, weigh_start, weigh_actuals, weigh_dot}
+use Rattle.chord_tree.proofs.Weights.{total, weigh_expr, weigh_parts, weigh_calls, weigh_link, weigh_start, weigh_own_call, weigh_creation, weigh_actuals, weigh_dot}
 use Rattle.chord_bodies.specs.View.{view_expr}
 use Rattle.chord_types.specs.Views.{see_passed}
 use Rattle.chord_types.specs.Sites.{see_site}
@@ -46,6 +46,15 @@ decreases-start l = 2 * weigh_start l.start.now
 
 abbrev pub decreases-group : goal.decreases-group
 decreases-group l = 2 * weigh_expr l.inner.now + 1
+
+abbrev pub decreases-chain_group : goal.decreases-chain_group
+decreases-chain_group l = 2 * weigh_parts l.chain.now + 1
+
+abbrev pub decreases-start_call : goal.decreases-start_call
+decreases-start_call l = 2 * weigh_own_call l.call.now
+
+abbrev pub decreases-start_new : goal.decreases-start_new
+decreases-start_new l = 2 * weigh_creation l.creation.now
 
 abbrev pub decreases-own_call : goal.decreases-own_call
 decreases-own_call l = 2 * weigh_actuals l.actuals.now
