@@ -35,5 +35,5 @@ MayBeList None = Unit {0}
 MayBeList (Some list) = IsRoomy list
 
 -- the values before stand in the entry, or in the list
-abbrev pub AreApart : List Value → List Value → Type 0
-AreApart entry list = (list ≡ []) ⊎ (entry ≡ [])
+abbrev pub StandInOne : List Value → List Value → Type 0
+StandInOne entry list = (list ≡ []) ⊎ (entry ≡ [])

@@ -3,7 +3,7 @@
 
 ghost use Rattle.std.specs.Prelude.{◌≡◌, ℕ, ◌+◌, ◌≤◌, List, [], ◌++◌, length, vec_capacity, None, Some};
 ghost use Rattle.chord_vm.specs.Frames.{laid};
-ghost use Rattle.chord_task.specs.Arguments.{for_entry, for_body, IsList, MayBeList, AreApart};
+ghost use Rattle.chord_task.specs.Arguments.{for_entry, for_body, IsList, MayBeList, StandInOne};
 
 use chord_base::hand::Hand;
 use chord_base::value::{Value, Values};
@@ -26,10 +26,10 @@ pub struct Parted {
 /// Adds the values of a message to those before them. They are the entry's where no other message has some, and else they go to the list.
 fn add_values(entry: &mut Values, list: &mut Vec<Value>, values: Values)
     requires room { 64 ≤ vec_capacity list.old }
-    requires apart { AreApart entry.old list.old.items }
+    requires apart { StandInOne entry.old list.old.items }
     requires few { length (list.old.items ++ entry.old) + length values ≤ 64 }
     ensures items { list.new.items ++ entry.new ≡ (list.old.items ++ entry.old) ++ values }
-    ensures apart { AreApart entry.new list.new.items }
+    ensures apart { StandInOne entry.new list.new.items }
     ensures room { vec_capacity list.new ≡ vec_capacity list.old }
 {
     if values.items().is_empty() {
@@ -54,10 +54,10 @@ fn part(
 )
     requires few { length arguments.old + length hand.old ≤ 8 }
     requires room { 64 ≤ vec_capacity list.old }
-    requires apart { AreApart entry.old list.old.items }
+    requires apart { StandInOne entry.old list.old.items }
     requires fits { length (list.old.items ++ entry.old) + length (laid (for_entry arguments.old)) ≤ 64 }
     ensures values { list.new.items ++ entry.new ≡ (list.old.items ++ entry.old) ++ laid (for_entry arguments.old) }
-    ensures apart { AreApart entry.new list.new.items }
+    ensures apart { StandInOne entry.new list.new.items }
     ensures hand { hand.new ≡ hand.old ++ for_body arguments.old }
     ensures room { vec_capacity list.new ≡ vec_capacity list.old }
 {
