@@ -28,6 +28,7 @@ pub enum Firing<P> {
 }
 
 // Takes the parcels of these members.
+#[inline(never)]
 fn hand_out<P: Carry + Drop>(
     space: &Space<P>,
     desk: &mut Desk<P>,

@@ -163,6 +163,35 @@ impl Worker {
         ensures role { OnOk result (IsSameRole (view self.old.desk) (view self.new.desk)) }
         ensures minded { OnOk result (WasMinded G.knows (view self.old.desk).kept self.old.task self.new message.number) }
     {
+        if self.attend(alloc, space, code, limits, gate, message)? {
+            return Ok(());
+        }
+        self.mind_on(rt, alloc, space, code, limits, gate, message)?;
+        Ok(())
+    }
+
+    /// Minds the message on, since a message was in the hand of another desk, or a member was lost.
+    #[inline(never)]
+    fn mind_on<R: Wait, G: Gate>(
+        &mut self,
+        rt: &R,
+        alloc: Global,
+        space: &Space<Parcel>,
+        code: &Code,
+        limits: &Limits,
+        gate: &G,
+        message: Minded,
+    ) -> Result<(), AllocError>
+        requires code { code.now ≡ space_code space.now }
+        requires limits { limits.now ≡ space_limits space.now }
+        requires sound { IsSound (program_of space.now) }
+        requires bounds { (message.number < space.now.events) × (message.object.number < space.now.events) × (message.object.class < 1024) × (message.method < heads space.now) }
+        requires minds { Minds space.now self.old message.number (key message.object message.method) }
+        ensures desk { IsDeskOf space.now self.new.desk }
+        ensures over { OnOk result (IsAtRest space.now self.new × (self.new.spent ≡ true → self.new.task ≡ None)) }
+        ensures role { OnOk result (IsSameRole (view self.old.desk) (view self.new.desk)) }
+        ensures minded { OnOk result (WasMinded G.knows (view self.old.desk).kept self.old.task self.new message.number) }
+    {
         let backoff = Backoff::new();
         for _ in rt.forever() {
             if self.attend(alloc, space, code, limits, gate, message)? {

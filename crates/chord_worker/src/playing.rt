@@ -47,6 +47,16 @@ pub(crate) fn ready_ask(
     Ok(ask)
 }
 
+/// A new task for the stock.
+#[inline(never)]
+fn new_stock(alloc: Global, code: &Code, limits: &Limits) -> Result<Apart<Task>, AllocError>
+    ensures { IfOk result (λ t. IsStockTask code.now limits.now t) }
+{
+    let task = Task::spare(alloc, code, limits)?;
+    let task = Apart::new(alloc, task)?;
+    Ok(task)
+}
+
 /// The task in stock, or a new one.
 pub(crate) fn stocked(
     alloc: Global,
@@ -58,11 +68,7 @@ pub(crate) fn stocked(
     ensures { IfOk result (λ t. IsStockTask code.now limits.now t) }
 {
     match stock {
-        None => {
-            let task = Task::spare(alloc, code, limits)?;
-            let task = Apart::new(alloc, task)?;
-            Ok(task)
-        }
+        None => new_stock(alloc, code, limits),
         Some(task) => Ok(task),
     }
 }

@@ -3,7 +3,7 @@ use Rattle.chord_space.specs.Desks.{view}
 use Rattle.chord_worker.specs.Sending.{Minds}
 use Rattle.chord_worker.specs.Resting.{IsSameRole}
 use Rattle.chord_worker.specs.Stepping.{StillPlays}
-use Rattle.chord_worker.proofs.worker.Worker.mind.Given as goal
+use Rattle.chord_worker.proofs.worker.Worker.mind_on.Given as goal
 
 abbrev pub invariant-loop : goal.invariant-loop
 invariant-loop g l = (goal.iterator-loop g).can_next l.iterator' × (goal.iterator-loop g).is_finite l.iterator'
