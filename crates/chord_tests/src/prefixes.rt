@@ -8,6 +8,7 @@ use chord_base::prefix::run_length;
 use chord_base::text::Text;
 use chord_base::value::{MAX_VALUES, Object, Value, Values};
 use std::alloc::Global;
+use std::process::Abort;
 use std::test::Fail;
 
 const FIRST: Object = Object {
@@ -246,6 +247,28 @@ fn chord(program: &mut Listed, alloc: Global, methods: &[u8]) -> Result<(), Fail
     Ok(())
 }
 
+/// A changed journal: its name, the place and the line that is put there, and how many of its entries are a run.
+type Case<'a> = (&'a str, usize, Line, usize);
+
+fn is_run_of(rt: &impl Abort, name: &str, found: usize, expected: usize) {
+    assert_eq!(rt; found, expected, "{name}");
+}
+
+/// Of each case so many entries are a run.
+fn judge(
+    rt: &impl Abort,
+    alloc: Global,
+    program: &Listed,
+    lines: &[Line],
+    cases: &[Case],
+) -> Result<(), Fail> {
+    for (name, place, other, expected) in cases {
+        let found = length(alloc, program, lines, *place, *other)?;
+        is_run_of(rt, name, found, *expected);
+    }
+    Ok(())
+}
+
 const HI: Parts = Parts::One(Part::Text(Word::Hi));
 
 const GIVES_HI: Ends = Ends::Gives(Part::Text(Word::Hi));
@@ -256,14 +279,11 @@ const GIVES_FIRST: Ends = Ends::Gives(Part::Ref(FIRST));
 
 const GIVES_SECOND: Ends = Ends::Gives(Part::Ref(SECOND));
 
-/// `Main` makes a buffer, puts `hi` into it, gets it and prints it.
-#[test]
-fn buffer(rt: HostRuntime) -> Result<(), Fail> {
-    let alloc = rt.alloc();
-    let mut program = program(alloc)?;
-    chord(&mut program, alloc, &[0, 1])?;
+/// The chords and bodies of `buffer`.
+fn buffer_bodies(program: &mut Listed, alloc: Global) -> Result<(), Fail> {
+    chord(program, alloc, &[0, 1])?;
     tell(
-        &mut program,
+        program,
         alloc,
         Start::Main,
         1,
@@ -277,7 +297,12 @@ fn buffer(rt: HostRuntime) -> Result<(), Fail> {
         &[GIVES_FIRST, GIVES_UNIT, GIVES_HI, GIVES_UNIT],
     )?;
     let get = begins(alloc, 0, HI)?;
-    tell(&mut program, alloc, get, 2, &[Says::Ended(GIVES_HI)], &[])?;
+    tell(program, alloc, get, 2, &[Says::Ended(GIVES_HI)], &[])
+}
+
+/// `Main` makes a buffer, puts `hi` into it, gets it and prints it.
+#[test]
+fn buffer(rt: HostRuntime) -> Result<(), Fail> {
     let lines = [
         (0, 0, Says::Begun),
         (1, 0, Says::Made),
@@ -288,7 +313,7 @@ fn buffer(rt: HostRuntime) -> Result<(), Fail> {
         (6, 0, Says::Printed(Word::Hi)),
         (7, 0, Says::Ended(GIVES_UNIT)),
     ];
-    for (name, place, other, expected) in [
+    let cases: &[Case] = &[
         ("as it is", 0, lines[0], 8),
         (
             "members in the wrong order",
@@ -341,24 +366,17 @@ fn buffer(rt: HostRuntime) -> Result<(), Fail> {
         ("a wrong number", 6, (7, 0, Says::Printed(Word::Hi)), 6),
         ("another line", 6, (6, 0, Says::Printed(Word::Ho)), 6),
         ("a second beginning", 6, (6, 6, Says::Begun), 6),
-    ] {
-        assert_eq!(rt;
-            length(alloc, &program, &lines, place, other)?,
-            expected,
-            "{name}"
-        );
-    }
-    Ok(())
+    ];
+    let mut program = program(rt.alloc())?;
+    buffer_bodies(&mut program, rt.alloc())?;
+    judge(&rt, rt.alloc(), &program, &lines, cases)
 }
 
-/// `Main` gets from a buffer into which nothing was put, and waits.
-#[test]
-fn parked_main(rt: HostRuntime) -> Result<(), Fail> {
-    let alloc = rt.alloc();
-    let mut program = program(alloc)?;
-    chord(&mut program, alloc, &[0, 1])?;
+/// The chords and bodies of `parked_main`.
+fn parked_main_bodies(program: &mut Listed, alloc: Global) -> Result<(), Fail> {
+    chord(program, alloc, &[0, 1])?;
     tell(
-        &mut program,
+        program,
         alloc,
         Start::Main,
         1,
@@ -368,47 +386,58 @@ fn parked_main(rt: HostRuntime) -> Result<(), Fail> {
             Says::Ended(GIVES_UNIT),
         ],
         &[GIVES_FIRST, GIVES_UNIT],
-    )?;
+    )
+}
+
+/// `Main` gets from a buffer into which nothing was put, and waits.
+#[test]
+fn parked_main(rt: HostRuntime) -> Result<(), Fail> {
     let lines = [
         (0, 0, Says::Begun),
         (1, 0, Says::Made),
         (2, 0, Says::Called(FIRST, 0, Parts::None)),
         (3, 0, Says::Ended(GIVES_UNIT)),
     ];
-    assert_eq!(rt;
-        length(alloc, &program, &lines[..3], 0, lines[0])?,
-        3,
-        "as it is"
-    );
-    for (name, other) in [
+    let cases: &[Case] = &[
         (
             "the end of a body that waits",
+            3,
             (3, 0, Says::Ended(GIVES_UNIT)),
+            3,
         ),
         (
             "a chord that lacks a message",
+            3,
             (3, 3, Says::Fired(0, FIRST, Taken::One(2), Parts::None)),
+            3,
         ),
         (
             "one message in two places",
+            3,
             (3, 3, Says::Fired(0, FIRST, Taken::Two(2, 2), Parts::None)),
+            3,
         ),
-    ] {
-        assert_eq!(rt; length(alloc, &program, &lines, 3, other)?, 3, "{name}");
-    }
-    Ok(())
+    ];
+    let mut program = program(rt.alloc())?;
+    parked_main_bodies(&mut program, rt.alloc())?;
+    let parked = &lines[..3];
+    judge(
+        &rt,
+        rt.alloc(),
+        &program,
+        parked,
+        &[("as it is", 0, lines[0], 3)],
+    )?;
+    judge(&rt, rt.alloc(), &program, &lines, cases)
 }
 
-/// A method divides 1 by 0 for `Main`, which has printed `before`.
-#[test]
-fn division_trap_through_a_call(rt: HostRuntime) -> Result<(), Fail> {
-    let alloc = rt.alloc();
+/// The chords and bodies of `division_trap_through_a_call`.
+fn division_trap_through_a_call_bodies(program: &mut Listed, alloc: Global) -> Result<(), Fail> {
     let trap = Ends::Traps(Trap::DivideByZero);
     let arguments = Parts::Two(Part::Int(1), Part::Int(0));
-    let mut program = program(alloc)?;
-    chord(&mut program, alloc, &[0])?;
+    chord(program, alloc, &[0])?;
     tell(
-        &mut program,
+        program,
         alloc,
         Start::Main,
         1,
@@ -421,7 +450,14 @@ fn division_trap_through_a_call(rt: HostRuntime) -> Result<(), Fail> {
         &[GIVES_FIRST, GIVES_UNIT, trap],
     )?;
     let div = begins(alloc, 0, arguments)?;
-    tell(&mut program, alloc, div, 2, &[Says::Ended(trap)], &[])?;
+    tell(program, alloc, div, 2, &[Says::Ended(trap)], &[])
+}
+
+/// A method divides 1 by 0 for `Main`, which has printed `before`.
+#[test]
+fn division_trap_through_a_call(rt: HostRuntime) -> Result<(), Fail> {
+    let trap = Ends::Traps(Trap::DivideByZero);
+    let arguments = Parts::Two(Part::Int(1), Part::Int(0));
     let lines = [
         (0, 0, Says::Begun),
         (1, 0, Says::Made),
@@ -431,7 +467,7 @@ fn division_trap_through_a_call(rt: HostRuntime) -> Result<(), Fail> {
         (5, 4, Says::Ended(trap)),
         (6, 0, Says::Ended(trap)),
     ];
-    for (name, place, other, expected) in [
+    let cases: &[Case] = &[
         ("as it is", 0, lines[0], 7),
         (
             "another trap than the caller got",
@@ -455,27 +491,20 @@ fn division_trap_through_a_call(rt: HostRuntime) -> Result<(), Fail> {
             ),
             4,
         ),
-    ] {
-        assert_eq!(rt;
-            length(alloc, &program, &lines, place, other)?,
-            expected,
-            "{name}"
-        );
-    }
-    Ok(())
+    ];
+    let mut program = program(rt.alloc())?;
+    division_trap_through_a_call_bodies(&mut program, rt.alloc())?;
+    judge(&rt, rt.alloc(), &program, &lines, cases)
 }
 
-/// A method calls itself until the depth limit, here 3.
-#[test]
-fn too_deep_in_small(rt: HostRuntime) -> Result<(), Fail> {
-    let alloc = rt.alloc();
+/// The chords and bodies of `too_deep_in_small`.
+fn too_deep_in_small_bodies(program: &mut Listed, alloc: Global) -> Result<(), Fail> {
     let trap = Ends::Traps(Trap::TooDeep);
     let one = Parts::One(Part::Int(1));
     let two = Parts::One(Part::Int(2));
-    let mut program = program(alloc)?;
-    chord(&mut program, alloc, &[0])?;
+    chord(program, alloc, &[0])?;
     tell(
-        &mut program,
+        program,
         alloc,
         Start::Main,
         1,
@@ -484,7 +513,7 @@ fn too_deep_in_small(rt: HostRuntime) -> Result<(), Fail> {
     )?;
     let second = begins(alloc, 0, one)?;
     tell(
-        &mut program,
+        program,
         alloc,
         second,
         2,
@@ -492,7 +521,15 @@ fn too_deep_in_small(rt: HostRuntime) -> Result<(), Fail> {
         &[trap],
     )?;
     let third = begins(alloc, 0, two)?;
-    tell(&mut program, alloc, third, 3, &[Says::Ended(trap)], &[])?;
+    tell(program, alloc, third, 3, &[Says::Ended(trap)], &[])
+}
+
+/// A method calls itself until the depth limit, here 3.
+#[test]
+fn too_deep_in_small(rt: HostRuntime) -> Result<(), Fail> {
+    let trap = Ends::Traps(Trap::TooDeep);
+    let one = Parts::One(Part::Int(1));
+    let two = Parts::One(Part::Int(2));
     let lines = [
         (0, 0, Says::Begun),
         (1, 0, Says::Made),
@@ -504,7 +541,7 @@ fn too_deep_in_small(rt: HostRuntime) -> Result<(), Fail> {
         (7, 3, Says::Ended(trap)),
         (8, 0, Says::Ended(trap)),
     ];
-    for (name, place, other, expected) in [
+    let cases: &[Case] = &[
         ("as it is", 0, lines[0], 9),
         (
             "a caller ends before the body that serves it",
@@ -514,25 +551,18 @@ fn too_deep_in_small(rt: HostRuntime) -> Result<(), Fail> {
         ),
         ("a body ends twice", 7, (7, 5, Says::Ended(trap)), 7),
         ("the end skips a caller", 7, (7, 0, Says::Ended(trap)), 7),
-    ] {
-        assert_eq!(rt;
-            length(alloc, &program, &lines, place, other)?,
-            expected,
-            "{name}"
-        );
-    }
-    Ok(())
+    ];
+    let mut program = program(rt.alloc())?;
+    too_deep_in_small_bodies(&mut program, rt.alloc())?;
+    judge(&rt, rt.alloc(), &program, &lines, cases)
 }
 
-/// `Main` makes two objects, puts into the first and gets from the second.
-#[test]
-fn another_object(rt: HostRuntime) -> Result<(), Fail> {
-    let alloc = rt.alloc();
-    let mut program = program(alloc)?;
-    chord(&mut program, alloc, &[0, 1])?;
-    chord(&mut program, alloc, &[1])?;
+/// The chords and bodies of `another_object`.
+fn another_object_bodies(program: &mut Listed, alloc: Global) -> Result<(), Fail> {
+    chord(program, alloc, &[0, 1])?;
+    chord(program, alloc, &[1])?;
     tell(
-        &mut program,
+        program,
         alloc,
         Start::Main,
         1,
@@ -543,7 +573,12 @@ fn another_object(rt: HostRuntime) -> Result<(), Fail> {
             Says::Called(SECOND, 0, Parts::None),
         ],
         &[GIVES_FIRST, GIVES_SECOND, GIVES_UNIT],
-    )?;
+    )
+}
+
+/// `Main` makes two objects, puts into the first and gets from the second.
+#[test]
+fn another_object(rt: HostRuntime) -> Result<(), Fail> {
     let lines = [
         (0, 0, Says::Begun),
         (1, 0, Says::Made),
@@ -552,36 +587,30 @@ fn another_object(rt: HostRuntime) -> Result<(), Fail> {
         (4, 0, Says::Called(SECOND, 0, Parts::None)),
         (5, 5, Says::Fired(0, SECOND, Taken::Two(4, 3), HI)),
     ];
-    for (name, other, expected) in [
-        ("a message of another object", lines[5], 5),
+    let cases: &[Case] = &[
+        ("a message of another object", 5, lines[5], 5),
         (
             "the message of the object",
+            5,
             (5, 5, Says::Fired(1, FIRST, Taken::One(3), HI)),
             6,
         ),
-    ] {
-        assert_eq!(rt;
-            length(alloc, &program, &lines, 5, other)?,
-            expected,
-            "{name}"
-        );
-    }
-    Ok(())
+    ];
+    let mut program = program(rt.alloc())?;
+    another_object_bodies(&mut program, rt.alloc())?;
+    judge(&rt, rt.alloc(), &program, &lines, cases)
 }
 
-/// Two bodies call one method at a time, each with its own number, and get it back; the second is served first.
-#[test]
-fn two_callers(rt: HostRuntime) -> Result<(), Fail> {
-    let alloc = rt.alloc();
+/// The chords and bodies of `two_callers`.
+fn two_callers_bodies(program: &mut Listed, alloc: Global) -> Result<(), Fail> {
     let one = Part::Int(1);
     let two = Part::Int(2);
     let start = Says::Sent(FIRST, 1, Parts::None);
     let call = Says::Called(FIRST, 0, Parts::One(one));
-    let mut program = program(alloc)?;
-    chord(&mut program, alloc, &[0])?;
-    chord(&mut program, alloc, &[1])?;
+    chord(program, alloc, &[0])?;
+    chord(program, alloc, &[1])?;
     tell(
-        &mut program,
+        program,
         alloc,
         Start::Main,
         1,
@@ -589,7 +618,7 @@ fn two_callers(rt: HostRuntime) -> Result<(), Fail> {
         &[GIVES_FIRST, GIVES_UNIT, Ends::Gives(one)],
     )?;
     tell(
-        &mut program,
+        program,
         alloc,
         Start::Main,
         1,
@@ -598,7 +627,7 @@ fn two_callers(rt: HostRuntime) -> Result<(), Fail> {
     )?;
     let started = begins(alloc, 1, Parts::None)?;
     tell(
-        &mut program,
+        program,
         alloc,
         started,
         1,
@@ -607,7 +636,7 @@ fn two_callers(rt: HostRuntime) -> Result<(), Fail> {
     )?;
     let first = begins(alloc, 0, Parts::One(one))?;
     tell(
-        &mut program,
+        program,
         alloc,
         first,
         2,
@@ -616,13 +645,22 @@ fn two_callers(rt: HostRuntime) -> Result<(), Fail> {
     )?;
     let second = begins(alloc, 0, Parts::One(two))?;
     tell(
-        &mut program,
+        program,
         alloc,
         second,
         2,
         &[Says::Ended(Ends::Gives(two))],
         &[],
-    )?;
+    )
+}
+
+/// Two bodies call one method at a time, each with its own number, and get it back; the second is served first.
+#[test]
+fn two_callers(rt: HostRuntime) -> Result<(), Fail> {
+    let one = Part::Int(1);
+    let two = Part::Int(2);
+    let start = Says::Sent(FIRST, 1, Parts::None);
+    let call = Says::Called(FIRST, 0, Parts::One(one));
     let lines = [
         (0, 0, Says::Begun),
         (1, 0, Says::Made),
@@ -636,7 +674,7 @@ fn two_callers(rt: HostRuntime) -> Result<(), Fail> {
         (9, 6, Says::Ended(Ends::Gives(one))),
         (10, 0, Says::Printed(Word::One)),
     ];
-    for (name, place, other, expected) in [
+    let cases: &[Case] = &[
         ("each caller gets its own", 0, lines[0], 11),
         (
             "`Main` gets the end of the other body",
@@ -656,12 +694,8 @@ fn two_callers(rt: HostRuntime) -> Result<(), Fail> {
             (9, 0, Says::Printed(Word::Two)),
             9,
         ),
-    ] {
-        assert_eq!(rt;
-            length(alloc, &program, &lines, place, other)?,
-            expected,
-            "{name}"
-        );
-    }
-    Ok(())
+    ];
+    let mut program = program(rt.alloc())?;
+    two_callers_bodies(&mut program, rt.alloc())?;
+    judge(&rt, rt.alloc(), &program, &lines, cases)
 }
