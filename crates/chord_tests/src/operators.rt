@@ -51,16 +51,19 @@ fn computed(
     Ok((divided, remaining, added))
 }
 
+/// Two ints, their quotient and remainder, and their sum.
+const EDGES: [(i32, i32, Option<i32>, Option<i32>, i32); 6] = [
+    (7, 2, Some(3), Some(1), 9),
+    (-7, 2, Some(-3), Some(-1), -5),
+    (7, -2, Some(-3), Some(1), 5),
+    (i32::MIN, -1, Some(i32::MIN), Some(0), i32::MAX),
+    (i32::MAX, 1, Some(i32::MAX), Some(0), i32::MIN),
+    (1, 0, None, None, 1),
+];
+
 #[test]
 fn operators_at_the_edges_of_ints(rt: HostRuntime) -> Result<(), Fail> {
-    for (left, right, divided, remaining, added) in [
-        (7, 2, Some(3), Some(1), 9),
-        (-7, 2, Some(-3), Some(-1), -5),
-        (7, -2, Some(-3), Some(1), 5),
-        (i32::MIN, -1, Some(i32::MIN), Some(0), i32::MAX),
-        (i32::MAX, 1, Some(i32::MAX), Some(0), i32::MIN),
-        (1, 0, None, None, 1),
-    ] {
+    for (left, right, divided, remaining, added) in EDGES {
         assert_eq!(rt;
             computed(rt.alloc(), left, right)?,
             (divided, remaining, Some(added)),

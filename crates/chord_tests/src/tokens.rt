@@ -370,23 +370,25 @@ fn count(alloc: Global, text: &[u8]) -> Result<usize, u32> {
     }
 }
 
+/// The front of a text, a byte and how many times it stands behind it, the end of the text, and what is counted.
+const LONGEST: [(&[u8], u8, usize, &[u8], Result<usize, u32>); 12] = [
+    (b"", b'a', 255, b"", Ok(1)),
+    (b"", b'a', 256, b"", Err(0)),
+    (b"if ", b'a', 256, b"", Err(3)),
+    (b"_", b'9', 254, b"+", Ok(2)),
+    (b"_", b'9', 255, b"+", Err(0)),
+    (b"", b'0', 300, b"2147483648", Ok(1)),
+    (b"", b'0', 300, b"2147483649", Err(0)),
+    (b"\"", b'a', 4000, b"\"", Ok(1)),
+    (b"\"", b'a', 4000, b"", Err(0)),
+    (b"/*", b'*', 4000, b"/", Ok(0)),
+    (b"/*", b'*', 4000, b" /", Err(0)),
+    (b"//", b'/', 4000, b"", Ok(0)),
+];
+
 #[test]
 fn the_longest_of_each_kind(rt: HostRuntime) -> Result<(), Fail> {
-    let cases: [(&[u8], u8, usize, &[u8], Result<usize, u32>); 12] = [
-        (b"", b'a', 255, b"", Ok(1)),
-        (b"", b'a', 256, b"", Err(0)),
-        (b"if ", b'a', 256, b"", Err(3)),
-        (b"_", b'9', 254, b"+", Ok(2)),
-        (b"_", b'9', 255, b"+", Err(0)),
-        (b"", b'0', 300, b"2147483648", Ok(1)),
-        (b"", b'0', 300, b"2147483649", Err(0)),
-        (b"\"", b'a', 4000, b"\"", Ok(1)),
-        (b"\"", b'a', 4000, b"", Err(0)),
-        (b"/*", b'*', 4000, b"/", Ok(0)),
-        (b"/*", b'*', 4000, b" /", Err(0)),
-        (b"//", b'/', 4000, b"", Ok(0)),
-    ];
-    for (first, byte, n, last, tokens) in cases {
+    for (first, byte, n, last, tokens) in LONGEST {
         let text = repeated(rt.alloc(), first, byte, n, last)?;
         assert_eq!(rt; count(rt.alloc(), &text), tokens, "{byte} {n} times");
     }
