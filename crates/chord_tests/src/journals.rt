@@ -1,6 +1,6 @@
 //! What no clause says: journals of the language's own examples byte for byte, a text at each bound and one past it,
 //! that calls succeed with memory, and a write that fails in mid-stream.
-ghost use Rattle.std.specs.Prelude.{IfOk};
+ghost use Rattle.std.specs.Prelude.{◌≤◌, IfOk};
 ghost use Rattle.chord_journal.specs.Gathered.{AreOfJournal};
 
 use chord_base::event::{Entry, What};
@@ -128,6 +128,10 @@ const WRONG_LINES: [(&str, &str, Option<u32>); 7] = [
     ("the most entries, missing", "journal 1 65536\n", Some(1)),
 ];
 
+fn is_wrong_at(rt: &impl Abort, name: &str, found: Option<u32>, line: Option<u32>) {
+    assert_eq!(rt; found, line, "{name}");
+}
+
 /// The line at which the buffer's text is wrong with this in place of that.
 fn changed(alloc: Global, old: &str, new: &str) -> Result<Option<u32>, AllocError> {
     let text = BUFFER.replace(alloc, old, new)?;
@@ -143,8 +147,8 @@ fn followed(alloc: Global) -> Result<Option<u32>, AllocError> {
 
 #[test]
 fn names_the_least_wrong_line(rt: HostRuntime) -> Result<(), Fail> {
-    for (name, text, line) in WRONG_LINES {
-        assert_eq!(rt; wrong_line(rt.alloc(), text), line, "{name}");
+    for (name, text, line) in &WRONG_LINES {
+        is_wrong_at(&rt, name, wrong_line(rt.alloc(), text), *line);
     }
     let unended = BUFFER.strip_suffix("\n").unwrap_or("");
     assert_eq!(rt;
@@ -210,9 +214,9 @@ fn wrong_entry(alloc: Global, line: &str) -> Result<Option<u32>, AllocError> {
 
 #[test]
 fn keeps_the_bounds_of_each_part(rt: HostRuntime) -> Result<(), Fail> {
-    for (line, right) in PARTS {
-        let expected = if right { None } else { Some(1) };
-        assert_eq!(rt; wrong_entry(rt.alloc(), line)?, expected, "{line}");
+    for (line, right) in &PARTS {
+        let expected = if *right { None } else { Some(1) };
+        is_wrong_at(&rt, line, wrong_entry(rt.alloc(), line)?, expected);
     }
     Ok(())
 }
@@ -243,13 +247,10 @@ fn wrong_list(
 
 #[test]
 fn keeps_the_bounds_of_each_list(rt: HostRuntime) -> Result<(), Fail> {
-    for (front, part, times, right) in LISTS {
-        let expected = if right { None } else { Some(1) };
-        assert_eq!(rt;
-            wrong_list(rt.alloc(), front, part, times)?,
-            expected,
-            "{front}, {times} times"
-        );
+    for (front, part, times, right) in &LISTS {
+        let expected = if *right { None } else { Some(1) };
+        let found = wrong_list(rt.alloc(), front, part, *times)?;
+        is_wrong_at(&rt, front, found, expected);
     }
     Ok(())
 }

@@ -370,6 +370,18 @@ fn count(alloc: Global, text: &[u8]) -> Result<usize, u32> {
     }
 }
 
+/// How many tokens a text of one byte `n` times between two others has, or the byte at which it is refused.
+fn repeated_count(
+    alloc: Global,
+    first: &[u8],
+    byte: u8,
+    n: usize,
+    last: &[u8],
+) -> Result<Result<usize, u32>, AllocError> {
+    let text = repeated(alloc, first, byte, n, last)?;
+    Ok(count(alloc, &text))
+}
+
 /// The front of a text, a byte and how many times it stands behind it, the end of the text, and what is counted.
 const LONGEST: [(&[u8], u8, usize, &[u8], Result<usize, u32>); 12] = [
     (b"", b'a', 255, b"", Ok(1)),
@@ -388,9 +400,9 @@ const LONGEST: [(&[u8], u8, usize, &[u8], Result<usize, u32>); 12] = [
 
 #[test]
 fn the_longest_of_each_kind(rt: HostRuntime) -> Result<(), Fail> {
-    for (first, byte, n, last, tokens) in LONGEST {
-        let text = repeated(rt.alloc(), first, byte, n, last)?;
-        assert_eq!(rt; count(rt.alloc(), &text), tokens, "{byte} {n} times");
+    for (first, byte, n, last, tokens) in &LONGEST {
+        let found = repeated_count(rt.alloc(), first, *byte, *n, last)?;
+        assert_eq!(rt; found, *tokens, "{byte} {n} times");
     }
     Ok(())
 }
