@@ -25,4 +25,3 @@ pub use load::load_source;
 pub use refusal::Refusal;
 pub use report::Report;
 pub use top::chord;
-
