@@ -1,5 +1,5 @@
 //! The top call: from the arguments of the command line and the bytes of a source to what is written, and the status.
-//! Stands on: chord_base, chord_bodies, chord_classes, chord_code, chord_gen, chord_io, chord_journal, chord_lexer, chord_lists, chord_parser, chord_pool, chord_rules, chord_source, chord_space, chord_task, chord_tree, chord_types, clap, itoa. Used by: chord_prog, chord_run_tests.
+//! Stands on: chord_base, chord_bodies, chord_classes, chord_code, chord_gen, chord_io, chord_journal, chord_lexer, chord_lists, chord_parser, chord_plain (its tests), chord_pool, chord_rule (its tests), chord_rules, chord_source, chord_space, chord_task, chord_tree, chord_types, chord_word (its tests), chord_worker (its tests), clap, itoa. Used by: chord_prog.
 //! Promise: `chord` writes the lines of the journal it keeps, which is a complete run of the source's join machine, or a run
 //! of as many entries as are allowed; every other answer has its cause (specs/Rows.antt, specs/Answers.antt).
 //! A source has one machine, or one cause of a refusal (`laws`).
@@ -20,8 +20,20 @@ mod top;
 mod words;
 
 pub use chord_pool::Gate;
-pub use front::{FrontFault, code_of};
 pub use load::load_source;
 pub use refusal::Refusal;
 pub use report::Report;
 pub use top::chord;
+
+#[cfg(test)]
+mod engine_tests;
+#[cfg(test)]
+mod parse_tests;
+#[cfg(test)]
+mod schedule_tests;
+#[cfg(test)]
+mod sources;
+#[cfg(test)]
+mod tests;
+#[cfg(test)]
+mod worker_tests;

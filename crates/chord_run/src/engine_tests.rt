@@ -2,7 +2,7 @@
 ghost use Rattle.std.specs.Prelude.{◌<◌, ◌≤◌};
 ghost use Rattle.chord_code.specs.Sound.{IsSoundCode};
 
-use crate::schedules::{CASES, Case, Open, compiled};
+use crate::schedule_tests::{CASES, Case, Open, compiled};
 use chord_base::event::{Entry, Limits};
 use chord_base::prefix::run_length;
 use chord_code::code::Code;

@@ -1,9 +1,8 @@
 //! The top call on whole sources: what is written, the status, and what the report has.
 use crate::sources::READERS_AND_WRITERS;
+use crate::{Gate, Refusal, Report, chord};
 use chord_io::{MemSink, MemSource};
-use chord_run::{Gate, Refusal, Report, chord};
 use std::alloc::{AllocError, Global};
-use std::process::Abort;
 use std::sync::Wait;
 use std::test::Fail;
 use std::thread::Threads;
@@ -191,70 +190,35 @@ pub(crate) fn words_of(alloc: Global, line: &str) -> Result<Vec<String>, AllocEr
     Ok(words)
 }
 
-/// A sink of that room, which fails at this write.
-fn sink_of(alloc: Global, room: u32, failing_write: u32) -> Result<MemSink, AllocError> {
-    let fails = Vec::from_slice(alloc, &[failing_write])?;
-    MemSink::new(alloc, room, 4096, fails)
-}
-
-/// A source of these bytes, which fails at this read.
-fn source_failing(
-    alloc: Global,
-    bytes: Vec<u8>,
-    failing_read: u32,
-) -> Result<MemSource, AllocError> {
-    let fails = Vec::from_slice(alloc, &[failing_read])?;
-    Ok(MemSource::new(bytes, 4096, fails))
-}
-
-/// The status, the refusal and the number of entries, where there is a journal.
-type Told = (u8, Option<Refusal>, Option<usize>);
-
-/// What a report tells.
-fn told_by(report: &Report) -> Told {
-    let entries = match &report.journal {
-        Some(journal) => Some(journal.entries().len()),
-        None => None,
-    };
-    (report.status, report.refusal, entries)
-}
-
-/// What was written is this, and what the report tells is that.
-fn agrees(rt: &impl Abort, name: &str, sink: &MemSink, written: &str, report: &Report, told: Told) {
-    assert_eq!(rt; sink.taken(), written.as_bytes(), "{name}");
-    assert_eq!(rt; told_by(report), told, "{name}");
-}
-
 /// The top call over memory.
 fn answer<R: Threads + Wait + Sync>(
     rt: &R,
     alloc: Global,
     words: &str,
-    source: &mut MemSource,
+    mut source: MemSource,
     sink: &mut MemSink,
 ) -> Result<Report, AllocError> {
     let words = words_of(alloc, words)?;
-    Ok(chord(rt, alloc, &words, source, sink, &Open))
-}
-
-/// A case is answered as it says.
-fn runs_as_told<R: Abort + Threads + Wait + Sync>(
-    rt: &R,
-    alloc: Global,
-    case: &Case,
-) -> Result<(), AllocError> {
-    let mut source = MemSource::new(source_of(alloc, case)?, 4096, Vec::new(alloc));
-    let mut sink = sink_of(alloc, case.room, case.failing_write)?;
-    let report = answer(rt, alloc, case.words, &mut source, &mut sink)?;
-    let told = (case.status, None, case.entries);
-    agrees(rt, case.name, &sink, case.written, &report, told);
-    Ok(())
+    Ok(chord(rt, alloc, &words, &mut source, sink, &Open))
 }
 
 #[test]
 fn runs(rt: HostRuntime) -> Result<(), Fail> {
     for case in &CASES {
-        runs_as_told(&rt, rt.alloc(), case)?;
+        let alloc = rt.alloc();
+        let source = MemSource::new(source_of(alloc, case)?, 4096, Vec::new(alloc));
+        let fails = Vec::from_slice(alloc, &[case.failing_write])?;
+        let mut sink = MemSink::new(alloc, case.room, 4096, fails)?;
+        let report = answer(&rt, alloc, case.words, source, &mut sink)?;
+        let name = case.name;
+        assert_eq!(rt; sink.taken(), case.written.as_bytes(), "{name}");
+        assert_eq!(rt; report.status, case.status, "{name}");
+        assert_eq!(rt; report.refusal, None, "{name}");
+        let entries = match &report.journal {
+            Some(journal) => Some(journal.entries().len()),
+            None => None,
+        };
+        assert_eq!(rt; entries, case.entries, "{name}");
     }
     Ok(())
 }
@@ -345,28 +309,23 @@ class P { static void Main() { A a = new A(); a.Bad(0); } }
     },
 ];
 
-/// What one thread answers on a source, with the words `run --one`, is this.
-fn is_answered<R: Abort + Threads + Wait + Sync>(
-    rt: &R,
-    alloc: Global,
-    name: &str,
-    source: &str,
-    written: &str,
-    told: Told,
-) -> Result<(), AllocError> {
-    let bytes = Vec::from_slice(alloc, source.as_bytes())?;
-    let mut source = MemSource::new(bytes, 5, Vec::new(alloc));
-    let mut sink = sink_of(alloc, 100, NEVER)?;
-    let report = answer(rt, alloc, "run --one", &mut source, &mut sink)?;
-    agrees(rt, name, &sink, written, &report, told);
-    Ok(())
-}
-
 #[test]
 fn programs(rt: HostRuntime) -> Result<(), Fail> {
     for case in &PLAYED {
-        let told = (case.status, None, Some(case.entries));
-        is_answered(&rt, rt.alloc(), case.name, case.source, case.written, told)?;
+        let alloc = rt.alloc();
+        let bytes = Vec::from_slice(alloc, case.source.as_bytes())?;
+        let source = MemSource::new(bytes, 4096, Vec::new(alloc));
+        let mut sink = MemSink::new(alloc, 100, 4096, Vec::new(alloc))?;
+        let report = answer(&rt, alloc, "run --one", source, &mut sink)?;
+        let name = case.name;
+        assert_eq!(rt; sink.taken(), case.written.as_bytes(), "{name}");
+        assert_eq!(rt; report.status, case.status, "{name}");
+        assert_eq!(rt; report.refusal, None, "{name}");
+        let entries = match &report.journal {
+            Some(journal) => journal.entries().len(),
+            None => 0,
+        };
+        assert_eq!(rt; entries, case.entries, "{name}");
     }
     Ok(())
 }
@@ -483,8 +442,16 @@ const REFUSED: [Refused; 16] = [
 #[test]
 fn refusals(rt: HostRuntime) -> Result<(), Fail> {
     for case in &REFUSED {
-        let told = (1, Some(case.refusal), None);
-        is_answered(&rt, rt.alloc(), case.name, case.source, case.written, told)?;
+        let alloc = rt.alloc();
+        let bytes = Vec::from_slice(alloc, case.source.as_bytes())?;
+        let source = MemSource::new(bytes, 5, Vec::new(alloc));
+        let mut sink = MemSink::new(alloc, 100, 100, Vec::new(alloc))?;
+        let report = answer(&rt, alloc, "run --one", source, &mut sink)?;
+        let name = case.name;
+        assert_eq!(rt; sink.taken(), case.written.as_bytes(), "{name}");
+        assert_eq!(rt; report.status, 1, "{name}");
+        assert_eq!(rt; report.refusal, Some(case.refusal), "{name}");
+        assert!(rt; report.journal.is_none(), "{name}");
     }
     Ok(())
 }
@@ -539,25 +506,20 @@ const BLANKS: [Blanks; 4] = [
     },
 ];
 
-/// A case of blanks is answered as it says.
-fn blanks_as_told<R: Abort + Threads + Wait + Sync>(
-    rt: &R,
-    alloc: Global,
-    case: &Blanks,
-) -> Result<(), AllocError> {
-    let bytes = vec![in alloc; b' '; case.blanks]?;
-    let mut source = source_failing(alloc, bytes, case.failing_read)?;
-    let mut sink = sink_of(alloc, 100, case.failing_write)?;
-    let report = answer(rt, alloc, "run --one", &mut source, &mut sink)?;
-    let told = (case.status, case.refusal, None);
-    agrees(rt, case.name, &sink, case.written, &report, told);
-    Ok(())
-}
-
 #[test]
 fn faults(rt: HostRuntime) -> Result<(), Fail> {
     for case in &BLANKS {
-        blanks_as_told(&rt, rt.alloc(), case)?;
+        let alloc = rt.alloc();
+        let bytes = vec![in alloc; b' '; case.blanks]?;
+        let source = MemSource::new(bytes, 4096, Vec::from_slice(alloc, &[case.failing_read])?);
+        let fails = Vec::from_slice(alloc, &[case.failing_write])?;
+        let mut sink = MemSink::new(alloc, 100, 100, fails)?;
+        let report = answer(&rt, alloc, "run --one", source, &mut sink)?;
+        let name = case.name;
+        assert_eq!(rt; sink.taken(), case.written.as_bytes(), "{name}");
+        assert_eq!(rt; report.status, case.status, "{name}");
+        assert_eq!(rt; report.refusal, case.refusal, "{name}");
+        assert!(rt; report.journal.is_none(), "{name}");
     }
     Ok(())
 }

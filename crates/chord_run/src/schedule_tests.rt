@@ -7,11 +7,12 @@ ghost use Rattle.chord_space.specs.Desks.{view, IsDeskOf};
 ghost use Rattle.chord_worker.specs.Resting.{IsAtRest, IsSameRole};
 ghost use Rattle.chord_pool.specs.Players.{IsOneRun, IsSettled, HasStopped};
 
+use crate::Gate;
+use crate::front::code_of;
 use chord_base::event::{Entry, Limits};
 use chord_base::prefix::run_length;
 use chord_code::code::Code;
 use chord_plain::plain::Plain;
-use chord_run::{Gate, code_of};
 use chord_space::{Closed, Desk, Space};
 use chord_task::parcel::Parcel;
 use chord_word::Cell;

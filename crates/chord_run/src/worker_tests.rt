@@ -1,0 +1,194 @@
+//! Runs that workers make: what they write and how many entries they have, however many workers there are; and two bodies side by side.
+use crate::sources::SANTA;
+use crate::tests::{PLAYED, words_of};
+use crate::{Gate, Report, chord};
+use chord_base::event::{Entry, What};
+use chord_io::{MemSink, MemSource};
+use std::alloc::{AllocError, Global};
+use std::sync::Wait;
+use std::sync::atomic::{AtomicU64, Ordering};
+use std::test::Fail;
+use std::thread::{Threads, yield_now};
+
+/// How often the gate looks whether the other body has started.
+const LOOKS: u32 = 1_000_000;
+
+const WORDS: [&str; 5] = [
+    "run --workers 1",
+    "run --workers 2",
+    "run",
+    "run --workers 8",
+    "run --workers 64",
+];
+
+const SIDE_BY_SIDE: &str = "class A { public async a() { } public async b() { } }
+class P { static void Main() { A o = new A(); o.a(); o.b(); } }
+";
+
+/// A gate that holds the first body after `Main` until another one has started, and marks where none did.
+#[derive(Drop)]
+struct Meeting {
+    mains: AtomicU64,
+    others: AtomicU64,
+    missed: AtomicU64,
+}
+
+impl Gate for Meeting {
+    fn started(&self, body: u32) {
+        if body == 0 {
+            self.mains.fetch_add(1, Ordering::SeqCst);
+            return;
+        }
+        if self.others.fetch_add(1, Ordering::SeqCst) != 0 {
+            return;
+        }
+        for _ in 0..LOOKS {
+            if self.others.load(Ordering::SeqCst) > 1 {
+                return;
+            }
+            yield_now();
+        }
+        self.missed.fetch_add(1, Ordering::SeqCst);
+    }
+}
+
+/// The top call over memory.
+fn answer<R: Threads + Wait + Sync, G: Gate + Sync>(
+    rt: &R,
+    alloc: Global,
+    words: &str,
+    source: &str,
+    sink: &mut MemSink,
+    gate: &G,
+) -> Result<Report, AllocError> {
+    let words = words_of(alloc, words)?;
+    let bytes = Vec::from_slice(alloc, source.as_bytes())?;
+    let mut source = MemSource::new(bytes, 4096, Vec::new(alloc));
+    Ok(chord(rt, alloc, &words, &mut source, sink, gate))
+}
+
+/// The number of entries of the journal in a report, which its table has drawn.
+fn entries_of(report: &Report) -> usize {
+    match (&report.journal, &report.table) {
+        (Some(journal), Some(table)) if table.drawn() as usize == journal.entries().len() => {
+            journal.entries().len()
+        }
+        _ => 0,
+    }
+}
+
+/// A gate that holds nobody: two bodies have met already.
+fn open_gate() -> Meeting {
+    Meeting {
+        mains: AtomicU64::new(0),
+        others: AtomicU64::new(2),
+        missed: AtomicU64::new(0),
+    }
+}
+
+#[test]
+fn workers_make_the_runs(rt: HostRuntime) -> Result<(), Fail> {
+    for words in &WORDS {
+        for case in &PLAYED {
+            let alloc = rt.alloc();
+            let mut sink = MemSink::new(alloc, 100, 4096, Vec::new(alloc))?;
+            let report = answer(&rt, alloc, words, case.source, &mut sink, &open_gate())?;
+            let name = case.name;
+            assert_eq!(rt; sink.taken(), case.written.as_bytes(), "{name}");
+            assert_eq!(rt; report.status, case.status, "{name}");
+            assert_eq!(rt; entries_of(&report), case.entries, "{name}");
+        }
+    }
+    Ok(())
+}
+
+#[test]
+fn santa(rt: HostRuntime) -> Result<(), Fail> {
+    for words in &WORDS {
+        let alloc = rt.alloc();
+        let mut sink = MemSink::new(alloc, 100, 4096, Vec::new(alloc))?;
+        let report = answer(&rt, alloc, words, SANTA, &mut sink, &open_gate())?;
+        // one line of 19 bytes and three of 17, in whatever order, each with its line feed
+        assert_eq!(rt; sink.taken().len(), 20 + 3 * 18);
+        assert_eq!(rt; report.status, 0);
+        assert_eq!(rt; entries_of(&report), 159);
+    }
+    Ok(())
+}
+
+#[test]
+fn a_sink_that_fails_at_its_second_write(rt: HostRuntime) -> Result<(), Fail> {
+    for words in &WORDS {
+        let alloc = rt.alloc();
+        let fails = Vec::from_slice(alloc, &[2])?;
+        let mut sink = MemSink::new(alloc, 100, 4096, fails)?;
+        let report = answer(&rt, alloc, words, SANTA, &mut sink, &open_gate())?;
+        let taken = sink.taken();
+        let lines = ["Santa delivers toys\n", "Santa meets elves\n"];
+        let is_line = taken == lines[0].as_bytes() || taken == lines[1].as_bytes();
+        assert!(rt; is_line, "{words}");
+        assert_eq!(rt; report.status, 5, "{words}");
+        assert_eq!(rt; entries_of(&report), 159, "{words}");
+    }
+    Ok(())
+}
+
+/// How many of these entries printed a line.
+fn printed_among(entries: &[Entry]) -> usize {
+    let mut printed = 0usize;
+    for entry in entries {
+        if let What::Printed(_) = entry.what {
+            printed = printed.saturating_add(1);
+        }
+    }
+    printed
+}
+
+const LOADS_OF_FEW_EVENTS: [&str; 3] = [
+    "load 1 --events 16 --one",
+    "load 1 --events 16 --workers 1",
+    "load 1 --events 16",
+];
+
+#[test]
+fn a_large_program_of_few_events(rt: HostRuntime) -> Result<(), Fail> {
+    for words in &LOADS_OF_FEW_EVENTS {
+        let alloc = rt.alloc();
+        let mut sink = MemSink::new(alloc, 200, 4096, Vec::new(alloc))?;
+        let report = answer(&rt, alloc, words, "", &mut sink, &open_gate())?;
+        // no line stands before the line of counts
+        assert!(rt; sink.taken().starts_with(b"begun 1 made "), "{words}");
+        assert!(rt; sink.taken().ends_with(b"\n"), "{words}");
+        assert_eq!(rt; report.status, 6, "{words}");
+        let (entries, printed) = match &report.journal {
+            Some(journal) => (journal.entries().len(), printed_among(journal.entries())),
+            None => (0, 0),
+        };
+        assert_eq!(rt; (entries, printed), (16, 0), "{words}");
+    }
+    Ok(())
+}
+
+#[test]
+fn two_bodies_side_by_side(rt: HostRuntime) -> Result<(), Fail> {
+    let alloc = rt.alloc();
+    let gate = Meeting {
+        mains: AtomicU64::new(0),
+        others: AtomicU64::new(0),
+        missed: AtomicU64::new(0),
+    };
+    let mut sink = MemSink::new(alloc, 100, 4096, Vec::new(alloc))?;
+    let report = answer(
+        &rt,
+        alloc,
+        "run --workers 4",
+        SIDE_BY_SIDE,
+        &mut sink,
+        &gate,
+    )?;
+    assert_eq!(rt; report.status, 0);
+    assert_eq!(rt; gate.mains.load(Ordering::SeqCst), 1);
+    assert_eq!(rt; gate.others.load(Ordering::SeqCst), 2);
+    assert_eq!(rt; gate.missed.load(Ordering::SeqCst), 0);
+    Ok(())
+}
