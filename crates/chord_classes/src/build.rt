@@ -27,7 +27,7 @@ pub fn table_of<'a>(alloc: Global, program: &'a Program) -> Result<Table<'a>, Al
 }
 
 /// The classes, and one after them.
-pub(crate) fn with_class<'a>(
+pub fn with_class<'a>(
     alloc: Global,
     table: Table<'a>,
     class: &'a Class,

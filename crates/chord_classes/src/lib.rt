@@ -13,6 +13,4 @@ pub mod methods;
 pub mod names;
 mod owners;
 pub mod table;
-#[cfg(test)]
-mod tests;
 mod versions;

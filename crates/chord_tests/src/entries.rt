@@ -8,11 +8,12 @@ use chord_base::journal::Journal;
 use chord_base::members::Members;
 use chord_base::text::Text;
 use chord_base::value::{Object, Value, Values};
-use std::alloc::Global;
+use std::alloc::{AllocError, Global};
+use std::process::Abort;
 use std::test::Fail;
 
-/// A firing that takes two messages, with a text and an object as their arguments, and a trap.
-fn entries(alloc: Global) -> Result<Vec<Entry>, Fail> {
+/// A text and an object.
+fn values(alloc: Global) -> Result<Values, Fail> {
     let object = Object {
         number: 1,
         class: 2,
@@ -21,35 +22,53 @@ fn entries(alloc: Global) -> Result<Vec<Entry>, Fail> {
     let mut values = Vec::new(alloc);
     values.push(Value::Text(text))?;
     values.push(Value::Ref(object))?;
+    Ok(Values::of_items(values))
+}
+
+/// A firing that takes two messages, with a text and an object as their arguments.
+fn fired(alloc: Global) -> Result<Entry, Fail> {
+    let object = Object {
+        number: 1,
+        class: 2,
+    };
     let mut members = Members::new();
     members.push(3);
     members.push(2);
-    let mut entries = Vec::new(alloc);
-    entries.push(Entry {
+    let values = values(alloc)?;
+    Ok(Entry {
         number: 4,
         body: 4,
-        what: What::Fired(5, object, members, Values::of_items(values)),
-    })?;
-    entries.push(Entry {
+        what: What::Fired(5, object, members, values),
+    })
+}
+
+/// A trap.
+fn trap() -> Entry {
+    Entry {
         number: 6,
         body: 4,
         what: What::Ended(End::Traps(Trap::TooDeep)),
-    })?;
-    Ok(entries)
+    }
+}
+
+/// The number and the body of an entry's copy, and whether it says the same.
+fn copied(alloc: Global, entry: &Entry) -> Result<(u32, u32, bool), AllocError> {
+    let copy = entry.copied(alloc)?;
+    Ok((copy.number, copy.body, same_what(&copy.what, &entry.what)))
+}
+
+/// A copy of the entry is equal.
+fn is_copied(rt: &impl Abort, alloc: Global, entry: &Entry) -> Result<(), AllocError> {
+    let found = copied(alloc, entry)?;
+    assert_eq!(rt; found, (entry.number, entry.body, true));
+    Ok(())
 }
 
 #[test]
 fn a_copied_entry_is_equal(rt: HostRuntime) -> Result<(), Fail> {
-    for entry in &entries(rt.alloc())? {
-        let copy = entry.copied(rt.alloc())?;
-        assert_eq!(rt; copy.number, entry.number);
-        assert_eq!(rt; copy.body, entry.body);
-        assert!(rt;
-            same_what(&copy.what, &entry.what),
-            "entry {}",
-            entry.number
-        );
-    }
+    let entry = fired(rt.alloc())?;
+    is_copied(&rt, rt.alloc(), &entry)?;
+    is_copied(&rt, rt.alloc(), &trap())?;
     Ok(())
 }
 
@@ -90,8 +109,11 @@ fn trapped(alloc: Global) -> Result<u8, Fail> {
 
 #[test]
 fn status_of_main(rt: HostRuntime) -> Result<(), Fail> {
-    assert_eq!(rt; begun(rt.alloc())?, 4, "`Main` has not ended");
-    assert_eq!(rt; ended(rt.alloc())?, 0, "`Main` has ended");
-    assert_eq!(rt; trapped(rt.alloc())?, 8, "`Main` has trapped");
+    let found = (begun(rt.alloc())?, ended(rt.alloc())?, trapped(rt.alloc())?);
+    assert_eq!(rt;
+        found,
+        (4, 0, 8),
+        "`Main` has not ended, has ended, has trapped"
+    );
     Ok(())
 }

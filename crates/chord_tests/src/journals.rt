@@ -1,9 +1,10 @@
 //! What no clause says: journals of the language's own examples byte for byte, a text at each bound and one past it,
 //! that calls succeed with memory, and a write that fails in mid-stream.
-ghost use Rattle.std.specs.Prelude.{IfOk};
+ghost use Rattle.std.specs.Prelude.{◌≤◌, IfOk};
 ghost use Rattle.chord_journal.specs.Gathered.{AreOfJournal};
 
 use chord_base::event::{Entry, What};
+use chord_base::journal::Journal;
 use chord_io::{Failed, MemSink};
 use chord_journal::{JournalFault, gather, read, write_lines, write_text};
 use std::alloc::{AllocError, Global};
@@ -85,112 +86,171 @@ fn one_entry(alloc: Global, line: &str) -> Result<String, AllocError> {
     format!(in alloc; "journal 1 1\n0 {line}\n")
 }
 
+/// How many entries a text's journal has, what writing it into a sink with that room answers, and whether it writes the text.
+fn again(
+    alloc: Global,
+    text: &str,
+    room: u32,
+    piece: u32,
+) -> Result<(usize, Result<(), Failed>, bool), Fail>
+    requires { 1 ≤ piece }
+{
+    let journal = read(alloc, text.as_bytes())?;
+    let mut sink = MemSink::new(alloc, room, piece, Vec::new(alloc))?;
+    let written = write_text(&journal, &mut sink);
+    Ok((
+        journal.entries().len(),
+        written,
+        sink.taken() == text.as_bytes(),
+    ))
+}
+
 #[test]
 fn writes_what_it_read(rt: HostRuntime) -> Result<(), Fail> {
-    for text in [BUFFER, GROUPS, RECURSION, PARKED] {
-        let journal = read(rt.alloc(), text.as_bytes())?;
-        let mut sink = MemSink::new(rt.alloc(), 2000, 7, Vec::new(rt.alloc()))?;
-        assert_eq!(rt; write_text(&journal, &mut sink), Ok(()), "{text}");
-        assert!(rt; sink.taken() == text.as_bytes(), "{text}");
+    for (text, entries) in [(BUFFER, 8), (GROUPS, 24), (RECURSION, 13), (PARKED, 3)] {
+        assert_eq!(rt;
+            again(rt.alloc(), text, 2000, 7)?,
+            (entries, Ok(()), true),
+            "{text}"
+        );
     }
     Ok(())
+}
+
+/// A text, and the line at which it is wrong, if it is.
+const WRONG_LINES: [(&str, &str, Option<u32>); 7] = [
+    ("whole", BUFFER, None),
+    ("empty", "", Some(0)),
+    ("a missing line", "journal 1 2\n0 0 begun\n", Some(2)),
+    ("another version", "journal 2 0\n", Some(0)),
+    ("no entries", "journal 1 0\n", None),
+    ("too many entries", "journal 1 65537\n", Some(0)),
+    ("the most entries, missing", "journal 1 65536\n", Some(1)),
+];
+
+fn is_wrong_at(rt: &impl Abort, name: &str, found: Option<u32>, line: Option<u32>) {
+    assert_eq!(rt; found, line, "{name}");
+}
+
+/// The line at which the buffer's text is wrong with this in place of that.
+fn changed(alloc: Global, old: &str, new: &str) -> Result<Option<u32>, AllocError> {
+    let text = BUFFER.replace(alloc, old, new)?;
+    Ok(wrong_line(alloc, text.as_str()))
+}
+
+/// The line at which the buffer's text is wrong with a byte behind its end.
+fn followed(alloc: Global) -> Result<Option<u32>, AllocError> {
+    let buffer = BUFFER;
+    let text = format!(in alloc; "{buffer}x")?;
+    Ok(wrong_line(alloc, text.as_str()))
 }
 
 #[test]
 fn names_the_least_wrong_line(rt: HostRuntime) -> Result<(), Fail> {
-    let buffer = BUFFER;
-    let changed = buffer.replace(rt.alloc(), "2 0 sent", "3 0 sent")?;
-    let followed = format!(in rt.alloc(); "{buffer}x")?;
-    let unended = buffer.strip_suffix("\n");
-    let headed = buffer.replace(rt.alloc(), "journal 1 8", "journal 1 08")?;
-    let cases = [
-        ("whole", buffer, None),
-        ("empty", "", Some(0)),
-        ("another number", changed.as_str(), Some(3)),
-        ("a byte behind the end", followed.as_str(), Some(9)),
-        ("no end of the last line", unended.unwrap_or(""), Some(8)),
-        ("a leading zero", headed.as_str(), Some(0)),
-        ("a missing line", "journal 1 2\n0 0 begun\n", Some(2)),
-        ("another version", "journal 2 0\n", Some(0)),
-        ("no entries", "journal 1 0\n", None),
-        ("too many entries", "journal 1 65537\n", Some(0)),
-        ("the most entries, missing", "journal 1 65536\n", Some(1)),
-    ];
-    for (name, text, line) in cases {
-        assert_eq!(rt; wrong_line(rt.alloc(), text), line, "{name}");
+    for (name, text, line) in &WRONG_LINES {
+        is_wrong_at(&rt, name, wrong_line(rt.alloc(), text), *line);
     }
+    let unended = BUFFER.strip_suffix("\n").unwrap_or("");
+    assert_eq!(rt;
+        wrong_line(rt.alloc(), unended),
+        Some(8),
+        "no end of the last line"
+    );
+    let another_number = changed(rt.alloc(), "2 0 sent", "3 0 sent")?;
+    let leading_zero = changed(rt.alloc(), "journal 1 8", "journal 1 08")?;
+    let behind_the_end = followed(rt.alloc())?;
+    assert_eq!(rt;
+        (another_number, leading_zero, behind_the_end),
+        (Some(3), Some(0), Some(9)),
+        "another number, a leading zero, a byte behind the end"
+    );
     Ok(())
+}
+
+/// A line without its number, and whether it is right.
+const PARTS: [(&str, bool); 35] = [
+    ("65535 begun", true),
+    ("65536 begun", false),
+    ("00 begun", false),
+    ("0 begun ", false),
+    ("0 Begun", false),
+    ("0 made 1023", true),
+    ("0 made 1024", false),
+    ("0 sent o65535.1023 15", true),
+    ("0 sent o65536.0 0", false),
+    ("0 sent o0.1024 0", false),
+    ("0 sent o0.0 16", false),
+    ("0 sent o0 0", false),
+    ("0 called o0.0 0 i2147483647 i-2147483648", true),
+    ("0 called o0.0 0 i2147483648", false),
+    ("0 called o0.0 0 i-2147483649", false),
+    ("0 called o0.0 0 i-0", false),
+    ("0 called o0.0 0 i01", false),
+    ("0 called o0.0 0 i", false),
+    ("0 called o0.0 0 u t f o1.2 x x00ff", true),
+    ("0 called o0.0 0 o1", false),
+    ("0 called o0.0 0 xF0", false),
+    ("0 called o0.0 0 x0", false),
+    ("0 fired 255 o0.0 1 65535", true),
+    ("0 fired 256 o0.0 1 0", false),
+    ("0 fired 0 o0.0 1 65536", false),
+    ("0 fired 0 o0.0 0", false),
+    ("0 fired 0 o0.0 8 1 2 3 4 5 6 7 8", true),
+    ("0 fired 0 o0.0 9 1 2 3 4 5 6 7 8 9", false),
+    ("0 fired 0 o0.0 2 1", false),
+    ("0 ended !divide", true),
+    ("0 ended !turns", true),
+    ("0 ended !deep", true),
+    ("0 ended !long", true),
+    ("0 ended !short", false),
+    ("0 printed", false),
+];
+
+/// The line at which the text of one entry is wrong, if it is.
+fn wrong_entry(alloc: Global, line: &str) -> Result<Option<u32>, AllocError> {
+    let text = one_entry(alloc, line)?;
+    Ok(wrong_line(alloc, text.as_str()))
 }
 
 #[test]
 fn keeps_the_bounds_of_each_part(rt: HostRuntime) -> Result<(), Fail> {
-    let cases = [
-        ("65535 begun", true),
-        ("65536 begun", false),
-        ("00 begun", false),
-        ("0 begun ", false),
-        ("0 Begun", false),
-        ("0 made 1023", true),
-        ("0 made 1024", false),
-        ("0 sent o65535.1023 15", true),
-        ("0 sent o65536.0 0", false),
-        ("0 sent o0.1024 0", false),
-        ("0 sent o0.0 16", false),
-        ("0 sent o0 0", false),
-        ("0 called o0.0 0 i2147483647 i-2147483648", true),
-        ("0 called o0.0 0 i2147483648", false),
-        ("0 called o0.0 0 i-2147483649", false),
-        ("0 called o0.0 0 i-0", false),
-        ("0 called o0.0 0 i01", false),
-        ("0 called o0.0 0 i", false),
-        ("0 called o0.0 0 u t f o1.2 x x00ff", true),
-        ("0 called o0.0 0 o1", false),
-        ("0 called o0.0 0 xF0", false),
-        ("0 called o0.0 0 x0", false),
-        ("0 fired 255 o0.0 1 65535", true),
-        ("0 fired 256 o0.0 1 0", false),
-        ("0 fired 0 o0.0 1 65536", false),
-        ("0 fired 0 o0.0 0", false),
-        ("0 fired 0 o0.0 8 1 2 3 4 5 6 7 8", true),
-        ("0 fired 0 o0.0 9 1 2 3 4 5 6 7 8 9", false),
-        ("0 fired 0 o0.0 2 1", false),
-        ("0 ended !divide", true),
-        ("0 ended !turns", true),
-        ("0 ended !deep", true),
-        ("0 ended !long", true),
-        ("0 ended !short", false),
-        ("0 printed", false),
-    ];
-    for (line, right) in cases {
-        let text = one_entry(rt.alloc(), line)?;
-        let expected = if right { None } else { Some(1) };
-        assert_eq!(rt; wrong_line(rt.alloc(), text.as_str()), expected, "{line}");
+    for (line, right) in &PARTS {
+        let expected = if *right { None } else { Some(1) };
+        is_wrong_at(&rt, line, wrong_entry(rt.alloc(), line)?, expected);
     }
     Ok(())
 }
 
+/// The front of a line, what follows it so many times, and whether that is right.
+const LISTS: [(&str, &str, u32, bool); 6] = [
+    ("0 sent o0.0 0", " u", 8u32, true),
+    ("0 sent o0.0 0", " u", 9, false),
+    ("0 fired 0 o0.0 1 0", " t", 64, true),
+    ("0 fired 0 o0.0 1 0", " t", 65, false),
+    ("0 printed x", "0a", 1024, true),
+    ("0 printed x", "0a", 1025, false),
+];
+
+/// The line at which a text is wrong whose entry goes on with one part so many times, if it is.
+fn wrong_list(
+    alloc: Global,
+    front: &str,
+    part: &str,
+    times: u32,
+) -> Result<Option<u32>, AllocError> {
+    let mut line = String::from_str(alloc, front)?;
+    for _ in 0..times {
+        line.push_str(part)?;
+    }
+    wrong_entry(alloc, line.as_str())
+}
+
 #[test]
 fn keeps_the_bounds_of_each_list(rt: HostRuntime) -> Result<(), Fail> {
-    let cases = [
-        ("0 sent o0.0 0", " u", 8u32, true),
-        ("0 sent o0.0 0", " u", 9, false),
-        ("0 fired 0 o0.0 1 0", " t", 64, true),
-        ("0 fired 0 o0.0 1 0", " t", 65, false),
-        ("0 printed x", "0a", 1024, true),
-        ("0 printed x", "0a", 1025, false),
-    ];
-    for (front, part, times, right) in cases {
-        let mut line = String::from_str(rt.alloc(), front)?;
-        for _ in 0..times {
-            line.push_str(part)?;
-        }
-        let text = one_entry(rt.alloc(), line.as_str())?;
-        let expected = if right { None } else { Some(1) };
-        assert_eq!(rt;
-            wrong_line(rt.alloc(), text.as_str()),
-            expected,
-            "{front}, {times} times"
-        );
+    for (front, part, times, right) in &LISTS {
+        let expected = if *right { None } else { Some(1) };
+        let found = wrong_list(rt.alloc(), front, part, *times)?;
+        is_wrong_at(&rt, front, found, expected);
     }
     Ok(())
 }
@@ -210,32 +270,59 @@ fn faults_say_what_is_wrong(rt: HostRuntime) -> Result<(), Fail> {
     Ok(())
 }
 
-#[test]
-fn reads_the_most_entries(rt: HostRuntime) -> Result<(), Fail> {
-    let mut text = String::from_str(rt.alloc(), "journal 1 65536\n")?;
+/// The text of a journal of the most entries.
+fn most_entries(alloc: Global) -> Result<String, Fail> {
+    let mut text = String::from_str(alloc, "journal 1 65536\n")?;
     for number in 0..65_536u32 {
         writeln!(text, "{number} 0 made 1")?;
     }
-    let journal = read(rt.alloc(), text.as_bytes())?;
-    assert_eq!(rt; journal.entries().len(), 65_536);
-    let mut sink = MemSink::new(rt.alloc(), 2_000_000, 100_000, Vec::new(rt.alloc()))?;
-    assert_eq!(rt; write_text(&journal, &mut sink), Ok(()));
-    assert!(rt; sink.taken() == text.as_bytes());
+    Ok(text)
+}
+
+#[test]
+fn reads_the_most_entries(rt: HostRuntime) -> Result<(), Fail> {
+    let text = most_entries(rt.alloc())?;
+    assert_eq!(rt;
+        again(rt.alloc(), text.as_str(), 2_000_000, 100_000)?,
+        (65_536, Ok(()), true)
+    );
     Ok(())
+}
+
+/// What writing the lines of a journal answers where these writes fail, and whether this is written.
+fn lines_written(
+    alloc: Global,
+    journal: &Journal,
+    fails: Vec<u32>,
+    taken: &[u8],
+) -> Result<(Result<(), Failed>, bool), AllocError> {
+    let mut sink = MemSink::new(alloc, 100, 5, fails)?;
+    let written = write_lines(journal, &mut sink);
+    Ok((written, sink.taken() == taken))
+}
+
+/// What writing the text of a journal into a sink with that room answers, and whether this is written.
+fn text_written(
+    alloc: Global,
+    journal: &Journal,
+    room: u32,
+    taken: &[u8],
+) -> Result<(Result<(), Failed>, bool), AllocError> {
+    let mut sink = MemSink::new(alloc, room, 5, Vec::new(alloc))?;
+    let written = write_text(journal, &mut sink);
+    Ok((written, sink.taken() == taken))
 }
 
 #[test]
 fn a_write_fails_in_mid_stream(rt: HostRuntime) -> Result<(), Fail> {
-    let journal = read(rt.alloc(), GROUPS.as_bytes())?;
-    let mut whole = MemSink::new(rt.alloc(), 100, 5, Vec::new(rt.alloc()))?;
-    assert_eq!(rt; write_lines(&journal, &mut whole), Ok(()));
-    assert!(rt; whole.taken() == b"AAB5B5\nFalse\n".as_slice());
-    let mut failing = MemSink::new(rt.alloc(), 100, 5, vec![in rt.alloc(); 3]?)?;
-    assert_eq!(rt; write_lines(&journal, &mut failing), Err(Failed));
-    assert!(rt; failing.taken() == b"AAB5B5\n".as_slice());
-    let mut full = MemSink::new(rt.alloc(), 14, 5, Vec::new(rt.alloc()))?;
-    assert_eq!(rt; write_text(&journal, &mut full), Err(Failed));
-    assert!(rt; full.taken() == b"journal 1 24\n0".as_slice());
+    let alloc = rt.alloc();
+    let journal = read(alloc, GROUPS.as_bytes())?;
+    let whole = lines_written(alloc, &journal, Vec::new(alloc), b"AAB5B5\nFalse\n")?;
+    let failing = lines_written(alloc, &journal, vec![in alloc; 3]?, b"AAB5B5\n")?;
+    let full = text_written(alloc, &journal, 14, b"journal 1 24\n0")?;
+    assert_eq!(rt; whole, (Ok(()), true));
+    assert_eq!(rt; failing, (Err(Failed), true));
+    assert_eq!(rt; full, (Err(Failed), true));
     Ok(())
 }
 
@@ -260,8 +347,8 @@ fn swapped(alloc: Global) -> Result<Vec<Entry>, AllocError>
 #[test]
 fn gathers_entries_by_their_numbers(rt: HostRuntime) -> Result<(), Fail> {
     let journal = gather(rt.alloc(), swapped(rt.alloc())?)?;
-    let mut sink = MemSink::new(rt.alloc(), 100, 100, Vec::new(rt.alloc()))?;
-    assert_eq!(rt; write_text(&journal, &mut sink), Ok(()));
-    assert!(rt; sink.taken() == b"journal 1 2\n0 0 begun\n1 0 made 7\n".as_slice());
+    let taken = b"journal 1 2\n0 0 begun\n1 0 made 7\n";
+    let written = text_written(rt.alloc(), &journal, 100, taken)?;
+    assert_eq!(rt; written, (Ok(()), true));
     Ok(())
 }

@@ -1,9 +1,11 @@
 //! The tests of public calls that stand apart from their crates: a check of a crate's tests proves its library once more.
-//! Stands on: chord_bag, chord_base, chord_code, chord_io, chord_journal, chord_lexer, chord_match, chord_rule, chord_space, chord_task, chord_vm, chord_word. Used by: nobody.
+//! Stands on: chord_bag, chord_base, chord_classes, chord_code, chord_io, chord_journal, chord_lexer, chord_match, chord_rule, chord_space, chord_task, chord_tree, chord_vm, chord_word. Used by: nobody.
 //! Promise: nothing but its tests; each module tests the crate that its first line names.
 //! Not here: tests of calls that are private to their crate, which stand there, and those of whole sources (chord_run).
 #![tactic(auto)]
 
+#[cfg(test)]
+mod classes;
 #[cfg(test)]
 mod codes;
 #[cfg(test)]
@@ -17,6 +19,8 @@ mod operators;
 #[cfg(test)]
 mod prefixes;
 #[cfg(test)]
+mod streams;
+#[cfg(test)]
 mod tables;
 #[cfg(test)]
 mod tasks;
@@ -24,3 +28,5 @@ mod tasks;
 mod texts;
 #[cfg(test)]
 mod tokens;
+#[cfg(test)]
+mod words;

@@ -39,24 +39,36 @@ fn sum(alloc: Global, left: i32, right: i32) -> Result<Option<i32>, AllocError> 
     Ok(number_of(outcome))
 }
 
+/// The quotient, the remainder and the sum of two ints.
+fn computed(
+    alloc: Global,
+    left: i32,
+    right: i32,
+) -> Result<(Option<i32>, Option<i32>, Option<i32>), AllocError> {
+    let divided = quotient(alloc, left, right)?;
+    let remaining = remainder(alloc, left, right)?;
+    let added = sum(alloc, left, right)?;
+    Ok((divided, remaining, added))
+}
+
+/// Two ints, their quotient and remainder, and their sum.
+const EDGES: [(i32, i32, Option<i32>, Option<i32>, i32); 6] = [
+    (7, 2, Some(3), Some(1), 9),
+    (-7, 2, Some(-3), Some(-1), -5),
+    (7, -2, Some(-3), Some(1), 5),
+    (i32::MIN, -1, Some(i32::MIN), Some(0), i32::MAX),
+    (i32::MAX, 1, Some(i32::MAX), Some(0), i32::MIN),
+    (1, 0, None, None, 1),
+];
+
 #[test]
 fn operators_at_the_edges_of_ints(rt: HostRuntime) -> Result<(), Fail> {
-    let alloc = rt.alloc();
-    for (left, right, divided, remaining, added) in [
-        (7, 2, Some(3), Some(1), 9),
-        (-7, 2, Some(-3), Some(-1), -5),
-        (7, -2, Some(-3), Some(1), 5),
-        (i32::MIN, -1, Some(i32::MIN), Some(0), i32::MAX),
-        (i32::MAX, 1, Some(i32::MAX), Some(0), i32::MIN),
-        (1, 0, None, None, 1),
-    ] {
-        assert_eq!(rt; quotient(alloc, left, right)?, divided, "{left} / {right}");
+    for (left, right, divided, remaining, added) in EDGES {
         assert_eq!(rt;
-            remainder(alloc, left, right)?,
-            remaining,
-            "{left} % {right}"
+            computed(rt.alloc(), left, right)?,
+            (divided, remaining, Some(added)),
+            "{left} and {right}"
         );
-        assert_eq!(rt; sum(alloc, left, right)?, Some(added), "{left} + {right}");
     }
     Ok(())
 }
@@ -69,13 +81,23 @@ fn joined_numbers(alloc: Global, left: i32, right: i32) -> Result<usize, AllocEr
     }
 }
 
+/// Whether a truth value's text is this.
+fn is_text_of_flag(alloc: Global, flag: bool, wanted: &[u8]) -> Result<bool, AllocError> {
+    let text = Text::of_flag(alloc, flag)?;
+    Ok(text.items() == wanted)
+}
+
+/// Whether an int's text is this.
+fn is_text_of_int(alloc: Global, number: i32, wanted: &[u8]) -> Result<bool, AllocError> {
+    let text = Text::of_int(alloc, number)?;
+    Ok(text.items() == wanted)
+}
+
 #[test]
 fn numbers_are_joined_as_texts(rt: HostRuntime) -> Result<(), Fail> {
     assert_eq!(rt; joined_numbers(rt.alloc(), i32::MIN, 0)?, 12);
-    assert_eq!(rt;
-        Text::of_flag(rt.alloc(), true)?.items(),
-        b"True".as_slice()
-    );
-    assert_eq!(rt; Text::of_int(rt.alloc(), -17)?.items(), b"-17".as_slice());
+    let is_true = is_text_of_flag(rt.alloc(), true, b"True")?;
+    let is_number = is_text_of_int(rt.alloc(), -17, b"-17")?;
+    assert_eq!(rt; (is_true, is_number), (true, true), "`True`, `-17`");
     Ok(())
 }

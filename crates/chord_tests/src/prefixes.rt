@@ -8,6 +8,7 @@ use chord_base::prefix::run_length;
 use chord_base::text::Text;
 use chord_base::value::{MAX_VALUES, Object, Value, Values};
 use std::alloc::Global;
+use std::process::Abort;
 use std::test::Fail;
 
 const FIRST: Object = Object {
@@ -246,6 +247,28 @@ fn chord(program: &mut Listed, alloc: Global, methods: &[u8]) -> Result<(), Fail
     Ok(())
 }
 
+/// A changed journal: its name, the place and the line that is put there, and how many of its entries are a run.
+type Case = (&'static str, usize, Line, usize);
+
+fn is_run_of(rt: &impl Abort, name: &str, found: usize, expected: usize) {
+    assert_eq!(rt; found, expected, "{name}");
+}
+
+/// Of each case so many entries are a run.
+fn judge(
+    rt: &impl Abort,
+    alloc: Global,
+    program: &Listed,
+    lines: &[Line],
+    cases: &[Case],
+) -> Result<(), Fail> {
+    for (name, place, other, expected) in cases {
+        let found = length(alloc, program, lines, *place, *other)?;
+        is_run_of(rt, name, found, *expected);
+    }
+    Ok(())
+}
+
 const HI: Parts = Parts::One(Part::Text(Word::Hi));
 
 const GIVES_HI: Ends = Ends::Gives(Part::Text(Word::Hi));
@@ -256,14 +279,77 @@ const GIVES_FIRST: Ends = Ends::Gives(Part::Ref(FIRST));
 
 const GIVES_SECOND: Ends = Ends::Gives(Part::Ref(SECOND));
 
-/// `Main` makes a buffer, puts `hi` into it, gets it and prints it.
-#[test]
-fn buffer(rt: HostRuntime) -> Result<(), Fail> {
-    let alloc = rt.alloc();
-    let mut program = program(alloc)?;
-    chord(&mut program, alloc, &[0, 1])?;
+const BUFFER_LINES: [Line; 8] = [
+    (0, 0, Says::Begun),
+    (1, 0, Says::Made),
+    (2, 0, Says::Sent(FIRST, 1, HI)),
+    (3, 0, Says::Called(FIRST, 0, Parts::None)),
+    (4, 4, Says::Fired(0, FIRST, Taken::Two(3, 2), HI)),
+    (5, 4, Says::Ended(GIVES_HI)),
+    (6, 0, Says::Printed(Word::Hi)),
+    (7, 0, Says::Ended(GIVES_UNIT)),
+];
+
+const BUFFER_CASES: [Case; 12] = [
+    ("as it is", 0, (0, 0, Says::Begun), 8),
+    (
+        "members in the wrong order",
+        4,
+        (4, 4, Says::Fired(0, FIRST, Taken::Two(2, 3), HI)),
+        4,
+    ),
+    (
+        "one message twice",
+        4,
+        (4, 4, Says::Fired(0, FIRST, Taken::Two(3, 3), HI)),
+        4,
+    ),
+    (
+        "a member that is no message",
+        4,
+        (4, 4, Says::Fired(0, FIRST, Taken::Two(3, 1), HI)),
+        4,
+    ),
+    (
+        "a member less",
+        4,
+        (4, 4, Says::Fired(0, FIRST, Taken::One(3), Parts::None)),
+        4,
+    ),
+    (
+        "no arguments",
+        4,
+        (4, 4, Says::Fired(0, FIRST, Taken::Two(3, 2), Parts::None)),
+        4,
+    ),
+    (
+        "no such chord",
+        4,
+        (4, 4, Says::Fired(1, FIRST, Taken::Two(3, 2), HI)),
+        4,
+    ),
+    (
+        "a firing of another body",
+        4,
+        (4, 0, Says::Fired(0, FIRST, Taken::Two(3, 2), HI)),
+        4,
+    ),
+    (
+        "the end of `Main` for that of the chord's body",
+        5,
+        (5, 0, Says::Ended(GIVES_HI)),
+        5,
+    ),
+    ("a wrong number", 6, (7, 0, Says::Printed(Word::Hi)), 6),
+    ("another line", 6, (6, 0, Says::Printed(Word::Ho)), 6),
+    ("a second beginning", 6, (6, 6, Says::Begun), 6),
+];
+
+/// The chords and bodies of `buffer`.
+fn buffer_bodies(program: &mut Listed, alloc: Global) -> Result<(), Fail> {
+    chord(program, alloc, &[0, 1])?;
     tell(
-        &mut program,
+        program,
         alloc,
         Start::Main,
         1,
@@ -277,88 +363,52 @@ fn buffer(rt: HostRuntime) -> Result<(), Fail> {
         &[GIVES_FIRST, GIVES_UNIT, GIVES_HI, GIVES_UNIT],
     )?;
     let get = begins(alloc, 0, HI)?;
-    tell(&mut program, alloc, get, 2, &[Says::Ended(GIVES_HI)], &[])?;
-    let lines = [
-        (0, 0, Says::Begun),
-        (1, 0, Says::Made),
-        (2, 0, Says::Sent(FIRST, 1, HI)),
-        (3, 0, Says::Called(FIRST, 0, Parts::None)),
-        (4, 4, Says::Fired(0, FIRST, Taken::Two(3, 2), HI)),
-        (5, 4, Says::Ended(GIVES_HI)),
-        (6, 0, Says::Printed(Word::Hi)),
-        (7, 0, Says::Ended(GIVES_UNIT)),
-    ];
-    for (name, place, other, expected) in [
-        ("as it is", 0, lines[0], 8),
-        (
-            "members in the wrong order",
-            4,
-            (4, 4, Says::Fired(0, FIRST, Taken::Two(2, 3), HI)),
-            4,
-        ),
-        (
-            "one message twice",
-            4,
-            (4, 4, Says::Fired(0, FIRST, Taken::Two(3, 3), HI)),
-            4,
-        ),
-        (
-            "a member that is no message",
-            4,
-            (4, 4, Says::Fired(0, FIRST, Taken::Two(3, 1), HI)),
-            4,
-        ),
-        (
-            "a member less",
-            4,
-            (4, 4, Says::Fired(0, FIRST, Taken::One(3), Parts::None)),
-            4,
-        ),
-        (
-            "no arguments",
-            4,
-            (4, 4, Says::Fired(0, FIRST, Taken::Two(3, 2), Parts::None)),
-            4,
-        ),
-        (
-            "no such chord",
-            4,
-            (4, 4, Says::Fired(1, FIRST, Taken::Two(3, 2), HI)),
-            4,
-        ),
-        (
-            "a firing of another body",
-            4,
-            (4, 0, Says::Fired(0, FIRST, Taken::Two(3, 2), HI)),
-            4,
-        ),
-        (
-            "the end of `Main` for that of the chord's body",
-            5,
-            (5, 0, Says::Ended(GIVES_HI)),
-            5,
-        ),
-        ("a wrong number", 6, (7, 0, Says::Printed(Word::Hi)), 6),
-        ("another line", 6, (6, 0, Says::Printed(Word::Ho)), 6),
-        ("a second beginning", 6, (6, 6, Says::Begun), 6),
-    ] {
-        assert_eq!(rt;
-            length(alloc, &program, &lines, place, other)?,
-            expected,
-            "{name}"
-        );
-    }
-    Ok(())
+    tell(program, alloc, get, 2, &[Says::Ended(GIVES_HI)], &[])
 }
 
-/// `Main` gets from a buffer into which nothing was put, and waits.
+/// `Main` makes a buffer, puts `hi` into it, gets it and prints it.
 #[test]
-fn parked_main(rt: HostRuntime) -> Result<(), Fail> {
-    let alloc = rt.alloc();
-    let mut program = program(alloc)?;
-    chord(&mut program, alloc, &[0, 1])?;
+fn buffer(rt: HostRuntime) -> Result<(), Fail> {
+    let mut program = program(rt.alloc())?;
+    buffer_bodies(&mut program, rt.alloc())?;
+    judge(&rt, rt.alloc(), &program, &BUFFER_LINES, &BUFFER_CASES)
+}
+
+const PARKED_MAIN_LINES: [Line; 4] = [
+    (0, 0, Says::Begun),
+    (1, 0, Says::Made),
+    (2, 0, Says::Called(FIRST, 0, Parts::None)),
+    (3, 0, Says::Ended(GIVES_UNIT)),
+];
+
+const PARKED_MAIN_CASES: [Case; 3] = [
+    (
+        "the end of a body that waits",
+        3,
+        (3, 0, Says::Ended(GIVES_UNIT)),
+        3,
+    ),
+    (
+        "a chord that lacks a message",
+        3,
+        (3, 3, Says::Fired(0, FIRST, Taken::One(2), Parts::None)),
+        3,
+    ),
+    (
+        "one message in two places",
+        3,
+        (3, 3, Says::Fired(0, FIRST, Taken::Two(2, 2), Parts::None)),
+        3,
+    ),
+];
+
+const PARKED_MAIN_ALONE: [Case; 1] = [("as it is", 0, (0, 0, Says::Begun), 3)];
+
+/// The chords and bodies of `parked_main`.
+fn parked_main_bodies(program: &mut Listed, alloc: Global) -> Result<(), Fail> {
+    chord(program, alloc, &[0, 1])?;
     tell(
-        &mut program,
+        program,
         alloc,
         Start::Main,
         1,
@@ -368,171 +418,194 @@ fn parked_main(rt: HostRuntime) -> Result<(), Fail> {
             Says::Ended(GIVES_UNIT),
         ],
         &[GIVES_FIRST, GIVES_UNIT],
-    )?;
-    let lines = [
-        (0, 0, Says::Begun),
-        (1, 0, Says::Made),
-        (2, 0, Says::Called(FIRST, 0, Parts::None)),
-        (3, 0, Says::Ended(GIVES_UNIT)),
-    ];
-    assert_eq!(rt;
-        length(alloc, &program, &lines[..3], 0, lines[0])?,
-        3,
-        "as it is"
-    );
-    for (name, other) in [
-        (
-            "the end of a body that waits",
-            (3, 0, Says::Ended(GIVES_UNIT)),
-        ),
-        (
-            "a chord that lacks a message",
-            (3, 3, Says::Fired(0, FIRST, Taken::One(2), Parts::None)),
-        ),
-        (
-            "one message in two places",
-            (3, 3, Says::Fired(0, FIRST, Taken::Two(2, 2), Parts::None)),
-        ),
-    ] {
-        assert_eq!(rt; length(alloc, &program, &lines, 3, other)?, 3, "{name}");
-    }
-    Ok(())
+    )
 }
 
-/// A method divides 1 by 0 for `Main`, which has printed `before`.
+/// `Main` gets from a buffer into which nothing was put, and waits.
 #[test]
-fn division_trap_through_a_call(rt: HostRuntime) -> Result<(), Fail> {
-    let alloc = rt.alloc();
-    let trap = Ends::Traps(Trap::DivideByZero);
-    let arguments = Parts::Two(Part::Int(1), Part::Int(0));
-    let mut program = program(alloc)?;
-    chord(&mut program, alloc, &[0])?;
+fn parked_main(rt: HostRuntime) -> Result<(), Fail> {
+    let mut program = program(rt.alloc())?;
+    parked_main_bodies(&mut program, rt.alloc())?;
+    let parked = &PARKED_MAIN_LINES[..3];
+    judge(&rt, rt.alloc(), &program, parked, &PARKED_MAIN_ALONE)?;
+    judge(
+        &rt,
+        rt.alloc(),
+        &program,
+        &PARKED_MAIN_LINES,
+        &PARKED_MAIN_CASES,
+    )
+}
+
+const BY_ZERO: Ends = Ends::Traps(Trap::DivideByZero);
+
+const ONE_BY_ZERO: Parts = Parts::Two(Part::Int(1), Part::Int(0));
+
+const DIVISION_LINES: [Line; 7] = [
+    (0, 0, Says::Begun),
+    (1, 0, Says::Made),
+    (2, 0, Says::Printed(Word::Before)),
+    (3, 0, Says::Called(FIRST, 0, ONE_BY_ZERO)),
+    (4, 4, Says::Fired(0, FIRST, Taken::One(3), ONE_BY_ZERO)),
+    (5, 4, Says::Ended(BY_ZERO)),
+    (6, 0, Says::Ended(BY_ZERO)),
+];
+
+const DIVISION_CASES: [Case; 4] = [
+    ("as it is", 0, (0, 0, Says::Begun), 7),
+    (
+        "another trap than the caller got",
+        6,
+        (6, 0, Says::Ended(Ends::Traps(Trap::TooDeep))),
+        6,
+    ),
+    ("the caller ends first", 5, (5, 0, Says::Ended(BY_ZERO)), 5),
+    (
+        "arguments in another order",
+        4,
+        (
+            4,
+            4,
+            Says::Fired(
+                0,
+                FIRST,
+                Taken::One(3),
+                Parts::Two(Part::Int(0), Part::Int(1)),
+            ),
+        ),
+        4,
+    ),
+];
+
+/// The chords and bodies of `division_trap_through_a_call`.
+fn division_trap_through_a_call_bodies(program: &mut Listed, alloc: Global) -> Result<(), Fail> {
+    chord(program, alloc, &[0])?;
     tell(
-        &mut program,
+        program,
         alloc,
         Start::Main,
         1,
         &[
             Says::Made,
             Says::Printed(Word::Before),
-            Says::Called(FIRST, 0, arguments),
-            Says::Ended(trap),
+            Says::Called(FIRST, 0, ONE_BY_ZERO),
+            Says::Ended(BY_ZERO),
         ],
-        &[GIVES_FIRST, GIVES_UNIT, trap],
+        &[GIVES_FIRST, GIVES_UNIT, BY_ZERO],
     )?;
-    let div = begins(alloc, 0, arguments)?;
-    tell(&mut program, alloc, div, 2, &[Says::Ended(trap)], &[])?;
-    let lines = [
-        (0, 0, Says::Begun),
-        (1, 0, Says::Made),
-        (2, 0, Says::Printed(Word::Before)),
-        (3, 0, Says::Called(FIRST, 0, arguments)),
-        (4, 4, Says::Fired(0, FIRST, Taken::One(3), arguments)),
-        (5, 4, Says::Ended(trap)),
-        (6, 0, Says::Ended(trap)),
-    ];
-    for (name, place, other, expected) in [
-        ("as it is", 0, lines[0], 7),
-        (
-            "another trap than the caller got",
-            6,
-            (6, 0, Says::Ended(Ends::Traps(Trap::TooDeep))),
-            6,
-        ),
-        ("the caller ends first", 5, (5, 0, Says::Ended(trap)), 5),
-        (
-            "arguments in another order",
-            4,
-            (
-                4,
-                4,
-                Says::Fired(
-                    0,
-                    FIRST,
-                    Taken::One(3),
-                    Parts::Two(Part::Int(0), Part::Int(1)),
-                ),
-            ),
-            4,
-        ),
-    ] {
-        assert_eq!(rt;
-            length(alloc, &program, &lines, place, other)?,
-            expected,
-            "{name}"
-        );
-    }
-    Ok(())
+    let div = begins(alloc, 0, ONE_BY_ZERO)?;
+    tell(program, alloc, div, 2, &[Says::Ended(BY_ZERO)], &[])
+}
+
+/// A method divides 1 by 0 for `Main`, which has printed `before`.
+#[test]
+fn division_trap_through_a_call(rt: HostRuntime) -> Result<(), Fail> {
+    let mut program = program(rt.alloc())?;
+    division_trap_through_a_call_bodies(&mut program, rt.alloc())?;
+    judge(&rt, rt.alloc(), &program, &DIVISION_LINES, &DIVISION_CASES)
+}
+
+const TOO_DEEP: Ends = Ends::Traps(Trap::TooDeep);
+
+const ONE: Parts = Parts::One(Part::Int(1));
+
+const TWO: Parts = Parts::One(Part::Int(2));
+
+const DEEP_LINES: [Line; 9] = [
+    (0, 0, Says::Begun),
+    (1, 0, Says::Made),
+    (2, 0, Says::Called(FIRST, 0, ONE)),
+    (3, 3, Says::Fired(0, FIRST, Taken::One(2), ONE)),
+    (4, 3, Says::Called(FIRST, 0, TWO)),
+    (5, 5, Says::Fired(0, FIRST, Taken::One(4), TWO)),
+    (6, 5, Says::Ended(TOO_DEEP)),
+    (7, 3, Says::Ended(TOO_DEEP)),
+    (8, 0, Says::Ended(TOO_DEEP)),
+];
+
+const DEEP_CASES: [Case; 4] = [
+    ("as it is", 0, (0, 0, Says::Begun), 9),
+    (
+        "a caller ends before the body that serves it",
+        6,
+        (6, 3, Says::Ended(TOO_DEEP)),
+        6,
+    ),
+    ("a body ends twice", 7, (7, 5, Says::Ended(TOO_DEEP)), 7),
+    (
+        "the end skips a caller",
+        7,
+        (7, 0, Says::Ended(TOO_DEEP)),
+        7,
+    ),
+];
+
+/// The chords and bodies of `too_deep_in_small`.
+fn too_deep_in_small_bodies(program: &mut Listed, alloc: Global) -> Result<(), Fail> {
+    chord(program, alloc, &[0])?;
+    tell(
+        program,
+        alloc,
+        Start::Main,
+        1,
+        &[
+            Says::Made,
+            Says::Called(FIRST, 0, ONE),
+            Says::Ended(TOO_DEEP),
+        ],
+        &[GIVES_FIRST, TOO_DEEP],
+    )?;
+    let second = begins(alloc, 0, ONE)?;
+    tell(
+        program,
+        alloc,
+        second,
+        2,
+        &[Says::Called(FIRST, 0, TWO), Says::Ended(TOO_DEEP)],
+        &[TOO_DEEP],
+    )?;
+    let third = begins(alloc, 0, TWO)?;
+    tell(program, alloc, third, 3, &[Says::Ended(TOO_DEEP)], &[])
 }
 
 /// A method calls itself until the depth limit, here 3.
 #[test]
 fn too_deep_in_small(rt: HostRuntime) -> Result<(), Fail> {
-    let alloc = rt.alloc();
-    let trap = Ends::Traps(Trap::TooDeep);
-    let one = Parts::One(Part::Int(1));
-    let two = Parts::One(Part::Int(2));
-    let mut program = program(alloc)?;
-    chord(&mut program, alloc, &[0])?;
-    tell(
-        &mut program,
-        alloc,
-        Start::Main,
-        1,
-        &[Says::Made, Says::Called(FIRST, 0, one), Says::Ended(trap)],
-        &[GIVES_FIRST, trap],
-    )?;
-    let second = begins(alloc, 0, one)?;
-    tell(
-        &mut program,
-        alloc,
-        second,
-        2,
-        &[Says::Called(FIRST, 0, two), Says::Ended(trap)],
-        &[trap],
-    )?;
-    let third = begins(alloc, 0, two)?;
-    tell(&mut program, alloc, third, 3, &[Says::Ended(trap)], &[])?;
-    let lines = [
-        (0, 0, Says::Begun),
-        (1, 0, Says::Made),
-        (2, 0, Says::Called(FIRST, 0, one)),
-        (3, 3, Says::Fired(0, FIRST, Taken::One(2), one)),
-        (4, 3, Says::Called(FIRST, 0, two)),
-        (5, 5, Says::Fired(0, FIRST, Taken::One(4), two)),
-        (6, 5, Says::Ended(trap)),
-        (7, 3, Says::Ended(trap)),
-        (8, 0, Says::Ended(trap)),
-    ];
-    for (name, place, other, expected) in [
-        ("as it is", 0, lines[0], 9),
-        (
-            "a caller ends before the body that serves it",
-            6,
-            (6, 3, Says::Ended(trap)),
-            6,
-        ),
-        ("a body ends twice", 7, (7, 5, Says::Ended(trap)), 7),
-        ("the end skips a caller", 7, (7, 0, Says::Ended(trap)), 7),
-    ] {
-        assert_eq!(rt;
-            length(alloc, &program, &lines, place, other)?,
-            expected,
-            "{name}"
-        );
-    }
-    Ok(())
+    let mut program = program(rt.alloc())?;
+    too_deep_in_small_bodies(&mut program, rt.alloc())?;
+    judge(&rt, rt.alloc(), &program, &DEEP_LINES, &DEEP_CASES)
 }
 
-/// `Main` makes two objects, puts into the first and gets from the second.
-#[test]
-fn another_object(rt: HostRuntime) -> Result<(), Fail> {
-    let alloc = rt.alloc();
-    let mut program = program(alloc)?;
-    chord(&mut program, alloc, &[0, 1])?;
-    chord(&mut program, alloc, &[1])?;
+const ANOTHER_OBJECT_LINES: [Line; 6] = [
+    (0, 0, Says::Begun),
+    (1, 0, Says::Made),
+    (2, 0, Says::Made),
+    (3, 0, Says::Sent(FIRST, 1, HI)),
+    (4, 0, Says::Called(SECOND, 0, Parts::None)),
+    (5, 5, Says::Fired(0, SECOND, Taken::Two(4, 3), HI)),
+];
+
+const ANOTHER_OBJECT_CASES: [Case; 2] = [
+    (
+        "a message of another object",
+        5,
+        (5, 5, Says::Fired(0, SECOND, Taken::Two(4, 3), HI)),
+        5,
+    ),
+    (
+        "the message of the object",
+        5,
+        (5, 5, Says::Fired(1, FIRST, Taken::One(3), HI)),
+        6,
+    ),
+];
+
+/// The chords and bodies of `another_object`.
+fn another_object_bodies(program: &mut Listed, alloc: Global) -> Result<(), Fail> {
+    chord(program, alloc, &[0, 1])?;
+    chord(program, alloc, &[1])?;
     tell(
-        &mut program,
+        program,
         alloc,
         Start::Main,
         1,
@@ -543,125 +616,134 @@ fn another_object(rt: HostRuntime) -> Result<(), Fail> {
             Says::Called(SECOND, 0, Parts::None),
         ],
         &[GIVES_FIRST, GIVES_SECOND, GIVES_UNIT],
+    )
+}
+
+/// `Main` makes two objects, puts into the first and gets from the second.
+#[test]
+fn another_object(rt: HostRuntime) -> Result<(), Fail> {
+    let mut program = program(rt.alloc())?;
+    another_object_bodies(&mut program, rt.alloc())?;
+    judge(
+        &rt,
+        rt.alloc(),
+        &program,
+        &ANOTHER_OBJECT_LINES,
+        &ANOTHER_OBJECT_CASES,
+    )
+}
+
+const INT_ONE: Part = Part::Int(1);
+
+const INT_TWO: Part = Part::Int(2);
+
+const START: Says = Says::Sent(FIRST, 1, Parts::None);
+
+const CALL: Says = Says::Called(FIRST, 0, Parts::One(INT_ONE));
+
+const TWO_CALLERS_LINES: [Line; 11] = [
+    (0, 0, Says::Begun),
+    (1, 0, Says::Made),
+    (2, 0, START),
+    (3, 0, CALL),
+    (4, 4, Says::Fired(1, FIRST, Taken::One(2), Parts::None)),
+    (5, 4, Says::Called(FIRST, 0, Parts::One(INT_TWO))),
+    (
+        6,
+        6,
+        Says::Fired(0, FIRST, Taken::One(3), Parts::One(INT_ONE)),
+    ),
+    (
+        7,
+        7,
+        Says::Fired(0, FIRST, Taken::One(5), Parts::One(INT_TWO)),
+    ),
+    (8, 7, Says::Ended(Ends::Gives(INT_TWO))),
+    (9, 6, Says::Ended(Ends::Gives(INT_ONE))),
+    (10, 0, Says::Printed(Word::One)),
+];
+
+const TWO_CALLERS_CASES: [Case; 4] = [
+    ("each caller gets its own", 0, (0, 0, Says::Begun), 11),
+    (
+        "`Main` gets the end of the other body",
+        10,
+        (10, 0, Says::Printed(Word::Two)),
+        10,
+    ),
+    (
+        "a message taken twice",
+        10,
+        (10, 10, Says::Fired(1, FIRST, Taken::One(2), Parts::None)),
+        10,
+    ),
+    (
+        "`Main` goes on at the end of the other body",
+        9,
+        (9, 0, Says::Printed(Word::Two)),
+        9,
+    ),
+];
+
+/// The chords and bodies of `two_callers`.
+fn two_callers_bodies(program: &mut Listed, alloc: Global) -> Result<(), Fail> {
+    chord(program, alloc, &[0])?;
+    chord(program, alloc, &[1])?;
+    tell(
+        program,
+        alloc,
+        Start::Main,
+        1,
+        &[Says::Made, START, CALL, Says::Printed(Word::One)],
+        &[GIVES_FIRST, GIVES_UNIT, Ends::Gives(INT_ONE)],
     )?;
-    let lines = [
-        (0, 0, Says::Begun),
-        (1, 0, Says::Made),
-        (2, 0, Says::Made),
-        (3, 0, Says::Sent(FIRST, 1, HI)),
-        (4, 0, Says::Called(SECOND, 0, Parts::None)),
-        (5, 5, Says::Fired(0, SECOND, Taken::Two(4, 3), HI)),
-    ];
-    for (name, other, expected) in [
-        ("a message of another object", lines[5], 5),
-        (
-            "the message of the object",
-            (5, 5, Says::Fired(1, FIRST, Taken::One(3), HI)),
-            6,
-        ),
-    ] {
-        assert_eq!(rt;
-            length(alloc, &program, &lines, 5, other)?,
-            expected,
-            "{name}"
-        );
-    }
-    Ok(())
+    tell(
+        program,
+        alloc,
+        Start::Main,
+        1,
+        &[Says::Made, START, CALL, Says::Printed(Word::Two)],
+        &[GIVES_FIRST, GIVES_UNIT, Ends::Gives(INT_TWO)],
+    )?;
+    let started = begins(alloc, 1, Parts::None)?;
+    tell(
+        program,
+        alloc,
+        started,
+        1,
+        &[Says::Called(FIRST, 0, Parts::One(INT_TWO))],
+        &[],
+    )?;
+    let first = begins(alloc, 0, Parts::One(INT_ONE))?;
+    tell(
+        program,
+        alloc,
+        first,
+        2,
+        &[Says::Ended(Ends::Gives(INT_ONE))],
+        &[],
+    )?;
+    let second = begins(alloc, 0, Parts::One(INT_TWO))?;
+    tell(
+        program,
+        alloc,
+        second,
+        2,
+        &[Says::Ended(Ends::Gives(INT_TWO))],
+        &[],
+    )
 }
 
 /// Two bodies call one method at a time, each with its own number, and get it back; the second is served first.
 #[test]
 fn two_callers(rt: HostRuntime) -> Result<(), Fail> {
-    let alloc = rt.alloc();
-    let one = Part::Int(1);
-    let two = Part::Int(2);
-    let start = Says::Sent(FIRST, 1, Parts::None);
-    let call = Says::Called(FIRST, 0, Parts::One(one));
-    let mut program = program(alloc)?;
-    chord(&mut program, alloc, &[0])?;
-    chord(&mut program, alloc, &[1])?;
-    tell(
-        &mut program,
-        alloc,
-        Start::Main,
-        1,
-        &[Says::Made, start, call, Says::Printed(Word::One)],
-        &[GIVES_FIRST, GIVES_UNIT, Ends::Gives(one)],
-    )?;
-    tell(
-        &mut program,
-        alloc,
-        Start::Main,
-        1,
-        &[Says::Made, start, call, Says::Printed(Word::Two)],
-        &[GIVES_FIRST, GIVES_UNIT, Ends::Gives(two)],
-    )?;
-    let started = begins(alloc, 1, Parts::None)?;
-    tell(
-        &mut program,
-        alloc,
-        started,
-        1,
-        &[Says::Called(FIRST, 0, Parts::One(two))],
-        &[],
-    )?;
-    let first = begins(alloc, 0, Parts::One(one))?;
-    tell(
-        &mut program,
-        alloc,
-        first,
-        2,
-        &[Says::Ended(Ends::Gives(one))],
-        &[],
-    )?;
-    let second = begins(alloc, 0, Parts::One(two))?;
-    tell(
-        &mut program,
-        alloc,
-        second,
-        2,
-        &[Says::Ended(Ends::Gives(two))],
-        &[],
-    )?;
-    let lines = [
-        (0, 0, Says::Begun),
-        (1, 0, Says::Made),
-        (2, 0, start),
-        (3, 0, call),
-        (4, 4, Says::Fired(1, FIRST, Taken::One(2), Parts::None)),
-        (5, 4, Says::Called(FIRST, 0, Parts::One(two))),
-        (6, 6, Says::Fired(0, FIRST, Taken::One(3), Parts::One(one))),
-        (7, 7, Says::Fired(0, FIRST, Taken::One(5), Parts::One(two))),
-        (8, 7, Says::Ended(Ends::Gives(two))),
-        (9, 6, Says::Ended(Ends::Gives(one))),
-        (10, 0, Says::Printed(Word::One)),
-    ];
-    for (name, place, other, expected) in [
-        ("each caller gets its own", 0, lines[0], 11),
-        (
-            "`Main` gets the end of the other body",
-            10,
-            (10, 0, Says::Printed(Word::Two)),
-            10,
-        ),
-        (
-            "a message taken twice",
-            10,
-            (10, 10, Says::Fired(1, FIRST, Taken::One(2), Parts::None)),
-            10,
-        ),
-        (
-            "`Main` goes on at the end of the other body",
-            9,
-            (9, 0, Says::Printed(Word::Two)),
-            9,
-        ),
-    ] {
-        assert_eq!(rt;
-            length(alloc, &program, &lines, place, other)?,
-            expected,
-            "{name}"
-        );
-    }
-    Ok(())
+    let mut program = program(rt.alloc())?;
+    two_callers_bodies(&mut program, rt.alloc())?;
+    judge(
+        &rt,
+        rt.alloc(),
+        &program,
+        &TWO_CALLERS_LINES,
+        &TWO_CALLERS_CASES,
+    )
 }

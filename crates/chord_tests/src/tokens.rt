@@ -370,25 +370,39 @@ fn count(alloc: Global, text: &[u8]) -> Result<usize, u32> {
     }
 }
 
+/// How many tokens a text of one byte `n` times between two others has, or the byte at which it is refused.
+fn repeated_count(
+    alloc: Global,
+    first: &[u8],
+    byte: u8,
+    n: usize,
+    last: &[u8],
+) -> Result<Result<usize, u32>, AllocError> {
+    let text = repeated(alloc, first, byte, n, last)?;
+    Ok(count(alloc, &text))
+}
+
+/// The front of a text, a byte and how many times it stands behind it, the end of the text, and what is counted.
+const LONGEST: [(&[u8], u8, usize, &[u8], Result<usize, u32>); 12] = [
+    (b"", b'a', 255, b"", Ok(1)),
+    (b"", b'a', 256, b"", Err(0)),
+    (b"if ", b'a', 256, b"", Err(3)),
+    (b"_", b'9', 254, b"+", Ok(2)),
+    (b"_", b'9', 255, b"+", Err(0)),
+    (b"", b'0', 300, b"2147483648", Ok(1)),
+    (b"", b'0', 300, b"2147483649", Err(0)),
+    (b"\"", b'a', 4000, b"\"", Ok(1)),
+    (b"\"", b'a', 4000, b"", Err(0)),
+    (b"/*", b'*', 4000, b"/", Ok(0)),
+    (b"/*", b'*', 4000, b" /", Err(0)),
+    (b"//", b'/', 4000, b"", Ok(0)),
+];
+
 #[test]
 fn the_longest_of_each_kind(rt: HostRuntime) -> Result<(), Fail> {
-    let cases: [(&[u8], u8, usize, &[u8], Result<usize, u32>); 12] = [
-        (b"", b'a', 255, b"", Ok(1)),
-        (b"", b'a', 256, b"", Err(0)),
-        (b"if ", b'a', 256, b"", Err(3)),
-        (b"_", b'9', 254, b"+", Ok(2)),
-        (b"_", b'9', 255, b"+", Err(0)),
-        (b"", b'0', 300, b"2147483648", Ok(1)),
-        (b"", b'0', 300, b"2147483649", Err(0)),
-        (b"\"", b'a', 4000, b"\"", Ok(1)),
-        (b"\"", b'a', 4000, b"", Err(0)),
-        (b"/*", b'*', 4000, b"/", Ok(0)),
-        (b"/*", b'*', 4000, b" /", Err(0)),
-        (b"//", b'/', 4000, b"", Ok(0)),
-    ];
-    for (first, byte, n, last, tokens) in cases {
-        let text = repeated(rt.alloc(), first, byte, n, last)?;
-        assert_eq!(rt; count(rt.alloc(), &text), tokens, "{byte} {n} times");
+    for (first, byte, n, last, tokens) in &LONGEST {
+        let found = repeated_count(rt.alloc(), first, *byte, *n, last)?;
+        assert_eq!(rt; found, *tokens, "{byte} {n} times");
     }
     Ok(())
 }

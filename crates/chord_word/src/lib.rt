@@ -8,8 +8,6 @@
 mod cells;
 mod parts;
 mod places;
-#[cfg(test)]
-mod tests;
 
 pub use cells::{Cell, Word, pack, pack_head, unpack, unpack_cell, unpack_head, unpack_next};
 pub use places::{pack_place, unpack_place};

@@ -1,6 +1,6 @@
-//! What no clause says: that calls succeed with memory, that readers and writers of std are passed on, and one fault
+//! chord_io, what no clause says: that calls succeed with memory, that readers and writers of std are passed on, and one fault
 //! in mid-stream of each kind.
-use crate::{
+use chord_io::{
     Failed, MAX_SOURCE_BYTES, MemSink, MemSource, Pen, ReadFault, StdSink, StdSource, read_all,
     read_up_to, write_all,
 };

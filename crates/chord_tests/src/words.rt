@@ -1,13 +1,13 @@
-//! The words that the manual lists, in both directions, and the words that are none.
+//! chord_word: the words that the manual lists, in both directions, and the words that are none.
 ghost use Rattle.std.specs.Prelude.{◌≡◌, ℕ, ◌+◌, ◌*◌, ◌^◌, ◌<◌, ◌≤◌};
 ghost use Rattle.chord_word.specs.Cells.{WordFits};
 ghost use Rattle.chord_word.specs.Places.{PlaceFits};
 
-use crate::{
+use chord_base::value::Object;
+use chord_word::{
     Cell, Word, pack, pack_head, pack_place, unpack, unpack_cell, unpack_head, unpack_next,
     unpack_place,
 };
-use chord_base::value::Object;
 use std::process::Abort;
 
 // The cell has this word, and the word has this cell.
@@ -97,19 +97,22 @@ fn words_of_cells(rt: HostRuntime) {
     );
 }
 
+/// A word that is none of a cell, and why.
+const NO_CELLS: [(u64, &str); 9] = [
+    (7, "no state"),
+    (524_297, "a next past the last message"),
+    (1_048_577, "a waking message of a cell that isn't woken"),
+    (1_099_512_676_353, "the same with bit 40"),
+    (68_719_476_737, "bit 36 of a pending cell"),
+    (8, "the next of an empty cell"),
+    (13, "the next of a ready firing"),
+    (14, "the next of a started firing"),
+    (u64::MAX, "all bits"),
+];
+
 #[test]
 fn words_of_no_cell(rt: HostRuntime) {
-    for (value, why) in [
-        (7, "no state"),
-        (524_297, "a next past the last message"),
-        (1_048_577, "a waking message of a cell that isn't woken"),
-        (1_099_512_676_353, "the same with bit 40"),
-        (68_719_476_737, "bit 36 of a pending cell"),
-        (8, "the next of an empty cell"),
-        (13, "the next of a ready firing"),
-        (14, "the next of a started firing"),
-        (u64::MAX, "all bits"),
-    ] {
+    for (value, why) in NO_CELLS {
         assert_eq!(rt; unpack(value), None, "{why}");
     }
 }

@@ -1,9 +1,9 @@
-//! A table of three classes by hand, and what look-ups find in it.
+//! chord_classes: a table of three classes by hand, and what look-ups find in it.
 
-use crate::build::with_class;
-use crate::least::Least;
-use crate::table::Table;
 use chord_base::text::Text;
+use chord_classes::build::with_class;
+use chord_classes::least::Least;
+use chord_classes::table::Table;
 use chord_tree::classes::{Class, Formals, Header, Member, ReturnType};
 use chord_tree::names::Name;
 use chord_tree::stmts::Block;

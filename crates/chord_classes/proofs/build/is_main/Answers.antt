@@ -1,0 +1,5 @@
+use Rattle.std.proofs.Common.{rules}
+use Rattle.chord_classes.proofs.build.is_main.Goals as goal
+
+pub returns : goal.returns
+returns c = search rules
