@@ -58,72 +58,142 @@ fn put_number<K: Sink>(pen: &mut Pen, sink: &mut K, number: usize)
     pen.put(sink, buffer.format(number).as_bytes());
 }
 
+/// Whether `Main` begins.
+fn begins_main(what: &What) -> bool
+    ensures { result ≡ is_begun what.now }
+{
+    matches!(what, What::Begun)
+}
+
 /// How many entries are the beginning of `Main`.
 fn begun(entries: &[Entry]) -> usize
     ensures { result ≡ count_by (λ e. is_begun e.what) entries.now }
 {
-    entries
-        .iter()
-        .filter(|entry| matches!(entry.what, What::Begun))
-        .count()
+    let mut count = 0;
+    for entry in entries {
+        if begins_main(&entry.what) {
+            count += 1;
+        }
+    }
+    count
+}
+
+/// Whether an object is made.
+fn makes(what: &What) -> bool
+    ensures { result ≡ is_made what.now }
+{
+    matches!(what, What::Made(_))
 }
 
 /// How many entries make an object.
 fn made(entries: &[Entry]) -> usize
     ensures { result ≡ count_by (λ e. is_made e.what) entries.now }
 {
-    entries
-        .iter()
-        .filter(|entry| matches!(entry.what, What::Made(_)))
-        .count()
+    let mut count = 0;
+    for entry in entries {
+        if makes(&entry.what) {
+            count += 1;
+        }
+    }
+    count
+}
+
+/// Whether this is an asynchronous call.
+fn sends(what: &What) -> bool
+    ensures { result ≡ is_sent what.now }
+{
+    matches!(what, What::Sent(..))
 }
 
 /// How many entries are asynchronous calls.
 fn sent(entries: &[Entry]) -> usize
     ensures { result ≡ count_by (λ e. is_sent e.what) entries.now }
 {
-    entries
-        .iter()
-        .filter(|entry| matches!(entry.what, What::Sent(..)))
-        .count()
+    let mut count = 0;
+    for entry in entries {
+        if sends(&entry.what) {
+            count += 1;
+        }
+    }
+    count
+}
+
+/// Whether this is a synchronous call.
+fn calls(what: &What) -> bool
+    ensures { result ≡ is_called what.now }
+{
+    matches!(what, What::Called(..))
 }
 
 /// How many entries are synchronous calls.
 fn called(entries: &[Entry]) -> usize
     ensures { result ≡ count_by (λ e. is_called e.what) entries.now }
 {
-    entries
-        .iter()
-        .filter(|entry| matches!(entry.what, What::Called(..)))
-        .count()
+    let mut count = 0;
+    for entry in entries {
+        if calls(&entry.what) {
+            count += 1;
+        }
+    }
+    count
+}
+
+/// Whether this is a firing.
+fn fires(what: &What) -> bool
+    ensures { result ≡ is_fired what.now }
+{
+    matches!(what, What::Fired(..))
 }
 
 /// How many entries are firings.
 fn fired(entries: &[Entry]) -> usize
     ensures { result ≡ count_by (λ e. is_fired e.what) entries.now }
 {
-    entries
-        .iter()
-        .filter(|entry| matches!(entry.what, What::Fired(..)))
-        .count()
+    let mut count = 0;
+    for entry in entries {
+        if fires(&entry.what) {
+            count += 1;
+        }
+    }
+    count
+}
+
+/// Whether a line is printed.
+fn prints(what: &What) -> bool
+    ensures { result ≡ is_printed what.now }
+{
+    matches!(what, What::Printed(_))
 }
 
 /// How many entries print a line.
 fn printed(entries: &[Entry]) -> usize
     ensures { result ≡ count_by (λ e. is_printed e.what) entries.now }
 {
-    entries
-        .iter()
-        .filter(|entry| matches!(entry.what, What::Printed(_)))
-        .count()
+    let mut count = 0;
+    for entry in entries {
+        if prints(&entry.what) {
+            count += 1;
+        }
+    }
+    count
+}
+
+/// Whether a body ends.
+fn ends(what: &What) -> bool
+    ensures { result ≡ is_ended what.now }
+{
+    matches!(what, What::Ended(_))
 }
 
 /// How many entries are ends of bodies.
 fn ended(entries: &[Entry]) -> usize
     ensures { result ≡ count_by (λ e. is_ended e.what) entries.now }
 {
-    entries
-        .iter()
-        .filter(|entry| matches!(entry.what, What::Ended(_)))
-        .count()
+    let mut count = 0;
+    for entry in entries {
+        if ends(&entry.what) {
+            count += 1;
+        }
+    }
+    count
 }

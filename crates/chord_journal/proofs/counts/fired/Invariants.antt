@@ -1,0 +1,7 @@
+use Rattle.std.proofs.Common.{◌≡◌, count_by, take}
+use Rattle.chord_base.specs.declared.event.Entry.{Entry}
+use Rattle.chord_journal.specs.Counts.{is_fired}
+use Rattle.chord_journal.proofs.counts.fired.Given as goal
+
+abbrev pub invariant-loop-entry : goal.invariant-loop-entry
+invariant-loop-entry l = l.count ≡ count_by (λ (e : Entry). is_fired e.what) (take l.entry-index l.entries)
