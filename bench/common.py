@@ -33,14 +33,29 @@ def user_seconds(command, source, wanted=None, runs=RUNS):
     return seconds
 
 
-def instructions(command, source, wanted=None):
-    """How many instructions a command takes on this standard input, by valgrind: the same in each run."""
-    with tempfile.TemporaryDirectory() as work:
-        ran = subprocess.run(['valgrind', '--tool=callgrind', f'--callgrind-out-file={work}/out', *command], input=source, stdout=subprocess.PIPE,
-                             stderr=subprocess.PIPE, check=False)
+def counted(command, source, wanted, file):
+    """How many instructions a command takes on this standard input, by valgrind, which writes its counts to this file."""
+    ran = subprocess.run(['valgrind', '--tool=callgrind', f'--callgrind-out-file={file}', *command], input=source, stdout=subprocess.PIPE,
+                         stderr=subprocess.PIPE, check=False)
     if wanted is not None:
         assert ran.stdout == wanted, f'{command} wrote {ran.stdout[:200]!r}, not {wanted[:200]!r}'
     return int(COUNTED.search(ran.stderr)[1])
+
+
+def instructions(command, source, wanted=None):
+    """How many instructions a command takes on this standard input, by valgrind: the same in each run."""
+    with tempfile.TemporaryDirectory() as work:
+        return counted(command, source, wanted, f'{work}/out')
+
+
+def instructions_without(function, command, source, wanted=None):
+    """The same without those of one function, which stands by itself in the program."""
+    with tempfile.TemporaryDirectory() as work:
+        every = counted(command, source, wanted, f'{work}/out')
+        listed = subprocess.run(['callgrind_annotate', '--threshold=100', f'{work}/out'], stdout=subprocess.PIPE, check=True).stdout.decode(errors='replace')
+    own = [int(line.split()[0].replace(',', '')) for line in listed.splitlines() if f'::{function}' in line]
+    assert own, f'{function} does not stand by itself'
+    return every - sum(own)
 
 
 def tell(name, ours, theirs, unit, aside=''):

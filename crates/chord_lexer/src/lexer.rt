@@ -64,6 +64,8 @@ fn read(alloc: Global, source: &[u8], text: &[u8]) -> Result<Vec<Token>, LexFaul
 /// `Memory` comes only for want of memory: for the list, for a name or for a literal.
 /// `Bad(k)` comes exactly where the source has a byte k, the bytes before it are a chain of tokens, blanks and
 /// comments, each as long as it can be in the whole text, and no token, blank or comment begins at k.
+// in its one caller, which is large, the loop would have too few registers
+#[inline(never)]
 pub fn lex(alloc: Global, bytes: &[u8]) -> Result<Vec<Token>, LexFault>
     requires { length bytes.now ≤ 1048576 }
     ensures read { IfOk result (λ tokens. IsRead bytes.now tokens.items) }
