@@ -104,6 +104,7 @@ impl<T: Drop> Hand<T> {
     }
 
     /// Takes the first item out. None exactly where there is none. The places behind the first empty one are not looked at.
+    #[inline(never)]
     pub fn take_first(&mut self) -> Option<T>
         ensures { MatchOption result ((self.old ≡ []) × (self.new ≡ [])) (λ item. self.old ≡ item ∷ self.new) }
     {

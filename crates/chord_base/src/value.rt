@@ -90,12 +90,13 @@ fn copies_of(alloc: Global, values: &[Value]) -> Result<Vec<Value>, AllocError>
     Ok(copies)
 }
 
-/// Copies of these values. One value asks for no memory.
+/// Copies of these values. Up to one value asks for no memory.
 #[inline(always)]
 fn stored_copies(alloc: Global, values: &[Value]) -> Result<Store, AllocError>
     ensures { IfOk result (λ store. values_in store ≡ values.now) }
 {
     match values {
+        [] => Ok(Store::Nothing),
         [value] => {
             let copy = value.copied(alloc)?;
             Ok(Store::One(copy))
