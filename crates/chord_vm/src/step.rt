@@ -476,6 +476,7 @@ fn next<'a>(parts: &'a Parts, frames: &Frames) -> &'a Instruction
 }
 
 /// Runs to the next ask, which is put.
+#[inline(never)]
 fn run(
     alloc: Global,
     parts: &Parts,
@@ -505,6 +506,29 @@ fn put(asked: Option<Ask>) -> Ask
         Some(ask) => ask,
         None => unreachable!(),
     }
+}
+
+/// Takes out the ask that was put.
+#[inline(always)]
+pub fn take_ask(asked: &mut Option<Ask>) -> Ask
+    requires { asked.old ≢ None }
+    ensures { asked.old ≡ Some result }
+{
+    put(mem::replace(asked, None))
+}
+
+/// Runs to the next ask, which is put where the caller wants it. Where no memory is found, the frames can only be dropped.
+#[inline(always)]
+pub fn advance_to(
+    alloc: Global,
+    code: &Code,
+    frames: &mut Frames,
+    asked: &mut Option<Ask>,
+) -> Result<(), AllocError>
+    requires sound { ComesToAsk code.now (machine_of frames.old) }
+    ensures { OnOk result ((ask : Ask) × (asked.new ≡ Some ask) × Advanced code.now (machine_of frames.old) ask frames.new) }
+{
+    run(alloc, code.parts(), frames, asked)
 }
 
 /// Runs to the next ask. Where no memory is found, the frames can only be dropped.
