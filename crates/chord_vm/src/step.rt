@@ -539,10 +539,11 @@ fn run(
     requires sound { ComesToAsk parts.now (machine_of frames.old) }
     ensures { OnOk result ((ask : Ask) × (asked.new ≡ Some ask) × Advanced parts.now (machine_of frames.old) ask frames.new) }
 {
+    let mut instruction = next(parts, frames);
+    // the next instruction is fetched where the loop ends: each arm of the step goes there by itself, and no test stands between
     'steps: loop {
-        let instruction = next(parts, frames);
         match step(alloc, parts, frames, instruction, asked) {
-            After::Goes => {}
+            After::Goes => instruction = next(parts, frames),
             After::Asks => return Ok(()),
             After::Fails => return Err(AllocError),
         }
