@@ -29,4 +29,6 @@ mod texts;
 #[cfg(test)]
 mod tokens;
 #[cfg(test)]
+mod trees;
+#[cfg(test)]
 mod words;

@@ -3,7 +3,7 @@ use Rattle.std.specs.Prelude.{ℕ, ◌+◌, List, [], ◌∷◌, codes}
 use Rattle.chord_tree.specs.Tree.{ItemTree, LocalItem, StmtItem, MemberTree, ClassTree}
 use Rattle.chord_tree.specs.Terms.{Term, VariableTerm, LiteralTerm, NewTerm, CallTerm, NoTerms, MoreTerms}
 use Rattle.chord_tree.specs.Walk.{Used, Alone, Receiver, Spot, AtTerm, AtItem, AtMember}
-use Rattle.chord_tree.specs.Example.{named, give_item, buffer_chord, buffer_class, local_item, put_item, print_item, main_chord, main_class}
+use Rattle.chord_tests.specs.Example.{named, give_item, buffer_chord, buffer_class, local_item, put_item, print_item, main_chord, main_class}
 
 -- a body begins with the number of its class
 abbrev pub class_number : ℕ → ClassTree → MemberTree → ℕ
