@@ -20,6 +20,7 @@ use chord_match::Receive;
 use chord_space::Space;
 use chord_task::apart::Apart;
 use chord_task::args::Args;
+use chord_task::enclosed::Enclosed;
 use chord_task::parcel::{Parcel, packed};
 use chord_task::task::Task;
 
@@ -53,7 +54,7 @@ impl Receive<Parcel> for Unpacked {
 
     fn receive(&mut self, parcel: Parcel) {
         let Parcel { arguments, task } = parcel;
-        self.arguments.put(arguments);
+        self.arguments.put(arguments.into_args());
         match task {
             None => {}
             Some(task) => self.caller = first_of(self.caller.take(), Some(task)),
@@ -91,16 +92,6 @@ fn take_task(caller: Option<Apart<Task>>, spare: &mut Option<Apart<Task>>) -> Ap
     }
 }
 
-/// No arguments, held twice as others are.
-fn no_arguments() -> Args
-    ensures { result.second ≡ result.first }
-{
-    Args {
-        first: Values::none(),
-        second: Values::none(),
-    }
-}
-
 impl Worker {
     /// A body that has begun is played, if nothing else is; else it is posted with its task.
     fn take_on<G: Gate>(
@@ -126,7 +117,7 @@ impl Worker {
             self.task = Some(task);
             return;
         }
-        let parcel = packed(code, limits, no_arguments(), task);
+        let parcel = packed(code, limits, Enclosed::nothing(), task);
         space.post(&mut self.desk, number, parcel);
     }
 

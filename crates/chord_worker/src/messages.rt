@@ -21,7 +21,7 @@ use chord_base::value::{Object, Values};
 use chord_code::code::Code;
 use chord_space::{Desk, Space};
 use chord_task::apart::Apart;
-use chord_task::args::Args;
+use chord_task::enclosed::Enclosed;
 use chord_task::parcel::{Parcel, letter, packed};
 use chord_task::task::Task;
 use std::alloc::{AllocError, Global};
@@ -47,15 +47,6 @@ pub(crate) fn send_off(
     space.arm(desk, m);
 }
 
-/// A list of values, twice.
-fn doubled(alloc: Global, values: &Values) -> Result<Args, AllocError>
-    ensures { IfOk result (λ a. (a.first ≡ values.now) × (a.second ≡ values.now)) }
-{
-    let first = values.copied(alloc)?;
-    let second = values.copied(alloc)?;
-    Ok(Args { first, second })
-}
-
 /// What an asynchronous message goes with: its arguments, and no task.
 fn send_letter(
     space: &Space<Parcel>,
@@ -65,7 +56,7 @@ fn send_letter(
     m: u32,
     object: Object,
     method: u8,
-    held: Args,
+    held: Enclosed,
 )
     requires desk { IsDeskOf space.now desk.old }
     requires code { code.now ≡ space_code space.now }
@@ -92,7 +83,7 @@ fn send_task(
     m: u32,
     object: Object,
     method: u8,
-    held: Args,
+    held: Enclosed,
     task: Apart<Task>,
 )
     requires desk { IsDeskOf space.now desk.old }
@@ -143,7 +134,7 @@ impl Worker {
         ensures went { OnOk result (HasGoneOn (view self.old.desk).kept task self.new) }
         ensures plays { OnOk result (PlaysNext G.knows (view self.old.desk).kept task self.new) }
     {
-        let held = doubled(alloc, &arguments)?;
+        let held = Enclosed::doubled(alloc, &arguments)?;
         let what = What::Sent(object, method, arguments);
         let mut task = task;
         match draw_own(space, &mut self.desk, &mut task, &what) {
@@ -203,7 +194,7 @@ impl Worker {
         ensures went { OnOk result (HasGoneOn (view self.old.desk).kept task self.new) }
         ensures plays { OnOk result (PlaysNext G.knows (view self.old.desk).kept task self.new) }
     {
-        let held = doubled(alloc, &arguments)?;
+        let held = Enclosed::doubled(alloc, &arguments)?;
         let what = What::Called(object, method, arguments);
         let mut task = task;
         match draw_own(space, &mut self.desk, &mut task, &what) {
