@@ -1,7 +1,8 @@
 //! Messages are sent off with their parcels, and followed until somebody else minds them.
-ghost use Rattle.std.specs.Prelude.{◌≡◌, ◌≢◌, ◌<◌, ℕ, true, false, [], Some, None, IfOk, OnOk};
+ghost use Rattle.std.specs.Prelude.{◌≡◌, ◌≢◌, ◌⊎◌, ◌<◌, ℕ, true, false, [], Some, None, OnOk};
 ghost use Rattle.chord_base.specs.Story.{IsSound};
 ghost use Rattle.chord_base.specs.declared.event.What.TheVariants.{Sent, Called};
+ghost use Rattle.chord_base.specs.declared.value.Object.{Object as TheObject};
 ghost use Rattle.chord_rule.specs.Made.{key};
 ghost use Rattle.chord_space.specs.Desks.{view, heads, space_code, space_limits, program_of, IsDeskOf, IsSameDesk};
 ghost use Rattle.chord_space.specs.Gives.{MayLink};
@@ -47,13 +48,16 @@ pub(crate) fn send_off(
     space.arm(desk, m);
 }
 
-/// A list of values, twice.
-fn doubled(alloc: Global, values: &Values) -> Result<Args, AllocError>
-    ensures { IfOk result (λ a. (a.first ≡ values.now) × (a.second ≡ values.now)) }
+/// The arguments of a message that was drawn, with a copy of them.
+fn held_twice(what: What, second: Values) -> Args
+    requires { (o : TheObject) × (j : ℕ) × ((what ≡ Sent o j second) ⊎ (what ≡ Called o j second)) }
+    ensures { (result.first ≡ second) × (result.second ≡ second) }
 {
-    let first = values.copied(alloc)?;
-    let second = values.copied(alloc)?;
-    Ok(Args { first, second })
+    match what {
+        What::Sent(_, _, first) => Args { first, second },
+        What::Called(_, _, first) => Args { first, second },
+        _ => unreachable!(),
+    }
 }
 
 /// What an asynchronous message goes with: its arguments, and no task.
@@ -143,11 +147,12 @@ impl Worker {
         ensures went { OnOk result (HasGoneOn (view self.old.desk).kept task self.new) }
         ensures plays { OnOk result (PlaysNext G.knows (view self.old.desk).kept task self.new) }
     {
-        let held = doubled(alloc, &arguments)?;
+        let copy = arguments.copied(alloc)?;
         let what = What::Sent(object, method, arguments);
         let mut task = task;
         match draw_own(space, &mut self.desk, &mut task, &what) {
             Ok(number) => {
+                let held = held_twice(what, copy);
                 send_letter(
                     space,
                     &mut self.desk,
@@ -203,11 +208,12 @@ impl Worker {
         ensures went { OnOk result (HasGoneOn (view self.old.desk).kept task self.new) }
         ensures plays { OnOk result (PlaysNext G.knows (view self.old.desk).kept task self.new) }
     {
-        let held = doubled(alloc, &arguments)?;
+        let copy = arguments.copied(alloc)?;
         let what = What::Called(object, method, arguments);
         let mut task = task;
         match draw_own(space, &mut self.desk, &mut task, &what) {
             Ok(number) => {
+                let held = held_twice(what, copy);
                 send_task(
                     space,
                     &mut self.desk,
