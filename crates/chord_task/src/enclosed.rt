@@ -34,21 +34,33 @@ impl Enclosed {
         Enclosed { args: None }
     }
 
-    /// Copies of these values, twice.
+    /// A copy of these values, and room for the values themselves.
     ///
     /// # Errors
     ///
     /// `AllocError` where no memory is found.
-    pub fn doubled(alloc: Global, values: &Values) -> Result<Enclosed, AllocError>
-        ensures { IfOk result (λ e. (e.first ≡ values.now) × (e.second ≡ values.now)) }
+    pub fn copied(alloc: Global, values: &Values) -> Result<Enclosed, AllocError>
+        ensures { IfOk result (λ e. e.second ≡ values.now) }
     {
         if values.items().is_empty() {
             return Ok(Enclosed::nothing());
         }
-        let first = values.copied(alloc)?;
         let second = values.copied(alloc)?;
+        let first = Values::none();
         let args = Apart::new(alloc, Args { first, second })?;
         Ok(Enclosed { args: Some(args) })
+    }
+
+    /// The values that were copied join their copy. Takes no memory.
+    pub fn complete(&mut self, first: Values)
+        requires { self.old.second ≡ first }
+        ensures first { self.new.first ≡ first }
+        ensures second { self.new.second ≡ first }
+    {
+        match &mut self.args {
+            None => {}
+            Some(args) => args.value.first = first,
+        }
     }
 
     /// The arguments, whose memory is given back.

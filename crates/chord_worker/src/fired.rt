@@ -1,10 +1,11 @@
 //! The body of a firing begins: in the task of the caller that it serves, or in a new one.
-ghost use Rattle.std.specs.Prelude.{◌≡◌, ◌≢◌, ◌⊎◌, ℕ, ◌+◌, ◌≤◌, false, List, ◌++◌, length, None, Some};
+ghost use Rattle.std.specs.Prelude.{◌≡◌, ◌≢◌, ◌⊎◌, false, List, [], None, Some};
 ghost use Rattle.chord_base.specs.Story.{IsSound};
 ghost use Rattle.chord_rule.specs.declared.view.View.{View};
 ghost use Rattle.chord_space.specs.Desks.{view, space_code, space_limits, program_of, IsDeskOf};
+ghost use Rattle.chord_task.specs.declared.parcel.Parcel.{Parcel as TheParcel};
 ghost use Rattle.chord_task.specs.declared.task.Task.{Task as ATask};
-ghost use Rattle.chord_worker.specs.Beginning.{first_task, arguments_in, caller_or, HasBegun};
+ghost use Rattle.chord_worker.specs.Beginning.{first_of, caller_or, HasUnpacked, HasBegun};
 ghost use Rattle.chord_worker.specs.Firing.{HasFired};
 ghost use Rattle.chord_worker.specs.Resting.{IsAtRest, IsSameRole};
 ghost use Rattle.chord_worker.specs.Stepping.{HasTakenOn};
@@ -40,7 +41,7 @@ pub(crate) struct Unpacked {
 }
 
 /// The first of two tasks, or else the second.
-fn first_of(first: Option<Apart<Task>>, second: Option<Apart<Task>>) -> Option<Apart<Task>>
+fn either_task(first: Option<Apart<Task>>, second: Option<Apart<Task>>) -> Option<Apart<Task>>
     ensures { result ≡ first_of first second }
 {
     match first {
@@ -55,10 +56,7 @@ impl Receive<Parcel> for Unpacked {
     fn receive(&mut self, parcel: Parcel) {
         let Parcel { arguments, task } = parcel;
         self.arguments.put(arguments.into_args());
-        match task {
-            None => {}
-            Some(task) => self.caller = first_of(self.caller.take(), Some(task)),
-        }
+        self.caller = either_task(self.caller.take(), task);
     }
 }
 

@@ -1,7 +1,8 @@
 //! Messages are sent off with their parcels, and followed until somebody else minds them.
-ghost use Rattle.std.specs.Prelude.{◌≡◌, ◌≢◌, ◌<◌, ℕ, true, false, [], Some, None, IfOk, OnOk};
+ghost use Rattle.std.specs.Prelude.{◌≡◌, ◌≢◌, ◌⊎◌, ◌<◌, ℕ, true, false, [], Some, None, OnOk};
 ghost use Rattle.chord_base.specs.Story.{IsSound};
 ghost use Rattle.chord_base.specs.declared.event.What.TheVariants.{Sent, Called};
+ghost use Rattle.chord_base.specs.declared.value.Object.{Object as TheObject};
 ghost use Rattle.chord_rule.specs.Made.{key};
 ghost use Rattle.chord_space.specs.Desks.{view, heads, space_code, space_limits, program_of, IsDeskOf, IsSameDesk};
 ghost use Rattle.chord_space.specs.Gives.{MayLink};
@@ -45,6 +46,20 @@ pub(crate) fn send_off(
 {
     space.link(desk, m, object, method, parcel);
     space.arm(desk, m);
+}
+
+/// The arguments of a message that was drawn join their copy.
+fn held_twice(what: What, copy: Enclosed) -> Enclosed
+    requires { (o : TheObject) × (j : ℕ) × ((what ≡ Sent o j copy.second) ⊎ (what ≡ Called o j copy.second)) }
+    ensures { (result.first ≡ copy.second) × (result.second ≡ copy.second) }
+{
+    let mut held = copy;
+    match what {
+        What::Sent(_, _, first) => held.complete(first),
+        What::Called(_, _, first) => held.complete(first),
+        _ => unreachable!(),
+    }
+    held
 }
 
 /// What an asynchronous message goes with: its arguments, and no task.
@@ -134,11 +149,12 @@ impl Worker {
         ensures went { OnOk result (HasGoneOn (view self.old.desk).kept task self.new) }
         ensures plays { OnOk result (PlaysNext G.knows (view self.old.desk).kept task self.new) }
     {
-        let held = Enclosed::doubled(alloc, &arguments)?;
+        let copy = Enclosed::copied(alloc, &arguments)?;
         let what = What::Sent(object, method, arguments);
         let mut task = task;
         match draw_own(space, &mut self.desk, &mut task, &what) {
             Ok(number) => {
+                let held = held_twice(what, copy);
                 send_letter(
                     space,
                     &mut self.desk,
@@ -194,11 +210,12 @@ impl Worker {
         ensures went { OnOk result (HasGoneOn (view self.old.desk).kept task self.new) }
         ensures plays { OnOk result (PlaysNext G.knows (view self.old.desk).kept task self.new) }
     {
-        let held = Enclosed::doubled(alloc, &arguments)?;
+        let copy = Enclosed::copied(alloc, &arguments)?;
         let what = What::Called(object, method, arguments);
         let mut task = task;
         match draw_own(space, &mut self.desk, &mut task, &what) {
             Ok(number) => {
+                let held = held_twice(what, copy);
                 send_task(
                     space,
                     &mut self.desk,

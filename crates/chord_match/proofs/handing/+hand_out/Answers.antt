@@ -39,12 +39,15 @@ hand_out-requires g s c =
     λ κs o. (
       search rules,
       (
-        o,
+        o.0,
         (
-          c.consume-parcel.ensures.desk.0 ∙ c.requires.desk,
+          o.1,
           (
-            (r.0, m.1, r.2, t.fired.1, less),
-            (h.0 ++ q ∷ [], c.receive.ensures h.0 h.1, omega (arith, l, room, longer)),
+            c.consume-parcel.ensures.desk.0 ∙ c.requires.desk,
+            (
+              (r.0, m.1, r.2, t.fired.1, less),
+              (h.0 ++ q ∷ [], c.receive.ensures.received h.0 h.1, omega (arith, l, room, longer)),
+            ),
           ),
         ),
       ),
@@ -60,7 +63,7 @@ returns-in-Some-clause-handed g s c ps o js f us held t1 =
     let e = c.consume-parcel.ensures in let a = t.fired.0 in
     let is = e.taken a.claim a.there a.numbered in
     let less = consuming_less g.P.Carry.entries g.P.Carry.arguments (λ z. g.P.Carry.keeps_to z (space_code c.args.space.now) (space_limits c.args.space.now)) p n v (view c.consume-parcel.new.desk) o m.0 m.1 i c.in-Some.rest.now f us q word t is in
-    let h = c.hand_out.ensures.handed (ps ++ q ∷ []) o m.1 f t.fired.1 (c.receive.ensures ps held) less in (
+    let h = c.hand_out.ensures.handed (ps ++ q ∷ []) o m.1 f t.fired.1 (c.receive.ensures.received ps held) less in (
       q ∷ h.0,
       subst (g.H.Receive.holds c.hand_out.new.hand) (append_assoc ps (q ∷ []) h.0) h.1,
       subst (λ (z : List ℕ × List ℕ). Handed g.P.Carry.entries g.P.Carry.arguments (λ z. g.P.Carry.keeps_to z (space_code c.args.space.now) (space_limits c.args.space.now)) p v (view c.hand_out.new.desk) o z.0 z.1 f us (q ∷ h.0)) (λ k. (sym m.2 k, sym split.0 k))
