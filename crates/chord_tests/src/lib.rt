@@ -29,4 +29,6 @@ mod texts;
 #[cfg(test)]
 mod tokens;
 #[cfg(test)]
+mod validity;
+#[cfg(test)]
 mod words;
