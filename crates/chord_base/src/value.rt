@@ -1,7 +1,7 @@
 //! Values of the language, and lists of them.
 #![tactic(auto)]
 
-ghost use Rattle.std.specs.Prelude.{◌≡◌, ℕ, ◌+◌, ◌≤◌, List, [], ◌∷◌, ◌++◌, length, vec_len, vec_capacity, IfOk, OnOk};
+ghost use Rattle.std.specs.Prelude.{◌≡◌, ℕ, ◌+◌, ◌≤◌, List, [], ◌∷◌, ◌++◌, length, vec_len, vec_capacity, true, IfOk, OnOk};
 ghost use Rattle.chord_base.specs.Stores.{values_in};
 
 use crate::text::Text;
@@ -80,6 +80,7 @@ impl Model for Values {
 }
 
 /// Copies of these values.
+#[inline(never)]
 fn copies_of(alloc: Global, values: &[Value]) -> Result<Vec<Value>, AllocError>
     ensures { IfOk result (λ copies. copies.items ≡ values.now) }
 {
@@ -105,6 +106,29 @@ fn stored_copies(alloc: Global, values: &[Value]) -> Result<Store, AllocError>
             let copies = copies_of(alloc, values)?;
             Ok(Store::Several(copies))
         }
+    }
+}
+
+/// Whether there is none, in memory or in the list.
+#[inline(always)]
+fn is_nothing(store: &Store) -> bool
+    ensures { result ≡ true → store.now ≡ Store.Nothing }
+{
+    match store {
+        Store::Nothing => true,
+        _ => false,
+    }
+}
+
+/// Puts values where there are none: nothing is to be dropped there, which an assignment would look for.
+#[inline(always)]
+fn put_first(store: &mut Store, values: Store)
+    requires nothing { store.old ≡ Store.Nothing }
+    ensures put { store.new ≡ values }
+{
+    match mem::replace(store, values) {
+        Store::Nothing => {}
+        _ => unreachable!(),
     }
 }
 
@@ -224,17 +248,24 @@ impl Values {
         if more.is_empty() {
             return Ok(());
         }
-        match mem::replace(&mut self.values, Store::Nothing) {
-            Store::Nothing => {
-                self.values = stored_copies(alloc, more)?;
-                Ok(())
-            }
-            before => {
-                let copies = stored_copies(alloc, more)?;
-                self.values = Store::Several(stored_together(alloc, before, copies)?);
-                Ok(())
-            }
+        if is_nothing(&self.values) {
+            let copies = stored_copies(alloc, more)?;
+            put_first(&mut self.values, copies);
+            return Ok(());
         }
+        self.add_after(alloc, more)
+    }
+
+    /// Adds copies of these values after others. It stands apart, so that its places are not cleared for a list that has none before.
+    #[inline(never)]
+    fn add_after(&mut self, alloc: Global, more: &[Value]) -> Result<(), AllocError>
+        requires { length self.old + length more.now ≤ 64 }
+        ensures { OnOk result (self.new ≡ self.old ++ more.now) }
+    {
+        let before = mem::replace(&mut self.values, Store::Nothing);
+        let copies = stored_copies(alloc, more)?;
+        self.values = Store::Several(stored_together(alloc, before, copies)?);
+        Ok(())
     }
 
     /// Moves the values to the end of a list that has room for them. Takes no memory.

@@ -31,4 +31,6 @@ mod tokens;
 #[cfg(test)]
 mod trees;
 #[cfg(test)]
+mod validity;
+#[cfg(test)]
 mod words;
