@@ -26,8 +26,7 @@ returns-in-Ok-clause-minded g c = λ e.
 
 pub returns-in-Err-Lost-clause-again : goal.returns-in-Err-Lost-clause-again
 returns-in-Err-Lost-clause-again g c = λ e.
-    let x = c.in-Err-Lost in
-    let lost : IsMissedBy c.args.space.now.events (view c.args.self.now.desk) (view c.fire_to.new.desk) c.args.members.now c.args.nexts.now (a_miss.Lost x.field-0.field-0) = rw x.field-0-is at x.ensures.missed in
+    let lost = rw c.in-Err-Lost.field-0-is at c.in-Err-Lost.ensures.missed in
     still_minds c.args.space.now c.args.self.now (record c.args.self.now { desk = c.fire_to.new.desk }) _ _ c.requires.minds c.fire_to.ensures.desk refl (lost_looks _ _ lost.same)
 
 pub returns-in_ok-give_up-in-Err-Spent-clause-over : goal.returns-in_ok-give_up-in-Err-Spent-clause-over
@@ -44,8 +43,7 @@ returns-in_ok-give_up-in-Err-Spent-clause-over g c = λ e.
 
 pub returns-in-Err-Lost-clause-same : goal.returns-in-Err-Lost-clause-same
 returns-in-Err-Lost-clause-same g c = λ e.
-    let x = c.in-Err-Lost in
-    let lost : IsMissedBy c.args.space.now.events (view c.args.self.now.desk) (view c.fire_to.new.desk) c.args.members.now c.args.nexts.now (a_miss.Lost x.field-0.field-0) = rw x.field-0-is at x.ensures.missed in
+    let lost = rw c.in-Err-Lost.field-0-is at c.in-Err-Lost.ensures.missed in
     (refl, ap (λ (z : View). z.kept) lost.same)
 
 pub returns-in_ok-give_up-in-Err-Spent-clause-minded : goal.returns-in_ok-give_up-in-Err-Spent-clause-minded
