@@ -10,4 +10,4 @@ put-requires c =
     let same = ap length r.1.arguments_are in omega (arith, few, many, same)
 
 pub returns : goal.returns
-returns c = record { received = λ qs u. rw (c.put.ensures, c.either_task.ensures, c.take.ensures.value) (unpacked_more _ _ qs c.args.parcel u) }
+returns c = record { received = λ qs u. rw (c.put.ensures, c.into_args.ensures, c.either_task.ensures, c.take.ensures.value) (unpacked_more _ _ qs c.args.parcel u) }
