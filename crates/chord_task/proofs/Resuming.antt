@@ -1,6 +1,7 @@
 -- A body that a firing begins.
-use Rattle.std.proofs.Common.{◌≡◌, ℕ, ◌+◌, ◌-◌, ◌<◌, true, false, ◌==◌, List, [], ◌∷◌, ◌++◌, Option, Some, None, refl, sym, ap, ◌∙◌, subst, arith, Vec, Global}
-use Rattle.std.specs.Prelude.{reverse, slice_get, IsSome, Box}
+use Rattle.std.proofs.Common.{◌≡◌, ℕ, ◌+◌, ◌-◌, ◌<◌, true, false, ◌==◌, List, [], ◌∷◌, ◌++◌, append-nil, Option, Some, None, refl, sym, ap, ◌∙◌, subst, arith, Vec, Global}
+use Rattle.std.specs.Prelude.{reverse, option_to_list, slice_get, IsSome, Box}
+use Rattle.std.proofs.lemmas.List.{reverse-append}
 use Rattle.std.proofs.lemmas.Bool.{eq-eqb, ne_eqb}
 use Rattle.chord_base.specs.declared.value.Object.{Object}
 use Rattle.chord_base.specs.declared.value.Value.{Value}
@@ -40,6 +41,11 @@ use Rattle.chord_task.proofs.Tasks.{one_more, stack_at, task_at}
 abbrev pub with_top : Option Body → List Body → List Body
 with_top None bs = bs
 with_top (Some b) bs = b ∷ bs
+
+-- the body on top, if there is one, went below
+pub put_below : (o : Option Body) (bs cs : List Body) → cs ≡ bs ++ option_to_list o → reverse cs ≡ with_top o (reverse bs)
+put_below None bs cs e = ap reverse (e ∙ append-nil bs)
+put_below (Some b) bs cs e = ap reverse e ∙ reverse-append bs (b ∷ [])
 
 -- what is known of a body that a firing begins
 pub record Beginning (code : Parts) (limits : Limits) (h : List Entry) (top : Option Body) (bs : List Body) (n k : ℕ) (o : Object) (ms : List ℕ) (vs : List Value) : Type 0 where

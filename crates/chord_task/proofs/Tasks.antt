@@ -21,7 +21,7 @@ use Rattle.chord_task.specs.declared.body.Body.{Body}
 use Rattle.chord_task.specs.declared.task.Task.{Task}
 use Rattle.chord_task.specs.Stacks.{IsServedThere, IsTask, task_noted}
 use Rattle.chord_task.specs.Arguments.{MayBeList}
-use Rattle.chord_task.specs.Standing.{body_number, view_of, NextIs, IsTop, IsBodyStack, IsResumable, HasRoomIf, HasRoomFor, IsTaskOf, given_of, given_by, answer_of, MayAnswer, AnsweredWith, CalledBack, IsReadyFor, MayNote}
+use Rattle.chord_task.specs.Standing.{body_number, view_of, NextIs, IsParked, IsTop, IsBodyStack, IsResumable, HasRoomIf, HasRoomFor, IsTaskOf, given_of, given_by, answer_of, MayAnswer, AnsweredWith, CalledBack, IsReadyFor, MayNote}
 use Rattle.chord_task.proofs.Standing.{entry, noted_answer_fits}
 use Rattle.chord_task.proofs.Notes.{stack_view, gave_up, note_gave, note_last, note_end, back_top}
 
@@ -147,6 +147,10 @@ last_of below rest c e = ap reverse e ∙ reverse-append rest (c ∷ [])
 -- the last of the bodies below is the caller
 pub caller_at : (code : Parts) (limits : Limits) (t : Task) (rest : List Body) (b c : Body) → IsTaskOf code limits t → t.top ≡ Some b → t.below.items ≡ rest ++ c ∷ [] → IsBodyStack code limits (view_of t).past (Some b) (c ∷ reverse rest)
 caller_at code limits t rest b c k top e = subst (λ z. IsBodyStack code limits (view_of t).past (Some b) z) (last_of t.below.items rest c e) (stack_at code limits t b k top)
+
+-- the caller waits for a call
+pub caller_parked : (code : Parts) (limits : Limits) (t : Task) (rest : List Body) (b c : Body) → IsTaskOf code limits t → t.top ≡ Some b → t.below.items ≡ rest ++ c ∷ [] → (q : ℕ) × IsParked code limits (view_of t).past c q
+caller_parked code limits t rest b c k top e = (let s = caller_at code limits t rest b c k top e in (s.1.0.0, s.1.0.2))
 
 -- a body ends, and its caller goes on
 pub task_back : (code : Parts) (limits : Limits) (t : Task) (past : Vec Entry Global) (below : Vec Body Global) (ended : Option (Box Frames Global)) (b c c' : Body) (n : ℕ) (x y : End) → IsTaskOf code limits t → (may : MayNote code limits t n) → t.top ≡ Some b → b.next ≡ nexts.Ends x y → t.below.items ≡ below.items ++ c ∷ [] → CalledBack y c c' → past.items ≡ t.past.items ++ entry n b.number (Ended x) ∷ [] → IsTaskOf code limits (record { past = past; top = Some c'; below = below; spare = t.spare; ended = ended; values = t.values; limits = t.limits }) × task_noted (view_of t) n may.what (view_of (record { past = past; top = Some c'; below = below; spare = t.spare; ended = ended; values = t.values; limits = t.limits })) × (is_end may.what ≡ false → (view_of (record { past = past; top = Some c'; below = below; spare = t.spare; ended = ended; values = t.values; limits = t.limits })).top ≡ (view_of t).top)

@@ -10,7 +10,7 @@ use Rattle.chord_base.specs.Bodies.{doing}
 use Rattle.chord_base.specs.Printed.{is_end}
 use Rattle.chord_base.specs.Story.{AllBelow, IsDefined}
 use Rattle.chord_code.specs.declared.parts.Parts.{Parts}
-use Rattle.chord_code.specs.Machine.{ComesToAsk}
+use Rattle.chord_code.specs.Machine.{Machine, ComesToAsk}
 use Rattle.chord_code.specs.Fuel.{weight}
 use Rattle.chord_code.specs.Meaning.{IsAsked, code_program}
 use Rattle.chord_code.proofs.Asks.{run_asked}
@@ -77,6 +77,13 @@ pub runs_to_ask : (code : Parts) (limits : Limits) (t : Task) (b : Body) → IsT
 runs_to_ask code limits t b k r top =
     let e : b ≡ r.0 = same_body b r.0 (sym top ∙ r.1) in
     (may_run code limits t b k top (runs_ready t r)).0 (ap (λ (x : Body). x.next) e ∙ r.2)
+
+-- the frames came to the ask that was put
+pub ask_put : (code : Parts) (m : Machine) (o : Option Ask) (f : Frames) → ((a : Ask) × (o ≡ Some a) × Advanced code m a f) → (a : Ask) → o ≡ Some a → Advanced code m a f
+ask_put code m o f w a e =
+    let z : Some w.0 ≡ Some a = sym w.1 ∙ e in
+    let y : w.0 ≡ a = cc in
+    subst (λ x. Advanced code m x f) y w.2
 
 -- a body that has come to its ask, and has it
 pub has_asked : (code : Parts) (t : Task) (b : Body) (f : Box Frames Global) (a : Ask) → RunsOn t.top → t.top ≡ Some b → Advanced code (machine_of b.frames.value) a f.value → AskedBody code b (record { number = b.number; frames = f; next = (next_given a).0 })

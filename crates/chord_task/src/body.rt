@@ -1,18 +1,18 @@
 //! A body of a task: its frames, and what it does next.
 #![tactic(auto)]
 
-ghost use Rattle.std.specs.Prelude.{◌≡◌, ◌≢◌, IfOk, OnOk, Some, None};
+ghost use Rattle.std.specs.Prelude.{◌≡◌, ◌≢◌, ℕ, IfOk, OnOk, Some, None};
 ghost use Rattle.chord_code.specs.declared.awaited.Awaited.TheVariants as Awaited;
 ghost use Rattle.chord_code.specs.Machine.{with_answer, ComesToAsk};
 ghost use Rattle.chord_vm.specs.Frames.{machine_of, IsReady, what_of_ask};
-ghost use Rattle.chord_task.specs.Standing.{AskedBody, IsRunnable, MayAnswer, AnsweredWith, CalledBack, answer_of, given_of, HasRun, IsAskGiven, IsAnsweredByNote};
+ghost use Rattle.chord_task.specs.Standing.{GivenBy, AskedBody, IsRunnable, MayAnswer, AnsweredWith, CalledBack, answer_of, given_of, HasRun, IsAskGiven, IsAnsweredByNote};
 
-use chord_base::event::{End, Limits, Trap, What};
+use chord_base::event::{End, Trap, What};
 use chord_base::value::{Object, Value};
 use chord_code::code::Code;
 use chord_vm::ask::Ask;
 use chord_vm::frames::{Frames, answer};
-use chord_vm::step::advance;
+use chord_vm::step::{advance_to, take_ask};
 use std::alloc::{AllocError, Global};
 use std::mem;
 
@@ -53,18 +53,25 @@ pub(crate) fn put(place: &mut Next, next: Next)
     }
 }
 
+/// What a body does next whose call has ended. There is nothing to drop in place of its wait.
+#[inline(always)]
+fn put_after(place: &mut Next, next: Next)
+    requires waits { (q : ℕ) × (place.old ≡ Next.Waits q) }
+    ensures put { place.new ≡ next }
+{
+    match mem::replace(place, next) {
+        Next::Waits(_) => {}
+        _ => unreachable!(),
+    }
+}
+
 /// The body comes to its next ask.
-pub(crate) fn come_to_ask(
-    alloc: Global,
-    code: &Code,
-    body: &mut Body,
-    limits: &Limits,
-) -> Result<(), AllocError>
+pub(crate) fn come_to_ask(alloc: Global, code: &Code, body: &mut Body) -> Result<(), AllocError>
     requires { IsRunnable code.now body.old }
     ensures { OnOk result (AskedBody code.now body.old body.new) }
 {
     match body.next {
-        Next::Runs => run_on(alloc, code, body, limits),
+        Next::Runs => run_on(alloc, code, body),
         Next::Fails(trap) => {
             body.next = Next::Ends(End::Traps(trap), End::Traps(trap));
             Ok(())
@@ -75,31 +82,41 @@ pub(crate) fn come_to_ask(
     }
 }
 
+/// The body keeps its ask. Each arm writes on its own: what arms hand on is merged field by field, which takes longer than the rest of a turn.
+#[inline(always)]
+fn keep(alloc: Global, next: &mut Next, ask: Ask) -> Result<(), AllocError>
+    requires runs { next.old ≡ Next.Runs }
+    ensures { OnOk result (GivenBy (what_of_ask ask) next.new) }
+{
+    match ask {
+        Ask::Make(class) => put(next, Next::Gave(What::Made(class))),
+        Ask::Send(object, method, arguments) => {
+            let what = What::Sent(object, method, arguments);
+            put(next, Next::Gave(what));
+        }
+        Ask::Call(object, method, arguments) => {
+            let what = What::Called(object, method, arguments);
+            put(next, Next::Gave(what));
+        }
+        Ask::Print(text) => put(next, Next::Gave(What::Printed(text))),
+        Ask::End(first) => {
+            let second = first.copied(alloc)?;
+            put(next, Next::Ends(first, second));
+        }
+    }
+    Ok(())
+}
+
 /// The frames of the body run on to its next ask.
-fn run_on(alloc: Global, code: &Code, body: &mut Body, limits: &Limits) -> Result<(), AllocError>
+fn run_on(alloc: Global, code: &Code, body: &mut Body) -> Result<(), AllocError>
     requires asks { ComesToAsk code.now (machine_of body.old.frames.value) }
     requires runs { body.old.next ≡ Next.Runs }
     ensures number { body.new.number ≡ body.old.number }
     ensures asked { OnOk result (HasRun code.now body.old.frames.value body.new) }
 {
-    // each arm writes on its own: what arms hand on is merged field by field, which takes longer than the rest of a turn
-    match advance(alloc, code, &mut *body.frames, limits)? {
-        Ask::Make(class) => put(&mut body.next, Next::Gave(What::Made(class))),
-        Ask::Send(object, method, arguments) => {
-            let what = What::Sent(object, method, arguments);
-            put(&mut body.next, Next::Gave(what));
-        }
-        Ask::Call(object, method, arguments) => {
-            let what = What::Called(object, method, arguments);
-            put(&mut body.next, Next::Gave(what));
-        }
-        Ask::Print(text) => put(&mut body.next, Next::Gave(What::Printed(text))),
-        Ask::End(first) => {
-            let second = first.copied(alloc)?;
-            put(&mut body.next, Next::Ends(first, second));
-        }
-    }
-    Ok(())
+    let mut asked = None;
+    advance_to(alloc, code, &mut *body.frames, &mut asked)?;
+    keep(alloc, &mut body.next, take_ask(&mut asked))
 }
 
 /// The body gets its answer, so that it runs on.
@@ -138,14 +155,15 @@ pub(crate) fn note_ask(body: &mut Body, number: u32, what: &What)
 pub(crate) fn call_back(caller: &mut Body, end: End)
     requires ready { IsReady Awaited.ForValue caller.old.frames.value }
     requires awaited { caller.old.frames.value.awaited ≡ Awaited.ForValue }
+    requires waits { (q : ℕ) × (caller.old.next ≡ Next.Waits q) }
     ensures { CalledBack end caller.old caller.new }
 {
     match end {
         End::Gives(value) => {
             answer(&mut *caller.frames, value);
-            caller.next = Next::Runs;
+            put_after(&mut caller.next, Next::Runs);
         }
-        End::Traps(trap) => caller.next = Next::Fails(trap),
+        End::Traps(trap) => put_after(&mut caller.next, Next::Fails(trap)),
     }
 }
 

@@ -1,7 +1,7 @@
 //! A stack of bodies, each waiting for the one above it, and the entries that they made.
 #![tactic(auto)]
 
-ghost use Rattle.std.specs.Prelude.{◌≡◌, ◌≢◌, ℕ, ◌+◌, ◌-◌, ◌≤◌, List, [], ◌∷◌, ◌++◌, true, false, IfOk, OnOk, IfSome, Some, None, length, slice_get, is_none, option_copied, option_to_list, vec_len, vec_capacity, MatchOption, Box};
+ghost use Rattle.std.specs.Prelude.{◌≡◌, ◌≢◌, ℕ, ◌+◌, ◌-◌, ◌<◌, ◌≤◌, List, [], ◌∷◌, ◌++◌, true, false, IfOk, OnOk, IfSome, Some, None, length, slice_get, is_none, option_copied, option_to_list, vec_len, vec_capacity, MatchOption, Box};
 ghost use Rattle.chord_base.specs.declared.event.Limits.{Limits as TheLimits};
 ghost use Rattle.chord_base.specs.declared.event.What.{What as AWhat};
 ghost use Rattle.chord_base.specs.Printed.{is_end};
@@ -189,8 +189,27 @@ pub(crate) fn pop_caller(
     ensures capacity { vec_capacity below.new ≡ vec_capacity below.old }
     ensures cases { MatchOption top.new ((vec_len below.old ≡ 0) × (vec_len below.new ≡ 0)) (λ _. vec_len below.new + 1 ≡ vec_len below.old) }
 {
-    let caller = below.pop();
-    *ended = frames_of(mem::replace(top, caller));
+    match below.pop() {
+        None => *ended = frames_of(mem::replace(top, None)),
+        Some(caller) => *ended = frames_of(mem::replace(top, Some(caller))),
+    }
+}
+
+/// Puts a body that runs on top, for which there is room. It stands apart, since the place of a body is cleared in a function that makes one.
+#[inline(never)]
+fn put_on_top(top: &mut Option<Body>, below: &mut Vec<Body>, number: u32, frames: Box<Frames>)
+    requires room { vec_len below.old < vec_capacity below.old }
+    ensures top { top.new ≡ Some (record { number = number; frames = frames; next = Next.Runs }) }
+    ensures below { below.new.items ≡ below.old.items ++ option_to_list top.old }
+{
+    let body = Body {
+        number,
+        frames,
+        next: Next::Runs,
+    };
+    if let Some(caller) = mem::replace(top, Some(body)) {
+        below.push_reserved(caller);
+    }
 }
 
 /// Room for the answer of the body on top.
@@ -277,7 +296,7 @@ impl Task {
         match &mut self.top {
             None => unreachable!(),
             Some(body) => {
-                come_to_ask(alloc, code, body, limits)?;
+                come_to_ask(alloc, code, body)?;
                 given(alloc, &body.next)
             }
         }
@@ -294,7 +313,7 @@ impl Task {
     {
         match &mut self.top {
             None => unreachable!(),
-            Some(body) => come_to_ask(alloc, code, body, limits),
+            Some(body) => come_to_ask(alloc, code, body),
         }
     }
 
@@ -400,14 +419,7 @@ impl Task {
                     body: number,
                     what: What::Fired(chord, object, members.copied(), parts.entry),
                 });
-                let body = Body {
-                    number,
-                    frames,
-                    next: Next::Runs,
-                };
-                if let Some(caller) = mem::replace(&mut self.top, Some(body)) {
-                    self.below.push_reserved(caller);
-                }
+                put_on_top(&mut self.top, &mut self.below, number, frames);
             }
         }
     }
@@ -456,14 +468,7 @@ impl Task {
         match self.spare.take() {
             None => unreachable!(),
             Some(frames) => {
-                let body = Body {
-                    number,
-                    frames,
-                    next: Next::Runs,
-                };
-                if let Some(caller) = mem::replace(&mut self.top, Some(body)) {
-                    self.below.push_reserved(caller);
-                }
+                put_on_top(&mut self.top, &mut self.below, number, frames);
             }
         }
         Ok(())

@@ -1,7 +1,7 @@
 //! A turn of a task: its next ask becomes an entry.
 #![tactic(auto)]
 
-ghost use Rattle.std.specs.Prelude.{◌≡◌, ◌<◌, ◌+◌, ◌++◌, ◌∷◌, [], IfOk, true, vec_len, vec_capacity};
+ghost use Rattle.std.specs.Prelude.{◌≡◌, ◌≢◌, ◌<◌, ◌+◌, ◌++◌, ◌∷◌, [], IfOk, None, Some, true, vec_len, vec_capacity};
 ghost use Rattle.chord_code.specs.Meaning.{code_program};
 ghost use Rattle.chord_vm.specs.Frames.{what_of_ask};
 ghost use Rattle.chord_task.specs.Standing.{view_of, IsTaskOf, is_ready_of, given_by};
@@ -14,7 +14,7 @@ use chord_base::value::{Object, Value};
 use chord_code::code::Code;
 use chord_vm::ask::Ask;
 use chord_vm::frames::answer;
-use chord_vm::step::advance;
+use chord_vm::step::{advance_to, take_ask};
 use std::alloc::{AllocError, Global};
 
 /// Adds an entry, for which there is room.
@@ -125,23 +125,25 @@ impl Task {
         match &mut self.top {
             None => unreachable!(),
             Some(body) => {
-                let ask = advance(alloc, code, &mut *body.frames, limits)?;
-                self.settle(alloc, code, number, ask)
+                let mut asked = None;
+                advance_to(alloc, code, &mut *body.frames, &mut asked)?;
+                self.settle(alloc, code, number, &mut asked)
             }
         }
     }
 
-    /// The ask to which the frames of the body on top came becomes the entry of this number.
+    /// The ask to which the frames of the body on top came becomes the entry of this number. It is taken out where there is room for it.
     fn settle(
         &mut self,
         alloc: Global,
         code: &Code,
         number: u32,
-        ask: Ask,
+        asked: &mut Option<Ask>,
     ) -> Result<Option<(Object, u8)>, AllocError>
-        requires asked { IsAskedFor code.now self.old (what_of_ask ask) }
-        requires may { MaySettle code.now self.old number (what_of_ask ask) }
-        ensures { IfOk result (λ sent. HasSettled code.now self.old number (what_of_ask ask) self.new × (sent ≡ sent_to (what_of_ask ask))) }
+        requires some { asked.old ≢ None }
+        requires asked { (a : Ask) → asked.old ≡ Some a → IsAskedFor code.now self.old (what_of_ask a) }
+        requires may { (a : Ask) → asked.old ≡ Some a → MaySettle code.now self.old number (what_of_ask a) }
+        ensures { IfOk result (λ sent. (a : Ask) × (asked.old ≡ Some a) × HasSettled code.now self.old number (what_of_ask a) self.new × (sent ≡ sent_to (what_of_ask a))) }
     {
         self.take_room(alloc, code)?;
         match &mut self.top {
@@ -149,7 +151,7 @@ impl Task {
             Some(body) => {
                 let maker = body.number;
                 let past = &mut self.past;
-                match ask {
+                match take_ask(asked) {
                     Ask::Make(class) => {
                         answer(&mut *body.frames, Value::Ref(Object { number, class }));
                         append(past, number, maker, What::Made(class));

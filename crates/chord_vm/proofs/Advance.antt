@@ -1,5 +1,5 @@
 -- From one instruction to the next ask.
-use Rattle.std.proofs.Common.{◌≡◌, ℕ, zero, suc, ◌<◌, Bool, true, false, List, [], ◌∷◌, Option, Some, None, length, get_or, refl, sym, ◌∙◌, ap, arith, ⊎_elim}
+use Rattle.std.proofs.Common.{◌≡◌, ℕ, zero, suc, ◌<◌, List, [], ◌∷◌, Option, Some, None, length, get_or, refl, sym, ◌∙◌, ap, arith, ⊎_elim}
 use Rattle.std.specs.Prelude.{slice_get}
 use Rattle.std.proofs.lemmas.Option.{slice_get_past}
 use Rattle.std.proofs.lemmas.Bool.{cases_lt}
@@ -12,7 +12,9 @@ use Rattle.chord_code.specs.declared.parts.Block.{Block}
 use Rattle.chord_code.specs.declared.parts.Parts.{Parts}
 use Rattle.chord_vm.specs.declared.frames.Frames.{Frames}
 use Rattle.chord_code.specs.Machine.{Machine, Waiting, Did, Goes, Asking, Bad, instr_in, fetch, act, step, goes_on, run, ComesTo, ComesToAsk}
-use Rattle.chord_vm.specs.Frames.{machine_of, waiting_of, SteppedTo, WentOn, Advanced}
+use Rattle.chord_vm.specs.Frames.{machine_of, waiting_of, SteppedTo, HasStepped, Advanced}
+use Rattle.chord_vm.specs.declared.step.After.{After}
+use Rattle.chord_vm.specs.declared.step.After.TheVariants as steps
 
 -- a machine that runs to an ask has an instruction that is defined
 comes_good : (code : Parts) (m : Machine) (a : What) (w : Waiting) (n : ℕ) → run code n m ≡ Asking a w → step code m ≡ Bad → ⊥
@@ -57,16 +59,18 @@ stepped_advanced code m (ask.Send o j xs) f h = now code m (Sent o j xs) (waitin
 stepped_advanced code m (ask.Call o j xs) f h = now code m (Called o j xs) (waiting_of f) h
 stepped_advanced code m (ask.Print v) f h = now code m (Printed v) (waiting_of f) h
 
--- after an instruction that does not go on, an ask was put
-pub put_ask : (d : Did) (b : Bool) (o : Option Ask) (f : Frames) → b ≡ false → WentOn d b o f → (a : Ask) × (o ≡ Some a) × SteppedTo d (Some a) f
-put_ask d true o f e h = cc
-put_ask d false None f e h = absurd h
-put_ask d false (Some a) f e h = (a, refl, h)
+-- after an instruction that comes to an ask, it was put
+pub put_ask : (d : Did) (s : After) (o : Option Ask) (f : Frames) → s ≡ steps.Asks → HasStepped d s o f → (a : Ask) × (o ≡ Some a) × SteppedTo d (Some a) f
+put_ask d steps.Goes o f e h = cc
+put_ask d steps.Fails o f e h = cc
+put_ask d steps.Asks None f e h = absurd h
+put_ask d steps.Asks (Some a) f e h = (a, refl, h)
 
 -- an instruction that goes on comes to the machine of the frames
-pub went_to : (d : Did) (b : Bool) (o : Option Ask) (f : Frames) → b ≡ true → WentOn d b o f → d ≡ Goes (machine_of f)
-went_to d true o f e h = h
-went_to d false o f e h = cc
+pub went_to : (d : Did) (s : After) (o : Option Ask) (f : Frames) → s ≡ steps.Goes → HasStepped d s o f → d ≡ Goes (machine_of f)
+went_to d steps.Goes o f e h = h
+went_to d steps.Fails o f e h = cc
+went_to d steps.Asks o f e h = cc
 
 -- after an instruction that goes on, what the machine comes to is what it came to before
 pub advanced_on : (code : Parts) (m m' : Machine) (a : Ask) (f : Frames) → step code m ≡ Goes m' → Advanced code m' a f → Advanced code m a f

@@ -1,9 +1,11 @@
 -- What the frames of a body stand for.
-use Rattle.std.specs.Prelude.{◌≡◌, ◌<◌, ◌≤◌, Bool, true, false, vec_len, vec_capacity, ℕ, List, [], ◌∷◌, ◌++◌, Option, Some, None, map, reverse, slice_get}
+use Rattle.std.specs.Prelude.{◌≡◌, ◌<◌, ◌≤◌, vec_len, vec_capacity, ℕ, List, [], ◌∷◌, ◌++◌, Option, Some, None, map, reverse, slice_get}
 use Rattle.chord_vm.specs.declared.frames.Frame as declared_frame
 use Rattle.chord_vm.specs.declared.frames.Frames.{Frames}
 use Rattle.chord_vm.specs.declared.ask.Ask.{Ask}
 use Rattle.chord_vm.specs.declared.ask.Ask.TheVariants as ask
+use Rattle.chord_vm.specs.declared.step.After.{After}
+use Rattle.chord_vm.specs.declared.step.After.TheVariants as steps
 use Rattle.chord_base.specs.declared.value.Value.{Value}
 use Rattle.chord_base.specs.declared.event.What.{What}
 use Rattle.chord_base.specs.declared.event.What.TheVariants.{Made, Sent, Called, Printed, Ended}
@@ -42,10 +44,11 @@ SteppedTo d (Some (ask.Send o j xs)) f = d ≡ Asking (Sent o j xs) (waiting_of 
 SteppedTo d (Some (ask.Call o j xs)) f = d ≡ Asking (Called o j xs) (waiting_of f)
 SteppedTo d (Some (ask.Print t)) f = d ≡ Asking (Printed t) (waiting_of f)
 
--- after one instruction the body goes on, or its ask was put
-abbrev pub WentOn : Did → Bool → Option Ask → Frames → Type 0
-WentOn d true asked f = d ≡ Goes (machine_of f)
-WentOn d false asked f = SteppedTo d asked f
+-- after one instruction the body goes on, or its ask was put, or no memory was found
+abbrev pub HasStepped : Did → After → Option Ask → Frames → Type 0
+HasStepped d steps.Goes asked f = d ≡ Goes (machine_of f)
+HasStepped d steps.Asks asked f = SteppedTo d asked f
+HasStepped d steps.Fails asked f = Unit {0}
 
 -- the frame at another place, with another stack and other slots
 abbrev pub frame_with : Frame → ℕ → List Value → List Value → Frame

@@ -1,12 +1,14 @@
 //! The instructions of a block at work.
 #![tactic(auto)]
 
-ghost use Rattle.std.specs.Prelude.{◌≡◌, ◌≢◌, ℕ, suc, ◌+◌, ◌^◌, ◌<◌, ◌≤◌, Bool, false, List, [], ◌∷◌, IfOk, OnOk, Some, None, length, slice_get, vec_len, vec_capacity};
+ghost use Rattle.std.specs.Prelude.{◌≡◌, ◌≢◌, ℕ, suc, ◌+◌, ◌^◌, ◌<◌, ◌≤◌, Bool, false, List, [], ◌∷◌, Option, IfOk, OnOk, Some, None, length, slice_get, vec_len, vec_capacity};
 ghost use Rattle.chord_base.specs.Operators.{Computed, Is, Trapped, Mistyped, compute as compute_of, text_of, negated, denied, IsComputed};
 ghost use Rattle.chord_code.specs.Valid.{IsValid};
 ghost use Rattle.chord_code.specs.Within.{IsInstructionWithin};
 ghost use Rattle.chord_code.specs.Machine.{Did, Goes, Asking, Bad, act, operate as operate_of, negates, denies, skips, again as again_of, if_deeper, makes_object, builder_of, init_by, fetch, ComesToAsk, loads, store_top, pops, pop_top, goes_back, send_by, call_by, print_top, end_with};
-ghost use Rattle.chord_vm.specs.Frames.{shown_frame, machine_of, WentOn, frame_with, Advanced, IsMoved};
+ghost use Rattle.chord_vm.specs.Frames.{shown_frame, machine_of, HasStepped, frame_with, Advanced, IsMoved};
+ghost use Rattle.chord_vm.specs.declared.frames.Frames.{Frames as TheFrames};
+ghost use Rattle.chord_vm.specs.declared.ask.Ask.{Ask as AnAsk};
 
 use crate::ask::Ask;
 use crate::frames::{Frame, Frames, fill, move_last};
@@ -21,9 +23,26 @@ use chord_code::parts::Parts;
 use std::alloc::{AllocError, Global};
 use std::mem;
 
-/// Whether the body goes on after an instruction. Where it does not, its ask was put beside: an ask is large, and is moved once in a while, and not with
-/// each instruction.
-type Step = Result<bool, AllocError>;
+/// What comes after an instruction. It is one byte, so that each arm of the machine's loop goes straight on.
+enum After {
+    /// The body goes on.
+    Goes,
+    /// Its ask was put beside: an ask is large, and is moved once in a while, and not with each instruction.
+    Asks,
+    /// No memory was found.
+    Fails,
+}
+
+/// The body goes on, if memory was found.
+#[inline(always)]
+fn went(done: Result<(), AllocError>) -> After
+    ensures { (d : Did) (f : TheFrames) (asked : Option AnAsk) → OnOk done (d ≡ Goes (machine_of f)) → HasStepped d result asked f }
+{
+    match done {
+        Ok(()) => After::Goes,
+        Err(_) => After::Fails,
+    }
+}
 
 /// Pushes a value, and goes to the next instruction.
 #[inline(always)]
@@ -46,18 +65,13 @@ fn take(frame: &mut Frame) -> Value
 }
 
 /// Pops values, so many, and gives them in the order in which they were pushed.
+#[inline(never)]
 fn take_all(alloc: Global, frame: &mut Frame, n: usize) -> Result<Values, AllocError>
     requires few { n ≤ 8 }
     requires some { pops n [] (shown_frame frame.old).stack ≢ None }
     ensures values { IfOk result (λ xs. pops n [] (shown_frame frame.old).stack ≡ Some (xs, (shown_frame frame.new).stack)) }
     ensures rest { IfOk result (λ xs. shown_frame frame.new ≡ frame_with (shown_frame frame.old) frame.old.place (shown_frame frame.new).stack (shown_frame frame.old).slots) }
 {
-    if n == 0 {
-        return Ok(Values::none());
-    }
-    if n == 1 {
-        return Ok(Values::one(take(frame)));
-    }
     let mut xs = Vec::with_capacity(alloc, n)?;
     move_last(&mut frame.stack, &mut xs, n);
     Ok(Values::of_items(xs))
@@ -71,21 +85,21 @@ fn step(
     frames: &mut Frames,
     instruction: &Instruction,
     asked: &mut Option<Ask>,
-) -> Step
+) -> After
     requires fits { frames.old.top.place + 1 < 2 ^ 64 }
     requires within { IsInstructionWithin instruction.now }
     requires sound { act parts.now (Some instruction.now) (machine_of frames.old) ≢ Bad }
-    ensures { IfOk result (λ goes_on. WentOn (act parts.now (Some instruction.now) (machine_of frames.old)) goes_on asked.new frames.new) }
+    ensures { HasStepped (act parts.now (Some instruction.now) (machine_of frames.old)) result asked.new frames.new }
 {
     match instruction {
-        Instruction::Int(number) => push_value(frames, Value::Int(*number))?,
-        Instruction::Flag(flag) => push_value(frames, Value::Flag(*flag))?,
-        Instruction::Text(text) => push_text(alloc, frames, text)?,
-        Instruction::Load(slot) => load(alloc, frames, *slot as usize)?,
+        Instruction::Int(number) => return went(push_value(frames, Value::Int(*number))),
+        Instruction::Flag(flag) => return went(push_value(frames, Value::Flag(*flag))),
+        Instruction::Text(text) => return went(push_text(alloc, frames, text)),
+        Instruction::Load(slot) => return went(load(alloc, frames, *slot as usize)),
         Instruction::Store(slot) => store(frames, *slot as usize),
         Instruction::Drop => drop_top(frames),
-        Instruction::Neg => negated_top(frames)?,
-        Instruction::Not => denied_top(frames)?,
+        Instruction::Neg => return went(negated_top(frames)),
+        Instruction::Not => return went(denied_top(frames)),
         Instruction::Add => return operate(alloc, frames, Operation::Add, asked),
         Instruction::Sub => return operate(alloc, frames, Operation::Subtract, asked),
         Instruction::Mul => return operate(alloc, frames, Operation::Multiply, asked),
@@ -102,7 +116,7 @@ fn step(
         Instruction::Skip(to) => skip(frames, *to as usize),
         Instruction::Again(to) => return again(frames, *to as usize, asked),
         Instruction::New(class, n) => return make(parts, frames, *class, *n, asked),
-        Instruction::Init(class) => init(alloc, parts, frames, *class)?,
+        Instruction::Init(class) => return went(init(alloc, parts, frames, *class)),
         Instruction::Send(method, n) => return send(alloc, frames, *method, *n as usize, asked),
         Instruction::Call(method, n) => return call(alloc, frames, *method, *n as usize, asked),
         Instruction::Print => return print(alloc, frames, asked),
@@ -110,7 +124,7 @@ fn step(
         Instruction::Endv => return end_with_top(frames, asked),
         Instruction::Back => back(frames),
     }
-    Ok(true)
+    After::Goes
 }
 
 /// Puts an ask where there is none. There is nothing to drop in its place, which an assignment would look for.
@@ -123,31 +137,31 @@ fn put_ask(asked: &mut Option<Ask>, ask: Ask)
 
 /// A trap ends the body.
 #[inline(never)]
-fn ends_by(trap: Trap, asked: &mut Option<Ask>) -> Step
-    ensures { IfOk result (λ goes_on. (goes_on ≡ false) × (asked.new ≡ Some (Ask.End (End.Traps trap)))) }
+fn ends_by(trap: Trap, asked: &mut Option<Ask>) -> After
+    ensures { (result ≡ After.Asks) × (asked.new ≡ Some (Ask.End (End.Traps trap))) }
 {
     put_ask(asked, Ask::End(End::Traps(trap)));
-    Ok(false)
+    After::Asks
 }
 
 /// `end`.
 #[inline(never)]
-fn end(asked: &mut Option<Ask>) -> Step
-    ensures { IfOk result (λ goes_on. (goes_on ≡ false) × (asked.new ≡ Some (Ask.End (End.Gives Value.Unit)))) }
+fn end(asked: &mut Option<Ask>) -> After
+    ensures { (result ≡ After.Asks) × (asked.new ≡ Some (Ask.End (End.Gives Value.Unit))) }
 {
     put_ask(asked, Ask::End(End::Gives(Value::Unit)));
-    Ok(false)
+    After::Asks
 }
 
 /// `endv`.
 #[inline(never)]
-fn end_with_top(frames: &mut Frames, asked: &mut Option<Ask>) -> Step
+fn end_with_top(frames: &mut Frames, asked: &mut Option<Ask>) -> After
     requires sound { end_with (machine_of frames.old) (machine_of frames.old).top.stack ≢ Bad }
-    ensures { IfOk result (λ goes_on. WentOn (end_with (machine_of frames.old) (machine_of frames.old).top.stack) goes_on asked.new frames.new) }
+    ensures { HasStepped (end_with (machine_of frames.old) (machine_of frames.old).top.stack) result asked.new frames.new }
 {
     let value = take(&mut frames.top);
     put_ask(asked, Ask::End(End::Gives(value)));
-    Ok(false)
+    After::Asks
 }
 
 /// `text`.
@@ -224,17 +238,19 @@ fn into_text(alloc: Global, value: Value) -> Result<Text, AllocError>
 
 /// `print`.
 #[inline(never)]
-fn print(alloc: Global, frames: &mut Frames, asked: &mut Option<Ask>) -> Step
+fn print(alloc: Global, frames: &mut Frames, asked: &mut Option<Ask>) -> After
     requires fits { frames.old.top.place + 1 < 2 ^ 64 }
     requires sound { print_top (machine_of frames.old) (machine_of frames.old).top.stack ≢ Bad }
-    ensures { IfOk result (λ goes_on. WentOn (print_top (machine_of frames.old) (machine_of frames.old).top.stack) goes_on asked.new frames.new) }
+    ensures { HasStepped (print_top (machine_of frames.old) (machine_of frames.old).top.stack) result asked.new frames.new }
 {
     let value = take(&mut frames.top);
-    let text = into_text(alloc, value)?;
+    let Ok(text) = into_text(alloc, value) else {
+        return After::Fails;
+    };
     frames.top.place += 1;
     frames.awaited = Awaited::ForNothing;
     put_ask(asked, Ask::Print(text));
-    Ok(false)
+    After::Asks
 }
 
 /// A copy of a value that may be a text is pushed.
@@ -293,19 +309,17 @@ fn operate(
     frames: &mut Frames,
     operation: Operation,
     asked: &mut Option<Ask>,
-) -> Step
+) -> After
     requires fits { frames.old.top.place + 1 < 2 ^ 64 }
     requires sound { operate_of operation (machine_of frames.old) (machine_of frames.old).top.stack ≢ Bad }
-    ensures { IfOk result (λ goes_on. WentOn (operate_of operation (machine_of frames.old) (machine_of frames.old).top.stack) goes_on asked.new frames.new) }
+    ensures { HasStepped (operate_of operation (machine_of frames.old) (machine_of frames.old).top.stack) result asked.new frames.new }
 {
     let right = take(&mut frames.top);
     let left = take(&mut frames.top);
-    match compute(alloc, operation, left, right)? {
-        Ok(value) => {
-            push(&mut frames.top, value)?;
-            Ok(true)
-        }
-        Err(trap) => ends_by(trap, asked),
+    match compute(alloc, operation, left, right) {
+        Ok(Ok(value)) => went(push(&mut frames.top, value)),
+        Ok(Err(trap)) => ends_by(trap, asked),
+        Err(_) => After::Fails,
     }
 }
 
@@ -325,10 +339,10 @@ fn skip(frames: &mut Frames, to: usize)
 
 /// `again`.
 #[inline(always)]
-fn again(frames: &mut Frames, to: usize, asked: &mut Option<Ask>) -> Step
+fn again(frames: &mut Frames, to: usize, asked: &mut Option<Ask>) -> After
     requires fits { frames.old.top.place + 1 < 2 ^ 64 }
     requires sound { again_of to (machine_of frames.old) (machine_of frames.old).top.stack ≢ Bad }
-    ensures { IfOk result (λ goes_on. WentOn (again_of to (machine_of frames.old) (machine_of frames.old).top.stack) goes_on asked.new frames.new) }
+    ensures { HasStepped (again_of to (machine_of frames.old) (machine_of frames.old).top.stack) result asked.new frames.new }
 {
     match take(&mut frames.top) {
         Value::Flag(true) => {
@@ -337,46 +351,63 @@ fn again(frames: &mut Frames, to: usize, asked: &mut Option<Ask>) -> Step
             } else {
                 frames.turns -= 1;
                 frames.top.place = to;
-                Ok(true)
+                After::Goes
             }
         }
         Value::Flag(false) => {
             frames.top.place += 1;
-            Ok(true)
+            After::Goes
         }
         _ => unreachable!(),
     }
 }
 
-/// `send`.
-#[inline(never)]
-fn send(alloc: Global, frames: &mut Frames, method: u8, n: usize, asked: &mut Option<Ask>) -> Step
-    requires few { n ≤ 8 }
+/// A message to the receiver, which stands on top.
+#[inline(always)]
+fn send_to(frames: &mut Frames, method: u8, arguments: Values, asked: &mut Option<Ask>) -> After
     requires fits { frames.old.top.place + 1 < 2 ^ 64 }
-    requires sound { send_by method (machine_of frames.old) (pops n [] (machine_of frames.old).top.stack) ≢ Bad }
-    ensures { IfOk result (λ goes_on. WentOn (send_by method (machine_of frames.old) (pops n [] (machine_of frames.old).top.stack)) goes_on asked.new frames.new) }
+    requires sound { send_by method (machine_of frames.old) (Some (arguments, (machine_of frames.old).top.stack)) ≢ Bad }
+    ensures { HasStepped (send_by method (machine_of frames.old) (Some (arguments, (machine_of frames.old).top.stack))) result asked.new frames.new }
 {
-    let arguments = take_all(alloc, &mut frames.top, n)?;
     match take(&mut frames.top) {
         Value::Ref(object) => {
             frames.top.place += 1;
             frames.awaited = Awaited::ForNothing;
             put_ask(asked, Ask::Send(object, method, arguments));
-            Ok(false)
+            After::Asks
         }
         _ => unreachable!(),
     }
 }
 
-/// `call`. The operands are looked at before the depth.
+/// `send`. Each number of arguments goes its own way to the end, since lists that ways hand on are merged field by field.
 #[inline(never)]
-fn call(alloc: Global, frames: &mut Frames, method: u8, n: usize, asked: &mut Option<Ask>) -> Step
+fn send(alloc: Global, frames: &mut Frames, method: u8, n: usize, asked: &mut Option<Ask>) -> After
     requires few { n ≤ 8 }
     requires fits { frames.old.top.place + 1 < 2 ^ 64 }
-    requires sound { call_by method (machine_of frames.old) (pops n [] (machine_of frames.old).top.stack) ≢ Bad }
-    ensures { IfOk result (λ goes_on. WentOn (call_by method (machine_of frames.old) (pops n [] (machine_of frames.old).top.stack)) goes_on asked.new frames.new) }
+    requires sound { send_by method (machine_of frames.old) (pops n [] (machine_of frames.old).top.stack) ≢ Bad }
+    ensures { HasStepped (send_by method (machine_of frames.old) (pops n [] (machine_of frames.old).top.stack)) result asked.new frames.new }
 {
-    let arguments = take_all(alloc, &mut frames.top, n)?;
+    if n == 0 {
+        return send_to(frames, method, Values::none(), asked);
+    }
+    if n == 1 {
+        let argument = take(&mut frames.top);
+        return send_to(frames, method, Values::one(argument), asked);
+    }
+    let Ok(arguments) = take_all(alloc, &mut frames.top, n) else {
+        return After::Fails;
+    };
+    send_to(frames, method, arguments, asked)
+}
+
+/// A call of the receiver, which stands on top. It is looked at before the depth.
+#[inline(always)]
+fn call_of(frames: &mut Frames, method: u8, arguments: Values, asked: &mut Option<Ask>) -> After
+    requires fits { frames.old.top.place + 1 < 2 ^ 64 }
+    requires sound { call_by method (machine_of frames.old) (Some (arguments, (machine_of frames.old).top.stack)) ≢ Bad }
+    ensures { HasStepped (call_by method (machine_of frames.old) (Some (arguments, (machine_of frames.old).top.stack))) result asked.new frames.new }
+{
     match take(&mut frames.top) {
         Value::Ref(object) => {
             if frames.top.room == 0 {
@@ -385,18 +416,39 @@ fn call(alloc: Global, frames: &mut Frames, method: u8, n: usize, asked: &mut Op
             frames.top.place += 1;
             frames.awaited = Awaited::ForValue;
             put_ask(asked, Ask::Call(object, method, arguments));
-            Ok(false)
+            After::Asks
         }
         _ => unreachable!(),
     }
 }
 
+/// `call`. The operands are looked at before the depth.
+#[inline(never)]
+fn call(alloc: Global, frames: &mut Frames, method: u8, n: usize, asked: &mut Option<Ask>) -> After
+    requires few { n ≤ 8 }
+    requires fits { frames.old.top.place + 1 < 2 ^ 64 }
+    requires sound { call_by method (machine_of frames.old) (pops n [] (machine_of frames.old).top.stack) ≢ Bad }
+    ensures { HasStepped (call_by method (machine_of frames.old) (pops n [] (machine_of frames.old).top.stack)) result asked.new frames.new }
+{
+    if n == 0 {
+        return call_of(frames, method, Values::none(), asked);
+    }
+    if n == 1 {
+        let argument = take(&mut frames.top);
+        return call_of(frames, method, Values::one(argument), asked);
+    }
+    let Ok(arguments) = take_all(alloc, &mut frames.top, n) else {
+        return After::Fails;
+    };
+    call_of(frames, method, arguments, asked)
+}
+
 /// `new`. The arguments stay on the stack until the object is there.
 #[inline(never)]
-fn make(parts: &Parts, frames: &mut Frames, class: u16, n: u32, asked: &mut Option<Ask>) -> Step
+fn make(parts: &Parts, frames: &mut Frames, class: u16, n: u32, asked: &mut Option<Ask>) -> After
     requires fits { frames.old.top.place + 1 < 2 ^ 64 }
     requires sound { if_deeper frames.old.top.room (machine_of frames.old) (makes_object class n (machine_of frames.old) (builder_of parts.now class)) ≢ Bad }
-    ensures { IfOk result (λ goes_on. WentOn (if_deeper frames.old.top.room (machine_of frames.old) (makes_object class n (machine_of frames.old) (builder_of parts.now class))) goes_on asked.new frames.new) }
+    ensures { HasStepped (if_deeper frames.old.top.room (machine_of frames.old) (makes_object class n (machine_of frames.old) (builder_of parts.now class))) result asked.new frames.new }
 {
     if frames.top.room == 0 {
         return ends_by(Trap::TooDeep, asked);
@@ -408,7 +460,7 @@ fn make(parts: &Parts, frames: &mut Frames, class: u16, n: u32, asked: &mut Opti
     frames.top.place += 1;
     frames.awaited = Awaited::ForObject(builder, n);
     put_ask(asked, Ask::Make(class));
-    Ok(false)
+    After::Asks
 }
 
 /// `init`: the builder of the base class begins.
@@ -476,6 +528,7 @@ fn next<'a>(parts: &'a Parts, frames: &Frames) -> &'a Instruction
 }
 
 /// Runs to the next ask, which is put.
+#[inline(never)]
 fn run(
     alloc: Global,
     parts: &Parts,
@@ -486,11 +539,12 @@ fn run(
     requires sound { ComesToAsk parts.now (machine_of frames.old) }
     ensures { OnOk result ((ask : Ask) × (asked.new ≡ Some ask) × Advanced parts.now (machine_of frames.old) ask frames.new) }
 {
-    loop {
+    'steps: loop {
         let instruction = next(parts, frames);
-        let goes_on = step(alloc, parts, frames, instruction, asked)?;
-        if !goes_on {
-            return Ok(());
+        match step(alloc, parts, frames, instruction, asked) {
+            After::Goes => {}
+            After::Asks => return Ok(()),
+            After::Fails => return Err(AllocError),
         }
     }
 }
@@ -505,6 +559,29 @@ fn put(asked: Option<Ask>) -> Ask
         Some(ask) => ask,
         None => unreachable!(),
     }
+}
+
+/// Takes out the ask that was put.
+#[inline(always)]
+pub fn take_ask(asked: &mut Option<Ask>) -> Ask
+    requires { asked.old ≢ None }
+    ensures { asked.old ≡ Some result }
+{
+    put(mem::replace(asked, None))
+}
+
+/// Runs to the next ask, which is put where the caller wants it. Where no memory is found, the frames can only be dropped.
+#[inline(always)]
+pub fn advance_to(
+    alloc: Global,
+    code: &Code,
+    frames: &mut Frames,
+    asked: &mut Option<Ask>,
+) -> Result<(), AllocError>
+    requires sound { ComesToAsk code.now (machine_of frames.old) }
+    ensures { OnOk result ((ask : Ask) × (asked.new ≡ Some ask) × Advanced code.now (machine_of frames.old) ask frames.new) }
+{
+    run(alloc, code.parts(), frames, asked)
 }
 
 /// Runs to the next ask. Where no memory is found, the frames can only be dropped.

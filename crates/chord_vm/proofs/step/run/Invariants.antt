@@ -5,11 +5,11 @@ use Rattle.chord_vm.specs.declared.frames.Frames.{Frames}
 use Rattle.chord_code.specs.Fuel.{weight}
 use Rattle.chord_vm.proofs.step.run.Given as goal
 
-abbrev pub invariant-loop-goes_on : goal.invariant-loop-goes_on
-invariant-loop-goes_on l = record {
+abbrev pub invariant-steps : goal.invariant-steps
+invariant-steps l = record {
   defined : ComesToAsk l.parts (machine_of l.frames);
   goes_on : (a : Ask) (f : Frames) → Advanced l.parts (machine_of l.frames) a f → Advanced l.parts (machine_of l.initial.frames) a f;
 }
 
-abbrev pub decreases-loop-goes_on : goal.decreases-loop-goes_on
-decreases-loop-goes_on l = weight l.parts (machine_of l.frames)
+abbrev pub decreases-steps : goal.decreases-steps
+decreases-steps l = weight l.parts (machine_of l.frames)

@@ -8,7 +8,7 @@ use Rattle.chord_code.specs.declared.parts.ChordLine.{ChordLine}
 use Rattle.chord_vm.specs.Frames.{IsRoomFor, machine_of}
 use Rattle.chord_vm.specs.declared.frames.Frames.{Frames}
 use Rattle.chord_task.specs.Standing.{room_of}
-use Rattle.chord_task.proofs.Resuming.{opening, task_resumed, spacious_at, with_top, begun_with}
+use Rattle.chord_task.proofs.Resuming.{opening, task_resumed, spacious_at, put_below, begun_with}
 use Rattle.chord_task.proofs.task.Task.resume_with.Goals as goal
 
 pub line_of-requires : goal.line_of-requires
@@ -47,8 +47,8 @@ begin_with-requires-clause-space c =
     (subst (IsRoomFor c.args.code.now) (sym c.deref_mut.ensures.value) (subst (λ (x : Box Frames Global). IsRoomFor c.args.code.now x.value) f r.room.room))
     (ap (λ (x : ChordLine). body_in_block c.args.code.now x.block (room_of limits c.args.self.now.top) (a_value.Ref c.args.object ∷ vs) limits.turns) (sym l) ∙ o.starts)
 
-pub returns-in-Some-replace-clause-task : goal.returns-in-Some-replace-clause-task
-returns-in-Some-replace-clause-task c =
+pub returns-clause-task : goal.returns-clause-task
+returns-clause-task c =
     let limits = c.args.self.now.limits in
     let vs = c.args.values in
     let r = c.requires.may.room in
@@ -58,23 +58,6 @@ returns-in-Some-replace-clause-task c =
     let begun = rw c.items.ensures.values at c.in_ok-begin_with-in-Some.ensures in
     let z : Some c.begin_with.new.frames ≡ Some c.in-Some-take.frames.value = ap (λ (o : Option (Box Frames Global)). option_map (λ (x : Box Frames Global). x.value) o) (sym c.take.ensures.value ∙ c.in-Some-take.is) in
     let g : c.begin_with.new.frames ≡ c.in-Some-take.frames.value = cc in
-    let top : c.args.self.now.top ≡ Some c.in-Some-replace.caller = sym c.replace.ensures.value ∙ c.in-Some-replace.is in
-    let bodies = ap reverse c.push_reserved-in-Some-replace.ensures.items ∙ reverse-append c.args.self.now.below.items (c.in-Some-replace.caller ∷ []) ∙ ap (λ x. with_top x (reverse c.args.self.now.below.items)) (sym top) in
-    rw (c.replace.ensures.after, c.take.ensures.after)
-    (task_resumed c.args.code.now limits c.args.self.now c.push_reserved.new.self c.push_reserved-in-Some-replace.new.self c.args.self.now.values c.args.number c.args.chord c.args.object c.args.members vs c.in-Some-take.frames c.line_of.result.now c.requires.task.kept_values c.requires.task c.requires.may c.line_of.ensures (sym same ∙ begun ∙ ap (λ (x : Frames). Some (machine_of x)) g) c.push_reserved.ensures.items bodies)
-
-pub returns-in_default-clause-task : goal.returns-in_default-clause-task
-returns-in_default-clause-task c =
-    let limits = c.args.self.now.limits in
-    let vs = c.args.values in
-    let r = c.requires.may.room in
-    let y : Some r.frames ≡ Some c.in-Some.frames = sym r.spare ∙ c.in-Some.is in
-    let f : r.frames ≡ c.in-Some.frames = cc in
-    let same = begun_with c.args.code.now limits c.deref_mut.result.now.limits c.line_of.result.now.block c.depth_over-depth.result (room_of limits c.args.self.now.top) (a_value.Ref c.args.object) vs (ap (λ (x : Frames). x.limits) c.deref_mut.ensures.value ∙ ap (λ (x : Box Frames Global). x.value.limits) (sym f) ∙ r.room.limited) (c.depth_over-depth.ensures limits refl) in
-    let begun = rw c.items.ensures.values at c.in_ok-begin_with-in-Some.ensures in
-    let z : Some c.begin_with.new.frames ≡ Some c.in-Some-take.frames.value = ap (λ (o : Option (Box Frames Global)). option_map (λ (x : Box Frames Global). x.value) o) (sym c.take.ensures.value ∙ c.in-Some-take.is) in
-    let g : c.begin_with.new.frames ≡ c.in-Some-take.frames.value = cc in
-    let top : c.args.self.now.top ≡ None = sym c.replace.ensures.value ∙ c.in_default.is in
-    let bodies = ap (λ x. with_top x (reverse c.args.self.now.below.items)) (sym top) in
-    rw (c.replace.ensures.after, c.take.ensures.after)
-    (task_resumed c.args.code.now limits c.args.self.now c.push_reserved.new.self c.args.self.now.below c.args.self.now.values c.args.number c.args.chord c.args.object c.args.members vs c.in-Some-take.frames c.line_of.result.now c.requires.task.kept_values c.requires.task c.requires.may c.line_of.ensures (sym same ∙ begun ∙ ap (λ (x : Frames). Some (machine_of x)) g) c.push_reserved.ensures.items bodies)
+    let bodies = put_below c.args.self.now.top c.args.self.now.below.items c.put_on_top.new.below.items c.put_on_top.ensures.below in
+    rw (c.put_on_top.ensures.top, c.take.ensures.after)
+    (task_resumed c.args.code.now limits c.args.self.now c.push_reserved.new.self c.put_on_top.new.below c.args.self.now.values c.args.number c.args.chord c.args.object c.args.members vs c.in-Some-take.frames c.line_of.result.now c.requires.task.kept_values c.requires.task c.requires.may c.line_of.ensures (sym same ∙ begun ∙ ap (λ (x : Frames). Some (machine_of x)) g) c.push_reserved.ensures.items bodies)

@@ -9,22 +9,24 @@ use Rattle.chord_task.specs.declared.body.Body.{Body}
 use Rattle.chord_task.specs.declared.body.Next.TheVariants as nexts
 use Rattle.chord_task.specs.Standing.{GivenBy, CalledBack}
 use Rattle.chord_task.specs.Turning.{sent_to}
-use Rattle.chord_task.proofs.Tasks.{no_length}
-use Rattle.chord_task.proofs.Turning.{roomy, roomy_fits, roomy_asked, settled_gave, settled_back, settled_last}
+use Rattle.chord_task.proofs.Tasks.{no_length, caller_parked}
+use Rattle.chord_task.proofs.Turning.{with_body, with_next, roomy, roomy_fits, roomy_asked, settled_gave, settled_back, settled_last}
 use Rattle.chord_task.proofs.task.Task.settle.Goals as goal
 
 pub answer-requires-clause-fits : goal.answer-requires-clause-fits
 answer-requires-clause-fits c =
-    let x = roomy c.args.code.now c.args.self.now c.take_room.new.self c.args.number (what_of_ask c.args.ask) c.in-Some.body c.requires.asked c.requires.may c.take_room.ensures.past c.take_room.ensures.below c.take_room.ensures.top c.take_room.ensures.spare c.take_room.ensures.values c.take_room.ensures.limits c.in_ok-take_room.ensures.ready c.in-Some.is in
+    let x = roomy c.args.code.now c.args.self.now c.take_room.new.self c.args.number (what_of_ask c.take_ask.result) c.in-Some.body (c.requires.asked c.take_ask.result c.take_ask.ensures) (c.requires.may c.take_ask.result c.take_ask.ensures) c.take_room.ensures.past c.take_room.ensures.below c.take_room.ensures.top c.take_room.ensures.spare c.take_room.ensures.values c.take_room.ensures.limits c.in_ok-take_room.ensures.ready c.in-Some.is in
     let g : x.asked ≡ nexts.Gave (Made c.in-Make.class) = subst (λ a. GivenBy (what_of_ask a) x.asked) c.in-Make.is x.given in
     subst (λ (f : Frames). with_answer (machine_of f) f.awaited (a_value.Ref (record { number = c.args.number; class = c.in-Make.class })) ≡ None → ⊥) (sym c.deref_mut.ensures.value)
-    (roomy_fits c.args.code.now c.args.self.now c.take_room.new.self c.args.number (what_of_ask c.args.ask) c.in-Some.body x (Made c.in-Make.class) g).1
+    (roomy_fits c.args.code.now c.args.self.now c.take_room.new.self c.args.number (what_of_ask c.take_ask.result) c.in-Some.body x (Made c.in-Make.class) g).1
 
 pub returns-in-Make : goal.returns-in-Make
 returns-in-Make c =
-    let x = roomy c.args.code.now c.args.self.now c.take_room.new.self c.args.number (what_of_ask c.args.ask) c.in-Some.body c.requires.asked c.requires.may c.take_room.ensures.past c.take_room.ensures.below c.take_room.ensures.top c.take_room.ensures.spare c.take_room.ensures.values c.take_room.ensures.limits c.in_ok-take_room.ensures.ready c.in-Some.is in
+    let x = roomy c.args.code.now c.args.self.now c.take_room.new.self c.args.number (what_of_ask c.take_ask.result) c.in-Some.body (c.requires.asked c.take_ask.result c.take_ask.ensures) (c.requires.may c.take_ask.result c.take_ask.ensures) c.take_room.ensures.past c.take_room.ensures.below c.take_room.ensures.top c.take_room.ensures.spare c.take_room.ensures.values c.take_room.ensures.limits c.in_ok-take_room.ensures.ready c.in-Some.is in
     let g : x.asked ≡ nexts.Gave (Made c.in-Make.class) = subst (λ a. GivenBy (what_of_ask a) x.asked) c.in-Make.is x.given in (
-      settled_gave c.args.code.now c.args.self.now c.take_room.new.self c.args.number (what_of_ask c.args.ask) c.in-Some.body x (Made c.in-Make.class) g c.append.new.past _ refl
+      c.take_ask.result,
+      c.take_ask.ensures,
+      settled_gave c.args.code.now c.args.self.now c.take_room.new.self c.args.number (what_of_ask c.take_ask.result) c.in-Some.body x (Made c.in-Make.class) g c.append.new.past _ refl
           (x.runs, subst (λ (f : Frames). with_answer (machine_of f) f.awaited (a_value.Ref (record { number = c.args.number; class = c.in-Make.class })) ≡ Some (machine_of c.answer.new.frames)) c.deref_mut.ensures.value c.answer.ensures)
           c.append.ensures.items c.append.ensures.len c.append.ensures.capacity,
       sym (ap (λ a. sent_to (what_of_ask a)) c.in-Make.is),
@@ -32,48 +34,85 @@ returns-in-Make c =
 
 pub returns-in-Send : goal.returns-in-Send
 returns-in-Send c =
-    let x = roomy c.args.code.now c.args.self.now c.take_room.new.self c.args.number (what_of_ask c.args.ask) c.in-Some.body c.requires.asked c.requires.may c.take_room.ensures.past c.take_room.ensures.below c.take_room.ensures.top c.take_room.ensures.spare c.take_room.ensures.values c.take_room.ensures.limits c.in_ok-take_room.ensures.ready c.in-Some.is in
+    let x = roomy c.args.code.now c.args.self.now c.take_room.new.self c.args.number (what_of_ask c.take_ask.result) c.in-Some.body (c.requires.asked c.take_ask.result c.take_ask.ensures) (c.requires.may c.take_ask.result c.take_ask.ensures) c.take_room.ensures.past c.take_room.ensures.below c.take_room.ensures.top c.take_room.ensures.spare c.take_room.ensures.values c.take_room.ensures.limits c.in_ok-take_room.ensures.ready c.in-Some.is in
     let g : x.asked ≡ nexts.Gave (Sent c.in-Send.object c.in-Send.method c.in-Send.arguments) = subst (λ a. GivenBy (what_of_ask a) x.asked) c.in-Send.is x.given in (
-      settled_gave c.args.code.now c.args.self.now c.take_room.new.self c.args.number (what_of_ask c.args.ask) c.in-Some.body x (Sent c.in-Send.object c.in-Send.method c.in-Send.arguments) g c.append-in-Send.new.past _ refl
-          (x.runs, ap (λ p. with_answer (machine_of c.in-Some.body.frames.value) p a_value.Unit) (roomy_asked c.args.code.now c.args.self.now c.take_room.new.self c.args.number (what_of_ask c.args.ask) c.in-Some.body x (Sent c.in-Send.object c.in-Send.method c.in-Send.arguments) g))
+      c.take_ask.result,
+      c.take_ask.ensures,
+      settled_gave c.args.code.now c.args.self.now c.take_room.new.self c.args.number (what_of_ask c.take_ask.result) c.in-Some.body x (Sent c.in-Send.object c.in-Send.method c.in-Send.arguments) g c.append-in-Send.new.past _ refl
+          (x.runs, ap (λ p. with_answer (machine_of c.in-Some.body.frames.value) p a_value.Unit) (roomy_asked c.args.code.now c.args.self.now c.take_room.new.self c.args.number (what_of_ask c.take_ask.result) c.in-Some.body x (Sent c.in-Send.object c.in-Send.method c.in-Send.arguments) g))
           c.append-in-Send.ensures.items c.append-in-Send.ensures.len c.append-in-Send.ensures.capacity,
       sym (ap (λ a. sent_to (what_of_ask a)) c.in-Send.is),
     )
 
 pub returns-in-Print : goal.returns-in-Print
 returns-in-Print c =
-    let x = roomy c.args.code.now c.args.self.now c.take_room.new.self c.args.number (what_of_ask c.args.ask) c.in-Some.body c.requires.asked c.requires.may c.take_room.ensures.past c.take_room.ensures.below c.take_room.ensures.top c.take_room.ensures.spare c.take_room.ensures.values c.take_room.ensures.limits c.in_ok-take_room.ensures.ready c.in-Some.is in
+    let x = roomy c.args.code.now c.args.self.now c.take_room.new.self c.args.number (what_of_ask c.take_ask.result) c.in-Some.body (c.requires.asked c.take_ask.result c.take_ask.ensures) (c.requires.may c.take_ask.result c.take_ask.ensures) c.take_room.ensures.past c.take_room.ensures.below c.take_room.ensures.top c.take_room.ensures.spare c.take_room.ensures.values c.take_room.ensures.limits c.in_ok-take_room.ensures.ready c.in-Some.is in
     let g : x.asked ≡ nexts.Gave (Printed c.in-Print.text) = subst (λ a. GivenBy (what_of_ask a) x.asked) c.in-Print.is x.given in (
-      settled_gave c.args.code.now c.args.self.now c.take_room.new.self c.args.number (what_of_ask c.args.ask) c.in-Some.body x (Printed c.in-Print.text) g c.append-in-Print.new.past _ refl
-          (x.runs, ap (λ p. with_answer (machine_of c.in-Some.body.frames.value) p a_value.Unit) (roomy_asked c.args.code.now c.args.self.now c.take_room.new.self c.args.number (what_of_ask c.args.ask) c.in-Some.body x (Printed c.in-Print.text) g))
+      c.take_ask.result,
+      c.take_ask.ensures,
+      settled_gave c.args.code.now c.args.self.now c.take_room.new.self c.args.number (what_of_ask c.take_ask.result) c.in-Some.body x (Printed c.in-Print.text) g c.append-in-Print.new.past _ refl
+          (x.runs, ap (λ p. with_answer (machine_of c.in-Some.body.frames.value) p a_value.Unit) (roomy_asked c.args.code.now c.args.self.now c.take_room.new.self c.args.number (what_of_ask c.take_ask.result) c.in-Some.body x (Printed c.in-Print.text) g))
           c.append-in-Print.ensures.items c.append-in-Print.ensures.len c.append-in-Print.ensures.capacity,
       sym (ap (λ a. sent_to (what_of_ask a)) c.in-Print.is),
     )
 
 pub returns-in-Call : goal.returns-in-Call
 returns-in-Call c =
-    let x = roomy c.args.code.now c.args.self.now c.take_room.new.self c.args.number (what_of_ask c.args.ask) c.in-Some.body c.requires.asked c.requires.may c.take_room.ensures.past c.take_room.ensures.below c.take_room.ensures.top c.take_room.ensures.spare c.take_room.ensures.values c.take_room.ensures.limits c.in_ok-take_room.ensures.ready c.in-Some.is in
+    let x = roomy c.args.code.now c.args.self.now c.take_room.new.self c.args.number (what_of_ask c.take_ask.result) c.in-Some.body (c.requires.asked c.take_ask.result c.take_ask.ensures) (c.requires.may c.take_ask.result c.take_ask.ensures) c.take_room.ensures.past c.take_room.ensures.below c.take_room.ensures.top c.take_room.ensures.spare c.take_room.ensures.values c.take_room.ensures.limits c.in_ok-take_room.ensures.ready c.in-Some.is in
     let g : x.asked ≡ nexts.Gave (Called c.in-Call.object c.in-Call.method c.in-Call.arguments) = subst (λ a. GivenBy (what_of_ask a) x.asked) c.in-Call.is x.given in
-    (settled_gave c.args.code.now c.args.self.now c.take_room.new.self c.args.number (what_of_ask c.args.ask) c.in-Some.body x (Called c.in-Call.object c.in-Call.method c.in-Call.arguments) g c.append-in-Call.new.past _ refl (c.put.ensures.put, refl) c.append-in-Call.ensures.items c.append-in-Call.ensures.len c.append-in-Call.ensures.capacity, sym (ap (λ a. sent_to (what_of_ask a)) c.in-Call.is))
+    (c.take_ask.result, c.take_ask.ensures, settled_gave c.args.code.now c.args.self.now c.take_room.new.self c.args.number (what_of_ask c.take_ask.result) c.in-Some.body x (Called c.in-Call.object c.in-Call.method c.in-Call.arguments) g c.append-in-Call.new.past _ refl (c.put.ensures.put, refl) c.append-in-Call.ensures.items c.append-in-Call.ensures.len c.append-in-Call.ensures.capacity, sym (ap (λ a. sent_to (what_of_ask a)) c.in-Call.is))
 
 pub returns-in-Some-top : goal.returns-in-Some-top
 returns-in-Some-top c =
-    let x = roomy c.args.code.now c.args.self.now c.take_room.new.self c.args.number (what_of_ask c.args.ask) c.in-Some.body c.requires.asked c.requires.may c.take_room.ensures.past c.take_room.ensures.below c.take_room.ensures.top c.take_room.ensures.spare c.take_room.ensures.values c.take_room.ensures.limits c.in_ok-take_room.ensures.ready c.in-Some.is in
+    let x = roomy c.args.code.now c.args.self.now c.take_room.new.self c.args.number (what_of_ask c.take_ask.result) c.in-Some.body (c.requires.asked c.take_ask.result c.take_ask.ensures) (c.requires.may c.take_ask.result c.take_ask.ensures) c.take_room.ensures.past c.take_room.ensures.below c.take_room.ensures.top c.take_room.ensures.spare c.take_room.ensures.values c.take_room.ensures.limits c.in_ok-take_room.ensures.ready c.in-Some.is in
     let y = c.in-End.first in
     let g : x.asked ≡ nexts.Ends y y = subst (λ a. GivenBy (what_of_ask a) x.asked) c.in-End.is x.given in
     let parts = c.pop_caller.ensures.items ∙ ap (λ (o : Option Body). c.pop_caller.new.below.items ++ option_to_list o) c.in-Some-top.is in (
-      settled_back c.args.code.now c.args.self.now c.take_room.new.self c.args.number (what_of_ask c.args.ask) c.in-Some.body x y g c.append-in-End.new.past c.pop_caller.new.below c.pop_caller.new.ended c.in-Some-top.caller c.call_back.new.caller parts
+      c.take_ask.result,
+      c.take_ask.ensures,
+      settled_back c.args.code.now c.args.self.now c.take_room.new.self c.args.number (what_of_ask c.take_ask.result) c.in-Some.body x y g c.append-in-End.new.past c.pop_caller.new.below c.pop_caller.new.ended c.in-Some-top.caller c.call_back.new.caller parts
           (subst (λ z. CalledBack z c.in-Some-top.caller c.call_back.new.caller) c.in_ok-second-in-End.ensures c.call_back.ensures) c.append-in-End.ensures.items,
       sym (ap (λ a. sent_to (what_of_ask a)) c.in-End.is),
     )
 
 pub returns-in-None-top : goal.returns-in-None-top
 returns-in-None-top c =
-    let x = roomy c.args.code.now c.args.self.now c.take_room.new.self c.args.number (what_of_ask c.args.ask) c.in-Some.body c.requires.asked c.requires.may c.take_room.ensures.past c.take_room.ensures.below c.take_room.ensures.top c.take_room.ensures.spare c.take_room.ensures.values c.take_room.ensures.limits c.in_ok-take_room.ensures.ready c.in-Some.is in
+    let x = roomy c.args.code.now c.args.self.now c.take_room.new.self c.args.number (what_of_ask c.take_ask.result) c.in-Some.body (c.requires.asked c.take_ask.result c.take_ask.ensures) (c.requires.may c.take_ask.result c.take_ask.ensures) c.take_room.ensures.past c.take_room.ensures.below c.take_room.ensures.top c.take_room.ensures.spare c.take_room.ensures.values c.take_room.ensures.limits c.in_ok-take_room.ensures.ready c.in-Some.is in
     let y = c.in-End.first in
     let g : x.asked ≡ nexts.Ends y y = subst (λ a. GivenBy (what_of_ask a) x.asked) c.in-End.is x.given in
     let s = c.take_room.new.self in
     let cases = subst (λ (o : Option Body). MatchOption o ((vec_len s.below ≡ 0) × (vec_len c.pop_caller.new.below ≡ 0)) (λ _. vec_len c.pop_caller.new.below + 1 ≡ vec_len s.below)) c.in-None-top.is c.pop_caller.ensures.cases in
     let before : s.below.items ≡ [] = no_length s.below.items (omega (arith, cases.0, s.below.ok.0)) in
     let after : c.pop_caller.new.below.items ≡ [] = no_length c.pop_caller.new.below.items (omega (arith, cases.1, c.pop_caller.new.below.ok.0)) in
-    (rw c.in-None-top.is (settled_last c.args.code.now c.args.self.now s c.args.number (what_of_ask c.args.ask) c.in-Some.body x y g c.append-in-End.new.past c.pop_caller.new.below c.pop_caller.new.ended before after c.append-in-End.ensures.items c.append-in-End.ensures.len c.append-in-End.ensures.capacity (omega (arith, cases.0, cases.1)) c.pop_caller.ensures.capacity), sym (ap (λ a. sent_to (what_of_ask a)) c.in-End.is))
+    (c.take_ask.result, c.take_ask.ensures, rw c.in-None-top.is (settled_last c.args.code.now c.args.self.now s c.args.number (what_of_ask c.take_ask.result) c.in-Some.body x y g c.append-in-End.new.past c.pop_caller.new.below c.pop_caller.new.ended before after c.append-in-End.ensures.items c.append-in-End.ensures.len c.append-in-End.ensures.capacity (omega (arith, cases.0, cases.1)) c.pop_caller.ensures.capacity), sym (ap (λ a. sent_to (what_of_ask a)) c.in-End.is))
+
+pub put-requires : goal.put-requires
+put-requires c =
+    let x = roomy c.args.code.now c.args.self.now c.take_room.new.self c.args.number (what_of_ask c.take_ask.result) c.in-Some.body (c.requires.asked c.take_ask.result c.take_ask.ensures) (c.requires.may c.take_ask.result c.take_ask.ensures) c.take_room.ensures.past c.take_room.ensures.below c.take_room.ensures.top c.take_room.ensures.spare c.take_room.ensures.values c.take_room.ensures.limits c.in_ok-take_room.ensures.ready c.in-Some.is in
+    record { runs = x.runs }
+
+pub pop_caller-requires : goal.pop_caller-requires
+pop_caller-requires c =
+    let x = roomy c.args.code.now c.args.self.now c.take_room.new.self c.args.number (what_of_ask c.take_ask.result) c.in-Some.body (c.requires.asked c.take_ask.result c.take_ask.ensures) (c.requires.may c.take_ask.result c.take_ask.ensures) c.take_room.ensures.past c.take_room.ensures.below c.take_room.ensures.top c.take_room.ensures.spare c.take_room.ensures.values c.take_room.ensures.limits c.in_ok-take_room.ensures.ready c.in-Some.is in
+    record { runs = x.runs }
+
+pub call_back-requires-clause-ready : goal.call_back-requires-clause-ready
+call_back-requires-clause-ready c =
+    let x = roomy c.args.code.now c.args.self.now c.take_room.new.self c.args.number (what_of_ask c.take_ask.result) c.in-Some.body (c.requires.asked c.take_ask.result c.take_ask.ensures) (c.requires.may c.take_ask.result c.take_ask.ensures) c.take_room.ensures.past c.take_room.ensures.below c.take_room.ensures.top c.take_room.ensures.spare c.take_room.ensures.values c.take_room.ensures.limits c.in_ok-take_room.ensures.ready c.in-Some.is in
+    let parts = c.pop_caller.ensures.items ∙ ap (λ (o : Option Body). c.pop_caller.new.below.items ++ option_to_list o) c.in-Some-top.is in
+    let w = caller_parked c.args.code.now c.args.self.now.limits (with_body c.take_room.new.self (with_next c.in-Some.body x.asked)) c.pop_caller.new.below.items (with_next c.in-Some.body x.asked) c.in-Some-top.caller x.task refl parts in
+    w.1.ready
+
+pub call_back-requires-clause-awaited : goal.call_back-requires-clause-awaited
+call_back-requires-clause-awaited c =
+    let x = roomy c.args.code.now c.args.self.now c.take_room.new.self c.args.number (what_of_ask c.take_ask.result) c.in-Some.body (c.requires.asked c.take_ask.result c.take_ask.ensures) (c.requires.may c.take_ask.result c.take_ask.ensures) c.take_room.ensures.past c.take_room.ensures.below c.take_room.ensures.top c.take_room.ensures.spare c.take_room.ensures.values c.take_room.ensures.limits c.in_ok-take_room.ensures.ready c.in-Some.is in
+    let parts = c.pop_caller.ensures.items ∙ ap (λ (o : Option Body). c.pop_caller.new.below.items ++ option_to_list o) c.in-Some-top.is in
+    let w = caller_parked c.args.code.now c.args.self.now.limits (with_body c.take_room.new.self (with_next c.in-Some.body x.asked)) c.pop_caller.new.below.items (with_next c.in-Some.body x.asked) c.in-Some-top.caller x.task refl parts in
+    w.1.awaited
+
+pub call_back-requires-clause-waits : goal.call_back-requires-clause-waits
+call_back-requires-clause-waits c =
+    let x = roomy c.args.code.now c.args.self.now c.take_room.new.self c.args.number (what_of_ask c.take_ask.result) c.in-Some.body (c.requires.asked c.take_ask.result c.take_ask.ensures) (c.requires.may c.take_ask.result c.take_ask.ensures) c.take_room.ensures.past c.take_room.ensures.below c.take_room.ensures.top c.take_room.ensures.spare c.take_room.ensures.values c.take_room.ensures.limits c.in_ok-take_room.ensures.ready c.in-Some.is in
+    let parts = c.pop_caller.ensures.items ∙ ap (λ (o : Option Body). c.pop_caller.new.below.items ++ option_to_list o) c.in-Some-top.is in
+    let w = caller_parked c.args.code.now c.args.self.now.limits (with_body c.take_room.new.self (with_next c.in-Some.body x.asked)) c.pop_caller.new.below.items (with_next c.in-Some.body x.asked) c.in-Some-top.caller x.task refl parts in
+    (w.0, w.1.waits)
