@@ -15,6 +15,7 @@ use chord_code::carry::Carry;
 use chord_code::code::Code;
 use chord_code::laws::chords_are_right;
 use chord_space::{Desk, Space};
+use std::mem;
 
 /// What came of a chord that was to be fired.
 #[derive(Drop)]
@@ -68,8 +69,12 @@ fn hand_out<P: Carry + Drop, H: Receive<P>>(
     }
 }
 
-/// A hand that nothing was put into.
-fn lay_aside<P: Drop>(_hand: Hand<P>) {}
+/// Forgets a hand that is empty, so that nothing is looked for to drop.
+fn lay_aside<P: Drop>(hand: Hand<P>)
+    requires { hand ≡ [] }
+{
+    mem::forget(hand);
+}
 
 /// Fires the chord with these messages, which the desk saw pending in the bags of its methods: claims them in member order, draws
 /// the firing, and takes their parcels in header order, or claims nothing and fires nothing. Fired: the desk keeps the firing's
@@ -132,6 +137,7 @@ pub fn fire_to<P: Carry + Drop, H: Receive<P>>(
     requires empty { H.holds hand.old [] }
     ensures desk { IsSameDesk desk.old desk.new }
     ensures fired { IfOk result (λ f. (qs : List P) × H.holds hand.new qs × IsFired P.entries P.arguments (λ q. P.keeps_to q (space_code space.now) (space_limits space.now)) (program_of space.now) space.now.events (view desk.old) (view desk.new) object chord members.now f qs) }
+    ensures same { IfErr result (λ _. hand.new ≡ hand.old) }
     ensures missed { IfErr result (λ x. IsMissedBy space.now.events (view desk.old) (view desk.new) members.now nexts.now x) }
 {
     chords_are_right(code);

@@ -24,6 +24,7 @@ use chord_task::args::Args;
 use chord_task::enclosed::Enclosed;
 use chord_task::parcel::{Parcel, packed};
 use chord_task::task::Task;
+use std::mem;
 
 /// A firing that was drawn.
 #[derive(Clone, Copy, Drop)]
@@ -71,8 +72,12 @@ impl Unpacked {
         }
     }
 
-    /// Nothing came.
-    pub(crate) fn let_go(self) {}
+    /// Nothing came, so that nothing is looked for to drop.
+    pub(crate) fn lay_aside(self)
+        requires { (self.arguments ≡ []) × (self.caller ≡ None) }
+    {
+        mem::forget(self);
+    }
 }
 
 /// The caller's task, or else the one in stock.

@@ -98,11 +98,11 @@ impl Worker {
                 Ok(true)
             }
             Err(Missed::Lost(_)) => {
-                unpacked.let_go();
+                unpacked.lay_aside();
                 Ok(false)
             }
             Err(Missed::Spent) => {
-                unpacked.let_go();
+                unpacked.lay_aside();
                 self.give_up()?;
                 Ok(true)
             }

@@ -1,4 +1,4 @@
-use Rattle.std.proofs.Common.{rules, ℕ, List, [], ◌∷◌, ◌++◌, length, inl, refl, ◌∙◌, sym, subst, ap, arith, append_assoc, append-nil}
+use Rattle.std.proofs.Common.{rules, ℕ, List, [], ◌∷◌, ◌++◌, inl, refl, ◌∙◌, sym, subst, arith, append_assoc, append-nil}
 use Rattle.chord_word.specs.declared.cells.Cell.TheVariants as a_cell
 use Rattle.chord_word.specs.declared.cells.Word.{Word}
 use Rattle.chord_space.specs.Desks.{view, space_code, space_limits, program_of}

@@ -1,4 +1,4 @@
-use Rattle.std.proofs.Common.{List, sym, subst}
+use Rattle.std.proofs.Common.{sym, subst}
 use Rattle.chord_match.specs.declared.claiming.Missed.{Missed}
 use Rattle.chord_match.specs.Fires.{IsFired, IsMissedBy}
 use Rattle.chord_space.specs.Desks.{view, space_code, space_limits, program_of}
