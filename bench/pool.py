@@ -1,9 +1,8 @@
 #!/usr/bin/env python3
-"""Plays the same programs by workers and on one thread: wall clock a firing, and the ratios; 64 workers end, too.  Then the same work beside programs of the
-same meaning over the bounded channels of Rust's standard library and of Go (bench/peers), where their compilers are there."""
+"""Plays the programs of bench/workloads by 1, 4 and 64 workers and on one thread: wall clock a firing, and the ratios. Each stands beside a program of the
+same meaning over Go's channels, and `load 60` beside one over the bounded channels of Rust's standard library (bench/peers), where their compilers are there."""
 
 import os
-import re
 import shutil
 import subprocess
 import tempfile
@@ -11,52 +10,71 @@ import time
 
 import common
 
-FIRED = re.compile(rb' fired (\d+) ')
-RUNS = 5
-PAIRS = 60
+RUNS = 7
+WORKLOADS = {'uncontended': b'done\n', 'buffer': b'8004000\n', 'lock': b'done\n', 'santa': b'600\n'}
+PAIRS = 60  # of `load`, whose buffer Rust's program has too
 SUM = b'303000\n'
-WANTED = SUM + b'begun 1 made 3 sent 12243 called 12001 fired 12181 printed 1 ended 12182\n'
-FIRINGS = int(FIRED.search(WANTED)[1])
-PEERS = {'Rust': ['rustc', '-O', '-o'], 'Go': ['go', 'build', '-o']}
-SOURCES = {'Rust': 'buffer.rs', 'Go': 'buffer.go'}
+COUNTS = b'begun 1 made 3 sent 12243 called 12001 fired 12181 printed 1 ended 12182\n'
+LOAD_FIRINGS = 12181
+PEERS = {'Go': (['go', 'build', '-o'], 'workloads.go'), 'Rust': (['rustc', '-O', '-o'], 'buffer.rs')}
 
 
-def nanoseconds(command, wanted):
+def nanoseconds(command, source, wanted, firings):
     """The least wall clock a firing of some runs, each of which writes what is due."""
     best = None
     for _ in range(RUNS):
         before = time.monotonic()
-        ran = subprocess.run(command, stdout=subprocess.PIPE, check=True)
+        ran = subprocess.run(command, input=source, stdout=subprocess.PIPE, check=True)
         took = time.monotonic() - before
         assert ran.stdout == wanted, ran.stdout
         best = took if best is None else min(best, took)
-    return best / FIRINGS * 1e9
+    return best / firings * 1e9
 
 
-def peers(work):
-    """The programs beside which the pool is measured, by their language: those whose compilers are there."""
-    for language, compiler in PEERS.items():
-        if shutil.which(compiler[0]) is None:
-            print(f'beside {language}: not measured, {compiler[0]} is not here')
-            continue
-        made = f'{work}/{language}'
-        subprocess.run([*compiler, made, f'{common.TOP}/bench/peers/{SOURCES[language]}'], check=True, cwd=work, env={**os.environ, 'GOCACHE': f'{work}/cache'})
-        yield language, made
+def peer(language, work):
+    """The program beside which workers are measured, if the compiler of its language is there."""
+    compiler, source = PEERS[language]
+    if shutil.which(compiler[0]) is None:
+        print(f'beside {language}: not measured, {compiler[0]} is not here')
+        return None
+    made = f'{work}/{language}'
+    subprocess.run([*compiler, made, f'{common.TOP}/bench/peers/{source}'], check=True, cwd=work, env={**os.environ, 'GOCACHE': f'{work}/cache'})
+    return made
+
+
+def measure(program, name, wanted, go):
+    """One workload: each number of workers beside one thread, four beside one, and both beside Go."""
+    with open(f'{common.TOP}/bench/workloads/{name}.cs', 'rb') as file:
+        source = file.read()
+    journal = subprocess.run([program, 'run', '--one', '--journal'], input=source, stdout=subprocess.PIPE, check=True).stdout
+    firings = journal.count(b' fired ')
+    alone = nanoseconds([program, 'run', '--one'], source, wanted, firings)
+    by = {workers: nanoseconds([program, 'run', '--workers', str(workers)], source, wanted, firings) for workers in (1, 4, 64)}
+    for workers, took in by.items():
+        common.tell(f'{name}, {workers} workers beside one thread', took, alone, 'ns a firing')
+    common.tell(f'{name}, 4 workers beside 1 worker', by[4], by[1], 'ns a firing')
+    if go:
+        theirs = nanoseconds([go, name], b'', wanted, firings)
+        common.tell(f'{name}, 4 workers beside channels of Go', by[4], theirs, 'ns a firing')
+        common.tell(f'{name}, one thread beside channels of Go', alone, theirs, 'ns a firing')
+
+
+def measure_load(program, rust):
+    """The large program that the command makes, beside Rust's."""
+    load = [program, 'load', str(PAIRS), '--workers', '4']
+    ours = nanoseconds(load, b'', SUM + COUNTS, LOAD_FIRINGS)
+    theirs = nanoseconds([rust, str(PAIRS)], b'', SUM, LOAD_FIRINGS)
+    common.tell(f'load {PAIRS}, 4 workers beside channels of Rust', ours, theirs, 'ns a firing')
 
 
 def main():
     program = common.program()
-    load = [program, 'load', str(PAIRS)]
-    alone = nanoseconds([*load, '--one'], WANTED)
-    by = {workers: nanoseconds([*load, '--workers', str(workers)], WANTED) for workers in (1, 4, 64)}
-    for workers, took in by.items():
-        common.tell(f'load {PAIRS}, {workers} workers beside one thread', took, alone, 'ns a firing')
-    common.tell(f'load {PAIRS}, 4 workers beside 1 worker', by[4], by[1], 'ns a firing')
     with tempfile.TemporaryDirectory() as work:
-        for language, peer in peers(work):
-            theirs = nanoseconds([peer, str(PAIRS)], SUM)
-            common.tell(f'load {PAIRS}, 4 workers beside channels of {language}', by[4], theirs, 'ns a firing')
-            common.tell(f'load {PAIRS}, one thread beside channels of {language}', alone, theirs, 'ns a firing')
+        go, rust = peer('Go', work), peer('Rust', work)
+        for name, wanted in WORKLOADS.items():
+            measure(program, name, wanted, go)
+        if rust:
+            measure_load(program, rust)
 
 
 if __name__ == '__main__':

@@ -25,7 +25,7 @@ use Rattle.chord_rule.specs.Ways.{KnowsBag}
 use Rattle.chord_match.specs.declared.claiming.Missed.{Missed}
 use Rattle.chord_match.specs.declared.claiming.Missed.TheVariants.{Lost, Spent}
 use Rattle.chord_match.specs.Seen.{MayBeClaimed, MayAllBeClaimed, AreSeen}
-use Rattle.chord_match.specs.Fires.{AreLastPending, IsLost, IsTurnedAway}
+use Rattle.chord_match.specs.Fires.{AreLastPending, IsLost, IsTurnedAway, IsMissedBy}
 use Rattle.chord_match.specs.Claiming.{ClaimAt, Taking, WasClaimed, WereClaimed, IsDrawn, missed_by, looked_by, IsWhy, IsMissed}
 use Rattle.chord_match.proofs.Growing.{has_look_left}
 use Rattle.chord_match.proofs.Lists.{all_below_more, has_at, different_at}
@@ -258,7 +258,7 @@ pub taking_first : (n : ℕ) (p : Program) (v : View) (o : Object) (chord : ℕ)
 taking_first n p v o chord ms xs seen free room = record { seen = seen; most = omega arith; claimed = λ q l. absurd (omega (arith, l)); apart = λ q r g l. absurd (omega (arith, l)); many = ap length free; room = room }
 
 -- a member was lost, and nothing is claimed
-pub lost_all : (n : ℕ) (v w : View) (ms : List ℕ) (xs : List (Option ℕ)) (i : ℕ) → v.claims ≡ [] → IsMissed n v w ms xs 0 (Lost i) → IsLost n v w ms xs i
+lost_all : (n : ℕ) (v w : View) (ms : List ℕ) (xs : List (Option ℕ)) (i : ℕ) → v.claims ≡ [] → IsMissed n v w ms xs 0 (Lost i) → IsLost n v w ms xs i
 lost_all n v w ms xs i free m = record {
   same = m.frame;
   claims = ap (λ (z : View). z.claims) m.frame ∙ free;
@@ -272,5 +272,10 @@ lost_all n v w ms xs i free m = record {
 }
 
 -- the journal is full, and nothing is claimed
-pub refused_all : (n : ℕ) (v w : View) (ms : List ℕ) (xs : List (Option ℕ)) → v.claims ≡ [] → IsMissed n v w ms xs 0 Spent → IsTurnedAway n v w
+refused_all : (n : ℕ) (v w : View) (ms : List ℕ) (xs : List (Option ℕ)) → v.claims ≡ [] → IsMissed n v w ms xs 0 Spent → IsTurnedAway n v w
 refused_all n v w ms xs free m = record { same = m.frame; claims = ap (λ (z : View). z.claims) m.frame ∙ free; counter = m.why; looks = m.looks; remembered = m.remembered }
+
+-- why nothing was fired, once all claims were given back
+pub missed_all : (n : ℕ) (v w : View) (ms : List ℕ) (xs : List (Option ℕ)) (x : Missed) → v.claims ≡ [] → IsMissed n v w ms xs 0 x → IsMissedBy n v w ms xs x
+missed_all n v w ms xs (Lost i) free m = lost_all n v w ms xs i free m
+missed_all n v w ms xs Spent free m = refused_all n v w ms xs free m

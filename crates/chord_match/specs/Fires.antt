@@ -19,6 +19,8 @@ use Rattle.chord_rule.specs.Looks.{HasLook}
 use Rattle.chord_rule.specs.Numbers.{HasNumber}
 use Rattle.chord_rule.specs.Tells.{CameNext}
 use Rattle.chord_rule.specs.Ways.{LastSeen}
+use Rattle.chord_match.specs.declared.claiming.Missed.{Missed}
+use Rattle.chord_match.specs.declared.claiming.Missed.TheVariants as a_miss
 use Rattle.chord_match.specs.declared.handing.Firing.{Firing}
 use Rattle.chord_match.specs.declared.handing.Firing.TheVariants.{Fired, Lost, Spent}
 
@@ -50,6 +52,11 @@ pub record IsTurnedAway (n : ℕ) (v w : View) : Type 0 where
   pub looks : List Look
   -- of what it remembers only these looks at cells are new, and the counter
   pub remembered : w.looked ≡ record v.looked { seen = looks ++ v.looked.seen; count = w.looked.count }
+
+-- why nothing was fired
+abbrev pub IsMissedBy : ℕ → View → View → List ℕ → List (Option ℕ) → Missed → Type 0
+IsMissedBy n v w ms xs (a_miss.Lost i) = IsLost n v w ms xs i
+IsMissedBy n v w ms xs a_miss.Spent = IsTurnedAway n v w
 
 -- the entries of these parcels came, one parcel after another
 abbrev pub all_together : List Entry → List (List Entry) → List Entry

@@ -11,5 +11,6 @@ pub mod nexts;
 mod notes;
 mod search;
 
-pub use handing::{Firing, fire};
+pub use claiming::Missed;
+pub use handing::{Firing, Receive, fire, fire_to};
 pub use search::{Finding, find};

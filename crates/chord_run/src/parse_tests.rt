@@ -139,6 +139,11 @@ fn sources_are_programs_or_refused_at_a_token(rt: HostRuntime) -> Result<(), Fai
             b"class A { A() { if (1) ; else ; else ; } }",
             "at 14",
         ),
+        (
+            "branches and loops",
+            b"class A { A() { if (!(-1 < 2)) ; else while (true) if (false) return; } }",
+            "program of 31 tokens",
+        ),
         ("a name alone", b"class A { A() { x; } }", "at 8"),
         ("a field", b"class A { A() { a.b; } }", "at 10"),
         (

@@ -70,6 +70,10 @@ impl<P> Closed<P> {
         ensures taken { parcels self.new ≡ slice_set (parcels self.old) i None }
         ensures rest { (self.new.drawn ≡ self.old.drawn) × (self.new.events ≡ self.old.events) × (closing_view self.new ≡ closing_view self.old) }
     {
+        // most parcels have left by then, and a slot is large to move
+        if self.slots.slots.get(i as usize).is_none() {
+            return None;
+        }
         let parcel = self.slots.take(i as usize);
         self.slots.slots.put(i as usize, None);
         parcel

@@ -9,6 +9,7 @@ pub mod apart;
 pub mod args;
 pub mod body;
 pub mod cross;
+pub mod enclosed;
 pub mod parcel;
 pub mod task;
 pub mod turn;

@@ -6,7 +6,7 @@ ghost use Rattle.chord_task.specs.Standing.{view_of, IsTaskOf};
 ghost use Rattle.chord_task.specs.Parcels.{entries_of, arguments_of, IsParcelOf};
 
 use crate::apart::Apart;
-use crate::args::Args;
+use crate::enclosed::Enclosed;
 use crate::task::Task;
 use chord_base::event::Limits;
 use chord_code::carry::Carry;
@@ -16,7 +16,7 @@ use chord_code::code::Code;
 #[derive(Drop)]
 pub struct Parcel {
     /// The message's arguments.
-    pub arguments: Args,
+    pub arguments: Enclosed,
     /// The task whose body on top waits for the message, if it is a call.
     pub task: Option<Apart<Task>>,
 }
@@ -30,7 +30,7 @@ impl Carry for Parcel {
 }
 
 /// A parcel with a task that has a body left.
-pub fn packed(code: &Code, limits: &Limits, arguments: Args, task: Apart<Task>) -> Parcel
+pub fn packed(code: &Code, limits: &Limits, arguments: Enclosed, task: Apart<Task>) -> Parcel
     requires task { IsTaskOf code.now limits.now task }
     requires left { (view_of task).top ≢ None }
     requires twice { arguments.second ≡ arguments.first }
@@ -47,7 +47,7 @@ pub fn packed(code: &Code, limits: &Limits, arguments: Args, task: Apart<Task>) 
 }
 
 /// A parcel without a task.
-pub fn letter(code: &Code, limits: &Limits, arguments: Args) -> Parcel
+pub fn letter(code: &Code, limits: &Limits, arguments: Enclosed) -> Parcel
     requires { arguments.second ≡ arguments.first }
     ensures keeps { IsParcelOf result code.now limits.now }
     ensures entries { entries_of result ≡ [] }

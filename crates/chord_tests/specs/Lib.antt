@@ -1,4 +1,8 @@
--- What the tests of desks by hand use.
+-- What tests use.
 
 -- the codes of the tests, and what their desks know
 pub mod Pairs
+-- a program of two classes as a tree
+pub mod Example
+-- the walk over it
+pub mod Walked

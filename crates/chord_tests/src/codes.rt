@@ -72,7 +72,7 @@ fn instructions(alloc: Global, two: bool) -> Result<Vec<Instruction>, Fail>
 }
 
 /// A name.
-fn named(alloc: Global, name: &[u8]) -> Result<Text, Fail>
+pub fn named(alloc: Global, name: &[u8]) -> Result<Text, Fail>
     ensures { IfOk result (λ text. text ≡ name.now) }
 {
     match Text::of_bytes(alloc, name) {

@@ -29,4 +29,8 @@ mod texts;
 #[cfg(test)]
 mod tokens;
 #[cfg(test)]
+mod trees;
+#[cfg(test)]
+mod validity;
+#[cfg(test)]
 mod words;

@@ -10,7 +10,6 @@ pub mod Weights
 pub mod WeightsStmts
 pub mod WordsStmts
 pub mod WordsClasses
-pub mod Checked
 pub mod Counts
 pub mod Spots
 pub mod Walks

@@ -40,7 +40,3 @@ pub mod Positions
 
 -- the tables of one token ahead
 pub mod OneAhead
--- a program of two classes, built by hand
-pub mod Example
--- the walk over it
-pub mod Walked

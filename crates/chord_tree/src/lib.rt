@@ -15,5 +15,3 @@ mod spell_exprs;
 mod spell_stmts;
 pub mod spelling;
 pub mod stmts;
-#[cfg(test)]
-mod tests;

@@ -1,5 +1,5 @@
 -- A firing's body begins in the task of the caller that it serves or in one in stock; then it is played, or posted.
-use Rattle.std.proofs.Common.{◌≡◌, ◌≢◌, ◌⊎◌, inl, inr, ⊎_elim, ℕ, ◌+◌, ◌-◌, ◌≤◌, length, Bool, true, false, ◌==◌, List, [], ◌∷◌, ◌++◌, map, Option, Some, None, refl, sym, ap, ◌∙◌, subst, arith}
+use Rattle.std.proofs.Common.{◌≡◌, ◌≢◌, ◌⊎◌, inl, inr, ⊎_elim, ℕ, ◌+◌, ◌-◌, ◌≤◌, length, Bool, true, false, ◌==◌, List, [], ◌∷◌, map, Option, Some, None, refl, sym, ap, ◌∙◌, subst, arith}
 use Rattle.std.specs.Prelude.{IsPermutation, is_some}
 use Rattle.std.proofs.lemmas.Bool.{eq-eqb}
 use mathlib.Core.Path.{Path}
@@ -221,11 +221,7 @@ module _ (s : Space Parcel) (w : Worker) (v : View) (o : Object) (k : ℕ) (ms :
   stock_left x = ⊎_elim (λ e. subst (IsStock (space_code s) (space_limits s)) (sym (e ∙ fired.spare)) fired.is_stock) (λ e. subst (IsStock (space_code s) (space_limits s)) (sym e) tt)
 
   module _ (code : Parts) (same : code ≡ space_code s) (law : (l : Limits) → ChordsAreRight (code_program code l)) (caller : Option Task) (is_caller : caller ≡ first_task qs) (t : Task) (taken : (stock : Task) → w.spare ≡ Some stock → t ≡ caller_or caller stock)
-      (none arguments : List Args) (is_none : none ≡ []) (unpacked : arguments ≡ none ++ arguments_in qs) where
-    -- the arguments are those in the parcels
-    arguments_are : arguments ≡ arguments_in qs
-    arguments_are = unpacked ∙ ap (λ (xs : List Args). xs ++ arguments_in qs) is_none
-
+      (arguments : List Args) (arguments_are : arguments ≡ arguments_in qs) where
     -- the values of the arguments are those of the firing
     values_are : values ≡ laid (for_entry arguments)
     values_are = values_in qs ∙ ap (λ (xs : List Args). laid (for_entry xs)) (sym arguments_are)

@@ -1,5 +1,5 @@
 -- What stands in the parcels of a firing's members: their values, and one task at most, that of the caller.
-use Rattle.std.proofs.Common.{◌≡◌, ◌≢◌, ◌⊎◌, inl, inr, ⊎_elim, ℕ, Bool, true, false, List, [], ◌∷◌, ◌++◌, map, Option, Some, None, refl, sym, ap, ◌∙◌, subst}
+use Rattle.std.proofs.Common.{◌≡◌, ◌≢◌, ◌⊎◌, inl, inr, ⊎_elim, ℕ, Bool, true, false, suc, List, [], ◌∷◌, ◌++◌, length, map, Option, Some, None, refl, sym, ap, ◌∙◌, subst}
 use Rattle.chord_base.specs.declared.event.Entry.{Entry}
 use Rattle.chord_base.specs.declared.event.Limits.{Limits}
 use Rattle.chord_base.specs.declared.value.Object.{Object}
@@ -13,13 +13,14 @@ use Rattle.chord_code.specs.Meaning.{code_program}
 use Rattle.chord_match.specs.Fires.{all_together, laid_together, AreOlder, IsComing, AreComing}
 use Rattle.chord_rule.specs.declared.view.Claim.{Claim}
 use Rattle.chord_rule.specs.Coming.{ComesWithMessage}
+use Rattle.chord_task.specs.declared.args.Args.{Args}
 use Rattle.chord_task.specs.declared.parcel.Parcel.{Parcel}
 use Rattle.chord_task.specs.declared.task.Task.{Task}
 use Rattle.chord_task.specs.Arguments.{for_entry, AreTwice}
 use Rattle.chord_task.specs.Parcels.{past_in, entries_of, arguments_of, TaskIn, IsParcelOf}
 use Rattle.chord_task.specs.Standing.{view_of, IsTaskOf}
 use Rattle.chord_vm.specs.Frames.{laid}
-use Rattle.chord_worker.specs.Beginning.{first_of, first_task, arguments_in}
+use Rattle.chord_worker.specs.Beginning.{first_of, first_task, arguments_in, HasUnpacked}
 use Rattle.chord_worker.proofs.Fitting.{letter_alone}
 
 -- the parcels to these methods for these members have no task, so that the firing serves no call
@@ -139,3 +140,37 @@ module _ (code : Parts) (limits : Limits) where
               ⊎_elim (λ k. inl (none_more es j i q js ms qs z none k)) (λ k. inr (caller_more es j i q js ms qs z none k))
               (one_caller es js ms qs only.1 older.2 (same_rest es js ms q qs none coming.1)))
         ]
+
+-- ## One parcel more
+
+-- its arguments come behind the others
+arguments_more : (qs : List Parcel) (q : Parcel) → arguments_in (qs ++ q ∷ []) ≡ arguments_in qs ++ q.arguments ∷ []
+arguments_more [] q = refl
+arguments_more (x ∷ qs) q = ap (λ (xs : List Args). x.arguments ∷ xs) (arguments_more qs q)
+
+-- the first of three tasks
+first_of_three : (t u x : Option Task) → first_of t (first_of u x) ≡ first_of (first_of t u) x
+first_of_three None u x = refl
+first_of_three (Some t) u x = refl
+
+-- a task and none
+first_alone : (t : Option Task) → first_of t None ≡ t
+first_alone None = refl
+first_alone (Some t) = refl
+
+-- its task is the first one where the others have none
+task_more : (qs : List Parcel) (q : Parcel) → first_task (qs ++ q ∷ []) ≡ first_of (first_task qs) q.task
+task_more [] q = first_alone q.task
+task_more (x ∷ qs) q = ap (first_of x.task) (task_more qs q) ∙ first_of_three x.task (first_task qs) q.task
+
+-- the parcels with one more hold what they held and what is in it
+pub unpacked_more : (arguments : List Args) (caller : Option Task) (qs : List Parcel) (q : Parcel) → HasUnpacked arguments caller qs → HasUnpacked (arguments ++ q.arguments ∷ []) (first_of caller q.task) (qs ++ q ∷ [])
+unpacked_more arguments caller qs q u = record {
+  arguments_are = ap (λ (xs : List Args). xs ++ q.arguments ∷ []) u.arguments_are ∙ sym (arguments_more qs q);
+  caller_is = ap (λ (t : Option Task). first_of t q.task) u.caller_is ∙ sym (task_more qs q);
+}
+
+-- there are as many arguments as parcels
+pub as_many : (qs : List Parcel) → length (arguments_in qs) ≡ length qs
+as_many [] = refl
+as_many (q ∷ qs) = ap suc (as_many qs)

@@ -36,6 +36,11 @@ abbrev pub arguments_in : List Parcel → List Args
 arguments_in [] = []
 arguments_in (q ∷ qs) = q.arguments ∷ arguments_in qs
 
+-- these are the arguments in the parcels, and the first task in them
+pub record HasUnpacked (arguments : List Args) (caller : Option Task) (qs : List Parcel) : Type 0 where
+  pub arguments_are : arguments ≡ arguments_in qs
+  pub caller_is : caller ≡ first_task qs
+
 -- the task of a caller, if there is one, else the one in stock
 abbrev pub caller_or : Option Task → Task → Task
 caller_or (Some t) stock = t

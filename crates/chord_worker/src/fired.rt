@@ -1,10 +1,11 @@
 //! The body of a firing begins: in the task of the caller that it serves, or in a new one.
-ghost use Rattle.std.specs.Prelude.{◌≡◌, ◌≢◌, ◌⊎◌, ℕ, ◌+◌, ◌≤◌, false, List, ◌++◌, length, None, Some};
+ghost use Rattle.std.specs.Prelude.{◌≡◌, ◌≢◌, ◌⊎◌, false, List, [], None, Some};
 ghost use Rattle.chord_base.specs.Story.{IsSound};
 ghost use Rattle.chord_rule.specs.declared.view.View.{View};
 ghost use Rattle.chord_space.specs.Desks.{view, space_code, space_limits, program_of, IsDeskOf};
+ghost use Rattle.chord_task.specs.declared.parcel.Parcel.{Parcel as TheParcel};
 ghost use Rattle.chord_task.specs.declared.task.Task.{Task as ATask};
-ghost use Rattle.chord_worker.specs.Beginning.{first_task, arguments_in, caller_or, HasBegun};
+ghost use Rattle.chord_worker.specs.Beginning.{first_of, caller_or, HasUnpacked, HasBegun};
 ghost use Rattle.chord_worker.specs.Firing.{HasFired};
 ghost use Rattle.chord_worker.specs.Resting.{IsAtRest, IsSameRole};
 ghost use Rattle.chord_worker.specs.Stepping.{HasTakenOn};
@@ -16,42 +17,66 @@ use chord_base::members::Members;
 use chord_base::value::{Object, Values};
 use chord_code::code::Code;
 use chord_code::laws::{chords_are_right, entries_are_within};
+use chord_match::Receive;
 use chord_space::Space;
 use chord_task::apart::Apart;
 use chord_task::args::Args;
+use chord_task::enclosed::Enclosed;
 use chord_task::parcel::{Parcel, packed};
 use chord_task::task::Task;
+use std::mem;
 
 /// A firing that was drawn.
-#[derive(Drop)]
+#[derive(Clone, Copy, Drop)]
 pub(crate) struct Drawn {
     pub number: u32,
     pub object: Object,
     pub chord: u16,
-    pub members: Members,
 }
 
-/// Takes the parcels out of the hand: the arguments of each, and the task that one of them may have.
-fn unpack(hand: &mut Hand<Parcel>, arguments: &mut Hand<Args>) -> Option<Apart<Task>>
-    requires few { length hand.old + length arguments.old ≤ 8 }
-    ensures arguments { arguments.new ≡ arguments.old ++ arguments_in hand.old }
-    ensures task { result ≡ first_task hand.old }
+/// What the parcels of a firing hold: the arguments of each, and the task that one of them may have.
+#[derive(Drop)]
+pub(crate) struct Unpacked {
+    pub arguments: Hand<Args>,
+    pub caller: Option<Apart<Task>>,
+}
+
+/// The first of two tasks, or else the second.
+fn either_task(first: Option<Apart<Task>>, second: Option<Apart<Task>>) -> Option<Apart<Task>>
+    ensures { result ≡ first_of first second }
 {
-    match hand.take_first() {
-        None => None,
-        Some(
-            Parcel {
-                arguments: own,
-                task,
-            },
-        ) => {
-            arguments.put(own);
-            let later = unpack(hand, arguments);
-            match task {
-                None => later,
-                Some(task) => Some(task),
-            }
+    match first {
+        Some(task) => Some(task),
+        None => second,
+    }
+}
+
+impl Receive<Parcel> for Unpacked {
+    ghost holds = { λ u qs. HasUnpacked u.arguments u.caller qs };
+
+    fn receive(&mut self, parcel: Parcel) {
+        let Parcel { arguments, task } = parcel;
+        self.arguments.put(arguments.into_args());
+        self.caller = either_task(self.caller.take(), task);
+    }
+}
+
+impl Unpacked {
+    /// Nothing yet.
+    pub(crate) fn nothing() -> Unpacked
+        ensures { (result.arguments ≡ []) × (result.caller ≡ None) }
+    {
+        Unpacked {
+            arguments: Hand::new(),
+            caller: None,
         }
+    }
+
+    /// Nothing came, so that nothing is looked for to drop.
+    pub(crate) fn lay_aside(self)
+        requires { (self.arguments ≡ []) × (self.caller ≡ None) }
+    {
+        mem::forget(self);
     }
 }
 
@@ -67,16 +92,6 @@ fn take_task(caller: Option<Apart<Task>>, spare: &mut Option<Apart<Task>>) -> Ap
             None => unreachable!(),
             Some(stock) => stock,
         },
-    }
-}
-
-/// No arguments, held twice as others are.
-fn no_arguments() -> Args
-    ensures { result.second ≡ result.first }
-{
-    Args {
-        first: Values::none(),
-        second: Values::none(),
     }
 }
 
@@ -105,11 +120,11 @@ impl Worker {
             self.task = Some(task);
             return;
         }
-        let parcel = packed(code, limits, no_arguments(), task);
+        let parcel = packed(code, limits, Enclosed::nothing(), task);
         space.post(&mut self.desk, number, parcel);
     }
 
-    /// The parcels of a firing's members are handed over: the arguments go to the firing's body, which begins in the task of the
+    /// The parcels of a firing's members were handed over: the arguments go to the firing's body, which begins in the task of the
     /// caller that it serves, or in the one in stock. A worker that has no task plays the body itself; else the body is posted
     /// with its task. Takes no memory.
     pub(crate) fn begin_fired<G: Gate>(
@@ -119,31 +134,29 @@ impl Worker {
         limits: &Limits,
         gate: &G,
         drawn: Drawn,
-        hand: Hand<Parcel>,
+        members: &Members,
+        unpacked: Unpacked,
     )
         requires code { code.now ≡ space_code space.now }
         requires limits { limits.now ≡ space_limits space.now }
         requires sound { IsSound (program_of space.now) }
-        requires fired { (v : View) × HasFired space.now self.old v drawn.object drawn.chord drawn.members drawn.number hand }
+        requires fired { (v : View) × (qs : List TheParcel) × HasUnpacked unpacked.arguments unpacked.caller qs × HasFired space.now self.old v drawn.object drawn.chord members.now drawn.number qs }
         ensures desk { IsDeskOf space.now self.new.desk }
         ensures rest { IsAtRest space.now self.new }
         ensures role { IsSameRole (view self.old.desk) (view self.new.desk) }
         ensures told { self.new.spent ≡ false }
-        ensures taken { (v : View) → HasFired space.now self.old v drawn.object drawn.chord drawn.members drawn.number hand → HasTakenOn G.knows v.kept self.old.task self.new drawn.number }
+        ensures taken { (v : View) (qs : List TheParcel) → HasUnpacked unpacked.arguments unpacked.caller qs → HasFired space.now self.old v drawn.object drawn.chord members.now drawn.number qs → HasTakenOn G.knows v.kept self.old.task self.new drawn.number }
     {
         chords_are_right(code);
         entries_are_within(code);
-        let _full = hand.is_full();
-        let mut hand = hand;
-        let mut arguments = Hand::new();
-        let caller = unpack(&mut hand, &mut arguments);
+        let Unpacked { arguments, caller } = unpacked;
         let mut task = take_task(caller, &mut self.spare);
         task.value.resume(
             code,
             drawn.number,
             drawn.chord,
             drawn.object,
-            &drawn.members,
+            members,
             arguments,
         );
         self.take_on(space, code, limits, gate, drawn.number, task);

@@ -1,7 +1,8 @@
 //! Messages are sent off with their parcels, and followed until somebody else minds them.
-ghost use Rattle.std.specs.Prelude.{◌≡◌, ◌≢◌, ◌<◌, ℕ, true, false, [], Some, None, IfOk, OnOk};
+ghost use Rattle.std.specs.Prelude.{◌≡◌, ◌≢◌, ◌⊎◌, ◌<◌, ℕ, true, false, [], Some, None, OnOk};
 ghost use Rattle.chord_base.specs.Story.{IsSound};
 ghost use Rattle.chord_base.specs.declared.event.What.TheVariants.{Sent, Called};
+ghost use Rattle.chord_base.specs.declared.value.Object.{Object as TheObject};
 ghost use Rattle.chord_rule.specs.Made.{key};
 ghost use Rattle.chord_space.specs.Desks.{view, heads, space_code, space_limits, program_of, IsDeskOf, IsSameDesk};
 ghost use Rattle.chord_space.specs.Gives.{MayLink};
@@ -21,7 +22,7 @@ use chord_base::value::{Object, Values};
 use chord_code::code::Code;
 use chord_space::{Desk, Space};
 use chord_task::apart::Apart;
-use chord_task::args::Args;
+use chord_task::enclosed::Enclosed;
 use chord_task::parcel::{Parcel, letter, packed};
 use chord_task::task::Task;
 use std::alloc::{AllocError, Global};
@@ -47,13 +48,18 @@ pub(crate) fn send_off(
     space.arm(desk, m);
 }
 
-/// A list of values, twice.
-fn doubled(alloc: Global, values: &Values) -> Result<Args, AllocError>
-    ensures { IfOk result (λ a. (a.first ≡ values.now) × (a.second ≡ values.now)) }
+/// The arguments of a message that was drawn join their copy.
+fn held_twice(what: What, copy: Enclosed) -> Enclosed
+    requires { (o : TheObject) × (j : ℕ) × ((what ≡ Sent o j copy.second) ⊎ (what ≡ Called o j copy.second)) }
+    ensures { (result.first ≡ copy.second) × (result.second ≡ copy.second) }
 {
-    let first = values.copied(alloc)?;
-    let second = values.copied(alloc)?;
-    Ok(Args { first, second })
+    let mut held = copy;
+    match what {
+        What::Sent(_, _, first) => held.complete(first),
+        What::Called(_, _, first) => held.complete(first),
+        _ => unreachable!(),
+    }
+    held
 }
 
 /// What an asynchronous message goes with: its arguments, and no task.
@@ -65,7 +71,7 @@ fn send_letter(
     m: u32,
     object: Object,
     method: u8,
-    held: Args,
+    held: Enclosed,
 )
     requires desk { IsDeskOf space.now desk.old }
     requires code { code.now ≡ space_code space.now }
@@ -92,7 +98,7 @@ fn send_task(
     m: u32,
     object: Object,
     method: u8,
-    held: Args,
+    held: Enclosed,
     task: Apart<Task>,
 )
     requires desk { IsDeskOf space.now desk.old }
@@ -143,11 +149,12 @@ impl Worker {
         ensures went { OnOk result (HasGoneOn (view self.old.desk).kept task self.new) }
         ensures plays { OnOk result (PlaysNext G.knows (view self.old.desk).kept task self.new) }
     {
-        let held = doubled(alloc, &arguments)?;
+        let copy = Enclosed::copied(alloc, &arguments)?;
         let what = What::Sent(object, method, arguments);
         let mut task = task;
         match draw_own(space, &mut self.desk, &mut task, &what) {
             Ok(number) => {
+                let held = held_twice(what, copy);
                 send_letter(
                     space,
                     &mut self.desk,
@@ -203,11 +210,12 @@ impl Worker {
         ensures went { OnOk result (HasGoneOn (view self.old.desk).kept task self.new) }
         ensures plays { OnOk result (PlaysNext G.knows (view self.old.desk).kept task self.new) }
     {
-        let held = doubled(alloc, &arguments)?;
+        let copy = Enclosed::copied(alloc, &arguments)?;
         let what = What::Called(object, method, arguments);
         let mut task = task;
         match draw_own(space, &mut self.desk, &mut task, &what) {
             Ok(number) => {
+                let held = held_twice(what, copy);
                 send_task(
                     space,
                     &mut self.desk,

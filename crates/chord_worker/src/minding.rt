@@ -9,14 +9,14 @@ ghost use Rattle.chord_worker.specs.Sending.{Minds, IsLaidDown};
 ghost use Rattle.chord_worker.specs.Resting.{IsAtRest, IsSameRole};
 ghost use Rattle.chord_worker.specs.Stepping.{StillPlays, WasMinded};
 
-use crate::fired::Drawn;
+use crate::fired::{Drawn, Unpacked};
 use crate::worker::{Gate, Worker};
 use chord_base::event::Limits;
 use chord_base::members::Members;
 use chord_base::value::Object;
 use chord_code::code::Code;
 use chord_match::nexts::Nexts;
-use chord_match::{Finding, Firing, find, fire};
+use chord_match::{Finding, Missed, find, fire_to};
 use chord_space::Space;
 use chord_task::parcel::Parcel;
 use crossbeam_utils::Backoff;
@@ -60,15 +60,15 @@ impl Worker {
         gate: &G,
         message: Minded,
         chord: u16,
-        members: Members,
-        nexts: Nexts,
+        members: &Members,
+        nexts: &Nexts,
     ) -> Result<bool, AllocError>
         requires code { code.now ≡ space_code space.now }
         requires limits { limits.now ≡ space_limits space.now }
         requires sound { IsSound (program_of space.now) }
         requires bounds { (message.object.number < space.now.events) × (message.object.class < 1024) × (message.method < heads space.now) }
         requires minds { Minds space.now self.old message.number (key message.object message.method) }
-        requires found { (v : View) × IsMatch (program_of space.now) space.now.events v (view self.old.desk) message.number message.object message.method chord members nexts }
+        requires found { (v : View) × IsMatch (program_of space.now) space.now.events v (view self.old.desk) message.number message.object message.method chord members.now nexts.now }
         ensures desk { IsDeskOf space.now self.new.desk }
         ensures over { IfOk result (λ b. b ≡ true → IsAtRest space.now self.new × (self.new.spent ≡ true → self.new.task ≡ None)) }
         ensures again { IfOk result (λ b. b ≡ false → Minds space.now self.new message.number (key message.object message.method)) }
@@ -77,19 +77,32 @@ impl Worker {
         ensures same { IfOk result (λ b. b ≡ false → StillPlays (view self.old.desk).kept self.old.task self.new) }
     {
         let object = message.object;
-        match fire(space, &mut self.desk, code, object, chord, &members, &nexts) {
-            Firing::Fired(number, hand) => {
+        let mut unpacked = Unpacked::nothing();
+        match fire_to(
+            space,
+            &mut self.desk,
+            code,
+            object,
+            chord,
+            members,
+            nexts,
+            &mut unpacked,
+        ) {
+            Ok(number) => {
                 let drawn = Drawn {
                     number,
                     object,
                     chord,
-                    members,
                 };
-                self.begin_fired(space, code, limits, gate, drawn, hand);
+                self.begin_fired(space, code, limits, gate, drawn, members, unpacked);
                 Ok(true)
             }
-            Firing::Lost(_) => Ok(false),
-            Firing::Spent => {
+            Err(Missed::Lost(_)) => {
+                unpacked.lay_aside();
+                Ok(false)
+            }
+            Err(Missed::Spent) => {
+                unpacked.lay_aside();
                 self.give_up()?;
                 Ok(true)
             }
@@ -132,7 +145,7 @@ impl Worker {
         ) {
             Finding::Match(chord) => {
                 let over = self.try_to_fire(
-                    alloc, space, code, limits, gate, message, chord, members, nexts,
+                    alloc, space, code, limits, gate, message, chord, &members, &nexts,
                 )?;
                 Ok(over)
             }

@@ -1,51 +1,18 @@
-use Rattle.std.proofs.Common.{ℕ, List, ◌++◌, length, ◌∙◌, sym, subst, ap, arith}
-use Rattle.chord_code.specs.declared.parts.Parts.{Parts}
-use Rattle.chord_code.specs.Laws.{ChordsAreRight}
-use Rattle.chord_code.specs.Meaning.{code_program}
-use Rattle.chord_space.specs.Desks.{view, space_code, space_limits, program_of}
+use Rattle.std.proofs.Common.{sym, subst}
 use Rattle.chord_match.specs.declared.claiming.Missed.{Missed}
-use Rattle.chord_match.specs.Claiming.{IsMissed}
-use Rattle.chord_match.specs.Consuming.{Consuming, Handed}
-use Rattle.chord_match.specs.Fires.{IsFired}
-use Rattle.chord_match.proofs.Claims.{taking_first, ready_at, lost_all, refused_all}
-use Rattle.chord_match.proofs.Handovers.{drawn_consuming, is_fired}
+use Rattle.chord_match.specs.Fires.{IsFired, IsMissedBy}
+use Rattle.chord_space.specs.Desks.{view, space_code, space_limits, program_of}
 use Rattle.chord_match.proofs.handing.fire.Goals as goal
-
-pub take_members-requires-clause-right : goal.take_members-requires-clause-right
-take_members-requires-clause-right g c =
-    let low = c.requires.bounds.0 in let small = c.args.space.now.sized.4 in
-    (omega (arith, low, small), subst (λ (z : Parts). ChordsAreRight (code_program z (space_limits c.args.space.now))) c.requires.code (c.chords_are_right.ensures (space_limits c.args.space.now)))
-
-pub take_members-requires-clause-taking : goal.take_members-requires-clause-taking
-take_members-requires-clause-taking g c =
-    taking_first c.args.space.now.events (program_of c.args.space.now) (view c.args.desk.now) c.args.object c.args.chord c.args.members.now c.args.nexts.now c.requires.seen c.requires.free c.requires.room
-
-pub hand_out-requires : goal.hand_out-requires
-hand_out-requires g c =
-    let ms = c.args.members.now in let t = c.in-Ok.ensures.taken in let n = c.args.space.now.events in let s = c.requires.seen in let v = view c.args.desk.now in
-    let k = subst (λ (z : List ℕ). Consuming n (view c.take_members.new.desk) c.args.object t.1.methods z c.in-Ok.f t.1.values) (sym c.items.ensures.numbers)
-    (drawn_consuming n (program_of c.args.space.now) v (view c.take_members.new.desk) c.args.object c.args.chord ms c.in-Ok.f t.1 (λ q l. (ready_at n v c.args.object s.methods ms c.args.nexts.now s.ready q l).below) c.args.desk.now.settled.7) in
-    let few = c.items.ensures.few in let e = ap length c.items.ensures.numbers in let none = ap length c.new-hand.ensures in
-    record { desk = c.take_members.ensures.desk.0 ∙ c.requires.desk; consuming = (c.args.object, t.1.methods, c.in-Ok.f, t.1.values, k); room = omega (arith, few, e, none) }
 
 pub returns-in-Ok-clause-firing : goal.returns-in-Ok-clause-firing
 returns-in-Ok-clause-firing g c =
-    let ms = c.args.members.now in let t = c.in-Ok.ensures.taken in let n = c.args.space.now.events in let s = c.requires.seen in let p = program_of c.args.space.now in let o = c.args.object in
-    let v = view c.args.desk.now in let u = view c.take_members.new.desk in let w = view c.hand_out.new.desk in
-    let k = subst (λ (z : List ℕ). Consuming n u o t.1.methods z c.in-Ok.f t.1.values) (sym c.items.ensures.numbers)
-    (drawn_consuming n p v u o c.args.chord ms c.in-Ok.f t.1 (λ q l. (ready_at n v o s.methods ms c.args.nexts.now s.ready q l).below) c.args.desk.now.settled.7) in
-    let h = c.hand_out.ensures.handed o t.1.methods c.in-Ok.f t.1.values k in
-    let all = h.1 ∙ ap (λ z. z ++ h.0) c.new-hand.ensures in
-    let handed = subst (λ (z : List ℕ). Handed g.P.Carry.entries g.P.Carry.arguments (λ z. g.P.Carry.keeps_to z (space_code c.args.space.now) (space_limits c.args.space.now)) p u w o t.1.methods z c.in-Ok.f t.1.values h.0) c.items.ensures.numbers h.2 in
-    subst (λ z. IsFired g.P.Carry.entries g.P.Carry.arguments (λ z. g.P.Carry.keeps_to z (space_code c.args.space.now) (space_limits c.args.space.now)) p n v w o c.args.chord ms c.in-Ok.f z) (sym all)
-    (is_fired g.P.Carry.entries g.P.Carry.arguments (λ z. g.P.Carry.keeps_to z (space_code c.args.space.now) (space_limits c.args.space.now)) p n v u w o c.args.chord ms c.in-Ok.f h.0 t.1 t.0 handed)
+    let n = c.args.space.now.events in let v = view c.args.desk.now in let w = view c.fire_to.new.desk in let h = c.in-Ok.ensures.fired in
+    subst (λ z. IsFired g.P.Carry.entries g.P.Carry.arguments (λ z. g.P.Carry.keeps_to z (space_code c.args.space.now) (space_limits c.args.space.now)) (program_of c.args.space.now) n v w c.args.object c.args.chord c.args.members.now c.in-Ok.number z) (sym h.1) h.2
 
 pub returns-in-Err-Lost-clause-firing : goal.returns-in-Err-Lost-clause-firing
 returns-in-Err-Lost-clause-firing g c =
-    let n = c.args.space.now.events in let v = view c.args.desk.now in let w = view c.take_members.new.desk in
-    lost_all n v w c.args.members.now c.args.nexts.now c.in-Err-Lost.i c.requires.free (subst (λ (x : Missed). IsMissed n v w c.args.members.now c.args.nexts.now 0 x) c.in-Err-Lost.field-0-is c.in-Err-Lost.ensures.taken)
+    subst (λ (x : Missed). IsMissedBy c.args.space.now.events (view c.args.desk.now) (view c.fire_to.new.desk) c.args.members.now c.args.nexts.now x) c.in-Err-Lost.field-0-is c.in-Err-Lost.ensures.missed
 
 pub returns-in-Err-Spent-clause-firing : goal.returns-in-Err-Spent-clause-firing
 returns-in-Err-Spent-clause-firing g c =
-    let n = c.args.space.now.events in let v = view c.args.desk.now in let w = view c.take_members.new.desk in
-    refused_all n v w c.args.members.now c.args.nexts.now c.requires.free (subst (λ (x : Missed). IsMissed n v w c.args.members.now c.args.nexts.now 0 x) c.in-Err-Spent.field-0-is c.in-Err-Spent.ensures.taken)
+    subst (λ (x : Missed). IsMissedBy c.args.space.now.events (view c.args.desk.now) (view c.fire_to.new.desk) c.args.members.now c.args.nexts.now x) c.in-Err-Spent.field-0-is c.in-Err-Spent.ensures.missed

@@ -1,40 +1,29 @@
-use Rattle.std.proofs.Common.{◌≡◌, length, sym, ap, ◌∙◌, Some, None, arith}
+use Rattle.std.proofs.Common.{◌≡◌, sym, ◌∙◌, Some, None}
 use Rattle.chord_worker.proofs.Beginning.{task_is, may_be_begun, twice, few_values, begun_there}
 use Rattle.chord_worker.proofs.worker.Worker.begin_fired.Goals as goal
 
-pub unpack-caller-requires : goal.unpack-caller-requires
-unpack-caller-requires g c =
-    let few = c.is_full-full.ensures.few in
-    let none = ap length c.new-arguments.ensures in record { few = omega (arith, few, none) }
-
 pub take_task-task-requires : goal.take_task-task-requires
-take_task-task-requires g c = record { stock = λ e. let z : Some c.requires.fired.1.stock ≡ None = sym c.requires.fired.1.spare ∙ e in cc }
+take_task-task-requires g c = record { stock = λ e. let z : Some c.requires.fired.3.stock ≡ None = sym c.requires.fired.3.spare ∙ e in cc }
 
 pub resume-requires-clause-task : goal.resume-requires-clause-task
-resume-requires-clause-task g c = rw (c.deref_mut.ensures.value ∙ c.task.view_is) (task_is _ _ _ _ _ _ _ _ c.requires.fired.1 c.requires.sound _ c.requires.code c.chords_are_right.ensures _ c.unpack-caller.ensures.task _ c.take_task-task.ensures.task
-    _ _ c.new-arguments.ensures c.unpack-caller.ensures.arguments)
+resume-requires-clause-task g c = rw (c.deref_mut.ensures.value ∙ c.task.view_is) (task_is _ _ _ _ _ _ _ _ c.requires.fired.3 c.requires.sound _ c.requires.code c.chords_are_right.ensures _ c.requires.fired.2.caller_is _ c.take_task-task.ensures.task _ c.requires.fired.2.arguments_are)
 
 pub resume-requires-clause-may : goal.resume-requires-clause-may
-resume-requires-clause-may g c = rw (c.deref_mut.ensures.value ∙ c.task.view_is) (may_be_begun _ _ _ _ _ _ _ _ c.requires.fired.1 c.requires.sound _ c.requires.code c.chords_are_right.ensures _ c.unpack-caller.ensures.task _ c.take_task-task.ensures.task
-    _ _ c.new-arguments.ensures c.unpack-caller.ensures.arguments)
+resume-requires-clause-may g c = rw (c.deref_mut.ensures.value ∙ c.task.view_is) (may_be_begun _ _ _ _ _ _ _ _ c.requires.fired.3 c.requires.sound _ c.requires.code c.chords_are_right.ensures _ c.requires.fired.2.caller_is _ c.take_task-task.ensures.task _ c.requires.fired.2.arguments_are)
 
 pub resume-requires-clause-few : goal.resume-requires-clause-few
-resume-requires-clause-few g c = few_values _ _ _ _ _ _ _ _ c.requires.fired.1 c.requires.sound _ c.requires.code c.chords_are_right.ensures _ c.unpack-caller.ensures.task _ c.take_task-task.ensures.task
-    _ _ c.new-arguments.ensures c.unpack-caller.ensures.arguments c.entries_are_within.ensures.within c.args.space.now.sized.4
+resume-requires-clause-few g c = few_values _ _ _ _ _ _ _ _ c.requires.fired.3 c.requires.sound _ c.requires.code c.chords_are_right.ensures _ c.requires.fired.2.caller_is _ c.take_task-task.ensures.task _ c.requires.fired.2.arguments_are c.entries_are_within.ensures.within c.args.space.now.sized.4
 
 pub resume-requires-clause-twice : goal.resume-requires-clause-twice
-resume-requires-clause-twice g c = twice _ _ _ _ _ _ _ _ c.requires.fired.1 c.requires.sound _ c.requires.code c.chords_are_right.ensures _ c.unpack-caller.ensures.task _ c.take_task-task.ensures.task
-    _ _ c.new-arguments.ensures c.unpack-caller.ensures.arguments
+resume-requires-clause-twice g c = twice _ _ _ _ _ _ _ _ c.requires.fired.3 c.requires.sound _ c.requires.code c.chords_are_right.ensures _ c.requires.fired.2.caller_is _ c.take_task-task.ensures.task _ c.requires.fired.2.arguments_are
 
 pub take_on-requires-clause-begun : goal.take_on-requires-clause-begun
 take_on-requires-clause-begun g c = (
   c.requires.fired.0,
-  begun_there _ _ _ _ _ _ _ _ c.requires.fired.1 c.requires.sound _ c.requires.code c.chords_are_right.ensures _ c.unpack-caller.ensures.task _ c.take_task-task.ensures.task
-      _ _ c.new-arguments.ensures c.unpack-caller.ensures.arguments _ c.take_task-task.ensures.spare _ (rw (c.deref_mut.ensures.value ∙ c.task.view_is) at c.resume.ensures.task) (rw (c.deref_mut.ensures.value ∙ c.task.view_is) at c.resume.ensures.past) c.resume.ensures.top,
+  begun_there _ _ _ _ _ _ _ _ c.requires.fired.3 c.requires.sound _ c.requires.code c.chords_are_right.ensures _ c.requires.fired.2.caller_is _ c.take_task-task.ensures.task _ c.requires.fired.2.arguments_are _ c.take_task-task.ensures.spare _ (rw (c.deref_mut.ensures.value ∙ c.task.view_is) at c.resume.ensures.task) (rw (c.deref_mut.ensures.value ∙ c.task.view_is) at c.resume.ensures.past) c.resume.ensures.top,
 )
 
 pub returns-clause-taken : goal.returns-clause-taken
-returns-clause-taken g c = λ v fired.
+returns-clause-taken g c = λ v qs unpacked fired.
     c.take_on.ensures.taken v
-    (begun_there _ _ _ _ _ _ _ _ fired c.requires.sound _ c.requires.code c.chords_are_right.ensures _ c.unpack-caller.ensures.task _ c.take_task-task.ensures.task
-    _ _ c.new-arguments.ensures c.unpack-caller.ensures.arguments _ c.take_task-task.ensures.spare _ (rw (c.deref_mut.ensures.value ∙ c.task.view_is) at c.resume.ensures.task) (rw (c.deref_mut.ensures.value ∙ c.task.view_is) at c.resume.ensures.past) c.resume.ensures.top)
+    (begun_there _ _ _ _ _ _ _ _ fired c.requires.sound _ c.requires.code c.chords_are_right.ensures _ unpacked.caller_is _ c.take_task-task.ensures.task _ unpacked.arguments_are _ c.take_task-task.ensures.spare _ (rw (c.deref_mut.ensures.value ∙ c.task.view_is) at c.resume.ensures.task) (rw (c.deref_mut.ensures.value ∙ c.task.view_is) at c.resume.ensures.past) c.resume.ensures.top)

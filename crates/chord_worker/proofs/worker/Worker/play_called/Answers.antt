@@ -19,13 +19,16 @@ use Rattle.chord_worker.proofs.Stepping.{went_called, plays_minded}
 use Rattle.chord_worker.specs.Stepping.{PlaysNoOther, WasMinded}
 use Rattle.chord_worker.proofs.worker.Worker.play_called.Goals as goal
 
+pub held_twice-held-requires : goal.held_twice-held-requires
+held_twice-held-requires g c = (c.args.object, c.args.method, inr (ap (λ (vs : List value.Value). Called c.args.object c.args.method vs) (sym c.in_ok-copy.ensures)))
+
 pub send_task-requires-clause-bounds : goal.send_task-requires-clause-bounds
 send_task-requires-clause-bounds g c = (c.in-Ok.ensures.drawn.0, c.in-Ok.ensures.drawn.1.named c.args.object (inl refl))
 
 pub send_task-requires-clause-link : goal.send_task-requires-clause-link
 send_task-requires-clause-link g c =
     let s = c.args.space.now in
-    subst (λ (vs : List value.Value). MayLink (program_of s) (view c.draw_own.new.desk) c.in-Ok.number c.args.object c.args.method (view_of c.draw_own.new.task).past vs) (sym c.in_ok-held.ensures.0)
+    subst (λ (vs : List value.Value). MayLink (program_of s) (view c.draw_own.new.desk) c.in-Ok.number c.args.object c.args.method (view_of c.draw_own.new.task).past vs) (sym (c.held_twice-held.ensures.0 ∙ c.in_ok-copy.ensures))
     (task_may s c.args.self.now c.args.task c.requires.rest c.draw_own.new.task c.in-Ok.number (view c.draw_own.new.desk) c.args.object c.args.method c.args.arguments c.in-Ok.ensures.drawn.1)
 
 pub mind-requires-clause-bounds : goal.mind-requires-clause-bounds

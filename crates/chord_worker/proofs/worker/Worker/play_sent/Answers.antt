@@ -17,13 +17,16 @@ use Rattle.chord_worker.specs.Stepping.{PlaysNoOther}
 use Rattle.chord_worker.proofs.Stepping.{went_sent, no_other, plays_minded}
 use Rattle.chord_worker.proofs.worker.Worker.play_sent.Goals as goal
 
+pub held_twice-held-requires : goal.held_twice-held-requires
+held_twice-held-requires g c = (c.args.object, c.args.method, inl (ap (λ (vs : List value.Value). Sent c.args.object c.args.method vs) (sym c.in_ok-copy.ensures)))
+
 pub send_letter-requires-clause-bounds : goal.send_letter-requires-clause-bounds
 send_letter-requires-clause-bounds g c = (c.in-Ok.ensures.drawn.0, c.in-Ok.ensures.drawn.1.named c.args.object (inl refl))
 
 pub send_letter-requires-clause-link : goal.send_letter-requires-clause-link
 send_letter-requires-clause-link g c =
     let s = c.args.space.now in
-    subst (λ (vs : List value.Value). MayLink (program_of s) (view c.draw_own.new.desk) c.in-Ok.number c.args.object c.args.method [] vs) (sym c.in_ok-held.ensures.0)
+    subst (λ (vs : List value.Value). MayLink (program_of s) (view c.draw_own.new.desk) c.in-Ok.number c.args.object c.args.method [] vs) (sym (c.held_twice-held.ensures.0 ∙ c.in_ok-copy.ensures))
     (letter_may s c.args.self.now c.args.task c.requires.rest c.draw_own.new.task c.in-Ok.number (view c.draw_own.new.desk) c.args.object c.args.method c.args.arguments c.in-Ok.ensures.drawn.1)
 
 pub mind-requires-clause-bounds : goal.mind-requires-clause-bounds
