@@ -9,7 +9,6 @@ use chord_base::members::Members;
 use chord_base::text::Text;
 use chord_base::value::{Object, Value, Values};
 use std::alloc::{AllocError, Global};
-use std::process::Abort;
 use std::test::Fail;
 
 /// A text and an object.
@@ -51,24 +50,30 @@ fn trap() -> Entry {
     }
 }
 
-/// The number and the body of an entry's copy, and whether it says the same.
-fn copied(alloc: Global, entry: &Entry) -> Result<(u32, u32, bool), AllocError> {
-    let copy = entry.copied(alloc)?;
-    Ok((copy.number, copy.body, same_what(&copy.what, &entry.what)))
+/// What an entry has: its number and its body, and whether it says the same as another.
+type Shown = (u32, u32, bool);
+
+fn shown(one: &Entry, other: &Entry) -> Shown {
+    (one.number, one.body, same_what(&one.what, &other.what))
 }
 
-/// A copy of the entry is equal.
-fn is_copied(rt: &impl Abort, alloc: Global, entry: &Entry) -> Result<(), AllocError> {
-    let found = copied(alloc, entry)?;
-    assert_eq!(rt; found, (entry.number, entry.body, true));
-    Ok(())
+/// What the copy of an entry has.
+fn copied(alloc: Global, entry: &Entry) -> Result<Shown, AllocError> {
+    let copy = entry.copied(alloc)?;
+    Ok(shown(&copy, entry))
+}
+
+/// What the copy of the firing has.
+fn firing_copied(alloc: Global) -> Result<Shown, Fail> {
+    let entry = fired(alloc)?;
+    Ok(copied(alloc, &entry)?)
 }
 
 #[test]
 fn a_copied_entry_is_equal(rt: HostRuntime) -> Result<(), Fail> {
-    let entry = fired(rt.alloc())?;
-    is_copied(&rt, rt.alloc(), &entry)?;
-    is_copied(&rt, rt.alloc(), &trap())?;
+    let firing = firing_copied(rt.alloc())?;
+    let ended = copied(rt.alloc(), &trap())?;
+    assert_eq!(rt; (firing, ended), ((4, 4, true), (6, 4, true)));
     Ok(())
 }
 

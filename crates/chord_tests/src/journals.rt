@@ -150,20 +150,22 @@ fn names_the_least_wrong_line(rt: HostRuntime) -> Result<(), Fail> {
     for (name, text, line) in &WRONG_LINES {
         is_wrong_at(&rt, name, wrong_line(rt.alloc(), text), *line);
     }
-    let unended = BUFFER.strip_suffix("\n").unwrap_or("");
-    assert_eq!(rt;
-        wrong_line(rt.alloc(), unended),
-        Some(8),
-        "no end of the last line"
-    );
+    Ok(())
+}
+
+/// The line at which the buffer's text is wrong without its last byte.
+fn unended(alloc: Global) -> Option<u32> {
+    wrong_line(alloc, BUFFER.strip_suffix("\n").unwrap_or(""))
+}
+
+#[test]
+fn names_the_line_of_a_change(rt: HostRuntime) -> Result<(), Fail> {
+    is_wrong_at(&rt, "no end of the last line", unended(rt.alloc()), Some(8));
     let another_number = changed(rt.alloc(), "2 0 sent", "3 0 sent")?;
+    is_wrong_at(&rt, "another number", another_number, Some(3));
     let leading_zero = changed(rt.alloc(), "journal 1 8", "journal 1 08")?;
-    let behind_the_end = followed(rt.alloc())?;
-    assert_eq!(rt;
-        (another_number, leading_zero, behind_the_end),
-        (Some(3), Some(0), Some(9)),
-        "another number, a leading zero, a byte behind the end"
-    );
+    is_wrong_at(&rt, "a leading zero", leading_zero, Some(0));
+    is_wrong_at(&rt, "a byte behind the end", followed(rt.alloc())?, Some(9));
     Ok(())
 }
 
@@ -289,18 +291,6 @@ fn reads_the_most_entries(rt: HostRuntime) -> Result<(), Fail> {
     Ok(())
 }
 
-/// What writing the lines of a journal answers where these writes fail, and whether this is written.
-fn lines_written(
-    alloc: Global,
-    journal: &Journal,
-    fails: Vec<u32>,
-    taken: &[u8],
-) -> Result<(Result<(), Failed>, bool), AllocError> {
-    let mut sink = MemSink::new(alloc, 100, 5, fails)?;
-    let written = write_lines(journal, &mut sink);
-    Ok((written, sink.taken() == taken))
-}
-
 /// What writing the text of a journal into a sink with that room answers, and whether this is written.
 fn text_written(
     alloc: Global,
@@ -313,16 +303,43 @@ fn text_written(
     Ok((written, sink.taken() == taken))
 }
 
+/// What writing the lines of a journal answers where this write fails, if it is not 0, and whether this is written.
+fn lines_written(
+    alloc: Global,
+    journal: &Journal,
+    call: u32,
+    taken: &[u8],
+) -> Result<(Result<(), Failed>, bool), AllocError> {
+    let mut sink = MemSink::new(alloc, 100, 5, vec![in alloc; call]?)?;
+    let written = write_lines(journal, &mut sink);
+    Ok((written, sink.taken() == taken))
+}
+
+/// What writing the lines of the journal of groups answers.
+fn groups_lines(
+    alloc: Global,
+    call: u32,
+    taken: &[u8],
+) -> Result<(Result<(), Failed>, bool), Fail> {
+    let journal = read(alloc, GROUPS.as_bytes())?;
+    Ok(lines_written(alloc, &journal, call, taken)?)
+}
+
+/// What writing the text of the journal of groups answers.
+fn groups_text(alloc: Global, room: u32, taken: &[u8]) -> Result<(Result<(), Failed>, bool), Fail> {
+    let journal = read(alloc, GROUPS.as_bytes())?;
+    Ok(text_written(alloc, &journal, room, taken)?)
+}
+
 #[test]
 fn a_write_fails_in_mid_stream(rt: HostRuntime) -> Result<(), Fail> {
-    let alloc = rt.alloc();
-    let journal = read(alloc, GROUPS.as_bytes())?;
-    let whole = lines_written(alloc, &journal, Vec::new(alloc), b"AAB5B5\nFalse\n")?;
-    let failing = lines_written(alloc, &journal, vec![in alloc; 3]?, b"AAB5B5\n")?;
-    let full = text_written(alloc, &journal, 14, b"journal 1 24\n0")?;
-    assert_eq!(rt; whole, (Ok(()), true));
-    assert_eq!(rt; failing, (Err(Failed), true));
-    assert_eq!(rt; full, (Err(Failed), true));
+    let whole = groups_lines(rt.alloc(), 0, b"AAB5B5\nFalse\n")?;
+    let failing = groups_lines(rt.alloc(), 3, b"AAB5B5\n")?;
+    let full = groups_text(rt.alloc(), 14, b"journal 1 24\n0")?;
+    assert_eq!(rt;
+        (whole, failing, full),
+        ((Ok(()), true), (Err(Failed), true), (Err(Failed), true))
+    );
     Ok(())
 }
 

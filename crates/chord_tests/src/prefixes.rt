@@ -196,28 +196,37 @@ fn answers_of(alloc: Global, answers: &[Ends]) -> Result<Vec<End>, Fail> {
     Ok(list)
 }
 
-/// A body that began so at this depth, asks these in turn, and gets these answers.
-fn tell(
-    program: &mut Listed,
-    alloc: Global,
-    start: Start,
-    depth: u32,
-    asks: &[Says],
-    answers: &[Ends],
-) -> Result<(), Fail> {
-    let tale = Tale {
-        start,
-        depth: u64::from(depth),
-        asks: asks_of(alloc, depth, asks)?,
-        answers: answers_of(alloc, answers)?,
-    };
-    program.tales.push(tale)?;
-    Ok(())
+/// How a body begins, written short: as `Main`, or as the body of a chord of the first object with these arguments.
+#[derive(Clone, Copy)]
+enum Begins {
+    Main,
+    Chord(u16, Parts),
 }
 
-/// The start of the body of a chord of the first object.
-fn begins(alloc: Global, chord: u16, arguments: Parts) -> Result<Start, Fail> {
-    Ok(Start::Chord(chord, FIRST, values(alloc, arguments)?))
+fn start(alloc: Global, begins: Begins) -> Result<Start, Fail> {
+    match begins {
+        Begins::Main => Ok(Start::Main),
+        Begins::Chord(chord, arguments) => Ok(Start::Chord(
+            chord,
+            FIRST,
+            values(alloc, arguments)?,
+        )),
+    }
+}
+
+/// A body, written short: how it begins and at which depth, what it asks in turn, and the answers that it gets.
+type Told = (Begins, u32, &'static [Says], &'static [Ends]);
+
+fn tale(alloc: Global, told: &Told) -> Result<Tale, Fail> {
+    let (begins, depth, asks, answers) = told;
+    let asks = asks_of(alloc, *depth, asks)?;
+    let answers = answers_of(alloc, answers)?;
+    Ok(Tale {
+        start: start(alloc, *begins)?,
+        depth: u64::from(*depth),
+        asks,
+        answers,
+    })
 }
 
 /// A program of no body, whose one class has no chord and a method 0 with callers that wait.
@@ -245,6 +254,18 @@ fn chord(program: &mut Listed, alloc: Global, methods: &[u8]) -> Result<(), Fail
         .chords
         .push(methods)?;
     Ok(())
+}
+
+/// The program of these bodies, whose one class has these chords.
+fn listed(alloc: Global, chords: &[&[u8]], tales: &[Told]) -> Result<Listed, Fail> {
+    let mut program = program(alloc)?;
+    for methods in chords {
+        chord(&mut program, alloc, methods)?;
+    }
+    for told in tales {
+        program.tales.push(tale(alloc, told)?)?;
+    }
+    Ok(program)
 }
 
 /// A changed journal: its name, the place and the line that is put there, and how many of its entries are a run.
@@ -345,13 +366,13 @@ const BUFFER_CASES: [Case; 12] = [
     ("a second beginning", 6, (6, 6, Says::Begun), 6),
 ];
 
-/// The chords and bodies of `buffer`.
-fn buffer_bodies(program: &mut Listed, alloc: Global) -> Result<(), Fail> {
-    chord(program, alloc, &[0, 1])?;
-    tell(
-        program,
-        alloc,
-        Start::Main,
+/// The chords of the class of `buffer`.
+const BUFFER_CHORDS: [&[u8]; 1] = [&[0, 1]];
+
+/// The bodies of `buffer`.
+const BUFFER_TALES: [Told; 2] = [
+    (
+        Begins::Main,
         1,
         &[
             Says::Made,
@@ -361,16 +382,14 @@ fn buffer_bodies(program: &mut Listed, alloc: Global) -> Result<(), Fail> {
             Says::Ended(GIVES_UNIT),
         ],
         &[GIVES_FIRST, GIVES_UNIT, GIVES_HI, GIVES_UNIT],
-    )?;
-    let get = begins(alloc, 0, HI)?;
-    tell(program, alloc, get, 2, &[Says::Ended(GIVES_HI)], &[])
-}
+    ),
+    (Begins::Chord(0, HI), 2, &[Says::Ended(GIVES_HI)], &[]),
+];
 
 /// `Main` makes a buffer, puts `hi` into it, gets it and prints it.
 #[test]
 fn buffer(rt: HostRuntime) -> Result<(), Fail> {
-    let mut program = program(rt.alloc())?;
-    buffer_bodies(&mut program, rt.alloc())?;
+    let program = listed(rt.alloc(), &BUFFER_CHORDS, &BUFFER_TALES)?;
     judge(&rt, rt.alloc(), &program, &BUFFER_LINES, &BUFFER_CASES)
 }
 
@@ -404,28 +423,25 @@ const PARKED_MAIN_CASES: [Case; 3] = [
 
 const PARKED_MAIN_ALONE: [Case; 1] = [("as it is", 0, (0, 0, Says::Begun), 3)];
 
-/// The chords and bodies of `parked_main`.
-fn parked_main_bodies(program: &mut Listed, alloc: Global) -> Result<(), Fail> {
-    chord(program, alloc, &[0, 1])?;
-    tell(
-        program,
-        alloc,
-        Start::Main,
-        1,
-        &[
-            Says::Made,
-            Says::Called(FIRST, 0, Parts::None),
-            Says::Ended(GIVES_UNIT),
-        ],
-        &[GIVES_FIRST, GIVES_UNIT],
-    )
-}
+/// The chords of the class of `parked_main`.
+const PARKED_MAIN_CHORDS: [&[u8]; 1] = [&[0, 1]];
+
+/// The bodies of `parked_main`.
+const PARKED_MAIN_TALES: [Told; 1] = [(
+    Begins::Main,
+    1,
+    &[
+        Says::Made,
+        Says::Called(FIRST, 0, Parts::None),
+        Says::Ended(GIVES_UNIT),
+    ],
+    &[GIVES_FIRST, GIVES_UNIT],
+)];
 
 /// `Main` gets from a buffer into which nothing was put, and waits.
 #[test]
 fn parked_main(rt: HostRuntime) -> Result<(), Fail> {
-    let mut program = program(rt.alloc())?;
-    parked_main_bodies(&mut program, rt.alloc())?;
+    let program = listed(rt.alloc(), &PARKED_MAIN_CHORDS, &PARKED_MAIN_TALES)?;
     let parked = &PARKED_MAIN_LINES[..3];
     judge(&rt, rt.alloc(), &program, parked, &PARKED_MAIN_ALONE)?;
     judge(
@@ -477,13 +493,13 @@ const DIVISION_CASES: [Case; 4] = [
     ),
 ];
 
-/// The chords and bodies of `division_trap_through_a_call`.
-fn division_trap_through_a_call_bodies(program: &mut Listed, alloc: Global) -> Result<(), Fail> {
-    chord(program, alloc, &[0])?;
-    tell(
-        program,
-        alloc,
-        Start::Main,
+/// The chords of the class of `division_trap_through_a_call`.
+const DIVISION_CHORDS: [&[u8]; 1] = [&[0]];
+
+/// The bodies of `division_trap_through_a_call`.
+const DIVISION_TALES: [Told; 2] = [
+    (
+        Begins::Main,
         1,
         &[
             Says::Made,
@@ -492,16 +508,19 @@ fn division_trap_through_a_call_bodies(program: &mut Listed, alloc: Global) -> R
             Says::Ended(BY_ZERO),
         ],
         &[GIVES_FIRST, GIVES_UNIT, BY_ZERO],
-    )?;
-    let div = begins(alloc, 0, ONE_BY_ZERO)?;
-    tell(program, alloc, div, 2, &[Says::Ended(BY_ZERO)], &[])
-}
+    ),
+    (
+        Begins::Chord(0, ONE_BY_ZERO),
+        2,
+        &[Says::Ended(BY_ZERO)],
+        &[],
+    ),
+];
 
 /// A method divides 1 by 0 for `Main`, which has printed `before`.
 #[test]
 fn division_trap_through_a_call(rt: HostRuntime) -> Result<(), Fail> {
-    let mut program = program(rt.alloc())?;
-    division_trap_through_a_call_bodies(&mut program, rt.alloc())?;
+    let program = listed(rt.alloc(), &DIVISION_CHORDS, &DIVISION_TALES)?;
     judge(&rt, rt.alloc(), &program, &DIVISION_LINES, &DIVISION_CASES)
 }
 
@@ -540,13 +559,13 @@ const DEEP_CASES: [Case; 4] = [
     ),
 ];
 
-/// The chords and bodies of `too_deep_in_small`.
-fn too_deep_in_small_bodies(program: &mut Listed, alloc: Global) -> Result<(), Fail> {
-    chord(program, alloc, &[0])?;
-    tell(
-        program,
-        alloc,
-        Start::Main,
+/// The chords of the class of `too_deep_in_small`.
+const DEEP_CHORDS: [&[u8]; 1] = [&[0]];
+
+/// The bodies of `too_deep_in_small`.
+const DEEP_TALES: [Told; 3] = [
+    (
+        Begins::Main,
         1,
         &[
             Says::Made,
@@ -554,25 +573,20 @@ fn too_deep_in_small_bodies(program: &mut Listed, alloc: Global) -> Result<(), F
             Says::Ended(TOO_DEEP),
         ],
         &[GIVES_FIRST, TOO_DEEP],
-    )?;
-    let second = begins(alloc, 0, ONE)?;
-    tell(
-        program,
-        alloc,
-        second,
+    ),
+    (
+        Begins::Chord(0, ONE),
         2,
         &[Says::Called(FIRST, 0, TWO), Says::Ended(TOO_DEEP)],
         &[TOO_DEEP],
-    )?;
-    let third = begins(alloc, 0, TWO)?;
-    tell(program, alloc, third, 3, &[Says::Ended(TOO_DEEP)], &[])
-}
+    ),
+    (Begins::Chord(0, TWO), 3, &[Says::Ended(TOO_DEEP)], &[]),
+];
 
 /// A method calls itself until the depth limit, here 3.
 #[test]
 fn too_deep_in_small(rt: HostRuntime) -> Result<(), Fail> {
-    let mut program = program(rt.alloc())?;
-    too_deep_in_small_bodies(&mut program, rt.alloc())?;
+    let program = listed(rt.alloc(), &DEEP_CHORDS, &DEEP_TALES)?;
     judge(&rt, rt.alloc(), &program, &DEEP_LINES, &DEEP_CASES)
 }
 
@@ -600,30 +614,26 @@ const ANOTHER_OBJECT_CASES: [Case; 2] = [
     ),
 ];
 
-/// The chords and bodies of `another_object`.
-fn another_object_bodies(program: &mut Listed, alloc: Global) -> Result<(), Fail> {
-    chord(program, alloc, &[0, 1])?;
-    chord(program, alloc, &[1])?;
-    tell(
-        program,
-        alloc,
-        Start::Main,
-        1,
-        &[
-            Says::Made,
-            Says::Made,
-            Says::Sent(FIRST, 1, HI),
-            Says::Called(SECOND, 0, Parts::None),
-        ],
-        &[GIVES_FIRST, GIVES_SECOND, GIVES_UNIT],
-    )
-}
+/// The chords of the class of `another_object`.
+const ANOTHER_OBJECT_CHORDS: [&[u8]; 2] = [&[0, 1], &[1]];
+
+/// The bodies of `another_object`.
+const ANOTHER_OBJECT_TALES: [Told; 1] = [(
+    Begins::Main,
+    1,
+    &[
+        Says::Made,
+        Says::Made,
+        Says::Sent(FIRST, 1, HI),
+        Says::Called(SECOND, 0, Parts::None),
+    ],
+    &[GIVES_FIRST, GIVES_SECOND, GIVES_UNIT],
+)];
 
 /// `Main` makes two objects, puts into the first and gets from the second.
 #[test]
 fn another_object(rt: HostRuntime) -> Result<(), Fail> {
-    let mut program = program(rt.alloc())?;
-    another_object_bodies(&mut program, rt.alloc())?;
+    let program = listed(rt.alloc(), &ANOTHER_OBJECT_CHORDS, &ANOTHER_OBJECT_TALES)?;
     judge(
         &rt,
         rt.alloc(),
@@ -685,60 +695,47 @@ const TWO_CALLERS_CASES: [Case; 4] = [
     ),
 ];
 
-/// The chords and bodies of `two_callers`.
-fn two_callers_bodies(program: &mut Listed, alloc: Global) -> Result<(), Fail> {
-    chord(program, alloc, &[0])?;
-    chord(program, alloc, &[1])?;
-    tell(
-        program,
-        alloc,
-        Start::Main,
+/// The chords of the class of `two_callers`.
+const TWO_CALLERS_CHORDS: [&[u8]; 2] = [&[0], &[1]];
+
+/// The bodies of `two_callers`.
+const TWO_CALLERS_TALES: [Told; 5] = [
+    (
+        Begins::Main,
         1,
         &[Says::Made, START, CALL, Says::Printed(Word::One)],
         &[GIVES_FIRST, GIVES_UNIT, Ends::Gives(INT_ONE)],
-    )?;
-    tell(
-        program,
-        alloc,
-        Start::Main,
+    ),
+    (
+        Begins::Main,
         1,
         &[Says::Made, START, CALL, Says::Printed(Word::Two)],
         &[GIVES_FIRST, GIVES_UNIT, Ends::Gives(INT_TWO)],
-    )?;
-    let started = begins(alloc, 1, Parts::None)?;
-    tell(
-        program,
-        alloc,
-        started,
+    ),
+    (
+        Begins::Chord(1, Parts::None),
         1,
         &[Says::Called(FIRST, 0, Parts::One(INT_TWO))],
         &[],
-    )?;
-    let first = begins(alloc, 0, Parts::One(INT_ONE))?;
-    tell(
-        program,
-        alloc,
-        first,
+    ),
+    (
+        Begins::Chord(0, Parts::One(INT_ONE)),
         2,
         &[Says::Ended(Ends::Gives(INT_ONE))],
         &[],
-    )?;
-    let second = begins(alloc, 0, Parts::One(INT_TWO))?;
-    tell(
-        program,
-        alloc,
-        second,
+    ),
+    (
+        Begins::Chord(0, Parts::One(INT_TWO)),
         2,
         &[Says::Ended(Ends::Gives(INT_TWO))],
         &[],
-    )
-}
+    ),
+];
 
 /// Two bodies call one method at a time, each with its own number, and get it back; the second is served first.
 #[test]
 fn two_callers(rt: HostRuntime) -> Result<(), Fail> {
-    let mut program = program(rt.alloc())?;
-    two_callers_bodies(&mut program, rt.alloc())?;
+    let program = listed(rt.alloc(), &TWO_CALLERS_CHORDS, &TWO_CALLERS_TALES)?;
     judge(
         &rt,
         rt.alloc(),

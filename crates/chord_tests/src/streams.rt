@@ -4,86 +4,155 @@ use chord_io::{
     Failed, MAX_SOURCE_BYTES, MemSink, MemSource, Pen, ReadFault, StdSink, StdSource, read_all,
     read_up_to, write_all,
 };
+use std::alloc::{AllocError, Global};
 use std::io;
 use std::io::{Read, Write};
 use std::process::Abort;
 use std::test::Fail;
 
+/// A source of so many bytes whose reads give so many at most, the read that fails, counted from 1, the most bytes that are
+/// read, and what reading answers.
+type Reading = (&'static str, usize, u32, u32, u32, Result<usize, ReadFault>);
+
+const MOST: usize = MAX_SOURCE_BYTES as usize;
+
+const READINGS: [Reading; 14] = [
+    ("nothing", 0, 1, 0, MAX_SOURCE_BYTES, Ok(0)),
+    ("a byte", 1, 1, 0, MAX_SOURCE_BYTES, Ok(1)),
+    ("a last piece of one byte", 9, 2, 0, MAX_SOURCE_BYTES, Ok(9)),
+    (
+        "as much as is asked for",
+        4096,
+        5000,
+        0,
+        MAX_SOURCE_BYTES,
+        Ok(4096),
+    ),
+    ("a byte more", 4097, 5000, 0, MAX_SOURCE_BYTES, Ok(4097)),
+    ("three pieces", 9000, 4000, 0, MAX_SOURCE_BYTES, Ok(9000)),
+    (
+        "the longest text",
+        MOST,
+        70_000,
+        0,
+        MAX_SOURCE_BYTES,
+        Ok(MOST),
+    ),
+    (
+        "too long a text",
+        MOST + 1,
+        70_000,
+        0,
+        MAX_SOURCE_BYTES,
+        Err(ReadFault::TooLong),
+    ),
+    ("up to a bound", 3, 2, 0, 3, Ok(3)),
+    ("past a bound", 4, 2, 0, 3, Err(ReadFault::TooLong)),
+    // seven bytes in pieces of two are four reads, and a fifth finds the end
+    (
+        "the first read fails",
+        7,
+        2,
+        1,
+        MAX_SOURCE_BYTES,
+        Err(ReadFault::Failed),
+    ),
+    (
+        "the third read fails",
+        7,
+        2,
+        3,
+        MAX_SOURCE_BYTES,
+        Err(ReadFault::Failed),
+    ),
+    (
+        "the read at the end fails",
+        7,
+        2,
+        5,
+        MAX_SOURCE_BYTES,
+        Err(ReadFault::Failed),
+    ),
+    (
+        "the read behind the end fails",
+        7,
+        2,
+        6,
+        MAX_SOURCE_BYTES,
+        Ok(7),
+    ),
+];
+
+/// How many bytes are read of a source in memory.
+fn read_of(
+    alloc: Global,
+    length: usize,
+    piece: u32,
+    call: u32,
+    most: u32,
+) -> Result<Result<usize, ReadFault>, Fail> {
+    if piece == 0 {
+        return Err(Fail::from("no piece"));
+    }
+    let fails = vec![in alloc; call]?;
+    let mut source = MemSource::new(vec![in alloc; b'x'; length]?, piece, fails);
+    match read_up_to(alloc, &mut source, most) {
+        Ok(bytes) => Ok(Ok(bytes.len())),
+        Err(fault) => Ok(Err(fault)),
+    }
+}
+
+fn is_read(
+    rt: &impl Abort,
+    name: &str,
+    found: Result<usize, ReadFault>,
+    expected: Result<usize, ReadFault>,
+) {
+    assert_eq!(rt; found, expected, "{name}");
+}
+
 #[test]
-fn reads_to_the_end_in_any_pieces(rt: HostRuntime) -> Result<(), Fail> {
-    for (length, piece) in [
-        (0, 1),
-        (1, 1),
-        (9, 2),
-        (4096, 5000),
-        (4097, 5000),
-        (9000, 4000),
-    ] {
-        let bytes = vec![in rt.alloc(); 7u8; length]?;
-        let mut source = MemSource::new(bytes, piece, Vec::new(rt.alloc()));
-        let read = read_all(rt.alloc(), &mut source);
-        let expected = vec![in rt.alloc(); 7u8; length]?;
-        assert!(rt; read == Ok(expected), "{length} bytes in pieces of {piece}");
+fn reads_in_any_pieces_up_to_a_bound(rt: HostRuntime) -> Result<(), Fail> {
+    for (name, length, piece, call, most, expected) in &READINGS {
+        let found = read_of(rt.alloc(), *length, *piece, *call, *most)?;
+        is_read(&rt, name, found, *expected);
     }
     Ok(())
 }
 
-#[test]
-fn a_text_has_a_greatest_length(rt: HostRuntime) -> Result<(), Fail> {
-    let most = MAX_SOURCE_BYTES as usize;
-    for (length, read) in [(most, Ok(most)), (most + 1, Err(ReadFault::TooLong))] {
-        let bytes = vec![in rt.alloc(); b'x'; length]?;
-        let mut source = MemSource::new(bytes, 70_000, Vec::new(rt.alloc()));
-        let found = read_all(rt.alloc(), &mut source).map(|bytes| bytes.len());
-        assert_eq!(rt; found, read, "{length} bytes");
-    }
-    Ok(())
-}
+/// The room of a sink, the most that one write takes, the write that fails, what is taken of "chords", and what writing answers.
+type Writing = (u32, u32, u32, &'static str, Result<(), Failed>);
 
-#[test]
-fn reading_up_to_a_bound(rt: HostRuntime) -> Result<(), Fail> {
-    for (length, read) in [(3, Ok(3)), (4, Err(ReadFault::TooLong))] {
-        let bytes = vec![in rt.alloc(); b'x'; length]?;
-        let mut source = MemSource::new(bytes, 2, Vec::new(rt.alloc()));
-        let found = read_up_to(rt.alloc(), &mut source, 3).map(|bytes| bytes.len());
-        assert_eq!(rt; found, read, "{length} bytes");
-    }
-    Ok(())
-}
+const WRITINGS: [Writing; 5] = [
+    (6, 1, 0, "chords", Ok(())),
+    (9, 4, 0, "chords", Ok(())),
+    (4, 3, 0, "chor", Err(Failed)),
+    (0, 3, 0, "", Err(Failed)),
+    (9, 2, 3, "chor", Err(Failed)),
+];
 
-#[test]
-fn a_read_fails_in_mid_stream(rt: HostRuntime) -> Result<(), Fail> {
-    // Seven bytes in pieces of two are four reads, and a fifth finds the end.
-    for (call, read) in [(1, false), (3, false), (5, false), (6, true)] {
-        let bytes = vec![in rt.alloc(); b'x'; 7]?;
-        let mut source = MemSource::new(bytes, 2, vec![in rt.alloc(); call]?);
-        let found = read_all(rt.alloc(), &mut source).map(|bytes| bytes.len());
-        let expected = if read { Ok(7) } else { Err(ReadFault::Failed) };
-        assert_eq!(rt; found, expected, "read {call} fails");
+/// What writing answers, and whether this was taken.
+fn written(
+    alloc: Global,
+    room: u32,
+    piece: u32,
+    call: u32,
+    taken: &str,
+) -> Result<(Result<(), Failed>, bool), Fail> {
+    if piece == 0 {
+        return Err(Fail::from("no piece"));
     }
-    Ok(())
+    let fails = vec![in alloc; call]?;
+    let mut sink = MemSink::new(alloc, room, piece, fails)?;
+    let answer = write_all(&mut sink, b"chords");
+    Ok((answer, sink.taken() == taken.as_bytes()))
 }
 
 #[test]
 fn writes_until_all_is_taken(rt: HostRuntime) -> Result<(), Fail> {
-    // The room, the largest piece, the call that fails, and what is taken of "chords".
-    let cases = [
-        (6, 1, 0, "chords", true),
-        (9, 4, 0, "chords", true),
-        (4, 3, 0, "chor", false),
-        (0, 3, 0, "", false),
-        (9, 2, 3, "chor", false),
-    ];
-    for (room, piece, call, taken, whole) in cases {
-        let fails = vec![in rt.alloc(); call]?;
-        let mut sink = MemSink::new(rt.alloc(), room, piece, fails)?;
-        let written = write_all(&mut sink, b"chords");
-        let expected = if whole { Ok(()) } else { Err(Failed) };
-        assert_eq!(rt; written, expected, "room {room}, pieces of {piece}");
-        assert!(rt;
-            sink.taken() == taken.as_bytes(),
-            "room {room}, pieces of {piece}"
-        );
+    for (room, piece, call, taken, expected) in &WRITINGS {
+        let found = written(rt.alloc(), *room, *piece, *call, taken)?;
+        assert_eq!(rt; found, (*expected, true), "room {room}, pieces of {piece}");
     }
     Ok(())
 }
@@ -111,9 +180,10 @@ impl Write for Broken {
 #[test]
 fn a_reader_of_std_is_read_to_its_end(rt: HostRuntime) -> Result<(), Fail> {
     let text = read_all(rt.alloc(), &mut StdSource::new(b"class A { }".as_slice()));
-    assert_eq!(rt; text.map(|bytes| bytes.len()), Ok(11));
+    let text = text.map(|bytes| bytes.len());
     let broken = read_all(rt.alloc(), &mut StdSource::new(Broken));
-    assert_eq!(rt; broken.map(|bytes| bytes.len()), Err(ReadFault::Failed));
+    let broken = broken.map(|bytes| bytes.len());
+    assert_eq!(rt; (text, broken), (Ok(11), Err(ReadFault::Failed)));
     Ok(())
 }
 
@@ -121,35 +191,44 @@ fn a_reader_of_std_is_read_to_its_end(rt: HostRuntime) -> Result<(), Fail> {
 fn a_writer_of_std_gets_the_whole_piece(rt: HostRuntime) -> Result<(), Fail> {
     let mut room = [0u8; 4];
     let mut writer = room.as_mut_slice();
-    assert_eq!(rt; write_all(&mut StdSink::new(&mut writer), b"abc"), Ok(()));
-    assert_eq!(rt;
-        write_all(&mut StdSink::new(&mut writer), b"de"),
-        Err(Failed)
-    );
+    let whole = write_all(&mut StdSink::new(&mut writer), b"abc");
+    let cut = write_all(&mut StdSink::new(&mut writer), b"de");
+    let broken = write_all(&mut StdSink::new(Broken), b"a");
+    assert_eq!(rt; (whole, cut, broken), (Ok(()), Err(Failed), Err(Failed)));
     assert!(rt; room.as_slice() == b"abcd".as_slice());
-    assert_eq!(rt; write_all(&mut StdSink::new(Broken), b"a"), Err(Failed));
     Ok(())
+}
+
+/// The length of a piece, the room of a sink, what a pen answers that writes the piece three times, and how many bytes the sink took:
+/// a piece that is held, one that fills the pen, and one that is longer than the pen.
+const PIECES: [(usize, u32, Result<(), Failed>, usize); 4] = [
+    (3, 20_000, Ok(()), 9),
+    (4096, 20_000, Ok(()), 12_288),
+    (5000, 20_000, Ok(()), 15_000),
+    (5000, 9000, Err(Failed), 9000),
+];
+
+/// What a pen answers that writes a piece three times, and how many bytes the sink took.
+fn put_thrice(
+    alloc: Global,
+    length: usize,
+    room: u32,
+) -> Result<(Result<(), Failed>, usize), AllocError> {
+    let mut sink = MemSink::new(alloc, room, 700, Vec::new(alloc))?;
+    let piece = vec![in alloc; b'p'; length]?;
+    let mut pen = Pen::new();
+    for _ in 0..3u8 {
+        pen.put(&mut sink, piece.as_slice());
+    }
+    let answer = pen.finish(&mut sink);
+    Ok((answer, sink.taken().len()))
 }
 
 #[test]
 fn a_pen_writes_pieces_of_any_length(rt: HostRuntime) -> Result<(), Fail> {
-    // A piece that is held, one that fills the pen, and one that is longer than the pen.
-    for (length, room, whole) in [
-        (3, 20_000, true),
-        (4096, 20_000, true),
-        (5000, 20_000, true),
-        (5000, 9000, false),
-    ] {
-        let piece = vec![in rt.alloc(); b'p'; length]?;
-        let mut sink = MemSink::new(rt.alloc(), room, 700, Vec::new(rt.alloc()))?;
-        let mut pen = Pen::new();
-        for _ in 0..3u8 {
-            pen.put(&mut sink, piece.as_slice());
-        }
-        let expected = if whole { Ok(()) } else { Err(Failed) };
-        assert_eq!(rt; pen.finish(&mut sink), expected, "three pieces of {length}");
-        let taken = if whole { 3 * length } else { room as usize };
-        assert_eq!(rt; sink.taken().len(), taken, "three pieces of {length}");
+    for (length, room, answer, taken) in &PIECES {
+        let found = put_thrice(rt.alloc(), *length, *room)?;
+        assert_eq!(rt; found, (*answer, *taken), "three pieces of {length}");
     }
     Ok(())
 }
