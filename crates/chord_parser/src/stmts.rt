@@ -21,7 +21,7 @@ ghost use Rattle.chord_parser.specs.Samples.{sample};
 use crate::exprs::{actuals, dot, dots_next, expr};
 use crate::faults::Fault;
 use crate::terminal;
-use crate::tokens::{name_of, next, skip, take, take_known};
+use crate::tokens::{name_of, next, skip, take};
 use chord_lexer::token::Token;
 use chord_tree::exprs::{Actuals, Dot, Expr};
 use chord_tree::names::{BasicType, Name, ValueType};
@@ -169,7 +169,7 @@ fn local(
     ensures ok { IfOk result (λ r. Reads count grammar.Item depth (token_kinds tokens.now) (token_kinds r.1.now) (node_item (see_item r.0))) }
     ensures err { IfErr result (λ fault. StopsAs grammar.Item depth (token_kinds tokens.now) fault) }
 {
-    let (at, rest) = take_known(count, tokens, wanted, depth + 1)?;
+    let (at, rest) = take(count, tokens, wanted, depth + 1)?;
     let (name, rest) = name_of(alloc, count, rest, depth + 1)?;
     let (assign, rest) = take(count, rest, terminal::ASSIGN, depth + 1)?;
     let (value, rest) = expr(alloc, count, rest, depth + 1)?;
