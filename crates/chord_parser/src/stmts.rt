@@ -102,6 +102,7 @@ fn item(alloc: Global, count: u32, tokens: &[Token], depth: u32) -> Result<(Item
 }
 
 /// Expr and the terminal behind it, which has no number in the tree.
+#[inline(always)]
 fn expr_before(
     alloc: Global,
     count: u32,
@@ -122,6 +123,7 @@ fn expr_before(
 }
 
 /// "=" Expr ";"
+#[inline(always)]
 fn value_end(
     alloc: Global,
     count: u32,
@@ -138,6 +140,7 @@ fn value_end(
 }
 
 /// Name "=" Expr ";"
+#[inline(always)]
 fn named_value(
     alloc: Global,
     count: u32,
