@@ -15,19 +15,19 @@ use Rattle.chord_tree.specs.declared.exprs.Dot.{Dot}
 use Rattle.chord_tree.specs.declared.exprs.Expr.{Expr}
 use Rattle.chord_tree.specs.Symbol.{Symbol, Terminal, Nonterminal}
 use Rattle.chord_tree.specs.Grammar.{terminal_count, rule_count}
-use Rattle.chord_tree.specs.Derivation.{includes, next, at_depth}
-use Rattle.chord_parser.specs.Runs.{Wrong, Tall, Runs, stuck, Reads, none, more, Onward}
+use Rattle.chord_tree.specs.Derivation.{includes, next, at_depth, Want}
+use Rattle.chord_parser.specs.Runs.{Wrong, Tall, Runs, stuck, Reads, ReadAll, none, more, Onward}
 use Rattle.chord_parser.specs.Samples.{sample}
 use Rattle.chord_tree.specs.Node.{Node, Nodes, End, ◌▸◌, Leaf, Made, size}
 use Rattle.chord_tree.specs.OneAhead.{choice}
 use Rattle.chord_tree.proofs.Ahead.{next_small}
-use Rattle.chord_parser.specs.Reading.{valued, StopsAs, Continues, IsOther, operator_at, operator_terminal, one_link, before_links, before_dots, before_more, before_opt}
+use Rattle.chord_parser.specs.Reading.{valued, StopsAs, StopsAmong, StopsBefore, Continues, IsOther, operator_at, operator_terminal, one_link, before_links, before_dots, before_more, before_opt}
 use Rattle.chord_tree.specs.Program.{token_kinds}
 use Rattle.chord_tree.specs.Tree.{ExprTree, LinkTrees, LinkTree, DotTree, DotTrees, ChainExpr, MoreLinks, MakeLink, MoreDots, MakeDot, links, dots, exprs}
 use Rattle.chord_tree.specs.ViewExprs.{see_link, see_dot, see_expr}
 use Rattle.chord_tree.specs.ExprNodes.{link_level, operator_level, level_symbol, level_tail, mark_of, mark_leaf, precedence, lifted, alone, bare, node_at, node_links, node_dot, node_dots, node_more, node_exprs}
 use Rattle.chord_parser.proofs.Single.{bare_mark, of_terminal}
-use Rattle.chord_parser.proofs.Reading.{ends, measured}
+use Rattle.chord_parser.proofs.Reading.{step, ends, goes_on, measured}
 use Rattle.chord_parser.proofs.made.ChainSteps.{product_unary, product_unary_at, sum_product, sum_product_at, order_sum, order_sum_at, equal_order, equal_order_at, and_equal, and_equal_at, more_product_none, more_product_none_at, more_product_times, more_product_times_at, more_product_divide, more_product_divide_at, more_product_remainder, more_product_remainder_at, more_sum_none, more_sum_none_at, more_sum_plus, more_sum_plus_at, more_sum_minus, more_sum_minus_at, more_order_none, more_order_none_at, more_order_less, more_order_less_at, more_order_greater, more_order_greater_at, more_order_less_or_equal, more_order_less_or_equal_at, more_order_greater_or_equal, more_order_greater_or_equal_at, more_equal_none, more_equal_none_at, more_equal_equal, more_equal_equal_at, more_equal_not_equal, more_equal_not_equal_at, more_and_none, more_and_none_at, more_and_and, more_and_and_at, more_or_none, more_or_none_at, more_or_or, more_or_or_at}
 use Rattle.chord_tree.specs.declared.exprs.Operator.TheVariants as operators
 use Rattle.chord_lexer.specs.declared.token.Mark.{Mark}
@@ -51,6 +51,102 @@ stops_in c (faults.Tall n) h = λ s. c.runs s (Tall n) (h s)
 pub exits : {T : Type 0} (p : Symbol) (d : ℕ) (ks : List Kind) (e : Fault) (r : Result T Fault) → IsErrAnd r (λ y. y ≡ e) → StopsAs p d ks e → IfErr r (λ fault. StopsAs p d ks fault)
 exits p d ks e (Ok x) h g = tt
 exits p d ks e (Err y) h g = subst (λ z. StopsAs p d ks z) (sym h) g
+
+-- the exit of a `?` on a fault of which something else is known
+pub leaves : {T : Type 0} (P : Fault → Type 0) (e : Fault) (r : Result T Fault) → IsErrAnd r (λ y. y ≡ e) → P e → IfErr r P
+leaves P e (Ok x) h g = tt
+leaves P e (Err y) h g = subst P (sym h) g
+
+-- what is wanted of two lists of parts
+wanted_both : (d : ℕ) (ps qs : List Symbol) (s : List Want) → at_depth d (ps ++ qs) ++ s ≡ at_depth d ps ++ (at_depth d qs ++ s)
+wanted_both d [] qs s = refl
+wanted_both d (p ∷ ps) qs s = ap (λ z. (p, d) ∷ z) (wanted_both d ps qs s)
+
+-- what stops as a part stops as the first of parts
+among_first : (p : Symbol) (ps : List Symbol) (d : ℕ) (ks : List Kind) (fault : Fault) → StopsAs p d ks fault → StopsAmong (p ∷ ps) d ks fault
+among_first p ps d ks faults.Memory h = tt
+among_first p ps d ks (faults.At n) h = λ s. h (at_depth d ps ++ s)
+among_first p ps d ks (faults.Tall n) h = λ s. h (at_depth d ps ++ s)
+
+-- Where the first of the parts stops, they stop.
+pub stops_first : {p : Symbol} {ps : List Symbol} {d : ℕ} {ks : List Kind} {fault : Fault} → StopsAs p d ks fault → StopsBefore (p ∷ ps) d ks fault
+stops_first {p} {ps} {d} {ks} {fault} h = record { stops = among_first p ps d ks fault h }
+
+-- what stops behind a part that is read
+among_later : {count d : ℕ} {p : Symbol} {ks mid : List Kind} {n : Node} (ps : List Symbol) → Reads count p d ks mid n → (fault : Fault) → StopsAmong ps d mid fault → StopsAmong (p ∷ ps) d ks fault
+among_later ps r faults.Memory h = tt
+among_later ps r (faults.At n) h = λ s. goes_on r _ (Wrong n) (h s)
+among_later ps r (faults.Tall n) h = λ s. goes_on r _ (Tall n) (h s)
+
+-- Where the parts behind one that is read stop, they stop.
+pub stops_later : {count d : ℕ} {p : Symbol} {ps : List Symbol} {ks mid : List Kind} {n : Node} {fault : Fault} → Reads count p d ks mid n → StopsBefore ps d mid fault → StopsBefore (p ∷ ps) d ks fault
+stops_later {ps} {fault} r h = record { stops = among_later ps r fault h.stops }
+
+-- what stops among the first parts
+among_sooner : (ps qs : List Symbol) (d : ℕ) (ks : List Kind) (fault : Fault) → StopsAmong ps d ks fault → StopsAmong (ps ++ qs) d ks fault
+among_sooner ps qs d ks faults.Memory h = tt
+among_sooner ps qs d ks (faults.At n) h = λ s. subst (λ z. Runs z ks (Wrong n)) (sym (wanted_both d ps qs s)) (h (at_depth d qs ++ s))
+among_sooner ps qs d ks (faults.Tall n) h = λ s. subst (λ z. Runs z ks (Tall n)) (sym (wanted_both d ps qs s)) (h (at_depth d qs ++ s))
+
+-- Where the first parts stop, they stop with others behind them.
+pub stops_sooner : {ps : List Symbol} {d : ℕ} {ks : List Kind} {fault : Fault} (qs : List Symbol) → StopsBefore ps d ks fault → StopsBefore (ps ++ qs) d ks fault
+stops_sooner {ps} {d} {ks} {fault} qs h = record { stops = among_sooner ps qs d ks fault h.stops }
+
+-- what stops among the parts that are wanted
+whole_stops : {count d e : ℕ} {p : Symbol} {ps : List Symbol} {ks mid : List Kind} {f : Nodes → Node} → Onward count p d ks ps e mid f → (fault : Fault) → StopsAmong ps e mid fault → StopsAs p d ks fault
+whole_stops o faults.Memory h = tt
+whole_stops o (faults.At n) h = λ s. o.runs s (Wrong n) (h s)
+whole_stops o (faults.Tall n) h = λ s. o.runs s (Tall n) (h s)
+
+-- Where the parts that are wanted stop, the whole stops.
+pub stops_parts : {count d e : ℕ} {p : Symbol} {ps : List Symbol} {ks mid : List Kind} {f : Nodes → Node} {fault : Fault} → Onward count p d ks ps e mid f → StopsBefore ps e mid fault → StopsAs p d ks fault
+stops_parts {fault} o h = whole_stops o fault h.stops
+
+-- what stops among the parts of a part, with others behind them
+among_folded : {count d : ℕ} {p : Symbol} {ks : List Kind} {f : Nodes → Node} (ps qs : List Symbol) → Onward count p d ks ps d ks f → (fault : Fault) → StopsAmong (ps ++ qs) d ks fault → StopsAmong (p ∷ qs) d ks fault
+among_folded ps qs o faults.Memory h = tt
+among_folded {d} {ks} ps qs o (faults.At n) h = λ s. o.runs _ (Wrong n) (subst (λ z. Runs z ks (Wrong n)) (wanted_both d ps qs s) (h s))
+among_folded {d} {ks} ps qs o (faults.Tall n) h = λ s. o.runs _ (Tall n) (subst (λ z. Runs z ks (Tall n)) (wanted_both d ps qs s) (h s))
+
+-- Where the parts of a part and others behind them stop, the part and the others stop.
+pub stops_folded : {count d : ℕ} {p : Symbol} {ps qs : List Symbol} {ks : List Kind} {f : Nodes → Node} {fault : Fault} → Onward count p d ks ps d ks f → StopsBefore (ps ++ qs) d ks fault → StopsBefore (p ∷ qs) d ks fault
+stops_folded {ps} {qs} {fault} o h = record { stops = among_folded ps qs o fault h.stops }
+
+-- the parts that are wanted are read
+pub reads_parts : {count d e : ℕ} {p : Symbol} {ps : List Symbol} {ks mid rest : List Kind} {f : Nodes → Node} {ns : Nodes} → Onward count p d ks ps e mid f → ReadAll count ps e mid rest ns → Reads count p d ks rest (f ns)
+reads_parts o h = o.reads _ _ h
+
+-- two of them are read
+pub step_two : {count d e : ℕ} {p a b : Symbol} {ps : List Symbol} {ks mid end : List Kind} {f : Nodes → Node} {x y : Node} → Onward count p d ks (a ∷ b ∷ ps) e mid f → ReadAll count (a ∷ b ∷ []) e mid end (x ▸ y ▸ End) → Onward count p d ks ps e end (λ ns. f (x ▸ y ▸ ns))
+step_two o (more h (more i none)) = step (step o h) i
+
+-- three of them are read
+pub step_three : {count d e : ℕ} {p a b c : Symbol} {ps : List Symbol} {ks mid end : List Kind} {f : Nodes → Node} {x y z : Node} → Onward count p d ks (a ∷ b ∷ c ∷ ps) e mid f → ReadAll count (a ∷ b ∷ c ∷ []) e mid end (x ▸ y ▸ z ▸ End) → Onward count p d ks ps e end (λ ns. f (x ▸ y ▸ z ▸ ns))
+step_three o (more h (more i (more j none))) = step (step (step o h) i) j
+
+-- parts behind two that are read
+pub behind_two : {count d : ℕ} {a b : Symbol} {ps : List Symbol} {ks mid rest : List Kind} {x y : Node} {ns : Nodes} → ReadAll count (a ∷ b ∷ []) d ks mid (x ▸ y ▸ End) → ReadAll count ps d mid rest ns → ReadAll count (a ∷ b ∷ ps) d ks rest (x ▸ y ▸ ns)
+behind_two (more h (more i none)) k = more h (more i k)
+
+-- where they stop, all stop
+pub stops_behind_two : {count d : ℕ} {a b : Symbol} {ps : List Symbol} {ks mid : List Kind} {x y : Node} {fault : Fault} → ReadAll count (a ∷ b ∷ []) d ks mid (x ▸ y ▸ End) → StopsBefore ps d mid fault → StopsBefore (a ∷ b ∷ ps) d ks fault
+stops_behind_two (more h (more i none)) k = stops_later h (stops_later i k)
+
+-- a part in place of its one part, before another
+pub folded_one : {count d : ℕ} {p a c : Symbol} {ks rest : List Kind} {f : Nodes → Node} {x z : Node} → Onward count p d ks (a ∷ []) d ks f → ReadAll count (a ∷ c ∷ []) d ks rest (x ▸ z ▸ End) → ReadAll count (p ∷ c ∷ []) d ks rest (f (x ▸ End) ▸ z ▸ End)
+folded_one o (more h (more k none)) = more (o.reads _ _ (more h none)) (more k none)
+
+-- a part in place of its two parts, before another
+pub folded_two : {count d : ℕ} {p a b c : Symbol} {ks rest : List Kind} {f : Nodes → Node} {x y z : Node} → Onward count p d ks (a ∷ b ∷ []) d ks f → ReadAll count (a ∷ b ∷ c ∷ []) d ks rest (x ▸ y ▸ z ▸ End) → ReadAll count (p ∷ c ∷ []) d ks rest (f (x ▸ y ▸ End) ▸ z ▸ End)
+folded_two o (more h (more i (more k none))) = more (o.reads _ _ (more h (more i none))) (more k none)
+
+-- a part in place of its three parts, before another
+pub folded_three : {count d : ℕ} {p a b e c : Symbol} {ks rest : List Kind} {f : Nodes → Node} {x y w z : Node} → Onward count p d ks (a ∷ b ∷ e ∷ []) d ks f → ReadAll count (a ∷ b ∷ e ∷ c ∷ []) d ks rest (x ▸ y ▸ w ▸ z ▸ End) → ReadAll count (p ∷ c ∷ []) d ks rest (f (x ▸ y ▸ w ▸ End) ▸ z ▸ End)
+folded_three o (more h (more i (more j (more k none)))) = more (o.reads _ _ (more h (more i (more j none)))) (more k none)
+
+-- parts that are read, as equal nodes
+pub as_nodes : {count d : ℕ} {ps : List Symbol} {ks rest : List Kind} {ns ms : Nodes} → ReadAll count ps d ks rest ns → ns ≡ ms → ReadAll count ps d ks rest ms
+as_nodes {count} {d} {ps} {ks} {rest} r e = subst (λ z. ReadAll count ps d ks rest z) e r
 
 -- nothing is read yet
 pub from_the_start : {count : ℕ} {p : Symbol} {d : ℕ} {ks : List Kind} → Continues count p d ks p d ks (λ n. n)
@@ -151,6 +247,16 @@ more_grown (y ∷ xs) x n = ap (λ z. before_more (y ∷ []) z) (more_grown xs x
 pub ok_map : {T E : Type 0} (r : Result T E) (P Q : T → Type 0) → ((x : T) → P x → Q x) → IfOk r P → IfOk r Q
 ok_map (Ok x) P Q f h = f x h
 ok_map (Err e) P Q f h = tt
+
+-- what follows of two facts of an answer that is Ok
+pub ok_both : {T E : Type 0} (r : Result T E) (P Q R : T → Type 0) → ((x : T) → P x → Q x → R x) → IfOk r P → IfOk r Q → IfOk r R
+ok_both (Ok x) P Q R f h k = f x h k
+ok_both (Err e) P Q R f h k = tt
+
+-- what follows of an answer that is Err
+pub err_map : {T E : Type 0} (r : Result T E) (P Q : E → Type 0) → ((e : E) → P e → Q e) → IfErr r P → IfErr r Q
+err_map (Ok x) P Q f h = tt
+err_map (Err e) P Q f h = f e h
 
 -- there are as many kinds as tokens
 pub told_size : (ts : List Token) → length (token_kinds ts) ≡ length ts

@@ -27,7 +27,7 @@ use Rattle.chord_tree.specs.OneAhead.{choices, choice}
 use Rattle.chord_tree.proofs.Ahead.{small}
 use Rattle.chord_parser.specs.declared.plain.ResultKeyword.{ResultKeyword}
 use Rattle.chord_parser.specs.declared.plain.ResultKeyword.TheVariants as plains
-use Rattle.chord_parser.specs.Lists.{modifier_terminal, plain_terminal, plain_keyword, IsPlain, node_rest_of, IsHeaded, IsFirst, headers_after, classes_after, wrapped, wrapped_after, before_formals}
+use Rattle.chord_parser.specs.Lists.{modifier_terminal, plain_terminal, plain_keyword, IsPlain, node_rest_of, chord_parts, IsHeaded, IsChordOf, IsFirst, headers_after, classes_after, wrapped, wrapped_after, before_formals}
 use Rattle.chord_parser.specs.Runs.{Reads, Onward}
 use Rattle.chord_parser.specs.Samples.{sample}
 use Rattle.chord_parser.proofs.Single.{bare_word}
@@ -250,15 +250,27 @@ plain_rest (results.Void at) x f hs b h = refl
 plain_rest (results.Value (types.Basic basic at)) x f hs b h = refl
 plain_rest (results.Value (types.Class class)) x f hs b h = elim h [ ]
 
+-- a chord by its headers
+pub chord_named : (first : HeaderTree) (hs : List HeaderTree) (b : BlockTree) → IsFirst first hs → (name first.name ▸ node_formals first.formals ▸ headers_after hs ▸ node_block b ▸ End) ≡ chord_parts (ChordMember hs b)
+chord_named first [] b h = elim h [ ]
+chord_named first (x ∷ hs) b h = ap (λ z. name z.name ▸ node_formals z.formals ▸ node_headers hs ▸ node_block b ▸ End) (sym h)
+
+-- a chord has the result of its first header
+pub chord_gives : (first : HeaderTree) (hs : List HeaderTree) (b : BlockTree) → IsFirst first hs → IsChordOf (ChordMember hs b) first.result_type
+chord_gives first [] b h = elim h [ ]
+chord_gives first (x ∷ hs) b h = ap (λ z. z.result_type) h
+
 -- a chord whose first header has a word as its result
-pub plain_chord : (first : HeaderTree) (hs : List HeaderTree) (b : BlockTree) → IsPlain first.result_type → IsFirst first hs → Made grammar.Rest (node_plain first.result_type ▸ name first.name ▸ node_formals first.formals ▸ headers_after hs ▸ node_block b ▸ End) ≡ node_rest_of (ChordMember hs b)
-plain_chord first [] b p h = elim h [ ]
-plain_chord first (x ∷ hs) b p h = plain_rest first.result_type first.name first.formals hs b p ∙ ap (λ z. node_rest z.result_type z.name z.formals hs b) (sym h)
+pub plain_chord : (m : MemberTree) (r : ReturnType) → IsPlain r → IsChordOf m r → Made grammar.Rest (node_plain r ▸ chord_parts m) ≡ node_rest_of m
+plain_chord (ConstructorMember ms x f b) r p h = elim h [ ]
+plain_chord (ChordMember [] b) r p h = elim h [ ]
+plain_chord (ChordMember (x ∷ hs) b) r p h = plain_rest r x.name x.formals hs b p ∙ ap (λ z. node_rest z x.name x.formals hs b) (sym h)
 
 -- and one whose first header has a class
-pub class_chord : (first : HeaderTree) (class : Name) (hs : List HeaderTree) (b : BlockTree) → first.result_type ≡ results.Value (types.Class class) → IsFirst first hs → Made grammar.Rest (name class ▸ Made grammar.After (name first.name ▸ node_formals first.formals ▸ headers_after hs ▸ node_block b ▸ End) ▸ End) ≡ node_rest_of (ChordMember hs b)
-class_chord first class [] b p h = elim h [ ]
-class_chord first class (x ∷ hs) b p h = ap (λ r. node_rest r first.name first.formals hs b) (sym p) ∙ ap (λ z. node_rest z.result_type z.name z.formals hs b) (sym h)
+pub class_chord : (m : MemberTree) (class : Name) → IsChordOf m (results.Value (types.Class class)) → Made grammar.Rest (name class ▸ Made grammar.After (chord_parts m) ▸ End) ≡ node_rest_of m
+class_chord (ConstructorMember ms x f b) class h = elim h [ ]
+class_chord (ChordMember [] b) class h = elim h [ ]
+class_chord (ChordMember (x ∷ hs) b) class h = ap (λ z. node_rest z x.name x.formals hs b) (sym h)
 
 -- a chord has the modifiers of its first header
 pub chord_headed : (first : HeaderTree) (hs : List HeaderTree) (b : BlockTree) (ms : List Modifier) → first.modifiers ≡ ms → IsFirst first hs → IsHeaded (ChordMember hs b) ms

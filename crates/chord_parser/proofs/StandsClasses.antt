@@ -123,7 +123,7 @@ plain_chord_rest : Gives grammar.Rest (grammar.Plain ∷ grammar.NAME ∷ gramma
 plain_chord_rest _ ((r, e, p) & (x, f) & (fs, g) & (hs, h) & (b, i) & nothing) = λ ms. (
   ChordMember (record { modifiers = ms; result_type = r; name = x; formals = fs } ∷ hs) b,
   (let first : HeaderTree = record { modifiers = ms; result_type = r; name = x; formals = fs } in
-      rw (e, f, g, h, i) (ap (λ z. Made grammar.Member (node_modifiers ms ▸ z ▸ End)) (sym (plain_chord first (first ∷ hs) b p refl)))),
+      rw (e, f, g, h, i) (ap (λ z. Made grammar.Member (node_modifiers ms ▸ z ▸ End)) (sym (plain_chord (ChordMember (first ∷ hs) b) r p refl)))),
 )
 
 -- a constructor after its name

@@ -12,7 +12,7 @@ use Rattle.chord_tree.specs.declared.classes.Formal.{Formal}
 use Rattle.chord_tree.specs.Terminals.{keyword_symbol}
 use Rattle.chord_tree.specs.StmtNodes.{node_block}
 use Rattle.chord_tree.specs.ClassNodes.{modifier_keyword, node_formal, node_formals, node_headers, node_rest, node_classes}
-use Rattle.chord_tree.specs.Node.{Node, End, ◌▸◌, Made}
+use Rattle.chord_tree.specs.Node.{Node, Nodes, End, ◌▸◌, Made}
 use Rattle.chord_tree.specs.Symbol.{number_of}
 use Rattle.chord_tree.specs.ExprNodes.{keyword_leaf, mark_leaf, name}
 use Rattle.chord_tree.specs.Symbols as grammar
@@ -56,6 +56,16 @@ abbrev pub IsHeaded : MemberTree → List Modifier → Type 0
 IsHeaded (ConstructorMember modifiers x formals body) ms = modifiers ≡ ms
 IsHeaded (ChordMember [] body) ms = ⊥
 IsHeaded (ChordMember (header ∷ more) body) ms = header.modifiers ≡ ms
+
+-- what follows the result of a chord's first header
+abbrev pub chord_parts : MemberTree → Nodes
+chord_parts (ChordMember (header ∷ more) body) = name header.name ▸ node_formals header.formals ▸ node_headers more ▸ node_block body ▸ End
+chord_parts _ = End
+
+-- the member is a chord whose first header has the result
+abbrev pub IsChordOf : MemberTree → ReturnType → Type 0
+IsChordOf (ChordMember (header ∷ more) body) r = header.result_type ≡ r
+IsChordOf _ r = ⊥
 
 -- the list begins with the thing
 abbrev pub IsFirst : {A : Type 0} → A → List A → Type 0

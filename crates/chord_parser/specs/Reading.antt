@@ -1,5 +1,5 @@
 -- What each function of the parser promises.
-use Rattle.std.specs.Prelude.{◌≡◌, ℕ, ◌-◌, ◌≢◌, List, [], ◌∷◌, Option, Some, None, Box}
+use Rattle.std.specs.Prelude.{◌≡◌, ℕ, ◌-◌, ◌≢◌, List, [], ◌∷◌, ◌++◌, Option, Some, None, Box}
 use Rattle.std.specs.Global.{Global}
 use Rattle.chord_parser.specs.declared.faults.Fault.TheVariants as faults
 use Rattle.chord_lexer.specs.declared.token.Keyword.TheVariants as keywords
@@ -12,7 +12,7 @@ use Rattle.chord_lexer.specs.declared.token.Kind.{Kind}
 use Rattle.chord_parser.specs.declared.faults.Fault.{Fault}
 use Rattle.chord_tree.specs.Symbol.{Symbol, number_of}
 use Rattle.chord_tree.specs.Terminals.{terminal_of, mark_symbol}
-use Rattle.chord_tree.specs.Derivation.{next, Want}
+use Rattle.chord_tree.specs.Derivation.{next, at_depth, Want}
 use Rattle.chord_parser.specs.Runs.{Verdict, Wrong, Tall, Runs, Reads}
 use Rattle.chord_tree.specs.Node.{Node, End, ◌▸◌, Made}
 use Rattle.chord_tree.specs.Tree.{ExprTree, LinkTree, MakeLink, DotTree, StmtTree, ItemTree, AssignStmt, CallStmt, MethodCallStmt}
@@ -36,6 +36,16 @@ abbrev pub StopsAs : Symbol → ℕ → List Kind → Fault → Type 0
 StopsAs p d ks faults.Memory = Unit {0}
 StopsAs p d ks (faults.At n) = (s : List Want) → Runs ((p, d) ∷ s) ks (Wrong n)
 StopsAs p d ks (faults.Tall n) = (s : List Want) → Runs ((p, d) ∷ s) ks (Tall n)
+
+-- the same of parts side by side
+abbrev pub StopsAmong : List Symbol → ℕ → List Kind → Fault → Type 0
+StopsAmong ps d ks faults.Memory = Unit {0}
+StopsAmong ps d ks (faults.At n) = (s : List Want) → Runs (at_depth d ps ++ s) ks (Wrong n)
+StopsAmong ps d ks (faults.Tall n) = (s : List Want) → Runs (at_depth d ps ++ s) ks (Tall n)
+
+-- The reader stops before it has read these parts.
+pub record StopsBefore (ps : List Symbol) (d : ℕ) (ks : List Kind) (fault : Fault) : Type 0 where
+  pub stops : StopsAmong ps d ks fault
 
 -- Where mid is read as part q, all of ks is read as p, with g of its node.
 pub record Continues (count : ℕ) (p : Symbol) (d : ℕ) (ks : List Kind) (q : Symbol) (e : ℕ) (mid : List Kind) (g : Node → Node) : Type 0 where

@@ -1,16 +1,22 @@
 //! The parser of classes and programs. No node here counts for the depth, and all lists are loops.
 #![tactic(auto)]
 
-ghost use Rattle.std.specs.Prelude.{◌≡◌, [], map, IfOk, IfErr, Option};
+ghost use Rattle.std.specs.Prelude.{◌≡◌, [], ◌∷◌, map, IfOk, IfErr, Option};
+ghost use Rattle.chord_lexer.specs.declared.token.Keyword.TheVariants as keywords;
+ghost use Rattle.chord_lexer.specs.declared.token.Mark.TheVariants as marks;
 ghost use Rattle.chord_tree.specs.Derivation.{next};
+ghost use Rattle.chord_tree.specs.Node.{End, ◌▸◌};
+ghost use Rattle.chord_tree.specs.ExprNodes.{keyword_leaf, mark_leaf, name};
+ghost use Rattle.chord_tree.specs.StmtNodes.{node_block};
 ghost use Rattle.chord_tree.specs.ClassNodes.{node_modifiers, node_type, node_formal, node_formal_list, node_formals, node_result, node_header, node_member, node_members, node_public, node_base, node_class, node_name_parts, node_using, node_usings, node_all_classes};
 ghost use Rattle.chord_tree.specs.Symbol.{number_of};
 ghost use Rattle.chord_tree.specs.Program.{token_kinds};
 ghost use Rattle.chord_tree.specs.Symbols as grammar;
 ghost use Rattle.chord_tree.specs.View.{see_formals, see_header, see_member, see_class, see_using};
-ghost use Rattle.chord_parser.specs.Reading.{StopsAs};
-ghost use Rattle.chord_parser.specs.Lists.{node_rest_of, IsHeaded, headers_after, classes_after, IsFirst};
-ghost use Rattle.chord_parser.specs.Runs.{Reads};
+ghost use Rattle.chord_tree.specs.ViewStmts.{see_block};
+ghost use Rattle.chord_parser.specs.Reading.{StopsAs, StopsBefore};
+ghost use Rattle.chord_parser.specs.Lists.{node_rest_of, chord_parts, IsHeaded, IsChordOf, headers_after, classes_after, IsFirst};
+ghost use Rattle.chord_parser.specs.Runs.{Reads, ReadAll};
 
 use crate::faults::Fault;
 use crate::stmts::block;
@@ -22,6 +28,7 @@ use chord_tree::classes::{
     Class, Formal, Formals, Header, Member, Modifier, NamePart, ReturnType, Using,
 };
 use chord_tree::names::{BasicType, Name, ValueType};
+use chord_tree::stmts::Block;
 use std::alloc::Global;
 
 /// { Modifier }
@@ -159,6 +166,20 @@ fn result_type(alloc: Global, count: u32, tokens: &[Token]) -> Result<(ReturnTyp
     Ok((kind, rest))
 }
 
+/// Name Formals
+fn named_formals(
+    alloc: Global,
+    count: u32,
+    tokens: &[Token],
+) -> Result<(Name, Formals, &[Token]), Fault>
+    ensures ok { IfOk result (λ r. ReadAll count (grammar.NAME ∷ grammar.Formals ∷ []) 0 (token_kinds tokens.now) (token_kinds r.2.now) (name r.0 ▸ node_formals (see_formals r.1) ▸ End)) }
+    ensures err { IfErr result (λ fault. StopsBefore (grammar.NAME ∷ grammar.Formals ∷ []) 0 (token_kinds tokens.now) fault) }
+{
+    let (name, rest) = name_of(alloc, count, tokens, 0)?;
+    let (list, rest) = formals(alloc, count, rest)?;
+    Ok((name, list, rest))
+}
+
 /// Header = { Modifier } Result Name Formals
 fn header(alloc: Global, count: u32, tokens: &[Token]) -> Result<(Header, &[Token]), Fault>
     ensures ok { IfOk result (λ r. Reads count grammar.Header 0 (token_kinds tokens.now) (token_kinds r.1.now) (node_header (see_header r.0))) }
@@ -166,8 +187,7 @@ fn header(alloc: Global, count: u32, tokens: &[Token]) -> Result<(Header, &[Toke
 {
     let (modifiers, rest) = modifiers_of(alloc, count, tokens)?;
     let (kind, rest) = result_type(alloc, count, rest)?;
-    let (name, rest) = name_of(alloc, count, rest, 0)?;
-    let (list, rest) = formals(alloc, count, rest)?;
+    let (name, list, rest) = named_formals(alloc, count, rest)?;
     Ok((
         Header {
             modifiers,
@@ -204,6 +224,64 @@ fn headers_of(
     Ok((list, left))
 }
 
+/// { "&" Header } Block
+///
+/// The headers after the first, which is put before them, and the body.
+fn headers_block(
+    alloc: Global,
+    count: u32,
+    tokens: &[Token],
+    first: Header,
+) -> Result<(Vec<Header>, Block, &[Token]), Fault>
+    ensures ok { IfOk result (λ r. ReadAll count (grammar.Headers ∷ grammar.Block ∷ []) 0 (token_kinds tokens.now) (token_kinds r.2.now) (headers_after (map see_header r.0.items) ▸ node_block (see_block r.1) ▸ End)) }
+    ensures err { IfErr result (λ fault. StopsBefore (grammar.Headers ∷ grammar.Block ∷ []) 0 (token_kinds tokens.now) fault) }
+    ensures first { IfOk result (λ r. IsFirst (see_header first) (map see_header r.0.items)) }
+{
+    let (headers, rest) = headers_of(alloc, count, tokens, first)?;
+    let (body, rest) = block(alloc, count, rest, 0)?;
+    Ok((headers, body, rest))
+}
+
+/// Name Formals { "&" Header } Block
+///
+/// A chord behind the modifiers and the result of its first header.
+fn chord_named(
+    alloc: Global,
+    count: u32,
+    tokens: &[Token],
+    modifiers: Vec<Modifier>,
+    kind: ReturnType,
+) -> Result<(Member, &[Token]), Fault>
+    ensures ok { IfOk result (λ r. ReadAll count (grammar.NAME ∷ grammar.Formals ∷ grammar.Headers ∷ grammar.Block ∷ []) 0 (token_kinds tokens.now) (token_kinds r.1.now) (chord_parts (see_member r.0))) }
+    ensures err { IfErr result (λ fault. StopsBefore (grammar.NAME ∷ grammar.Formals ∷ grammar.Headers ∷ grammar.Block ∷ []) 0 (token_kinds tokens.now) fault) }
+    ensures headed { IfOk result (λ r. IsHeaded (see_member r.0) modifiers.items) }
+    ensures gives { IfOk result (λ r. IsChordOf (see_member r.0) kind) }
+{
+    let (name, list, rest) = named_formals(alloc, count, tokens)?;
+    let one = Header {
+        modifiers,
+        result_type: kind,
+        name,
+        formals: list,
+    };
+    let (headers, body, rest) = headers_block(alloc, count, rest, one)?;
+    Ok((Member::Chord { headers, body }, rest))
+}
+
+/// Formals Block
+fn formals_block(
+    alloc: Global,
+    count: u32,
+    tokens: &[Token],
+) -> Result<(Formals, Block, &[Token]), Fault>
+    ensures ok { IfOk result (λ r. ReadAll count (grammar.Formals ∷ grammar.Block ∷ []) 0 (token_kinds tokens.now) (token_kinds r.2.now) (node_formals (see_formals r.0) ▸ node_block (see_block r.1) ▸ End)) }
+    ensures err { IfErr result (λ fault. StopsBefore (grammar.Formals ∷ grammar.Block ∷ []) 0 (token_kinds tokens.now) fault) }
+{
+    let (list, rest) = formals(alloc, count, tokens)?;
+    let (body, rest) = block(alloc, count, rest, 0)?;
+    Ok((list, body, rest))
+}
+
 /// Rest = Name After
 /// After = Formals Block
 ///     | Name Formals { "&" Header } Block
@@ -221,8 +299,7 @@ fn after_name(
     let (first, rest) = name_of(alloc, count, tokens, 0)?;
     let ahead = next(rest);
     if ahead == terminal::OPEN {
-        let (list, rest) = formals(alloc, count, rest)?;
-        let (body, rest) = block(alloc, count, rest, 0)?;
+        let (list, body, rest) = formals_block(alloc, count, rest)?;
         return Ok((
             Member::Constructor {
                 modifiers,
@@ -234,17 +311,8 @@ fn after_name(
         ));
     }
     if ahead == terminal::NAME {
-        let (name, rest) = name_of(alloc, count, rest, 0)?;
-        let (list, rest) = formals(alloc, count, rest)?;
-        let one = Header {
-            modifiers,
-            result_type: ReturnType::Value(ValueType::Class(first)),
-            name,
-            formals: list,
-        };
-        let (headers, rest) = headers_of(alloc, count, rest, one)?;
-        let (body, rest) = block(alloc, count, rest, 0)?;
-        return Ok((Member::Chord { headers, body }, rest));
+        let kind = ReturnType::Value(ValueType::Class(first));
+        return chord_named(alloc, count, rest, modifiers, kind);
     }
     Err(Fault::At(rest.len()))
 }
@@ -269,17 +337,7 @@ fn rest_of(
         return Err(Fault::At(tokens.len()));
     };
     let (kind, rest) = plain(count, tokens, word)?;
-    let (name, rest) = name_of(alloc, count, rest, 0)?;
-    let (list, rest) = formals(alloc, count, rest)?;
-    let one = Header {
-        modifiers,
-        result_type: kind,
-        name,
-        formals: list,
-    };
-    let (headers, rest) = headers_of(alloc, count, rest, one)?;
-    let (body, rest) = block(alloc, count, rest, 0)?;
-    Ok((Member::Chord { headers, body }, rest))
+    chord_named(alloc, count, rest, modifiers, kind)
 }
 
 /// Member = { Modifier } Rest
@@ -332,18 +390,44 @@ fn base_of(alloc: Global, count: u32, tokens: &[Token]) -> Result<(Option<Name>,
     Ok((None, tokens))
 }
 
+/// [ "public" ] "class" Name
+fn class_head(
+    alloc: Global,
+    count: u32,
+    tokens: &[Token],
+) -> Result<(Option<u32>, Name, &[Token]), Fault>
+    ensures ok { IfOk result (λ r. ReadAll count (grammar.Optional_public ∷ grammar.CLASS ∷ grammar.NAME ∷ []) 0 (token_kinds tokens.now) (token_kinds r.2.now) (node_public r.0 ▸ keyword_leaf keywords.Class 0 ▸ name r.1 ▸ End)) }
+    ensures err { IfErr result (λ fault. StopsBefore (grammar.Optional_public ∷ grammar.CLASS ∷ grammar.NAME ∷ []) 0 (token_kinds tokens.now) fault) }
+{
+    let (public, rest) = public_of(count, tokens)?;
+    let rest = skip(count, rest, terminal::CLASS, 0)?;
+    let (name, rest) = name_of(alloc, count, rest, 0)?;
+    Ok((public, name, rest))
+}
+
+/// "{" { Member } "}"
+fn class_body(
+    alloc: Global,
+    count: u32,
+    tokens: &[Token],
+) -> Result<(Vec<Member>, u32, &[Token]), Fault>
+    ensures ok { IfOk result (λ r. ReadAll count (grammar.OPEN_BRACE ∷ grammar.Members ∷ grammar.CLOSE_BRACE ∷ []) 0 (token_kinds tokens.now) (token_kinds r.2.now) (mark_leaf marks.OpenBrace 0 ▸ node_members (map see_member r.0.items) ▸ mark_leaf marks.CloseBrace r.1 ▸ End)) }
+    ensures err { IfErr result (λ fault. StopsBefore (grammar.OPEN_BRACE ∷ grammar.Members ∷ grammar.CLOSE_BRACE ∷ []) 0 (token_kinds tokens.now) fault) }
+{
+    let rest = skip(count, tokens, terminal::OPEN_BRACE, 0)?;
+    let (members, rest) = members_of(alloc, count, rest)?;
+    let (end, rest) = take(count, rest, terminal::CLOSE_BRACE, 0)?;
+    Ok((members, end, rest))
+}
+
 /// Class = [ "public" ] "class" Name [ ":" Name ] "{" { Member } "}"
 fn class_of(alloc: Global, count: u32, tokens: &[Token]) -> Result<(Class, &[Token]), Fault>
     ensures ok { IfOk result (λ r. Reads count grammar.Class 0 (token_kinds tokens.now) (token_kinds r.1.now) (node_class (see_class r.0))) }
     ensures err { IfErr result (λ fault. StopsAs grammar.Class 0 (token_kinds tokens.now) fault) }
 {
-    let (public, rest) = public_of(count, tokens)?;
-    let rest = skip(count, rest, terminal::CLASS, 0)?;
-    let (name, rest) = name_of(alloc, count, rest, 0)?;
+    let (public, name, rest) = class_head(alloc, count, tokens)?;
     let (base, rest) = base_of(alloc, count, rest)?;
-    let rest = skip(count, rest, terminal::OPEN_BRACE, 0)?;
-    let (members, rest) = members_of(alloc, count, rest)?;
-    let (end, rest) = take(count, rest, terminal::CLOSE_BRACE, 0)?;
+    let (members, end, rest) = class_body(alloc, count, rest)?;
     Ok((
         Class {
             public,

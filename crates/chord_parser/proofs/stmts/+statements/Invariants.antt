@@ -11,6 +11,9 @@ decreases-block l = 8 * (203 - l.depth) + 6
 abbrev pub decreases-boxed_stmt : goal.decreases-boxed_stmt
 decreases-boxed_stmt l = 8 * (203 - l.depth) + 1
 
+abbrev pub decreases-branches : goal.decreases-branches
+decreases-branches l = 8 * (203 - l.depth) + 3
+
 abbrev pub decreases-else_of : goal.decreases-else_of
 decreases-else_of l = 8 * (203 - l.depth) + 2
 

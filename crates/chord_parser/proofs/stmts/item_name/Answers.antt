@@ -1,8 +1,8 @@
 use Rattle.std.proofs.Common.{sym, ap, ◌∙◌}
 use Rattle.chord_tree.specs.Program.{token_kinds}
 use Rattle.chord_tree.proofs.Ahead.{next_small}
-use Rattle.chord_parser.proofs.Reading.{step, ends}
-use Rattle.chord_parser.proofs.Chains.{stops, exits, as_node}
+use Rattle.chord_parser.proofs.Reading.{step}
+use Rattle.chord_parser.proofs.Chains.{stops, stops_parts, stops_folded, folded_one, folded_three, reads_parts, exits, as_node}
 use Rattle.chord_parser.proofs.made.StmtSteps.{after_name_name, after_name_name_at, after_name_tail, after_name_tail_at, item_name, item_name_at}
 use Rattle.chord_tree.specs.StmtNodes.{node_item}
 use Rattle.chord_parser.proofs.StmtLists.{named_item}
@@ -12,25 +12,13 @@ pub returns-in_err-first-clause-err : goal.returns-in_err-first-clause-err
 returns-in_err-first-clause-err c = exits _ _ _ _ _ c.from_residual.ensures.1 (stops {count = c.args.count} (item_name (item_name_at _ c.requires.first)) _ c.in_err-first.ensures.err)
 
 pub returns-in_err-second-clause-err : goal.returns-in_err-second-clause-err
-returns-in_err-second-clause-err c = exits _ _ _ _ _ c.from_residual-in_err-second.ensures.1 (stops (step (item_name (item_name_at _ c.requires.first)) c.in_ok-first.ensures.ok) _ (stops {count = c.args.count} (after_name_name (after_name_name_at _ (sym c.next.ensures ∙ c.if-next-eq-NAME.true))) _ c.in_err-second.ensures.err))
-
-pub returns-in_err-assign-clause-err : goal.returns-in_err-assign-clause-err
-returns-in_err-assign-clause-err c = exits _ _ _ _ _ c.from_residual-in_err-assign.ensures.1 (stops (step (item_name (item_name_at _ c.requires.first)) c.in_ok-first.ensures.ok) _ (stops {count = c.args.count} (step (after_name_name (after_name_name_at _ (sym c.next.ensures ∙ c.if-next-eq-NAME.true))) c.in_ok-second.ensures.ok) _ c.in_err-assign.ensures.err))
-
-pub returns-in_err-value-clause-err : goal.returns-in_err-value-clause-err
-returns-in_err-value-clause-err c = exits _ _ _ _ _ c.from_residual-in_err-value.ensures.1 (stops (step (item_name (item_name_at _ c.requires.first)) c.in_ok-first.ensures.ok) _ (stops {count = c.args.count} (step (step (after_name_name (after_name_name_at _ (sym c.next.ensures ∙ c.if-next-eq-NAME.true))) c.in_ok-second.ensures.ok) c.in_ok-assign.ensures.ok) _ c.in_err-value.ensures.err))
-
-pub returns-in_err-rest-clause-err : goal.returns-in_err-rest-clause-err
-returns-in_err-rest-clause-err c = exits _ _ _ _ _ c.from_residual-in_err-rest.ensures.1 (stops (step (step (item_name (item_name_at _ c.requires.first)) c.in_ok-first.ensures.ok) (ends (step (step (step (after_name_name (after_name_name_at _ (sym c.next.ensures ∙ c.if-next-eq-NAME.true))) c.in_ok-second.ensures.ok) c.in_ok-assign.ensures.ok) c.in_ok-value.ensures.ok))) _ c.in_err-rest.ensures.err)
+returns-in_err-second-clause-err c = exits _ _ _ _ _ c.from_residual-in_err-second.ensures.1 (stops_parts (step (item_name (item_name_at _ c.requires.first)) c.in_ok-first.ensures.ok) (stops_folded {count = c.args.count} (after_name_name (after_name_name_at _ (sym c.next.ensures ∙ c.if-next-eq-NAME.true))) c.in_err-second.ensures.err))
 
 pub returns-then-next-eq-NAME-clause-ok : goal.returns-then-next-eq-NAME-clause-ok
-returns-then-next-eq-NAME-clause-ok c = as_node (ends (step (step (step (item_name (item_name_at _ c.requires.first)) c.in_ok-first.ensures.ok) (ends (step (step (step (after_name_name (after_name_name_at _ (sym c.next.ensures ∙ c.if-next-eq-NAME.true))) c.in_ok-second.ensures.ok) c.in_ok-assign.ensures.ok) c.in_ok-value.ensures.ok))) c.in_ok-rest.ensures.ok)) (sym (ap node_item c.local.ensures))
+returns-then-next-eq-NAME-clause-ok c = as_node (reads_parts (step (item_name (item_name_at _ c.requires.first)) c.in_ok-first.ensures.ok) (folded_three (after_name_name (after_name_name_at _ (sym c.next.ensures ∙ c.if-next-eq-NAME.true))) c.in_ok-second.ensures.ok)) (sym (ap node_item c.local.ensures))
 
 pub returns-in_err-form-clause-err : goal.returns-in_err-form-clause-err
-returns-in_err-form-clause-err c = exits _ _ _ _ _ c.from_residual-in_err-form.ensures.1 (stops (step (item_name (item_name_at _ c.requires.first)) c.in_ok-first.ensures.ok) _ (stops {count = c.args.count} (after_name_tail (after_name_tail_at _ (next_small (token_kinds c.in_ok-first.rest.now)) (λ q. c.if-next-eq-NAME.false (c.next.ensures ∙ q)))) _ c.in_err-form.ensures.err))
-
-pub returns-in_err-rest-2-clause-err : goal.returns-in_err-rest-2-clause-err
-returns-in_err-rest-2-clause-err c = exits _ _ _ _ _ c.from_residual-in_err-rest-2.ensures.1 (stops (step (step (item_name (item_name_at _ c.requires.first)) c.in_ok-first.ensures.ok) (ends (step (after_name_tail (after_name_tail_at _ (next_small (token_kinds c.in_ok-first.rest.now)) (λ q. c.if-next-eq-NAME.false (c.next.ensures ∙ q)))) c.in_ok-form.ensures.ok))) _ c.in_err-rest-2.ensures.err)
+returns-in_err-form-clause-err c = exits _ _ _ _ _ c.from_residual-in_err-form.ensures.1 (stops_parts (step (item_name (item_name_at _ c.requires.first)) c.in_ok-first.ensures.ok) (stops_folded {count = c.args.count} (after_name_tail (after_name_tail_at _ (next_small (token_kinds c.in_ok-first.rest.now)) (λ q. c.if-next-eq-NAME.false (c.next.ensures ∙ q)))) c.in_err-form.ensures.err))
 
 pub returns-clause-ok : goal.returns-clause-ok
-returns-clause-ok c = as_node (ends (step (step (step (item_name (item_name_at _ c.requires.first)) c.in_ok-first.ensures.ok) (ends (step (after_name_tail (after_name_tail_at _ (next_small (token_kinds c.in_ok-first.rest.now)) (λ q. c.if-next-eq-NAME.false (c.next.ensures ∙ q)))) c.in_ok-form.ensures.ok))) c.in_ok-rest-2.ensures.ok)) (named_item _ _ c.in_ok-form.ensures.named ∙ sym (ap node_item c.stmt.ensures))
+returns-clause-ok c = as_node (reads_parts (step (item_name (item_name_at _ c.requires.first)) c.in_ok-first.ensures.ok) (folded_one (after_name_tail (after_name_tail_at _ (next_small (token_kinds c.in_ok-first.rest.now)) (λ q. c.if-next-eq-NAME.false (c.next.ensures ∙ q)))) c.in_ok-form.ensures.ok)) (named_item _ _ c.in_ok-form.ensures.named ∙ sym (ap node_item c.stmt.ensures))

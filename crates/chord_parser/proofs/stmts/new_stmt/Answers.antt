@@ -1,6 +1,6 @@
 use Rattle.std.proofs.Common.{sym, ap}
-use Rattle.chord_parser.proofs.Reading.{step, ends}
-use Rattle.chord_parser.proofs.Chains.{stops, exits, as_node}
+use Rattle.chord_parser.proofs.Reading.{step}
+use Rattle.chord_parser.proofs.Chains.{stops, stops_parts, reads_parts, exits, as_node}
 use Rattle.chord_parser.proofs.made.StmtSteps.{other_new, other_new_at}
 use Rattle.chord_tree.specs.StmtNodes.{node_other}
 use Rattle.chord_parser.proofs.stmts.new_stmt.Goals as goal
@@ -12,13 +12,7 @@ pub returns-in_err-name-clause-err : goal.returns-in_err-name-clause-err
 returns-in_err-name-clause-err c = exits _ _ _ _ _ c.from_residual-in_err-name.ensures.1 (stops {count = c.args.count} (step (other_new (other_new_at _ c.requires.first)) c.in_ok-at.ensures.ok) _ c.in_err-name.ensures.err)
 
 pub returns-in_err-passed-clause-err : goal.returns-in_err-passed-clause-err
-returns-in_err-passed-clause-err c = exits _ _ _ _ _ c.from_residual-in_err-passed.ensures.1 (stops {count = c.args.count} (step (step (other_new (other_new_at _ c.requires.first)) c.in_ok-at.ensures.ok) c.in_ok-name.ensures.ok) _ c.in_err-passed.ensures.err)
-
-pub returns-in_err-calls-clause-err : goal.returns-in_err-calls-clause-err
-returns-in_err-calls-clause-err c = exits _ _ _ _ _ c.from_residual-in_err-calls.ensures.1 (stops {count = c.args.count} (step (step (step (other_new (other_new_at _ c.requires.first)) c.in_ok-at.ensures.ok) c.in_ok-name.ensures.ok) c.in_ok-passed.ensures.ok) _ c.in_err-calls.ensures.err)
-
-pub returns-in_err-rest-clause-err : goal.returns-in_err-rest-clause-err
-returns-in_err-rest-clause-err c = exits _ _ _ _ _ c.from_residual-in_err-rest.ensures.1 (stops {count = c.args.count} (step (step (step (step (other_new (other_new_at _ c.requires.first)) c.in_ok-at.ensures.ok) c.in_ok-name.ensures.ok) c.in_ok-passed.ensures.ok) c.in_ok-calls.ensures.ok) _ c.in_err-rest.ensures.err)
+returns-in_err-passed-clause-err c = exits _ _ _ _ _ c.from_residual-in_err-passed.ensures.1 (stops_parts {count = c.args.count} (step (step (other_new (other_new_at _ c.requires.first)) c.in_ok-at.ensures.ok) c.in_ok-name.ensures.ok) c.in_err-passed.ensures.err)
 
 pub returns-clause-ok : goal.returns-clause-ok
-returns-clause-ok c = as_node (ends (step (step (step (step (step (other_new (other_new_at _ c.requires.first)) c.in_ok-at.ensures.ok) c.in_ok-name.ensures.ok) c.in_ok-passed.ensures.ok) c.in_ok-calls.ensures.ok) c.in_ok-rest.ensures.ok)) (sym (ap node_other c.new_object.ensures))
+returns-clause-ok c = as_node (reads_parts (step (step (other_new (other_new_at _ c.requires.first)) c.in_ok-at.ensures.ok) c.in_ok-name.ensures.ok) c.in_ok-passed.ensures.ok) (sym (ap node_other c.new_object.ensures))

@@ -1,0 +1,12 @@
+use Rattle.chord_parser.specs.Runs.{none, more}
+use Rattle.chord_parser.proofs.Chains.{leaves, stops_first, stops_later}
+use Rattle.chord_parser.proofs.classes.formals_block.Goals as goal
+
+pub returns-in_err-list-clause-err : goal.returns-in_err-list-clause-err
+returns-in_err-list-clause-err c = leaves _ _ _ c.from_residual.ensures.1 (stops_first c.in_err-list.ensures.err)
+
+pub returns-in_err-body-clause-err : goal.returns-in_err-body-clause-err
+returns-in_err-body-clause-err c = leaves _ _ _ c.from_residual-in_err-body.ensures.1 (stops_later c.in_ok-list.ensures.ok (stops_first c.in_err-body.ensures.err))
+
+pub returns-clause-ok : goal.returns-clause-ok
+returns-clause-ok c = more c.in_ok-list.ensures.ok (more c.in_ok-body.ensures.ok none)

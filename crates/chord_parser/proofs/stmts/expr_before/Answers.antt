@@ -1,0 +1,12 @@
+use Rattle.chord_parser.specs.Runs.{none, more}
+use Rattle.chord_parser.proofs.Chains.{leaves, stops_first, stops_later}
+use Rattle.chord_parser.proofs.stmts.expr_before.Goals as goal
+
+pub returns-in_err-whole-clause-err : goal.returns-in_err-whole-clause-err
+returns-in_err-whole-clause-err c = leaves _ _ _ c.from_residual.ensures.1 (stops_first c.in_err-whole.ensures.err)
+
+pub returns-in_err-rest-clause-err : goal.returns-in_err-rest-clause-err
+returns-in_err-rest-clause-err c = leaves _ _ _ c.from_residual-in_err-rest.ensures.1 (stops_later c.in_ok-whole.ensures.ok (stops_first c.in_err-rest.ensures.err))
+
+pub returns-clause-ok : goal.returns-clause-ok
+returns-clause-ok c = more c.in_ok-whole.ensures.ok (more c.in_ok-rest.ensures.ok none)
