@@ -102,7 +102,6 @@ fn item(alloc: Global, count: u32, tokens: &[Token], depth: u32) -> Result<(Item
 }
 
 /// Expr and the terminal behind it, which has no number in the tree.
-#[inline(always)]
 fn expr_before(
     alloc: Global,
     count: u32,
@@ -123,7 +122,6 @@ fn expr_before(
 }
 
 /// "=" Expr ";"
-#[inline(always)]
 fn value_end(
     alloc: Global,
     count: u32,
@@ -140,7 +138,6 @@ fn value_end(
 }
 
 /// Name "=" Expr ";"
-#[inline(always)]
 fn named_value(
     alloc: Global,
     count: u32,
