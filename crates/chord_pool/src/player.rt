@@ -96,6 +96,22 @@ fn find_work<'a, G: Gate>(run: &Run<'a>, worker: &mut Worker, place: u32, gate: 
     }
 }
 
+/// Looks for a firing among all numbers, unless the look before, which found none, began at the first. Where the next look begins.
+fn find_far<'a, G: Gate>(run: &Run<'a>, worker: &mut Worker, from: u32, place: u32, gate: &G) -> u32
+    requires run { IsOneRun run.now.space.now run.now.code.now run.now.limits.now }
+    requires worker { IsFit run.now.space.now worker.old }
+    requires idle { worker.old.task ≡ None }
+    requires seen { FoundNone run.now.space.now from (view worker.old.desk) }
+    ensures worker { IsFit run.now.space.now worker.new }
+    ensures role { IsSameRole (view worker.old.desk) (view worker.new.desk) }
+    ensures none { worker.new.task ≡ None → FoundNone run.now.space.now 0 (view worker.new.desk) }
+{
+    if from == 0 {
+        return place;
+    }
+    find_work(run, worker, 0, gate)
+}
+
 impl Player {
     /// One step of the task. Whether the worker goes on.
     fn advance<'a, R: Wait, G: Gate>(
@@ -152,10 +168,11 @@ impl Player {
             self.place = 0;
             self.misses = 0;
         }
-        self.place = find_work(run, &mut self.worker, self.place, gate);
+        let from = self.place;
+        self.place = find_work(run, &mut self.worker, from, gate);
         // Where nobody is at work, what the near look did not find is looked for among all numbers, before the worker goes.
         if working == 0 && !self.worker.has_task() {
-            self.place = find_work(run, &mut self.worker, 0, gate);
+            self.place = find_far(run, &mut self.worker, from, self.place, gate);
             if !self.worker.has_task() {
                 return false;
             }
