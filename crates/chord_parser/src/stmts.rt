@@ -138,6 +138,7 @@ fn value_end(
 }
 
 /// Name "=" Expr ";"
+#[inline(never)]
 fn named_value(
     alloc: Global,
     count: u32,
