@@ -48,6 +48,7 @@ pub fn block(
 
 /// { Item }
 #[cycle(statements)]
+#[inline(never)]
 fn items_of(
     alloc: Global,
     count: u32,
