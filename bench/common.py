@@ -21,6 +21,13 @@ def program():
     return PROGRAM
 
 
+def environment():
+    """The environment in which the launcher starts the program: it says how memory is asked for."""
+    with open(f'{TOP}/chord', encoding='utf-8') as launcher:
+        name, value = re.search(r'^(\w+)=\$\{\1-(.*)\}$', launcher.read(), re.MULTILINE).groups()
+    return {name: value, **os.environ}
+
+
 def user_seconds(command, source, wanted=None, runs=RUNS):
     """The mean user time of a command on this standard input; the system counts it in ticks of 4 ms, so one run says little.  The last run's output is
     compared with what is wanted, if anything is."""

@@ -1,6 +1,7 @@
 #!/usr/bin/env python3
-"""Plays the programs of bench/workloads by 1, 4 and 64 workers and on one thread: wall clock a firing, and the ratios. Each stands beside a program of the
-same meaning over Go's channels, and `load 60` beside one over the bounded channels of Rust's standard library (bench/peers), where their compilers are there."""
+"""Plays the programs of bench/workloads by 1, 4 and 64 workers and on one thread: wall clock a firing, without the start of the process, and the ratios. Each
+stands beside a program of the same meaning over Go's channels, and `load 60` beside one over the bounded channels of Rust's standard library (bench/peers),
+where their compilers are there."""
 
 import os
 import shutil
@@ -11,6 +12,7 @@ import time
 import common
 
 RUNS = 7
+EMPTY = b'class P { static void Main() { } }'  # what a process costs that plays nothing
 WORKLOADS = {'uncontended': b'done\n', 'buffer': b'8004000\n', 'lock': b'done\n', 'santa': b'600\n'}
 PAIRS = 60  # of `load`, whose buffer Rust's program has too
 SUM = b'303000\n'
@@ -19,12 +21,13 @@ LOAD_FIRINGS = 12181
 PEERS = {'Go': (['go', 'build', '-o'], 'workloads.go'), 'Rust': (['rustc', '-O', '-o'], 'buffer.rs')}
 
 
-def nanoseconds(command, source, wanted, firings):
+def nanoseconds(command, source, wanted, firings=1):
     """The least wall clock a firing of some runs, each of which writes what is due."""
+    environment = common.environment()
     best = None
     for _ in range(RUNS):
         before = time.monotonic()
-        ran = subprocess.run(command, input=source, stdout=subprocess.PIPE, check=True)
+        ran = subprocess.run(command, input=source, stdout=subprocess.PIPE, env=environment, check=True)
         took = time.monotonic() - before
         assert ran.stdout == wanted, ran.stdout
         best = took if best is None else min(best, took)
@@ -42,19 +45,24 @@ def peer(language, work):
     return made
 
 
+def ours(words, source, wanted, firings):
+    """The time of a firing without the start: what a run of nothing takes in these words is taken off."""
+    return nanoseconds(words, source, wanted, firings) - nanoseconds(words, EMPTY, b'') / firings
+
+
 def measure(program, name, wanted, go):
     """One workload: each number of workers beside one thread, four beside one, and both beside Go."""
     with open(f'{common.TOP}/bench/workloads/{name}.cs', 'rb') as file:
         source = file.read()
     journal = subprocess.run([program, 'run', '--one', '--journal'], input=source, stdout=subprocess.PIPE, check=True).stdout
     firings = journal.count(b' fired ')
-    alone = nanoseconds([program, 'run', '--one'], source, wanted, firings)
-    by = {workers: nanoseconds([program, 'run', '--workers', str(workers)], source, wanted, firings) for workers in (1, 4, 64)}
+    alone = ours([program, 'run', '--one'], source, wanted, firings)
+    by = {workers: ours([program, 'run', '--workers', str(workers)], source, wanted, firings) for workers in (1, 4, 64)}
     for workers, took in by.items():
         common.tell(f'{name}, {workers} workers beside one thread', took, alone, 'ns a firing')
     common.tell(f'{name}, 4 workers beside 1 worker', by[4], by[1], 'ns a firing')
     if go:
-        theirs = nanoseconds([go, name], b'', wanted, firings)
+        theirs = nanoseconds([go, name], b'', wanted, firings) - nanoseconds([go, 'nothing'], b'', b'\n') / firings
         common.tell(f'{name}, 4 workers beside channels of Go', by[4], theirs, 'ns a firing')
         common.tell(f'{name}, one thread beside channels of Go', alone, theirs, 'ns a firing')
 
@@ -62,9 +70,9 @@ def measure(program, name, wanted, go):
 def measure_load(program, rust):
     """The large program that the command makes, beside Rust's."""
     load = [program, 'load', str(PAIRS), '--workers', '4']
-    ours = nanoseconds(load, b'', SUM + COUNTS, LOAD_FIRINGS)
+    by_workers = nanoseconds(load, b'', SUM + COUNTS, LOAD_FIRINGS)
     theirs = nanoseconds([rust, str(PAIRS)], b'', SUM, LOAD_FIRINGS)
-    common.tell(f'load {PAIRS}, 4 workers beside channels of Rust', ours, theirs, 'ns a firing')
+    common.tell(f'load {PAIRS}, 4 workers beside channels of Rust, each with its start', by_workers, theirs, 'ns a firing')
 
 
 def main():
