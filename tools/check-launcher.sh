@@ -95,4 +95,8 @@ done
 touch -d '+1 minute' "$work/top/crates/chord_prog/src/main.rt"
 echo 6 > "$work/ends"
 expect 'older than the sources' 6 'tried with rules: input' chord rules
+# the program is started with large pages, unless the environment says how memory is asked for
+printf '#!/bin/sh\necho "$GLIBC_TUNABLES"\n' > "$work/top/crates/chord_prog/out/chord_prog"
+"$work/top/chord" run </dev/null | grep -q 'glibc\.malloc\.hugetlb=1' || { echo "launcher: large pages are not asked for" >&2; failed=1; }
+[ "$(GLIBC_TUNABLES=own "$work/top/chord" run </dev/null)" = own ] || { echo "launcher: the environment's word on memory is lost" >&2; failed=1; }
 exit $failed
