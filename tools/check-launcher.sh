@@ -92,11 +92,11 @@ for word in run rules code load --one --journal --workers --events --turns; do
     echo input | "$work/top/chord" help 2>"$work/said" | grep -q -- "^  $word " || { echo "launcher: help does not name $word" >&2; failed=1; }
 done
 [ "$("$work/top/chord" help | wc -l)" -le 26 ] || { echo 'launcher: help is longer than a screen' >&2; failed=1; }
-touch -d '+1 minute' "$work/top/crates/chord_prog/src/main.rt"
-echo 6 > "$work/ends"
-expect 'older than the sources' 6 'tried with rules: input' chord rules
 # the program is started with large pages, unless the environment says how memory is asked for
 printf '#!/bin/sh\necho "$GLIBC_TUNABLES"\n' > "$work/top/crates/chord_prog/out/chord_prog"
 "$work/top/chord" run </dev/null | grep -q 'glibc\.malloc\.hugetlb=1' || { echo "launcher: large pages are not asked for" >&2; failed=1; }
 [ "$(GLIBC_TUNABLES=own "$work/top/chord" run </dev/null)" = own ] || { echo "launcher: the environment's word on memory is lost" >&2; failed=1; }
+touch -d '+1 minute' "$work/top/crates/chord_prog/src/main.rt"
+echo 6 > "$work/ends"
+expect 'older than the sources' 6 'tried with rules: input' chord rules
 exit $failed
