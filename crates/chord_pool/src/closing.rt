@@ -16,6 +16,7 @@ use chord_code::laws::entries_are_within;
 use chord_journal::gather;
 use chord_space::{Closed, Desk, Space};
 use chord_task::parcel::Parcel;
+use chord_task::pasts::add_past;
 use std::alloc::{AllocError, Global};
 
 /// Takes the parcel of number i, if it is at home; the entries of its task go behind those that are there.
@@ -36,8 +37,8 @@ fn take_home(
             match task {
                 None => Ok(()),
                 Some(task) => {
-                    let mut past = task.into_inner().into_past();
-                    entries.append(&mut past)?;
+                    let past = task.into_inner().into_past();
+                    add_past(entries, past)?;
                     Ok(())
                 }
             }

@@ -11,5 +11,6 @@ pub mod body;
 pub mod cross;
 pub mod enclosed;
 pub mod parcel;
+pub mod pasts;
 pub mod task;
 pub mod turn;

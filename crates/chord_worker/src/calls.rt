@@ -16,6 +16,7 @@ use chord_code::code::Code;
 use chord_space::{Desk, Space};
 use chord_task::apart::Apart;
 use chord_task::parcel::Parcel;
+use chord_task::pasts::add_past;
 use chord_task::task::Task;
 use chord_word::Cell;
 use std::alloc::{AllocError, Global};
@@ -162,8 +163,7 @@ impl Worker {
         } = other;
         space.join(&mut self.desk, desk);
         self.spent = told_either(self.spent, spent);
-        let mut done = done;
-        self.done.append(&mut done)?;
+        add_past(&mut self.done, done)?;
         Ok(())
     }
 

@@ -18,6 +18,7 @@ use chord_code::code::Code;
 use chord_space::Space;
 use chord_task::apart::Apart;
 use chord_task::parcel::Parcel;
+use chord_task::pasts::add_past;
 use chord_task::task::Task;
 use chord_vm::ask::Ask;
 use std::alloc::{AllocError, Global};
@@ -35,8 +36,8 @@ impl Worker {
             self.task = Some(task);
             return Ok(());
         }
-        let mut past = task.into_inner().into_past();
-        self.done.append(&mut past)?;
+        let past = task.into_inner().into_past();
+        add_past(&mut self.done, past)?;
         Ok(())
     }
 
@@ -46,8 +47,8 @@ impl Worker {
         ensures done { OnOk result (self.new.done.items ≡ self.old.done.items ++ task.past.items) }
     {
         self.spent = true;
-        let mut past = task.into_inner().into_past();
-        self.done.append(&mut past)?;
+        let past = task.into_inner().into_past();
+        add_past(&mut self.done, past)?;
         Ok(())
     }
 
