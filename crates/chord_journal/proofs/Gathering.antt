@@ -1,4 +1,4 @@
--- Sorted by their numbers, the entries of a journal are the journal.
+-- In the order of their numbers, the entries of a journal are the journal.
 use Rattle.std.proofs.Common.{◌≡◌, ℕ, zero, suc, ◌<◌, ◌≤◌, ◌+◌, ◌-◌, List, [], ◌∷◌, ◌++◌, length, take, reverse, get_or, refl, ap, sym, ◌∙◌, arith, add-one, inl, inr}
 use Rattle.std.specs.Prelude.{All}
 use Rattle.std.specs.List.Sorted.{IsNonDecreasingBy, IsPermutation}
@@ -8,11 +8,11 @@ use Rattle.std.proofs.lemmas.Bool.{cases_lt}
 use Rattle.chord_base.specs.Bounds.{AreWithin, IsJournal}
 use Rattle.chord_base.specs.declared.event.Entry.{Entry}
 use Rattle.chord_io.proofs.Joined.{before_next}
-use Rattle.chord_journal.specs.Gathered.{IsEntryWithin, AreOfJournal}
+use Rattle.chord_journal.specs.Gathered.{IsEntryWithin, AreOfJournal, StandInPlace}
 
 -- each entry has the number of its place
 abbrev pub AreInPlace : List Entry → Type 0
-AreInPlace es = (i : ℕ) (d : Entry) → i < length es → (get_or es i d).number ≡ i
+AreInPlace es = StandInPlace (length es) es
 
 -- each number below the length stands at a place
 abbrev HasEach : List Entry → Entry → Type 0
@@ -77,11 +77,15 @@ all_within [] place within = tt
 all_within (e ∷ es) place within =
     rw (take_all (length (e ∷ es)) (e ∷ es) (omega arith)) at (within_front (e ∷ es) e (length (e ∷ es)) (omega arith) place within)
 
--- the entries of a journal in the order of their numbers are a journal
-pub sorted_is_journal : (es sorted : List Entry) → AreOfJournal es → IsPermutation es sorted → IsNonDecreasingBy (λ e. e.number) sorted → IsJournal sorted
-sorted_is_journal es sorted given moved rising =
-    let long = length_permutation es sorted moved in
+-- sorted, the entries of a journal stand in their places
+pub sorted_in_place : (es sorted : List Entry) → AreOfJournal es → IsPermutation es sorted → IsNonDecreasingBy (λ e. e.number) sorted → AreInPlace sorted
+sorted_in_place es sorted given moved rising = in_place sorted rising (has_each es sorted given moved)
+
+-- the entries of a journal in their places are a journal
+pub placed_is_journal : (es placed : List Entry) → AreOfJournal es → IsPermutation es placed → AreInPlace placed → IsJournal placed
+placed_is_journal es placed given moved place =
+    let long = length_permutation es placed moved in
     record {
       few = omega (arith, long, given.few);
-      within = all_within sorted (in_place sorted rising (has_each es sorted given moved)) (All-permutation IsEntryWithin es sorted moved given.within);
+      within = all_within placed place (All-permutation IsEntryWithin es placed moved given.within);
     }

@@ -1,5 +1,5 @@
 -- The entries of a journal, in any order.
-use Rattle.std.specs.Prelude.{◌≡◌, ℕ, ◌<◌, ◌≤◌, List, length, All, Any}
+use Rattle.std.specs.Prelude.{◌≡◌, ℕ, ◌<◌, ◌≤◌, List, length, get_or, All, Any}
 use Rattle.chord_base.specs.Bounds.{IsWhatWithin}
 use Rattle.chord_base.specs.declared.event.Entry.{Entry}
 
@@ -13,3 +13,7 @@ pub record AreOfJournal (entries : List Entry) : Type 0 where
   pub few : length entries ≤ 65536
   pub within : All IsEntryWithin entries
   pub numbered : (n : ℕ) → n < length entries → Any (λ e. e.number ≡ n) entries
+
+-- each entry below this place has the number of its place
+abbrev pub StandInPlace : ℕ → List Entry → Type 0
+StandInPlace n entries = (i : ℕ) (d : Entry) → i < n → (get_or entries i d).number ≡ i
