@@ -16,6 +16,6 @@ mod write;
 
 pub use counts::write_counts;
 pub use gathered::gather;
-pub use lines::write_lines;
+pub use lines::{write_and_look, write_lines};
 pub use reading::{JournalFault, read};
 pub use write::write_text;

@@ -1,11 +1,12 @@
 //! The lines that a run printed.
-ghost use Rattle.std.specs.Prelude.{◌≡◌, ℕ, ◌≤◌, OnOk, OnErr};
-ghost use Rattle.chord_base.specs.Printed.{lines, line_of};
+ghost use Rattle.std.specs.Prelude.{◌≡◌, ℕ, ◌≤◌, IfOk, OnOk, OnErr};
+ghost use Rattle.std.specs.List.{list_any};
+ghost use Rattle.chord_base.specs.Printed.{is_trap, lines, line_of};
 ghost use Rattle.chord_io.specs.Faults.{Rose};
 ghost use Rattle.chord_io.specs.Pieces.{Took, TookProperPrefix};
 
 use arrayvec::ArrayVec;
-use chord_base::event::{Entry, What};
+use chord_base::event::{End, Entry, What};
 use chord_base::journal::Journal;
 use chord_base::text::MAX_TEXT_BYTES;
 use chord_io::{Failed, Sink, write_all};
@@ -24,15 +25,34 @@ pub fn write_lines<K: Sink>(journal: &Journal, sink: &mut K) -> Result<(), Faile
     ensures failed { OnErr result (Rose (K.faults sink.old) (K.faults sink.new)) }
     ensures never_falls { K.faults sink.old ≤ K.faults sink.new }
 {
-    for entry in journal.entries() {
-        write_line(entry, sink)?;
-    }
+    write_and_look(journal, sink)?;
     Ok(())
 }
 
-/// Writes the line of an entry, if it has one.
-fn write_line<K: Sink>(entry: &Entry, sink: &mut K) -> Result<(), Failed>
+/// Writes the lines of a journal as `write_lines` does, and gives whether an entry is an end by a trap: one pass sees both.
+///
+/// # Errors
+///
+/// `Failed` where the sink failed, which its count of faults shows. A proper prefix of the lines was written.
+pub fn write_and_look<K: Sink>(journal: &Journal, sink: &mut K) -> Result<bool, Failed>
+    ensures whole { OnOk result (Took (K.taken sink.old) (lines journal.now) (K.taken sink.new)) }
+    ensures seen { IfOk result (λ trapped. trapped ≡ list_any (λ e. is_trap e.what) journal.now) }
+    ensures prefix { OnErr result (TookProperPrefix (K.taken sink.old) (lines journal.now) (K.taken sink.new)) }
+    ensures failed { OnErr result (Rose (K.faults sink.old) (K.faults sink.new)) }
+    ensures never_falls { K.faults sink.old ≤ K.faults sink.new }
+{
+    let mut trapped = false;
+    for entry in journal.entries() {
+        let traps = write_line(entry, sink)?;
+        trapped = trapped | traps;
+    }
+    Ok(trapped)
+}
+
+/// Writes the line of an entry, if it has one, and gives whether it is an end by a trap.
+fn write_line<K: Sink>(entry: &Entry, sink: &mut K) -> Result<bool, Failed>
     ensures whole { OnOk result (Took (K.taken sink.old) (line_of entry.now.what) (K.taken sink.new)) }
+    ensures seen { IfOk result (λ traps. traps ≡ is_trap entry.now.what) }
     ensures prefix { OnErr result (TookProperPrefix (K.taken sink.old) (line_of entry.now.what) (K.taken sink.new)) }
     ensures failed { OnErr result (Rose (K.faults sink.old) (K.faults sink.new)) }
     ensures never_falls { K.faults sink.old ≤ K.faults sink.new }
@@ -42,8 +62,10 @@ fn write_line<K: Sink>(entry: &Entry, sink: &mut K) -> Result<(), Failed>
             let mut line = ArrayVec::<u8, LINE_BYTES>::new();
             line.try_extend_from_slice(text.items()).unwrap();
             line.push(b'\n');
-            write_all(sink, line.as_slice())
+            write_all(sink, line.as_slice())?;
+            Ok(false)
         }
-        _ => Ok(()),
+        What::Ended(End::Traps(_)) => Ok(true),
+        _ => Ok(false),
     }
 }
