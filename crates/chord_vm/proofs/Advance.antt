@@ -12,7 +12,7 @@ use Rattle.chord_code.specs.declared.parts.Block.{Block}
 use Rattle.chord_code.specs.declared.parts.Parts.{Parts}
 use Rattle.chord_vm.specs.declared.frames.Frames.{Frames}
 use Rattle.chord_code.specs.Machine.{Machine, Waiting, Did, Goes, Asking, Bad, instr_in, fetch, act, step, goes_on, run, ComesTo, ComesToAsk}
-use Rattle.chord_vm.specs.Frames.{machine_of, waiting_of, SteppedTo, HasStepped, Advanced}
+use Rattle.chord_vm.specs.Frames.{machine_of, waiting_of, SteppedTo, HasStepped, Advanced, instructions_of, instructions_in}
 use Rattle.chord_vm.specs.declared.step.After.{After}
 use Rattle.chord_vm.specs.declared.step.After.TheVariants as steps
 
@@ -62,6 +62,7 @@ stepped_advanced code m (ask.Print v) f h = now code m (Printed v) (waiting_of f
 -- after an instruction that comes to an ask, it was put
 pub put_ask : (d : Did) (s : After) (o : Option Ask) (f : Frames) → s ≡ steps.Asks → HasStepped d s o f → (a : Ask) × (o ≡ Some a) × SteppedTo d (Some a) f
 put_ask d steps.Goes o f e h = cc
+put_ask d steps.Moves o f e h = cc
 put_ask d steps.Fails o f e h = cc
 put_ask d steps.Asks None f e h = absurd h
 put_ask d steps.Asks (Some a) f e h = (a, refl, h)
@@ -69,8 +70,16 @@ put_ask d steps.Asks (Some a) f e h = (a, refl, h)
 -- an instruction that goes on comes to the machine of the frames
 pub went_to : (d : Did) (s : After) (o : Option Ask) (f : Frames) → s ≡ steps.Goes → HasStepped d s o f → d ≡ Goes (machine_of f)
 went_to d steps.Goes o f e h = h
+went_to d steps.Moves o f e h = cc
 went_to d steps.Fails o f e h = cc
 went_to d steps.Asks o f e h = cc
+
+-- an instruction that goes on in another block comes to the machine of the frames
+pub moved_to : (d : Did) (s : After) (o : Option Ask) (f : Frames) → s ≡ steps.Moves → HasStepped d s o f → d ≡ Goes (machine_of f)
+moved_to d steps.Moves o f e h = h
+moved_to d steps.Goes o f e h = cc
+moved_to d steps.Fails o f e h = cc
+moved_to d steps.Asks o f e h = cc
 
 -- after an instruction that goes on, what the machine comes to is what it came to before
 pub advanced_on : (code : Parts) (m m' : Machine) (a : Ask) (f : Frames) → step code m ≡ Goes m' → Advanced code m' a f → Advanced code m a f
@@ -91,13 +100,6 @@ block_in code m d =
     (λ le. absurd (fetch_some code m d (ap (λ o. instr_in o m.top.place) (slice_get_past code.blocks m.top.block le))))
     (cases_lt m.top.block (length code.blocks))
 
--- the place of such a machine is in its block
-pub place_in : (code : Parts) (m : Machine) (b : Block) → slice_get code.blocks m.top.block ≡ Some b → ComesToAsk code m → m.top.place < length b.instructions
-place_in code m b e d =
-    ⊎_elim (λ lt. lt)
-    (λ le. absurd (fetch_some code m d (ap (λ o. instr_in o m.top.place) e ∙ slice_get_past b.instructions m.top.place le)))
-    (cases_lt m.top.place (length b.instructions))
-
 -- what stands at a place of a list is one item
 get_at : {A : Type 0} (xs : List A) (n : ℕ) (x : A) → n < length xs → x ≡ get_or xs n x → slice_get xs n ≡ Some x
 get_at [] n x l e = absurd (omega (arith, l))
@@ -108,11 +110,29 @@ get_at (y ∷ ys) (suc n) x l e = get_at ys n x (omega (arith, l)) e
 block_at : (code : Parts) (m : Machine) (b : Block) → ComesToAsk code m → b ≡ get_or code.blocks m.top.block b → slice_get code.blocks m.top.block ≡ Some b
 block_at code m b d e = get_at code.blocks m.top.block b (block_in code m d) e
 
--- its place is one of the block's
-pub place_at : (code : Parts) (m : Machine) (b : Block) → ComesToAsk code m → b ≡ get_or code.blocks m.top.block b → m.top.place < length b.instructions
-place_at code m b d e = place_in code m b (block_at code m b d e) d
+-- its instructions
+pub at_work : (code : Parts) (m : Machine) (b : Block) → ComesToAsk code m → b ≡ get_or code.blocks m.top.block b → instructions_in code m.top.block ≡ Some b.instructions
+at_work code m b d e = ap instructions_of (block_at code m b d e)
 
--- its instruction
-pub fetched : (code : Parts) (m : Machine) (b : Block) (x : Instruction) → ComesToAsk code m → b ≡ get_or code.blocks m.top.block b → x ≡ get_or b.instructions m.top.place x → fetch code m.top.block m.top.place ≡ Some x
-fetched code m b x d e f =
-    ap (λ o. instr_in o m.top.place) (block_at code m b d e) ∙ get_at b.instructions m.top.place x (place_at code m b d e) f
+-- the instruction at a place of a block is that of its instructions
+instr_of : (o : Option Block) (xs : List Instruction) (p : ℕ) → instructions_of o ≡ Some xs → instr_in o p ≡ slice_get xs p
+instr_of None xs p e = absurd (no e)
+  where
+    no : None ≡ Some xs → ⊥
+    no e = cc
+instr_of (Some b) xs p e = (let z : b.instructions ≡ xs = cc in ap (λ l. slice_get l p) z)
+
+-- what is fetched is one of the instructions at work
+fetch_at : (code : Parts) (m : Machine) (xs : List Instruction) → instructions_in code m.top.block ≡ Some xs → fetch code m.top.block m.top.place ≡ slice_get xs m.top.place
+fetch_at code m xs e = instr_of (slice_get code.blocks m.top.block) xs m.top.place e
+
+-- the place is one of theirs
+pub place_at : (code : Parts) (m : Machine) (xs : List Instruction) → ComesToAsk code m → instructions_in code m.top.block ≡ Some xs → m.top.place < length xs
+place_at code m xs d e =
+    ⊎_elim (λ lt. lt)
+    (λ le. absurd (fetch_some code m d (fetch_at code m xs e ∙ slice_get_past xs m.top.place le)))
+    (cases_lt m.top.place (length xs))
+
+-- the instruction of the machine's place
+pub fetched : (code : Parts) (m : Machine) (xs : List Instruction) (x : Instruction) → ComesToAsk code m → instructions_in code m.top.block ≡ Some xs → x ≡ get_or xs m.top.place x → fetch code m.top.block m.top.place ≡ Some x
+fetched code m xs x d e f = fetch_at code m xs e ∙ get_at xs m.top.place x (place_at code m xs d e) f

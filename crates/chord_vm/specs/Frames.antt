@@ -1,5 +1,5 @@
 -- What the frames of a body stand for.
-use Rattle.std.specs.Prelude.{◌≡◌, ◌<◌, ◌≤◌, vec_len, vec_capacity, ℕ, List, [], ◌∷◌, ◌++◌, Option, Some, None, map, reverse, slice_get}
+use Rattle.std.specs.Prelude.{◌≡◌, ◌<◌, ◌≤◌, vec_len, vec_capacity, ℕ, List, [], ◌∷◌, ◌++◌, Bool, true, false, Option, Some, None, map, reverse, slice_get}
 use Rattle.chord_vm.specs.declared.frames.Frame as declared_frame
 use Rattle.chord_vm.specs.declared.frames.Frames.{Frames}
 use Rattle.chord_vm.specs.declared.ask.Ask.{Ask}
@@ -13,6 +13,8 @@ use Rattle.chord_code.specs.declared.awaited.Awaited.{Awaited}
 use Rattle.chord_code.specs.declared.awaited.Awaited.TheVariants.{ForNothing, ForValue, ForObject}
 use Rattle.chord_code.specs.declared.parts.Parts.{Parts}
 use Rattle.chord_code.specs.declared.parts.Block.{Block}
+use Rattle.chord_code.specs.declared.instruction.Instruction.{Instruction}
+use Rattle.chord_code.specs.declared.instruction.Instruction.TheVariants as instr
 use Rattle.chord_code.specs.Machine.{Frame, Machine, Waiting, Did, Goes, Asking, pops, ComesTo}
 
 -- a frame's stack grows at its end
@@ -47,8 +49,24 @@ SteppedTo d (Some (ask.Print t)) f = d ≡ Asking (Printed t) (waiting_of f)
 -- after one instruction the body goes on, or its ask was put, or no memory was found
 abbrev pub HasStepped : Did → After → Option Ask → Frames → Type 0
 HasStepped d steps.Goes asked f = d ≡ Goes (machine_of f)
+HasStepped d steps.Moves asked f = d ≡ Goes (machine_of f)
 HasStepped d steps.Asks asked f = SteppedTo d asked f
 HasStepped d steps.Fails asked f = Unit {0}
+
+-- the instructions after which another block may be at work
+abbrev pub changes_block : Instruction → Bool
+changes_block (instr.Init c) = true
+changes_block instr.Back = true
+changes_block _ = false
+
+-- the instructions of a block, if it is there
+abbrev pub instructions_of : Option Block → Option (List Instruction)
+instructions_of None = None
+instructions_of (Some b) = Some b.instructions
+
+-- the instructions of the block of this number
+abbrev pub instructions_in : Parts → ℕ → Option (List Instruction)
+instructions_in code b = instructions_of (slice_get code.blocks b)
 
 -- the frame at another place, with another stack and other slots
 abbrev pub frame_with : Frame → ℕ → List Value → List Value → Frame

@@ -6,7 +6,7 @@ ghost use Rattle.chord_base.specs.Operators.{Computed, Is, Trapped, Mistyped, co
 ghost use Rattle.chord_code.specs.Valid.{IsValid};
 ghost use Rattle.chord_code.specs.Within.{IsInstructionWithin};
 ghost use Rattle.chord_code.specs.Machine.{Did, Goes, Asking, Bad, act, operate as operate_of, negates, denies, skips, again as again_of, if_deeper, makes_object, builder_of, init_by, fetch, ComesToAsk, loads, store_top, pops, pop_top, goes_back, send_by, call_by, print_top, end_with};
-ghost use Rattle.chord_vm.specs.Frames.{shown_frame, machine_of, HasStepped, frame_with, Advanced, IsMoved};
+ghost use Rattle.chord_vm.specs.Frames.{shown_frame, machine_of, HasStepped, frame_with, Advanced, IsMoved, changes_block, instructions_in};
 ghost use Rattle.chord_vm.specs.declared.frames.Frames.{Frames as TheFrames};
 ghost use Rattle.chord_vm.specs.declared.ask.Ask.{Ask as AnAsk};
 
@@ -25,8 +25,10 @@ use std::mem;
 
 /// What comes after an instruction. It is one byte, so that each arm of the machine's loop goes straight on.
 enum After {
-    /// The body goes on.
+    /// The body goes on in the same block.
     Goes,
+    /// The body goes on, in another block perhaps.
+    Moves,
     /// Its ask was put beside: an ask is large, and is moved once in a while, and not with each instruction.
     Asks,
     /// No memory was found.
@@ -44,6 +46,18 @@ fn went(done: Result<(), AllocError>) -> After
     }
 }
 
+/// The body goes on in a block that came to work, if memory was found.
+#[inline(always)]
+fn moved(done: Result<(), AllocError>) -> After
+    ensures stepped { (d : Did) (f : TheFrames) (asked : Option AnAsk) → OnOk done (d ≡ Goes (machine_of f)) → HasStepped d result asked f }
+    ensures elsewhere { result ≢ After.Goes }
+{
+    match done {
+        Ok(()) => After::Moves,
+        Err(_) => After::Fails,
+    }
+}
+
 /// Pushes a value, and goes to the next instruction.
 #[inline(always)]
 fn push(frame: &mut Frame, value: Value) -> Result<(), AllocError>
@@ -55,11 +69,23 @@ fn push(frame: &mut Frame, value: Value) -> Result<(), AllocError>
     Ok(())
 }
 
-/// Pops.
+/// Pushes a value where one was popped, and goes to the next instruction. Takes no memory.
+#[inline(always)]
+fn put_back(frame: &mut Frame, value: Value)
+    requires fits { frame.old.place + 1 < 2 ^ 64 }
+    requires room { vec_len frame.old.stack < vec_capacity frame.old.stack }
+    ensures { shown_frame frame.new ≡ frame_with (shown_frame frame.old) (suc frame.old.place) (value ∷ (shown_frame frame.old).stack) (shown_frame frame.old).slots }
+{
+    frame.stack.push_reserved(value);
+    frame.place += 1;
+}
+
+/// Pops. The stack keeps the room of the value.
 #[inline(always)]
 fn take(frame: &mut Frame) -> Value
     requires { (shown_frame frame.old).stack ≢ [] }
-    ensures { shown_frame frame.old ≡ frame_with (shown_frame frame.new) frame.new.place (result ∷ (shown_frame frame.new).stack) (shown_frame frame.new).slots }
+    ensures popped { shown_frame frame.old ≡ frame_with (shown_frame frame.new) frame.new.place (result ∷ (shown_frame frame.new).stack) (shown_frame frame.new).slots }
+    ensures room { vec_len frame.new.stack < vec_capacity frame.new.stack }
 {
     frame.stack.take_last()
 }
@@ -89,7 +115,8 @@ fn step(
     requires fits { frames.old.top.place + 1 < 2 ^ 64 }
     requires within { IsInstructionWithin instruction.now }
     requires sound { act parts.now (Some instruction.now) (machine_of frames.old) ≢ Bad }
-    ensures { HasStepped (act parts.now (Some instruction.now) (machine_of frames.old)) result asked.new frames.new }
+    ensures stepped { HasStepped (act parts.now (Some instruction.now) (machine_of frames.old)) result asked.new frames.new }
+    ensures stays { result ≡ After.Goes → changes_block instruction.now ≡ false }
 {
     match instruction {
         Instruction::Int(number) => return went(push_value(frames, Value::Int(*number))),
@@ -116,13 +143,16 @@ fn step(
         Instruction::Skip(to) => skip(frames, *to as usize),
         Instruction::Again(to) => return again(frames, *to as usize, asked),
         Instruction::New(class, n) => return make(parts, frames, *class, *n, asked),
-        Instruction::Init(class) => return went(init(alloc, parts, frames, *class)),
+        Instruction::Init(class) => return moved(init(alloc, parts, frames, *class)),
         Instruction::Send(method, n) => return send(alloc, frames, *method, *n as usize, asked),
         Instruction::Call(method, n) => return call(alloc, frames, *method, *n as usize, asked),
         Instruction::Print => return print(alloc, frames, asked),
         Instruction::End => return end(asked),
         Instruction::Endv => return end_with_top(frames, asked),
-        Instruction::Back => back(frames),
+        Instruction::Back => {
+            back(frames);
+            return After::Moves;
+        }
     }
     After::Goes
 }
@@ -154,7 +184,7 @@ fn end(asked: &mut Option<Ask>) -> After
 }
 
 /// `endv`.
-#[inline(never)]
+#[inline(always)]
 fn end_with_top(frames: &mut Frames, asked: &mut Option<Ask>) -> After
     requires sound { end_with (machine_of frames.old) (machine_of frames.old).top.stack ≢ Bad }
     ensures { HasStepped (end_with (machine_of frames.old) (machine_of frames.old).top.stack) result asked.new frames.new }
@@ -269,7 +299,23 @@ fn push_copy(alloc: Global, frames: &mut Frames, slot: usize) -> Result<(), Allo
     }
 }
 
-/// `load`. A number and an object are written where they are pushed.
+/// `load` of what is no number. An object is written where it is pushed.
+#[inline(always)]
+fn load_other(alloc: Global, frames: &mut Frames, slot: usize) -> Result<(), AllocError>
+    requires fits { frames.old.top.place + 1 < 2 ^ 64 }
+    requires sound { loads (machine_of frames.old) (slice_get frames.old.top.slots.items slot) ≢ Bad }
+    ensures { OnOk result (loads (machine_of frames.old) (slice_get frames.old.top.slots.items slot) ≡ Goes (machine_of frames.new)) }
+{
+    match frames.top.slots.get(slot) {
+        Some(Value::Ref(object)) => {
+            let object = *object;
+            push_value(frames, Value::Ref(object))
+        }
+        _ => push_copy(alloc, frames, slot),
+    }
+}
+
+/// `load`. A number is looked for first, and written where it is pushed.
 #[inline(always)]
 fn load(alloc: Global, frames: &mut Frames, slot: usize) -> Result<(), AllocError>
     requires fits { frames.old.top.place + 1 < 2 ^ 64 }
@@ -277,16 +323,11 @@ fn load(alloc: Global, frames: &mut Frames, slot: usize) -> Result<(), AllocErro
     ensures { OnOk result (loads (machine_of frames.old) (slice_get frames.old.top.slots.items slot) ≡ Goes (machine_of frames.new)) }
 {
     match frames.top.slots.get(slot) {
-        None => unreachable!(),
         Some(Value::Int(number)) => {
             let number = *number;
             push_value(frames, Value::Int(number))
         }
-        Some(Value::Ref(object)) => {
-            let object = *object;
-            push_value(frames, Value::Ref(object))
-        }
-        Some(_) => push_copy(alloc, frames, slot),
+        _ => load_other(alloc, frames, slot),
     }
 }
 
@@ -317,7 +358,10 @@ fn operate(
     let right = take(&mut frames.top);
     let left = take(&mut frames.top);
     match compute(alloc, operation, left, right) {
-        Ok(Ok(value)) => went(push(&mut frames.top, value)),
+        Ok(Ok(value)) => {
+            put_back(&mut frames.top, value);
+            After::Goes
+        }
         Ok(Err(trap)) => ends_by(trap, asked),
         Err(_) => After::Fails,
     }
@@ -380,8 +424,28 @@ fn send_to(frames: &mut Frames, method: u8, arguments: Values, asked: &mut Optio
     }
 }
 
-/// `send`. Each number of arguments goes its own way to the end, since lists that ways hand on are merged field by field.
+/// `send` of several arguments, which lie in memory.
 #[inline(never)]
+fn send_several(
+    alloc: Global,
+    frames: &mut Frames,
+    method: u8,
+    n: usize,
+    asked: &mut Option<Ask>,
+) -> After
+    requires few { n ≤ 8 }
+    requires fits { frames.old.top.place + 1 < 2 ^ 64 }
+    requires sound { send_by method (machine_of frames.old) (pops n [] (machine_of frames.old).top.stack) ≢ Bad }
+    ensures { HasStepped (send_by method (machine_of frames.old) (pops n [] (machine_of frames.old).top.stack)) result asked.new frames.new }
+{
+    let Ok(arguments) = take_all(alloc, &mut frames.top, n) else {
+        return After::Fails;
+    };
+    send_to(frames, method, arguments, asked)
+}
+
+/// `send`. Each number of arguments goes its own way to the end, since lists that ways hand on are merged field by field.
+#[inline(always)]
 fn send(alloc: Global, frames: &mut Frames, method: u8, n: usize, asked: &mut Option<Ask>) -> After
     requires few { n ≤ 8 }
     requires fits { frames.old.top.place + 1 < 2 ^ 64 }
@@ -395,10 +459,7 @@ fn send(alloc: Global, frames: &mut Frames, method: u8, n: usize, asked: &mut Op
         let argument = take(&mut frames.top);
         return send_to(frames, method, Values::one(argument), asked);
     }
-    let Ok(arguments) = take_all(alloc, &mut frames.top, n) else {
-        return After::Fails;
-    };
-    send_to(frames, method, arguments, asked)
+    send_several(alloc, frames, method, n, asked)
 }
 
 /// A call of the receiver, which stands on top. It is looked at before the depth.
@@ -422,8 +483,28 @@ fn call_of(frames: &mut Frames, method: u8, arguments: Values, asked: &mut Optio
     }
 }
 
-/// `call`. The operands are looked at before the depth.
+/// `call` of several arguments, which lie in memory.
 #[inline(never)]
+fn call_several(
+    alloc: Global,
+    frames: &mut Frames,
+    method: u8,
+    n: usize,
+    asked: &mut Option<Ask>,
+) -> After
+    requires few { n ≤ 8 }
+    requires fits { frames.old.top.place + 1 < 2 ^ 64 }
+    requires sound { call_by method (machine_of frames.old) (pops n [] (machine_of frames.old).top.stack) ≢ Bad }
+    ensures { HasStepped (call_by method (machine_of frames.old) (pops n [] (machine_of frames.old).top.stack)) result asked.new frames.new }
+{
+    let Ok(arguments) = take_all(alloc, &mut frames.top, n) else {
+        return After::Fails;
+    };
+    call_of(frames, method, arguments, asked)
+}
+
+/// `call`. The operands are looked at before the depth.
+#[inline(always)]
 fn call(alloc: Global, frames: &mut Frames, method: u8, n: usize, asked: &mut Option<Ask>) -> After
     requires few { n ≤ 8 }
     requires fits { frames.old.top.place + 1 < 2 ^ 64 }
@@ -437,10 +518,7 @@ fn call(alloc: Global, frames: &mut Frames, method: u8, n: usize, asked: &mut Op
         let argument = take(&mut frames.top);
         return call_of(frames, method, Values::one(argument), asked);
     }
-    let Ok(arguments) = take_all(alloc, &mut frames.top, n) else {
-        return After::Fails;
-    };
-    call_of(frames, method, arguments, asked)
+    call_several(alloc, frames, method, n, asked)
 }
 
 /// `new`. The arguments stay on the stack until the object is there.
@@ -512,17 +590,26 @@ fn enter(
     Ok(())
 }
 
-/// The instruction at the place of the top frame.
+/// The instructions of the block at work.
 #[inline(always)]
-fn next<'a>(parts: &'a Parts, frames: &Frames) -> &'a Instruction
+fn at_work<'a>(parts: &'a Parts, frames: &Frames) -> &'a [Instruction]
+    requires sound { ComesToAsk parts.now (machine_of frames.now) }
+    ensures { instructions_in parts.now frames.now.top.block ≡ Some result.now }
+{
+    let block = &parts.blocks.items()[frames.top.block];
+    block.instructions.items()
+}
+
+/// The instruction at the place of the top frame, among the instructions of its block.
+#[inline(always)]
+fn next<'a>(instructions: &'a [Instruction], parts: &Parts, frames: &Frames) -> &'a Instruction
     requires valid { IsValid parts.now }
     requires sound { ComesToAsk parts.now (machine_of frames.now) }
+    requires here { instructions_in parts.now frames.now.top.block ≡ Some instructions.now }
     ensures instruction { fetch parts.now frames.now.top.block frames.now.top.place ≡ Some result.now }
     ensures within { IsInstructionWithin result.now }
     ensures fits { frames.now.top.place + 1 < 2 ^ 64 }
 {
-    let block = &parts.blocks.items()[frames.top.block];
-    let instructions = block.instructions.items();
     let _count = instructions.len();
     &instructions[frames.top.place]
 }
@@ -539,11 +626,17 @@ fn run(
     requires sound { ComesToAsk parts.now (machine_of frames.old) }
     ensures { OnOk result ((ask : Ask) × (asked.new ≡ Some ask) × Advanced parts.now (machine_of frames.old) ask frames.new) }
 {
-    let mut instruction = next(parts, frames);
+    // the instructions of a block are looked up once, until another block comes to work
+    let mut instructions = at_work(parts, frames);
+    let mut instruction = next(instructions, parts, frames);
     // the next instruction is fetched where the loop ends: each arm of the step goes there by itself, and no test stands between
     'steps: loop {
         match step(alloc, parts, frames, instruction, asked) {
-            After::Goes => instruction = next(parts, frames),
+            After::Goes => instruction = next(instructions, parts, frames),
+            After::Moves => {
+                instructions = at_work(parts, frames);
+                instruction = next(instructions, parts, frames);
+            }
             After::Asks => return Ok(()),
             After::Fails => return Err(AllocError),
         }

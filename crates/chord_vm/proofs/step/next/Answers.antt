@@ -8,10 +8,10 @@ pub returns-clause-within : goal.returns-clause-within
 returns-clause-within c =
     let m = machine_of c.args.frames.now in
     valid_within c.args.parts.now c.requires.valid m.top.block m.top.place c.index-instructions-frames.result
-    (fetched c.args.parts.now m c.index-items-frames.result c.index-instructions-frames.result c.requires.sound (rw (← c.items.ensures) c.index-items-frames.is) (rw (← c.items-instructions.ensures) c.index-instructions-frames.is))
+    (fetched c.args.parts.now m c.args.instructions.now c.index-instructions-frames.result c.requires.sound c.requires.here c.index-instructions-frames.is)
 
 pub returns-clause-fits : goal.returns-clause-fits
 returns-clause-fits c =
     let m = machine_of c.args.frames.now in
-    let l : m.top.place < length c.items-instructions.result.now = rw c.items-instructions.ensures (place_at c.args.parts.now m c.index-items-frames.result c.requires.sound (rw (← c.items.ensures) c.index-items-frames.is)) in
+    let l : m.top.place < length c.args.instructions.now = place_at c.args.parts.now m c.args.instructions.now c.requires.sound c.requires.here in
     search (rules, l)

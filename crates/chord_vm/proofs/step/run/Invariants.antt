@@ -1,4 +1,4 @@
-use Rattle.chord_vm.specs.Frames.{machine_of, Advanced}
+use Rattle.chord_vm.specs.Frames.{machine_of, Advanced, instructions_in}
 use Rattle.std.proofs.Common.{◌≡◌, ◌+◌, ◌<◌, ◌^◌, Some}
 use Rattle.chord_code.specs.Machine.{ComesToAsk, fetch}
 use Rattle.chord_code.specs.Within.{IsInstructionWithin}
@@ -10,6 +10,7 @@ use Rattle.chord_vm.proofs.step.run.Given as goal
 abbrev pub invariant-steps : goal.invariant-steps
 invariant-steps l = record {
   fetched : fetch l.parts l.frames.top.block l.frames.top.place ≡ Some l.instruction;
+  here : instructions_in l.parts l.frames.top.block ≡ Some l.instructions;
   within : IsInstructionWithin l.instruction;
   fits : l.frames.top.place + 1 < 2 ^ 64;
   defined : ComesToAsk l.parts (machine_of l.frames);
