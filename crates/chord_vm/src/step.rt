@@ -58,26 +58,38 @@ fn moved(done: Result<(), AllocError>) -> After
     }
 }
 
-/// Pushes a value, and goes to the next instruction.
+/// Pushes a value for which there is room, and goes to the next instruction.
 #[inline(always)]
-fn push(frame: &mut Frame, value: Value) -> Result<(), AllocError>
-    requires { frame.old.place + 1 < 2 ^ 64 }
-    ensures { OnOk result (shown_frame frame.new ≡ frame_with (shown_frame frame.old) (suc frame.old.place) (value ∷ (shown_frame frame.old).stack) (shown_frame frame.old).slots) }
-{
-    frame.stack.push(value)?;
-    frame.place += 1;
-    Ok(())
-}
-
-/// Pushes a value where one was popped, and goes to the next instruction. Takes no memory.
-#[inline(always)]
-fn put_back(frame: &mut Frame, value: Value)
+fn push_reserved(frame: &mut Frame, value: Value)
     requires fits { frame.old.place + 1 < 2 ^ 64 }
     requires room { vec_len frame.old.stack < vec_capacity frame.old.stack }
     ensures { shown_frame frame.new ≡ frame_with (shown_frame frame.old) (suc frame.old.place) (value ∷ (shown_frame frame.old).stack) (shown_frame frame.old).slots }
 {
     frame.stack.push_reserved(value);
     frame.place += 1;
+}
+
+/// Takes room for one more operand.
+#[inline(never)]
+fn grow(frame: &mut Frame) -> Result<(), AllocError>
+    ensures same { shown_frame frame.new ≡ shown_frame frame.old }
+    ensures room { OnOk result (vec_len frame.new.stack < vec_capacity frame.new.stack) }
+{
+    frame.stack.reserve(1)?;
+    Ok(())
+}
+
+/// Pushes a value, and goes to the next instruction.
+#[inline(always)]
+fn push(frame: &mut Frame, value: Value) -> Result<(), AllocError>
+    requires { frame.old.place + 1 < 2 ^ 64 }
+    ensures { OnOk result (shown_frame frame.new ≡ frame_with (shown_frame frame.old) (suc frame.old.place) (value ∷ (shown_frame frame.old).stack) (shown_frame frame.old).slots) }
+{
+    if frame.stack.len() == frame.stack.capacity() {
+        grow(frame)?;
+    }
+    push_reserved(frame, value);
+    Ok(())
 }
 
 /// Pops. The stack keeps the room of the value.
@@ -306,8 +318,8 @@ fn load_other(alloc: Global, frames: &mut Frames, slot: usize) -> Result<(), All
     requires sound { loads (machine_of frames.old) (slice_get frames.old.top.slots.items slot) ≢ Bad }
     ensures { OnOk result (loads (machine_of frames.old) (slice_get frames.old.top.slots.items slot) ≡ Goes (machine_of frames.new)) }
 {
-    match frames.top.slots.get(slot) {
-        Some(Value::Ref(object)) => {
+    match &frames.top.slots[slot] {
+        Value::Ref(object) => {
             let object = *object;
             push_value(frames, Value::Ref(object))
         }
@@ -322,8 +334,8 @@ fn load(alloc: Global, frames: &mut Frames, slot: usize) -> Result<(), AllocErro
     requires sound { loads (machine_of frames.old) (slice_get frames.old.top.slots.items slot) ≢ Bad }
     ensures { OnOk result (loads (machine_of frames.old) (slice_get frames.old.top.slots.items slot) ≡ Goes (machine_of frames.new)) }
 {
-    match frames.top.slots.get(slot) {
-        Some(Value::Int(number)) => {
+    match &frames.top.slots[slot] {
+        Value::Int(number) => {
             let number = *number;
             push_value(frames, Value::Int(number))
         }
@@ -359,7 +371,7 @@ fn operate(
     let left = take(&mut frames.top);
     match compute(alloc, operation, left, right) {
         Ok(Ok(value)) => {
-            put_back(&mut frames.top, value);
+            push_reserved(&mut frames.top, value);
             After::Goes
         }
         Ok(Err(trap)) => ends_by(trap, asked),
