@@ -51,7 +51,7 @@ at_work-instructions-requires-in-Moves c =
     let m = machine_of c.steps.frames in
     let g = moved_to (act code (Some c.steps.instruction.now) m) c.step.result c.step.new.asked c.step.new.frames c.in-Moves.is c.step.ensures.stepped in
     let e : step code m ≡ Goes (machine_of c.step.new.frames) = ap (λ o. act code o m) c.steps.invariant.fetched ∙ g in
-    record { sound = defined_on code m (machine_of c.step.new.frames) e c.steps.invariant.defined; }
+    record { sound = defined_on code m (machine_of c.step.new.frames) e c.steps.invariant.defined }
 
 pub next-instruction-requires-in-Moves-clause-sound : goal.next-instruction-requires-in-Moves-clause-sound
 next-instruction-requires-in-Moves-clause-sound c =
