@@ -27,7 +27,7 @@ address_is a b o c m =
     ∙ ap (λ n. record { object = b.object; class = b.class; method = n }) m
 
 -- addresses that are the same by test are equal
-same_is : (a b : Address) → same_address a b ≡ true → a ≡ b
+pub same_is : (a b : Address) → same_address a b ≡ true → a ≡ b
 same_is a b e =
     let o = eqb-true a.object b.object (and_left (a.object == b.object) _ e) in
     let r = and_right (a.object == b.object) _ e in
@@ -36,7 +36,7 @@ same_is a b e =
     address_is a b o c m
 
 -- an address is the same as itself by test
-same_self : (a : Address) → same_address a a ≡ true
+pub same_self : (a : Address) → same_address a a ≡ true
 same_self a = rw (eq-eqb a.object a.object refl, eq-eqb a.class a.class refl, eq-eqb a.method a.method refl) refl
 
 -- other methods of an object have other addresses

@@ -1,5 +1,6 @@
 pub mod BagStacks
 pub mod Bags
+mod Newest
 pub mod Taking
 pub mod Engines
 pub mod PendingEntries

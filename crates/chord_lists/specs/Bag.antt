@@ -1,11 +1,12 @@
 -- The bag: the numbers of the messages that no firing has taken, by what they are to.
 --
 -- A bag lists the pending messages to each method of each object, newest first. What they carry stays with the bodies.
-use Rattle.std.specs.Prelude.{◌≡◌, ℕ, zero, suc, ◌<◌, ◌==◌, ◌&&◌, Bool, true, false, List, [], ◌∷◌, reverse, Option, Some, slice_get, if◌then◌else◌}
+use Rattle.std.specs.Prelude.{◌≡◌, ℕ, zero, suc, ◌<◌, ◌==◌, ◌&&◌, Bool, true, false, List, [], ◌∷◌, reverse, Option, Some, None, slice_get, if◌then◌else◌}
 use Rattle.std.specs.Global.{Vec}
 use Rattle.chord_base.specs.declared.value.Object.{Object}
 use Rattle.chord_base.specs.Messages.{Message, has}
 use Rattle.chord_lists.specs.declared.bag.ClassStacks.{ClassStacks}
+use Rattle.chord_lists.specs.declared.bag.Noted.{Noted}
 use Rattle.chord_lists.specs.declared.bag.Bag.{Bag}
 
 -- ## What a message is to
@@ -56,9 +57,23 @@ pub record IsFirstOf (c : ℕ) (xs : List ClassStacks) (i : ℕ) : Type 0 where
   pub of_class : stacks.class ≡ c
   pub lacks : LacksBefore c xs i
 
+-- the numbers on the stack of this address, newest first
+abbrev pub stacked_by : List (Vec ClassStacks) → Address → List ℕ
+stacked_by objects k = numbers_in (items_at objects k.object) k.class k.method
+
+-- whether a message that stands apart is to this address
+abbrev pub is_apart : Option Noted → Address → Bool
+is_apart None k = false
+is_apart (Some noted) k = same_address (address_to noted.object noted.method) k
+
+-- the number of a message that stands apart comes first at its address
+abbrev pub first_comes : Option Noted → Address → List ℕ → List ℕ
+first_comes None k ns = ns
+first_comes (Some noted) k ns = if same_address (address_to noted.object noted.method) k then noted.number ∷ ns else ns
+
 -- the numbers of the messages to this address, newest first
 abbrev pub numbers_of : Bag → Address → List ℕ
-numbers_of b k = numbers_in (items_at b.objects.items k.object) k.class k.method
+numbers_of b k = first_comes b.newest k (stacked_by b.objects.items k)
 
 -- ## What is in the bag
 

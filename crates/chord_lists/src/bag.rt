@@ -1,13 +1,15 @@
 //! The bag: the numbers of the messages that no firing has taken, by what they are to.
 #![tactic(auto)]
 
-ghost use Rattle.std.specs.Prelude.{◌≡◌, ℕ, ◌+◌, ◌≤◌, ◌==◌, ◌&&◌, List, [], ◌∷◌, length, reverse, vec_len, IfNone, IfSome, OnOk, true, false, if◌then◌else◌};
+ghost use Rattle.std.specs.Prelude.{◌≡◌, ◌≢◌, Some, None, ℕ, ◌+◌, ◌≤◌, ◌==◌, ◌&&◌, List, [], ◌∷◌, length, reverse, vec_len, IfNone, IfSome, OnOk, true, false, if◌then◌else◌};
 ghost use Rattle.chord_base.specs.Messages.{AreDifferent};
-ghost use Rattle.chord_lists.specs.Bag.{Address, ArePopped, HasMessage, HasMessages, IsFirstOf, IsPopped, IsPushed, LacksAMessage, LacksBefore, LacksMessage, address_to, items_at, stacked_at, numbers_in, numbers_of};
+ghost use Rattle.chord_lists.specs.Bag.{Address, ArePopped, HasMessage, HasMessages, IsFirstOf, IsPopped, IsPushed, LacksAMessage, LacksBefore, LacksMessage, address_to, items_at, is_apart, numbers_in, numbers_of, stacked_at, stacked_by};
+ghost use Rattle.chord_lists.specs.declared.bag.Noted.{Noted as ANoted};
 
 use chord_base::members::Members;
 use chord_base::value::Object;
 use std::alloc::{AllocError, Global};
+use std::mem;
 
 /// The numbers of the messages to an object of this class: a stack for each method, newest last.
 #[derive(Drop)]
@@ -16,9 +18,20 @@ struct ClassStacks {
     stacks: Vec<Vec<u32>>,
 }
 
+/// A message: what it is to, and its number.
+#[derive(Drop)]
+struct Noted {
+    object: Object,
+    method: u8,
+    number: u32,
+}
+
 /// The numbers of the messages that no firing has taken, by object, class and method. An object has one class; that it does is not asked for here.
+///
+/// The newest message stands apart until the next one comes: most often a firing takes it before.
 #[derive(Drop)]
 pub struct Bag {
+    newest: Option<Noted>,
     objects: Vec<Vec<ClassStacks>>,
 }
 
@@ -120,12 +133,81 @@ fn take_in(classes: &mut Vec<ClassStacks>, class: u16, method: u8) -> u32
     }
 }
 
+/// Puts a message on the stack of the method of the object that it is to.
+#[inline(never)]
+fn note_on(
+    alloc: Global,
+    objects: &mut Vec<Vec<ClassStacks>>,
+    noted: &Noted,
+) -> Result<(), AllocError>
+    ensures { OnOk result (IsPushed (address_to noted.now.object noted.now.method) noted.now.number (stacked_by objects.old.items) (stacked_by objects.new.items)) }
+{
+    let place = noted.object.number as usize;
+    lengthen(alloc, objects, place + 1)?;
+    note_in(
+        alloc,
+        &mut objects[place],
+        noted.object.class,
+        noted.method,
+        noted.number,
+    )
+}
+
+/// Whether a message stands on the stack of this method of this object.
+fn has_on(objects: &[Vec<ClassStacks>], object: Object, method: u8) -> bool
+    ensures yes { result ≡ true → HasMessage object method (stacked_by objects.now) }
+    ensures no { result ≡ false → LacksMessage object method (stacked_by objects.now) }
+{
+    match objects.get(object.number as usize) {
+        None => false,
+        Some(classes) => !stack_in(classes, object.class, method).is_empty(),
+    }
+}
+
+/// Takes the message on top of the stack of this method of this object.
+fn take_on(objects: &mut Vec<Vec<ClassStacks>>, object: Object, method: u8) -> u32
+    requires { HasMessage object method (stacked_by objects.old.items) }
+    ensures { IsPopped (address_to object method) result (stacked_by objects.old.items) (stacked_by objects.new.items) }
+{
+    take_in(
+        &mut objects[object.number as usize],
+        object.class,
+        method,
+    )
+}
+
+/// Whether the newest message, if it stands apart, is to this method of this object.
+fn is_newest_to(newest: &Option<Noted>, object: Object, method: u8) -> bool
+    ensures { result ≡ is_apart newest.now (address_to object method) }
+{
+    match newest {
+        None => false,
+        Some(noted) => {
+            noted.object.number == object.number
+                && (noted.object.class == object.class && noted.method == method)
+        }
+    }
+}
+
+/// Takes the newest message, which stands apart.
+fn take_newest(newest: &mut Option<Noted>) -> u32
+    requires { newest.old ≢ None }
+    ensures taken { (noted : ANoted) × (newest.old ≡ Some noted) × (result ≡ noted.number) }
+    ensures none { newest.new ≡ None }
+{
+    match newest.take() {
+        None => unreachable!(),
+        Some(noted) => noted.number,
+    }
+}
+
 impl Bag {
     /// The bag before any entry.
     pub fn new(alloc: Global) -> Bag
         ensures { (k : Address) → numbers_of result k ≡ [] }
     {
         Bag {
+            newest: None,
             objects: Vec::new(alloc),
         }
     }
@@ -140,15 +222,15 @@ impl Bag {
     ) -> Result<(), AllocError>
         ensures { OnOk result (IsPushed (address_to object method) number (numbers_of self.old) (numbers_of self.new)) }
     {
-        let place = object.number as usize;
-        lengthen(alloc, &mut self.objects, place + 1)?;
-        note_in(
-            alloc,
-            &mut self.objects[place],
-            object.class,
+        let noted = Noted {
+            object,
             method,
             number,
-        )
+        };
+        match mem::replace(&mut self.newest, Some(noted)) {
+            None => Ok(()),
+            Some(before) => note_on(alloc, &mut self.objects, &before),
+        }
     }
 
     /// Whether a message to this method of this object is pending.
@@ -156,13 +238,14 @@ impl Bag {
         ensures yes { result ≡ true → HasMessage object method (numbers_of self.now) }
         ensures no { result ≡ false → LacksMessage object method (numbers_of self.now) }
     {
-        match self.objects.get(object.number as usize) {
-            None => false,
-            Some(classes) => !stack_in(classes, object.class, method).is_empty(),
+        if is_newest_to(&self.newest, object, method) {
+            return true;
         }
+        has_on(&self.objects, object, method)
     }
 
     /// Whether to each of these methods of this object a message is pending.
+    #[inline(always)]
     pub fn has_all(&self, object: Object, methods: &[u8]) -> bool
         ensures yes { result ≡ true → HasMessages object methods.now (numbers_of self.now) }
         ensures no { result ≡ false → LacksAMessage object methods.now (numbers_of self.now) }
@@ -180,14 +263,14 @@ impl Bag {
         requires { HasMessage object method (numbers_of self.old) }
         ensures { IsPopped (address_to object method) result (numbers_of self.old) (numbers_of self.new) }
     {
-        take_in(
-            &mut self.objects[object.number as usize],
-            object.class,
-            method,
-        )
+        if is_newest_to(&self.newest, object, method) {
+            return take_newest(&mut self.newest);
+        }
+        take_on(&mut self.objects, object, method)
     }
 
     /// Takes the newest message to each of these methods of this object.
+    #[inline(always)]
     pub fn take_all(&mut self, object: Object, methods: &[u8]) -> Members
         requires there { HasMessages object methods.now (numbers_of self.old) }
         requires different { AreDifferent methods.now }

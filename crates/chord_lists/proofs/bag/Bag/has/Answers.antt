@@ -1,23 +1,11 @@
-use Rattle.std.proofs.Common.{ap, sym, ◌∙◌}
-use Rattle.chord_lists.specs.Bag.{numbers_in}
-use Rattle.chord_lists.proofs.Bags.{stack_has, stack_lacks}
-use Rattle.chord_lists.proofs.BagStacks.{items_of, items_past}
+use Rattle.std.proofs.Common.{◌∙◌, sym}
+use Rattle.chord_lists.specs.Bag.{address_to, stacked_by}
+use Rattle.chord_lists.proofs.Newest.{apart_first}
 use Rattle.chord_lists.proofs.bag.Bag.has.Goals as goal
 
-pub returns-in-None-clause-no : goal.returns-in-None-clause-no
-returns-in-None-clause-no c = λ _.
-    let look = rw c.deref.ensures.value at c.in-None.ensures.lookup.3 in
-    ap (λ z. numbers_in z c.args.object.class c.args.method) (items_past c.args.self.now.objects.items c.args.object.number look)
-
-pub returns-in-Some-clause-yes : goal.returns-in-Some-clause-yes
-returns-in-Some-clause-yes c = λ some.
-    let look = rw c.deref.ensures.value at c.in-Some.ensures.lookup in
-    let there = c.deref-in-Some.ensures.value ∙ items_of c.args.self.now.objects.items c.in-Some.classes.now c.args.object.number look.3.0 look.1 in
-    let x = stack_has c.stack_in.result.now (rw c.is_empty.ensures at some) in
-    (x.0, x.1, sym (ap (λ z. numbers_in z c.args.object.class c.args.method) there) ∙ sym c.stack_in.ensures ∙ x.2)
-
-pub returns-in-Some-clause-no : goal.returns-in-Some-clause-no
-returns-in-Some-clause-no c = λ none.
-    let look = rw c.deref.ensures.value at c.in-Some.ensures.lookup in
-    let there = c.deref-in-Some.ensures.value ∙ items_of c.args.self.now.objects.items c.in-Some.classes.now c.args.object.number look.3.0 look.1 in
-    sym (ap (λ z. numbers_in z c.args.object.class c.args.method) there) ∙ sym c.stack_in.ensures ∙ stack_lacks c.stack_in.result.now (rw c.is_empty.ensures at none)
+pub returns-then-is_newest_to-clause-yes : goal.returns-then-is_newest_to-clause-yes
+returns-then-is_newest_to-clause-yes c = λ _.
+    let k = address_to c.args.object c.args.method in
+    let ns = stacked_by c.args.self.now.objects.items k in
+    let x = apart_first c.args.self.now.newest k ns (sym c.is_newest_to.ensures ∙ c.if-is_newest_to.true) in
+    (x.0.number, ns, x.2)

@@ -1,11 +1,21 @@
-use Rattle.std.proofs.Common.{arith}
+use Rattle.std.proofs.Common.{◌∙◌, sym, ap}
 use Rattle.std.proofs.lemmas.Result.{on_ok_weaker}
-use Rattle.chord_lists.proofs.BagStacks.{object_noted}
+use Rattle.chord_lists.specs.Bag.{first_comes, stacked_by}
+use Rattle.chord_lists.proofs.Newest.{noted_before, noted_first}
 use Rattle.chord_lists.proofs.bag.Bag.note.Goals as goal
 
-pub returns : goal.returns
-returns c =
-    on_ok_weaker c.note_in.result
-    (λ p i. object_noted c.args.self.now.objects.items c.lengthen.new.lists.items c.index_mut.result.now c.note_in.new.classes c.args.object.number c.args.object.class c.args.method c.args.number
-    (omega (arith, c.in_ok-lengthen.ensures.long, c.lengthen.new.lists.ok.0)) c.in_ok-lengthen.ensures.same c.index_mut.ensures.value p i.object i.class i.method)
-    c.note_in.ensures
+pub returns-in-None : goal.returns-in-None
+returns-in-None c = λ i.
+    let ns = stacked_by c.args.self.now.objects.items i in
+    ap (λ newest. first_comes newest i ns) c.replace.ensures.after
+    ∙ noted_first c.args.self.now.newest (record { object = c.args.object; method = c.args.method; number = c.args.number }) i ns (sym c.replace.ensures.value ∙ c.in-None.is)
+
+pub returns-in-Some : goal.returns-in-Some
+returns-in-Some c =
+    on_ok_weaker c.note_on.result
+    (λ q i.
+    let ns = stacked_by c.args.self.now.objects.items i in
+    let ns' = stacked_by c.note_on.new.objects.items i in
+    ap (λ newest. first_comes newest i ns') c.replace.ensures.after
+    ∙ noted_before c.args.self.now.newest (record { object = c.args.object; method = c.args.method; number = c.args.number }) c.in-Some.before i ns ns' (sym c.replace.ensures.value ∙ c.in-Some.is) (q i))
+    c.note_on.ensures
