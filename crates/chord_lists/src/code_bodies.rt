@@ -382,25 +382,26 @@ fn take_arguments(
     add_arguments(alloc, values, &tasks[at as usize].past, place)
 }
 
-/// Takes these messages, and gives their arguments, one after another.
+/// Takes these messages. The values are their arguments, one after another.
 #[inline(always)]
 fn take_all_held(
     alloc: Global,
     tasks: &[Task],
     tags: &mut Vec<Tag>,
     members: &[u32],
-) -> Result<Values, AllocError>
+    values: &mut Values,
+) -> Result<(), AllocError>
     requires held { AllHeld (views tasks.now) tags.old.items members.now }
     requires different { AreDifferent members.now }
     requires few { length (held_values (views tasks.now) tags.old.items members.now) ≤ 64 }
-    ensures values { IfOk result (λ values. values ≡ held_values (views tasks.now) tags.old.items members.now) }
-    ensures rest { IfOk result (λ _. EmptiedAll members.now tags.old.items tags.new.items) }
+    requires none { values.old ≡ [] }
+    ensures values { OnOk result (values.new ≡ held_values (views tasks.now) tags.old.items members.now) }
+    ensures rest { OnOk result (EmptiedAll members.now tags.old.items tags.new.items) }
 {
-    let mut values = Values::none();
     for number in members {
-        take_arguments(alloc, tasks, tags, *number, &mut values)?;
+        take_arguments(alloc, tasks, tags, *number, values)?;
     }
-    Ok(values)
+    Ok(())
 }
 
 /// Begins the body of a firing in the task of this place: above the caller that it serves, or where no body is left.
@@ -413,19 +414,26 @@ fn begin_at(
     number: u32,
     chord: u16,
     object: Object,
-    members: Members,
+    members: &mut Members,
     at: u32,
 ) -> Result<(), AllocError>
     requires room { number < 65536 }
     requires sound { IsSound (code_program code.now limits.now) }
-    requires may { MayBegin (code_program code.now limits.now) (StandsAfter code.now limits.now bodies.old) number chord object members }
-    requires fits { FitsAt (code_program code.now limits.now) bodies.old chord object members at }
-    ensures { IfOk result (λ _. Began (code_program code.now limits.now) (StandsAfter code.now limits.now bodies.old) (StandsAfter code.now limits.now bodies.new) number chord object members) }
+    requires may { MayBegin (code_program code.now limits.now) (StandsAfter code.now limits.now bodies.old) number chord object members.old }
+    requires fits { FitsAt (code_program code.now limits.now) bodies.old chord object members.old at }
+    ensures { IfOk result (λ _. Began (code_program code.now limits.now) (StandsAfter code.now limits.now bodies.old) (StandsAfter code.now limits.now bodies.new) number chord object members.old) }
 {
     let _parts = code.parts();
-    let values = take_all_held(alloc, &bodies.tasks, &mut bodies.tags, members.items())?;
+    let mut values = Values::none();
+    take_all_held(
+        alloc,
+        &bodies.tasks,
+        &mut bodies.tags,
+        members.items(),
+        &mut values,
+    )?;
     let task = &mut bodies.tasks[at as usize];
-    task.resume_with(alloc, code, number, chord, object, members, values)?;
+    task.resume_with(alloc, code, number, chord, object, members, &mut values)?;
     bodies.ready.push(at)?;
     bodies.tags.push(Tag {
         task: at,
@@ -452,19 +460,26 @@ fn begin_alone(
     number: u32,
     chord: u16,
     object: Object,
-    members: Members,
+    members: &mut Members,
 ) -> Result<(), AllocError>
     requires room { number < 65536 }
     requires sound { IsSound (code_program code.now limits.now) }
-    requires may { MayBegin (code_program code.now limits.now) (StandsAfter code.now limits.now bodies.old) number chord object members }
-    requires call { Serves (code_program code.now limits.now) chord object members None }
-    ensures { IfOk result (λ _. Began (code_program code.now limits.now) (StandsAfter code.now limits.now bodies.old) (StandsAfter code.now limits.now bodies.new) number chord object members) }
+    requires may { MayBegin (code_program code.now limits.now) (StandsAfter code.now limits.now bodies.old) number chord object members.old }
+    requires call { Serves (code_program code.now limits.now) chord object members.old None }
+    ensures { IfOk result (λ _. Began (code_program code.now limits.now) (StandsAfter code.now limits.now bodies.old) (StandsAfter code.now limits.now bodies.new) number chord object members.old) }
 {
     let at = place_after(&bodies.tasks);
     let _parts = code.parts();
-    let values = take_all_held(alloc, &bodies.tasks, &mut bodies.tags, members.items())?;
+    let mut values = Values::none();
+    take_all_held(
+        alloc,
+        &bodies.tasks,
+        &mut bodies.tags,
+        members.items(),
+        &mut values,
+    )?;
     let mut task = Task::spare(alloc, code, limits)?;
-    task.resume_with(alloc, code, number, chord, object, members, values)?;
+    task.resume_with(alloc, code, number, chord, object, members, &mut values)?;
     bodies.tasks.push(task)?;
     bodies.ready.push(at)?;
     bodies.tags.push(Tag {
@@ -483,14 +498,14 @@ pub fn begin_body(
     number: u32,
     chord: u16,
     object: Object,
-    members: Members,
+    members: &mut Members,
     served: Option<u32>,
 ) -> Result<(), AllocError>
     requires room { number < 65536 }
     requires sound { IsSound (code_program code.now limits.now) }
-    requires may { MayBegin (code_program code.now limits.now) (StandsAfter code.now limits.now bodies.old) number chord object members }
-    requires call { Serves (code_program code.now limits.now) chord object members served }
-    ensures { IfOk result (λ _. Began (code_program code.now limits.now) (StandsAfter code.now limits.now bodies.old) (StandsAfter code.now limits.now bodies.new) number chord object members) }
+    requires may { MayBegin (code_program code.now limits.now) (StandsAfter code.now limits.now bodies.old) number chord object members.old }
+    requires call { Serves (code_program code.now limits.now) chord object members.old served }
+    ensures { IfOk result (λ _. Began (code_program code.now limits.now) (StandsAfter code.now limits.now bodies.old) (StandsAfter code.now limits.now bodies.new) number chord object members.old) }
 {
     match served {
         Some(call) => {

@@ -42,13 +42,14 @@ impl<'a> CodePlay<'a> {
         match &entry.what {
             What::Begun => unreachable!(),
             What::Fired(chord, object, members, _) => {
+                let mut members = members.copied();
                 self.begin(
                     alloc,
                     bodies,
                     entry.number,
                     *chord,
                     *object,
-                    members.copied(),
+                    &mut members,
                 )?;
                 Ok(())
             }
@@ -93,7 +94,7 @@ impl<'a> Playable for CodePlay<'a> {
         number: u32,
         chord: u16,
         object: Object,
-        members: Members,
+        members: &mut Members,
     ) -> Result<(), AllocError> {
         let methods = self.methods(object.class, chord);
         let served = served_by(self.code, object.class, methods, members.items());

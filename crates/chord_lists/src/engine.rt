@@ -66,11 +66,11 @@ pub trait Playable {
         number: u32,
         chord: u16,
         object: Object,
-        members: Members,
+        members: &mut Members,
     ) -> Result<(), AllocError>
         requires room { number < 65536 }
-        requires may { MayBegin (program self.now) (stands self.now bodies.old) number chord object members }
-        ensures { IfOk result (λ _. Began (program self.now) (stands self.now bodies.old) (stands self.now bodies.new) number chord object members) };
+        requires may { MayBegin (program self.now) (stands self.now bodies.old) number chord object members.old }
+        ensures { IfOk result (λ _. Began (program self.now) (stands self.now bodies.old) (stands self.now bodies.new) number chord object members.old) };
 
     /// How many chords the class has.
     fn count(&self, class: u16) -> u16
@@ -92,6 +92,7 @@ pub trait Playable {
 }
 
 /// A chord of the object that is enabled.
+#[inline(always)]
 pub fn find_chord<P: Playable>(program: &P, bag: &Bag, object: Object) -> Option<u16>
     ensures some { IfSome result (λ k. (js : List ℕ) × (slice_get ((P.program program.now).chords object.class) k ≡ Some js) × HasMessages object js (numbers_of bag.now)) }
     ensures none { IfNone result ((k : ℕ) (js : List ℕ) → slice_get ((P.program program.now).chords object.class) k ≡ Some js → LacksAMessage object js (numbers_of bag.now)) }
@@ -115,6 +116,7 @@ enum Step {
 }
 
 /// Lets some body go on.
+#[inline(always)]
 fn take_turn<P: Playable>(
     alloc: Global,
     program: &P,
@@ -153,8 +155,8 @@ fn fire<P: Playable>(
     ensures { IfOk result (λ _. State (P.program program.now) (P.stands program.now bodies.new) (numbers_of bag.new) None (number + 1)) }
 {
     let methods = program.methods(object.class, chord);
-    let members = bag.take_all(object, methods);
-    program.begin(alloc, bodies, number, chord, object, members)?;
+    let mut members = bag.take_all(object, methods);
+    program.begin(alloc, bodies, number, chord, object, &mut members)?;
     Ok(())
 }
 

@@ -424,8 +424,8 @@ impl Task {
         }
     }
 
-    /// Puts the body of a firing on top, with copies of these values in its slots. Takes memory for texts alone. Where none is found, the task can only
-    /// be dropped.
+    /// Puts the body of a firing on top, with copies of these values in its slots; members and values go into its entry. Takes memory for texts alone.
+    /// Where none is found, the task can only be dropped.
     #[inline(always)]
     pub fn resume_with(
         &mut self,
@@ -434,13 +434,13 @@ impl Task {
         number: u32,
         chord: u16,
         object: Object,
-        members: Members,
-        values: Values,
+        members: &mut Members,
+        values: &mut Values,
     ) -> Result<(), AllocError>
         requires task { IsTaskOf code.now self.old.limits self.old }
-        requires may { MayResume code.now self.old.limits self.old number chord object members values }
+        requires may { MayResume code.now self.old.limits self.old number chord object members.old values.old }
         ensures task { IfOk result (λ _. IsTaskOf code.now self.old.limits self.new) }
-        ensures past { IfOk result (λ _. task_begun (view_of self.old) number chord object members values (view_of self.new)) }
+        ensures past { IfOk result (λ _. task_begun (view_of self.old) number chord object members.old values.old (view_of self.new)) }
         ensures top { IfOk result (λ _. (view_of self.new).top ≡ Some number) }
     {
         let depth = depth_over(self.limits.depth, &self.top);
@@ -463,7 +463,12 @@ impl Task {
         self.past.push_reserved(Entry {
             number,
             body: number,
-            what: What::Fired(chord, object, members, values),
+            what: What::Fired(
+                chord,
+                object,
+                mem::replace(members, Members::new()),
+                mem::replace(values, Values::none()),
+            ),
         });
         match self.spare.take() {
             None => unreachable!(),

@@ -6,7 +6,7 @@ use Rattle.chord_lists.proofs.Laying.{none_laid, laid_one, not_before, held_ther
 use Rattle.chord_lists.proofs.code_bodies.take_all_held.Goals as goal
 
 pub loop-number-init : goal.loop-number-init
-loop-number-init c = rw c.none-values.ensures (none_laid (views c.args.tasks.now) c.args.tags.now.items)
+loop-number-init c = rw c.requires.none (none_laid (views c.args.tasks.now) c.args.tags.now.items)
 
 pub take_arguments-requires-clause-held : goal.take_arguments-requires-clause-held
 take_arguments-requires-clause-held c =

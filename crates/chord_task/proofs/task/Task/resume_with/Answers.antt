@@ -14,14 +14,14 @@ use Rattle.chord_task.proofs.task.Task.resume_with.Goals as goal
 pub line_of-requires : goal.line_of-requires
 line_of-requires c =
     let limits = c.args.self.now.limits in
-    let o = opening c.args.code.now limits c.args.self.now c.args.number c.args.chord c.args.object c.args.members c.args.values c.requires.task c.requires.may in
+    let o = opening c.args.code.now limits c.args.self.now c.args.number c.args.chord c.args.object c.args.members.now c.args.values.now c.requires.task c.requires.may in
     λ e. let z : None ≡ Some o.line = sym e ∙ o.found in cc
 
 pub begin_with-requires-clause-fits : goal.begin_with-requires-clause-fits
 begin_with-requires-clause-fits c =
     let limits = c.args.self.now.limits in
-    let vs = c.args.values in
-    let o = opening c.args.code.now limits c.args.self.now c.args.number c.args.chord c.args.object c.args.members vs c.requires.task c.requires.may in
+    let vs = c.args.values.now in
+    let o = opening c.args.code.now limits c.args.self.now c.args.number c.args.chord c.args.object c.args.members.now vs c.requires.task c.requires.may in
     let z : Some o.line ≡ Some c.line_of.result.now = sym o.found ∙ c.line_of.ensures in
     let l : o.line ≡ c.line_of.result.now = cc in
     let r = c.requires.may.room in
@@ -36,8 +36,8 @@ begin_with-requires-clause-fits c =
 pub begin_with-requires-clause-space : goal.begin_with-requires-clause-space
 begin_with-requires-clause-space c =
     let limits = c.args.self.now.limits in
-    let vs = c.args.values in
-    let o = opening c.args.code.now limits c.args.self.now c.args.number c.args.chord c.args.object c.args.members vs c.requires.task c.requires.may in
+    let vs = c.args.values.now in
+    let o = opening c.args.code.now limits c.args.self.now c.args.number c.args.chord c.args.object c.args.members.now vs c.requires.task c.requires.may in
     let z : Some o.line ≡ Some c.line_of.result.now = sym o.found ∙ c.line_of.ensures in
     let l : o.line ≡ c.line_of.result.now = cc in
     let r = c.requires.may.room in
@@ -50,7 +50,7 @@ begin_with-requires-clause-space c =
 pub returns-clause-task : goal.returns-clause-task
 returns-clause-task c =
     let limits = c.args.self.now.limits in
-    let vs = c.args.values in
+    let vs = c.args.values.now in
     let r = c.requires.may.room in
     let y : Some r.frames ≡ Some c.in-Some.frames = sym r.spare ∙ c.in-Some.is in
     let f : r.frames ≡ c.in-Some.frames = cc in
@@ -58,6 +58,7 @@ returns-clause-task c =
     let begun = rw c.items.ensures.values at c.in_ok-begin_with-in-Some.ensures in
     let z : Some c.begin_with.new.frames ≡ Some c.in-Some-take.frames.value = ap (λ (o : Option (Box Frames Global)). option_map (λ (x : Box Frames Global). x.value) o) (sym c.take.ensures.value ∙ c.in-Some-take.is) in
     let g : c.begin_with.new.frames ≡ c.in-Some-take.frames.value = cc in
+    let items = rw (c.replace.ensures.value, c.replace-2.ensures.value) at c.push_reserved.ensures.items in
     let bodies = put_below c.args.self.now.top c.args.self.now.below.items c.put_on_top.new.below.items c.put_on_top.ensures.below in
     rw (c.put_on_top.ensures.top, c.take.ensures.after)
-    (task_resumed c.args.code.now limits c.args.self.now c.push_reserved.new.self c.put_on_top.new.below c.args.self.now.values c.args.number c.args.chord c.args.object c.args.members vs c.in-Some-take.frames c.line_of.result.now c.requires.task.kept_values c.requires.task c.requires.may c.line_of.ensures (sym same ∙ begun ∙ ap (λ (x : Frames). Some (machine_of x)) g) c.push_reserved.ensures.items bodies)
+    (task_resumed c.args.code.now limits c.args.self.now c.push_reserved.new.self c.put_on_top.new.below c.args.self.now.values c.args.number c.args.chord c.args.object c.args.members.now vs c.in-Some-take.frames c.line_of.result.now c.requires.task.kept_values c.requires.task c.requires.may c.line_of.ensures (sym same ∙ begun ∙ ap (λ (x : Frames). Some (machine_of x)) g) items bodies)
