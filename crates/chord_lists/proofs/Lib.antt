@@ -1,6 +1,7 @@
 pub mod BagStacks
 pub mod Bags
 mod Newest
+mod Places
 pub mod Taking
 pub mod Engines
 pub mod PendingEntries

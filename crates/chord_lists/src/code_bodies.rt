@@ -11,6 +11,7 @@ ghost use Rattle.chord_lists.specs.Engine.{main_begun, IsRunOfLength, MayGoOn, W
 ghost use Rattle.chord_lists.specs.CodeStands.{StandsAfter, AreReady, ready_at, over_at, IsTaggedAs, WentAt, AreLeft, IsLeft, HasNewest, IsNewestTaken, views, held_at, entry_message, arguments_held, message_held, IsHeldAt, AllHeld, held_values, Emptied, EmptiedAll, HasAdded, home, Serves, FitsAt, MayReplay, Replayed};
 
 use crate::engine::Turn;
+use crate::place::Held;
 use chord_base::event::{Entry, Limits, What};
 use chord_base::journal::Journal;
 use chord_base::members::Members;
@@ -22,8 +23,8 @@ use std::alloc::{AllocError, Global};
 /// What is kept of an entry: the task in whose past it stands, and, of a message that no firing has taken, its place there.
 #[derive(Drop)]
 pub struct Tag {
-    pub task: u32,
-    pub held: Option<u32>,
+    pub task: u16,
+    pub held: Held,
 }
 
 /// The bodies of a run of a code: the tasks, the places of those that may go on, and a tag for each entry.
@@ -41,16 +42,18 @@ pub struct CodeBodies {
 /// Marks a message of this task, at this place of its past.
 fn tag_message(
     tags: &mut Vec<Tag>,
-    at: u32,
+    at: u16,
     place: u32,
     object: Object,
     method: u8,
 ) -> Result<Turn, AllocError>
+    requires later { 0 < place }
+    requires room { place < 65536 }
     ensures { IfOk result (λ turn. (turn ≡ Turn.Message object method) × (tags.new.items ≡ tags.old.items ++ record { task = at; held = Some place } ∷ [])) }
 {
     tags.push(Tag {
         task: at,
-        held: Some(place),
+        held: Held::at(place),
     })?;
     Ok(Turn::Message(object, method))
 }
@@ -58,10 +61,12 @@ fn tag_message(
 /// Marks an entry of this task, at this place of its past. If it is a message, this is what it is to.
 fn tag_entry(
     tags: &mut Vec<Tag>,
-    at: u32,
+    at: u16,
     place: u32,
     sent: Option<(Object, u8)>,
 ) -> Result<Turn, AllocError>
+    requires later { 0 < place }
+    requires room { place < 65536 }
     ensures { IfOk result (λ turn. IsTaggedAs at place sent tags.old.items tags.new.items turn) }
 {
     match sent {
@@ -69,7 +74,7 @@ fn tag_entry(
         None => {
             tags.push(Tag {
                 task: at,
-                held: None,
+                held: Held::none(),
             })?;
             Ok(Turn::Plain)
         }
@@ -133,11 +138,23 @@ fn next_over(tasks: &[Task], over: &mut Vec<u32>) -> Option<u32>
     None
 }
 
+/// The place of a task, in two bytes.
+#[inline(always)]
+fn place_of(at: u32) -> u16
+    requires { at < 65536 }
+    ensures { result ≡ at }
+{
+    at as u16
+}
+
 /// The place of the next entry of a past.
 #[inline(always)]
 fn place_in(past: &[Entry]) -> u32
-    requires { length past.now < 2 ^ 32 }
-    ensures { result ≡ length past.now }
+    requires later { 0 < length past.now }
+    requires room { length past.now < 65536 }
+    ensures place { result ≡ length past.now }
+    ensures later { 0 < result }
+    ensures room { result < 65536 }
 {
     past.len() as u32
 }
@@ -161,7 +178,7 @@ fn make(
     let task = &mut bodies.tasks[at as usize];
     let place = place_in(&task.past);
     let sent = task.turn(alloc, code, limits, number)?;
-    let turn = tag_entry(&mut bodies.tags, at, place, sent)?;
+    let turn = tag_entry(&mut bodies.tags, place_of(at), place, sent)?;
     keep_over(task, &mut bodies.over, at)?;
     Ok(turn)
 }
@@ -183,7 +200,7 @@ pub fn begin_run(alloc: Global, code: &Code, limits: &Limits) -> Result<CodeBodi
     let _ = tags.reserve(events);
     tags.push(Tag {
         task: 0,
-        held: None,
+        held: Held::none(),
     })?;
     Ok(CodeBodies {
         tasks,
@@ -246,7 +263,7 @@ fn gather(alloc: Global, pasts: Vec<Vec<Entry>>, tags: Vec<Tag>) -> Result<Vec<E
     let mut tags = tags;
     let mut entries = Vec::with_capacity(alloc, tags.len())?;
     while let Some(tag) = tags.pop() {
-        let entry = take_newest(&mut pasts, tag.task);
+        let entry = take_newest(&mut pasts, tag.task as u32);
         entries.push(entry)?;
     }
     entries.reverse();
@@ -329,7 +346,7 @@ fn home_of(tags: &[Tag], number: u32) -> u32
 {
     match tags.get(number as usize) {
         None => unreachable!(),
-        Some(tag) => tag.task,
+        Some(tag) => tag.task as u32,
     }
 }
 
@@ -436,16 +453,17 @@ fn begin_at(
     task.resume_with(alloc, code, number, chord, object, members, &mut values)?;
     bodies.ready.push(at)?;
     bodies.tags.push(Tag {
-        task: at,
-        held: None,
+        task: place_of(at),
+        held: Held::none(),
     })?;
     Ok(())
 }
 
 /// The place of one more task.
 fn place_after(tasks: &[Task]) -> u32
-    requires { length tasks.now < 2 ^ 32 }
-    ensures { result ≡ length tasks.now }
+    requires { length tasks.now < 65536 }
+    ensures place { result ≡ length tasks.now }
+    ensures room { result < 65536 }
 {
     tasks.len() as u32
 }
@@ -483,8 +501,8 @@ fn begin_alone(
     bodies.tasks.push(task)?;
     bodies.ready.push(at)?;
     bodies.tags.push(Tag {
-        task: at,
-        held: None,
+        task: place_of(at),
+        held: Held::none(),
     })?;
     Ok(())
 }

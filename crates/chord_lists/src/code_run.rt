@@ -80,7 +80,7 @@ fn note_entry(alloc: Global, bag: &mut Bag, entry: &Entry) -> Result<(), AllocEr
 fn note_pending(alloc: Global, bag: &mut Bag, tag: &Tag, entry: &Entry) -> Result<(), AllocError>
     ensures { IfOk result (λ _. IsNoted entry.now.number (message_by tag.now.held entry.now.what) (numbers_of bag.old) (numbers_of bag.new)) }
 {
-    match &tag.held {
+    match tag.held.place() {
         None => Ok(()),
         Some(_) => {
             note_entry(alloc, bag, entry)?;

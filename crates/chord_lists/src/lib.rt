@@ -10,3 +10,4 @@ mod code_bodies;
 mod code_play;
 pub mod code_run;
 mod engine;
+mod place;

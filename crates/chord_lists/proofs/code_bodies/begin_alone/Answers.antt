@@ -1,4 +1,4 @@
-use Rattle.std.proofs.Common.{◌≡◌, ◌∙◌, ◌++◌, ◌∷◌, [], sym, ap, subst, arith, length, reverse, List, ℕ}
+use Rattle.std.proofs.Common.{◌≡◌, ◌∙◌, ◌++◌, ◌∷◌, [], sym, ap, subst, arith, length, reverse, Option, List, ℕ}
 use Rattle.std.specs.Prelude.{slice_get}
 use Rattle.std.proofs.lemmas.List.{reverse-append}
 use Rattle.chord_base.specs.declared.value.Value.{Value}
@@ -65,9 +65,9 @@ returns c =
     ∙ ap (λ (z : List Entry). fired c.args.number c.args.chord c.args.object c.args.members.now vs ∷ z) spare.past
     in
     let task = subst (λ l. IsTaskOf code l c.resume_with.new.self) spare.task.limited c.in_ok-resume_with.ensures.task in
-    let at : c.place_after-at.result ≡ length c.args.bodies.now.tasks.items = c.place_after-at.ensures ∙ ap length c.deref.ensures.value in
+    let at : c.place_after-at.result ≡ length c.args.bodies.now.tasks.items = c.place_after-at.ensures.place ∙ ap length c.deref.ensures.value in
     let emptied = rw c.items.ensures.numbers at c.in_ok-take_all_held.ensures.rest in
     fired_alone code limits c.args.bodies.now _ c.take_all_held.new.tags.items h c.args.number c.args.chord c.args.object c.args.members.now vs c.resume_with.new.self played s f emptied task past
     c.in_ok-push.ensures.items
     (ap reverse c.in_ok-push-2.ensures.items ∙ reverse-append c.args.bodies.now.ready.items (c.place_after-at.result ∷ []) ∙ ap (λ i. i ∷ reverse c.args.bodies.now.ready.items) at)
-    (c.in_ok-push-3.ensures.items ∙ ap (λ i. c.take_all_held.new.tags.items ++ bare_tag i ∷ []) at)
+    (c.in_ok-push-3.ensures.items ∙ ap (λ (held : Option ℕ). c.take_all_held.new.tags.items ++ record { task = c.place_of.result; held = held } ∷ []) c.none.ensures ∙ ap (λ i. c.take_all_held.new.tags.items ++ bare_tag i ∷ []) (c.place_of.ensures ∙ at))

@@ -1,4 +1,4 @@
-use Rattle.std.proofs.Common.{◌≡◌, ◌∙◌, ◌∷◌, [], refl, sym, ap, subst, arith, length, reverse, Some, List, ℕ}
+use Rattle.std.proofs.Common.{◌≡◌, ◌∙◌, ◌++◌, ◌∷◌, [], refl, sym, ap, subst, arith, length, reverse, Option, Some, List, ℕ}
 use Rattle.std.specs.Prelude.{slice_get}
 use Rattle.std.proofs.lemmas.Option.{get_or_from_slice_get, slice_get_within}
 use Rattle.std.proofs.lemmas.List.{reverse-append}
@@ -7,7 +7,7 @@ use Rattle.chord_task.specs.declared.task.Task.{Task}
 use Rattle.chord_task.specs.Standing.{view_of, IsTaskOf, MayResume}
 use Rattle.chord_lists.specs.Engine.{fired}
 use Rattle.chord_lists.specs.CodeStands.{views, held_values}
-use Rattle.chord_lists.proofs.CodeFiring.{firing_held, firing_different, fired_at, host}
+use Rattle.chord_lists.proofs.CodeFiring.{firing_held, firing_different, fired_at, host, bare_tag}
 use Rattle.chord_lists.proofs.code_bodies.begin_at.Goals as goal
 
 pub take_all_held-requires-clause-held : goal.take_all_held-requires-clause-held
@@ -81,4 +81,12 @@ returns c =
     fired_at code limits c.args.bodies.now _ c.take_all_held.new.tags.items h c.args.at c.args.number c.args.chord c.args.object c.args.members.now vs c.resume_with.new.self played s f k emptied task past
     refl
     (ap reverse c.in_ok-push.ensures.items ∙ reverse-append c.args.bodies.now.ready.items (c.args.at ∷ []))
-    c.in_ok-push-2.ensures.items
+    (c.in_ok-push-2.ensures.items ∙ ap (λ (held : Option ℕ). c.take_all_held.new.tags.items ++ record { task = c.place_of.result; held = held } ∷ []) c.none.ensures ∙ ap (λ i. c.take_all_held.new.tags.items ++ bare_tag i ∷ []) c.place_of.ensures)
+
+pub place_of-requires : goal.place_of-requires
+place_of-requires c =
+    let m = c.requires.may in
+    let k = host c.args.code.now c.args.limits.now c.args.bodies.now m.0 c.args.at c.args.number c.args.chord c.args.object c.args.members.now m.1 c.requires.sound m.3 m.2.so_long m.4 c.requires.fits in
+    let l = slice_get_within c.args.bodies.now.tasks.items c.args.at k.task k.there in
+    let few = m.3.few in
+    omega (arith, l, few, m.2.so_long, c.requires.room)

@@ -1,4 +1,4 @@
-use Rattle.std.proofs.Common.{◌∙◌, ap, ◌++◌, ◌∷◌, [], reverse}
+use Rattle.std.proofs.Common.{◌∙◌, ap, ◌++◌, ◌∷◌, [], reverse, Option, ℕ}
 use Rattle.chord_task.specs.declared.task.Task.{Task}
 use Rattle.chord_lists.proofs.CodeStart.{main_begins, first_tag, longer_task, started}
 use Rattle.chord_lists.proofs.code_bodies.begin_run.Goals as goal
@@ -15,4 +15,4 @@ returns c =
     (ap reverse c.reserve.ensures.items ∙ c.in_ok-main.ensures.past)
     (c.in_ok-push.ensures.items ∙ ap (λ z. z ++ main ∷ []) c.new-tasks.ensures.items)
     (c.in_ok-push-2.ensures.items ∙ ap (λ z. z ++ 0 ∷ []) c.new-ready.ensures.items)
-    (c.in_ok-push-3.ensures.items ∙ ap (λ z. z ++ first_tag ∷ []) (c.reserve-2.ensures.items ∙ c.new-tags.ensures.items))
+    (c.in_ok-push-3.ensures.items ∙ ap (λ (held : Option ℕ). c.reserve-2.new.self.items ++ record { task = 0; held = held } ∷ []) c.none.ensures ∙ ap (λ z. z ++ first_tag ∷ []) (c.reserve-2.ensures.items ∙ c.new-tags.ensures.items))

@@ -5,9 +5,10 @@ use Rattle.chord_code.specs.Meaning.{code_program}
 use Rattle.chord_task.specs.declared.task.Task.{Task}
 use Rattle.chord_task.specs.Standing.{view_of, IsTaskOf, is_ready_of}
 use Rattle.chord_task.specs.Turning.{MayTurn, Turned}
-use Rattle.chord_lists.specs.CodeStands.{IsTagged, home, past_of}
+use Rattle.chord_lists.specs.CodeStands.{IsTagged, IsTaggedAs, home, past_of}
 use Rattle.chord_lists.proofs.CodeSteps.{ready_task, may_turn, went_at}
 use Rattle.chord_lists.proofs.CodeTasks.{tagged_as}
+use Rattle.chord_lists.proofs.Places.{ready_past}
 use Rattle.chord_lists.proofs.Gathering.{kept_few}
 use Rattle.chord_lists.proofs.code_bodies.make.Goals as goal
 
@@ -18,8 +19,8 @@ index_mut-task-requires c =
     let l = slice_get_within xs c.args.at t.0 t.1 in
     omega (arith, l)
 
-pub place_in-place-requires : goal.place_in-place-requires
-place_in-place-requires c =
+pub place_in-place-requires-clause-room : goal.place_in-place-requires-clause-room
+place_in-place-requires-clause-room c =
     let xs = c.args.bodies.now.tasks.items in
     let task = c.index_mut-task.result.now in
     let t = ready_task xs c.args.at c.requires.ready in
@@ -30,6 +31,26 @@ place_in-place-requires c =
     let few = kept_few (λ n. home c.args.bodies.now.tags.items n == c.args.at) m.0 in
     let past = ap length c.deref.ensures.value in
     omega (arith, past, long, all, few, m.1.so_long, c.requires.room)
+
+pub place_in-place-requires-clause-later : goal.place_in-place-requires-clause-later
+place_in-place-requires-clause-later c =
+    let xs = c.args.bodies.now.tasks.items in
+    let task = c.index_mut-task.result.now in
+    let t = ready_task xs c.args.at c.requires.ready in
+    let e : task ≡ t.0 = c.index_mut-task.ensures.value ∙ get_or_from_slice_get xs c.args.at t.0 task t.1 in
+    let long : length task.past.items ≡ length (view_of t.0).past = sym (length-reverse task.past.items) ∙ ap (λ (x : Task). length (view_of x).past) e in
+    let some = ready_past c.args.code.now c.args.limits.now t.0 (c.requires.may.2.tasks c.args.at t.0 t.1) t.2 in
+    let past = ap length c.deref.ensures.value in
+    omega (arith, past, long, some)
+
+pub place_of-requires : goal.place_of-requires
+place_of-requires c =
+    let xs = c.args.bodies.now.tasks.items in
+    let t = ready_task xs c.args.at c.requires.ready in
+    let l = slice_get_within xs c.args.at t.0 t.1 in
+    let m = c.requires.may in
+    let few = m.2.few in
+    omega (arith, l, few, m.1.so_long, c.requires.room)
 
 pub turn-requires-clause-task : goal.turn-requires-clause-task
 turn-requires-clause-task c =
@@ -69,7 +90,7 @@ returns c =
     let w = c.in_ok-sent.ensures in
     let u = subst (λ (x : Task). Turned code limits x c.turn.new.self c.args.number w.0) e w.1 in
     let long : length task.past.items ≡ length (view_of t.0).past = sym (length-reverse task.past.items) ∙ ap (λ (x : Task). length (view_of x).past) e in
-    let place : c.place_in-place.result ≡ length (view_of t.0).past = c.place_in-place.ensures ∙ ap length c.deref.ensures.value ∙ long in
+    let place : c.place_in-place.result ≡ length (view_of t.0).past = c.place_in-place.ensures.place ∙ ap length c.deref.ensures.value ∙ long in
     let tagged = subst (λ k. IsTagged c.args.at k w.0 tags c.tag_entry.new.tags.items c.in_ok-turn.turn) place
-    (tagged_as c.args.at c.place_in-place.result c.in_ok-sent.sent w.0 tags c.tag_entry.new.tags.items c.in_ok-turn.turn w.2 c.in_ok-turn.ensures) in
+    (tagged_as c.args.at c.place_in-place.result c.in_ok-sent.sent w.0 tags c.tag_entry.new.tags.items c.in_ok-turn.turn w.2 (subst (λ a. IsTaggedAs a c.place_in-place.result c.in_ok-sent.sent tags c.tag_entry.new.tags.items c.in_ok-turn.turn) c.place_of.ensures c.in_ok-turn.ensures)) in
     went_at code limits c.args.bodies.now _ h c.args.number c.args.at t.0 c.turn.new.self w.0 c.in_ok-turn.turn c.parts-parts.ensures.valid c.requires.sound c.requires.room played s t.1 t.2 u tagged refl refl

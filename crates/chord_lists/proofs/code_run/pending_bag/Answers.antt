@@ -1,11 +1,10 @@
-use Rattle.std.proofs.Common.{◌≡◌, ◌<◌, ap, subst, arith, length, reverse, get_or, None}
+use Rattle.std.proofs.Common.{◌≡◌, ◌<◌, ap, subst, arith, length, reverse}
 use Rattle.std.proofs.lemmas.List.{length-reverse}
 use Rattle.chord_base.specs.Messages.{pending}
-use Rattle.chord_lists.specs.declared.code_bodies.Tag.{Tag}
 use Rattle.chord_lists.specs.Bag.{Lists, numbers_of}
 use Rattle.chord_lists.specs.CodeStands.{held_at, held_in}
 use Rattle.chord_lists.specs.CodeGoes.{IsNoted, message_by}
-use Rattle.chord_lists.proofs.Spots.{at_place, got}
+use Rattle.chord_lists.proofs.Spots.{got}
 use Rattle.chord_lists.proofs.Going.{number_at, lists_early, lists_next, lists_all}
 use Rattle.chord_lists.proofs.code_run.pending_bag.Goals as goal
 
@@ -21,8 +20,8 @@ loop-i-preserved c =
     let l = length-reverse es in
     let lt' : n < length c.args.tags.now = omega (arith, lt, l, c.requires.tagged) in
     let number = number_at es n e lt c.index-entries-i.is c.requires.within in
-    let tag : Tag = get_or c.args.tags.now n (record { task = 0; held = None }) in
-    let held : held_at c.args.tags.now n ≡ tag.held = ap held_in (at_place c.args.tags.now n (record { task = 0; held = None }) lt') in
+    let tag = c.index-tags-i.result in
+    let held : held_at c.args.tags.now n ≡ tag.held = ap held_in (got c.args.tags.now n tag lt' c.index-tags-i.is) in
     let noted = subst (λ k. IsNoted k (message_by tag.held e.what) (numbers_of c.loop-i.bag) (numbers_of c.note_pending.new.bag)) number c.in_ok-note_pending.ensures in
     (lists_next c.args.tags.now es n e (numbers_of c.loop-i.bag) (numbers_of c.note_pending.new.bag) c.requires (got es n e lt c.index-entries-i.is) tag.held held noted c.loop-i.invariant.0, omega (arith, lt))
 
