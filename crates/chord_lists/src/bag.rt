@@ -269,18 +269,17 @@ impl Bag {
         take_on(&mut self.objects, object, method)
     }
 
-    /// Takes the newest message to each of these methods of this object.
+    /// Takes the newest message to each of these methods of this object. The members are their numbers.
     #[inline(always)]
-    pub fn take_all(&mut self, object: Object, methods: &[u8]) -> Members
+    pub fn take_all(&mut self, object: Object, methods: &[u8], members: &mut Members)
         requires there { HasMessages object methods.now (numbers_of self.old) }
         requires different { AreDifferent methods.now }
         requires few { length methods.now ≤ 8 }
-        ensures { ArePopped object methods.now result (numbers_of self.old) (numbers_of self.new) }
+        requires none { members.old ≡ [] }
+        ensures { ArePopped object methods.now members.new (numbers_of self.old) (numbers_of self.new) }
     {
-        let mut members = Members::new();
         for method in methods {
             members.push(self.take(object, *method));
         }
-        members
     }
 }

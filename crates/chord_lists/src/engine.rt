@@ -155,7 +155,8 @@ fn fire<P: Playable>(
     ensures { IfOk result (λ _. State (P.program program.now) (P.stands program.now bodies.new) (numbers_of bag.new) None (number + 1)) }
 {
     let methods = program.methods(object.class, chord);
-    let mut members = bag.take_all(object, methods);
+    let mut members = Members::new();
+    bag.take_all(object, methods, &mut members);
     program.begin(alloc, bodies, number, chord, object, &mut members)?;
     Ok(())
 }
