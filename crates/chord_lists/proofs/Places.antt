@@ -1,5 +1,5 @@
 -- What is kept of the place of a message: no message stands at the first place of a past.
-use Rattle.std.proofs.Common.{◌≡◌, ℕ, zero, suc, ◌<◌, List, [], ◌∷◌, length, Option, Some, None, true, refl, sym, ap, ◌∙◌, arith}
+use Rattle.std.proofs.Common.{◌≡◌, ℕ, zero, suc, ◌<◌, List, [], ◌∷◌, length, Option, Some, true, refl, arith}
 use Rattle.chord_base.specs.declared.event.Entry.{Entry}
 use Rattle.chord_base.specs.declared.event.Limits.{Limits}
 use Rattle.chord_base.specs.declared.event.What.{What}
@@ -7,7 +7,7 @@ use Rattle.chord_base.specs.Meaning.{Program}
 use Rattle.chord_code.specs.declared.parts.Parts.{Parts}
 use Rattle.chord_code.specs.Meaning.{code_program}
 use Rattle.chord_task.specs.declared.task.Task.{Task}
-use Rattle.chord_task.specs.Stacks.{TaskView, IsNext}
+use Rattle.chord_task.specs.Stacks.{IsNext}
 use Rattle.chord_task.specs.Standing.{view_of, IsTaskOf, is_ready_of}
 use Rattle.chord_task.proofs.Asking.{ready_can}
 use Rattle.chord_lists.specs.Places.{place_kept}

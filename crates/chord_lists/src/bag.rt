@@ -169,11 +169,7 @@ fn take_on(objects: &mut Vec<Vec<ClassStacks>>, object: Object, method: u8) -> u
     requires { HasMessage object method (stacked_by objects.old.items) }
     ensures { IsPopped (address_to object method) result (stacked_by objects.old.items) (stacked_by objects.new.items) }
 {
-    take_in(
-        &mut objects[object.number as usize],
-        object.class,
-        method,
-    )
+    take_in(&mut objects[object.number as usize], object.class, method)
 }
 
 /// Whether the newest message, if it stands apart, is to this method of this object.
@@ -183,8 +179,9 @@ fn is_newest_to(newest: &Option<Noted>, object: Object, method: u8) -> bool
     match newest {
         None => false,
         Some(noted) => {
-            noted.object.number == object.number
-                && (noted.object.class == object.class && noted.method == method)
+            // the other methods of a chord are asked for most often
+            noted.method == method
+                && (noted.object.number == object.number && noted.object.class == object.class)
         }
     }
 }

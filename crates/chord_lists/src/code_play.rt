@@ -42,6 +42,7 @@ impl<'a> CodePlay<'a> {
         match &entry.what {
             What::Begun => unreachable!(),
             What::Fired(chord, object, members, _) => {
+                let methods = self.methods(object.class, *chord);
                 let mut members = members.copied();
                 self.begin(
                     alloc,
@@ -49,6 +50,7 @@ impl<'a> CodePlay<'a> {
                     entry.number,
                     *chord,
                     *object,
+                    methods,
                     &mut members,
                 )?;
                 Ok(())
@@ -94,9 +96,9 @@ impl<'a> Playable for CodePlay<'a> {
         number: u32,
         chord: u16,
         object: Object,
+        methods: &[u8],
         members: &mut Members,
     ) -> Result<(), AllocError> {
-        let methods = self.methods(object.class, chord);
         let served = served_by(self.code, object.class, methods, members.items());
         begin_body(
             alloc,

@@ -57,8 +57,8 @@ pub trait Playable {
         requires may { MayGoOn (program self.now) (stands self.now bodies.old) number }
         ensures { IfOk result (λ turn. Went (program self.now) (stands self.now bodies.old) (stands self.now bodies.new) number turn) };
 
-    /// A chord of the object fires and takes these messages: the bodies make the entry of this number, and the body of the
-    /// chord begins with what the messages carry.
+    /// A chord of the object fires and takes these messages, one to each of its methods: the bodies make the entry of this number,
+    /// and the body of the chord begins with what the messages carry.
     fn begin(
         &self,
         alloc: Global,
@@ -66,9 +66,11 @@ pub trait Playable {
         number: u32,
         chord: u16,
         object: Object,
+        methods: &[u8],
         members: &mut Members,
     ) -> Result<(), AllocError>
         requires room { number < 65536 }
+        requires methods { slice_get ((program self.now).chords object.class) chord ≡ Some methods.now }
         requires may { MayBegin (program self.now) (stands self.now bodies.old) number chord object members.old }
         ensures { IfOk result (λ _. Began (program self.now) (stands self.now bodies.old) (stands self.now bodies.new) number chord object members.old) };
 
@@ -157,7 +159,7 @@ fn fire<P: Playable>(
     let methods = program.methods(object.class, chord);
     let mut members = Members::new();
     bag.take_all(object, methods, &mut members);
-    program.begin(alloc, bodies, number, chord, object, &mut members)?;
+    program.begin(alloc, bodies, number, chord, object, methods, &mut members)?;
     Ok(())
 }
 

@@ -2,6 +2,7 @@ use Rattle.std.proofs.Common.{◌∷◌, subst}
 use Rattle.chord_code.specs.Meaning.{code_program}
 use Rattle.chord_lists.specs.CodeStands.{StandsAfter}
 use Rattle.chord_lists.proofs.CodeReplay.{fired_again}
+use Rattle.std.proofs.lemmas.Option.{slice_get_within}
 use Rattle.chord_lists.proofs.code_play.CodePlay.replay.Goals as goal
 
 pub returns-in_ok-begin-in-Fired : goal.returns-in_ok-begin-in-Fired
@@ -11,3 +12,10 @@ returns-in_ok-begin-in-Fired c =
     let limits = c.args.self.now.limits.now in
     let x = fired_again (code_program code limits) h c.args.entry.now c.in-Fired.chord c.in-Fired.object c.in-Fired.members c.in-Fired.field-3 c.in-Fired.is f in
     subst (λ z. StandsAfter code limits c.begin.new.bodies (z ∷ h)) x.1 ((rw c.copied-members.ensures at c.in_ok-begin-in-Fired.ensures) h c.in-Fired.field-3 played s x.0)
+
+pub methods-methods-requires : goal.methods-methods-requires
+methods-methods-requires c =
+    let m = c.requires.may in
+    let p = code_program c.args.self.now.code.now c.args.self.now.limits.now in
+    let x = fired_again p m.0 c.args.entry.now c.in-Fired.chord c.in-Fired.object c.in-Fired.members c.in-Fired.field-3 c.in-Fired.is m.3 in
+    slice_get_within (p.chords c.in-Fired.object.class) c.in-Fired.chord x.0.0 x.0.1

@@ -10,5 +10,5 @@ served_by-served-requires c =
     let m = c.requires.may in
     let f = m.4 in
     let p = code_program c.args.self.now.code.now c.args.self.now.limits.now in
-    let same = one_some f.0 c.methods-methods.result.now (slice_get (p.chords c.args.object.class) c.args.chord) f.1 c.methods-methods.ensures.value in
+    let same = one_some f.0 c.args.methods.now (slice_get (p.chords c.args.object.class) c.args.chord) f.1 c.requires.methods in
     ap length (sym same) ∙ takes_lengths m.0 c.args.object f.0 c.args.members.now m.1 f.2 ∙ ap length (sym c.items.ensures.numbers)
