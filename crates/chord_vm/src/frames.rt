@@ -350,3 +350,37 @@ fn build(frames: &mut Frames, block: u32, slots: u32, n: u32, object: Object)
         }
     }
 }
+
+/// Fills the slots of a block with `this` and the values, which are moved, and the rest with the unit value.
+#[inline(always)]
+fn fill_moved(slots: &mut Vec<Value>, n: usize, this: Value, values: Values)
+    requires fits { first_slots n (this ∷ values) ≢ None }
+    requires room { n ≤ vec_capacity slots.old }
+    ensures filled { first_slots n (this ∷ values) ≡ Some slots.new.items }
+{
+    slots.truncate(0);
+    slots.push_reserved(this);
+    values.move_to(slots);
+    let rest = n - slots.len();
+    pad(slots, rest);
+}
+
+/// Begins a body in a block with these arguments, which are moved. Takes no memory.
+#[inline(always)]
+pub fn begin_moved(
+    code: &Code,
+    frames: &mut Frames,
+    block: u32,
+    this: Value,
+    arguments: Values,
+    depth: u32,
+)
+    requires fits { body_in_block code.now block (frames.old.limits.depth - depth) (this ∷ arguments) frames.old.limits.turns ≢ None }
+    requires space { IsSpacious frames.old (slice_get code.now.blocks block) }
+    ensures { body_in_block code.now block (frames.old.limits.depth - depth) (this ∷ arguments) frames.old.limits.turns ≡ Some (machine_of frames.new) }
+{
+    let block = block as usize;
+    let slots = code.parts().blocks.items()[block].slots as usize;
+    fill_moved(&mut frames.top.slots, slots, this, arguments);
+    open(frames, block, depth);
+}
