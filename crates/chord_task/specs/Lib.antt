@@ -9,3 +9,5 @@ pub mod Standing
 pub mod Parcels
 -- a turn of a task
 pub mod Turning
+-- what was gathered from the parcels of a firing
+pub mod Gathering

@@ -1,7 +1,7 @@
 //! The arguments that a parcel encloses: in memory of their own, where there are some.
 #![tactic(auto)]
 
-ghost use Rattle.std.specs.Prelude.{◌≡◌, [], IfOk};
+ghost use Rattle.std.specs.Prelude.{◌≡◌, ◌==◌, [], IfOk, length};
 
 use crate::apart::Apart;
 use crate::args::Args;
@@ -49,6 +49,17 @@ impl Enclosed {
         let first = Values::none();
         let args = Apart::new(alloc, Args { first, second })?;
         Ok(Enclosed { args: Some(args) })
+    }
+
+    /// Whether the message has no values.
+    #[inline(always)]
+    pub fn has_none(&self) -> bool
+        ensures { result ≡ (length self.now.first == 0) }
+    {
+        match &self.args {
+            None => true,
+            Some(args) => args.value.first.items().is_empty(),
+        }
     }
 
     /// The values that were copied join their copy. Takes no memory.

@@ -10,6 +10,8 @@ pub mod args;
 pub mod body;
 pub mod cross;
 pub mod enclosed;
+pub mod firing;
+pub mod gathered;
 pub mod parcel;
 pub mod pasts;
 pub mod task;

@@ -51,7 +51,7 @@ pub struct Task {
 }
 
 /// The line of a chord of a class.
-fn line_of(code: &Code, class: u16, chord: u16) -> &ChordLine
+pub(crate) fn line_of(code: &Code, class: u16, chord: u16) -> &ChordLine
     requires { slice_get (chord_lines code.now class) chord ≢ None }
     ensures { slice_get (chord_lines code.now class) chord ≡ Some result.now }
 {
@@ -65,7 +65,7 @@ fn line_of(code: &Code, class: u16, chord: u16) -> &ChordLine
 }
 
 /// The depth of a body that is put on top of this one.
-fn depth_over(depth: u32, top: &Option<Body>) -> u32
+pub(crate) fn depth_over(depth: u32, top: &Option<Body>) -> u32
     ensures { (limits : TheLimits) → limits.depth ≡ depth → limits.depth - result ≡ room_of limits top.now }
 {
     match top {
@@ -197,7 +197,7 @@ pub(crate) fn pop_caller(
 
 /// Puts a body that runs on top, for which there is room. It stands apart, since the place of a body is cleared in a function that makes one.
 #[inline(never)]
-fn put_on_top(top: &mut Option<Body>, below: &mut Vec<Body>, number: u32, frames: Box<Frames>)
+pub(crate) fn put_on_top(top: &mut Option<Body>, below: &mut Vec<Body>, number: u32, frames: Box<Frames>)
     requires room { vec_len below.old < vec_capacity below.old }
     ensures top { top.new ≡ Some (record { number = number; frames = frames; next = Next.Runs }) }
     ensures below { below.new.items ≡ below.old.items ++ option_to_list top.old }

@@ -1,0 +1,83 @@
+//! The body of a firing begins with the arguments that its parcels brought.
+#![tactic(auto)]
+
+ghost use Rattle.std.specs.Prelude.{◌≡◌, ◌≤◌, Some, None, length};
+ghost use Rattle.chord_vm.specs.Frames.{laid};
+ghost use Rattle.chord_task.specs.Arguments.{for_entry, AreTwice};
+ghost use Rattle.chord_task.specs.Gathering.{gathered_in};
+ghost use Rattle.chord_task.specs.Stacks.{task_begun};
+ghost use Rattle.chord_task.specs.Standing.{view_of, IsTaskOf, MayResume};
+
+use crate::args::Args;
+use crate::gathered::{Gathered, all_args};
+use crate::task::{Task, depth_over, line_of, put_on_top};
+use chord_base::event::{Entry, What};
+use chord_base::members::Members;
+use chord_base::value::{Object, Value};
+use chord_code::code::Code;
+use chord_vm::frames::begin_moved;
+
+impl Task {
+    /// Puts the body of a firing on top, of whose messages one alone has values, or none. Takes no memory.
+    pub fn resume_one(
+        &mut self,
+        code: &Code,
+        number: u32,
+        chord: u16,
+        object: Object,
+        members: &Members,
+        arguments: Args,
+    )
+        requires task { IsTaskOf code.now self.old.limits self.old }
+        requires may { MayResume code.now self.old.limits self.old number chord object members.now arguments.first }
+        requires twice { arguments.second ≡ arguments.first }
+        ensures task { IsTaskOf code.now self.old.limits self.new }
+        ensures past { task_begun (view_of self.old) number chord object members.now arguments.first (view_of self.new) }
+        ensures top { (view_of self.new).top ≡ Some number }
+    {
+        let depth = depth_over(self.limits.depth, &self.top);
+        match self.spare.take() {
+            None => unreachable!(),
+            Some(frames) => {
+                let Args { first, second } = arguments;
+                let mut frames = frames;
+                let block = line_of(code, object.class, chord).block;
+                let this = Value::Ref(object);
+                begin_moved(code, &mut *frames, block, this, second, depth);
+                self.past.push_reserved(Entry {
+                    number,
+                    body: number,
+                    what: What::Fired(chord, object, members.copied(), first),
+                });
+                put_on_top(&mut self.top, &mut self.below, number, frames);
+            }
+        }
+    }
+
+    /// As `resume`, with what was gathered from the firing's parcels.
+    pub fn resume_gathered(
+        &mut self,
+        code: &Code,
+        number: u32,
+        chord: u16,
+        object: Object,
+        members: &Members,
+        arguments: Gathered,
+    )
+        requires task { IsTaskOf code.now self.old.limits self.old }
+        requires may { MayResume code.now self.old.limits self.old number chord object members.now (laid (for_entry (gathered_in arguments.one arguments.more))) }
+        requires few { length (laid (for_entry (gathered_in arguments.one arguments.more))) ≤ 64 }
+        requires twice { AreTwice (gathered_in arguments.one arguments.more) }
+        ensures task { IsTaskOf code.now self.old.limits self.new }
+        ensures past { task_begun (view_of self.old) number chord object members.now (laid (for_entry (gathered_in arguments.one arguments.more))) (view_of self.new) }
+        ensures top { (view_of self.new).top ≡ Some number }
+    {
+        let Gathered { one, more } = arguments;
+        match more {
+            None => self.resume_one(code, number, chord, object, members, one.into_args()),
+            Some(several) => {
+                self.resume(code, number, chord, object, members, all_args(several))
+            }
+        }
+    }
+}
