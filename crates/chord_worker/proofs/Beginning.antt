@@ -221,10 +221,14 @@ module _ (s : Space Parcel) (w : Worker) (v : View) (o : Object) (k : ℕ) (ms :
   stock_left x = ⊎_elim (λ e. subst (IsStock (space_code s) (space_limits s)) (sym (e ∙ fired.spare)) fired.is_stock) (λ e. subst (IsStock (space_code s) (space_limits s)) (sym e) tt)
 
   module _ (code : Parts) (same : code ≡ space_code s) (law : (l : Limits) → ChordsAreRight (code_program code l)) (caller : Option Task) (is_caller : caller ≡ first_task qs) (t : Task) (taken : (stock : Task) → w.spare ≡ Some stock → t ≡ caller_or caller stock)
-      (arguments : List Args) (arguments_are : arguments ≡ arguments_in qs) where
+      (arguments : List Args) (values_held : AreTwice (arguments_in qs) → laid (for_entry arguments) ≡ laid (for_entry (arguments_in qs))) (twice_held : AreTwice (arguments_in qs) → AreTwice arguments) where
+    -- the parcels have their arguments twice
+    held : AreTwice (arguments_in qs)
+    held = held_twice (space_code s) (space_limits s) f qs fired.fired.older
+
     -- the values of the arguments are those of the firing
     values_are : values ≡ laid (for_entry arguments)
-    values_are = values_in qs ∙ ap (λ (xs : List Args). laid (for_entry xs)) (sym arguments_are)
+    values_are = values_in qs ∙ sym (values_held held)
 
     -- the firing's body fits the task
     fits_task : Fits t
@@ -243,7 +247,7 @@ module _ (s : Space Parcel) (w : Worker) (v : View) (o : Object) (k : ℕ) (ms :
 
     -- the arguments are held twice
     pub twice : AreTwice arguments
-    twice = subst AreTwice (sym arguments_are) (held_twice (space_code s) (space_limits s) f qs fired.fired.older)
+    twice = twice_held held
 
     -- the firing has no more values than an entry may have
     pub few_values : ((l : Limits) (h : List Entry) → IsPast (code_program code l) h → length h ≤ 65536 → AreWithin h) → s.events ≤ 65536 → length (laid (for_entry arguments)) ≤ 64

@@ -12,16 +12,15 @@ ghost use Rattle.chord_worker.specs.Stepping.{HasTakenOn};
 
 use crate::worker::{Gate, Worker};
 use chord_base::event::Limits;
-use chord_base::hand::Hand;
 use chord_base::members::Members;
-use chord_base::value::{Object, Values};
+use chord_base::value::Object;
 use chord_code::code::Code;
 use chord_code::laws::{chords_are_right, entries_are_within};
 use chord_match::Receive;
 use chord_space::Space;
 use chord_task::apart::Apart;
-use chord_task::args::Args;
 use chord_task::enclosed::Enclosed;
+use chord_task::gathered::Gathered;
 use chord_task::parcel::{Parcel, packed};
 use chord_task::task::Task;
 use std::mem;
@@ -34,10 +33,10 @@ pub(crate) struct Drawn {
     pub chord: u16,
 }
 
-/// What the parcels of a firing hold: the arguments of each, and the task that one of them may have.
+/// What the parcels of a firing hold: the arguments, and the task that one of them may have.
 #[derive(Drop)]
 pub(crate) struct Unpacked {
-    pub arguments: Hand<Args>,
+    pub arguments: Gathered,
     pub caller: Option<Apart<Task>>,
 }
 
@@ -52,11 +51,11 @@ fn either_task(first: Option<Apart<Task>>, second: Option<Apart<Task>>) -> Optio
 }
 
 impl Receive<Parcel> for Unpacked {
-    ghost holds = { λ u qs. HasUnpacked u.arguments u.caller qs };
+    ghost holds = { λ u qs. HasUnpacked u.arguments.one u.arguments.more u.caller qs };
 
     fn receive(&mut self, parcel: Parcel) {
         let Parcel { arguments, task } = parcel;
-        self.arguments.put(arguments.into_args());
+        self.arguments.add(arguments);
         self.caller = either_task(self.caller.take(), task);
     }
 }
@@ -64,17 +63,19 @@ impl Receive<Parcel> for Unpacked {
 impl Unpacked {
     /// Nothing yet.
     pub(crate) fn nothing() -> Unpacked
-        ensures { (result.arguments ≡ []) × (result.caller ≡ None) }
+        ensures first { result.arguments.one.first ≡ [] }
+        ensures second { result.arguments.one.second ≡ [] }
+        ensures none { (result.arguments.more ≡ None) × (result.caller ≡ None) }
     {
         Unpacked {
-            arguments: Hand::new(),
+            arguments: Gathered::nothing(),
             caller: None,
         }
     }
 
     /// Nothing came, so that nothing is looked for to drop.
     pub(crate) fn lay_aside(self)
-        requires { (self.arguments ≡ []) × (self.caller ≡ None) }
+        requires { (self.arguments.one.first ≡ []) × (self.arguments.more ≡ None) × (self.caller ≡ None) }
     {
         mem::forget(self);
     }
@@ -140,18 +141,18 @@ impl Worker {
         requires code { code.now ≡ space_code space.now }
         requires limits { limits.now ≡ space_limits space.now }
         requires sound { IsSound (program_of space.now) }
-        requires fired { (v : View) × (qs : List TheParcel) × HasUnpacked unpacked.arguments unpacked.caller qs × HasFired space.now self.old v drawn.object drawn.chord members.now drawn.number qs }
+        requires fired { (v : View) × (qs : List TheParcel) × HasUnpacked unpacked.arguments.one unpacked.arguments.more unpacked.caller qs × HasFired space.now self.old v drawn.object drawn.chord members.now drawn.number qs }
         ensures desk { IsDeskOf space.now self.new.desk }
         ensures rest { IsAtRest space.now self.new }
         ensures role { IsSameRole (view self.old.desk) (view self.new.desk) }
         ensures told { self.new.spent ≡ false }
-        ensures taken { (v : View) (qs : List TheParcel) → HasUnpacked unpacked.arguments unpacked.caller qs → HasFired space.now self.old v drawn.object drawn.chord members.now drawn.number qs → HasTakenOn G.knows v.kept self.old.task self.new drawn.number }
+        ensures taken { (v : View) (qs : List TheParcel) → HasUnpacked unpacked.arguments.one unpacked.arguments.more unpacked.caller qs → HasFired space.now self.old v drawn.object drawn.chord members.now drawn.number qs → HasTakenOn G.knows v.kept self.old.task self.new drawn.number }
     {
         chords_are_right(code);
         entries_are_within(code);
         let Unpacked { arguments, caller } = unpacked;
         let mut task = take_task(caller, &mut self.spare);
-        task.value.resume(
+        task.value.resume_gathered(
             code,
             drawn.number,
             drawn.chord,

@@ -1,13 +1,12 @@
-use Rattle.std.proofs.Common.{length, ap, arith}
+use Rattle.std.proofs.Common.{◌<◌, length, sym, subst, ℕ}
+use Rattle.chord_worker.specs.Beginning.{arguments_in}
 use Rattle.chord_worker.proofs.Unpacked.{unpacked_more, as_many}
 use Rattle.chord_worker.proofs.fired.UnpackedReceiveParcel.receive.Goals as goal
 
-pub put-requires : goal.put-requires
-put-requires c =
+pub add-requires : goal.add-requires
+add-requires c =
     let r = c.requires.room in
-    let few = r.2 in
-    let many = as_many r.0 in
-    let same = ap length r.1.arguments_are in omega (arith, few, many, same)
+    record { room = (arguments_in r.0, r.1.gathered, subst (λ (n : ℕ). n < 8) (sym (as_many r.0)) r.2) }
 
 pub returns : goal.returns
-returns c = record { received = λ qs u. rw (c.put.ensures, c.into_args.ensures, c.either_task.ensures, c.take.ensures.value) (unpacked_more _ _ qs c.args.parcel u) }
+returns c = record { received = λ qs u. rw (c.either_task.ensures, c.take.ensures.value) (unpacked_more _ _ _ _ _ qs c.args.parcel c.add.ensures.added u) }

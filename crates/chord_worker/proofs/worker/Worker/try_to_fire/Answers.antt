@@ -5,12 +5,13 @@ use Rattle.chord_rule.specs.declared.view.View.{View}
 use Rattle.chord_space.specs.declared.space.Desk.{Desk}
 use Rattle.chord_space.specs.Desks.{view, IsSameDesk}
 use Rattle.chord_task.specs.declared.parcel.Parcel.{Parcel}
+use Rattle.chord_task.proofs.Gathering.{none_gathered}
 use Rattle.chord_worker.proofs.Attending.{found_fired, still_minds, refused, lost_looks}
 use Rattle.chord_worker.proofs.Stepping.{message_older, taken_minded}
 use Rattle.chord_worker.proofs.worker.Worker.try_to_fire.Goals as goal
 
 pub fire_to-requires-clause-empty : goal.fire_to-requires-clause-empty
-fire_to-requires-clause-empty g c = record { arguments_are = c.nothing-unpacked.ensures.0; caller_is = c.nothing-unpacked.ensures.1 }
+fire_to-requires-clause-empty g c = record { gathered = rw c.nothing-unpacked.ensures.none.0 (none_gathered _ c.nothing-unpacked.ensures.first c.nothing-unpacked.ensures.second); caller_is = c.nothing-unpacked.ensures.none.1 }
 
 pub begin_fired-requires-clause-fired : goal.begin_fired-requires-clause-fired
 begin_fired-requires-clause-fired g c =
