@@ -1,4 +1,4 @@
-use Rattle.std.proofs.Common.{◌<◌, length, sym, subst, ℕ}
+use Rattle.std.proofs.Common.{◌<◌, sym, subst, ℕ}
 use Rattle.chord_worker.specs.Beginning.{arguments_in}
 use Rattle.chord_worker.proofs.Unpacked.{unpacked_more, as_many}
 use Rattle.chord_worker.proofs.fired.UnpackedReceiveParcel.receive.Goals as goal
