@@ -34,19 +34,20 @@ impl Enclosed {
         Enclosed { args: None }
     }
 
-    /// A copy of these values, and room for the values themselves.
+    /// Copies of these values, twice.
     ///
     /// # Errors
     ///
     /// `AllocError` where no memory is found.
-    pub fn copied(alloc: Global, values: &Values) -> Result<Enclosed, AllocError>
-        ensures { IfOk result (λ e. e.second ≡ values.now) }
+    pub fn twice(alloc: Global, values: &Values) -> Result<Enclosed, AllocError>
+        ensures first { IfOk result (λ e. e.first ≡ values.now) }
+        ensures second { IfOk result (λ e. e.second ≡ values.now) }
     {
         if values.items().is_empty() {
             return Ok(Enclosed::nothing());
         }
+        let first = values.copied(alloc)?;
         let second = values.copied(alloc)?;
-        let first = Values::none();
         let args = Apart::new(alloc, Args { first, second })?;
         Ok(Enclosed { args: Some(args) })
     }
@@ -59,18 +60,6 @@ impl Enclosed {
         match &self.args {
             None => true,
             Some(args) => args.value.first.items().is_empty(),
-        }
-    }
-
-    /// The values that were copied join their copy. Takes no memory.
-    pub fn complete(&mut self, first: Values)
-        requires { self.old.second ≡ first }
-        ensures first { self.new.first ≡ first }
-        ensures second { self.new.second ≡ first }
-    {
-        match &mut self.args {
-            None => {}
-            Some(args) => args.value.first = first,
         }
     }
 

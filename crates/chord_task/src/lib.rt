@@ -7,6 +7,7 @@
 
 pub mod apart;
 pub mod args;
+pub mod asked;
 pub mod body;
 pub mod cross;
 pub mod enclosed;

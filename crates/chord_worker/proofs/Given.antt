@@ -1,9 +1,13 @@
 -- A task that gave an ask, and the entry that this becomes.
-use Rattle.std.proofs.Common.{◌≡◌, ℕ, true, false, List, ◌∷◌, Option, Some, None, refl, sym, ◌∙◌, subst}
+use Rattle.std.proofs.Common.{◌≡◌, ℕ, Bool, true, false, List, ◌∷◌, Option, Some, None, refl, sym, ap, ◌∙◌, subst}
 use mathlib.Core.Path.{Path}
 use Rattle.chord_base.specs.declared.event.Entry.{Entry}
 use Rattle.chord_base.specs.declared.event.Limits.{Limits}
 use Rattle.chord_base.specs.declared.event.What.{What}
+use Rattle.chord_base.specs.declared.event.What.TheVariants.{Ended}
+use Rattle.chord_base.specs.declared.value.Object.{Object}
+use Rattle.chord_base.specs.declared.value.Value as value
+use Rattle.chord_base.specs.Printed.{is_end}
 use Rattle.chord_base.specs.Meaning.{Program}
 use Rattle.chord_base.specs.Bodies.{doing, Asks}
 use Rattle.chord_base.specs.Story.{IsSound, IsDefined, AllBelow}
@@ -17,7 +21,7 @@ use Rattle.chord_task.specs.declared.body.Next.TheVariants as nexts
 use Rattle.chord_task.specs.declared.task.Task.{Task}
 use Rattle.chord_task.specs.Stacks.{TaskView, IsNext, StaysDefined}
 use Rattle.chord_task.specs.Standing.{view_of, may_go, body_may_go, given_of, given_by}
-use Rattle.chord_worker.specs.Playing.{IsReadyTo}
+use Rattle.chord_worker.specs.Playing.{IsReadyTo, HasAsked, message}
 use Rattle.chord_worker.specs.Resting.{IsInMemory}
 use Rattle.chord_worker.proofs.Memory.{asks_at_desk, noted_defined, noted_below}
 
@@ -33,6 +37,31 @@ given_goes (nexts.Waits q) w e = let z : Path (Option What) None (Some w) = e in
 pub given_ready : (x : Option Body) (w : What) → given_by x ≡ Some w → body_may_go x ≡ true
 given_ready None w e = let z : Path (Option What) None (Some w) = e in cc
 given_ready (Some b) w e = given_goes b.next w e
+
+-- what gave an ask that is no end keeps it
+gave_at : (n : Next) (w : What) → is_end w ≡ false → given_of n ≡ Some w → (v : What) × (n ≡ nexts.Gave v)
+gave_at nexts.Runs w go e = let z : Path (Option What) None (Some w) = e in cc
+gave_at (nexts.Gave v) w go e = (v, refl)
+gave_at (nexts.Ends x y) w go e =
+    let z : Path (Option What) (Some (Ended x)) (Some w) = e in
+    let k : Ended x ≡ w = cc in
+    let q : true ≡ false = ap is_end k ∙ go in absurd (cc)
+gave_at (nexts.Fails x) w go e = let z : Path (Option What) None (Some w) = e in cc
+gave_at (nexts.Waits q) w go e = let z : Path (Option What) None (Some w) = e in cc
+
+-- a body that gave an ask that is no end keeps it
+pub has_asked : (x : Option Body) (w : What) → is_end w ≡ false → given_by x ≡ Some w → HasAsked x
+has_asked None w go e = let z : Path (Option What) None (Some w) = e in cc
+has_asked (Some b) w go e = gave_at b.next w go e
+
+-- a body gave one ask
+pub is_asked : (x : Option What) (v w : What) → x ≡ Some v → x ≡ Some w → v ≡ w
+is_asked x v w e f = let same : Some v ≡ Some w = sym e ∙ f in cc
+
+-- a message is no end
+pub message_goes : (k : Bool) (o : Object) (j : ℕ) (vs : List value.Value) → is_end (message k o j vs) ≡ false
+message_goes true o j vs = refl
+message_goes false o j vs = refl
 
 -- what the body on top asks next is the ask of the body of that number
 pub next_asks : (p : Program) (v : TaskView) (w : What) (n : IsNext p v w) (b : ℕ) → v.top ≡ Some b → Asks p v.past b w

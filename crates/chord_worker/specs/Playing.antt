@@ -1,9 +1,11 @@
 -- What a task is while it is played: its next ask, and the entry that this becomes.
-use Rattle.std.specs.Prelude.{◌≡◌, ◌<◌, ◌+◌, ℕ, Bool, false, List, ◌∷◌, Some}
+use Rattle.std.specs.Prelude.{◌≡◌, ◌<◌, ◌+◌, ℕ, Bool, true, false, List, ◌∷◌, Option, Some, None}
 use Rattle.chord_base.specs.declared.event.Entry.{Entry}
 use Rattle.chord_base.specs.declared.event.Limits.{Limits}
 use Rattle.chord_base.specs.declared.event.What.{What}
+use Rattle.chord_base.specs.declared.event.What.TheVariants.{Sent, Called}
 use Rattle.chord_base.specs.declared.value.Object.{Object}
+use Rattle.chord_base.specs.declared.value.Value as value
 use Rattle.chord_base.specs.Bodies.{Asks}
 use Rattle.chord_base.specs.Printed.{is_end}
 use Rattle.chord_base.specs.Story.{AllBelow}
@@ -13,6 +15,8 @@ use Rattle.chord_rule.specs.declared.view.View.{View}
 use Rattle.chord_rule.specs.Kinds.{entry, drew, saw_count, was_told, fresh_after}
 use Rattle.chord_rule.specs.Made.{Names}
 use Rattle.chord_space.specs.Ruled.{IsOfCode}
+use Rattle.chord_task.specs.declared.body.Body.{Body}
+use Rattle.chord_task.specs.declared.body.Next.TheVariants as nexts
 use Rattle.chord_task.specs.declared.task.Task.{Task}
 use Rattle.chord_task.specs.Stacks.{IsNext}
 use Rattle.chord_task.specs.Standing.{view_of, HasGiven, IsReserved, IsTaskOf}
@@ -47,3 +51,13 @@ pub record WasToldFull (v w : View) (t t' : Task) : Type 0 where
   pub count : ℕ
   pub view : w ≡ saw_count (was_told v) count
   pub task : t' ≡ t
+
+-- a message to this method of an object: a call, or an asynchronous one
+abbrev pub message : Bool → Object → ℕ → List value.Value → What
+message true o j vs = Called o j vs
+message false o j vs = Sent o j vs
+
+-- the body gave an ask that is no end
+abbrev pub HasAsked : Option Body → Type 0
+HasAsked None = ⊥
+HasAsked (Some b) = (w : What) × (b.next ≡ nexts.Gave w)

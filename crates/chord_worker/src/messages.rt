@@ -15,10 +15,10 @@ ghost use Rattle.chord_worker.specs.Sending.{IsSentOff};
 ghost use Rattle.chord_worker.specs.Stepping.{HasGoneOn, PlaysNext};
 
 use crate::minding::Minded;
-use crate::playing::draw_own;
+use crate::playing::draw_message;
 use crate::worker::{Gate, Worker};
-use chord_base::event::{Limits, What};
-use chord_base::value::{Object, Values};
+use chord_base::event::Limits;
+use chord_base::value::Object;
 use chord_code::code::Code;
 use chord_space::{Desk, Space};
 use chord_task::apart::Apart;
@@ -46,20 +46,6 @@ pub(crate) fn send_off(
 {
     space.link(desk, m, object, method, parcel);
     space.arm(desk, m);
-}
-
-/// The arguments of a message that was drawn join their copy.
-fn held_twice(what: What, copy: Enclosed) -> Enclosed
-    requires { (o : TheObject) × (j : ℕ) × ((what ≡ Sent o j copy.second) ⊎ (what ≡ Called o j copy.second)) }
-    ensures { (result.first ≡ copy.second) × (result.second ≡ copy.second) }
-{
-    let mut held = copy;
-    match what {
-        What::Sent(_, _, first) => held.complete(first),
-        What::Called(_, _, first) => held.complete(first),
-        _ => unreachable!(),
-    }
-    held
 }
 
 /// What an asynchronous message goes with: its arguments, and no task.
@@ -132,13 +118,14 @@ impl Worker {
         task: Apart<Task>,
         object: Object,
         method: u8,
-        arguments: Values,
+        held: Enclosed,
     ) -> Result<(), AllocError>
         requires none { self.old.task ≡ None }
         requires rest { IsAtRest space.now (record self.old { task = Some task }) }
         requires room { (view self.old.desk).spent ≡ false }
         requires stock { self.old.spare ≢ None }
-        requires ready { IsReadyTo (space_code space.now) (space_limits space.now) task (Sent object method arguments) }
+        requires ready { IsReadyTo (space_code space.now) (space_limits space.now) task (Sent object method held.first) }
+        requires twice { held.second ≡ held.first }
         requires code { code.now ≡ space_code space.now }
         requires limits { limits.now ≡ space_limits space.now }
         requires sound { IsSound (program_of space.now) }
@@ -149,12 +136,17 @@ impl Worker {
         ensures went { OnOk result (HasGoneOn (view self.old.desk).kept task self.new) }
         ensures plays { OnOk result (PlaysNext G.knows (view self.old.desk).kept task self.new) }
     {
-        let copy = Enclosed::copied(alloc, &arguments)?;
-        let what = What::Sent(object, method, arguments);
         let mut task = task;
-        match draw_own(space, &mut self.desk, &mut task, &what) {
+        match draw_message(
+            space,
+            &mut self.desk,
+            &mut task,
+            false,
+            object,
+            method,
+            &held,
+        ) {
             Ok(number) => {
-                let held = held_twice(what, copy);
                 send_letter(
                     space,
                     &mut self.desk,
@@ -193,13 +185,14 @@ impl Worker {
         task: Apart<Task>,
         object: Object,
         method: u8,
-        arguments: Values,
+        held: Enclosed,
     ) -> Result<(), AllocError>
         requires none { self.old.task ≡ None }
         requires rest { IsAtRest space.now (record self.old { task = Some task }) }
         requires room { (view self.old.desk).spent ≡ false }
         requires stock { self.old.spare ≢ None }
-        requires ready { IsReadyTo (space_code space.now) (space_limits space.now) task (Called object method arguments) }
+        requires ready { IsReadyTo (space_code space.now) (space_limits space.now) task (Called object method held.first) }
+        requires twice { held.second ≡ held.first }
         requires code { code.now ≡ space_code space.now }
         requires limits { limits.now ≡ space_limits space.now }
         requires sound { IsSound (program_of space.now) }
@@ -210,12 +203,17 @@ impl Worker {
         ensures went { OnOk result (HasGoneOn (view self.old.desk).kept task self.new) }
         ensures plays { OnOk result (PlaysNext G.knows (view self.old.desk).kept task self.new) }
     {
-        let copy = Enclosed::copied(alloc, &arguments)?;
-        let what = What::Called(object, method, arguments);
         let mut task = task;
-        match draw_own(space, &mut self.desk, &mut task, &what) {
+        match draw_message(
+            space,
+            &mut self.desk,
+            &mut task,
+            true,
+            object,
+            method,
+            &held,
+        ) {
             Ok(number) => {
-                let held = held_twice(what, copy);
                 send_task(
                     space,
                     &mut self.desk,

@@ -4,18 +4,21 @@ ghost use Rattle.chord_base.specs.declared.event.Entry.{Entry as AnEntry};
 ghost use Rattle.chord_base.specs.Story.{IsSound};
 ghost use Rattle.chord_code.specs.declared.parts.Parts.{Parts};
 ghost use Rattle.chord_space.specs.Desks.{view, space_code, space_limits, program_of, IsDeskOf, IsSameDesk};
-ghost use Rattle.chord_task.specs.Standing.{view_of, IsTaskOf, is_ready_of};
-ghost use Rattle.chord_vm.specs.Frames.{what_of_ask};
-ghost use Rattle.chord_worker.specs.Playing.{IsReadyTo, IsNotedAs, WasToldFull};
+ghost use Rattle.chord_task.specs.Enclosing.{what_of_asked, IsTwice};
+ghost use Rattle.chord_task.specs.Standing.{view_of, IsTaskOf, is_ready_of, given_by};
+ghost use Rattle.chord_worker.specs.Playing.{IsReadyTo, IsNotedAs, WasToldFull, HasAsked, message};
 ghost use Rattle.chord_worker.specs.Resting.{IsInMemory, IsStock, IsStockTask};
 
 use chord_base::event::{Limits, What};
+use chord_base::value::Object;
 use chord_code::code::Code;
 use chord_space::{Desk, Space, Spent};
 use chord_task::apart::Apart;
+use chord_task::asked::Asked;
+use chord_task::body::Next;
+use chord_task::enclosed::Enclosed;
 use chord_task::parcel::Parcel;
 use chord_task::task::Task;
-use chord_vm::ask::Ask;
 use std::alloc::{AllocError, Global};
 
 /// The number of the body on top.
@@ -35,14 +38,15 @@ pub(crate) fn ready_ask(
     code: &Code,
     limits: &Limits,
     task: &mut Apart<Task>,
-) -> Result<Ask, AllocError>
+) -> Result<Asked, AllocError>
     requires task { IsTaskOf code.now limits.now task.old }
     requires ready { is_ready_of task.old ≡ true }
     ensures task { IfOk result (λ ask. IsTaskOf code.now limits.now task.new) }
     ensures same { IfOk result (λ ask. view_of task.new ≡ view_of task.old) }
-    ensures ready { IfOk result (λ ask. IsReadyTo code.now limits.now task.new (what_of_ask ask)) }
+    ensures ready { IfOk result (λ ask. IsReadyTo code.now limits.now task.new (what_of_asked ask)) }
+    ensures twice { IfOk result (λ ask. IsTwice ask) }
 {
-    let ask = task.value.ask(alloc, code, limits)?;
+    let ask = task.value.ask_enclosed(alloc, code, limits)?;
     task.value.reserve(alloc, code)?;
     Ok(ask)
 }
@@ -90,6 +94,47 @@ pub(crate) fn draw_own(
 {
     let body = top_number(&task.value);
     let number = space.draw(desk, body, what)?;
+    task.value.note(number);
+    Ok(number)
+}
+
+/// The ask of the body on top, which is no end.
+#[inline(always)]
+fn asked_in(task: &Task) -> &What
+    requires { HasAsked task.now.top }
+    ensures { given_by task.now.top ≡ Some result.now }
+{
+    match &task.top {
+        None => unreachable!(),
+        Some(body) => match &body.next {
+            Next::Gave(what) => what,
+            _ => unreachable!(),
+        },
+    }
+}
+
+/// As `draw_own`, where the task asks to send a message: the ask is read where the task keeps it.
+#[inline(always)]
+pub(crate) fn draw_message(
+    space: &Space<Parcel>,
+    desk: &mut Desk<Parcel>,
+    task: &mut Apart<Task>,
+    is_call: bool,
+    object: Object,
+    method: u8,
+    held: &Enclosed,
+) -> Result<u32, Spent>
+    requires desk { IsDeskOf space.now desk.old }
+    requires room { (view desk.old).spent ≡ false }
+    requires memory { (done : List AnEntry) × IsInMemory (space_code space.now) (space_limits space.now) (view desk.old).kept false done (Some task.old) }
+    requires ready { IsReadyTo (space_code space.now) (space_limits space.now) task.old (message is_call object method held.now.first) }
+    requires sound { IsSound (program_of space.now) }
+    ensures desk { IsSameDesk desk.old desk.new }
+    ensures drawn { MatchResult result (λ n. (n < space.now.events) × IsNotedAs (space_code space.now) (space_limits space.now) (view desk.old) (view desk.new) task.old task.new n (message is_call object method held.now.first)) (λ _. WasToldFull (view desk.old) (view desk.new) task.old task.new) }
+{
+    let asker = &*task.value;
+    let body = top_number(asker);
+    let number = space.draw(desk, body, asked_in(asker))?;
     task.value.note(number);
     Ok(number)
 }

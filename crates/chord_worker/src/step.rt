@@ -6,7 +6,7 @@ ghost use Rattle.chord_base.specs.Story.{IsSound};
 ghost use Rattle.chord_code.specs.declared.parts.Parts.{Parts};
 ghost use Rattle.chord_space.specs.Desks.{view, space_code, space_limits, program_of, IsDeskOf};
 ghost use Rattle.chord_task.specs.declared.task.Task.{Task as TheTask};
-ghost use Rattle.chord_vm.specs.Frames.{what_of_ask};
+ghost use Rattle.chord_task.specs.Enclosing.{what_of_asked, IsTwice};
 ghost use Rattle.chord_worker.specs.Playing.{IsReadyTo, IsNoMessage};
 ghost use Rattle.chord_worker.specs.Resting.{IsInMemory, MayContinue, IsAtRest, IsSameRole};
 ghost use Rattle.chord_worker.specs.Stepping.{HasGoneOn, PlaysNoOther, PlaysNext};
@@ -17,10 +17,10 @@ use chord_base::event::{Limits, What};
 use chord_code::code::Code;
 use chord_space::Space;
 use chord_task::apart::Apart;
+use chord_task::asked::Asked;
 use chord_task::parcel::Parcel;
 use chord_task::pasts::add_past;
 use chord_task::task::Task;
-use chord_vm::ask::Ask;
 use std::alloc::{AllocError, Global};
 use std::sync::Wait;
 
@@ -97,13 +97,14 @@ impl Worker {
         limits: &Limits,
         gate: &G,
         task: Apart<Task>,
-        ask: Ask,
+        ask: Asked,
     ) -> Result<(), AllocError>
         requires none { self.old.task ≡ None }
         requires rest { IsAtRest space.now (record self.old { task = Some task }) }
         requires room { (view self.old.desk).spent ≡ false }
         requires stock { self.old.spare ≢ None }
-        requires ready { IsReadyTo (space_code space.now) (space_limits space.now) task (what_of_ask ask) }
+        requires ready { IsReadyTo (space_code space.now) (space_limits space.now) task (what_of_asked ask) }
+        requires twice { IsTwice ask }
         requires code { code.now ≡ space_code space.now }
         requires limits { limits.now ≡ space_limits space.now }
         requires sound { IsSound (program_of space.now) }
@@ -114,29 +115,29 @@ impl Worker {
         ensures plays { OnOk result (PlaysNext G.knows (view self.old.desk).kept task self.new) }
     {
         match ask {
-            Ask::Make(class) => {
+            Asked::Make(class) => {
                 let what = What::Made(class);
                 self.play_own(space, task, &what)?;
                 Ok(())
             }
-            Ask::Send(object, method, arguments) => {
+            Asked::Send(object, method, held) => {
                 self.play_sent(
-                    rt, alloc, space, code, limits, gate, task, object, method, arguments,
+                    rt, alloc, space, code, limits, gate, task, object, method, held,
                 )?;
                 Ok(())
             }
-            Ask::Call(object, method, arguments) => {
+            Asked::Call(object, method, held) => {
                 self.play_called(
-                    rt, alloc, space, code, limits, gate, task, object, method, arguments,
+                    rt, alloc, space, code, limits, gate, task, object, method, held,
                 )?;
                 Ok(())
             }
-            Ask::Print(text) => {
+            Asked::Print(text) => {
                 let what = What::Printed(text);
                 self.play_own(space, task, &what)?;
                 Ok(())
             }
-            Ask::End(end) => {
+            Asked::End(end) => {
                 let what = What::Ended(end);
                 self.play_own(space, task, &what)?;
                 Ok(())
