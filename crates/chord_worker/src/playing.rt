@@ -134,7 +134,7 @@ pub(crate) fn draw_message(
 {
     let asker = &*task.value;
     let body = top_number(asker);
-    let number = space.draw(desk, body, asked_in(asker))?;
-    task.value.note(number);
-    Ok(number)
+    let drawn = space.draw(desk, body, asked_in(asker))?;
+    task.value.note(drawn);
+    Ok(drawn)
 }

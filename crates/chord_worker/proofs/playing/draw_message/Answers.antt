@@ -20,8 +20,8 @@ note-requires c =
     let body = c.top_number-body.result in
     let top = rw (c.deref-asker.ensures ∙ c.task.view_is) at c.top_number-body.ensures in
     let is = is_asked _ _ _ (rw (c.deref-asker.ensures ∙ c.task.view_is) at c.asked_in.ensures) c.requires.ready.gave in
-    let below = c.in_ok-number.ensures.above.0 in
-    let place = rw is at c.in_ok-number.ensures.place in
+    let below = c.in_ok-drawn.ensures.above.0 in
+    let place = rw is at c.in_ok-drawn.ensures.place in
     rw (c.deref_mut.ensures.value ∙ c.task.view_is) (
       space_code c.args.space.now,
       space_limits c.args.space.now,
@@ -42,10 +42,10 @@ returns-clause-drawn c =
     let body = c.top_number-body.result in
     let top = rw (c.deref-asker.ensures ∙ c.task.view_is) at c.top_number-body.ensures in
     let is = is_asked _ _ _ (rw (c.deref-asker.ensures ∙ c.task.view_is) at c.asked_in.ensures) c.requires.ready.gave in
-    let below = c.in_ok-number.ensures.above.0 in
-    let place = rw is at c.in_ok-number.ensures.place in
+    let below = c.in_ok-drawn.ensures.above.0 in
+    let place = rw is at c.in_ok-drawn.ensures.place in
     let asks = asks_next _ _ _ _ _ m _ ready body top in
-    let may : MayNote (space_code c.args.space.now) (space_limits c.args.space.now) c.args.task.now c.in_ok-number.number = record {
+    let may : MayNote (space_code c.args.space.now) (space_limits c.args.space.now) c.args.task.now c.in_ok-drawn.drawn = record {
       what = (message c.args.is_call c.args.object c.args.method c.args.held.now.first);
       gave = ready.gave;
       reserved = ready.reserved;
@@ -54,19 +54,19 @@ returns-clause-drawn c =
     } in
     let noting = rw (c.deref_mut.ensures.value ∙ c.task.view_is) at c.note.ensures in
     let said = noting (space_code c.args.space.now) (space_limits c.args.space.now) m.played.0 may in
-    let past = subst (λ (k : ℕ). (view_of c.note.new.self).past ≡ entry c.in_ok-number.number k (message c.args.is_call c.args.object c.args.method c.args.held.now.first) ∷ (view_of c.args.task.now).past) (one_top (view_of c.args.task.now).top said.1.0 body said.1.1 top) said.1.2 in (
-      c.in_ok-number.ensures.drawn.0,
+    let past = subst (λ (k : ℕ). (view_of c.note.new.self).past ≡ entry c.in_ok-drawn.drawn k (message c.args.is_call c.args.object c.args.method c.args.held.now.first) ∷ (view_of c.args.task.now).past) (one_top (view_of c.args.task.now).top said.1.0 body said.1.1 top) said.1.2 in (
+      c.in_ok-drawn.ensures.drawn.0,
       record {
         body = body;
         on_top = top;
         asks = asks;
-        drawn = rw is at c.in_ok-number.ensures.drawn.1;
+        drawn = rw is at c.in_ok-drawn.ensures.drawn.1;
         below = below;
         task = said.0;
         past = past;
         top = λ e. said.2 e ∙ top;
         memory = λ spent done k. noted _ _ _ spent done _ k _ _ _ below ready.next.own asks _ said.0 past;
-        named = rw is at c.in_ok-number.ensures.above.1;
-        of_code = rw is at (c.in_ok-number.ensures.code refl);
+        named = rw is at c.in_ok-drawn.ensures.above.1;
+        of_code = rw is at (c.in_ok-drawn.ensures.code refl);
       },
     )
