@@ -1,6 +1,7 @@
 -- What the private functions of the top call report: a run, a refusal, or that memory ran out.
-use Rattle.std.specs.Prelude.{◌≡◌, ℕ, List, Option, None, Some, codes}
+use Rattle.std.specs.Prelude.{◌≡◌, ℕ, Bool, List, Option, None, Some, codes, if◌then◌else◌}
 use Rattle.chord_base.specs.Meaning.{Program}
+use Rattle.chord_base.specs.Printed.{status_of}
 use Rattle.chord_base.specs.declared.event.Entry.{Entry}
 use Rattle.chord_code.specs.Meaning.{code_program}
 use Rattle.chord_code.specs.declared.parts.Parts.{Parts}
@@ -19,6 +20,10 @@ use Rattle.chord_run.specs.declared.report.Report.{Report}
 pub record ReportsNoMemory (report : Report) (before after : Option (List ℕ)) : Type 0 where
   pub status_is : report.status ≡ 7
   pub nothing : WritesNothing report before after
+
+-- the status of a run: 6 where it is full, else its journal's own
+abbrev pub due_status : Bool → List Entry → ℕ
+due_status full journal = if full then 6 else status_of journal
 
 -- the report has a journal of this program, and what is due for it was written
 pub record ReportsRun (request : Request) (program : Program) (report : Report) (before after : Option (List ℕ)) : Type 0 where

@@ -16,6 +16,7 @@ mod output;
 mod position;
 mod refusal;
 mod report;
+mod status;
 mod top;
 mod words;
 

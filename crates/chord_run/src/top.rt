@@ -12,7 +12,7 @@ ghost use Rattle.chord_run.specs.Command.{AreAccepted, IsBounded, Requested, Req
 ghost use Rattle.chord_run.specs.Due.{HasStatus, MakesRun, source_contents};
 ghost use Rattle.chord_run.specs.Load.{load_text};
 ghost use Rattle.chord_run.specs.Refusals.{PointsAt};
-ghost use Rattle.chord_run.specs.Reports.{ReportsCode, ReportsNoMemory, ReportsPlayed, ReportsRefusal, ReportsRun, ReportsText};
+ghost use Rattle.chord_run.specs.Reports.{ReportsCode, ReportsNoMemory, ReportsPlayed, ReportsRefusal, ReportsRun, ReportsText, due_status};
 ghost use Rattle.chord_run.specs.Rows.{AreSpecified, CutsShort, Fills, Finishes, IsExact, NoneFailed, Refuses, RefusesOthers, RunsAccepted, Succeeds};
 ghost use Rattle.chord_run.specs.Sources.{IsShort};
 ghost use Rattle.chord_run.specs.Tables.{HasTable};
@@ -24,9 +24,8 @@ use crate::front::{FrontFault, code_of};
 use crate::load::load_source;
 use crate::output::write_due;
 use crate::refusal::{Refusal, line_of};
-use crate::report::{
-    AT_LIMIT, DONE, NO_MEMORY, OTHER_ARGUMENTS, READ_FAULT, REFUSED, Report, WRITE_FAULT,
-};
+use crate::report::{DONE, NO_MEMORY, OTHER_ARGUMENTS, READ_FAULT, REFUSED, Report, WRITE_FAULT};
+use crate::status::status_of_run;
 use crate::words::WordsFault;
 use chord_base::agreement::same_runs;
 use chord_base::event::Limits;
@@ -318,48 +317,48 @@ fn run<R: Threads + Wait + Sync, K: Sink, G: Gate + Sync>(
         return Report::silent(NO_MEMORY);
     };
     // whether an entry may follow takes memory, so it is decided before the first write
-    match due_status(alloc, code, &request.limits, &played.journal) {
+    match is_full(alloc, code, &request.limits, &played.journal) {
         Err(_) => Report::silent(NO_MEMORY),
-        Ok(due) => write_run(played, request, due, sink),
+        Ok(full) => write_run(played, request, full, sink),
     }
 }
 
-/// Writes what is due for the journal of a run, whose status is this one.
-fn write_run<K: Sink>(played: Played, request: &Request, due: u8, sink: &mut K) -> Report
-    ensures played { ReportsPlayed request.now played.journal due result (K.taken sink.old) (K.taken sink.new) }
+/// Writes what is due for the journal of a run, and finds its status behind that.
+fn write_run<K: Sink>(played: Played, request: &Request, full: bool, sink: &mut K) -> Report
+    ensures played { ReportsPlayed request.now played.journal (due_status full played.journal) result (K.taken sink.old) (K.taken sink.new) }
     ensures table { result.table ≡ played.table }
-    ensures fault { result.status ≡ 5 → (due ≡ 5) ⊎ Rose (K.faults sink.old) (K.faults sink.new) }
+    ensures fault { result.status ≡ 5 → Rose (K.faults sink.old) (K.faults sink.new) }
 {
     let Played { journal, table } = played;
     match write_due(&journal, request, sink) {
-        Ok(()) => Report::played(due, journal, table),
+        Ok(trapped) => {
+            let status = status_of_run(&journal, full, trapped);
+            Report::played(status, journal, table)
+        }
         Err(Failed) => Report::played(WRITE_FAULT, journal, table),
     }
 }
 
-/// The status of a run of a code: the journal's where the run is complete, and 6 where it may go on.
+/// Whether a run of a code is full: it has as many entries as are allowed, and some entry may follow.
 ///
 /// A run of fewer entries than are allowed is complete; one of as many is made again to see whether an entry may follow.
-fn due_status(
+fn is_full(
     alloc: Global,
     code: &Code,
     limits: &Limits,
     journal: &Journal,
-) -> Result<u8, AllocError>
+) -> Result<bool, AllocError>
     requires shallow { 1 ≤ limits.now.depth }
     requires deep { limits.now.depth ≤ 256 }
     requires sound { IsSoundCode code.now }
     requires run { IsRun (code_program code.now limits.now) journal.now }
     requires few { length journal.now ≤ limits.now.events }
     requires whole { length journal.now < limits.now.events → IsComplete (code_program code.now limits.now) journal.now }
-    ensures gives { IfOk result (λ status. HasStatus (code_program code.now limits.now) limits.now.events journal.now status) }
-    ensures no_fault { IfOk result (λ status. (status ≡ 2 → ⊥) × (status ≡ 5 → ⊥)) }
+    ensures gives { IfOk result (λ full. HasStatus (code_program code.now limits.now) limits.now.events journal.now (due_status full journal.now)) }
 {
     if journal.entries().len() < limits.events as usize {
-        return Ok(journal.status());
+        return Ok(false);
     }
-    match may_go_on(alloc, code, limits, journal)? {
-        true => Ok(AT_LIMIT),
-        false => Ok(journal.status()),
-    }
+    let follows = may_go_on(alloc, code, limits, journal)?;
+    Ok(follows)
 }
