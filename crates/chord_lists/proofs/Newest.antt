@@ -20,8 +20,8 @@ pub noted_before : (old : Option Noted) (noted before : Noted) (i : Address) (ns
 noted_before old noted before i ns ns' e q = rw (e, q) refl
 
 -- one more message, where none stood apart
-pub noted_first : (old : Option Noted) (noted : Noted) (i : Address) (ns : List ℕ) → old ≡ None → first_comes (Some noted) i ns ≡ (if same_address (address_to noted.object noted.method) i then noted.number ∷ first_comes old i ns else first_comes old i ns)
-noted_first old noted i ns e = rw e refl
+pub newest_first : (old : Option Noted) (noted : Noted) (i : Address) (ns : List ℕ) → old ≡ None → first_comes (Some noted) i ns ≡ (if same_address (address_to noted.object noted.method) i then noted.number ∷ first_comes old i ns else first_comes old i ns)
+newest_first old noted i ns e = rw e refl
 
 -- an address is no other one
 apart_from : (a k i : Address) → same_address a k ≡ true → same_address k i ≡ false → same_address a i ≡ false

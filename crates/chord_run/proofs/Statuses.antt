@@ -18,17 +18,19 @@ same_status law p q events journal status agree (inr f) =
     let longer = (law p q (f.0.next ∷ reverse journal) agree).0 (f.0.run, f.0.follows) in
     inr (record { run = longer.0; filled = f.0.filled; next = f.0.next; follows = longer.1 }, f.1)
 
--- where no body ended by a trap, neither did one that serves no caller
+-- where one or another is not, neither is
 neither : (a b : Bool) → (a || b) ≡ false → (a ≡ false) × (b ≡ false)
 neither true b none = cc
 neither false b none = (refl, none)
 
+-- where none has one property, none has that one and another
 none_of_both : (p q : Entry → Bool) (es : List Entry) → list_any p es ≡ false → list_any (λ e. p e && q e) es ≡ false
 none_of_both p q [] none = refl
 none_of_both p q (e ∷ es) none =
     let parts = neither (p e) (list_any p es) none in
     rw (parts.0, none_of_both p q es parts.1) refl
 
+-- where no body ended by a trap, neither did one that serves no caller
 pub none_failed : (es : List Entry) → list_any (λ e. is_trap e.what) es ≡ false → has_failed es ≡ false
 none_failed es none = none_of_both (λ e. is_trap e.what) (λ e. not (serves_caller es e.body)) es none
 

@@ -5,7 +5,7 @@ use Rattle.chord_base.specs.declared.value.Value.{Value}
 use Rattle.chord_vm.specs.Frames.{laid}
 use Rattle.chord_task.specs.declared.args.Args.{Args}
 use Rattle.chord_task.specs.Arguments.{for_entry, AreTwice}
-use Rattle.chord_task.specs.Gathering.{IsGathered}
+use Rattle.chord_task.specs.Gathering.{AreGathered}
 
 -- the values of a message more come behind the others
 entries_more : (as_ : List Args) (a : Args) → laid (for_entry (as_ ++ a ∷ [])) ≡ laid (for_entry as_) ++ a.first
@@ -37,7 +37,7 @@ pub some_values : (vs : List Value) → (length vs == 0) ≡ false → vs ≢ []
 some_values vs e q = let z : true ≡ false = sym (ap (λ (x : List Value). length x == 0) q) ∙ e in absurd (cc)
 
 -- nothing came yet
-pub none_gathered : (one : Args) → one.first ≡ [] → one.second ≡ [] → IsGathered one None []
+pub none_gathered : (one : Args) → one.first ≡ [] → one.second ≡ [] → AreGathered one None []
 none_gathered one first second = record {
   twice = λ t. (second ∙ sym first, tt);
   values = λ t. append-nil one.first ∙ first;
@@ -46,7 +46,7 @@ none_gathered one first second = record {
 
 module _ (all : List Args) (a : Args) where
   -- no message before it has values
-  pub first_one : (one : Args) → IsGathered one None all → one.first ≡ [] → IsGathered a None (all ++ a ∷ [])
+  pub first_one : (one : Args) → AreGathered one None all → one.first ≡ [] → AreGathered a None (all ++ a ∷ [])
   first_one one g none = record {
     twice = λ t. ((twice_before all a t).1, tt);
     values = λ t. append-nil a.first ∙ sym (entries_more all a ∙ ap (λ (vs : List Value). vs ++ a.first) (sym (g.values (twice_before all a t).0) ∙ append-nil one.first ∙ none));
@@ -54,7 +54,7 @@ module _ (all : List Args) (a : Args) where
   }
 
   -- it has no values
-  pub none_more : (one : Args) → IsGathered one None all → a.first ≡ [] → IsGathered one None (all ++ a ∷ [])
+  pub none_more : (one : Args) → AreGathered one None all → a.first ≡ [] → AreGathered one None (all ++ a ∷ [])
   none_more one g none = record {
     twice = λ t. g.twice (twice_before all a t).0;
     values = λ t. g.values (twice_before all a t).0 ∙ sym (entries_more all a ∙ ap (λ (vs : List Value). laid (for_entry all) ++ vs) none ∙ append-nil (laid (for_entry all)));
@@ -62,7 +62,7 @@ module _ (all : List Args) (a : Args) where
   }
 
   -- it is the second one with values
-  pub second_one : (one rest : Args) → IsGathered one None all → one.first ≢ [] → IsGathered rest (Some (one ∷ a ∷ [])) (all ++ a ∷ [])
+  pub second_one : (one rest : Args) → AreGathered one None all → one.first ≢ [] → AreGathered rest (Some (one ∷ a ∷ [])) (all ++ a ∷ [])
   second_one one rest g some = record {
     twice = λ t. let b = twice_before all a t in let q = g.twice b.0 in (q.0, (b.1, tt));
     values = λ t. ap (λ (vs : List Value). one.first ++ vs) (append-nil a.first) ∙ ap (λ (vs : List Value). vs ++ a.first) (sym (append-nil one.first) ∙ g.values (twice_before all a t).0) ∙ sym (entries_more all a);
@@ -70,7 +70,7 @@ module _ (all : List Args) (a : Args) where
   }
 
   -- several before it have values
-  pub several_more : (one : Args) (several : List Args) → IsGathered one (Some several) all → IsGathered one (Some (several ++ a ∷ [])) (all ++ a ∷ [])
+  pub several_more : (one : Args) (several : List Args) → AreGathered one (Some several) all → AreGathered one (Some (several ++ a ∷ [])) (all ++ a ∷ [])
   several_more one several g = record {
     twice = λ t. let b = twice_before all a t in twice_more several a (g.twice b.0) b.1;
     values = λ t. entries_more several a ∙ ap (λ (vs : List Value). vs ++ a.first) (g.values (twice_before all a t).0) ∙ sym (entries_more all a);

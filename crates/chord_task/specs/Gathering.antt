@@ -15,7 +15,7 @@ AreNoMore one None n = (one.first ≡ []) ⊎ (1 ≤ n)
 AreNoMore one (Some several) n = length several ≤ n
 
 -- where all messages have their arguments twice, these are the values of all, and twice
-pub record IsGathered (one : Args) (more : Option (List Args)) (all : List Args) : Type 0 where
+pub record AreGathered (one : Args) (more : Option (List Args)) (all : List Args) : Type 0 where
   pub twice : AreTwice all → AreTwice (gathered_in one more)
   pub values : AreTwice all → laid (for_entry (gathered_in one more)) ≡ laid (for_entry all)
   pub few : AreNoMore one more (length all)

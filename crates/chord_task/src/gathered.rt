@@ -3,7 +3,7 @@
 
 ghost use Rattle.std.specs.Prelude.{◌≡◌, ℕ, ◌+◌, ◌<◌, ◌≤◌, List, [], ◌∷◌, ◌++◌, length, None, Some};
 ghost use Rattle.chord_task.specs.declared.args.Args.{Args as TheArgs};
-ghost use Rattle.chord_task.specs.Gathering.{IsGathered};
+ghost use Rattle.chord_task.specs.Gathering.{AreGathered};
 
 use crate::args::Args;
 use crate::enclosed::Enclosed;
@@ -71,8 +71,8 @@ impl Gathered {
 
     /// Adds the arguments of one message more.
     pub fn add(&mut self, arguments: Enclosed)
-        requires room { (all : List TheArgs) × IsGathered self.old.one self.old.more all × (length all < 8) }
-        ensures added { (all : List TheArgs) → IsGathered self.old.one self.old.more all → IsGathered self.new.one self.new.more (all ++ arguments ∷ []) }
+        requires room { (all : List TheArgs) × AreGathered self.old.one self.old.more all × (length all < 8) }
+        ensures added { (all : List TheArgs) → AreGathered self.old.one self.old.more all → AreGathered self.new.one self.new.more (all ++ arguments ∷ []) }
     {
         match &mut self.more {
             Some(all) => all.put(arguments),

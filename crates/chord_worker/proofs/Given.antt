@@ -50,9 +50,9 @@ gave_at (nexts.Fails x) w go e = let z : Path (Option What) None (Some w) = e in
 gave_at (nexts.Waits q) w go e = let z : Path (Option What) None (Some w) = e in cc
 
 -- a body that gave an ask that is no end keeps it
-pub has_asked : (x : Option Body) (w : What) → is_end w ≡ false → given_by x ≡ Some w → HasAsked x
-has_asked None w go e = let z : Path (Option What) None (Some w) = e in cc
-has_asked (Some b) w go e = gave_at b.next w go e
+pub keeps_asked : (x : Option Body) (w : What) → is_end w ≡ false → given_by x ≡ Some w → HasAsked x
+keeps_asked None w go e = let z : Path (Option What) None (Some w) = e in cc
+keeps_asked (Some b) w go e = gave_at b.next w go e
 
 -- a body gave one ask
 pub is_asked : (x : Option What) (v w : What) → x ≡ Some v → x ≡ Some w → v ≡ w

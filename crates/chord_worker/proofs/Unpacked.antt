@@ -17,7 +17,7 @@ use Rattle.chord_task.specs.declared.args.Args.{Args}
 use Rattle.chord_task.specs.declared.parcel.Parcel.{Parcel}
 use Rattle.chord_task.specs.declared.task.Task.{Task}
 use Rattle.chord_task.specs.Arguments.{for_entry, AreTwice}
-use Rattle.chord_task.specs.Gathering.{IsGathered}
+use Rattle.chord_task.specs.Gathering.{AreGathered}
 use Rattle.chord_task.specs.Parcels.{past_in, entries_of, arguments_of, TaskIn, IsParcelOf}
 use Rattle.chord_task.specs.Standing.{view_of, IsTaskOf}
 use Rattle.chord_vm.specs.Frames.{laid}
@@ -165,9 +165,9 @@ task_more [] q = first_alone q.task
 task_more (x ∷ qs) q = ap (first_of x.task) (task_more qs q) ∙ first_of_three x.task (first_task qs) q.task
 
 -- the parcels with one more hold what they held and what is in it
-pub unpacked_more : (one one' : Args) (more more' : Option (List Args)) (caller : Option Task) (qs : List Parcel) (q : Parcel) → ((all : List Args) → IsGathered one more all → IsGathered one' more' (all ++ q.arguments ∷ [])) → HasUnpacked one more caller qs → HasUnpacked one' more' (first_of caller q.task) (qs ++ q ∷ [])
+pub unpacked_more : (one one' : Args) (more more' : Option (List Args)) (caller : Option Task) (qs : List Parcel) (q : Parcel) → ((all : List Args) → AreGathered one more all → AreGathered one' more' (all ++ q.arguments ∷ [])) → HasUnpacked one more caller qs → HasUnpacked one' more' (first_of caller q.task) (qs ++ q ∷ [])
 unpacked_more one one' more more' caller qs q added u = record {
-  gathered = subst (IsGathered one' more') (sym (arguments_more qs q)) (added (arguments_in qs) u.gathered);
+  gathered = subst (AreGathered one' more') (sym (arguments_more qs q)) (added (arguments_in qs) u.gathered);
   caller_is = ap (λ (t : Option Task). first_of t q.task) u.caller_is ∙ sym (task_more qs q);
 }
 

@@ -17,7 +17,7 @@ use Rattle.chord_space.specs.Desks.{view, space_code, space_limits, program_of, 
 use Rattle.chord_task.specs.declared.args.Args.{Args}
 use Rattle.chord_task.specs.declared.parcel.Parcel.{Parcel}
 use Rattle.chord_task.specs.declared.task.Task.{Task}
-use Rattle.chord_task.specs.Gathering.{IsGathered}
+use Rattle.chord_task.specs.Gathering.{AreGathered}
 use Rattle.chord_task.specs.Standing.{view_of, IsTaskOf, MayResume, is_ready_of}
 use Rattle.chord_worker.specs.declared.worker.Worker.{Worker}
 use Rattle.chord_worker.specs.Resting.{IsHandFree, IsInMemory, MayContinue, IsStock}
@@ -39,7 +39,7 @@ arguments_in (q ∷ qs) = q.arguments ∷ arguments_in qs
 
 -- the arguments in the parcels were gathered, and this is the first task in them
 pub record HasUnpacked (one : Args) (more : Option (List Args)) (caller : Option Task) (qs : List Parcel) : Type 0 where
-  pub gathered : IsGathered one more (arguments_in qs)
+  pub gathered : AreGathered one more (arguments_in qs)
   pub caller_is : caller ≡ first_task qs
 
 -- the task of a caller, if there is one, else the one in stock

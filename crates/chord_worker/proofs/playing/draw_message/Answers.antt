@@ -3,7 +3,7 @@ use Rattle.chord_space.specs.Desks.{space_code, space_limits}
 use Rattle.chord_rule.specs.Kinds.{entry}
 use Rattle.chord_task.specs.Standing.{view_of, MayNote}
 use Rattle.chord_worker.specs.Playing.{message}
-use Rattle.chord_worker.proofs.Given.{has_asked, message_goes, is_asked, may_draw, noted_stays, noted_above, asks_next, one_top}
+use Rattle.chord_worker.proofs.Given.{keeps_asked, message_goes, is_asked, may_draw, noted_stays, noted_above, asks_next, one_top}
 use Rattle.chord_worker.proofs.Memory.{noted}
 use Rattle.chord_worker.proofs.playing.draw_message.Goals as goal
 
@@ -11,7 +11,7 @@ pub draw-requires-clause-next : goal.draw-requires-clause-next
 draw-requires-clause-next c = rw (is_asked _ _ _ (rw (c.deref-asker.ensures ∙ c.task.view_is) at c.asked_in.ensures) c.requires.ready.gave) (inl (c.requires.ready.next.own, may_draw _ _ _ _ _ c.requires.memory.1 _ c.requires.ready _ (rw (c.deref-asker.ensures ∙ c.task.view_is) at c.top_number-body.ensures)))
 
 pub asked_in-requires : goal.asked_in-requires
-asked_in-requires c = rw (c.deref-asker.ensures ∙ c.task.view_is) (has_asked _ _ (message_goes c.args.is_call c.args.object c.args.method c.args.held.now.first) c.requires.ready.gave)
+asked_in-requires c = rw (c.deref-asker.ensures ∙ c.task.view_is) (keeps_asked _ _ (message_goes c.args.is_call c.args.object c.args.method c.args.held.now.first) c.requires.ready.gave)
 
 pub note-requires : goal.note-requires
 note-requires c =

@@ -1,14 +1,14 @@
 use Rattle.std.proofs.Common.{◌∙◌, sym, ap}
 use Rattle.std.proofs.lemmas.Result.{on_ok_weaker}
 use Rattle.chord_lists.specs.Bag.{first_comes, stacked_by}
-use Rattle.chord_lists.proofs.Newest.{noted_before, noted_first}
+use Rattle.chord_lists.proofs.Newest.{noted_before, newest_first}
 use Rattle.chord_lists.proofs.bag.Bag.note.Goals as goal
 
 pub returns-in-None : goal.returns-in-None
 returns-in-None c = λ i.
     let ns = stacked_by c.args.self.now.objects.items i in
     ap (λ newest. first_comes newest i ns) c.replace.ensures.after
-    ∙ noted_first c.args.self.now.newest (record { object = c.args.object; method = c.args.method; number = c.args.number }) i ns (sym c.replace.ensures.value ∙ c.in-None.is)
+    ∙ newest_first c.args.self.now.newest (record { object = c.args.object; method = c.args.method; number = c.args.number }) i ns (sym c.replace.ensures.value ∙ c.in-None.is)
 
 pub returns-in-Some : goal.returns-in-Some
 returns-in-Some c =
