@@ -197,7 +197,12 @@ pub(crate) fn pop_caller(
 
 /// Puts a body that runs on top, for which there is room. It stands apart, since the place of a body is cleared in a function that makes one.
 #[inline(never)]
-pub(crate) fn put_on_top(top: &mut Option<Body>, below: &mut Vec<Body>, number: u32, frames: Box<Frames>)
+pub(crate) fn put_on_top(
+    top: &mut Option<Body>,
+    below: &mut Vec<Body>,
+    number: u32,
+    frames: Box<Frames>,
+)
     requires room { vec_len below.old < vec_capacity below.old }
     ensures top { top.new ≡ Some (record { number = number; frames = frames; next = Next.Runs }) }
     ensures below { below.new.items ≡ below.old.items ++ option_to_list top.old }

@@ -30,7 +30,7 @@ begin_moved-requires-clause-fits c =
     let y : Some r.frames ≡ Some c.in-Some.frames = sym r.spare ∙ sym c.take.ensures.value ∙ c.in-Some.is in
     let f : r.frames ≡ c.in-Some.frames = cc in
     let same = begun_with c.args.code.now limits c.deref_mut.result.now.limits c.line_of.result.now.block c.depth_over-depth.result (room_of limits c.args.self.now.top) (a_value.Ref c.args.object) c.args.arguments.second (ap (λ (x : Frames). x.limits) c.deref_mut.ensures.value ∙ ap (λ (x : Box Frames Global). x.value.limits) (sym f) ∙ r.room.limited) (c.depth_over-depth.ensures limits refl)
-        ∙ ap (λ (xs : List Value). body_in_block c.args.code.now c.line_of.result.now.block (room_of limits c.args.self.now.top) (a_value.Ref c.args.object ∷ xs) limits.turns) c.requires.twice in
+    ∙ ap (λ (xs : List Value). body_in_block c.args.code.now c.line_of.result.now.block (room_of limits c.args.self.now.top) (a_value.Ref c.args.object ∷ xs) limits.turns) c.requires.twice in
     λ e.
     let w : Some o.machine ≡ None = sym o.starts ∙ ap (λ (x : ChordLine). body_in_block c.args.code.now x.block (room_of limits c.args.self.now.top) (a_value.Ref c.args.object ∷ vs) limits.turns) l ∙ sym same ∙ e in
     cc
@@ -57,7 +57,7 @@ returns-clause-task c =
     let y : Some r.frames ≡ Some c.in-Some.frames = sym r.spare ∙ sym c.take.ensures.value ∙ c.in-Some.is in
     let f : r.frames ≡ c.in-Some.frames = cc in
     let same = begun_with c.args.code.now limits c.deref_mut.result.now.limits c.line_of.result.now.block c.depth_over-depth.result (room_of limits c.args.self.now.top) (a_value.Ref c.args.object) c.args.arguments.second (ap (λ (x : Frames). x.limits) c.deref_mut.ensures.value ∙ ap (λ (x : Box Frames Global). x.value.limits) (sym f) ∙ r.room.limited) (c.depth_over-depth.ensures limits refl)
-        ∙ ap (λ (xs : List Value). body_in_block c.args.code.now c.line_of.result.now.block (room_of limits c.args.self.now.top) (a_value.Ref c.args.object ∷ xs) limits.turns) c.requires.twice in
+    ∙ ap (λ (xs : List Value). body_in_block c.args.code.now c.line_of.result.now.block (room_of limits c.args.self.now.top) (a_value.Ref c.args.object ∷ xs) limits.turns) c.requires.twice in
     let items =
     c.push_reserved.ensures.items
     ∙ ap (λ (ms : List ℕ). c.args.self.now.past.items ++ entry c.args.number c.args.number (Fired c.args.chord c.args.object ms vs) ∷ []) c.copied.ensures
