@@ -120,7 +120,7 @@ serves_its_member p (x ∷ h) c f q s one r i call j t =
     ]
 
 -- the call that a firing serves is a pending message among its members, to a method with callers that wait
-served_member : (sync : ℕ → Bool) (h : List Entry) (o : Object) (js ms : List ℕ) (vs : List value.Value) (q : ℕ) → Takes h o js ms vs → served_among sync js ms ≡ Some q → (has q ms ≡ true) × ((m : Message) × (pending q h ≡ Some m) × (m.object ≡ o) × (sync m.method ≡ true))
+pub served_member : (sync : ℕ → Bool) (h : List Entry) (o : Object) (js ms : List ℕ) (vs : List value.Value) (q : ℕ) → Takes h o js ms vs → served_among sync js ms ≡ Some q → (has q ms ≡ true) × ((m : Message) × (pending q h ≡ Some m) × (m.object ≡ o) × (sync m.method ≡ true))
 served_member sync h o [] ms vs q t s = (let z : ◌≡◌ {A = Option ℕ} None (Some q) = s in cc)
 served_member sync h o (j ∷ js) [] vs q t s = absurd t
 served_member sync h o (j ∷ js) (i ∷ ms) vs q t s =

@@ -38,7 +38,7 @@ pub(crate) fn are_taken(
     past: &[Entry],
     object: Object,
     methods: &[u8],
-    members: &[u32],
+    members: &[u16],
     values: &[Value],
 ) -> bool
     ensures { IsTrue result ↔ Takes (reverse past.now) object methods.now members.now values.now }
@@ -48,7 +48,7 @@ pub(crate) fn are_taken(
     }
     let mut rest = values;
     for i in 0..members.len() {
-        match arguments_of(past, members[i], object, methods[i]) {
+        match arguments_of(past, u32::from(members[i]), object, methods[i]) {
             Some(arguments) if begins_with(rest, arguments.items()) => {
                 rest = &rest[arguments.items().len()..];
             }

@@ -46,10 +46,10 @@ fn is_called(entries: &[Entry], number: u32) -> bool
 }
 
 /// Whether one of these entries is a call.
-fn has_call(entries: &[Entry], numbers: &[u32]) -> bool
+fn has_call(entries: &[Entry], numbers: &[u16]) -> bool
     ensures { result ≡ list_any (λ n. call_in (slice_get entries.now n)) numbers.now }
 {
-    numbers.iter().any(|n| is_called(entries, *n))
+    numbers.iter().any(|n| is_called(entries, u32::from(*n)))
 }
 
 /// Whether the body serves a caller.

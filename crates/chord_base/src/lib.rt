@@ -1,5 +1,5 @@
 //! What a run is made of: texts, values, messages, entries and the journal, and what a run of the join machine is.
-//! Stands on: arrayvec (the members of a firing), itoa (texts of numbers). Used by: many crates.
+//! Stands on: itoa (texts of numbers). Used by: many crates.
 //! Promise: each value is within its limits by its type; `prefix` says how many of some entries are a run; `laws` says what
 //! is true of every run.
 //! Read `specs/` in the order of its `Lib.antt`: it is the language's meaning, and every theorem above cites it.

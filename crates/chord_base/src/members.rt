@@ -1,10 +1,8 @@
 //! The messages that a firing takes, by their numbers.
 #![tactic(auto)]
 
-ghost use Rattle.std.specs.Prelude.{◌≡◌, ℕ, ◌<◌, ◌≤◌, List, [], ◌∷◌, ◌++◌, length};
-ghost use Rattle.arrayvec.specs.ArrayVec.{array_vec_len};
+ghost use Rattle.std.specs.Prelude.{◌≡◌, ℕ, ◌<◌, ◌≤◌, List, [], ◌∷◌, ◌++◌, length, take};
 
-use arrayvec::ArrayVec;
 use std::marker::Model;
 
 /// The most headers of a chord, and so the most members of a firing.
@@ -12,18 +10,20 @@ pub const MAX_MEMBERS: usize = 8;
 
 /// At most eight numbers of messages, one for each method of a chord in header order.
 ///
-/// They stand in the value itself: a firing takes no memory.
+/// They stand in the value itself, which an entry of a journal holds: a firing takes no memory for them. A number takes two bytes, since a journal
+/// has at most 65,536 entries.
 #[derive(Drop)]
 pub struct Members {
-    numbers: ArrayVec<u32, MAX_MEMBERS>,
+    count: u8,
+    numbers: [u16; MAX_MEMBERS],
 }
 
 impl Model for Members {
     ghost Value = { List ℕ };
 
-    ghost view = { λ m. m.numbers.items };
+    ghost view = { λ m. take m.count m.numbers };
 
-    ghost invariant = { λ m. length m.numbers.items ≤ 8 };
+    ghost invariant = { λ m. m.count ≤ 8 };
 }
 
 impl Members {
@@ -32,34 +32,37 @@ impl Members {
         ensures { result ≡ [] }
     {
         Members {
-            numbers: ArrayVec::new(),
+            count: 0,
+            numbers: [0; MAX_MEMBERS],
         }
     }
 
     /// Adds a member at the end.
-    pub fn push(&mut self, number: u32)
+    #[inline]
+    pub fn push(&mut self, number: u16)
         requires { length self.old < 8 }
         ensures { self.new ≡ self.old ++ number ∷ [] }
     {
-        self.numbers.push(number);
+        self.numbers[self.count as usize] = number;
+        self.count += 1;
     }
 
     /// The members.
-    pub fn items(&self) -> &[u32]
+    #[inline]
+    pub fn items(&self) -> &[u16]
         ensures numbers { result.now ≡ self.now }
         ensures few { length self.now ≤ 8 }
     {
-        self.numbers.as_slice()
+        &self.numbers[..self.count as usize]
     }
 
     /// An equal list.
     pub fn copied(&self) -> Members
         ensures { result ≡ self.now }
     {
-        let mut copy = Members::new();
-        for number in self.numbers.as_slice() {
-            copy.push(*number);
+        Members {
+            count: self.count,
+            numbers: self.numbers,
         }
-        copy
     }
 }

@@ -8,10 +8,10 @@ ghost use Rattle.chord_base.specs.Messages.{has, members_of, message_of, pending
 use crate::event::{Entry, What};
 
 /// Whether the number stands among these.
-fn stands_among(number: u32, members: &[u32]) -> bool
+fn stands_among(number: u32, members: &[u16]) -> bool
     ensures { result ≡ list_any (λ member. number == member) members.now }
 {
-    members.iter().any(|member| number == *member)
+    members.iter().any(|member| number == u32::from(*member))
 }
 
 /// Whether the entry takes this message.

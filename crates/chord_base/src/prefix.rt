@@ -23,7 +23,7 @@ use crate::value::{Object, Value};
 use std::alloc::{AllocError, Global};
 
 /// Of the members, the one that stands at the first synchronous method.
-fn served_of<M: Meaning>(meaning: &M, class: u16, methods: &[u8], members: &[u32]) -> Option<u32>
+fn served_of<M: Meaning>(meaning: &M, class: u16, methods: &[u8], members: &[u16]) -> Option<u32>
     ensures { result ≡ served_among ((M.program meaning.now).is_sync class) methods.now members.now }
 {
     for i in 0..methods.len() {
@@ -31,7 +31,7 @@ fn served_of<M: Meaning>(meaning: &M, class: u16, methods: &[u8], members: &[u32
             return None;
         }
         if meaning.is_sync(class, methods[i]) {
-            return Some(members[i]);
+            return Some(u32::from(members[i]));
         }
     }
     None

@@ -86,7 +86,7 @@ pub fn read_members(count: u32, bytes: &[u8]) -> Result<(Members, &[u8]), LineFa
     let mut rest = bytes;
     for _ in 0..count {
         let (number, more) = read_next_number(rest)?;
-        members.push(number);
+        members.push(number as u16);
         rest = more;
     }
     Ok((members, rest))

@@ -14,6 +14,7 @@ use Rattle.chord_base.specs.Machine.{Takes, Fires}
 use Rattle.chord_base.specs.Story.{IsDefined, IsSound, AllBelow, grown}
 use Rattle.chord_base.proofs.Waits.{either}
 use Rattle.chord_base.proofs.Merged.{merged_fire, merged_story}
+use Rattle.chord_base.proofs.Calls.{served_member}
 use Rattle.chord_base.proofs.Firings.{members_differ}
 use Rattle.chord_code.specs.declared.parts.Parts.{Parts}
 use Rattle.chord_code.specs.Meaning.{code_program}
@@ -44,19 +45,6 @@ firing_held code limits bodies h k o ms vs s f = takes_held (views bodies.tasks.
 -- the messages that a firing takes are different
 pub firing_different : (code : Parts) (limits : Limits) (h : List Entry) (k : ℕ) (o : Object) (ms : List ℕ) (vs : List Value) → IsValid code → Fires (code_program code limits) h k o ms vs → AreDifferent ms
 firing_different code limits h k o ms vs valid f = members_differ (code_program code limits) h k o f.0 ms vs f.1 (valid_different code valid o.class k f.0 f.1) f
-
--- the call that a firing serves is one of its members, and it is pending
-served_member : (sync : ℕ → Bool) (h : List Entry) (o : Object) (js ms : List ℕ) (vs : List Value) (q : ℕ) → Takes h o js ms vs → served_among sync js ms ≡ Some q → (has q ms ≡ true) × ((m : Message) × (pending q h ≡ Some m) × (m.object ≡ o) × (sync m.method ≡ true))
-served_member sync h o [] ms vs q t e = nothing_some q e
-served_member sync h o (j ∷ js) [] vs q t e = absurd t
-served_member sync h o (j ∷ js) (i ∷ ms) vs q t e =
-    elim (either (sync j)) [
-      | inl y ↦
-          (let z : Some i ≡ Some q = rw y at e in
-          let w : i ≡ q = cc in
-          (subst (λ x. has q (x ∷ ms) ≡ true) (sym w) (has_first q ms), (record { object = o; method = j; arguments = t.0 }, subst (λ d. pending d h ≡ Some (record { object = o; method = j; arguments = t.0 })) w t.2, refl, y)))
-      | inr d ↦ (let r = served_member sync h o js ms t.1 q t.4 (rw d at e) in (has_later q i ms r.0, r.1))
-    ]
 
 -- in a sound program a task that begins the body of a firing stays defined
 fire_defined : (code : Parts) (limits : Limits) (bodies : CodeBodies) (h : List Entry) (n i k : ℕ) (o : Object) (ms : List ℕ) (vs : List Value) (t : Task) → IsSound (code_program code limits) → StandsAfter code limits bodies h → length h ≡ n → Fires (code_program code limits) h k o ms vs → views bodies.tasks.items i ≡ (view_of t).past → BeginsDefined (code_program code limits) (view_of t) n k o ms vs

@@ -15,7 +15,7 @@ use std::mem;
 #[derive(Drop)]
 struct ClassStacks {
     class: u16,
-    stacks: Vec<Vec<u32>>,
+    stacks: Vec<Vec<u16>>,
 }
 
 /// A message: what it is to, and its number.
@@ -23,7 +23,7 @@ struct ClassStacks {
 struct Noted {
     object: Object,
     method: u8,
-    number: u32,
+    number: u16,
 }
 
 /// The numbers of the messages that no firing has taken, by object, class and method. An object has one class; that it does is not asked for here.
@@ -50,9 +50,9 @@ fn lengthen<T: Drop>(alloc: Global, lists: &mut Vec<Vec<T>>, count: usize) -> Re
 #[inline(always)]
 fn push_on(
     alloc: Global,
-    stacks: &mut Vec<Vec<u32>>,
+    stacks: &mut Vec<Vec<u16>>,
     method: u8,
-    number: u32,
+    number: u16,
 ) -> Result<(), AllocError>
     ensures { OnOk result ((j : ℕ) → stacked_at stacks.new.items j ≡ (if method == j then number ∷ stacked_at stacks.old.items j else stacked_at stacks.old.items j)) }
 {
@@ -63,7 +63,7 @@ fn push_on(
 }
 
 /// Takes the number on top of the stack of a method.
-fn pop_from(stacks: &mut Vec<Vec<u32>>, method: u8) -> u32
+fn pop_from(stacks: &mut Vec<Vec<u16>>, method: u8) -> u16
     requires { (n : ℕ) × (ns : List ℕ) × (stacked_at stacks.old.items method ≡ n ∷ ns) }
     ensures here { stacked_at stacks.old.items method ≡ result ∷ stacked_at stacks.new.items method }
     ensures others { (j : ℕ) → (method == j) ≡ false → stacked_at stacks.new.items j ≡ stacked_at stacks.old.items j }
@@ -88,7 +88,7 @@ fn place_of(classes: &[ClassStacks], class: u16) -> Option<usize>
 }
 
 /// The stack of a method of a class, newest last.
-fn stack_in(classes: &[ClassStacks], class: u16, method: u8) -> &[u32]
+fn stack_in(classes: &[ClassStacks], class: u16, method: u8) -> &[u16]
     ensures { reverse result.now ≡ numbers_in classes.now class method }
 {
     match place_of(classes, class) {
@@ -106,7 +106,7 @@ fn note_in(
     classes: &mut Vec<ClassStacks>,
     class: u16,
     method: u8,
-    number: u32,
+    number: u16,
 ) -> Result<(), AllocError>
     ensures { OnOk result ((c j : ℕ) → numbers_in classes.new.items c j ≡ (if (class == c) && (method == j) then number ∷ numbers_in classes.old.items c j else numbers_in classes.old.items c j)) }
 {
@@ -122,7 +122,7 @@ fn note_in(
 }
 
 /// Takes the number on top of the stack of a method of a class.
-fn take_in(classes: &mut Vec<ClassStacks>, class: u16, method: u8) -> u32
+fn take_in(classes: &mut Vec<ClassStacks>, class: u16, method: u8) -> u16
     requires { (n : ℕ) × (ns : List ℕ) × (numbers_in classes.old.items class method ≡ n ∷ ns) }
     ensures here { numbers_in classes.old.items class method ≡ result ∷ numbers_in classes.new.items class method }
     ensures others { (c j : ℕ) → ((class == c) && (method == j)) ≡ false → numbers_in classes.new.items c j ≡ numbers_in classes.old.items c j }
@@ -165,7 +165,7 @@ fn has_on(objects: &[Vec<ClassStacks>], object: Object, method: u8) -> bool
 }
 
 /// Takes the message on top of the stack of this method of this object.
-fn take_on(objects: &mut Vec<Vec<ClassStacks>>, object: Object, method: u8) -> u32
+fn take_on(objects: &mut Vec<Vec<ClassStacks>>, object: Object, method: u8) -> u16
     requires { HasMessage object method (stacked_by objects.old.items) }
     ensures { IsPopped (address_to object method) result (stacked_by objects.old.items) (stacked_by objects.new.items) }
 {
@@ -187,7 +187,7 @@ fn is_newest_to(newest: &Option<Noted>, object: Object, method: u8) -> bool
 }
 
 /// Takes the newest message, which stands apart.
-fn take_newest(newest: &mut Option<Noted>) -> u32
+fn take_newest(newest: &mut Option<Noted>) -> u16
     requires { newest.old ≢ None }
     ensures taken { (noted : ANoted) × (newest.old ≡ Some noted) × (result ≡ noted.number) }
     ensures none { newest.new ≡ None }
@@ -215,7 +215,7 @@ impl Bag {
         alloc: Global,
         object: Object,
         method: u8,
-        number: u32,
+        number: u16,
     ) -> Result<(), AllocError>
         ensures { OnOk result (IsPushed (address_to object method) number (numbers_of self.old) (numbers_of self.new)) }
     {
@@ -256,7 +256,7 @@ impl Bag {
     }
 
     /// Takes the newest message to this method of this object.
-    fn take(&mut self, object: Object, method: u8) -> u32
+    fn take(&mut self, object: Object, method: u8) -> u16
         requires { HasMessage object method (numbers_of self.old) }
         ensures { IsPopped (address_to object method) result (numbers_of self.old) (numbers_of self.new) }
     {

@@ -327,13 +327,13 @@ fn is_sync(code: &Code, class: u16, method: u8) -> bool
 }
 
 /// The call that a firing of these methods and members serves.
-pub fn served_by(code: &Code, class: u16, methods: &[u8], numbers: &[u32]) -> Option<u32>
+pub fn served_by(code: &Code, class: u16, methods: &[u8], numbers: &[u16]) -> Option<u32>
     requires { length methods.now ≡ length numbers.now }
     ensures { result ≡ served_among (method_is_sync code.now class) methods.now numbers.now }
 {
     for (i, method) in methods.iter().enumerate() {
         if is_sync(code, class, *method) {
-            return Some(numbers[i]);
+            return Some(u32::from(numbers[i]));
         }
     }
     None
@@ -405,7 +405,7 @@ fn take_all_held(
     alloc: Global,
     tasks: &[Task],
     tags: &mut Vec<Tag>,
-    members: &[u32],
+    members: &[u16],
     values: &mut Values,
 ) -> Result<(), AllocError>
     requires held { AllHeld (views tasks.now) tags.old.items members.now }
@@ -416,7 +416,7 @@ fn take_all_held(
     ensures rest { OnOk result (EmptiedAll members.now tags.old.items tags.new.items) }
 {
     for number in members {
-        take_arguments(alloc, tasks, tags, *number, values)?;
+        take_arguments(alloc, tasks, tags, u32::from(*number), values)?;
     }
     Ok(())
 }

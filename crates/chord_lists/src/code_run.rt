@@ -65,11 +65,11 @@ fn note_entry(alloc: Global, bag: &mut Bag, entry: &Entry) -> Result<(), AllocEr
 {
     match &entry.what {
         What::Sent(object, method, _) => {
-            bag.note(alloc, *object, *method, entry.number)?;
+            bag.note(alloc, *object, *method, entry.number as u16)?;
             Ok(())
         }
         What::Called(object, method, _) => {
-            bag.note(alloc, *object, *method, entry.number)?;
+            bag.note(alloc, *object, *method, entry.number as u16)?;
             Ok(())
         }
         _ => Ok(()),

@@ -135,7 +135,7 @@ fn take_turn<P: Playable>(
         Turn::Over => Ok(Step::Done),
         Turn::Plain => Ok(Step::Idle),
         Turn::Message(object, method) => {
-            bag.note(alloc, object, method, number)?;
+            bag.note(alloc, object, method, number as u16)?;
             Ok(Step::Fresh(object))
         }
     }

@@ -52,7 +52,7 @@ impl<P: Drop> Receive<P> for Hand<P> {
 fn hand_out<P: Carry + Drop, H: Receive<P>>(
     space: &Space<P>,
     desk: &mut Desk<P>,
-    members: &[u32],
+    members: &[u16],
     hand: &mut H,
 )
     requires desk { IsDeskOf space.now desk.old }
@@ -63,7 +63,7 @@ fn hand_out<P: Carry + Drop, H: Receive<P>>(
         → (qs : List P) × H.holds hand.new (ps ++ qs) × Handed P.entries P.arguments (λ q. P.keeps_to q (space_code space.now) (space_limits space.now)) (program_of space.now) (view desk.old) (view desk.new) o js members.now f us qs }
 {
     if let Some((i, rest)) = members.split_first() {
-        let parcel = space.consume(desk, *i);
+        let parcel = space.consume(desk, u32::from(*i));
         hand.receive(parcel);
         hand_out(space, desk, rest, hand);
     }

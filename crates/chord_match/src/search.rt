@@ -139,7 +139,7 @@ fn gather<P: Carry>(
     for method in methods {
         match pick_member(space, desk, object, own, *method, known) {
             Pick::Take(i, next) => {
-                members.push(i);
+                members.push(i as u16);
                 nexts.push(next);
             }
             Pick::Stuck(busy) => return Step::Stuck(busy),

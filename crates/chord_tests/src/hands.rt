@@ -404,7 +404,7 @@ fn match_y(
 }
 
 /// Whether these are the members.
-fn are(members: &Members, i: u32, j: u32) -> bool {
+fn are(members: &Members, i: u16, j: u16) -> bool {
     let items = members.items();
     items.len() == 2 && items[0] == i && items[1] == j
 }
