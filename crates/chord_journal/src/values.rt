@@ -1,5 +1,5 @@
 //! Reading values and numbers that stand behind blanks.
-ghost use Rattle.std.specs.Prelude.{◌≡◌, ℕ, ◌≤◌};
+ghost use Rattle.std.specs.Prelude.{◌≡◌, ℕ, ◌<◌, ◌≤◌, IfOk};
 ghost use Rattle.chord_journal.specs.Reading.{ReadsAs, value_at, next_value_at, values_at, next_number_at, numbers_at};
 ghost use Rattle.chord_journal.specs.Reading as reading;
 
@@ -71,7 +71,8 @@ pub fn read_values(alloc: Global, most: usize, bytes: &[u8]) -> Result<(Values, 
 
 /// A number below 65,536 behind a blank.
 fn read_next_number(bytes: &[u8]) -> Result<(u32, &[u8]), LineFault>
-    ensures { ReadsAs (λ x. (x.0, x.1.now)) result (next_number_at bytes.now) }
+    ensures read { ReadsAs (λ x. (x.0, x.1.now)) result (next_number_at bytes.now) }
+    ensures below { IfOk result (λ x. x.0 < 65536) }
 {
     let rest = after(bytes, b" ")?;
     read_number(rest, 65_536)

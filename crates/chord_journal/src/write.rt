@@ -142,7 +142,7 @@ fn put_members<K: Sink>(pen: &mut Pen, sink: &mut K, members: &Members)
 {
     for number in members.items() {
         pen.put(sink, b" ");
-        put_number(pen, sink, u32::from(*number));
+        put_number(pen, sink, *number as u32);
     }
 }
 

@@ -107,7 +107,7 @@ all_none (suc n) zero = refl
 all_none (suc n) (suc q) = all_none n q
 
 -- m was read pending, and nothing is known of the bags
-stands_read : (n : ℕ) (v u : View) (o : Object) (own : Own) → IsLook n v u own.message (record { cell = Pending; next = own.next }) → own.message < n → (d : Duty) × HasDuty d v.duties × (d.message ≡ own.message) × (d.bag ≡ key o own.method) → Searching n u u o own (replicate 16 None)
+pub stands_read : (n : ℕ) (v u : View) (o : Object) (own : Own) → IsLook n v u own.message (record { cell = Pending; next = own.next }) → own.message < n → (d : Duty) × HasDuty d v.duties × (d.message ≡ own.message) × (d.bag ≡ key o own.method) → Searching n u u o own (replicate 16 None)
 stands_read n v u o own look low d = record {
   sought = record { grows = record { ways = []; looks = []; more_ways = refl; more_seen = refl; only = record { frame = refl; duties = refl } }; once = tt };
   listed = λ k h. let z : false ≡ true = h in absurd (cc);

@@ -29,7 +29,7 @@ fn give_back_first<P: Carry>(space: &Space<P>, desk: &mut Desk<P>, members: &Mem
     ensures missed { (o : Object) (chord : ℕ) (xs : List (Option ℕ)) (v u : View) (x : a_miss.Missed) → o.number < 65536 → ChordsAreRight (program_of space.now) → WereClaimed space.now.events (program_of space.now) v o chord members.now xs many u → IsMissed space.now.events u (view desk.old) members.now xs many x → IsMissed space.now.events v (view desk.new) members.now xs 0 x }
 {
     if many > 0 {
-        space.give_back(desk, u32::from(members.items()[many - 1]));
+        space.give_back(desk, members.items()[many - 1] as u32);
         give_back_first(space, desk, members, many - 1);
     }
 }
@@ -51,7 +51,7 @@ pub fn take_members<P: Carry>(
 {
     let items = members.items();
     for at in 0..items.len() {
-        let i = u32::from(items[at]);
+        let i = items[at] as u32;
         match space.claim(desk, i, nexts.items()[at]) {
             Ok(()) => {}
             Err(_) => {

@@ -63,7 +63,7 @@ fn hand_out<P: Carry + Drop, H: Receive<P>>(
         → (qs : List P) × H.holds hand.new (ps ++ qs) × Handed P.entries P.arguments (λ q. P.keeps_to q (space_code space.now) (space_limits space.now)) (program_of space.now) (view desk.old) (view desk.new) o js members.now f us qs }
 {
     if let Some((i, rest)) = members.split_first() {
-        let parcel = space.consume(desk, u32::from(*i));
+        let parcel = space.consume(desk, *i as u32);
         hand.receive(parcel);
         hand_out(space, desk, rest, hand);
     }

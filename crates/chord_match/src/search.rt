@@ -132,6 +132,7 @@ fn gather<P: Carry>(
     requires desk { IsDeskOf space.now desk.old }
     requires bounds { (object.number < space.now.events) × (object.class < 1024) }
     requires methods { (j : ℕ) → has j methods.now ≡ true → j < heads space.now }
+    requires searching { (v : View) × Searching space.now.events v (view desk.old) object own.now (all_told known.old) }
     requires room { (length members.old + length methods.now ≤ 8) × (length nexts.old + length methods.now ≤ 8) }
     ensures desk { IsSameDesk desk.old desk.new }
     ensures gathered { (v : View) → Searching space.now.events v (view desk.old) object own.now (all_told known.old) → Gathered space.now.events v (view desk.old) (view desk.new) object own.now methods.now (all_told known.old) (all_told known.new) members.old members.new nexts.old nexts.new result }
@@ -181,6 +182,7 @@ fn through<P: Carry>(
 ) -> Verdict
     requires desk { IsDeskOf space.now desk.old }
     requires bounds { (object.number < space.now.events) × (object.class < 1024) }
+    requires searching { (v : View) × Searching space.now.events v (view desk.old) object own.now (all_told known.old) }
     requires none { (members.old ≡ []) × (nexts.old ≡ []) }
     requires lines { (length lines.now ≤ 256) × ((k : ℕ) (js : List ℕ) → slice_get (map methods_of lines.now) k ≡ Some js → ((j : ℕ) → has j js ≡ true → j < heads space.now) × (length js ≤ 8)) }
     ensures desk { IsSameDesk desk.old desk.new }

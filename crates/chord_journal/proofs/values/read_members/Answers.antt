@@ -16,14 +16,14 @@ returns-in_err-number c =
     let failed = err_from_is_err_and c.from_residual.result c.from_residual.ensures.1 in
     rw (failed.1, failed.2)
     (Fails-whole _ (next_number_at c.loop.rest.now) (numbers_at c.args.count c.args.bytes.now)
-    (λ wrong. sym c.loop.invariant.read ∙ numbers_wrong c.args.count _ _ (omega (arith, c.loop.invariant.counted, c.loop-test.true)) wrong) c.in_err-number.ensures)
+    (λ wrong. sym c.loop.invariant.read ∙ numbers_wrong c.args.count _ _ (omega (arith, c.loop.invariant.counted, c.loop-test.true)) wrong) c.in_err-number.ensures.read)
 
 pub loop-preserved : goal.loop-preserved
 loop-preserved c =
     rw c.push.ensures
     (record {
       counted = omega (arith, c.loop.invariant.counted, length-append c.loop.members (c.in_ok-number.number ∷ []));
-      read = numbers_next c.args.count _ _ _ _ (omega (arith, c.loop.invariant.counted, c.loop-test.true)) c.in_ok-number.ensures ∙ c.loop.invariant.read;
+      read = numbers_next c.args.count _ _ _ _ (omega (arith, c.loop.invariant.counted, c.loop-test.true)) c.in_ok-number.ensures.read ∙ c.loop.invariant.read;
     })
 
 pub returns : goal.returns

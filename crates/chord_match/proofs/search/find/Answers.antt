@@ -5,6 +5,8 @@ use Rattle.chord_code.specs.Laws.{ChordsAreRight}
 use Rattle.chord_code.specs.Meaning.{methods_of, chord_lines, code_program}
 use Rattle.chord_rule.specs.Made.{key}
 use Rattle.chord_rule.specs.Kinds.{is_down}
+use Rattle.chord_rule.specs.Tells.{IsLook}
+use Rattle.chord_word.specs.declared.cells.Cell.{Cell}
 use Rattle.chord_space.specs.Desks.{view, program_of, space_limits}
 use Rattle.chord_space.specs.Widest.{widest}
 use Rattle.chord_space.proofs.Widths.{chord_within}
@@ -12,7 +14,7 @@ use Rattle.chord_match.specs.declared.search.Verdict.{Verdict}
 use Rattle.chord_match.specs.declared.search.Verdict.TheVariants as a_verdict
 use Rattle.chord_match.specs.Noting.{all_told}
 use Rattle.chord_match.proofs.Chords.{length_mapped}
-use Rattle.chord_match.proofs.Finds.{Tells, told_through, down_rests, claimed_by_another}
+use Rattle.chord_match.proofs.Finds.{Tells, told_through, stands_read, down_rests, claimed_by_another}
 use Rattle.chord_match.proofs.search.find.Given.{Over}
 use Rattle.chord_match.proofs.search.find.Goals.{After-through}
 use Rattle.chord_match.proofs.search.find.Goals as goal
@@ -24,6 +26,12 @@ through-requires-clause-lines g c =
     let same : map methods_of lines ≡ p.chords o.class = ap (map methods_of) (c.lines_of-lines.ensures.lines ∙ ap (λ (z : Parts). chord_lines z o.class) c.requires.code) in
     let few = right.few_chords o.class in let mapped = length_mapped lines in let long = ap length same in
     (omega (arith, few, mapped, long), (λ k js e. let here : slice_get (p.chords o.class) k ≡ Some js = ap (λ (z : List (List ℕ)). slice_get z k) (sym same) ∙ e in ((λ j y. subst (λ (z : Parts). j < widest z) c.requires.code (chord_within c.args.code.now c.lines_of-lines.ensures.valid o.class k j js (ap (λ (z : List ChordLine). slice_get (map methods_of z) k) (sym c.lines_of-lines.ensures.lines) ∙ e) y)), right.few_headers o.class k js here)))
+
+pub through-requires-clause-searching : goal.through-requires-clause-searching
+through-requires-clause-searching g c =
+    let s = c.args.space.now in let u = view c.look_cell-word.new.desk in let word = c.look_cell-word.result in
+    let look = subst (λ (z : Cell). IsLook s.events (view c.args.desk.now) u c.args.m (record { cell = z; next = word.next })) c.in-Pending.is c.look_cell-word.ensures.looked in
+    (u, stands_read s.events (view c.args.desk.now) u c.args.object (record { message = c.args.m; method = c.args.method; next = word.next }) look c.requires.bounds.0 c.requires.duty)
 
 pub rest-requires-clause-may : goal.rest-requires-clause-may
 rest-requires-clause-may g c =

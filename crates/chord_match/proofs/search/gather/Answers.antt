@@ -20,6 +20,14 @@ pub pick_member-requires-clause-bounds : goal.pick_member-requires-clause-bounds
 pick_member-requires-clause-bounds g c =
     let js = c.args.methods.now in let k = c.loop-method.method-index in (c.requires.bounds.0, c.requires.bounds.1, c.requires.methods (slice_index_or js k 0) (has_at js k c.loop-method-test.true))
 
+-- a member is a message of the table
+pub overflow_cast-i : goal.overflow_cast-i
+overflow_cast-i g c =
+    let js = c.args.methods.now in let k = c.loop-method.method-index in let s = c.requires.searching in let part = c.loop-method.invariant.3 s.0 s.1 in
+    let picked = subst (λ (p : Pick). Picked c.args.space.now.events s.0 (view c.loop-method.desk) (view c.pick_member.new.desk) c.args.object c.args.own.now (slice_index_or js k 0) (all_told c.loop-method.known) (all_told c.pick_member.new.known) p) c.in-Take.is (c.pick_member.ensures.picked s.0 part.stands) in
+    let low = picked.picked.1.below in let few = c.args.space.now.sized.4 in
+    omega (arith, low, few)
+
 pub loop-method-preserved : goal.loop-method-preserved
 loop-method-preserved g c =
     let js = c.args.methods.now in let k = c.loop-method.method-index in let i = c.loop-method.invariant in

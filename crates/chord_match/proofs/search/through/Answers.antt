@@ -21,6 +21,10 @@ gather-requires-clause-room g c =
     let members = ap length c.loop-at.invariant.3 in let nexts = ap length c.loop-at.invariant.4 in
     (omega (arith, few, members), omega (arith, few, nexts))
 
+-- the search goes on from chord to chord
+pub gather-requires-clause-searching : goal.gather-requires-clause-searching
+gather-requires-clause-searching g c = let s = c.requires.searching in (s.0, (c.loop-at.invariant.2 s.0 s.1).0)
+
 pub returns-in-All-clause-through : goal.returns-in-All-clause-through
 returns-in-All-clause-through g c v t =
     let i = c.loop-at.invariant in let s = (i.2 v t).0 in
