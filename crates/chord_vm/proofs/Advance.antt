@@ -1,5 +1,5 @@
 -- From one instruction to the next ask.
-use Rattle.std.proofs.Common.{◌≡◌, ℕ, zero, suc, ◌<◌, List, [], ◌∷◌, Option, Some, None, length, get_or, refl, sym, ◌∙◌, ap, arith, ⊎_elim}
+use Rattle.std.proofs.Common.{◌≡◌, ℕ, ℤ, zero, suc, ◌+◌, ◌<◌, List, [], ◌∷◌, Option, Some, None, length, get_or, refl, sym, ◌∙◌, ap, arith, ⊎_elim}
 use Rattle.std.specs.Prelude.{slice_get}
 use Rattle.std.proofs.lemmas.Option.{slice_get_past}
 use Rattle.std.proofs.lemmas.Bool.{cases_lt}
@@ -8,11 +8,13 @@ use Rattle.chord_base.specs.declared.event.What.TheVariants.{Made, Sent, Called,
 use Rattle.chord_vm.specs.declared.ask.Ask.{Ask}
 use Rattle.chord_vm.specs.declared.ask.Ask.TheVariants as ask
 use Rattle.chord_code.specs.declared.instruction.Instruction.{Instruction}
+use Rattle.chord_code.specs.declared.instruction.Instruction.TheVariants as instr
+use Rattle.chord_base.specs.declared.value.Value.TheVariants as a_value
 use Rattle.chord_code.specs.declared.parts.Block.{Block}
 use Rattle.chord_code.specs.declared.parts.Parts.{Parts}
 use Rattle.chord_vm.specs.declared.frames.Frames.{Frames}
 use Rattle.chord_code.specs.Machine.{Machine, Waiting, Did, Goes, Asking, Bad, instr_in, fetch, act, step, goes_on, run, ComesTo, ComesToAsk}
-use Rattle.chord_vm.specs.Frames.{machine_of, waiting_of, SteppedTo, HasStepped, Advanced, instructions_of, instructions_in}
+use Rattle.chord_vm.specs.Frames.{machine_of, waiting_of, SteppedTo, HasStepped, Advanced, instructions_of, instructions_in, pushed}
 use Rattle.chord_vm.specs.declared.step.After.{After}
 use Rattle.chord_vm.specs.declared.step.After.TheVariants as steps
 
@@ -136,3 +138,12 @@ place_at code m xs d e =
 -- the instruction of the machine's place
 pub fetched : (code : Parts) (m : Machine) (xs : List Instruction) (x : Instruction) → ComesToAsk code m → instructions_in code m.top.block ≡ Some xs → x ≡ get_or xs m.top.place x → fetch code m.top.block m.top.place ≡ Some x
 fetched code m xs x d e f = fetch_at code m xs e ∙ get_at xs m.top.place x (place_at code m xs d e) f
+
+-- the machine whose instruction pushes a number
+pub number_pushed : (code : Parts) (m : Machine) (n : ℤ) → fetch code m.top.block m.top.place ≡ Some (instr.Int n) → step code m ≡ Goes (pushed (a_value.Int n) m)
+number_pushed code m n e = ap (λ o. act code o m) e
+
+-- the place behind it is in the code
+pub place_behind : (code : Parts) (m : Machine) (xs : List Instruction) (n : ℤ) → ComesToAsk code m → instructions_in code m.top.block ≡ Some xs → fetch code m.top.block m.top.place ≡ Some (instr.Int n) → m.top.place + 1 < length xs
+place_behind code m xs n d h e =
+    let r : suc m.top.place < length xs = place_at code (pushed (a_value.Int n) m) xs (defined_on code m (pushed (a_value.Int n) m) (number_pushed code m n e) d) h in omega (arith, r)

@@ -1,13 +1,16 @@
 -- Slots that are set, and values that are taken off the stack.
 use Rattle.std.proofs.Common.{◌≡◌, ◌≢◌, ℕ, zero, suc, ◌+◌, ◌-◌, ◌<◌, ◌≤◌, List, [], ◌∷◌, ◌++◌, Option, Some, None, length, refl, sym, ◌∙◌, ap, arith, append_assoc, take, drop, length-drop, ⊎_elim, replicate}
-use Rattle.std.specs.Prelude.{slice_set, reverse}
+use Rattle.std.specs.Prelude.{slice_set, slice_index_or, reverse}
 use Rattle.std.proofs.lemmas.List.{take_all, reverse-append, length-reverse, take-append-drop}
 use Rattle.std.proofs.lemmas.Bool.{cases_lt}
 use Rattle.std.proofs.Math.Seq.{take-length}
 use Rattle.chord_base.specs.declared.value.Value.{Value}
 use Rattle.chord_base.specs.declared.value.Value.TheVariants as a_value
 use Rattle.chord_code.specs.Slots.{set_slot, with_first, first_slots}
-use Rattle.chord_code.specs.Machine.{Machine, Goes, Bad, with_top, stores, store_top, pops}
+use Rattle.chord_base.specs.declared.operation.Operation.{Operation}
+use Rattle.chord_base.specs.Operators.{Is, compute}
+use Rattle.chord_code.specs.Machine.{Machine, Goes, Bad, with_top, stores, store_top, pops, pushes, operate}
+use Rattle.chord_vm.specs.Frames.{frame_with, pushed}
 
 -- a slot that is there is set
 pub slots_set : (i : ℕ) (v : Value) (xs : List Value) → i < length xs → set_slot i v xs ≡ Some (slice_set xs i v)
@@ -110,3 +113,27 @@ pub slots_filled : (n : ℕ) (xs : List Value) → (first_slots n xs ≡ None �
 slots_filled n xs h =
     let le = slots_room n xs h in
     slots_of_fits n xs le ∙ ap (λ l. Some (l ++ replicate (n - length xs) a_value.Unit)) (sym (take_all n xs le))
+
+-- a list whose last item is set
+last_split : (xs : List Value) (i : ℕ) (x v : Value) → i + 1 ≡ length xs → x ≡ slice_index_or xs i x → (init : List Value) × (xs ≡ init ++ x ∷ []) × (slice_set xs i v ≡ init ++ v ∷ [])
+last_split [] i x v l e = absurd (omega (arith, l))
+last_split (y ∷ []) zero x v l e = ([], ap (λ z. z ∷ []) (sym e), refl)
+last_split (y ∷ []) (suc i) x v l e = absurd (omega (arith, l))
+last_split (y ∷ z ∷ ys) zero x v l e = absurd (omega (arith, l))
+last_split (y ∷ z ∷ ys) (suc i) x v l e =
+    let r = last_split (z ∷ ys) i x v (omega (arith, l)) e in (
+      y ∷ r.0,
+      ap (λ t. y ∷ t) r.1,
+      ap (λ t. y ∷ t) r.2,
+    )
+
+-- an operator whose left operand is set
+pub operated : (op : Operation) (m : Machine) (k : Value) (xs : List Value) (i p : ℕ) (x v : Value) → i + 1 ≡ length xs → x ≡ slice_index_or xs i x → compute op x k ≡ Is v → p ≡ suc (suc m.top.place) → operate op (pushed k m) (k ∷ reverse xs) ≡ Goes (record { top = frame_with m.top p (reverse (slice_set xs i v)) m.top.slots; below = m.below; turns = m.turns })
+operated op m k xs i p x v l e c q =
+    let t = last_split xs i x v l e in
+    let before : reverse xs ≡ x ∷ reverse t.0 = ap reverse t.1 ∙ reverse-append t.0 (x ∷ []) in
+    let after : reverse (slice_set xs i v) ≡ v ∷ reverse t.0 = ap reverse t.2 ∙ reverse-append t.0 (v ∷ []) in
+    ap (λ s. operate op (pushed k m) (k ∷ s)) before
+    ∙ ap (pushes (pushed k m) (reverse t.0)) c
+    ∙ ap (λ s. Goes (record { top = frame_with m.top (suc (suc m.top.place)) s m.top.slots; below = m.below; turns = m.turns })) (sym after)
+    ∙ ap (λ j. Goes (record { top = frame_with m.top j (reverse (slice_set xs i v)) m.top.slots; below = m.below; turns = m.turns })) (sym q)

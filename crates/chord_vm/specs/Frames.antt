@@ -1,5 +1,5 @@
 -- What the frames of a body stand for.
-use Rattle.std.specs.Prelude.{◌≡◌, ◌<◌, ◌≤◌, vec_len, vec_capacity, ℕ, List, [], ◌∷◌, ◌++◌, Bool, true, false, Option, Some, None, map, reverse, slice_get}
+use Rattle.std.specs.Prelude.{◌≡◌, ◌<◌, ◌≤◌, vec_len, vec_capacity, ℕ, suc, List, [], ◌∷◌, ◌++◌, Bool, true, false, Option, Some, None, map, reverse, slice_get}
 use Rattle.chord_vm.specs.declared.frames.Frame as declared_frame
 use Rattle.chord_vm.specs.declared.frames.Frames.{Frames}
 use Rattle.chord_vm.specs.declared.ask.Ask.{Ask}
@@ -7,6 +7,8 @@ use Rattle.chord_vm.specs.declared.ask.Ask.TheVariants as ask
 use Rattle.chord_vm.specs.declared.step.After.{After}
 use Rattle.chord_vm.specs.declared.step.After.TheVariants as steps
 use Rattle.chord_base.specs.declared.value.Value.{Value}
+use Rattle.chord_base.specs.declared.operation.Operation.{Operation}
+use Rattle.chord_base.specs.declared.operation.Operation.TheVariants as ops
 use Rattle.chord_base.specs.declared.event.What.{What}
 use Rattle.chord_base.specs.declared.event.What.TheVariants.{Made, Sent, Called, Printed, Ended}
 use Rattle.chord_code.specs.declared.awaited.Awaited.{Awaited}
@@ -71,6 +73,21 @@ instructions_in code b = instructions_of (slice_get code.blocks b)
 -- the frame at another place, with another stack and other slots
 abbrev pub frame_with : Frame → ℕ → List Value → List Value → Frame
 frame_with f p s vs = record { block = f.block; place = p; room = f.room; stack = s; slots = vs }
+
+-- the operators of two numbers that give a value always
+abbrev pub is_plain : Operation → Bool
+is_plain ops.Add = true
+is_plain ops.Subtract = true
+is_plain ops.Multiply = true
+is_plain ops.Less = true
+is_plain ops.LessOrEqual = true
+is_plain ops.Greater = true
+is_plain ops.GreaterOrEqual = true
+is_plain _ = false
+
+-- the machine whose instruction pushed a value
+abbrev pub pushed : Value → Machine → Machine
+pushed v m = record { top = frame_with m.top (suc m.top.place) (v ∷ m.top.stack) m.top.slots; below = m.below; turns = m.turns }
 
 -- the ask to which a machine comes, and the frames that wait for its answer
 abbrev pub Advanced : Parts → Machine → Ask → Frames → Type 0

@@ -172,6 +172,48 @@ fn fill_from(slots: &mut Vec<Value>, n: usize, this: Value, arguments: Hand<Valu
     pad(slots, rest);
 }
 
+/// Adds a copy of a value. A number is looked for first, and written where it comes to stand.
+#[inline(always)]
+fn lay_copy(alloc: Global, slots: &mut Vec<Value>, value: &Value) -> Result<(), AllocError>
+    requires { vec_len slots.old < vec_capacity slots.old }
+    ensures items { OnOk result (slots.new.items ≡ slots.old.items ++ value.now ∷ []) }
+    ensures len { OnOk result (vec_len slots.new ≡ vec_len slots.old + 1) }
+    ensures capacity { vec_capacity slots.new ≡ vec_capacity slots.old }
+{
+    match value {
+        Value::Int(number) => {
+            let number = *number;
+            slots.push_reserved(Value::Int(number));
+        }
+        _ => lay_other(alloc, slots, value)?,
+    }
+    Ok(())
+}
+
+/// Adds a copy of a value that may be a text.
+#[inline(never)]
+fn lay_other(alloc: Global, slots: &mut Vec<Value>, value: &Value) -> Result<(), AllocError>
+    requires { vec_len slots.old < vec_capacity slots.old }
+    ensures items { OnOk result (slots.new.items ≡ slots.old.items ++ value.now ∷ []) }
+    ensures len { OnOk result (vec_len slots.new ≡ vec_len slots.old + 1) }
+    ensures capacity { vec_capacity slots.new ≡ vec_capacity slots.old }
+{
+    slots.push_reserved(value.copied(alloc)?);
+    Ok(())
+}
+
+/// Drops all values, from the last to the first.
+#[inline(always)]
+fn clear(slots: &mut Vec<Value>)
+    ensures items { slots.new.items ≡ [] }
+    ensures len { vec_len slots.new ≡ 0 }
+    ensures capacity { vec_capacity slots.new ≡ vec_capacity slots.old }
+{
+    while !slots.is_empty() {
+        let _ = slots.take_last();
+    }
+}
+
 /// Adds a copy of each value.
 #[inline(always)]
 pub fn lay_copies(alloc: Global, slots: &mut Vec<Value>, values: &[Value]) -> Result<(), AllocError>
@@ -180,7 +222,7 @@ pub fn lay_copies(alloc: Global, slots: &mut Vec<Value>, values: &[Value]) -> Re
     ensures capacity { vec_capacity slots.new ≡ vec_capacity slots.old }
 {
     for value in values {
-        slots.push_reserved(value.copied(alloc)?);
+        lay_copy(alloc, slots, value)?;
     }
     Ok(())
 }
@@ -198,7 +240,7 @@ fn fill_with(
     requires room { n ≤ vec_capacity slots.old }
     ensures filled { OnOk result (first_slots n (this ∷ values.now) ≡ Some slots.new.items) }
 {
-    slots.truncate(0);
+    clear(slots);
     slots.push_reserved(this);
     lay_copies(alloc, slots, values)?;
     let rest = n - slots.len();
@@ -358,7 +400,7 @@ fn fill_moved(slots: &mut Vec<Value>, n: usize, this: Value, values: Values)
     requires room { n ≤ vec_capacity slots.old }
     ensures filled { first_slots n (this ∷ values) ≡ Some slots.new.items }
 {
-    slots.truncate(0);
+    clear(slots);
     slots.push_reserved(this);
     values.move_to(slots);
     let rest = n - slots.len();

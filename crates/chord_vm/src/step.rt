@@ -1,12 +1,12 @@
 //! The instructions of a block at work.
 #![tactic(auto)]
 
-ghost use Rattle.std.specs.Prelude.{◌≡◌, ◌≢◌, ℕ, suc, ◌+◌, ◌^◌, ◌<◌, ◌≤◌, Bool, false, List, [], ◌∷◌, Option, IfOk, OnOk, Some, None, length, slice_get, vec_len, vec_capacity};
+ghost use Rattle.std.specs.Prelude.{◌≡◌, ◌≢◌, ℕ, ℤ, suc, ◌+◌, ◌^◌, ◌<◌, ◌≤◌, Bool, true, false, List, [], ◌∷◌, Option, IfOk, IfSome, OnOk, Some, None, length, slice_get, vec_len, vec_capacity};
 ghost use Rattle.chord_base.specs.Operators.{Computed, Is, Trapped, Mistyped, compute as compute_of, text_of, negated, denied, IsComputed};
 ghost use Rattle.chord_code.specs.Valid.{IsValid};
 ghost use Rattle.chord_code.specs.Within.{IsInstructionWithin};
-ghost use Rattle.chord_code.specs.Machine.{Did, Goes, Asking, Bad, act, operate as operate_of, negates, denies, skips, again as again_of, if_deeper, makes_object, builder_of, init_by, fetch, ComesToAsk, loads, store_top, pops, pop_top, goes_back, send_by, call_by, print_top, end_with};
-ghost use Rattle.chord_vm.specs.Frames.{shown_frame, machine_of, HasStepped, frame_with, Advanced, IsMoved, changes_block, instructions_in};
+ghost use Rattle.chord_code.specs.Machine.{Machine, Did, Goes, step as step_of, Asking, Bad, act, operate as operate_of, negates, denies, skips, again as again_of, if_deeper, makes_object, builder_of, init_by, fetch, ComesToAsk, loads, store_top, pops, pop_top, goes_back, send_by, call_by, print_top, end_with};
+ghost use Rattle.chord_vm.specs.Frames.{shown_frame, machine_of, HasStepped, frame_with, Advanced, IsMoved, changes_block, instructions_in, is_plain, pushed};
 ghost use Rattle.chord_vm.specs.declared.frames.Frames.{Frames as TheFrames};
 ghost use Rattle.chord_vm.specs.declared.ask.Ask.{Ask as AnAsk};
 
@@ -379,6 +379,113 @@ fn operate(
     }
 }
 
+/// The operator of an instruction that takes two numbers and gives a value always.
+#[inline(always)]
+fn operator_of(instruction: &Instruction) -> Option<Operation>
+    ensures { IfSome result (λ operation. (is_plain operation ≡ true) × ((code : Parts) (m : Machine) → act code (Some instruction.now) m ≡ operate_of operation m m.top.stack)) }
+{
+    match instruction {
+        Instruction::Add => Some(Operation::Add),
+        Instruction::Sub => Some(Operation::Subtract),
+        Instruction::Mul => Some(Operation::Multiply),
+        Instruction::Lt => Some(Operation::Less),
+        Instruction::Le => Some(Operation::LessOrEqual),
+        Instruction::Gt => Some(Operation::Greater),
+        Instruction::Ge => Some(Operation::GreaterOrEqual),
+        _ => None,
+    }
+}
+
+/// The number that a value is.
+#[inline(always)]
+fn number_of(value: &Value) -> i32
+    requires { (n : ℤ) × (value.now ≡ Value.Int n) }
+    ensures { value.now ≡ Value.Int result }
+{
+    match value {
+        Value::Int(number) => *number,
+        _ => unreachable!(),
+    }
+}
+
+/// Another number comes in the place of a number. Nothing else of the value is written.
+#[inline(always)]
+fn set_number(value: &mut Value, number: i32)
+    requires { (n : ℤ) × (value.old ≡ Value.Int n) }
+    ensures { value.new ≡ Value.Int number }
+{
+    match value {
+        Value::Int(place) => *place = number,
+        _ => unreachable!(),
+    }
+}
+
+/// A truth value comes in the place of a number, of which there is nothing to drop.
+#[inline(always)]
+fn set_flag(value: &mut Value, flag: bool)
+    ensures { value.new ≡ Value.Flag flag }
+{
+    mem::forget(mem::replace(value, Value::Flag(flag)));
+}
+
+/// What an operator comes to stands where its left operand stood.
+#[inline(always)]
+fn compute_at(left: &mut Value, operation: Operation, right: i32)
+    requires plain { is_plain operation ≡ true }
+    requires sound { compute_of operation left.old (Value.Int right) ≢ Mistyped }
+    ensures { compute_of operation left.old (Value.Int right) ≡ Is left.new }
+{
+    let number = number_of(left);
+    match operation {
+        Operation::Add => set_number(left, number.wrapping_add(right)),
+        Operation::Subtract => set_number(left, number.wrapping_sub(right)),
+        Operation::Multiply => set_number(left, number.wrapping_mul(right)),
+        Operation::Less => set_flag(left, number < right),
+        Operation::LessOrEqual => set_flag(left, number <= right),
+        Operation::Greater => set_flag(left, number > right),
+        Operation::GreaterOrEqual => set_flag(left, number >= right),
+        _ => unreachable!(),
+    }
+}
+
+/// A number that would be pushed and taken at once by this operator goes to it straight.
+#[inline(always)]
+fn operate_top(frames: &mut Frames, operation: Operation, right: i32)
+    requires fits { frames.old.top.place + 2 < 2 ^ 64 }
+    requires plain { is_plain operation ≡ true }
+    requires sound { operate_of operation (pushed (Value.Int right) (machine_of frames.old)) (Value.Int right ∷ (machine_of frames.old).top.stack) ≢ Bad }
+    ensures goes { operate_of operation (pushed (Value.Int right) (machine_of frames.old)) (Value.Int right ∷ (machine_of frames.old).top.stack) ≡ Goes (machine_of frames.new) }
+    ensures block { frames.new.top.block ≡ frames.old.top.block }
+{
+    match frames.top.stack.last_mut() {
+        Some(left) => compute_at(left, operation, right),
+        None => unreachable!(),
+    }
+    frames.top.place += 2;
+}
+
+/// A number that would be pushed and taken at once by an operator goes to it straight: two instructions in one. Each operator goes its own
+/// way from the start, since what they share would be a second jump for all.
+#[inline(always)]
+fn operate_on(frames: &mut Frames, operation: Operation, right: i32)
+    requires fits { frames.old.top.place + 2 < 2 ^ 64 }
+    requires plain { is_plain operation ≡ true }
+    requires sound { operate_of operation (pushed (Value.Int right) (machine_of frames.old)) (Value.Int right ∷ (machine_of frames.old).top.stack) ≢ Bad }
+    ensures goes { operate_of operation (pushed (Value.Int right) (machine_of frames.old)) (Value.Int right ∷ (machine_of frames.old).top.stack) ≡ Goes (machine_of frames.new) }
+    ensures block { frames.new.top.block ≡ frames.old.top.block }
+{
+    match operation {
+        Operation::Add => operate_top(frames, Operation::Add, right),
+        Operation::Subtract => operate_top(frames, Operation::Subtract, right),
+        Operation::Multiply => operate_top(frames, Operation::Multiply, right),
+        Operation::Less => operate_top(frames, Operation::Less, right),
+        Operation::LessOrEqual => operate_top(frames, Operation::LessOrEqual, right),
+        Operation::Greater => operate_top(frames, Operation::Greater, right),
+        Operation::GreaterOrEqual => operate_top(frames, Operation::GreaterOrEqual, right),
+        _ => unreachable!(),
+    }
+}
+
 /// `skip`.
 #[inline(always)]
 fn skip(frames: &mut Frames, to: usize)
@@ -626,6 +733,25 @@ fn next<'a>(instructions: &'a [Instruction], parts: &Parts, frames: &Frames) -> 
     &instructions[frames.top.place]
 }
 
+/// The instruction behind one that pushes a number.
+#[inline(always)]
+fn following<'a>(
+    instructions: &'a [Instruction],
+    parts: &Parts,
+    frames: &Frames,
+    number: i32,
+) -> &'a Instruction
+    requires sound { ComesToAsk parts.now (machine_of frames.now) }
+    requires here { instructions_in parts.now frames.now.top.block ≡ Some instructions.now }
+    requires number { fetch parts.now frames.now.top.block frames.now.top.place ≡ Some (Instruction.Int number) }
+    ensures pushes { step_of parts.now (machine_of frames.now) ≡ Goes (pushed (Value.Int number) (machine_of frames.now)) }
+    ensures instruction { fetch parts.now frames.now.top.block (suc frames.now.top.place) ≡ Some result.now }
+    ensures fits { frames.now.top.place + 2 < 2 ^ 64 }
+{
+    let _count = instructions.len();
+    &instructions[frames.top.place + 1]
+}
+
 /// Runs to the next ask, which is put.
 #[inline(never)]
 fn run(
@@ -643,6 +769,14 @@ fn run(
     let mut instruction = next(instructions, parts, frames);
     // the next instruction is fetched where the loop ends: each arm of the step goes there by itself, and no test stands between
     'steps: loop {
+        if let Instruction::Int(number) = instruction {
+            let number = *number;
+            if let Some(operation) = operator_of(following(instructions, parts, frames, number)) {
+                operate_on(frames, operation, number);
+                instruction = next(instructions, parts, frames);
+                continue 'steps;
+            }
+        }
         match step(alloc, parts, frames, instruction, asked) {
             After::Goes => instruction = next(instructions, parts, frames),
             After::Moves => {

@@ -10,7 +10,7 @@ move_to-requires c =
     let one : vec_len c.push_reserved.new.self ≡ 1 = grind (arith, common_steps) in
     let room = c.requires.room in
     let same = c.push_reserved.ensures.capacity in
-    let same' = c.truncate.ensures.capacity in
+    let same' = c.clear.ensures.capacity in
     omega (arith, r, one, room, same, same')
 
 pub overflow_sub-rest : goal.overflow_sub-rest

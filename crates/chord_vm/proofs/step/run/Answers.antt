@@ -1,7 +1,9 @@
-use Rattle.std.proofs.Common.{◌≡◌, Some, ap, ◌∙◌, sym, subst}
-use Rattle.chord_code.specs.Machine.{act, step, Goes}
-use Rattle.chord_vm.specs.Frames.{machine_of, SteppedTo, instructions_in}
-use Rattle.chord_vm.proofs.Advance.{put_ask, went_to, moved_to, stepped_advanced, advanced_on, defined_on}
+use Rattle.std.proofs.Common.{◌≡◌, ◌<◌, Some, ap, ◌∙◌, sym, subst, arith, to_z, of_z, w32}
+use Rattle.chord_code.specs.Machine.{act, step, operate, Goes, ComesToAsk}
+use Rattle.chord_code.specs.Fuel.{weight}
+use Rattle.chord_vm.specs.Frames.{machine_of, SteppedTo, instructions_in, pushed}
+use Rattle.chord_base.specs.declared.value.Value.TheVariants as a_value
+use Rattle.chord_vm.proofs.Advance.{not_bad, put_ask, went_to, moved_to, stepped_advanced, advanced_on, defined_on}
 use Rattle.chord_vm.proofs.Stays.{stays}
 use Rattle.chord_code.proofs.Weight.{lighter}
 use Rattle.chord_code.proofs.Validity.{valid_forward}
@@ -89,4 +91,60 @@ steps-preserved c =
       fits = c.next-instruction-in-Moves.ensures.fits;
       defined = defined_on code m (machine_of c.step.new.frames) e c.steps.invariant.defined;
       goes_on = λ a f h. c.steps.invariant.goes_on a f (advanced_on code m (machine_of c.step.new.frames) a f e h);
+    }
+
+pub operate_on-requires-clause-sound : goal.operate_on-requires-clause-sound
+operate_on-requires-clause-sound c =
+    let code = c.args.parts.now in
+    let m = machine_of c.steps.frames in
+    let n = to_z w32 (of_z w32 c.in-Int.number) in
+    let between = pushed (a_value.Int n) m in
+    let d : ComesToAsk code between = defined_on code m between c.following.ensures.pushes c.steps.invariant.defined in
+    let e : step code between ≡ operate c.in-Some.operation between between.top.stack = ap (λ o. act code o between) c.following.ensures.instruction ∙ c.in-Some.ensures.1 code between in
+    λ b. not_bad code between d (e ∙ b)
+
+pub next-instruction-requires-in-Some-clause-here : goal.next-instruction-requires-in-Some-clause-here
+next-instruction-requires-in-Some-clause-here c = ap (instructions_in c.args.parts.now) c.operate_on.ensures.block ∙ c.steps.invariant.here
+
+pub next-instruction-requires-in-Some-clause-sound : goal.next-instruction-requires-in-Some-clause-sound
+next-instruction-requires-in-Some-clause-sound c =
+    let code = c.args.parts.now in
+    let m = machine_of c.steps.frames in
+    let n = to_z w32 (of_z w32 c.in-Int.number) in
+    let between = pushed (a_value.Int n) m in
+    let d : ComesToAsk code between = defined_on code m between c.following.ensures.pushes c.steps.invariant.defined in
+    let e : step code between ≡ operate c.in-Some.operation between between.top.stack = ap (λ o. act code o between) c.following.ensures.instruction ∙ c.in-Some.ensures.1 code between in
+    let g : step code between ≡ Goes (machine_of c.operate_on.new.frames) = e ∙ c.operate_on.ensures.goes in
+    defined_on code between (machine_of c.operate_on.new.frames) g d
+
+pub steps-smaller-in-Some : goal.steps-smaller-in-Some
+steps-smaller-in-Some c =
+    let code = c.args.parts.now in
+    let m = machine_of c.steps.frames in
+    let n = to_z w32 (of_z w32 c.in-Int.number) in
+    let between = pushed (a_value.Int n) m in
+    let d : ComesToAsk code between = defined_on code m between c.following.ensures.pushes c.steps.invariant.defined in
+    let e : step code between ≡ operate c.in-Some.operation between between.top.stack = ap (λ o. act code o between) c.following.ensures.instruction ∙ c.in-Some.ensures.1 code between in
+    let g : step code between ≡ Goes (machine_of c.operate_on.new.frames) = e ∙ c.operate_on.ensures.goes in
+    let forward = valid_forward code c.requires.valid in
+    let first : weight code between < weight code m = lighter code m between c.steps.instruction.now forward c.steps.invariant.fetched (ap (λ o. act code o m) (sym c.steps.invariant.fetched) ∙ c.following.ensures.pushes) in
+    let second : weight code (machine_of c.operate_on.new.frames) < weight code between = lighter code between (machine_of c.operate_on.new.frames) c.following.result.now forward c.following.ensures.instruction (c.in-Some.ensures.1 code between ∙ c.operate_on.ensures.goes) in
+    let both : weight code (machine_of c.operate_on.new.frames) < weight code m = omega (arith, first, second) in both
+
+pub steps-preserved-in-Some : goal.steps-preserved-in-Some
+steps-preserved-in-Some c =
+    let code = c.args.parts.now in
+    let m = machine_of c.steps.frames in
+    let n = to_z w32 (of_z w32 c.in-Int.number) in
+    let between = pushed (a_value.Int n) m in
+    let d : ComesToAsk code between = defined_on code m between c.following.ensures.pushes c.steps.invariant.defined in
+    let e : step code between ≡ operate c.in-Some.operation between between.top.stack = ap (λ o. act code o between) c.following.ensures.instruction ∙ c.in-Some.ensures.1 code between in
+    let g : step code between ≡ Goes (machine_of c.operate_on.new.frames) = e ∙ c.operate_on.ensures.goes in
+    record {
+      fetched = c.next-instruction-in-Some.ensures.instruction;
+      here = ap (instructions_in code) c.operate_on.ensures.block ∙ c.steps.invariant.here;
+      within = c.next-instruction-in-Some.ensures.within;
+      fits = c.next-instruction-in-Some.ensures.fits;
+      defined = defined_on code between (machine_of c.operate_on.new.frames) g d;
+      goes_on = λ a f h. c.steps.invariant.goes_on a f (advanced_on code m between a f c.following.ensures.pushes (advanced_on code between (machine_of c.operate_on.new.frames) a f g h));
     }
