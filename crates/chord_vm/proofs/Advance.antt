@@ -14,7 +14,7 @@ use Rattle.chord_code.specs.declared.parts.Block.{Block}
 use Rattle.chord_code.specs.declared.parts.Parts.{Parts}
 use Rattle.chord_vm.specs.declared.frames.Frames.{Frames}
 use Rattle.chord_code.specs.Machine.{Machine, Waiting, Did, Goes, Asking, Bad, instr_in, fetch, act, step, goes_on, run, ComesTo, ComesToAsk}
-use Rattle.chord_vm.specs.Frames.{machine_of, waiting_of, SteppedTo, HasStepped, Advanced, instructions_of, instructions_in, pushed}
+use Rattle.chord_vm.specs.Frames.{machine_of, waiting_of, SteppedTo, HasStepped, Advanced, instructions_of, instructions_in, with_pushed}
 use Rattle.chord_vm.specs.declared.step.After.{After}
 use Rattle.chord_vm.specs.declared.step.After.TheVariants as steps
 
@@ -140,10 +140,10 @@ pub fetched : (code : Parts) (m : Machine) (xs : List Instruction) (x : Instruct
 fetched code m xs x d e f = fetch_at code m xs e ∙ get_at xs m.top.place x (place_at code m xs d e) f
 
 -- the machine whose instruction pushes a number
-pub number_pushed : (code : Parts) (m : Machine) (n : ℤ) → fetch code m.top.block m.top.place ≡ Some (instr.Int n) → step code m ≡ Goes (pushed (a_value.Int n) m)
+pub number_pushed : (code : Parts) (m : Machine) (n : ℤ) → fetch code m.top.block m.top.place ≡ Some (instr.Int n) → step code m ≡ Goes (with_pushed (a_value.Int n) m)
 number_pushed code m n e = ap (λ o. act code o m) e
 
 -- the place behind it is in the code
 pub place_behind : (code : Parts) (m : Machine) (xs : List Instruction) (n : ℤ) → ComesToAsk code m → instructions_in code m.top.block ≡ Some xs → fetch code m.top.block m.top.place ≡ Some (instr.Int n) → m.top.place + 1 < length xs
 place_behind code m xs n d h e =
-    let r : suc m.top.place < length xs = place_at code (pushed (a_value.Int n) m) xs (defined_on code m (pushed (a_value.Int n) m) (number_pushed code m n e) d) h in omega (arith, r)
+    let r : suc m.top.place < length xs = place_at code (with_pushed (a_value.Int n) m) xs (defined_on code m (with_pushed (a_value.Int n) m) (number_pushed code m n e) d) h in omega (arith, r)

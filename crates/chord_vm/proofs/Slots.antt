@@ -10,7 +10,7 @@ use Rattle.chord_code.specs.Slots.{set_slot, with_first, first_slots}
 use Rattle.chord_base.specs.declared.operation.Operation.{Operation}
 use Rattle.chord_base.specs.Operators.{Is, compute}
 use Rattle.chord_code.specs.Machine.{Machine, Goes, Bad, with_top, stores, store_top, pops, pushes, operate}
-use Rattle.chord_vm.specs.Frames.{frame_with, pushed}
+use Rattle.chord_vm.specs.Frames.{frame_with, with_pushed}
 
 -- a slot that is there is set
 pub slots_set : (i : ℕ) (v : Value) (xs : List Value) → i < length xs → set_slot i v xs ≡ Some (slice_set xs i v)
@@ -128,12 +128,12 @@ last_split (y ∷ z ∷ ys) (suc i) x v l e =
     )
 
 -- an operator whose left operand is set
-pub operated : (op : Operation) (m : Machine) (k : Value) (xs : List Value) (i p : ℕ) (x v : Value) → i + 1 ≡ length xs → x ≡ slice_index_or xs i x → compute op x k ≡ Is v → p ≡ suc (suc m.top.place) → operate op (pushed k m) (k ∷ reverse xs) ≡ Goes (record { top = frame_with m.top p (reverse (slice_set xs i v)) m.top.slots; below = m.below; turns = m.turns })
+pub operated : (op : Operation) (m : Machine) (k : Value) (xs : List Value) (i p : ℕ) (x v : Value) → i + 1 ≡ length xs → x ≡ slice_index_or xs i x → compute op x k ≡ Is v → p ≡ suc (suc m.top.place) → operate op (with_pushed k m) (k ∷ reverse xs) ≡ Goes (record { top = frame_with m.top p (reverse (slice_set xs i v)) m.top.slots; below = m.below; turns = m.turns })
 operated op m k xs i p x v l e c q =
     let t = last_split xs i x v l e in
     let before : reverse xs ≡ x ∷ reverse t.0 = ap reverse t.1 ∙ reverse-append t.0 (x ∷ []) in
     let after : reverse (slice_set xs i v) ≡ v ∷ reverse t.0 = ap reverse t.2 ∙ reverse-append t.0 (v ∷ []) in
-    ap (λ s. operate op (pushed k m) (k ∷ s)) before
-    ∙ ap (pushes (pushed k m) (reverse t.0)) c
+    ap (λ s. operate op (with_pushed k m) (k ∷ s)) before
+    ∙ ap (pushes (with_pushed k m) (reverse t.0)) c
     ∙ ap (λ s. Goes (record { top = frame_with m.top (suc (suc m.top.place)) s m.top.slots; below = m.below; turns = m.turns })) (sym after)
     ∙ ap (λ j. Goes (record { top = frame_with m.top j (reverse (slice_set xs i v)) m.top.slots; below = m.below; turns = m.turns })) (sym q)

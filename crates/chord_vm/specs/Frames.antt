@@ -75,19 +75,19 @@ abbrev pub frame_with : Frame → ℕ → List Value → List Value → Frame
 frame_with f p s vs = record { block = f.block; place = p; room = f.room; stack = s; slots = vs }
 
 -- the operators of two numbers that give a value always
-abbrev pub is_plain : Operation → Bool
-is_plain ops.Add = true
-is_plain ops.Subtract = true
-is_plain ops.Multiply = true
-is_plain ops.Less = true
-is_plain ops.LessOrEqual = true
-is_plain ops.Greater = true
-is_plain ops.GreaterOrEqual = true
-is_plain _ = false
+abbrev pub gives_always : Operation → Bool
+gives_always ops.Add = true
+gives_always ops.Subtract = true
+gives_always ops.Multiply = true
+gives_always ops.Less = true
+gives_always ops.LessOrEqual = true
+gives_always ops.Greater = true
+gives_always ops.GreaterOrEqual = true
+gives_always _ = false
 
 -- the machine whose instruction pushed a value
-abbrev pub pushed : Value → Machine → Machine
-pushed v m = record { top = frame_with m.top (suc m.top.place) (v ∷ m.top.stack) m.top.slots; below = m.below; turns = m.turns }
+abbrev pub with_pushed : Value → Machine → Machine
+with_pushed v m = record { top = frame_with m.top (suc m.top.place) (v ∷ m.top.stack) m.top.slots; below = m.below; turns = m.turns }
 
 -- the ask to which a machine comes, and the frames that wait for its answer
 abbrev pub Advanced : Parts → Machine → Ask → Frames → Type 0

@@ -6,7 +6,7 @@ ghost use Rattle.chord_base.specs.Operators.{Computed, Is, Trapped, Mistyped, co
 ghost use Rattle.chord_code.specs.Valid.{IsValid};
 ghost use Rattle.chord_code.specs.Within.{IsInstructionWithin};
 ghost use Rattle.chord_code.specs.Machine.{Machine, Did, Goes, step as step_of, Asking, Bad, act, operate as operate_of, negates, denies, skips, again as again_of, if_deeper, makes_object, builder_of, init_by, fetch, ComesToAsk, loads, store_top, pops, pop_top, goes_back, send_by, call_by, print_top, end_with};
-ghost use Rattle.chord_vm.specs.Frames.{shown_frame, machine_of, HasStepped, frame_with, Advanced, IsMoved, changes_block, instructions_in, is_plain, pushed};
+ghost use Rattle.chord_vm.specs.Frames.{shown_frame, machine_of, HasStepped, frame_with, Advanced, IsMoved, changes_block, instructions_in, gives_always, with_pushed};
 ghost use Rattle.chord_vm.specs.declared.frames.Frames.{Frames as TheFrames};
 ghost use Rattle.chord_vm.specs.declared.ask.Ask.{Ask as AnAsk};
 
@@ -382,7 +382,7 @@ fn operate(
 /// The operator of an instruction that takes two numbers and gives a value always.
 #[inline(always)]
 fn operator_of(instruction: &Instruction) -> Option<Operation>
-    ensures { IfSome result (λ operation. (is_plain operation ≡ true) × ((code : Parts) (m : Machine) → act code (Some instruction.now) m ≡ operate_of operation m m.top.stack)) }
+    ensures { IfSome result (λ operation. (gives_always operation ≡ true) × ((code : Parts) (m : Machine) → act code (Some instruction.now) m ≡ operate_of operation m m.top.stack)) }
 {
     match instruction {
         Instruction::Add => Some(Operation::Add),
@@ -431,7 +431,7 @@ fn set_flag(value: &mut Value, flag: bool)
 /// What an operator comes to stands where its left operand stood.
 #[inline(always)]
 fn compute_at(left: &mut Value, operation: Operation, right: i32)
-    requires plain { is_plain operation ≡ true }
+    requires plain { gives_always operation ≡ true }
     requires sound { compute_of operation left.old (Value.Int right) ≢ Mistyped }
     ensures { compute_of operation left.old (Value.Int right) ≡ Is left.new }
 {
@@ -452,9 +452,9 @@ fn compute_at(left: &mut Value, operation: Operation, right: i32)
 #[inline(always)]
 fn operate_top(frames: &mut Frames, operation: Operation, right: i32)
     requires fits { frames.old.top.place + 2 < 2 ^ 64 }
-    requires plain { is_plain operation ≡ true }
-    requires sound { operate_of operation (pushed (Value.Int right) (machine_of frames.old)) (Value.Int right ∷ (machine_of frames.old).top.stack) ≢ Bad }
-    ensures goes { operate_of operation (pushed (Value.Int right) (machine_of frames.old)) (Value.Int right ∷ (machine_of frames.old).top.stack) ≡ Goes (machine_of frames.new) }
+    requires plain { gives_always operation ≡ true }
+    requires sound { operate_of operation (with_pushed (Value.Int right) (machine_of frames.old)) (Value.Int right ∷ (machine_of frames.old).top.stack) ≢ Bad }
+    ensures goes { operate_of operation (with_pushed (Value.Int right) (machine_of frames.old)) (Value.Int right ∷ (machine_of frames.old).top.stack) ≡ Goes (machine_of frames.new) }
     ensures block { frames.new.top.block ≡ frames.old.top.block }
 {
     match frames.top.stack.last_mut() {
@@ -469,9 +469,9 @@ fn operate_top(frames: &mut Frames, operation: Operation, right: i32)
 #[inline(always)]
 fn operate_on(frames: &mut Frames, operation: Operation, right: i32)
     requires fits { frames.old.top.place + 2 < 2 ^ 64 }
-    requires plain { is_plain operation ≡ true }
-    requires sound { operate_of operation (pushed (Value.Int right) (machine_of frames.old)) (Value.Int right ∷ (machine_of frames.old).top.stack) ≢ Bad }
-    ensures goes { operate_of operation (pushed (Value.Int right) (machine_of frames.old)) (Value.Int right ∷ (machine_of frames.old).top.stack) ≡ Goes (machine_of frames.new) }
+    requires plain { gives_always operation ≡ true }
+    requires sound { operate_of operation (with_pushed (Value.Int right) (machine_of frames.old)) (Value.Int right ∷ (machine_of frames.old).top.stack) ≢ Bad }
+    ensures goes { operate_of operation (with_pushed (Value.Int right) (machine_of frames.old)) (Value.Int right ∷ (machine_of frames.old).top.stack) ≡ Goes (machine_of frames.new) }
     ensures block { frames.new.top.block ≡ frames.old.top.block }
 {
     match operation {
@@ -744,7 +744,7 @@ fn following<'a>(
     requires sound { ComesToAsk parts.now (machine_of frames.now) }
     requires here { instructions_in parts.now frames.now.top.block ≡ Some instructions.now }
     requires number { fetch parts.now frames.now.top.block frames.now.top.place ≡ Some (Instruction.Int number) }
-    ensures pushes { step_of parts.now (machine_of frames.now) ≡ Goes (pushed (Value.Int number) (machine_of frames.now)) }
+    ensures pushes { step_of parts.now (machine_of frames.now) ≡ Goes (with_pushed (Value.Int number) (machine_of frames.now)) }
     ensures instruction { fetch parts.now frames.now.top.block (suc frames.now.top.place) ≡ Some result.now }
     ensures fits { frames.now.top.place + 2 < 2 ^ 64 }
 {

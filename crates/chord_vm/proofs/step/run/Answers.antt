@@ -1,7 +1,7 @@
 use Rattle.std.proofs.Common.{◌≡◌, ◌<◌, Some, ap, ◌∙◌, sym, subst, arith, to_z, of_z, w32}
 use Rattle.chord_code.specs.Machine.{act, step, operate, Goes, ComesToAsk}
 use Rattle.chord_code.specs.Fuel.{weight}
-use Rattle.chord_vm.specs.Frames.{machine_of, SteppedTo, instructions_in, pushed}
+use Rattle.chord_vm.specs.Frames.{machine_of, SteppedTo, instructions_in, with_pushed}
 use Rattle.chord_base.specs.declared.value.Value.TheVariants as a_value
 use Rattle.chord_vm.proofs.Advance.{not_bad, put_ask, went_to, moved_to, stepped_advanced, advanced_on, defined_on}
 use Rattle.chord_vm.proofs.Stays.{stays}
@@ -98,7 +98,7 @@ operate_on-requires-clause-sound c =
     let code = c.args.parts.now in
     let m = machine_of c.steps.frames in
     let n = to_z w32 (of_z w32 c.in-Int.number) in
-    let between = pushed (a_value.Int n) m in
+    let between = with_pushed (a_value.Int n) m in
     let d : ComesToAsk code between = defined_on code m between c.following.ensures.pushes c.steps.invariant.defined in
     let e : step code between ≡ operate c.in-Some.operation between between.top.stack = ap (λ o. act code o between) c.following.ensures.instruction ∙ c.in-Some.ensures.1 code between in
     λ b. not_bad code between d (e ∙ b)
@@ -111,7 +111,7 @@ next-instruction-requires-in-Some-clause-sound c =
     let code = c.args.parts.now in
     let m = machine_of c.steps.frames in
     let n = to_z w32 (of_z w32 c.in-Int.number) in
-    let between = pushed (a_value.Int n) m in
+    let between = with_pushed (a_value.Int n) m in
     let d : ComesToAsk code between = defined_on code m between c.following.ensures.pushes c.steps.invariant.defined in
     let e : step code between ≡ operate c.in-Some.operation between between.top.stack = ap (λ o. act code o between) c.following.ensures.instruction ∙ c.in-Some.ensures.1 code between in
     let g : step code between ≡ Goes (machine_of c.operate_on.new.frames) = e ∙ c.operate_on.ensures.goes in
@@ -122,7 +122,7 @@ steps-smaller-in-Some c =
     let code = c.args.parts.now in
     let m = machine_of c.steps.frames in
     let n = to_z w32 (of_z w32 c.in-Int.number) in
-    let between = pushed (a_value.Int n) m in
+    let between = with_pushed (a_value.Int n) m in
     let d : ComesToAsk code between = defined_on code m between c.following.ensures.pushes c.steps.invariant.defined in
     let e : step code between ≡ operate c.in-Some.operation between between.top.stack = ap (λ o. act code o between) c.following.ensures.instruction ∙ c.in-Some.ensures.1 code between in
     let g : step code between ≡ Goes (machine_of c.operate_on.new.frames) = e ∙ c.operate_on.ensures.goes in
@@ -136,7 +136,7 @@ steps-preserved-in-Some c =
     let code = c.args.parts.now in
     let m = machine_of c.steps.frames in
     let n = to_z w32 (of_z w32 c.in-Int.number) in
-    let between = pushed (a_value.Int n) m in
+    let between = with_pushed (a_value.Int n) m in
     let d : ComesToAsk code between = defined_on code m between c.following.ensures.pushes c.steps.invariant.defined in
     let e : step code between ≡ operate c.in-Some.operation between between.top.stack = ap (λ o. act code o between) c.following.ensures.instruction ∙ c.in-Some.ensures.1 code between in
     let g : step code between ≡ Goes (machine_of c.operate_on.new.frames) = e ∙ c.operate_on.ensures.goes in
