@@ -24,7 +24,7 @@ use Rattle.chord_task.specs.declared.body.Next.TheVariants as nexts
 use Rattle.chord_task.specs.declared.body.Body.{Body}
 use Rattle.chord_task.specs.declared.task.Task.{Task}
 use Rattle.chord_task.specs.Stacks.{IsTask, IsNext, CanAsk, AsksNothing, TopWaitsFor}
-use Rattle.chord_task.specs.Standing.{body_number, view_of, NextIs, IsUp, IsParked, IsTop, AreParked, IsTaskOf, IsRunnable, GivenBy, AskedBy, AskedBody, given_of, given_by, may_go, body_may_go, is_ready_of, waits_on, body_waits, waits_of, HasGiven}
+use Rattle.chord_task.specs.Standing.{waiting_bodies, body_number, view_of, NextIs, IsUp, IsParked, IsTop, AreParked, IsTaskOf, IsRunnable, GivenBy, AskedBy, AskedBody, given_of, given_by, may_go, body_may_go, is_ready_of, waits_on, body_waits, waits_of, HasGiven}
 use Rattle.chord_task.proofs.Standing.{gave_next, ends_next}
 use Rattle.chord_task.proofs.Notes.{stack_view, gave_up, ends_up}
 use Rattle.chord_task.proofs.Tasks.{stack_at, task_at}
@@ -115,7 +115,7 @@ task_asked code limits t b b' w k top a g =
       is_defined = k.is_defined;
       stack = (
         up_is_top code limits h b' b'.next w g refl u,
-        subst (λ z. AreParked code limits h (serves p z h) z (reverse t.below.items)) (sym a.number) s.1,
+        subst (λ z. AreParked code limits h (serves p z h) z (waiting_bodies (reverse t.below.items))) (sym a.number) s.1,
       );
       room = λ q e. absurd (not_waiting b'.next w q g e);
     }

@@ -25,7 +25,7 @@ use Rattle.chord_task.specs.declared.body.Next.{Next}
 use Rattle.chord_task.specs.declared.body.Next.TheVariants as nexts
 use Rattle.chord_task.specs.declared.body.Body.{Body}
 use Rattle.chord_task.specs.Stacks.{TaskView, IsTask}
-use Rattle.chord_task.specs.Standing.{IsUp, IsParked, IsTop, AreParked, IsBodyStack, AnsweredWith, CalledBack, answer_of}
+use Rattle.chord_task.specs.Standing.{IsUp, IsParked, IsTop, AreParked, AreStacked, AnsweredWith, CalledBack, answer_of}
 use Rattle.chord_task.proofs.Stacks.{task_note, task_end}
 use Rattle.chord_task.proofs.Standing.{entry, gave_by, gave_next, ends_next, up_more, parks, called_back, all_parked, up_under, parked_maker}
 
@@ -36,7 +36,7 @@ stack_view h top = record { past = h; top = top }
 -- the task and its bodies
 pub record Whole (code : Parts) (limits : Limits) (h : List Entry) (top : Option ℕ) (body : Option Body) (below : List Body) : Type 0 where
   pub task : IsTask (code_program code limits) (stack_view h top)
-  pub stack : IsBodyStack code limits h body below
+  pub stack : AreStacked code limits h body below
 
 -- a body on top that does not wait may make its next entry
 up_top : (code : Parts) (limits : Limits) (h : List Entry) (b : Body) (n : Next) → b.next ≡ n → ((q : ℕ) → n ≡ nexts.Waits q → ⊥) → IsTop code limits h b.next b → IsUp code limits h b
@@ -85,7 +85,7 @@ new_top code fwd limits h b b' n w u e i None a r ready =
     (parks code fwd limits h b b' n c.0 c.1 c.2 u (e ∙ ap nexts.Gave c.3) i r.0 r.1 ready))
 
 -- the ask that was given becomes an entry
-pub note_gave : (code : Parts) → IsForward code → (limits : Limits) (h : List Entry) (b b' : Body) (bs : List Body) (n : ℕ) (w : What) → IsTask (code_program code limits) (stack_view h (Some b.number)) → IsBodyStack code limits h (Some b) bs → AllBelow n h → b.next ≡ nexts.Gave w → b'.number ≡ b.number → AnsweredWith (answer_of n w) n b.frames.value b' → IsReady b.frames.value.awaited b.frames.value → Whole code limits (entry n b.number w ∷ h) (Some b'.number) (Some b') bs
+pub note_gave : (code : Parts) → IsForward code → (limits : Limits) (h : List Entry) (b b' : Body) (bs : List Body) (n : ℕ) (w : What) → IsTask (code_program code limits) (stack_view h (Some b.number)) → AreStacked code limits h (Some b) bs → AllBelow n h → b.next ≡ nexts.Gave w → b'.number ≡ b.number → AnsweredWith (answer_of n w) n b.frames.value b' → IsReady b.frames.value.awaited b.frames.value → Whole code limits (entry n b.number w ∷ h) (Some b'.number) (Some b') bs
 note_gave code fwd limits h b b' bs n w t s l e i r ready =
     let p = code_program code limits in
     let u = gave_up code limits h b w e s.0 in
@@ -109,7 +109,7 @@ none_waits : (d : Doing) → waits_for None d ≡ true → ⊥
 none_waits d e = (let z : false ≡ true = e in cc)
 
 -- the body on top ends, and no other is left
-pub note_last : (code : Parts) (limits : Limits) (h : List Entry) (b : Body) (n : ℕ) (x y : End) → IsTask (code_program code limits) (stack_view h (Some b.number)) → IsBodyStack code limits h (Some b) [] → AllBelow n h → b.next ≡ nexts.Ends x y → Whole code limits (entry n b.number (Ended x) ∷ h) None None []
+pub note_last : (code : Parts) (limits : Limits) (h : List Entry) (b : Body) (n : ℕ) (x y : End) → IsTask (code_program code limits) (stack_view h (Some b.number)) → AreStacked code limits h (Some b) [] → AllBelow n h → b.next ≡ nexts.Ends x y → Whole code limits (entry n b.number (Ended x) ∷ h) None None []
 note_last code limits h b n x y t s l e =
     let p = code_program code limits in
     let u = ends_up code limits h b x y e s.0 in
@@ -133,7 +133,7 @@ same_some : (m n : ℕ) → Some m ≡ Some n → m ≡ n
 same_some m n e = cc
 
 -- the body on top ends, and its caller is answered
-pub note_end : (code : Parts) (limits : Limits) (h : List Entry) (b c c' : Body) (bs : List Body) (n : ℕ) (x y : End) → IsTask (code_program code limits) (stack_view h (Some b.number)) → IsBodyStack code limits h (Some b) (c ∷ bs) → AllBelow n h → b.next ≡ nexts.Ends x y → CalledBack x c c' → c'.number ≡ c.number → IsTop code limits (entry n b.number (Ended x) ∷ h) c'.next c' → Whole code limits (entry n b.number (Ended x) ∷ h) (Some c'.number) (Some c') bs
+pub note_end : (code : Parts) (limits : Limits) (h : List Entry) (b c c' : Body) (bs : List Body) (n : ℕ) (x y : End) → IsTask (code_program code limits) (stack_view h (Some b.number)) → AreStacked code limits h (Some b) (c ∷ bs) → AllBelow n h → b.next ≡ nexts.Ends x y → CalledBack x c c' → c'.number ≡ c.number → IsTop code limits (entry n b.number (Ended x) ∷ h) c'.next c' → Whole code limits (entry n b.number (Ended x) ∷ h) (Some c'.number) (Some c') bs
 note_end code limits h b c c' bs n x y t s l e r i top =
     let p = code_program code limits in
     let u = ends_up code limits h b x y e s.0 in
@@ -171,7 +171,7 @@ note_end code limits h b c c' bs n x y t s l e r i top =
     }
 
 -- the caller is up again
-pub back_top : (code : Parts) (limits : Limits) (h : List Entry) (b c c' : Body) (bs : List Body) (n : ℕ) (x y : End) → IsBodyStack code limits h (Some b) (c ∷ bs) → CalledBack x c c' → IsTop code limits (entry n b.number (Ended x) ∷ h) c'.next c'
+pub back_top : (code : Parts) (limits : Limits) (h : List Entry) (b c c' : Body) (bs : List Body) (n : ℕ) (x y : End) → AreStacked code limits h (Some b) (c ∷ bs) → CalledBack x c c' → IsTop code limits (entry n b.number (Ended x) ∷ h) c'.next c'
 back_top code limits h b c c' bs n (Gives v) y s r =
     let less : c.number < b.number = s.1.1 in
     let o : (b.number == c.number) ≡ false = ne_eqb b.number c.number (λ z. omega (arith, z, less)) in

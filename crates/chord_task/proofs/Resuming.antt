@@ -1,6 +1,6 @@
 -- A body that a firing begins.
 use Rattle.std.proofs.Common.{◌≡◌, ℕ, ◌+◌, ◌-◌, ◌<◌, true, false, ◌==◌, List, [], ◌∷◌, ◌++◌, append-nil, Option, Some, None, refl, sym, ap, ◌∙◌, subst, arith, Vec, Global}
-use Rattle.std.specs.Prelude.{reverse, option_to_list, slice_get, IsSome, Box}
+use Rattle.std.specs.Prelude.{reverse, slice_get, IsSome, Box}
 use Rattle.std.proofs.lemmas.List.{reverse-append}
 use Rattle.std.proofs.lemmas.Bool.{eq-eqb, ne_eqb}
 use Rattle.chord_base.specs.declared.value.Object.{Object}
@@ -26,34 +26,30 @@ use Rattle.chord_vm.specs.Frames.{machine_of, waiting_of, IsSpacious, IsRoomFor}
 use Rattle.chord_task.specs.declared.body.Next.{Next}
 use Rattle.chord_task.specs.declared.body.Next.TheVariants as nexts
 use Rattle.chord_task.specs.declared.body.Body.{Body}
+use Rattle.chord_task.specs.declared.body.Caller.{Caller}
 use Rattle.chord_task.specs.declared.task.Task.{Task}
 use Rattle.chord_task.specs.Stacks.{IsTask, TopWaitsFor, FitsCall}
 use Rattle.chord_vm.specs.Frames.{laid}
 use Rattle.chord_task.specs.declared.args.Args.{Args}
 use Rattle.chord_task.specs.Arguments.{MayBeList, for_entry, for_body, AreTwice}
-use Rattle.chord_task.specs.Standing.{body_number, view_of, NextIs, IsUp, IsParked, IsTop, AreParked, IsBodyStack, HasRoomFor, IsTaskOf, MayResume, room_of, may_go, body_may_go, is_ready_of, IsRoomier, IsRoomierTop}
+use Rattle.chord_task.specs.Standing.{body_number, view_of, NextIs, IsUp, IsParked, IsTop, AreParked, IsBodyStack, HasRoomFor, IsTaskOf, MayResume, room_of, may_go, body_may_go, is_ready_of, IsRoomier, IsRoomierTop, waiting_body, waiting_bodies, call_of, callers_of, IsWaiting}
 use Rattle.chord_task.proofs.Stacks.{task_resume, task_spare, begun_ready}
 use Rattle.chord_task.proofs.Standing.{entry, parked_more, all_parked, parked_under}
 use Rattle.chord_task.proofs.Notes.{stack_view}
 use Rattle.chord_task.proofs.Tasks.{one_more, stack_at, task_at}
 
--- the bodies that stand below a new one
-abbrev pub with_top : Option Body → List Body → List Body
-with_top None bs = bs
-with_top (Some b) bs = b ∷ bs
-
 -- the body on top, if there is one, went below
-pub put_below : (o : Option Body) (bs cs : List Body) → cs ≡ bs ++ option_to_list o → reverse cs ≡ with_top o (reverse bs)
+pub put_below : (o : Option Body) (bs cs : List Caller) → cs ≡ bs ++ callers_of o → reverse cs ≡ callers_of o ++ reverse bs
 put_below None bs cs e = ap reverse (e ∙ append-nil bs)
-put_below (Some b) bs cs e = ap reverse e ∙ reverse-append bs (b ∷ [])
+put_below (Some b) bs cs e = ap reverse e ∙ reverse-append bs (callers_of (Some b))
 
 -- what is known of a body that a firing begins
-pub record Beginning (code : Parts) (limits : Limits) (h : List Entry) (top : Option Body) (bs : List Body) (n k : ℕ) (o : Object) (ms : List ℕ) (vs : List Value) : Type 0 where
+pub record Beginning (code : Parts) (limits : Limits) (h : List Entry) (top : Option Body) (bs : List Caller) (n k : ℕ) (o : Object) (ms : List ℕ) (vs : List Value) : Type 0 where
   pub depth : ℕ
   pub ready : doing (code_program code limits) (entry n n (Fired k o ms vs) ∷ h) n ≡ Ready (Chord k o vs) depth []
   pub room : limits.depth - depth ≡ room_of limits top
   pub task : IsTask (code_program code limits) (stack_view (entry n n (Fired k o ms vs) ∷ h) (Some n))
-  pub rest : AreParked code limits (entry n n (Fired k o ms vs) ∷ h) (serves (code_program code limits) n (entry n n (Fired k o ms vs) ∷ h)) n (with_top top bs)
+  pub rest : AreParked code limits (entry n n (Fired k o ms vs) ∷ h) (serves (code_program code limits) n (entry n n (Fired k o ms vs) ∷ h)) n (waiting_bodies (callers_of top ++ bs))
 
 -- a body that an entry of its number begins serves what this entry serves
 serves_own : (p : Program) (h : List Entry) (n : ℕ) (w : What) → serves p n (entry n n w ∷ h) ≡ served p w
@@ -82,6 +78,26 @@ top_parked code limits h b s d rs q l (nexts.Gave w) e u = absurd (up_waits code
 top_parked code limits h b s d rs q l (nexts.Ends x y) e u = absurd (up_waits code limits h b s d rs q l e u)
 top_parked code limits h b s d rs q l (nexts.Fails t) e u = absurd (up_waits code limits h b s d rs q l e u)
 top_parked code limits h b s d rs q l (nexts.Waits r) e k = (r, k)
+
+-- a body that waits is the one that waits as its caller
+as_caller : (b : Body) (q : ℕ) → b.next ≡ nexts.Waits q → waiting_body (record { number = b.number; call = call_of b.next; frames = b.frames }) ≡ b
+as_caller b q e =
+    ap (λ (x : Next). record { number = b.number; frames = b.frames; next = nexts.Waits (call_of x) }) e
+    ∙ ap (λ (x : Next). record { number = b.number; frames = b.frames; next = x }) (sym e)
+
+-- where a firing fits a task, the body on top waits for a call, if there is one
+waits_by : (code : Parts) (limits : Limits) (t : Task) (top : Option Body) (c : Option ℕ) → t.top ≡ top → FitsCall (code_program code limits) (view_of t) c → IsBodyStack code limits (view_of t).past top (reverse t.below.items) → IsWaiting top
+waits_by code limits t None c i f stack = tt
+waits_by code limits t (Some b) None i f stack = (let z : ◌≡◌ {A = Option ℕ} None (Some b.number) = sym f ∙ ap body_number i in cc)
+waits_by code limits t (Some b) (Some q) i w stack =
+    let z : Some b.number ≡ Some w.body = sym (ap body_number i) ∙ w.on_top in
+    let body : w.body ≡ b.number = cc in
+    let is : doing (code_program code limits) (view_of t).past b.number ≡ Waits w.start w.depth w.answers q w.place = ap (doing (code_program code limits) (view_of t).past) (sym body) ∙ w.is in
+    let parked = top_parked code limits (view_of t).past b w.start w.depth w.answers q w.place b.next is stack.0 in (parked.0, parked.1.waits)
+
+-- where a firing may begin, the body on top waits for a call, if there is one
+pub waits_below : (code : Parts) (limits : Limits) (t : Task) (n k : ℕ) (o : Object) (ms : List ℕ) (vs : List Value) → IsTaskOf code limits t → MayResume code limits t n k o ms vs → IsWaiting t.top
+waits_below code limits t n k o ms vs task may = waits_by code limits t t.top (served (code_program code limits) (Fired k o ms vs)) refl may.may task.stack
 
 -- a firing that serves no call begins a body in a task that is over
 begins_spare : (code : Parts) (limits : Limits) (t : Task) (n k : ℕ) (o : Object) (ms : List ℕ) (vs : List Value) → (top : Option Body) → t.top ≡ top → served (code_program code limits) (Fired k o ms vs) ≡ None → (view_of t).top ≡ None → IsTaskOf code limits t → MayResume code limits t n k o ms vs → IsBodyStack code limits (view_of t).past top (reverse t.below.items) → Beginning code limits (view_of t).past top (reverse t.below.items) n k o ms vs
@@ -116,7 +132,7 @@ begins_called code limits t n k o ms vs q (Some b) i s w task may stack =
     let apart : (m : ℕ) → m < n → (n == m) ≡ false = λ m l. ne_eqb n m (λ v. omega (arith, v, l)) in
     let same : (m : ℕ) → m < n → doing p (e ∷ h) m ≡ doing p h m = λ m l. other_body p e h m (apart m l) (λ v. let x : false ≡ true = v in cc) in
     let serving : serves p b.number (e ∷ h) ≡ serves p b.number h = (let x = apart b.number under in rw x refl) in
-    let rest = all_parked code limits e h (serves p b.number h) b.number (reverse t.below.items) (omega (arith, under)) (λ d r m j. same d.number (omega (arith, m, under))) stack.1 in
+    let rest = all_parked code limits e h (serves p b.number h) b.number (waiting_bodies (reverse t.below.items)) (omega (arith, under)) (λ d r m j. same d.number (omega (arith, m, under))) stack.1 in
     record {
       depth = w.place + 1;
       ready =
@@ -125,9 +141,13 @@ begins_called code limits t n k o ms vs q (Some b) i s w task may stack =
       room = ap (λ l. limits.depth - (l + 1)) place;
       task = task_resume p (view_of t) n k o ms vs q s w task.task may.above;
       rest = (
-        (q, serves_own p h n (Fired k o ms vs) ∙ s, parked_more code limits e h b q (same b.number under) (subst (λ v. IsParked code limits h b v) call c)),
+        (
+          q,
+          serves_own p h n (Fired k o ms vs) ∙ s,
+          subst (λ (x : Body). IsParked code limits (e ∷ h) x q) (sym (as_caller b parked.0 c.waits)) (parked_more code limits e h b q (same b.number under) (subst (λ v. IsParked code limits h b v) call c)),
+        ),
         under,
-        subst (λ v. AreParked code limits (e ∷ h) v b.number (reverse t.below.items)) (sym serving) rest,
+        subst (λ v. AreParked code limits (e ∷ h) v b.number (waiting_bodies (reverse t.below.items))) (sym serving) rest,
       );
     }
 
@@ -164,7 +184,7 @@ opening code limits t n k o ms vs task may =
     subst (λ r. Opening code limits k o vs r) b.room (opens_in code limits k o vs b.depth (slice_get (chord_lines code o.class) k) refl d)
 
 -- the new body is up
-begun_up : (code : Parts) (limits : Limits) (h : List Entry) (top : Option Body) (bs : List Body) (n k : ℕ) (o : Object) (ms : List ℕ) (vs : List Value) (f : Box Frames Global) (line : ChordLine) → (b : Beginning code limits h top bs n k o ms vs) → slice_get (chord_lines code o.class) k ≡ Some line → body_in_block code line.block (room_of limits top) (a_value.Ref o ∷ vs) limits.turns ≡ Some (machine_of f.value) → IsUp code limits (entry n n (Fired k o ms vs) ∷ h) (record { number = n; frames = f; next = nexts.Runs })
+begun_up : (code : Parts) (limits : Limits) (h : List Entry) (top : Option Body) (bs : List Caller) (n k : ℕ) (o : Object) (ms : List ℕ) (vs : List Value) (f : Box Frames Global) (line : ChordLine) → (b : Beginning code limits h top bs n k o ms vs) → slice_get (chord_lines code o.class) k ≡ Some line → body_in_block code line.block (room_of limits top) (a_value.Ref o ∷ vs) limits.turns ≡ Some (machine_of f.value) → IsUp code limits (entry n n (Fired k o ms vs) ∷ h) (record { number = n; frames = f; next = nexts.Runs })
 begun_up code limits h top bs n k o ms vs f line b l s =
     record {
       start = Chord k o vs;
@@ -175,7 +195,7 @@ begun_up code limits h top bs n k o ms vs f line b l s =
     }
 
 -- the task with the new body on top
-pub task_resumed : (code : Parts) (limits : Limits) (t : Task) (past : Vec Entry Global) (below : Vec Body Global) (values : Option (Vec Value Global)) (n k : ℕ) (o : Object) (ms : List ℕ) (vs : List Value) (f : Box Frames Global) (line : ChordLine) → MayBeList values → IsTaskOf code limits t → MayResume code limits t n k o ms vs → slice_get (chord_lines code o.class) k ≡ Some line → body_in_block code line.block (room_of limits t.top) (a_value.Ref o ∷ vs) limits.turns ≡ Some (machine_of f.value) → past.items ≡ t.past.items ++ entry n n (Fired k o ms vs) ∷ [] → reverse below.items ≡ with_top t.top (reverse t.below.items) → IsTaskOf code limits (record { past = past; top = Some (record { number = n; frames = f; next = nexts.Runs }); below = below; spare = None; ended = t.ended; values = values; limits = t.limits })
+pub task_resumed : (code : Parts) (limits : Limits) (t : Task) (past : Vec Entry Global) (below : Vec Caller Global) (values : Option (Vec Value Global)) (n k : ℕ) (o : Object) (ms : List ℕ) (vs : List Value) (f : Box Frames Global) (line : ChordLine) → MayBeList values → IsTaskOf code limits t → MayResume code limits t n k o ms vs → slice_get (chord_lines code o.class) k ≡ Some line → body_in_block code line.block (room_of limits t.top) (a_value.Ref o ∷ vs) limits.turns ≡ Some (machine_of f.value) → past.items ≡ t.past.items ++ entry n n (Fired k o ms vs) ∷ [] → reverse below.items ≡ callers_of t.top ++ reverse t.below.items → IsTaskOf code limits (record { past = past; top = Some (record { number = n; frames = f; next = nexts.Runs }); below = below; spare = None; ended = t.ended; values = values; limits = t.limits })
 task_resumed code limits t past below values n k o ms vs f line list task may l s items bodies =
     let p = code_program code limits in
     let h = (view_of t).past in
@@ -190,7 +210,7 @@ task_resumed code limits t past below values n k o ms vs f line list task may l 
       stack =
           subst (λ z. IsBodyStack code limits z (Some (record { number = n; frames = f; next = nexts.Runs })) (reverse below.items)) (sym new) (
             begun_up code limits h t.top (reverse t.below.items) n k o ms vs f line b l s,
-            subst (λ z. AreParked code limits (e ∷ h) (serves p n (e ∷ h)) n z) (sym bodies) b.rest,
+            subst (λ (z : List Caller). AreParked code limits (e ∷ h) (serves p n (e ∷ h)) n (waiting_bodies z)) (sym bodies) b.rest,
           );
       room = λ q z. let x : nexts.Runs ≡ nexts.Waits q = z in cc;
       kept = tt;
@@ -247,7 +267,7 @@ waits_goes : (n : Next) (q : ℕ) → n ≡ nexts.Waits q → may_go n ≡ true 
 waits_goes n q e g = (let z : false ≡ true = sym (ap may_go e) ∙ g in cc)
 
 -- the task with more room
-pub task_roomier : (code : Parts) (limits : Limits) (t : Task) (past : Vec Entry Global) (below : Vec Body Global) (top top' : Option Body) (spare ended : Option (Box Frames Global)) (values : Option (Vec Value Global)) → t.top ≡ top → IsTaskOf code limits t → is_ready_of t ≡ true → past.items ≡ t.past.items → below.items ≡ t.below.items → IsRoomierTop top top' → HasRoomFor code t.limits spare → MayBeList values → IsTaskOf code limits (record { past = past; top = top'; below = below; spare = spare; ended = ended; values = values; limits = t.limits })
+pub task_roomier : (code : Parts) (limits : Limits) (t : Task) (past : Vec Entry Global) (below : Vec Caller Global) (top top' : Option Body) (spare ended : Option (Box Frames Global)) (values : Option (Vec Value Global)) → t.top ≡ top → IsTaskOf code limits t → is_ready_of t ≡ true → past.items ≡ t.past.items → below.items ≡ t.below.items → IsRoomierTop top top' → HasRoomFor code t.limits spare → MayBeList values → IsTaskOf code limits (record { past = past; top = top'; below = below; spare = spare; ended = ended; values = values; limits = t.limits })
 task_roomier code limits t past below None top' spare ended values i k g p q r s v = (let z : false ≡ true = sym (ap body_may_go i) ∙ g in cc)
 task_roomier code limits t past below (Some b) None spare ended values i k g p q r s v = absurd r
 task_roomier code limits t past below (Some b) (Some b') spare ended values i k g p q r s v =
@@ -257,9 +277,9 @@ task_roomier code limits t past below (Some b) (Some b') spare ended values i k 
     let same : reverse past.items ≡ h = ap reverse p in
     let st = stack_at code limits t b k i in
     let top : IsTop code limits h b'.next b' = subst (λ z. IsTop code limits h z b') (sym r.1) (top_roomier code limits h b b' b.next up r st.0) in
-    let rest : AreParked code limits h (serves m b'.number h) b'.number (reverse below.items) =
-    subst (λ z. AreParked code limits h (serves m z h) z (reverse below.items)) (sym r.0)
-    (subst (λ (z : List Body). AreParked code limits h (serves m b.number h) b.number (reverse z)) (sym q) st.1)
+    let rest : AreParked code limits h (serves m b'.number h) b'.number (waiting_bodies (reverse below.items)) =
+    subst (λ z. AreParked code limits h (serves m z h) z (waiting_bodies (reverse below.items))) (sym r.0)
+    (subst (λ (z : List Caller). AreParked code limits h (serves m b.number h) b.number (waiting_bodies (reverse z))) (sym q) st.1)
     in
     record {
       forward = k.forward;

@@ -18,10 +18,11 @@ use Rattle.chord_code.specs.Meaning.{code_program, stands}
 use Rattle.chord_vm.specs.declared.frames.Frames.{Frames}
 use Rattle.chord_task.specs.declared.body.Next.TheVariants as nexts
 use Rattle.chord_task.specs.declared.body.Body.{Body}
+use Rattle.chord_task.specs.declared.body.Caller.{Caller}
 use Rattle.chord_task.specs.declared.task.Task.{Task}
 use Rattle.chord_task.specs.Stacks.{IsServedThere, IsTask, task_noted}
 use Rattle.chord_task.specs.Arguments.{MayBeList}
-use Rattle.chord_task.specs.Standing.{body_number, view_of, NextIs, IsParked, IsTop, IsBodyStack, IsResumable, HasRoomIf, HasRoomFor, IsTaskOf, given_of, given_by, answer_of, MayAnswer, AnsweredWith, CalledBack, IsReadyFor, MayNote}
+use Rattle.chord_task.specs.Standing.{body_number, view_of, NextIs, IsParked, IsTop, IsBodyStack, IsResumable, HasRoomIf, HasRoomFor, IsTaskOf, given_of, given_by, answer_of, MayAnswer, AnsweredWith, CalledBack, IsReadyFor, MayNote, waiting_body, waiting_bodies, HasEnded}
 use Rattle.chord_task.proofs.Standing.{entry, noted_answer_fits}
 use Rattle.chord_task.proofs.Notes.{stack_view, gave_up, note_gave, note_last, note_end, back_top}
 
@@ -75,7 +76,7 @@ task_gave code limits t past b b' n w k may top e i r items len capacity =
     let h = (view_of t).past in
     let new : reverse past.items ≡ entry n b.number w ∷ h = one_more t.past.items past.items (entry n b.number w) items in
     let j = same_what t b may.what w top (given_gave b w e) may.gave in
-    let whole = note_gave code k.forward limits h b b' (reverse t.below.items) n w (task_at code limits t b k top) (stack_at code limits t b k top) may.above e i r (subst IsReadyFor top may.reserved.top) in (
+    let whole = note_gave code k.forward limits h b b' (waiting_bodies (reverse t.below.items)) n w (task_at code limits t b k top) (stack_at code limits t b k top) may.above e i r (subst IsReadyFor top may.reserved.top) in (
       record {
         forward = k.forward;
         kept = k.kept;
@@ -100,13 +101,13 @@ task_gave code limits t past b b' n w k may top e i r items len capacity =
     )
 
 -- the last body of a task ends
-pub task_last : (code : Parts) (limits : Limits) (t : Task) (past : Vec Entry Global) (below : Vec Body Global) (ended : Option (Box Frames Global)) (b : Body) (n : ℕ) (x y : End) → IsTaskOf code limits t → (may : MayNote code limits t n) → t.top ≡ Some b → b.next ≡ nexts.Ends x y → t.below.items ≡ [] → below.items ≡ [] → past.items ≡ t.past.items ++ entry n b.number (Ended x) ∷ [] → vec_len past ≡ vec_len t.past + 1 → vec_capacity past ≡ vec_capacity t.past → vec_len below ≡ vec_len t.below → vec_capacity below ≡ vec_capacity t.below → IsTaskOf code limits (record { past = past; top = None; below = below; spare = t.spare; ended = ended; values = t.values; limits = t.limits }) × task_noted (view_of t) n may.what (view_of (record { past = past; top = None; below = below; spare = t.spare; ended = ended; values = t.values; limits = t.limits })) × (is_end may.what ≡ false → (view_of (record { past = past; top = None; below = below; spare = t.spare; ended = ended; values = t.values; limits = t.limits })).top ≡ (view_of t).top)
+pub task_last : (code : Parts) (limits : Limits) (t : Task) (past : Vec Entry Global) (below : Vec Caller Global) (ended : Option (Box Frames Global)) (b : Body) (n : ℕ) (x y : End) → IsTaskOf code limits t → (may : MayNote code limits t n) → t.top ≡ Some b → b.next ≡ nexts.Ends x y → t.below.items ≡ [] → below.items ≡ [] → past.items ≡ t.past.items ++ entry n b.number (Ended x) ∷ [] → vec_len past ≡ vec_len t.past + 1 → vec_capacity past ≡ vec_capacity t.past → vec_len below ≡ vec_len t.below → vec_capacity below ≡ vec_capacity t.below → IsTaskOf code limits (record { past = past; top = None; below = below; spare = t.spare; ended = ended; values = t.values; limits = t.limits }) × task_noted (view_of t) n may.what (view_of (record { past = past; top = None; below = below; spare = t.spare; ended = ended; values = t.values; limits = t.limits })) × (is_end may.what ≡ false → (view_of (record { past = past; top = None; below = below; spare = t.spare; ended = ended; values = t.values; limits = t.limits })).top ≡ (view_of t).top)
 task_last code limits t past below ended b n x y k may top e none left items len capacity long room =
     let p = code_program code limits in
     let h = (view_of t).past in
     let new : reverse past.items ≡ entry n b.number (Ended x) ∷ h = one_more t.past.items past.items (entry n b.number (Ended x)) items in
     let j = same_what t b may.what (Ended x) top (given_ends b x y e) may.gave in
-    let s = subst (λ (z : List Body). IsBodyStack code limits h (Some b) (reverse z)) none (stack_at code limits t b k top) in
+    let s = subst (λ (z : List Caller). IsBodyStack code limits h (Some b) (reverse z)) none (stack_at code limits t b k top) in
     let whole = note_last code limits h b n x y (task_at code limits t b k top) s may.above e in (
       record {
         forward = k.forward;
@@ -115,7 +116,7 @@ task_last code limits t past below ended b n x y k may top e none left items len
         limited = k.limited;
         task = subst (λ z. IsTask p (stack_view z None)) (sym new) whole.task;
         is_defined = λ c. subst (λ z. StaysDefinedAt p (doing p z c)) (sym new) (stays_at code limits t b n (Ended x) may top j c);
-        stack = ap reverse left;
+        stack = ap (λ (z : List Caller). waiting_bodies (reverse z)) left;
         room =
             record {
               past = (let l = may.reserved.past in omega (arith, l, len, capacity));
@@ -141,19 +142,19 @@ back_next (Gives v) c c' q r e = (let z : nexts.Runs ≡ nexts.Waits q = sym r.1
 back_next (Traps t) c c' q r e = (let z : nexts.Fails t ≡ nexts.Waits q = sym r.1 ∙ e in cc)
 
 -- the last of the bodies below is the first of them in the other order
-last_of : (below rest : List Body) (c : Body) → below ≡ rest ++ c ∷ [] → reverse below ≡ c ∷ reverse rest
+last_of : (below rest : List Caller) (c : Caller) → below ≡ rest ++ c ∷ [] → reverse below ≡ c ∷ reverse rest
 last_of below rest c e = ap reverse e ∙ reverse-append rest (c ∷ [])
 
 -- the last of the bodies below is the caller
-pub caller_at : (code : Parts) (limits : Limits) (t : Task) (rest : List Body) (b c : Body) → IsTaskOf code limits t → t.top ≡ Some b → t.below.items ≡ rest ++ c ∷ [] → IsBodyStack code limits (view_of t).past (Some b) (c ∷ reverse rest)
+pub caller_at : (code : Parts) (limits : Limits) (t : Task) (rest : List Caller) (b : Body) (c : Caller) → IsTaskOf code limits t → t.top ≡ Some b → t.below.items ≡ rest ++ c ∷ [] → IsBodyStack code limits (view_of t).past (Some b) (c ∷ reverse rest)
 caller_at code limits t rest b c k top e = subst (λ z. IsBodyStack code limits (view_of t).past (Some b) z) (last_of t.below.items rest c e) (stack_at code limits t b k top)
 
 -- the caller waits for a call
-pub caller_parked : (code : Parts) (limits : Limits) (t : Task) (rest : List Body) (b c : Body) → IsTaskOf code limits t → t.top ≡ Some b → t.below.items ≡ rest ++ c ∷ [] → (q : ℕ) × IsParked code limits (view_of t).past c q
+pub caller_parked : (code : Parts) (limits : Limits) (t : Task) (rest : List Caller) (b : Body) (c : Caller) → IsTaskOf code limits t → t.top ≡ Some b → t.below.items ≡ rest ++ c ∷ [] → (q : ℕ) × IsParked code limits (view_of t).past (waiting_body c) q
 caller_parked code limits t rest b c k top e = (let s = caller_at code limits t rest b c k top e in (s.1.0.0, s.1.0.2))
 
 -- a body ends, and its caller goes on
-pub task_back : (code : Parts) (limits : Limits) (t : Task) (past : Vec Entry Global) (below : Vec Body Global) (ended : Option (Box Frames Global)) (b c c' : Body) (n : ℕ) (x y : End) → IsTaskOf code limits t → (may : MayNote code limits t n) → t.top ≡ Some b → b.next ≡ nexts.Ends x y → t.below.items ≡ below.items ++ c ∷ [] → CalledBack y c c' → past.items ≡ t.past.items ++ entry n b.number (Ended x) ∷ [] → IsTaskOf code limits (record { past = past; top = Some c'; below = below; spare = t.spare; ended = ended; values = t.values; limits = t.limits }) × task_noted (view_of t) n may.what (view_of (record { past = past; top = Some c'; below = below; spare = t.spare; ended = ended; values = t.values; limits = t.limits })) × (is_end may.what ≡ false → (view_of (record { past = past; top = Some c'; below = below; spare = t.spare; ended = ended; values = t.values; limits = t.limits })).top ≡ (view_of t).top)
+pub task_back : (code : Parts) (limits : Limits) (t : Task) (past : Vec Entry Global) (below : Vec Caller Global) (ended : Option (Box Frames Global)) (b : Body) (c : Caller) (c' : Body) (n : ℕ) (x y : End) → IsTaskOf code limits t → (may : MayNote code limits t n) → t.top ≡ Some b → b.next ≡ nexts.Ends x y → t.below.items ≡ below.items ++ c ∷ [] → CalledBack y (waiting_body c) c' → past.items ≡ t.past.items ++ entry n b.number (Ended x) ∷ [] → IsTaskOf code limits (record { past = past; top = Some c'; below = below; spare = t.spare; ended = ended; values = t.values; limits = t.limits }) × task_noted (view_of t) n may.what (view_of (record { past = past; top = Some c'; below = below; spare = t.spare; ended = ended; values = t.values; limits = t.limits })) × (is_end may.what ≡ false → (view_of (record { past = past; top = Some c'; below = below; spare = t.spare; ended = ended; values = t.values; limits = t.limits })).top ≡ (view_of t).top)
 task_back code limits t past below ended b c c' n x y k may top e parts back items =
     let p = code_program code limits in
     let h = (view_of t).past in
@@ -161,8 +162,8 @@ task_back code limits t past below ended b c c' n x y k may top e parts back ite
     let j = same_what t b may.what (Ended x) top (given_ends b x y e) may.gave in
     let s = caller_at code limits t below.items b c k top parts in
     let u = gave_ends code limits h b x y e s.0 in
-    let r = subst (λ z. CalledBack z c c') u back in
-    let whole = note_end code limits h b c c' (reverse below.items) n x y (task_at code limits t b k top) s may.above e r (back_number x c c' r) (back_top code limits h b c c' (reverse below.items) n x y s r) in (
+    let r = subst (λ z. CalledBack z (waiting_body c) c') u back in
+    let whole = note_end code limits h b (waiting_body c) c' (waiting_bodies (reverse below.items)) n x y (task_at code limits t b k top) s may.above e r (back_number x (waiting_body c) c' r) (back_top code limits h b (waiting_body c) c' (waiting_bodies (reverse below.items)) n x y s r) in (
       record {
         forward = k.forward;
         kept = k.kept;
@@ -171,7 +172,7 @@ task_back code limits t past below ended b c c' n x y k may top e parts back ite
         task = subst (λ z. IsTask p (stack_view z (Some c'.number))) (sym new) whole.task;
         is_defined = λ d. subst (λ z. StaysDefinedAt p (doing p z d)) (sym new) (stays_at code limits t b n (Ended x) may top j d);
         stack = subst (λ z. IsBodyStack code limits z (Some c') (reverse below.items)) (sym new) whole.stack;
-        room = λ q z. absurd (back_next x c c' q r z);
+        room = λ q z. absurd (back_next x (waiting_body c) c' q r z);
       },
       (b.number, ap body_number top, subst (λ z. reverse past.items ≡ entry n b.number z ∷ h) (sym j) new),
       λ z. let x : true ≡ false = sym (ap is_end j) ∙ z in cc,
@@ -186,6 +187,13 @@ task_back code limits t past below ended b c c' n x y k may top e parts back ite
 pub no_length : {A : Type 0} (xs : List A) → length xs ≡ 0 → xs ≡ []
 no_length [] e = refl
 no_length (x ∷ xs) e = absurd (omega (arith, e))
+
+-- a body ends, whether a caller waits for it or none
+pub task_ended : (code : Parts) (limits : Limits) (t : Task) (past : Vec Entry Global) (below : Vec Caller Global) (ended : Option (Box Frames Global)) (top : Option Body) (b : Body) (n : ℕ) (x y : End) → IsTaskOf code limits t → (may : MayNote code limits t n) → t.top ≡ Some b → b.next ≡ nexts.Ends x y → HasEnded y t.below below top → past.items ≡ t.past.items ++ entry n b.number (Ended x) ∷ [] → vec_len past ≡ vec_len t.past + 1 → vec_capacity past ≡ vec_capacity t.past → vec_capacity below ≡ vec_capacity t.below → IsTaskOf code limits (record { past = past; top = top; below = below; spare = t.spare; ended = ended; values = t.values; limits = t.limits }) × task_noted (view_of t) n may.what (view_of (record { past = past; top = top; below = below; spare = t.spare; ended = ended; values = t.values; limits = t.limits })) × (is_end may.what ≡ false → (view_of (record { past = past; top = top; below = below; spare = t.spare; ended = ended; values = t.values; limits = t.limits })).top ≡ (view_of t).top)
+task_ended code limits t past below ended None b n x y k may top e h items len capacity room =
+    task_last code limits t past below ended b n x y k may top e (no_length t.below.items (omega (arith, h.0, t.below.ok.0))) (no_length below.items (omega (arith, h.1, below.ok.0))) items len capacity (omega (arith, h.0, h.1)) room
+task_ended code limits t past below ended (Some c) b n x y k may top e h items len capacity room =
+    task_back code limits t past below ended b h.0 c n x y k may top e h.1 h.2 items
 
 -- what follows from an answer that is there
 pub on_ok_follows : {A B : Type 0} (P Q : Type 0) (r : Result A B) → (P → Q) → OnOk r P → OnOk r Q
@@ -208,7 +216,7 @@ spare_task code limits t forward limited top past below room kept list =
             below = λ b u. subst (λ (h : List Entry). IsServedThere p h (doing p h b)) (sym none) tt;
           };
       is_defined = λ b. subst (λ (h : List Entry). StaysDefinedAt p (doing p h b)) (sym none) tt;
-      stack = subst (λ z. IsBodyStack code limits (view_of t).past z (reverse t.below.items)) (sym top) (ap reverse below);
+      stack = subst (λ z. IsBodyStack code limits (view_of t).past z (reverse t.below.items)) (sym top) (ap (λ (z : List Caller). waiting_bodies (reverse z)) below);
       room = subst (λ z. HasRoomIf code t z) (sym top) room;
       kept = kept;
       kept_values = list;

@@ -21,16 +21,17 @@ use Rattle.chord_vm.specs.Frames.{machine_of, waiting_of, what_of_ask, Advanced}
 use Rattle.chord_task.specs.declared.body.Next.{Next}
 use Rattle.chord_task.specs.declared.body.Next.TheVariants as nexts
 use Rattle.chord_task.specs.declared.body.Body.{Body}
+use Rattle.chord_task.specs.declared.body.Caller.{Caller}
 use Rattle.chord_task.specs.declared.task.Task.{Task}
 use Rattle.chord_task.specs.Arguments.{MayBeList}
 use Rattle.chord_task.specs.Stacks.{TaskView, IsNext, StaysDefined, task_noted}
-use Rattle.chord_task.specs.Standing.{body_number, view_of, IsTaskOf, GivenBy, AskedBy, AskedBody, may_go, body_may_go, is_ready_of, HasGiven, HasRoomFor, IsReadyFor, IsReserved, IsRoomier, IsRoomierTop, MayNote, MayAnswer, AnsweredWith, CalledBack, answer_of}
+use Rattle.chord_task.specs.Standing.{HasEnded, AreReady, body_number, view_of, IsTaskOf, GivenBy, AskedBy, AskedBody, may_go, body_may_go, is_ready_of, HasGiven, HasRoomFor, IsReadyFor, IsReserved, IsRoomier, IsRoomierTop, MayNote, MayAnswer, AnsweredWith, CalledBack, answer_of}
 use Rattle.chord_task.specs.Turning.{MayTurn, Turned, RunsOn, IsAskedFor, MaySettle, HasSettled}
 use Rattle.chord_task.proofs.Asking.{may_run, task_asked, view_asked, given_is, given_next}
 use Rattle.chord_task.proofs.Resuming.{task_roomier}
 use Rattle.chord_task.proofs.Notes.{gave_up}
 use Rattle.chord_task.proofs.Standing.{entry, gave_by}
-use Rattle.chord_task.proofs.Tasks.{stack_at, may_answer, task_gave, task_last, task_back}
+use Rattle.chord_task.proofs.Tasks.{stack_at, may_answer, task_gave, task_ended, caller_parked}
 
 -- a task with another body on top
 abbrev pub with_body : Task → Body → Task
@@ -212,15 +213,15 @@ pub settled_gave : (code : Parts) (t s : Task) (n : ℕ) (w : What) (b : Body) (
 settled_gave code t s n w b x v e past b' i r items len capacity =
     has_settled code t s _ n w b x (task_gave code t.limits (with_body s (with_next b x.asked)) past (with_next b x.asked) b' n v x.task x.may refl e i r items len capacity)
 
--- the end became an entry, and the caller goes on
-pub settled_back : (code : Parts) (t s : Task) (n : ℕ) (w : What) (b : Body) (x : Roomy code t s n w b) (y : End) → x.asked ≡ nexts.Ends y y → (past : Vec Entry Global) (below : Vec Body Global) (ended : Option (Box Frames Global)) (c c' : Body) → s.below.items ≡ below.items ++ c ∷ [] → CalledBack y c c' → past.items ≡ s.past.items ++ entry n b.number (Ended y) ∷ [] → HasSettled code t n w (record { past = past; top = Some c'; below = below; spare = s.spare; ended = ended; values = s.values; limits = s.limits })
-settled_back code t s n w b x y e past below ended c c' parts back items =
-    has_settled code t s _ n w b x (task_back code t.limits (with_body s (with_next b x.asked)) past below ended (with_next b x.asked) c c' n y y x.task x.may refl e parts back items)
+-- the end became an entry, and the caller goes on, or no body is left
+pub settled_end : (code : Parts) (t s : Task) (n : ℕ) (w : What) (b : Body) (x : Roomy code t s n w b) (y : End) → x.asked ≡ nexts.Ends y y → (past : Vec Entry Global) (below : Vec Caller Global) (ended : Option (Box Frames Global)) (top : Option Body) → HasEnded y s.below below top → past.items ≡ s.past.items ++ entry n b.number (Ended y) ∷ [] → vec_len past ≡ vec_len s.past + 1 → vec_capacity past ≡ vec_capacity s.past → vec_capacity below ≡ vec_capacity s.below → HasSettled code t n w (record { past = past; top = top; below = below; spare = s.spare; ended = ended; values = s.values; limits = s.limits })
+settled_end code t s n w b x y e past below ended top h items len capacity room =
+    has_settled code t s _ n w b x (task_ended code t.limits (with_body s (with_next b x.asked)) past below ended top (with_next b x.asked) n y y x.task x.may refl e h items len capacity room)
 
--- the end became an entry, and no body is left
-pub settled_last : (code : Parts) (t s : Task) (n : ℕ) (w : What) (b : Body) (x : Roomy code t s n w b) (y : End) → x.asked ≡ nexts.Ends y y → (past : Vec Entry Global) (below : Vec Body Global) (ended : Option (Box Frames Global)) → s.below.items ≡ [] → below.items ≡ [] → past.items ≡ s.past.items ++ entry n b.number (Ended y) ∷ [] → vec_len past ≡ vec_len s.past + 1 → vec_capacity past ≡ vec_capacity s.past → vec_len below ≡ vec_len s.below → vec_capacity below ≡ vec_capacity s.below → HasSettled code t n w (record { past = past; top = None; below = below; spare = s.spare; ended = ended; values = s.values; limits = s.limits })
-settled_last code t s n w b x y e past below ended none left items len capacity long room =
-    has_settled code t s _ n w b x (task_last code t.limits (with_body s (with_next b x.asked)) past below ended (with_next b x.asked) n y y x.task x.may refl e none left items len capacity long room)
+-- the callers below can be answered
+pub roomy_ready : (code : Parts) (t s : Task) (n : ℕ) (w : What) (b : Body) → Roomy code t s n w b → AreReady s.below.items
+roomy_ready code t s n w b x rest c e =
+    let k = caller_parked code t.limits (with_body s (with_next b x.asked)) rest (with_next b x.asked) c x.task refl e in (k.1.ready, k.1.awaited)
 
 -- ---- a task that keeps its ask
 

@@ -1,5 +1,5 @@
 -- What the bodies of a task stand for: where the code of each stands after the answers that its story has.
-use Rattle.std.specs.Prelude.{◌≡◌, ◌≢◌, ◌+◌, ◌-◌, ◌<◌, ◌≤◌, vec_len, vec_capacity, ℕ, List, [], ◌∷◌, Bool, true, false, ◌==◌, Option, Some, None, reverse, IsSome, Box}
+use Rattle.std.specs.Prelude.{◌≡◌, ◌≢◌, ◌+◌, ◌-◌, ◌<◌, ◌≤◌, ◌++◌, vec_len, vec_capacity, Vec, ℕ, List, [], ◌∷◌, Bool, true, false, ◌==◌, Option, Some, None, reverse, IsSome, Box}
 use Rattle.std.specs.Global.{Global}
 use Rattle.chord_base.specs.declared.value.Object.{Object}
 use Rattle.chord_base.specs.declared.value.Value.{Value}
@@ -26,6 +26,7 @@ use Rattle.chord_base.specs.Printed.{is_end}
 use Rattle.chord_task.specs.declared.body.Next.{Next}
 use Rattle.chord_task.specs.declared.body.Next.TheVariants as nexts
 use Rattle.chord_task.specs.declared.body.Body.{Body}
+use Rattle.chord_task.specs.declared.body.Caller.{Caller}
 use Rattle.chord_task.specs.declared.task.Task.{Task}
 use Rattle.chord_task.specs.Stacks.{TaskView, IsTask, StaysDefined, BeginsDefined, MayBeginBody}
 
@@ -94,10 +95,41 @@ AreParked code limits h call above (b ∷ bs) =
     × AreParked code limits h (serves (code_program code limits) b.number h) b.number bs
 
 -- what is known of a stack of bodies
-abbrev pub IsBodyStack : Parts → Limits → List Entry → Option Body → List Body → Type 0
-IsBodyStack code limits h None bs = bs ≡ []
-IsBodyStack code limits h (Some b) bs =
+abbrev pub AreStacked : Parts → Limits → List Entry → Option Body → List Body → Type 0
+AreStacked code limits h None bs = bs ≡ []
+AreStacked code limits h (Some b) bs =
     IsTop code limits h b.next b × AreParked code limits h (serves (code_program code limits) b.number h) b.number bs
+
+-- the body that waits as this caller
+abbrev pub waiting_body : Caller → Body
+waiting_body c = record { number = c.number; frames = c.frames; next = nexts.Waits c.call }
+
+-- the bodies that wait as these callers
+abbrev pub waiting_bodies : List Caller → List Body
+waiting_bodies [] = []
+waiting_bodies (c ∷ cs) = waiting_body c ∷ waiting_bodies cs
+
+-- what is known of a body on top and the callers below it
+abbrev pub IsBodyStack : Parts → Limits → List Entry → Option Body → List Caller → Type 0
+IsBodyStack code limits h top cs = AreStacked code limits h top (waiting_bodies cs)
+
+-- the call that a body waits for
+abbrev pub call_of : Next → ℕ
+call_of nexts.Runs = 0
+call_of (nexts.Gave w) = 0
+call_of (nexts.Ends e e') = 0
+call_of (nexts.Fails t) = 0
+call_of (nexts.Waits q) = q
+
+-- the body on top as a caller, if there is one
+abbrev pub callers_of : Option Body → List Caller
+callers_of None = []
+callers_of (Some b) = record { number = b.number; call = call_of b.next; frames = b.frames } ∷ []
+
+-- the body on top waits for a call, if there is one
+abbrev pub IsWaiting : Option Body → Type 0
+IsWaiting None = Unit {0}
+IsWaiting (Some b) = (q : ℕ) × (b.next ≡ nexts.Waits q)
 
 -- frames of no body for this code under these limits, with room for each block
 pub record IsSpareOf (code : Parts) (limits : Limits) (f : Frames) : Type 0 where
@@ -248,6 +280,15 @@ AnsweredWith (Some v) n f b = (b.next ≡ nexts.Runs) × (with_answer (machine_o
 abbrev pub CalledBack : End → Body → Body → Type 0
 CalledBack (Gives v) b b' = (b'.number ≡ b.number) × AnsweredWith (Some v) 0 b.frames.value b'
 CalledBack (Traps t) b b' = (b'.number ≡ b.number) × (b'.next ≡ nexts.Fails t)
+
+-- the last of these callers can be answered by a value
+abbrev pub AreReady : List Caller → Type 0
+AreReady cs = (rest : List Caller) (c : Caller) → cs ≡ rest ++ c ∷ [] → IsReady ForValue c.frames.value × (c.frames.value.awaited ≡ ForValue)
+
+-- a body ended so: the last of the callers came back on top, if there was one
+abbrev pub HasEnded : End → Vec Caller Global → Vec Caller Global → Option Body → Type 0
+HasEnded x before after None = (vec_len before ≡ 0) × (vec_len after ≡ 0)
+HasEnded x before after (Some b) = (c : Caller) × (before.items ≡ after.items ++ c ∷ []) × CalledBack x (waiting_body c) b
 
 -- there is room for the answer of a body, if there is a body
 abbrev pub IsReadyFor : Option Body → Type 0

@@ -5,7 +5,7 @@ ghost use Rattle.std.specs.Prelude.{◌≡◌, ◌≢◌, ℕ, IfOk, OnOk, Some,
 ghost use Rattle.chord_code.specs.declared.awaited.Awaited.TheVariants as Awaited;
 ghost use Rattle.chord_code.specs.Machine.{with_answer, ComesToAsk};
 ghost use Rattle.chord_vm.specs.Frames.{machine_of, IsReady, what_of_ask};
-ghost use Rattle.chord_task.specs.Standing.{GivenBy, AskedBody, IsRunnable, MayAnswer, AnsweredWith, CalledBack, answer_of, given_of, HasRun, IsAskGiven, IsAnsweredByNote};
+ghost use Rattle.chord_task.specs.Standing.{waiting_body, GivenBy, AskedBody, IsRunnable, MayAnswer, AnsweredWith, CalledBack, answer_of, given_of, HasRun, IsAskGiven, IsAnsweredByNote};
 
 use chord_base::event::{End, Trap, What};
 use chord_base::value::{Object, Value};
@@ -42,6 +42,17 @@ pub struct Body {
     pub next: Next,
 }
 
+/// A body that waits for the end of a call. It is small, since what it does next is known.
+#[derive(Drop)]
+pub struct Caller {
+    /// The number of the entry that began it.
+    pub number: u32,
+    /// The call that it waits for.
+    pub call: u32,
+    /// Its frames.
+    pub frames: Box<Frames>,
+}
+
 /// What a body that ran does next. There is nothing to drop in its place, which an assignment would not know.
 pub(crate) fn put(place: &mut Next, next: Next)
     requires runs { place.old ≡ Next.Runs }
@@ -53,9 +64,9 @@ pub(crate) fn put(place: &mut Next, next: Next)
     }
 }
 
-/// What a body does next whose call has ended. There is nothing to drop in place of its wait.
+/// What a body does next in the place of one that waits. There is nothing to drop in place of its wait.
 #[inline(always)]
-fn put_after(place: &mut Next, next: Next)
+pub(crate) fn put_after(place: &mut Next, next: Next)
     requires waits { (q : ℕ) × (place.old ≡ Next.Waits q) }
     ensures put { place.new ≡ next }
 {
@@ -150,21 +161,26 @@ pub(crate) fn note_ask(body: &mut Body, number: u32, what: &What)
     }
 }
 
-/// The body that it called has ended.
+/// The caller comes back in the place of the body that it called, which has ended. Gives the frames of the one that ended.
 #[inline(always)]
-pub(crate) fn call_back(caller: &mut Body, end: End)
-    requires ready { IsReady Awaited.ForValue caller.old.frames.value }
-    requires awaited { caller.old.frames.value.awaited ≡ Awaited.ForValue }
-    requires waits { (q : ℕ) × (caller.old.next ≡ Next.Waits q) }
-    ensures { CalledBack end caller.old caller.new }
+pub(crate) fn call_back(place: &mut Body, caller: Caller, end: End) -> Box<Frames>
+    requires ready { IsReady Awaited.ForValue caller.frames.value }
+    requires awaited { caller.frames.value.awaited ≡ Awaited.ForValue }
+    requires runs { place.old.next ≡ Next.Runs }
+    ensures { CalledBack end (waiting_body caller) place.new }
 {
+    let Caller {
+        number,
+        call: _,
+        frames,
+    } = caller;
+    let ended = mem::replace(&mut place.frames, frames);
+    place.number = number;
     match end {
-        End::Gives(value) => {
-            answer(&mut *caller.frames, value);
-            put_after(&mut caller.next, Next::Runs);
-        }
-        End::Traps(trap) => put_after(&mut caller.next, Next::Fails(trap)),
+        End::Gives(value) => answer(&mut *place.frames, value),
+        End::Traps(trap) => put(&mut place.next, Next::Fails(trap)),
     }
+    ended
 }
 
 /// A copy of the ask that a body gave.

@@ -1,7 +1,7 @@
 //! A stack of bodies, each waiting for the one above it, and the entries that they made.
 #![tactic(auto)]
 
-ghost use Rattle.std.specs.Prelude.{◌≡◌, ◌≢◌, ℕ, ◌+◌, ◌-◌, ◌<◌, ◌≤◌, List, [], ◌∷◌, ◌++◌, true, false, IfOk, OnOk, IfSome, Some, None, length, slice_get, is_none, option_copied, option_to_list, vec_len, vec_capacity, MatchOption, Box};
+ghost use Rattle.std.specs.Prelude.{◌≡◌, ◌≢◌, ℕ, ◌+◌, ◌-◌, ◌<◌, ◌≤◌, List, [], ◌∷◌, ◌++◌, true, false, IfOk, OnOk, IfSome, Some, None, length, slice_get, is_none, option_copied, vec_len, vec_capacity, Box};
 ghost use Rattle.chord_base.specs.declared.event.Limits.{Limits as TheLimits};
 ghost use Rattle.chord_base.specs.declared.event.What.{What as AWhat};
 ghost use Rattle.chord_base.specs.Printed.{is_end};
@@ -10,12 +10,13 @@ ghost use Rattle.chord_code.specs.Meaning.{code_program, chord_lines};
 ghost use Rattle.chord_vm.specs.declared.frames.Frames.{Frames as TheFrames};
 ghost use Rattle.chord_vm.specs.Frames.{laid, what_of_ask};
 ghost use Rattle.chord_task.specs.Arguments.{for_entry, AreTwice, MayBeList, IsList};
+ghost use Rattle.chord_task.specs.Turning.{RunsOn};
 ghost use Rattle.chord_task.specs.Stacks.{task_noted, task_begun, IsNext};
-ghost use Rattle.chord_task.specs.Standing.{view_of, IsTaskOf, HasGiven, IsReserved, IsResumable, MayNote, MayResume, is_ready_of, waits_of, room_of, given_by, IsRoomierTop, HasRoomFor, IsSpareOf, IsReadyFor, MainBegins, CanNote};
+ghost use Rattle.chord_task.specs.Standing.{view_of, IsTaskOf, HasGiven, IsReserved, IsResumable, MayNote, MayResume, is_ready_of, waits_of, room_of, callers_of, IsWaiting, AreReady, HasEnded, given_by, IsRoomierTop, HasRoomFor, IsSpareOf, IsReadyFor, MainBegins, CanNote};
 
 use crate::args::{Args, part_all};
-use crate::body::{Body, Next, call_back, come_to_ask, given, note_ask};
-use chord_base::event::{Entry, Limits, What};
+use crate::body::{Body, Caller, Next, call_back, come_to_ask, given, note_ask, put_after};
+use chord_base::event::{End, Entry, Limits, What};
 use chord_base::hand::Hand;
 use chord_base::members::Members;
 use chord_base::value::{Object, Value, Values};
@@ -39,7 +40,7 @@ pub struct Task {
     /// The body on top.
     pub top: Option<Body>,
     /// The bodies below it, each of which waits for the one above it.
-    pub below: Vec<Body>,
+    pub below: Vec<Caller>,
     /// Frames for the next body.
     pub spare: Option<Box<Frames>>,
     /// Frames of a body that has ended.
@@ -155,11 +156,13 @@ fn reserve_values(alloc: Global, values: &mut Option<Vec<Value>>) -> Result<(), 
     Ok(())
 }
 
-/// The frames of a body that has ended, if there is one.
-fn frames_of(body: Option<Body>) -> Option<Box<Frames>>
-    requires runs { IfSome body (λ b. b.next ≡ Next.Runs) }
+/// The frames of the last body, which has ended. It stands apart, since the place of a body is cleared in a function that moves one.
+#[inline(never)]
+fn take_last(top: &mut Option<Body>) -> Option<Box<Frames>>
+    requires runs { RunsOn top.old }
+    ensures none { top.new ≡ None }
 {
-    match body {
+    match mem::replace(top, None) {
         None => None,
         Some(body) => {
             let Body {
@@ -177,43 +180,74 @@ fn frames_of(body: Option<Body>) -> Option<Box<Frames>>
     }
 }
 
-/// The body below comes on top, if there is one, and the frames of the one that ended are kept.
-#[inline(never)]
-pub(crate) fn pop_caller(
+/// The body on top has ended: its caller comes back in its place, if there is one, and its frames are kept.
+#[inline(always)]
+pub(crate) fn end_top(
     top: &mut Option<Body>,
-    below: &mut Vec<Body>,
+    below: &mut Vec<Caller>,
     ended: &mut Option<Box<Frames>>,
+    end: End,
 )
-    requires runs { IfSome top.old (λ b. b.next ≡ Next.Runs) }
-    ensures items { below.old.items ≡ below.new.items ++ option_to_list top.new }
+    requires runs { RunsOn top.old }
+    requires ready { AreReady below.old.items }
     ensures capacity { vec_capacity below.new ≡ vec_capacity below.old }
-    ensures cases { MatchOption top.new ((vec_len below.old ≡ 0) × (vec_len below.new ≡ 0)) (λ _. vec_len below.new + 1 ≡ vec_len below.old) }
+    ensures ended { HasEnded end below.old below.new top.new }
 {
     match below.pop() {
-        None => *ended = frames_of(mem::replace(top, None)),
-        Some(caller) => *ended = frames_of(mem::replace(top, Some(caller))),
+        None => *ended = take_last(top),
+        Some(caller) => match top {
+            None => unreachable!(),
+            Some(body) => *ended = Some(call_back(body, caller, end)),
+        },
     }
 }
 
-/// Puts a body that runs on top, for which there is room. It stands apart, since the place of a body is cleared in a function that makes one.
+/// The first body of a task, which runs. It stands apart, since the place of a body is cleared in a function that makes one.
 #[inline(never)]
-pub(crate) fn put_on_top(
-    top: &mut Option<Body>,
-    below: &mut Vec<Body>,
-    number: u32,
-    frames: Box<Frames>,
-)
-    requires room { vec_len below.old < vec_capacity below.old }
+fn put_first(top: &mut Option<Body>, number: u32, frames: Box<Frames>)
+    requires none { top.old ≡ None }
     ensures top { top.new ≡ Some (record { number = number; frames = frames; next = Next.Runs }) }
-    ensures below { below.new.items ≡ below.old.items ++ option_to_list top.old }
 {
     let body = Body {
         number,
         frames,
         next: Next::Runs,
     };
-    if let Some(caller) = mem::replace(top, Some(body)) {
-        below.push_reserved(caller);
+    match mem::replace(top, Some(body)) {
+        None => {}
+        Some(_) => unreachable!(),
+    }
+}
+
+/// Puts a body that runs on top, for which there is room: in the place of its caller, if there is one, which goes below.
+#[inline(always)]
+pub(crate) fn put_on_top(
+    top: &mut Option<Body>,
+    below: &mut Vec<Caller>,
+    number: u32,
+    frames: Box<Frames>,
+)
+    requires room { vec_len below.old < vec_capacity below.old }
+    requires waits { IsWaiting top.old }
+    ensures top { top.new ≡ Some (record { number = number; frames = frames; next = Next.Runs }) }
+    ensures below { below.new.items ≡ below.old.items ++ callers_of top.old }
+{
+    match top {
+        None => put_first(top, number, frames),
+        Some(body) => {
+            let call = match body.next {
+                Next::Waits(call) => call,
+                _ => unreachable!(),
+            };
+            let caller = Caller {
+                number: body.number,
+                call,
+                frames: mem::replace(&mut body.frames, frames),
+            };
+            below.push_reserved(caller);
+            body.number = number;
+            put_after(&mut body.next, Next::Runs);
+        }
     }
 }
 
@@ -380,11 +414,7 @@ impl Task {
                             body: maker,
                             what: What::Ended(first),
                         });
-                        pop_caller(&mut self.top, &mut self.below, &mut self.ended);
-                        match &mut self.top {
-                            None => {}
-                            Some(caller) => call_back(caller, second),
-                        }
+                        end_top(&mut self.top, &mut self.below, &mut self.ended, second);
                     }
                     _ => unreachable!(),
                 }

@@ -7,8 +7,8 @@ ghost use Rattle.chord_vm.specs.Frames.{what_of_ask};
 ghost use Rattle.chord_task.specs.Standing.{view_of, IsTaskOf, is_ready_of, given_by};
 ghost use Rattle.chord_task.specs.Turning.{sent_to, sent_of, MayTurn, HasTurned, IsAskedFor, RunsOn, HasSettled, MaySettle};
 
-use crate::body::{Next, call_back, put};
-use crate::task::{Task, pop_caller};
+use crate::body::{Next, put};
+use crate::task::{Task, end_top};
 use chord_base::event::{Entry, Limits, What};
 use chord_base::value::{Object, Value};
 use chord_code::code::Code;
@@ -174,11 +174,7 @@ impl Task {
                     Ask::End(first) => {
                         let second = first.copied(alloc)?;
                         append(past, number, maker, What::Ended(first));
-                        pop_caller(&mut self.top, &mut self.below, &mut self.ended);
-                        match &mut self.top {
-                            None => {}
-                            Some(caller) => call_back(caller, second),
-                        }
+                        end_top(&mut self.top, &mut self.below, &mut self.ended, second);
                         Ok(None)
                     }
                 }

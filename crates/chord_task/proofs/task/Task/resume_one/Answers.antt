@@ -10,7 +10,7 @@ use Rattle.chord_vm.specs.Frames.{IsRoomFor}
 use Rattle.chord_vm.specs.declared.frames.Frames.{Frames}
 use Rattle.chord_task.specs.Standing.{room_of}
 use Rattle.chord_task.proofs.Standing.{entry}
-use Rattle.chord_task.proofs.Resuming.{opening, task_resumed, spacious_at, put_below, begun_with}
+use Rattle.chord_task.proofs.Resuming.{opening, task_resumed, spacious_at, put_below, waits_below, begun_with}
 use Rattle.chord_task.proofs.task.Task.resume_one.Goals as goal
 
 pub line_of-requires : goal.line_of-requires
@@ -65,3 +65,6 @@ returns-clause-task c =
     let bodies = put_below c.args.self.now.top c.args.self.now.below.items c.put_on_top.new.below.items c.put_on_top.ensures.below in
     rw (c.put_on_top.ensures.top, c.take.ensures.after)
     (task_resumed c.args.code.now limits c.args.self.now c.push_reserved.new.self c.put_on_top.new.below c.args.self.now.values c.args.number c.args.chord c.args.object c.args.members.now vs _ c.line_of.result.now c.requires.task.kept_values c.requires.task c.requires.may c.line_of.ensures (sym same ∙ c.begin_moved.ensures) items bodies)
+
+pub put_on_top-requires-clause-waits : goal.put_on_top-requires-clause-waits
+put_on_top-requires-clause-waits c = waits_below c.args.code.now c.args.self.now.limits c.args.self.now c.args.number c.args.chord c.args.object c.args.members.now c.args.arguments.first c.requires.task c.requires.may

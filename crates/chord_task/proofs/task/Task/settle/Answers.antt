@@ -1,16 +1,13 @@
-use Rattle.std.proofs.Common.{◌≡◌, ◌+◌, ◌++◌, sym, ap, refl, ◌∙◌, subst, [], None, Some, arith, Option, vec_len}
-use Rattle.std.specs.Prelude.{MatchOption, option_to_list}
+use Rattle.std.proofs.Common.{◌≡◌, sym, ap, refl, subst, None, Some}
 use Rattle.chord_base.specs.declared.value.Value.TheVariants as a_value
 use Rattle.chord_base.specs.declared.event.What.TheVariants.{Made, Sent, Called, Printed}
 use Rattle.chord_code.specs.Machine.{with_answer}
 use Rattle.chord_vm.specs.Frames.{machine_of, what_of_ask}
 use Rattle.chord_vm.specs.declared.frames.Frames.{Frames}
-use Rattle.chord_task.specs.declared.body.Body.{Body}
 use Rattle.chord_task.specs.declared.body.Next.TheVariants as nexts
-use Rattle.chord_task.specs.Standing.{GivenBy, CalledBack}
+use Rattle.chord_task.specs.Standing.{GivenBy, HasEnded}
 use Rattle.chord_task.specs.Turning.{sent_to}
-use Rattle.chord_task.proofs.Tasks.{no_length, caller_parked}
-use Rattle.chord_task.proofs.Turning.{with_body, with_next, roomy, roomy_fits, roomy_asked, settled_gave, settled_back, settled_last}
+use Rattle.chord_task.proofs.Turning.{roomy, roomy_fits, roomy_asked, settled_gave, settled_end, roomy_ready}
 use Rattle.chord_task.proofs.task.Task.settle.Goals as goal
 
 pub answer-requires-clause-fits : goal.answer-requires-clause-fits
@@ -62,57 +59,30 @@ returns-in-Call c =
     let g : x.asked ≡ nexts.Gave (Called c.in-Call.object c.in-Call.method c.in-Call.arguments) = subst (λ a. GivenBy (what_of_ask a) x.asked) c.in-Call.is x.given in
     (c.take_ask.result, c.take_ask.ensures, settled_gave c.args.code.now c.args.self.now c.take_room.new.self c.args.number (what_of_ask c.take_ask.result) c.in-Some.body x (Called c.in-Call.object c.in-Call.method c.in-Call.arguments) g c.append-in-Call.new.past _ refl (c.put.ensures.put, refl) c.append-in-Call.ensures.items c.append-in-Call.ensures.len c.append-in-Call.ensures.capacity, sym (ap (λ a. sent_to (what_of_ask a)) c.in-Call.is))
 
-pub returns-in-Some-top : goal.returns-in-Some-top
-returns-in-Some-top c =
-    let x = roomy c.args.code.now c.args.self.now c.take_room.new.self c.args.number (what_of_ask c.take_ask.result) c.in-Some.body (c.requires.asked c.take_ask.result c.take_ask.ensures) (c.requires.may c.take_ask.result c.take_ask.ensures) c.take_room.ensures.past c.take_room.ensures.below c.take_room.ensures.top c.take_room.ensures.spare c.take_room.ensures.values c.take_room.ensures.limits c.in_ok-take_room.ensures.ready c.in-Some.is in
-    let y = c.in-End.first in
-    let g : x.asked ≡ nexts.Ends y y = subst (λ a. GivenBy (what_of_ask a) x.asked) c.in-End.is x.given in
-    let parts = c.pop_caller.ensures.items ∙ ap (λ (o : Option Body). c.pop_caller.new.below.items ++ option_to_list o) c.in-Some-top.is in (
-      c.take_ask.result,
-      c.take_ask.ensures,
-      settled_back c.args.code.now c.args.self.now c.take_room.new.self c.args.number (what_of_ask c.take_ask.result) c.in-Some.body x y g c.append-in-End.new.past c.pop_caller.new.below c.pop_caller.new.ended c.in-Some-top.caller c.call_back.new.caller parts
-          (subst (λ z. CalledBack z c.in-Some-top.caller c.call_back.new.caller) c.in_ok-second-in-End.ensures c.call_back.ensures) c.append-in-End.ensures.items,
-      sym (ap (λ a. sent_to (what_of_ask a)) c.in-End.is),
-    )
-
-pub returns-in-None-top : goal.returns-in-None-top
-returns-in-None-top c =
+pub returns-in_ok-second-in-End : goal.returns-in_ok-second-in-End
+returns-in_ok-second-in-End c =
     let x = roomy c.args.code.now c.args.self.now c.take_room.new.self c.args.number (what_of_ask c.take_ask.result) c.in-Some.body (c.requires.asked c.take_ask.result c.take_ask.ensures) (c.requires.may c.take_ask.result c.take_ask.ensures) c.take_room.ensures.past c.take_room.ensures.below c.take_room.ensures.top c.take_room.ensures.spare c.take_room.ensures.values c.take_room.ensures.limits c.in_ok-take_room.ensures.ready c.in-Some.is in
     let y = c.in-End.first in
     let g : x.asked ≡ nexts.Ends y y = subst (λ a. GivenBy (what_of_ask a) x.asked) c.in-End.is x.given in
     let s = c.take_room.new.self in
-    let cases = subst (λ (o : Option Body). MatchOption o ((vec_len s.below ≡ 0) × (vec_len c.pop_caller.new.below ≡ 0)) (λ _. vec_len c.pop_caller.new.below + 1 ≡ vec_len s.below)) c.in-None-top.is c.pop_caller.ensures.cases in
-    let before : s.below.items ≡ [] = no_length s.below.items (omega (arith, cases.0, s.below.ok.0)) in
-    let after : c.pop_caller.new.below.items ≡ [] = no_length c.pop_caller.new.below.items (omega (arith, cases.1, c.pop_caller.new.below.ok.0)) in
-    (c.take_ask.result, c.take_ask.ensures, rw c.in-None-top.is (settled_last c.args.code.now c.args.self.now s c.args.number (what_of_ask c.take_ask.result) c.in-Some.body x y g c.append-in-End.new.past c.pop_caller.new.below c.pop_caller.new.ended before after c.append-in-End.ensures.items c.append-in-End.ensures.len c.append-in-End.ensures.capacity (omega (arith, cases.0, cases.1)) c.pop_caller.ensures.capacity), sym (ap (λ a. sent_to (what_of_ask a)) c.in-End.is))
+    let ended = subst (λ z. HasEnded z s.below c.end_top.new.below c.end_top.new.top) c.in_ok-second-in-End.ensures c.end_top.ensures.ended in (
+      c.take_ask.result,
+      c.take_ask.ensures,
+      settled_end c.args.code.now c.args.self.now s c.args.number (what_of_ask c.take_ask.result) c.in-Some.body x y g c.append-in-End.new.past c.end_top.new.below c.end_top.new.ended c.end_top.new.top ended c.append-in-End.ensures.items c.append-in-End.ensures.len c.append-in-End.ensures.capacity c.end_top.ensures.capacity,
+      sym (ap (λ a. sent_to (what_of_ask a)) c.in-End.is),
+    )
 
 pub put-requires : goal.put-requires
 put-requires c =
     let x = roomy c.args.code.now c.args.self.now c.take_room.new.self c.args.number (what_of_ask c.take_ask.result) c.in-Some.body (c.requires.asked c.take_ask.result c.take_ask.ensures) (c.requires.may c.take_ask.result c.take_ask.ensures) c.take_room.ensures.past c.take_room.ensures.below c.take_room.ensures.top c.take_room.ensures.spare c.take_room.ensures.values c.take_room.ensures.limits c.in_ok-take_room.ensures.ready c.in-Some.is in
     record { runs = x.runs }
 
-pub pop_caller-requires : goal.pop_caller-requires
-pop_caller-requires c =
+pub end_top-requires-clause-runs : goal.end_top-requires-clause-runs
+end_top-requires-clause-runs c =
     let x = roomy c.args.code.now c.args.self.now c.take_room.new.self c.args.number (what_of_ask c.take_ask.result) c.in-Some.body (c.requires.asked c.take_ask.result c.take_ask.ensures) (c.requires.may c.take_ask.result c.take_ask.ensures) c.take_room.ensures.past c.take_room.ensures.below c.take_room.ensures.top c.take_room.ensures.spare c.take_room.ensures.values c.take_room.ensures.limits c.in_ok-take_room.ensures.ready c.in-Some.is in
-    record { runs = x.runs }
+    (c.in-Some.body, refl, x.runs)
 
-pub call_back-requires-clause-ready : goal.call_back-requires-clause-ready
-call_back-requires-clause-ready c =
+pub end_top-requires-clause-ready : goal.end_top-requires-clause-ready
+end_top-requires-clause-ready c =
     let x = roomy c.args.code.now c.args.self.now c.take_room.new.self c.args.number (what_of_ask c.take_ask.result) c.in-Some.body (c.requires.asked c.take_ask.result c.take_ask.ensures) (c.requires.may c.take_ask.result c.take_ask.ensures) c.take_room.ensures.past c.take_room.ensures.below c.take_room.ensures.top c.take_room.ensures.spare c.take_room.ensures.values c.take_room.ensures.limits c.in_ok-take_room.ensures.ready c.in-Some.is in
-    let parts = c.pop_caller.ensures.items ∙ ap (λ (o : Option Body). c.pop_caller.new.below.items ++ option_to_list o) c.in-Some-top.is in
-    let w = caller_parked c.args.code.now c.args.self.now.limits (with_body c.take_room.new.self (with_next c.in-Some.body x.asked)) c.pop_caller.new.below.items (with_next c.in-Some.body x.asked) c.in-Some-top.caller x.task refl parts in
-    w.1.ready
-
-pub call_back-requires-clause-awaited : goal.call_back-requires-clause-awaited
-call_back-requires-clause-awaited c =
-    let x = roomy c.args.code.now c.args.self.now c.take_room.new.self c.args.number (what_of_ask c.take_ask.result) c.in-Some.body (c.requires.asked c.take_ask.result c.take_ask.ensures) (c.requires.may c.take_ask.result c.take_ask.ensures) c.take_room.ensures.past c.take_room.ensures.below c.take_room.ensures.top c.take_room.ensures.spare c.take_room.ensures.values c.take_room.ensures.limits c.in_ok-take_room.ensures.ready c.in-Some.is in
-    let parts = c.pop_caller.ensures.items ∙ ap (λ (o : Option Body). c.pop_caller.new.below.items ++ option_to_list o) c.in-Some-top.is in
-    let w = caller_parked c.args.code.now c.args.self.now.limits (with_body c.take_room.new.self (with_next c.in-Some.body x.asked)) c.pop_caller.new.below.items (with_next c.in-Some.body x.asked) c.in-Some-top.caller x.task refl parts in
-    w.1.awaited
-
-pub call_back-requires-clause-waits : goal.call_back-requires-clause-waits
-call_back-requires-clause-waits c =
-    let x = roomy c.args.code.now c.args.self.now c.take_room.new.self c.args.number (what_of_ask c.take_ask.result) c.in-Some.body (c.requires.asked c.take_ask.result c.take_ask.ensures) (c.requires.may c.take_ask.result c.take_ask.ensures) c.take_room.ensures.past c.take_room.ensures.below c.take_room.ensures.top c.take_room.ensures.spare c.take_room.ensures.values c.take_room.ensures.limits c.in_ok-take_room.ensures.ready c.in-Some.is in
-    let parts = c.pop_caller.ensures.items ∙ ap (λ (o : Option Body). c.pop_caller.new.below.items ++ option_to_list o) c.in-Some-top.is in
-    let w = caller_parked c.args.code.now c.args.self.now.limits (with_body c.take_room.new.self (with_next c.in-Some.body x.asked)) c.pop_caller.new.below.items (with_next c.in-Some.body x.asked) c.in-Some-top.caller x.task refl parts in
-    (w.0, w.1.waits)
+    roomy_ready c.args.code.now c.args.self.now c.take_room.new.self c.args.number (what_of_ask c.take_ask.result) c.in-Some.body x
