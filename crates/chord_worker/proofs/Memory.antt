@@ -18,6 +18,7 @@ use Rattle.chord_code.specs.Meaning.{code_program}
 use Rattle.chord_rule.specs.Closing.{IsQuiet, AreQuiet}
 use Rattle.chord_rule.specs.Kinds.{is_among, entry, left_by, MayGo}
 use Rattle.chord_task.specs.declared.body.Body.{Body}
+use Rattle.chord_task.specs.declared.body.Caller.{Caller}
 use Rattle.chord_task.specs.declared.body.Next.{Next}
 use Rattle.chord_task.specs.declared.body.Next.TheVariants as nexts
 use Rattle.chord_task.specs.declared.task.Task.{Task}
@@ -90,7 +91,7 @@ next_quiet code limits h b (nexts.Fails x) t e = let z : true ≡ false = e in a
 next_quiet code limits h b (nexts.Waits q) t e = subst IsQuiet (sym t.is) tt
 
 -- the number of the body on top, if it may not go on, is that of a quiet body
-top_quiet : (code : Parts) (limits : Limits) (h : List Entry) (x : Option Body) (bs : List Body) → IsBodyStack code limits h x bs → body_may_go x ≡ false → (n : ℕ) → body_number x ≡ Some n → IsQuiet (doing (code_program code limits) h n)
+top_quiet : (code : Parts) (limits : Limits) (h : List Entry) (x : Option Body) (bs : List Caller) → IsBodyStack code limits h x bs → body_may_go x ≡ false → (n : ℕ) → body_number x ≡ Some n → IsQuiet (doing (code_program code limits) h n)
 top_quiet code limits h None bs s e n i = let z : Path (Option ℕ) None (Some n) = i in absurd (cc)
 top_quiet code limits h (Some b) bs s e n i =
     let j : Some b.number ≡ Some n = i in
