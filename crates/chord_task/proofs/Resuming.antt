@@ -32,7 +32,7 @@ use Rattle.chord_task.specs.Stacks.{IsTask, TopWaitsFor, FitsCall}
 use Rattle.chord_vm.specs.Frames.{laid}
 use Rattle.chord_task.specs.declared.args.Args.{Args}
 use Rattle.chord_task.specs.Arguments.{MayBeList, for_entry, for_body, AreTwice}
-use Rattle.chord_task.specs.Standing.{body_number, view_of, NextIs, IsUp, IsParked, IsTop, AreParked, IsBodyStack, HasRoomFor, IsTaskOf, MayResume, room_of, may_go, body_may_go, is_ready_of, IsRoomier, IsRoomierTop, waiting_body, waiting_bodies, call_of, callers_of, IsWaiting}
+use Rattle.chord_task.specs.Standing.{body_number, view_of, NextIs, IsUp, IsParked, IsTop, AreParked, IsBodyStack, HasRoomFor, IsTaskOf, MayResume, room_of, may_go, body_may_go, is_ready_of, IsRoomier, IsRoomierTop, waiting_body, waiting_bodies, awaited_call, callers_of, WaitsIfAny}
 use Rattle.chord_task.proofs.Stacks.{task_resume, task_spare, begun_ready}
 use Rattle.chord_task.proofs.Standing.{entry, parked_more, all_parked, parked_under}
 use Rattle.chord_task.proofs.Notes.{stack_view}
@@ -80,13 +80,13 @@ top_parked code limits h b s d rs q l (nexts.Fails t) e u = absurd (up_waits cod
 top_parked code limits h b s d rs q l (nexts.Waits r) e k = (r, k)
 
 -- a body that waits is the one that waits as its caller
-as_caller : (b : Body) (q : ℕ) → b.next ≡ nexts.Waits q → waiting_body (record { number = b.number; call = call_of b.next; frames = b.frames }) ≡ b
+as_caller : (b : Body) (q : ℕ) → b.next ≡ nexts.Waits q → waiting_body (record { number = b.number; call = awaited_call b.next; frames = b.frames }) ≡ b
 as_caller b q e =
-    ap (λ (x : Next). record { number = b.number; frames = b.frames; next = nexts.Waits (call_of x) }) e
+    ap (λ (x : Next). record { number = b.number; frames = b.frames; next = nexts.Waits (awaited_call x) }) e
     ∙ ap (λ (x : Next). record { number = b.number; frames = b.frames; next = x }) (sym e)
 
 -- where a firing fits a task, the body on top waits for a call, if there is one
-waits_by : (code : Parts) (limits : Limits) (t : Task) (top : Option Body) (c : Option ℕ) → t.top ≡ top → FitsCall (code_program code limits) (view_of t) c → IsBodyStack code limits (view_of t).past top (reverse t.below.items) → IsWaiting top
+waits_by : (code : Parts) (limits : Limits) (t : Task) (top : Option Body) (c : Option ℕ) → t.top ≡ top → FitsCall (code_program code limits) (view_of t) c → IsBodyStack code limits (view_of t).past top (reverse t.below.items) → WaitsIfAny top
 waits_by code limits t None c i f stack = tt
 waits_by code limits t (Some b) None i f stack = (let z : ◌≡◌ {A = Option ℕ} None (Some b.number) = sym f ∙ ap body_number i in cc)
 waits_by code limits t (Some b) (Some q) i w stack =
@@ -96,7 +96,7 @@ waits_by code limits t (Some b) (Some q) i w stack =
     let parked = top_parked code limits (view_of t).past b w.start w.depth w.answers q w.place b.next is stack.0 in (parked.0, parked.1.waits)
 
 -- where a firing may begin, the body on top waits for a call, if there is one
-pub waits_below : (code : Parts) (limits : Limits) (t : Task) (n k : ℕ) (o : Object) (ms : List ℕ) (vs : List Value) → IsTaskOf code limits t → MayResume code limits t n k o ms vs → IsWaiting t.top
+pub waits_below : (code : Parts) (limits : Limits) (t : Task) (n k : ℕ) (o : Object) (ms : List ℕ) (vs : List Value) → IsTaskOf code limits t → MayResume code limits t n k o ms vs → WaitsIfAny t.top
 waits_below code limits t n k o ms vs task may = waits_by code limits t t.top (served (code_program code limits) (Fired k o ms vs)) refl may.may task.stack
 
 -- a firing that serves no call begins a body in a task that is over

@@ -22,7 +22,7 @@ use Rattle.chord_task.specs.declared.body.Caller.{Caller}
 use Rattle.chord_task.specs.declared.task.Task.{Task}
 use Rattle.chord_task.specs.Stacks.{IsServedThere, IsTask, task_noted}
 use Rattle.chord_task.specs.Arguments.{MayBeList}
-use Rattle.chord_task.specs.Standing.{body_number, view_of, NextIs, IsParked, IsTop, IsBodyStack, IsResumable, HasRoomIf, HasRoomFor, IsTaskOf, given_of, given_by, answer_of, MayAnswer, AnsweredWith, CalledBack, IsReadyFor, MayNote, waiting_body, waiting_bodies, HasEnded}
+use Rattle.chord_task.specs.Standing.{body_number, view_of, NextIs, IsParked, IsTop, IsBodyStack, IsResumable, HasRoomIf, HasRoomFor, IsTaskOf, given_of, given_by, answer_of, MayAnswer, AnsweredWith, CalledBack, IsReadyFor, MayNote, waiting_body, waiting_bodies, HasReturned}
 use Rattle.chord_task.proofs.Standing.{entry, noted_answer_fits}
 use Rattle.chord_task.proofs.Notes.{stack_view, gave_up, note_gave, note_last, note_end, back_top}
 
@@ -189,7 +189,7 @@ no_length [] e = refl
 no_length (x ∷ xs) e = absurd (omega (arith, e))
 
 -- a body ends, whether a caller waits for it or none
-pub task_ended : (code : Parts) (limits : Limits) (t : Task) (past : Vec Entry Global) (below : Vec Caller Global) (ended : Option (Box Frames Global)) (top : Option Body) (b : Body) (n : ℕ) (x y : End) → IsTaskOf code limits t → (may : MayNote code limits t n) → t.top ≡ Some b → b.next ≡ nexts.Ends x y → HasEnded y t.below below top → past.items ≡ t.past.items ++ entry n b.number (Ended x) ∷ [] → vec_len past ≡ vec_len t.past + 1 → vec_capacity past ≡ vec_capacity t.past → vec_capacity below ≡ vec_capacity t.below → IsTaskOf code limits (record { past = past; top = top; below = below; spare = t.spare; ended = ended; values = t.values; limits = t.limits }) × task_noted (view_of t) n may.what (view_of (record { past = past; top = top; below = below; spare = t.spare; ended = ended; values = t.values; limits = t.limits })) × (is_end may.what ≡ false → (view_of (record { past = past; top = top; below = below; spare = t.spare; ended = ended; values = t.values; limits = t.limits })).top ≡ (view_of t).top)
+pub task_ended : (code : Parts) (limits : Limits) (t : Task) (past : Vec Entry Global) (below : Vec Caller Global) (ended : Option (Box Frames Global)) (top : Option Body) (b : Body) (n : ℕ) (x y : End) → IsTaskOf code limits t → (may : MayNote code limits t n) → t.top ≡ Some b → b.next ≡ nexts.Ends x y → HasReturned y t.below below top → past.items ≡ t.past.items ++ entry n b.number (Ended x) ∷ [] → vec_len past ≡ vec_len t.past + 1 → vec_capacity past ≡ vec_capacity t.past → vec_capacity below ≡ vec_capacity t.below → IsTaskOf code limits (record { past = past; top = top; below = below; spare = t.spare; ended = ended; values = t.values; limits = t.limits }) × task_noted (view_of t) n may.what (view_of (record { past = past; top = top; below = below; spare = t.spare; ended = ended; values = t.values; limits = t.limits })) × (is_end may.what ≡ false → (view_of (record { past = past; top = top; below = below; spare = t.spare; ended = ended; values = t.values; limits = t.limits })).top ≡ (view_of t).top)
 task_ended code limits t past below ended None b n x y k may top e h items len capacity room =
     task_last code limits t past below ended b n x y k may top e (no_length t.below.items (omega (arith, h.0, t.below.ok.0))) (no_length below.items (omega (arith, h.1, below.ok.0))) items len capacity (omega (arith, h.0, h.1)) room
 task_ended code limits t past below ended (Some c) b n x y k may top e h items len capacity room =

@@ -25,7 +25,7 @@ use Rattle.chord_task.specs.declared.body.Caller.{Caller}
 use Rattle.chord_task.specs.declared.task.Task.{Task}
 use Rattle.chord_task.specs.Arguments.{MayBeList}
 use Rattle.chord_task.specs.Stacks.{TaskView, IsNext, StaysDefined, task_noted}
-use Rattle.chord_task.specs.Standing.{HasEnded, AreReady, body_number, view_of, IsTaskOf, GivenBy, AskedBy, AskedBody, may_go, body_may_go, is_ready_of, HasGiven, HasRoomFor, IsReadyFor, IsReserved, IsRoomier, IsRoomierTop, MayNote, MayAnswer, AnsweredWith, CalledBack, answer_of}
+use Rattle.chord_task.specs.Standing.{HasReturned, LastIsReady, body_number, view_of, IsTaskOf, GivenBy, AskedBy, AskedBody, may_go, body_may_go, is_ready_of, HasGiven, HasRoomFor, IsReadyFor, IsReserved, IsRoomier, IsRoomierTop, MayNote, MayAnswer, AnsweredWith, CalledBack, answer_of}
 use Rattle.chord_task.specs.Turning.{MayTurn, Turned, RunsOn, IsAskedFor, MaySettle, HasSettled}
 use Rattle.chord_task.proofs.Asking.{may_run, task_asked, view_asked, given_is, given_next}
 use Rattle.chord_task.proofs.Resuming.{task_roomier}
@@ -214,12 +214,12 @@ settled_gave code t s n w b x v e past b' i r items len capacity =
     has_settled code t s _ n w b x (task_gave code t.limits (with_body s (with_next b x.asked)) past (with_next b x.asked) b' n v x.task x.may refl e i r items len capacity)
 
 -- the end became an entry, and the caller goes on, or no body is left
-pub settled_end : (code : Parts) (t s : Task) (n : ℕ) (w : What) (b : Body) (x : Roomy code t s n w b) (y : End) → x.asked ≡ nexts.Ends y y → (past : Vec Entry Global) (below : Vec Caller Global) (ended : Option (Box Frames Global)) (top : Option Body) → HasEnded y s.below below top → past.items ≡ s.past.items ++ entry n b.number (Ended y) ∷ [] → vec_len past ≡ vec_len s.past + 1 → vec_capacity past ≡ vec_capacity s.past → vec_capacity below ≡ vec_capacity s.below → HasSettled code t n w (record { past = past; top = top; below = below; spare = s.spare; ended = ended; values = s.values; limits = s.limits })
+pub settled_end : (code : Parts) (t s : Task) (n : ℕ) (w : What) (b : Body) (x : Roomy code t s n w b) (y : End) → x.asked ≡ nexts.Ends y y → (past : Vec Entry Global) (below : Vec Caller Global) (ended : Option (Box Frames Global)) (top : Option Body) → HasReturned y s.below below top → past.items ≡ s.past.items ++ entry n b.number (Ended y) ∷ [] → vec_len past ≡ vec_len s.past + 1 → vec_capacity past ≡ vec_capacity s.past → vec_capacity below ≡ vec_capacity s.below → HasSettled code t n w (record { past = past; top = top; below = below; spare = s.spare; ended = ended; values = s.values; limits = s.limits })
 settled_end code t s n w b x y e past below ended top h items len capacity room =
     has_settled code t s _ n w b x (task_ended code t.limits (with_body s (with_next b x.asked)) past below ended top (with_next b x.asked) n y y x.task x.may refl e h items len capacity room)
 
 -- the callers below can be answered
-pub roomy_ready : (code : Parts) (t s : Task) (n : ℕ) (w : What) (b : Body) → Roomy code t s n w b → AreReady s.below.items
+pub roomy_ready : (code : Parts) (t s : Task) (n : ℕ) (w : What) (b : Body) → Roomy code t s n w b → LastIsReady s.below.items
 roomy_ready code t s n w b x rest c e =
     let k = caller_parked code t.limits (with_body s (with_next b x.asked)) rest (with_next b x.asked) c x.task refl e in (k.1.ready, k.1.awaited)
 

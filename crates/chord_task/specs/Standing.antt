@@ -114,22 +114,22 @@ abbrev pub IsBodyStack : Parts → Limits → List Entry → Option Body → Lis
 IsBodyStack code limits h top cs = AreStacked code limits h top (waiting_bodies cs)
 
 -- the call that a body waits for
-abbrev pub call_of : Next → ℕ
-call_of nexts.Runs = 0
-call_of (nexts.Gave w) = 0
-call_of (nexts.Ends e e') = 0
-call_of (nexts.Fails t) = 0
-call_of (nexts.Waits q) = q
+abbrev pub awaited_call : Next → ℕ
+awaited_call nexts.Runs = 0
+awaited_call (nexts.Gave w) = 0
+awaited_call (nexts.Ends e e') = 0
+awaited_call (nexts.Fails t) = 0
+awaited_call (nexts.Waits q) = q
 
 -- the body on top as a caller, if there is one
 abbrev pub callers_of : Option Body → List Caller
 callers_of None = []
-callers_of (Some b) = record { number = b.number; call = call_of b.next; frames = b.frames } ∷ []
+callers_of (Some b) = record { number = b.number; call = awaited_call b.next; frames = b.frames } ∷ []
 
 -- the body on top waits for a call, if there is one
-abbrev pub IsWaiting : Option Body → Type 0
-IsWaiting None = Unit {0}
-IsWaiting (Some b) = (q : ℕ) × (b.next ≡ nexts.Waits q)
+abbrev pub WaitsIfAny : Option Body → Type 0
+WaitsIfAny None = Unit {0}
+WaitsIfAny (Some b) = (q : ℕ) × (b.next ≡ nexts.Waits q)
 
 -- frames of no body for this code under these limits, with room for each block
 pub record IsSpareOf (code : Parts) (limits : Limits) (f : Frames) : Type 0 where
@@ -282,13 +282,13 @@ CalledBack (Gives v) b b' = (b'.number ≡ b.number) × AnsweredWith (Some v) 0 
 CalledBack (Traps t) b b' = (b'.number ≡ b.number) × (b'.next ≡ nexts.Fails t)
 
 -- the last of these callers can be answered by a value
-abbrev pub AreReady : List Caller → Type 0
-AreReady cs = (rest : List Caller) (c : Caller) → cs ≡ rest ++ c ∷ [] → IsReady ForValue c.frames.value × (c.frames.value.awaited ≡ ForValue)
+abbrev pub LastIsReady : List Caller → Type 0
+LastIsReady cs = (rest : List Caller) (c : Caller) → cs ≡ rest ++ c ∷ [] → IsReady ForValue c.frames.value × (c.frames.value.awaited ≡ ForValue)
 
 -- a body ended so: the last of the callers came back on top, if there was one
-abbrev pub HasEnded : End → Vec Caller Global → Vec Caller Global → Option Body → Type 0
-HasEnded x before after None = (vec_len before ≡ 0) × (vec_len after ≡ 0)
-HasEnded x before after (Some b) = (c : Caller) × (before.items ≡ after.items ++ c ∷ []) × CalledBack x (waiting_body c) b
+abbrev pub HasReturned : End → Vec Caller Global → Vec Caller Global → Option Body → Type 0
+HasReturned x before after None = (vec_len before ≡ 0) × (vec_len after ≡ 0)
+HasReturned x before after (Some b) = (c : Caller) × (before.items ≡ after.items ++ c ∷ []) × CalledBack x (waiting_body c) b
 
 -- there is room for the answer of a body, if there is a body
 abbrev pub IsReadyFor : Option Body → Type 0

@@ -12,7 +12,7 @@ ghost use Rattle.chord_vm.specs.Frames.{laid, what_of_ask};
 ghost use Rattle.chord_task.specs.Arguments.{for_entry, AreTwice, MayBeList, IsList};
 ghost use Rattle.chord_task.specs.Turning.{RunsOn};
 ghost use Rattle.chord_task.specs.Stacks.{task_noted, task_begun, IsNext};
-ghost use Rattle.chord_task.specs.Standing.{view_of, IsTaskOf, HasGiven, IsReserved, IsResumable, MayNote, MayResume, is_ready_of, waits_of, room_of, callers_of, IsWaiting, AreReady, HasEnded, given_by, IsRoomierTop, HasRoomFor, IsSpareOf, IsReadyFor, MainBegins, CanNote};
+ghost use Rattle.chord_task.specs.Standing.{view_of, IsTaskOf, HasGiven, IsReserved, IsResumable, MayNote, MayResume, is_ready_of, waits_of, room_of, callers_of, WaitsIfAny, LastIsReady, HasReturned, given_by, IsRoomierTop, HasRoomFor, IsSpareOf, IsReadyFor, MainBegins, CanNote};
 
 use crate::args::{Args, part_all};
 use crate::body::{Body, Caller, Next, call_back, come_to_ask, given, note_ask, put_after};
@@ -189,9 +189,9 @@ pub(crate) fn end_top(
     end: End,
 )
     requires runs { RunsOn top.old }
-    requires ready { AreReady below.old.items }
+    requires ready { LastIsReady below.old.items }
     ensures capacity { vec_capacity below.new ≡ vec_capacity below.old }
-    ensures ended { HasEnded end below.old below.new top.new }
+    ensures ended { HasReturned end below.old below.new top.new }
 {
     match below.pop() {
         None => *ended = take_last(top),
@@ -228,7 +228,7 @@ pub(crate) fn put_on_top(
     frames: Box<Frames>,
 )
     requires room { vec_len below.old < vec_capacity below.old }
-    requires waits { IsWaiting top.old }
+    requires waits { WaitsIfAny top.old }
     ensures top { top.new ≡ Some (record { number = number; frames = frames; next = Next.Runs }) }
     ensures below { below.new.items ≡ below.old.items ++ callers_of top.old }
 {

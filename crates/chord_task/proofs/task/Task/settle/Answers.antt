@@ -5,7 +5,7 @@ use Rattle.chord_code.specs.Machine.{with_answer}
 use Rattle.chord_vm.specs.Frames.{machine_of, what_of_ask}
 use Rattle.chord_vm.specs.declared.frames.Frames.{Frames}
 use Rattle.chord_task.specs.declared.body.Next.TheVariants as nexts
-use Rattle.chord_task.specs.Standing.{GivenBy, HasEnded}
+use Rattle.chord_task.specs.Standing.{GivenBy, HasReturned}
 use Rattle.chord_task.specs.Turning.{sent_to}
 use Rattle.chord_task.proofs.Turning.{roomy, roomy_fits, roomy_asked, settled_gave, settled_end, roomy_ready}
 use Rattle.chord_task.proofs.task.Task.settle.Goals as goal
@@ -65,7 +65,7 @@ returns-in_ok-second-in-End c =
     let y = c.in-End.first in
     let g : x.asked ≡ nexts.Ends y y = subst (λ a. GivenBy (what_of_ask a) x.asked) c.in-End.is x.given in
     let s = c.take_room.new.self in
-    let ended = subst (λ z. HasEnded z s.below c.end_top.new.below c.end_top.new.top) c.in_ok-second-in-End.ensures c.end_top.ensures.ended in (
+    let ended = subst (λ z. HasReturned z s.below c.end_top.new.below c.end_top.new.top) c.in_ok-second-in-End.ensures c.end_top.ensures.ended in (
       c.take_ask.result,
       c.take_ask.ensures,
       settled_end c.args.code.now c.args.self.now s c.args.number (what_of_ask c.take_ask.result) c.in-Some.body x y g c.append-in-End.new.past c.end_top.new.below c.end_top.new.ended c.end_top.new.top ended c.append-in-End.ensures.items c.append-in-End.ensures.len c.append-in-End.ensures.capacity c.end_top.ensures.capacity,
