@@ -25,7 +25,7 @@ use Rattle.chord_task.specs.declared.body.Caller.{Caller}
 use Rattle.chord_task.specs.declared.task.Task.{Task}
 use Rattle.chord_task.specs.Arguments.{MayBeList}
 use Rattle.chord_task.specs.Stacks.{TaskView, IsNext, StaysDefined, task_noted}
-use Rattle.chord_task.specs.Standing.{HasReturned, LastIsReady, body_number, view_of, IsTaskOf, GivenBy, AskedBy, AskedBody, may_go, body_may_go, is_ready_of, HasGiven, HasRoomFor, IsReadyFor, IsReserved, IsRoomier, IsRoomierTop, MayNote, MayAnswer, AnsweredWith, CalledBack, answer_of}
+use Rattle.chord_task.specs.Standing.{HasReturned, LastIsReady, body_number, view_of, IsTaskOf, GivenBy, AskedBy, AskedBody, may_go, body_may_go, is_ready_of, HasGiven, HasRoomFor, IsReadyFor, IsReserved, IsRoomier, IsRoomierTop, MayNote, MayAnswer, AnsweredWith, answer_of}
 use Rattle.chord_task.specs.Turning.{MayTurn, Turned, RunsOn, IsAskedFor, MaySettle, HasSettled}
 use Rattle.chord_task.proofs.Asking.{may_run, task_asked, view_asked, given_is, given_next}
 use Rattle.chord_task.proofs.Resuming.{task_roomier}

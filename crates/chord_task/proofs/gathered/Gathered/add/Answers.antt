@@ -1,4 +1,4 @@
-use Rattle.std.proofs.Common.{◌≡◌, ◌<◌, ◌++◌, ◌∷◌, [], List, Option, length, refl, sym, ◌∙◌, subst, arith}
+use Rattle.std.proofs.Common.{◌++◌, ◌∷◌, [], List, Option, sym, ◌∙◌, subst}
 use Rattle.chord_task.specs.declared.args.Args.{Args}
 use Rattle.chord_task.specs.Gathering.{AreGathered}
 use Rattle.chord_task.proofs.Gathering.{no_values, some_values, first_one, none_more, second_one, several_more}
