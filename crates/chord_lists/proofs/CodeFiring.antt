@@ -29,7 +29,7 @@ use Rattle.chord_task.proofs.Asking.{waits_yes}
 use Rattle.chord_lists.specs.Engine.{IsRunOfLength, fired}
 use Rattle.chord_lists.specs.declared.code_bodies.Tag.{Tag}
 use Rattle.chord_lists.specs.declared.code_bodies.CodeBodies.{CodeBodies}
-use Rattle.chord_lists.specs.CodeStands.{past_of, views, home_in, home, held_in, held_at, ready_in, ready_at, over_in, over_at, AreReady, Awaits, AllHeld, held_values, EmptiedAll, HostsCall, FitsAt, Serves, StandsAfter}
+use Rattle.chord_lists.specs.CodeStands.{past_of, views, home_in, home, held_in, held_at, ready_in, ready_at, over_in, over_at, AreReady, IsAmongReady, Awaits, AllHeld, held_values, EmptiedAll, HostsCall, FitsAt, Serves, StandsAfter}
 use Rattle.chord_lists.proofs.Spots.{set_other, end_at, before_end, past_end, one_some, nothing_some, has_first, has_later}
 use Rattle.chord_lists.proofs.CodeTasks.{one_call, resumable}
 use Rattle.chord_lists.proofs.CodeSteps.{stands_merged, task_below, keeps_more, views_set, tasks_set, awaits_set, pending_under}
@@ -241,27 +241,27 @@ stands_fired code limits before after between h n k at o ms vs played s f emptie
       few = few;
     }
 
--- a task that begins a body is put on the list of the ready ones
-ready_above : (tasks : List Task) (at : ℕ) (t : Task) (ready : List ℕ) → AreReady tasks ready → AreReady (set tasks at t) (at ∷ ready)
+-- a task that begins a body is among the ready ones
+ready_among : (tasks : List Task) (at : ℕ) (t : Task) (ready ready' : List ℕ) → AreReady tasks ready → IsAmongReady at ready ready' → AreReady (set tasks at t) ready'
 unfolding ready_at
-ready_above tasks at t ready a =
+ready_among tasks at t ready ready' a p =
     record {
       all =
           λ j e.
           elim (either (at == j)) [
-            | inl y ↦ subst (λ z. has z (at ∷ ready) ≡ true) (eqb-true at j y) (has_first at ready)
-            | inr o ↦ has_later j at ready (a.all j (sym (ap ready_in (set_other tasks at j t (eqb-false at j o))) ∙ e))
+            | inl y ↦ subst (λ z. has z ready' ≡ true) (eqb-true at j y) p.there
+            | inr o ↦ p.kept j (a.all j (sym (ap ready_in (set_other tasks at j t (eqb-false at j o))) ∙ e))
           ];
     }
 
 -- the new body is in a task that was there
-pub fired_at : (code : Parts) (limits : Limits) (before after : CodeBodies) (between : List Tag) (h : List Entry) (at n k : ℕ) (o : Object) (ms : List ℕ) (vs : List Value) (t : Task) → IsRunOfLength (code_program code limits) n h → StandsAfter code limits before h → Fires (code_program code limits) h k o ms vs → (c : IsHost code limits before at n k o ms vs) → EmptiedAll ms before.tags.items between → IsTaskOf code limits t → (view_of t).past ≡ fired n k o ms vs ∷ (view_of c.task).past → after.tasks.items ≡ set before.tasks.items at t → reverse after.ready.items ≡ at ∷ reverse before.ready.items → after.tags.items ≡ between ++ bare_tag at ∷ [] → StandsAfter code limits after (fired n k o ms vs ∷ h)
+pub fired_at : (code : Parts) (limits : Limits) (before after : CodeBodies) (between : List Tag) (h : List Entry) (at n k : ℕ) (o : Object) (ms : List ℕ) (vs : List Value) (t : Task) → IsRunOfLength (code_program code limits) n h → StandsAfter code limits before h → Fires (code_program code limits) h k o ms vs → (c : IsHost code limits before at n k o ms vs) → EmptiedAll ms before.tags.items between → IsTaskOf code limits t → (view_of t).past ≡ fired n k o ms vs ∷ (view_of c.task).past → after.tasks.items ≡ set before.tasks.items at t → IsAmongReady at (reverse before.ready.items) (reverse after.ready.items) → after.tags.items ≡ between ++ bare_tag at ∷ [] → StandsAfter code limits after (fired n k o ms vs ∷ h)
 fired_at code limits before after between h at n k o ms vs t played s f c emptied task past tasks ready tags =
     let xs = before.tasks.items in
     stands_fired code limits before after between h n k at o ms vs played s f emptied tags
     (λ j. views_set xs at t c.task (fired n k o ms vs) c.there past j ∙ ap (λ z. views z j) (sym tasks))
     (subst (λ z. (i : ℕ) (x : Task) → slice_get z i ≡ Some x → IsTaskOf code limits x) (sym tasks) (tasks_set code limits xs at t c.task c.there task s.tasks))
-    (subst (λ z. AreReady z (reverse after.ready.items)) (sym tasks) (subst (λ (z : List ℕ). AreReady (set xs at t) z) (sym ready) (ready_above xs at t (reverse before.ready.items) s.ready)))
+    (subst (λ z. AreReady z (reverse after.ready.items)) (sym tasks) (ready_among xs at t (reverse before.ready.items) (reverse after.ready.items) s.ready ready))
     (λ q out a.
     subst (λ z. Awaits z q (home before.tags.items q)) (sym tasks)
     (awaits_set xs at t c.task q (home before.tags.items q) c.there (λ w. let z : true ≡ false = sym (c.awaits q w) ∙ out in cc) a))

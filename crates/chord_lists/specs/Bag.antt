@@ -7,6 +7,7 @@ use Rattle.chord_base.specs.declared.value.Object.{Object}
 use Rattle.chord_base.specs.Messages.{Message, has}
 use Rattle.chord_lists.specs.declared.bag.ClassStacks.{ClassStacks}
 use Rattle.chord_lists.specs.declared.bag.Noted.{Noted}
+use Rattle.chord_lists.specs.declared.bag.Older.{Older}
 use Rattle.chord_lists.specs.declared.bag.Bag.{Bag}
 
 -- ## What a message is to
@@ -71,9 +72,13 @@ abbrev pub first_comes : Option Noted → Address → List ℕ → List ℕ
 first_comes None k ns = ns
 first_comes (Some noted) k ns = if same_address (address_to noted.object noted.method) k then noted.number ∷ ns else ns
 
+-- the numbers of all messages but the newest to this address, newest first
+abbrev pub older_of : Older → Address → List ℕ
+older_of o k = first_comes o.last k (stacked_by o.objects.items k)
+
 -- the numbers of the messages to this address, newest first
 abbrev pub numbers_of : Bag → Address → List ℕ
-numbers_of b k = first_comes b.newest k (stacked_by b.objects.items k)
+numbers_of b k = first_comes b.newest k (older_of b.older k)
 
 -- ## What is in the bag
 

@@ -76,6 +76,11 @@ over_at tasks i = over_in (slice_get tasks i)
 pub record AreReady (tasks : List Task) (ready : List ℕ) : Type 0 where
   pub all : (i : ℕ) → ready_at tasks i ≡ true → has i ready ≡ true
 
+-- a place stands in a list in which all stand that stood there before
+pub record IsAmongReady (at : ℕ) (old new : List ℕ) : Type 0 where
+  pub there : has at new ≡ true
+  pub kept : (i : ℕ) → has i old ≡ true → has i new ≡ true
+
 -- the task of this place waits for the call
 abbrev pub Awaits : List Task → ℕ → ℕ → Type 0
 Awaits tasks q i = (t : Task) × (slice_get tasks i ≡ Some t) × (waits_of q t ≡ true)

@@ -3,7 +3,7 @@
 
 ghost use Rattle.std.specs.Prelude.{◌≡◌, ◌≢◌, Some, None, ℕ, ◌+◌, ◌≤◌, ◌==◌, ◌&&◌, List, [], ◌∷◌, length, reverse, vec_len, IfNone, IfSome, OnOk, true, false, if◌then◌else◌};
 ghost use Rattle.chord_base.specs.Messages.{AreDifferent};
-ghost use Rattle.chord_lists.specs.Bag.{Address, ArePopped, HasMessage, HasMessages, IsFirstOf, IsPopped, IsPushed, LacksAMessage, LacksBefore, LacksMessage, address_to, items_at, is_apart, numbers_in, numbers_of, stacked_at, stacked_by};
+ghost use Rattle.chord_lists.specs.Bag.{Address, ArePopped, HasMessage, HasMessages, IsFirstOf, IsPopped, IsPushed, LacksAMessage, LacksBefore, LacksMessage, address_to, items_at, is_apart, numbers_in, numbers_of, older_of, stacked_at, stacked_by};
 ghost use Rattle.chord_lists.specs.declared.bag.Noted.{Noted as ANoted};
 
 use chord_base::members::Members;
@@ -26,13 +26,20 @@ struct Noted {
     number: u16,
 }
 
+/// All messages but the newest: the last of them stands apart too, the others on stacks.
+#[derive(Drop)]
+struct Older {
+    last: Option<Noted>,
+    objects: Vec<Vec<ClassStacks>>,
+}
+
 /// The numbers of the messages that no firing has taken, by object, class and method. An object has one class; that it does is not asked for here.
 ///
-/// The newest message stands apart until the next one comes: most often a firing takes it before.
+/// The newest message stands apart, and so does the one before it: most often a firing takes them before more come.
 #[derive(Drop)]
 pub struct Bag {
     newest: Option<Noted>,
-    objects: Vec<Vec<ClassStacks>>,
+    older: Older,
 }
 
 /// Adds empty lists until there are so many.
@@ -198,6 +205,40 @@ fn take_newest(newest: &mut Option<Noted>) -> u16
     }
 }
 
+impl Older {
+    /// Notes a message that was the newest.
+    fn note(&mut self, alloc: Global, noted: Noted) -> Result<(), AllocError>
+        ensures { OnOk result (IsPushed (address_to noted.object noted.method) noted.number (older_of self.old) (older_of self.new)) }
+    {
+        match mem::replace(&mut self.last, Some(noted)) {
+            None => Ok(()),
+            Some(before) => note_on(alloc, &mut self.objects, &before),
+        }
+    }
+
+    /// Whether one of them is to this method of this object.
+    fn has(&self, object: Object, method: u8) -> bool
+        ensures yes { result ≡ true → HasMessage object method (older_of self.now) }
+        ensures no { result ≡ false → LacksMessage object method (older_of self.now) }
+    {
+        if is_newest_to(&self.last, object, method) {
+            return true;
+        }
+        has_on(&self.objects, object, method)
+    }
+
+    /// Takes the newest of them to this method of this object.
+    fn take(&mut self, object: Object, method: u8) -> u16
+        requires { HasMessage object method (older_of self.old) }
+        ensures { IsPopped (address_to object method) result (older_of self.old) (older_of self.new) }
+    {
+        if is_newest_to(&self.last, object, method) {
+            return take_newest(&mut self.last);
+        }
+        take_on(&mut self.objects, object, method)
+    }
+}
+
 impl Bag {
     /// The bag before any entry.
     pub fn new(alloc: Global) -> Bag
@@ -205,7 +246,10 @@ impl Bag {
     {
         Bag {
             newest: None,
-            objects: Vec::new(alloc),
+            older: Older {
+                last: None,
+                objects: Vec::new(alloc),
+            },
         }
     }
 
@@ -226,7 +270,7 @@ impl Bag {
         };
         match mem::replace(&mut self.newest, Some(noted)) {
             None => Ok(()),
-            Some(before) => note_on(alloc, &mut self.objects, &before),
+            Some(before) => self.older.note(alloc, before),
         }
     }
 
@@ -238,7 +282,7 @@ impl Bag {
         if is_newest_to(&self.newest, object, method) {
             return true;
         }
-        has_on(&self.objects, object, method)
+        self.older.has(object, method)
     }
 
     /// Whether to each of these methods of this object a message is pending.
@@ -263,7 +307,7 @@ impl Bag {
         if is_newest_to(&self.newest, object, method) {
             return take_newest(&mut self.newest);
         }
-        take_on(&mut self.objects, object, method)
+        self.older.take(object, method)
     }
 
     /// Takes the newest message to each of these methods of this object. The members are their numbers.

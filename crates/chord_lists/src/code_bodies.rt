@@ -5,10 +5,10 @@ ghost use Rattle.std.specs.Prelude.{◌^◌, ◌≡◌, ◌<◌, ◌≤◌, ◌+
 ghost use Rattle.chord_base.specs.Story.{IsOwn, IsSound};
 ghost use Rattle.chord_base.specs.declared.event.Entry.{Entry};
 ghost use Rattle.chord_base.specs.Bodies.{served_among};
-ghost use Rattle.chord_base.specs.Messages.{AreDifferent, Message};
+ghost use Rattle.chord_base.specs.Messages.{AreDifferent, Message, has};
 ghost use Rattle.chord_code.specs.Meaning.{code_program, method_is_sync};
 ghost use Rattle.chord_lists.specs.Engine.{main_begun, IsRunOfLength, MayGoOn, Went, MayBegin, Began, Ends};
-ghost use Rattle.chord_lists.specs.CodeStands.{StandsAfter, AreReady, ready_at, over_at, IsTaggedAs, WentAt, AreLeft, IsLeft, HasNewest, IsNewestTaken, views, held_at, entry_message, arguments_held, message_held, IsHeldAt, AllHeld, held_values, Emptied, EmptiedAll, HasAdded, home, Serves, FitsAt, MayReplay, Replayed};
+ghost use Rattle.chord_lists.specs.CodeStands.{StandsAfter, AreReady, IsAmongReady, ready_at, over_at, IsTaggedAs, WentAt, AreLeft, IsLeft, HasNewest, IsNewestTaken, views, held_at, entry_message, arguments_held, message_held, IsHeldAt, AllHeld, held_values, Emptied, EmptiedAll, HasAdded, home, Serves, FitsAt, MayReplay, Replayed};
 
 use crate::engine::Turn;
 use crate::place::Held;
@@ -106,6 +106,28 @@ pub fn next_ready(tasks: &[Task], ready: &mut Vec<u32>) -> Option<u32>
         let _ = ready.pop();
     }
     None
+}
+
+/// Whether this place is the one on top.
+fn is_on_top(ready: &[u32], at: u32) -> bool
+    ensures { result ≡ true → has at (reverse ready.now) ≡ true }
+{
+    match ready.last() {
+        None => false,
+        Some(top) => *top == at,
+    }
+}
+
+/// Puts the place of a task that may go on on top, if it is not there: a caller that was served at once stands there still.
+#[inline(always)]
+fn put_ready(ready: &mut Vec<u32>, at: u32) -> Result<(), AllocError>
+    ensures { OnOk result (IsAmongReady at (reverse ready.old.items) (reverse ready.new.items)) }
+{
+    if is_on_top(ready, at) {
+        return Ok(());
+    }
+    ready.push(at)?;
+    Ok(())
 }
 
 /// Whether the task of this place has no body left.
@@ -451,7 +473,7 @@ fn begin_at(
     )?;
     let task = &mut bodies.tasks[at as usize];
     task.resume_with(alloc, code, number, chord, object, members, &mut values)?;
-    bodies.ready.push(at)?;
+    put_ready(&mut bodies.ready, at)?;
     bodies.tags.push(Tag {
         task: place_of(at),
         held: Held::none(),

@@ -61,6 +61,7 @@ fn bodies_after<'a>(
 
 /// Notes the entry, if it is a message.
 fn note_entry(alloc: Global, bag: &mut Bag, entry: &Entry) -> Result<(), AllocError>
+    requires { entry.now.number < 65536 }
     ensures { IfOk result (λ _. IsNoted entry.now.number (message_of entry.now.what) (numbers_of bag.old) (numbers_of bag.new)) }
 {
     match &entry.what {
@@ -78,6 +79,7 @@ fn note_entry(alloc: Global, bag: &mut Bag, entry: &Entry) -> Result<(), AllocEr
 
 /// Notes the entry, if it is a message whose arguments are held.
 fn note_pending(alloc: Global, bag: &mut Bag, tag: &Tag, entry: &Entry) -> Result<(), AllocError>
+    requires { entry.now.number < 65536 }
     ensures { IfOk result (λ _. IsNoted entry.now.number (message_by tag.now.held entry.now.what) (numbers_of bag.old) (numbers_of bag.new)) }
 {
     match tag.held.place() {
@@ -91,7 +93,8 @@ fn note_pending(alloc: Global, bag: &mut Bag, tag: &Tag, entry: &Entry) -> Resul
 
 /// The pending messages, by what they are to.
 fn pending_bag(alloc: Global, tags: &[Tag], entries: &[Entry]) -> Result<Bag, AllocError>
-    requires { AreTagged tags.now (reverse entries.now) }
+    requires tagged { AreTagged tags.now (reverse entries.now) }
+    requires few { length entries.now ≤ 65536 }
     ensures { IfOk result (λ bag. Lists (λ i. pending i (reverse entries.now)) (length entries.now) (numbers_of bag)) }
 {
     let mut bag = Bag::new(alloc);

@@ -1,7 +1,6 @@
-use Rattle.std.proofs.Common.{◌≡◌, ◌∙◌, ◌++◌, ◌∷◌, [], refl, sym, ap, subst, arith, length, reverse, Option, Some, List, ℕ}
+use Rattle.std.proofs.Common.{◌≡◌, ◌∙◌, ◌++◌, ◌∷◌, [], refl, sym, ap, subst, arith, length, Option, Some, List, ℕ}
 use Rattle.std.specs.Prelude.{slice_get}
 use Rattle.std.proofs.lemmas.Option.{get_or_from_slice_get, slice_get_within}
-use Rattle.std.proofs.lemmas.List.{reverse-append}
 use Rattle.chord_base.specs.declared.value.Value.{Value}
 use Rattle.chord_task.specs.declared.task.Task.{Task}
 use Rattle.chord_task.specs.Standing.{view_of, IsTaskOf, MayResume}
@@ -80,8 +79,8 @@ returns c =
     let emptied = rw c.items.ensures.numbers at c.in_ok-take_all_held.ensures.rest in
     fired_at code limits c.args.bodies.now _ c.take_all_held.new.tags.items h c.args.at c.args.number c.args.chord c.args.object c.args.members.now vs c.resume_with.new.self played s f k emptied task past
     refl
-    (ap reverse c.in_ok-push.ensures.items ∙ reverse-append c.args.bodies.now.ready.items (c.args.at ∷ []))
-    (c.in_ok-push-2.ensures.items ∙ ap (λ (held : Option ℕ). c.take_all_held.new.tags.items ++ record { task = c.place_of.result; held = held } ∷ []) c.none.ensures ∙ ap (λ i. c.take_all_held.new.tags.items ++ bare_tag i ∷ []) c.place_of.ensures)
+    c.in_ok-put_ready.ensures
+    (c.in_ok-push.ensures.items ∙ ap (λ (held : Option ℕ). c.take_all_held.new.tags.items ++ record { task = c.place_of.result; held = held } ∷ []) c.none.ensures ∙ ap (λ i. c.take_all_held.new.tags.items ++ bare_tag i ∷ []) c.place_of.ensures)
 
 pub place_of-requires : goal.place_of-requires
 place_of-requires c =

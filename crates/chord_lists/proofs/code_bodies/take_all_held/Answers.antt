@@ -16,7 +16,7 @@ take_arguments-requires-clause-held c =
     let lt : k < length ms = omega (arith, c.loop-number-test.true) in
     let new : has (get_or ms k 0) (take k ms) ≡ false = not_before ms k lt c.requires.different in
     let held = held_there v c.args.tags.now.items ms k lt c.requires.held in
-    (held.0, still_held v c.args.tags.now.items (take k ms) (get_or ms k 0) c.loop-number.values c.loop-number.tags.items c.loop-number.invariant new ∙ held.1)
+    rw c.from.ensures (held.0, still_held v c.args.tags.now.items (take k ms) (get_or ms k 0) c.loop-number.values c.loop-number.tags.items c.loop-number.invariant new ∙ held.1)
 
 pub take_arguments-requires-clause-few : goal.take_arguments-requires-clause-few
 take_arguments-requires-clause-few c =
@@ -28,7 +28,7 @@ take_arguments-requires-clause-few c =
     let laid = ap length c.loop-number.invariant.values in
     let own = ap (λ o. length (arguments_held o)) (still_held v c.args.tags.now.items (take k ms) (get_or ms k 0) c.loop-number.values c.loop-number.tags.items c.loop-number.invariant new) in
     let few = few_laid v c.args.tags.now.items ms k lt in
-    omega (arith, laid, own, few, c.requires.few)
+    rw c.from.ensures (omega (arith, laid, own, few, c.requires.few))
 
 pub loop-number-preserved : goal.loop-number-preserved
 loop-number-preserved c =
@@ -38,4 +38,4 @@ loop-number-preserved c =
     let lt : k < length ms = omega (arith, c.loop-number-test.true) in
     let new : has (get_or ms k 0) (take k ms) ≡ false = not_before ms k lt c.requires.different in
     rw (take_more ms k 0 lt)
-    (laid_one v c.args.tags.now.items (take k ms) (get_or ms k 0) c.loop-number.values c.take_arguments.new.values c.loop-number.tags.items c.take_arguments.new.tags.items c.loop-number.invariant new c.in_ok-take_arguments.ensures)
+    (laid_one v c.args.tags.now.items (take k ms) (get_or ms k 0) c.loop-number.values c.take_arguments.new.values c.loop-number.tags.items c.take_arguments.new.tags.items c.loop-number.invariant new (rw c.from.ensures at c.in_ok-take_arguments.ensures))

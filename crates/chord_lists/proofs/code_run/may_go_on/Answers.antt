@@ -17,8 +17,11 @@ returns-then-is_empty-clause-yes c =
     let none : length c.args.journal.now ≡ 0 = sym (ap length c.entries-entries.ensures.entries) ∙ eqb-true (length c.entries-entries.result.now) 0 (sym c.is_empty.ensures ∙ c.if-is_empty.true) in
     subst (λ h. (e : Entry) × MayFollow p h e) (sym (no_entries c.args.journal.now none)) (begun_follows p)
 
-pub pending_bag-requires : goal.pending_bag-requires
-pending_bag-requires c = rw c.deref-in-None.ensures.value (stands_tagged c.args.code.now c.args.limits.now c.in_ok-bodies.bodies (reverse c.entries-entries.result.now) c.in_ok-bodies.ensures (subst (λ (es : List Entry). AreWithin (reverse es)) (sym c.entries-entries.ensures.entries) c.entries-entries.ensures.within.within))
+pub pending_bag-requires-clause-few : goal.pending_bag-requires-clause-few
+pending_bag-requires-clause-few c = (let l = ap length c.entries-entries.ensures.entries in omega (arith, l, c.entries-entries.ensures.within.few))
+
+pub pending_bag-requires-clause-tagged : goal.pending_bag-requires-clause-tagged
+pending_bag-requires-clause-tagged c = rw c.deref-in-None.ensures.value (stands_tagged c.args.code.now c.args.limits.now c.in_ok-bodies.bodies (reverse c.entries-entries.result.now) c.in_ok-bodies.ensures (subst (λ (es : List Entry). AreWithin (reverse es)) (sym c.entries-entries.ensures.entries) c.entries-entries.ensures.within.within))
 
 pub returns-in-Some-clause-yes : goal.returns-in-Some-clause-yes
 returns-in-Some-clause-yes c =

@@ -1,21 +1,21 @@
 use Rattle.std.proofs.Common.{◌∙◌, sym, ap}
 use Rattle.std.proofs.lemmas.Result.{on_ok_weaker}
-use Rattle.chord_lists.specs.Bag.{first_comes, stacked_by}
+use Rattle.chord_lists.specs.Bag.{first_comes, older_of}
 use Rattle.chord_lists.proofs.Newest.{noted_before, newest_first}
 use Rattle.chord_lists.proofs.bag.Bag.note.Goals as goal
 
 pub returns-in-None : goal.returns-in-None
 returns-in-None c = λ i.
-    let ns = stacked_by c.args.self.now.objects.items i in
+    let ns = older_of c.args.self.now.older i in
     ap (λ newest. first_comes newest i ns) c.replace.ensures.after
     ∙ newest_first c.args.self.now.newest (record { object = c.args.object; method = c.args.method; number = c.args.number }) i ns (sym c.replace.ensures.value ∙ c.in-None.is)
 
 pub returns-in-Some : goal.returns-in-Some
 returns-in-Some c =
-    on_ok_weaker c.note_on.result
+    on_ok_weaker c.note.result
     (λ q i.
-    let ns = stacked_by c.args.self.now.objects.items i in
-    let ns' = stacked_by c.note_on.new.objects.items i in
+    let ns = older_of c.args.self.now.older i in
+    let ns' = older_of c.note.new.self i in
     ap (λ newest. first_comes newest i ns') c.replace.ensures.after
     ∙ noted_before c.args.self.now.newest (record { object = c.args.object; method = c.args.method; number = c.args.number }) c.in-Some.before i ns ns' (sym c.replace.ensures.value ∙ c.in-Some.is) (q i))
-    c.note_on.ensures
+    c.note.ensures
