@@ -15,7 +15,7 @@ use Rattle.chord_task.specs.declared.task.Task.{Task}
 use Rattle.chord_task.specs.Standing.{view_of, IsTaskOf}
 use Rattle.chord_worker.specs.declared.worker.Worker.{Worker}
 use Rattle.chord_worker.specs.Playing.{IsReadyTo}
-use Rattle.chord_worker.specs.Resting.{IsInMemory, IsStockTask, IsAtRest}
+use Rattle.chord_worker.specs.Resting.{IsInMemory, IsStock, IsAtRest}
 use Rattle.chord_worker.proofs.Given.{given_ready}
 
 -- a task with the same past is in memory as the other is
@@ -28,9 +28,9 @@ same_memory code limits es spent done t t' m is past = record {
   quiet = λ e. subst (λ (ps : List Entry). AreQuiet (code_program code limits) (left_by ps es)) (sym past) (m.quiet e);
 }
 
--- a worker with the task that came to its ask, and with a task in stock
-pub asked_rest : (s : Space Parcel) (w : Worker) (t t' stock : Task) (what : What) → IsAtRest s w → w.task ≡ Some t → IsTaskOf (space_code s) (space_limits s) t' → view_of t' ≡ view_of t → IsReadyTo (space_code s) (space_limits s) t' what → IsStockTask (space_code s) (space_limits s) stock
-    → IsAtRest s (record w { task = Some t'; spare = Some stock })
+-- a worker with the task that came to its ask, and with what is in stock
+pub asked_rest : (s : Space Parcel) (w : Worker) (t t' : Task) (stock : Option Task) (what : What) → IsAtRest s w → w.task ≡ Some t → IsTaskOf (space_code s) (space_limits s) t' → view_of t' ≡ view_of t → IsReadyTo (space_code s) (space_limits s) t' what → IsStock (space_code s) (space_limits s) stock
+    → IsAtRest s (record w { task = Some t'; spare = stock })
 asked_rest s w t t' stock what r task is same ready in_stock = record {
   desk = r.desk;
   told = r.told;

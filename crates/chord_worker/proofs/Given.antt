@@ -1,10 +1,10 @@
 -- A task that gave an ask, and the entry that this becomes.
-use Rattle.std.proofs.Common.{◌≡◌, ℕ, Bool, true, false, List, ◌∷◌, Option, Some, None, refl, sym, ap, ◌∙◌, subst}
+use Rattle.std.proofs.Common.{◌≡◌, ◌≢◌, reverse, ℕ, Bool, true, false, List, ◌∷◌, Option, Some, None, refl, sym, ap, ◌∙◌, subst}
 use mathlib.Core.Path.{Path}
 use Rattle.chord_base.specs.declared.event.Entry.{Entry}
 use Rattle.chord_base.specs.declared.event.Limits.{Limits}
 use Rattle.chord_base.specs.declared.event.What.{What}
-use Rattle.chord_base.specs.declared.event.What.TheVariants.{Ended}
+use Rattle.chord_base.specs.declared.event.What.TheVariants.{Begun, Made, Sent, Called, Printed, Fired, Ended}
 use Rattle.chord_base.specs.declared.value.Object.{Object}
 use Rattle.chord_base.specs.declared.value.Value as value
 use Rattle.chord_base.specs.Printed.{is_end}
@@ -12,16 +12,18 @@ use Rattle.chord_base.specs.Meaning.{Program}
 use Rattle.chord_base.specs.Bodies.{doing, Asks}
 use Rattle.chord_base.specs.Story.{IsSound, IsDefined, AllBelow}
 use Rattle.chord_code.specs.declared.parts.Parts.{Parts}
-use Rattle.chord_code.specs.Meaning.{code_program}
+use Rattle.chord_code.specs.Meaning.{Point, code_program, stands}
 use Rattle.chord_rule.specs.Coming.{IsPlace}
 use Rattle.chord_rule.specs.Kinds.{entry}
+use Rattle.chord_vm.specs.declared.frames.Frames.{Frames}
 use Rattle.chord_task.specs.declared.body.Body.{Body}
 use Rattle.chord_task.specs.declared.body.Next.{Next}
 use Rattle.chord_task.specs.declared.body.Next.TheVariants as nexts
 use Rattle.chord_task.specs.declared.task.Task.{Task}
 use Rattle.chord_task.specs.Stacks.{TaskView, IsNext, StaysDefined}
-use Rattle.chord_task.specs.Standing.{view_of, may_go, body_may_go, given_of, given_by}
-use Rattle.chord_worker.specs.Playing.{IsReadyTo, HasAsked, message}
+use Rattle.chord_task.specs.Standing.{view_of, may_go, body_may_go, given_of, given_by, NextIs, IsTop, IsBodyStack, IsTaskOf, IsReserved}
+use Rattle.chord_task.proofs.Asking.{given_next}
+use Rattle.chord_worker.specs.Playing.{IsReadyTo, HasAsked, IsPlayable, KeepsPlayable, message}
 use Rattle.chord_worker.specs.Resting.{IsInMemory}
 use Rattle.chord_worker.proofs.Memory.{asks_at_desk, noted_defined, noted_below}
 
@@ -37,6 +39,58 @@ given_goes (nexts.Waits q) w e = let z : Path (Option What) None (Some w) = e in
 pub given_ready : (x : Option Body) (w : What) → given_by x ≡ Some w → body_may_go x ≡ true
 given_ready None w e = let z : Path (Option What) None (Some w) = e in cc
 given_ready (Some b) w e = given_goes b.next w e
+
+-- a body that keeps an ask may go on
+some_goes : (n : Next) → given_of n ≢ None → may_go n ≡ true
+some_goes nexts.Runs some = refl
+some_goes (nexts.Gave x) some = refl
+some_goes (nexts.Ends x y) some = refl
+some_goes (nexts.Fails x) some = refl
+some_goes (nexts.Waits q) some = absurd (some refl)
+
+-- a task that keeps an ask may go on
+pub kept_ready : (x : Option Body) → given_by x ≢ None → body_may_go x ≡ true
+kept_ready None some = absurd (some refl)
+kept_ready (Some b) some = some_goes b.next some
+
+-- a task that keeps the same keeps an ask
+pub kept_still : (x y : Option Body) → given_by y ≡ given_by x → given_by x ≢ None → given_by y ≢ None
+kept_still x y same some none = some (sym same ∙ none)
+
+-- what a body keeps where its code stands is played
+playable_at : (code : Parts) (limits : Limits) (n : Next) (f : Frames) (point : Point) → NextIs code limits n f point → given_of n ≢ None → IsPlayable n
+playable_at code limits nexts.Runs f point is some = absurd (some refl)
+playable_at code limits (nexts.Gave Begun) f point is some = is
+playable_at code limits (nexts.Gave (Made c)) f point is some = tt
+playable_at code limits (nexts.Gave (Sent o j vs)) f point is some = tt
+playable_at code limits (nexts.Gave (Called o j vs)) f point is some = tt
+playable_at code limits (nexts.Gave (Printed t)) f point is some = tt
+playable_at code limits (nexts.Gave (Fired k o ms vs)) f point is some = is
+playable_at code limits (nexts.Gave (Ended e)) f point is some = is
+playable_at code limits (nexts.Ends x y) f point is some = tt
+playable_at code limits (nexts.Fails t) f point is some = absurd (some refl)
+playable_at code limits (nexts.Waits q) f point is some = absurd (some refl)
+
+-- what the body on top keeps is played
+playable_by : (code : Parts) (limits : Limits) (h : List Entry) (b : Body) (n : Next) → b.next ≡ n → IsTop code limits h n b → given_of n ≢ None → IsPlayable n
+playable_by code limits h b nexts.Runs e up some = absurd (some refl)
+playable_by code limits h b (nexts.Gave w) e up some = playable_at code limits (nexts.Gave w) b.frames.value (stands code limits up.start up.depth up.answers) (subst (λ (n : Next). NextIs code limits n b.frames.value (stands code limits up.start up.depth up.answers)) e up.next) some
+playable_by code limits h b (nexts.Ends x y) e up some = tt
+playable_by code limits h b (nexts.Fails t) e up some = absurd (some refl)
+playable_by code limits h b (nexts.Waits q) e up some = absurd (some refl)
+
+-- what a task keeps is played
+pub keeps_playable : (code : Parts) (limits : Limits) (t : Task) → IsTaskOf code limits t → given_by t.top ≢ None → KeepsPlayable t.top
+keeps_playable code limits t k some = by_top t.top k.stack some
+  where
+    by_top : (o : Option Body) → IsBodyStack code limits (view_of t).past o (reverse t.below.items) → given_by o ≢ None → KeepsPlayable o
+    by_top None stack some' = absurd (some' refl)
+    by_top (Some b) stack some' = playable_by code limits (view_of t).past b b.next refl stack.0 some'
+
+-- a task with room that keeps an ask is ready for it
+pub ready_to : (code : Parts) (limits : Limits) (t : Task) (w : What) → IsTaskOf code limits t → IsReserved code t → (n : Next) → given_of n ≡ given_by t.top → given_of n ≡ Some w → IsReadyTo code limits t w
+ready_to code limits t w k reserved n keeps gives =
+    let gave : given_by t.top ≡ Some w = sym keeps ∙ gives in record { next = given_next code limits t w k gave; gave = gave; reserved = reserved }
 
 -- what gave an ask that is no end keeps it
 gave_at : (n : Next) (w : What) → is_end w ≡ false → given_of n ≡ Some w → (v : What) × (n ≡ nexts.Gave v)

@@ -3,7 +3,7 @@ use Rattle.std.specs.Prelude.{◌≡◌, ◌<◌, ◌+◌, ℕ, Bool, true, fals
 use Rattle.chord_base.specs.declared.event.Entry.{Entry}
 use Rattle.chord_base.specs.declared.event.Limits.{Limits}
 use Rattle.chord_base.specs.declared.event.What.{What}
-use Rattle.chord_base.specs.declared.event.What.TheVariants.{Sent, Called}
+use Rattle.chord_base.specs.declared.event.What.TheVariants.{Begun, Made, Sent, Called, Printed, Fired, Ended}
 use Rattle.chord_base.specs.declared.value.Object.{Object}
 use Rattle.chord_base.specs.declared.value.Value as value
 use Rattle.chord_base.specs.Bodies.{Asks}
@@ -16,6 +16,7 @@ use Rattle.chord_rule.specs.Kinds.{entry, drew, saw_count, was_told, fresh_after
 use Rattle.chord_rule.specs.Made.{Names}
 use Rattle.chord_space.specs.Ruled.{IsOfCode}
 use Rattle.chord_task.specs.declared.body.Body.{Body}
+use Rattle.chord_task.specs.declared.body.Next.{Next}
 use Rattle.chord_task.specs.declared.body.Next.TheVariants as nexts
 use Rattle.chord_task.specs.declared.task.Task.{Task}
 use Rattle.chord_task.specs.Stacks.{IsNext}
@@ -61,3 +62,22 @@ message false o j vs = Sent o j vs
 abbrev pub HasAsked : Option Body → Type 0
 HasAsked None = ⊥
 HasAsked (Some b) = (w : What) × (b.next ≡ nexts.Gave w)
+
+-- an ask that a worker plays: a body keeps no other
+abbrev pub IsPlayable : Next → Type 0
+IsPlayable nexts.Runs = ⊥
+IsPlayable (nexts.Gave Begun) = ⊥
+IsPlayable (nexts.Gave (Made c)) = Unit {0}
+IsPlayable (nexts.Gave (Sent o j vs)) = Unit {0}
+IsPlayable (nexts.Gave (Called o j vs)) = Unit {0}
+IsPlayable (nexts.Gave (Printed t)) = Unit {0}
+IsPlayable (nexts.Gave (Fired k o ms vs)) = ⊥
+IsPlayable (nexts.Gave (Ended e)) = ⊥
+IsPlayable (nexts.Ends e e') = Unit {0}
+IsPlayable (nexts.Fails t) = ⊥
+IsPlayable (nexts.Waits q) = ⊥
+
+-- the body on top keeps an ask that a worker plays
+abbrev pub KeepsPlayable : Option Body → Type 0
+KeepsPlayable None = ⊥
+KeepsPlayable (Some b) = IsPlayable b.next

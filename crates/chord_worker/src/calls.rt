@@ -1,8 +1,9 @@
 //! The calls of a worker that the pool makes, but for its steps.
-ghost use Rattle.std.specs.Prelude.{◌≡◌, ◌≢◌, ◌||◌, ℕ, ◌<◌, ◌-◌, List, Option, true, false, None, OnOk, IfOk, min, is_some, IsPermutation};
+ghost use Rattle.std.specs.Prelude.{◌≡◌, ◌≢◌, ◌||◌, ℕ, ◌<◌, ◌-◌, List, [], ◌∷◌, Option, true, false, Some, None, OnOk, IfOk, min, is_some, IsPermutation};
 ghost use Rattle.chord_base.specs.Story.{IsSound};
 ghost use Rattle.chord_rule.specs.Kinds.{newcomer, newcomer_first, lent_one, saw, saw_count, united};
 ghost use Rattle.chord_rule.specs.Tells.{a_word};
+ghost use Rattle.chord_task.specs.Standing.{view_of, IsTaskOf, MainBegins};
 ghost use Rattle.chord_word.specs.declared.cells.Cell.{Cell as TheCell};
 ghost use Rattle.chord_word.specs.declared.cells.Cell.TheVariants.{Ready};
 ghost use Rattle.chord_space.specs.Desks.{view, space_code, space_limits, program_of, IsDeskOf};
@@ -28,6 +29,18 @@ fn told_either(mine: bool, other: bool) -> bool
     mine || other
 }
 
+/// `Main` begins, with room for all entries that the run may come to, so that none is moved later. Where there is none, its list grows.
+fn main_task(alloc: Global, code: &Code, limits: &Limits) -> Result<Task, AllocError>
+    requires { MainBegins code.now limits.now }
+    ensures task { IfOk result (λ t. IsTaskOf code.now limits.now t) }
+    ensures past { IfOk result (λ t. (view_of t).past ≡ record { number = 0; body = 0; what = What.Begun } ∷ []) }
+    ensures top { IfOk result (λ t. (view_of t).top ≡ Some 0) }
+{
+    let mut main = Task::main(alloc, code, limits)?;
+    let _ = main.past.reserve(limits.events as usize);
+    Ok(main)
+}
+
 impl Worker {
     /// The first worker, with the desk that the table gave: `Main` begins. The counter stands at 0 then, so that the first draw is
     /// never told that the limit is reached.
@@ -44,7 +57,7 @@ impl Worker {
         ensures { IfOk result (λ w. IsAtRest space.now w × IsSameRole (view desk) (view w.desk) × ((view w.desk).drawn ≡ true) × ((view w.desk).spent ≡ true → w.task ≡ None)) }
     {
         let mut desk = desk;
-        let task = Task::main(alloc, code, limits)?;
+        let task = main_task(alloc, code, limits)?;
         let task = Apart::new(alloc, task)?;
         let done = Vec::new(alloc);
         match space.draw(&mut desk, 0, &What::Begun) {

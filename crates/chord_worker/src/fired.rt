@@ -1,10 +1,16 @@
 //! The body of a firing begins: in the task of the caller that it serves, or in a new one.
-ghost use Rattle.std.specs.Prelude.{◌≡◌, ◌≢◌, ◌⊎◌, false, List, [], None, Some};
+ghost use Rattle.std.specs.Prelude.{◌≡◌, ◌≢◌, ◌⊎◌, ◌<◌, ◌≤◌, ◌∷◌, ◌++◌, false, length, List, [], None, Some};
 ghost use Rattle.chord_base.specs.Story.{IsSound};
 ghost use Rattle.chord_rule.specs.declared.view.View.{View};
 ghost use Rattle.chord_space.specs.Desks.{view, space_code, space_limits, program_of, IsDeskOf};
+ghost use Rattle.chord_task.specs.declared.args.Args.{Args as TheArgs};
 ghost use Rattle.chord_task.specs.declared.parcel.Parcel.{Parcel as TheParcel};
 ghost use Rattle.chord_task.specs.declared.task.Task.{Task as ATask};
+ghost use Rattle.chord_task.specs.Arguments.{for_entry, AreTwice};
+ghost use Rattle.chord_task.specs.Gathering.{AreGathered, gathered_in};
+ghost use Rattle.chord_task.specs.Stacks.{task_begun};
+ghost use Rattle.chord_task.specs.Standing.{view_of, IsTaskOf, MayResume};
+ghost use Rattle.chord_vm.specs.Frames.{laid};
 ghost use Rattle.chord_worker.specs.Beginning.{first_of, caller_or, HasUnpacked, HasBegun};
 ghost use Rattle.chord_worker.specs.Firing.{HasFired};
 ghost use Rattle.chord_worker.specs.Resting.{IsAtRest, IsSameRole};
@@ -40,14 +46,63 @@ pub(crate) struct Unpacked {
     pub caller: Option<Apart<Task>>,
 }
 
-/// The first of two tasks, or else the second.
-fn either_task(first: Option<Apart<Task>>, second: Option<Apart<Task>>) -> Option<Apart<Task>>
-    ensures { result ≡ first_of first second }
+/// A second task, which the first one's firing has no use for.
+#[inline(never)]
+fn lay_off(task: Apart<Task>) {
+    drop(task);
+}
+
+/// Keeps the first of two tasks, or else the second.
+#[inline(always)]
+fn keep_task(place: &mut Option<Apart<Task>>, task: Option<Apart<Task>>)
+    ensures { place.new ≡ first_of place.old task }
 {
-    match first {
-        Some(task) => Some(task),
-        None => second,
+    match place {
+        None => match mem::replace(place, task) {
+            None => {}
+            Some(_) => unreachable!(),
+        },
+        Some(_) => match task {
+            None => {}
+            Some(second) => lay_off(second),
+        },
     }
+}
+
+/// As `gather`, where several messages have values, or one without values comes after one with values.
+#[inline(never)]
+fn gather_more(to: &mut Gathered, arguments: Enclosed)
+    requires room { (all : List TheArgs) × AreGathered to.old.one to.old.more all × (length all < 8) }
+    ensures added { (all : List TheArgs) → AreGathered to.old.one to.old.more all → AreGathered to.new.one to.new.more (all ++ arguments ∷ []) }
+{
+    to.add(arguments);
+}
+
+/// Puts arguments where there are none, so that there is nothing to drop.
+#[inline(always)]
+fn put_arguments(place: &mut Enclosed, arguments: Enclosed)
+    requires { place.old.first ≡ [] }
+    ensures { place.new ≡ arguments }
+{
+    mem::forget(mem::replace(place, arguments));
+}
+
+/// Adds the arguments of one message more.
+#[inline(always)]
+fn gather(to: &mut Gathered, arguments: Enclosed)
+    requires room { (all : List TheArgs) × AreGathered to.old.one to.old.more all × (length all < 8) }
+    ensures added { (all : List TheArgs) → AreGathered to.old.one to.old.more all → AreGathered to.new.one to.new.more (all ++ arguments ∷ []) }
+{
+    match &to.more {
+        None => {
+            if to.one.has_none() {
+                put_arguments(&mut to.one, arguments);
+                return;
+            }
+        }
+        Some(_) => {}
+    }
+    gather_more(to, arguments);
 }
 
 impl Receive<Parcel> for Unpacked {
@@ -55,8 +110,8 @@ impl Receive<Parcel> for Unpacked {
 
     fn receive(&mut self, parcel: Parcel) {
         let Parcel { arguments, task } = parcel;
-        self.arguments.add(arguments);
-        self.caller = either_task(self.caller.take(), task);
+        gather(&mut self.arguments, arguments);
+        keep_task(&mut self.caller, task);
     }
 }
 
@@ -93,6 +148,79 @@ fn take_task(caller: Option<Apart<Task>>, spare: &mut Option<Apart<Task>>) -> Ap
             None => unreachable!(),
             Some(stock) => stock,
         },
+    }
+}
+
+/// As `begin_body`, where several messages have values.
+#[inline(never)]
+fn begin_with_several(
+    task: &mut Task,
+    code: &Code,
+    drawn: Drawn,
+    members: &Members,
+    arguments: &mut Gathered,
+)
+    requires several { arguments.old.more ≢ None }
+    requires task { IsTaskOf code.now task.old.limits task.old }
+    requires may { MayResume code.now task.old.limits task.old drawn.number drawn.chord drawn.object members.now (laid (for_entry (gathered_in arguments.old.one arguments.old.more))) }
+    requires few { length (laid (for_entry (gathered_in arguments.old.one arguments.old.more))) ≤ 64 }
+    requires twice { AreTwice (gathered_in arguments.old.one arguments.old.more) }
+    ensures task { IsTaskOf code.now task.old.limits task.new }
+    ensures past { task_begun (view_of task.old) drawn.number drawn.chord drawn.object members.now (laid (for_entry (gathered_in arguments.old.one arguments.old.more))) (view_of task.new) }
+    ensures top { (view_of task.new).top ≡ Some drawn.number }
+    ensures none { (arguments.new.one.first ≡ []) × (arguments.new.more ≡ None) }
+{
+    match arguments.more.take() {
+        None => unreachable!(),
+        Some(several) => {
+            let gathered = Gathered {
+                one: mem::replace(&mut arguments.one, Enclosed::nothing()),
+                more: Some(several),
+            };
+            task.resume_gathered(
+                code,
+                drawn.number,
+                drawn.chord,
+                drawn.object,
+                members,
+                gathered,
+            );
+        }
+    }
+}
+
+/// The body of a firing begins on top, with what was gathered, which is taken out of its place: what is moved by value is cleared and
+/// copied, with room for the arguments of eight messages.
+#[inline(always)]
+fn begin_body(
+    task: &mut Task,
+    code: &Code,
+    drawn: Drawn,
+    members: &Members,
+    arguments: &mut Gathered,
+)
+    requires task { IsTaskOf code.now task.old.limits task.old }
+    requires may { MayResume code.now task.old.limits task.old drawn.number drawn.chord drawn.object members.now (laid (for_entry (gathered_in arguments.old.one arguments.old.more))) }
+    requires few { length (laid (for_entry (gathered_in arguments.old.one arguments.old.more))) ≤ 64 }
+    requires twice { AreTwice (gathered_in arguments.old.one arguments.old.more) }
+    ensures task { IsTaskOf code.now task.old.limits task.new }
+    ensures past { task_begun (view_of task.old) drawn.number drawn.chord drawn.object members.now (laid (for_entry (gathered_in arguments.old.one arguments.old.more))) (view_of task.new) }
+    ensures top { (view_of task.new).top ≡ Some drawn.number }
+    ensures none { (arguments.new.one.first ≡ []) × (arguments.new.more ≡ None) }
+{
+    match &arguments.more {
+        None => {
+            let one = mem::replace(&mut arguments.one, Enclosed::nothing());
+            task.resume_one(
+                code,
+                drawn.number,
+                drawn.chord,
+                drawn.object,
+                members,
+                one.into_args(),
+            );
+        }
+        Some(_) => begin_with_several(task, code, drawn, members, arguments),
     }
 }
 
@@ -136,29 +264,28 @@ impl Worker {
         gate: &G,
         drawn: Drawn,
         members: &Members,
-        unpacked: Unpacked,
+        unpacked: &mut Unpacked,
     )
         requires code { code.now ≡ space_code space.now }
         requires limits { limits.now ≡ space_limits space.now }
         requires sound { IsSound (program_of space.now) }
-        requires fired { (v : View) × (qs : List TheParcel) × HasUnpacked unpacked.arguments.one unpacked.arguments.more unpacked.caller qs × HasFired space.now self.old v drawn.object drawn.chord members.now drawn.number qs }
+        requires fired { (v : View) × (qs : List TheParcel) × HasUnpacked unpacked.old.arguments.one unpacked.old.arguments.more unpacked.old.caller qs × HasFired space.now self.old v drawn.object drawn.chord members.now drawn.number qs }
         ensures desk { IsDeskOf space.now self.new.desk }
         ensures rest { IsAtRest space.now self.new }
         ensures role { IsSameRole (view self.old.desk) (view self.new.desk) }
         ensures told { self.new.spent ≡ false }
-        ensures taken { (v : View) (qs : List TheParcel) → HasUnpacked unpacked.arguments.one unpacked.arguments.more unpacked.caller qs → HasFired space.now self.old v drawn.object drawn.chord members.now drawn.number qs → HasTakenOn G.knows v.kept self.old.task self.new drawn.number }
+        ensures none { (unpacked.new.arguments.one.first ≡ []) × (unpacked.new.arguments.more ≡ None) × (unpacked.new.caller ≡ None) }
+        ensures taken { (v : View) (qs : List TheParcel) → HasUnpacked unpacked.old.arguments.one unpacked.old.arguments.more unpacked.old.caller qs → HasFired space.now self.old v drawn.object drawn.chord members.now drawn.number qs → HasTakenOn G.knows v.kept self.old.task self.new drawn.number }
     {
         chords_are_right(code);
         entries_are_within(code);
-        let Unpacked { arguments, caller } = unpacked;
-        let mut task = take_task(caller, &mut self.spare);
-        task.value.resume_gathered(
+        let mut task = take_task(unpacked.caller.take(), &mut self.spare);
+        begin_body(
+            &mut *task.value,
             code,
-            drawn.number,
-            drawn.chord,
-            drawn.object,
+            drawn,
             members,
-            arguments,
+            &mut unpacked.arguments,
         );
         self.take_on(space, code, limits, gate, drawn.number, task);
     }

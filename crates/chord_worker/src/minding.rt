@@ -94,7 +94,8 @@ impl Worker {
                     object,
                     chord,
                 };
-                self.begin_fired(space, code, limits, gate, drawn, members, unpacked);
+                self.begin_fired(space, code, limits, gate, drawn, members, &mut unpacked);
+                unpacked.lay_aside();
                 Ok(true)
             }
             Err(Missed::Lost(_)) => {

@@ -1,12 +1,12 @@
 //! A task is played to its next ask, which becomes an entry of the run.
-ghost use Rattle.std.specs.Prelude.{◌≡◌, ◌<◌, ℕ, true, false, List, Some, None, IfOk, OnOk, MatchResult};
+ghost use Rattle.std.specs.Prelude.{◌≡◌, ◌≢◌, ◌<◌, ℕ, true, false, List, Some, None, IfOk, OnOk, MatchResult};
 ghost use Rattle.chord_base.specs.declared.event.Entry.{Entry as AnEntry};
 ghost use Rattle.chord_base.specs.Story.{IsSound};
 ghost use Rattle.chord_code.specs.declared.parts.Parts.{Parts};
 ghost use Rattle.chord_space.specs.Desks.{view, space_code, space_limits, program_of, IsDeskOf, IsSameDesk};
 ghost use Rattle.chord_task.specs.Enclosing.{what_of_asked, IsTwice};
-ghost use Rattle.chord_task.specs.Standing.{view_of, IsTaskOf, is_ready_of, given_by};
-ghost use Rattle.chord_worker.specs.Playing.{IsReadyTo, IsNotedAs, WasToldFull, HasAsked, message};
+ghost use Rattle.chord_task.specs.Standing.{view_of, IsTaskOf, is_ready_of, given_by, given_of};
+ghost use Rattle.chord_worker.specs.Playing.{IsReadyTo, IsNotedAs, WasToldFull, HasAsked, IsPlayable, KeepsPlayable, message};
 ghost use Rattle.chord_worker.specs.Resting.{IsInMemory, IsStock, IsStockTask};
 
 use chord_base::event::{Limits, What};
@@ -32,7 +32,71 @@ fn top_number(task: &Task) -> u32
     }
 }
 
+/// The ask that the task keeps.
+#[inline(always)]
+fn next_of(task: &Task) -> &Next
+    requires { KeepsPlayable task.now.top }
+    ensures keeps { given_of result.now ≡ given_by task.now.top }
+    ensures playable { IsPlayable result.now }
+{
+    match &task.top {
+        None => unreachable!(),
+        Some(body) => &body.next,
+    }
+}
+
+/// A copy of the ask that a body keeps.
+#[inline(always)]
+fn kept_ask(alloc: Global, next: &Next) -> Result<Asked, AllocError>
+    requires { IsPlayable next.now }
+    ensures gave { IfOk result (λ ask. given_of next.now ≡ Some (what_of_asked ask)) }
+    ensures twice { IfOk result (λ ask. IsTwice ask) }
+{
+    match next {
+        Next::Gave(What::Made(class)) => Ok(Asked::Make(*class)),
+        Next::Gave(What::Sent(object, method, arguments)) => {
+            let arguments = Enclosed::twice(alloc, arguments)?;
+            Ok(Asked::Send(*object, *method, arguments))
+        }
+        Next::Gave(What::Called(object, method, arguments)) => {
+            let arguments = Enclosed::twice(alloc, arguments)?;
+            Ok(Asked::Call(*object, *method, arguments))
+        }
+        Next::Gave(What::Printed(text)) => {
+            let text = text.copied(alloc)?;
+            Ok(Asked::Print(text))
+        }
+        Next::Ends(first, _) => {
+            let end = first.copied(alloc)?;
+            Ok(Asked::End(end))
+        }
+        _ => unreachable!(),
+    }
+}
+
+/// As `ready_ask`. The room is taken before the ask is copied, so that no copy is kept across a call.
+#[inline(always)]
+fn ask_with_room(
+    alloc: Global,
+    code: &Code,
+    limits: &Limits,
+    task: &mut Task,
+) -> Result<Asked, AllocError>
+    requires task { IsTaskOf code.now limits.now task.old }
+    requires ready { is_ready_of task.old ≡ true }
+    ensures task { IfOk result (λ ask. IsTaskOf code.now limits.now task.new) }
+    ensures same { IfOk result (λ ask. view_of task.new ≡ view_of task.old) }
+    ensures ready { IfOk result (λ ask. IsReadyTo code.now limits.now task.new (what_of_asked ask)) }
+    ensures twice { IfOk result (λ ask. IsTwice ask) }
+{
+    task.prepare(alloc, code, limits)?;
+    task.reserve(alloc, code)?;
+    let ask = kept_ask(alloc, next_of(task))?;
+    Ok(ask)
+}
+
 /// The task comes to its next ask, and takes the room that its entry and a firing after it need.
+#[inline(always)]
 pub(crate) fn ready_ask(
     alloc: Global,
     code: &Code,
@@ -46,9 +110,7 @@ pub(crate) fn ready_ask(
     ensures ready { IfOk result (λ ask. IsReadyTo code.now limits.now task.new (what_of_asked ask)) }
     ensures twice { IfOk result (λ ask. IsTwice ask) }
 {
-    let ask = task.value.ask_enclosed(alloc, code, limits)?;
-    task.value.reserve(alloc, code)?;
-    Ok(ask)
+    ask_with_room(alloc, code, limits, &mut *task.value)
 }
 
 /// A new task for the stock.
@@ -61,20 +123,23 @@ fn new_stock(alloc: Global, code: &Code, limits: &Limits) -> Result<Apart<Task>,
     Ok(task)
 }
 
-/// The task in stock, or a new one.
-pub(crate) fn stocked(
+/// Sees to a task in stock.
+#[inline(always)]
+pub(crate) fn see_to_stock(
     alloc: Global,
     code: &Code,
     limits: &Limits,
-    stock: Option<Apart<Task>>,
-) -> Result<Apart<Task>, AllocError>
-    requires { IsStock code.now limits.now stock }
-    ensures { IfOk result (λ t. IsStockTask code.now limits.now t) }
+    stock: &mut Option<Apart<Task>>,
+) -> Result<(), AllocError>
+    requires { IsStock code.now limits.now stock.old }
+    ensures stock { OnOk result (IsStock code.now limits.now stock.new) }
+    ensures some { OnOk result (stock.new ≢ None) }
 {
-    match stock {
-        None => new_stock(alloc, code, limits),
-        Some(task) => Ok(task),
+    if stock.is_some() {
+        return Ok(());
     }
+    *stock = Some(new_stock(alloc, code, limits)?);
+    Ok(())
 }
 
 /// Draws the ask of the task as an entry of the desk, and notes it in the task.

@@ -11,7 +11,7 @@ ghost use Rattle.chord_worker.specs.Playing.{IsReadyTo, IsNoMessage};
 ghost use Rattle.chord_worker.specs.Resting.{IsInMemory, MayContinue, IsAtRest, IsSameRole};
 ghost use Rattle.chord_worker.specs.Stepping.{HasGoneOn, PlaysNoOther, PlaysNext};
 
-use crate::playing::{draw_own, ready_ask, stocked};
+use crate::playing::{draw_own, ready_ask, see_to_stock};
 use crate::worker::{Gate, Worker};
 use chord_base::event::{Limits, What};
 use chord_code::code::Code;
@@ -22,10 +22,24 @@ use chord_task::parcel::Parcel;
 use chord_task::pasts::add_past;
 use chord_task::task::Task;
 use std::alloc::{AllocError, Global};
+use std::mem;
 use std::sync::Wait;
+
+/// What is played next. There is nothing to drop in its place, which an assignment would not know.
+#[inline(always)]
+pub(crate) fn put_task(place: &mut Option<Apart<Task>>, task: Apart<Task>)
+    requires none { place.old ≡ None }
+    ensures { place.new ≡ Some task }
+{
+    match mem::replace(place, Some(task)) {
+        None => {}
+        Some(_) => unreachable!(),
+    }
+}
 
 impl Worker {
     /// The task is played on if it may go on; else what it did is done.
+    #[inline(always)]
     pub(crate) fn settle(&mut self, task: Apart<Task>) -> Result<(), AllocError>
         requires none { self.old.task ≡ None }
         ensures same { (self.new.desk ≡ self.old.desk) × (self.new.spare ≡ self.old.spare) × (self.new.spent ≡ self.old.spent) }
@@ -33,9 +47,19 @@ impl Worker {
         ensures settled { OnOk result ((code : Parts) (limits : TheLimits) (kept : List AnEntry) (spent : Bool) → IsInMemory code limits kept spent self.old.done.items (Some task) → IsInMemory code limits kept spent self.new.done.items self.new.task × MayContinue self.new.task) }
     {
         if task.value.is_ready() {
-            self.task = Some(task);
+            put_task(&mut self.task, task);
             return Ok(());
         }
+        self.finish(task)?;
+        Ok(())
+    }
+
+    /// What the task did is done.
+    #[inline(never)]
+    fn finish(&mut self, task: Apart<Task>) -> Result<(), AllocError>
+        ensures same { (self.new.desk ≡ self.old.desk) × (self.new.spare ≡ self.old.spare) × (self.new.task ≡ self.old.task) × (self.new.spent ≡ self.old.spent) }
+        ensures done { OnOk result (self.new.done.items ≡ self.old.done.items ++ task.past.items) }
+    {
         let past = task.into_inner().into_past();
         add_past(&mut self.done, past)?;
         Ok(())
@@ -47,8 +71,7 @@ impl Worker {
         ensures done { OnOk result (self.new.done.items ≡ self.old.done.items ++ task.past.items) }
     {
         self.spent = true;
-        let past = task.into_inner().into_past();
-        add_past(&mut self.done, past)?;
+        self.finish(task)?;
         Ok(())
     }
 
@@ -173,9 +196,8 @@ impl Worker {
             None => unreachable!(),
             Some(task) => {
                 let mut task = task;
+                see_to_stock(alloc, code, limits, &mut self.spare)?;
                 let ask = ready_ask(alloc, code, limits, &mut task)?;
-                let stock = stocked(alloc, code, limits, self.spare.take())?;
-                self.spare = Some(stock);
                 self.play(rt, alloc, space, code, limits, gate, task, ask)?;
                 Ok(())
             }

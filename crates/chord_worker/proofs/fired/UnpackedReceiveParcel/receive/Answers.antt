@@ -3,10 +3,10 @@ use Rattle.chord_worker.specs.Beginning.{arguments_in}
 use Rattle.chord_worker.proofs.Unpacked.{unpacked_more, as_many}
 use Rattle.chord_worker.proofs.fired.UnpackedReceiveParcel.receive.Goals as goal
 
-pub add-requires : goal.add-requires
-add-requires c =
+pub gather-requires : goal.gather-requires
+gather-requires c =
     let r = c.requires.room in
     record { room = (arguments_in r.0, r.1.gathered, subst (λ (n : ℕ). n < 8) (sym (as_many r.0)) r.2) }
 
 pub returns : goal.returns
-returns c = record { received = λ qs u. rw (c.either_task.ensures, c.take.ensures.value) (unpacked_more _ _ _ _ _ qs c.args.parcel c.add.ensures.added u) }
+returns c = record { received = λ qs u. rw c.keep_task.ensures (unpacked_more _ _ _ _ _ qs c.args.parcel c.gather.ensures.added u) }

@@ -1,10 +1,10 @@
-use Rattle.std.proofs.Common.{List, [], refl, sym, ap, ◌∙◌, subst, inl, inr, arith}
+use Rattle.std.proofs.Common.{[], refl, sym, ap, ◌∙◌, subst, inl, inr, arith}
 use Rattle.chord_base.specs.declared.event.What.TheVariants.{Sent}
 use Rattle.chord_rule.specs.declared.view.View.{View}
 use Rattle.chord_rule.specs.Kinds.{entry}
 use Rattle.chord_rule.specs.Made.{key}
 use Rattle.chord_space.specs.declared.space.Desk.{Desk}
-use Rattle.chord_space.specs.Desks.{view, space_code, space_limits, program_of, IsSameDesk}
+use Rattle.chord_space.specs.Desks.{view, space_code, space_limits, IsSameDesk}
 use Rattle.chord_task.specs.declared.parcel.Parcel.{Parcel}
 use Rattle.chord_worker.specs.Playing.{WasToldFull}
 use Rattle.chord_worker.specs.Sending.{IsSentOff}
