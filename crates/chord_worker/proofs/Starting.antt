@@ -1,5 +1,5 @@
 -- A worker that begins: the first one with `Main`, another one with nothing, and one that starts a firing.
-use Rattle.std.proofs.Common.{◌≡◌, ◌≤◌, Vec, Global, vec_len, vec_capacity, ℕ, Bool, true, false, not, ◌==◌, List, [], ◌∷◌, Option, Some, None, IsSome, reverse, refl, sym, ap, ◌∙◌, subst, inl, inr, ⊎_elim, arith, if◌then◌else◌}
+use Rattle.std.proofs.Common.{◌≡◌, ℕ, Bool, true, false, not, ◌==◌, List, [], ◌∷◌, Option, Some, None, IsSome, reverse, refl, sym, ap, ◌∙◌, subst, inl, inr, ⊎_elim, arith, if◌then◌else◌}
 use Rattle.std.proofs.lemmas.Bool.{eq-eqb, eqb-true, eqb-false, ne_eqb}
 use Rattle.std.specs.Prelude.{IsPermutation}
 use mathlib.Core.Path.{Path}
@@ -33,9 +33,8 @@ use Rattle.chord_task.specs.declared.body.Next.{Next}
 use Rattle.chord_task.specs.declared.body.Next.TheVariants as nexts
 use Rattle.chord_task.specs.declared.parcel.Parcel.{Parcel}
 use Rattle.chord_task.specs.declared.task.Task.{Task}
-use Rattle.chord_task.specs.Stacks.{IsTask}
 use Rattle.chord_task.specs.Parcels.{past_in, TaskIn, entries_of, IsParcelOf}
-use Rattle.chord_task.specs.Standing.{view_of, body_number, may_go, body_may_go, is_ready_of, HasRoomIf, IsResumable, IsTop, IsBodyStack, IsTaskOf, MainBegins}
+use Rattle.chord_task.specs.Standing.{view_of, body_number, may_go, body_may_go, is_ready_of, IsTop, IsBodyStack, IsTaskOf, MainBegins}
 use Rattle.chord_worker.specs.Parted.{IsParted, with_part, two}
 use Rattle.chord_worker.specs.Resting.{IsInMemory, MayContinue, IsHandFree, IsAtRest, IsSameRole}
 use Rattle.chord_worker.specs.Stepping.{PlaysFiring}
@@ -286,33 +285,3 @@ module _ (s : Space Parcel) (w : Worker) (r : IsAtRest s w) (none : w.task ≡ N
 -- `Main` begins in a sound program
 pub main_starts : (code : Parts) (limits : Limits) → IsSound (code_program code limits) → MainBegins code limits
 main_starts code limits s = s.is_defined (entry 0 0 Begun ∷ []) 0 (tt, record { numbered = refl; comes = (refl, refl) })
-
--- a task with the same past in a longer list, and room where there was room, is one of the code
-pub longer_task : (code : Parts) (limits : Limits) (t : Task) (past : Vec Entry Global) → past.items ≡ t.past.items → vec_len past ≡ vec_len t.past → vec_capacity t.past ≤ vec_capacity past → IsTaskOf code limits t → IsTaskOf code limits (record { past = past; top = t.top; below = t.below; spare = t.spare; ended = t.ended; values = t.values; limits = t.limits })
-longer_task code limits t past items len capacity k =
-    let same : t.past.items ≡ past.items = sym items in
-    record {
-      forward = k.forward;
-      limited = k.limited;
-      task = subst (λ (xs : List Entry). IsTask (code_program code limits) (record { past = reverse xs; top = body_number t.top })) same k.task;
-      is_defined = subst (λ (xs : List Entry). (b : ℕ) → IsDefined (code_program code limits) (doing (code_program code limits) (reverse xs) b)) same k.is_defined;
-      stack = subst (λ (xs : List Entry). IsBodyStack code limits (reverse xs) t.top (reverse t.below.items)) same k.stack;
-      room = room_if t.top k.room;
-      kept = k.kept;
-      kept_values = k.kept_values;
-    }
-  where
-    resumable : IsResumable code t → IsResumable code (record { past = past; top = t.top; below = t.below; spare = t.spare; ended = t.ended; values = t.values; limits = t.limits })
-    resumable r =
-        record {
-          past = (let l = r.past in omega (arith, l, len, capacity));
-          below = r.below;
-          frames = r.frames;
-          spare = r.spare;
-          room = r.room;
-          values = r.values;
-        }
-
-    room_if : (top : Option Body) → HasRoomIf code t top → HasRoomIf code (record { past = past; top = t.top; below = t.below; spare = t.spare; ended = t.ended; values = t.values; limits = t.limits }) top
-    room_if None r = resumable r
-    room_if (Some b) r = λ q e. resumable (r q e)

@@ -1,6 +1,7 @@
 use Rattle.std.proofs.Common.{◌∙◌, ap, ◌++◌, ◌∷◌, [], reverse, Option, ℕ}
 use Rattle.chord_task.specs.declared.task.Task.{Task}
-use Rattle.chord_lists.proofs.CodeStart.{main_begins, first_tag, longer_task, started}
+use Rattle.chord_task.proofs.Reserved.{longer_task}
+use Rattle.chord_lists.proofs.CodeStart.{main_begins, first_tag, started}
 use Rattle.chord_lists.proofs.code_bodies.begin_run.Goals as goal
 
 pub main-requires : goal.main-requires

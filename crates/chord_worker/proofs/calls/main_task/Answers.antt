@@ -1,5 +1,5 @@
 use Rattle.std.proofs.Common.{◌∙◌, ap, reverse}
-use Rattle.chord_worker.proofs.Starting.{longer_task}
+use Rattle.chord_task.proofs.Reserved.{longer_task}
 use Rattle.chord_worker.proofs.calls.main_task.Goals as goal
 
 pub returns-clause-task : goal.returns-clause-task

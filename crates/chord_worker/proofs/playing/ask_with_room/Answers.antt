@@ -1,4 +1,3 @@
-use Rattle.std.proofs.Common.{sym, ◌∙◌}
 use Rattle.chord_task.specs.Enclosing.{what_of_asked}
 use Rattle.chord_worker.proofs.Given.{kept_ready, kept_still, keeps_playable, ready_to}
 use Rattle.chord_worker.proofs.playing.ask_with_room.Goals as goal
