@@ -51,8 +51,8 @@ enum Parts {
 /// The members of a firing, written short.
 #[derive(Clone, Copy)]
 enum Taken {
-    One(u32),
-    Two(u32, u32),
+    One(u16),
+    Two(u16, u16),
 }
 
 /// An end, written short.
