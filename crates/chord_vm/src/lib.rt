@@ -7,4 +7,5 @@
 
 pub mod ask;
 pub mod frames;
+mod numbers;
 pub mod step;

@@ -3,7 +3,7 @@ use Rattle.chord_base.specs.Operators.{compute}
 use Rattle.chord_base.specs.declared.value.Value.TheVariants as a_value
 use Rattle.chord_vm.specs.Frames.{machine_of}
 use Rattle.chord_vm.proofs.Slots.{operated}
-use Rattle.chord_vm.proofs.step.operate_top.Goals as goal
+use Rattle.chord_vm.proofs.numbers.operate_top.Goals as goal
 
 pub returns-clause-goes : goal.returns-clause-goes
 returns-clause-goes c =
