@@ -89,3 +89,16 @@ placed_is_journal es placed given moved place =
       few = omega (arith, long, given.few);
       within = all_within placed place (All-permutation IsEntryWithin es placed moved given.within);
     }
+
+-- in another order, entries of a journal are of one still
+pub of_journal_moved : (es moved : List Entry) → AreOfJournal es → IsPermutation es moved → AreOfJournal moved
+of_journal_moved es moved given turned =
+    let long = length_permutation es moved turned in
+    record {
+      few = rw long given.few;
+      within = All-permutation IsEntryWithin es moved turned given.within;
+      numbered = λ n below.
+          let (i, e, inside, is, numbered) = given.numbered n (omega (arith, below, long)) in
+          let (j, within, at) = Contains-permutation es moved e turned (i, inside, is) in
+          (j, e, within, at, numbered);
+    }

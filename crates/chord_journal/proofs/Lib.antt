@@ -1,5 +1,6 @@
 pub mod Printed
 pub mod Gathering
+pub mod Merging
 pub mod Fronts
 pub mod Digits
 pub mod Many
