@@ -2,3 +2,4 @@ pub mod Ending
 pub mod Sending
 pub mod Pairs
 pub mod ByHand
+pub mod TwoEntries

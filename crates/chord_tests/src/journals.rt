@@ -1,12 +1,12 @@
 //! What no clause says: journals of the language's own examples byte for byte, a text at each bound and one past it,
 //! that calls succeed with memory, and a write that fails in mid-stream.
-ghost use Rattle.std.specs.Prelude.{◌≤◌, IfOk};
+ghost use Rattle.std.specs.Prelude.{◌≡◌, ◌≤◌, ◌∷◌, [], IfOk, flat_map};
 ghost use Rattle.chord_journal.specs.Gathered.{AreOfJournal};
 
 use chord_base::event::{Entry, What};
 use chord_base::journal::Journal;
 use chord_io::{Failed, MemSink};
-use chord_journal::{JournalFault, gather, read, write_lines, write_text};
+use chord_journal::{JournalFault, gather, gather_pasts, read, write_lines, write_text};
 use std::alloc::{AllocError, Global};
 use std::fmt::Write;
 use std::process::Abort;
@@ -364,6 +364,50 @@ fn swapped(alloc: Global) -> Result<Vec<Entry>, AllocError>
 #[test]
 fn gathers_entries_by_their_numbers(rt: HostRuntime) -> Result<(), Fail> {
     let journal = gather(rt.alloc(), swapped(rt.alloc())?)?;
+    let taken = b"journal 1 2\n0 0 begun\n1 0 made 7\n";
+    let written = text_written(rt.alloc(), &journal, 100, taken)?;
+    assert_eq!(rt; written, (Ok(()), true));
+    Ok(())
+}
+
+/// A past of one entry.
+fn past_of(alloc: Global, entry: Entry) -> Result<Vec<Entry>, AllocError>
+    ensures { IfOk result (λ past. past.items ≡ entry ∷ []) }
+{
+    let mut past = Vec::with_capacity(alloc, 1)?;
+    past.push(entry)?;
+    Ok(past)
+}
+
+/// Two entries of a journal in a past each, the later one in the first.
+fn parted(alloc: Global) -> Result<Vec<Vec<Entry>>, AllocError>
+    ensures { IfOk result (λ pasts. AreOfJournal (flat_map (λ past. past.items) pasts.items)) }
+{
+    let later = past_of(
+        alloc,
+        Entry {
+            number: 1,
+            body: 0,
+            what: What::Made(7),
+        },
+    )?;
+    let first = past_of(
+        alloc,
+        Entry {
+            number: 0,
+            body: 0,
+            what: What::Begun,
+        },
+    )?;
+    let mut pasts = Vec::new(alloc);
+    pasts.push(later)?;
+    pasts.push(first)?;
+    Ok(pasts)
+}
+
+#[test]
+fn gathers_pasts_by_their_numbers(rt: HostRuntime) -> Result<(), Fail> {
+    let journal = gather_pasts(rt.alloc(), parted(rt.alloc())?)?;
     let taken = b"journal 1 2\n0 0 begun\n1 0 made 7\n";
     let written = text_written(rt.alloc(), &journal, 100, taken)?;
     assert_eq!(rt; written, (Ok(()), true));
