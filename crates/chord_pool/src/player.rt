@@ -1,5 +1,6 @@
 //! A worker at its thread: it plays what it has, and looks for more.
 ghost use Rattle.std.specs.Prelude.{◌≡◌, ◌≢◌, ℕ, ◌<◌, ◌≤◌, true, false, None, Some, is_some, OnOk, IfSome, IfNone};
+ghost use Rattle.chord_pool.specs.declared.player.Player.{Player as ThePlayer};
 ghost use Rattle.chord_space.specs.Desks.{view};
 ghost use Rattle.chord_task.specs.declared.task.Task.{Task as TheTask};
 ghost use Rattle.chord_worker.specs.Resting.{IsAtRest, IsSameRole};
@@ -238,8 +239,9 @@ impl Player {
         ensures on { PlaysOn self.old self.new }
         ensures sane { result ≡ true → self.new.failed ≡ false }
         ensures stops { result ≡ false → HasPlayed run.now.space.now self.new }
+        ensures went { result ≡ true → (before : ThePlayer) × HadARound run.now.space.now before.place before.worker self.new.worker }
     {
-        for _ in 0..ROUNDS {
+        for _round in 0..ROUNDS {
             if !self.round(rt, alloc, run, gate, pause) {
                 return false;
             }
