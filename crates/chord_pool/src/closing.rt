@@ -13,20 +13,16 @@ use chord_base::event::{Entry, Limits};
 use chord_base::journal::Journal;
 use chord_code::code::Code;
 use chord_code::laws::entries_are_within;
-use chord_journal::gather;
+use chord_journal::gather_pasts;
 use chord_space::{Closed, Desk, Space};
 use chord_task::parcel::Parcel;
-use chord_task::pasts::add_past;
+use chord_task::pasts::Pasts;
 use std::alloc::{AllocError, Global};
 
 /// Takes the parcel of number i, if it is at home; the entries of its task go behind those that are there.
-fn take_home(
-    closed: &mut Closed<Parcel>,
-    i: u32,
-    entries: &mut Vec<Entry>,
-) -> Result<(), AllocError>
+fn take_home(closed: &mut Closed<Parcel>, i: u32, entries: &mut Pasts) -> Result<(), AllocError>
     requires bounds { i < closed.old.events }
-    ensures entries { IfOk result (λ _. entries.new.items ≡ entries.old.items ++ slot_items (slice_get (parcels closed.old) i)) }
+    ensures entries { IfOk result (λ _. entries.new ≡ entries.old ++ slot_items (slice_get (parcels closed.old) i)) }
     ensures parcels { parcels closed.new ≡ slice_set (parcels closed.old) i None }
     ensures rest { (closed.new.drawn ≡ closed.old.drawn) × (closed.new.events ≡ closed.old.events) × (closing_view closed.new ≡ closing_view closed.old) }
 {
@@ -38,7 +34,7 @@ fn take_home(
                 None => Ok(()),
                 Some(task) => {
                     let past = task.into_inner().into_past();
-                    add_past(entries, past)?;
+                    entries.add(past)?;
                     Ok(())
                 }
             }
@@ -50,10 +46,10 @@ fn take_home(
 fn take_homes(
     closed: &mut Closed<Parcel>,
     count: u32,
-    entries: &mut Vec<Entry>,
+    entries: &mut Pasts,
 ) -> Result<(), AllocError>
     requires bounds { count ≤ closed.old.events }
-    ensures entries { IfOk result (λ _. entries.new.items ≡ entries.old.items ++ home_items (parcels closed.old) count) }
+    ensures entries { IfOk result (λ _. entries.new ≡ entries.old ++ home_items (parcels closed.old) count) }
     ensures rest { (closed.new.drawn ≡ closed.old.drawn) × (closing_view closed.new ≡ closing_view closed.old) }
 {
     for i in 0..count {
@@ -67,20 +63,20 @@ fn take_homes(
 ///
 /// # Errors
 ///
-/// `AllocError` where there is no memory for the entries side by side, or for sorting them.
+/// `AllocError` where there is no memory for the entries beside the pasts that have them, or for sorting them.
 pub(crate) fn finish(
     alloc: Global,
     space: Space<Parcel>,
     code: &Code,
     limits: &Limits,
     desk: Desk<Parcel>,
-    entries: Vec<Entry>,
+    entries: Pasts,
 ) -> Result<(Journal, Closed<Parcel>), AllocError>
     requires code { (space_code space ≡ code.now) × (space_limits space ≡ limits.now) }
     requires desk { IsDeskOf space desk }
     requires alone { ((view desk).first ≡ true) × ((view desk).lent ≡ 0) }
     requires idle { ((view desk).claims ≡ []) × ((view desk).flight ≡ None) }
-    requires held { IsPermutation entries.items (view desk).kept }
+    requires held { IsPermutation entries (view desk).kept }
     ensures run { IfOk result (λ r. IsRun (code_program code.now limits.now) r.0) }
     ensures whole { IfOk result (λ r. MayClose (view desk) → AreQuiet (code_program code.now limits.now) (view desk).kept → IsComplete (code_program code.now limits.now) r.0) }
     ensures full { IfOk result (λ r. (view desk).spent ≡ true → length r.0 ≡ limits.now.events) }
@@ -95,7 +91,7 @@ pub(crate) fn finish(
     // no parcel is at home for a number that was not drawn
     let drawn = closed.drawn();
     take_homes(&mut closed, drawn, &mut entries)?;
-    let journal = gather(alloc, entries)?;
+    let journal = gather_pasts(alloc, entries.into_lists())?;
     let _within = journal.entries();
     Ok((journal, closed))
 }

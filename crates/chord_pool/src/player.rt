@@ -1,5 +1,6 @@
 //! A worker at its thread: it plays what it has, and looks for more.
 ghost use Rattle.std.specs.Prelude.{◌≡◌, ◌≢◌, ℕ, ◌<◌, ◌≤◌, true, false, None, Some, is_some, OnOk, IfSome, IfNone};
+ghost use Rattle.chord_pool.specs.declared.player.Player.{Player as ThePlayer};
 ghost use Rattle.chord_space.specs.Desks.{view};
 ghost use Rattle.chord_task.specs.declared.task.Task.{Task as TheTask};
 ghost use Rattle.chord_worker.specs.Resting.{IsAtRest, IsSameRole};
@@ -29,6 +30,8 @@ pub(crate) struct Player {
 const NEAR: u32 = 256;
 /// One of so many looks that found nothing is followed by one over all numbers.
 const FAR_LOOK: u32 = 32;
+/// How many rounds a worker plays for one turn of the loop without end.
+const ROUNDS: u32 = 1024;
 
 /// Looks at the cell of number i, and starts its firing where it is ready. Whether it plays it now.
 fn try_start<'a, G: Gate>(run: &Run<'a>, worker: &mut Worker, i: u32, gate: &G) -> bool
@@ -217,6 +220,34 @@ impl Player {
         }
         self.idle(rt, run, gate, pause)
     }
+
+    /// Many rounds. Whether the worker goes on.
+    ///
+    /// `forever` counts its turns, which takes some dozen instructions each time. Here it counts one for all of these.
+    fn rounds<'a, R: Wait, G: Gate>(
+        &mut self,
+        rt: &R,
+        alloc: Global,
+        run: &Run<'a>,
+        gate: &G,
+        pause: &Pause,
+    ) -> bool
+        requires run { IsOneRun run.now.space.now run.now.code.now run.now.limits.now }
+        requires may { MayPlay run.now.space.now self.old }
+        requires sane { self.old.failed ≡ false }
+        ensures may { MayPlay run.now.space.now self.new }
+        ensures on { PlaysOn self.old self.new }
+        ensures sane { result ≡ true → self.new.failed ≡ false }
+        ensures stops { result ≡ false → HasPlayed run.now.space.now self.new }
+        ensures went { result ≡ true → (before : ThePlayer) × HadARound run.now.space.now before.place before.worker self.new.worker }
+    {
+        for _round in 0..ROUNDS {
+            if !self.round(rt, alloc, run, gate, pause) {
+                return false;
+            }
+        }
+        true
+    }
 }
 
 /// A worker plays until the run is full, or one of the workers met want of memory, or it finds no firing to start among all numbers
@@ -239,7 +270,7 @@ pub(crate) fn work<'a, R: Wait, G: Gate>(
         if player.failed {
             return player;
         }
-        if !player.round(rt, alloc, run, gate, &pause) {
+        if !player.rounds(rt, alloc, run, gate, &pause) {
             return player;
         }
     }

@@ -32,7 +32,7 @@ use std::thread::Threads;
 ///
 /// # Errors
 ///
-/// `AllocError` where one of them met want of memory, and where there is no memory for their entries side by side.
+/// `AllocError` where one of them met want of memory, and where there is no memory for the lists of their pasts side by side.
 fn taken_in(space: &Space<Parcel>, main: Player, others: Vec<Player>) -> Result<Worker, AllocError>
     requires back { main.failed ≡ false → IsBack space.now main.worker others.items }
     ensures last { IfOk result (λ last. IsLast space.now last) }

@@ -15,6 +15,7 @@ use chord_code::code::Code;
 use chord_plain::plain::Plain;
 use chord_space::{Closed, Desk, Space};
 use chord_task::parcel::Parcel;
+use chord_task::pasts::Pasts;
 use chord_word::Cell;
 use chord_worker::Worker;
 use std::alloc::{AllocError, Global};
@@ -283,11 +284,7 @@ fn play<R: Wait>(
 }
 
 /// The entries of the parcel of number i go behind those that are there, if it is at home.
-fn take_home(
-    closed: &mut Closed<Parcel>,
-    i: u32,
-    entries: &mut Vec<Entry>,
-) -> Result<(), AllocError>
+fn take_home(closed: &mut Closed<Parcel>, i: u32, pasts: &mut Pasts) -> Result<(), AllocError>
     requires bounds { i < closed.old.events }
     ensures events { closed.new.events ≡ closed.old.events }
 {
@@ -298,8 +295,8 @@ fn take_home(
             match task {
                 None => Ok(()),
                 Some(task) => {
-                    let mut past = task.into_inner().into_past();
-                    entries.append(&mut past)?;
+                    let past = task.into_inner().into_past();
+                    pasts.add(past)?;
                     Ok(())
                 }
             }
@@ -308,17 +305,23 @@ fn take_home(
 }
 
 /// The entries of all parcels at home go behind those that are there.
-fn take_homes(
-    closed: &mut Closed<Parcel>,
-    events: u32,
-    entries: &mut Vec<Entry>,
-) -> Result<(), AllocError>
+fn take_homes(closed: &mut Closed<Parcel>, events: u32, pasts: &mut Pasts) -> Result<(), AllocError>
     requires bounds { events ≤ closed.old.events }
 {
     for i in 0..events {
-        take_home(closed, i, entries)?;
+        take_home(closed, i, pasts)?;
     }
     Ok(())
+}
+
+/// The entries of all pasts, one behind the other.
+fn entries_of(alloc: Global, pasts: Pasts) -> Result<Vec<Entry>, AllocError> {
+    let mut entries = Vec::new(alloc);
+    for past in pasts.into_lists() {
+        let mut past = past;
+        entries.append(&mut past)?;
+    }
+    Ok(entries)
 }
 
 /// The entries by their numbers, from 0 on, as far as there is one.
@@ -358,11 +361,12 @@ fn judged<R: Wait>(
     match play(rt, alloc, &space, code, limits, desk, seed)? {
         None => Ok(None),
         Some(last) => {
-            let (desk, entries) = last.into_parts(&space);
-            let mut entries = entries;
+            let (desk, pasts) = last.into_parts(&space);
+            let mut pasts = pasts;
             let mut closed = space.close(desk);
             let drawn = closed.drawn();
-            take_homes(&mut closed, limits.events, &mut entries)?;
+            take_homes(&mut closed, limits.events, &mut pasts)?;
+            let entries = entries_of(alloc, pasts)?;
             let kept = entries.len();
             let ordered = in_order(alloc, &entries)?;
             let limits = *limits;

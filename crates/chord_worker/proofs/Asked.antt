@@ -36,8 +36,8 @@ asked_rest s w t t' stock what r task is same ready in_stock = record {
   told = r.told;
   free = r.free;
   duties = r.duties;
-  memory = same_memory (space_code s) (space_limits s) (view w.desk).kept (view w.desk).spent w.done.items t t'
-      (subst (λ (x : Option Task). IsInMemory (space_code s) (space_limits s) (view w.desk).kept (view w.desk).spent w.done.items x) task r.memory) is (ap (λ v. v.past) same);
+  memory = same_memory (space_code s) (space_limits s) (view w.desk).kept (view w.desk).spent w.done t t'
+      (subst (λ (x : Option Task). IsInMemory (space_code s) (space_limits s) (view w.desk).kept (view w.desk).spent w.done x) task r.memory) is (ap (λ v. v.past) same);
   goes_on = given_ready t'.top what ready.gave;
   stock = in_stock;
 }

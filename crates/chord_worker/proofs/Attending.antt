@@ -133,7 +133,7 @@ module _ (s : Space Parcel) (w w' : Worker) (m k : ℕ) (minds : Minds s w m k) 
     room = looks_spent (view w.desk) (view w'.desk) l ∙ minds.room;
     free = looks_free (view w.desk) (view w'.desk) l minds.free;
     duty = l.duties ∙ minds.duty;
-    memory = subst (λ (es : List Entry). IsInMemory (space_code s) (space_limits s) es false w.done.items w.task) (sym (looks_kept (view w.desk) (view w'.desk) l)) minds.memory;
+    memory = subst (λ (es : List Entry). IsInMemory (space_code s) (space_limits s) es false w.done w.task) (sym (looks_kept (view w.desk) (view w'.desk) l)) minds.memory;
     goes_on = minds.goes_on;
     stock = minds.stock;
     spare = minds.spare;
@@ -148,8 +148,8 @@ module _ (s : Space Parcel) (w w' : Worker) (m k : ℕ) (minds : Minds s w m k) 
       told = minds.told ∙ sym (spent ∙ minds.room);
       free = subst IsHandFree (sym laid) (let f = looks_free (view w.desk) u l minds.free in record { claims = f.claims; flight = f.flight; fresh = f.fresh });
       duties = λ e. ap (λ (z : View). z.duties) laid ∙ no_duty_left u.duties m k (l.duties ∙ minds.duty);
-      memory = subst (λ (b : Bool). IsInMemory (space_code s) (space_limits s) (view w'.desk).kept b w.done.items w.task) (sym (spent ∙ minds.room))
-          (subst (λ (es : List Entry). IsInMemory (space_code s) (space_limits s) es false w.done.items w.task) (sym (ap (λ (z : View). z.kept) laid ∙ looks_kept (view w.desk) u l)) minds.memory);
+      memory = subst (λ (b : Bool). IsInMemory (space_code s) (space_limits s) (view w'.desk).kept b w.done w.task) (sym (spent ∙ minds.room))
+          (subst (λ (es : List Entry). IsInMemory (space_code s) (space_limits s) es false w.done w.task) (sym (ap (λ (z : View). z.kept) laid ∙ looks_kept (view w.desk) u l)) minds.memory);
       goes_on = minds.goes_on;
       stock = subst (IsStock (space_code s) (space_limits s)) (sym minds.spare) minds.is_stock;
     }
@@ -196,7 +196,7 @@ laid_down code limits es spent done done' None m l = subst (λ (x : List Entry).
 laid_down code limits es spent done done' (Some t) m l = subst (λ (x : List Entry). IsInMemory code limits es true x None) (sym l) (task_laid code limits es spent done t m)
 
 module _ (s : Space Parcel) (w w' : Worker) (m k : ℕ) (minds : Minds s w m k) (same : IsSameDesk w.desk w'.desk) (view_is : view w'.desk ≡ record (view w.desk) { looked = (view w'.desk).looked; spent = true })
-    (task : w'.task ≡ None) (spent : w'.spent ≡ true) (stock : w'.spare ≡ w.spare) (done : IsLaidDown w.done.items w.task w'.done.items) where
+    (task : w'.task ≡ None) (spent : w'.spent ≡ true) (stock : w'.spare ≡ w.spare) (done : IsLaidDown w.done w.task w'.done) where
   -- where the limit is reached, the worker is at rest once its task is laid down
   pub refused : IsAtRest s w'
   refused = record {
@@ -204,9 +204,9 @@ module _ (s : Space Parcel) (w w' : Worker) (m k : ℕ) (minds : Minds s w m k) 
     told = spent ∙ sym (ap (λ (z : View). z.spent) view_is);
     free = subst IsHandFree (sym view_is) (record { claims = minds.free.claims; flight = minds.free.flight; fresh = minds.free.fresh });
     duties = λ e. let z : true ≡ false = sym (ap (λ (z : View). z.spent) view_is) ∙ e in absurd (cc);
-    memory = subst (λ (z : View). IsInMemory (space_code s) (space_limits s) z.kept z.spent w'.done.items w'.task) (sym view_is)
-        (subst (λ (x : Option Task). IsInMemory (space_code s) (space_limits s) (view w.desk).kept true w'.done.items x) (sym task)
-        (laid_down (space_code s) (space_limits s) (view w.desk).kept false w.done.items w'.done.items w.task minds.memory done));
+    memory = subst (λ (z : View). IsInMemory (space_code s) (space_limits s) z.kept z.spent w'.done w'.task) (sym view_is)
+        (subst (λ (x : Option Task). IsInMemory (space_code s) (space_limits s) (view w.desk).kept true w'.done x) (sym task)
+        (laid_down (space_code s) (space_limits s) (view w.desk).kept false w.done w'.done w.task minds.memory done));
     goes_on = subst MayContinue (sym task) tt;
     stock = subst (IsStock (space_code s) (space_limits s)) (sym (stock ∙ minds.spare)) minds.is_stock;
   }

@@ -290,7 +290,7 @@ module _ (s : Space Parcel) (w : Worker) (v : View) (f : ℕ) (t : Task) (b : Ha
   -- a worker without a task plays it
   pub rest_played : w.task ≡ None → IsAtRest s (record w { task = Some t })
   rest_played none =
-      let m : IsInMemory (space_code s) (space_limits s) v.kept false w.done.items None = subst (IsInMemory (space_code s) (space_limits s) v.kept false w.done.items) none b.memory in
+      let m : IsInMemory (space_code s) (space_limits s) v.kept false w.done None = subst (IsInMemory (space_code s) (space_limits s) v.kept false w.done) none b.memory in
       record {
         desk = b.desk;
         told = b.told ∙ sym (ap (λ (z : View). z.spent) b.seen ∙ b.room);
@@ -300,7 +300,7 @@ module _ (s : Space Parcel) (w : Worker) (v : View) (f : ℕ) (t : Task) (b : Ha
           rises = b.both.rises;
           told = b.both.told;
           played = (b.task, b.both.goes);
-          held = subst (IsPermutation w.done.items) (sym b.both.left) m.held;
+          held = subst (IsPermutation w.done) (sym b.both.left) m.held;
           quiet = λ e. subst (AreQuiet (program_of s)) (sym b.both.left) (m.quiet refl);
         };
         goes_on = b.ready;
@@ -323,8 +323,8 @@ module _ (s : Space Parcel) (w : Worker) (v : View) (f : ℕ) (t : Task) (b : Ha
         fresh = ap (λ (z : View). z.fresh) post ∙ ap (λ (z : View). z.fresh) b.seen ∙ b.free.fresh;
       };
       duties = λ e. ap (λ (z : View). z.duties) post ∙ b.duties;
-      memory = subst (λ (h : List Entry). IsInMemory (space_code s) (space_limits s) h (view d).spent w.done.items w.task) (sym kept_posted)
-          (subst (λ (y : Bool). IsInMemory (space_code s) (space_limits s) v.kept y w.done.items w.task) (sym spent) b.memory);
+      memory = subst (λ (h : List Entry). IsInMemory (space_code s) (space_limits s) h (view d).spent w.done w.task) (sym kept_posted)
+          (subst (λ (y : Bool). IsInMemory (space_code s) (space_limits s) v.kept y w.done w.task) (sym spent) b.memory);
       goes_on = b.goes_on;
       stock = b.stock;
     }

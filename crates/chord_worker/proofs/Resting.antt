@@ -16,13 +16,13 @@ use Rattle.chord_worker.specs.Resting.{IsInMemory, MayContinue, IsHandFree, IsSt
 module _ (s : Space Parcel) (w : Worker) (t : Task) (r : IsAtRest s (record w { task = Some t })) (w' : Worker) (same : IsSameDesk w.desk w'.desk) (stock : w'.spare ≡ w.spare) where
   module _ (t' : Task) (n : ℕ) (what : What) (noted : IsNotedAs (space_code s) (space_limits s) (view w.desk) (view w'.desk) t t' n what) where
     -- an entry that is no message was drawn
-    pub rest_noted : IsNoMessage what → w'.spent ≡ w.spent → IsInMemory (space_code s) (space_limits s) (entry n noted.body what ∷ (view w.desk).kept) (view w.desk).spent w'.done.items w'.task → MayContinue w'.task → IsAtRest s w'
+    pub rest_noted : IsNoMessage what → w'.spent ≡ w.spent → IsInMemory (space_code s) (space_limits s) (entry n noted.body what ∷ (view w.desk).kept) (view w.desk).spent w'.done w'.task → MayContinue w'.task → IsAtRest s w'
     rest_noted plain spent memory goes_on = record {
       desk = same.0 ∙ r.desk;
       told = spent ∙ r.told ∙ sym (ap (λ (z : View). z.spent) noted.drawn);
       free = subst IsHandFree (sym noted.drawn) (record { claims = r.free.claims; flight = r.free.flight; fresh = plain n (view w.desk).fresh ∙ r.free.fresh });
       duties = λ e. ap (λ (z : View). z.duties) noted.drawn ∙ r.duties (sym (ap (λ (z : View). z.spent) noted.drawn) ∙ e);
-      memory = subst (λ (z : View). IsInMemory (space_code s) (space_limits s) z.kept z.spent w'.done.items w'.task) (sym noted.drawn) memory;
+      memory = subst (λ (z : View). IsInMemory (space_code s) (space_limits s) z.kept z.spent w'.done w'.task) (sym noted.drawn) memory;
       goes_on = goes_on;
       stock = subst (IsStock (space_code s) (space_limits s)) (sym stock) r.stock;
     }
@@ -38,16 +38,16 @@ module _ (s : Space Parcel) (w : Worker) (t : Task) (r : IsAtRest s (record w { 
 
   module _ (t' : Task) (told : WasToldFull (view w.desk) (view w'.desk) t t') where
     -- the desk was told that the limit is reached
-    pub rest_told : w'.task ≡ None → w'.spent ≡ true → w'.done.items ≡ w.done.items ++ t'.past.items → IsAtRest s w'
+    pub rest_told : w'.task ≡ None → w'.spent ≡ true → w'.done ≡ w.done ++ t'.past.items → IsAtRest s w'
     rest_told task spent done = record {
       desk = same.0 ∙ r.desk;
       told = spent ∙ sym (ap (λ (z : View). z.spent) told.view);
       free = subst IsHandFree (sym told.view) (record { claims = r.free.claims; flight = r.free.flight; fresh = r.free.fresh });
       duties = λ e. let z : true ≡ false = sym (ap (λ (z : View). z.spent) told.view) ∙ e in absurd (cc);
-      memory = subst (λ (z : View). IsInMemory (space_code s) (space_limits s) z.kept z.spent w'.done.items w'.task) (sym told.view)
-          (subst (λ (es : List Entry). IsInMemory (space_code s) (space_limits s) (view w.desk).kept true es w'.task) (sym (done ∙ ap (λ (x : Task). w.done.items ++ x.past.items) told.task))
-          (subst (λ (x : Option Task). IsInMemory (space_code s) (space_limits s) (view w.desk).kept true (w.done.items ++ t.past.items) x) (sym task)
-          (task_laid (space_code s) (space_limits s) (view w.desk).kept (view w.desk).spent w.done.items t r.memory)));
+      memory = subst (λ (z : View). IsInMemory (space_code s) (space_limits s) z.kept z.spent w'.done w'.task) (sym told.view)
+          (subst (λ (es : List Entry). IsInMemory (space_code s) (space_limits s) (view w.desk).kept true es w'.task) (sym (done ∙ ap (λ (x : Task). w.done ++ x.past.items) told.task))
+          (subst (λ (x : Option Task). IsInMemory (space_code s) (space_limits s) (view w.desk).kept true (w.done ++ t.past.items) x) (sym task)
+          (task_laid (space_code s) (space_limits s) (view w.desk).kept (view w.desk).spent w.done t r.memory)));
       goes_on = subst MayContinue (sym task) tt;
       stock = subst (IsStock (space_code s) (space_limits s)) (sym stock) r.stock;
     }

@@ -52,34 +52,34 @@ module _ (s : Space Parcel) (w : Worker) (t : Task) (r : IsAtRest s (record w { 
     -- the message may be linked with a letter
     pub letter_may : MayLink (program_of s) v n o j [] vs
     letter_may = subst (λ (z : View). MayLink (program_of s) z n o j [] vs) (sym noted.drawn)
-        (letter_links (program_of s) (view w.desk) r.free n noted.body noted.below o j vs (noted.memory (view w.desk).spent w.done.items r.memory).told)
+        (letter_links (program_of s) (view w.desk) r.free n noted.body noted.below o j vs (noted.memory (view w.desk).spent w.done r.memory).told)
 
     -- what is in memory once it was sent
-    pub letter_memory : (u : View) (k : ℕ) → IsSentOff v u n k [] → IsInMemory (space_code s) (space_limits s) u.kept (view w.desk).spent w.done.items (Some t')
-    letter_memory u k sent = subst (λ (es : List Entry). IsInMemory (space_code s) (space_limits s) es (view w.desk).spent w.done.items (Some t'))
-        (sym (sent.kept ∙ all_kept v.kept ∙ ap (λ (z : View). z.kept) noted.drawn)) (noted.memory (view w.desk).spent w.done.items r.memory)
+    pub letter_memory : (u : View) (k : ℕ) → IsSentOff v u n k [] → IsInMemory (space_code s) (space_limits s) u.kept (view w.desk).spent w.done (Some t')
+    letter_memory u k sent = subst (λ (es : List Entry). IsInMemory (space_code s) (space_limits s) es (view w.desk).spent w.done (Some t'))
+        (sym (sent.kept ∙ all_kept v.kept ∙ ap (λ (z : View). z.kept) noted.drawn)) (noted.memory (view w.desk).spent w.done r.memory)
 
   module _ (o : Object) (j : ℕ) (vs : List value.Value) (noted : IsNotedAs (space_code s) (space_limits s) (view w.desk) v t t' n (Called o j vs)) where
     -- the call may be linked with its task
     pub task_may : MayLink (program_of s) v n o j (view_of t').past vs
     task_may = subst (λ (z : View). MayLink (program_of s) z n o j (view_of t').past vs) (sym noted.drawn)
         (call_links (program_of s) (view w.desk) r.free n noted.body noted.below o j vs (view_of t') noted.task.task noted.task.is_defined (view_of t).past noted.past (noted.top refl) noted.asks
-        (noted.memory (view w.desk).spent w.done.items r.memory).played.1)
+        (noted.memory (view w.desk).spent w.done r.memory).played.1)
 
     -- a body of the task is left
     pub task_left : (view_of t').top ≢ None
     task_left e = let z : Path (Option ℕ) None (Some noted.body) = sym e ∙ noted.top refl in cc
 
     -- what is in memory once it was sent
-    pub task_memory : (u : View) (k : ℕ) → IsSentOff v u n k (view_of t').past → IsInMemory (space_code s) (space_limits s) u.kept (view w.desk).spent w.done.items None
-    task_memory u k sent = subst (λ (es : List Entry). IsInMemory (space_code s) (space_limits s) es (view w.desk).spent w.done.items None)
+    pub task_memory : (u : View) (k : ℕ) → IsSentOff v u n k (view_of t').past → IsInMemory (space_code s) (space_limits s) u.kept (view w.desk).spent w.done None
+    task_memory u k sent = subst (λ (es : List Entry). IsInMemory (space_code s) (space_limits s) es (view w.desk).spent w.done None)
         (sym (sent.kept ∙ ap (λ (z : View). left_by (view_of t').past z.kept) noted.drawn))
-        (task_gone (space_code s) (space_limits s) (entry n noted.body (Called o j vs) ∷ (view w.desk).kept) (view w.desk).spent w.done.items t' (noted.memory (view w.desk).spent w.done.items r.memory))
+        (task_gone (space_code s) (space_limits s) (entry n noted.body (Called o j vs) ∷ (view w.desk).kept) (view w.desk).spent w.done t' (noted.memory (view w.desk).spent w.done r.memory))
 
   module _ (what : What) (noted : IsNotedAs (space_code s) (space_limits s) (view w.desk) v t t' n what) (message : fresh_after n what [] ≡ n ∷ []) (room : (view w.desk).spent ≡ false) (stock : w.spare ≢ None)
       (w' : Worker) (k : ℕ) (es : List Entry) (sent : IsSentOff v (view w'.desk) n k es) (same : IsSameDesk w.desk w'.desk) (spare : w'.spare ≡ w.spare) (spent : w'.spent ≡ w.spent) where
     -- the worker minds the message
-    pub now_minds : IsInMemory (space_code s) (space_limits s) (view w'.desk).kept (view w.desk).spent w'.done.items w'.task → MayContinue w'.task → Minds s w' n k
+    pub now_minds : IsInMemory (space_code s) (space_limits s) (view w'.desk).kept (view w.desk).spent w'.done w'.task → MayContinue w'.task → Minds s w' n k
     now_minds memory goes_on = let x = in_stock (space_code s) (space_limits s) w.spare r.stock stock in record {
       desk = same.0 ∙ r.desk;
       told = spent ∙ r.told ∙ room;
@@ -90,7 +90,7 @@ module _ (s : Space Parcel) (w : Worker) (t : Task) (r : IsAtRest s (record w { 
         fresh = sent.fresh ∙ ap (λ (z : View). without n z.fresh) noted.drawn ∙ ap (λ (xs : List ℕ). without n (fresh_after n what xs)) r.free.fresh ∙ ap (without n) message ∙ alone_gone n;
       };
       duty = ap messages_and_bags (sent.duties ∙ ap (λ (z : View). duty_on n k ∷ z.duties) noted.drawn ∙ ap (λ (ds : List Duty). duty_on n k ∷ ds) (r.duties room));
-      memory = subst (λ (b : Bool). IsInMemory (space_code s) (space_limits s) (view w'.desk).kept b w'.done.items w'.task) room memory;
+      memory = subst (λ (b : Bool). IsInMemory (space_code s) (space_limits s) (view w'.desk).kept b w'.done w'.task) room memory;
       goes_on = goes_on;
       stock = x.0;
       spare = spare ∙ x.1;

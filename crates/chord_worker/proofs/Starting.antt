@@ -247,16 +247,16 @@ module _ (s : Space Parcel) (w : Worker) (r : IsAtRest s w) (none : w.task ≡ N
   -- a worker that started a firing is at rest
   pub rest_started : IsAtRest s (record w { desk = d; task = q.task })
   rest_started =
-      let memory : IsInMemory (space_code s) (space_limits s) (view w.desk).kept false w.done.items None = subst (λ (x : Option Task). IsInMemory (space_code s) (space_limits s) (view w.desk).kept false w.done.items x) none
-      (subst (λ (b : Bool). IsInMemory (space_code s) (space_limits s) (view w.desk).kept b w.done.items w.task) room r.memory) in
-      let with_it = started_with (space_code s) (space_limits s) (view w.desk).kept w.done.items q.task f memory keeps.1 comes in
+      let memory : IsInMemory (space_code s) (space_limits s) (view w.desk).kept false w.done None = subst (λ (x : Option Task). IsInMemory (space_code s) (space_limits s) (view w.desk).kept false w.done x) none
+      (subst (λ (b : Bool). IsInMemory (space_code s) (space_limits s) (view w.desk).kept b w.done w.task) room r.memory) in
+      let with_it = started_with (space_code s) (space_limits s) (view w.desk).kept w.done q.task f memory keeps.1 comes in
       let spent : (view d).spent ≡ false = ap (λ (z : View). z.spent) view_is ∙ room in record {
         desk = same.0 ∙ r.desk;
         told = r.told ∙ room ∙ sym spent;
         free = subst IsHandFree (sym view_is) (record { claims = r.free.claims; flight = r.free.flight; fresh = r.free.fresh });
         duties = λ e. ap (λ (z : View). z.duties) view_is ∙ r.duties room;
-        memory = subst (λ (b : Bool). IsInMemory (space_code s) (space_limits s) (view d).kept b w.done.items q.task) (sym spent)
-            (subst (λ (es : List Entry). IsInMemory (space_code s) (space_limits s) es false w.done.items q.task) (sym (ap (λ (z : View). z.kept) view_is)) with_it.0);
+        memory = subst (λ (b : Bool). IsInMemory (space_code s) (space_limits s) (view d).kept b w.done q.task) (sym spent)
+            (subst (λ (es : List Entry). IsInMemory (space_code s) (space_limits s) es false w.done q.task) (sym (ap (λ (z : View). z.kept) view_is)) with_it.0);
         goes_on = with_it.1;
         stock = r.stock;
       }

@@ -208,14 +208,14 @@ pub place_told : (p : Program) (es : List Entry) → IsPlace p es → IsTold p e
 place_told p es place = subst (IsTold p) place.is (place.merged.told place.place)
 
 module _ (s : Space Parcel) (w o : Worker) (mine : IsAtRest s w) (others : IsAtRest s o) (no_task : w.task ≡ None) (none_there : o.task ≡ None) (d : Desk Parcel) (same : IsSameDesk w.desk d) (view_is : view d ≡ united (view w.desk) (view o.desk)) (place : IsPlace (program_of s) (view d).kept)
-    (w' : Worker) (desk : w'.desk ≡ d) (task : w'.task ≡ w.task) (spare : w'.spare ≡ w.spare) (spent : w'.spent ≡ w.spent || o.spent) (done : w'.done.items ≡ w.done.items ++ o.done.items) where
+    (w' : Worker) (desk : w'.desk ≡ d) (task : w'.task ≡ w.task) (spare : w'.spare ≡ w.spare) (spent : w'.spent ≡ w.spent || o.spent) (done : w'.done ≡ w.done ++ o.done) where
   -- what the first one had in memory
-  first_memory : IsInMemory (space_code s) (space_limits s) (view w.desk).kept (view w.desk).spent w.done.items None
-  first_memory = subst (λ (x : Option Task). IsInMemory (space_code s) (space_limits s) (view w.desk).kept (view w.desk).spent w.done.items x) no_task mine.memory
+  first_memory : IsInMemory (space_code s) (space_limits s) (view w.desk).kept (view w.desk).spent w.done None
+  first_memory = subst (λ (x : Option Task). IsInMemory (space_code s) (space_limits s) (view w.desk).kept (view w.desk).spent w.done x) no_task mine.memory
 
   -- what the other one had in memory
-  other_memory : IsInMemory (space_code s) (space_limits s) (view o.desk).kept (view o.desk).spent o.done.items None
-  other_memory = subst (λ (x : Option Task). IsInMemory (space_code s) (space_limits s) (view o.desk).kept (view o.desk).spent o.done.items x) none_there others.memory
+  other_memory : IsInMemory (space_code s) (space_limits s) (view o.desk).kept (view o.desk).spent o.done None
+  other_memory = subst (λ (x : Option Task). IsInMemory (space_code s) (space_limits s) (view o.desk).kept (view o.desk).spent o.done x) none_there others.memory
 
   -- both were told of the limit if one was
   first_room : (a b : Bool) → (a || b) ≡ false → a ≡ false
@@ -228,14 +228,14 @@ module _ (s : Space Parcel) (w o : Worker) (mine : IsAtRest s w) (others : IsAtR
   other_room false b e = e
 
   -- what both have in memory
-  both_memory : IsInMemory (space_code s) (space_limits s) (together (view w.desk).kept (view o.desk).kept) ((view w.desk).spent || (view o.desk).spent) (w.done.items ++ o.done.items) None
+  both_memory : IsInMemory (space_code s) (space_limits s) (together (view w.desk).kept (view o.desk).kept) ((view w.desk).spent || (view o.desk).spent) (w.done ++ o.done) None
   both_memory =
       let here = subst (IsPlace (program_of s)) (ap (λ (z : View). z.kept) view_is) place in record {
         rises = place_rises (program_of s) (together (view w.desk).kept (view o.desk).kept) here;
         told = place_told (program_of s) (together (view w.desk).kept (view o.desk).kept) here;
         played = tt;
-        held = IsPermutation-trans (w.done.items ++ o.done.items) ((view w.desk).kept ++ (view o.desk).kept) (together (view w.desk).kept (view o.desk).kept)
-            (IsPermutation-append w.done.items (view w.desk).kept o.done.items (view o.desk).kept first_memory.held other_memory.held) (together_all (view w.desk).kept (view o.desk).kept);
+        held = IsPermutation-trans (w.done ++ o.done) ((view w.desk).kept ++ (view o.desk).kept) (together (view w.desk).kept (view o.desk).kept)
+            (IsPermutation-append w.done (view w.desk).kept o.done (view o.desk).kept first_memory.held other_memory.held) (together_all (view w.desk).kept (view o.desk).kept);
         quiet = λ e. both_quiet (program_of s) (view w.desk).kept (view o.desk).kept (place_rises (program_of s) (together (view w.desk).kept (view o.desk).kept) here) other_memory.rises first_memory.told other_memory.told
             (first_memory.quiet (first_room (view w.desk).spent (view o.desk).spent e)) (other_memory.quiet (other_room (view w.desk).spent (view o.desk).spent e));
       }
@@ -249,8 +249,8 @@ module _ (s : Space Parcel) (w o : Worker) (mine : IsAtRest s w) (others : IsAtR
         free = subst IsHandFree (sym v) (record { claims = mine.free.claims; flight = mine.free.flight; fresh = ap₂ (λ (a b : List ℕ). a ++ b) mine.free.fresh others.free.fresh });
         duties = λ e. let f : ((view w.desk).spent || (view o.desk).spent) ≡ false = sym (ap (λ (z : View). z.spent) v) ∙ e in
             ap (λ (z : View). z.duties) v ∙ ap₂ (λ (a b : List Duty). map reset_duty (a ++ b)) (mine.duties (first_room (view w.desk).spent (view o.desk).spent f)) (others.duties (other_room (view w.desk).spent (view o.desk).spent f));
-        memory = subst (λ (z : View). IsInMemory (space_code s) (space_limits s) z.kept z.spent w'.done.items w'.task) (sym v)
-            (subst (λ (x : Option Task). IsInMemory (space_code s) (space_limits s) (together (view w.desk).kept (view o.desk).kept) ((view w.desk).spent || (view o.desk).spent) w'.done.items x) (sym (task ∙ no_task))
+        memory = subst (λ (z : View). IsInMemory (space_code s) (space_limits s) z.kept z.spent w'.done w'.task) (sym v)
+            (subst (λ (x : Option Task). IsInMemory (space_code s) (space_limits s) (together (view w.desk).kept (view o.desk).kept) ((view w.desk).spent || (view o.desk).spent) w'.done x) (sym (task ∙ no_task))
             (subst (λ (es : List Entry). IsInMemory (space_code s) (space_limits s) (together (view w.desk).kept (view o.desk).kept) ((view w.desk).spent || (view o.desk).spent) es None) (sym done) both_memory));
         goes_on = subst MayContinue (sym (task ∙ no_task)) tt;
         stock = subst (IsStock (space_code s) (space_limits s)) (sym spare) mine.stock;

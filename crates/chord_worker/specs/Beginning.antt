@@ -66,7 +66,7 @@ pub record HasBegun (s : Space Parcel) (w : Worker) (v : View) (f : ℕ) (t : Ta
   pub told : w.spent ≡ false
   pub room : v.spent ≡ false
   pub free : IsHandFree v
-  pub memory : IsInMemory (space_code s) (space_limits s) v.kept false w.done.items w.task
+  pub memory : IsInMemory (space_code s) (space_limits s) v.kept false w.done w.task
   pub goes_on : MayContinue w.task
   pub stock : IsStock (space_code s) (space_limits s) w.spare
   pub duties : (view w.desk).duties ≡ []

@@ -17,7 +17,7 @@ pub record HasFired (s : Space Parcel) (w : Worker) (v : View) (object : Object)
   pub told : w.spent ≡ false
   pub room : v.spent ≡ false
   pub free : IsHandFree v
-  pub memory : IsInMemory (space_code s) (space_limits s) v.kept false w.done.items w.task
+  pub memory : IsInMemory (space_code s) (space_limits s) v.kept false w.done w.task
   pub goes_on : MayContinue w.task
   pub stock : Task
   pub spare : w.spare ≡ Some stock

@@ -63,7 +63,7 @@ pub record IsAtRest (s : Space Parcel) (w : Worker) : Type 0 where
   pub told : w.spent ≡ (view w.desk).spent
   pub free : IsHandFree (view w.desk)
   pub duties : (view w.desk).spent ≡ false → (view w.desk).duties ≡ []
-  pub memory : IsInMemory (space_code s) (space_limits s) (view w.desk).kept (view w.desk).spent w.done.items w.task
+  pub memory : IsInMemory (space_code s) (space_limits s) (view w.desk).kept (view w.desk).spent w.done w.task
   pub goes_on : MayContinue w.task
   pub stock : IsStock (space_code s) (space_limits s) w.spare
 

@@ -29,7 +29,7 @@ pub record Minds (s : Space Parcel) (w : Worker) (m k : ℕ) : Type 0 where
   pub room : (view w.desk).spent ≡ false
   pub free : IsHandFree (view w.desk)
   pub duty : messages_and_bags (view w.desk).duties ≡ (m, k) ∷ []
-  pub memory : IsInMemory (space_code s) (space_limits s) (view w.desk).kept false w.done.items w.task
+  pub memory : IsInMemory (space_code s) (space_limits s) (view w.desk).kept false w.done w.task
   pub goes_on : MayContinue w.task
   pub stock : Task
   pub spare : w.spare ≡ Some stock

@@ -12,12 +12,12 @@ ghost use Rattle.chord_worker.specs.Resting.{IsAtRest, IsSameRole, IsSeen};
 ghost use Rattle.chord_worker.specs.Stepping.{PlaysFiring};
 
 use crate::worker::{Gate, Worker};
-use chord_base::event::{Entry, Limits, What};
+use chord_base::event::{Limits, What};
 use chord_code::code::Code;
 use chord_space::{Desk, Space};
 use chord_task::apart::Apart;
 use chord_task::parcel::Parcel;
-use chord_task::pasts::add_past;
+use chord_task::pasts::Pasts;
 use chord_task::task::Task;
 use chord_word::Cell;
 use std::alloc::{AllocError, Global};
@@ -59,7 +59,7 @@ impl Worker {
         let mut desk = desk;
         let task = main_task(alloc, code, limits)?;
         let task = Apart::new(alloc, task)?;
-        let done = Vec::new(alloc);
+        let done = Pasts::new(alloc);
         match space.draw(&mut desk, 0, &What::Begun) {
             Ok(_) => Ok(Worker {
                 desk,
@@ -83,7 +83,7 @@ impl Worker {
             desk: space.split(&mut self.desk),
             task: None,
             spare: None,
-            done: Vec::new(alloc),
+            done: Pasts::new(alloc),
             spent: false,
         }
     }
@@ -176,16 +176,16 @@ impl Worker {
         } = other;
         space.join(&mut self.desk, desk);
         self.spent = told_either(self.spent, spent);
-        add_past(&mut self.done, done)?;
+        self.done.append(done)?;
         Ok(())
     }
 
     /// The desk, and all entries that it keeps, of a worker with nothing to play.
-    pub fn into_parts(self, space: &Space<Parcel>) -> (Desk<Parcel>, Vec<Entry>)
+    pub fn into_parts(self, space: &Space<Parcel>) -> (Desk<Parcel>, Pasts)
         requires rest { IsAtRest space.now self }
         requires task { self.task ≡ None }
         ensures desk { result.0 ≡ self.desk }
-        ensures entries { IsPermutation result.1.items (view self.desk).kept }
+        ensures entries { IsPermutation result.1 (view self.desk).kept }
     {
         let Worker {
             desk,

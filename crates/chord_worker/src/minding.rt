@@ -36,7 +36,7 @@ impl Worker {
     pub(crate) fn give_up(&mut self) -> Result<(), AllocError>
         ensures same { (self.new.desk ≡ self.old.desk) × (self.new.spare ≡ self.old.spare) × (self.new.spent ≡ true) }
         ensures none { OnOk result (self.new.task ≡ None) }
-        ensures done { OnOk result (IsLaidDown self.old.done.items self.old.task self.new.done.items) }
+        ensures done { OnOk result (IsLaidDown self.old.done self.old.task self.new.done) }
     {
         match self.task.take() {
             None => {

@@ -19,7 +19,6 @@ use chord_space::Space;
 use chord_task::apart::Apart;
 use chord_task::asked::Asked;
 use chord_task::parcel::Parcel;
-use chord_task::pasts::add_past;
 use chord_task::task::Task;
 use std::alloc::{AllocError, Global};
 use std::mem;
@@ -44,7 +43,7 @@ impl Worker {
         requires none { self.old.task ≡ None }
         ensures same { (self.new.desk ≡ self.old.desk) × (self.new.spare ≡ self.old.spare) × (self.new.spent ≡ self.old.spent) }
         ensures task { OnOk result ((self.new.task ≡ None) ⊎ (self.new.task ≡ Some task)) }
-        ensures settled { OnOk result ((code : Parts) (limits : TheLimits) (kept : List AnEntry) (spent : Bool) → IsInMemory code limits kept spent self.old.done.items (Some task) → IsInMemory code limits kept spent self.new.done.items self.new.task × MayContinue self.new.task) }
+        ensures settled { OnOk result ((code : Parts) (limits : TheLimits) (kept : List AnEntry) (spent : Bool) → IsInMemory code limits kept spent self.old.done (Some task) → IsInMemory code limits kept spent self.new.done self.new.task × MayContinue self.new.task) }
     {
         if task.value.is_ready() {
             put_task(&mut self.task, task);
@@ -58,17 +57,17 @@ impl Worker {
     #[inline(never)]
     fn finish(&mut self, task: Apart<Task>) -> Result<(), AllocError>
         ensures same { (self.new.desk ≡ self.old.desk) × (self.new.spare ≡ self.old.spare) × (self.new.task ≡ self.old.task) × (self.new.spent ≡ self.old.spent) }
-        ensures done { OnOk result (self.new.done.items ≡ self.old.done.items ++ task.past.items) }
+        ensures done { OnOk result (self.new.done ≡ self.old.done ++ task.past.items) }
     {
         let past = task.into_inner().into_past();
-        add_past(&mut self.done, past)?;
+        self.done.add(past)?;
         Ok(())
     }
 
     /// The limit on events is reached: what the task did is done.
     pub(crate) fn lay_down(&mut self, task: Apart<Task>) -> Result<(), AllocError>
         ensures same { (self.new.desk ≡ self.old.desk) × (self.new.spare ≡ self.old.spare) × (self.new.task ≡ self.old.task) × (self.new.spent ≡ true) }
-        ensures done { OnOk result (self.new.done.items ≡ self.old.done.items ++ task.past.items) }
+        ensures done { OnOk result (self.new.done ≡ self.old.done ++ task.past.items) }
     {
         self.spent = true;
         self.finish(task)?;

@@ -8,13 +8,13 @@ use Rattle.chord_pool.specs.Homes.{home_items}
 use Rattle.chord_pool.proofs.Ended.{IsGathered, sealed_for, of_run, ended}
 use Rattle.chord_pool.proofs.closing.finish.Goals as goal
 
-pub gather-requires : goal.gather-requires
-gather-requires c =
+pub gather_pasts-requires : goal.gather_pasts-requires
+gather_pasts-requires c =
     let code = c.args.code.now in let limits = c.args.limits.now in let slots = parcels c.close-closed.result in let drawn = c.close-closed.result.drawn in let sized = c.args.space.sized in
     let same : (space_limits c.args.space).events ≡ limits.events = ap (λ (y : Limits). y.events) c.requires.code.1 in
     let s = sealed_for (space_code c.args.space) (space_limits c.args.space) code limits c.args.desk.seat.id (view c.args.desk) slots drawn c.requires.code c.close-closed.ensures.sealed in
     of_run code limits c.args.desk.seat.id (view c.args.desk) slots drawn s (omega (arith, sized, same)) c.args.desk.settled.6 c.requires.alone.0 c.requires.alone.1 (c.entries_are_within.ensures.within limits)
-    c.args.entries.items c.take_homes.new.entries.items (c.in_ok-take_homes.ensures.entries ∙ ap (λ (n : ℕ). c.args.entries.items ++ home_items slots n) c.drawn-drawn.ensures) c.requires.held
+    c.args.entries _ (c.into_lists.ensures ∙ c.in_ok-take_homes.ensures.entries ∙ ap (λ (n : ℕ). c.args.entries ++ home_items slots n) c.drawn-drawn.ensures) c.requires.held
 
 -- what is known of the journal
 known : (c : goal.After-entries-within) → IsGathered c.args.code.now c.args.limits.now (view c.args.desk) c.close-closed.result.drawn c.in_ok-journal.journal
@@ -23,7 +23,7 @@ known c =
     let same : (space_limits c.args.space).events ≡ limits.events = ap (λ (y : Limits). y.events) c.requires.code.1 in
     let s = sealed_for (space_code c.args.space) (space_limits c.args.space) code limits c.args.desk.seat.id (view c.args.desk) slots drawn c.requires.code c.close-closed.ensures.sealed in
     ended code limits c.args.desk.seat.id (view c.args.desk) slots drawn s (omega (arith, sized, same)) c.args.desk.settled.6 c.requires.alone.0 c.requires.alone.1 (c.entries_are_within.ensures.within limits)
-    c.args.entries.items c.take_homes.new.entries.items (c.in_ok-take_homes.ensures.entries ∙ ap (λ (n : ℕ). c.args.entries.items ++ home_items slots n) c.drawn-drawn.ensures) c.requires.held c.in_ok-journal.journal c.in_ok-journal.ensures c.entries-within.ensures.within
+    c.args.entries _ (c.into_lists.ensures ∙ c.in_ok-take_homes.ensures.entries ∙ ap (λ (n : ℕ). c.args.entries ++ home_items slots n) c.drawn-drawn.ensures) c.requires.held c.in_ok-journal.journal c.in_ok-journal.ensures c.entries-within.ensures.within
 
 pub returns-clause-run : goal.returns-clause-run
 returns-clause-run c = (known c).run

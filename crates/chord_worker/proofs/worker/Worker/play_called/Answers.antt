@@ -43,7 +43,7 @@ mind-requires-clause-minds g c =
     let sent = c.send_task.ensures.sent in
     let same : IsSameDesk w.desk c.send_task.new.desk = (c.send_task.ensures.desk.0 ∙ c.draw_message.ensures.desk.0, c.send_task.ensures.desk.1 ∙ c.draw_message.ensures.desk.1) in
     now_minds s w c.args.task c.requires.rest c.draw_message.new.task c.in-Ok.number v what noted refl c.requires.room c.requires.stock w' k (view_of c.draw_message.new.task).past sent same refl refl
-    (subst (λ (x : Option Task). IsInMemory (space_code s) (space_limits s) (view w'.desk).kept (view w.desk).spent w.done.items x) (sym c.requires.none)
+    (subst (λ (x : Option Task). IsInMemory (space_code s) (space_limits s) (view w'.desk).kept (view w.desk).spent w.done x) (sym c.requires.none)
     (task_memory s w c.args.task c.requires.rest c.draw_message.new.task c.in-Ok.number v c.args.object c.args.method c.args.held.first noted (view w'.desk) k sent))
     (subst MayContinue (sym c.requires.none) tt)
 

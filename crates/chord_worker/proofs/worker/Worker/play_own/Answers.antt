@@ -18,7 +18,7 @@ returns-in_ok-settle-in-Ok-clause-rest c =
     let d = c.settle.ensures.same.0 in
     let noted = subst (λ (x : Desk Parcel). IsNotedAs (space_code s) (space_limits s) (view w.desk) (view x) c.args.task c.draw_own.new.task c.in-Ok.field-0 c.args.what.now) (sym d) c.in-Ok.ensures.drawn.1 in
     let same = subst (λ (x : Desk Parcel). IsSameDesk w.desk x) (sym d) c.draw_own.ensures.desk in
-    let settled = c.in_ok-settle-in-Ok.ensures.settled (space_code s) (space_limits s) _ _ (noted.memory (view w.desk).spent w.done.items c.requires.rest.memory) in
+    let settled = c.in_ok-settle-in-Ok.ensures.settled (space_code s) (space_limits s) _ _ (noted.memory (view w.desk).spent w.done c.requires.rest.memory) in
     rest_noted s w c.args.task c.requires.rest c.settle.new.self same c.settle.ensures.same.1 c.draw_own.new.task c.in-Ok.field-0 c.args.what.now noted c.requires.plain c.settle.ensures.same.2 settled.0 settled.1
 
 pub returns-in_ok-lay_down-in-Err-clause-rest : goal.returns-in_ok-lay_down-in-Err-clause-rest

@@ -1,0 +1,16 @@
+use Rattle.std.proofs.Common.{arith, refl}
+use Rattle.chord_space.specs.Desks.{view}
+use Rattle.chord_pool.proofs.Endings.{role_stays}
+use Rattle.chord_pool.proofs.player.Player.rounds.Goals as goal
+
+pub loop-round-preserved : goal.loop-round-preserved
+loop-round-preserved g c =
+    let was = c.loop-round.invariant in let now = c.if-not-round.ensures in (
+      now.may,
+      (λ sane. role_stays (view c.args.self.now.worker.desk) (view c.loop-round.self.worker.desk) (view c.round.new.self.worker.desk) (was.1 was.2) (now.on sane)),
+      now.sane refl,
+      (λ _. (c.loop-round.self, now.went refl)),
+    )
+
+pub returns-clause-went : goal.returns-clause-went
+returns-clause-went g c = λ _. c.loop-round.invariant.3 (omega arith)
