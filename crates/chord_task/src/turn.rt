@@ -240,10 +240,10 @@ impl Task {
             Some(body) => {
                 let mut asked = None;
                 advance_to(alloc, code, &mut *body.frames, &mut asked)?;
-                let sent = self.settle(alloc, code, number, &mut asked)?;
+                let settled = self.settle(alloc, code, number, &mut asked);
                 // what owns memory was taken out of it, so that there is nothing to drop
                 mem::forget(asked);
-                Ok(sent)
+                settled
             }
         }
     }
