@@ -12,7 +12,7 @@ ghost use Rattle.chord_vm.specs.declared.ask.Ask.{Ask as AnAsk};
 
 use crate::ask::Ask;
 use crate::frames::{Frame, Frames, fill, move_last};
-use crate::numbers::{operate_on, operator_of};
+use crate::numbers::{operate_on, operator_of, put_value};
 use chord_base::event::{End, Limits, Trap};
 use chord_base::operation::{Operation, compute, deny, negate, printed};
 use chord_base::text::Text;
@@ -352,7 +352,7 @@ fn store(frames: &mut Frames, i: usize)
     ensures { store_top i (machine_of frames.old) (machine_of frames.old).top.stack ≡ Goes (machine_of frames.new) }
 {
     let v = take(&mut frames.top);
-    frames.top.slots[i] = v;
+    put_value(&mut frames.top.slots[i], v);
     frames.top.place += 1;
 }
 
