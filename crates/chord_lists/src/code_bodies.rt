@@ -19,6 +19,7 @@ use chord_base::value::{Object, Value, Values};
 use chord_code::code::Code;
 use chord_task::task::Task;
 use std::alloc::{AllocError, Global};
+use std::mem;
 
 /// What is kept of an entry: the task in whose past it stands, and, of a message that no firing has taken, its place there.
 #[derive(Drop)]
@@ -384,6 +385,22 @@ fn take_held(tags: &mut Vec<Tag>, number: u32) -> usize
     }
 }
 
+/// Adds copies of these values. A lone number that comes first is written where it comes to stand.
+#[inline(always)]
+fn add_list(alloc: Global, values: &mut Values, more: &[Value]) -> Result<(), AllocError>
+    requires { length values.old + length more.now ≤ 64 }
+    ensures { OnOk result (values.new ≡ values.old ++ more.now) }
+{
+    if let [Value::Int(number)] = more {
+        if values.items().is_empty() {
+            // there is nothing to drop, which an assignment would look for
+            mem::forget(mem::replace(values, Values::one(Value::Int(*number))));
+            return Ok(());
+        }
+    }
+    values.add_copies(alloc, more)
+}
+
 /// Adds the arguments of the message at this place of a past.
 #[inline(always)]
 fn add_arguments(
@@ -397,8 +414,8 @@ fn add_arguments(
     ensures { OnOk result (values.new ≡ values.old ++ arguments_held (entry_message (slice_get past.now place))) }
 {
     match &past[place].what {
-        What::Sent(_, _, arguments) => values.add_copies(alloc, arguments.items()),
-        What::Called(_, _, arguments) => values.add_copies(alloc, arguments.items()),
+        What::Sent(_, _, arguments) => add_list(alloc, values, arguments.items()),
+        What::Called(_, _, arguments) => add_list(alloc, values, arguments.items()),
         _ => unreachable!(),
     }
 }

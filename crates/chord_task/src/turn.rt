@@ -1,21 +1,24 @@
 //! A turn of a task: its next ask becomes an entry.
 #![tactic(auto)]
 
-ghost use Rattle.std.specs.Prelude.{◌≡◌, ◌≢◌, ◌<◌, ◌+◌, ◌++◌, ◌∷◌, [], IfOk, None, Some, true, vec_len, vec_capacity};
+ghost use Rattle.std.specs.Prelude.{◌≡◌, ◌≢◌, ℕ, List, ◌<◌, ◌+◌, ◌++◌, ◌∷◌, [], IfOk, OnOk, None, Some, true, vec_len, vec_capacity};
 ghost use Rattle.chord_code.specs.Meaning.{code_program};
 ghost use Rattle.chord_vm.specs.Frames.{what_of_ask};
-ghost use Rattle.chord_task.specs.Standing.{view_of, IsTaskOf, is_ready_of, given_by};
+ghost use Rattle.chord_task.specs.declared.body.Body.{Body as ABody};
+ghost use Rattle.chord_task.specs.Standing.{view_of, IsTaskOf, is_ready_of, given_by, LastIsReady, HasReturned};
 ghost use Rattle.chord_task.specs.Turning.{sent_to, sent_of, MayTurn, HasTurned, IsAskedFor, RunsOn, HasSettled, MaySettle};
 
-use crate::body::{Next, put};
+use crate::body::{Body, Next, put};
 use crate::task::{Task, end_top};
-use chord_base::event::{Entry, Limits, What};
-use chord_base::value::{Object, Value};
+use chord_base::event::{End, Entry, Limits, What};
+use chord_base::text::Text;
+use chord_base::value::{Object, Value, Values};
 use chord_code::code::Code;
 use chord_vm::ask::Ask;
 use chord_vm::frames::answer;
 use chord_vm::step::{advance_to, take_ask};
 use std::alloc::{AllocError, Global};
+use std::mem;
 
 /// Adds an entry, for which there is room.
 fn append(past: &mut Vec<Entry>, number: u32, body: u32, what: What)
@@ -25,6 +28,116 @@ fn append(past: &mut Vec<Entry>, number: u32, body: u32, what: What)
     ensures capacity { vec_capacity past.new ≡ vec_capacity past.old }
 {
     past.push_reserved(Entry { number, body, what });
+}
+
+/// Adds the entry of an object. Entries are written by functions that take small things alone, since the place of a large one is cleared at each turn.
+#[inline(never)]
+fn append_made(past: &mut Vec<Entry>, number: u32, body: u32, class: u16)
+    requires { vec_len past.old < vec_capacity past.old }
+    ensures items { past.new.items ≡ past.old.items ++ record { number = number; body = body; what = What.Made class } ∷ [] }
+    ensures len { vec_len past.new ≡ vec_len past.old + 1 }
+    ensures capacity { vec_capacity past.new ≡ vec_capacity past.old }
+{
+    append(past, number, body, What::Made(class));
+}
+
+/// Takes out the text that a body prints.
+fn take_text(asked: &mut Option<Ask>) -> Text
+    requires { (text : List ℕ) × (asked.old ≡ Some (Ask.Print text)) }
+    ensures { asked.old ≡ Some (Ask.Print result) }
+{
+    match take_ask(asked) {
+        Ask::Print(text) => text,
+        _ => unreachable!(),
+    }
+}
+
+/// Adds the entry of a line.
+#[inline(never)]
+fn append_printed(past: &mut Vec<Entry>, number: u32, body: u32, text: Text)
+    requires { vec_len past.old < vec_capacity past.old }
+    ensures items { past.new.items ≡ past.old.items ++ record { number = number; body = body; what = What.Printed text } ∷ [] }
+    ensures len { vec_len past.new ≡ vec_len past.old + 1 }
+    ensures capacity { vec_capacity past.new ≡ vec_capacity past.old }
+{
+    append(past, number, body, What::Printed(text));
+}
+
+/// Adds the entry of an asynchronous message, whose arguments are taken. None and a lone number are written as they are read, in small pieces.
+#[inline(never)]
+fn append_sent(
+    past: &mut Vec<Entry>,
+    number: u32,
+    body: u32,
+    object: Object,
+    method: u8,
+    arguments: &mut Values,
+)
+    requires { vec_len past.old < vec_capacity past.old }
+    ensures items { past.new.items ≡ past.old.items ++ record { number = number; body = body; what = What.Sent object method arguments.old } ∷ [] }
+    ensures len { vec_len past.new ≡ vec_len past.old + 1 }
+    ensures capacity { vec_capacity past.new ≡ vec_capacity past.old }
+{
+    match arguments.items() {
+        [] => append(
+            past,
+            number,
+            body,
+            What::Sent(object, method, Values::none()),
+        ),
+        [Value::Int(lone)] => {
+            let lone = Values::one(Value::Int(*lone));
+            append(past, number, body, What::Sent(object, method, lone));
+        }
+        _ => {
+            let taken = mem::replace(arguments, Values::none());
+            append(past, number, body, What::Sent(object, method, taken));
+        }
+    }
+}
+
+/// Adds the entry of a call, whose arguments are taken as those of an asynchronous message are.
+#[inline(never)]
+fn append_called(
+    past: &mut Vec<Entry>,
+    number: u32,
+    body: u32,
+    object: Object,
+    method: u8,
+    arguments: &mut Values,
+)
+    requires { vec_len past.old < vec_capacity past.old }
+    ensures items { past.new.items ≡ past.old.items ++ record { number = number; body = body; what = What.Called object method arguments.old } ∷ [] }
+    ensures len { vec_len past.new ≡ vec_len past.old + 1 }
+    ensures capacity { vec_capacity past.new ≡ vec_capacity past.old }
+{
+    match arguments.items() {
+        [] => append(
+            past,
+            number,
+            body,
+            What::Called(object, method, Values::none()),
+        ),
+        [Value::Int(lone)] => {
+            let lone = Values::one(Value::Int(*lone));
+            append(past, number, body, What::Called(object, method, lone));
+        }
+        _ => {
+            let taken = mem::replace(arguments, Values::none());
+            append(past, number, body, What::Called(object, method, taken));
+        }
+    }
+}
+
+/// The number of the body on top.
+fn number_of(top: &Option<Body>) -> u32
+    requires { RunsOn top.now }
+    ensures { (b : ABody) → top.now ≡ Some b → result ≡ b.number }
+{
+    match top {
+        None => unreachable!(),
+        Some(body) => body.number,
+    }
 }
 
 /// What the message is to that this says, if it says one.
@@ -127,9 +240,49 @@ impl Task {
             Some(body) => {
                 let mut asked = None;
                 advance_to(alloc, code, &mut *body.frames, &mut asked)?;
-                self.settle(alloc, code, number, &mut asked)
+                let settled = self.settle(alloc, code, number, &mut asked);
+                // what owns memory was taken out of it, so that there is nothing to drop
+                mem::forget(asked);
+                settled
             }
         }
+    }
+
+    /// The body on top ends: its end, which is taken, becomes the entry of this number, and its caller gets a copy. A number is looked for first.
+    #[inline(never)]
+    fn end_turn(&mut self, alloc: Global, number: u32, end: &mut End) -> Result<(), AllocError>
+        requires room { vec_len self.old.past < vec_capacity self.old.past }
+        requires runs { RunsOn self.old.top }
+        requires ready { LastIsReady self.old.below.items }
+        ensures items { OnOk result ((b : ABody) → self.old.top ≡ Some b → self.new.past.items ≡ self.old.past.items ++ record { number = number; body = b.number; what = What.Ended end.old } ∷ []) }
+        ensures len { OnOk result (vec_len self.new.past ≡ vec_len self.old.past + 1) }
+        ensures capacity { OnOk result (vec_capacity self.new.past ≡ vec_capacity self.old.past) }
+        ensures below { OnOk result (vec_capacity self.new.below ≡ vec_capacity self.old.below) }
+        ensures ended { OnOk result (HasReturned end.old self.old.below self.new.below self.new.top) }
+        ensures rest { OnOk result (self.new ≡ record { past = self.new.past; top = self.new.top; below = self.new.below; spare = self.old.spare; ended = self.new.ended; values = self.old.values; limits = self.old.limits }) }
+    {
+        let maker = number_of(&self.top);
+        let past = &mut self.past;
+        match end {
+            End::Gives(Value::Int(lone)) => {
+                let lone = *lone;
+                append(
+                    past,
+                    number,
+                    maker,
+                    What::Ended(End::Gives(Value::Int(lone))),
+                );
+                let second = End::Gives(Value::Int(lone));
+                end_top(&mut self.top, &mut self.below, &mut self.ended, second);
+            }
+            _ => {
+                let second = end.copied(alloc)?;
+                let first = mem::replace(end, End::Gives(Value::Unit));
+                append(past, number, maker, What::Ended(first));
+                end_top(&mut self.top, &mut self.below, &mut self.ended, second);
+            }
+        }
+        Ok(())
     }
 
     /// The ask to which the frames of the body on top came becomes the entry of this number. It is taken out where there is room for it.
@@ -151,32 +304,34 @@ impl Task {
             Some(body) => {
                 let maker = body.number;
                 let past = &mut self.past;
-                match take_ask(asked) {
-                    Ask::Make(class) => {
-                        answer(&mut *body.frames, Value::Ref(Object { number, class }));
-                        append(past, number, maker, What::Made(class));
-                        Ok(None)
-                    }
-                    // what was sent or printed is not answered: the body runs on
-                    Ask::Send(object, method, arguments) => {
-                        append(past, number, maker, What::Sent(object, method, arguments));
-                        Ok(Some((object, method)))
-                    }
-                    Ask::Call(object, method, arguments) => {
-                        put(&mut body.next, Next::Waits(number));
-                        append(past, number, maker, What::Called(object, method, arguments));
-                        Ok(Some((object, method)))
-                    }
-                    Ask::Print(text) => {
-                        append(past, number, maker, What::Printed(text));
-                        Ok(None)
-                    }
-                    Ask::End(first) => {
-                        let second = first.copied(alloc)?;
-                        append(past, number, maker, What::Ended(first));
-                        end_top(&mut self.top, &mut self.below, &mut self.ended, second);
-                        Ok(None)
-                    }
+                match asked {
+                    None => unreachable!(),
+                    Some(ask) => match ask {
+                        Ask::Make(class) => {
+                            let class = *class;
+                            answer(&mut *body.frames, Value::Ref(Object { number, class }));
+                            append_made(past, number, maker, class);
+                            Ok(None)
+                        }
+                        // what was sent or printed is not answered: the body runs on
+                        Ask::Send(object, method, arguments) => {
+                            append_sent(past, number, maker, *object, *method, arguments);
+                            Ok(Some((*object, *method)))
+                        }
+                        Ask::Call(object, method, arguments) => {
+                            put(&mut body.next, Next::Waits(number));
+                            append_called(past, number, maker, *object, *method, arguments);
+                            Ok(Some((*object, *method)))
+                        }
+                        Ask::Print(_) => {
+                            append_printed(past, number, maker, take_text(asked));
+                            Ok(None)
+                        }
+                        Ask::End(end) => {
+                            self.end_turn(alloc, number, end)?;
+                            Ok(None)
+                        }
+                    },
                 }
             }
         }

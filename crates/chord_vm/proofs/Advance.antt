@@ -9,11 +9,12 @@ use Rattle.chord_vm.specs.declared.ask.Ask.{Ask}
 use Rattle.chord_vm.specs.declared.ask.Ask.TheVariants as ask
 use Rattle.chord_code.specs.declared.instruction.Instruction.{Instruction}
 use Rattle.chord_code.specs.declared.instruction.Instruction.TheVariants as instr
+use Rattle.chord_base.specs.declared.value.Value.{Value}
 use Rattle.chord_base.specs.declared.value.Value.TheVariants as a_value
 use Rattle.chord_code.specs.declared.parts.Block.{Block}
 use Rattle.chord_code.specs.declared.parts.Parts.{Parts}
 use Rattle.chord_vm.specs.declared.frames.Frames.{Frames}
-use Rattle.chord_code.specs.Machine.{Machine, Waiting, Did, Goes, Asking, Bad, instr_in, fetch, act, step, goes_on, run, ComesTo, ComesToAsk}
+use Rattle.chord_code.specs.Machine.{Machine, Waiting, Did, Goes, Asking, Bad, instr_in, fetch, act, step, loads, goes_on, run, ComesTo, ComesToAsk}
 use Rattle.chord_vm.specs.Frames.{machine_of, waiting_of, SteppedTo, HasStepped, Advanced, instructions_of, instructions_in, with_pushed}
 use Rattle.chord_vm.specs.declared.step.After.{After}
 use Rattle.chord_vm.specs.declared.step.After.TheVariants as steps
@@ -143,7 +144,27 @@ fetched code m xs x d e f = fetch_at code m xs e ∙ get_at xs m.top.place x (pl
 pub number_pushed : (code : Parts) (m : Machine) (n : ℤ) → fetch code m.top.block m.top.place ≡ Some (instr.Int n) → step code m ≡ Goes (with_pushed (a_value.Int n) m)
 number_pushed code m n e = ap (λ o. act code o m) e
 
--- the place behind it is in the code
+-- a value that may be loaded is there
+loaded : (m : Machine) (o : Option Value) → (loads m o ≡ Bad → ⊥) → (v : Value) × (o ≡ Some v)
+loaded m None g = absurd (g refl)
+loaded m (Some v) g = (v, refl)
+
+-- the machine whose instruction pushes this value of a slot
+pub value_pushed : (code : Parts) (m : Machine) (i : ℕ) (v : Value) → fetch code m.top.block m.top.place ≡ Some (instr.Load i) → slice_get m.top.slots i ≡ Some v → step code m ≡ Goes (with_pushed v m)
+value_pushed code m i v e s = ap (λ o. act code o m) e ∙ ap (loads m) s
+
+-- the machine whose instruction pushes what stands in a slot
+pub load_pushed : (code : Parts) (m : Machine) (i : ℕ) → ComesToAsk code m → fetch code m.top.block m.top.place ≡ Some (instr.Load i) → (v : Value) × (slice_get m.top.slots i ≡ Some v) × (step code m ≡ Goes (with_pushed v m))
+load_pushed code m i d e =
+    let s : step code m ≡ loads m (slice_get m.top.slots i) = ap (λ o. act code o m) e in
+    let v = loaded m (slice_get m.top.slots i) (λ b. not_bad code m d (s ∙ b)) in
+    (v.0, v.1, value_pushed code m i v.0 e v.1)
+
+-- the place behind an instruction that pushes is in the code
+pub place_past : (code : Parts) (m : Machine) (xs : List Instruction) (v : Value) → ComesToAsk code m → instructions_in code m.top.block ≡ Some xs → step code m ≡ Goes (with_pushed v m) → m.top.place + 1 < length xs
+place_past code m xs v d h e =
+    let r : suc m.top.place < length xs = place_at code (with_pushed v m) xs (defined_on code m (with_pushed v m) e d) h in omega (arith, r)
+
+-- the place behind a number is in the code
 pub place_behind : (code : Parts) (m : Machine) (xs : List Instruction) (n : ℤ) → ComesToAsk code m → instructions_in code m.top.block ≡ Some xs → fetch code m.top.block m.top.place ≡ Some (instr.Int n) → m.top.place + 1 < length xs
-place_behind code m xs n d h e =
-    let r : suc m.top.place < length xs = place_at code (with_pushed (a_value.Int n) m) xs (defined_on code m (with_pushed (a_value.Int n) m) (number_pushed code m n e) d) h in omega (arith, r)
+place_behind code m xs n d h e = place_past code m xs (a_value.Int n) d h (number_pushed code m n e)

@@ -1,9 +1,12 @@
 //! What a body asks.
 #![tactic(auto)]
 
+ghost use Rattle.std.specs.Prelude.{◌≡◌, Some};
+
 use chord_base::event::End;
 use chord_base::text::Text;
 use chord_base::value::{Object, Values};
+use std::mem;
 
 /// The next entry of a body, before it has a number.
 #[derive(Drop)]
@@ -18,4 +21,12 @@ pub enum Ask {
     Print(Text),
     /// To end.
     End(End),
+}
+
+/// Puts an ask where there is none. There is nothing to drop in its place, which an assignment would look for.
+#[inline(always)]
+pub(crate) fn put_ask(asked: &mut Option<Ask>, ask: Ask)
+    ensures { asked.new ≡ Some ask }
+{
+    mem::forget(mem::replace(asked, Some(ask)));
 }

@@ -7,5 +7,6 @@
 
 pub mod ask;
 pub mod frames;
+mod loads;
 mod numbers;
 pub mod step;

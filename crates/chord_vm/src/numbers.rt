@@ -54,6 +54,28 @@ fn set_number(value: &mut Value, number: i32)
     }
 }
 
+/// A number comes in the place of a value, which most often is a number.
+#[inline(always)]
+fn put_number(value: &mut Value, number: i32)
+    ensures { value.new ≡ Value.Int number }
+{
+    match value {
+        Value::Int(place) => *place = number,
+        _ => *value = Value::Int(number),
+    }
+}
+
+/// A value comes in the place of another. A number is looked for first, and written alone where a number stands.
+#[inline(always)]
+pub(crate) fn put_value(place: &mut Value, value: Value)
+    ensures { place.new ≡ value }
+{
+    match value {
+        Value::Int(number) => put_number(place, number),
+        other => *place = other,
+    }
+}
+
 /// A truth value comes in the place of a number, of which there is nothing to drop.
 #[inline(always)]
 fn set_flag(value: &mut Value, flag: bool)

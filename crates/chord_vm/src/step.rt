@@ -10,9 +10,10 @@ ghost use Rattle.chord_vm.specs.Frames.{shown_frame, machine_of, HasStepped, fra
 ghost use Rattle.chord_vm.specs.declared.frames.Frames.{Frames as TheFrames};
 ghost use Rattle.chord_vm.specs.declared.ask.Ask.{Ask as AnAsk};
 
-use crate::ask::Ask;
+use crate::ask::{Ask, put_ask};
 use crate::frames::{Frame, Frames, fill, move_last};
-use crate::numbers::{operate_on, operator_of};
+use crate::loads::asks_at_once;
+use crate::numbers::{operate_on, operator_of, put_value};
 use chord_base::event::{End, Limits, Trap};
 use chord_base::operation::{Operation, compute, deny, negate, printed};
 use chord_base::text::Text;
@@ -168,14 +169,6 @@ fn step(
         }
     }
     After::Goes
-}
-
-/// Puts an ask where there is none. There is nothing to drop in its place, which an assignment would look for.
-#[inline(always)]
-fn put_ask(asked: &mut Option<Ask>, ask: Ask)
-    ensures { asked.new ≡ Some ask }
-{
-    mem::forget(mem::replace(asked, Some(ask)));
 }
 
 /// A trap ends the body.
@@ -352,7 +345,7 @@ fn store(frames: &mut Frames, i: usize)
     ensures { store_top i (machine_of frames.old) (machine_of frames.old).top.stack ≡ Goes (machine_of frames.new) }
 {
     let v = take(&mut frames.top);
-    frames.top.slots[i] = v;
+    put_value(&mut frames.top.slots[i], v);
     frames.top.place += 1;
 }
 
@@ -646,6 +639,24 @@ fn following<'a>(
     &instructions[frames.top.place + 1]
 }
 
+/// The instruction behind one that loads.
+#[inline(always)]
+fn behind_load<'a>(
+    instructions: &'a [Instruction],
+    parts: &Parts,
+    frames: &Frames,
+    slot: usize,
+) -> &'a Instruction
+    requires sound { ComesToAsk parts.now (machine_of frames.now) }
+    requires here { instructions_in parts.now frames.now.top.block ≡ Some instructions.now }
+    requires load { fetch parts.now frames.now.top.block frames.now.top.place ≡ Some (Instruction.Load slot) }
+    ensures instruction { fetch parts.now frames.now.top.block (suc frames.now.top.place) ≡ Some result.now }
+    ensures fits { frames.now.top.place + 2 < 2 ^ 64 }
+{
+    let _count = instructions.len();
+    &instructions[frames.top.place + 1]
+}
+
 /// Runs to the next ask, which is put.
 #[inline(never)]
 fn run(
@@ -670,6 +681,16 @@ fn run(
                 instruction = next(instructions, parts, frames);
                 continue 'steps;
             }
+        }
+        if let Instruction::Load(slot) = instruction {
+            let slot = *slot as usize;
+            let behind = behind_load(instructions, parts, frames, slot);
+            if asks_at_once(frames, slot, behind, asked) {
+                return Ok(());
+            }
+            load(alloc, frames, slot)?;
+            instruction = next(instructions, parts, frames);
+            continue 'steps;
         }
         match step(alloc, parts, frames, instruction, asked) {
             After::Goes => instruction = next(instructions, parts, frames),

@@ -1,9 +1,13 @@
-use Rattle.std.proofs.Common.{◌≡◌, ◌<◌, Some, ap, ◌∙◌, sym, subst, arith, to_z, of_z, w32}
-use Rattle.chord_code.specs.Machine.{act, step, operate, Goes, ComesToAsk}
+use Rattle.std.proofs.Common.{◌≡◌, ◌<◌, Some, refl, ap, ◌∙◌, sym, subst, arith, to_z, of_z, w32}
+use Rattle.std.specs.Prelude.{slice_get}
+use Rattle.chord_code.specs.declared.instruction.Instruction.TheVariants as instr
+use Rattle.chord_code.specs.Machine.{act, step, fetch, loads, operate, Goes, ComesToAsk}
+use Rattle.chord_vm.specs.declared.frames.Frames.{Frames}
+use Rattle.chord_vm.specs.declared.step.After.TheVariants as steps
 use Rattle.chord_code.specs.Fuel.{weight}
 use Rattle.chord_vm.specs.Frames.{machine_of, SteppedTo, instructions_in, with_pushed}
 use Rattle.chord_base.specs.declared.value.Value.TheVariants as a_value
-use Rattle.chord_vm.proofs.Advance.{not_bad, put_ask, went_to, moved_to, stepped_advanced, advanced_on, defined_on}
+use Rattle.chord_vm.proofs.Advance.{not_bad, put_ask, went_to, moved_to, stepped_advanced, advanced_on, defined_on, value_pushed}
 use Rattle.chord_vm.proofs.Stays.{stays}
 use Rattle.chord_code.proofs.Weight.{lighter}
 use Rattle.chord_code.proofs.Validity.{valid_forward}
@@ -147,4 +151,56 @@ steps-preserved-in-Some c =
       fits = c.next-instruction-in-Some.ensures.fits;
       defined = defined_on code between (machine_of c.operate_on.new.frames) g d;
       goes_on = λ a f h. c.steps.invariant.goes_on a f (advanced_on code m between a f c.following.ensures.pushes (advanced_on code between (machine_of c.operate_on.new.frames) a f g h));
+    }
+
+pub asks_at_once-requires-clause-sound : goal.asks_at_once-requires-clause-sound
+asks_at_once-requires-clause-sound c =
+    let code = c.args.parts.now in
+    let m = machine_of c.steps.frames in
+    let here : fetch code m.top.block m.top.place ≡ Some (instr.Load c.in-Load.slot) = c.steps.invariant.fetched ∙ ap Some c.in-Load.is in
+    (code, λ v e b. not_bad code (with_pushed v m) (defined_on code m (with_pushed v m) (value_pushed code m c.in-Load.slot v here e) c.steps.invariant.defined) (ap (λ o. act code o (with_pushed v m)) c.behind_load-behind.ensures.instruction ∙ b))
+
+pub returns-then-asks_at_once : goal.returns-then-asks_at_once
+returns-then-asks_at_once c =
+    let code = c.args.parts.now in
+    let m = machine_of c.steps.frames in
+    let f = c.asks_at_once.new.frames in
+    let here : fetch code m.top.block m.top.place ≡ Some (instr.Load c.in-Load.slot) = c.steps.invariant.fetched ∙ ap Some c.in-Load.is in
+    let v = c.asks_at_once.ensures.yes c.if-asks_at_once.true code in
+    let between = with_pushed v.0 m in
+    let p = put_ask (act code (Some c.behind_load-behind.result.now) between) steps.Asks c.asks_at_once.new.asked f refl v.2 in
+    let s = subst (λ d. SteppedTo d (Some p.0) f) (sym (ap (λ o. act code o between) c.behind_load-behind.ensures.instruction)) p.2 in
+    (p.0, p.1, c.steps.invariant.goes_on p.0 f (advanced_on code m between p.0 f (value_pushed code m c.in-Load.slot v.0 here v.1) (stepped_advanced code between p.0 f s)))
+
+pub next-instruction-requires-in-Load-clause-sound : goal.next-instruction-requires-in-Load-clause-sound
+next-instruction-requires-in-Load-clause-sound c =
+    let code = c.args.parts.now in
+    let m = machine_of c.steps.frames in
+    let n = machine_of c.load.new.frames in
+    let l = subst (λ (x : Frames). loads (machine_of x) (slice_get x.top.slots.items c.in-Load.slot) ≡ Goes n) (c.asks_at_once.ensures.no c.if-asks_at_once.false) c.in_ok-load.ensures in
+    let e : step code m ≡ Goes n = ap (λ o. act code o m) (c.steps.invariant.fetched ∙ ap Some c.in-Load.is) ∙ l in
+    defined_on code m n e c.steps.invariant.defined
+
+pub steps-smaller-in-Load : goal.steps-smaller-in-Load
+steps-smaller-in-Load c =
+    let code = c.args.parts.now in
+    let m = machine_of c.steps.frames in
+    let n = machine_of c.load.new.frames in
+    let l = subst (λ (x : Frames). loads (machine_of x) (slice_get x.top.slots.items c.in-Load.slot) ≡ Goes n) (c.asks_at_once.ensures.no c.if-asks_at_once.false) c.in_ok-load.ensures in
+    lighter code m n (instr.Load c.in-Load.slot) (valid_forward code c.requires.valid) (c.steps.invariant.fetched ∙ ap Some c.in-Load.is) l
+
+pub steps-preserved-in-Load : goal.steps-preserved-in-Load
+steps-preserved-in-Load c =
+    let code = c.args.parts.now in
+    let m = machine_of c.steps.frames in
+    let n = machine_of c.load.new.frames in
+    let l = subst (λ (x : Frames). loads (machine_of x) (slice_get x.top.slots.items c.in-Load.slot) ≡ Goes n) (c.asks_at_once.ensures.no c.if-asks_at_once.false) c.in_ok-load.ensures in
+    let e : step code m ≡ Goes n = ap (λ o. act code o m) (c.steps.invariant.fetched ∙ ap Some c.in-Load.is) ∙ l in
+    record {
+      fetched = c.next-instruction-in-Load.ensures.instruction;
+      here = ap (instructions_in code) (stays code m n (instr.Load c.in-Load.slot) refl l) ∙ c.steps.invariant.here;
+      within = c.next-instruction-in-Load.ensures.within;
+      fits = c.next-instruction-in-Load.ensures.fits;
+      defined = defined_on code m n e c.steps.invariant.defined;
+      goes_on = λ a f h. c.steps.invariant.goes_on a f (advanced_on code m n a f e h);
     }

@@ -17,17 +17,17 @@ advance_to-requires c =
           (runs_to_ask c.args.code.now c.args.limits.now c.args.self.now c.in-Some.body c.requires.task c.requires.runs c.in-Some.is);
     }
 
-pub settle-requires-clause-some : goal.settle-requires-clause-some
-settle-requires-clause-some c = λ e. let z : None ≡ Some c.in_ok-advance_to-in-Some.ensures.0 = sym e ∙ c.in_ok-advance_to-in-Some.ensures.1 in cc
+pub settle-settled-requires-clause-some : goal.settle-settled-requires-clause-some
+settle-settled-requires-clause-some c = λ e. let z : None ≡ Some c.in_ok-advance_to-in-Some.ensures.0 = sym e ∙ c.in_ok-advance_to-in-Some.ensures.1 in cc
 
-pub settle-requires-clause-asked : goal.settle-requires-clause-asked
-settle-requires-clause-asked c = λ a e.
+pub settle-settled-requires-clause-asked : goal.settle-settled-requires-clause-asked
+settle-settled-requires-clause-asked c = λ a e.
     let put = ask_put c.args.code.now (machine_of c.deref_mut.result.now) c.advance_to.new.asked c.advance_to.new.frames c.in_ok-advance_to-in-Some.ensures a e in
     let adv = subst (λ (f : Frames). Advanced c.args.code.now (machine_of f) a c.advance_to.new.frames) c.deref_mut.ensures.value put in
     is_asked_for c.args.code.now c.args.limits.now c.args.self.now c.in-Some.body (with_value c.in-Some.body.frames c.advance_to.new.frames) a c.requires.task c.requires.runs c.in-Some.is adv
 
-pub settle-requires-clause-may : goal.settle-requires-clause-may
-settle-requires-clause-may c = λ a e.
+pub settle-settled-requires-clause-may : goal.settle-settled-requires-clause-may
+settle-settled-requires-clause-may c = λ a e.
     let put = ask_put c.args.code.now (machine_of c.deref_mut.result.now) c.advance_to.new.asked c.advance_to.new.frames c.in_ok-advance_to-in-Some.ensures a e in
     let adv = subst (λ (f : Frames). Advanced c.args.code.now (machine_of f) a c.advance_to.new.frames) c.deref_mut.ensures.value put in
     may_settle c.args.code.now c.args.limits.now c.args.self.now c.in-Some.body (with_value c.in-Some.body.frames c.advance_to.new.frames) a c.args.number c.requires.task c.requires.runs c.in-Some.is adv c.requires.may
@@ -36,11 +36,11 @@ pub returns : goal.returns
 returns c =
     let t = c.args.self.now in
     let f = with_value c.in-Some.body.frames c.advance_to.new.frames in
-    IfOk-weaker c.settle.result (λ sent. (a : Ask) × (c.advance_to.new.asked ≡ Some a) × HasSettled c.args.code.now (with_body t (with_frames c.in-Some.body f)) c.args.number (what_of_ask a) c.settle.new.self × (sent ≡ sent_to (what_of_ask a))) (λ sent. HasTurned c.args.code.now c.args.limits.now t c.settle.new.self c.args.number sent)
+    IfOk-weaker c.settle-settled.result (λ sent. (a : Ask) × (c.advance_to.new.asked ≡ Some a) × HasSettled c.args.code.now (with_body t (with_frames c.in-Some.body f)) c.args.number (what_of_ask a) c.settle-settled.new.self × (sent ≡ sent_to (what_of_ask a))) (λ sent. HasTurned c.args.code.now c.args.limits.now t c.settle-settled.new.self c.args.number sent)
     (λ _ s. (
       what_of_ask s.0,
-      settled_turned c.args.code.now c.args.limits.now t c.in-Some.body f s.0 c.args.number c.settle.new.self c.requires.task c.requires.runs c.in-Some.is
+      settled_turned c.args.code.now c.args.limits.now t c.in-Some.body f s.0 c.args.number c.settle-settled.new.self c.requires.task c.requires.runs c.in-Some.is
           (subst (λ (f : Frames). Advanced c.args.code.now (machine_of f) s.0 c.advance_to.new.frames) c.deref_mut.ensures.value (ask_put c.args.code.now (machine_of c.deref_mut.result.now) c.advance_to.new.asked c.advance_to.new.frames c.in_ok-advance_to-in-Some.ensures s.0 s.1))
           s.2,
       s.3,
-    )) c.settle.ensures
+    )) c.settle-settled.ensures
