@@ -129,6 +129,10 @@ fn append_called(
     }
 }
 
+/// Drops an ask that did not become an entry. It stands apart, since a drop looks at each kind.
+#[inline(never)]
+fn drop_ask(_asked: Option<Ask>) {}
+
 /// The number of the body on top.
 fn number_of(top: &Option<Body>) -> u32
     requires { RunsOn top.now }
@@ -241,8 +245,12 @@ impl Task {
                 let mut asked = None;
                 advance_to(alloc, code, &mut *body.frames, &mut asked)?;
                 let settled = self.settle(alloc, code, number, &mut asked);
-                // what owns memory was taken out of it, so that there is nothing to drop
-                mem::forget(asked);
+                if settled.is_err() {
+                    drop_ask(asked);
+                } else {
+                    // what owns memory was taken out of it, so that there is nothing to drop
+                    mem::forget(asked);
+                }
                 settled
             }
         }
