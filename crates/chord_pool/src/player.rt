@@ -271,6 +271,7 @@ pub(crate) fn work<'a, R: Wait, G: Gate>(
             return player;
         }
         if !player.rounds(rt, alloc, run, gate, &pause) {
+            run.shared.leave();
             return player;
         }
     }

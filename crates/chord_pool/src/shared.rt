@@ -26,7 +26,7 @@ impl Shared {
         self.working.load(Ordering::SeqCst)
     }
 
-    /// Sleeps for so long, or until no worker has a task, unless their number is another by now.
+    /// Sleeps for so long, or until a worker leaves, unless the number of those at work is another by now.
     pub(crate) fn sleep<R: Wait>(&self, rt: &R, working: u64, micros: u64) {
         let seen = (working % (1 << 32)) as u32;
         self.working
@@ -38,11 +38,15 @@ impl Shared {
         self.working.fetch_add(1, Ordering::SeqCst);
     }
 
-    /// The task of a worker is over, or has gone away with a parcel.
+    /// The task of a worker is over, or has gone away with a parcel. Whoever sleeps is not woken, even if this was the last one: the worker mostly finds
+    /// another task at once, and a wake-up is a call of the system.
     pub(crate) fn end(&self) {
-        if self.working.fetch_sub(1, Ordering::SeqCst) == 1 {
-            self.working.wake_all();
-        }
+        self.working.fetch_sub(1, Ordering::SeqCst);
+    }
+
+    /// A worker goes for good: those that sleep are to look once more, and go too.
+    pub(crate) fn leave(&self) {
+        self.working.wake_all();
     }
 
     /// Whether one of the workers met want of memory.
