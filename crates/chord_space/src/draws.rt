@@ -14,9 +14,9 @@ ghost use Rattle.chord_space.specs.Gives.{MayFire};
 ghost use Rattle.chord_space.specs.Ruled.{IsOfCode};
 ghost use Rattle.chord_space.specs.Desks.{view, space_code, space_limits, program_of, IsDeskOf, IsSameDesk, MayDraw};
 
+use crate::as_entry::AsEntry;
 use crate::plays::{Draw, DrawFiring, Firing, Said};
 use crate::space::{Desk, Space, Spent};
-use chord_base::event::What;
 use chord_base::members::Members;
 use chord_base::value::Object;
 use chord_code::carry::Carry;
@@ -24,13 +24,13 @@ use std::marker::Brand;
 
 impl<P: Carry> Space<P> {
     // Pairs with every other draw: the counter gives each number once, and numbers are the order of the journal.
-    fn step_draw<J: Said>(&self, desk: &mut Desk<P>, body: u32, what: &What) -> u64
-        requires entry { (J.body ≡ body) × (J.what ≡ what.now) × (J.parts ≡ space_code self.now) × (J.limits ≡ space_limits self.now) }
+    fn step_draw<J: Said, A: AsEntry>(&self, desk: &mut Desk<P>, body: u32, said: &A) -> u64
+        requires entry { (J.body ≡ body) × (J.what ≡ A.what said.now) × (J.parts ≡ space_code self.now) × (J.limits ≡ space_limits self.now) }
         requires desk { IsDeskOf self.now desk.old }
         requires room { (view desk.old).spent ≡ false }
-        requires next { MayDraw self.now desk.old body what.now }
+        requires next { MayDraw self.now desk.old body (A.what said.now) }
         ensures desk { IsSameDesk desk.old desk.new }
-        ensures drawn { result < self.now.events → (view desk.new ≡ saw_count (drew (view desk.old) result body what.now) (result + 1)) × AllBelow result (view desk.old).kept × ((o : value.Object) → Names what.now o → o.number < result) × IsOfCode (space_code self.now) what.now × CameNext (program_of self.now) (entry result body what.now) × IsPlace (program_of self.now) (entry result body what.now ∷ (view desk.old).kept) }
+        ensures drawn { result < self.now.events → (view desk.new ≡ saw_count (drew (view desk.old) result body (A.what said.now)) (result + 1)) × AllBelow result (view desk.old).kept × ((o : value.Object) → Names (A.what said.now) o → o.number < result) × IsOfCode (space_code self.now) (A.what said.now) × CameNext (program_of self.now) (entry result body (A.what said.now)) × IsPlace (program_of self.now) (entry result body (A.what said.now) ∷ (view desk.old).kept) }
         ensures told { self.now.events ≤ result → view desk.new ≡ saw_count (was_told (view desk.old)) (result + 1) }
         ensures begins { HasNotBegun (view desk.old) → result ≡ 0 }
     {
@@ -40,19 +40,24 @@ impl<P: Carry> Space<P> {
     /// Draws the next number for an entry, which the desk keeps from now on: the next ask of a body by what the desk keeps, or
     /// the beginning of `Main` by the first desk. The entry came next in the run, and is of the code; what the desk keeps is a
     /// place of the run. `Spent` where the counter had reached the limit on events, which it never has for the first draw of all.
-    pub fn draw(&self, desk: &mut Desk<P>, body: u32, what: &What) -> Result<u32, Spent>
+    pub fn draw<A: AsEntry>(
+        &self,
+        desk: &mut Desk<P>,
+        body: u32,
+        said: &A,
+    ) -> Result<u32, Spent>
         requires desk { IsDeskOf self.now desk.old }
         requires room { (view desk.old).spent ≡ false }
-        requires next { MayDraw self.now desk.old body what.now }
+        requires next { MayDraw self.now desk.old body (A.what said.now) }
         ensures desk { IsSameDesk desk.old desk.new }
-        ensures drawn { MatchResult result (λ x. (x < self.now.events) × (view desk.new ≡ saw_count (drew (view desk.old) x body what.now) (x + 1))) (λ _. (c : ℕ) × (self.now.events < c) × (view desk.new ≡ saw_count (was_told (view desk.old)) c)) }
-        ensures above { IfOk result (λ x. AllBelow x (view desk.old).kept × ((o : value.Object) → Names what.now o → o.number < x)) }
-        ensures code { IsOk result → IsOfCode (space_code self.now) what.now }
-        ensures came { IfOk result (λ x. CameNext (program_of self.now) (entry x body what.now)) }
-        ensures place { IfOk result (λ x. IsPlace (program_of self.now) (entry x body what.now ∷ (view desk.old).kept)) }
+        ensures drawn { MatchResult result (λ x. (x < self.now.events) × (view desk.new ≡ saw_count (drew (view desk.old) x body (A.what said.now)) (x + 1))) (λ _. (c : ℕ) × (self.now.events < c) × (view desk.new ≡ saw_count (was_told (view desk.old)) c)) }
+        ensures above { IfOk result (λ x. AllBelow x (view desk.old).kept × ((o : value.Object) → Names (A.what said.now) o → o.number < x)) }
+        ensures code { IsOk result → IsOfCode (space_code self.now) (A.what said.now) }
+        ensures came { IfOk result (λ x. CameNext (program_of self.now) (entry x body (A.what said.now))) }
+        ensures place { IfOk result (λ x. IsPlace (program_of self.now) (entry x body (A.what said.now) ∷ (view desk.old).kept)) }
         ensures begins { HasNotBegun (view desk.old) → IsOk result }
     {
-        let found = self.step_draw::<Brand>(desk, body, what);
+        let found = self.step_draw::<Brand, A>(desk, body, said);
         if found < self.events as u64 {
             Ok(found as u32)
         } else {

@@ -5,6 +5,7 @@
 //! Not here: which message to claim and which chord to fire, and what a bag is walked for.
 #![tactic(auto)]
 
+mod as_entry;
 mod bypasses;
 mod claims;
 mod closed;
@@ -18,6 +19,7 @@ mod looks;
 mod plays;
 mod space;
 
+pub use as_entry::AsEntry;
 pub use bypasses::Pointer;
 pub use closed::Closed;
 pub use cross::may_cross;

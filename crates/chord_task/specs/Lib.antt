@@ -11,5 +11,3 @@ pub mod Parcels
 pub mod Turning
 -- what was gathered from the parcels of a firing
 pub mod Gathering
--- an ask with the arguments for a parcel
-pub mod Enclosing

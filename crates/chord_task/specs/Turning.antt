@@ -9,6 +9,7 @@ use Rattle.chord_base.specs.Printed.{is_end}
 use Rattle.chord_base.specs.Story.{AllBelow}
 use Rattle.chord_code.specs.declared.parts.Parts.{Parts}
 use Rattle.chord_code.specs.Meaning.{code_program}
+use Rattle.chord_task.specs.declared.body.Next.{Next}
 use Rattle.chord_task.specs.declared.body.Next.TheVariants as nexts
 use Rattle.chord_task.specs.declared.body.Body.{Body}
 use Rattle.chord_task.specs.declared.task.Task.{Task}
@@ -71,3 +72,25 @@ pub record HasSettled (code : Parts) (before : Task) (n : ℕ) (w : What) (after
   pub task : IsTaskOf code before.limits after
   pub noted : task_noted (view_of before) n w (view_of after)
   pub top : is_end w ≡ false → (view_of after).top ≡ (view_of before).top
+
+-- the body keeps an ask
+abbrev pub IsKept : Next → Type 0
+IsKept nexts.Runs = ⊥
+IsKept (nexts.Gave Begun) = ⊥
+IsKept (nexts.Gave (Made c)) = Unit {0}
+IsKept (nexts.Gave (Sent o j vs)) = Unit {0}
+IsKept (nexts.Gave (Called o j vs)) = Unit {0}
+IsKept (nexts.Gave (Printed t)) = Unit {0}
+IsKept (nexts.Gave (Fired k o ms vs)) = ⊥
+IsKept (nexts.Gave (Ended e)) = ⊥
+IsKept (nexts.Ends e e') = e' ≡ e
+IsKept (nexts.Fails t) = ⊥
+IsKept (nexts.Waits q) = ⊥
+
+-- the task came to this ask, which is its next one and is with its caller
+pub record HasCome (code : Parts) (limits : Limits) (before after : Task) (w : What) : Type 0 where
+  pub asked : IsAskedFor code after w
+  pub next : IsNext (code_program code limits) (view_of before) w
+  pub view : view_of after ≡ view_of before
+  pub past : after.past ≡ before.past
+  pub limited : after.limits ≡ limits

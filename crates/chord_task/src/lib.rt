@@ -7,8 +7,8 @@
 
 pub mod apart;
 pub mod args;
-pub mod asked;
 pub mod body;
+pub mod come;
 pub mod cross;
 pub mod enclosed;
 pub mod firing;

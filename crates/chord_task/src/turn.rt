@@ -177,7 +177,7 @@ impl Task {
     }
 
     /// Whether the frames of the body on top run.
-    fn runs(&self) -> bool
+    pub(crate) fn runs(&self) -> bool
         ensures { result ≡ true → RunsOn self.now.top }
     {
         match &self.top {
@@ -293,8 +293,10 @@ impl Task {
         Ok(())
     }
 
-    /// The ask to which the frames of the body on top came becomes the entry of this number. It is taken out where there is room for it.
-    fn settle(
+    /// The ask to which the body on top came becomes the entry of this number: what owns memory is taken out of it. An object, a message and a line are
+    /// answered; a call waits. After an end the body below is answered by it. Gives what a message is to, where the entry is one. Where no memory is
+    /// found, the ask is as it was, and the task can only be dropped.
+    pub fn settle(
         &mut self,
         alloc: Global,
         code: &Code,

@@ -1,121 +1,42 @@
--- A task that gave an ask, and the entry that this becomes.
-use Rattle.std.proofs.Common.{◌≡◌, ◌≢◌, reverse, ℕ, Bool, true, false, List, ◌∷◌, Option, Some, None, refl, sym, ap, ◌∙◌, subst}
-use mathlib.Core.Path.{Path}
+-- A task that came to its ask, and the entry that this becomes.
+use Rattle.std.proofs.Common.{◌≡◌, ◌≢◌, ℕ, ◌+◌, false, List, ◌∷◌, Option, Some, None, refl, sym, ap, ◌∙◌, subst}
 use Rattle.chord_base.specs.declared.event.Entry.{Entry}
 use Rattle.chord_base.specs.declared.event.Limits.{Limits}
 use Rattle.chord_base.specs.declared.event.What.{What}
-use Rattle.chord_base.specs.declared.event.What.TheVariants.{Begun, Made, Sent, Called, Printed, Fired, Ended}
 use Rattle.chord_base.specs.declared.value.Object.{Object}
-use Rattle.chord_base.specs.declared.value.Value as value
-use Rattle.chord_base.specs.Printed.{is_end}
 use Rattle.chord_base.specs.Meaning.{Program}
 use Rattle.chord_base.specs.Bodies.{doing, Asks}
 use Rattle.chord_base.specs.Story.{IsSound, IsDefined, AllBelow}
 use Rattle.chord_code.specs.declared.parts.Parts.{Parts}
-use Rattle.chord_code.specs.Meaning.{Point, code_program, stands}
+use Rattle.chord_code.specs.Meaning.{code_program}
+use Rattle.chord_rule.specs.declared.view.View.{View}
 use Rattle.chord_rule.specs.Coming.{IsPlace}
-use Rattle.chord_rule.specs.Kinds.{entry}
-use Rattle.chord_vm.specs.declared.frames.Frames.{Frames}
-use Rattle.chord_task.specs.declared.body.Body.{Body}
-use Rattle.chord_task.specs.declared.body.Next.{Next}
-use Rattle.chord_task.specs.declared.body.Next.TheVariants as nexts
+use Rattle.chord_rule.specs.Kinds.{entry, drew, saw_count}
+use Rattle.chord_rule.specs.Made.{Names}
+use Rattle.chord_space.specs.declared.space.Space.{Space}
+use Rattle.chord_space.specs.Desks.{view, space_code, space_limits}
+use Rattle.chord_space.specs.Ruled.{IsOfCode}
+use Rattle.chord_task.specs.declared.parcel.Parcel.{Parcel}
 use Rattle.chord_task.specs.declared.task.Task.{Task}
 use Rattle.chord_task.specs.Stacks.{TaskView, IsNext, StaysDefined}
-use Rattle.chord_task.specs.Standing.{view_of, may_go, body_may_go, given_of, given_by, NextIs, IsTop, IsBodyStack, IsTaskOf, IsReserved}
-use Rattle.chord_task.proofs.Asking.{given_next}
-use Rattle.chord_worker.specs.Playing.{IsReadyTo, HasAsked, IsPlayable, KeepsPlayable, message}
-use Rattle.chord_worker.specs.Resting.{IsInMemory}
-use Rattle.chord_worker.proofs.Memory.{asks_at_desk, noted_defined, noted_below}
+use Rattle.chord_task.specs.Standing.{view_of, IsTaskOf}
+use Rattle.chord_task.specs.Turning.{RunsOn, MaySettle, HasSettled, HasCome}
+use Rattle.chord_vm.specs.declared.ask.Ask.{Ask}
+use Rattle.chord_worker.specs.declared.worker.Worker.{Worker}
+use Rattle.chord_worker.specs.Playing.{IsNotedAs, WasToldFull}
+use Rattle.chord_worker.specs.Resting.{IsInMemory, MayContinue, IsStock, IsAtRest}
+use Rattle.chord_worker.proofs.Memory.{asks_at_desk, noted_defined, noted_below, noted}
 
--- what gave an ask may go on
-given_goes : (n : Next) (w : What) → given_of n ≡ Some w → may_go n ≡ true
-given_goes nexts.Runs w e = refl
-given_goes (nexts.Gave x) w e = refl
-given_goes (nexts.Ends x y) w e = refl
-given_goes (nexts.Fails x) w e = refl
-given_goes (nexts.Waits q) w e = let z : Path (Option What) None (Some w) = e in cc
+-- ## The ask
 
--- a body that gave an ask may go on
-pub given_ready : (x : Option Body) (w : What) → given_by x ≡ Some w → body_may_go x ≡ true
-given_ready None w e = let z : Path (Option What) None (Some w) = e in cc
-given_ready (Some b) w e = given_goes b.next w e
+-- there is an ask
+pub some_ask : (o : Option Ask) → o ≢ None → (a : Ask) × (o ≡ Some a)
+some_ask None some = absurd (some refl)
+some_ask (Some a) some = (a, refl)
 
--- a body that keeps an ask may go on
-some_goes : (n : Next) → given_of n ≢ None → may_go n ≡ true
-some_goes nexts.Runs some = refl
-some_goes (nexts.Gave x) some = refl
-some_goes (nexts.Ends x y) some = refl
-some_goes (nexts.Fails x) some = refl
-some_goes (nexts.Waits q) some = absurd (some refl)
-
--- a task that keeps an ask may go on
-pub kept_ready : (x : Option Body) → given_by x ≢ None → body_may_go x ≡ true
-kept_ready None some = absurd (some refl)
-kept_ready (Some b) some = some_goes b.next some
-
--- a task that keeps the same keeps an ask
-pub kept_still : (x y : Option Body) → given_by y ≡ given_by x → given_by x ≢ None → given_by y ≢ None
-kept_still x y same some none = some (sym same ∙ none)
-
--- what a body keeps where its code stands is played
-playable_at : (code : Parts) (limits : Limits) (n : Next) (f : Frames) (point : Point) → NextIs code limits n f point → given_of n ≢ None → IsPlayable n
-playable_at code limits nexts.Runs f point is some = absurd (some refl)
-playable_at code limits (nexts.Gave Begun) f point is some = is
-playable_at code limits (nexts.Gave (Made c)) f point is some = tt
-playable_at code limits (nexts.Gave (Sent o j vs)) f point is some = tt
-playable_at code limits (nexts.Gave (Called o j vs)) f point is some = tt
-playable_at code limits (nexts.Gave (Printed t)) f point is some = tt
-playable_at code limits (nexts.Gave (Fired k o ms vs)) f point is some = is
-playable_at code limits (nexts.Gave (Ended e)) f point is some = is
-playable_at code limits (nexts.Ends x y) f point is some = tt
-playable_at code limits (nexts.Fails t) f point is some = absurd (some refl)
-playable_at code limits (nexts.Waits q) f point is some = absurd (some refl)
-
--- what the body on top keeps is played
-playable_by : (code : Parts) (limits : Limits) (h : List Entry) (b : Body) (n : Next) → b.next ≡ n → IsTop code limits h n b → given_of n ≢ None → IsPlayable n
-playable_by code limits h b nexts.Runs e up some = absurd (some refl)
-playable_by code limits h b (nexts.Gave w) e up some = playable_at code limits (nexts.Gave w) b.frames.value (stands code limits up.start up.depth up.answers) (subst (λ (n : Next). NextIs code limits n b.frames.value (stands code limits up.start up.depth up.answers)) e up.next) some
-playable_by code limits h b (nexts.Ends x y) e up some = tt
-playable_by code limits h b (nexts.Fails t) e up some = absurd (some refl)
-playable_by code limits h b (nexts.Waits q) e up some = absurd (some refl)
-
--- what a task keeps is played
-pub keeps_playable : (code : Parts) (limits : Limits) (t : Task) → IsTaskOf code limits t → given_by t.top ≢ None → KeepsPlayable t.top
-keeps_playable code limits t k some = by_top t.top k.stack some
-  where
-    by_top : (o : Option Body) → IsBodyStack code limits (view_of t).past o (reverse t.below.items) → given_by o ≢ None → KeepsPlayable o
-    by_top None stack some' = absurd (some' refl)
-    by_top (Some b) stack some' = playable_by code limits (view_of t).past b b.next refl stack.0 some'
-
--- a task with room that keeps an ask is ready for it
-pub ready_to : (code : Parts) (limits : Limits) (t : Task) (w : What) → IsTaskOf code limits t → IsReserved code t → (n : Next) → given_of n ≡ given_by t.top → given_of n ≡ Some w → IsReadyTo code limits t w
-ready_to code limits t w k reserved n keeps gives =
-    let gave : given_by t.top ≡ Some w = sym keeps ∙ gives in record { next = given_next code limits t w k gave; gave = gave; reserved = reserved }
-
--- what gave an ask that is no end keeps it
-gave_at : (n : Next) (w : What) → is_end w ≡ false → given_of n ≡ Some w → (v : What) × (n ≡ nexts.Gave v)
-gave_at nexts.Runs w go e = let z : Path (Option What) None (Some w) = e in cc
-gave_at (nexts.Gave v) w go e = (v, refl)
-gave_at (nexts.Ends x y) w go e =
-    let z : Path (Option What) (Some (Ended x)) (Some w) = e in
-    let k : Ended x ≡ w = cc in
-    let q : true ≡ false = ap is_end k ∙ go in absurd (cc)
-gave_at (nexts.Fails x) w go e = let z : Path (Option What) None (Some w) = e in cc
-gave_at (nexts.Waits q) w go e = let z : Path (Option What) None (Some w) = e in cc
-
--- a body that gave an ask that is no end keeps it
-pub keeps_asked : (x : Option Body) (w : What) → is_end w ≡ false → given_by x ≡ Some w → HasAsked x
-keeps_asked None w go e = let z : Path (Option What) None (Some w) = e in cc
-keeps_asked (Some b) w go e = gave_at b.next w go e
-
--- a body gave one ask
-pub is_asked : (x : Option What) (v w : What) → x ≡ Some v → x ≡ Some w → v ≡ w
-is_asked x v w e f = let same : Some v ≡ Some w = sym e ∙ f in cc
-
--- a message is no end
-pub message_goes : (k : Bool) (o : Object) (j : ℕ) (vs : List value.Value) → is_end (message k o j vs) ≡ false
-message_goes true o j vs = refl
-message_goes false o j vs = refl
+-- the ask that is there is the only one
+pub only_ask : (o : Option Ask) (a b : Ask) → o ≡ Some a → o ≡ Some b → a ≡ b
+only_ask o a b e f = let same : Some a ≡ Some b = sym e ∙ f in cc
 
 -- what the body on top asks next is the ask of the body of that number
 pub next_asks : (p : Program) (v : TaskView) (w : What) (n : IsNext p v w) (b : ℕ) → v.top ≡ Some b → Asks p v.past b w
@@ -127,21 +48,73 @@ next_asks p v w n b top =
 pub one_top : (x : Option ℕ) (b c : ℕ) → x ≡ Some b → x ≡ Some c → b ≡ c
 one_top x b c e f = let same : Some b ≡ Some c = sym e ∙ f in cc
 
-module _ (code : Parts) (limits : Limits) (es : List Entry) (done : List Entry) (t : Task) (m : IsInMemory code limits es false done (Some t)) (w : What) (ready : IsReadyTo code limits t w) (b : ℕ) (top : (view_of t).top ≡ Some b) where
-  -- what the task asks next, by the number of the body on top
-  pub asks_next : Asks (code_program code limits) (view_of t).past b w
-  asks_next = next_asks (code_program code limits) (view_of t) w ready.next b top
+-- ## The entry
 
-  -- the desk may draw it
-  pub may_draw : Asks (code_program code limits) es b w
-  may_draw = asks_at_desk code limits es false done t m b w asks_next
+module _ (code : Parts) (limits : Limits) (t u : Task) (w : What) (came : HasCome code limits t u w) where
+  -- the frames of the body on top ran to the ask
+  pub came_runs : RunsOn u.top
+  came_runs = (came.asked.body, came.asked.on_top, came.asked.runs)
 
-  module _ (sound : IsSound (code_program code limits)) (n : ℕ) (below : AllBelow n es) (place : IsPlace (code_program code limits) (entry n b w ∷ es)) where
-    -- what its bodies do with it is defined
-    pub noted_stays : StaysDefined (code_program code limits) (view_of t) n w
-    noted_stays c at i = subst (λ (k : ℕ). IsDefined (code_program code limits) (doing (code_program code limits) (entry n k w ∷ (view_of t).past) i)) (one_top (view_of t).top b c top at)
-        (noted_defined code limits es false done t m n b w below ready.next.own asks_next sound place.run place.view place.merged place.place place.is i)
+  module _ (b : ℕ) (top : (view_of u).top ≡ Some b) where
+    -- that body was on top before
+    top_before : (view_of t).top ≡ Some b
+    top_before = ap (λ (v : TaskView). v.top) (sym came.view) ∙ top
 
-    -- its numbers are below that of the entry
-    pub noted_above : AllBelow n (view_of t).past
-    noted_above = noted_below code limits es false done t m n b w below ready.next.own asks_next
+    -- what the task asks next, by the number of the body on top
+    asks_next : Asks (code_program code limits) (view_of t).past b w
+    asks_next = next_asks (code_program code limits) (view_of t) w came.next b top_before
+
+    module _ (es : List Entry) (done : List Entry) (m : IsInMemory code limits es false done (Some t)) where
+      -- the desk may draw it
+      pub may_draw : Asks (code_program code limits) es b w
+      may_draw = asks_at_desk code limits es false done t m b w asks_next
+
+      -- and what its bodies do with it is defined
+      pub may_settle : IsSound (code_program code limits) → (n : ℕ) → AllBelow n es → IsPlace (code_program code limits) (entry n b w ∷ es) → MaySettle code u n w
+      may_settle sound n below place = record {
+        stays = subst (λ (l : Limits). StaysDefined (code_program code l) (view_of u) n w) (sym came.limited)
+            (subst (λ (v : TaskView). StaysDefined (code_program code limits) v n w) (sym came.view)
+            (λ c at i. subst (λ (k : ℕ). IsDefined (code_program code limits) (doing (code_program code limits) (entry n k w ∷ (view_of t).past) i)) (one_top (view_of t).top b c top_before at)
+            (noted_defined code limits es false done t m n b w below came.next.own asks_next sound place.run place.view place.merged place.place place.is i)));
+        above = subst (λ (v : TaskView). AllBelow n v.past) (sym came.view) (noted_below code limits es false done t m n b w below came.next.own asks_next);
+      }
+
+    -- the ask became an entry of the desk and of the task
+    pub noted_as : (v v' : View) (n : ℕ) (t' : Task) → v' ≡ saw_count (drew v n b w) (n + 1) → AllBelow n v.kept → ((o : Object) → Names w o → o.number < n) → IsOfCode code w → HasSettled code u n w t' → IsNotedAs code limits v v' t t' n w
+    noted_as v v' n t' drawn below named of_code settled = record {
+      body = b;
+      on_top = top_before;
+      asks = asks_next;
+      drawn = drawn;
+      below = below;
+      task = is_task;
+      past = past;
+      top = λ e. settled.top e ∙ top;
+      memory = λ spent done k. noted code limits v.kept spent done t k n b w below came.next.own asks_next t' is_task past;
+      named = named;
+      of_code = of_code;
+    }
+      where
+        is_task : IsTaskOf code limits t'
+        is_task = subst (λ (l : Limits). IsTaskOf code l t') came.limited settled.task
+
+        past : (view_of t').past ≡ entry n b w ∷ (view_of t).past
+        past = settled.noted.2 ∙ ap (λ (k : ℕ). entry n k w ∷ (view_of u).past) (one_top (view_of u).top settled.noted.0 b settled.noted.1 top) ∙ ap (λ (v : TaskView). entry n b w ∷ v.past) came.view
+
+  -- the desk was told that the limit is reached, and the task has done what it had
+  pub told_full : (v v' : View) (u' : Task) → WasToldFull v v' u u' → WasToldFull v v' t u'
+  told_full v v' u' told = record { told = told.told; past = told.past ∙ came.past }
+
+-- ## The stock
+
+-- a worker with its task, and with what is in stock
+pub stocked_rest : (s : Space Parcel) (w : Worker) (t : Task) (stock : Option Task) → IsAtRest s w → w.task ≡ Some t → IsStock (space_code s) (space_limits s) stock → IsAtRest s (record w { task = Some t; spare = stock })
+stocked_rest s w t stock r task in_stock = record {
+  desk = r.desk;
+  told = r.told;
+  free = r.free;
+  duties = r.duties;
+  memory = subst (λ (x : Option Task). IsInMemory (space_code s) (space_limits s) (view w.desk).kept (view w.desk).spent w.done x) task r.memory;
+  goes_on = subst MayContinue task r.goes_on;
+  stock = in_stock;
+}

@@ -1,5 +1,5 @@
 -- A worker is at rest again after an entry of its task, and where it was told that the limit is reached.
-use Rattle.std.proofs.Common.{◌≡◌, ℕ, true, false, List, ◌∷◌, ◌++◌, Option, Some, None, sym, ap, ◌∙◌, subst}
+use Rattle.std.proofs.Common.{◌≡◌, ℕ, true, false, List, ◌∷◌, ◌++◌, Option, Some, None, sym, ap, ◌∙◌, subst, Vec, Global}
 use Rattle.chord_base.specs.declared.event.What.{What}
 use Rattle.chord_base.specs.declared.event.Entry.{Entry}
 use Rattle.chord_rule.specs.declared.view.View.{View}
@@ -41,11 +41,11 @@ module _ (s : Space Parcel) (w : Worker) (t : Task) (r : IsAtRest s (record w { 
     pub rest_told : w'.task ≡ None → w'.spent ≡ true → w'.done ≡ w.done ++ t'.past.items → IsAtRest s w'
     rest_told task spent done = record {
       desk = same.0 ∙ r.desk;
-      told = spent ∙ sym (ap (λ (z : View). z.spent) told.view);
-      free = subst IsHandFree (sym told.view) (record { claims = r.free.claims; flight = r.free.flight; fresh = r.free.fresh });
-      duties = λ e. let z : true ≡ false = sym (ap (λ (z : View). z.spent) told.view) ∙ e in absurd (cc);
-      memory = subst (λ (z : View). IsInMemory (space_code s) (space_limits s) z.kept z.spent w'.done w'.task) (sym told.view)
-          (subst (λ (es : List Entry). IsInMemory (space_code s) (space_limits s) (view w.desk).kept true es w'.task) (sym (done ∙ ap (λ (x : Task). w.done ++ x.past.items) told.task))
+      told = spent ∙ sym (ap (λ (z : View). z.spent) told.told.1);
+      free = subst IsHandFree (sym told.told.1) (record { claims = r.free.claims; flight = r.free.flight; fresh = r.free.fresh });
+      duties = λ e. let z : true ≡ false = sym (ap (λ (z : View). z.spent) told.told.1) ∙ e in absurd (cc);
+      memory = subst (λ (z : View). IsInMemory (space_code s) (space_limits s) z.kept z.spent w'.done w'.task) (sym told.told.1)
+          (subst (λ (es : List Entry). IsInMemory (space_code s) (space_limits s) (view w.desk).kept true es w'.task) (sym (done ∙ ap (λ (x : Vec Entry Global). w.done ++ x.items) told.past))
           (subst (λ (x : Option Task). IsInMemory (space_code s) (space_limits s) (view w.desk).kept true (w.done ++ t.past.items) x) (sym task)
           (task_laid (space_code s) (space_limits s) (view w.desk).kept (view w.desk).spent w.done t r.memory)));
       goes_on = subst MayContinue (sym task) tt;
@@ -55,8 +55,8 @@ module _ (s : Space Parcel) (w : Worker) (t : Task) (r : IsAtRest s (record w { 
     -- the desk has its role still
     pub role_told : IsSameRole (view w.desk) (view w'.desk)
     role_told = record {
-      first = ap (λ (z : View). z.first) told.view;
-      lent = ap (λ (z : View). z.lent) told.view;
-      splits = ap (λ (z : View). z.splits) told.view;
-      drawn = λ e. ap (λ (z : View). z.drawn) told.view ∙ e;
+      first = ap (λ (z : View). z.first) told.told.1;
+      lent = ap (λ (z : View). z.lent) told.told.1;
+      splits = ap (λ (z : View). z.splits) told.told.1;
+      drawn = λ e. ap (λ (z : View). z.drawn) told.told.1 ∙ e;
     }

@@ -8,14 +8,15 @@ ghost use Rattle.chord_space.specs.Desks.{view, heads, space_code, space_limits,
 ghost use Rattle.chord_space.specs.Gives.{MayLink};
 ghost use Rattle.chord_space.specs.Ruled.{IsOfCode};
 ghost use Rattle.chord_task.specs.Parcels.{entries_of, arguments_of, IsParcelOf};
+ghost use Rattle.chord_task.specs.declared.task.Task.{Task as TheTask};
 ghost use Rattle.chord_task.specs.Standing.{view_of, IsTaskOf};
-ghost use Rattle.chord_worker.specs.Playing.{IsReadyTo};
+ghost use Rattle.chord_task.specs.Turning.{HasCome};
 ghost use Rattle.chord_worker.specs.Resting.{IsAtRest, IsSameRole};
 ghost use Rattle.chord_worker.specs.Sending.{IsSentOff};
 ghost use Rattle.chord_worker.specs.Stepping.{HasGoneOn, PlaysNext};
 
 use crate::minding::Minded;
-use crate::playing::draw_message;
+use crate::playing::draw_own;
 use crate::worker::{Gate, Worker};
 use chord_base::event::Limits;
 use chord_base::value::Object;
@@ -25,6 +26,7 @@ use chord_task::apart::Apart;
 use chord_task::enclosed::Enclosed;
 use chord_task::parcel::{Parcel, letter, packed};
 use chord_task::task::Task;
+use chord_vm::ask::Ask;
 use std::alloc::{AllocError, Global};
 use std::sync::Wait;
 
@@ -116,15 +118,16 @@ impl Worker {
         limits: &Limits,
         gate: &G,
         task: Apart<Task>,
+        asked: &mut Option<Ask>,
         object: Object,
         method: u8,
         held: Enclosed,
     ) -> Result<(), AllocError>
         requires none { self.old.task ≡ None }
-        requires rest { IsAtRest space.now (record self.old { task = Some task }) }
         requires room { (view self.old.desk).spent ≡ false }
         requires stock { self.old.spare ≢ None }
-        requires ready { IsReadyTo (space_code space.now) (space_limits space.now) task (Sent object method held.first) }
+        requires asked { asked.old ≡ Some (Ask.Send object method held.first) }
+        requires came { (t : TheTask) × HasCome (space_code space.now) (space_limits space.now) t task (Sent object method held.first) × IsAtRest space.now (record self.old { task = Some t }) }
         requires twice { held.second ≡ held.first }
         requires code { code.now ≡ space_code space.now }
         requires limits { limits.now ≡ space_limits space.now }
@@ -137,16 +140,8 @@ impl Worker {
         ensures plays { OnOk result (PlaysNext G.knows (view self.old.desk).kept task self.new) }
     {
         let mut task = task;
-        match draw_message(
-            space,
-            &mut self.desk,
-            &mut task,
-            false,
-            object,
-            method,
-            &held,
-        ) {
-            Ok(number) => {
+        match draw_own(alloc, space, code, &mut self.desk, &mut task, asked)? {
+            Some(number) => {
                 send_letter(
                     space,
                     &mut self.desk,
@@ -166,7 +161,7 @@ impl Worker {
                 self.mind(rt, alloc, space, code, limits, gate, message)?;
                 Ok(())
             }
-            Err(_) => {
+            None => {
                 self.lay_down(task)?;
                 Ok(())
             }
@@ -183,15 +178,16 @@ impl Worker {
         limits: &Limits,
         gate: &G,
         task: Apart<Task>,
+        asked: &mut Option<Ask>,
         object: Object,
         method: u8,
         held: Enclosed,
     ) -> Result<(), AllocError>
         requires none { self.old.task ≡ None }
-        requires rest { IsAtRest space.now (record self.old { task = Some task }) }
         requires room { (view self.old.desk).spent ≡ false }
         requires stock { self.old.spare ≢ None }
-        requires ready { IsReadyTo (space_code space.now) (space_limits space.now) task (Called object method held.first) }
+        requires asked { asked.old ≡ Some (Ask.Call object method held.first) }
+        requires came { (t : TheTask) × HasCome (space_code space.now) (space_limits space.now) t task (Called object method held.first) × IsAtRest space.now (record self.old { task = Some t }) }
         requires twice { held.second ≡ held.first }
         requires code { code.now ≡ space_code space.now }
         requires limits { limits.now ≡ space_limits space.now }
@@ -204,16 +200,8 @@ impl Worker {
         ensures plays { OnOk result (PlaysNext G.knows (view self.old.desk).kept task self.new) }
     {
         let mut task = task;
-        match draw_message(
-            space,
-            &mut self.desk,
-            &mut task,
-            true,
-            object,
-            method,
-            &held,
-        ) {
-            Ok(number) => {
+        match draw_own(alloc, space, code, &mut self.desk, &mut task, asked)? {
+            Some(number) => {
                 send_task(
                     space,
                     &mut self.desk,
@@ -233,7 +221,7 @@ impl Worker {
                 self.mind(rt, alloc, space, code, limits, gate, message)?;
                 Ok(())
             }
-            Err(_) => {
+            None => {
                 self.lay_down(task)?;
                 Ok(())
             }

@@ -6,20 +6,22 @@ ghost use Rattle.chord_base.specs.Story.{IsSound};
 ghost use Rattle.chord_code.specs.declared.parts.Parts.{Parts};
 ghost use Rattle.chord_space.specs.Desks.{view, space_code, space_limits, program_of, IsDeskOf};
 ghost use Rattle.chord_task.specs.declared.task.Task.{Task as TheTask};
-ghost use Rattle.chord_task.specs.Enclosing.{what_of_asked, IsTwice};
-ghost use Rattle.chord_worker.specs.Playing.{IsReadyTo, IsNoMessage};
+ghost use Rattle.chord_task.specs.Turning.{HasCome};
+ghost use Rattle.chord_vm.specs.Frames.{what_of_ask};
+ghost use Rattle.chord_worker.specs.Playing.{IsNoMessage};
 ghost use Rattle.chord_worker.specs.Resting.{IsInMemory, MayContinue, IsAtRest, IsSameRole};
 ghost use Rattle.chord_worker.specs.Stepping.{HasGoneOn, PlaysNoOther, PlaysNext};
 
-use crate::playing::{draw_own, ready_ask, see_to_stock};
+use crate::playing::{draw_own, drop_ask, see_to_stock};
 use crate::worker::{Gate, Worker};
-use chord_base::event::{Limits, What};
+use chord_base::event::Limits;
 use chord_code::code::Code;
 use chord_space::Space;
 use chord_task::apart::Apart;
-use chord_task::asked::Asked;
+use chord_task::enclosed::Enclosed;
 use chord_task::parcel::Parcel;
 use chord_task::task::Task;
+use chord_vm::ask::Ask;
 use std::alloc::{AllocError, Global};
 use std::mem;
 use std::sync::Wait;
@@ -77,15 +79,18 @@ impl Worker {
     /// An ask that is no message becomes an entry.
     pub(crate) fn play_own(
         &mut self,
+        alloc: Global,
         space: &Space<Parcel>,
+        code: &Code,
         task: Apart<Task>,
-        what: &What,
+        asked: &mut Option<Ask>,
     ) -> Result<(), AllocError>
         requires none { self.old.task ≡ None }
-        requires rest { IsAtRest space.now (record self.old { task = Some task }) }
         requires room { (view self.old.desk).spent ≡ false }
-        requires ready { IsReadyTo (space_code space.now) (space_limits space.now) task what.now }
-        requires plain { IsNoMessage what.now }
+        requires code { code.now ≡ space_code space.now }
+        requires some { asked.old ≢ None }
+        requires plain { (a : Ask) → asked.old ≡ Some a → IsNoMessage (what_of_ask a) }
+        requires came { (a : Ask) → asked.old ≡ Some a → (t : TheTask) × HasCome (space_code space.now) (space_limits space.now) t task (what_of_ask a) × IsAtRest space.now (record self.old { task = Some t }) }
         requires sound { IsSound (program_of space.now) }
         ensures desk { IsDeskOf space.now self.new.desk }
         ensures rest { OnOk result (IsAtRest space.now self.new) }
@@ -95,12 +100,12 @@ impl Worker {
         ensures plays { OnOk result (PlaysNoOther task self.new.task) }
     {
         let mut task = task;
-        match draw_own(space, &mut self.desk, &mut task, what) {
-            Ok(_) => {
+        match draw_own(alloc, space, code, &mut self.desk, &mut task, asked)? {
+            Some(_) => {
                 self.settle(task)?;
                 Ok(())
             }
-            Err(_) => {
+            None => {
                 self.lay_down(task)?;
                 Ok(())
             }
@@ -109,7 +114,7 @@ impl Worker {
 }
 
 impl Worker {
-    /// An ask becomes an entry, with what follows from it.
+    /// An ask becomes an entry, with what follows from it. What owns memory is taken out of it.
     fn play<R: Wait, G: Gate>(
         &mut self,
         rt: &R,
@@ -119,14 +124,13 @@ impl Worker {
         limits: &Limits,
         gate: &G,
         task: Apart<Task>,
-        ask: Asked,
+        asked: &mut Option<Ask>,
     ) -> Result<(), AllocError>
         requires none { self.old.task ≡ None }
-        requires rest { IsAtRest space.now (record self.old { task = Some task }) }
         requires room { (view self.old.desk).spent ≡ false }
         requires stock { self.old.spare ≢ None }
-        requires ready { IsReadyTo (space_code space.now) (space_limits space.now) task (what_of_asked ask) }
-        requires twice { IsTwice ask }
+        requires some { asked.old ≢ None }
+        requires came { (a : Ask) → asked.old ≡ Some a → (t : TheTask) × HasCome (space_code space.now) (space_limits space.now) t task (what_of_ask a) × IsAtRest space.now (record self.old { task = Some t }) }
         requires code { code.now ≡ space_code space.now }
         requires limits { limits.now ≡ space_limits space.now }
         requires sound { IsSound (program_of space.now) }
@@ -136,34 +140,38 @@ impl Worker {
         ensures went { OnOk result (HasGoneOn (view self.old.desk).kept task self.new) }
         ensures plays { OnOk result (PlaysNext G.knows (view self.old.desk).kept task self.new) }
     {
-        match ask {
-            Asked::Make(class) => {
-                let what = What::Made(class);
-                self.play_own(space, task, &what)?;
-                Ok(())
-            }
-            Asked::Send(object, method, held) => {
-                self.play_sent(
-                    rt, alloc, space, code, limits, gate, task, object, method, held,
-                )?;
-                Ok(())
-            }
-            Asked::Call(object, method, held) => {
-                self.play_called(
-                    rt, alloc, space, code, limits, gate, task, object, method, held,
-                )?;
-                Ok(())
-            }
-            Asked::Print(text) => {
-                let what = What::Printed(text);
-                self.play_own(space, task, &what)?;
-                Ok(())
-            }
-            Asked::End(end) => {
-                let what = What::Ended(end);
-                self.play_own(space, task, &what)?;
-                Ok(())
-            }
+        match asked {
+            None => unreachable!(),
+            Some(ask) => match ask {
+                Ask::Send(object, method, arguments) => {
+                    let (object, method) = (*object, *method);
+                    let held = Enclosed::twice(alloc, arguments)?;
+                    self.play_sent(
+                        rt, alloc, space, code, limits, gate, task, asked, object, method, held,
+                    )?;
+                    Ok(())
+                }
+                Ask::Call(object, method, arguments) => {
+                    let (object, method) = (*object, *method);
+                    let held = Enclosed::twice(alloc, arguments)?;
+                    self.play_called(
+                        rt, alloc, space, code, limits, gate, task, asked, object, method, held,
+                    )?;
+                    Ok(())
+                }
+                Ask::Make(_) => {
+                    self.play_own(alloc, space, code, task, asked)?;
+                    Ok(())
+                }
+                Ask::Print(_) => {
+                    self.play_own(alloc, space, code, task, asked)?;
+                    Ok(())
+                }
+                Ask::End(_) => {
+                    self.play_own(alloc, space, code, task, asked)?;
+                    Ok(())
+                }
+            },
         }
     }
 
@@ -196,9 +204,15 @@ impl Worker {
             Some(task) => {
                 let mut task = task;
                 see_to_stock(alloc, code, limits, &mut self.spare)?;
-                let ask = ready_ask(alloc, code, limits, &mut task)?;
-                self.play(rt, alloc, space, code, limits, gate, task, ask)?;
-                Ok(())
+                let mut asked = None;
+                (*task.value).come(alloc, code, limits, &mut asked)?;
+                let played = self.play(rt, alloc, space, code, limits, gate, task, &mut asked);
+                if played.is_err() {
+                    drop_ask(&mut asked);
+                }
+                // what owns memory was taken out of it, so that there is nothing to drop
+                mem::forget(asked);
+                played
             }
         }
     }

@@ -1,64 +1,41 @@
-use Rattle.std.proofs.Common.{◌≡◌, ℕ, ◌∷◌, inl, refl, subst, ◌∙◌}
-use Rattle.chord_space.specs.Desks.{space_code, space_limits}
-use Rattle.chord_rule.specs.Kinds.{entry}
-use Rattle.chord_task.specs.Standing.{view_of, MayNote}
-use Rattle.chord_worker.proofs.Given.{may_draw, noted_stays, noted_above, asks_next, one_top}
-use Rattle.chord_worker.proofs.Memory.{noted}
+use Rattle.std.proofs.Common.{◌≡◌, inl, subst, ◌∙◌}
+use Rattle.chord_space.specs.Desks.{view, space_code, space_limits}
+use Rattle.chord_task.specs.Turning.{HasSettled}
+use Rattle.chord_vm.specs.declared.ask.Ask.{Ask}
+use Rattle.chord_vm.specs.Frames.{what_of_ask}
+use Rattle.chord_worker.proofs.Given.{some_ask, only_ask, came_runs, may_draw, may_settle, noted_as}
 use Rattle.chord_worker.proofs.playing.draw_own.Goals as goal
 
-pub draw-requires-clause-next : goal.draw-requires-clause-next
-draw-requires-clause-next c = inl (c.requires.ready.next.own, may_draw _ _ _ _ _ c.requires.memory.1 _ c.requires.ready _ (rw (c.deref.ensures ∙ c.task.view_is) at c.top_number-body.ensures))
+pub top_number-body-requires : goal.top_number-body-requires
+top_number-body-requires c =
+    let a = some_ask c.args.asked.now c.requires.some in
+    let x = c.requires.came a.0 a.1 in
+    rw (c.deref.ensures ∙ c.task.view_is) (came_runs (space_code c.args.space.now) (space_limits c.args.space.now) x.0 c.args.task.now (what_of_ask a.0) x.1)
 
-pub note-requires : goal.note-requires
-note-requires c =
-    let m = c.requires.memory.1 in
-    let ready = c.requires.ready in
-    let body = c.top_number-body.result in
+pub draw_ask-requires-clause-next : goal.draw_ask-requires-clause-next
+draw_ask-requires-clause-next c = λ a e.
+    let x = c.requires.came a e in
     let top = rw (c.deref.ensures ∙ c.task.view_is) at c.top_number-body.ensures in
-    let below = c.in_ok-number.ensures.above.0 in
-    rw (c.deref_mut.ensures.value ∙ c.task.view_is) (
-      space_code c.args.space.now,
-      space_limits c.args.space.now,
-      m.played.0,
-      record {
-        what = c.args.what.now;
-        gave = ready.gave;
-        reserved = ready.reserved;
-        stays = noted_stays _ _ _ _ _ m _ ready body top c.requires.sound _ below c.in_ok-number.ensures.place;
-        above = noted_above _ _ _ _ _ m _ ready body top c.requires.sound _ below c.in_ok-number.ensures.place;
-      },
-    )
+    inl (x.1.next.own, may_draw (space_code c.args.space.now) (space_limits c.args.space.now) x.0 c.args.task.now (what_of_ask a) x.1 c.top_number-body.result top (view c.args.desk.now).kept x.2 x.3)
 
-pub returns-clause-drawn : goal.returns-clause-drawn
-returns-clause-drawn c =
-    let m = c.requires.memory.1 in
-    let ready = c.requires.ready in
-    let body = c.top_number-body.result in
+pub settle-requires-clause-asked : goal.settle-requires-clause-asked
+settle-requires-clause-asked c = λ a e.
+    let x = c.requires.came a e in
+    rw (c.deref_mut.ensures.value ∙ c.task.view_is, c.requires.code) x.1.asked
+
+pub settle-requires-clause-may : goal.settle-requires-clause-may
+settle-requires-clause-may c = λ a e.
+    let x = c.requires.came a e in
     let top = rw (c.deref.ensures ∙ c.task.view_is) at c.top_number-body.ensures in
-    let below = c.in_ok-number.ensures.above.0 in
-    let asks = asks_next _ _ _ _ _ m _ ready body top in
-    let may : MayNote (space_code c.args.space.now) (space_limits c.args.space.now) c.args.task.now c.in_ok-number.number = record {
-      what = c.args.what.now;
-      gave = ready.gave;
-      reserved = ready.reserved;
-      stays = noted_stays _ _ _ _ _ m _ ready body top c.requires.sound _ below c.in_ok-number.ensures.place;
-      above = noted_above _ _ _ _ _ m _ ready body top c.requires.sound _ below c.in_ok-number.ensures.place;
-    } in
-    let noting = rw (c.deref_mut.ensures.value ∙ c.task.view_is) at c.note.ensures in
-    let said = noting (space_code c.args.space.now) (space_limits c.args.space.now) m.played.0 may in
-    let past = subst (λ (k : ℕ). (view_of c.note.new.self).past ≡ entry c.in_ok-number.number k c.args.what.now ∷ (view_of c.args.task.now).past) (one_top (view_of c.args.task.now).top said.1.0 body said.1.1 top) said.1.2 in (
-      c.in_ok-number.ensures.drawn.0,
-      record {
-        body = body;
-        on_top = top;
-        asks = asks;
-        drawn = c.in_ok-number.ensures.drawn.1;
-        below = below;
-        task = said.0;
-        past = past;
-        top = λ e. said.2 e ∙ top;
-        memory = λ spent done k. noted _ _ _ spent done _ k _ _ _ below ready.next.own asks _ said.0 past;
-        named = c.in_ok-number.ensures.above.1;
-        of_code = c.in_ok-number.ensures.code refl;
-      },
-    )
+    let d = c.in-Ok.ensures.drawn a e in
+    rw (c.deref_mut.ensures.value ∙ c.task.view_is, c.requires.code)
+    (may_settle (space_code c.args.space.now) (space_limits c.args.space.now) x.0 c.args.task.now (what_of_ask a) x.1 c.top_number-body.result top (view c.args.desk.now).kept x.2 x.3 c.requires.sound c.in-Ok.number d.below d.place)
+
+pub returns-in_ok-settle-in-Ok-clause-noted : goal.returns-in_ok-settle-in-Ok-clause-noted
+returns-in_ok-settle-in-Ok-clause-noted c = λ a t e came.
+    let top = rw (c.deref.ensures ∙ c.task.view_is) at c.top_number-body.ensures in
+    let d = c.in-Ok.ensures.drawn a e in
+    let x = rw (c.deref_mut.ensures.value ∙ c.task.view_is, c.requires.code) at c.in_ok-settle-in-Ok.ensures in
+    noted_as (space_code c.args.space.now) (space_limits c.args.space.now) t c.args.task.now (what_of_ask a) came c.top_number-body.result top (view c.args.desk.now) (view c.draw_ask.new.desk) c.in-Ok.number c.settle.new.self
+    d.drawn d.below d.named d.of_code
+    (subst (λ (b : Ask). HasSettled (space_code c.args.space.now) c.args.task.now c.in-Ok.number (what_of_ask b) c.settle.new.self) (only_ask c.args.asked.now x.0 a x.1 e) x.2)

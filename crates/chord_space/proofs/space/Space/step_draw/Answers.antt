@@ -24,7 +24,7 @@ use Rattle.chord_space.proofs.space.Space.step_draw.Goals as goal
 
 pub fetch_add-requires : goal.fetch_add-requires
 fetch_add-requires g c = let sized = c.args.self.now.sized in let key = c.args.self.now.table.shared.key in let p = code_program key.code.value key.limits in let said = c.requires.entry in let seat = c.args.desk.now.seat in let live = c.args.desk.now.settled.6 in
-    let keeps : g.row.P.Denot → Type 0 = λ q. g.P.Carry.keeps_to q key.code.value key.limits in let n : ℕ = key.limits.events in let body : ℕ = c.args.body in let what = c.args.what.now in
+    let keeps : g.row.P.Denot → Type 0 = λ q. g.P.Carry.keeps_to q key.code.value key.limits in let n : ℕ = key.limits.events in let body : ℕ = c.args.body in let what = g.A.AsEntry.what c.args.said.now in
     let may : ℕ → What → Type 0 = λ b w. Allows (Held g.P.Carry.entries g.P.Carry.arguments keeps p n (widest key.code.value)) n seat.id seat.me 0 (λ x. (x + 1) % 2 ^ 64) (draws p b w (step n 0 1 0 none) seat.me) in
     let own : IsOwn what × Asks p seat.me.0.kept body what → may body what = λ next. draw_step g.P.Carry.entries g.P.Carry.arguments keeps p n _ (omega arith) (omega arith) seat.id seat.me body what live c.requires.room next.0 next.1 in
     let begun : (what ≡ Begun) × (body ≡ 0) × (seat.me.0.first ≡ true) × (seat.me.0.drawn ≡ false) × (seat.me.0.splits ≡ 0) → may body what = λ first.
