@@ -13,3 +13,5 @@ pub mod Turning
 pub mod Gathering
 -- an ask with the arguments for a parcel
 pub mod Enclosing
+-- where the arguments of a parcel lie
+pub mod Contents
