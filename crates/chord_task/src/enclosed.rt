@@ -5,7 +5,8 @@ ghost use Rattle.std.specs.Prelude.{◌≡◌, ◌==◌, [], IfOk, length};
 
 use crate::apart::Apart;
 use crate::args::Args;
-use chord_base::value::{Object, Value, Values};
+use crate::lone::{LoneNumber, LoneObject};
+use chord_base::value::{Value, Values};
 use std::alloc::{AllocError, Global};
 use std::marker::Model;
 
@@ -22,9 +23,9 @@ pub(crate) enum Contents {
     /// There is none.
     Nothing,
     /// A number alone, in the parcel.
-    Number(i32),
+    Number(LoneNumber),
     /// An object alone, in the parcel.
-    Object(Object),
+    Object(LoneObject),
     /// Others, twice in memory.
     Apart(Apart<Args>),
 }
@@ -73,8 +74,8 @@ impl Enclosed {
     {
         let contents = match values.items() {
             [] => Contents::Nothing,
-            [Value::Int(number)] => Contents::Number(*number),
-            [Value::Ref(object)] => Contents::Object(*object),
+            [Value::Int(number)] => Contents::Number(LoneNumber::of(number)),
+            [Value::Ref(object)] => Contents::Object(LoneObject::of(object)),
             _ => Contents::Apart(apart(alloc, values)?),
         };
         Ok(Enclosed { contents })
@@ -102,14 +103,20 @@ impl Enclosed {
                 first: Values::none(),
                 second: Values::none(),
             },
-            Contents::Number(number) => Args {
-                first: Values::one(Value::Int(number)),
-                second: Values::one(Value::Int(number)),
-            },
-            Contents::Object(object) => Args {
-                first: Values::one(Value::Ref(object)),
-                second: Values::one(Value::Ref(object)),
-            },
+            Contents::Number(number) => {
+                let number = number.number();
+                Args {
+                    first: Values::one(Value::Int(number)),
+                    second: Values::one(Value::Int(number)),
+                }
+            }
+            Contents::Object(object) => {
+                let object = object.object();
+                Args {
+                    first: Values::one(Value::Ref(object)),
+                    second: Values::one(Value::Ref(object)),
+                }
+            }
             Contents::Apart(args) => args.into_inner(),
         }
     }

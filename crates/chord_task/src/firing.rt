@@ -105,7 +105,8 @@ impl Task {
                 };
                 self.resume_on(code, number, chord, object, members, none);
             }
-            Contents::Number(value) => {
+            Contents::Number(lone) => {
+                let value = lone.number();
                 let one = Args {
                     first: Values::one(Value::Int(value)),
                     second: Values::one(Value::Int(value)),
