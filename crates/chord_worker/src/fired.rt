@@ -214,14 +214,7 @@ fn begin_body(
     match &arguments.more {
         None => {
             let one = mem::replace(&mut arguments.one, Enclosed::nothing());
-            task.resume_one(
-                code,
-                drawn.number,
-                drawn.chord,
-                drawn.object,
-                members,
-                one,
-            );
+            task.resume_one(code, drawn.number, drawn.chord, drawn.object, members, one);
         }
         Some(_) => begin_with_several(task, code, drawn, members, arguments),
     }
