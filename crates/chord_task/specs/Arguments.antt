@@ -4,11 +4,6 @@ use Rattle.std.specs.Global.{Global}
 use Rattle.chord_base.specs.declared.value.Value.{Value}
 use Rattle.chord_task.specs.declared.args.Args.{Args}
 
--- what a parcel encloses: the arguments of its message, or none
-abbrev pub enclosed : Option Args → Args
-enclosed None = record { first = []; second = [] }
-enclosed (Some a) = a
-
 -- the arguments for the entry of a firing, message by message
 abbrev pub for_entry : List Args → List (List Value)
 for_entry [] = []

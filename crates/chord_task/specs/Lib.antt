@@ -11,3 +11,5 @@ pub mod Parcels
 pub mod Turning
 -- what was gathered from the parcels of a firing
 pub mod Gathering
+-- where the arguments of a parcel lie
+pub mod Contents

@@ -1,55 +1,84 @@
-//! The arguments that a parcel encloses: in memory of their own, where there are some.
+//! The arguments that a parcel encloses: in its own place, or in memory of their own.
 #![tactic(auto)]
 
 ghost use Rattle.std.specs.Prelude.{◌≡◌, ◌==◌, [], IfOk, length};
 
 use crate::apart::Apart;
 use crate::args::Args;
-use chord_base::value::Values;
+use crate::lone::{LoneNumber, LoneObject};
+use chord_base::value::{Value, Values};
 use std::alloc::{AllocError, Global};
 use std::marker::Model;
 
-/// The arguments of a message as its parcel has them. They lie apart, so that a slot of the shared table is small: a table has
-/// one for each entry that a run may have, and few of them are in use. Contracts see the arguments.
+/// The arguments of a message as its parcel has them, in two words, so that a slot of the shared table is small: a table has one for
+/// each entry that a run may have, and few of them are in use. Contracts see the arguments.
 #[derive(Drop)]
 pub struct Enclosed {
-    args: Option<Apart<Args>>,
+    pub(crate) contents: Contents,
+}
+
+/// Where the arguments of a parcel lie.
+#[derive(Drop)]
+pub(crate) enum Contents {
+    /// There is none.
+    Nothing,
+    /// A number alone, in the parcel.
+    Number(LoneNumber),
+    /// An object alone, in the parcel.
+    Object(LoneObject),
+    /// Others, twice in memory.
+    Apart(Apart<Args>),
 }
 
 impl Model for Enclosed {
     ghost use Rattle.chord_task.specs.declared.args.Args as pair;
-    ghost use Rattle.chord_task.specs.Arguments.{enclosed};
+    ghost use Rattle.chord_task.specs.Contents.{enclosed};
 
     ghost Value = { pair.Args };
 
-    ghost view = { λ e. enclosed e.args };
+    ghost view = { λ e. enclosed e.contents };
+}
+
+/// Copies of these values, twice in memory.
+#[inline(never)]
+fn apart(alloc: Global, values: &Values) -> Result<Apart<Args>, AllocError>
+    ensures first { IfOk result (λ a. a.first ≡ values.now) }
+    ensures second { IfOk result (λ a. a.second ≡ values.now) }
+{
+    let first = values.copied(alloc)?;
+    let second = values.copied(alloc)?;
+    Apart::new(alloc, Args { first, second })
 }
 
 impl Enclosed {
     /// No arguments. Takes no memory.
+    #[inline(always)]
     pub fn nothing() -> Enclosed
         ensures first { result.first ≡ [] }
         ensures second { result.second ≡ [] }
     {
-        Enclosed { args: None }
+        Enclosed {
+            contents: Contents::Nothing,
+        }
     }
 
-    /// Copies of these values, twice.
+    /// Copies of these values, twice. A number or an object alone takes no memory.
     ///
     /// # Errors
     ///
     /// `AllocError` where no memory is found.
+    #[inline(always)]
     pub fn twice(alloc: Global, values: &Values) -> Result<Enclosed, AllocError>
         ensures first { IfOk result (λ e. e.first ≡ values.now) }
         ensures second { IfOk result (λ e. e.second ≡ values.now) }
     {
-        if values.items().is_empty() {
-            return Ok(Enclosed::nothing());
-        }
-        let first = values.copied(alloc)?;
-        let second = values.copied(alloc)?;
-        let args = Apart::new(alloc, Args { first, second })?;
-        Ok(Enclosed { args: Some(args) })
+        let contents = match values.items() {
+            [] => Contents::Nothing,
+            [Value::Int(number)] => Contents::Number(LoneNumber::of(number)),
+            [Value::Ref(object)] => Contents::Object(LoneObject::of(object)),
+            _ => Contents::Apart(apart(alloc, values)?),
+        };
+        Ok(Enclosed { contents })
     }
 
     /// Whether the message has no values.
@@ -57,9 +86,11 @@ impl Enclosed {
     pub fn has_none(&self) -> bool
         ensures { result ≡ (length self.now.first == 0) }
     {
-        match &self.args {
-            None => true,
-            Some(args) => args.value.first.items().is_empty(),
+        match &self.contents {
+            Contents::Nothing => true,
+            Contents::Number(_) => false,
+            Contents::Object(_) => false,
+            Contents::Apart(args) => args.value.first.items().is_empty(),
         }
     }
 
@@ -67,12 +98,26 @@ impl Enclosed {
     pub fn into_args(self) -> Args
         ensures { result ≡ self }
     {
-        match self.args {
-            None => Args {
+        match self.contents {
+            Contents::Nothing => Args {
                 first: Values::none(),
                 second: Values::none(),
             },
-            Some(args) => args.into_inner(),
+            Contents::Number(number) => {
+                let number = number.number();
+                Args {
+                    first: Values::one(Value::Int(number)),
+                    second: Values::one(Value::Int(number)),
+                }
+            }
+            Contents::Object(object) => {
+                let object = object.object();
+                Args {
+                    first: Values::one(Value::Ref(object)),
+                    second: Values::one(Value::Ref(object)),
+                }
+            }
+            Contents::Apart(args) => args.into_inner(),
         }
     }
 }

@@ -9,17 +9,19 @@ ghost use Rattle.chord_task.specs.Stacks.{task_begun};
 ghost use Rattle.chord_task.specs.Standing.{view_of, IsTaskOf, MayResume};
 
 use crate::args::Args;
+use crate::enclosed::{Contents, Enclosed};
 use crate::gathered::{Gathered, all_args};
 use crate::task::{Task, depth_over, line_of, put_on_top};
 use chord_base::event::{Entry, What};
 use chord_base::members::Members;
-use chord_base::value::{Object, Value};
+use chord_base::value::{Object, Value, Values};
 use chord_code::code::Code;
 use chord_vm::frames::begin_moved;
 
 impl Task {
-    /// Puts the body of a firing on top, of whose messages one alone has values, or none. Takes no memory.
-    pub fn resume_one(
+    /// Puts the body of a firing on top, with the values for its entry and those for its slots. Takes no memory.
+    #[inline(always)]
+    fn resume_on(
         &mut self,
         code: &Code,
         number: u32,
@@ -54,6 +56,70 @@ impl Task {
         }
     }
 
+    /// As `resume_one`, whatever the arguments are.
+    #[inline(never)]
+    fn resume_any(
+        &mut self,
+        code: &Code,
+        number: u32,
+        chord: u16,
+        object: Object,
+        members: &Members,
+        arguments: Enclosed,
+    )
+        requires task { IsTaskOf code.now self.old.limits self.old }
+        requires may { MayResume code.now self.old.limits self.old number chord object members.now arguments.first }
+        requires twice { arguments.second ≡ arguments.first }
+        ensures task { IsTaskOf code.now self.old.limits self.new }
+        ensures past { task_begun (view_of self.old) number chord object members.now arguments.first (view_of self.new) }
+        ensures top { (view_of self.new).top ≡ Some number }
+    {
+        let arguments = arguments.into_args();
+        self.resume_on(code, number, chord, object, members, arguments);
+    }
+
+    /// Puts the body of a firing on top, of whose messages one alone has values, or none. Takes no memory. A number alone is written
+    /// where it comes to stand.
+    #[inline(always)]
+    pub fn resume_one(
+        &mut self,
+        code: &Code,
+        number: u32,
+        chord: u16,
+        object: Object,
+        members: &Members,
+        arguments: Enclosed,
+    )
+        requires task { IsTaskOf code.now self.old.limits self.old }
+        requires may { MayResume code.now self.old.limits self.old number chord object members.now arguments.first }
+        requires twice { arguments.second ≡ arguments.first }
+        ensures task { IsTaskOf code.now self.old.limits self.new }
+        ensures past { task_begun (view_of self.old) number chord object members.now arguments.first (view_of self.new) }
+        ensures top { (view_of self.new).top ≡ Some number }
+    {
+        match arguments.contents {
+            Contents::Nothing => {
+                let none = Args {
+                    first: Values::none(),
+                    second: Values::none(),
+                };
+                self.resume_on(code, number, chord, object, members, none);
+            }
+            Contents::Number(lone) => {
+                let value = lone.number();
+                let one = Args {
+                    first: Values::one(Value::Int(value)),
+                    second: Values::one(Value::Int(value)),
+                };
+                self.resume_on(code, number, chord, object, members, one);
+            }
+            contents => {
+                let arguments = Enclosed { contents };
+                self.resume_any(code, number, chord, object, members, arguments);
+            }
+        }
+    }
+
     /// As `resume`, with what was gathered from the firing's parcels.
     pub fn resume_gathered(
         &mut self,
@@ -74,7 +140,7 @@ impl Task {
     {
         let Gathered { one, more } = arguments;
         match more {
-            None => self.resume_one(code, number, chord, object, members, one.into_args()),
+            None => self.resume_any(code, number, chord, object, members, one),
             Some(several) => {
                 self.resume(code, number, chord, object, members, all_args(several))
             }

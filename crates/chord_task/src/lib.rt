@@ -13,6 +13,7 @@ pub mod cross;
 pub mod enclosed;
 pub mod firing;
 pub mod gathered;
+mod lone;
 pub mod parcel;
 pub mod pasts;
 pub mod task;

@@ -69,7 +69,7 @@ fn keep_task(place: &mut Option<Apart<Task>>, task: Option<Apart<Task>>)
     }
 }
 
-/// As `gather`, where several messages have values, or one without values comes after one with values.
+/// As `gather`, where several messages have values.
 #[inline(never)]
 fn gather_more(to: &mut Gathered, arguments: Enclosed)
     requires room { (all : List TheArgs) × AreGathered to.old.one to.old.more all × (length all < 8) }
@@ -97,6 +97,9 @@ fn gather(to: &mut Gathered, arguments: Enclosed)
         None => {
             if to.one.has_none() {
                 put_arguments(&mut to.one, arguments);
+                return;
+            }
+            if arguments.has_none() {
                 return;
             }
         }
@@ -211,14 +214,7 @@ fn begin_body(
     match &arguments.more {
         None => {
             let one = mem::replace(&mut arguments.one, Enclosed::nothing());
-            task.resume_one(
-                code,
-                drawn.number,
-                drawn.chord,
-                drawn.object,
-                members,
-                one.into_args(),
-            );
+            task.resume_one(code, drawn.number, drawn.chord, drawn.object, members, one);
         }
         Some(_) => begin_with_several(task, code, drawn, members, arguments),
     }

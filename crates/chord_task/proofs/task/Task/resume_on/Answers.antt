@@ -11,7 +11,7 @@ use Rattle.chord_vm.specs.declared.frames.Frames.{Frames}
 use Rattle.chord_task.specs.Standing.{room_of}
 use Rattle.chord_task.proofs.Standing.{entry}
 use Rattle.chord_task.proofs.Resuming.{opening, task_resumed, spacious_at, put_below, waits_below, begun_with}
-use Rattle.chord_task.proofs.task.Task.resume_one.Goals as goal
+use Rattle.chord_task.proofs.task.Task.resume_on.Goals as goal
 
 pub line_of-requires : goal.line_of-requires
 line_of-requires c =
