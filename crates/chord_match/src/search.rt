@@ -183,7 +183,6 @@ fn through<P: Carry>(
     requires desk { IsDeskOf space.now desk.old }
     requires bounds { (object.number < space.now.events) × (object.class < 1024) }
     requires searching { (v : View) × Searching space.now.events v (view desk.old) object own.now (all_told known.old) }
-    requires none { (members.old ≡ []) × (nexts.old ≡ []) }
     requires lines { (length lines.now ≤ 256) × ((k : ℕ) (js : List ℕ) → slice_get (map methods_of lines.now) k ≡ Some js → ((j : ℕ) → has j js ≡ true → j < heads space.now) × (length js ≤ 8)) }
     ensures desk { IsSameDesk desk.old desk.new }
     ensures through { (v : View) → Searching space.now.events v (view desk.old) object own.now (all_told known.old) → IsThrough space.now.events v (view desk.new) object own.now (map methods_of lines.now) (all_told known.new) members.new nexts.new result }
@@ -192,13 +191,11 @@ fn through<P: Carry>(
     for at in 0..lines.len() {
         let methods = lines[at].methods.items();
         if has_method(methods, own.method) {
+            *members = Members::new();
+            *nexts = Nexts::new();
             match gather(space, desk, object, own, methods, known, members, nexts) {
                 Step::All => return Verdict::Match(at as u16),
-                Step::Stuck(more) => {
-                    busy = first(busy, more);
-                    *members = Members::new();
-                    *nexts = Nexts::new();
-                }
+                Step::Stuck(more) => busy = first(busy, more),
             }
         }
     }
@@ -242,8 +239,6 @@ pub fn find<P: Carry>(
     ensures desk { IsSameDesk desk.old desk.new }
     ensures finding { IsFinding (program_of space.now) space.now.events (view desk.old) (view desk.new) m object method members.new nexts.new result }
 {
-    *members = Members::new();
-    *nexts = Nexts::new();
     let mut known = [Note::Nothing; 16];
     let word = space.look_cell(desk, m);
     match word.cell {

@@ -15,7 +15,7 @@ ghost use Rattle.chord_space.specs.Desks.{view, space_code, space_limits, progra
 use crate::plays::{Consume, GiveBack, Governed, Hold, ReturnSlot, Take};
 use crate::space::{Desk, Space};
 use chord_code::carry::Carry;
-use chord_word::{Cell, Word, pack, unpack_cell, unpack_next};
+use chord_word::{Cell, Word, pack, unpack_cell};
 use std::marker::Brand;
 
 /// The word of a message's cell.
@@ -24,6 +24,23 @@ pub(crate) fn message_word(cell: Cell, next: Option<u32>) -> u64
     ensures { result ≡ word cell next }
 {
     pack(&Word { cell, next })
+}
+
+// The word of a claimed message, once its claim is given back: the states of a pending, a claimed and a consumed message are three
+// numbers in a row in the lowest bits of a word, and the next stays.
+fn pending_again(claimed: u64) -> u64
+    requires claimed { (next : Option ℕ) × (claimed ≡ word Claimed next) × WordFits (a_word Claimed next) }
+    ensures { (next : Option ℕ) → claimed ≡ word Claimed next → result ≡ word Pending next }
+{
+    claimed - 1
+}
+
+// The word of a claimed message, once it is consumed.
+fn consumed_of(claimed: u64) -> u64
+    requires claimed { (next : Option ℕ) × (claimed ≡ word Claimed next) × WordFits (a_word Claimed next) }
+    ensures { (next : Option ℕ) → claimed ≡ word Claimed next → result ≡ word Consumed next }
+{
+    claimed + 1
 }
 
 impl<P: Carry> Space<P> {
@@ -55,21 +72,18 @@ impl<P: Carry> Space<P> {
         Err(unpack_cell(found).cell)
     }
 
-    // The next of a message that the desk has claimed: nobody else changes its cell.
-    fn claimed_next(&self, desk: &mut Desk<P>, i: u32) -> Option<u32>
+    // The word of a message that the desk has claimed: nobody else changes its cell.
+    fn claimed_word(&self, desk: &mut Desk<P>, i: u32) -> u64
         requires desk { IsDeskOf self.now desk.old }
         requires bounds { i < self.now.events }
         requires claimed { HasClaimOn i (view desk.old).claims }
         ensures desk { IsSameDesk desk.old desk.new × (view desk.new ≡ view desk.old) }
-        ensures next { (c : Claim) → HasThe c (view desk.old).claims → c.number ≡ i → result ≡ c.next }
-        ensures fits { WordFits (a_word Claimed result) }
+        ensures word { (c : Claim) → HasThe c (view desk.old).claims → c.number ≡ i → (result ≡ word Claimed c.next) × WordFits (a_word Claimed c.next) }
         ensures one { (c d : Claim) → HasThe c (view desk.old).claims → HasThe d (view desk.old).claims → c.number ≡ i → d.number ≡ i → c ≡ d }
     {
-        let found = self
-            .table
+        self.table
             .shared
-            .load::<Hold>(&mut desk.seat, 1 + i as usize);
-        unpack_next(found)
+            .load::<Hold>(&mut desk.seat, 1 + i as usize)
     }
 
     /// Gives back the claim on message i, with which no firing was drawn: its word is what it was before the claim.
@@ -82,14 +96,14 @@ impl<P: Carry> Space<P> {
         ensures desk { IsSameDesk desk.old desk.new }
         ensures given { (c : Claim) → HasThe c (view desk.old).claims → c.number ≡ i → view desk.new ≡ saw (unclaimed (view desk.old) i) i (a_word Pending c.next) }
     {
-        let next = self.claimed_next(desk, i);
-        let word = message_word(Cell::Pending, next);
+        let claimed = self.claimed_word(desk, i);
+        let word = pending_again(claimed);
         self.table
             .shared
             .store::<GiveBack>(&mut desk.seat, 1 + i as usize, word);
     }
 
-    // The first load reads the next, and the last one gives the empty slot back.
+    // The first load reads the word, and the last one gives the empty slot back.
     fn step_consume<J: Governed>(&self, desk: &mut Desk<P>, i: u32) -> P
         requires governed { (J.parts ≡ space_code self.now) × (J.limits ≡ space_limits self.now) }
         requires desk { IsDeskOf self.now desk.old }
@@ -102,8 +116,8 @@ impl<P: Carry> Space<P> {
         ensures comes { (c : Claim) → HasThe c (view desk.old).claims → c.number ≡ i → ComesWithMessage (program_of self.now) (view desk.old).kept c (P.entries result) }
         ensures task { P.keeps_to result (space_code self.now) (space_limits self.now) }
     {
-        let next = self.claimed_next(desk, i);
-        let word = message_word(Cell::Consumed, next);
+        let claimed = self.claimed_word(desk, i);
+        let word = consumed_of(claimed);
         let words = &self.table.shared;
         words.store::<Consume<P, J>>(&mut desk.seat, 1 + i as usize, word);
         let parcel = words.exchange(&mut desk.seat, i as usize, None);
