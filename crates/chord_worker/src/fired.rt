@@ -69,7 +69,7 @@ fn keep_task(place: &mut Option<Apart<Task>>, task: Option<Apart<Task>>)
     }
 }
 
-/// As `gather`, where several messages have values.
+/// As `gather`, where several messages have values, or one without values comes after one with values.
 #[inline(never)]
 fn gather_more(to: &mut Gathered, arguments: Enclosed)
     requires room { (all : List TheArgs) × AreGathered to.old.one to.old.more all × (length all < 8) }
@@ -97,9 +97,6 @@ fn gather(to: &mut Gathered, arguments: Enclosed)
         None => {
             if to.one.has_none() {
                 put_arguments(&mut to.one, arguments);
-                return;
-            }
-            if arguments.has_none() {
                 return;
             }
         }
