@@ -97,7 +97,7 @@ down_rests p v w m k c is down t =
     moved = rw down refl
 
 -- of a bag nothing is known
-abbrev pub nothing : Option Sought
+abbrev nothing : Option Sought
 nothing = None
 
 -- so of each bag at first

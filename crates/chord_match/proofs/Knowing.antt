@@ -152,12 +152,15 @@ module _ (n : ℕ) where
     first_sought : (s : Sought) (p : Pick) → Picked n v u w o own j known (slice_set known j (Some s)) p → PickedFirst n v u w o own j known p
     first_sought s p r = record { after = slice_set known j (Some s); long = length-set known j (Some s); others = λ q no. get_or-set_other known j q (Some s) None no; picked = r }
 
+    -- a member was found
     pub first_found : (i : ℕ) (next : Option ℕ) → IsSought n (key o j) u w (Found i next) → PickedFirst n v u w o own j known (a_pick.Take i next)
     first_found i next f = first_sought (Found i next) (a_pick.Take i next) (picked_found v u w o own j known (slice_set known j (Some (Found i next))) i next ne (learned_now u w o j known (Found i next) e low f) t)
 
+    -- the bag was bare
     pub first_bare : IsSought n (key o j) u w Bare → PickedFirst n v u w o own j known (a_pick.Stuck None)
     first_bare f = first_sought Bare (a_pick.Stuck None) (picked_bare v u w o own j known (slice_set known j (Some Bare)) ne (learned_now u w o j known Bare e low f) t)
 
+    -- a message was in another hand
     pub first_busy : (i : ℕ) → IsSought n (key o j) u w (Busy i) → PickedFirst n v u w o own j known (a_pick.Stuck (Some i))
     first_busy i f = first_sought (Busy i) (a_pick.Stuck (Some i)) (picked_busy v u w o own j known (slice_set known j (Some (Busy i))) i ne (learned_now u w o j known (Busy i) e low f) t)
 
