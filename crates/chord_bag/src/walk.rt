@@ -81,6 +81,7 @@ fn tidy<P: Carry>(
 ///
 /// Messages of one kind in a bag of their own, claimed by an exchange where they stand, are from Turon and Russo, "Scalable Join
 /// Patterns" (OOPSLA 2011); there the bag is a queue that is walked in the same way.
+#[inline(always)]
 pub fn seek<P: Carry>(space: &Space<P>, desk: &mut Desk<P>, object: Object, method: u8) -> Sought
     requires desk { IsDeskOf space.now desk.old }
     requires bounds { (object.number < space.now.events) × (object.class < 1024) × (method < heads space.now) }

@@ -1,11 +1,13 @@
 -- The chords of a class that a search went through.
 use Rattle.std.proofs.Common.{zero, suc, map, ◌≤◌, ◌≡◌, ⊎_elim, ℕ, ◌+◌, ◌<◌, true, false, List, [], ◌∷◌, length, slice_get, slice_index_or, refl, sym, ap, ◌∙◌, subst, arith, Option, Some, None}
+use mathlib.Core.Logic.{dite}
+use Rattle.std.proofs.Math.Decide.{dec_lt}
 use Rattle.chord_base.specs.Messages.{has}
 use Rattle.chord_code.specs.declared.parts.ChordLine.{ChordLine}
 use Rattle.chord_code.specs.Meaning.{methods_of}
 use Rattle.chord_bag.specs.declared.walk.Sought.{Sought}
 use Rattle.chord_match.specs.declared.search.Own.{Own}
-use Rattle.chord_match.specs.Searching.{KeepsKnown, IsStuck, AreStuck, firstly}
+use Rattle.chord_match.specs.Searching.{KeepsKnown, IsStuck, AreWithout, AreStuck, firstly}
 use Rattle.chord_match.proofs.Knowing.{stuck_kept}
 use Rattle.chord_match.proofs.Lists.{all_below_more}
 
@@ -42,6 +44,27 @@ are_more own jss n js a busy more here on stuck s = cases busy more stuck s
       (λ q ks l e h. ⊎_elim (λ same. (more, subst (λ (z : List ℕ). IsStuck own z a more) (same_js q ks same e) stuck)) (λ low. s.0 q ks low e h) (all_below_more q n l)),
       (let t = s.1 in (t.0, t.1, let low = t.2 in omega (arith, low), t.3, t.4, t.5)),
     )
+
+-- one chord more is without the method
+pub without_more : (method : ℕ) (jss : List (List ℕ)) (from n : ℕ) (js : List ℕ) → slice_get jss n ≡ Some js → has method js ≡ false → AreWithout method jss from n → AreWithout method jss from (n + 1)
+without_more method jss from n js here off s = λ q ks a b e. ⊎_elim
+    (λ same. let z : Some js ≡ Some ks = sym here ∙ ap (slice_get jss) (sym same) ∙ e in let y : js ≡ ks = cc in subst (λ (x : List ℕ). has method x ≡ false) y off)
+    (λ low. s q ks a low e) (all_below_more q n b)
+
+-- no chord is stuck where none has the method
+pub none_stuck : (own : Own) (jss : List (List ℕ)) (n : ℕ) (a : List (Option Sought)) → AreWithout own.method jss 0 n → AreStuck own jss n a None
+none_stuck own jss n a s = λ q js l e h. let z : false ≡ true = sym (s q js (omega arith) l e) ∙ h in absurd (cc)
+
+-- the chords that are stuck are all where none behind them has the method
+pub all_stuck : (own : Own) (jss : List (List ℕ)) (n m : ℕ) (a : List (Option Sought)) (busy : Option ℕ) → n ≤ m → AreWithout own.method jss n m → AreStuck own jss n a busy → AreStuck own jss m a busy
+all_stuck own jss n m a None most off s = λ q js l e h. before q js l e h
+  where
+    before : (q : ℕ) (js : List ℕ) → q < m → slice_get jss q ≡ Some js → has own.method js ≡ true → IsStuck own js a None
+    before q js l e h = dite (dec_lt q n) (λ low. s q js low e h) (λ high. let z : false ≡ true = sym (off q js (omega (arith, high)) l e) ∙ h in absurd (cc))
+all_stuck own jss n m a (Some i) most off s = ((λ q js l e h. before q js l e h), let t = s.1 in (t.0, t.1, let low = t.2 in omega (arith, low, most), t.3, t.4, t.5))
+  where
+    before : (q : ℕ) (js : List ℕ) → q < m → slice_get jss q ≡ Some js → has own.method js ≡ true → (b : Option ℕ) × IsStuck own js a b
+    before q js l e h = dite (dec_lt q n) (λ low. s.0 q js low e h) (λ high. let z : false ≡ true = sym (off q js (omega (arith, high)) l e) ∙ h in absurd (cc))
 
 -- the methods of the line of this number
 pub chord_line_at : (lines : List ChordLine) (n : ℕ) (line : ChordLine) → line ≡ slice_index_or lines n line → n < length lines → slice_get (map methods_of lines) n ≡ Some (methods_of line)

@@ -101,7 +101,7 @@ abbrev nothing : Option Sought
 nothing = None
 
 -- so of each bag at first
-all_none : (n q : ℕ) → slice_index_or (replicate n nothing) q nothing ≡ nothing
+pub all_none : (n q : ℕ) → slice_index_or (replicate n nothing) q nothing ≡ nothing
 all_none zero q = refl
 all_none (suc n) zero = refl
 all_none (suc n) (suc q) = all_none n q
@@ -131,6 +131,14 @@ claimed_by_another p n v w m o method next Started low is armed alone a b d = ab
 
 -- ## What the verdict says
 
+module _ (n : ℕ) (p : Program) (v w : View) (o : Object) (own : Own) (ms : List ℕ) (xs : List (Option ℕ)) where
+  -- what a verdict says to the caller
+  abbrev pub Tells : Verdict → Type 0
+  Tells (a_verdict.Match k) = IsMatch p n v w own.message o own.method k ms xs
+  Tells (a_verdict.Without None) = IsLeftAnswer p v w own.message o own.method
+      × ((d : Duty) × HasDuty d w.duties × (d.message ≡ own.message) × ((e : Duty) → HasDuty e w.duties → e.message ≡ own.message → e.bag ≡ d.bag → MayRest (IsChord p) e))
+  Tells (a_verdict.Without (Some i)) = IsHeldBy p n v w own.message o own.method i
+
 module _ (n : ℕ) (p : Program) (v w : View) (o : Object) (own : Own) (known : List (Option Sought)) (ms : List ℕ) (xs : List (Option ℕ)) where
   -- the view after the own message was read pending
   abbrev seen : View
@@ -150,15 +158,8 @@ module _ (n : ℕ) (p : Program) (v w : View) (o : Object) (own : Own) (known : 
       let a = told_at n seen w o own known t.stands r.0 a_sought.Bare r.2.1 in
       (record { bag = key o r.0; place = None }, a.says e h, subst (λ (z : Object). HasNumber (key z r.0) ks) (sym same_one.0) (subst (λ (z : List ℕ). HasNumber (key c.0 r.0) z) (sym c.5) (key_has c.0 c.2 r.0 r.1)), (λ z. r.2.0 (key_cancels o r.0 own.method (z ∙ b))), refl))
 
-  -- what a verdict says to the caller
-  abbrev pub Tells : Verdict → Type 0
-  Tells (a_verdict.Match k) = IsMatch p n v w own.message o own.method k ms xs
-  Tells (a_verdict.Without None) = IsLeftAnswer p v w own.message o own.method
-      × ((d : Duty) × HasDuty d w.duties × (d.message ≡ own.message) × ((e : Duty) → HasDuty e w.duties → e.message ≡ own.message → e.bag ≡ d.bag → MayRest (IsChord p) e))
-  Tells (a_verdict.Without (Some i)) = IsHeldBy p n v w own.message o own.method i
-
   -- the first chord with all members is a match; where each has a bare bag, nothing is left to do; else the first message in another hand is told
-  tells : ChordsAreRight p → o.number < 65536 → own.method < 16 → (t : Verdict) → WentThrough t → Tells t
+  tells : ChordsAreRight p → o.number < 65536 → own.method < 16 → (t : Verdict) → WentThrough t → Tells n p v w o own ms xs t
   tells right low few (a_verdict.Match k) t = let r = t.verdict in let d = t.stands.duty in record {
     next = own.next;
     sought = t.stands.sought;
@@ -194,12 +195,13 @@ module _ (n : ℕ) (p : Program) (v w : View) (o : Object) (own : Own) (known : 
       either_way js (Some x) s = inr (x, (held_up n seen w o own known t.stands js x s).0)
 
 -- what the verdict says where m was read pending, and from then on the chords of its object were gone through
-pub told_through : (n : ℕ) (p : Program) (v u w : View) (o : Object) (m method : ℕ) (c : Word) (known : List (Option Sought)) (jss : List (List ℕ)) (ms : List ℕ) (xs : List (Option ℕ)) (t : Verdict)
+pub told_through : (n : ℕ) (p : Program) (v u w : View) (o : Object) (m method : ℕ) (c : Word) (jss : List (List ℕ)) (ms : List ℕ) (xs : List (Option ℕ)) (t : Verdict)
     → ChordsAreRight p → o.number < 65536 → method < 16 → jss ≡ p.chords o.class → IsLook n v u m c → c.cell ≡ Pending → m < n → (d : Duty) × HasDuty d v.duties × (d.message ≡ m) × (d.bag ≡ key o method)
-    → ((z : View) → Searching n z u o (record { message = m; method = method; next = c.next }) (replicate 16 None) → IsThrough n z w o (record { message = m; method = method; next = c.next }) jss known ms xs t)
-    → Tells n p v w o (record { message = m; method = method; next = c.next }) known ms xs t
-told_through n p v u w o m method c known jss ms xs t right low few same look pending below duty goes =
+    → ((z : View) → Searching n z u o (record { message = m; method = method; next = c.next }) (replicate 16 None) → (known : List (Option Sought)) × IsThrough n z w o (record { message = m; method = method; next = c.next }) jss known ms xs t)
+    → Tells n p v w o (record { message = m; method = method; next = c.next }) ms xs t
+told_through n p v u w o m method c jss ms xs t right low few same look pending below duty goes =
     let own : Own = record { message = m; method = method; next = c.next } in
     let read = subst (λ (z : Cell). IsLook n v u m (record { cell = z; next = c.next })) pending look in
-    tells n p v w o own known ms xs right low few t
-    (subst (λ (z : View × List (List ℕ)). IsThrough n z.0 w o own z.1 known ms xs t) (λ i. (read.looked i, same i)) (goes u (stands_read n v u o own read below duty)))
+    let went = goes u (stands_read n v u o own read below duty) in
+    tells n p v w o own went.0 ms xs right low few t
+    (subst (λ (z : View × List (List ℕ)). IsThrough n z.0 w o own z.1 went.0 ms xs t) (λ i. (read.looked i, same i)) went.1)

@@ -1,11 +1,11 @@
 -- What is known of the bags of one object grows while a chord is looked for.
-use Rattle.std.proofs.Common.{◌⊎◌, true, false, ◌==◌, ◌||◌, ◌≡◌, ◌≢◌, inl, inr, ℕ, ◌<◌, List, [], ◌∷◌, ◌++◌, length, append_assoc, append-nil, slice_index_or, slice_set, refl, sym, ap, ◌∙◌, subst, Option, Some, None}
+use Rattle.std.proofs.Common.{◌⊎◌, true, false, ◌==◌, ◌||◌, ◌≡◌, ◌≢◌, inl, inr, ℕ, ◌+◌, ◌<◌, ◌≤◌, List, [], ◌∷◌, ◌++◌, drop, length, append_assoc, append-nil, slice_index_or, slice_set, refl, sym, ap, ◌∙◌, subst, arith, Option, Some, None}
 use mathlib.Core.Path.{Path}
 use mathlib.Core.Logic.{dite}
 use native.Mathlib.Decide.{ℕ_discrete}
 use Rattle.std.proofs.lemmas.Bool.{eq-eqb, eqb-true}
-use Rattle.std.proofs.lemmas.List.{get_or-set_same, get_or-set_other}
-use Rattle.chord_base.specs.Messages.{has}
+use Rattle.std.proofs.lemmas.List.{get_or-set_same, get_or-set_other, length-set}
+use Rattle.chord_base.specs.Messages.{has, AreDifferent}
 use Rattle.chord_base.specs.declared.value.Object.{Object}
 use Rattle.chord_base.proofs.Pending.{has_more}
 use Rattle.chord_base.proofs.Waits.{either}
@@ -17,11 +17,13 @@ use Rattle.chord_bag.specs.Reads.{AllAt}
 use Rattle.chord_bag.specs.Seeking.{IsSought}
 use Rattle.chord_bag.proofs.Turning.{still_alone}
 use Rattle.chord_match.specs.declared.search.Own.{Own}
+use Rattle.chord_match.specs.declared.search.Pick.{Pick}
 use Rattle.chord_match.specs.declared.search.Pick.TheVariants as a_pick
 use Rattle.chord_match.specs.declared.search.Step.{Step}
 use Rattle.chord_match.specs.declared.search.Step.TheVariants as a_step
 use Rattle.chord_match.specs.Seen.{bags_of, Grows, MayAllBeClaimed, AreMatched}
-use Rattle.chord_match.specs.Searching.{SaysOf, WasTold, WasToldIf, Searching, KeepsKnown, Moves, Learned, IsStuckAt, Picked, IsStuck, IsGathered, Gathered}
+use Rattle.chord_match.specs.Searching.{SaysOf, WasTold, WasToldIf, Searching, KeepsKnown, Moves, Learned, IsStuckAt, Picked, PickedFirst, IsStuck, IsGathered, Gathered}
+use Rattle.chord_match.proofs.Lists.{different_at, from_place}
 use Rattle.chord_match.proofs.Growing.{grows_refl, grows_trans, sought_grows, answered_on, seen_on, duty_on, knows_on, ready_on, member_on, key_cancels, found_ready, answered}
 
 -- nothing is forgotten where nothing is done
@@ -141,6 +143,27 @@ module _ (n : ℕ) where
     pub picked_busy : (i : ℕ) → j ≢ own.method → Learned n u w o j known known' (Busy i) → Searching n v u o own known → Picked n v u w o own j known known' (a_pick.Stuck (Some i))
     picked_busy i ne a t = let r = a.told v own t in record { moves = r.moves; picked = (ne, r.here) }
 
+  -- the own message is picked before its bag is sought
+  pub first_own : (v u : View) (o : Object) (own : Own) (j : ℕ) (known : List (Option Sought)) → j ≡ own.method → Searching n v u o own known → PickedFirst n v u u o own j known (a_pick.Take own.message own.next)
+  first_own v u o own j known e t = record { after = known; long = refl; others = λ q ne. refl; picked = picked_own v u o own j known e t }
+
+  module _ (v u w : View) (o : Object) (own : Own) (j : ℕ) (known : List (Option Sought)) (e : slice_index_or known j None ≡ None) (low : j < length known) (ne : j ≢ own.method) (t : Searching n v u o own known) where
+    -- the bag is sought for the first time, and no other
+    first_sought : (s : Sought) (p : Pick) → Picked n v u w o own j known (slice_set known j (Some s)) p → PickedFirst n v u w o own j known p
+    first_sought s p r = record { after = slice_set known j (Some s); long = length-set known j (Some s); others = λ q no. get_or-set_other known j q (Some s) None no; picked = r }
+
+    -- a member was found
+    pub first_found : (i : ℕ) (next : Option ℕ) → IsSought n (key o j) u w (Found i next) → PickedFirst n v u w o own j known (a_pick.Take i next)
+    first_found i next f = first_sought (Found i next) (a_pick.Take i next) (picked_found v u w o own j known (slice_set known j (Some (Found i next))) i next ne (learned_now u w o j known (Found i next) e low f) t)
+
+    -- the bag was bare
+    pub first_bare : IsSought n (key o j) u w Bare → PickedFirst n v u w o own j known (a_pick.Stuck None)
+    first_bare f = first_sought Bare (a_pick.Stuck None) (picked_bare v u w o own j known (slice_set known j (Some Bare)) ne (learned_now u w o j known Bare e low f) t)
+
+    -- a message was in another hand
+    pub first_busy : (i : ℕ) → IsSought n (key o j) u w (Busy i) → PickedFirst n v u w o own j known (a_pick.Stuck (Some i))
+    first_busy i f = first_sought (Busy i) (a_pick.Stuck (Some i)) (picked_busy v u w o own j known (slice_set known j (Some (Busy i))) i ne (learned_now u w o j known (Busy i) e low f) t)
+
   -- a search that went on twice went on
   moves_trans : (v u x w : View) (o : Object) (own : Own) (a b c : List (Option Sought)) → Moves n v u x o own a b → Moves n v x w o own b c → Moves n v u w o own a c
   moves_trans v u x w o own a b c first second = record { stands = second.stands; grows = grows_trans u x w first.grows second.grows; kept = λ q s e. second.kept q s (first.kept q s e) }
@@ -201,3 +224,24 @@ module _ (n : ℕ) where
   -- where no method is left, all are gathered
   pub part_all : (v u x : View) (o : Object) (own : Own) (js rest : List ℕ) (a b : List (Option Sought)) (ms ms' : List ℕ) (xs xs' : List (Option ℕ)) → rest ≡ [] → IsPartGathered v u x o own js rest a b ms ms' xs xs' → Gathered n v u x o own js a b ms ms' xs xs' a_step.All
   part_all v u x o own js rest a b ms ms' xs xs' e t = t.joins x b ms' xs' a_step.All (subst (λ (z : List ℕ). Gathered n v x x o own z b b ms' ms' xs' xs' a_step.All) (sym e) (gathered_none v x o own b ms' xs' t.stands))
+
+  -- while a chord is gathered whose bags were not sought: those of the methods that are left still were not
+  pub record IsFirstGathered (v u x : View) (o : Object) (own : Own) (js : List ℕ) (k : ℕ) (a : List (Option Sought)) (ms ms' : List ℕ) (xs xs' : List (Option ℕ)) : Type 0 where
+    pub known : List (Option Sought)
+    pub long : length known ≡ 16
+    pub left : (q : ℕ) → k ≤ q → q < length js → slice_index_or known (slice_index_or js q 0) None ≡ None
+    pub part : IsPartGathered v u x o own js (drop k js) a known ms ms' xs xs'
+
+  module _ (v u x y : View) (o : Object) (own : Own) (js : List ℕ) (k : ℕ) (low : k < length js) (a : List (Option Sought)) (ms ms' : List ℕ) (xs xs' : List (Option ℕ)) (t : IsFirstGathered v u x o own js k a ms ms' xs xs') where
+    -- and where one method more has its member
+    pub first_more : AreDifferent js → (i : ℕ) (next : Option ℕ) → PickedFirst n v x y o own (slice_index_or js k 0) t.known (a_pick.Take i next) → IsFirstGathered v u y o own js (k + 1) a ms (ms' ++ i ∷ []) xs (xs' ++ next ∷ [])
+    first_more different i next p = record {
+      known = p.after;
+      long = p.long ∙ t.long;
+      left = λ q from l. p.others (slice_index_or js q 0) (λ e. different_at js different k q (omega (arith, from)) l (sym e)) ∙ t.left q (omega (arith, from)) l;
+      part = part_more v u x y o own js (slice_index_or js k 0) (drop k js) (drop (k + 1) js) (from_place js k low) a t.known p.after ms ms' xs xs' t.part i next p.picked;
+    }
+
+    -- where one has none
+    pub first_stuck : (q : Option ℕ) → (p : PickedFirst n v x y o own (slice_index_or js k 0) t.known (a_pick.Stuck q)) → Gathered n v u y o own js a p.after ms ms' xs xs' (a_step.Stuck q)
+    first_stuck q p = part_stuck v u x y o own js (slice_index_or js k 0) (drop k js) (drop (k + 1) js) (from_place js k low) a t.known p.after ms ms' xs xs' t.part q p.picked

@@ -1,5 +1,5 @@
 -- What is known while a chord is looked for.
-use Rattle.std.specs.Prelude.{◌≡◌, ◌≢◌, ℕ, ◌<◌, true, List, ◌++◌, length, slice_get, slice_index_or, Option, Some, None}
+use Rattle.std.specs.Prelude.{◌≡◌, ◌≢◌, ℕ, ◌<◌, ◌≤◌, true, false, List, ◌++◌, length, slice_get, slice_index_or, Option, Some, None}
 use Rattle.chord_base.specs.Messages.{has}
 use Rattle.chord_base.specs.declared.value.Object.{Object}
 use Rattle.chord_rule.specs.declared.view.View.{View}
@@ -84,6 +84,13 @@ pub record Picked (n : ℕ) (v u w : View) (o : Object) (own : Own) (j : ℕ) (k
   pub moves : Moves n v u w o own known known'
   pub picked : IsPicked n v w o own j known' t
 
+-- so for a method whose bag was not sought: of the other bags no more is known
+pub record PickedFirst (n : ℕ) (v u w : View) (o : Object) (own : Own) (j : ℕ) (known : List (Option Sought)) (t : Pick) : Type 0 where
+  pub after : List (Option Sought)
+  pub long : length after ≡ length known
+  pub others : (q : ℕ) → q ≢ j → slice_index_or after q None ≡ slice_index_or known q None
+  pub picked : Picked n v u w o own j known after t
+
 -- one of the methods has no member
 abbrev pub IsStuck : Own → List ℕ → List (Option Sought) → Option ℕ → Type 0
 IsStuck own js known b = (j : ℕ) × (has j js ≡ true) × IsStuckAt own j known b
@@ -102,6 +109,10 @@ pub record Gathered (n : ℕ) (v u w : View) (o : Object) (own : Own) (js : List
 abbrev pub firstly : Option ℕ → Option ℕ → Option ℕ
 firstly (Some i) more = Some i
 firstly None more = more
+
+-- the chords from this number on and below that one do not have the method
+abbrev pub AreWithout : ℕ → List (List ℕ) → ℕ → ℕ → Type 0
+AreWithout method jss from to = (q : ℕ) (js : List ℕ) → from ≤ q → q < to → slice_get jss q ≡ Some js → has method js ≡ false
 
 -- each of the first so many chords with the method is stuck: all by bare bags, or i is in another hand for one of them
 abbrev pub AreStuck : Own → List (List ℕ) → ℕ → List (Option Sought) → Option ℕ → Type 0

@@ -48,7 +48,6 @@ impl<P: Drop> Receive<P> for Hand<P> {
 }
 
 // Takes the parcels of these members.
-#[inline(never)]
 fn hand_out<P: Carry + Drop, H: Receive<P>>(
     space: &Space<P>,
     desk: &mut Desk<P>,

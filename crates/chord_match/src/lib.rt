@@ -5,6 +5,7 @@
 //! Not here: who calls them, and what is done with a firing.
 #![tactic(auto)]
 
+mod alone;
 mod claiming;
 mod handing;
 pub mod nexts;

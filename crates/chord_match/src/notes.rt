@@ -5,7 +5,7 @@ ghost use Rattle.chord_match.specs.Noting.{told_by};
 use chord_bag::Sought;
 
 /// What a walk through a bag came to, or that it was not walked. It is `Option<Sought>` in less room: sixteen of them are cleared
-/// for each search.
+/// for each search of several chords.
 #[derive(Clone, Copy, Drop)]
 pub enum Note {
     /// The bag was not walked.

@@ -1,7 +1,7 @@
 //! For a message that a desk has a duty on, messages are looked for that one chord takes together with it.
-ghost use Rattle.std.specs.Prelude.{◌≡◌, ℕ, ◌<◌, ◌≤◌, ◌+◌, List, [], length, map, slice_get, true, Some, None};
-ghost use Rattle.chord_base.specs.Messages.{has};
-ghost use Rattle.chord_bag.specs.Reads.{IsOnlyLooks};
+ghost use Rattle.std.specs.Prelude.{◌≡◌, ℕ, ◌<◌, ◌≤◌, ◌+◌, List, length, map, replicate, slice_get, true, Option, Some, None};
+ghost use Rattle.chord_base.specs.Messages.{has, AreDifferent};
+ghost use Rattle.chord_bag.specs.declared.walk.Sought.{Sought};
 ghost use Rattle.chord_code.specs.Meaning.{chord_lines, methods_of};
 ghost use Rattle.chord_code.specs.Valid.{IsValid};
 ghost use Rattle.chord_rule.specs.declared.view.View.{View};
@@ -12,8 +12,9 @@ ghost use Rattle.chord_space.specs.Desks.{view, heads, space_code, program_of, I
 ghost use Rattle.chord_word.specs.declared.cells.Cell.TheVariants.{Pending};
 ghost use Rattle.chord_match.specs.Findings.{IsFinding, read_so};
 ghost use Rattle.chord_match.specs.Noting.{all_told};
-ghost use Rattle.chord_match.specs.Searching.{Searching, Learned, Picked, Gathered, IsThrough, firstly};
+ghost use Rattle.chord_match.specs.Searching.{Searching, Learned, Picked, Gathered, AreWithout, IsThrough, firstly};
 
+use crate::alone::gather_one;
 use crate::nexts::Nexts;
 use crate::notes::Note;
 use chord_bag::{Sought, seek};
@@ -50,14 +51,14 @@ pub struct Own {
 
 /// The member for one method, or why there is none: a message in another hand, or a bare bag.
 #[derive(Drop)]
-enum Pick {
+pub(crate) enum Pick {
     Take(u32, Option<u32>),
     Stuck(Option<u32>),
 }
 
 /// Whether there is a member for each method, or why not.
 #[derive(Drop)]
-enum Step {
+pub(crate) enum Step {
     All,
     Stuck(Option<u32>),
 }
@@ -168,38 +169,90 @@ fn has_method(methods: &[u8], method: u8) -> bool
     method == *first || has_method(rest, method)
 }
 
-// The first chord with the message that has its members, and these; the caller's place is filled, since to give them back they would
-// be moved from function to function.
-fn through<P: Carry>(
+// The first of several chords with the message that has its members, and these.
+fn through_several<P: Carry>(
     space: &Space<P>,
     desk: &mut Desk<P>,
     object: Object,
     own: &Own,
     lines: &[ChordLine],
-    known: &mut [Note; 16],
     members: &mut Members,
     nexts: &mut Nexts,
 ) -> Verdict
     requires desk { IsDeskOf space.now desk.old }
     requires bounds { (object.number < space.now.events) × (object.class < 1024) }
-    requires searching { (v : View) × Searching space.now.events v (view desk.old) object own.now (all_told known.old) }
-    requires lines { (length lines.now ≤ 256) × ((k : ℕ) (js : List ℕ) → slice_get (map methods_of lines.now) k ≡ Some js → ((j : ℕ) → has j js ≡ true → j < heads space.now) × (length js ≤ 8)) }
+    requires searching { (v : View) × Searching space.now.events v (view desk.old) object own.now (replicate 16 None) }
+    requires lines { (length lines.now ≤ 256) × ((k : ℕ) (js : List ℕ) → slice_get (map methods_of lines.now) k ≡ Some js → ((j : ℕ) → has j js ≡ true → j < heads space.now) × (length js ≤ 8) × AreDifferent js) }
     ensures desk { IsSameDesk desk.old desk.new }
-    ensures through { (v : View) → Searching space.now.events v (view desk.old) object own.now (all_told known.old) → IsThrough space.now.events v (view desk.new) object own.now (map methods_of lines.now) (all_told known.new) members.new nexts.new result }
+    ensures through { (v : View) → Searching space.now.events v (view desk.old) object own.now (replicate 16 None) → (known : List (Option Sought)) × IsThrough space.now.events v (view desk.new) object own.now (map methods_of lines.now) known members.new nexts.new result }
 {
+    let mut known = [Note::Nothing; 16];
     let mut busy = None;
     for at in 0..lines.len() {
         let methods = lines[at].methods.items();
         if has_method(methods, own.method) {
             *members = Members::new();
             *nexts = Nexts::new();
-            match gather(space, desk, object, own, methods, known, members, nexts) {
+            match gather(
+                space, desk, object, own, methods, &mut known, members, nexts,
+            ) {
                 Step::All => return Verdict::Match(at as u16),
                 Step::Stuck(more) => busy = first(busy, more),
             }
         }
     }
     Verdict::Without(busy)
+}
+
+// The first line from this one on whose chord has the method; where there is none, how many lines there are.
+fn line_with(lines: &[ChordLine], from: usize, method: u8) -> usize
+    requires from { from ≤ length lines.now }
+    ensures place { (from ≤ result) × (result ≤ length lines.now) }
+    ensures skipped { AreWithout method (map methods_of lines.now) from result }
+    ensures here { (js : List ℕ) → slice_get (map methods_of lines.now) result ≡ Some js → has method js ≡ true }
+{
+    for at in from..lines.len() {
+        let methods = lines[at].methods.items();
+        if has_method(methods, method) {
+            return at;
+        }
+    }
+    lines.len()
+}
+
+// The first chord with the message that has its members, and these; the caller's place is filled, since to give them back they would
+// be moved from function to function. Where one chord alone has the method, as most often, nothing is noted.
+fn through<P: Carry>(
+    space: &Space<P>,
+    desk: &mut Desk<P>,
+    object: Object,
+    own: &Own,
+    lines: &[ChordLine],
+    members: &mut Members,
+    nexts: &mut Nexts,
+) -> Verdict
+    requires desk { IsDeskOf space.now desk.old }
+    requires bounds { (object.number < space.now.events) × (object.class < 1024) }
+    requires searching { (v : View) × Searching space.now.events v (view desk.old) object own.now (replicate 16 None) }
+    requires lines { (length lines.now ≤ 256) × ((k : ℕ) (js : List ℕ) → slice_get (map methods_of lines.now) k ≡ Some js → ((j : ℕ) → has j js ≡ true → j < heads space.now) × (length js ≤ 8) × AreDifferent js) }
+    ensures desk { IsSameDesk desk.old desk.new }
+    ensures through { (v : View) → Searching space.now.events v (view desk.old) object own.now (replicate 16 None) → (known : List (Option Sought)) × IsThrough space.now.events v (view desk.new) object own.now (map methods_of lines.now) known members.new nexts.new result }
+{
+    let at = line_with(lines, 0, own.method);
+    if at == lines.len() {
+        return Verdict::Without(None);
+    }
+    let more = line_with(lines, at + 1, own.method);
+    if more < lines.len() {
+        return through_several(space, desk, object, own, lines, members, nexts);
+    }
+    *members = Members::new();
+    *nexts = Nexts::new();
+    let methods = lines[at].methods.items();
+    match gather_one(space, desk, object, own, methods, members, nexts) {
+        Step::All => Verdict::Match(at as u16),
+        Step::Stuck(busy) => Verdict::Without(busy),
+    }
 }
 
 // The chords of a class; of one that is not there, none.
@@ -239,7 +292,6 @@ pub fn find<P: Carry>(
     ensures desk { IsSameDesk desk.old desk.new }
     ensures finding { IsFinding (program_of space.now) space.now.events (view desk.old) (view desk.new) m object method members.new nexts.new result }
 {
-    let mut known = [Note::Nothing; 16];
     let word = space.look_cell(desk, m);
     match word.cell {
         Cell::Pending => {}
@@ -260,7 +312,7 @@ pub fn find<P: Carry>(
         next: word.next,
     };
     let lines = lines_of(code, object.class);
-    match through(space, desk, object, &own, lines, &mut known, members, nexts) {
+    match through(space, desk, object, &own, lines, members, nexts) {
         Verdict::Match(chord) => return Finding::Match(chord),
         Verdict::Without(Some(i)) => return Finding::Busy(i),
         Verdict::Without(None) => {}

@@ -12,7 +12,6 @@ use Rattle.chord_space.specs.Widest.{widest}
 use Rattle.chord_space.proofs.Widths.{chord_within}
 use Rattle.chord_match.specs.declared.search.Verdict.{Verdict}
 use Rattle.chord_match.specs.declared.search.Verdict.TheVariants as a_verdict
-use Rattle.chord_match.specs.Noting.{all_told}
 use Rattle.chord_match.proofs.Chords.{length_mapped}
 use Rattle.chord_match.proofs.Finds.{Tells, told_through, stands_read, down_rests, claimed_by_another}
 use Rattle.chord_match.proofs.search.find.Given.{Over}
@@ -25,7 +24,7 @@ through-requires-clause-lines g c =
     let right = subst (λ (z : Parts). ChordsAreRight (code_program z (space_limits c.args.space.now))) c.requires.code (c.chords_are_right.ensures (space_limits c.args.space.now)) in
     let same : map methods_of lines ≡ p.chords o.class = ap (map methods_of) (c.lines_of-lines.ensures.lines ∙ ap (λ (z : Parts). chord_lines z o.class) c.requires.code) in
     let few = right.few_chords o.class in let mapped = length_mapped lines in let long = ap length same in
-    (omega (arith, few, mapped, long), (λ k js e. let here : slice_get (p.chords o.class) k ≡ Some js = ap (λ (z : List (List ℕ)). slice_get z k) (sym same) ∙ e in ((λ j y. subst (λ (z : Parts). j < widest z) c.requires.code (chord_within c.args.code.now c.lines_of-lines.ensures.valid o.class k j js (ap (λ (z : List ChordLine). slice_get (map methods_of z) k) (sym c.lines_of-lines.ensures.lines) ∙ e) y)), right.few_headers o.class k js here)))
+    (omega (arith, few, mapped, long), (λ k js e. let here : slice_get (p.chords o.class) k ≡ Some js = ap (λ (z : List (List ℕ)). slice_get z k) (sym same) ∙ e in ((λ j y. subst (λ (z : Parts). j < widest z) c.requires.code (chord_within c.args.code.now c.lines_of-lines.ensures.valid o.class k j js (ap (λ (z : List ChordLine). slice_get (map methods_of z) k) (sym c.lines_of-lines.ensures.lines) ∙ e) y)), right.few_headers o.class k js here, right.different o.class k js here)))
 
 pub through-requires-clause-searching : goal.through-requires-clause-searching
 through-requires-clause-searching g c =
@@ -52,7 +51,7 @@ returns-in_default g c =
 -- what the verdict says, since the message was read pending
 module _ (g : Over) (c : After-through g) where
   abbrev Told : Verdict → Type 0
-  Told t = Tells c.args.space.now.events (program_of c.args.space.now) (view c.args.desk.now) (view c.through.new.desk) c.args.object (record { message = c.args.m; method = c.args.method; next = c.look_cell-word.result.next }) (all_told c.through.new.known) c.through.new.members c.through.new.nexts t
+  Told t = Tells c.args.space.now.events (program_of c.args.space.now) (view c.args.desk.now) (view c.through.new.desk) c.args.object (record { message = c.args.m; method = c.args.method; next = c.look_cell-word.result.next }) c.through.new.members c.through.new.nexts t
 
   told : Told c.through.result
   told =
@@ -61,7 +60,7 @@ module _ (g : Over) (c : After-through g) where
       let low : o.number < 65536 = (let a = c.requires.bounds.1 in let b = s.sized.4 in omega (arith, a, b)) in
       let few : c.args.method < 16 = (let a = c.requires.bounds.3 in let is = s.sized.5 in let b = s.sized.6 in omega (arith, a, is, b)) in
       let same = ap (map methods_of) (c.lines_of-lines.ensures.lines ∙ ap (λ (z : Parts). chord_lines z o.class) c.requires.code) in
-      told_through s.events (program_of s) (view c.args.desk.now) (view c.look_cell-word.new.desk) (view c.through.new.desk) o c.args.m c.args.method c.look_cell-word.result (all_told c.through.new.known) (map methods_of lines) c.through.new.members c.through.new.nexts c.through.result
+      told_through s.events (program_of s) (view c.args.desk.now) (view c.look_cell-word.new.desk) (view c.through.new.desk) o c.args.m c.args.method c.look_cell-word.result (map methods_of lines) c.through.new.members c.through.new.nexts c.through.result
       right low few same c.look_cell-word.ensures.looked c.in-Pending.is c.requires.bounds.0 c.requires.duty c.through.ensures.through
 
 pub rest-requires-2-clause-may : goal.rest-requires-2-clause-may

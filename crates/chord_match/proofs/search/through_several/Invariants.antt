@@ -1,11 +1,11 @@
-use Rattle.std.proofs.Common.{map}
+use Rattle.std.proofs.Common.{map, replicate, None}
 use Rattle.chord_code.specs.Meaning.{methods_of}
 use Rattle.chord_rule.specs.declared.view.View.{View}
 use Rattle.chord_space.specs.Desks.{view, IsDeskOf, IsSameDesk}
 use Rattle.chord_match.specs.Searching.{Searching, AreStuck}
 use Rattle.chord_match.specs.Noting.{all_told}
-use Rattle.chord_match.proofs.search.through.Given as goal
+use Rattle.chord_match.proofs.search.through_several.Given as goal
 
 abbrev pub invariant-loop-at : goal.invariant-loop-at
 invariant-loop-at g l = IsDeskOf l.space l.desk × IsSameDesk l.fn.desk l.desk
-    × ((v : View) → Searching l.space.events v (view l.fn.desk) l.object l.own (all_told l.fn.known) → Searching l.space.events v (view l.desk) l.object l.own (all_told l.known) × AreStuck l.own (map methods_of l.lines) l.at (all_told l.known) l.busy)
+    × ((v : View) → Searching l.space.events v (view l.fn.desk) l.object l.own (replicate 16 None) → Searching l.space.events v (view l.desk) l.object l.own (all_told l.known) × AreStuck l.own (map methods_of l.lines) l.at (all_told l.known) l.busy)
