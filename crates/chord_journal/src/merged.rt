@@ -89,7 +89,11 @@ fn note_home(homes: &mut [u32], rest: &VecDeque<Entry>, home: u32) {
 }
 
 /// For each number below the count, the past whose next entry has it, where there is one. What is wrong in it costs time alone.
-fn homes_of(alloc: Global, rests: &[VecDeque<Entry>], count: usize) -> Result<Vec<u32>, AllocError> {
+fn homes_of(
+    alloc: Global,
+    rests: &[VecDeque<Entry>],
+    count: usize,
+) -> Result<Vec<u32>, AllocError> {
     let mut homes = vec![in alloc; 0; count]?;
     let mut home = 0u32;
     for rest in rests {
