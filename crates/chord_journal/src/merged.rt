@@ -1,13 +1,13 @@
 //! A journal from pasts, each of which has its entries in the order of their numbers.
-ghost use Rattle.std.specs.Prelude.{◌≡◌, ℕ, ◌≤◌, ◌<◌, ◌++◌, ◌∷◌, [], List, length, IfOk, OnOk, IsPermutation, flat_map, option_to_list};
-ghost use Rattle.std.specs.Vec.Iter.{into_iter_items};
+ghost use Rattle.std.specs.Prelude.{◌≡◌, ℕ, ◌≤◌, ◌<◌, ◌++◌, ◌∷◌, [], true, List, length, IfOk, OnOk, IsPermutation, flat_map};
+ghost use Rattle.chord_base.specs.declared.event.Entry.{Entry as AnEntry};
 ghost use Rattle.chord_journal.specs.Gathered.{AreOfJournal, StandInPlace};
 
 use crate::gathered::gather;
 use chord_base::event::Entry;
 use chord_base::journal::Journal;
 use std::alloc::{AllocError, Global};
-use std::vec::IntoIter;
+use std::collections::VecDeque;
 
 /// The journal of the entries of these pasts. Where each past has its entries in the order of their numbers, as a task keeps what it did, each entry is
 /// moved once, from one past after the other, and memory is gone through in its order.
@@ -46,10 +46,11 @@ fn merged(alloc: Global, pasts: Vec<Vec<Entry>>) -> Result<(Vec<Entry>, usize), 
     ensures placed { IfOk result (λ r. StandInPlace r.1 r.0.items) }
 {
     let count = count_of(&pasts);
-    let homes = homes_of(alloc, &pasts, count)?;
-    let mut entries = Vec::with_capacity(alloc, count)?;
     let mut rests = rests_of(alloc, pasts)?;
-    let placed = merge(&mut rests, &homes, &mut entries)?;
+    let mut homes = homes_of(alloc, &rests, count)?;
+    let mut entries = Vec::with_capacity(alloc, count)?;
+    merge(&mut rests, &mut homes, &mut entries)?;
+    let placed = entries.len();
     add_rests(rests, &mut entries)?;
     Ok((entries, placed))
 }
@@ -66,108 +67,115 @@ fn count_of(pasts: &[Vec<Entry>]) -> usize
     count
 }
 
-/// Notes that a past keeps the entry of this number.
-fn note_home(homes: &mut [u32], number: u32, home: u32) {
-    let place = number as usize;
-    if place < homes.len() {
-        homes[place] = home;
+/// The pasts, to be taken apart from their first entries on.
+fn rests_of(alloc: Global, pasts: Vec<Vec<Entry>>) -> Result<Vec<VecDeque<Entry>>, AllocError>
+    ensures { IfOk result (λ rests. flat_map (λ rest. rest.items) rests.items ≡ flat_map (λ past. past.items) pasts.items) }
+{
+    let mut rests = Vec::with_capacity(alloc, pasts.len())?;
+    for past in pasts {
+        rests.push(VecDeque::from_vec(past))?;
+    }
+    Ok(rests)
+}
+
+/// Notes for the number of a past's next entry that this past is its home.
+fn note_home(homes: &mut [u32], rest: &VecDeque<Entry>, home: u32) {
+    if let Some(entry) = rest.front() {
+        let place = entry.number as usize;
+        if place < homes.len() {
+            homes[place] = home;
+        }
     }
 }
 
-/// For each number below the count, the past that keeps its entry. What is wrong in it costs time alone.
-fn homes_of(alloc: Global, pasts: &[Vec<Entry>], count: usize) -> Result<Vec<u32>, AllocError> {
+/// For each number below the count, the past whose next entry has it, where there is one. What is wrong in it costs time alone.
+fn homes_of(
+    alloc: Global,
+    rests: &[VecDeque<Entry>],
+    count: usize,
+) -> Result<Vec<u32>, AllocError> {
     let mut homes = vec![in alloc; 0; count]?;
     let mut home = 0u32;
-    for past in pasts {
-        for entry in past.as_slice() {
-            note_home(&mut homes, entry.number, home);
-        }
+    for rest in rests {
+        note_home(&mut homes, rest, home);
         home = home.saturating_add(1);
     }
     Ok(homes)
 }
 
-/// The pasts, to be taken apart from their first entries on.
-fn rests_of(alloc: Global, pasts: Vec<Vec<Entry>>) -> Result<Vec<IntoIter<Entry>>, AllocError>
-    ensures { IfOk result (λ rests. flat_map (λ rest. into_iter_items rest) rests.items ≡ flat_map (λ past. past.items) pasts.items) }
+/// Whether the next entry of a past has this number.
+fn is_next(rest: &VecDeque<Entry>, number: usize) -> bool
+    ensures next { result ≡ true → (entry : AnEntry) × (entries : List AnEntry) × (rest.now.items ≡ entry ∷ entries) × (entry.number ≡ number) }
 {
-    let mut rests = Vec::with_capacity(alloc, pasts.len())?;
-    for past in pasts {
-        rests.push(past.into_iter())?;
+    match rest.front() {
+        None => false,
+        Some(entry) => entry.number as usize == number,
     }
-    Ok(rests)
 }
 
-/// Takes the next entry of a past, if it has one still.
-fn next_of(rests: &mut [IntoIter<Entry>], home: u32) -> Option<Entry>
-    ensures { IsPermutation (flat_map (λ rest. into_iter_items rest) rests.old) (option_to_list result ++ flat_map (λ rest. into_iter_items rest) rests.new) }
+/// Moves entries of a past for as long as each has the number of the place to which it comes.
+fn move_run(rest: &mut VecDeque<Entry>, entries: &mut Vec<Entry>) -> Result<(), AllocError>
+    requires placed { StandInPlace (length entries.old.items) entries.old.items }
+    ensures moved { OnOk result (entries.new.items ++ rest.new.items ≡ entries.old.items ++ rest.old.items) }
+    ensures placed { OnOk result (StandInPlace (length entries.new.items) entries.new.items) }
+{
+    entries.reserve(rest.len())?;
+    for _ in 0..rest.len() {
+        if !is_next(rest, entries.len()) {
+            return Ok(());
+        }
+        match rest.pop_front() {
+            None => unreachable!(),
+            Some(entry) => entries.push_reserved(entry),
+        }
+    }
+    Ok(())
+}
+
+/// Moves what a past has for the next places, and notes it as the home of what it has then.
+fn move_from(
+    rests: &mut [VecDeque<Entry>],
+    home: u32,
+    homes: &mut [u32],
+    entries: &mut Vec<Entry>,
+) -> Result<(), AllocError>
+    requires placed { StandInPlace (length entries.old.items) entries.old.items }
+    ensures moved { OnOk result (IsPermutation (entries.old.items ++ flat_map (λ rest. rest.items) rests.old) (entries.new.items ++ flat_map (λ rest. rest.items) rests.new)) }
+    ensures placed { OnOk result (StandInPlace (length entries.new.items) entries.new.items) }
 {
     let place = home as usize;
     if rests.len() <= place {
-        return None;
+        return Ok(());
     }
-    rests[place].next()
+    move_run(&mut rests[place], entries)?;
+    note_home(homes, &rests[place], home);
+    Ok(())
 }
 
-/// Adds an entry, and gives how many stand in their places, of which there were so many before.
-fn put_next(entries: &mut Vec<Entry>, entry: Entry, placed: usize) -> Result<usize, AllocError>
-    requires inside { placed ≤ length entries.old.items }
-    requires placed { StandInPlace placed entries.old.items }
-    ensures items { OnOk result (entries.new.items ≡ entries.old.items ++ entry ∷ []) }
-    ensures inside { IfOk result (λ count. count ≤ length entries.new.items) }
-    ensures placed { IfOk result (λ count. StandInPlace count entries.new.items) }
-{
-    let place = entries.len();
-    let number = entry.number as usize;
-    entries.push(entry)?;
-    if placed == place && number == place {
-        return Ok(place + 1);
-    }
-    Ok(placed)
-}
-
-/// Moves the next entry of a past, if it has one still. Gives how many stand in their places.
-fn move_next(
-    rests: &mut [IntoIter<Entry>],
-    home: u32,
-    entries: &mut Vec<Entry>,
-    placed: usize,
-) -> Result<usize, AllocError>
-    requires inside { placed ≤ length entries.old.items }
-    requires placed { StandInPlace placed entries.old.items }
-    ensures moved { OnOk result (IsPermutation (entries.old.items ++ flat_map (λ rest. into_iter_items rest) rests.old) (entries.new.items ++ flat_map (λ rest. into_iter_items rest) rests.new)) }
-    ensures inside { IfOk result (λ count. count ≤ length entries.new.items) }
-    ensures placed { IfOk result (λ count. StandInPlace count entries.new.items) }
-{
-    match next_of(rests, home) {
-        None => Ok(placed),
-        Some(entry) => {
-            let count = put_next(entries, entry, placed)?;
-            Ok(count)
-        }
-    }
-}
-
-/// Takes an entry of the home of each number, and gives how many stand in their places, from the front on.
+/// Moves entries to the places of their numbers, until the home of the next one is not known.
 fn merge(
-    rests: &mut [IntoIter<Entry>],
-    homes: &[u32],
+    rests: &mut [VecDeque<Entry>],
+    homes: &mut [u32],
     entries: &mut Vec<Entry>,
-) -> Result<usize, AllocError>
+) -> Result<(), AllocError>
     requires none { entries.old.items ≡ [] }
-    ensures moved { OnOk result (IsPermutation (flat_map (λ rest. into_iter_items rest) rests.old) (entries.new.items ++ flat_map (λ rest. into_iter_items rest) rests.new)) }
-    ensures placed { IfOk result (λ placed. (placed ≤ length entries.new.items) × StandInPlace placed entries.new.items) }
+    ensures moved { OnOk result (IsPermutation (flat_map (λ rest. rest.items) rests.old) (entries.new.items ++ flat_map (λ rest. rest.items) rests.new)) }
+    ensures placed { OnOk result (StandInPlace (length entries.new.items) entries.new.items) }
 {
-    let mut placed = 0;
-    for home in homes {
-        placed = move_next(rests, *home, entries, placed)?;
+    for _ in 0..homes.len() {
+        let place = entries.len();
+        if homes.len() <= place {
+            return Ok(());
+        }
+        let home = homes[place];
+        move_from(rests, home, homes, entries)?;
     }
-    Ok(placed)
+    Ok(())
 }
 
 /// Adds what is left of each past.
-fn add_rests(rests: Vec<IntoIter<Entry>>, entries: &mut Vec<Entry>) -> Result<(), AllocError>
-    ensures { OnOk result (entries.new.items ≡ entries.old.items ++ flat_map (λ rest. into_iter_items rest) rests.items) }
+fn add_rests(rests: Vec<VecDeque<Entry>>, entries: &mut Vec<Entry>) -> Result<(), AllocError>
+    ensures { OnOk result (entries.new.items ≡ entries.old.items ++ flat_map (λ rest. rest.items) rests.items) }
 {
     for rest in rests {
         for entry in rest {

@@ -208,6 +208,9 @@ impl Player {
         ensures stops { result ≡ false → HasPlayed run.now.space.now self.new }
         ensures went { result ≡ true → HadARound run.now.space.now self.old.place self.old.worker self.new.worker }
     {
+        if self.worker.has_task() {
+            return self.advance(rt, alloc, run, gate);
+        }
         if self.worker.is_spent() {
             return false;
         }
@@ -215,15 +218,13 @@ impl Player {
             self.failed = true;
             return false;
         }
-        if self.worker.has_task() {
-            return self.advance(rt, alloc, run, gate);
-        }
         self.idle(rt, run, gate, pause)
     }
 
     /// Many rounds. Whether the worker goes on.
     ///
-    /// `forever` counts its turns, which takes some dozen instructions each time. Here it counts one for all of these.
+    /// `forever` counts its turns, which takes some dozen instructions each time. Here it counts one for all of these. Whether the others stopped
+    /// is asked once too, where the worker has a task all the while: the word lies beside one that all of them write.
     fn rounds<'a, R: Wait, G: Gate>(
         &mut self,
         rt: &R,
@@ -241,6 +242,10 @@ impl Player {
         ensures stops { result ≡ false → HasPlayed run.now.space.now self.new }
         ensures went { result ≡ true → (before : ThePlayer) × HadARound run.now.space.now before.place before.worker self.new.worker }
     {
+        if run.shared.has_stopped() {
+            self.failed = true;
+            return false;
+        }
         for _round in 0..ROUNDS {
             if !self.round(rt, alloc, run, gate, pause) {
                 return false;

@@ -54,7 +54,7 @@ impl Shared {
         self.stopped.load(Ordering::SeqCst) != 0
     }
 
-    /// All are to stop before their next draw.
+    /// All are to stop: who has nothing to play at once, and who has a task some rounds later.
     pub(crate) fn stop(&self) {
         self.stopped.store(1, Ordering::SeqCst);
         self.working.wake_all();

@@ -3,3 +3,4 @@ pub mod Sending
 pub mod Pairs
 pub mod ByHand
 pub mod TwoEntries
+pub mod Crossing

@@ -1,6 +1,7 @@
 //! What no clause says: journals of the language's own examples byte for byte, a text at each bound and one past it,
 //! that calls succeed with memory, and a write that fails in mid-stream.
 ghost use Rattle.std.specs.Prelude.{◌≡◌, ◌≤◌, ◌∷◌, [], IfOk, flat_map};
+ghost use Rattle.chord_base.specs.declared.event.What.TheVariants.{Begun, Made};
 ghost use Rattle.chord_journal.specs.Gathered.{AreOfJournal};
 
 use chord_base::event::{Entry, What};
@@ -343,21 +344,35 @@ fn a_write_fails_in_mid_stream(rt: HostRuntime) -> Result<(), Fail> {
     Ok(())
 }
 
+/// `Main` begins.
+fn begun() -> Entry
+    ensures { result ≡ record { number = 0; body = 0; what = Begun } }
+{
+    Entry {
+        number: 0,
+        body: 0,
+        what: What::Begun,
+    }
+}
+
+/// `Main` makes an object of this class.
+fn made(number: u32, class: u16) -> Entry
+    ensures { result ≡ record { number = number; body = 0; what = Made class } }
+{
+    Entry {
+        number,
+        body: 0,
+        what: What::Made(class),
+    }
+}
+
 /// Two entries of a journal, the later one first.
 fn swapped(alloc: Global) -> Result<Vec<Entry>, AllocError>
     ensures { IfOk result (λ entries. AreOfJournal entries.items) }
 {
     let mut entries = Vec::new(alloc);
-    entries.push(Entry {
-        number: 1,
-        body: 0,
-        what: What::Made(7),
-    })?;
-    entries.push(Entry {
-        number: 0,
-        body: 0,
-        what: What::Begun,
-    })?;
+    entries.push(made(1, 7))?;
+    entries.push(begun())?;
     Ok(entries)
 }
 
@@ -383,22 +398,8 @@ fn past_of(alloc: Global, entry: Entry) -> Result<Vec<Entry>, AllocError>
 fn parted(alloc: Global) -> Result<Vec<Vec<Entry>>, AllocError>
     ensures { IfOk result (λ pasts. AreOfJournal (flat_map (λ past. past.items) pasts.items)) }
 {
-    let later = past_of(
-        alloc,
-        Entry {
-            number: 1,
-            body: 0,
-            what: What::Made(7),
-        },
-    )?;
-    let first = past_of(
-        alloc,
-        Entry {
-            number: 0,
-            body: 0,
-            what: What::Begun,
-        },
-    )?;
+    let later = past_of(alloc, made(1, 7))?;
+    let first = past_of(alloc, begun())?;
     let mut pasts = Vec::new(alloc);
     pasts.push(later)?;
     pasts.push(first)?;
@@ -409,6 +410,38 @@ fn parted(alloc: Global) -> Result<Vec<Vec<Entry>>, AllocError>
 fn gathers_pasts_by_their_numbers(rt: HostRuntime) -> Result<(), Fail> {
     let journal = gather_pasts(rt.alloc(), parted(rt.alloc())?)?;
     let taken = b"journal 1 2\n0 0 begun\n1 0 made 7\n";
+    let written = text_written(rt.alloc(), &journal, 100, taken)?;
+    assert_eq!(rt; written, (Ok(()), true));
+    Ok(())
+}
+
+/// A past of two entries.
+fn past_of_two(alloc: Global, first: Entry, second: Entry) -> Result<Vec<Entry>, AllocError>
+    ensures { IfOk result (λ past. past.items ≡ first ∷ second ∷ []) }
+{
+    let mut past = Vec::with_capacity(alloc, 2)?;
+    past.push(first)?;
+    past.push(second)?;
+    Ok(past)
+}
+
+/// The entries of a journal in two pasts, of which the second begins before the first and goes on behind it, with one without entries between them.
+fn crossing(alloc: Global) -> Result<Vec<Vec<Entry>>, AllocError>
+    ensures { IfOk result (λ pasts. AreOfJournal (flat_map (λ past. past.items) pasts.items)) }
+{
+    let inner = past_of_two(alloc, made(1, 7), made(2, 8))?;
+    let outer = past_of_two(alloc, begun(), made(3, 9))?;
+    let mut pasts = Vec::new(alloc);
+    pasts.push(inner)?;
+    pasts.push(Vec::new(alloc))?;
+    pasts.push(outer)?;
+    Ok(pasts)
+}
+
+#[test]
+fn gathers_pasts_that_cross(rt: HostRuntime) -> Result<(), Fail> {
+    let journal = gather_pasts(rt.alloc(), crossing(rt.alloc())?)?;
+    let taken = b"journal 1 4\n0 0 begun\n1 0 made 7\n2 0 made 8\n3 0 made 9\n";
     let written = text_written(rt.alloc(), &journal, 100, taken)?;
     assert_eq!(rt; written, (Ok(()), true));
     Ok(())
