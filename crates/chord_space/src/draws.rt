@@ -40,12 +40,7 @@ impl<P: Carry> Space<P> {
     /// Draws the next number for an entry, which the desk keeps from now on: the next ask of a body by what the desk keeps, or
     /// the beginning of `Main` by the first desk. The entry came next in the run, and is of the code; what the desk keeps is a
     /// place of the run. `Spent` where the counter had reached the limit on events, which it never has for the first draw of all.
-    pub fn draw<A: AsEntry>(
-        &self,
-        desk: &mut Desk<P>,
-        body: u32,
-        said: &A,
-    ) -> Result<u32, Spent>
+    pub fn draw<A: AsEntry>(&self, desk: &mut Desk<P>, body: u32, said: &A) -> Result<u32, Spent>
         requires desk { IsDeskOf self.now desk.old }
         requires room { (view desk.old).spent ≡ false }
         requires next { MayDraw self.now desk.old body (A.what said.now) }

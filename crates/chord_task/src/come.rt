@@ -9,7 +9,7 @@ ghost use Rattle.chord_task.specs.Turning.{RunsOn, IsKept, HasCome};
 
 use crate::body::Next;
 use crate::task::Task;
-use chord_base::event::{End, Limits, What};
+use chord_base::event::{Limits, What};
 use chord_code::code::Code;
 use chord_vm::ask::Ask;
 use chord_vm::step::advance_to;

@@ -153,8 +153,8 @@ module _ (s : Space Parcel) (w : Worker) (v : View) (o : Object) (k : ℕ) (ms :
   Fits t = FitsFiring (space_code s) (space_limits s) v.kept (view w.desk).kept f k o ms values t
 
   -- the task in stock, where no parcel has one
-  of_none : HasNone ((program_of s).is_sync o.class) (newest ∷ v.kept) fired.fired.methods ms qs → Fits fired.stock
-  of_none n = record {
+  where_none : HasNone ((program_of s).is_sync o.class) (newest ∷ v.kept) fired.fired.methods ms qs → Fits fired.stock
+  where_none n = record {
     task = fired.is_stock.task;
     may = record {
       may = subst (FitsCall (program_of s) (view_of fired.stock)) (sym (serves_is None n.serves)) fired.is_stock.top;
@@ -187,7 +187,7 @@ module _ (s : Space Parcel) (w : Worker) (v : View) (o : Object) (k : ℕ) (ms :
     -- the caller's task, or else the one in stock
     pub fitted : Fits (caller_or (first_task qs) fired.stock)
     fitted = ⊎_elim
-        (λ n. subst Fits (sym (ap (λ (x : Option Task). caller_or x fired.stock) n.task)) (of_none n))
+        (λ n. subst Fits (sym (ap (λ (x : Option Task). caller_or x fired.stock) n.task)) (where_none n))
         (λ n. subst Fits (sym (ap (λ (x : Option Task). caller_or x fired.stock) n.task)) (of_caller n))
         (one_caller (space_code s) (space_limits s) sound one o f (newest ∷ v.kept) fired.fired.methods ms qs (one o.class k fired.fired.methods fired.fired.is_chord) fired.fired.older fired.fired.coming)
 

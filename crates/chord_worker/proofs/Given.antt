@@ -1,5 +1,6 @@
 -- A task that came to its ask, and the entry that this becomes.
-use Rattle.std.proofs.Common.{◌≡◌, ◌≢◌, ℕ, ◌+◌, false, List, ◌∷◌, Option, Some, None, refl, sym, ap, ◌∙◌, subst}
+use Rattle.std.specs.Prelude.{IfSome, IfNone}
+use Rattle.std.proofs.Common.{◌≡◌, ◌≢◌, ℕ, ◌+◌, ◌<◌, false, List, ◌∷◌, Option, Some, None, refl, sym, ap, ◌∙◌, subst}
 use Rattle.chord_base.specs.declared.event.Entry.{Entry}
 use Rattle.chord_base.specs.declared.event.Limits.{Limits}
 use Rattle.chord_base.specs.declared.event.What.{What}
@@ -70,8 +71,8 @@ module _ (code : Parts) (limits : Limits) (t u : Task) (w : What) (came : HasCom
       may_draw = asks_at_desk code limits es false done t m b w asks_next
 
       -- and what its bodies do with it is defined
-      pub may_settle : IsSound (code_program code limits) → (n : ℕ) → AllBelow n es → IsPlace (code_program code limits) (entry n b w ∷ es) → MaySettle code u n w
-      may_settle sound n below place = record {
+      pub came_may_settle : IsSound (code_program code limits) → (n : ℕ) → AllBelow n es → IsPlace (code_program code limits) (entry n b w ∷ es) → MaySettle code u n w
+      came_may_settle sound n below place = record {
         stays = subst (λ (l : Limits). StaysDefined (code_program code l) (view_of u) n w) (sym came.limited)
             (subst (λ (v : TaskView). StaysDefined (code_program code limits) v n w) (sym came.view)
             (λ c at i. subst (λ (k : ℕ). IsDefined (code_program code limits) (doing (code_program code limits) (entry n k w ∷ (view_of t).past) i)) (one_top (view_of t).top b c top_before at)
@@ -118,3 +119,13 @@ stocked_rest s w t stock r task in_stock = record {
   goes_on = subst MayContinue task r.goes_on;
   stock = in_stock;
 }
+
+-- ## Optional answers
+
+-- what holds of an option that is there holds of its value
+pub value_of_some : {A : Type 0} (o : Option A) (x : A) (P : A → Type 0) → o ≡ Some x → IfSome o P → P x
+value_of_some o x P is h = subst (λ (z : Option _). IfSome z P) is h
+
+-- what holds of an option that is not there holds
+pub where_none : {A : Type 0} (o : Option A) (P : Type 0) → o ≡ None → IfNone o P → P
+where_none o P is h = subst (λ (z : Option _). IfNone z P) is h

@@ -116,13 +116,13 @@ plays_minded knows before es t n y w below same_one over (inr (inl plays)) =
 plays_minded knows before es t n y w below same_one over (inr (inr told)) = inl (subst (PlaysNoOther t) (sym (over told)) tt)
 
 -- it is no other than a task that is seen alike
-no_other_than : (t t' : Task) (y : Option Task) → view_of t' ≡ view_of t → PlaysNoOther t' y → PlaysNoOther t y
-no_other_than t t' None e same_one = tt
-no_other_than t t' (Some u) e same_one = (same_one.0, subst (λ (x : TaskView). (view_of u).past ≡ same_one.0 ∷ x.past) e same_one.1)
+pub still_no_other : (t t' : Task) (y : Option Task) → view_of t' ≡ view_of t → PlaysNoOther t' y → PlaysNoOther t y
+still_no_other t t' None e same_one = tt
+still_no_other t t' (Some u) e same_one = (same_one.0, subst (λ (x : TaskView). (view_of u).past ≡ same_one.0 ∷ x.past) e same_one.1)
 
 -- so it is of a task that is seen alike
 pub plays_next : (knows : ℕ → Type 0) (before : List Entry) (t t' : Task) (w : Worker) → view_of t' ≡ view_of t → PlaysNext knows before t' w → PlaysNext knows before t w
-plays_next knows before t t' w e (inl same_one) = inl (no_other_than t t' w.task e same_one)
+plays_next knows before t t' w e (inl same_one) = inl (still_no_other t t' w.task e same_one)
 plays_next knows before t t' w e (inr known) = inr known
 
 -- so it is of a task that is seen alike

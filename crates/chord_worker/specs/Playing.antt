@@ -1,5 +1,5 @@
 -- What a task is while it is played: its next ask, and the entry that this becomes.
-use Rattle.std.specs.Prelude.{◌≡◌, ◌<◌, ◌+◌, ℕ, Bool, false, List, ◌∷◌, Some}
+use Rattle.std.specs.Prelude.{◌≡◌, ◌<◌, ◌+◌, ℕ, Bool, false, List, ◌∷◌, Option, Some}
 use Rattle.chord_base.specs.declared.event.Entry.{Entry}
 use Rattle.chord_base.specs.declared.event.Limits.{Limits}
 use Rattle.chord_base.specs.declared.event.What.{What}
@@ -14,11 +14,14 @@ use Rattle.chord_rule.specs.Coming.{IsPlace}
 use Rattle.chord_rule.specs.Kinds.{entry, drew, saw_count, was_told, fresh_after}
 use Rattle.chord_rule.specs.Made.{Names}
 use Rattle.chord_space.specs.declared.space.Space.{Space}
-use Rattle.chord_space.specs.Desks.{space_code, program_of}
+use Rattle.chord_space.specs.Desks.{space_code, space_limits, program_of}
 use Rattle.chord_space.specs.Ruled.{IsOfCode}
 use Rattle.chord_task.specs.declared.parcel.Parcel.{Parcel}
 use Rattle.chord_task.specs.declared.task.Task.{Task}
 use Rattle.chord_task.specs.Standing.{view_of, IsTaskOf}
+use Rattle.chord_task.specs.Turning.{HasCome}
+use Rattle.chord_vm.specs.declared.ask.Ask.{Ask}
+use Rattle.chord_vm.specs.Frames.{what_of_ask}
 use Rattle.chord_worker.specs.Resting.{IsInMemory}
 
 -- what is asked is no message
@@ -49,10 +52,14 @@ pub record IsNotedAs (code : Parts) (limits : Limits) (v w : View) (t t' : Task)
   pub of_code : IsOfCode code what
 
 -- the desk was told that the limit is reached
-abbrev pub WasTold : View → View → Type 0
-WasTold v w = (count : ℕ) × (w ≡ saw_count (was_told v) count)
+abbrev pub HeardOfLimit : View → View → Type 0
+HeardOfLimit v w = (count : ℕ) × (w ≡ saw_count (was_told v) count)
 
 -- the desk was told that the limit is reached, and the task has done what it had
 pub record WasToldFull (v w : View) (t t' : Task) : Type 0 where
-  pub told : WasTold v w
+  pub told : HeardOfLimit v w
   pub past : t'.past ≡ t.past
+
+-- whatever the ask and the task before it are, the ask became the entry n of the desk and of the task
+abbrev pub IsNotedFrom : Space Parcel → View → View → Option Ask → Task → Task → ℕ → Type 0
+IsNotedFrom s v w asked t t' n = (a : Ask) (before : Task) → asked ≡ Some a → HasCome (space_code s) (space_limits s) before t (what_of_ask a) → IsNotedAs (space_code s) (space_limits s) v w before t' n (what_of_ask a)

@@ -8,7 +8,7 @@ ghost use Rattle.chord_task.specs.declared.task.Task.{Task as ATask};
 ghost use Rattle.chord_task.specs.Standing.{view_of};
 ghost use Rattle.chord_task.specs.Turning.{RunsOn, HasCome};
 ghost use Rattle.chord_vm.specs.Frames.{what_of_ask};
-ghost use Rattle.chord_worker.specs.Playing.{IsDrawnAs, IsNotedAs, WasTold, WasToldFull};
+ghost use Rattle.chord_worker.specs.Playing.{IsDrawnAs, IsNotedFrom, HeardOfLimit, WasToldFull};
 ghost use Rattle.chord_worker.specs.Resting.{IsInMemory, IsStock, IsStockTask};
 
 use chord_base::event::Limits;
@@ -83,7 +83,7 @@ fn draw_ask(
     requires some { asked.now ≢ None }
     requires next { (a : Ask) → asked.now ≡ Some a → MayDraw space.now desk.old body (what_of_ask a) }
     ensures desk { IsSameDesk desk.old desk.new }
-    ensures drawn { (a : Ask) → asked.now ≡ Some a → MatchResult result (λ n. IsDrawnAs space.now (view desk.old) (view desk.new) n body (what_of_ask a)) (λ _. WasTold (view desk.old) (view desk.new)) }
+    ensures drawn { (a : Ask) → asked.now ≡ Some a → MatchResult result (λ n. IsDrawnAs space.now (view desk.old) (view desk.new) n body (what_of_ask a)) (λ _. HeardOfLimit (view desk.old) (view desk.new)) }
 {
     match asked {
         None => unreachable!(),
@@ -113,7 +113,7 @@ pub(crate) fn draw_own(
     requires came { (a : Ask) → asked.old ≡ Some a → (t : ATask) × HasCome (space_code space.now) (space_limits space.now) t task.old (what_of_ask a) × (done : List AnEntry) × IsInMemory (space_code space.now) (space_limits space.now) (view desk.old).kept false done (Some t) }
     requires sound { IsSound (program_of space.now) }
     ensures desk { IsSameDesk desk.old desk.new }
-    ensures noted { IfOk result (λ x. IfSome x (λ n. (a : Ask) (t : ATask) → asked.old ≡ Some a → HasCome (space_code space.now) (space_limits space.now) t task.old (what_of_ask a) → IsNotedAs (space_code space.now) (space_limits space.now) (view desk.old) (view desk.new) t task.new n (what_of_ask a))) }
+    ensures noted { IfOk result (λ x. IfSome x (λ n. IsNotedFrom space.now (view desk.old) (view desk.new) asked.old task.old task.new n)) }
     ensures within { IfOk result (λ x. IfSome x (λ n. n < space.now.events)) }
     ensures told { IfOk result (λ x. IfNone x (WasToldFull (view desk.old) (view desk.new) task.old task.new)) }
 {

@@ -3,7 +3,7 @@ use Rattle.chord_space.specs.Desks.{view, space_code, space_limits}
 use Rattle.chord_task.specs.Turning.{HasSettled}
 use Rattle.chord_vm.specs.declared.ask.Ask.{Ask}
 use Rattle.chord_vm.specs.Frames.{what_of_ask}
-use Rattle.chord_worker.proofs.Given.{some_ask, only_ask, came_runs, may_draw, may_settle, noted_as}
+use Rattle.chord_worker.proofs.Given.{some_ask, only_ask, came_runs, may_draw, came_may_settle, noted_as}
 use Rattle.chord_worker.proofs.playing.draw_own.Goals as goal
 
 pub top_number-body-requires : goal.top_number-body-requires
@@ -29,7 +29,7 @@ settle-requires-clause-may c = λ a e.
     let top = rw (c.deref.ensures ∙ c.task.view_is) at c.top_number-body.ensures in
     let d = c.in-Ok.ensures.drawn a e in
     rw (c.deref_mut.ensures.value ∙ c.task.view_is, c.requires.code)
-    (may_settle (space_code c.args.space.now) (space_limits c.args.space.now) x.0 c.args.task.now (what_of_ask a) x.1 c.top_number-body.result top (view c.args.desk.now).kept x.2 x.3 c.requires.sound c.in-Ok.number d.below d.place)
+    (came_may_settle (space_code c.args.space.now) (space_limits c.args.space.now) x.0 c.args.task.now (what_of_ask a) x.1 c.top_number-body.result top (view c.args.desk.now).kept x.2 x.3 c.requires.sound c.in-Ok.number d.below d.place)
 
 pub returns-in_ok-settle-in-Ok-clause-noted : goal.returns-in_ok-settle-in-Ok-clause-noted
 returns-in_ok-settle-in-Ok-clause-noted c = λ a t e came.

@@ -1,6 +1,10 @@
-use Rattle.std.proofs.Common.{List, ◌∷◌, Option, refl, sym, ap, ◌∙◌, subst, inl, inr, arith}
+use Rattle.std.proofs.Common.{ℕ, ◌<◌, Bool, Some, None, List, ◌∷◌, Option, refl, sym, ap, ◌∙◌, subst, inl, inr, arith}
 use Rattle.chord_base.specs.declared.event.Entry.{Entry}
 use Rattle.chord_base.specs.declared.event.What.TheVariants.{Called}
+use Rattle.chord_vm.specs.declared.ask.Ask.{Ask}
+use Rattle.chord_vm.specs.declared.ask.Ask.TheVariants as ask
+use Rattle.chord_vm.specs.Frames.{what_of_ask}
+use Rattle.chord_task.specs.Turning.{HasCome}
 use Rattle.chord_rule.specs.declared.view.View.{View}
 use Rattle.chord_rule.specs.Kinds.{entry, left_by}
 use Rattle.chord_rule.specs.Made.{key}
@@ -9,26 +13,39 @@ use Rattle.chord_space.specs.Desks.{view, space_code, space_limits, IsSameDesk}
 use Rattle.chord_task.specs.declared.parcel.Parcel.{Parcel}
 use Rattle.chord_task.specs.declared.task.Task.{Task}
 use Rattle.chord_task.specs.Standing.{view_of}
-use Rattle.chord_worker.specs.Playing.{WasToldFull}
+use Rattle.chord_worker.specs.Playing.{IsNotedFrom, WasToldFull}
+use Rattle.chord_worker.proofs.Given.{only_ask, told_full, value_of_some, where_none}
 use Rattle.chord_worker.specs.Resting.{IsInMemory, MayContinue}
 use Rattle.chord_worker.proofs.Resting.{rest_told}
-use Rattle.chord_worker.proofs.Sent.{task_may, task_memory, now_minds}
-use Rattle.chord_worker.proofs.Stepping.{went_called, plays_minded}
+use Rattle.chord_worker.proofs.Attending.{role_on}
+use Rattle.chord_worker.proofs.Sent.{task_may, task_left, task_memory, now_minds, minds_role}
+use Rattle.chord_worker.proofs.Stepping.{went_called, plays_minded, gone_on, plays_next}
 use Rattle.chord_worker.specs.Stepping.{PlaysNoOther, WasMinded}
 use Rattle.chord_worker.proofs.worker.Worker.play_called.Goals as goal
 
+pub draw_own-requires-clause-came : goal.draw_own-requires-clause-came
+draw_own-requires-clause-came g c = λ a e.
+    let s = c.args.space.now in
+    let w = c.args.self.now in
+    let same = only_ask c.args.asked.now (ask.Call c.args.object c.args.method c.args.held.first) a c.requires.asked e in (
+      c.requires.came.0,
+      subst (λ (b : Ask). HasCome (space_code s) (space_limits s) c.requires.came.0 c.args.task (what_of_ask b)) same c.requires.came.1,
+      w.done,
+      subst (λ (b : Bool). IsInMemory (space_code s) (space_limits s) (view w.desk).kept b w.done (Some c.requires.came.0)) c.requires.room c.requires.came.2.memory,
+    )
+
 pub send_task-requires-clause-bounds : goal.send_task-requires-clause-bounds
-send_task-requires-clause-bounds g c = (c.in-Ok.ensures.drawn.0, c.in-Ok.ensures.drawn.1.named c.args.object (inl refl))
+send_task-requires-clause-bounds g c = ((value_of_some _ c.in-Some.number (λ (n : ℕ). n < c.args.space.now.events) c.in-Some.is c.in_ok-number.ensures.within), (value_of_some _ c.in-Some.number (IsNotedFrom c.args.space.now (view c.args.self.now.desk) (view c.draw_own.new.desk) c.args.asked.now c.args.task c.draw_own.new.task) c.in-Some.is c.in_ok-number.ensures.noted (ask.Call c.args.object c.args.method c.args.held.first) c.requires.came.0 c.requires.asked c.requires.came.1).named c.args.object (inl refl))
 
 pub send_task-requires-clause-link : goal.send_task-requires-clause-link
 send_task-requires-clause-link g c =
     let s = c.args.space.now in
-    task_may s c.args.self.now c.args.task c.requires.rest c.draw_message.new.task c.in-Ok.number (view c.draw_message.new.desk) c.args.object c.args.method c.args.held.first c.in-Ok.ensures.drawn.1
+    task_may s c.args.self.now c.requires.came.0 c.requires.came.2 c.draw_own.new.task c.in-Some.number (view c.draw_own.new.desk) c.args.object c.args.method c.args.held.first (value_of_some _ c.in-Some.number (IsNotedFrom c.args.space.now (view c.args.self.now.desk) (view c.draw_own.new.desk) c.args.asked.now c.args.task c.draw_own.new.task) c.in-Some.is c.in_ok-number.ensures.noted (ask.Call c.args.object c.args.method c.args.held.first) c.requires.came.0 c.requires.asked c.requires.came.1)
 
 pub mind-requires-clause-bounds : goal.mind-requires-clause-bounds
 mind-requires-clause-bounds g c =
-    let low = c.in-Ok.ensures.drawn.0 in
-    let named = c.in-Ok.ensures.drawn.1.named c.args.object (inl refl) in
+    let low = (value_of_some _ c.in-Some.number (λ (n : ℕ). n < c.args.space.now.events) c.in-Some.is c.in_ok-number.ensures.within) in
+    let named = (value_of_some _ c.in-Some.number (IsNotedFrom c.args.space.now (view c.args.self.now.desk) (view c.draw_own.new.desk) c.args.asked.now c.args.task c.draw_own.new.task) c.in-Some.is c.in_ok-number.ensures.noted (ask.Call c.args.object c.args.method c.args.held.first) c.requires.came.0 c.requires.asked c.requires.came.1).named c.args.object (inl refl) in
     (low, (omega (arith, low, named)), c.send_task.ensures.bounds.0, c.send_task.ensures.bounds.1)
 
 pub mind-requires-clause-minds : goal.mind-requires-clause-minds
@@ -37,43 +54,67 @@ mind-requires-clause-minds g c =
     let w = c.args.self.now in
     let w' = record w { desk = c.send_task.new.desk } in
     let what = Called c.args.object c.args.method c.args.held.first in
-    let noted = c.in-Ok.ensures.drawn.1 in
+    let noted = (value_of_some _ c.in-Some.number (IsNotedFrom c.args.space.now (view c.args.self.now.desk) (view c.draw_own.new.desk) c.args.asked.now c.args.task c.draw_own.new.task) c.in-Some.is c.in_ok-number.ensures.noted (ask.Call c.args.object c.args.method c.args.held.first) c.requires.came.0 c.requires.asked c.requires.came.1) in
     let k = key c.args.object c.args.method in
-    let v = view c.draw_message.new.desk in
+    let v = view c.draw_own.new.desk in
     let sent = c.send_task.ensures.sent in
-    let same : IsSameDesk w.desk c.send_task.new.desk = (c.send_task.ensures.desk.0 ∙ c.draw_message.ensures.desk.0, c.send_task.ensures.desk.1 ∙ c.draw_message.ensures.desk.1) in
-    now_minds s w c.args.task c.requires.rest c.draw_message.new.task c.in-Ok.number v what noted refl c.requires.room c.requires.stock w' k (view_of c.draw_message.new.task).past sent same refl refl
+    let same : IsSameDesk w.desk c.send_task.new.desk = (c.send_task.ensures.desk.0 ∙ c.draw_own.ensures.desk.0, c.send_task.ensures.desk.1 ∙ c.draw_own.ensures.desk.1) in
+    now_minds s w c.requires.came.0 c.requires.came.2 c.draw_own.new.task c.in-Some.number v what noted refl c.requires.room c.requires.stock w' k (view_of c.draw_own.new.task).past sent same refl refl
     (subst (λ (x : Option Task). IsInMemory (space_code s) (space_limits s) (view w'.desk).kept (view w.desk).spent w.done x) (sym c.requires.none)
-    (task_memory s w c.args.task c.requires.rest c.draw_message.new.task c.in-Ok.number v c.args.object c.args.method c.args.held.first noted (view w'.desk) k sent))
+    (task_memory s w c.requires.came.0 c.requires.came.2 c.draw_own.new.task c.in-Some.number v c.args.object c.args.method c.args.held.first noted (view w'.desk) k sent))
     (subst MayContinue (sym c.requires.none) tt)
 
-pub returns-in_ok-lay_down-in-Err-clause-rest : goal.returns-in_ok-lay_down-in-Err-clause-rest
-returns-in_ok-lay_down-in-Err-clause-rest g c =
+pub returns-in_ok-lay_down-in-None-clause-rest : goal.returns-in_ok-lay_down-in-None-clause-rest
+returns-in_ok-lay_down-in-None-clause-rest g c =
     let s = c.args.space.now in
     let w = c.args.self.now in
     let d = c.lay_down.ensures.same.0 in
-    let told = subst (λ (x : Desk Parcel). WasToldFull (view w.desk) (view x) c.args.task c.draw_message.new.task) (sym d) c.in-Err.ensures.drawn in
-    let same = subst (λ (x : Desk Parcel). IsSameDesk w.desk x) (sym d) c.draw_message.ensures.desk in
-    rest_told s w c.args.task c.requires.rest c.lay_down.new.self same c.lay_down.ensures.same.1 c.draw_message.new.task told (c.lay_down.ensures.same.2 ∙ c.requires.none) c.lay_down.ensures.same.3 c.in_ok-lay_down-in-Err.ensures.done
+    let told = subst (λ (x : Desk Parcel). WasToldFull (view w.desk) (view x) c.requires.came.0 c.draw_own.new.task) (sym d) (told_full (space_code c.args.space.now) (space_limits c.args.space.now) c.requires.came.0 c.args.task (Called c.args.object c.args.method c.args.held.first) c.requires.came.1 (view c.args.self.now.desk) (view c.draw_own.new.desk) c.draw_own.new.task (where_none _ (WasToldFull (view c.args.self.now.desk) (view c.draw_own.new.desk) c.args.task c.draw_own.new.task) c.in-None.is c.in_ok-number.ensures.told)) in
+    let same = subst (λ (x : Desk Parcel). IsSameDesk w.desk x) (sym d) c.draw_own.ensures.desk in
+    rest_told s w c.requires.came.0 c.requires.came.2 c.lay_down.new.self same c.lay_down.ensures.same.1 c.draw_own.new.task told (c.lay_down.ensures.same.2 ∙ c.requires.none) c.lay_down.ensures.same.3 c.in_ok-lay_down-in-None.ensures.done
 
-pub returns-in_ok-mind-in-Ok-clause-went : goal.returns-in_ok-mind-in-Ok-clause-went
-returns-in_ok-mind-in-Ok-clause-went g c =
-    let noted = c.in-Ok.ensures.drawn.1 in
-    let x = entry c.in-Ok.number noted.body (Called c.args.object c.args.method c.args.held.first) in
+pub returns-in_ok-mind-in-Some-clause-went : goal.returns-in_ok-mind-in-Some-clause-went
+returns-in_ok-mind-in-Some-clause-went g c =
+    let noted = (value_of_some _ c.in-Some.number (IsNotedFrom c.args.space.now (view c.args.self.now.desk) (view c.draw_own.new.desk) c.args.asked.now c.args.task c.draw_own.new.task) c.in-Some.is c.in_ok-number.ensures.noted (ask.Call c.args.object c.args.method c.args.held.first) c.requires.came.0 c.requires.asked c.requires.came.1) in
+    let x = entry c.in-Some.number noted.body (Called c.args.object c.args.method c.args.held.first) in
     let es = (view c.send_task.new.desk).kept in
-    let gone = ap (λ (ps : List Entry). left_by ps (view c.draw_message.new.desk).kept) noted.past in
-    let kept = c.send_task.ensures.sent.kept ∙ gone ∙ ap (λ (z : View). left_by (x ∷ (view_of c.args.task).past) z.kept) noted.drawn in
-    went_called (view c.args.self.now.desk).kept c.args.task c.in-Ok.number x refl noted.below c.mind.new.self g.G.Gate.knows es kept
-    (subst (λ (y : Option Task). WasMinded g.G.Gate.knows es y c.mind.new.self c.in-Ok.number) c.requires.none c.in_ok-mind-in-Ok.ensures.minded)
+    let gone = ap (λ (ps : List Entry). left_by ps (view c.draw_own.new.desk).kept) noted.past in
+    let kept = c.send_task.ensures.sent.kept ∙ gone ∙ ap (λ (z : View). left_by (x ∷ (view_of c.requires.came.0).past) z.kept) noted.drawn in
+    gone_on (view c.args.self.now.desk).kept c.args.task c.requires.came.0 c.mind.new.self (sym c.requires.came.1.view)
+    (went_called (view c.args.self.now.desk).kept c.requires.came.0 c.in-Some.number x refl noted.below c.mind.new.self g.G.Gate.knows es kept
+    (subst (λ (y : Option Task). WasMinded g.G.Gate.knows es y c.mind.new.self c.in-Some.number) c.requires.none c.in_ok-mind-in-Some.ensures.minded))
 
-pub returns-in_ok-lay_down-in-Err-clause-went : goal.returns-in_ok-lay_down-in-Err-clause-went
-returns-in_ok-lay_down-in-Err-clause-went g c = inr (inr (ap (λ (x : Desk Parcel). (view x).spent) c.lay_down.ensures.same.0 ∙ ap (λ (z : View). z.spent) c.in-Err.ensures.drawn.view))
+pub returns-in_ok-lay_down-in-None-clause-went : goal.returns-in_ok-lay_down-in-None-clause-went
+returns-in_ok-lay_down-in-None-clause-went g c = inr (inr (ap (λ (x : Desk Parcel). (view x).spent) c.lay_down.ensures.same.0 ∙ ap (λ (z : View). z.spent) (told_full (space_code c.args.space.now) (space_limits c.args.space.now) c.requires.came.0 c.args.task (Called c.args.object c.args.method c.args.held.first) c.requires.came.1 (view c.args.self.now.desk) (view c.draw_own.new.desk) c.draw_own.new.task (where_none _ (WasToldFull (view c.args.self.now.desk) (view c.draw_own.new.desk) c.args.task c.draw_own.new.task) c.in-None.is c.in_ok-number.ensures.told)).told.1))
 
-pub returns-in_ok-mind-in-Ok-clause-plays : goal.returns-in_ok-mind-in-Ok-clause-plays
-returns-in_ok-mind-in-Ok-clause-plays g c =
-    plays_minded g.G.Gate.knows (view c.args.self.now.desk).kept (view c.send_task.new.desk).kept c.args.task c.in-Ok.number c.args.self.now.task c.mind.new.self c.in-Ok.ensures.drawn.1.below
-    (subst (PlaysNoOther c.args.task) (sym c.requires.none) tt)
-    (λ told. c.in_ok-mind-in-Ok.ensures.over.1 (c.in_ok-mind-in-Ok.ensures.over.0.told ∙ told)) c.in_ok-mind-in-Ok.ensures.minded
+pub returns-in_ok-mind-in-Some-clause-plays : goal.returns-in_ok-mind-in-Some-clause-plays
+returns-in_ok-mind-in-Some-clause-plays g c =
+    plays_next g.G.Gate.knows (view c.args.self.now.desk).kept c.args.task c.requires.came.0 c.mind.new.self (sym c.requires.came.1.view)
+    (plays_minded g.G.Gate.knows (view c.args.self.now.desk).kept (view c.send_task.new.desk).kept c.requires.came.0 c.in-Some.number c.args.self.now.task c.mind.new.self (value_of_some _ c.in-Some.number (IsNotedFrom c.args.space.now (view c.args.self.now.desk) (view c.draw_own.new.desk) c.args.asked.now c.args.task c.draw_own.new.task) c.in-Some.is c.in_ok-number.ensures.noted (ask.Call c.args.object c.args.method c.args.held.first) c.requires.came.0 c.requires.asked c.requires.came.1).below
+    (subst (PlaysNoOther c.requires.came.0) (sym c.requires.none) tt)
+    (λ told. c.in_ok-mind-in-Some.ensures.over.1 (c.in_ok-mind-in-Some.ensures.over.0.told ∙ told)) c.in_ok-mind-in-Some.ensures.minded)
 
-pub returns-in_ok-lay_down-in-Err-clause-plays : goal.returns-in_ok-lay_down-in-Err-clause-plays
-returns-in_ok-lay_down-in-Err-clause-plays g c = inl (subst (PlaysNoOther c.args.task) (sym (c.lay_down.ensures.same.2 ∙ c.requires.none)) tt)
+pub returns-in_ok-lay_down-in-None-clause-plays : goal.returns-in_ok-lay_down-in-None-clause-plays
+returns-in_ok-lay_down-in-None-clause-plays g c = inl (subst (PlaysNoOther c.args.task) (sym (c.lay_down.ensures.same.2 ∙ c.requires.none)) tt)
+
+pub send_task-requires-clause-task : goal.send_task-requires-clause-task
+send_task-requires-clause-task g c = (value_of_some _ c.in-Some.number (IsNotedFrom c.args.space.now (view c.args.self.now.desk) (view c.draw_own.new.desk) c.args.asked.now c.args.task c.draw_own.new.task) c.in-Some.is c.in_ok-number.ensures.noted (ask.Call c.args.object c.args.method c.args.held.first) c.requires.came.0 c.requires.asked c.requires.came.1).task
+
+pub send_task-requires-clause-left : goal.send_task-requires-clause-left
+send_task-requires-clause-left g c = task_left c.args.space.now c.args.self.now c.requires.came.0 c.requires.came.2 c.draw_own.new.task c.in-Some.number (view c.draw_own.new.desk) c.args.object c.args.method c.args.held.first (value_of_some _ c.in-Some.number (IsNotedFrom c.args.space.now (view c.args.self.now.desk) (view c.draw_own.new.desk) c.args.asked.now c.args.task c.draw_own.new.task) c.in-Some.is c.in_ok-number.ensures.noted (ask.Call c.args.object c.args.method c.args.held.first) c.requires.came.0 c.requires.asked c.requires.came.1)
+
+pub send_task-requires-clause-named : goal.send_task-requires-clause-named
+send_task-requires-clause-named g c = (value_of_some _ c.in-Some.number (IsNotedFrom c.args.space.now (view c.args.self.now.desk) (view c.draw_own.new.desk) c.args.asked.now c.args.task c.draw_own.new.task) c.in-Some.is c.in_ok-number.ensures.noted (ask.Call c.args.object c.args.method c.args.held.first) c.requires.came.0 c.requires.asked c.requires.came.1).of_code
+
+pub returns-in_ok-mind-in-Some-clause-role : goal.returns-in_ok-mind-in-Some-clause-role
+returns-in_ok-mind-in-Some-clause-role g c =
+    let s = c.args.space.now in
+    let w = c.args.self.now in
+    let w' = record w { desk = c.send_task.new.desk } in
+    let what = Called c.args.object c.args.method c.args.held.first in
+    let noted = (value_of_some _ c.in-Some.number (IsNotedFrom c.args.space.now (view c.args.self.now.desk) (view c.draw_own.new.desk) c.args.asked.now c.args.task c.draw_own.new.task) c.in-Some.is c.in_ok-number.ensures.noted (ask.Call c.args.object c.args.method c.args.held.first) c.requires.came.0 c.requires.asked c.requires.came.1) in
+    let k = key c.args.object c.args.method in
+    let v = view c.draw_own.new.desk in
+    let sent = c.send_task.ensures.sent in
+    let same : IsSameDesk w.desk c.send_task.new.desk = (c.send_task.ensures.desk.0 ∙ c.draw_own.ensures.desk.0, c.send_task.ensures.desk.1 ∙ c.draw_own.ensures.desk.1) in
+    role_on (view w.desk) (view w'.desk) (view c.mind.new.self.desk) (minds_role s w c.requires.came.0 c.requires.came.2 c.draw_own.new.task c.in-Some.number v what noted refl c.requires.room c.requires.stock w' k (view_of c.draw_own.new.task).past sent same refl refl) c.in_ok-mind-in-Some.ensures.role

@@ -1,4 +1,4 @@
-use Rattle.std.proofs.Common.{refl, sym, ap, subst, ◌∙◌, inl, inr}
+use Rattle.std.proofs.Common.{Bool, Some, None, refl, sym, ap, subst, ◌∙◌, inl, inr}
 use Rattle.chord_base.specs.Story.{IsIn}
 use Rattle.chord_rule.specs.declared.view.View.{View}
 use Rattle.chord_rule.specs.Kinds.{entry}
@@ -6,15 +6,17 @@ use Rattle.chord_space.specs.declared.space.Desk.{Desk}
 use Rattle.chord_space.specs.Desks.{view, space_code, space_limits, IsSameDesk}
 use Rattle.chord_task.specs.declared.parcel.Parcel.{Parcel}
 use Rattle.chord_vm.specs.Frames.{what_of_ask}
-use Rattle.chord_worker.specs.Playing.{IsNotedAs, WasToldFull}
-use Rattle.chord_worker.proofs.Given.{some_ask, told_full}
+use Rattle.chord_worker.specs.Playing.{IsNotedAs, IsNotedFrom, WasToldFull}
+use Rattle.chord_worker.specs.Resting.{IsInMemory}
+use Rattle.chord_worker.proofs.Given.{some_ask, told_full, value_of_some, where_none}
 use Rattle.chord_worker.proofs.Resting.{rest_noted, role_noted, rest_told, role_told}
 use Rattle.chord_worker.specs.Stepping.{PlaysNoOther}
-use Rattle.chord_worker.proofs.Stepping.{newest_is_kept, no_other, no_other_than}
+use Rattle.chord_worker.proofs.Stepping.{newest_is_kept, no_other, still_no_other}
 use Rattle.chord_worker.proofs.worker.Worker.play_own.Goals as goal
 
 pub draw_own-requires-clause-came : goal.draw_own-requires-clause-came
-draw_own-requires-clause-came c = λ a e. let y = c.requires.came a e in (y.0, y.1, c.args.self.now.done, subst (λ (b : _). _) refl y.2.memory)
+draw_own-requires-clause-came c = λ a e. let y = c.requires.came a e in
+    (y.0, y.1, c.args.self.now.done, subst (λ (b : Bool). IsInMemory (space_code c.args.space.now) (space_limits c.args.space.now) (view c.args.self.now.desk).kept b c.args.self.now.done (Some y.0)) c.requires.room y.2.memory)
 
 pub returns-in_ok-settle-in-Some-clause-rest : goal.returns-in_ok-settle-in-Some-clause-rest
 returns-in_ok-settle-in-Some-clause-rest c =
@@ -22,9 +24,82 @@ returns-in_ok-settle-in-Some-clause-rest c =
     let w = c.args.self.now in
     let a = some_ask c.args.asked.now c.requires.some in
     let y = c.requires.came a.0 a.1 in
+    let n = c.in-Some.field-0 in
+    let noted = value_of_some _ n (IsNotedFrom s (view w.desk) (view c.draw_own.new.desk) c.args.asked.now c.args.task c.draw_own.new.task) c.in-Some.is c.in_ok-draw_own.ensures.noted a.0 y.0 a.1 y.1 in
     let d = c.settle.ensures.same.0 in
-    let now = c.in-Some-branch.ensures.noted a.0 y.0 a.1 y.1 in
-    let noted = subst (λ (x : Desk Parcel). IsNotedAs (space_code s) (space_limits s) (view w.desk) (view x) y.0 c.draw_own.new.task c.in-Some-branch.field-0 (what_of_ask a.0)) (sym d) now in
+    let moved = subst (λ (x : Desk Parcel). IsNotedAs (space_code s) (space_limits s) (view w.desk) (view x) y.0 c.draw_own.new.task n (what_of_ask a.0)) (sym d) noted in
     let same = subst (λ (x : Desk Parcel). IsSameDesk w.desk x) (sym d) c.draw_own.ensures.desk in
-    let settled = c.in_ok-settle-in-Some.ensures.settled (space_code s) (space_limits s) _ _ (noted.memory (view w.desk).spent w.done y.2.memory) in
-    rest_noted s w y.0 y.2 c.settle.new.self same c.settle.ensures.same.1 c.draw_own.new.task c.in-Some-branch.field-0 (what_of_ask a.0) noted (c.requires.plain a.0 a.1) c.settle.ensures.same.2 settled.0 settled.1
+    let settled = c.in_ok-settle-in-Some.ensures.settled (space_code s) (space_limits s) _ _ (moved.memory (view w.desk).spent w.done y.2.memory) in
+    rest_noted s w y.0 y.2 c.settle.new.self same c.settle.ensures.same.1 c.draw_own.new.task n (what_of_ask a.0) moved (c.requires.plain a.0 a.1) c.settle.ensures.same.2 settled.0 settled.1
+
+pub returns-in_ok-settle-in-Some-clause-role : goal.returns-in_ok-settle-in-Some-clause-role
+returns-in_ok-settle-in-Some-clause-role c =
+    let s = c.args.space.now in
+    let w = c.args.self.now in
+    let a = some_ask c.args.asked.now c.requires.some in
+    let y = c.requires.came a.0 a.1 in
+    let n = c.in-Some.field-0 in
+    let noted = value_of_some _ n (IsNotedFrom s (view w.desk) (view c.draw_own.new.desk) c.args.asked.now c.args.task c.draw_own.new.task) c.in-Some.is c.in_ok-draw_own.ensures.noted a.0 y.0 a.1 y.1 in
+    let d = c.settle.ensures.same.0 in
+    let moved = subst (λ (x : Desk Parcel). IsNotedAs (space_code s) (space_limits s) (view w.desk) (view x) y.0 c.draw_own.new.task n (what_of_ask a.0)) (sym d) noted in
+    let same = subst (λ (x : Desk Parcel). IsSameDesk w.desk x) (sym d) c.draw_own.ensures.desk in
+    role_noted s w y.0 y.2 c.settle.new.self same c.settle.ensures.same.1 c.draw_own.new.task n (what_of_ask a.0) moved
+
+pub returns-in_ok-lay_down-in-None-clause-rest : goal.returns-in_ok-lay_down-in-None-clause-rest
+returns-in_ok-lay_down-in-None-clause-rest c =
+    let s = c.args.space.now in
+    let w = c.args.self.now in
+    let a = some_ask c.args.asked.now c.requires.some in
+    let y = c.requires.came a.0 a.1 in
+    let told = told_full (space_code s) (space_limits s) y.0 c.args.task (what_of_ask a.0) y.1 (view w.desk) (view c.draw_own.new.desk) c.draw_own.new.task (where_none _ (WasToldFull (view w.desk) (view c.draw_own.new.desk) c.args.task c.draw_own.new.task) c.in-None.is c.in_ok-draw_own.ensures.told) in
+    let d = c.lay_down.ensures.same.0 in
+    let moved = subst (λ (x : Desk Parcel). WasToldFull (view w.desk) (view x) y.0 c.draw_own.new.task) (sym d) told in
+    let same = subst (λ (x : Desk Parcel). IsSameDesk w.desk x) (sym d) c.draw_own.ensures.desk in
+    rest_told s w y.0 y.2 c.lay_down.new.self same c.lay_down.ensures.same.1 c.draw_own.new.task moved (c.lay_down.ensures.same.2 ∙ c.requires.none) c.lay_down.ensures.same.3 c.in_ok-lay_down-in-None.ensures.done
+
+pub returns-in_ok-lay_down-in-None-clause-role : goal.returns-in_ok-lay_down-in-None-clause-role
+returns-in_ok-lay_down-in-None-clause-role c =
+    let s = c.args.space.now in
+    let w = c.args.self.now in
+    let a = some_ask c.args.asked.now c.requires.some in
+    let y = c.requires.came a.0 a.1 in
+    let told = told_full (space_code s) (space_limits s) y.0 c.args.task (what_of_ask a.0) y.1 (view w.desk) (view c.draw_own.new.desk) c.draw_own.new.task (where_none _ (WasToldFull (view w.desk) (view c.draw_own.new.desk) c.args.task c.draw_own.new.task) c.in-None.is c.in_ok-draw_own.ensures.told) in
+    let d = c.lay_down.ensures.same.0 in
+    let moved = subst (λ (x : Desk Parcel). WasToldFull (view w.desk) (view x) y.0 c.draw_own.new.task) (sym d) told in
+    let same = subst (λ (x : Desk Parcel). IsSameDesk w.desk x) (sym d) c.draw_own.ensures.desk in
+    role_told s w y.0 y.2 c.lay_down.new.self same c.lay_down.ensures.same.1 c.draw_own.new.task moved
+
+pub returns-in_ok-settle-in-Some-clause-went : goal.returns-in_ok-settle-in-Some-clause-went
+returns-in_ok-settle-in-Some-clause-went c =
+    let s = c.args.space.now in
+    let w = c.args.self.now in
+    let a = some_ask c.args.asked.now c.requires.some in
+    let y = c.requires.came a.0 a.1 in
+    let n = c.in-Some.field-0 in
+    let noted = value_of_some _ n (IsNotedFrom s (view w.desk) (view c.draw_own.new.desk) c.args.asked.now c.args.task c.draw_own.new.task) c.in-Some.is c.in_ok-draw_own.ensures.noted a.0 y.0 a.1 y.1 in
+    let kept = ap (λ (x : Desk Parcel). (view x).kept) c.settle.ensures.same.0 ∙ ap (λ (z : View). z.kept) noted.drawn in
+    let x = entry n noted.body (what_of_ask a.0) in
+    inl (newest_is_kept (view w.desk).kept c.args.task n x refl noted.below c.settle.new.self (subst (IsIn x) (sym kept) (inl refl)))
+
+pub returns-in_ok-lay_down-in-None-clause-went : goal.returns-in_ok-lay_down-in-None-clause-went
+returns-in_ok-lay_down-in-None-clause-went c =
+    let s = c.args.space.now in
+    let w = c.args.self.now in
+    let a = some_ask c.args.asked.now c.requires.some in
+    let y = c.requires.came a.0 a.1 in
+    let told = told_full (space_code s) (space_limits s) y.0 c.args.task (what_of_ask a.0) y.1 (view w.desk) (view c.draw_own.new.desk) c.draw_own.new.task (where_none _ (WasToldFull (view w.desk) (view c.draw_own.new.desk) c.args.task c.draw_own.new.task) c.in-None.is c.in_ok-draw_own.ensures.told) in
+    let d = c.lay_down.ensures.same.0 in
+    inr (inr (ap (λ (x : Desk Parcel). (view x).spent) d ∙ ap (λ (z : View). z.spent) told.told.1))
+
+pub returns-in_ok-settle-in-Some-clause-plays : goal.returns-in_ok-settle-in-Some-clause-plays
+returns-in_ok-settle-in-Some-clause-plays c =
+    let s = c.args.space.now in
+    let w = c.args.self.now in
+    let a = some_ask c.args.asked.now c.requires.some in
+    let y = c.requires.came a.0 a.1 in
+    let n = c.in-Some.field-0 in
+    let noted = value_of_some _ n (IsNotedFrom s (view w.desk) (view c.draw_own.new.desk) c.args.asked.now c.args.task c.draw_own.new.task) c.in-Some.is c.in_ok-draw_own.ensures.noted a.0 y.0 a.1 y.1 in
+    still_no_other c.args.task y.0 c.settle.new.self.task (sym y.1.view) (no_other y.0 c.draw_own.new.task (entry n noted.body (what_of_ask a.0)) c.settle.new.self.task noted.past c.in_ok-settle-in-Some.ensures.task)
+
+pub returns-in_ok-lay_down-in-None-clause-plays : goal.returns-in_ok-lay_down-in-None-clause-plays
+returns-in_ok-lay_down-in-None-clause-plays c = subst (PlaysNoOther c.args.task) (sym (c.lay_down.ensures.same.2 ∙ c.requires.none)) tt

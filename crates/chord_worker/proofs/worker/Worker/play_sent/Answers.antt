@@ -1,32 +1,50 @@
-use Rattle.std.proofs.Common.{[], refl, sym, ap, ◌∙◌, subst, inl, inr, arith}
+use Rattle.std.proofs.Common.{ℕ, ◌<◌, Bool, Some, None, [], refl, sym, ap, ◌∙◌, subst, inl, inr, arith}
 use Rattle.chord_base.specs.declared.event.What.TheVariants.{Sent}
+use Rattle.chord_vm.specs.declared.ask.Ask.{Ask}
+use Rattle.chord_vm.specs.declared.ask.Ask.TheVariants as ask
+use Rattle.chord_vm.specs.Frames.{what_of_ask}
+use Rattle.chord_task.specs.Turning.{HasCome}
 use Rattle.chord_rule.specs.declared.view.View.{View}
 use Rattle.chord_rule.specs.Kinds.{entry}
 use Rattle.chord_rule.specs.Made.{key}
 use Rattle.chord_space.specs.declared.space.Desk.{Desk}
 use Rattle.chord_space.specs.Desks.{view, space_code, space_limits, IsSameDesk}
 use Rattle.chord_task.specs.declared.parcel.Parcel.{Parcel}
-use Rattle.chord_worker.specs.Playing.{WasToldFull}
+use Rattle.chord_worker.specs.Playing.{IsNotedFrom, WasToldFull}
+use Rattle.chord_worker.proofs.Given.{only_ask, told_full, value_of_some, where_none}
 use Rattle.chord_worker.specs.Sending.{IsSentOff}
+use Rattle.chord_worker.specs.Resting.{IsInMemory}
 use Rattle.chord_worker.proofs.Resting.{rest_told}
-use Rattle.chord_worker.proofs.Sent.{letter_may, letter_memory, now_minds}
+use Rattle.chord_worker.proofs.Attending.{role_on}
+use Rattle.chord_worker.proofs.Sent.{letter_may, letter_memory, now_minds, minds_role}
 use Rattle.chord_worker.proofs.Parts.{all_kept}
 use Rattle.chord_worker.specs.Stepping.{PlaysNoOther}
-use Rattle.chord_worker.proofs.Stepping.{went_sent, no_other, plays_minded}
+use Rattle.chord_worker.proofs.Stepping.{went_sent, no_other, plays_minded, gone_on, plays_next}
 use Rattle.chord_worker.proofs.worker.Worker.play_sent.Goals as goal
 
+pub draw_own-requires-clause-came : goal.draw_own-requires-clause-came
+draw_own-requires-clause-came g c = λ a e.
+    let s = c.args.space.now in
+    let w = c.args.self.now in
+    let same = only_ask c.args.asked.now (ask.Send c.args.object c.args.method c.args.held.first) a c.requires.asked e in (
+      c.requires.came.0,
+      subst (λ (b : Ask). HasCome (space_code s) (space_limits s) c.requires.came.0 c.args.task (what_of_ask b)) same c.requires.came.1,
+      w.done,
+      subst (λ (b : Bool). IsInMemory (space_code s) (space_limits s) (view w.desk).kept b w.done (Some c.requires.came.0)) c.requires.room c.requires.came.2.memory,
+    )
+
 pub send_letter-requires-clause-bounds : goal.send_letter-requires-clause-bounds
-send_letter-requires-clause-bounds g c = (c.in-Ok.ensures.drawn.0, c.in-Ok.ensures.drawn.1.named c.args.object (inl refl))
+send_letter-requires-clause-bounds g c = ((value_of_some _ c.in-Some.number (λ (n : ℕ). n < c.args.space.now.events) c.in-Some.is c.in_ok-number.ensures.within), (value_of_some _ c.in-Some.number (IsNotedFrom c.args.space.now (view c.args.self.now.desk) (view c.draw_own.new.desk) c.args.asked.now c.args.task c.draw_own.new.task) c.in-Some.is c.in_ok-number.ensures.noted (ask.Send c.args.object c.args.method c.args.held.first) c.requires.came.0 c.requires.asked c.requires.came.1).named c.args.object (inl refl))
 
 pub send_letter-requires-clause-link : goal.send_letter-requires-clause-link
 send_letter-requires-clause-link g c =
     let s = c.args.space.now in
-    letter_may s c.args.self.now c.args.task c.requires.rest c.draw_message.new.task c.in-Ok.number (view c.draw_message.new.desk) c.args.object c.args.method c.args.held.first c.in-Ok.ensures.drawn.1
+    letter_may s c.args.self.now c.requires.came.0 c.requires.came.2 c.draw_own.new.task c.in-Some.number (view c.draw_own.new.desk) c.args.object c.args.method c.args.held.first (value_of_some _ c.in-Some.number (IsNotedFrom c.args.space.now (view c.args.self.now.desk) (view c.draw_own.new.desk) c.args.asked.now c.args.task c.draw_own.new.task) c.in-Some.is c.in_ok-number.ensures.noted (ask.Send c.args.object c.args.method c.args.held.first) c.requires.came.0 c.requires.asked c.requires.came.1)
 
 pub mind-requires-clause-bounds : goal.mind-requires-clause-bounds
 mind-requires-clause-bounds g c =
-    let low = c.in-Ok.ensures.drawn.0 in
-    let named = c.in-Ok.ensures.drawn.1.named c.args.object (inl refl) in
+    let low = (value_of_some _ c.in-Some.number (λ (n : ℕ). n < c.args.space.now.events) c.in-Some.is c.in_ok-number.ensures.within) in
+    let named = (value_of_some _ c.in-Some.number (IsNotedFrom c.args.space.now (view c.args.self.now.desk) (view c.draw_own.new.desk) c.args.asked.now c.args.task c.draw_own.new.task) c.in-Some.is c.in_ok-number.ensures.noted (ask.Send c.args.object c.args.method c.args.held.first) c.requires.came.0 c.requires.asked c.requires.came.1).named c.args.object (inl refl) in
     (low, (omega (arith, low, named)), c.send_letter.ensures.bounds.0, c.send_letter.ensures.bounds.1)
 
 pub mind-requires-clause-minds : goal.mind-requires-clause-minds
@@ -36,41 +54,60 @@ mind-requires-clause-minds g c =
     let w' = c.settle.new.self in
     let d = c.settle.ensures.same.0 in
     let what = Sent c.args.object c.args.method c.args.held.first in
-    let noted = c.in-Ok.ensures.drawn.1 in
+    let noted = (value_of_some _ c.in-Some.number (IsNotedFrom c.args.space.now (view c.args.self.now.desk) (view c.draw_own.new.desk) c.args.asked.now c.args.task c.draw_own.new.task) c.in-Some.is c.in_ok-number.ensures.noted (ask.Send c.args.object c.args.method c.args.held.first) c.requires.came.0 c.requires.asked c.requires.came.1) in
     let k = key c.args.object c.args.method in
-    let v = view c.draw_message.new.desk in
-    let sent = subst (λ (x : Desk Parcel). IsSentOff v (view x) c.in-Ok.number k []) (sym d) c.send_letter.ensures.sent in
-    let same = subst (λ (x : Desk Parcel). IsSameDesk w.desk x) (sym d) (c.send_letter.ensures.desk.0 ∙ c.draw_message.ensures.desk.0, c.send_letter.ensures.desk.1 ∙ c.draw_message.ensures.desk.1) in
-    let settled = c.in_ok-settle-in-Ok.ensures.settled (space_code s) (space_limits s) (view w'.desk).kept (view w.desk).spent
-    (letter_memory s w c.args.task c.requires.rest c.draw_message.new.task c.in-Ok.number v c.args.object c.args.method c.args.held.first noted (view w'.desk) k sent) in
-    now_minds s w c.args.task c.requires.rest c.draw_message.new.task c.in-Ok.number v what noted refl c.requires.room c.requires.stock w' k [] sent same c.settle.ensures.same.1 c.settle.ensures.same.2 settled.0 settled.1
+    let v = view c.draw_own.new.desk in
+    let sent = subst (λ (x : Desk Parcel). IsSentOff v (view x) c.in-Some.number k []) (sym d) c.send_letter.ensures.sent in
+    let same = subst (λ (x : Desk Parcel). IsSameDesk w.desk x) (sym d) (c.send_letter.ensures.desk.0 ∙ c.draw_own.ensures.desk.0, c.send_letter.ensures.desk.1 ∙ c.draw_own.ensures.desk.1) in
+    let settled = c.in_ok-settle-in-Some.ensures.settled (space_code s) (space_limits s) (view w'.desk).kept (view w.desk).spent
+    (letter_memory s w c.requires.came.0 c.requires.came.2 c.draw_own.new.task c.in-Some.number v c.args.object c.args.method c.args.held.first noted (view w'.desk) k sent) in
+    now_minds s w c.requires.came.0 c.requires.came.2 c.draw_own.new.task c.in-Some.number v what noted refl c.requires.room c.requires.stock w' k [] sent same c.settle.ensures.same.1 c.settle.ensures.same.2 settled.0 settled.1
 
-pub returns-in_ok-lay_down-in-Err-clause-rest : goal.returns-in_ok-lay_down-in-Err-clause-rest
-returns-in_ok-lay_down-in-Err-clause-rest g c =
+pub returns-in_ok-lay_down-in-None-clause-rest : goal.returns-in_ok-lay_down-in-None-clause-rest
+returns-in_ok-lay_down-in-None-clause-rest g c =
     let s = c.args.space.now in
     let w = c.args.self.now in
     let d = c.lay_down.ensures.same.0 in
-    let told = subst (λ (x : Desk Parcel). WasToldFull (view w.desk) (view x) c.args.task c.draw_message.new.task) (sym d) c.in-Err.ensures.drawn in
-    let same = subst (λ (x : Desk Parcel). IsSameDesk w.desk x) (sym d) c.draw_message.ensures.desk in
-    rest_told s w c.args.task c.requires.rest c.lay_down.new.self same c.lay_down.ensures.same.1 c.draw_message.new.task told (c.lay_down.ensures.same.2 ∙ c.requires.none) c.lay_down.ensures.same.3 c.in_ok-lay_down-in-Err.ensures.done
+    let told = subst (λ (x : Desk Parcel). WasToldFull (view w.desk) (view x) c.requires.came.0 c.draw_own.new.task) (sym d) (told_full (space_code c.args.space.now) (space_limits c.args.space.now) c.requires.came.0 c.args.task (Sent c.args.object c.args.method c.args.held.first) c.requires.came.1 (view c.args.self.now.desk) (view c.draw_own.new.desk) c.draw_own.new.task (where_none _ (WasToldFull (view c.args.self.now.desk) (view c.draw_own.new.desk) c.args.task c.draw_own.new.task) c.in-None.is c.in_ok-number.ensures.told)) in
+    let same = subst (λ (x : Desk Parcel). IsSameDesk w.desk x) (sym d) c.draw_own.ensures.desk in
+    rest_told s w c.requires.came.0 c.requires.came.2 c.lay_down.new.self same c.lay_down.ensures.same.1 c.draw_own.new.task told (c.lay_down.ensures.same.2 ∙ c.requires.none) c.lay_down.ensures.same.3 c.in_ok-lay_down-in-None.ensures.done
 
-pub returns-in_ok-mind-in-Ok-clause-went : goal.returns-in_ok-mind-in-Ok-clause-went
-returns-in_ok-mind-in-Ok-clause-went g c =
-    let noted = c.in-Ok.ensures.drawn.1 in
-    let x = entry c.in-Ok.number noted.body (Sent c.args.object c.args.method c.args.held.first) in
-    let kept = ap (λ (d : Desk Parcel). (view d).kept) c.settle.ensures.same.0 ∙ c.send_letter.ensures.sent.kept ∙ all_kept (view c.draw_message.new.desk).kept ∙ ap (λ (z : View). z.kept) noted.drawn in
-    went_sent (view c.args.self.now.desk).kept c.args.task c.in-Ok.number x refl noted.below c.mind.new.self g.G.Gate.knows (view c.settle.new.self.desk).kept c.settle.new.self.task kept c.in_ok-mind-in-Ok.ensures.minded
+pub returns-in_ok-mind-in-Some-clause-went : goal.returns-in_ok-mind-in-Some-clause-went
+returns-in_ok-mind-in-Some-clause-went g c =
+    let noted = (value_of_some _ c.in-Some.number (IsNotedFrom c.args.space.now (view c.args.self.now.desk) (view c.draw_own.new.desk) c.args.asked.now c.args.task c.draw_own.new.task) c.in-Some.is c.in_ok-number.ensures.noted (ask.Send c.args.object c.args.method c.args.held.first) c.requires.came.0 c.requires.asked c.requires.came.1) in
+    let x = entry c.in-Some.number noted.body (Sent c.args.object c.args.method c.args.held.first) in
+    let kept = ap (λ (d : Desk Parcel). (view d).kept) c.settle.ensures.same.0 ∙ c.send_letter.ensures.sent.kept ∙ all_kept (view c.draw_own.new.desk).kept ∙ ap (λ (z : View). z.kept) noted.drawn in
+    gone_on (view c.args.self.now.desk).kept c.args.task c.requires.came.0 c.mind.new.self (sym c.requires.came.1.view)
+    (went_sent (view c.args.self.now.desk).kept c.requires.came.0 c.in-Some.number x refl noted.below c.mind.new.self g.G.Gate.knows (view c.settle.new.self.desk).kept c.settle.new.self.task kept c.in_ok-mind-in-Some.ensures.minded)
 
-pub returns-in_ok-lay_down-in-Err-clause-went : goal.returns-in_ok-lay_down-in-Err-clause-went
-returns-in_ok-lay_down-in-Err-clause-went g c = inr (inr (ap (λ (x : Desk Parcel). (view x).spent) c.lay_down.ensures.same.0 ∙ ap (λ (z : View). z.spent) c.in-Err.ensures.drawn.view))
+pub returns-in_ok-lay_down-in-None-clause-went : goal.returns-in_ok-lay_down-in-None-clause-went
+returns-in_ok-lay_down-in-None-clause-went g c = inr (inr (ap (λ (x : Desk Parcel). (view x).spent) c.lay_down.ensures.same.0 ∙ ap (λ (z : View). z.spent) (told_full (space_code c.args.space.now) (space_limits c.args.space.now) c.requires.came.0 c.args.task (Sent c.args.object c.args.method c.args.held.first) c.requires.came.1 (view c.args.self.now.desk) (view c.draw_own.new.desk) c.draw_own.new.task (where_none _ (WasToldFull (view c.args.self.now.desk) (view c.draw_own.new.desk) c.args.task c.draw_own.new.task) c.in-None.is c.in_ok-number.ensures.told)).told.1))
 
-pub returns-in_ok-mind-in-Ok-clause-plays : goal.returns-in_ok-mind-in-Ok-clause-plays
-returns-in_ok-mind-in-Ok-clause-plays g c =
-    let noted = c.in-Ok.ensures.drawn.1 in
-    let x = entry c.in-Ok.number noted.body (Sent c.args.object c.args.method c.args.held.first) in
-    plays_minded g.G.Gate.knows (view c.args.self.now.desk).kept (view c.settle.new.self.desk).kept c.args.task c.in-Ok.number c.settle.new.self.task c.mind.new.self noted.below
-    (no_other c.args.task c.draw_message.new.task x c.settle.new.self.task noted.past c.in_ok-settle-in-Ok.ensures.task)
-    (λ told. c.in_ok-mind-in-Ok.ensures.over.1 (c.in_ok-mind-in-Ok.ensures.over.0.told ∙ told)) c.in_ok-mind-in-Ok.ensures.minded
+pub returns-in_ok-mind-in-Some-clause-plays : goal.returns-in_ok-mind-in-Some-clause-plays
+returns-in_ok-mind-in-Some-clause-plays g c =
+    let noted = (value_of_some _ c.in-Some.number (IsNotedFrom c.args.space.now (view c.args.self.now.desk) (view c.draw_own.new.desk) c.args.asked.now c.args.task c.draw_own.new.task) c.in-Some.is c.in_ok-number.ensures.noted (ask.Send c.args.object c.args.method c.args.held.first) c.requires.came.0 c.requires.asked c.requires.came.1) in
+    let x = entry c.in-Some.number noted.body (Sent c.args.object c.args.method c.args.held.first) in
+    plays_next g.G.Gate.knows (view c.args.self.now.desk).kept c.args.task c.requires.came.0 c.mind.new.self (sym c.requires.came.1.view)
+    (plays_minded g.G.Gate.knows (view c.args.self.now.desk).kept (view c.settle.new.self.desk).kept c.requires.came.0 c.in-Some.number c.settle.new.self.task c.mind.new.self noted.below
+    (no_other c.requires.came.0 c.draw_own.new.task x c.settle.new.self.task noted.past c.in_ok-settle-in-Some.ensures.task)
+    (λ told. c.in_ok-mind-in-Some.ensures.over.1 (c.in_ok-mind-in-Some.ensures.over.0.told ∙ told)) c.in_ok-mind-in-Some.ensures.minded)
 
-pub returns-in_ok-lay_down-in-Err-clause-plays : goal.returns-in_ok-lay_down-in-Err-clause-plays
-returns-in_ok-lay_down-in-Err-clause-plays g c = inl (subst (PlaysNoOther c.args.task) (sym (c.lay_down.ensures.same.2 ∙ c.requires.none)) tt)
+pub returns-in_ok-lay_down-in-None-clause-plays : goal.returns-in_ok-lay_down-in-None-clause-plays
+returns-in_ok-lay_down-in-None-clause-plays g c = inl (subst (PlaysNoOther c.args.task) (sym (c.lay_down.ensures.same.2 ∙ c.requires.none)) tt)
+
+pub send_letter-requires-clause-named : goal.send_letter-requires-clause-named
+send_letter-requires-clause-named g c = (value_of_some _ c.in-Some.number (IsNotedFrom c.args.space.now (view c.args.self.now.desk) (view c.draw_own.new.desk) c.args.asked.now c.args.task c.draw_own.new.task) c.in-Some.is c.in_ok-number.ensures.noted (ask.Send c.args.object c.args.method c.args.held.first) c.requires.came.0 c.requires.asked c.requires.came.1).of_code
+
+pub returns-in_ok-mind-in-Some-clause-role : goal.returns-in_ok-mind-in-Some-clause-role
+returns-in_ok-mind-in-Some-clause-role g c =
+    let s = c.args.space.now in
+    let w = c.args.self.now in
+    let w' = c.settle.new.self in
+    let d = c.settle.ensures.same.0 in
+    let what = Sent c.args.object c.args.method c.args.held.first in
+    let noted = (value_of_some _ c.in-Some.number (IsNotedFrom c.args.space.now (view c.args.self.now.desk) (view c.draw_own.new.desk) c.args.asked.now c.args.task c.draw_own.new.task) c.in-Some.is c.in_ok-number.ensures.noted (ask.Send c.args.object c.args.method c.args.held.first) c.requires.came.0 c.requires.asked c.requires.came.1) in
+    let k = key c.args.object c.args.method in
+    let v = view c.draw_own.new.desk in
+    let sent = subst (λ (x : Desk Parcel). IsSentOff v (view x) c.in-Some.number k []) (sym d) c.send_letter.ensures.sent in
+    let same = subst (λ (x : Desk Parcel). IsSameDesk w.desk x) (sym d) (c.send_letter.ensures.desk.0 ∙ c.draw_own.ensures.desk.0, c.send_letter.ensures.desk.1 ∙ c.draw_own.ensures.desk.1) in
+    role_on (view w.desk) (view w'.desk) (view c.mind.new.self.desk) (minds_role s w c.requires.came.0 c.requires.came.2 c.draw_own.new.task c.in-Some.number v what noted refl c.requires.room c.requires.stock w' k [] sent same c.settle.ensures.same.1 c.settle.ensures.same.2) c.in_ok-mind-in-Some.ensures.role
