@@ -39,6 +39,13 @@ impl Nexts {
         self.nexts.push(next);
     }
 
+    /// Takes all nexts out. Where there are none, nothing is written.
+    pub fn clear(&mut self)
+        ensures { self.new ≡ [] }
+    {
+        self.nexts.clear();
+    }
+
     /// The nexts.
     pub fn items(&self) -> &[Option<u32>]
         ensures nexts { result.now ≡ self.now }

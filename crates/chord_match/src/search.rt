@@ -1,5 +1,5 @@
 //! For a message that a desk has a duty on, messages are looked for that one chord takes together with it.
-ghost use Rattle.std.specs.Prelude.{◌≡◌, ℕ, ◌<◌, ◌≤◌, ◌+◌, List, length, map, replicate, slice_get, true, Option, Some, None};
+ghost use Rattle.std.specs.Prelude.{◌≡◌, ℕ, ◌<◌, ◌≤◌, ◌+◌, List, [], length, map, replicate, slice_get, true, Option, Some, None};
 ghost use Rattle.chord_base.specs.Messages.{has, AreDifferent};
 ghost use Rattle.chord_bag.specs.declared.walk.Sought.{Sought};
 ghost use Rattle.chord_code.specs.Meaning.{chord_lines, methods_of};
@@ -169,6 +169,15 @@ fn has_method(methods: &[u8], method: u8) -> bool
     method == *first || has_method(rest, method)
 }
 
+// Empties the place; as a rule nothing stands there, and then nothing is written.
+fn clear(members: &mut Members)
+    ensures { members.new ≡ [] }
+{
+    if !members.items().is_empty() {
+        *members = Members::new();
+    }
+}
+
 // The first of several chords with the message that has its members, and these.
 fn through_several<P: Carry>(
     space: &Space<P>,
@@ -191,8 +200,8 @@ fn through_several<P: Carry>(
     for at in 0..lines.len() {
         let methods = lines[at].methods.items();
         if has_method(methods, own.method) {
-            *members = Members::new();
-            *nexts = Nexts::new();
+            clear(members);
+            nexts.clear();
             match gather(
                 space, desk, object, own, methods, &mut known, members, nexts,
             ) {
@@ -221,7 +230,8 @@ fn line_with(lines: &[ChordLine], from: usize, method: u8) -> usize
 }
 
 // The first chord with the message that has its members, and these; the caller's place is filled, since to give them back they would
-// be moved from function to function. Where one chord alone has the method, as most often, nothing is noted.
+// be moved from function to function. Where one chord alone has the method, as most often, nothing is noted. The places are
+// empty: `find` sees to that first of all, where a caller has as a rule just made them.
 fn through<P: Carry>(
     space: &Space<P>,
     desk: &mut Desk<P>,
@@ -235,6 +245,7 @@ fn through<P: Carry>(
     requires bounds { (object.number < space.now.events) × (object.class < 1024) }
     requires searching { (v : View) × Searching space.now.events v (view desk.old) object own.now (replicate 16 None) }
     requires lines { (length lines.now ≤ 256) × ((k : ℕ) (js : List ℕ) → slice_get (map methods_of lines.now) k ≡ Some js → ((j : ℕ) → has j js ≡ true → j < heads space.now) × (length js ≤ 8) × AreDifferent js) }
+    requires empty { (members.old ≡ []) × (nexts.old ≡ []) }
     ensures desk { IsSameDesk desk.old desk.new }
     ensures through { (v : View) → Searching space.now.events v (view desk.old) object own.now (replicate 16 None) → (known : List (Option Sought)) × IsThrough space.now.events v (view desk.new) object own.now (map methods_of lines.now) known members.new nexts.new result }
 {
@@ -246,8 +257,6 @@ fn through<P: Carry>(
     if more < lines.len() {
         return through_several(space, desk, object, own, lines, members, nexts);
     }
-    *members = Members::new();
-    *nexts = Nexts::new();
     let methods = lines[at].methods.items();
     match gather_one(space, desk, object, own, methods, members, nexts) {
         Step::All => Verdict::Match(at as u16),
@@ -292,6 +301,8 @@ pub fn find<P: Carry>(
     ensures desk { IsSameDesk desk.old desk.new }
     ensures finding { IsFinding (program_of space.now) space.now.events (view desk.old) (view desk.new) m object method members.new nexts.new result }
 {
+    clear(members);
+    nexts.clear();
     let word = space.look_cell(desk, m);
     match word.cell {
         Cell::Pending => {}

@@ -17,7 +17,7 @@ returns-in-All-clause-through g c v t =
     let js = c.items-methods.result.now in let at = c.line_with-at.result in let most = c.line_with-at.ensures.place.1 in let other = c.if-at-lines.false in
     let here : slice_get (map methods_of c.args.lines.now) at ≡ Some js = chord_line_at c.args.lines.now at c.index-lines-at.result c.index-lines-at.is (omega (arith, most, other)) ∙ ap (λ (z : List ℕ). Some z) (ap methods_of c.index-lines-at.is ∙ sym c.items-methods.ensures.numbers) in
     let got = c.in-All.ensures.gathered v t in
-    let all = all_gathered c.args.space.now.events v (view c.args.desk.now) (view c.gather_one.new.desk) c.args.object c.args.own.now js (replicate 16 None) got.0 c.new.result c.gather_one.new.members c.new-2.result c.gather_one.new.nexts c.new.ensures c.new-2.ensures got.1 in
+    let all = all_gathered c.args.space.now.events v (view c.args.desk.now) (view c.gather_one.new.desk) c.args.object c.args.own.now js (replicate 16 None) got.0 c.args.members.now c.gather_one.new.members c.args.nexts.now c.gather_one.new.nexts c.requires.empty.0 c.requires.empty.1 got.1 in
     (got.0, record { stands = got.1.moves.stands; verdict = (js, here, c.line_with-at.ensures.here js here, all.0, all.1) })
 
 pub returns-in-Stuck-clause-through : goal.returns-in-Stuck-clause-through
