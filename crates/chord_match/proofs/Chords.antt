@@ -16,17 +16,6 @@ pub are_kept : (own : Own) (jss : List (List ℕ)) (n : ℕ) (a b : List (Option
 are_kept own jss n a b None k s = λ q js l e h. stuck_kept own js a b None k (s q js l e h)
 are_kept own jss n a b (Some i) k s = ((λ q js l e h. let t = s.0 q js l e h in (t.0, stuck_kept own js a b t.0 k t.1)), let t = s.1 in (t.0, t.1, t.2, t.3, t.4, stuck_kept own t.1 a b (Some i) k t.5))
 
--- a chord without the method is passed over
-pub are_skipped : (own : Own) (jss : List (List ℕ)) (n : ℕ) (js : List ℕ) (a : List (Option Sought)) (busy : Option ℕ) → slice_get jss n ≡ Some js → has own.method js ≡ false → AreStuck own jss n a busy → AreStuck own jss (n + 1) a busy
-are_skipped own jss n js a None here off s = λ q ks l e h. ⊎_elim (λ same. absurd (wrong q ks same e h)) (λ low. s q ks low e h) (all_below_more q n l)
-  where
-    wrong : (q : ℕ) (ks : List ℕ) → q ≡ n → slice_get jss q ≡ Some ks → has own.method ks ≡ true → ⊥
-    wrong q ks same e h = let z : Some js ≡ Some ks = sym here ∙ ap (slice_get jss) (sym same) ∙ e in let y : js ≡ ks = cc in let x : false ≡ true = sym off ∙ ap (has own.method) y ∙ h in absurd (cc)
-are_skipped own jss n js a (Some i) here off s = ((λ q ks l e h. ⊎_elim (λ same. absurd (wrong q ks same e h)) (λ low. s.0 q ks low e h) (all_below_more q n l)), let t = s.1 in (t.0, t.1, let low = t.2 in omega (arith, low), t.3, t.4, t.5))
-  where
-    wrong : (q : ℕ) (ks : List ℕ) → q ≡ n → slice_get jss q ≡ Some ks → has own.method ks ≡ true → ⊥
-    wrong q ks same e h = let z : Some js ≡ Some ks = sym here ∙ ap (slice_get jss) (sym same) ∙ e in let y : js ≡ ks = cc in let x : false ≡ true = sym off ∙ ap (has own.method) y ∙ h in absurd (cc)
-
 -- one chord more is stuck
 pub are_more : (own : Own) (jss : List (List ℕ)) (n : ℕ) (js : List ℕ) (a : List (Option Sought)) (busy more : Option ℕ) → slice_get jss n ≡ Some js → has own.method js ≡ true → IsStuck own js a more → AreStuck own jss n a busy → AreStuck own jss (n + 1) a (firstly busy more)
 are_more own jss n js a busy more here on stuck s = cases busy more stuck s

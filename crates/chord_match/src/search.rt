@@ -12,7 +12,7 @@ ghost use Rattle.chord_space.specs.Desks.{view, heads, space_code, program_of, I
 ghost use Rattle.chord_word.specs.declared.cells.Cell.TheVariants.{Pending};
 ghost use Rattle.chord_match.specs.Findings.{IsFinding, read_so};
 ghost use Rattle.chord_match.specs.Noting.{all_told};
-ghost use Rattle.chord_match.specs.Searching.{Searching, Learned, Picked, Gathered, AreWithout, IsThrough, firstly};
+ghost use Rattle.chord_match.specs.Searching.{Searching, Learned, Picked, Gathered, AreWithout, IsWith, IsThrough, firstly};
 
 use crate::alone::gather_one;
 use crate::nexts::Nexts;
@@ -178,47 +178,12 @@ fn clear(members: &mut Members)
     }
 }
 
-// The first of several chords with the message that has its members, and these.
-fn through_several<P: Carry>(
-    space: &Space<P>,
-    desk: &mut Desk<P>,
-    object: Object,
-    own: &Own,
-    lines: &[ChordLine],
-    members: &mut Members,
-    nexts: &mut Nexts,
-) -> Verdict
-    requires desk { IsDeskOf space.now desk.old }
-    requires bounds { (object.number < space.now.events) × (object.class < 1024) }
-    requires searching { (v : View) × Searching space.now.events v (view desk.old) object own.now (replicate 16 None) }
-    requires lines { (length lines.now ≤ 256) × ((k : ℕ) (js : List ℕ) → slice_get (map methods_of lines.now) k ≡ Some js → ((j : ℕ) → has j js ≡ true → j < heads space.now) × (length js ≤ 8) × AreDifferent js) }
-    ensures desk { IsSameDesk desk.old desk.new }
-    ensures through { (v : View) → Searching space.now.events v (view desk.old) object own.now (replicate 16 None) → (known : List (Option Sought)) × IsThrough space.now.events v (view desk.new) object own.now (map methods_of lines.now) known members.new nexts.new result }
-{
-    let mut known = [Note::Nothing; 16];
-    let mut busy = None;
-    for at in 0..lines.len() {
-        let methods = lines[at].methods.items();
-        if has_method(methods, own.method) {
-            clear(members);
-            nexts.clear();
-            match gather(
-                space, desk, object, own, methods, &mut known, members, nexts,
-            ) {
-                Step::All => return Verdict::Match(at as u16),
-                Step::Stuck(more) => busy = first(busy, more),
-            }
-        }
-    }
-    Verdict::Without(busy)
-}
-
 // The first line from this one on whose chord has the method; where there is none, how many lines there are.
 fn line_with(lines: &[ChordLine], from: usize, method: u8) -> usize
     requires from { from ≤ length lines.now }
     ensures place { (from ≤ result) × (result ≤ length lines.now) }
     ensures skipped { AreWithout method (map methods_of lines.now) from result }
-    ensures here { (js : List ℕ) → slice_get (map methods_of lines.now) result ≡ Some js → has method js ≡ true }
+    ensures here { IsWith method (map methods_of lines.now) result }
 {
     for at in from..lines.len() {
         let methods = lines[at].methods.items();
@@ -227,6 +192,61 @@ fn line_with(lines: &[ChordLine], from: usize, method: u8) -> usize
         }
     }
     lines.len()
+}
+
+// The line behind this one whose chord has the method, where the second such line of all was found before.
+fn line_behind(lines: &[ChordLine], at: usize, second: usize, method: u8) -> usize
+    requires at { at < length lines.now }
+    requires second { (second ≤ length lines.now) × AreWithout method (map methods_of lines.now) (at + 1) second × IsWith method (map methods_of lines.now) second }
+    ensures place { (at < result) × (result ≤ length lines.now) }
+    ensures skipped { AreWithout method (map methods_of lines.now) (at + 1) result }
+    ensures here { IsWith method (map methods_of lines.now) result }
+{
+    if at < second {
+        second
+    } else {
+        line_with(lines, at + 1, method)
+    }
+}
+
+// The first of several chords with the message that has its members, and these. The first two of the chords were found before, so
+// that no line is looked at twice.
+fn through_several<P: Carry>(
+    space: &Space<P>,
+    desk: &mut Desk<P>,
+    object: Object,
+    own: &Own,
+    lines: &[ChordLine],
+    from: usize,
+    second: usize,
+    members: &mut Members,
+    nexts: &mut Nexts,
+) -> Verdict
+    requires desk { IsDeskOf space.now desk.old }
+    requires bounds { (object.number < space.now.events) × (object.class < 1024) }
+    requires searching { (v : View) × Searching space.now.events v (view desk.old) object own.now (replicate 16 None) }
+    requires lines { (length lines.now ≤ 256) × ((k : ℕ) (js : List ℕ) → slice_get (map methods_of lines.now) k ≡ Some js → ((j : ℕ) → has j js ≡ true → j < heads space.now) × (length js ≤ 8) × AreDifferent js) }
+    requires from { (from ≤ length lines.now) × AreWithout own.now.method (map methods_of lines.now) 0 from × IsWith own.now.method (map methods_of lines.now) from }
+    requires second { (second ≤ length lines.now) × AreWithout own.now.method (map methods_of lines.now) (from + 1) second × IsWith own.now.method (map methods_of lines.now) second }
+    ensures desk { IsSameDesk desk.old desk.new }
+    ensures through { (v : View) → Searching space.now.events v (view desk.old) object own.now (replicate 16 None) → (known : List (Option Sought)) × IsThrough space.now.events v (view desk.new) object own.now (map methods_of lines.now) known members.new nexts.new result }
+{
+    let mut known = [Note::Nothing; 16];
+    let mut busy = None;
+    let mut at = from;
+    while at < lines.len() {
+        let methods = lines[at].methods.items();
+        clear(members);
+        nexts.clear();
+        match gather(
+            space, desk, object, own, methods, &mut known, members, nexts,
+        ) {
+            Step::All => return Verdict::Match(at as u16),
+            Step::Stuck(more) => busy = first(busy, more),
+        }
+        at = line_behind(lines, at, second, own.method);
+    }
+    Verdict::Without(busy)
 }
 
 // The first chord with the message that has its members, and these; the caller's place is filled, since to give them back they would
@@ -255,7 +275,7 @@ fn through<P: Carry>(
     }
     let more = line_with(lines, at + 1, own.method);
     if more < lines.len() {
-        return through_several(space, desk, object, own, lines, members, nexts);
+        return through_several(space, desk, object, own, lines, at, more, members, nexts);
     }
     let methods = lines[at].methods.items();
     match gather_one(space, desk, object, own, methods, members, nexts) {
