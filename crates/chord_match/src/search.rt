@@ -270,7 +270,8 @@ fn through<P: Carry>(
     ensures through { (v : View) → Searching space.now.events v (view desk.old) object own.now (replicate 16 None) → (known : List (Option Sought)) × IsThrough space.now.events v (view desk.new) object own.now (map methods_of lines.now) known members.new nexts.new result }
 {
     let at = line_with(lines, 0, own.method);
-    if at == lines.len() {
+    // Not `==`: from `>=` the index below is seen to be within, when the program is built.
+    if at >= lines.len() {
         return Verdict::Without(None);
     }
     let more = line_with(lines, at + 1, own.method);
