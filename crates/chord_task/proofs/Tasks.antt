@@ -1,5 +1,5 @@
 -- The task as a whole, before and after its calls.
-use Rattle.std.proofs.Common.{◌≡◌, ℕ, ◌+◌, true, false, List, [], ◌∷◌, ◌++◌, length, Option, Some, None, refl, sym, ap, ◌∙◌, subst, arith, Vec, Global, vec_len, vec_capacity}
+use Rattle.std.proofs.Common.{◌≡◌, ℕ, ◌+◌, ◌<◌, true, false, List, [], ◌∷◌, ◌++◌, length, Option, Some, None, refl, sym, ap, ◌∙◌, subst, arith, Vec, Global, vec_len, vec_capacity}
 use Rattle.std.specs.Prelude.{reverse, Result, Ok, Err, OnOk, Box}
 use Rattle.std.proofs.lemmas.List.{reverse-append}
 use Rattle.chord_base.specs.declared.value.Value.{Value}
@@ -201,7 +201,7 @@ on_ok_follows P Q (Ok x) f p = f p
 on_ok_follows P Q (Err e) f p = tt
 
 -- a task without a body, with room for one
-pub spare_task : (code : Parts) (limits : Limits) (t : Task) → IsForward code → t.limits ≡ limits → t.top ≡ None → t.past.items ≡ [] → t.below.items ≡ [] → IsResumable code t → HasRoomFor code t.limits t.spare → MayBeList t.values → IsTaskOf code limits t
+pub spare_task : (code : Parts) (limits : Limits) (t : Task) → IsForward code → t.limits ≡ limits → t.top ≡ None → t.past.items ≡ [] → waiting_bodies (reverse t.below.items) ≡ [] → IsResumable code t → HasRoomFor code t.limits t.spare → MayBeList t.values → IsTaskOf code limits t
 spare_task code limits t forward limited top past below room kept list =
     let p = code_program code limits in
     let none : (view_of t).past ≡ [] = ap reverse past in
@@ -216,8 +216,25 @@ spare_task code limits t forward limited top past below room kept list =
             below = λ b u. subst (λ (h : List Entry). IsServedThere p h (doing p h b)) (sym none) tt;
           };
       is_defined = λ b. subst (λ (h : List Entry). StaysDefinedAt p (doing p h b)) (sym none) tt;
-      stack = subst (λ z. IsBodyStack code limits (view_of t).past z (reverse t.below.items)) (sym top) (ap (λ (z : List Caller). waiting_bodies (reverse z)) below);
+      stack = subst (λ z. IsBodyStack code limits (view_of t).past z (reverse t.below.items)) (sym top) below;
       room = subst (λ z. HasRoomIf code t z) (sym top) room;
       kept = kept;
       kept_values = list;
     }
+
+-- a body that has no number is not there
+no_body : (top : Option Body) → body_number top ≡ None → top ≡ None
+no_body None e = refl
+no_body (Some b) e = absurd (cc)
+
+-- a task in which no body is left, whose entries were taken, has room for a body
+pub renewed_task : (code : Parts) (limits : Limits) (t : Task) (past : Vec Entry Global) → (view_of t).top ≡ None → past.items ≡ [] → vec_len past < vec_capacity past → IsTaskOf code limits t
+    → IsTaskOf code limits (record t { past = past }) × IsResumable code (record t { past = past })
+renewed_task code limits t past over none some k =
+    let top = no_body t.top over in
+    let was : IsResumable code t = subst (HasRoomIf code t) top k.room in
+    let room : IsResumable code (record t { past = past }) = record { past = some; below = was.below; frames = was.frames; spare = was.spare; room = was.room; values = was.values } in
+    (spare_task code limits (record t { past = past }) k.forward k.limited top none (stack_none code limits (view_of t).past t.top (reverse t.below.items) top k.stack) room k.kept k.kept_values, room)
+  where
+    stack_none : (code : Parts) (limits : Limits) (h : List Entry) (o : Option Body) (cs : List Caller) → o ≡ None → IsBodyStack code limits h o cs → waiting_bodies cs ≡ []
+    stack_none code limits h o cs e s = subst (λ z. IsBodyStack code limits h z cs) e s

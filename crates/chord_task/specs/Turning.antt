@@ -1,14 +1,20 @@
 -- A turn of a task: its next ask becomes an entry.
-use Rattle.std.specs.Prelude.{◌≡◌, ℕ, Option, Some, None, false}
+use Rattle.std.specs.Prelude.{◌≡◌, ℕ, List, [], ◌∷◌, Option, Some, None, false}
+use Rattle.chord_base.specs.declared.event.End.{End}
+use Rattle.chord_base.specs.declared.event.End.TheVariants.{Gives}
 use Rattle.chord_base.specs.declared.event.Limits.{Limits}
 use Rattle.chord_base.specs.declared.event.What.{What}
 use Rattle.chord_base.specs.declared.event.What.TheVariants.{Begun, Made, Sent, Called, Printed, Fired, Ended}
 use Rattle.chord_base.specs.declared.value.Object.{Object}
+use Rattle.chord_base.specs.declared.value.Value.{Value}
+use Rattle.chord_base.specs.declared.value.Value.TheVariants as a_value
 use Rattle.chord_base.specs.Meaning.{Program}
 use Rattle.chord_base.specs.Printed.{is_end}
 use Rattle.chord_base.specs.Story.{AllBelow}
 use Rattle.chord_code.specs.declared.parts.Parts.{Parts}
 use Rattle.chord_code.specs.Meaning.{code_program}
+use Rattle.chord_vm.specs.declared.ask.Ask.{Ask}
+use Rattle.chord_vm.specs.declared.ask.Ask.TheVariants as asks
 use Rattle.chord_task.specs.declared.body.Next.{Next}
 use Rattle.chord_task.specs.declared.body.Next.TheVariants as nexts
 use Rattle.chord_task.specs.declared.body.Body.{Body}
@@ -72,6 +78,27 @@ pub record HasSettled (code : Parts) (before : Task) (n : ℕ) (w : What) (after
   pub task : IsTaskOf code before.limits after
   pub noted : task_noted (view_of before) n w (view_of after)
   pub top : is_end w ≡ false → (view_of after).top ≡ (view_of before).top
+
+-- of arguments that were taken nothing is left, or a lone number
+abbrev pub AreBare : List Value → Type 0
+AreBare [] = Unit {0}
+AreBare (a_value.Int n ∷ []) = Unit {0}
+AreBare _ = ⊥
+
+-- of an end that was taken a number or no value is left
+abbrev pub IsBareEnd : End → Type 0
+IsBareEnd (Gives a_value.Unit) = Unit {0}
+IsBareEnd (Gives (a_value.Int n)) = Unit {0}
+IsBareEnd _ = ⊥
+
+-- nothing is left of the ask that lies in memory of its own
+abbrev pub IsBare : Option Ask → Type 0
+IsBare None = Unit {0}
+IsBare (Some (asks.Make c)) = Unit {0}
+IsBare (Some (asks.Send o j vs)) = AreBare vs
+IsBare (Some (asks.Call o j vs)) = AreBare vs
+IsBare (Some (asks.Print t)) = ⊥
+IsBare (Some (asks.End e)) = IsBareEnd e
 
 -- the body keeps an ask
 abbrev pub IsKept : Next → Type 0

@@ -32,6 +32,9 @@ use std::mem;
 /// The most values of an entry.
 const MAX_ENTRY_VALUES: usize = 64;
 
+/// For how many entries a task that has none takes room: most bodies of a task of their own make no more.
+const FIRST_ENTRIES: usize = 4;
+
 /// A stack of bodies, and what they did.
 #[derive(Drop)]
 pub struct Task {
@@ -304,7 +307,7 @@ impl Task {
         ensures room { IfOk result (λ t. IsResumable code.now t) }
     {
         let _parts = code.parts();
-        let past = Vec::with_capacity(alloc, 1)?;
+        let past = Vec::with_capacity(alloc, FIRST_ENTRIES)?;
         let below = Vec::with_capacity(alloc, 1)?;
         let values = Vec::with_capacity(alloc, MAX_ENTRY_VALUES)?;
         let frames = new_frames(alloc, code, limits)?;
@@ -526,6 +529,22 @@ impl Task {
         ensures { result ≡ self.past }
     {
         self.past
+    }
+
+    /// The entries of a task in which no body is left. The task has none then, and its memory serves for the next body, as that of what `spare` makes.
+    ///
+    /// # Errors
+    ///
+    /// `AllocError` where no memory is found for the entries to come; the task is as it was.
+    pub fn renew(&mut self, alloc: Global) -> Result<Vec<Entry>, AllocError>
+        requires over { (view_of self.old).top ≡ None }
+        ensures entries { IfOk result (λ past. past ≡ self.old.past) }
+        ensures past { OnOk result ((view_of self.new).past ≡ []) }
+        ensures top { (view_of self.new).top ≡ None }
+        ensures task { OnOk result ((code : Parts) (limits : TheLimits) → IsTaskOf code limits self.old → IsTaskOf code limits self.new × IsResumable code self.new) }
+    {
+        let past = Vec::with_capacity(alloc, FIRST_ENTRIES)?;
+        Ok(mem::replace(&mut self.past, past))
     }
 
     /// The newest entry.

@@ -6,7 +6,7 @@ ghost use Rattle.chord_code.specs.Meaning.{code_program};
 ghost use Rattle.chord_vm.specs.Frames.{what_of_ask};
 ghost use Rattle.chord_task.specs.declared.body.Body.{Body as ABody};
 ghost use Rattle.chord_task.specs.Standing.{view_of, IsTaskOf, is_ready_of, given_by, LastIsReady, HasReturned};
-ghost use Rattle.chord_task.specs.Turning.{sent_to, sent_of, MayTurn, HasTurned, IsAskedFor, RunsOn, HasSettled, MaySettle};
+ghost use Rattle.chord_task.specs.Turning.{sent_to, sent_of, MayTurn, HasTurned, IsAskedFor, RunsOn, HasSettled, MaySettle, AreBare, IsBareEnd, IsBare};
 
 use crate::body::{Body, Next, put};
 use crate::task::{Task, end_top};
@@ -16,7 +16,7 @@ use chord_base::value::{Object, Value, Values};
 use chord_code::code::Code;
 use chord_vm::ask::Ask;
 use chord_vm::frames::answer;
-use chord_vm::step::{advance_to, take_ask};
+use chord_vm::step::advance_to;
 use std::alloc::{AllocError, Global};
 use std::mem;
 
@@ -44,10 +44,11 @@ fn append_made(past: &mut Vec<Entry>, number: u32, body: u32, class: u16)
 /// Takes out the text that a body prints.
 fn take_text(asked: &mut Option<Ask>) -> Text
     requires { (text : List ℕ) × (asked.old ≡ Some (Ask.Print text)) }
-    ensures { asked.old ≡ Some (Ask.Print result) }
+    ensures text { asked.old ≡ Some (Ask.Print result) }
+    ensures none { asked.new ≡ None }
 {
-    match take_ask(asked) {
-        Ask::Print(text) => text,
+    match mem::replace(asked, None) {
+        Some(Ask::Print(text)) => text,
         _ => unreachable!(),
     }
 }
@@ -77,6 +78,7 @@ fn append_sent(
     ensures items { past.new.items ≡ past.old.items ++ record { number = number; body = body; what = What.Sent object method arguments.old } ∷ [] }
     ensures len { vec_len past.new ≡ vec_len past.old + 1 }
     ensures capacity { vec_capacity past.new ≡ vec_capacity past.old }
+    ensures bare { AreBare arguments.new }
 {
     match arguments.items() {
         [] => append(
@@ -110,6 +112,7 @@ fn append_called(
     ensures items { past.new.items ≡ past.old.items ++ record { number = number; body = body; what = What.Called object method arguments.old } ∷ [] }
     ensures len { vec_len past.new ≡ vec_len past.old + 1 }
     ensures capacity { vec_capacity past.new ≡ vec_capacity past.old }
+    ensures bare { AreBare arguments.new }
 {
     match arguments.items() {
         [] => append(
@@ -131,7 +134,19 @@ fn append_called(
 
 /// Drops an ask that did not become an entry. It stands apart, since a drop looks at each kind.
 #[inline(never)]
-fn drop_ask(_asked: Option<Ask>) {}
+pub fn drop_ask(asked: &mut Option<Ask>)
+    ensures { asked.new ≡ None }
+{
+    *asked = None;
+}
+
+/// Forgets what is left of an ask, since a drop would look for memory.
+#[inline(always)]
+pub fn forget_ask(asked: Option<Ask>)
+    requires { IsBare asked }
+{
+    mem::forget(asked);
+}
 
 /// The number of the body on top.
 fn number_of(top: &Option<Body>) -> u32
@@ -246,11 +261,9 @@ impl Task {
                 advance_to(alloc, code, &mut *body.frames, &mut asked)?;
                 let settled = self.settle(alloc, code, number, &mut asked);
                 if settled.is_err() {
-                    drop_ask(asked);
-                } else {
-                    // what owns memory was taken out of it, so that there is nothing to drop
-                    mem::forget(asked);
+                    drop_ask(&mut asked);
                 }
+                forget_ask(asked);
                 settled
             }
         }
@@ -268,6 +281,7 @@ impl Task {
         ensures below { OnOk result (vec_capacity self.new.below ≡ vec_capacity self.old.below) }
         ensures ended { OnOk result (HasReturned end.old self.old.below self.new.below self.new.top) }
         ensures rest { OnOk result (self.new ≡ record { past = self.new.past; top = self.new.top; below = self.new.below; spare = self.old.spare; ended = self.new.ended; values = self.old.values; limits = self.old.limits }) }
+        ensures bare { OnOk result (IsBareEnd end.new) }
     {
         let maker = number_of(&self.top);
         let past = &mut self.past;
@@ -293,9 +307,10 @@ impl Task {
         Ok(())
     }
 
-    /// The ask to which the body on top came becomes the entry of this number: what owns memory is taken out of it. An object, a message and a line are
+    /// The ask to which the body on top came becomes the entry of this number: what owns memory is taken out of it, so that what is left may be forgotten. An object, a message and a line are
     /// answered; a call waits. After an end the body below is answered by it. Gives what a message is to, where the entry is one. Where no memory is
     /// found, the ask is as it was, and the task can only be dropped.
+    #[inline(always)]
     pub fn settle(
         &mut self,
         alloc: Global,
@@ -306,7 +321,8 @@ impl Task {
         requires some { asked.old ≢ None }
         requires asked { (a : Ask) → asked.old ≡ Some a → IsAskedFor code.now self.old (what_of_ask a) }
         requires may { (a : Ask) → asked.old ≡ Some a → MaySettle code.now self.old number (what_of_ask a) }
-        ensures { IfOk result (λ sent. (a : Ask) × (asked.old ≡ Some a) × HasSettled code.now self.old number (what_of_ask a) self.new × (sent ≡ sent_to (what_of_ask a))) }
+        ensures settled { IfOk result (λ sent. (a : Ask) × (asked.old ≡ Some a) × HasSettled code.now self.old number (what_of_ask a) self.new × (sent ≡ sent_to (what_of_ask a))) }
+        ensures bare { OnOk result (IsBare asked.new) }
     {
         self.take_room(alloc, code)?;
         match &mut self.top {

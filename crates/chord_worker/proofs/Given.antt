@@ -23,6 +23,7 @@ use Rattle.chord_task.specs.Stacks.{TaskView, IsNext, StaysDefined}
 use Rattle.chord_task.specs.Standing.{view_of, IsTaskOf}
 use Rattle.chord_task.specs.Turning.{RunsOn, MaySettle, HasSettled, HasCome}
 use Rattle.chord_vm.specs.declared.ask.Ask.{Ask}
+use Rattle.chord_vm.specs.Frames.{what_of_ask}
 use Rattle.chord_worker.specs.declared.worker.Worker.{Worker}
 use Rattle.chord_worker.specs.Playing.{IsNotedAs, WasToldFull}
 use Rattle.chord_worker.specs.Resting.{IsInMemory, MayContinue, IsStock, IsAtRest}
@@ -119,6 +120,16 @@ stocked_rest s w t stock r task in_stock = record {
   goes_on = subst MayContinue task r.goes_on;
   stock = in_stock;
 }
+
+-- the stock is one of the space's code and limits
+pub stock_of : (s : Space Parcel) (code : Parts) (limits : Limits) (stock : Option Task) → code ≡ space_code s → limits ≡ space_limits s → IsStock code limits stock → IsStock (space_code s) (space_limits s) stock
+stock_of s code limits stock e k in_stock = subst (λ (p : Parts). IsStock p (space_limits s) stock) e (subst (λ (l : Limits). IsStock code l stock) k in_stock)
+
+-- a task that came to its ask, of a worker with another stock
+pub came_stocked : (s : Space Parcel) (w : Worker) (task : Task) (a : Ask) (stock : Option Task) → IsStock (space_code s) (space_limits s) stock
+    → (t : Task) × HasCome (space_code s) (space_limits s) t task (what_of_ask a) × IsAtRest s (record w { task = Some t })
+    → (t : Task) × HasCome (space_code s) (space_limits s) t task (what_of_ask a) × IsAtRest s (record w { task = Some t; spare = stock })
+came_stocked s w task a stock in_stock came = (came.0, came.1, stocked_rest s (record w { task = Some came.0 }) came.0 stock came.2 refl in_stock)
 
 -- ## Optional answers
 

@@ -13,18 +13,18 @@ use Rattle.chord_worker.specs.Playing.{IsNotedAs, WasToldFull, IsNoMessage}
 use Rattle.chord_worker.proofs.Memory.{task_laid}
 use Rattle.chord_worker.specs.Resting.{IsInMemory, MayContinue, IsHandFree, IsStock, IsAtRest, IsSameRole}
 
-module _ (s : Space Parcel) (w : Worker) (t : Task) (r : IsAtRest s (record w { task = Some t })) (w' : Worker) (same : IsSameDesk w.desk w'.desk) (stock : w'.spare ≡ w.spare) where
+module _ (s : Space Parcel) (w : Worker) (t : Task) (r : IsAtRest s (record w { task = Some t })) (w' : Worker) (same : IsSameDesk w.desk w'.desk) where
   module _ (t' : Task) (n : ℕ) (what : What) (noted : IsNotedAs (space_code s) (space_limits s) (view w.desk) (view w'.desk) t t' n what) where
     -- an entry that is no message was drawn
-    pub rest_noted : IsNoMessage what → w'.spent ≡ w.spent → IsInMemory (space_code s) (space_limits s) (entry n noted.body what ∷ (view w.desk).kept) (view w.desk).spent w'.done w'.task → MayContinue w'.task → IsAtRest s w'
-    rest_noted plain spent memory goes_on = record {
+    pub rest_noted : IsNoMessage what → w'.spent ≡ w.spent → IsStock (space_code s) (space_limits s) w'.spare → IsInMemory (space_code s) (space_limits s) (entry n noted.body what ∷ (view w.desk).kept) (view w.desk).spent w'.done w'.task → MayContinue w'.task → IsAtRest s w'
+    rest_noted plain spent stock memory goes_on = record {
       desk = same.0 ∙ r.desk;
       told = spent ∙ r.told ∙ sym (ap (λ (z : View). z.spent) noted.drawn);
       free = subst IsHandFree (sym noted.drawn) (record { claims = r.free.claims; flight = r.free.flight; fresh = plain n (view w.desk).fresh ∙ r.free.fresh });
       duties = λ e. ap (λ (z : View). z.duties) noted.drawn ∙ r.duties (sym (ap (λ (z : View). z.spent) noted.drawn) ∙ e);
       memory = subst (λ (z : View). IsInMemory (space_code s) (space_limits s) z.kept z.spent w'.done w'.task) (sym noted.drawn) memory;
       goes_on = goes_on;
-      stock = subst (IsStock (space_code s) (space_limits s)) (sym stock) r.stock;
+      stock = stock;
     }
 
     -- the desk has its role still
@@ -38,8 +38,8 @@ module _ (s : Space Parcel) (w : Worker) (t : Task) (r : IsAtRest s (record w { 
 
   module _ (t' : Task) (told : WasToldFull (view w.desk) (view w'.desk) t t') where
     -- the desk was told that the limit is reached
-    pub rest_told : w'.task ≡ None → w'.spent ≡ true → w'.done ≡ w.done ++ t'.past.items → IsAtRest s w'
-    rest_told task spent done = record {
+    pub rest_told : w'.spare ≡ w.spare → w'.task ≡ None → w'.spent ≡ true → w'.done ≡ w.done ++ t'.past.items → IsAtRest s w'
+    rest_told stock task spent done = record {
       desk = same.0 ∙ r.desk;
       told = spent ∙ sym (ap (λ (z : View). z.spent) told.told.1);
       free = subst IsHandFree (sym told.told.1) (record { claims = r.free.claims; flight = r.free.flight; fresh = r.free.fresh });

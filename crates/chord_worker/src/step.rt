@@ -6,13 +6,14 @@ ghost use Rattle.chord_base.specs.Story.{IsSound};
 ghost use Rattle.chord_code.specs.declared.parts.Parts.{Parts};
 ghost use Rattle.chord_space.specs.Desks.{view, space_code, space_limits, program_of, IsDeskOf};
 ghost use Rattle.chord_task.specs.declared.task.Task.{Task as TheTask};
-ghost use Rattle.chord_task.specs.Turning.{HasCome};
+ghost use Rattle.chord_task.specs.Standing.{IsTaskOf};
+ghost use Rattle.chord_task.specs.Turning.{HasCome, IsBare};
 ghost use Rattle.chord_vm.specs.Frames.{what_of_ask};
 ghost use Rattle.chord_worker.specs.Playing.{IsNoMessage};
-ghost use Rattle.chord_worker.specs.Resting.{IsInMemory, MayContinue, IsAtRest, IsSameRole};
+ghost use Rattle.chord_worker.specs.Resting.{IsInMemory, IsStock, MayContinue, IsAtRest, IsSameRole};
 ghost use Rattle.chord_worker.specs.Stepping.{HasGoneOn, PlaysNoOther, PlaysNext};
 
-use crate::playing::{draw_own, drop_ask, see_to_stock};
+use crate::playing::{draw_own, see_to_stock};
 use crate::worker::{Gate, Worker};
 use chord_base::event::Limits;
 use chord_code::code::Code;
@@ -21,6 +22,7 @@ use chord_task::apart::Apart;
 use chord_task::enclosed::Enclosed;
 use chord_task::parcel::Parcel;
 use chord_task::task::Task;
+use chord_task::turn::{drop_ask, forget_ask};
 use chord_vm::ask::Ask;
 use std::alloc::{AllocError, Global};
 use std::mem;
@@ -41,9 +43,11 @@ pub(crate) fn put_task(place: &mut Option<Apart<Task>>, task: Apart<Task>)
 impl Worker {
     /// The task is played on if it may go on; else what it did is done.
     #[inline(always)]
-    pub(crate) fn settle(&mut self, task: Apart<Task>) -> Result<(), AllocError>
+    pub(crate) fn settle(&mut self, alloc: Global, task: Apart<Task>) -> Result<(), AllocError>
         requires none { self.old.task ≡ None }
-        ensures same { (self.new.desk ≡ self.old.desk) × (self.new.spare ≡ self.old.spare) × (self.new.spent ≡ self.old.spent) }
+        ensures same { (self.new.desk ≡ self.old.desk) × (self.new.spent ≡ self.old.spent) }
+        ensures spare { self.old.spare ≢ None → self.new.spare ≡ self.old.spare }
+        ensures stock { OnOk result ((code : Parts) (limits : TheLimits) → IsTaskOf code limits task → IsStock code limits self.old.spare → IsStock code limits self.new.spare) }
         ensures task { OnOk result ((self.new.task ≡ None) ⊎ (self.new.task ≡ Some task)) }
         ensures settled { OnOk result ((code : Parts) (limits : TheLimits) (kept : List AnEntry) (spent : Bool) → IsInMemory code limits kept spent self.old.done (Some task) → IsInMemory code limits kept spent self.new.done self.new.task × MayContinue self.new.task) }
     {
@@ -51,7 +55,25 @@ impl Worker {
             put_task(&mut self.task, task);
             return Ok(());
         }
-        self.finish(task)?;
+        self.retire(alloc, task)?;
+        Ok(())
+    }
+
+    /// What the task did is done. Where no body is left in it and none is in stock, it goes there: its memory serves for the next body.
+    #[inline(never)]
+    fn retire(&mut self, alloc: Global, task: Apart<Task>) -> Result<(), AllocError>
+        ensures same { (self.new.desk ≡ self.old.desk) × (self.new.task ≡ self.old.task) × (self.new.spent ≡ self.old.spent) }
+        ensures spare { self.old.spare ≢ None → self.new.spare ≡ self.old.spare }
+        ensures stock { OnOk result ((code : Parts) (limits : TheLimits) → IsTaskOf code limits task → IsStock code limits self.old.spare → IsStock code limits self.new.spare) }
+        ensures done { OnOk result (self.new.done ≡ self.old.done ++ task.past.items) }
+    {
+        if self.spare.is_some() || !task.value.over() {
+            return self.finish(task);
+        }
+        let mut task = task;
+        let past = task.value.renew(alloc)?;
+        put_task(&mut self.spare, task);
+        self.done.add(past)?;
         Ok(())
     }
 
@@ -98,11 +120,12 @@ impl Worker {
         ensures over { OnOk result (self.new.spent ≡ true → self.new.task ≡ None) }
         ensures went { OnOk result (HasGoneOn (view self.old.desk).kept task self.new) }
         ensures plays { OnOk result (PlaysNoOther task self.new.task) }
+        ensures bare { OnOk result (IsBare asked.new) }
     {
         let mut task = task;
         match draw_own(alloc, space, code, &mut self.desk, &mut task, asked)? {
             Some(_) => {
-                self.settle(task)?;
+                self.settle(alloc, task)?;
                 Ok(())
             }
             None => {
@@ -128,7 +151,6 @@ impl Worker {
     ) -> Result<(), AllocError>
         requires none { self.old.task ≡ None }
         requires room { (view self.old.desk).spent ≡ false }
-        requires stock { self.old.spare ≢ None }
         requires some { asked.old ≢ None }
         requires came { (a : Ask) → asked.old ≡ Some a → (t : TheTask) × HasCome (space_code space.now) (space_limits space.now) t task (what_of_ask a) × IsAtRest space.now (record self.old { task = Some t }) }
         requires code { code.now ≡ space_code space.now }
@@ -139,12 +161,14 @@ impl Worker {
         ensures over { OnOk result (self.new.spent ≡ true → self.new.task ≡ None) }
         ensures went { OnOk result (HasGoneOn (view self.old.desk).kept task self.new) }
         ensures plays { OnOk result (PlaysNext G.knows (view self.old.desk).kept task self.new) }
+        ensures bare { OnOk result (IsBare asked.new) }
     {
         match asked {
             None => unreachable!(),
             Some(ask) => match ask {
                 Ask::Send(object, method, arguments) => {
                     let (object, method) = (*object, *method);
+                    see_to_stock(alloc, code, limits, &mut self.spare)?;
                     let held = Enclosed::twice(alloc, arguments)?;
                     self.play_sent(
                         rt, alloc, space, code, limits, gate, task, asked, object, method, held,
@@ -153,6 +177,7 @@ impl Worker {
                 }
                 Ask::Call(object, method, arguments) => {
                     let (object, method) = (*object, *method);
+                    see_to_stock(alloc, code, limits, &mut self.spare)?;
                     let held = Enclosed::twice(alloc, arguments)?;
                     self.play_called(
                         rt, alloc, space, code, limits, gate, task, asked, object, method, held,
@@ -203,15 +228,13 @@ impl Worker {
             None => unreachable!(),
             Some(task) => {
                 let mut task = task;
-                see_to_stock(alloc, code, limits, &mut self.spare)?;
                 let mut asked = None;
                 (*task.value).come(alloc, code, limits, &mut asked)?;
                 let played = self.play(rt, alloc, space, code, limits, gate, task, &mut asked);
                 if played.is_err() {
                     drop_ask(&mut asked);
                 }
-                // what owns memory was taken out of it, so that there is nothing to drop
-                mem::forget(asked);
+                forget_ask(asked);
                 played
             }
         }

@@ -35,7 +35,7 @@ pub returns-in_ok-settle-in-Ok-clause-noted : goal.returns-in_ok-settle-in-Ok-cl
 returns-in_ok-settle-in-Ok-clause-noted c = λ a t e came.
     let top = rw (c.deref.ensures ∙ c.task.view_is) at c.top_number-body.ensures in
     let d = c.in-Ok.ensures.drawn a e in
-    let x = rw (c.deref_mut.ensures.value ∙ c.task.view_is, c.requires.code) at c.in_ok-settle-in-Ok.ensures in
+    let x = rw (c.deref_mut.ensures.value ∙ c.task.view_is, c.requires.code) at c.in_ok-settle-in-Ok.ensures.settled in
     noted_as (space_code c.args.space.now) (space_limits c.args.space.now) t c.args.task.now (what_of_ask a) came c.top_number-body.result top (view c.args.desk.now) (view c.draw_ask.new.desk) c.in-Ok.number c.settle.new.self
     d.drawn d.below d.named d.of_code
     (subst (λ (b : Ask). HasSettled (space_code c.args.space.now) c.args.task.now c.in-Ok.number (what_of_ask b) c.settle.new.self) (only_ask c.args.asked.now x.0 a x.1 e) x.2)

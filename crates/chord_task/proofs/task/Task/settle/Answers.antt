@@ -39,8 +39,8 @@ end_turn-requires-clause-ready c =
     let x = roomy c.args.code.now c.args.self.now c.take_room.new.self c.args.number (Ended c.in-End.end) c.in-Some.body (c.requires.asked a put) (c.requires.may a put) c.take_room.ensures.past c.take_room.ensures.below c.take_room.ensures.top c.take_room.ensures.spare c.take_room.ensures.values c.take_room.ensures.limits c.in_ok-take_room.ensures.ready c.in-Some.is in
     roomy_ready c.args.code.now c.args.self.now c.take_room.new.self c.args.number (Ended c.in-End.end) c.in-Some.body x
 
-pub returns-in-Make : goal.returns-in-Make
-returns-in-Make c =
+pub returns-in-Make-clause-settled : goal.returns-in-Make-clause-settled
+returns-in-Make-clause-settled c =
     let a : Ask = ask.Make c.in-Make.class in
     let put : c.args.asked.now ≡ Some a = c.in-Some-asked.is ∙ ap Some c.in-Make.is in
     let x = roomy c.args.code.now c.args.self.now c.take_room.new.self c.args.number (Made c.in-Make.class) c.in-Some.body (c.requires.asked a put) (c.requires.may a put) c.take_room.ensures.past c.take_room.ensures.below c.take_room.ensures.top c.take_room.ensures.spare c.take_room.ensures.values c.take_room.ensures.limits c.in_ok-take_room.ensures.ready c.in-Some.is in (
@@ -52,8 +52,8 @@ returns-in-Make c =
       refl,
     )
 
-pub returns-in-Send : goal.returns-in-Send
-returns-in-Send c =
+pub returns-in-Send-clause-settled : goal.returns-in-Send-clause-settled
+returns-in-Send-clause-settled c =
     let a : Ask = ask.Send c.in-Send.object c.in-Send.method c.in-Send.arguments in
     let put : c.args.asked.now ≡ Some a = c.in-Some-asked.is ∙ ap Some c.in-Send.is in
     let x = roomy c.args.code.now c.args.self.now c.take_room.new.self c.args.number (Sent c.in-Send.object c.in-Send.method c.in-Send.arguments) c.in-Some.body (c.requires.asked a put) (c.requires.may a put) c.take_room.ensures.past c.take_room.ensures.below c.take_room.ensures.top c.take_room.ensures.spare c.take_room.ensures.values c.take_room.ensures.limits c.in_ok-take_room.ensures.ready c.in-Some.is in (
@@ -65,8 +65,8 @@ returns-in-Send c =
       refl,
     )
 
-pub returns-in-Call : goal.returns-in-Call
-returns-in-Call c =
+pub returns-in-Call-clause-settled : goal.returns-in-Call-clause-settled
+returns-in-Call-clause-settled c =
     let a : Ask = ask.Call c.in-Call.object c.in-Call.method c.in-Call.arguments in
     let put : c.args.asked.now ≡ Some a = c.in-Some-asked.is ∙ ap Some c.in-Call.is in
     let x = roomy c.args.code.now c.args.self.now c.take_room.new.self c.args.number (Called c.in-Call.object c.in-Call.method c.in-Call.arguments) c.in-Some.body (c.requires.asked a put) (c.requires.may a put) c.take_room.ensures.past c.take_room.ensures.below c.take_room.ensures.top c.take_room.ensures.spare c.take_room.ensures.values c.take_room.ensures.limits c.in_ok-take_room.ensures.ready c.in-Some.is in (
@@ -78,10 +78,10 @@ returns-in-Call c =
       refl,
     )
 
-pub returns-in-Print : goal.returns-in-Print
-returns-in-Print c =
+pub returns-in-Print-clause-settled : goal.returns-in-Print-clause-settled
+returns-in-Print-clause-settled c =
     let a : Ask = ask.Print c.take_text.result in
-    let put : c.args.asked.now ≡ Some a = c.in-Some-asked.is ∙ c.take_text.ensures in
+    let put : c.args.asked.now ≡ Some a = c.in-Some-asked.is ∙ c.take_text.ensures.text in
     let x = roomy c.args.code.now c.args.self.now c.take_room.new.self c.args.number (Printed c.take_text.result) c.in-Some.body (c.requires.asked a put) (c.requires.may a put) c.take_room.ensures.past c.take_room.ensures.below c.take_room.ensures.top c.take_room.ensures.spare c.take_room.ensures.values c.take_room.ensures.limits c.in_ok-take_room.ensures.ready c.in-Some.is in (
       a,
       put,
@@ -91,8 +91,8 @@ returns-in-Print c =
       refl,
     )
 
-pub returns-in_ok-end_turn-in-End : goal.returns-in_ok-end_turn-in-End
-returns-in_ok-end_turn-in-End c =
+pub returns-in_ok-end_turn-in-End-clause-settled : goal.returns-in_ok-end_turn-in-End-clause-settled
+returns-in_ok-end_turn-in-End-clause-settled c =
     let h = c.in_ok-end_turn-in-End.ensures in
     let a : Ask = ask.End c.in-End.end in
     let put : c.args.asked.now ≡ Some a = c.in-Some-asked.is ∙ ap Some c.in-End.is in

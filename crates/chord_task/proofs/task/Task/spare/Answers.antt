@@ -1,5 +1,8 @@
-use Rattle.std.proofs.Common.{arith, refl}
+use Rattle.std.proofs.Common.{arith, refl, ap, List}
+use Rattle.std.specs.Prelude.{reverse}
 use Rattle.chord_code.proofs.Validity.{valid_forward}
+use Rattle.chord_task.specs.declared.body.Caller.{Caller}
+use Rattle.chord_task.specs.Standing.{waiting_bodies}
 use Rattle.chord_task.proofs.Tasks.{spare_task}
 use Rattle.chord_task.proofs.task.Task.spare.Goals as goal
 
@@ -15,7 +18,7 @@ returns-clause-room c = record {
 
 pub returns-clause-task : goal.returns-clause-task
 returns-clause-task c =
-    spare_task c.args.code.now c.args.limits.now _ (valid_forward c.args.code.now c.parts-parts.ensures.valid) refl refl c.in_ok-past.ensures.items c.in_ok-below.ensures.items (record {
+    spare_task c.args.code.now c.args.limits.now _ (valid_forward c.args.code.now c.parts-parts.ensures.valid) refl refl c.in_ok-past.ensures.items (ap (λ (z : List Caller). waiting_bodies (reverse z)) c.in_ok-below.ensures.items) (record {
       past = omega (arith, c.in_ok-past.ensures.len, c.in_ok-past.ensures.exact);
       below = omega (arith, c.in_ok-below.ensures.len, c.in_ok-below.ensures.exact);
       frames = _;

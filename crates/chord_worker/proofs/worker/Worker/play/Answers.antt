@@ -6,19 +6,24 @@ use Rattle.chord_task.specs.declared.task.Task.{Task}
 use Rattle.chord_task.specs.Turning.{HasCome}
 use Rattle.chord_vm.specs.declared.ask.Ask.TheVariants as ask
 use Rattle.chord_worker.specs.Resting.{IsAtRest}
+use Rattle.chord_worker.proofs.Given.{stock_of, came_stocked}
 use Rattle.chord_worker.proofs.worker.Worker.play.Goals as goal
 
 pub play_sent-requires-clause-came : goal.play_sent-requires-clause-came
 play_sent-requires-clause-came g c =
     let s = c.args.space.now in
-    let came = c.requires.came (ask.Send c.in-Send.object c.in-Send.method c.in-Send.arguments) (c.in-Some.is ∙ ap Some c.in-Send.is) in
-    subst (λ (vs : List Value). (t : Task) × HasCome (space_code s) (space_limits s) t c.args.task (Sent c.in-Send.object c.in-Send.method vs) × IsAtRest s (record c.args.self.now { task = Some t })) (sym c.in_ok-held-in-Send.ensures.first) came
+    let w = c.args.self.now in
+    let stock = stock_of s c.args.code.now c.args.limits.now c.see_to_stock.new.stock c.requires.code c.requires.limits c.in_ok-see_to_stock-in-Send.ensures.stock in
+    let came = came_stocked s w c.args.task (ask.Send c.in-Send.object c.in-Send.method c.in-Send.arguments) c.see_to_stock.new.stock stock (c.requires.came (ask.Send c.in-Send.object c.in-Send.method c.in-Send.arguments) (c.in-Some.is ∙ ap Some c.in-Send.is)) in
+    subst (λ (vs : List Value). (t : Task) × HasCome (space_code s) (space_limits s) t c.args.task (Sent c.in-Send.object c.in-Send.method vs) × IsAtRest s (record w { task = Some t; spare = c.see_to_stock.new.stock })) (sym c.in_ok-held-in-Send.ensures.first) came
 
 pub play_called-requires-clause-came : goal.play_called-requires-clause-came
 play_called-requires-clause-came g c =
     let s = c.args.space.now in
-    let came = c.requires.came (ask.Call c.in-Call.object c.in-Call.method c.in-Call.arguments) (c.in-Some.is ∙ ap Some c.in-Call.is) in
-    subst (λ (vs : List Value). (t : Task) × HasCome (space_code s) (space_limits s) t c.args.task (Called c.in-Call.object c.in-Call.method vs) × IsAtRest s (record c.args.self.now { task = Some t })) (sym c.in_ok-held-in-Call.ensures.first) came
+    let w = c.args.self.now in
+    let stock = stock_of s c.args.code.now c.args.limits.now c.see_to_stock-in-Call.new.stock c.requires.code c.requires.limits c.in_ok-see_to_stock-in-Call.ensures.stock in
+    let came = came_stocked s w c.args.task (ask.Call c.in-Call.object c.in-Call.method c.in-Call.arguments) c.see_to_stock-in-Call.new.stock stock (c.requires.came (ask.Call c.in-Call.object c.in-Call.method c.in-Call.arguments) (c.in-Some.is ∙ ap Some c.in-Call.is)) in
+    subst (λ (vs : List Value). (t : Task) × HasCome (space_code s) (space_limits s) t c.args.task (Called c.in-Call.object c.in-Call.method vs) × IsAtRest s (record w { task = Some t; spare = c.see_to_stock-in-Call.new.stock })) (sym c.in_ok-held-in-Call.ensures.first) came
 
 pub play_own-requires-clause-came : goal.play_own-requires-clause-came
 play_own-requires-clause-came g c = λ a e. c.requires.came a (c.in-Some.is ∙ e)

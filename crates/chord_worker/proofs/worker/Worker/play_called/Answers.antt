@@ -71,7 +71,7 @@ returns-in_ok-lay_down-in-None-clause-rest g c =
     let d = c.lay_down.ensures.same.0 in
     let told = subst (λ (x : Desk Parcel). WasToldFull (view w.desk) (view x) c.requires.came.0 c.draw_own.new.task) (sym d) (told_full (space_code c.args.space.now) (space_limits c.args.space.now) c.requires.came.0 c.args.task (Called c.args.object c.args.method c.args.held.first) c.requires.came.1 (view c.args.self.now.desk) (view c.draw_own.new.desk) c.draw_own.new.task (where_none _ (WasToldFull (view c.args.self.now.desk) (view c.draw_own.new.desk) c.args.task c.draw_own.new.task) c.in-None.is c.in_ok-number.ensures.told)) in
     let same = subst (λ (x : Desk Parcel). IsSameDesk w.desk x) (sym d) c.draw_own.ensures.desk in
-    rest_told s w c.requires.came.0 c.requires.came.2 c.lay_down.new.self same c.lay_down.ensures.same.1 c.draw_own.new.task told (c.lay_down.ensures.same.2 ∙ c.requires.none) c.lay_down.ensures.same.3 c.in_ok-lay_down-in-None.ensures.done
+    rest_told s w c.requires.came.0 c.requires.came.2 c.lay_down.new.self same c.draw_own.new.task told c.lay_down.ensures.same.1 (c.lay_down.ensures.same.2 ∙ c.requires.none) c.lay_down.ensures.same.3 c.in_ok-lay_down-in-None.ensures.done
 
 pub returns-in_ok-mind-in-Some-clause-went : goal.returns-in_ok-mind-in-Some-clause-went
 returns-in_ok-mind-in-Some-clause-went g c =

@@ -29,8 +29,9 @@ returns-in_ok-settle-in-Some-clause-rest c =
     let d = c.settle.ensures.same.0 in
     let moved = subst (λ (x : Desk Parcel). IsNotedAs (space_code s) (space_limits s) (view w.desk) (view x) y.0 c.draw_own.new.task n (what_of_ask a.0)) (sym d) noted in
     let same = subst (λ (x : Desk Parcel). IsSameDesk w.desk x) (sym d) c.draw_own.ensures.desk in
-    let settled = c.in_ok-settle-in-Some.ensures.settled (space_code s) (space_limits s) _ _ (moved.memory (view w.desk).spent w.done y.2.memory) in
-    rest_noted s w y.0 y.2 c.settle.new.self same c.settle.ensures.same.1 c.draw_own.new.task n (what_of_ask a.0) moved (c.requires.plain a.0 a.1) c.settle.ensures.same.2 settled.0 settled.1
+    let memory = moved.memory (view w.desk).spent w.done y.2.memory in
+    let settled = c.in_ok-settle-in-Some.ensures.settled (space_code s) (space_limits s) _ _ memory in
+    rest_noted s w y.0 y.2 c.settle.new.self same c.draw_own.new.task n (what_of_ask a.0) moved (c.requires.plain a.0 a.1) c.settle.ensures.same.1 (c.in_ok-settle-in-Some.ensures.stock (space_code s) (space_limits s) memory.played.0 y.2.stock) settled.0 settled.1
 
 pub returns-in_ok-settle-in-Some-clause-role : goal.returns-in_ok-settle-in-Some-clause-role
 returns-in_ok-settle-in-Some-clause-role c =
@@ -43,7 +44,7 @@ returns-in_ok-settle-in-Some-clause-role c =
     let d = c.settle.ensures.same.0 in
     let moved = subst (λ (x : Desk Parcel). IsNotedAs (space_code s) (space_limits s) (view w.desk) (view x) y.0 c.draw_own.new.task n (what_of_ask a.0)) (sym d) noted in
     let same = subst (λ (x : Desk Parcel). IsSameDesk w.desk x) (sym d) c.draw_own.ensures.desk in
-    role_noted s w y.0 y.2 c.settle.new.self same c.settle.ensures.same.1 c.draw_own.new.task n (what_of_ask a.0) moved
+    role_noted s w y.0 y.2 c.settle.new.self same c.draw_own.new.task n (what_of_ask a.0) moved
 
 pub returns-in_ok-lay_down-in-None-clause-rest : goal.returns-in_ok-lay_down-in-None-clause-rest
 returns-in_ok-lay_down-in-None-clause-rest c =
@@ -55,7 +56,7 @@ returns-in_ok-lay_down-in-None-clause-rest c =
     let d = c.lay_down.ensures.same.0 in
     let moved = subst (λ (x : Desk Parcel). WasToldFull (view w.desk) (view x) y.0 c.draw_own.new.task) (sym d) told in
     let same = subst (λ (x : Desk Parcel). IsSameDesk w.desk x) (sym d) c.draw_own.ensures.desk in
-    rest_told s w y.0 y.2 c.lay_down.new.self same c.lay_down.ensures.same.1 c.draw_own.new.task moved (c.lay_down.ensures.same.2 ∙ c.requires.none) c.lay_down.ensures.same.3 c.in_ok-lay_down-in-None.ensures.done
+    rest_told s w y.0 y.2 c.lay_down.new.self same c.draw_own.new.task moved c.lay_down.ensures.same.1 (c.lay_down.ensures.same.2 ∙ c.requires.none) c.lay_down.ensures.same.3 c.in_ok-lay_down-in-None.ensures.done
 
 pub returns-in_ok-lay_down-in-None-clause-role : goal.returns-in_ok-lay_down-in-None-clause-role
 returns-in_ok-lay_down-in-None-clause-role c =
@@ -67,7 +68,7 @@ returns-in_ok-lay_down-in-None-clause-role c =
     let d = c.lay_down.ensures.same.0 in
     let moved = subst (λ (x : Desk Parcel). WasToldFull (view w.desk) (view x) y.0 c.draw_own.new.task) (sym d) told in
     let same = subst (λ (x : Desk Parcel). IsSameDesk w.desk x) (sym d) c.draw_own.ensures.desk in
-    role_told s w y.0 y.2 c.lay_down.new.self same c.lay_down.ensures.same.1 c.draw_own.new.task moved
+    role_told s w y.0 y.2 c.lay_down.new.self same c.draw_own.new.task moved
 
 pub returns-in_ok-settle-in-Some-clause-went : goal.returns-in_ok-settle-in-Some-clause-went
 returns-in_ok-settle-in-Some-clause-went c =

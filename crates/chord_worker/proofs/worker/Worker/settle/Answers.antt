@@ -16,8 +16,8 @@ returns-then-is_ready-clause-settled c = λ code limits kept spent m.
 pub returns-clause-settled : goal.returns-clause-settled
 returns-clause-settled c = λ code limits kept spent m.
     let over = ap is_ready_of (sym (c.deref.ensures ∙ c.task.view_is)) ∙ sym c.is_ready.ensures ∙ c.if-is_ready.false in
-    let none = c.finish.ensures.same.2 ∙ c.requires.none in (
-      subst (λ (x : Option Task). IsInMemory code limits kept spent c.finish.new.self.done x) (sym none)
-          (subst (λ (es : List Entry). IsInMemory code limits kept spent es None) (sym c.in_ok-finish.ensures.done) (task_done code limits kept spent c.args.self.now.done c.args.task m over)),
+    let none = c.retire.ensures.same.1 ∙ c.requires.none in (
+      subst (λ (x : Option Task). IsInMemory code limits kept spent c.retire.new.self.done x) (sym none)
+          (subst (λ (es : List Entry). IsInMemory code limits kept spent es None) (sym c.in_ok-retire.ensures.done) (task_done code limits kept spent c.args.self.now.done c.args.task m over)),
       subst MayContinue (sym none) tt,
     )

@@ -5,7 +5,6 @@ use Rattle.chord_base.specs.declared.event.Limits.{Limits}
 use Rattle.chord_task.specs.Standing.{view_of}
 use Rattle.chord_task.specs.Turning.{HasCome}
 use Rattle.chord_vm.specs.Frames.{what_of_ask}
-use Rattle.chord_worker.specs.Resting.{IsStock}
 use Rattle.chord_worker.proofs.Given.{some_ask, stocked_rest}
 use Rattle.std.proofs.lemmas.Result.{IfOk-weaker}
 use Rattle.chord_task.specs.declared.task.Task.{Task}
@@ -16,13 +15,12 @@ use Rattle.chord_worker.proofs.worker.Worker.step.Goals as goal
 pub play-played-requires-clause-came : goal.play-played-requires-clause-came
 play-played-requires-clause-came g c = λ a e.
     let s = c.args.space.now in
+    let w = c.args.self.now in
     let came = rw (c.deref_mut.ensures.value ∙ c.task.view_is) at c.in_ok-come-in-Some.ensures.came a e in (
       c.in-Some.task,
       subst (λ (p : Parts). HasCome p (space_limits s) c.in-Some.task c.come.new.self (what_of_ask a)) (sym c.requires.code.0)
           (subst (λ (l : Limits). HasCome c.args.code.now l c.in-Some.task c.come.new.self (what_of_ask a)) (sym c.requires.code.1) came),
-      stocked_rest s c.args.self.now c.in-Some.task c.see_to_stock.new.stock c.requires.rest (sym c.take.ensures.value ∙ c.in-Some.is)
-          (subst (λ (p : Parts). IsStock p (space_limits s) c.see_to_stock.new.stock) (sym c.requires.code.0)
-          (subst (λ (l : Limits). IsStock c.args.code.now l c.see_to_stock.new.stock) (sym c.requires.code.1) c.in_ok-see_to_stock-in-Some.ensures.stock)),
+      stocked_rest s w c.in-Some.task w.spare c.requires.rest (sym c.take.ensures.value ∙ c.in-Some.is) c.requires.rest.stock,
     )
 
 pub returns-clause-went : goal.returns-clause-went
