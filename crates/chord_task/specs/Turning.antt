@@ -92,13 +92,13 @@ IsBareEnd (Gives (a_value.Int n)) = Unit {0}
 IsBareEnd _ = ⊥
 
 -- nothing is left of the ask that lies in memory of its own
-abbrev pub IsBare : Option Ask → Type 0
-IsBare None = Unit {0}
-IsBare (Some (asks.Make c)) = Unit {0}
-IsBare (Some (asks.Send o j vs)) = AreBare vs
-IsBare (Some (asks.Call o j vs)) = AreBare vs
-IsBare (Some (asks.Print t)) = ⊥
-IsBare (Some (asks.End e)) = IsBareEnd e
+abbrev pub OwnsNothing : Option Ask → Type 0
+OwnsNothing None = Unit {0}
+OwnsNothing (Some (asks.Make c)) = Unit {0}
+OwnsNothing (Some (asks.Send o j vs)) = AreBare vs
+OwnsNothing (Some (asks.Call o j vs)) = AreBare vs
+OwnsNothing (Some (asks.Print t)) = ⊥
+OwnsNothing (Some (asks.End e)) = IsBareEnd e
 
 -- the body keeps an ask
 abbrev pub IsKept : Next → Type 0

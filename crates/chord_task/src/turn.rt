@@ -6,7 +6,7 @@ ghost use Rattle.chord_code.specs.Meaning.{code_program};
 ghost use Rattle.chord_vm.specs.Frames.{what_of_ask};
 ghost use Rattle.chord_task.specs.declared.body.Body.{Body as ABody};
 ghost use Rattle.chord_task.specs.Standing.{view_of, IsTaskOf, is_ready_of, given_by, LastIsReady, HasReturned};
-ghost use Rattle.chord_task.specs.Turning.{sent_to, sent_of, MayTurn, HasTurned, IsAskedFor, RunsOn, HasSettled, MaySettle, AreBare, IsBareEnd, IsBare};
+ghost use Rattle.chord_task.specs.Turning.{sent_to, sent_of, MayTurn, HasTurned, IsAskedFor, RunsOn, HasSettled, MaySettle, AreBare, IsBareEnd, OwnsNothing};
 
 use crate::body::{Body, Next, put};
 use crate::task::{Task, end_top};
@@ -143,7 +143,7 @@ pub fn drop_ask(asked: &mut Option<Ask>)
 /// Forgets what is left of an ask, since a drop would look for memory.
 #[inline(always)]
 pub fn forget_ask(asked: Option<Ask>)
-    requires { IsBare asked }
+    requires { OwnsNothing asked }
 {
     mem::forget(asked);
 }
@@ -322,7 +322,7 @@ impl Task {
         requires asked { (a : Ask) → asked.old ≡ Some a → IsAskedFor code.now self.old (what_of_ask a) }
         requires may { (a : Ask) → asked.old ≡ Some a → MaySettle code.now self.old number (what_of_ask a) }
         ensures settled { IfOk result (λ sent. (a : Ask) × (asked.old ≡ Some a) × HasSettled code.now self.old number (what_of_ask a) self.new × (sent ≡ sent_to (what_of_ask a))) }
-        ensures bare { OnOk result (IsBare asked.new) }
+        ensures bare { OnOk result (OwnsNothing asked.new) }
     {
         self.take_room(alloc, code)?;
         match &mut self.top {

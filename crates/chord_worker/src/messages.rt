@@ -10,7 +10,7 @@ ghost use Rattle.chord_space.specs.Ruled.{IsOfCode};
 ghost use Rattle.chord_task.specs.Parcels.{entries_of, arguments_of, IsParcelOf};
 ghost use Rattle.chord_task.specs.declared.task.Task.{Task as TheTask};
 ghost use Rattle.chord_task.specs.Standing.{view_of, IsTaskOf};
-ghost use Rattle.chord_task.specs.Turning.{HasCome, IsBare};
+ghost use Rattle.chord_task.specs.Turning.{HasCome, OwnsNothing};
 ghost use Rattle.chord_worker.specs.Resting.{IsAtRest, IsSameRole};
 ghost use Rattle.chord_worker.specs.Sending.{IsSentOff};
 ghost use Rattle.chord_worker.specs.Stepping.{HasGoneOn, PlaysNext};
@@ -138,7 +138,7 @@ impl Worker {
         ensures over { OnOk result (self.new.spent ≡ true → self.new.task ≡ None) }
         ensures went { OnOk result (HasGoneOn (view self.old.desk).kept task self.new) }
         ensures plays { OnOk result (PlaysNext G.knows (view self.old.desk).kept task self.new) }
-        ensures bare { OnOk result (IsBare asked.new) }
+        ensures bare { OnOk result (OwnsNothing asked.new) }
     {
         let mut task = task;
         match draw_own(alloc, space, code, &mut self.desk, &mut task, asked)? {
@@ -199,7 +199,7 @@ impl Worker {
         ensures over { OnOk result (self.new.spent ≡ true → self.new.task ≡ None) }
         ensures went { OnOk result (HasGoneOn (view self.old.desk).kept task self.new) }
         ensures plays { OnOk result (PlaysNext G.knows (view self.old.desk).kept task self.new) }
-        ensures bare { OnOk result (IsBare asked.new) }
+        ensures bare { OnOk result (OwnsNothing asked.new) }
     {
         let mut task = task;
         match draw_own(alloc, space, code, &mut self.desk, &mut task, asked)? {

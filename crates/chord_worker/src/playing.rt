@@ -6,7 +6,7 @@ ghost use Rattle.chord_code.specs.declared.parts.Parts.{Parts};
 ghost use Rattle.chord_space.specs.Desks.{view, space_code, space_limits, program_of, IsDeskOf, IsSameDesk, MayDraw};
 ghost use Rattle.chord_task.specs.declared.task.Task.{Task as ATask};
 ghost use Rattle.chord_task.specs.Standing.{view_of};
-ghost use Rattle.chord_task.specs.Turning.{RunsOn, HasCome, IsBare};
+ghost use Rattle.chord_task.specs.Turning.{RunsOn, HasCome, OwnsNothing};
 ghost use Rattle.chord_vm.specs.Frames.{what_of_ask};
 ghost use Rattle.chord_worker.specs.Playing.{IsDrawnAs, IsNotedFrom, HeardOfLimit, WasToldFull};
 ghost use Rattle.chord_worker.specs.Resting.{IsInMemory, IsStock, IsStockTask};
@@ -112,7 +112,7 @@ pub(crate) fn draw_own(
     ensures noted { IfOk result (λ x. IfSome x (λ n. IsNotedFrom space.now (view desk.old) (view desk.new) asked.old task.old task.new n)) }
     ensures within { IfOk result (λ x. IfSome x (λ n. n < space.now.events)) }
     ensures told { IfOk result (λ x. IfNone x (WasToldFull (view desk.old) (view desk.new) task.old task.new)) }
-    ensures bare { OnOk result (IsBare asked.new) }
+    ensures bare { OnOk result (OwnsNothing asked.new) }
 {
     let body = top_number(&task.value);
     match draw_ask(space, desk, body, asked) {

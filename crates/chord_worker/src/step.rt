@@ -7,7 +7,7 @@ ghost use Rattle.chord_code.specs.declared.parts.Parts.{Parts};
 ghost use Rattle.chord_space.specs.Desks.{view, space_code, space_limits, program_of, IsDeskOf};
 ghost use Rattle.chord_task.specs.declared.task.Task.{Task as TheTask};
 ghost use Rattle.chord_task.specs.Standing.{IsTaskOf};
-ghost use Rattle.chord_task.specs.Turning.{HasCome, IsBare};
+ghost use Rattle.chord_task.specs.Turning.{HasCome, OwnsNothing};
 ghost use Rattle.chord_vm.specs.Frames.{what_of_ask};
 ghost use Rattle.chord_worker.specs.Playing.{IsNoMessage};
 ghost use Rattle.chord_worker.specs.Resting.{IsInMemory, IsStock, MayContinue, IsAtRest, IsSameRole};
@@ -120,7 +120,7 @@ impl Worker {
         ensures over { OnOk result (self.new.spent ≡ true → self.new.task ≡ None) }
         ensures went { OnOk result (HasGoneOn (view self.old.desk).kept task self.new) }
         ensures plays { OnOk result (PlaysNoOther task self.new.task) }
-        ensures bare { OnOk result (IsBare asked.new) }
+        ensures bare { OnOk result (OwnsNothing asked.new) }
     {
         let mut task = task;
         match draw_own(alloc, space, code, &mut self.desk, &mut task, asked)? {
@@ -161,7 +161,7 @@ impl Worker {
         ensures over { OnOk result (self.new.spent ≡ true → self.new.task ≡ None) }
         ensures went { OnOk result (HasGoneOn (view self.old.desk).kept task self.new) }
         ensures plays { OnOk result (PlaysNext G.knows (view self.old.desk).kept task self.new) }
-        ensures bare { OnOk result (IsBare asked.new) }
+        ensures bare { OnOk result (OwnsNothing asked.new) }
     {
         match asked {
             None => unreachable!(),
