@@ -1,8 +1,11 @@
--- Entries that are moved from lists, some of one list after some of another.
-use Rattle.std.proofs.Common.{◌≡◌, ℕ, zero, suc, ◌<◌, List, [], ◌∷◌, ◌++◌, length, ap, sym, ◌∙◌, arith, append_assoc}
-use Rattle.std.specs.Prelude.{slice_index_or, slice_set, flat_map}
+-- Entries in the places of their numbers, as some are added, left out and put there.
+use Rattle.std.proofs.Common.{◌≡◌, ℕ, zero, suc, ◌+◌, ◌==◌, ◌<◌, ◌≤◌, true, false, cond, List, [], ◌∷◌, ◌++◌, length, get_or, refl, ap, sym, ◌∙◌, arith, append_assoc, add-one}
+use Rattle.std.specs.Prelude.{slice_set}
 use Rattle.std.specs.List.Sorted.{IsPermutation}
-use Rattle.std.proofs.lemmas.List.Sorted.{IsPermutation-refl, IsPermutation-trans, IsPermutation-append_left, IsPermutation-append_right, IsPermutation-append_comm}
+use Rattle.std.proofs.lemmas.List.Sorted.{IsPermutation-refl, IsPermutation-trans, IsPermutation-cons, IsPermutation-sym, IsPermutation-middle, IsPermutation-append_left, IsPermutation-append_right, IsPermutation-append_comm, length_permutation}
+use Rattle.std.proofs.lemmas.List.{append-nil}
+use Rattle.chord_base.specs.declared.event.Entry.{Entry}
+use Rattle.chord_journal.specs.Gathered.{in_places, StandInPlace, IsNext, IsHole}
 
 -- two lists before a third change places
 turned : {A : Type 0} (first second third : List A) → IsPermutation (first ++ (second ++ third)) (second ++ (first ++ third))
@@ -10,15 +13,142 @@ turned first second third =
     let before = IsPermutation-append_left third _ _ (IsPermutation-append_comm first second) in
     rw (append_assoc first second third, append_assoc second first third) at before
 
--- where one of several lists gives its first items to a list before them, these lists still have what they had
-pub moved_run : {X A : Type 0} (f : X → List A) (lists : List X) (i : ℕ) (d left : X) (before after : List A) → i < length lists → after ++ f left ≡ before ++ f (slice_index_or lists i d) → IsPermutation (before ++ flat_map f lists) (after ++ flat_map f (slice_set lists i left))
-moved_run f [] i d left before after within gives = absurd (omega (arith, within))
-moved_run f (x ∷ lists) zero d left before after within gives =
-    let rest = flat_map f lists in
-    let same : before ++ (f x ++ rest) ≡ after ++ (f left ++ rest) =
-    sym (append_assoc before (f x) rest) ∙ ap (λ l. l ++ rest) (sym gives) ∙ append_assoc after (f left) rest in
-    rw same (IsPermutation-refl _)
-moved_run f (x ∷ lists) (suc i) d left before after within gives =
-    let below = moved_run f lists i d left before after (omega (arith, within)) gives in
-    let behind = IsPermutation-append_right (f x) _ _ below in
-    IsPermutation-trans _ _ _ (turned before (f x) _) (IsPermutation-trans _ _ _ behind (turned (f x) after _))
+-- an entry in its place behind others
+pub placed_last : (n : ℕ) (es : List Entry) (e : Entry) → e.number ≡ n + length es → in_places n (es ++ e ∷ []) ≡ in_places n es ++ e ∷ []
+placed_last n [] e is =
+    let same : (e.number == n) ≡ true = grind (arith, is) in
+    rw same refl
+placed_last n (x ∷ es) e is =
+    let below = placed_last (suc n) es e (omega (arith, is)) in
+    elim (x.number == n) as (λ t. cond t (x ∷ in_places (suc n) (es ++ e ∷ [])) (in_places (suc n) (es ++ e ∷ [])) ≡ cond t (x ∷ in_places (suc n) es) (in_places (suc n) es) ++ e ∷ []) [
+      | true ↦ ap (λ l. x ∷ l) below
+      | false ↦ below
+    ]
+
+-- one out of its place behind others
+pub out_of_place : (n : ℕ) (es : List Entry) (e : Entry) → (e.number == n + length es) ≡ false → in_places n (es ++ e ∷ []) ≡ in_places n es
+out_of_place n [] e is =
+    let same : (e.number == n) ≡ false = grind (arith, is) in
+    rw same refl
+out_of_place n (x ∷ es) e is =
+    let below = out_of_place (suc n) es e (grind (arith, is)) in
+    elim (x.number == n) as (λ t. cond t (x ∷ in_places (suc n) (es ++ e ∷ [])) (in_places (suc n) (es ++ e ∷ [])) ≡ cond t (x ∷ in_places (suc n) es) (in_places (suc n) es)) [
+      | true ↦ ap (λ l. x ∷ l) below
+      | false ↦ below
+    ]
+
+-- an entry in its place, where another stood out of its own
+put : (n : ℕ) (es : List Entry) (i : ℕ) (e d : Entry) → i < length es → ((get_or es i d).number == n + i) ≡ false → e.number ≡ n + i → IsPermutation (e ∷ in_places n es) (in_places n (slice_set es i e))
+put n [] i e d within hole is = absurd (omega (arith, within))
+put n (x ∷ es) zero e d within hole is =
+    let was : (x.number == n) ≡ false = grind (arith, hole) in
+    let now : (e.number == n) ≡ true = grind (arith, is) in
+    rw (was, now) (IsPermutation-refl _)
+put n (x ∷ es) (suc i) e d within hole is =
+    let below = put (suc n) es i e d (omega (arith, within)) (grind (arith, hole)) (omega (arith, is)) in
+    elim (x.number == n) as (λ t. IsPermutation (e ∷ cond t (x ∷ in_places (suc n) es) (in_places (suc n) es)) (cond t (x ∷ in_places (suc n) (slice_set es i e)) (in_places (suc n) (slice_set es i e)))) [
+      | true ↦ IsPermutation-trans _ _ _ (IsPermutation-sym _ _ (IsPermutation-middle (x ∷ []) e _)) (IsPermutation-cons x _ _ below)
+      | false ↦ below
+    ]
+
+-- the number of the first of others
+number_of_next : (rest left : List Entry) (e : Entry) (n : ℕ) → IsNext n rest → rest ≡ e ∷ left → e.number ≡ n
+number_of_next rest left e n next is =
+    let (entry, more, same, numbered) = next in
+    let first : e ≡ entry = cc in
+    rw first numbered
+
+-- the first of others in the place of a hole
+pub filled : (es rest left : List Entry) (i : ℕ) (e : Entry) → IsHole i es → IsNext i rest → rest ≡ e ∷ left → IsPermutation (in_places 0 es ++ rest) (in_places 0 (slice_set es i e) ++ left)
+filled es rest left i e hole next is =
+    let start : 0 + i ≡ i = omega arith in
+    let there = put 0 es i e e hole.0 (rw start (hole.1 e)) (rw start (number_of_next rest left e i next is)) in
+    rw is (IsPermutation-trans _ _ _ (IsPermutation-middle (in_places 0 es) e left) (IsPermutation-append_left left _ _ there))
+
+-- the first of others behind those in their places
+pub appended : (es rest left : List Entry) (e : Entry) → IsNext (length es) rest → rest ≡ e ∷ left → in_places 0 (es ++ e ∷ []) ++ left ≡ in_places 0 es ++ rest
+appended es rest left e next is =
+    let numbered = number_of_next rest left e (length es) next is in
+    ap (λ l. l ++ left) (placed_last 0 es e (omega (arith, numbered))) ∙ append_assoc (in_places 0 es) (e ∷ []) left ∙ ap (λ l. in_places 0 es ++ l) (sym is)
+
+-- one that is kept, and one that is not
+pub kept : (strays others given : List Entry) (n : ℕ) (e : Entry) (es left : List Entry) → strays ++ in_places n es ≡ given → es ≡ e ∷ left → e.number ≡ n → others ≡ strays ++ e ∷ [] → others ++ in_places (n + 1) left ≡ given
+kept strays others given n e es left had is numbered more =
+    let same : (e.number == n) ≡ true = grind (arith, numbered) in
+    let here : in_places n (e ∷ left) ≡ e ∷ in_places (suc n) left = rw same refl in
+    let parts : (strays ++ e ∷ []) ++ in_places (suc n) left ≡ strays ++ e ∷ in_places (suc n) left = append_assoc strays (e ∷ []) (in_places (suc n) left) in
+    rw (more, add-one n) (parts ∙ ap (λ l. strays ++ l) (sym here) ∙ ap (λ l. strays ++ in_places n l) (sym is) ∙ had)
+
+pub not_kept : (strays given : List Entry) (n : ℕ) (e : Entry) (es left : List Entry) → strays ++ in_places n es ≡ given → es ≡ e ∷ left → (e.number == n) ≡ false → strays ++ in_places (n + 1) left ≡ given
+not_kept strays given n e es left had is other =
+    let here : in_places n (e ∷ left) ≡ in_places (suc n) left = rw other refl in
+    rw (add-one n) (ap (λ l. strays ++ l) (sym here) ∙ ap (λ l. strays ++ in_places n l) (sym is) ∙ had)
+
+-- no more are in their places than there are
+few_placed : (n : ℕ) (es : List Entry) → length (in_places n es) ≤ length es
+few_placed n [] = omega arith
+few_placed n (x ∷ es) =
+    let below = few_placed (suc n) es in
+    elim (x.number == n) as (λ t. length (cond t (x ∷ in_places (suc n) es) (in_places (suc n) es)) ≤ suc (length es)) [
+      | true ↦ omega (arith, below)
+      | false ↦ omega (arith, below)
+    ]
+
+-- where as many are in their places as there are, all are
+pub all_placed : (n : ℕ) (es : List Entry) → length (in_places n es) ≡ length es → in_places n es ≡ es
+all_placed n [] all = refl
+all_placed n (x ∷ es) all =
+    elim (x.number == n) as (λ t. length (cond t (x ∷ in_places (suc n) es) (in_places (suc n) es)) ≡ suc (length es) → cond t (x ∷ in_places (suc n) es) (in_places (suc n) es) ≡ x ∷ es) [
+      | true ↦ λ h. ap (λ l. x ∷ l) (all_placed (suc n) es (omega (arith, h)))
+      | false ↦ λ h. (let few = few_placed (suc n) es in absurd (omega (arith, h, few)))
+    ] all
+
+-- an entry in its place before others in theirs
+stand_at : (n : ℕ) (x : Entry) (es : List Entry) (i : ℕ) (d : Entry) → x.number ≡ n → ((j : ℕ) (d : Entry) → j < length es → (get_or es j d).number ≡ suc n + j) → i < suc (length es) → (get_or (x ∷ es) i d).number ≡ n + i
+stand_at n x es zero d here below within = omega (arith, here)
+stand_at n x es (suc i) d here below within =
+    let there = below i d (omega (arith, within)) in
+    omega (arith, there)
+
+-- and each has the number of its place
+stand_from : (n : ℕ) (es : List Entry) → length (in_places n es) ≡ length es → (i : ℕ) (d : Entry) → i < length es → (get_or es i d).number ≡ n + i
+stand_from n [] all i d within = absurd (omega (arith, within))
+stand_from n (x ∷ es) all i d within =
+    elim (x.number == n) as (λ t. (x.number == n) ≡ t → length (cond t (x ∷ in_places (suc n) es) (in_places (suc n) es)) ≡ suc (length es) → (get_or (x ∷ es) i d).number ≡ n + i) [
+      | true ↦ λ is h. stand_at n x es i d (grind (arith, is)) (stand_from (suc n) es (omega (arith, h))) within
+      | false ↦ λ is h. (let few = few_placed (suc n) es in absurd (omega (arith, h, few)))
+    ] refl all
+
+-- lists before and behind change places with a third between them
+pub beside : (before after rest left between : List Entry) → IsPermutation (before ++ rest) (after ++ left) → IsPermutation (before ++ (between ++ rest)) (after ++ (between ++ left))
+beside before after rest left between moved =
+    let behind = IsPermutation-append_right between _ _ moved in
+    IsPermutation-trans _ _ _ (turned before between rest) (IsPermutation-trans _ _ _ behind (turned between after left))
+
+-- the same of what did not move
+pub beside_same : (before after rest left between : List Entry) → after ++ left ≡ before ++ rest → IsPermutation (before ++ (between ++ rest)) (after ++ (between ++ left))
+beside_same before after rest left between same =
+    let moved : IsPermutation (before ++ rest) (after ++ left) = rw same (IsPermutation-refl _) in
+    beside before after rest left between moved
+
+-- what came of one list more
+pub one_more : (came before after strays others past left : List Entry) → IsPermutation came (before ++ (strays ++ (past ++ left))) → IsPermutation (before ++ (strays ++ past)) (after ++ others) → IsPermutation came (after ++ (others ++ left))
+one_more came before after strays others past left had moved =
+    let more = IsPermutation-append_left left _ _ moved in
+    let parted : (before ++ (strays ++ past)) ++ left ≡ before ++ (strays ++ (past ++ left)) =
+    append_assoc before (strays ++ past) left ∙ ap (λ l. before ++ l) (append_assoc strays past left) in
+    IsPermutation-trans _ _ _ had (rw (parted, append_assoc after others left) at more)
+
+-- where as many entries stand as came, and there is no stray, each stands in its place
+pub complete : (came es strays left : List Entry) → length es ≡ length came → strays ≡ [] → left ≡ [] → IsPermutation came (in_places 0 es ++ (strays ++ left)) → IsPermutation came es × StandInPlace (length es) es
+complete came es strays left long none no_more moved =
+    let whole : IsPermutation came (in_places 0 es) = rw (none, no_more, append-nil (in_places 0 es)) at moved in
+    let count = length_permutation came (in_places 0 es) whole in
+    let all : length (in_places 0 es) ≡ length es = omega (arith, long, count) in
+    (rw (all_placed 0 es all) at whole, λ i d within. (let stands = stand_from 0 es all i d within in omega (arith, stands)))
+
+-- what is kept beside the strays
+pub apart : (came es strays left others : List Entry) → left ≡ [] → others ≡ strays ++ in_places 0 es → IsPermutation came (in_places 0 es ++ (strays ++ left)) → IsPermutation came others
+apart came es strays left others no_more is moved =
+    let whole : IsPermutation came (in_places 0 es ++ strays) = rw (no_more, append-nil strays) at moved in
+    rw is (IsPermutation-trans _ _ _ whole (IsPermutation-append_comm (in_places 0 es) strays))

@@ -1,16 +1,17 @@
 //! A journal from pasts, each of which has its entries in the order of their numbers.
-ghost use Rattle.std.specs.Prelude.{◌≡◌, ℕ, ◌≤◌, ◌<◌, ◌++◌, ◌∷◌, [], true, List, length, IfOk, OnOk, IsPermutation, flat_map};
-ghost use Rattle.chord_base.specs.declared.event.Entry.{Entry as AnEntry};
-ghost use Rattle.chord_journal.specs.Gathered.{AreOfJournal, StandInPlace};
+ghost use Rattle.std.specs.Prelude.{◌≡◌, ◌≤◌, ◌<◌, ◌^◌, ◌++◌, ◌∷◌, [], true, ⊤, length, IfOk, OnOk, MatchOption, IsPermutation, flat_map};
+ghost use Rattle.std.specs.Vec.{vec_capacity};
+ghost use Rattle.chord_journal.specs.Gathered.{AreOfJournal, StandInPlace, IsNext, IsHole, in_places};
 
 use crate::gathered::gather;
-use chord_base::event::Entry;
+use chord_base::event::{Entry, What};
 use chord_base::journal::Journal;
 use std::alloc::{AllocError, Global};
 use std::collections::VecDeque;
+use std::mem;
 
-/// The journal of the entries of these pasts. Where each past has its entries in the order of their numbers, as a task keeps what it did, each entry is
-/// moved once, from one past after the other, and memory is gone through in its order.
+/// The journal of the entries of these pasts. Each entry is moved once, to the place of its number, and leaves holes for those before it that come later.
+/// Where each past has its entries in the order of their numbers, as a task keeps what it did, memory is gone through in its order.
 ///
 /// # Errors
 ///
@@ -39,20 +40,24 @@ fn gather_several(alloc: Global, pasts: Vec<Vec<Entry>>) -> Result<Journal, Allo
     gather(alloc, entries)
 }
 
-/// The entries of the pasts side by side, and how many stand in the places of their numbers, from the front on.
+/// The entries of the pasts side by side, and how many stand in the places of their numbers, from the front on: all, where no number is there twice.
 fn merged(alloc: Global, pasts: Vec<Vec<Entry>>) -> Result<(Vec<Entry>, usize), AllocError>
     requires few { length (flat_map (λ past. past.items) pasts.items) ≤ 65536 }
     ensures moved { IfOk result (λ r. IsPermutation (flat_map (λ past. past.items) pasts.items) r.0.items) }
     ensures placed { IfOk result (λ r. StandInPlace r.1 r.0.items) }
 {
     let count = count_of(&pasts);
-    let mut rests = rests_of(alloc, pasts)?;
-    let mut homes = homes_of(alloc, &rests, count)?;
+    let mut strays = Vec::new(alloc);
     let mut entries = Vec::with_capacity(alloc, count)?;
-    merge(&mut rests, &mut homes, &mut entries)?;
-    let placed = entries.len();
-    add_rests(rests, &mut entries)?;
-    Ok((entries, placed))
+    for past in pasts {
+        place_past(past, &mut entries, &mut strays)?;
+    }
+    // as many as came are there, so none is a hole
+    if strays.is_empty() && entries.len() == count {
+        return Ok((entries, count));
+    }
+    add_placed(entries, &mut strays)?;
+    Ok((strays, 0))
 }
 
 /// How many entries the pasts have.
@@ -67,45 +72,31 @@ fn count_of(pasts: &[Vec<Entry>]) -> usize
     count
 }
 
-/// The pasts, to be taken apart from their first entries on.
-fn rests_of(alloc: Global, pasts: Vec<Vec<Entry>>) -> Result<Vec<VecDeque<Entry>>, AllocError>
-    ensures { IfOk result (λ rests. flat_map (λ rest. rest.items) rests.items ≡ flat_map (λ past. past.items) pasts.items) }
+/// What stands in a place whose entry has not come.
+fn hole() -> Entry
+    ensures { result.number ≡ 4294967295 }
 {
-    let mut rests = Vec::with_capacity(alloc, pasts.len())?;
-    for past in pasts {
-        rests.push(VecDeque::from_vec(past))?;
-    }
-    Ok(rests)
-}
-
-/// Notes for the number of a past's next entry that this past is its home.
-fn note_home(homes: &mut [u32], rest: &VecDeque<Entry>, home: u32) {
-    if let Some(entry) = rest.front() {
-        let place = entry.number as usize;
-        if place < homes.len() {
-            homes[place] = home;
-        }
+    Entry {
+        number: u32::MAX,
+        body: 0,
+        what: What::Begun,
     }
 }
 
-/// For each number below the count, the past whose next entry has it, where there is one. What is wrong in it costs time alone.
-fn homes_of(
-    alloc: Global,
-    rests: &[VecDeque<Entry>],
-    count: usize,
-) -> Result<Vec<u32>, AllocError> {
-    let mut homes = vec![in alloc; 0; count]?;
-    let mut home = 0u32;
-    for rest in rests {
-        note_home(&mut homes, rest, home);
-        home = home.saturating_add(1);
+/// The number of the next entry of a past.
+fn next_number(rest: &VecDeque<Entry>) -> Option<usize>
+    ensures next { MatchOption result (rest.now.items ≡ []) (λ number. IsNext number rest.now.items) }
+    ensures range { MatchOption result ⊤ (λ number. number < 2 ^ 32) }
+{
+    match rest.front() {
+        None => None,
+        Some(entry) => Some(entry.number as usize),
     }
-    Ok(homes)
 }
 
 /// Whether the next entry of a past has this number.
 fn is_next(rest: &VecDeque<Entry>, number: usize) -> bool
-    ensures next { result ≡ true → (entry : AnEntry) × (entries : List AnEntry) × (rest.now.items ≡ entry ∷ entries) × (entry.number ≡ number) }
+    ensures { result ≡ true → IsNext number rest.now.items }
 {
     match rest.front() {
         None => false,
@@ -113,74 +104,117 @@ fn is_next(rest: &VecDeque<Entry>, number: usize) -> bool
     }
 }
 
-/// Moves entries of a past for as long as each has the number of the place to which it comes.
-fn move_run(rest: &mut VecDeque<Entry>, entries: &mut Vec<Entry>) -> Result<(), AllocError>
-    requires placed { StandInPlace (length entries.old.items) entries.old.items }
-    ensures moved { OnOk result (entries.new.items ++ rest.new.items ≡ entries.old.items ++ rest.old.items) }
-    ensures placed { OnOk result (StandInPlace (length entries.new.items) entries.new.items) }
+/// Whether a hole stands in this place.
+fn is_hole(entries: &[Entry], place: usize) -> bool
+    ensures { result ≡ true → IsHole place entries.now }
 {
-    entries.reserve(rest.len())?;
-    for _ in 0..rest.len() {
-        if !is_next(rest, entries.len()) {
-            return Ok(());
-        }
-        match rest.pop_front() {
-            None => unreachable!(),
-            Some(entry) => entries.push_reserved(entry),
-        }
+    place < entries.len() && entries[place].number as usize != place
+}
+
+/// Takes the next entry of a past.
+fn take_next(rest: &mut VecDeque<Entry>) -> Entry
+    requires { 0 < length rest.old.items }
+    ensures { rest.old.items ≡ result ∷ rest.new.items }
+{
+    match rest.pop_front() {
+        None => unreachable!(),
+        Some(entry) => entry,
     }
+}
+
+/// Moves the next entry of a past behind the others, which is its place.
+fn append_next(rest: &mut VecDeque<Entry>, entries: &mut Vec<Entry>)
+    requires next { IsNext (length entries.old.items) rest.old.items }
+    requires room { length entries.old.items < vec_capacity entries.old }
+    ensures moved { in_places 0 entries.new.items ++ rest.new.items ≡ in_places 0 entries.old.items ++ rest.old.items }
+    ensures shorter { length rest.new.items < length rest.old.items }
+{
+    entries.push_reserved(take_next(rest));
+}
+
+/// Moves the next entry of a past behind the others, and those after it for as long as each has the number of the place to which it comes.
+fn append_run(rest: &mut VecDeque<Entry>, entries: &mut Vec<Entry>)
+    requires next { IsNext (length entries.old.items) rest.old.items }
+    requires room { length entries.old.items < vec_capacity entries.old }
+    ensures moved { in_places 0 entries.new.items ++ rest.new.items ≡ in_places 0 entries.old.items ++ rest.old.items }
+    ensures shorter { length rest.new.items < length rest.old.items }
+{
+    append_next(rest, entries);
+    while is_next(rest, entries.len()) && entries.len() < entries.capacity() {
+        append_next(rest, entries);
+    }
+}
+
+/// Leaves holes for the entries up to this place.
+fn leave_holes(entries: &mut Vec<Entry>, place: usize)
+    requires behind { length entries.old.items ≤ place }
+    requires room { place < vec_capacity entries.old }
+    requires range { place < 2 ^ 32 }
+    ensures same { in_places 0 entries.new.items ≡ in_places 0 entries.old.items }
+    ensures reached { length entries.new.items ≡ place }
+    ensures capacity { vec_capacity entries.new ≡ vec_capacity entries.old }
+{
+    while entries.len() < place {
+        entries.push_reserved(hole());
+    }
+}
+
+/// Moves the next entry of a past into the hole that stands in its place.
+fn fill(rest: &mut VecDeque<Entry>, entries: &mut Vec<Entry>, place: usize)
+    requires next { IsNext place rest.old.items }
+    requires hole { IsHole place entries.old.items }
+    ensures moved { IsPermutation (in_places 0 entries.old.items ++ rest.old.items) (in_places 0 entries.new.items ++ rest.new.items) }
+    ensures shorter { length rest.new.items < length rest.old.items }
+{
+    // a hole has nothing to drop
+    mem::forget(mem::replace(&mut entries[place], take_next(rest)));
+}
+
+/// Moves the next entry of a past aside.
+fn set_aside(rest: &mut VecDeque<Entry>, strays: &mut Vec<Entry>) -> Result<(), AllocError>
+    requires { 0 < length rest.old.items }
+    ensures moved { OnOk result (strays.new.items ++ rest.new.items ≡ strays.old.items ++ rest.old.items) }
+    ensures shorter { length rest.new.items < length rest.old.items }
+{
+    strays.push(take_next(rest))?;
     Ok(())
 }
 
-/// Moves what a past has for the next places, and notes it as the home of what it has then.
-fn move_from(
-    rests: &mut [VecDeque<Entry>],
-    home: u32,
-    homes: &mut [u32],
+/// Moves the entries of a past to the places of their numbers. One for which there is no place, or another in its place, is a stray.
+fn place_past(
+    past: Vec<Entry>,
     entries: &mut Vec<Entry>,
+    strays: &mut Vec<Entry>,
 ) -> Result<(), AllocError>
-    requires placed { StandInPlace (length entries.old.items) entries.old.items }
-    ensures moved { OnOk result (IsPermutation (entries.old.items ++ flat_map (λ rest. rest.items) rests.old) (entries.new.items ++ flat_map (λ rest. rest.items) rests.new)) }
-    ensures placed { OnOk result (StandInPlace (length entries.new.items) entries.new.items) }
+    ensures { OnOk result (IsPermutation (in_places 0 entries.old.items ++ (strays.old.items ++ past.items)) (in_places 0 entries.new.items ++ strays.new.items)) }
 {
-    let place = home as usize;
-    if rests.len() <= place {
-        return Ok(());
-    }
-    move_run(&mut rests[place], entries)?;
-    note_home(homes, &rests[place], home);
-    Ok(())
-}
-
-/// Moves entries to the places of their numbers, until the home of the next one is not known.
-fn merge(
-    rests: &mut [VecDeque<Entry>],
-    homes: &mut [u32],
-    entries: &mut Vec<Entry>,
-) -> Result<(), AllocError>
-    requires none { entries.old.items ≡ [] }
-    ensures moved { OnOk result (IsPermutation (flat_map (λ rest. rest.items) rests.old) (entries.new.items ++ flat_map (λ rest. rest.items) rests.new)) }
-    ensures placed { OnOk result (StandInPlace (length entries.new.items) entries.new.items) }
-{
-    for _ in 0..homes.len() {
-        let place = entries.len();
-        if homes.len() <= place {
-            return Ok(());
+    let mut rest = VecDeque::from_vec(past);
+    while let Some(place) = next_number(&rest) {
+        if is_hole(entries, place) {
+            fill(&mut rest, entries, place);
+        } else if entries.len() <= place && place < entries.capacity() {
+            leave_holes(entries, place);
+            append_run(&mut rest, entries);
+        } else {
+            set_aside(&mut rest, strays)?;
         }
-        let home = homes[place];
-        move_from(rests, home, homes, entries)?;
     }
     Ok(())
 }
 
-/// Adds what is left of each past.
-fn add_rests(rests: Vec<VecDeque<Entry>>, entries: &mut Vec<Entry>) -> Result<(), AllocError>
-    ensures { OnOk result (entries.new.items ≡ entries.old.items ++ flat_map (λ rest. rest.items) rests.items) }
+/// Adds the entries that stand in the places of their numbers.
+fn add_placed(entries: Vec<Entry>, strays: &mut Vec<Entry>) -> Result<(), AllocError>
+    ensures { OnOk result (strays.new.items ≡ strays.old.items ++ in_places 0 entries.items) }
 {
-    for rest in rests {
-        for entry in rest {
-            entries.push(entry)?;
+    let mut place = 0;
+    for entry in entries {
+        if entry.number as usize == place {
+            strays.push(entry)?;
+        } else {
+            // a hole has nothing to drop
+            mem::forget(entry);
         }
+        place += 1;
     }
     Ok(())
 }

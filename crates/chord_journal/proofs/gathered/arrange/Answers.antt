@@ -1,4 +1,3 @@
-use Rattle.std.proofs.Common.{◌≡◌, ap, sym, ◌∙◌, subst}
 use Rattle.std.proofs.lemmas.List.Sorted.{IsPermutation-trans}
 use Rattle.chord_journal.proofs.Gathering.{sorted_in_place}
 use Rattle.chord_journal.proofs.gathered.arrange.Goals as goal

@@ -1,5 +1,4 @@
-use Rattle.std.proofs.Common.{◌≡◌, ◌<◌, ◌≤◌, ◌+◌, length, get_or, rules, take, arith}
-use Rattle.std.specs.List.{flat_map}
+use Rattle.std.proofs.Common.{rules}
 use Rattle.std.proofs.lemmas.List.Folds.{length-flat_map-take}
 use Rattle.chord_journal.proofs.merged.count_of.Goals as goal
 
