@@ -5,7 +5,7 @@ use Rattle.std.specs.List.Sorted.{IsPermutation}
 use Rattle.std.proofs.lemmas.List.Sorted.{IsPermutation-refl, IsPermutation-trans, IsPermutation-cons, IsPermutation-sym, IsPermutation-middle, IsPermutation-append_left, IsPermutation-append_right, IsPermutation-append_comm, length_permutation}
 use Rattle.std.proofs.lemmas.List.{append-nil}
 use Rattle.chord_base.specs.declared.event.Entry.{Entry}
-use Rattle.chord_journal.specs.Gathered.{in_places, StandInPlace, IsNext, IsHole}
+use Rattle.chord_journal.specs.Gathered.{in_places, StandInPlace, IsNumberNext, IsHole}
 
 -- two lists before a third change places
 turned : {A : Type 0} (first second third : List A) → IsPermutation (first ++ (second ++ third)) (second ++ (first ++ third))
@@ -52,35 +52,36 @@ put n (x ∷ es) (suc i) e d within hole is =
     ]
 
 -- the number of the first of others
-number_of_next : (rest left : List Entry) (e : Entry) (n : ℕ) → IsNext n rest → rest ≡ e ∷ left → e.number ≡ n
+number_of_next : (rest left : List Entry) (e : Entry) (n : ℕ) → IsNumberNext n rest → rest ≡ e ∷ left → e.number ≡ n
 number_of_next rest left e n next is =
     let (entry, more, same, numbered) = next in
     let first : e ≡ entry = cc in
     rw first numbered
 
 -- the first of others in the place of a hole
-pub filled : (es rest left : List Entry) (i : ℕ) (e : Entry) → IsHole i es → IsNext i rest → rest ≡ e ∷ left → IsPermutation (in_places 0 es ++ rest) (in_places 0 (slice_set es i e) ++ left)
-filled es rest left i e hole next is =
+pub hole_filled : (es rest left : List Entry) (i : ℕ) (e : Entry) → IsHole i es → IsNumberNext i rest → rest ≡ e ∷ left → IsPermutation (in_places 0 es ++ rest) (in_places 0 (slice_set es i e) ++ left)
+hole_filled es rest left i e hole next is =
     let start : 0 + i ≡ i = omega arith in
     let there = put 0 es i e e hole.0 (rw start (hole.1 e)) (rw start (number_of_next rest left e i next is)) in
     rw is (IsPermutation-trans _ _ _ (IsPermutation-middle (in_places 0 es) e left) (IsPermutation-append_left left _ _ there))
 
 -- the first of others behind those in their places
-pub appended : (es rest left : List Entry) (e : Entry) → IsNext (length es) rest → rest ≡ e ∷ left → in_places 0 (es ++ e ∷ []) ++ left ≡ in_places 0 es ++ rest
-appended es rest left e next is =
+pub appended_to_placed : (es rest left : List Entry) (e : Entry) → IsNumberNext (length es) rest → rest ≡ e ∷ left → in_places 0 (es ++ e ∷ []) ++ left ≡ in_places 0 es ++ rest
+appended_to_placed es rest left e next is =
     let numbered = number_of_next rest left e (length es) next is in
     ap (λ l. l ++ left) (placed_last 0 es e (omega (arith, numbered))) ∙ append_assoc (in_places 0 es) (e ∷ []) left ∙ ap (λ l. in_places 0 es ++ l) (sym is)
 
--- one that is kept, and one that is not
-pub kept : (strays others given : List Entry) (n : ℕ) (e : Entry) (es left : List Entry) → strays ++ in_places n es ≡ given → es ≡ e ∷ left → e.number ≡ n → others ≡ strays ++ e ∷ [] → others ++ in_places (n + 1) left ≡ given
-kept strays others given n e es left had is numbered more =
+-- one that is placed_kept, and one that is not
+pub placed_kept : (strays others given : List Entry) (n : ℕ) (e : Entry) (es left : List Entry) → strays ++ in_places n es ≡ given → es ≡ e ∷ left → e.number ≡ n → others ≡ strays ++ e ∷ [] → others ++ in_places (n + 1) left ≡ given
+placed_kept strays others given n e es left had is numbered more =
     let same : (e.number == n) ≡ true = grind (arith, numbered) in
     let here : in_places n (e ∷ left) ≡ e ∷ in_places (suc n) left = rw same refl in
     let parts : (strays ++ e ∷ []) ++ in_places (suc n) left ≡ strays ++ e ∷ in_places (suc n) left = append_assoc strays (e ∷ []) (in_places (suc n) left) in
     rw (more, add-one n) (parts ∙ ap (λ l. strays ++ l) (sym here) ∙ ap (λ l. strays ++ in_places n l) (sym is) ∙ had)
 
-pub not_kept : (strays given : List Entry) (n : ℕ) (e : Entry) (es left : List Entry) → strays ++ in_places n es ≡ given → es ≡ e ∷ left → (e.number == n) ≡ false → strays ++ in_places (n + 1) left ≡ given
-not_kept strays given n e es left had is other =
+-- one that is not in its place is not
+pub without_hole_kept : (strays given : List Entry) (n : ℕ) (e : Entry) (es left : List Entry) → strays ++ in_places n es ≡ given → es ≡ e ∷ left → (e.number == n) ≡ false → strays ++ in_places (n + 1) left ≡ given
+without_hole_kept strays given n e es left had is other =
     let here : in_places n (e ∷ left) ≡ in_places (suc n) left = rw other refl in
     rw (add-one n) (ap (λ l. strays ++ l) (sym here) ∙ ap (λ l. strays ++ in_places n l) (sym is) ∙ had)
 
@@ -120,20 +121,20 @@ stand_from n (x ∷ es) all i d within =
     ] refl all
 
 -- lists before and behind change places with a third between them
-pub beside : (before after rest left between : List Entry) → IsPermutation (before ++ rest) (after ++ left) → IsPermutation (before ++ (between ++ rest)) (after ++ (between ++ left))
-beside before after rest left between moved =
+pub beside_between : (before after rest left between : List Entry) → IsPermutation (before ++ rest) (after ++ left) → IsPermutation (before ++ (between ++ rest)) (after ++ (between ++ left))
+beside_between before after rest left between moved =
     let behind = IsPermutation-append_right between _ _ moved in
     IsPermutation-trans _ _ _ (turned before between rest) (IsPermutation-trans _ _ _ behind (turned between after left))
 
 -- the same of what did not move
-pub beside_same : (before after rest left between : List Entry) → after ++ left ≡ before ++ rest → IsPermutation (before ++ (between ++ rest)) (after ++ (between ++ left))
-beside_same before after rest left between same =
+pub beside_between_same : (before after rest left between : List Entry) → after ++ left ≡ before ++ rest → IsPermutation (before ++ (between ++ rest)) (after ++ (between ++ left))
+beside_between_same before after rest left between same =
     let moved : IsPermutation (before ++ rest) (after ++ left) = rw same (IsPermutation-refl _) in
-    beside before after rest left between moved
+    beside_between before after rest left between moved
 
 -- what came of one list more
-pub one_more : (came before after strays others past left : List Entry) → IsPermutation came (before ++ (strays ++ (past ++ left))) → IsPermutation (before ++ (strays ++ past)) (after ++ others) → IsPermutation came (after ++ (others ++ left))
-one_more came before after strays others past left had moved =
+pub one_past_more : (came before after strays others past left : List Entry) → IsPermutation came (before ++ (strays ++ (past ++ left))) → IsPermutation (before ++ (strays ++ past)) (after ++ others) → IsPermutation came (after ++ (others ++ left))
+one_past_more came before after strays others past left had moved =
     let more = IsPermutation-append_left left _ _ moved in
     let parted : (before ++ (strays ++ past)) ++ left ≡ before ++ (strays ++ (past ++ left)) =
     append_assoc before (strays ++ past) left ∙ ap (λ l. before ++ l) (append_assoc strays past left) in
@@ -147,7 +148,7 @@ complete came es strays left long none no_more moved =
     let all : length (in_places 0 es) ≡ length es = omega (arith, long, count) in
     (rw (all_placed 0 es all) at whole, λ i d within. (let stands = stand_from 0 es all i d within in omega (arith, stands)))
 
--- what is kept beside the strays
+-- what is placed_kept beside_between the strays
 pub apart : (came es strays left others : List Entry) → left ≡ [] → others ≡ strays ++ in_places 0 es → IsPermutation came (in_places 0 es ++ (strays ++ left)) → IsPermutation came others
 apart came es strays left others no_more is moved =
     let whole : IsPermutation came (in_places 0 es ++ strays) = rw (no_more, append-nil strays) at moved in

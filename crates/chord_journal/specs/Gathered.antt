@@ -28,5 +28,5 @@ abbrev pub IsHole : ℕ → List Entry → Type 0
 IsHole place entries = (place < length entries) × ((d : Entry) → ((get_or entries place d).number == place) ≡ false)
 
 -- the next of the entries has this number
-abbrev pub IsNext : ℕ → List Entry → Type 0
-IsNext number entries = (entry : Entry) × (more : List Entry) × (entries ≡ entry ∷ more) × (entry.number ≡ number)
+abbrev pub IsNumberNext : ℕ → List Entry → Type 0
+IsNumberNext number entries = (entry : Entry) × (more : List Entry) × (entries ≡ entry ∷ more) × (entry.number ≡ number)

@@ -1,7 +1,7 @@
 //! A journal from pasts, each of which has its entries in the order of their numbers.
 ghost use Rattle.std.specs.Prelude.{◌≡◌, ◌≤◌, ◌<◌, ◌^◌, ◌++◌, ◌∷◌, [], true, ⊤, length, IfOk, OnOk, MatchOption, IsPermutation, flat_map};
 ghost use Rattle.std.specs.Vec.{vec_capacity};
-ghost use Rattle.chord_journal.specs.Gathered.{AreOfJournal, StandInPlace, IsNext, IsHole, in_places};
+ghost use Rattle.chord_journal.specs.Gathered.{AreOfJournal, StandInPlace, IsNumberNext, IsHole, in_places};
 
 use crate::gathered::gather;
 use chord_base::event::{Entry, What};
@@ -85,7 +85,7 @@ fn hole() -> Entry
 
 /// The number of the next entry of a past.
 fn next_number(rest: &VecDeque<Entry>) -> Option<usize>
-    ensures next { MatchOption result (rest.now.items ≡ []) (λ number. IsNext number rest.now.items) }
+    ensures next { MatchOption result (rest.now.items ≡ []) (λ number. IsNumberNext number rest.now.items) }
     ensures range { MatchOption result ⊤ (λ number. number < 2 ^ 32) }
 {
     match rest.front() {
@@ -96,7 +96,7 @@ fn next_number(rest: &VecDeque<Entry>) -> Option<usize>
 
 /// Whether the next entry of a past has this number.
 fn is_next(rest: &VecDeque<Entry>, number: usize) -> bool
-    ensures { result ≡ true → IsNext number rest.now.items }
+    ensures { result ≡ true → IsNumberNext number rest.now.items }
 {
     match rest.front() {
         None => false,
@@ -124,7 +124,7 @@ fn take_next(rest: &mut VecDeque<Entry>) -> Entry
 
 /// Moves the next entry of a past behind the others, which is its place.
 fn append_next(rest: &mut VecDeque<Entry>, entries: &mut Vec<Entry>)
-    requires next { IsNext (length entries.old.items) rest.old.items }
+    requires next { IsNumberNext (length entries.old.items) rest.old.items }
     requires room { length entries.old.items < vec_capacity entries.old }
     ensures moved { in_places 0 entries.new.items ++ rest.new.items ≡ in_places 0 entries.old.items ++ rest.old.items }
     ensures shorter { length rest.new.items < length rest.old.items }
@@ -134,7 +134,7 @@ fn append_next(rest: &mut VecDeque<Entry>, entries: &mut Vec<Entry>)
 
 /// Moves the next entry of a past behind the others, and those after it for as long as each has the number of the place to which it comes.
 fn append_run(rest: &mut VecDeque<Entry>, entries: &mut Vec<Entry>)
-    requires next { IsNext (length entries.old.items) rest.old.items }
+    requires next { IsNumberNext (length entries.old.items) rest.old.items }
     requires room { length entries.old.items < vec_capacity entries.old }
     ensures moved { in_places 0 entries.new.items ++ rest.new.items ≡ in_places 0 entries.old.items ++ rest.old.items }
     ensures shorter { length rest.new.items < length rest.old.items }
@@ -161,7 +161,7 @@ fn leave_holes(entries: &mut Vec<Entry>, place: usize)
 
 /// Moves the next entry of a past into the hole that stands in its place.
 fn fill(rest: &mut VecDeque<Entry>, entries: &mut Vec<Entry>, place: usize)
-    requires next { IsNext place rest.old.items }
+    requires next { IsNumberNext place rest.old.items }
     requires hole { IsHole place entries.old.items }
     ensures moved { IsPermutation (in_places 0 entries.old.items ++ rest.old.items) (in_places 0 entries.new.items ++ rest.new.items) }
     ensures shorter { length rest.new.items < length rest.old.items }

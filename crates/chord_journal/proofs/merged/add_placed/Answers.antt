@@ -1,7 +1,7 @@
 use Rattle.std.proofs.Common.{◌≡◌, ◌==◌, ◌+◌, [], false, length, ap, ◌∙◌, arith}
 use Rattle.std.specs.Vec.Iter.{into_iter_items}
 use Rattle.std.proofs.lemmas.List.{append-nil, nil_from_length}
-use Rattle.chord_journal.proofs.Merging.{kept, not_kept}
+use Rattle.chord_journal.proofs.Merging.{placed_kept, without_hole_kept}
 use Rattle.chord_journal.proofs.merged.add_placed.Goals as goal
 use Rattle.chord_journal.proofs.merged.add_placed.Goals.{then-entry-place+in_ok-push, else-entry-place}
 
@@ -12,10 +12,10 @@ loop-entry-preserved c =
     let count : length (into_iter_items c.loop-entry.entry-iterator) ≡ length (into_iter_items c.next.new.self) + 1 = rw is (omega arith) in
     let next : c.loop-entry.place + 1 + length (into_iter_items c.next.new.self) ≡ length c.args.entries.items = omega (arith, long, count) in
     elim c.if-entry-place.branch [
-      | then-entry-place+in_ok-push w ↦ (kept c.loop-entry.strays.items c.if-entry-place.strays.items _ c.loop-entry.place c.in-Some.entry _ _ had is w.if-entry-place.true (ap (λ s. s.items) w.strays-is ∙ w.in_ok-push.ensures.items), next)
+      | then-entry-place+in_ok-push w ↦ (placed_kept c.loop-entry.strays.items c.if-entry-place.strays.items _ c.loop-entry.place c.in-Some.entry _ _ had is w.if-entry-place.true (ap (λ s. s.items) w.strays-is ∙ w.in_ok-push.ensures.items), next)
       | else-entry-place w ↦ (
         let other : (c.in-Some.entry.number == c.loop-entry.place) ≡ false = grind (arith, w.if-entry-place.false) in
-            rw w.strays-is (not_kept c.loop-entry.strays.items _ c.loop-entry.place c.in-Some.entry _ _ had is other),
+            rw w.strays-is (without_hole_kept c.loop-entry.strays.items _ c.loop-entry.place c.in-Some.entry _ _ had is other),
         next,
       )
     ]

@@ -5,7 +5,7 @@ use Rattle.std.specs.List.Sorted.{IsPermutation}
 use Rattle.std.proofs.lemmas.List.{nil_from_length}
 use Rattle.std.proofs.lemmas.List.Sorted.{IsPermutation-refl}
 use Rattle.chord_journal.specs.Gathered.{StandInPlace, in_places}
-use Rattle.chord_journal.proofs.Merging.{one_more, complete, apart}
+use Rattle.chord_journal.proofs.Merging.{one_past_more, complete, apart}
 use Rattle.chord_journal.proofs.merged.merged.Goals as goal
 
 pub loop-past-init : goal.loop-past-init
@@ -15,7 +15,7 @@ loop-past-init c =
 pub loop-past-preserved : goal.loop-past-preserved
 loop-past-preserved c =
     let came = rw c.in-Some.ensures.steps.0 at c.loop-past.invariant in
-    one_more
+    one_past_more
     (flat_map (λ past. past.items) c.args.pasts.items)
     (in_places 0 c.loop-past.entries.items)
     (in_places 0 c.place_past.new.entries.items)
