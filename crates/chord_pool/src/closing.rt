@@ -91,6 +91,8 @@ pub(crate) fn finish(
     // no parcel is at home for a number that was not drawn
     let drawn = closed.drawn();
     take_homes(&mut closed, drawn, &mut entries)?;
+    // the journal may then lie where the table lay, and the system has fewer pages to clear
+    closed.release();
     let journal = gather_pasts(alloc, entries.into_lists())?;
     let _within = journal.entries();
     Ok((journal, closed))

@@ -42,7 +42,8 @@ returns-clause-few c = (known c).few
 
 pub returns-clause-closed : goal.returns-clause-closed
 returns-clause-closed c =
-    let rest = c.in_ok-take_homes.ensures.rest in (rest.0 ∙ (known c).drawn_is, (λ e i. (known c).keeps e (subst (λ (v : View). IsIn e v.kept) (rest.1 ∙ c.close-closed.ensures.view) i)))
+    let rest = c.in_ok-take_homes.ensures.rest in let after = c.release.ensures.rest in
+    (after.0 ∙ rest.0 ∙ (known c).drawn_is, (λ e i. (known c).keeps e (subst (λ (v : View). IsIn e v.kept) (after.2 ∙ rest.1 ∙ c.close-closed.ensures.view) i)))
 
 pub returns-clause-view : goal.returns-clause-view
-returns-clause-view c = c.in_ok-take_homes.ensures.rest.1 ∙ c.close-closed.ensures.view
+returns-clause-view c = c.release.ensures.rest.2 ∙ c.in_ok-take_homes.ensures.rest.1 ∙ c.close-closed.ensures.view
