@@ -83,6 +83,7 @@ pub(crate) fn finish(
     ensures counted { IfOk result (λ r. (c : ℕ) → (view desk).looked.count ≡ Some c → length r.0 ≡ min c limits.now.events) }
     ensures few { IfOk result (λ r. length r.0 ≤ limits.now.events) }
     ensures view { IfOk result (λ r. closing_view r.1 ≡ view desk) }
+    ensures released { IfOk result (λ r. parcels r.1 ≡ []) }
     ensures closed { IfOk result (λ r. (r.1.drawn ≡ length r.0) × ((e : Entry) → IsIn e (closing_view r.1).kept → IsIn e r.0)) }
 {
     entries_are_within(code);
