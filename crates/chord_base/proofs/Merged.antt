@@ -46,19 +46,23 @@ placed_at at n i m = if m == n then i else at m
 placed_old : (at : ℕ → ℕ) (n i m : ℕ) → m < n → placed_at at n i m ≡ at m
 placed_old at n i m l = rw (ne_eqb m n (λ e. omega (arith, e, l)))
 
+-- where each place keeps its numbers of a history, one of them keeps a new entry as well
+pub grown_keeps : (at : ℕ → ℕ) (view : ℕ → List Entry) (h : List Entry) (i : ℕ) (e : Entry) → AllBelow e.number h → ((j : ℕ) → kept (λ k. at k == j) h ≡ view j)
+    → (j : ℕ) → kept (λ k. placed_at at e.number i k == j) (e ∷ h) ≡ grown view i e j
+grown_keeps at view h i e below keeps j = elim (either (i == j)) [ inl y ↦ rw (eq-eqb e.number e.number refl, y, old) | inr o ↦ rw (eq-eqb e.number e.number refl, o, old) ]
+  where
+    old : kept (λ k. placed_at at e.number i k == j) h ≡ view j
+    old = kept_same (λ k. placed_at at e.number i k == j) (λ k. at k == j) e.number h below (λ k l. ap (λ z. z == j) (placed_old at e.number i k l)) ∙ keeps j
+
 -- an entry that may follow and that one place may tell keeps the places merged, with the entry in that place
 pub merged_more : (p : Program) (view : ℕ → List Entry) (h : List Entry) (i : ℕ) (e : Entry) → IsMerged p view h → MayFollow p h e → Tells p (view i) e.number e.body e.what → IsMerged p (grown view i e) (e ∷ h)
 merged_more p view h i e m f t =
     let n = e.number in
     let below : AllBelow n h = past_below p h n m.past (omega (arith, f.numbered)) in
-    let here : (n == n) ≡ true = eq-eqb n n refl in
-    let old : (j : ℕ) → kept (λ k. placed_at m.at n i k == j) h ≡ view j =
-    λ j. kept_same (λ k. placed_at m.at n i k == j) (λ k. m.at k == j) n h below (λ k l. ap (λ z. z == j) (placed_old m.at n i k l)) ∙ m.keeps j
-    in
     record {
       past = (m.past, f);
       at = placed_at m.at n i;
-      keeps = λ j. elim (either (i == j)) [ inl y ↦ rw (here, y, old j) | inr o ↦ rw (here, o, old j) ];
+      keeps = grown_keeps m.at view h i e below m.keeps;
       told =
           λ j.
           elim (either (i == j)) [

@@ -47,7 +47,7 @@ kept_equal : (f g : ℕ → Bool) (h : List Entry) → ((n : ℕ) → f n ≡ g 
 kept_equal f g h e = ap (λ (t : ℕ → Bool). kept t h) (λ i n. e n i)
 
 -- place a has gone to place b
-abbrev goes_to : ℕ → ℕ → ℕ → ℕ
+abbrev pub goes_to : ℕ → ℕ → ℕ → ℕ
 goes_to a b c = if c == a then b else c
 
 -- to place b come those of a and of b
@@ -78,25 +78,27 @@ stays a b c x na nb =
       | inr o ↦ rw o refl
     ]
 
+-- where each place keeps its numbers of a history, one place takes over what another keeps
+pub moved_keeps : (at : ℕ → ℕ) (view : ℕ → List Entry) (h : List Entry) (a b : ℕ) → a ≢ b → IsRising h → ((i : ℕ) → kept (λ n. at n == i) h ≡ view i)
+    → (c : ℕ) → kept (λ n. goes_to a b (at n) == c) h ≡ moved_into a b view c
+moved_keeps at view h a b ne rises old c =
+    elim (either (c == b)) [
+      | inl y ↦ rw y (subst (λ (z : ℕ). kept (λ n. goes_to a b (at n) == z) h ≡ together (view b) (view a)) (sym (eqb-true c b y)) there)
+      | inr o ↦
+          elim (either (c == a)) [
+            | inl y ↦ rw (o, y) (subst (λ (z : ℕ). kept (λ n. goes_to a b (at n) == z) h ≡ []) (sym (eqb-true c a y)) gone)
+            | inr k ↦ rw (o, k) (kept_equal (λ n. goes_to a b (at n) == c) (λ n. at n == c) h (λ n. stays a b c (at n) (eqb-false c a k) (eqb-false c b o)) ∙ old c)
+          ]
+    ]
+  where
+    there : kept (λ n. goes_to a b (at n) == b) h ≡ together (view b) (view a)
+    there = kept_equal (λ n. goes_to a b (at n) == b) (λ n. (at n == b) || (at n == a)) h (λ n. comes_to a b (at n) ne)
+        ∙ sym (rising_together (λ n. at n == b) (λ n. at n == a) h rises (λ n q. ne_eqb (at n) a (λ r. ne (sym r ∙ eqb-true (at n) b q))))
+        ∙ ap₂ together (old b) (old a)
+
+    gone : kept (λ n. goes_to a b (at n) == a) h ≡ []
+    gone = kept_equal (λ n. goes_to a b (at n) == a) (λ n. false) h (λ n. leaves a b (at n) ne) ∙ kept_nothing h
+
 -- a place takes over what another keeps
 pub moving_keeps_places : MovingKeepsPlaces
-moving_keeps_places p view h a b ne m = merged_union p view (moved_into a b view) h (goes_to a b) m keeps
-  where
-    there : kept (λ n. goes_to a b (m.at n) == b) h ≡ together (view b) (view a)
-    there = kept_equal (λ n. goes_to a b (m.at n) == b) (λ n. (m.at n == b) || (m.at n == a)) h (λ n. comes_to a b (m.at n) ne)
-        ∙ sym (parts_together p h (λ n. m.at n == b) (λ n. m.at n == a) m.past (λ n q. ne_eqb (m.at n) a (λ r. ne (sym r ∙ eqb-true (m.at n) b q))))
-        ∙ ap₂ together (m.keeps b) (m.keeps a)
-
-    gone : kept (λ n. goes_to a b (m.at n) == a) h ≡ []
-    gone = kept_equal (λ n. goes_to a b (m.at n) == a) (λ n. false) h (λ n. leaves a b (m.at n) ne) ∙ kept_nothing h
-
-    keeps : (c : ℕ) → kept (λ n. goes_to a b (m.at n) == c) h ≡ moved_into a b view c
-    keeps c =
-        elim (either (c == b)) [
-          | inl y ↦ rw y (subst (λ (z : ℕ). kept (λ n. goes_to a b (m.at n) == z) h ≡ together (view b) (view a)) (sym (eqb-true c b y)) there)
-          | inr o ↦
-              elim (either (c == a)) [
-                | inl y ↦ rw (o, y) (subst (λ (z : ℕ). kept (λ n. goes_to a b (m.at n) == z) h ≡ []) (sym (eqb-true c a y)) gone)
-                | inr k ↦ rw (o, k) (kept_equal (λ n. goes_to a b (m.at n) == c) (λ n. m.at n == c) h (λ n. stays a b c (m.at n) (eqb-false c a k) (eqb-false c b o)) ∙ m.keeps c)
-              ]
-        ]
+moving_keeps_places p view h a b ne m = merged_union p view (moved_into a b view) h (goes_to a b) m (moved_keeps m.at view h a b ne (past_rises p h m.past) m.keeps)
