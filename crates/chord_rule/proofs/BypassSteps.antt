@@ -186,6 +186,7 @@ module _ {P : Type 0} (entries : P → List Entry) (arguments : P → List value
       })
       refl refl refl (omega arith) (λ j a. a) (λ j c. c) (λ j k b. (b, refl)) (λ j k b. inl b) whole.woken.names whole.places
       (record { armed = mine.armed; ways = mine.ways; told = mine.told; ended = λ e. absurd (let z : true ≡ false = sym e ∙ here in cc) })
+      (wholes.none_drawn entries arguments keeps_to p n small m u whole id v at here w refl)
       (λ r. remembers_head m.count m.heads m.cells v.looked r head to)
     where
       way : WayLaw n m.cells u.order past.0
@@ -215,6 +216,7 @@ module _ {P : Type 0} (entries : P → List Entry) (arguments : P → List value
         told = mine.told;
         ended = λ e. absurd (let z : true ≡ false = sym e ∙ here in cc);
       })
+      (wholes.none_drawn entries arguments keeps_to p n small m u whole id v at here w refl)
       (λ r. remembers_cell m.count m.heads m.cells v.looked r i (consumed_word to))
     where
       way : WayLaw n m.cells u.order past.0

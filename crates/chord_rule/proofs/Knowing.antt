@@ -1,8 +1,9 @@
 -- What a desk knows by the rule: which bag a message is in, what stands in a cell that it remembers, and, alone, that nobody else
 -- has a message in hand.
-use Rattle.std.proofs.Common.{◌≡◌, ◌≢◌, ◌⊎◌, inl, inr, ⊎_elim, ℕ, ◌<◌, ◌≤◌, Bool, true, false, List, refl, sym, ap, ◌∙◌, subst, arith, Option, Some, None}
+use Rattle.std.proofs.Common.{◌≡◌, ◌≢◌, ◌⊎◌, inl, inr, ⊎_elim, ℕ, ◌<◌, ◌≤◌, Bool, true, false, List, [], refl, sym, ap, ◌∙◌, subst, arith, Option, Some, None}
 use mathlib.Core.Path.{Path}
 use mathlib.Core.Logic.{dite}
+use mathlib.Core.Option as maybe
 use mathlib.Core.Option.{some, none, some-injective}
 use native.Mathlib.Decide.{ℕ_discrete}
 use lib.ListN.{get_elem?}
@@ -20,6 +21,7 @@ use Rattle.chord_rule.specs.Moment.{Moment, Home}
 use Rattle.chord_rule.specs.Agrees.{Agrees}
 use Rattle.chord_rule.specs.Bags.{head_number}
 use Rattle.chord_rule.specs.Claims.{HasThe}
+use Rattle.chord_rule.specs.Draws.{draws_at}
 use Rattle.chord_rule.specs.Hands.{hand, Holds}
 use Rattle.chord_rule.specs.Kinds.{gone}
 use Rattle.chord_rule.specs.Made.{IsMade, IsKey, key}
@@ -32,6 +34,7 @@ use Rattle.chord_rule.specs.Whole.{Whole}
 use Rattle.chord_rule.proofs.Agreeing as agreeing
 use Rattle.chord_rule.proofs.AloneSteps.{live_some, other_live}
 use Rattle.chord_rule.proofs.Bagging as bagging
+use Rattle.chord_rule.proofs.Drawing.{draws_all}
 use Rattle.chord_rule.proofs.KeySteps.{one_key, same_key}
 use Rattle.chord_rule.proofs.MessageSteps.{claim_on}
 use Rattle.chord_rule.proofs.Puts.{at_inside}
@@ -76,17 +79,29 @@ module _ {P : Type 0} (entries : P → List Entry) (arguments : P → List value
   pub remembered_cell : v.first ≡ true → v.lent ≡ 0 → (i : ℕ) (c : Word) → LastSeen i c v.looked.seen → m.cells i ≡ c
   remembered_cell is_first none_lent i c last = (whole.alone.alone v (ap (get_elem? m.views) (sym (law.firsts.leads id v at is_first)) ∙ at) none_lent).cell i c last
 
-  -- alone, each desk is the first one, or gone
-  pub who : v.first ≡ true → v.lent ≡ 0 → (j : ℕ) (w : View) → get_elem? m.views j ≡ some w → (w ≡ v) ⊎ (w ≡ gone)
-  who is_first none_lent j w there = dite (ℕ_discrete j id) (λ e. inl (some-injective w v (sym there ∙ ap (get_elem? m.views) e ∙ at))) (λ ne. other (λ z. ne (z ∙ sym zero_id)) w.gone refl)
+  -- alone, each other desk is gone
+  others_gone : v.first ≡ true → v.lent ≡ 0 → (j : ℕ) (w : View) → j ≢ id → get_elem? m.views j ≡ some w → w ≡ gone
+  others_gone is_first none_lent j w ne there = go w.gone refl
     where
       zero_id : id ≡ 0
       zero_id = law.firsts.leads id v at is_first
 
-      other : j ≢ 0 → (b : Bool) → w.gone ≡ b → (w ≡ v) ⊎ (w ≡ gone)
-      other ne true e = inr ((whole.desks.right j w there).ended e)
-      other ne false e = let live = other_live m.count m.heads m.cells m.views whole.alone law.firsts.leads j w there e ne in
+      go : (b : Bool) → w.gone ≡ b → w ≡ gone
+      go true e = (whole.desks.right j w there).ended e
+      go false e = let live = other_live m.count m.heads m.cells m.views whole.alone law.firsts.leads j w there e (λ z. ne (z ∙ sym zero_id)) in
           let some_live = live_some m.views j w there live in let lent = whole.alone.lent v (ap (get_elem? m.views) (sym zero_id) ∙ at) in absurd (omega (arith, some_live, lent, none_lent))
+
+  -- alone, each desk is the first one, or gone
+  pub who : v.first ≡ true → v.lent ≡ 0 → (j : ℕ) (w : View) → get_elem? m.views j ≡ some w → (w ≡ v) ⊎ (w ≡ gone)
+  who is_first none_lent j w there = dite (ℕ_discrete j id) (λ e. inl (some-injective w v (sym there ∙ ap (get_elem? m.views) e ∙ at))) (λ ne. inr (others_gone is_first none_lent j w ne there))
+
+  -- alone, the first desk drew, or took over, each entry of the journal
+  pub drew_all : v.first ≡ true → v.lent ≡ 0 → v.draws ≡ u.journal
+  drew_all is_first none_lent = draws_all m.views u.journal whole.draws id v at (λ j ne. nothing j ne (get_elem? m.views j) refl)
+    where
+      nothing : (j : ℕ) → j ≢ id → (x : maybe.Option View) → get_elem? m.views j ≡ x → draws_at x ≡ []
+      nothing j ne none e = refl
+      nothing j ne (some w) e = ap (λ (y : View). y.draws) (others_gone is_first none_lent j w ne e)
 
   -- the cell of a message that is armed and free is settled
   open_settled : (c : Cell) → IsOpen c → IsSettledCell c

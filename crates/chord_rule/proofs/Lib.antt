@@ -5,6 +5,7 @@ pub mod HandSteps
 pub mod HandMoves
 pub mod Keeping
 pub mod KeepSteps
+pub mod Drawing
 pub mod BagSteps
 pub mod Staging
 pub mod MessageSteps

@@ -27,6 +27,7 @@ use Rattle.chord_rule.specs.Numbers.{HasNumber}
 use Rattle.chord_rule.specs.Duties.{HasDuty, Chosen, IsNamedByCell, IsCarried}
 use Rattle.chord_rule.specs.Alone.{Remembers}
 use Rattle.chord_rule.specs.Desks.{IsRightDesk}
+use Rattle.chord_rule.specs.Draws.{draws_at}
 use Rattle.chord_rule.specs.Bags.{LinkOrder}
 use Rattle.chord_rule.proofs.AloneSteps.{nothing_remembered}
 use Rattle.chord_rule.proofs.HandMoves.{newcomer_none}
@@ -183,6 +184,7 @@ module _ {P : Type 0} (entries : P → List Entry) (arguments : P → List value
         lent = λ v e. ap (λ (y : View). y.lent) (first_alone 0 v e);
         alone = λ v e lent. subst (λ (y : View). Remembers 0 (λ k. None) (λ i. empty_word) y.looked) (sym (first_alone 0 v e)) (nothing_remembered 0 (λ k. None) (λ i. empty_word));
       };
+      draws = record { by = λ n. 0; drawn = none_drawn };
     };
   }
     where
@@ -195,6 +197,10 @@ module _ {P : Type 0} (entries : P → List Entry) (arguments : P → List value
       nobody [] xs first chosen = absurd first.1
       nobody (k ∷ ks) [] first chosen = absurd chosen
       nobody (k ∷ ks) (x ∷ xs) first chosen = absurd chosen.1
+
+      none_drawn : (j : ℕ) → [] ≡ draws_at (get_elem? (newcomer_first ∷ []) j)
+      none_drawn zero = refl
+      none_drawn (suc j) = refl
 
       first_zero : (j : ℕ) (v : View) → get_elem? (newcomer_first ∷ []) j ≡ some v → j ≡ 0
       first_zero zero v e = refl

@@ -31,6 +31,7 @@ use Rattle.chord_rule.specs.Alone.{Remembers, AloneLaw}
 use Rattle.chord_rule.specs.Bags.{LinkOrder, IsArmed, IsConsumed, BagLaw, head_number, cell_of}
 use Rattle.chord_rule.specs.Claims.{HasThe, AreClaimed}
 use Rattle.chord_rule.specs.Desks.{IsRightDesk}
+use Rattle.chord_rule.specs.Draws.{DrawLaw}
 use Rattle.chord_rule.specs.Duties.{HasDuty, MayRest, start_walk, move_duty, drop_duty}
 use Rattle.chord_rule.specs.Hands.{hand, IsUnlinked}
 use Rattle.chord_rule.specs.Messages.{IsOpen}
@@ -43,11 +44,13 @@ use Rattle.chord_rule.specs.StandsFor.{Unseen}
 use Rattle.chord_rule.specs.Stages.{Vacant, Fresh, Placing, Claiming, Emptying, Flying, Unposted, Posting, Starting, Stage, InHand, Armed, Spent, Posted, Played, said_at, message_in}
 use Rattle.chord_rule.specs.Ways.{HasWay, WereLinked, WayLaw, IsLinkedCell, way_begun}
 use Rattle.chord_rule.specs.Whole.{Whole}
+use Rattle.chord_base.proofs.Merged.{past_below, past_rises}
 use Rattle.chord_rule.proofs.Agreeing as agreeing
 use Rattle.chord_rule.proofs.AloneSteps.{remembers_count, remembers_head, remembers_cell, remembers_look, remembers_look_head, alone_step, alone_split, alone_join, other_live}
 use Rattle.chord_rule.proofs.BagSteps.{linked_order}
 use Rattle.chord_rule.proofs.Frames.{desks_after}
 use Rattle.chord_rule.proofs.Bagging as bagging
+use Rattle.chord_rule.proofs.Drawing as drawing
 use Rattle.chord_rule.proofs.Looking as looking
 use Rattle.chord_rule.proofs.Looking.{agrees_saw}
 use Rattle.chord_rule.proofs.Lists.{some_is}
@@ -123,9 +126,9 @@ module _ {P : Type 0} (entries : P → List Entry) (arguments : P → List value
   pub whole_step : (m' : Moment P) (u' : Unseen) (w : View) → m'.views ≡ set m.views id w → Agrees entries arguments keeps_to p n m' u' → w.first ≡ v.first → w.gone ≡ v.gone → w.lent ≡ v.lent → m.count ≤ m'.count
       → ((i : ℕ) → IsArmed (cell_of m.cells i) → IsArmed (cell_of m'.cells i)) → ((i : ℕ) → IsConsumed (cell_of m.cells i) → IsConsumed (cell_of m'.cells i)) → ((i k : ℕ) → u.order.bag i ≡ Some k → (u'.order.bag i ≡ Some k) × (u'.order.rank i ≡ u.order.rank i))
       → ((i k : ℕ) → u'.order.bag i ≡ Some k → (u.order.bag i ≡ Some k) ⊎ ((x l : ℕ) → u.order.bag x ≡ Some l → u.order.rank x < u'.order.rank i))
-      → ((q i : ℕ) → cell_of m'.cells q ≡ a_cell.Woken i → IsArmed (cell_of m'.cells i)) → PlaceLaw n m'.places → IsRightDesk n m'.count m'.cells u'.order w
+      → ((q i : ℕ) → cell_of m'.cells q ≡ a_cell.Woken i → IsArmed (cell_of m'.cells i)) → PlaceLaw n m'.places → IsRightDesk n m'.count m'.cells u'.order w → DrawLaw (set m.views id w) u'.journal
       → (Remembers m.count m.heads m.cells v.looked → Remembers m'.count m'.heads m'.cells w.looked) → Whole entries arguments keeps_to p n m' u'
-  whole_step m' u' w views after first gone_same lent more armed consumed linked newer woken places right remembers = record {
+  whole_step m' u' w views after first gone_same lent more armed consumed linked newer woken places right drawn remembers = record {
     agrees = after;
     desks = record {
       right = subst (λ (vs : List View). (j : ℕ) (x : View) → get_elem? vs j ≡ some x → IsRightDesk n m'.count m'.cells u'.order x) (sym views)
@@ -135,12 +138,17 @@ module _ {P : Type 0} (entries : P → List Entry) (arguments : P → List value
     places = places;
     alone = subst (λ (vs : List View). AloneLaw m'.count m'.heads m'.cells vs) (sym views)
         (alone_step m.count m.heads m.cells m.views whole.alone law.firsts.leads id v at here m'.count m'.heads m'.cells w first gone_same lent remembers);
+    draws = subst (λ (vs : List View). DrawLaw vs u'.journal) (sym views) drawn;
   }
 
+  -- a step in which nothing is drawn
+  pub none_drawn : (w : View) → w.draws ≡ v.draws → DrawLaw (set m.views id w) u.journal
+  none_drawn w same = drawing.draws_still m.views u.journal whole.draws id v w at same
+
   -- a step that leaves the counter, the heads and the cells, and what the desk remembers
-  pub whole_still : (places : ℕ → Option Place) (homes : ℕ → Home P) (stage : ℕ → Stage) (w : View) → w.looked ≡ v.looked → ((d : Duty) → HasDuty d w.duties → HasDuty d v.duties) → w.first ≡ v.first → w.gone ≡ v.gone → w.lent ≡ v.lent → w.spent ≡ v.spent → PlaceLaw n places
+  pub whole_still : (places : ℕ → Option Place) (homes : ℕ → Home P) (stage : ℕ → Stage) (w : View) → w.looked ≡ v.looked → ((d : Duty) → HasDuty d w.duties → HasDuty d v.duties) → w.first ≡ v.first → w.gone ≡ v.gone → w.lent ≡ v.lent → w.spent ≡ v.spent → w.draws ≡ v.draws → PlaceLaw n places
       → After (record m { places = places; homes = homes }) (record u { stage = stage }) w → Whole entries arguments keeps_to p n (record m { places = places; homes = homes; views = set m.views id w }) (record u { stage = stage })
-  whole_still places homes stage w looked duties first gone_same lent spent placed after = whole_step (record m { places = places; homes = homes; views = set m.views id w }) (record u { stage = stage }) w refl after first gone_same lent (omega arith)
+  whole_still places homes stage w looked duties first gone_same lent spent same_draws placed after = whole_step (record m { places = places; homes = homes; views = set m.views id w }) (record u { stage = stage }) w refl after first gone_same lent (omega arith)
       (λ i a. a) (λ i c. c) (λ i k b. (b, refl)) (λ i k b. inl b) whole.woken.names placed
       (record {
         armed = λ d h. mine.armed d (duties d h);
@@ -148,14 +156,15 @@ module _ {P : Type 0} (entries : P → List Entry) (arguments : P → List value
         told = λ e s. mine.told (sym gone_same ∙ e) (sym spent ∙ s);
         ended = not_gone w gone_same;
       })
+      (none_drawn w same_draws)
       (λ r. subst (Remembers m.count m.heads m.cells) (sym looked) r)
 
   -- a step that writes the cell i, and remembers it
   pub whole_cell : (i : ℕ) (x : Word) (homes : ℕ → Home P) (stage : ℕ → Stage) (w : View) → w.looked ≡ v.looked → (IsArmed (cell_of m.cells i) → IsArmed x.cell) → (IsConsumed (cell_of m.cells i) → IsConsumed x.cell) → ((z : ℕ) → x.cell ≡ a_cell.Woken z → IsArmed (cell_of m.cells z))
-      → ((d : Duty) → HasDuty d w.duties → HasDuty d v.duties ⊎ IsArmed (cell_of (put m.cells i x) d.message)) → w.first ≡ v.first → w.gone ≡ v.gone → w.lent ≡ v.lent → w.spent ≡ v.spent
+      → ((d : Duty) → HasDuty d w.duties → HasDuty d v.duties ⊎ IsArmed (cell_of (put m.cells i x) d.message)) → w.first ≡ v.first → w.gone ≡ v.gone → w.lent ≡ v.lent → w.spent ≡ v.spent → w.draws ≡ v.draws
       → After (record m { cells = put m.cells i x; homes = homes }) (record u { stage = stage }) w
       → Whole entries arguments keeps_to p n (record m { cells = put m.cells i x; homes = homes; views = set m.views id (saw w i x) }) (record u { stage = stage })
-  whole_cell i x homes stage w looked armed consumed woken duties first gone_same lent spent after =
+  whole_cell i x homes stage w looked armed consumed woken duties first gone_same lent spent same_draws after =
       let m' : Moment P = record m { cells = put m.cells i x; homes = homes } in let u' : Unseen = record u { stage = stage } in
       whole_step (record m' { views = set m.views id (saw w i x) }) u' (saw w i x) refl (saw_too m' u' w i x (put_here m.cells i x) after) first gone_same lent (omega arith)
       stay stay_consumed (λ k l b. (b, refl)) (λ k l b. inl b)
@@ -166,6 +175,7 @@ module _ {P : Type 0} (entries : P → List Entry) (arguments : P → List value
         told = λ e s. mine.told (sym gone_same ∙ e) (sym spent ∙ s);
         ended = not_gone (saw w i x) gone_same;
       })
+      (none_drawn (saw w i x) same_draws)
       (λ r. subst (λ (l : Looked). Remembers m.count m.heads (put m.cells i x) (record l { seen = record { number = i; word = x } ∷ l.seen })) (sym looked) (remembers_cell m.count m.heads m.cells v.looked r i x))
     where
       stay : (k : ℕ) → IsArmed (cell_of m.cells k) → IsArmed (cell_of (put m.cells i x) k)
@@ -175,10 +185,10 @@ module _ {P : Type 0} (entries : P → List Entry) (arguments : P → List value
       stay_consumed k a = put_all m.cells i x (λ k c. IsConsumed (cell_of m.cells k) → IsConsumed c.cell) k consumed (λ ne b. b) a
 
   -- a step that counts up, and remembers it
-  pub whole_count : (journal : List Entry) (stage : ℕ → Stage) (w : View) → w.looked ≡ v.looked → w.duties ≡ v.duties → w.first ≡ v.first → w.gone ≡ v.gone → w.lent ≡ v.lent → (w.spent ≡ true → n ≤ m.count + 1)
+  pub whole_count : (journal : List Entry) (stage : ℕ → Stage) (w : View) → w.looked ≡ v.looked → w.duties ≡ v.duties → w.first ≡ v.first → w.gone ≡ v.gone → w.lent ≡ v.lent → (w.spent ≡ true → n ≤ m.count + 1) → DrawLaw (set m.views id (saw_count w (m.count + 1))) journal
       → After (record m { count = m.count + 1 }) (record u { journal = journal; stage = stage }) w
       → Whole entries arguments keeps_to p n (record m { count = m.count + 1; views = set m.views id (saw_count w (m.count + 1)) }) (record u { journal = journal; stage = stage })
-  whole_count journal stage w looked duties first gone_same lent spent after =
+  whole_count journal stage w looked duties first gone_same lent spent drawn after =
       let m' : Moment P = record m { count = m.count + 1 } in let u' : Unseen = record u { journal = journal; stage = stage } in
       whole_step (record m' { views = set m.views id (saw_count w (m.count + 1)) }) u' (saw_count w (m.count + 1)) refl (looked_too m' u' w (record w.looked { count = Some (m.count + 1) }) refl after) first gone_same lent (omega arith)
       (λ i a. a) (λ i c. c) (λ i k b. (b, refl)) (λ i k b. inl b) whole.woken.names whole.places
@@ -188,13 +198,18 @@ module _ {P : Type 0} (entries : P → List Entry) (arguments : P → List value
         told = λ e s. spent s;
         ended = not_gone (saw_count w (m.count + 1)) gone_same;
       })
+      drawn
       (λ r. subst (λ (l : Looked). Remembers (m.count + 1) m.heads m.cells (record l { count = Some (m.count + 1) })) (sym looked) (remembers_count m.count m.heads m.cells v.looked r (m.count + 1)))
 
   -- ## Draws
 
   -- the desk is told that the limit is reached
   pub whole_told : 0 < n → n ≤ m.count → v.spent ≡ false → Whole entries arguments keeps_to p n (record m { count = m.count + 1; views = set m.views id (saw_count (was_told v) (m.count + 1)) }) u
-  whole_told any full untold = whole_count u.journal u.stage (was_told v) refl refl refl refl refl (λ _. omega arith) (agreeing.agrees_told entries arguments keeps_to p n small m u law id v at any full untold)
+  whole_told any full untold = whole_count u.journal u.stage (was_told v) refl refl refl refl refl (λ _. omega arith) (none_drawn (saw_count (was_told v) (m.count + 1)) refl) (agreeing.agrees_told entries arguments keeps_to p n small m u law id v at any full untold)
+
+  -- the entry is drawn with the number to which the counter came
+  one_drawn : (e : Entry) (w : View) → e.number ≡ m.count → m.count < n → w.draws ≡ e ∷ v.draws → DrawLaw (set m.views id w) (e ∷ u.journal)
+  one_drawn e w next room new = let keeping = law.stands.keeping in let long = keeping.long in drawing.draws_grow m.views u.journal whole.draws id v w at e (past_below p u.journal e.number keeping.merged.past (omega (arith, long, next, room))) new
 
   -- where a desk was told so, the limit was reached
   told_before : v.spent ≡ true → n ≤ m.count + 1
@@ -203,20 +218,20 @@ module _ {P : Type 0} (entries : P → List Entry) (arguments : P → List value
   -- an own entry is drawn
   pub whole_draw : (b : ℕ) (what : What) → m.count < n → IsOwn what → Asks p v.kept b what
       → Whole entries arguments keeps_to p n (record m { count = m.count + 1; views = set m.views id (saw_count (drew v m.count b what) (m.count + 1)) }) (record u { journal = entry m.count b what ∷ u.journal; stage = kinds.drawn_stage id m.count what u.stage })
-  whole_draw b what room own asks = whole_count (entry m.count b what ∷ u.journal) (kinds.drawn_stage id m.count what u.stage) (drew v m.count b what) refl refl refl refl refl told_before
+  whole_draw b what room own asks = whole_count (entry m.count b what ∷ u.journal) (kinds.drawn_stage id m.count what u.stage) (drew v m.count b what) refl refl refl refl refl told_before (one_drawn (entry m.count b what) (saw_count (drew v m.count b what) (m.count + 1)) refl room refl)
       (agreeing.agrees_draw entries arguments keeps_to p n small m u law id v at b what room own asks)
 
   -- the whole rule still holds once the first desk, which has neither drawn nor lent a desk, begins `Main`
   pub whole_begun : 0 < n → v.first ≡ true → v.drawn ≡ false → v.splits ≡ 0
       → Whole entries arguments keeps_to p n (record m { count = m.count + 1; views = set m.views id (saw_count (drew v m.count 0 Begun) (m.count + 1)) }) (record u { journal = entry m.count 0 Begun ∷ u.journal; stage = u.stage })
-  whole_begun any is_first not_drawn not_split = whole_count (entry m.count 0 Begun ∷ u.journal) u.stage (drew v m.count 0 Begun) refl refl refl refl refl told_before
+  whole_begun any is_first not_drawn not_split = whole_count (entry m.count 0 Begun ∷ u.journal) u.stage (drew v m.count 0 Begun) refl refl refl refl refl told_before (one_drawn (entry m.count 0 Begun) (saw_count (drew v m.count 0 Begun) (m.count + 1)) refl (let none = law.firsts.untouched v (ap (get_elem? m.views) (sym (law.firsts.leads id v at is_first)) ∙ at) not_drawn not_split in omega (arith, none, any)) refl)
       (agreeing.agrees_begun entries arguments keeps_to p n small m u law id v at any is_first not_drawn not_split)
 
   -- a firing is drawn with claims on its members
   pub whole_draw_firing : (k : ℕ) (object : Object) (js ms : List ℕ) (vs : List value.Value) → m.count < n → slice_get (p.chords object.class) k ≡ Some js → AreClaimed v.claims object js ms vs
       → Whole entries arguments keeps_to p n (record m { count = m.count + 1; views = set m.views id (saw_count (kinds.firing_drawn v m.count k object ms vs) (m.count + 1)) })
       (record u { journal = entry m.count m.count (Fired k object ms vs) ∷ u.journal; stage = kinds.fired_stage id m.count ms u.stage })
-  whole_draw_firing k object js ms vs room chord members = whole_count (entry m.count m.count (Fired k object ms vs) ∷ u.journal) (kinds.fired_stage id m.count ms u.stage) (kinds.firing_drawn v m.count k object ms vs) refl refl refl refl refl told_before
+  whole_draw_firing k object js ms vs room chord members = whole_count (entry m.count m.count (Fired k object ms vs) ∷ u.journal) (kinds.fired_stage id m.count ms u.stage) (kinds.firing_drawn v m.count k object ms vs) refl refl refl refl refl told_before (one_drawn (entry m.count m.count (Fired k object ms vs)) (saw_count (kinds.firing_drawn v m.count k object ms vs) (m.count + 1)) refl room refl)
       (agreeing.agrees_draw_firing entries arguments keeps_to p n small m u law id v at k object js ms vs room chord members)
 
   -- ## Messages
@@ -224,7 +239,7 @@ module _ {P : Type 0} (entries : P → List Entry) (arguments : P → List value
   -- the place word of a message is set
   pub whole_place : (i : ℕ) (e : Entry) (x : Message) → IsIn e v.kept → e.number ≡ i → message_of e.what ≡ Some x → HasNumber i v.fresh → v.placing ≡ None → x.object.number < n → x.method < 16
       → Whole entries arguments keeps_to p n (record m { places = put m.places i (Some (x.object, x.method)); homes = put m.homes i none; views = set m.views id (kinds.address_set v i) }) (record u { stage = put u.stage i (InHand id Placing) })
-  whole_place i e x is num says has free low few = whole_still (put m.places i (Some (x.object, x.method))) (put m.homes i none) (put u.stage i (InHand id Placing)) (kinds.address_set v i) refl (λ d h. h) refl refl refl refl
+  whole_place i e x is num says has free low few = whole_still (put m.places i (Some (x.object, x.method))) (put m.homes i none) (put u.stage i (InHand id Placing)) (kinds.address_set v i) refl (λ d h. h) refl refl refl refl refl
       (record { within = λ j pl e. put_all m.places i (Some (x.object, x.method)) (λ j y. y ≡ Some pl → (pl.0.number < n) × (pl.1 < 16)) j (λ z. let same = some_is (x.object, x.method) pl z in subst (λ (y : Place). (y.0.number < n) × (y.1 < 16)) same (low, few)) (λ ne z. whole.places.within j pl z) e })
       (agreeing.agrees_place entries arguments keeps_to p n small m u law id v at i e x is num says has free)
 
@@ -250,6 +265,7 @@ module _ {P : Type 0} (entries : P → List Entry) (arguments : P → List value
         told = mine.told;
         ended = not_gone (saw_head w (head_number k) (Some i)) refl;
       })
+      (none_drawn (saw_head w (head_number k) (Some i)) refl)
       (λ r. remembers_head m.count m.heads m.cells v.looked r (head_number k) (Some i))
 
   -- the cell of a message in flight
@@ -264,19 +280,19 @@ module _ {P : Type 0} (entries : P → List Entry) (arguments : P → List value
   pub whole_arm : (i : ℕ) → v.flight ≡ Some i
       → Whole entries arguments keeps_to p n (record m { cells = put m.cells i (record { cell = a_cell.Pending; next = v.above }); views = set m.views id (saw (kinds.armed v i) i (record { cell = a_cell.Pending; next = v.above })) }) (record u { stage = put u.stage i Armed })
   whole_arm i flying = let x : Word = record { cell = a_cell.Pending; next = v.above } in whole_cell i x m.homes (put u.stage i Armed) (kinds.armed v i) refl (λ _. tt) (λ c. absurd (subst (λ (w : Word). IsConsumed w.cell) (flying_word i flying) c)) (λ z e. absurd (cc))
-      (λ d h. ⊎_elim (λ e. inr (subst (λ (j : ℕ). IsArmed (cell_of (put m.cells i x) j)) (sym (ap (λ (z : Duty). z.message) e)) (subst (λ (c : Word). IsArmed c.cell) (sym (put_here m.cells i x)) tt))) inl h) refl refl refl refl
+      (λ d h. ⊎_elim (λ e. inr (subst (λ (j : ℕ). IsArmed (cell_of (put m.cells i x) j)) (sym (ap (λ (z : Duty). z.message) e)) (subst (λ (c : Word). IsArmed c.cell) (sym (put_here m.cells i x)) tt))) inl h) refl refl refl refl refl
       (agreeing.agrees_arm entries arguments keeps_to p n small m u law id v at i flying)
 
   -- a pending message is claimed
   pub whole_claim : (i : ℕ) (next : Option ℕ) (x : Message) → m.cells i ≡ record { cell = a_cell.Pending; next = next } → message_in (said_at i u.journal) ≡ Some x
       → Whole entries arguments keeps_to p n (record m { cells = put m.cells i (record { cell = a_cell.Claimed; next = next }); views = set m.views id (saw (claimed v (claim_on i next x)) i (record { cell = a_cell.Claimed; next = next })) }) (record u { stage = put u.stage i (InHand id (Claiming (claim_on i next x))) })
-  whole_claim i next x is says = whole_cell i (record { cell = a_cell.Claimed; next = next }) m.homes (put u.stage i (InHand id (Claiming (claim_on i next x)))) (claimed v (claim_on i next x)) refl (λ _. tt) (λ c. absurd (subst (λ (w : Word). IsConsumed w.cell) is c)) (λ z e. absurd (cc)) (λ d h. inl h) refl refl refl refl
+  whole_claim i next x is says = whole_cell i (record { cell = a_cell.Claimed; next = next }) m.homes (put u.stage i (InHand id (Claiming (claim_on i next x)))) (claimed v (claim_on i next x)) refl (λ _. tt) (λ c. absurd (subst (λ (w : Word). IsConsumed w.cell) is c)) (λ z e. absurd (cc)) (λ d h. inl h) refl refl refl refl refl
       (agreeing.agrees_claim entries arguments keeps_to p n small m u law id v at i next x is says)
 
   -- a claim for no firing is given back
   pub whole_give_back : (c : Claim) → HasThe c v.claims → c.firing ≡ None
       → Whole entries arguments keeps_to p n (record m { cells = put m.cells c.number (record { cell = a_cell.Pending; next = c.next }); views = set m.views id (saw (kinds.unclaimed v c.number) c.number (record { cell = a_cell.Pending; next = c.next })) }) (record u { stage = put u.stage c.number Armed })
-  whole_give_back c has free = whole_cell c.number (record { cell = a_cell.Pending; next = c.next }) m.homes (put u.stage c.number Armed) (kinds.unclaimed v c.number) refl (λ _. tt) (λ d. absurd (subst (λ (w : Word). IsConsumed w.cell) (claimed_word c has) d)) (λ z e. absurd (cc)) (λ d h. inl h) refl refl refl refl
+  whole_give_back c has free = whole_cell c.number (record { cell = a_cell.Pending; next = c.next }) m.homes (put u.stage c.number Armed) (kinds.unclaimed v c.number) refl (λ _. tt) (λ d. absurd (subst (λ (w : Word). IsConsumed w.cell) (claimed_word c has) d)) (λ z e. absurd (cc)) (λ d h. inl h) refl refl refl refl refl
       (agreeing.agrees_give_back entries arguments keeps_to p n small m u law id v at c has free)
 
   -- a message that is claimed for a firing is consumed
@@ -284,35 +300,35 @@ module _ {P : Type 0} (entries : P → List Entry) (arguments : P → List value
       → Whole entries arguments keeps_to p n (record m { cells = put m.cells c.number (record { cell = a_cell.Consumed; next = c.next }); homes = put m.homes c.number none; views = set m.views id (saw (kinds.consumed v c.number (entries q)) c.number (record { cell = a_cell.Consumed; next = c.next })) })
       (record u { stage = put u.stage c.number (InHand id Emptying) })
   whole_consume c f q has for free home = whole_cell c.number (record { cell = a_cell.Consumed; next = c.next }) (put m.homes c.number none) (put u.stage c.number (InHand id Emptying)) (kinds.consumed v c.number (entries q)) refl (λ _. tt) (λ _. tt) (λ z e. absurd (cc))
-      (λ d h. inl (agreeing.was_duty d c.number v.duties h)) refl refl refl refl (agreeing.agrees_consume entries arguments keeps_to p n small m u law id v at c f q has for free home)
+      (λ d h. inl (agreeing.was_duty d c.number v.duties h)) refl refl refl refl refl (agreeing.agrees_consume entries arguments keeps_to p n small m u law id v at c f q has for free home)
 
   -- the slot of a consumed message is home again
   pub whole_empty : (i : ℕ) → v.emptying ≡ Some i → Whole entries arguments keeps_to p n (record m { homes = put m.homes i (some None); views = set m.views id (kinds.emptied v) }) (record u { stage = put u.stage i Spent })
-  whole_empty i emptying = whole_still m.places (put m.homes i (some None)) (put u.stage i Spent) (kinds.emptied v) refl (λ d h. h) refl refl refl refl whole.places (agreeing.agrees_empty entries arguments keeps_to p n small m u law id v at i emptying)
+  whole_empty i emptying = whole_still m.places (put m.homes i (some None)) (put u.stage i Spent) (kinds.emptied v) refl (λ d h. h) refl refl refl refl refl whole.places (agreeing.agrees_empty entries arguments keeps_to p n small m u law id v at i emptying)
 
   -- ## Firings
 
   -- the slot of a firing comes out
   pub whole_posting : (f : ℕ) → HasNumber f v.unposted → v.posting ≡ None → Whole entries arguments keeps_to p n (record m { homes = put m.homes f none; views = set m.views id (kinds.posting v f) }) (record u { stage = put u.stage f (InHand id Posting) })
-  whole_posting f has free = whole_still m.places (put m.homes f none) (put u.stage f (InHand id Posting)) (kinds.posting v f) refl (λ d h. h) refl refl refl refl whole.places (agreeing.agrees_posting entries arguments keeps_to p n small m u law id v at f has free)
+  whole_posting f has free = whole_still m.places (put m.homes f none) (put u.stage f (InHand id Posting)) (kinds.posting v f) refl (λ d h. h) refl refl refl refl refl whole.places (agreeing.agrees_posting entries arguments keeps_to p n small m u law id v at f has free)
 
   -- a firing is posted
   pub whole_post : (f : ℕ) (q : P) → v.posting ≡ Some f → MayGo p v.kept (entries q) → ((e : Entry) (x : Message) → IsIn e (entries q) → message_of e.what ≡ Some x → IsUnlinked (hand v) e.number → ⊥)
       → BeginsThere f (entries q) → ((e : Entry) → IsIn e (entries q) → e.body ≡ f → e.number ≡ f) → ((b : ℕ) → (b ≡ f → ⊥) → BeginsThere b (entries q) → IsParkedThere p (entries q) None (doing p (entries q) b)) → keeps_to q
       → Whole entries arguments keeps_to p n (record m { cells = put m.cells f (record { cell = a_cell.Ready; next = None }); homes = put m.homes f (some (Some q)); views = set m.views id (saw (kinds.posted v (entries q)) f (record { cell = a_cell.Ready; next = None })) }) (record u { stage = put u.stage f Posted })
   whole_post f q posting may others begins only parked task = let t = agreeing.it entries arguments keeps_to p n small m u law id v at f (InHand id Posting) (law.stands.hands.holds id v at f Posting posting) in
-      whole_cell f (record { cell = a_cell.Ready; next = None }) (put m.homes f (some (Some q))) (put u.stage f Posted) (kinds.posted v (entries q)) refl (λ a. absurd (subst (λ (c : Word). IsArmed c.cell) t.1 a)) (λ a. absurd (subst (λ (c : Word). IsConsumed c.cell) t.1 a)) (λ z e. absurd (cc)) (λ d h. inl h) refl refl refl refl
+      whole_cell f (record { cell = a_cell.Ready; next = None }) (put m.homes f (some (Some q))) (put u.stage f Posted) (kinds.posted v (entries q)) refl (λ a. absurd (subst (λ (c : Word). IsArmed c.cell) t.1 a)) (λ a. absurd (subst (λ (c : Word). IsConsumed c.cell) t.1 a)) (λ z e. absurd (cc)) (λ d h. inl h) refl refl refl refl refl
       (agreeing.agrees_post entries arguments keeps_to p n small m u law id v at f q posting may others begins only parked task)
 
   -- a ready firing is started
   pub whole_start : (f : ℕ) (q : P) → (m.cells f).cell ≡ a_cell.Ready → v.starting ≡ None → m.homes f ≡ some (Some q)
       → Whole entries arguments keeps_to p n (record m { cells = put m.cells f (record { cell = a_cell.Started; next = None }); homes = put m.homes f none; views = set m.views id (saw (kinds.firing_started v f (entries q)) f (record { cell = a_cell.Started; next = None })) }) (record u { stage = put u.stage f (InHand id Starting) })
-  whole_start f q is free home = whole_cell f (record { cell = a_cell.Started; next = None }) (put m.homes f none) (put u.stage f (InHand id Starting)) (kinds.firing_started v f (entries q)) refl (λ a. absurd (subst IsArmed is a)) (λ a. absurd (subst IsConsumed is a)) (λ z e. absurd (cc)) (λ d h. inl h) refl refl refl refl
+  whole_start f q is free home = whole_cell f (record { cell = a_cell.Started; next = None }) (put m.homes f none) (put u.stage f (InHand id Starting)) (kinds.firing_started v f (entries q)) refl (λ a. absurd (subst IsArmed is a)) (λ a. absurd (subst IsConsumed is a)) (λ z e. absurd (cc)) (λ d h. inl h) refl refl refl refl refl
       (agreeing.agrees_start entries arguments keeps_to p n small m u law id v at f q is free home)
 
   -- the slot of a started firing is home again
   pub whole_play : (f : ℕ) → v.starting ≡ Some f → Whole entries arguments keeps_to p n (record m { homes = put m.homes f (some None); views = set m.views id (kinds.played v) }) (record u { stage = put u.stage f Played })
-  whole_play f starting = whole_still m.places (put m.homes f (some None)) (put u.stage f Played) (kinds.played v) refl (λ d h. h) refl refl refl refl whole.places (agreeing.agrees_play entries arguments keeps_to p n small m u law id v at f starting)
+  whole_play f starting = whole_still m.places (put m.homes f (some None)) (put u.stage f Played) (kinds.played v) refl (λ d h. h) refl refl refl refl refl whole.places (agreeing.agrees_play entries arguments keeps_to p n small m u law id v at f starting)
 
   -- ## Desks
 
@@ -328,6 +344,7 @@ module _ {P : Type 0} (entries : P → List Entry) (arguments : P → List value
     woken = whole.woken;
     places = whole.places;
     alone = alone_split m.count m.heads m.cells m.views whole.alone law.firsts.leads id v at here is_first;
+    draws = drawing.draws_more (set m.views id (kinds.lent_one v)) u.journal (none_drawn (kinds.lent_one v) refl);
   }
 
   -- the whole rule still holds once the first desk takes over from a desk with no slot out, no message in flight and no claim
@@ -351,16 +368,17 @@ module _ {P : Type 0} (entries : P → List Entry) (arguments : P → List value
     places = whole.places;
     alone = alone_join m.count m.heads m.cells m.views whole.alone law.firsts.leads id v at here other w is_first apart there
         (other_live m.count m.heads m.cells m.views whole.alone law.firsts.leads other w there there_here (λ z. apart (z ∙ sym (law.firsts.leads id v at is_first))));
+    draws = drawing.draws_join m.views u.journal whole.draws id v (kinds.united v w) at (past_rises p u.journal law.stands.keeping.merged.past) other w apart there refl;
   }
 
   -- ## Looks
 
   -- what the desk does in its looks and its duties alone keeps the whole rule where it keeps its parts
-  whole_view : (w : View) → After m u w → w.first ≡ v.first → w.gone ≡ v.gone → w.lent ≡ v.lent → w.spent ≡ v.spent → ((d : Duty) → HasDuty d w.duties → IsArmed (cell_of m.cells d.message)) → ((x : Way) → HasWay x w.looked.ways → WayLaw n m.cells u.order x)
+  whole_view : (w : View) → After m u w → w.first ≡ v.first → w.gone ≡ v.gone → w.lent ≡ v.lent → w.spent ≡ v.spent → w.draws ≡ v.draws → ((d : Duty) → HasDuty d w.duties → IsArmed (cell_of m.cells d.message)) → ((x : Way) → HasWay x w.looked.ways → WayLaw n m.cells u.order x)
       → (Remembers m.count m.heads m.cells v.looked → Remembers m.count m.heads m.cells w.looked) → Whole entries arguments keeps_to p n (record m { views = set m.views id w }) u
-  whole_view w after first gone_same lent spent armed ways remembers = whole_step (record m { views = set m.views id w }) u w refl after first gone_same lent (omega arith)
+  whole_view w after first gone_same lent spent same_draws armed ways remembers = whole_step (record m { views = set m.views id w }) u w refl after first gone_same lent (omega arith)
       (λ i a. a) (λ i c. c) (λ i k b. (b, refl)) (λ i k b. inl b) whole.woken.names whole.places
-      (record { armed = armed; ways = ways; told = λ e s. mine.told (sym gone_same ∙ e) (sym spent ∙ s); ended = not_gone w gone_same }) remembers
+      (record { armed = armed; ways = ways; told = λ e s. mine.told (sym gone_same ∙ e) (sym spent ∙ s); ended = not_gone w gone_same }) (none_drawn w same_draws) remembers
 
   -- what is linked is a number of the table
   pub linked_below : (i k : ℕ) → u.order.bag i ≡ Some k → i < n
@@ -368,12 +386,12 @@ module _ {P : Type 0} (entries : P → List Entry) (arguments : P → List value
 
   -- a look at the counter
   pub whole_look_count : Whole entries arguments keeps_to p n (record m { views = set m.views id (saw_count v m.count) }) u
-  whole_look_count = whole_view (saw_count v m.count) (agreeing.agrees_still entries arguments keeps_to p n small m u law id v at (saw_count v m.count) refl refl refl refl refl refl refl refl) refl refl refl refl mine.armed mine.ways
+  whole_look_count = whole_view (saw_count v m.count) (agreeing.agrees_still entries arguments keeps_to p n small m u law id v at (saw_count v m.count) refl refl refl refl refl refl refl refl) refl refl refl refl refl mine.armed mine.ways
       (λ r. remembers_count m.count m.heads m.cells v.looked r m.count)
 
   -- a look at the head of the bag k
   pub whole_look_head : (k : ℕ) (linked : List ℕ) → WereLinked u.order (head_number k) linked → Whole entries arguments keeps_to p n (record m { views = set m.views id (kinds.looked_head v k linked (m.heads (head_number k))) }) u
-  whole_look_head k linked are = whole_view (kinds.looked_head v k linked (m.heads (head_number k))) (looking.agrees_look_head entries arguments keeps_to p n small m u law id v at k linked) refl refl refl refl
+  whole_look_head k linked are = whole_view (kinds.looked_head v k linked (m.heads (head_number k))) (looking.agrees_look_head entries arguments keeps_to p n small m u law id v at k linked) refl refl refl refl refl
       (λ d h. let r = looking.has_mapped (start_walk k (m.heads (head_number k))) d v.duties h in subst (λ (z : Duty). IsArmed (cell_of m.cells z.message)) (sym r.2) (mine.armed r.0 r.1))
       begun_ways
       (λ r. let z = remembers_look_head m.count m.heads m.cells v.looked r (head_number k) in record { counter = z.counter; head = z.head; cell = z.cell })
@@ -419,7 +437,7 @@ module _ {P : Type 0} (entries : P → List Entry) (arguments : P → List value
 
   -- a look at the cell i
   pub whole_look_cell : (i : ℕ) → Whole entries arguments keeps_to p n (record m { views = set m.views id (kinds.looked_cell v i (m.cells i)) }) u
-  whole_look_cell i = whole_view (kinds.looked_cell v i (m.cells i)) (looking.agrees_look_cell entries arguments keeps_to p n small m u law id v at i) refl refl refl refl
+  whole_look_cell i = whole_view (kinds.looked_cell v i (m.cells i)) (looking.agrees_look_cell entries arguments keeps_to p n small m u law id v at i) refl refl refl refl refl
       (λ d h. armed (kinds.is_down (m.cells i).cell) d h) (on_law (IsKey u.journal) n m.cells m.heads u.order law.bags linked_below v.looked.ways i (λ k b. linked_cell i k b) mine.ways)
       (λ r. let z = remembers_look m.count m.heads m.cells v.looked r i in record { counter = z.counter; head = z.head; cell = z.cell })
     where
@@ -429,23 +447,23 @@ module _ {P : Type 0} (entries : P → List Entry) (arguments : P → List value
 
   -- what an exchange that fails reads in the cell i
   pub whole_saw : (i : ℕ) → Whole entries arguments keeps_to p n (record m { views = set m.views id (saw v i (m.cells i)) }) u
-  whole_saw i = whole_view (saw v i (m.cells i)) (looking.agrees_saw entries arguments keeps_to p n small m u law id v at i) refl refl refl refl mine.armed mine.ways (λ r. remembers_look m.count m.heads m.cells v.looked r i)
+  whole_saw i = whole_view (saw v i (m.cells i)) (looking.agrees_saw entries arguments keeps_to p n small m u law id v at i) refl refl refl refl refl mine.armed mine.ways (λ r. remembers_look m.count m.heads m.cells v.looked r i)
 
   -- what an exchange that fails reads in a head
   pub whole_saw_head : (head : ℕ) → Whole entries arguments keeps_to p n (record m { views = set m.views id (saw_head v head (m.heads head)) }) u
-  whole_saw_head head = whole_view (saw_head v head (m.heads head)) (agreeing.agrees_still entries arguments keeps_to p n small m u law id v at (saw_head v head (m.heads head)) refl refl refl refl refl refl refl refl) refl refl refl refl mine.armed mine.ways
+  whole_saw_head head = whole_view (saw_head v head (m.heads head)) (agreeing.agrees_still entries arguments keeps_to p n small m u law id v at (saw_head v head (m.heads head)) refl refl refl refl refl refl refl refl) refl refl refl refl refl mine.armed mine.ways
       (λ r. remembers_look_head m.count m.heads m.cells v.looked r head)
 
   -- a duty is laid down
   pub whole_rest : (i : ℕ) → ((d : Duty) → HasDuty d v.duties → d.message ≡ i → MayRest (IsChord p) d) → Whole entries arguments keeps_to p n (record m { views = set m.views id (kinds.rested v i) }) u
-  whole_rest i may = whole_view (kinds.rested v i) (looking.agrees_rest entries arguments keeps_to p n small m u law id v at i may) refl refl refl refl (λ d h. mine.armed d (agreeing.was_duty d i v.duties h)) mine.ways (λ r. r)
+  whole_rest i may = whole_view (kinds.rested v i) (looking.agrees_rest entries arguments keeps_to p n small m u law id v at i may) refl refl refl refl refl (λ d h. mine.armed d (agreeing.was_duty d i v.duties h)) mine.ways (λ r. r)
 
   -- the caller q is woken by the message i, on which the desk has a duty
   pub whole_woken : (q : ℕ) (e : Duty) (next : Option ℕ) → HasDuty e v.duties → m.cells q ≡ record { cell = a_cell.Pending; next = next } → u.stage q ≡ Armed
       → Whole entries arguments keeps_to p n (record m { cells = put m.cells q (record { cell = a_cell.Woken e.message; next = next }); views = set m.views id (saw (kinds.woke v q e.message) q (record { cell = a_cell.Woken e.message; next = next })) }) u
   whole_woken q e next has is was = whole_cell q (record { cell = a_cell.Woken e.message; next = next }) m.homes u.stage (kinds.woke v q e.message) refl (λ _. tt) (λ c. absurd (subst (λ (w : Word). IsConsumed w.cell) is c))
       (λ z s. subst (λ (y : ℕ). IsArmed (cell_of m.cells y)) (woken_by e.message z s) (mine.armed e has))
-      (λ d h. inl (agreeing.was_duty d e.message v.duties (agreeing.was_duty d q (drop_duty e.message v.duties) h))) refl refl refl refl
+      (λ d h. inl (agreeing.was_duty d e.message v.duties (agreeing.was_duty d q (drop_duty e.message v.duties) h))) refl refl refl refl refl
       (looking.agrees_woken entries arguments keeps_to p n small m u law id v at q e.message next is was)
     where
       woken_by : (a b : ℕ) → a_cell.Woken a ≡ a_cell.Woken b → a ≡ b
@@ -457,5 +475,5 @@ module _ {P : Type 0} (entries : P → List Entry) (arguments : P → List value
   whole_rearmed q kq i ki next is was bq bi = let x : Word = record { cell = a_cell.Pending; next = next } in whole_cell q x m.homes u.stage (kinds.rearmed v q kq i ki) refl (λ _. tt) (λ c. absurd (subst (λ (w : Word). IsConsumed w.cell) is c)) (λ z e. absurd (cc))
       (λ d h. ⊎_elim (λ e. inr (subst (λ (j : ℕ). IsArmed (cell_of (put m.cells q x) j)) (sym (ap (λ (z : Duty). z.message) e)) (subst (λ (c : Word). IsArmed c.cell) (sym (put_here m.cells q x)) tt)))
       (λ k. ⊎_elim (λ e. inr (subst (λ (j : ℕ). IsArmed (cell_of (put m.cells q x) j)) (sym (ap (λ (z : Duty). z.message) e))
-      (put_all m.cells q x (λ j c. IsArmed (cell_of m.cells j) → IsArmed c.cell) i (λ _. tt) (λ ne a. a) (whole.woken.names q i (ap (λ (c : Word). c.cell) is))))) inl k) h) refl refl refl refl
+      (put_all m.cells q x (λ j c. IsArmed (cell_of m.cells j) → IsArmed c.cell) i (λ _. tt) (λ ne a. a) (whole.woken.names q i (ap (λ (c : Word). c.cell) is))))) inl k) h) refl refl refl refl refl
       (looking.agrees_rearmed entries arguments keeps_to p n small m u law id v at q kq i ki next is was bq bi)

@@ -38,9 +38,9 @@ fresh_after x _ xs = xs
 abbrev pub entry : ℕ → ℕ → What → Entry
 entry x body what = record { number = x; body = body; what = what }
 
--- the desk keeps the new entry, the newest first
+-- the desk drew the new entry, and keeps it, the newest first
 abbrev pub drew : View → ℕ → ℕ → What → View
-drew v x body what = record v { kept = entry x body what ∷ v.kept; fresh = fresh_after x what v.fresh; drawn = true }
+drew v x body what = record v { kept = entry x body what ∷ v.kept; draws = entry x body what ∷ v.draws; fresh = fresh_after x what v.fresh; drawn = true }
 
 -- the desk was told that the limit is reached
 abbrev pub was_told : View → View
@@ -52,7 +52,7 @@ nothing_looked = record { count = None; heads = []; seen = []; ways = [] }
 
 -- a desk that keeps nothing and has nothing in hand
 abbrev pub newcomer : View
-newcomer = record { kept = []; fresh = []; placing = None; flight = None; above = None; bag = 0; claims = []; emptying = None; unposted = []; posting = None; starting = None; duties = []; looked = nothing_looked; first = false; gone = false; drawn = false; spent = false; lent = 0; splits = 0 }
+newcomer = record { kept = []; draws = []; fresh = []; placing = None; flight = None; above = None; bag = 0; claims = []; emptying = None; unposted = []; posting = None; starting = None; duties = []; looked = nothing_looked; first = false; gone = false; drawn = false; spent = false; lent = 0; splits = 0 }
 
 -- a desk that was joined into the first
 abbrev pub gone : View
@@ -82,7 +82,7 @@ claimed v c = record v { claims = c ∷ v.claims }
 
 -- a firing was drawn with the claims on these members
 abbrev pub firing_drawn : View → ℕ → ℕ → Object → List ℕ → List value.Value → View
-firing_drawn v f k o ms vs = record v { kept = entry f f (Fired k o ms vs) ∷ v.kept; claims = fired_with f ms v.claims; unposted = f ∷ v.unposted; drawn = true }
+firing_drawn v f k o ms vs = record v { kept = entry f f (Fired k o ms vs) ∷ v.kept; draws = entry f f (Fired k o ms vs) ∷ v.draws; claims = fired_with f ms v.claims; unposted = f ∷ v.unposted; drawn = true }
 
 -- the place word of a message was set, and its slot came out
 abbrev pub address_set : View → ℕ → View
@@ -134,7 +134,7 @@ lent_one v = record v { lent = v.lent + 1; splits = v.splits + 1 }
 
 -- the first desk took over what another desk has, and what that one was told of the limit
 abbrev pub united : View → View → View
-united v w = record v { kept = together v.kept w.kept; fresh = v.fresh ++ w.fresh; unposted = v.unposted ++ w.unposted; spent = v.spent || w.spent; lent = v.lent - 1; looked = nothing_looked; duties = map reset_duty (v.duties ++ w.duties) }
+united v w = record v { kept = together v.kept w.kept; draws = together v.draws w.draws; fresh = v.fresh ++ w.fresh; unposted = v.unposted ++ w.unposted; spent = v.spent || w.spent; lent = v.lent - 1; looked = nothing_looked; duties = map reset_duty (v.duties ++ w.duties) }
 
 -- whether a message with this cell stands no longer: it is consumed or woken
 abbrev pub is_down : Cell → Bool

@@ -22,6 +22,8 @@ pub mod Ways
 pub mod Kinds
 -- each entry of the run is kept in exactly one place
 pub mod Keeping
+-- each entry of the run was drawn by exactly one desk
+pub mod Draws
 -- what a parcel at home holds
 pub mod Parcels
 -- what comes to a desk, and what it keeps, are places of the run

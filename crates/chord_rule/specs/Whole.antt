@@ -10,18 +10,20 @@ use Rattle.chord_rule.specs.Placed.{PlaceLaw}
 use Rattle.chord_rule.specs.Agrees.{Agrees}
 use Rattle.chord_rule.specs.Alone.{AloneLaw}
 use Rattle.chord_rule.specs.Desks.{DeskLaw}
+use Rattle.chord_rule.specs.Draws.{DrawLaw}
 use Rattle.chord_rule.specs.Held.{HeldBy}
 use Rattle.chord_rule.specs.StandsFor.{Unseen}
 use Rattle.chord_rule.specs.Woken.{WokenLaw}
 
 -- the rule of the table, which holds between any two steps: what its words, its desks and its journal say of each other, what
--- holds of each desk, and what the first desk knows while it is alone
+-- holds of each desk, what the first desk knows while it is alone, and which desk drew each entry
 pub record Whole {P : Type 0} (entries : P → List Entry) (arguments : P → List value.Value) (keeps_to : P → Type 0) (p : Program) (n : ℕ) (m : Moment P) (u : Unseen) : Type 0 where
   pub agrees : Agrees entries arguments keeps_to p n m u
   pub desks : DeskLaw n m.count m.cells u.order m.views
   pub woken : WokenLaw m.cells
   pub places : PlaceLaw n m.places
   pub alone : AloneLaw m.count m.heads m.cells m.views
+  pub draws : DrawLaw m.views u.journal
 
 -- the table, for n events and with so many heads an object, shows a moment that meets the whole rule
 abbrev pub Held : {P : Type 0} → (P → List Entry) → (P → List value.Value) → (P → Type 0) → Program → (n width : ℕ) → State (Option P) View → Type 0

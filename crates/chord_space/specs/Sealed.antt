@@ -42,6 +42,8 @@ pub record IsSealed {P : Type 0} (entries : P → List Entry) (arguments : P →
   pub rule : Whole entries arguments (λ q. keeps_to q code limits) (code_program code limits) limits.events moment unseen
   pub desk : get_elem? moment.views id ≡ some v
   pub drawn_is : drawn ≡ length unseen.journal
+  -- that desk drew, or took over from the desks that it took in, each entry of the journal
+  pub journal : v.draws ≡ unseen.journal
   -- where the desk knew that nothing was left to do, and no body that it kept makes an entry of itself, the journal is complete
   pub complete : MayClose v → AreQuiet (code_program code limits) v.kept → IsFinal (code_program code limits) unseen.journal
   pub homes : (i : ℕ) → i < limits.events → (y : Option P) × (moment.homes i ≡ some y) × (slice_get parcels i ≡ Some y)
