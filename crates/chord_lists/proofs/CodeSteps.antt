@@ -269,8 +269,8 @@ pending_under p (x ∷ h) n m past e =
     ]
 
 -- what a past and the list of all entries got is the newest entry of that past
-pub added : (past past' list list' : List Entry) (e : Entry) → AddsOne past past' list list' → reverse past' ≡ e ∷ reverse past → list' ≡ list ++ e ∷ []
-added past past' list list' e a is =
+pub listed_one : (past past' list list' : List Entry) (e : Entry) → AddsOne past past' list list' → reverse past' ≡ e ∷ reverse past → list' ≡ list ++ e ∷ []
+listed_one past past' list list' e a is =
     let z : a.entry ∷ reverse past ≡ e ∷ reverse past = sym (reverse-append past (a.entry ∷ [])) ∙ sym (ap reverse a.past) ∙ is in
     let same : a.entry ≡ e = cc in
     a.list ∙ ap (λ x. list ++ x ∷ []) same
@@ -343,7 +343,7 @@ went_at code limits before after h n at t t' w turn valid sound room played s g 
             after =
                 record {
                   past = past;
-                  journal = journal_more before.entries.items after.entries.items h e s.journal (added t.past t'.past before.entries.items after.entries.items e listed note);
+                  journal = journal_more before.entries.items after.entries.items h e s.journal (listed_one t.past t'.past before.entries.items after.entries.items e listed note);
                   keeps = λ i. keeps_more p before.homes.items after.homes.items v h e at s.past number one s.keeps i ∙ grows i;
                   tasks = subst (λ x. (i : ℕ) (y : Task) → slice_get x i ≡ Some y → IsTaskOf code limits y) (sym tasks) (tasks_set code limits before.tasks.items at t' t g u.task s.tasks);
                   ready = subst (λ x. AreReady x (reverse after.ready.items)) (sym tasks) (subst (λ (x : List ℕ). AreReady (set before.tasks.items at t') (reverse x)) (sym ready) (ready_set before.tasks.items at t' t (reverse before.ready.items) g r s.ready));

@@ -10,7 +10,7 @@ use Rattle.chord_lists.specs.Engine.{fired}
 use Rattle.chord_lists.specs.CodeStands.{sent_values}
 use Rattle.chord_lists.proofs.Spots.{one_some}
 use Rattle.chord_lists.proofs.CodeFiring.{firing_sent, may_begin, fired_alone}
-use Rattle.chord_lists.proofs.CodeSteps.{added}
+use Rattle.chord_lists.proofs.CodeSteps.{listed_one}
 use Rattle.chord_lists.proofs.code_bodies.begin_alone.Goals as goal
 
 pub place_after-at-requires : goal.place_after-at-requires
@@ -64,7 +64,7 @@ returns c =
     let e = fired c.args.number c.args.chord c.args.object c.args.members.now vs in
     let list = c.reserve.new.self.items in
     let past' : reverse c.resume_with.new.self.past ≡ e ∷ reverse c.in_ok-task.task.past = past ∙ ap (λ (l : List Entry). e ∷ l) (sym spare.past) in
-    let entries = added c.in_ok-task.task.past c.resume_with.new.self.past list c.resume_with.new.list.items e c.in_ok-resume_with.ensures.listed past' ∙ ap (λ l. l ++ e ∷ []) c.reserve.ensures.items in
+    let entries = listed_one c.in_ok-task.task.past c.resume_with.new.self.past list c.resume_with.new.list.items e c.in_ok-resume_with.ensures.listed past' ∙ ap (λ l. l ++ e ∷ []) c.reserve.ensures.items in
     fired_alone code limits c.args.bodies.now _ h c.args.number c.args.chord c.args.object c.args.members.now vs c.resume_with.new.self played s f task past entries
     c.in_ok-push.ensures.items
     (ap reverse c.in_ok-push-2.ensures.items ∙ reverse-append c.args.bodies.now.ready.items (c.place_after-at.result ∷ []) ∙ ap (λ i. i ∷ reverse c.args.bodies.now.ready.items) at)

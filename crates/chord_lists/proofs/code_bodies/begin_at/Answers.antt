@@ -8,7 +8,7 @@ use Rattle.chord_task.specs.Standing.{view_of, IsTaskOf, MayResume}
 use Rattle.chord_lists.specs.Engine.{fired}
 use Rattle.chord_lists.specs.CodeStands.{sent_values}
 use Rattle.chord_lists.proofs.CodeFiring.{firing_sent, fired_at, host}
-use Rattle.chord_lists.proofs.CodeSteps.{added}
+use Rattle.chord_lists.proofs.CodeSteps.{listed_one}
 use Rattle.chord_lists.proofs.code_bodies.begin_at.Goals as goal
 
 pub add_all_arguments-requires-clause-there : goal.add_all_arguments-requires-clause-there
@@ -74,7 +74,7 @@ returns c =
     let task = subst (λ l. IsTaskOf code l c.resume_with.new.self) (ap (λ (t : Task). t.limits) e ∙ k.is.limited) c.in_ok-resume_with.ensures.task in
     let e' = fired c.args.number c.args.chord c.args.object c.args.members.now vs in
     let listed = subst (λ (t : Task). AddsOne t.past c.resume_with.new.self.past c.reserve.new.self.items c.resume_with.new.list.items) e c.in_ok-resume_with.ensures.listed in
-    let entries = added k.task.past c.resume_with.new.self.past c.reserve.new.self.items c.resume_with.new.list.items e' listed past ∙ ap (λ l. l ++ e' ∷ []) c.reserve.ensures.items in
+    let entries = listed_one k.task.past c.resume_with.new.self.past c.reserve.new.self.items c.resume_with.new.list.items e' listed past ∙ ap (λ l. l ++ e' ∷ []) c.reserve.ensures.items in
     fired_at code limits c.args.bodies.now _ h c.args.at c.args.number c.args.chord c.args.object c.args.members.now vs c.resume_with.new.self played s f k task past entries
     refl
     c.in_ok-put_ready.ensures
