@@ -1,25 +1,22 @@
 -- What a firing makes of the bodies of a run of a code.
-use Rattle.std.proofs.Common.{◌≡◌, ℕ, suc, ◌<◌, ◌≤◌, Bool, true, false, ◌==◌, List, [], ◌∷◌, ◌++◌, length, Option, Some, None, refl, sym, ap, ◌∙◌, subst, arith, inl, inr, set, reverse, length-append}
+use Rattle.std.proofs.Common.{◌≡◌, ℕ, suc, ◌<◌, ◌≤◌, true, false, ◌==◌, List, [], ◌∷◌, ◌++◌, length, Option, Some, None, refl, sym, ap, ◌∙◌, subst, arith, inl, inr, set, reverse, length-append}
 use Rattle.std.specs.Prelude.{slice_get}
 use Rattle.std.proofs.lemmas.Option.{slice_get_within}
 use Rattle.std.proofs.lemmas.List.{length-set}
-use Rattle.std.proofs.lemmas.Bool.{eq-eqb, eqb-true, eqb-false, ne_eqb}
+use Rattle.std.proofs.lemmas.Bool.{eq-eqb, eqb-true, eqb-false}
 use Rattle.chord_base.specs.declared.value.Object.{Object}
 use Rattle.chord_base.specs.declared.value.Value.{Value}
 use Rattle.chord_base.specs.declared.event.Entry.{Entry}
 use Rattle.chord_base.specs.declared.event.Limits.{Limits}
-use Rattle.chord_base.specs.Messages.{Message, has, pending, AreDifferent}
+use Rattle.chord_base.specs.Messages.{Message, has, pending}
 use Rattle.chord_base.specs.Bodies.{doing, served_among, or_none}
-use Rattle.chord_base.specs.Machine.{Takes, Fires}
+use Rattle.chord_base.specs.Machine.{Fires}
 use Rattle.chord_base.specs.Story.{IsDefined, IsSound, AllBelow, grown}
 use Rattle.chord_base.proofs.Waits.{either}
 use Rattle.chord_base.proofs.Merged.{merged_fire, merged_story}
 use Rattle.chord_base.proofs.Calls.{served_member}
-use Rattle.chord_base.proofs.Firings.{members_differ}
 use Rattle.chord_code.specs.declared.parts.Parts.{Parts}
 use Rattle.chord_code.specs.Meaning.{code_program}
-use Rattle.chord_code.specs.Valid.{IsValid}
-use Rattle.chord_code.proofs.Validity.{valid_different}
 use Rattle.chord_task.specs.declared.task.Task.{Task}
 use Rattle.chord_task.specs.Stacks.{FitsCall, BeginsDefined}
 use Rattle.chord_task.specs.declared.body.Body.{Body}
