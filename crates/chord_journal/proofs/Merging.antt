@@ -133,11 +133,11 @@ beside_between_same before after rest left between same =
     beside_between before after rest left between moved
 
 -- what came of one list more
-pub one_past_more : (came before after strays others past left : List Entry) → IsPermutation came (before ++ (strays ++ (past ++ left))) → IsPermutation (before ++ (strays ++ past)) (after ++ others) → IsPermutation came (after ++ (others ++ left))
-one_past_more came before after strays others past left had moved =
+pub one_list_more : (came before after strays others list left : List Entry) → IsPermutation came (before ++ (strays ++ (list ++ left))) → IsPermutation (before ++ (strays ++ list)) (after ++ others) → IsPermutation came (after ++ (others ++ left))
+one_list_more came before after strays others list left had moved =
     let more = IsPermutation-append_left left _ _ moved in
-    let parted : (before ++ (strays ++ past)) ++ left ≡ before ++ (strays ++ (past ++ left)) =
-    append_assoc before (strays ++ past) left ∙ ap (λ l. before ++ l) (append_assoc strays past left) in
+    let parted : (before ++ (strays ++ list)) ++ left ≡ before ++ (strays ++ (list ++ left)) =
+    append_assoc before (strays ++ list) left ∙ ap (λ l. before ++ l) (append_assoc strays list left) in
     IsPermutation-trans _ _ _ had (rw (parted, append_assoc after others left) at more)
 
 -- where as many entries stand as came, and there is no stray, each stands in its place

@@ -1,4 +1,4 @@
-//! A journal from pasts, each of which has its entries in the order of their numbers.
+//! A journal from lists, each of which has its entries in the order of their numbers.
 ghost use Rattle.std.specs.Prelude.{◌≡◌, ◌≤◌, ◌<◌, ◌^◌, ◌++◌, ◌∷◌, [], true, ⊤, length, IfOk, OnOk, MatchOption, IsPermutation, flat_map};
 ghost use Rattle.std.specs.Vec.{vec_capacity};
 ghost use Rattle.chord_journal.specs.Gathered.{AreOfJournal, StandInPlace, IsNumberNext, IsHole, in_places};
@@ -10,47 +10,47 @@ use std::alloc::{AllocError, Global};
 use std::collections::VecDeque;
 use std::mem;
 
-/// The journal of the entries of these pasts. Each entry is moved once, to the place of its number, and leaves holes for those before it that come later.
-/// Where each past has its entries in the order of their numbers, as a task keeps what it did, memory is gone through in its order.
+/// The journal of the entries of these lists. Each entry is moved once, to the place of its number, and leaves holes for those before it that come later.
+/// Where each list has its entries in the order of their numbers, as a task keeps what it did, memory is gone through in its order.
 ///
 /// # Errors
 ///
-/// `AllocError` where there is no memory for the entries beside the pasts, or for sorting, which is asked for only where a number is there twice.
-pub fn gather_pasts(alloc: Global, pasts: Vec<Vec<Entry>>) -> Result<Journal, AllocError>
-    requires { AreOfJournal (flat_map (λ past. past.items) pasts.items) }
-    ensures { IfOk result (λ journal. IsPermutation (flat_map (λ past. past.items) pasts.items) journal) }
+/// `AllocError` where there is no memory for the entries beside the lists, or for sorting, which is asked for only where a number is there twice.
+pub fn gather_lists(alloc: Global, lists: Vec<Vec<Entry>>) -> Result<Journal, AllocError>
+    requires { AreOfJournal (flat_map (λ list. list.items) lists.items) }
+    ensures { IfOk result (λ journal. IsPermutation (flat_map (λ list. list.items) lists.items) journal) }
 {
-    let mut pasts = pasts;
-    if pasts.len() == 1 {
-        let past = pasts.take_last();
-        return gather(alloc, past);
+    let mut lists = lists;
+    if lists.len() == 1 {
+        let list = lists.take_last();
+        return gather(alloc, list);
     }
-    gather_several(alloc, pasts)
+    gather_several(alloc, lists)
 }
 
-/// The journal of the entries of several pasts.
-fn gather_several(alloc: Global, pasts: Vec<Vec<Entry>>) -> Result<Journal, AllocError>
-    requires { AreOfJournal (flat_map (λ past. past.items) pasts.items) }
-    ensures { IfOk result (λ journal. IsPermutation (flat_map (λ past. past.items) pasts.items) journal) }
+/// The journal of the entries of several lists.
+fn gather_several(alloc: Global, lists: Vec<Vec<Entry>>) -> Result<Journal, AllocError>
+    requires { AreOfJournal (flat_map (λ list. list.items) lists.items) }
+    ensures { IfOk result (λ journal. IsPermutation (flat_map (λ list. list.items) lists.items) journal) }
 {
-    let (entries, placed) = merged(alloc, pasts)?;
+    let (entries, placed) = merged(alloc, lists)?;
     if placed == entries.len() {
         return Ok(Journal::of_entries(entries));
     }
     gather(alloc, entries)
 }
 
-/// The entries of the pasts side by side, and how many stand in the places of their numbers, from the front on: all, where no number is there twice.
-fn merged(alloc: Global, pasts: Vec<Vec<Entry>>) -> Result<(Vec<Entry>, usize), AllocError>
-    requires few { length (flat_map (λ past. past.items) pasts.items) ≤ 65536 }
-    ensures moved { IfOk result (λ r. IsPermutation (flat_map (λ past. past.items) pasts.items) r.0.items) }
+/// The entries of the lists side by side, and how many stand in the places of their numbers, from the front on: all, where no number is there twice.
+fn merged(alloc: Global, lists: Vec<Vec<Entry>>) -> Result<(Vec<Entry>, usize), AllocError>
+    requires few { length (flat_map (λ list. list.items) lists.items) ≤ 65536 }
+    ensures moved { IfOk result (λ r. IsPermutation (flat_map (λ list. list.items) lists.items) r.0.items) }
     ensures placed { IfOk result (λ r. StandInPlace r.1 r.0.items) }
 {
-    let count = count_of(&pasts);
+    let count = count_of(&lists);
     let mut strays = Vec::new(alloc);
     let mut entries = Vec::with_capacity(alloc, count)?;
-    for past in pasts {
-        place_past(past, &mut entries, &mut strays)?;
+    for list in lists {
+        place_list(list, &mut entries, &mut strays)?;
     }
     // as many as came are there, so none is a hole
     if strays.is_empty() && entries.len() == count {
@@ -60,14 +60,14 @@ fn merged(alloc: Global, pasts: Vec<Vec<Entry>>) -> Result<(Vec<Entry>, usize), 
     Ok((strays, 0))
 }
 
-/// How many entries the pasts have.
-fn count_of(pasts: &[Vec<Entry>]) -> usize
-    requires few { length (flat_map (λ past. past.items) pasts.now) ≤ 65536 }
-    ensures { result ≡ length (flat_map (λ past. past.items) pasts.now) }
+/// How many entries the lists have.
+fn count_of(lists: &[Vec<Entry>]) -> usize
+    requires few { length (flat_map (λ list. list.items) lists.now) ≤ 65536 }
+    ensures { result ≡ length (flat_map (λ list. list.items) lists.now) }
 {
     let mut count = 0;
-    for past in pasts {
-        count += past.len();
+    for list in lists {
+        count += list.len();
     }
     count
 }
@@ -83,7 +83,7 @@ fn hole() -> Entry
     }
 }
 
-/// The number of the next entry of a past.
+/// The number of the next entry of a list.
 fn next_number(rest: &VecDeque<Entry>) -> Option<usize>
     ensures next { MatchOption result (rest.now.items ≡ []) (λ number. IsNumberNext number rest.now.items) }
     ensures range { MatchOption result ⊤ (λ number. number < 2 ^ 32) }
@@ -94,7 +94,7 @@ fn next_number(rest: &VecDeque<Entry>) -> Option<usize>
     }
 }
 
-/// Whether the next entry of a past has this number.
+/// Whether the next entry of a list has this number.
 fn is_next(rest: &VecDeque<Entry>, number: usize) -> bool
     ensures { result ≡ true → IsNumberNext number rest.now.items }
 {
@@ -111,7 +111,7 @@ fn is_hole(entries: &[Entry], place: usize) -> bool
     place < entries.len() && entries[place].number as usize != place
 }
 
-/// Takes the next entry of a past.
+/// Takes the next entry of a list.
 fn take_next(rest: &mut VecDeque<Entry>) -> Entry
     requires { 0 < length rest.old.items }
     ensures { rest.old.items ≡ result ∷ rest.new.items }
@@ -122,7 +122,7 @@ fn take_next(rest: &mut VecDeque<Entry>) -> Entry
     }
 }
 
-/// Moves the next entry of a past behind the others, which is its place.
+/// Moves the next entry of a list behind the others, which is its place.
 fn append_next(rest: &mut VecDeque<Entry>, entries: &mut Vec<Entry>)
     requires next { IsNumberNext (length entries.old.items) rest.old.items }
     requires room { length entries.old.items < vec_capacity entries.old }
@@ -132,7 +132,7 @@ fn append_next(rest: &mut VecDeque<Entry>, entries: &mut Vec<Entry>)
     entries.push_reserved(take_next(rest));
 }
 
-/// Moves the next entry of a past behind the others, and those after it for as long as each has the number of the place to which it comes.
+/// Moves the next entry of a list behind the others, and those after it for as long as each has the number of the place to which it comes.
 fn append_run(rest: &mut VecDeque<Entry>, entries: &mut Vec<Entry>)
     requires next { IsNumberNext (length entries.old.items) rest.old.items }
     requires room { length entries.old.items < vec_capacity entries.old }
@@ -159,7 +159,7 @@ fn leave_holes(entries: &mut Vec<Entry>, place: usize)
     }
 }
 
-/// Moves the next entry of a past into the hole that stands in its place.
+/// Moves the next entry of a list into the hole that stands in its place.
 fn fill(rest: &mut VecDeque<Entry>, entries: &mut Vec<Entry>, place: usize)
     requires next { IsNumberNext place rest.old.items }
     requires hole { IsHole place entries.old.items }
@@ -170,7 +170,7 @@ fn fill(rest: &mut VecDeque<Entry>, entries: &mut Vec<Entry>, place: usize)
     mem::forget(mem::replace(&mut entries[place], take_next(rest)));
 }
 
-/// Moves the next entry of a past aside.
+/// Moves the next entry of a list aside.
 fn set_aside(rest: &mut VecDeque<Entry>, strays: &mut Vec<Entry>) -> Result<(), AllocError>
     requires { 0 < length rest.old.items }
     ensures moved { OnOk result (strays.new.items ++ rest.new.items ≡ strays.old.items ++ rest.old.items) }
@@ -180,15 +180,15 @@ fn set_aside(rest: &mut VecDeque<Entry>, strays: &mut Vec<Entry>) -> Result<(), 
     Ok(())
 }
 
-/// Moves the entries of a past to the places of their numbers. One for which there is no place, or another in its place, is a stray.
-fn place_past(
-    past: Vec<Entry>,
+/// Moves the entries of a list to the places of their numbers. One for which there is no place, or another in its place, is a stray.
+fn place_list(
+    list: Vec<Entry>,
     entries: &mut Vec<Entry>,
     strays: &mut Vec<Entry>,
 ) -> Result<(), AllocError>
-    ensures { OnOk result (IsPermutation (in_places 0 entries.old.items ++ (strays.old.items ++ past.items)) (in_places 0 entries.new.items ++ strays.new.items)) }
+    ensures { OnOk result (IsPermutation (in_places 0 entries.old.items ++ (strays.old.items ++ list.items)) (in_places 0 entries.new.items ++ strays.new.items)) }
 {
-    let mut rest = VecDeque::from_vec(past);
+    let mut rest = VecDeque::from_vec(list);
     while let Some(place) = next_number(&rest) {
         if is_hole(entries, place) {
             fill(&mut rest, entries, place);
