@@ -60,7 +60,7 @@ module _ (code : Parts) (limits : Limits) (id : ℕ) (v : View) (slots : List (O
   of_run = let l = long in of_journal es s.unseen.journal moved (omega (arith, l, small)) within
 
   -- the place of each entry
-  place : ℕ → ℕ
+  abbrev place : ℕ → ℕ
   place = s.rule.agrees.stands.keeping.merged.at
 
   -- the closing desk keeps entries of the run
