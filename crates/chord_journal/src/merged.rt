@@ -1,5 +1,5 @@
 //! A journal from lists, each of which has its entries in the order of their numbers.
-ghost use Rattle.std.specs.Prelude.{◌≡◌, ◌≤◌, ◌<◌, ◌^◌, ◌++◌, ◌∷◌, [], true, ⊤, length, IfOk, OnOk, MatchOption, IsPermutation, flat_map};
+ghost use Rattle.std.specs.Prelude.{◌≡◌, ◌≤◌, ◌<◌, ◌^◌, ◌++◌, ◌∷◌, true, length, IfOk, OnOk, IfSome, IsPermutation, flat_map};
 ghost use Rattle.std.specs.Vec.{vec_capacity};
 ghost use Rattle.chord_journal.specs.Gathered.{AreOfJournal, StandInPlace, IsNumberNext, IsHole, in_places};
 
@@ -10,8 +10,11 @@ use std::alloc::{AllocError, Global};
 use std::collections::VecDeque;
 use std::mem;
 
+/// As many places as are filled from all lists before the next ones are, so that what is written to them lies near.
+const STRETCH: usize = 1024;
+
 /// The journal of the entries of these lists. Each entry is moved once, to the place of its number, and leaves holes for those before it that come later.
-/// Where each list has its entries in the order of their numbers, as a task keeps what it did, memory is gone through in its order.
+/// Where each list has its entries in the order of their numbers, as a worker draws them, memory is gone through in its order.
 ///
 /// # Errors
 ///
@@ -49,9 +52,8 @@ fn merged(alloc: Global, lists: Vec<Vec<Entry>>) -> Result<(Vec<Entry>, usize), 
     let count = count_of(&lists);
     let mut strays = Vec::new(alloc);
     let mut entries = Vec::with_capacity(alloc, count)?;
-    for list in lists {
-        place_list(list, &mut entries, &mut strays)?;
-    }
+    let rests = rests_of(alloc, lists)?;
+    place_all(rests, count, &mut entries, &mut strays)?;
     // as many as came are there, so none is a hole
     if strays.is_empty() && entries.len() == count {
         return Ok((entries, count));
@@ -72,6 +74,17 @@ fn count_of(lists: &[Vec<Entry>]) -> usize
     count
 }
 
+/// The lists, from whose fronts entries are to be taken.
+fn rests_of(alloc: Global, lists: Vec<Vec<Entry>>) -> Result<Vec<VecDeque<Entry>>, AllocError>
+    ensures { IfOk result (λ rests. flat_map (λ rest. rest.items) rests.items ≡ flat_map (λ list. list.items) lists.items) }
+{
+    let mut rests = Vec::new(alloc);
+    for list in lists {
+        rests.push(VecDeque::from_vec(list))?;
+    }
+    Ok(rests)
+}
+
 /// What stands in a place whose entry has not come.
 fn hole() -> Entry
     ensures { result.number ≡ 4294967295 }
@@ -83,14 +96,17 @@ fn hole() -> Entry
     }
 }
 
-/// The number of the next entry of a list.
-fn next_number(rest: &VecDeque<Entry>) -> Option<usize>
-    ensures next { MatchOption result (rest.now.items ≡ []) (λ number. IsNumberNext number rest.now.items) }
-    ensures range { MatchOption result ⊤ (λ number. number < 2 ^ 32) }
+/// The number of the next entry of a list, if it is below this one.
+fn next_below(rest: &VecDeque<Entry>, reach: usize) -> Option<usize>
+    ensures next { IfSome result (λ number. IsNumberNext number rest.now.items) }
+    ensures range { IfSome result (λ number. number < 2 ^ 32) }
 {
     match rest.front() {
         None => None,
-        Some(entry) => Some(entry.number as usize),
+        Some(entry) => {
+            let number = entry.number as usize;
+            if number < reach { Some(number) } else { None }
+        }
     }
 }
 
@@ -180,25 +196,82 @@ fn set_aside(rest: &mut VecDeque<Entry>, strays: &mut Vec<Entry>) -> Result<(), 
     Ok(())
 }
 
-/// Moves the entries of a list to the places of their numbers. One for which there is no place, or another in its place, is a stray.
-fn place_list(
-    list: Vec<Entry>,
+/// Moves the next entries of a list to the places of their numbers, up to one whose number is not below this one. One for which there is no place, or another in its place, is a stray.
+fn place_below(
+    rest: &mut VecDeque<Entry>,
+    reach: usize,
     entries: &mut Vec<Entry>,
     strays: &mut Vec<Entry>,
 ) -> Result<(), AllocError>
-    ensures { OnOk result (IsPermutation (in_places 0 entries.old.items ++ (strays.old.items ++ list.items)) (in_places 0 entries.new.items ++ strays.new.items)) }
+    ensures { OnOk result (IsPermutation (in_places 0 entries.old.items ++ (strays.old.items ++ rest.old.items)) (in_places 0 entries.new.items ++ (strays.new.items ++ rest.new.items))) }
 {
-    let mut rest = VecDeque::from_vec(list);
-    while let Some(place) = next_number(&rest) {
+    while let Some(place) = next_below(rest, reach) {
         if is_hole(entries, place) {
-            fill(&mut rest, entries, place);
+            fill(rest, entries, place);
         } else if entries.len() <= place && place < entries.capacity() {
             leave_holes(entries, place);
-            append_run(&mut rest, entries);
+            append_run(rest, entries);
         } else {
-            set_aside(&mut rest, strays)?;
+            set_aside(rest, strays)?;
         }
     }
+    Ok(())
+}
+
+/// Moves the next entries of each list so.
+fn place_stretch(
+    rests: &mut [VecDeque<Entry>],
+    reach: usize,
+    entries: &mut Vec<Entry>,
+    strays: &mut Vec<Entry>,
+) -> Result<(), AllocError>
+    ensures moved { OnOk result (IsPermutation (in_places 0 entries.old.items ++ (strays.old.items ++ flat_map (λ rest. rest.items) rests.old)) (in_places 0 entries.new.items ++ (strays.new.items ++ flat_map (λ rest. rest.items) rests.new))) }
+    ensures count { length rests.new ≡ length rests.old }
+{
+    for rest in rests.iter_mut() {
+        place_below(rest, reach, entries, strays)?;
+    }
+    Ok(())
+}
+
+/// Moves what is left of a list aside.
+fn set_rest_aside(rest: VecDeque<Entry>, strays: &mut Vec<Entry>) -> Result<(), AllocError>
+    ensures { OnOk result (strays.new.items ≡ strays.old.items ++ rest.items) }
+{
+    let mut rest = rest;
+    while !rest.is_empty() {
+        set_aside(&mut rest, strays)?;
+    }
+    Ok(())
+}
+
+/// Moves what is left of all lists aside.
+fn set_all_aside(rests: Vec<VecDeque<Entry>>, strays: &mut Vec<Entry>) -> Result<(), AllocError>
+    ensures { OnOk result (strays.new.items ≡ strays.old.items ++ flat_map (λ rest. rest.items) rests.items) }
+{
+    for rest in rests {
+        set_rest_aside(rest, strays)?;
+    }
+    Ok(())
+}
+
+/// Moves the entries of all lists to the places of their numbers, stretch by stretch. What is left behind the last stretch are strays.
+fn place_all(
+    rests: Vec<VecDeque<Entry>>,
+    count: usize,
+    entries: &mut Vec<Entry>,
+    strays: &mut Vec<Entry>,
+) -> Result<(), AllocError>
+    requires few { count ≤ 65536 }
+    ensures { OnOk result (IsPermutation (in_places 0 entries.old.items ++ (strays.old.items ++ flat_map (λ rest. rest.items) rests.items)) (in_places 0 entries.new.items ++ strays.new.items)) }
+{
+    let mut rests = rests;
+    let mut reach = 0;
+    while reach < count {
+        reach += STRETCH;
+        place_stretch(&mut rests, reach, entries, strays)?;
+    }
+    set_all_aside(rests, strays)?;
     Ok(())
 }
 
