@@ -174,6 +174,6 @@ module _ {P : Type 0} (entries : P → List Entry) (arguments : P → List value
       coming : AreComing p entries o (firing_entry arguments o chord ms f qs ∷ v.kept) t.methods ms qs
       coming = subst (λ (vs : List value.Value). AreComing p entries o (entry f f (Fired chord o ms vs) ∷ v.kept) t.methods ms qs) h.arguments_are (subst (λ (z : View). AreComing p entries o z.kept t.methods ms qs) t.drawn h.coming)
 
-      after : w ≡ record v { kept = all_together (firing_entry arguments o chord ms f qs ∷ v.kept) (map entries qs); claims = []; unposted = f ∷ v.unposted; drawn = true; duties = drop_duties ms v.duties; looked = w.looked }
+      after : w ≡ record v { kept = all_together (firing_entry arguments o chord ms f qs ∷ v.kept) (map entries qs); draws = firing_entry arguments o chord ms f qs ∷ v.draws; claims = []; unposted = f ∷ v.unposted; drawn = true; duties = drop_duties ms v.duties; looked = w.looked }
       after = h.frame ∙ ap (λ (z : View). handed_over z (all_together z.kept (map entries qs)) (drop_duties ms z.duties) w.looked) t.drawn
-          ∙ ap (λ (vs : List value.Value). record v { kept = all_together (entry f f (Fired chord o ms vs) ∷ v.kept) (map entries qs); claims = []; unposted = f ∷ v.unposted; drawn = true; duties = drop_duties ms v.duties; looked = w.looked }) h.arguments_are
+          ∙ ap (λ (vs : List value.Value). record v { kept = all_together (entry f f (Fired chord o ms vs) ∷ v.kept) (map entries qs); draws = entry f f (Fired chord o ms vs) ∷ v.draws; claims = []; unposted = f ∷ v.unposted; drawn = true; duties = drop_duties ms v.duties; looked = w.looked }) h.arguments_are

@@ -111,7 +111,7 @@ pub record IsFired {P : Type 0} (entries : P → List Entry) (arguments : P → 
   -- what the desk then keeps is a place of the run
   pub stays : IsPlace p w.kept
   -- the desk keeps the firing's entry and what the parcels keep; it has no claim, and no duty on a member
-  pub view : w ≡ record v { kept = all_together (firing_entry arguments o chord ms f qs ∷ v.kept) (map entries qs); claims = []; unposted = f ∷ v.unposted; drawn = true; duties = drop_duties ms v.duties; looked = w.looked }
+  pub view : w ≡ record v { kept = all_together (firing_entry arguments o chord ms f qs ∷ v.kept) (map entries qs); draws = firing_entry arguments o chord ms f qs ∷ v.draws; claims = []; unposted = f ∷ v.unposted; drawn = true; duties = drop_duties ms v.duties; looked = w.looked }
 
 -- what an attempt to fire from the view v, which left the view w, answers for these members of the chord
 abbrev pub IsFireAnswer : {P : Type 0} → (P → List Entry) → (P → List value.Value) → (P → Type 0) → Program → ℕ → View → View → Object → ℕ → List ℕ → List (Option ℕ) → Firing P → Type 0
