@@ -48,8 +48,8 @@ pub keeps_ask : (code : Parts) (limits : Limits) (t : Task) (b : Body) → IsTas
 keeps_ask code limits t b k top some = kept_by code limits (view_of t).past b b.next refl (stack_at code limits t b k top).0 (λ none. some (ap given_by top ∙ none))
 
 -- a task with this body on top is seen so
-seen_so : (t : Task) (b : Body) → t.top ≡ Some b → stack_view (reverse t.past.items) (Some b.number) ≡ view_of t
-seen_so t b top = ap (stack_view (reverse t.past.items)) (sym (ap body_number top))
+seen_so : (t : Task) (b : Body) → t.top ≡ Some b → stack_view (reverse t.past) (Some b.number) ≡ view_of t
+seen_so t b top = ap (stack_view (reverse t.past)) (sym (ap body_number top))
 
 -- the frames of a body that runs came to the ask
 pub came_run : (code : Parts) (limits : Limits) (t : Task) (b : Body) (f : Box Frames Global) (a : Ask) → IsTaskOf code limits t → RunsOn t.top → t.top ≡ Some b → Advanced code (machine_of b.frames.value) a f.value → HasCome code limits t (with_body t (with_frames b f)) (what_of_ask a)

@@ -195,13 +195,13 @@ begun_up code limits h top bs n k o ms vs f line b l s =
     }
 
 -- the task with the new body on top
-pub task_resumed : (code : Parts) (limits : Limits) (t : Task) (past : Vec Entry Global) (below : Vec Caller Global) (values : Option (Vec Value Global)) (n k : ℕ) (o : Object) (ms : List ℕ) (vs : List Value) (f : Box Frames Global) (line : ChordLine) → MayBeList values → IsTaskOf code limits t → MayResume code limits t n k o ms vs → slice_get (chord_lines code o.class) k ≡ Some line → body_in_block code line.block (room_of limits t.top) (a_value.Ref o ∷ vs) limits.turns ≡ Some (machine_of f.value) → past.items ≡ t.past.items ++ entry n n (Fired k o ms vs) ∷ [] → reverse below.items ≡ callers_of t.top ++ reverse t.below.items → IsTaskOf code limits (record { past = past; top = Some (record { number = n; frames = f; next = nexts.Runs }); below = below; spare = None; ended = t.ended; values = values; limits = t.limits })
+pub task_resumed : (code : Parts) (limits : Limits) (t : Task) (past : List Entry) (below : Vec Caller Global) (values : Option (Vec Value Global)) (n k : ℕ) (o : Object) (ms : List ℕ) (vs : List Value) (f : Box Frames Global) (line : ChordLine) → MayBeList values → IsTaskOf code limits t → MayResume code limits t n k o ms vs → slice_get (chord_lines code o.class) k ≡ Some line → body_in_block code line.block (room_of limits t.top) (a_value.Ref o ∷ vs) limits.turns ≡ Some (machine_of f.value) → past ≡ t.past ++ entry n n (Fired k o ms vs) ∷ [] → reverse below.items ≡ callers_of t.top ++ reverse t.below.items → IsTaskOf code limits (record { past = past; top = Some (record { number = n; frames = f; next = nexts.Runs }); below = below; spare = None; ended = t.ended; values = values; limits = t.limits })
 task_resumed code limits t past below values n k o ms vs f line list task may l s items bodies =
     let p = code_program code limits in
     let h = (view_of t).past in
     let e = entry n n (Fired k o ms vs) in
     let b = beginning code limits t n k o ms vs task may in
-    let new : reverse past.items ≡ e ∷ h = one_more t.past.items past.items e items in
+    let new : reverse past ≡ e ∷ h = one_more t.past past e items in
     record {
       forward = task.forward;
       limited = task.limited;
@@ -267,14 +267,14 @@ waits_goes : (n : Next) (q : ℕ) → n ≡ nexts.Waits q → may_go n ≡ true 
 waits_goes n q e g = (let z : false ≡ true = sym (ap may_go e) ∙ g in cc)
 
 -- the task with more room
-pub task_roomier : (code : Parts) (limits : Limits) (t : Task) (past : Vec Entry Global) (below : Vec Caller Global) (top top' : Option Body) (spare ended : Option (Box Frames Global)) (values : Option (Vec Value Global)) → t.top ≡ top → IsTaskOf code limits t → is_ready_of t ≡ true → past.items ≡ t.past.items → below.items ≡ t.below.items → IsRoomierTop top top' → HasRoomFor code t.limits spare → MayBeList values → IsTaskOf code limits (record { past = past; top = top'; below = below; spare = spare; ended = ended; values = values; limits = t.limits })
+pub task_roomier : (code : Parts) (limits : Limits) (t : Task) (past : List Entry) (below : Vec Caller Global) (top top' : Option Body) (spare ended : Option (Box Frames Global)) (values : Option (Vec Value Global)) → t.top ≡ top → IsTaskOf code limits t → is_ready_of t ≡ true → past ≡ t.past → below.items ≡ t.below.items → IsRoomierTop top top' → HasRoomFor code t.limits spare → MayBeList values → IsTaskOf code limits (record { past = past; top = top'; below = below; spare = spare; ended = ended; values = values; limits = t.limits })
 task_roomier code limits t past below None top' spare ended values i k g p q r s v = (let z : false ≡ true = sym (ap body_may_go i) ∙ g in cc)
 task_roomier code limits t past below (Some b) None spare ended values i k g p q r s v = absurd r
 task_roomier code limits t past below (Some b) (Some b') spare ended values i k g p q r s v =
     let m = code_program code limits in
     let h = (view_of t).past in
     let up : may_go b.next ≡ true = sym (ap body_may_go i) ∙ g in
-    let same : reverse past.items ≡ h = ap reverse p in
+    let same : reverse past ≡ h = ap reverse p in
     let st = stack_at code limits t b k i in
     let top : IsTop code limits h b'.next b' = subst (λ z. IsTop code limits h z b') (sym r.1) (top_roomier code limits h b b' b.next up r st.0) in
     let rest : AreParked code limits h (serves m b'.number h) b'.number (waiting_bodies (reverse below.items)) =

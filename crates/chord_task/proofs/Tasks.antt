@@ -70,11 +70,11 @@ may_answer code limits t b n w k may top e = by_value (answer_of n w) refl
         )
 
 -- the task after its ask became an entry
-pub task_gave : (code : Parts) (limits : Limits) (t : Task) (past : Vec Entry Global) (b b' : Body) (n : ℕ) (w : What) → IsTaskOf code limits t → (may : MayNote code limits t n) → t.top ≡ Some b → b.next ≡ nexts.Gave w → b'.number ≡ b.number → AnsweredWith (answer_of n w) n b.frames.value b' → past.items ≡ t.past.items ++ entry n b.number w ∷ [] → vec_len past ≡ vec_len t.past + 1 → vec_capacity past ≡ vec_capacity t.past → IsTaskOf code limits (record { past = past; top = Some b'; below = t.below; spare = t.spare; ended = t.ended; values = t.values; limits = t.limits }) × task_noted (view_of t) n may.what (view_of (record { past = past; top = Some b'; below = t.below; spare = t.spare; ended = t.ended; values = t.values; limits = t.limits })) × (is_end may.what ≡ false → (view_of (record { past = past; top = Some b'; below = t.below; spare = t.spare; ended = t.ended; values = t.values; limits = t.limits })).top ≡ (view_of t).top)
-task_gave code limits t past b b' n w k may top e i r items len capacity =
+pub task_gave : (code : Parts) (limits : Limits) (t : Task) (past : List Entry) (b b' : Body) (n : ℕ) (w : What) → IsTaskOf code limits t → (may : MayNote code limits t n) → t.top ≡ Some b → b.next ≡ nexts.Gave w → b'.number ≡ b.number → AnsweredWith (answer_of n w) n b.frames.value b' → past ≡ t.past ++ entry n b.number w ∷ [] → IsTaskOf code limits (record { past = past; top = Some b'; below = t.below; spare = t.spare; ended = t.ended; values = t.values; limits = t.limits }) × task_noted (view_of t) n may.what (view_of (record { past = past; top = Some b'; below = t.below; spare = t.spare; ended = t.ended; values = t.values; limits = t.limits })) × (is_end may.what ≡ false → (view_of (record { past = past; top = Some b'; below = t.below; spare = t.spare; ended = t.ended; values = t.values; limits = t.limits })).top ≡ (view_of t).top)
+task_gave code limits t past b b' n w k may top e i r items =
     let p = code_program code limits in
     let h = (view_of t).past in
-    let new : reverse past.items ≡ entry n b.number w ∷ h = one_more t.past.items past.items (entry n b.number w) items in
+    let new : reverse past ≡ entry n b.number w ∷ h = one_more t.past past (entry n b.number w) items in
     let j = same_what t b may.what w top (given_gave b w e) may.gave in
     let whole = note_gave code k.forward limits h b b' (waiting_bodies (reverse t.below.items)) n w (task_at code limits t b k top) (stack_at code limits t b k top) may.above e i r (subst IsReadyFor top may.reserved.top) in (
       record {
@@ -88,7 +88,6 @@ task_gave code limits t past b b' n w k may top e i r items len capacity =
         room =
             λ q z.
             record {
-              past = (let l = may.reserved.past in omega (arith, l, len, capacity));
               below = may.reserved.below;
               frames = may.reserved.frames;
               spare = may.reserved.spare;
@@ -96,16 +95,16 @@ task_gave code limits t past b b' n w k may top e i r items len capacity =
               values = may.reserved.values;
             };
       },
-      (b.number, ap body_number top, subst (λ z. reverse past.items ≡ entry n b.number z ∷ h) (sym j) new),
+      (b.number, ap body_number top, subst (λ z. reverse past ≡ entry n b.number z ∷ h) (sym j) new),
       λ z. ap Some i ∙ sym (ap body_number top),
     )
 
 -- the last body of a task ends
-pub task_last : (code : Parts) (limits : Limits) (t : Task) (past : Vec Entry Global) (below : Vec Caller Global) (ended : Option (Box Frames Global)) (b : Body) (n : ℕ) (x y : End) → IsTaskOf code limits t → (may : MayNote code limits t n) → t.top ≡ Some b → b.next ≡ nexts.Ends x y → t.below.items ≡ [] → below.items ≡ [] → past.items ≡ t.past.items ++ entry n b.number (Ended x) ∷ [] → vec_len past ≡ vec_len t.past + 1 → vec_capacity past ≡ vec_capacity t.past → vec_len below ≡ vec_len t.below → vec_capacity below ≡ vec_capacity t.below → IsTaskOf code limits (record { past = past; top = None; below = below; spare = t.spare; ended = ended; values = t.values; limits = t.limits }) × task_noted (view_of t) n may.what (view_of (record { past = past; top = None; below = below; spare = t.spare; ended = ended; values = t.values; limits = t.limits })) × (is_end may.what ≡ false → (view_of (record { past = past; top = None; below = below; spare = t.spare; ended = ended; values = t.values; limits = t.limits })).top ≡ (view_of t).top)
-task_last code limits t past below ended b n x y k may top e none left items len capacity long room =
+pub task_last : (code : Parts) (limits : Limits) (t : Task) (past : List Entry) (below : Vec Caller Global) (ended : Option (Box Frames Global)) (b : Body) (n : ℕ) (x y : End) → IsTaskOf code limits t → (may : MayNote code limits t n) → t.top ≡ Some b → b.next ≡ nexts.Ends x y → t.below.items ≡ [] → below.items ≡ [] → past ≡ t.past ++ entry n b.number (Ended x) ∷ [] → vec_len below ≡ vec_len t.below → vec_capacity below ≡ vec_capacity t.below → IsTaskOf code limits (record { past = past; top = None; below = below; spare = t.spare; ended = ended; values = t.values; limits = t.limits }) × task_noted (view_of t) n may.what (view_of (record { past = past; top = None; below = below; spare = t.spare; ended = ended; values = t.values; limits = t.limits })) × (is_end may.what ≡ false → (view_of (record { past = past; top = None; below = below; spare = t.spare; ended = ended; values = t.values; limits = t.limits })).top ≡ (view_of t).top)
+task_last code limits t past below ended b n x y k may top e none left items long room =
     let p = code_program code limits in
     let h = (view_of t).past in
-    let new : reverse past.items ≡ entry n b.number (Ended x) ∷ h = one_more t.past.items past.items (entry n b.number (Ended x)) items in
+    let new : reverse past ≡ entry n b.number (Ended x) ∷ h = one_more t.past past (entry n b.number (Ended x)) items in
     let j = same_what t b may.what (Ended x) top (given_ends b x y e) may.gave in
     let s = subst (λ (z : List Caller). IsBodyStack code limits h (Some b) (reverse z)) none (stack_at code limits t b k top) in
     let whole = note_last code limits h b n x y (task_at code limits t b k top) s may.above e in (
@@ -119,7 +118,6 @@ task_last code limits t past below ended b n x y k may top e none left items len
         stack = ap (λ (z : List Caller). waiting_bodies (reverse z)) left;
         room =
             record {
-              past = (let l = may.reserved.past in omega (arith, l, len, capacity));
               below = (let l = may.reserved.below in omega (arith, l, long, room));
               frames = may.reserved.frames;
               spare = may.reserved.spare;
@@ -127,7 +125,7 @@ task_last code limits t past below ended b n x y k may top e none left items len
               values = may.reserved.values;
             };
       },
-      (b.number, ap body_number top, subst (λ z. reverse past.items ≡ entry n b.number z ∷ h) (sym j) new),
+      (b.number, ap body_number top, subst (λ z. reverse past ≡ entry n b.number z ∷ h) (sym j) new),
       λ z. let x : true ≡ false = sym (ap is_end j) ∙ z in cc,
     )
 
@@ -154,11 +152,11 @@ pub caller_parked : (code : Parts) (limits : Limits) (t : Task) (rest : List Cal
 caller_parked code limits t rest b c k top e = (let s = caller_at code limits t rest b c k top e in (s.1.0.0, s.1.0.2))
 
 -- a body ends, and its caller goes on
-pub task_back : (code : Parts) (limits : Limits) (t : Task) (past : Vec Entry Global) (below : Vec Caller Global) (ended : Option (Box Frames Global)) (b : Body) (c : Caller) (c' : Body) (n : ℕ) (x y : End) → IsTaskOf code limits t → (may : MayNote code limits t n) → t.top ≡ Some b → b.next ≡ nexts.Ends x y → t.below.items ≡ below.items ++ c ∷ [] → CalledBack y (waiting_body c) c' → past.items ≡ t.past.items ++ entry n b.number (Ended x) ∷ [] → IsTaskOf code limits (record { past = past; top = Some c'; below = below; spare = t.spare; ended = ended; values = t.values; limits = t.limits }) × task_noted (view_of t) n may.what (view_of (record { past = past; top = Some c'; below = below; spare = t.spare; ended = ended; values = t.values; limits = t.limits })) × (is_end may.what ≡ false → (view_of (record { past = past; top = Some c'; below = below; spare = t.spare; ended = ended; values = t.values; limits = t.limits })).top ≡ (view_of t).top)
+pub task_back : (code : Parts) (limits : Limits) (t : Task) (past : List Entry) (below : Vec Caller Global) (ended : Option (Box Frames Global)) (b : Body) (c : Caller) (c' : Body) (n : ℕ) (x y : End) → IsTaskOf code limits t → (may : MayNote code limits t n) → t.top ≡ Some b → b.next ≡ nexts.Ends x y → t.below.items ≡ below.items ++ c ∷ [] → CalledBack y (waiting_body c) c' → past ≡ t.past ++ entry n b.number (Ended x) ∷ [] → IsTaskOf code limits (record { past = past; top = Some c'; below = below; spare = t.spare; ended = ended; values = t.values; limits = t.limits }) × task_noted (view_of t) n may.what (view_of (record { past = past; top = Some c'; below = below; spare = t.spare; ended = ended; values = t.values; limits = t.limits })) × (is_end may.what ≡ false → (view_of (record { past = past; top = Some c'; below = below; spare = t.spare; ended = ended; values = t.values; limits = t.limits })).top ≡ (view_of t).top)
 task_back code limits t past below ended b c c' n x y k may top e parts back items =
     let p = code_program code limits in
     let h = (view_of t).past in
-    let new : reverse past.items ≡ entry n b.number (Ended x) ∷ h = one_more t.past.items past.items (entry n b.number (Ended x)) items in
+    let new : reverse past ≡ entry n b.number (Ended x) ∷ h = one_more t.past past (entry n b.number (Ended x)) items in
     let j = same_what t b may.what (Ended x) top (given_ends b x y e) may.gave in
     let s = caller_at code limits t below.items b c k top parts in
     let u = gave_ends code limits h b x y e s.0 in
@@ -174,7 +172,7 @@ task_back code limits t past below ended b c c' n x y k may top e parts back ite
         stack = subst (λ z. IsBodyStack code limits z (Some c') (reverse below.items)) (sym new) whole.stack;
         room = λ q z. absurd (back_next x (waiting_body c) c' q r z);
       },
-      (b.number, ap body_number top, subst (λ z. reverse past.items ≡ entry n b.number z ∷ h) (sym j) new),
+      (b.number, ap body_number top, subst (λ z. reverse past ≡ entry n b.number z ∷ h) (sym j) new),
       λ z. let x : true ≡ false = sym (ap is_end j) ∙ z in cc,
     )
   where
@@ -189,10 +187,10 @@ no_length [] e = refl
 no_length (x ∷ xs) e = absurd (omega (arith, e))
 
 -- a body ends, whether a caller waits for it or none
-pub task_ended : (code : Parts) (limits : Limits) (t : Task) (past : Vec Entry Global) (below : Vec Caller Global) (ended : Option (Box Frames Global)) (top : Option Body) (b : Body) (n : ℕ) (x y : End) → IsTaskOf code limits t → (may : MayNote code limits t n) → t.top ≡ Some b → b.next ≡ nexts.Ends x y → HasReturned y t.below below top → past.items ≡ t.past.items ++ entry n b.number (Ended x) ∷ [] → vec_len past ≡ vec_len t.past + 1 → vec_capacity past ≡ vec_capacity t.past → vec_capacity below ≡ vec_capacity t.below → IsTaskOf code limits (record { past = past; top = top; below = below; spare = t.spare; ended = ended; values = t.values; limits = t.limits }) × task_noted (view_of t) n may.what (view_of (record { past = past; top = top; below = below; spare = t.spare; ended = ended; values = t.values; limits = t.limits })) × (is_end may.what ≡ false → (view_of (record { past = past; top = top; below = below; spare = t.spare; ended = ended; values = t.values; limits = t.limits })).top ≡ (view_of t).top)
-task_ended code limits t past below ended None b n x y k may top e h items len capacity room =
-    task_last code limits t past below ended b n x y k may top e (no_length t.below.items (omega (arith, h.0, t.below.ok.0))) (no_length below.items (omega (arith, h.1, below.ok.0))) items len capacity (omega (arith, h.0, h.1)) room
-task_ended code limits t past below ended (Some c) b n x y k may top e h items len capacity room =
+pub task_ended : (code : Parts) (limits : Limits) (t : Task) (past : List Entry) (below : Vec Caller Global) (ended : Option (Box Frames Global)) (top : Option Body) (b : Body) (n : ℕ) (x y : End) → IsTaskOf code limits t → (may : MayNote code limits t n) → t.top ≡ Some b → b.next ≡ nexts.Ends x y → HasReturned y t.below below top → past ≡ t.past ++ entry n b.number (Ended x) ∷ [] → vec_capacity below ≡ vec_capacity t.below → IsTaskOf code limits (record { past = past; top = top; below = below; spare = t.spare; ended = ended; values = t.values; limits = t.limits }) × task_noted (view_of t) n may.what (view_of (record { past = past; top = top; below = below; spare = t.spare; ended = ended; values = t.values; limits = t.limits })) × (is_end may.what ≡ false → (view_of (record { past = past; top = top; below = below; spare = t.spare; ended = ended; values = t.values; limits = t.limits })).top ≡ (view_of t).top)
+task_ended code limits t past below ended None b n x y k may top e h items room =
+    task_last code limits t past below ended b n x y k may top e (no_length t.below.items (omega (arith, h.0, t.below.ok.0))) (no_length below.items (omega (arith, h.1, below.ok.0))) items (omega (arith, h.0, h.1)) room
+task_ended code limits t past below ended (Some c) b n x y k may top e h items room =
     task_back code limits t past below ended b h.0 c n x y k may top e h.1 h.2 items
 
 -- what follows from an answer that is there
@@ -201,7 +199,7 @@ on_ok_follows P Q (Ok x) f p = f p
 on_ok_follows P Q (Err e) f p = tt
 
 -- a task without a body, with room for one
-pub spare_task : (code : Parts) (limits : Limits) (t : Task) → IsForward code → t.limits ≡ limits → t.top ≡ None → t.past.items ≡ [] → waiting_bodies (reverse t.below.items) ≡ [] → IsResumable code t → HasRoomFor code t.limits t.spare → MayBeList t.values → IsTaskOf code limits t
+pub spare_task : (code : Parts) (limits : Limits) (t : Task) → IsForward code → t.limits ≡ limits → t.top ≡ None → t.past ≡ [] → waiting_bodies (reverse t.below.items) ≡ [] → IsResumable code t → HasRoomFor code t.limits t.spare → MayBeList t.values → IsTaskOf code limits t
 spare_task code limits t forward limited top past below room kept list =
     let p = code_program code limits in
     let none : (view_of t).past ≡ [] = ap reverse past in
@@ -228,12 +226,12 @@ no_body None e = refl
 no_body (Some b) e = absurd (cc)
 
 -- a task in which no body is left, whose entries were taken, has room for a body
-pub renewed_task : (code : Parts) (limits : Limits) (t : Task) (past : Vec Entry Global) → (view_of t).top ≡ None → past.items ≡ [] → vec_len past < vec_capacity past → IsTaskOf code limits t
+pub renewed_task : (code : Parts) (limits : Limits) (t : Task) (past : List Entry) → (view_of t).top ≡ None → past ≡ [] → IsTaskOf code limits t
     → IsTaskOf code limits (record t { past = past }) × IsResumable code (record t { past = past })
-renewed_task code limits t past over none some k =
+renewed_task code limits t past over none k =
     let top = no_body t.top over in
     let was : IsResumable code t = subst (HasRoomIf code t) top k.room in
-    let room : IsResumable code (record t { past = past }) = record { past = some; below = was.below; frames = was.frames; spare = was.spare; room = was.room; values = was.values } in
+    let room : IsResumable code (record t { past = past }) = record { below = was.below; frames = was.frames; spare = was.spare; room = was.room; values = was.values } in
     (spare_task code limits (record t { past = past }) k.forward k.limited top none (stack_none code limits (view_of t).past t.top (reverse t.below.items) top k.stack) room k.kept k.kept_values, room)
   where
     stack_none : (code : Parts) (limits : Limits) (h : List Entry) (o : Option Body) (cs : List Caller) → o ≡ None → IsBodyStack code limits h o cs → waiting_bodies cs ≡ []

@@ -24,6 +24,7 @@ use Rattle.chord_task.specs.declared.body.Body.{Body}
 use Rattle.chord_task.specs.declared.body.Caller.{Caller}
 use Rattle.chord_task.specs.declared.task.Task.{Task}
 use Rattle.chord_task.specs.Arguments.{MayBeList}
+use Rattle.chord_task.specs.Past.{AddsOne}
 use Rattle.chord_task.specs.Stacks.{TaskView, IsNext, StaysDefined, task_noted}
 use Rattle.chord_task.specs.Standing.{HasReturned, LastIsReady, body_number, view_of, IsTaskOf, GivenBy, AskedBy, AskedBody, may_go, body_may_go, is_ready_of, HasGiven, HasRoomFor, IsReadyFor, IsReserved, IsRoomier, IsRoomierTop, MayNote, MayAnswer, AnsweredWith, answer_of}
 use Rattle.chord_task.specs.Turning.{MayTurn, Turned, RunsOn, IsAskedFor, MaySettle, HasSettled}
@@ -157,7 +158,7 @@ pub record Roomy (code : Parts) (t s : Task) (n : ℕ) (w : What) (b : Body) : T
   pub top : (view_of t).top ≡ Some b.number
 
 -- there is room
-pub roomy : (code : Parts) (t s : Task) (n : ℕ) (w : What) (b : Body) → IsAskedFor code t w → MaySettle code t n w → s.past.items ≡ t.past.items → s.below.items ≡ t.below.items → IsRoomierTop t.top s.top → HasRoomFor code t.limits s.spare → MayBeList s.values → s.limits ≡ t.limits → IsReserved code s → s.top ≡ Some b → Roomy code t s n w b
+pub roomy : (code : Parts) (t s : Task) (n : ℕ) (w : What) (b : Body) → IsAskedFor code t w → MaySettle code t n w → s.past ≡ t.past → s.below.items ≡ t.below.items → IsRoomierTop t.top s.top → HasRoomFor code t.limits s.spare → MayBeList s.values → s.limits ≡ t.limits → IsReserved code s → s.top ≡ Some b → Roomy code t s n w b
 roomy code t s n w b a m past below top spare values limits ready is =
     let p = code_program code t.limits in
     let r = roomier_top t.top s.top a.body a.on_top top in
@@ -177,7 +178,7 @@ roomy code t s n w b a m past below top spare values limits ready is =
           record {
             what = w;
             gave = given_is w a.asked.next a.given;
-            reserved = record { past = ready.past; below = ready.below; frames = ready.frames; spare = ready.spare; room = ready.room; values = ready.values; top = subst IsReadyFor is ready.top };
+            reserved = record { below = ready.below; frames = ready.frames; spare = ready.spare; room = ready.room; values = ready.values; top = subst IsReadyFor is ready.top };
             stays = λ c z d. subst (λ (g : List Entry). IsDefined p (doing p (record { number = n; body = c; what = w } ∷ g) d)) (sym h) (m.stays c (view ∙ z) d);
             above = subst (λ (g : List Entry). AllBelow n g) (sym h) m.above;
           };
@@ -209,14 +210,14 @@ roomy_asked code t s n w b x v e =
     run_asked code x.task.forward v (waiting_of b.frames.value) (suc (weight code g.2.0)) g.2.0 g.2.2
 
 -- the ask became an entry, and the body goes on, or waits
-pub settled_gave : (code : Parts) (t s : Task) (n : ℕ) (w : What) (b : Body) (x : Roomy code t s n w b) (v : What) → x.asked ≡ nexts.Gave v → (past : Vec Entry Global) (b' : Body) → b'.number ≡ b.number → AnsweredWith (answer_of n v) n b.frames.value b' → past.items ≡ s.past.items ++ entry n b.number v ∷ [] → vec_len past ≡ vec_len s.past + 1 → vec_capacity past ≡ vec_capacity s.past → HasSettled code t n w (record { past = past; top = Some b'; below = s.below; spare = s.spare; ended = s.ended; values = s.values; limits = s.limits })
-settled_gave code t s n w b x v e past b' i r items len capacity =
-    has_settled code t s _ n w b x (task_gave code t.limits (with_body s (with_next b x.asked)) past (with_next b x.asked) b' n v x.task x.may refl e i r items len capacity)
+pub settled_gave : (code : Parts) (t s : Task) (n : ℕ) (w : What) (b : Body) (x : Roomy code t s n w b) (v : What) → x.asked ≡ nexts.Gave v → (past : List Entry) (b' : Body) → b'.number ≡ b.number → AnsweredWith (answer_of n v) n b.frames.value b' → past ≡ s.past ++ entry n b.number v ∷ [] → HasSettled code t n w (record { past = past; top = Some b'; below = s.below; spare = s.spare; ended = s.ended; values = s.values; limits = s.limits })
+settled_gave code t s n w b x v e past b' i r items =
+    has_settled code t s _ n w b x (task_gave code t.limits (with_body s (with_next b x.asked)) past (with_next b x.asked) b' n v x.task x.may refl e i r items)
 
 -- the end became an entry, and the caller goes on, or no body is left
-pub settled_end : (code : Parts) (t s : Task) (n : ℕ) (w : What) (b : Body) (x : Roomy code t s n w b) (y : End) → x.asked ≡ nexts.Ends y y → (past : Vec Entry Global) (below : Vec Caller Global) (ended : Option (Box Frames Global)) (top : Option Body) → HasReturned y s.below below top → past.items ≡ s.past.items ++ entry n b.number (Ended y) ∷ [] → vec_len past ≡ vec_len s.past + 1 → vec_capacity past ≡ vec_capacity s.past → vec_capacity below ≡ vec_capacity s.below → HasSettled code t n w (record { past = past; top = top; below = below; spare = s.spare; ended = ended; values = s.values; limits = s.limits })
-settled_end code t s n w b x y e past below ended top h items len capacity room =
-    has_settled code t s _ n w b x (task_ended code t.limits (with_body s (with_next b x.asked)) past below ended top (with_next b x.asked) n y y x.task x.may refl e h items len capacity room)
+pub settled_end : (code : Parts) (t s : Task) (n : ℕ) (w : What) (b : Body) (x : Roomy code t s n w b) (y : End) → x.asked ≡ nexts.Ends y y → (past : List Entry) (below : Vec Caller Global) (ended : Option (Box Frames Global)) (top : Option Body) → HasReturned y s.below below top → past ≡ s.past ++ entry n b.number (Ended y) ∷ [] → vec_capacity below ≡ vec_capacity s.below → HasSettled code t n w (record { past = past; top = top; below = below; spare = s.spare; ended = ended; values = s.values; limits = s.limits })
+settled_end code t s n w b x y e past below ended top h items room =
+    has_settled code t s _ n w b x (task_ended code t.limits (with_body s (with_next b x.asked)) past below ended top (with_next b x.asked) n y y x.task x.may refl e h items room)
 
 -- the callers below can be answered
 pub roomy_ready : (code : Parts) (t s : Task) (n : ℕ) (w : What) (b : Body) → Roomy code t s n w b → LastIsReady s.below.items
@@ -254,3 +255,7 @@ turned code limits t r t' n w may k v g room x =
 pub some_given : (o : Option What) → (o ≡ None → ⊥) → (w : What) × (o ≡ Some w)
 some_given None n = absurd (n refl)
 some_given (Some w) n = (w, refl)
+
+-- what got one entry more got it from where it was before
+pub adds_from : {old old' new l l' m : List Entry} → old' ≡ old → l' ≡ l → AddsOne old' new l' m → AddsOne old new l m
+adds_from same same_list a = record { entry = a.entry; past = a.past ∙ ap (λ (h : List Entry). h ++ a.entry ∷ []) same; list = a.list ∙ ap (λ (h : List Entry). h ++ a.entry ∷ []) same_list }

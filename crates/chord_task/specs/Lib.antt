@@ -1,4 +1,6 @@
 -- ## What callers read
+-- what the bodies of a task did
+pub mod Past
 -- the arguments of messages, held twice
 pub mod Arguments
 -- stacks of bodies of any program

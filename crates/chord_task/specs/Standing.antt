@@ -37,7 +37,7 @@ body_number (Some b) = Some b.number
 
 -- the past with its newest entry first, and the body on top
 abbrev pub view_of : Task → TaskView
-view_of t = record { past = reverse t.past.items; top = body_number t.top }
+view_of t = record { past = reverse t.past; top = body_number t.top }
 
 -- the ask of a body at this point is this one, and its frames wait for the answer
 abbrev pub GaveAt : Parts → What → Frames → Point → Type 0
@@ -138,7 +138,6 @@ pub record IsSpareOf (code : Parts) (limits : Limits) (f : Frames) : Type 0 wher
 
 -- there is room for a firing
 pub record IsResumable (code : Parts) (t : Task) : Type 0 where
-  pub past : vec_len t.past < vec_capacity t.past
   pub below : vec_len t.below < vec_capacity t.below
   pub frames : Box Frames Global
   pub spare : t.spare ≡ Some frames
@@ -297,7 +296,6 @@ IsReadyFor (Some b) = IsReady b.frames.value.awaited b.frames.value
 
 -- there is room for the next note and for a firing after it
 pub record IsReserved (code : Parts) (t : Task) : Type 0 where
-  pub past : vec_len t.past + 2 ≤ vec_capacity t.past
   pub below : vec_len t.below < vec_capacity t.below
   pub frames : Box Frames Global
   pub spare : t.spare ≡ Some frames

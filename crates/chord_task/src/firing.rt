@@ -1,16 +1,18 @@
 //! The body of a firing begins with the arguments that its parcels brought.
 #![tactic(auto)]
 
-ghost use Rattle.std.specs.Prelude.{◌≡◌, ◌≤◌, Some, None, length};
+ghost use Rattle.std.specs.Prelude.{◌≡◌, ◌<◌, ◌≤◌, Some, None, length, vec_len, vec_capacity};
 ghost use Rattle.chord_vm.specs.Frames.{laid};
 ghost use Rattle.chord_task.specs.Arguments.{for_entry, AreTwice};
 ghost use Rattle.chord_task.specs.Gathering.{gathered_in};
+ghost use Rattle.chord_task.specs.Past.{AddsOne};
 ghost use Rattle.chord_task.specs.Stacks.{task_begun};
 ghost use Rattle.chord_task.specs.Standing.{view_of, IsTaskOf, MayResume};
 
 use crate::args::Args;
 use crate::enclosed::{Contents, Enclosed};
 use crate::gathered::{Gathered, all_args};
+use crate::past::append;
 use crate::task::{Task, depth_over, line_of, put_on_top};
 use chord_base::event::{Entry, What};
 use chord_base::members::Members;
@@ -29,13 +31,16 @@ impl Task {
         object: Object,
         members: &Members,
         arguments: Args,
+        list: &mut Vec<Entry>,
     )
+        requires place { vec_len list.old < vec_capacity list.old }
         requires task { IsTaskOf code.now self.old.limits self.old }
         requires may { MayResume code.now self.old.limits self.old number chord object members.now arguments.first }
         requires twice { arguments.second ≡ arguments.first }
         ensures task { IsTaskOf code.now self.old.limits self.new }
         ensures past { task_begun (view_of self.old) number chord object members.now arguments.first (view_of self.new) }
         ensures top { (view_of self.new).top ≡ Some number }
+        ensures listed { AddsOne self.old.past self.new.past list.old.items list.new.items }
     {
         let depth = depth_over(self.limits.depth, &self.top);
         match self.spare.take() {
@@ -46,11 +51,15 @@ impl Task {
                 let block = line_of(code, object.class, chord).block;
                 let this = Value::Ref(object);
                 begin_moved(code, &mut *frames, block, this, second, depth);
-                self.past.push_reserved(Entry {
-                    number,
-                    body: number,
-                    what: What::Fired(chord, object, members.copied(), first),
-                });
+                append(
+                    &mut self.past,
+                    list,
+                    Entry {
+                        number,
+                        body: number,
+                        what: What::Fired(chord, object, members.copied(), first),
+                    },
+                );
                 put_on_top(&mut self.top, &mut self.below, number, frames);
             }
         }
@@ -66,16 +75,19 @@ impl Task {
         object: Object,
         members: &Members,
         arguments: Enclosed,
+        list: &mut Vec<Entry>,
     )
+        requires place { vec_len list.old < vec_capacity list.old }
         requires task { IsTaskOf code.now self.old.limits self.old }
         requires may { MayResume code.now self.old.limits self.old number chord object members.now arguments.first }
         requires twice { arguments.second ≡ arguments.first }
         ensures task { IsTaskOf code.now self.old.limits self.new }
         ensures past { task_begun (view_of self.old) number chord object members.now arguments.first (view_of self.new) }
         ensures top { (view_of self.new).top ≡ Some number }
+        ensures listed { AddsOne self.old.past self.new.past list.old.items list.new.items }
     {
         let arguments = arguments.into_args();
-        self.resume_on(code, number, chord, object, members, arguments);
+        self.resume_on(code, number, chord, object, members, arguments, list);
     }
 
     /// Puts the body of a firing on top, of whose messages one alone has values, or none. Takes no memory. A number alone is written
@@ -89,13 +101,16 @@ impl Task {
         object: Object,
         members: &Members,
         arguments: Enclosed,
+        list: &mut Vec<Entry>,
     )
+        requires place { vec_len list.old < vec_capacity list.old }
         requires task { IsTaskOf code.now self.old.limits self.old }
         requires may { MayResume code.now self.old.limits self.old number chord object members.now arguments.first }
         requires twice { arguments.second ≡ arguments.first }
         ensures task { IsTaskOf code.now self.old.limits self.new }
         ensures past { task_begun (view_of self.old) number chord object members.now arguments.first (view_of self.new) }
         ensures top { (view_of self.new).top ≡ Some number }
+        ensures listed { AddsOne self.old.past self.new.past list.old.items list.new.items }
     {
         match arguments.contents {
             Contents::Nothing => {
@@ -103,7 +118,7 @@ impl Task {
                     first: Values::none(),
                     second: Values::none(),
                 };
-                self.resume_on(code, number, chord, object, members, none);
+                self.resume_on(code, number, chord, object, members, none, list);
             }
             Contents::Number(lone) => {
                 let value = lone.number();
@@ -111,11 +126,11 @@ impl Task {
                     first: Values::one(Value::Int(value)),
                     second: Values::one(Value::Int(value)),
                 };
-                self.resume_on(code, number, chord, object, members, one);
+                self.resume_on(code, number, chord, object, members, one, list);
             }
             contents => {
                 let arguments = Enclosed { contents };
-                self.resume_any(code, number, chord, object, members, arguments);
+                self.resume_any(code, number, chord, object, members, arguments, list);
             }
         }
     }
@@ -129,7 +144,9 @@ impl Task {
         object: Object,
         members: &Members,
         arguments: Gathered,
+        list: &mut Vec<Entry>,
     )
+        requires place { vec_len list.old < vec_capacity list.old }
         requires task { IsTaskOf code.now self.old.limits self.old }
         requires may { MayResume code.now self.old.limits self.old number chord object members.now (laid (for_entry (gathered_in arguments.one arguments.more))) }
         requires few { length (laid (for_entry (gathered_in arguments.one arguments.more))) ≤ 64 }
@@ -137,12 +154,21 @@ impl Task {
         ensures task { IsTaskOf code.now self.old.limits self.new }
         ensures past { task_begun (view_of self.old) number chord object members.now (laid (for_entry (gathered_in arguments.one arguments.more))) (view_of self.new) }
         ensures top { (view_of self.new).top ≡ Some number }
+        ensures listed { AddsOne self.old.past self.new.past list.old.items list.new.items }
     {
         let Gathered { one, more } = arguments;
         match more {
-            None => self.resume_any(code, number, chord, object, members, one),
+            None => self.resume_any(code, number, chord, object, members, one, list),
             Some(several) => {
-                self.resume(code, number, chord, object, members, all_args(several))
+                self.resume(
+                    code,
+                    number,
+                    chord,
+                    object,
+                    members,
+                    all_args(several),
+                    list,
+                )
             }
         }
     }

@@ -10,12 +10,14 @@ ghost use Rattle.chord_code.specs.Meaning.{code_program, chord_lines};
 ghost use Rattle.chord_vm.specs.declared.frames.Frames.{Frames as TheFrames};
 ghost use Rattle.chord_vm.specs.Frames.{laid, what_of_ask};
 ghost use Rattle.chord_task.specs.Arguments.{for_entry, AreTwice, MayBeList, IsList};
+ghost use Rattle.chord_task.specs.Past.{AddsOne};
 ghost use Rattle.chord_task.specs.Turning.{RunsOn};
 ghost use Rattle.chord_task.specs.Stacks.{task_noted, task_begun, IsNext};
 ghost use Rattle.chord_task.specs.Standing.{view_of, IsTaskOf, HasGiven, IsReserved, IsResumable, MayNote, MayResume, is_ready_of, waits_of, room_of, callers_of, WaitsIfAny, LastIsReady, HasReturned, given_by, IsRoomierTop, HasRoomFor, IsSpareOf, IsReadyFor, MainBegins, CanNote};
 
 use crate::args::{Args, part_all};
 use crate::body::{Body, Caller, Next, call_back, come_to_ask, given, note_ask, put_after};
+use crate::past::{Past, append};
 use chord_base::event::{End, Entry, Limits, What};
 use chord_base::hand::Hand;
 use chord_base::members::Members;
@@ -32,14 +34,11 @@ use std::mem;
 /// The most values of an entry.
 const MAX_ENTRY_VALUES: usize = 64;
 
-/// For how many entries a task that has none takes room: most bodies of a task of their own make no more.
-const FIRST_ENTRIES: usize = 4;
-
 /// A stack of bodies, and what they did.
 #[derive(Drop)]
 pub struct Task {
     /// The entries that its bodies made, the oldest first.
-    pub past: Vec<Entry>,
+    pub past: Past,
     /// The body on top.
     pub top: Option<Body>,
     /// The bodies below it, each of which waits for the one above it.
@@ -266,21 +265,41 @@ fn reserve_top(alloc: Global, top: &mut Option<Body>) -> Result<(), AllocError>
     }
 }
 
+/// The past in which body 0 has begun; its entry goes to the list.
+fn begun(list: &mut Vec<Entry>) -> Result<Past, AllocError>
+    ensures past { IfOk result (λ past. past ≡ record { number = 0; body = 0; what = What.Begun } ∷ []) }
+    ensures listed { OnOk result (list.new.items ≡ list.old.items ++ record { number = 0; body = 0; what = What.Begun } ∷ []) }
+{
+    list.reserve(1)?;
+    let mut past = Past::none();
+    append(
+        &mut past,
+        list,
+        Entry {
+            number: 0,
+            body: 0,
+            what: What::Begun,
+        },
+    );
+    Ok(past)
+}
+
 impl Task {
     #[tactic(auto, using(chord_code::proofs::Validity::valid_forward))]
-    /// Body 0, and the past that begins it.
-    pub fn main(alloc: Global, code: &Code, limits: &Limits) -> Result<Task, AllocError>
+    /// Body 0, and the entry that begins it, which goes to the list.
+    pub fn main(
+        alloc: Global,
+        code: &Code,
+        limits: &Limits,
+        list: &mut Vec<Entry>,
+    ) -> Result<Task, AllocError>
         requires { MainBegins code.now limits.now }
         ensures task { IfOk result (λ t. IsTaskOf code.now limits.now t) }
         ensures past { IfOk result (λ t. (view_of t).past ≡ record { number = 0; body = 0; what = What.Begun } ∷ []) }
         ensures top { IfOk result (λ t. (view_of t).top ≡ Some 0) }
+        ensures listed { OnOk result (list.new.items ≡ list.old.items ++ record { number = 0; body = 0; what = What.Begun } ∷ []) }
     {
-        let mut past = Vec::with_capacity(alloc, 1)?;
-        past.push_reserved(Entry {
-            number: 0,
-            body: 0,
-            what: What::Begun,
-        });
+        let past = begun(list)?;
         let _parts = code.parts();
         let mut frames = new_frames(alloc, code, limits)?;
         begin(code, &mut *frames, 0, Value::Unit, Hand::new(), 1);
@@ -307,12 +326,11 @@ impl Task {
         ensures room { IfOk result (λ t. IsResumable code.now t) }
     {
         let _parts = code.parts();
-        let past = Vec::with_capacity(alloc, FIRST_ENTRIES)?;
         let below = Vec::with_capacity(alloc, 1)?;
         let values = Vec::with_capacity(alloc, MAX_ENTRY_VALUES)?;
         let frames = new_frames(alloc, code, limits)?;
         Ok(Task {
-            past,
+            past: Past::none(),
             top: None,
             below,
             spare: Some(frames),
@@ -360,31 +378,46 @@ impl Task {
     }
 
     /// Takes the room that the next note and the next resume need. Where there is none the task is as it was.
-    pub fn reserve(&mut self, alloc: Global, code: &Code) -> Result<(), AllocError>
+    pub fn reserve(
+        &mut self,
+        alloc: Global,
+        code: &Code,
+        list: &mut Vec<Entry>,
+    ) -> Result<(), AllocError>
         requires task { (limits : TheLimits) × IsTaskOf code.now limits self.old }
         requires left { is_ready_of self.old ≡ true }
         ensures task { (limits : TheLimits) → IsTaskOf code.now limits self.old → IsTaskOf code.now limits self.new }
         ensures same { view_of self.new ≡ view_of self.old }
+        ensures past { self.new.past ≡ self.old.past }
         ensures gave { given_by self.new.top ≡ given_by self.old.top }
         ensures ready { OnOk result (IsReserved code.now self.new) }
+        ensures listed { list.new.items ≡ list.old.items }
+        ensures place { OnOk result (vec_len list.new < vec_capacity list.new) }
     {
-        self.take_room(alloc, code)
+        self.take_room(alloc, code, list)
     }
 
-    /// Takes the room for one more entry and for a firing after it, and changes nothing else.
+    /// Takes the room for one more entry, and for a firing after it that adds to the task, and changes nothing else.
     #[inline(always)]
-    pub(crate) fn take_room(&mut self, alloc: Global, code: &Code) -> Result<(), AllocError>
+    pub(crate) fn take_room(
+        &mut self,
+        alloc: Global,
+        code: &Code,
+        list: &mut Vec<Entry>,
+    ) -> Result<(), AllocError>
         requires spare { HasRoomFor code.now self.old.limits self.old.spare }
         requires values { MayBeList self.old.values }
-        ensures past { self.new.past.items ≡ self.old.past.items }
+        ensures past { self.new.past ≡ self.old.past }
         ensures below { self.new.below.items ≡ self.old.below.items }
         ensures top { IsRoomierTop self.old.top self.new.top }
         ensures spare { HasRoomFor code.now self.old.limits self.new.spare }
         ensures values { MayBeList self.new.values }
         ensures limits { self.new.limits ≡ self.old.limits }
         ensures ready { OnOk result (IsReserved code.now self.new) }
+        ensures listed { list.new.items ≡ list.old.items }
+        ensures place { OnOk result (vec_len list.new < vec_capacity list.new) }
     {
-        self.past.reserve(2)?;
+        list.reserve(1)?;
         self.below.reserve(1)?;
         reserve_spare(alloc, code, &self.limits, &mut self.spare, &mut self.ended)?;
         reserve_values(alloc, &mut self.values)?;
@@ -394,9 +427,11 @@ impl Task {
     /// The ask that was given becomes the entry of this number. Takes no memory.
     ///
     /// An object, a message and a line are answered; a call waits. After an end the body below is answered by it.
-    pub fn note(&mut self, number: u32)
-        requires { CanNote self.old number }
-        ensures { (code : Parts) (limits : TheLimits) → IsTaskOf code limits self.old → (may : MayNote code limits self.old number) → IsTaskOf code limits self.new × task_noted (view_of self.old) number may.what (view_of self.new) × (is_end may.what ≡ false → (view_of self.new).top ≡ (view_of self.old).top) }
+    pub fn note(&mut self, number: u32, list: &mut Vec<Entry>)
+        requires may { CanNote self.old number }
+        requires place { vec_len list.old < vec_capacity list.old }
+        ensures listed { AddsOne self.old.past self.new.past list.old.items list.new.items }
+        ensures noted { (code : Parts) (limits : TheLimits) → IsTaskOf code limits self.old → (may : MayNote code limits self.old number) → IsTaskOf code limits self.new × task_noted (view_of self.old) number may.what (view_of self.new) × (is_end may.what ≡ false → (view_of self.new).top ≡ (view_of self.old).top) }
     {
         match &mut self.top {
             None => unreachable!(),
@@ -405,18 +440,26 @@ impl Task {
                 match mem::replace(&mut body.next, Next::Runs) {
                     Next::Gave(what) => {
                         note_ask(body, number, &what);
-                        self.past.push_reserved(Entry {
-                            number,
-                            body: maker,
-                            what,
-                        });
+                        append(
+                            &mut self.past,
+                            list,
+                            Entry {
+                                number,
+                                body: maker,
+                                what,
+                            },
+                        );
                     }
                     Next::Ends(first, second) => {
-                        self.past.push_reserved(Entry {
-                            number,
-                            body: maker,
-                            what: What::Ended(first),
-                        });
+                        append(
+                            &mut self.past,
+                            list,
+                            Entry {
+                                number,
+                                body: maker,
+                                what: What::Ended(first),
+                            },
+                        );
                         end_top(&mut self.top, &mut self.below, &mut self.ended, second);
                     }
                     _ => unreachable!(),
@@ -434,7 +477,9 @@ impl Task {
         object: Object,
         members: &Members,
         arguments: Hand<Args>,
+        list: &mut Vec<Entry>,
     )
+        requires place { vec_len list.old < vec_capacity list.old }
         requires task { IsTaskOf code.now self.old.limits self.old }
         requires may { MayResume code.now self.old.limits self.old number chord object members.now (laid (for_entry arguments)) }
         requires few { length (laid (for_entry arguments)) ≤ 64 }
@@ -442,6 +487,7 @@ impl Task {
         ensures task { IsTaskOf code.now self.old.limits self.new }
         ensures past { task_begun (view_of self.old) number chord object members.now (laid (for_entry arguments)) (view_of self.new) }
         ensures top { (view_of self.new).top ≡ Some number }
+        ensures listed { AddsOne self.old.past self.new.past list.old.items list.new.items }
     {
         let depth = depth_over(self.limits.depth, &self.top);
         let parts = part_all(&mut self.values, arguments);
@@ -452,11 +498,15 @@ impl Task {
                 let block = line_of(code, object.class, chord).block;
                 let this = Value::Ref(object);
                 begin(code, &mut *frames, block, this, parts.body, depth);
-                self.past.push_reserved(Entry {
-                    number,
-                    body: number,
-                    what: What::Fired(chord, object, members.copied(), parts.entry),
-                });
+                append(
+                    &mut self.past,
+                    list,
+                    Entry {
+                        number,
+                        body: number,
+                        what: What::Fired(chord, object, members.copied(), parts.entry),
+                    },
+                );
                 put_on_top(&mut self.top, &mut self.below, number, frames);
             }
         }
@@ -474,12 +524,15 @@ impl Task {
         object: Object,
         members: &mut Members,
         values: &mut Values,
+        list: &mut Vec<Entry>,
     ) -> Result<(), AllocError>
+        requires place { vec_len list.old < vec_capacity list.old }
         requires task { IsTaskOf code.now self.old.limits self.old }
         requires may { MayResume code.now self.old.limits self.old number chord object members.old values.old }
         ensures task { IfOk result (λ _. IsTaskOf code.now self.old.limits self.new) }
         ensures past { IfOk result (λ _. task_begun (view_of self.old) number chord object members.old values.old (view_of self.new)) }
         ensures top { IfOk result (λ _. (view_of self.new).top ≡ Some number) }
+        ensures listed { OnOk result (AddsOne self.old.past self.new.past list.old.items list.new.items) }
     {
         let depth = depth_over(self.limits.depth, &self.top);
         let block = line_of(code, object.class, chord).block;
@@ -498,16 +551,20 @@ impl Task {
                 )?;
             }
         }
-        self.past.push_reserved(Entry {
-            number,
-            body: number,
-            what: What::Fired(
-                chord,
-                object,
-                mem::replace(members, Members::new()),
-                mem::replace(values, Values::none()),
-            ),
-        });
+        append(
+            &mut self.past,
+            list,
+            Entry {
+                number,
+                body: number,
+                what: What::Fired(
+                    chord,
+                    object,
+                    mem::replace(members, Members::new()),
+                    mem::replace(values, Values::none()),
+                ),
+            },
+        );
         match self.spare.take() {
             None => unreachable!(),
             Some(frames) => {
@@ -524,34 +581,14 @@ impl Task {
         self.top.is_none()
     }
 
-    /// The entries, the oldest first.
-    pub fn into_past(self) -> Vec<Entry>
-        ensures { result ≡ self.past }
-    {
-        self.past
-    }
-
-    /// The entries of a task in which no body is left. The task has none then, and its memory serves for the next body, as that of what `spare` makes.
-    ///
-    /// # Errors
-    ///
-    /// `AllocError` where no memory is found for the entries to come; the task is as it was.
-    pub fn renew(&mut self, alloc: Global) -> Result<Vec<Entry>, AllocError>
+    /// A task in which no body is left has no entries then, and its memory serves for the next body, as that of what `spare` makes.
+    pub fn renew(&mut self)
         requires over { (view_of self.old).top ≡ None }
-        ensures entries { IfOk result (λ past. past ≡ self.old.past) }
-        ensures past { OnOk result ((view_of self.new).past ≡ []) }
+        ensures past { (view_of self.new).past ≡ [] }
         ensures top { (view_of self.new).top ≡ None }
-        ensures task { OnOk result ((code : Parts) (limits : TheLimits) → IsTaskOf code limits self.old → IsTaskOf code limits self.new × IsResumable code self.new) }
+        ensures task { (code : Parts) (limits : TheLimits) → IsTaskOf code limits self.old → IsTaskOf code limits self.new × IsResumable code self.new }
     {
-        let past = Vec::with_capacity(alloc, FIRST_ENTRIES)?;
-        Ok(mem::replace(&mut self.past, past))
-    }
-
-    /// The newest entry.
-    pub fn newest(&self) -> Option<&Entry>
-        ensures { option_copied result ≡ slice_get self.now.past.items (length self.now.past.items - 1) }
-    {
-        self.past.last()
+        self.past = Past::none();
     }
 
     /// Whether a body is left, and the top one does not wait.

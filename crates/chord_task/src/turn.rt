@@ -6,6 +6,7 @@ ghost use Rattle.chord_code.specs.Meaning.{code_program};
 ghost use Rattle.chord_vm.specs.Frames.{what_of_ask};
 ghost use Rattle.chord_task.specs.declared.body.Body.{Body as ABody};
 ghost use Rattle.chord_task.specs.Standing.{view_of, IsTaskOf, is_ready_of, given_by, LastIsReady, HasReturned};
+ghost use Rattle.chord_task.specs.Past.{AddsOne};
 ghost use Rattle.chord_task.specs.Turning.{sent_to, sent_of, MayTurn, HasTurned, IsAskedFor, RunsOn, HasSettled, MaySettle, AreBare, IsBareEnd, OwnsNothing};
 
 use crate::body::{Body, Next, put};
@@ -21,24 +22,24 @@ use std::alloc::{AllocError, Global};
 use std::mem;
 
 /// Adds an entry, for which there is room.
-fn append(past: &mut Vec<Entry>, number: u32, body: u32, what: What)
-    requires { vec_len past.old < vec_capacity past.old }
-    ensures items { past.new.items ≡ past.old.items ++ record { number = number; body = body; what = what } ∷ [] }
-    ensures len { vec_len past.new ≡ vec_len past.old + 1 }
-    ensures capacity { vec_capacity past.new ≡ vec_capacity past.old }
+fn append(list: &mut Vec<Entry>, number: u32, body: u32, what: What)
+    requires { vec_len list.old < vec_capacity list.old }
+    ensures items { list.new.items ≡ list.old.items ++ record { number = number; body = body; what = what } ∷ [] }
+    ensures len { vec_len list.new ≡ vec_len list.old + 1 }
+    ensures capacity { vec_capacity list.new ≡ vec_capacity list.old }
 {
-    past.push_reserved(Entry { number, body, what });
+    list.push_reserved(Entry { number, body, what });
 }
 
 /// Adds the entry of an object. Entries are written by functions that take small things alone, since the place of a large one is cleared at each turn.
 #[inline(never)]
-fn append_made(past: &mut Vec<Entry>, number: u32, body: u32, class: u16)
-    requires { vec_len past.old < vec_capacity past.old }
-    ensures items { past.new.items ≡ past.old.items ++ record { number = number; body = body; what = What.Made class } ∷ [] }
-    ensures len { vec_len past.new ≡ vec_len past.old + 1 }
-    ensures capacity { vec_capacity past.new ≡ vec_capacity past.old }
+fn append_made(list: &mut Vec<Entry>, number: u32, body: u32, class: u16)
+    requires { vec_len list.old < vec_capacity list.old }
+    ensures items { list.new.items ≡ list.old.items ++ record { number = number; body = body; what = What.Made class } ∷ [] }
+    ensures len { vec_len list.new ≡ vec_len list.old + 1 }
+    ensures capacity { vec_capacity list.new ≡ vec_capacity list.old }
 {
-    append(past, number, body, What::Made(class));
+    append(list, number, body, What::Made(class));
 }
 
 /// Takes out the text that a body prints.
@@ -55,45 +56,45 @@ fn take_text(asked: &mut Option<Ask>) -> Text
 
 /// Adds the entry of a line.
 #[inline(never)]
-fn append_printed(past: &mut Vec<Entry>, number: u32, body: u32, text: Text)
-    requires { vec_len past.old < vec_capacity past.old }
-    ensures items { past.new.items ≡ past.old.items ++ record { number = number; body = body; what = What.Printed text } ∷ [] }
-    ensures len { vec_len past.new ≡ vec_len past.old + 1 }
-    ensures capacity { vec_capacity past.new ≡ vec_capacity past.old }
+fn append_printed(list: &mut Vec<Entry>, number: u32, body: u32, text: Text)
+    requires { vec_len list.old < vec_capacity list.old }
+    ensures items { list.new.items ≡ list.old.items ++ record { number = number; body = body; what = What.Printed text } ∷ [] }
+    ensures len { vec_len list.new ≡ vec_len list.old + 1 }
+    ensures capacity { vec_capacity list.new ≡ vec_capacity list.old }
 {
-    append(past, number, body, What::Printed(text));
+    append(list, number, body, What::Printed(text));
 }
 
 /// Adds the entry of an asynchronous message, whose arguments are taken. None and a lone number are written as they are read, in small pieces.
 #[inline(never)]
 fn append_sent(
-    past: &mut Vec<Entry>,
+    list: &mut Vec<Entry>,
     number: u32,
     body: u32,
     object: Object,
     method: u8,
     arguments: &mut Values,
 )
-    requires { vec_len past.old < vec_capacity past.old }
-    ensures items { past.new.items ≡ past.old.items ++ record { number = number; body = body; what = What.Sent object method arguments.old } ∷ [] }
-    ensures len { vec_len past.new ≡ vec_len past.old + 1 }
-    ensures capacity { vec_capacity past.new ≡ vec_capacity past.old }
+    requires { vec_len list.old < vec_capacity list.old }
+    ensures items { list.new.items ≡ list.old.items ++ record { number = number; body = body; what = What.Sent object method arguments.old } ∷ [] }
+    ensures len { vec_len list.new ≡ vec_len list.old + 1 }
+    ensures capacity { vec_capacity list.new ≡ vec_capacity list.old }
     ensures bare { AreBare arguments.new }
 {
     match arguments.items() {
         [] => append(
-            past,
+            list,
             number,
             body,
             What::Sent(object, method, Values::none()),
         ),
         [Value::Int(lone)] => {
             let lone = Values::one(Value::Int(*lone));
-            append(past, number, body, What::Sent(object, method, lone));
+            append(list, number, body, What::Sent(object, method, lone));
         }
         _ => {
             let taken = mem::replace(arguments, Values::none());
-            append(past, number, body, What::Sent(object, method, taken));
+            append(list, number, body, What::Sent(object, method, taken));
         }
     }
 }
@@ -101,33 +102,33 @@ fn append_sent(
 /// Adds the entry of a call, whose arguments are taken as those of an asynchronous message are.
 #[inline(never)]
 fn append_called(
-    past: &mut Vec<Entry>,
+    list: &mut Vec<Entry>,
     number: u32,
     body: u32,
     object: Object,
     method: u8,
     arguments: &mut Values,
 )
-    requires { vec_len past.old < vec_capacity past.old }
-    ensures items { past.new.items ≡ past.old.items ++ record { number = number; body = body; what = What.Called object method arguments.old } ∷ [] }
-    ensures len { vec_len past.new ≡ vec_len past.old + 1 }
-    ensures capacity { vec_capacity past.new ≡ vec_capacity past.old }
+    requires { vec_len list.old < vec_capacity list.old }
+    ensures items { list.new.items ≡ list.old.items ++ record { number = number; body = body; what = What.Called object method arguments.old } ∷ [] }
+    ensures len { vec_len list.new ≡ vec_len list.old + 1 }
+    ensures capacity { vec_capacity list.new ≡ vec_capacity list.old }
     ensures bare { AreBare arguments.new }
 {
     match arguments.items() {
         [] => append(
-            past,
+            list,
             number,
             body,
             What::Called(object, method, Values::none()),
         ),
         [Value::Int(lone)] => {
             let lone = Values::one(Value::Int(*lone));
-            append(past, number, body, What::Called(object, method, lone));
+            append(list, number, body, What::Called(object, method, lone));
         }
         _ => {
             let taken = mem::replace(arguments, Values::none());
-            append(past, number, body, What::Called(object, method, taken));
+            append(list, number, body, What::Called(object, method, taken));
         }
     }
 }
@@ -179,16 +180,18 @@ impl Task {
         code: &Code,
         limits: &Limits,
         number: u32,
+        list: &mut Vec<Entry>,
     ) -> Result<Option<(Object, u8)>, AllocError>
         requires task { IsTaskOf code.now limits.now self.old }
         requires left { is_ready_of self.old ≡ true }
         requires may { MayTurn (code_program code.now limits.now) (view_of self.old) number }
-        ensures { IfOk result (λ sent. HasTurned code.now limits.now self.old self.new number sent) }
+        ensures turned { IfOk result (λ sent. HasTurned code.now limits.now self.old self.new number sent) }
+        ensures listed { OnOk result (AddsOne self.old.past self.new.past list.old.items list.new.items) }
     {
         if self.runs() {
-            return self.run_turn(alloc, code, limits, number);
+            return self.run_turn(alloc, code, limits, number, list);
         }
-        self.kept_turn(alloc, code, limits, number)
+        self.kept_turn(alloc, code, limits, number, list)
     }
 
     /// Whether the frames of the body on top run.
@@ -228,16 +231,18 @@ impl Task {
         code: &Code,
         limits: &Limits,
         number: u32,
+        list: &mut Vec<Entry>,
     ) -> Result<Option<(Object, u8)>, AllocError>
         requires task { IsTaskOf code.now limits.now self.old }
         requires left { is_ready_of self.old ≡ true }
         requires may { MayTurn (code_program code.now limits.now) (view_of self.old) number }
-        ensures { IfOk result (λ sent. HasTurned code.now limits.now self.old self.new number sent) }
+        ensures turned { IfOk result (λ sent. HasTurned code.now limits.now self.old self.new number sent) }
+        ensures listed { OnOk result (AddsOne self.old.past self.new.past list.old.items list.new.items) }
     {
         self.prepare(alloc, code, limits)?;
-        self.reserve(alloc, code)?;
+        self.reserve(alloc, code, list)?;
         let sent = self.kept_message();
-        self.note(number);
+        self.note(number, list);
         Ok(sent)
     }
 
@@ -248,18 +253,20 @@ impl Task {
         code: &Code,
         limits: &Limits,
         number: u32,
+        list: &mut Vec<Entry>,
     ) -> Result<Option<(Object, u8)>, AllocError>
         requires task { IsTaskOf code.now limits.now self.old }
         requires runs { RunsOn self.old.top }
         requires may { MayTurn (code_program code.now limits.now) (view_of self.old) number }
-        ensures { IfOk result (λ sent. HasTurned code.now limits.now self.old self.new number sent) }
+        ensures turned { IfOk result (λ sent. HasTurned code.now limits.now self.old self.new number sent) }
+        ensures listed { OnOk result (AddsOne self.old.past self.new.past list.old.items list.new.items) }
     {
         match &mut self.top {
             None => unreachable!(),
             Some(body) => {
                 let mut asked = None;
                 advance_to(alloc, code, &mut *body.frames, &mut asked)?;
-                let settled = self.settle(alloc, code, number, &mut asked);
+                let settled = self.settle(alloc, code, number, &mut asked, list);
                 if settled.is_err() {
                     drop_ask(&mut asked);
                 }
@@ -271,36 +278,42 @@ impl Task {
 
     /// The body on top ends: its end, which is taken, becomes the entry of this number, and its caller gets a copy. A number is looked for first.
     #[inline(never)]
-    fn end_turn(&mut self, alloc: Global, number: u32, end: &mut End) -> Result<(), AllocError>
-        requires room { vec_len self.old.past < vec_capacity self.old.past }
+    fn end_turn(
+        &mut self,
+        alloc: Global,
+        number: u32,
+        end: &mut End,
+        list: &mut Vec<Entry>,
+    ) -> Result<(), AllocError>
+        requires place { vec_len list.old < vec_capacity list.old }
         requires runs { RunsOn self.old.top }
         requires ready { LastIsReady self.old.below.items }
-        ensures items { OnOk result ((b : ABody) → self.old.top ≡ Some b → self.new.past.items ≡ self.old.past.items ++ record { number = number; body = b.number; what = What.Ended end.old } ∷ []) }
-        ensures len { OnOk result (vec_len self.new.past ≡ vec_len self.old.past + 1) }
-        ensures capacity { OnOk result (vec_capacity self.new.past ≡ vec_capacity self.old.past) }
+        ensures past { OnOk result ((b : ABody) → self.old.top ≡ Some b → self.new.past ≡ self.old.past ++ record { number = number; body = b.number; what = What.Ended end.old } ∷ []) }
+        ensures items { OnOk result ((b : ABody) → self.old.top ≡ Some b → list.new.items ≡ list.old.items ++ record { number = number; body = b.number; what = What.Ended end.old } ∷ []) }
         ensures below { OnOk result (vec_capacity self.new.below ≡ vec_capacity self.old.below) }
         ensures ended { OnOk result (HasReturned end.old self.old.below self.new.below self.new.top) }
         ensures rest { OnOk result (self.new ≡ record { past = self.new.past; top = self.new.top; below = self.new.below; spare = self.old.spare; ended = self.new.ended; values = self.old.values; limits = self.old.limits }) }
         ensures bare { OnOk result (IsBareEnd end.new) }
     {
         let maker = number_of(&self.top);
-        let past = &mut self.past;
         match end {
             End::Gives(Value::Int(lone)) => {
                 let lone = *lone;
                 append(
-                    past,
+                    list,
                     number,
                     maker,
                     What::Ended(End::Gives(Value::Int(lone))),
                 );
+                self.past.add_last(list);
                 let second = End::Gives(Value::Int(lone));
                 end_top(&mut self.top, &mut self.below, &mut self.ended, second);
             }
             _ => {
                 let second = end.copied(alloc)?;
                 let first = mem::replace(end, End::Gives(Value::Unit));
-                append(past, number, maker, What::Ended(first));
+                append(list, number, maker, What::Ended(first));
+                self.past.add_last(list);
                 end_top(&mut self.top, &mut self.below, &mut self.ended, second);
             }
         }
@@ -317,14 +330,16 @@ impl Task {
         code: &Code,
         number: u32,
         asked: &mut Option<Ask>,
+        list: &mut Vec<Entry>,
     ) -> Result<Option<(Object, u8)>, AllocError>
         requires some { asked.old ≢ None }
         requires asked { (a : Ask) → asked.old ≡ Some a → IsAskedFor code.now self.old (what_of_ask a) }
         requires may { (a : Ask) → asked.old ≡ Some a → MaySettle code.now self.old number (what_of_ask a) }
         ensures settled { IfOk result (λ sent. (a : Ask) × (asked.old ≡ Some a) × HasSettled code.now self.old number (what_of_ask a) self.new × (sent ≡ sent_to (what_of_ask a))) }
+        ensures listed { OnOk result (AddsOne self.old.past self.new.past list.old.items list.new.items) }
         ensures bare { OnOk result (OwnsNothing asked.new) }
     {
-        self.take_room(alloc, code)?;
+        self.take_room(alloc, code, list)?;
         match &mut self.top {
             None => unreachable!(),
             Some(body) => {
@@ -336,25 +351,29 @@ impl Task {
                         Ask::Make(class) => {
                             let class = *class;
                             answer(&mut *body.frames, Value::Ref(Object { number, class }));
-                            append_made(past, number, maker, class);
+                            append_made(list, number, maker, class);
+                            past.add_last(list);
                             Ok(None)
                         }
                         // what was sent or printed is not answered: the body runs on
                         Ask::Send(object, method, arguments) => {
-                            append_sent(past, number, maker, *object, *method, arguments);
+                            append_sent(list, number, maker, *object, *method, arguments);
+                            past.add_last(list);
                             Ok(Some((*object, *method)))
                         }
                         Ask::Call(object, method, arguments) => {
                             put(&mut body.next, Next::Waits(number));
-                            append_called(past, number, maker, *object, *method, arguments);
+                            append_called(list, number, maker, *object, *method, arguments);
+                            past.add_last(list);
                             Ok(Some((*object, *method)))
                         }
                         Ask::Print(_) => {
-                            append_printed(past, number, maker, take_text(asked));
+                            append_printed(list, number, maker, take_text(asked));
+                            past.add_last(list);
                             Ok(None)
                         }
                         Ask::End(end) => {
-                            self.end_turn(alloc, number, end)?;
+                            self.end_turn(alloc, number, end, list)?;
                             Ok(None)
                         }
                     },

@@ -1,10 +1,10 @@
 use Rattle.std.proofs.Common.{ap, ◌∙◌}
 use Rattle.chord_task.specs.Turning.{sent_of}
-use Rattle.chord_task.proofs.Turning.{may_note, turned, some_given}
+use Rattle.chord_task.proofs.Turning.{may_note, turned, some_given, adds_from}
 use Rattle.chord_task.proofs.task.Task.kept_turn.Goals as goal
 
-pub note-requires : goal.note-requires
-note-requires c =
+pub note-requires-clause-may : goal.note-requires-clause-may
+note-requires-clause-may c =
     let code = c.args.code.now in
     let limits = c.args.limits.now in
     let k = c.reserve.ensures.task limits c.in_ok-prepare.ensures.task in
@@ -13,8 +13,8 @@ note-requires c =
     let m = may_note code limits c.args.self.now c.reserve.new.self c.args.number w.0 c.requires.may k v (c.reserve.ensures.gave ∙ w.1) c.in_ok-reserve.ensures.ready in
     (code, limits, k, m.0)
 
-pub returns : goal.returns
-returns c =
+pub returns-clause-turned : goal.returns-clause-turned
+returns-clause-turned c =
     let code = c.args.code.now in
     let limits = c.args.limits.now in
     let k = c.reserve.ensures.task limits c.in_ok-prepare.ensures.task in
@@ -23,4 +23,7 @@ returns c =
     let g = c.reserve.ensures.gave ∙ w.1 in
     let room = c.in_ok-reserve.ensures.ready in
     let m = may_note code limits c.args.self.now c.reserve.new.self c.args.number w.0 c.requires.may k v g room in
-    (w.0, turned code limits c.args.self.now c.reserve.new.self c.note.new.self c.args.number w.0 c.requires.may k v g room (c.note.ensures code limits k m.0), c.kept_message-sent.ensures ∙ ap sent_of g)
+    (w.0, turned code limits c.args.self.now c.reserve.new.self c.note.new.self c.args.number w.0 c.requires.may k v g room (c.note.ensures.noted code limits k m.0), c.kept_message-sent.ensures ∙ ap sent_of g)
+
+pub returns-clause-listed : goal.returns-clause-listed
+returns-clause-listed c = adds_from (c.reserve.ensures.past ∙ c.in_ok-prepare.ensures.past) c.reserve.ensures.listed c.note.ensures.listed

@@ -60,13 +60,13 @@ returns-clause-task c =
     let f : r.frames ≡ c.in-Some.frames = cc in
     let same = begun_same c.args.code.now limits c.deref_mut.result.now.limits c.line_of.result.now.block c.depth_over-depth.result (room_of limits c.args.self.now.top) (a_value.Ref c.args.object) c.part_all-parts.result.body c.args.arguments (ap (λ (x : Frames). x.limits) c.deref_mut.ensures.value ∙ ap (λ (x : Box Frames Global). x.value.limits) (sym f) ∙ r.room.limited) (c.depth_over-depth.ensures limits refl) c.part_all-parts.ensures.body c.requires.twice in
     let items =
-    c.push_reserved.ensures.items
-    ∙ ap (λ (ms : List ℕ). c.args.self.now.past.items ++ entry c.args.number c.args.number (Fired c.args.chord c.args.object ms c.part_all-parts.result.entry) ∷ []) c.copied.ensures
-    ∙ ap (λ (xs : List Value). c.args.self.now.past.items ++ entry c.args.number c.args.number (Fired c.args.chord c.args.object c.args.members.now xs) ∷ []) c.part_all-parts.ensures.entry
+    c.append.ensures.past
+    ∙ ap (λ (ms : List ℕ). c.args.self.now.past ++ entry c.args.number c.args.number (Fired c.args.chord c.args.object ms c.part_all-parts.result.entry) ∷ []) c.copied.ensures
+    ∙ ap (λ (xs : List Value). c.args.self.now.past ++ entry c.args.number c.args.number (Fired c.args.chord c.args.object c.args.members.now xs) ∷ []) c.part_all-parts.ensures.entry
     in
     let bodies = put_below c.args.self.now.top c.args.self.now.below.items c.put_on_top.new.below.items c.put_on_top.ensures.below in
     rw (c.put_on_top.ensures.top, c.take.ensures.after)
-    (task_resumed c.args.code.now limits c.args.self.now c.push_reserved.new.self c.put_on_top.new.below c.part_all-parts.new.wide c.args.number c.args.chord c.args.object c.args.members.now vs _ c.line_of.result.now c.part_all-parts.ensures.list c.requires.task c.requires.may c.line_of.ensures (sym same ∙ c.begin.ensures) items bodies)
+    (task_resumed c.args.code.now limits c.args.self.now c.append.new.past c.put_on_top.new.below c.part_all-parts.new.wide c.args.number c.args.chord c.args.object c.args.members.now vs _ c.line_of.result.now c.part_all-parts.ensures.list c.requires.task c.requires.may c.line_of.ensures (sym same ∙ c.begin.ensures) items bodies)
 
 pub put_on_top-requires-clause-waits : goal.put_on_top-requires-clause-waits
 put_on_top-requires-clause-waits c = waits_below c.args.code.now c.args.self.now.limits c.args.self.now c.args.number c.args.chord c.args.object c.args.members.now (laid (for_entry c.args.arguments)) c.requires.task c.requires.may

@@ -59,12 +59,12 @@ returns-clause-task c =
     let same = begun_with c.args.code.now limits c.deref_mut.result.now.limits c.line_of.result.now.block c.depth_over-depth.result (room_of limits c.args.self.now.top) (a_value.Ref c.args.object) c.args.arguments.second (ap (λ (x : Frames). x.limits) c.deref_mut.ensures.value ∙ ap (λ (x : Box Frames Global). x.value.limits) (sym f) ∙ r.room.limited) (c.depth_over-depth.ensures limits refl)
     ∙ ap (λ (xs : List Value). body_in_block c.args.code.now c.line_of.result.now.block (room_of limits c.args.self.now.top) (a_value.Ref c.args.object ∷ xs) limits.turns) c.requires.twice in
     let items =
-    c.push_reserved.ensures.items
-    ∙ ap (λ (ms : List ℕ). c.args.self.now.past.items ++ entry c.args.number c.args.number (Fired c.args.chord c.args.object ms vs) ∷ []) c.copied.ensures
+    c.append.ensures.past
+    ∙ ap (λ (ms : List ℕ). c.args.self.now.past ++ entry c.args.number c.args.number (Fired c.args.chord c.args.object ms vs) ∷ []) c.copied.ensures
     in
     let bodies = put_below c.args.self.now.top c.args.self.now.below.items c.put_on_top.new.below.items c.put_on_top.ensures.below in
     rw (c.put_on_top.ensures.top, c.take.ensures.after)
-    (task_resumed c.args.code.now limits c.args.self.now c.push_reserved.new.self c.put_on_top.new.below c.args.self.now.values c.args.number c.args.chord c.args.object c.args.members.now vs _ c.line_of.result.now c.requires.task.kept_values c.requires.task c.requires.may c.line_of.ensures (sym same ∙ c.begin_moved.ensures) items bodies)
+    (task_resumed c.args.code.now limits c.args.self.now c.append.new.past c.put_on_top.new.below c.args.self.now.values c.args.number c.args.chord c.args.object c.args.members.now vs _ c.line_of.result.now c.requires.task.kept_values c.requires.task c.requires.may c.line_of.ensures (sym same ∙ c.begin_moved.ensures) items bodies)
 
 pub put_on_top-requires-clause-waits : goal.put_on_top-requires-clause-waits
 put_on_top-requires-clause-waits c = waits_below c.args.code.now c.args.self.now.limits c.args.self.now c.args.number c.args.chord c.args.object c.args.members.now c.args.arguments.first c.requires.task c.requires.may

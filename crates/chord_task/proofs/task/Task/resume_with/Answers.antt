@@ -57,10 +57,10 @@ returns-clause-task c =
     let begun = rw c.items.ensures.values at c.in_ok-begin_with-in-Some.ensures in
     let z : Some c.begin_with.new.frames ≡ Some c.in-Some-take.frames.value = ap (λ (o : Option (Box Frames Global)). option_map (λ (x : Box Frames Global). x.value) o) (sym c.take.ensures.value ∙ c.in-Some-take.is) in
     let g : c.begin_with.new.frames ≡ c.in-Some-take.frames.value = cc in
-    let items = rw (c.replace.ensures.value, c.replace-2.ensures.value) at c.push_reserved.ensures.items in
+    let items = rw (c.replace.ensures.value, c.replace-2.ensures.value) at c.append.ensures.past in
     let bodies = put_below c.args.self.now.top c.args.self.now.below.items c.put_on_top.new.below.items c.put_on_top.ensures.below in
     rw (c.put_on_top.ensures.top, c.take.ensures.after)
-    (task_resumed c.args.code.now limits c.args.self.now c.push_reserved.new.self c.put_on_top.new.below c.args.self.now.values c.args.number c.args.chord c.args.object c.args.members.now vs c.in-Some-take.frames c.line_of.result.now c.requires.task.kept_values c.requires.task c.requires.may c.line_of.ensures (sym same ∙ begun ∙ ap (λ (x : Frames). Some (machine_of x)) g) items bodies)
+    (task_resumed c.args.code.now limits c.args.self.now c.append.new.past c.put_on_top.new.below c.args.self.now.values c.args.number c.args.chord c.args.object c.args.members.now vs c.in-Some-take.frames c.line_of.result.now c.requires.task.kept_values c.requires.task c.requires.may c.line_of.ensures (sym same ∙ begun ∙ ap (λ (x : Frames). Some (machine_of x)) g) items bodies)
 
 pub put_on_top-requires-clause-waits : goal.put_on_top-requires-clause-waits
 put_on_top-requires-clause-waits c = waits_below c.args.code.now c.args.self.now.limits c.args.self.now c.args.number c.args.chord c.args.object c.args.members.now c.args.values.now c.requires.task c.requires.may

@@ -32,8 +32,8 @@ settle-settled-requires-clause-may c = λ a e.
     let adv = subst (λ (f : Frames). Advanced c.args.code.now (machine_of f) a c.advance_to.new.frames) c.deref_mut.ensures.value put in
     may_settle c.args.code.now c.args.limits.now c.args.self.now c.in-Some.body (with_value c.in-Some.body.frames c.advance_to.new.frames) a c.args.number c.requires.task c.requires.runs c.in-Some.is adv c.requires.may
 
-pub returns : goal.returns
-returns c =
+pub returns-clause-turned : goal.returns-clause-turned
+returns-clause-turned c =
     let t = c.args.self.now in
     let f = with_value c.in-Some.body.frames c.advance_to.new.frames in
     IfOk-weaker c.settle-settled.result (λ sent. (a : Ask) × (c.advance_to.new.asked ≡ Some a) × HasSettled c.args.code.now (with_body t (with_frames c.in-Some.body f)) c.args.number (what_of_ask a) c.settle-settled.new.self × (sent ≡ sent_to (what_of_ask a))) (λ sent. HasTurned c.args.code.now c.args.limits.now t c.settle-settled.new.self c.args.number sent)

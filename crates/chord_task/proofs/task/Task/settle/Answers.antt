@@ -7,7 +7,7 @@ use Rattle.chord_vm.specs.declared.ask.Ask.{Ask}
 use Rattle.chord_vm.specs.declared.ask.Ask.TheVariants as ask
 use Rattle.chord_vm.specs.declared.frames.Frames.{Frames}
 use Rattle.chord_task.specs.Turning.{HasSettled}
-use Rattle.chord_task.proofs.Turning.{roomy, roomy_fits, roomy_asked, settled_gave, settled_end, roomy_ready}
+use Rattle.chord_task.proofs.Turning.{roomy, roomy_fits, roomy_asked, settled_gave, settled_end, roomy_ready, adds_from}
 use Rattle.chord_task.proofs.task.Task.settle.Goals as goal
 
 pub answer-requires-clause-fits : goal.answer-requires-clause-fits
@@ -46,9 +46,9 @@ returns-in-Make-clause-settled c =
     let x = roomy c.args.code.now c.args.self.now c.take_room.new.self c.args.number (Made c.in-Make.class) c.in-Some.body (c.requires.asked a put) (c.requires.may a put) c.take_room.ensures.past c.take_room.ensures.below c.take_room.ensures.top c.take_room.ensures.spare c.take_room.ensures.values c.take_room.ensures.limits c.in_ok-take_room.ensures.ready c.in-Some.is in (
       a,
       put,
-      settled_gave c.args.code.now c.args.self.now c.take_room.new.self c.args.number (Made c.in-Make.class) c.in-Some.body x (Made c.in-Make.class) x.given c.append_made.new.past _ refl
+      settled_gave c.args.code.now c.args.self.now c.take_room.new.self c.args.number (Made c.in-Make.class) c.in-Some.body x (Made c.in-Make.class) x.given c.add_last.new.self _ refl
           (x.runs, subst (λ (f : Frames). with_answer (machine_of f) f.awaited (a_value.Ref (record { number = c.args.number; class = c.in-Make.class })) ≡ Some (machine_of c.answer.new.frames)) c.deref_mut.ensures.value c.answer.ensures)
-          c.append_made.ensures.items c.append_made.ensures.len c.append_made.ensures.capacity,
+          (c.add_last.ensures _ _ (c.deref.ensures.value ∙ c.append_made.ensures.items)),
       refl,
     )
 
@@ -59,9 +59,9 @@ returns-in-Send-clause-settled c =
     let x = roomy c.args.code.now c.args.self.now c.take_room.new.self c.args.number (Sent c.in-Send.object c.in-Send.method c.in-Send.arguments) c.in-Some.body (c.requires.asked a put) (c.requires.may a put) c.take_room.ensures.past c.take_room.ensures.below c.take_room.ensures.top c.take_room.ensures.spare c.take_room.ensures.values c.take_room.ensures.limits c.in_ok-take_room.ensures.ready c.in-Some.is in (
       a,
       put,
-      settled_gave c.args.code.now c.args.self.now c.take_room.new.self c.args.number (Sent c.in-Send.object c.in-Send.method c.in-Send.arguments) c.in-Some.body x (Sent c.in-Send.object c.in-Send.method c.in-Send.arguments) x.given c.append_sent.new.past _ refl
+      settled_gave c.args.code.now c.args.self.now c.take_room.new.self c.args.number (Sent c.in-Send.object c.in-Send.method c.in-Send.arguments) c.in-Some.body x (Sent c.in-Send.object c.in-Send.method c.in-Send.arguments) x.given c.add_last-in-Send.new.self _ refl
           (x.runs, ap (λ p. with_answer (machine_of c.in-Some.body.frames.value) p a_value.Unit) (roomy_asked c.args.code.now c.args.self.now c.take_room.new.self c.args.number (Sent c.in-Send.object c.in-Send.method c.in-Send.arguments) c.in-Some.body x (Sent c.in-Send.object c.in-Send.method c.in-Send.arguments) x.given))
-          c.append_sent.ensures.items c.append_sent.ensures.len c.append_sent.ensures.capacity,
+          (c.add_last-in-Send.ensures _ _ (c.deref-in-Send.ensures.value ∙ c.append_sent.ensures.items)),
       refl,
     )
 
@@ -72,9 +72,9 @@ returns-in-Call-clause-settled c =
     let x = roomy c.args.code.now c.args.self.now c.take_room.new.self c.args.number (Called c.in-Call.object c.in-Call.method c.in-Call.arguments) c.in-Some.body (c.requires.asked a put) (c.requires.may a put) c.take_room.ensures.past c.take_room.ensures.below c.take_room.ensures.top c.take_room.ensures.spare c.take_room.ensures.values c.take_room.ensures.limits c.in_ok-take_room.ensures.ready c.in-Some.is in (
       a,
       put,
-      settled_gave c.args.code.now c.args.self.now c.take_room.new.self c.args.number (Called c.in-Call.object c.in-Call.method c.in-Call.arguments) c.in-Some.body x (Called c.in-Call.object c.in-Call.method c.in-Call.arguments) x.given c.append_called.new.past _ refl
+      settled_gave c.args.code.now c.args.self.now c.take_room.new.self c.args.number (Called c.in-Call.object c.in-Call.method c.in-Call.arguments) c.in-Some.body x (Called c.in-Call.object c.in-Call.method c.in-Call.arguments) x.given c.add_last-in-Call.new.self _ refl
           (c.put.ensures.put, refl)
-          c.append_called.ensures.items c.append_called.ensures.len c.append_called.ensures.capacity,
+          (c.add_last-in-Call.ensures _ _ (c.deref-in-Call.ensures.value ∙ c.append_called.ensures.items)),
       refl,
     )
 
@@ -85,9 +85,9 @@ returns-in-Print-clause-settled c =
     let x = roomy c.args.code.now c.args.self.now c.take_room.new.self c.args.number (Printed c.take_text.result) c.in-Some.body (c.requires.asked a put) (c.requires.may a put) c.take_room.ensures.past c.take_room.ensures.below c.take_room.ensures.top c.take_room.ensures.spare c.take_room.ensures.values c.take_room.ensures.limits c.in_ok-take_room.ensures.ready c.in-Some.is in (
       a,
       put,
-      settled_gave c.args.code.now c.args.self.now c.take_room.new.self c.args.number (Printed c.take_text.result) c.in-Some.body x (Printed c.take_text.result) x.given c.append_printed.new.past _ refl
+      settled_gave c.args.code.now c.args.self.now c.take_room.new.self c.args.number (Printed c.take_text.result) c.in-Some.body x (Printed c.take_text.result) x.given c.add_last-in-Print.new.self _ refl
           (x.runs, ap (λ p. with_answer (machine_of c.in-Some.body.frames.value) p a_value.Unit) (roomy_asked c.args.code.now c.args.self.now c.take_room.new.self c.args.number (Printed c.take_text.result) c.in-Some.body x (Printed c.take_text.result) x.given))
-          c.append_printed.ensures.items c.append_printed.ensures.len c.append_printed.ensures.capacity,
+          (c.add_last-in-Print.ensures _ _ (c.deref-in-Print.ensures.value ∙ c.append_printed.ensures.items)),
       refl,
     )
 
@@ -98,4 +98,7 @@ returns-in_ok-end_turn-in-End-clause-settled c =
     let put : c.args.asked.now ≡ Some a = c.in-Some-asked.is ∙ ap Some c.in-End.is in
     let x = roomy c.args.code.now c.args.self.now c.take_room.new.self c.args.number (Ended c.in-End.end) c.in-Some.body (c.requires.asked a put) (c.requires.may a put) c.take_room.ensures.past c.take_room.ensures.below c.take_room.ensures.top c.take_room.ensures.spare c.take_room.ensures.values c.take_room.ensures.limits c.in_ok-take_room.ensures.ready c.in-Some.is in
     let s = c.end_turn.new.self in
-    (a, put, subst (HasSettled c.args.code.now c.args.self.now c.args.number (Ended c.in-End.end)) (sym h.rest) (settled_end c.args.code.now c.args.self.now c.take_room.new.self c.args.number (Ended c.in-End.end) c.in-Some.body x c.in-End.end x.given s.past s.below s.ended s.top h.ended (h.items c.in-Some.body refl) h.len h.capacity h.below), refl)
+    (a, put, subst (HasSettled c.args.code.now c.args.self.now c.args.number (Ended c.in-End.end)) (sym h.rest) (settled_end c.args.code.now c.args.self.now c.take_room.new.self c.args.number (Ended c.in-End.end) c.in-Some.body x c.in-End.end x.given s.past s.below s.ended s.top h.ended (h.past c.in-Some.body refl) h.below), refl)
+
+pub returns-in_ok-end_turn-in-End-clause-listed : goal.returns-in_ok-end_turn-in-End-clause-listed
+returns-in_ok-end_turn-in-End-clause-listed c = let h = c.in_ok-end_turn-in-End.ensures in adds_from c.take_room.ensures.past c.take_room.ensures.listed (record { entry = _; past = h.past c.in-Some.body refl; list = h.items c.in-Some.body refl })

@@ -8,7 +8,6 @@ use Rattle.chord_task.proofs.task.Task.spare.Goals as goal
 
 pub returns-clause-room : goal.returns-clause-room
 returns-clause-room c = record {
-  past = omega (arith, c.in_ok-past.ensures.len, c.in_ok-past.ensures.exact);
   below = omega (arith, c.in_ok-below.ensures.len, c.in_ok-below.ensures.exact);
   frames = _;
   spare = refl;
@@ -18,8 +17,7 @@ returns-clause-room c = record {
 
 pub returns-clause-task : goal.returns-clause-task
 returns-clause-task c =
-    spare_task c.args.code.now c.args.limits.now _ (valid_forward c.args.code.now c.parts-parts.ensures.valid) refl refl c.in_ok-past.ensures.items (ap (λ (z : List Caller). waiting_bodies (reverse z)) c.in_ok-below.ensures.items) (record {
-      past = omega (arith, c.in_ok-past.ensures.len, c.in_ok-past.ensures.exact);
+    spare_task c.args.code.now c.args.limits.now _ (valid_forward c.args.code.now c.parts-parts.ensures.valid) refl refl c.none.ensures (ap (λ (z : List Caller). waiting_bodies (reverse z)) c.in_ok-below.ensures.items) (record {
       below = omega (arith, c.in_ok-below.ensures.len, c.in_ok-below.ensures.exact);
       frames = _;
       spare = refl;
