@@ -1,5 +1,5 @@
 -- A task that came to its ask, which is with its caller.
-use Rattle.std.proofs.Common.{◌≡◌, ◌≢◌, ℕ, List, Option, Some, None, refl, sym, ap, ◌∙◌, subst, Box, Global, reverse}
+use Rattle.std.proofs.Common.{◌≡◌, ◌≢◌, List, Some, None, refl, sym, ap, ◌∙◌, subst, Box, Global, reverse}
 use Rattle.chord_base.specs.declared.event.Entry.{Entry}
 use Rattle.chord_base.specs.declared.event.Limits.{Limits}
 use Rattle.chord_base.specs.declared.event.What.{What}
@@ -13,7 +13,7 @@ use Rattle.chord_task.specs.declared.body.Next.{Next}
 use Rattle.chord_task.specs.declared.body.Next.TheVariants as nexts
 use Rattle.chord_task.specs.declared.body.Body.{Body}
 use Rattle.chord_task.specs.declared.task.Task.{Task}
-use Rattle.chord_task.specs.Stacks.{TaskView, IsNext}
+use Rattle.chord_task.specs.Stacks.{IsNext}
 use Rattle.chord_task.specs.Standing.{body_number, view_of, given_of, given_by, GivenBy, NextIs, IsTop, IsTaskOf}
 use Rattle.chord_task.specs.Turning.{RunsOn, IsKept, HasCome}
 use Rattle.chord_task.proofs.Asking.{given_is, given_next}

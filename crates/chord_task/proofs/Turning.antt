@@ -1,5 +1,5 @@
 -- A task whose ask is with its caller, before and after the ask becomes an entry.
-use Rattle.std.proofs.Common.{◌≡◌, ℕ, suc, true, false, List, [], ◌∷◌, Option, Some, None, refl, sym, ap, ◌∙◌, subst, Box, Global, Vec, ◌+◌, ◌++◌, vec_len, vec_capacity}
+use Rattle.std.proofs.Common.{◌≡◌, ℕ, suc, true, false, List, [], ◌∷◌, Option, Some, None, refl, sym, ap, ◌∙◌, subst, Box, Global, Vec, ◌++◌, vec_capacity}
 use Rattle.std.specs.Prelude.{reverse}
 use Rattle.chord_base.specs.declared.event.End.{End}
 use Rattle.chord_base.specs.declared.event.Entry.{Entry}

@@ -1,5 +1,5 @@
 -- What the bodies of a task stand for: where the code of each stands after the answers that its story has.
-use Rattle.std.specs.Prelude.{◌≡◌, ◌≢◌, ◌+◌, ◌-◌, ◌<◌, ◌≤◌, ◌++◌, vec_len, vec_capacity, Vec, ℕ, List, [], ◌∷◌, Bool, true, false, ◌==◌, Option, Some, None, reverse, IsSome, Box}
+use Rattle.std.specs.Prelude.{◌≡◌, ◌≢◌, ◌+◌, ◌-◌, ◌<◌, ◌++◌, vec_len, vec_capacity, Vec, ℕ, List, [], ◌∷◌, Bool, true, false, ◌==◌, Option, Some, None, reverse, IsSome, Box}
 use Rattle.std.specs.Global.{Global}
 use Rattle.chord_base.specs.declared.value.Object.{Object}
 use Rattle.chord_base.specs.declared.value.Value.{Value}

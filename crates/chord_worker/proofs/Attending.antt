@@ -1,5 +1,5 @@
 -- What looking for chords, and firing one, make of a worker that minds a message.
-use Rattle.std.proofs.Common.{◌≡◌, ℕ, Bool, true, false, ◌==◌, List, [], ◌∷◌, map, Option, Some, None, refl, sym, ap, ◌∙◌, subst, inl, inr, ⊎_elim}
+use Rattle.std.proofs.Common.{◌≡◌, ℕ, Bool, true, false, ◌==◌, List, [], ◌∷◌, map, Option, Some, None, refl, sym, ap, ◌∙◌, subst, inl, inr, ⊎_elim, Vec, Global}
 use Rattle.std.proofs.lemmas.Bool.{eq-eqb, eqb-true, eqb-false, ne_eqb}
 use mathlib.Core.Path.{Path}
 use Rattle.chord_base.specs.declared.value.Object.{Object}
@@ -7,6 +7,7 @@ use Rattle.chord_base.specs.declared.event.Entry.{Entry}
 use Rattle.chord_base.specs.declared.event.Limits.{Limits}
 use Rattle.chord_code.specs.declared.parts.Parts.{Parts}
 use Rattle.chord_task.specs.declared.task.Task.{Task}
+use Rattle.chord_worker.proofs.Listed.{lists_same}
 use Rattle.chord_worker.proofs.Memory.{task_laid}
 use Rattle.chord_base.specs.Messages.{has}
 use Rattle.chord_base.proofs.Waits.{either}
@@ -29,7 +30,7 @@ use Rattle.chord_worker.specs.declared.worker.Worker.{Worker}
 use Rattle.chord_task.specs.Parcels.{entries_of, arguments_of, IsParcelOf}
 use Rattle.chord_worker.specs.Firing.{HasFired}
 use Rattle.chord_worker.specs.Resting.{IsHandFree, IsInMemory, MayContinue, IsStock, IsAtRest, IsSameRole}
-use Rattle.chord_worker.specs.Sending.{Minds, IsLaidDown}
+use Rattle.chord_worker.specs.Sending.{Minds}
 
 -- ## The one duty
 
@@ -107,6 +108,10 @@ module _ (v w : View) (l : IsOnlyLooks v w) where
   pub looks_kept : w.kept ≡ v.kept
   looks_kept = ap (λ (z : View). z.kept) l.frame
 
+  -- it drew the same
+  pub looks_draws : w.draws ≡ v.draws
+  looks_draws = ap (λ (z : View). z.draws) l.frame
+
   -- it was told the same
   pub looks_spent : w.spent ≡ v.spent
   looks_spent = ap (λ (z : View). z.spent) l.frame
@@ -124,7 +129,7 @@ module _ (v w : View) (l : IsOnlyLooks v w) where
 pub role_on : (u v w : View) → IsSameRole u v → IsSameRole v w → IsSameRole u w
 role_on u v w a b = record { first = b.first ∙ a.first; lent = b.lent ∙ a.lent; splits = b.splits ∙ a.splits; drawn = λ e. b.drawn (a.drawn e) }
 
-module _ (s : Space Parcel) (w w' : Worker) (m k : ℕ) (minds : Minds s w m k) (same : IsSameDesk w.desk w'.desk) (rest : w' ≡ record w { desk = w'.desk }) where
+module _ (s : Space Parcel) (w w' : Worker) (m k : ℕ) (minds : Minds s w m k) (same : IsSameDesk w.desk w'.desk) (rest : w' ≡ record w { desk = w'.desk; draws = w'.draws }) (lists : w'.draws.items ≡ w.draws.items) where
   -- after looks the worker still minds the message
   pub still_minds : IsOnlyLooks (view w.desk) (view w'.desk) → Minds s w' m k
   still_minds l = subst (λ (x : Worker). Minds s x m k) (sym rest) record {
@@ -133,11 +138,12 @@ module _ (s : Space Parcel) (w w' : Worker) (m k : ℕ) (minds : Minds s w m k) 
     room = looks_spent (view w.desk) (view w'.desk) l ∙ minds.room;
     free = looks_free (view w.desk) (view w'.desk) l minds.free;
     duty = l.duties ∙ minds.duty;
-    memory = subst (λ (es : List Entry). IsInMemory (space_code s) (space_limits s) es false w.done w.task) (sym (looks_kept (view w.desk) (view w'.desk) l)) minds.memory;
+    memory = subst (λ (es : List Entry). IsInMemory (space_code s) (space_limits s) es false w.task) (sym (looks_kept (view w.desk) (view w'.desk) l)) minds.memory;
     goes_on = minds.goes_on;
     stock = minds.stock;
     spare = minds.spare;
     is_stock = minds.is_stock;
+    listed = lists_same w.draws.items w'.draws.items w.taken.items w.taken.items (view w.desk).draws (view w'.desk).draws lists refl (looks_draws (view w.desk) (view w'.desk) l) minds.listed;
   }
 
   module _ (u : View) (l : IsOnlyLooks (view w.desk) u) (laid : view w'.desk ≡ rested u m) where
@@ -148,10 +154,11 @@ module _ (s : Space Parcel) (w w' : Worker) (m k : ℕ) (minds : Minds s w m k) 
       told = minds.told ∙ sym (spent ∙ minds.room);
       free = subst IsHandFree (sym laid) (let f = looks_free (view w.desk) u l minds.free in record { claims = f.claims; flight = f.flight; fresh = f.fresh });
       duties = λ e. ap (λ (z : View). z.duties) laid ∙ no_duty_left u.duties m k (l.duties ∙ minds.duty);
-      memory = subst (λ (b : Bool). IsInMemory (space_code s) (space_limits s) (view w'.desk).kept b w.done w.task) (sym (spent ∙ minds.room))
-          (subst (λ (es : List Entry). IsInMemory (space_code s) (space_limits s) es false w.done w.task) (sym (ap (λ (z : View). z.kept) laid ∙ looks_kept (view w.desk) u l)) minds.memory);
+      memory = subst (λ (b : Bool). IsInMemory (space_code s) (space_limits s) (view w'.desk).kept b w.task) (sym (spent ∙ minds.room))
+          (subst (λ (es : List Entry). IsInMemory (space_code s) (space_limits s) es false w.task) (sym (ap (λ (z : View). z.kept) laid ∙ looks_kept (view w.desk) u l)) minds.memory);
       goes_on = minds.goes_on;
       stock = subst (IsStock (space_code s) (space_limits s)) (sym minds.spare) minds.is_stock;
+      listed = lists_same w.draws.items w'.draws.items w.taken.items w.taken.items (view w.desk).draws (view w'.desk).draws lists refl (ap (λ (z : View). z.draws) laid ∙ looks_draws (view w.desk) u l) minds.listed;
     }
       where
         spent : (view w'.desk).spent ≡ (view w.desk).spent
@@ -169,8 +176,8 @@ module _ (s : Space Parcel) (w w' : Worker) (m k : ℕ) (minds : Minds s w m k) 
 module _ (s : Space Parcel) (w : Worker) (m method : ℕ) (o : Object) (minds : Minds s w m (key o method)) (u : View) (chord : ℕ) (ms : List ℕ) (xs : List (Option ℕ)) (found : IsMatch (program_of s) s.events u (view w.desk) m o method chord ms xs)
     (d : Desk Parcel) (same : IsSameDesk w.desk d) (f : ℕ) (qs : List Parcel) (fired : IsFired entries_of arguments_of (λ q. IsParcelOf q (space_code s) (space_limits s)) (program_of s) s.events (view w.desk) (view d) o chord ms f qs) where
   -- what was found was fired
-  pub found_fired : HasFired s (record w { desk = d }) (view w.desk) o chord ms f qs
-  found_fired = record {
+  pub found_fired : (list : Vec Entry Global) → list.items ≡ w.draws.items → HasFired s (record w { desk = d; draws = list }) (view w.desk) o chord ms f qs
+  found_fired list same_list = record {
     desk = same.0 ∙ minds.desk;
     told = minds.told;
     room = minds.room;
@@ -180,6 +187,7 @@ module _ (s : Space Parcel) (w : Worker) (m method : ℕ) (o : Object) (minds : 
     stock = minds.stock;
     spare = minds.spare;
     is_stock = minds.is_stock;
+    listed = lists_same w.draws.items list.items w.taken.items w.taken.items (view w.desk).draws (view w.desk).draws same_list refl refl minds.listed;
     duties = ap (λ (z : View). z.duties) fired.view ∙ duty_goes (view w.desk).duties m (key o method) ms minds.duty found.own;
     fired = fired;
   }
@@ -190,13 +198,13 @@ lost_looks v w same =
     let ds : w.duties ≡ v.duties = ap (λ (z : View). z.duties) same in
     record { frame = same ∙ ap (λ (es : List Duty). record v { duties = es; looked = w.looked }) (sym ds); duties = ap messages_and_bags ds }
 
--- what a worker has in memory is so where the run is full, and its task is laid down
-laid_down : (code : Parts) (limits : Limits) (es : List Entry) (spent : Bool) (done done' : List Entry) (t : Option Task) → IsInMemory code limits es spent done t → IsLaidDown done t done' → IsInMemory code limits es true done' None
-laid_down code limits es spent done done' None m l = subst (λ (x : List Entry). IsInMemory code limits es true x None) (sym l) record { rises = m.rises; told = m.told; played = tt; held = m.held; quiet = λ e. let z : true ≡ false = e in absurd (cc) }
-laid_down code limits es spent done done' (Some t) m l = subst (λ (x : List Entry). IsInMemory code limits es true x None) (sym l) (task_laid code limits es spent done t m)
+-- where the run is full, the task of a worker may be laid down
+laid_down : (code : Parts) (limits : Limits) (es : List Entry) (spent : Bool) (t : Option Task) → IsInMemory code limits es spent t → IsInMemory code limits es true None
+laid_down code limits es spent None m = record { rises = m.rises; told = m.told; played = tt; quiet = λ e. let z : true ≡ false = e in absurd (cc) }
+laid_down code limits es spent (Some t) m = task_laid code limits es spent t m
 
 module _ (s : Space Parcel) (w w' : Worker) (m k : ℕ) (minds : Minds s w m k) (same : IsSameDesk w.desk w'.desk) (view_is : view w'.desk ≡ record (view w.desk) { looked = (view w'.desk).looked; spent = true })
-    (task : w'.task ≡ None) (spent : w'.spent ≡ true) (stock : w'.spare ≡ w.spare) (done : IsLaidDown w.done w.task w'.done) where
+    (task : w'.task ≡ None) (spent : w'.spent ≡ true) (stock : w'.spare ≡ w.spare) (draws : w'.draws.items ≡ w.draws.items) (taken : w'.taken.items ≡ w.taken.items) where
   -- where the limit is reached, the worker is at rest once its task is laid down
   pub refused : IsAtRest s w'
   refused = record {
@@ -204,9 +212,10 @@ module _ (s : Space Parcel) (w w' : Worker) (m k : ℕ) (minds : Minds s w m k) 
     told = spent ∙ sym (ap (λ (z : View). z.spent) view_is);
     free = subst IsHandFree (sym view_is) (record { claims = minds.free.claims; flight = minds.free.flight; fresh = minds.free.fresh });
     duties = λ e. let z : true ≡ false = sym (ap (λ (z : View). z.spent) view_is) ∙ e in absurd (cc);
-    memory = subst (λ (z : View). IsInMemory (space_code s) (space_limits s) z.kept z.spent w'.done w'.task) (sym view_is)
-        (subst (λ (x : Option Task). IsInMemory (space_code s) (space_limits s) (view w.desk).kept true w'.done x) (sym task)
-        (laid_down (space_code s) (space_limits s) (view w.desk).kept false w.done w'.done w.task minds.memory done));
+    memory = subst (λ (z : View). IsInMemory (space_code s) (space_limits s) z.kept z.spent w'.task) (sym view_is)
+        (subst (λ (x : Option Task). IsInMemory (space_code s) (space_limits s) (view w.desk).kept true x) (sym task)
+        (laid_down (space_code s) (space_limits s) (view w.desk).kept false w.task minds.memory));
     goes_on = subst MayContinue (sym task) tt;
     stock = subst (IsStock (space_code s) (space_limits s)) (sym (stock ∙ minds.spare)) minds.is_stock;
+    listed = lists_same w.draws.items w'.draws.items w.taken.items w'.taken.items (view w.desk).draws (view w'.desk).draws draws taken (ap (λ (z : View). z.draws) view_is) minds.listed;
   }

@@ -1,6 +1,6 @@
 -- A firing's body begins in the task of the caller that it serves or in one in stock; then it is played, or posted.
-use Rattle.std.proofs.Common.{◌≡◌, ◌≢◌, ◌⊎◌, inl, inr, ⊎_elim, ℕ, ◌+◌, ◌-◌, ◌≤◌, length, Bool, true, false, ◌==◌, List, [], ◌∷◌, map, Option, Some, None, refl, sym, ap, ◌∙◌, subst, arith}
-use Rattle.std.specs.Prelude.{IsPermutation, is_some}
+use Rattle.std.proofs.Common.{◌≡◌, ◌≢◌, ◌⊎◌, inl, inr, ⊎_elim, ℕ, ◌+◌, ◌-◌, ◌≤◌, length, Bool, true, false, ◌==◌, List, [], ◌∷◌, map, Option, Some, None, refl, sym, ap, ◌∙◌, subst, arith, Vec, Global}
+use Rattle.std.specs.Prelude.{is_some}
 use Rattle.std.proofs.lemmas.Bool.{eq-eqb}
 use mathlib.Core.Path.{Path}
 use Rattle.chord_base.specs.declared.event.End.{End}
@@ -39,6 +39,7 @@ use Rattle.chord_task.specs.declared.parcel.Parcel.{Parcel}
 use Rattle.chord_task.specs.declared.task.Task.{Task}
 use Rattle.chord_task.specs.Arguments.{for_entry, AreTwice}
 use Rattle.chord_task.specs.Parcels.{entries_of, arguments_of}
+use Rattle.chord_task.specs.Past.{AddsOne}
 use Rattle.chord_task.specs.Stacks.{FitsCall, TopWaitsFor}
 use Rattle.chord_task.specs.Standing.{body_number, view_of, IsTop, HasRoomIf, IsResumable, IsTaskOf, MayResume, may_go, body_may_go, is_ready_of}
 use Rattle.chord_task.proofs.Tasks.{stack_at}
@@ -51,6 +52,7 @@ use Rattle.chord_worker.specs.Resting.{IsInMemory, IsStock, IsAtRest, IsSameRole
 use Rattle.chord_worker.proofs.Begun.{alone_both, alone_defined, called_both, called_defined}
 use Rattle.chord_worker.proofs.Fitting.{comes_waiting}
 use Rattle.chord_worker.proofs.Given.{one_top}
+use Rattle.chord_worker.proofs.Listed.{lists_same, lists_more, one_drawn}
 use Rattle.chord_worker.proofs.Parked.{below_parked, seen_there}
 use Rattle.chord_worker.proofs.Parts.{in_below}
 use Rattle.chord_worker.proofs.Unpacked.{HasNone, HasCaller, held_twice, one_caller, values_in}
@@ -192,8 +194,8 @@ module _ (s : Space Parcel) (w : Worker) (v : View) (o : Object) (k : ℕ) (ms :
         (one_caller (space_code s) (space_limits s) sound one o f (newest ∷ v.kept) fired.fired.methods ms qs (one o.class k fired.fired.methods fired.fired.is_chord) fired.fired.older fired.fired.coming)
 
   -- the body has begun in this task
-  pub has_begun : (stock : Option Task) → IsStock (space_code s) (space_limits s) stock → (t u : Task) → Fits t → IsTaskOf (space_code s) (space_limits s) u → (view_of u).past ≡ newest ∷ (view_of t).past → (view_of u).top ≡ Some f → HasBegun s (record w { spare = stock }) v f u
-  has_begun stock is_stock t u fits is past top = record {
+  pub has_begun : (stock : Option Task) → IsStock (space_code s) (space_limits s) stock → (t u : Task) → Fits t → IsTaskOf (space_code s) (space_limits s) u → (view_of u).past ≡ newest ∷ (view_of t).past → (view_of u).top ≡ Some f → (list : Vec Entry Global) → AddsOne t.past u.past w.draws.items list.items → HasBegun s (record w { spare = stock; draws = list }) v f u
+  has_begun stock is_stock t u fits is past top list one = record {
     desk = fired.desk;
     told = fired.told;
     room = fired.room;
@@ -201,6 +203,7 @@ module _ (s : Space Parcel) (w : Worker) (v : View) (o : Object) (k : ℕ) (ms :
     memory = fired.memory;
     goes_on = fired.goes_on;
     stock = is_stock;
+    listed = lists_more w.draws.items list.items w.taken.items w.taken.items v.draws (view w.desk).draws (one_drawn t.past u.past w.draws.items list.items v.draws (view w.desk).draws newest one past (ap (λ (z : View). z.draws) fired.fired.view)) refl fired.listed;
     duties = fired.duties;
     low = fired.fired.low;
     seen = fired.fired.view ∙ seen_kept;
@@ -212,9 +215,9 @@ module _ (s : Space Parcel) (w : Worker) (v : View) (o : Object) (k : ℕ) (ms :
     only = λ e i. only_entry (space_code s) (space_limits s) f k o ms values (view_of t).past fits.task.task.told fits.may.above e (subst (IsIn e) past i);
   }
     where
-      seen_kept : record v { kept = all_together (newest ∷ v.kept) (map entries_of qs); claims = []; unposted = f ∷ v.unposted; drawn = true; duties = drop_duties ms v.duties; looked = (view w.desk).looked }
-          ≡ record v { kept = (view w.desk).kept; claims = []; unposted = f ∷ v.unposted; drawn = true; duties = (view w.desk).duties; looked = (view w.desk).looked }
-      seen_kept = rw (kept_is, ap (λ (z : View). z.duties) fired.fired.view) refl
+      seen_kept : record v { kept = all_together (newest ∷ v.kept) (map entries_of qs); draws = newest ∷ v.draws; claims = []; unposted = f ∷ v.unposted; drawn = true; duties = drop_duties ms v.duties; looked = (view w.desk).looked }
+          ≡ record v { kept = (view w.desk).kept; draws = (view w.desk).draws; claims = []; unposted = f ∷ v.unposted; drawn = true; duties = (view w.desk).duties; looked = (view w.desk).looked }
+      seen_kept = rw (kept_is, ap (λ (z : View). z.draws) fired.fired.view, ap (λ (z : View). z.duties) fired.fired.view) refl
 
   -- what is left in stock is a task in stock, if there is one
   pub stock_left : (x : Option Task) → (x ≡ w.spare) ⊎ (x ≡ None) → IsStock (space_code s) (space_limits s) x
@@ -259,10 +262,10 @@ module _ (s : Space Parcel) (w : Worker) (v : View) (o : Object) (k : ℕ) (ms :
         subst (λ (vs : List value.Value). length vs ≤ 64) values_are within.3.few_values
 
     -- the body has begun in it
-    pub begun_there : (stock : Option Task) → (stock ≡ w.spare) ⊎ (stock ≡ None) → (u : Task) → IsTaskOf code t.limits u → (view_of u).past ≡ entry f f (Fired k o ms (laid (for_entry arguments))) ∷ (view_of t).past → (view_of u).top ≡ Some f → HasBegun s (record w { spare = stock }) v f u
-    begun_there stock left u is_task past top = has_begun stock (stock_left stock left) t u fits_task
+    pub begun_there : (stock : Option Task) → (stock ≡ w.spare) ⊎ (stock ≡ None) → (u : Task) → IsTaskOf code t.limits u → (view_of u).past ≡ entry f f (Fired k o ms (laid (for_entry arguments))) ∷ (view_of t).past → (view_of u).top ≡ Some f → (list : Vec Entry Global) → AddsOne t.past u.past w.draws.items list.items → HasBegun s (record w { spare = stock; draws = list }) v f u
+    begun_there stock left u is_task past top list one = has_begun stock (stock_left stock left) t u fits_task
         (subst (λ (l : Limits). IsTaskOf (space_code s) l u) fits_task.task.limited (subst (λ (c : Parts). IsTaskOf c t.limits u) same is_task))
-        (past ∙ ap (λ (vs : List value.Value). entry f f (Fired k o ms vs) ∷ (view_of t).past) (sym values_are)) top
+        (past ∙ ap (λ (vs : List value.Value). entry f f (Fired k o ms vs) ∷ (view_of t).past) (sym values_are)) top list one
 
 -- ## It is played, or posted
 
@@ -290,7 +293,7 @@ module _ (s : Space Parcel) (w : Worker) (v : View) (f : ℕ) (t : Task) (b : Ha
   -- a worker without a task plays it
   pub rest_played : w.task ≡ None → IsAtRest s (record w { task = Some t })
   rest_played none =
-      let m : IsInMemory (space_code s) (space_limits s) v.kept false w.done None = subst (IsInMemory (space_code s) (space_limits s) v.kept false w.done) none b.memory in
+      let m : IsInMemory (space_code s) (space_limits s) v.kept false None = subst (IsInMemory (space_code s) (space_limits s) v.kept false) none b.memory in
       record {
         desk = b.desk;
         told = b.told ∙ sym (ap (λ (z : View). z.spent) b.seen ∙ b.room);
@@ -300,11 +303,11 @@ module _ (s : Space Parcel) (w : Worker) (v : View) (f : ℕ) (t : Task) (b : Ha
           rises = b.both.rises;
           told = b.both.told;
           played = (b.task, b.both.goes);
-          held = subst (IsPermutation w.done) (sym b.both.left) m.held;
           quiet = λ e. subst (AreQuiet (program_of s)) (sym b.both.left) (m.quiet refl);
         };
         goes_on = b.ready;
         stock = b.stock;
+        listed = b.listed;
       }
 
   module _ (d : Desk Parcel) (same : IsSameDesk w.desk d) (es : List Entry) (is : es ≡ (view_of t).past) (x : Word) (post : view d ≡ saw (posted (posting (view w.desk) f) es) f x) where
@@ -323,10 +326,11 @@ module _ (s : Space Parcel) (w : Worker) (v : View) (f : ℕ) (t : Task) (b : Ha
         fresh = ap (λ (z : View). z.fresh) post ∙ ap (λ (z : View). z.fresh) b.seen ∙ b.free.fresh;
       };
       duties = λ e. ap (λ (z : View). z.duties) post ∙ b.duties;
-      memory = subst (λ (h : List Entry). IsInMemory (space_code s) (space_limits s) h (view d).spent w.done w.task) (sym kept_posted)
-          (subst (λ (y : Bool). IsInMemory (space_code s) (space_limits s) v.kept y w.done w.task) (sym spent) b.memory);
+      memory = subst (λ (h : List Entry). IsInMemory (space_code s) (space_limits s) h (view d).spent w.task) (sym kept_posted)
+          (subst (λ (y : Bool). IsInMemory (space_code s) (space_limits s) v.kept y w.task) (sym spent) b.memory);
       goes_on = b.goes_on;
       stock = b.stock;
+      listed = lists_same w.draws.items w.draws.items w.taken.items w.taken.items (view w.desk).draws (view d).draws refl refl (ap (λ (z : View). z.draws) post) b.listed;
     }
       where
         spent : (view d).spent ≡ false

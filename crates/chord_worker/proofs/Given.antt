@@ -20,13 +20,15 @@ use Rattle.chord_space.specs.Ruled.{IsOfCode}
 use Rattle.chord_task.specs.declared.parcel.Parcel.{Parcel}
 use Rattle.chord_task.specs.declared.task.Task.{Task}
 use Rattle.chord_task.specs.Stacks.{TaskView, IsNext, StaysDefined}
+use Rattle.chord_task.specs.Past.{AddsOne}
 use Rattle.chord_task.specs.Standing.{view_of, IsTaskOf}
 use Rattle.chord_task.specs.Turning.{RunsOn, MaySettle, HasSettled, HasCome}
 use Rattle.chord_vm.specs.declared.ask.Ask.{Ask}
 use Rattle.chord_vm.specs.Frames.{what_of_ask}
 use Rattle.chord_worker.specs.declared.worker.Worker.{Worker}
-use Rattle.chord_worker.specs.Playing.{IsNotedAs, WasToldFull}
+use Rattle.chord_worker.specs.Playing.{DrawsOne, IsNotedAs}
 use Rattle.chord_worker.specs.Resting.{IsInMemory, MayContinue, IsStock, IsAtRest}
+use Rattle.chord_worker.proofs.Listed.{one_drawn}
 use Rattle.chord_worker.proofs.Memory.{asks_at_desk, noted_defined, noted_below, noted}
 
 -- ## The ask
@@ -57,6 +59,11 @@ module _ (code : Parts) (limits : Limits) (t u : Task) (w : What) (came : HasCom
   pub came_runs : RunsOn u.top
   came_runs = (came.asked.body, came.asked.on_top, came.asked.runs)
 
+  -- the list of what the desk drew got the task's entry
+  pub noted_one : (v v' : View) (n : ℕ) (t' : Task) (noted : IsNotedAs code limits v v' t t' n w) (list list' : List Entry) → AddsOne u.past t'.past list list' → DrawsOne v.draws v'.draws list list'
+  noted_one v v' n t' noted list list' one = one_drawn u.past t'.past list list' v.draws v'.draws (entry n noted.body w) one
+      (noted.past ∙ ap (λ (x : TaskView). entry n noted.body w ∷ x.past) (sym came.view)) (ap (λ (z : View). z.draws) noted.drawn)
+
   module _ (b : ℕ) (top : (view_of u).top ≡ Some b) where
     -- that body was on top before
     top_before : (view_of t).top ≡ Some b
@@ -66,10 +73,10 @@ module _ (code : Parts) (limits : Limits) (t u : Task) (w : What) (came : HasCom
     asks_next : Asks (code_program code limits) (view_of t).past b w
     asks_next = next_asks (code_program code limits) (view_of t) w came.next b top_before
 
-    module _ (es : List Entry) (done : List Entry) (m : IsInMemory code limits es false done (Some t)) where
+    module _ (es : List Entry) (m : IsInMemory code limits es false (Some t)) where
       -- the desk may draw it
       pub may_draw : Asks (code_program code limits) es b w
-      may_draw = asks_at_desk code limits es false done t m b w asks_next
+      may_draw = asks_at_desk code limits es false t m b w asks_next
 
       -- and what its bodies do with it is defined
       pub came_may_settle : IsSound (code_program code limits) → (n : ℕ) → AllBelow n es → IsPlace (code_program code limits) (entry n b w ∷ es) → MaySettle code u n w
@@ -77,8 +84,8 @@ module _ (code : Parts) (limits : Limits) (t u : Task) (w : What) (came : HasCom
         stays = subst (λ (l : Limits). StaysDefined (code_program code l) (view_of u) n w) (sym came.limited)
             (subst (λ (v : TaskView). StaysDefined (code_program code limits) v n w) (sym came.view)
             (λ c at i. subst (λ (k : ℕ). IsDefined (code_program code limits) (doing (code_program code limits) (entry n k w ∷ (view_of t).past) i)) (one_top (view_of t).top b c top_before at)
-            (noted_defined code limits es false done t m n b w below came.next.own asks_next sound place.run place.view place.merged place.place place.is i)));
-        above = subst (λ (v : TaskView). AllBelow n v.past) (sym came.view) (noted_below code limits es false done t m n b w below came.next.own asks_next);
+            (noted_defined code limits es false t m n b w below came.next.own asks_next sound place.run place.view place.merged place.place place.is i)));
+        above = subst (λ (v : TaskView). AllBelow n v.past) (sym came.view) (noted_below code limits es false t m n b w below came.next.own asks_next);
       }
 
     -- the ask became an entry of the desk and of the task
@@ -92,7 +99,7 @@ module _ (code : Parts) (limits : Limits) (t u : Task) (w : What) (came : HasCom
       task = is_task;
       past = past;
       top = λ e. settled.top e ∙ top;
-      memory = λ spent done k. noted code limits v.kept spent done t k n b w below came.next.own asks_next t' is_task past;
+      memory = λ spent k. noted code limits v.kept spent t k n b w below came.next.own asks_next t' is_task past;
       named = named;
       of_code = of_code;
     }
@@ -103,10 +110,6 @@ module _ (code : Parts) (limits : Limits) (t u : Task) (w : What) (came : HasCom
         past : (view_of t').past ≡ entry n b w ∷ (view_of t).past
         past = settled.noted.2 ∙ ap (λ (k : ℕ). entry n k w ∷ (view_of u).past) (one_top (view_of u).top settled.noted.0 b settled.noted.1 top) ∙ ap (λ (v : TaskView). entry n b w ∷ v.past) came.view
 
-  -- the desk was told that the limit is reached, and the task has done what it had
-  pub told_full : (v v' : View) (u' : Task) → WasToldFull v v' u u' → WasToldFull v v' t u'
-  told_full v v' u' told = record { told = told.told; past = told.past ∙ came.past }
-
 -- ## The stock
 
 -- a worker with its task, and with what is in stock
@@ -116,9 +119,10 @@ stocked_rest s w t stock r task in_stock = record {
   told = r.told;
   free = r.free;
   duties = r.duties;
-  memory = subst (λ (x : Option Task). IsInMemory (space_code s) (space_limits s) (view w.desk).kept (view w.desk).spent w.done x) task r.memory;
+  memory = subst (λ (x : Option Task). IsInMemory (space_code s) (space_limits s) (view w.desk).kept (view w.desk).spent x) task r.memory;
   goes_on = subst MayContinue task r.goes_on;
   stock = in_stock;
+  listed = r.listed;
 }
 
 -- the stock is one of the space's code and limits

@@ -1,8 +1,6 @@
 -- How what a worker has in memory changes.
 use Rattle.std.proofs.Common.{◌≡◌, ℕ, Bool, true, false, not, ◌==◌, ◌||◌, ◌++◌, List, [], ◌∷◌, Option, Some, None, IsSome, reverse, refl, sym, ap, ◌∙◌, subst, inl, inr, arith, if◌then◌else◌}
 use Rattle.std.proofs.lemmas.Bool.{eq-eqb, eqb-true, eqb-false, ne_eqb}
-use Rattle.std.proofs.lemmas.List.Sorted.{IsPermutation-refl, IsPermutation-cons, IsPermutation-trans, IsPermutation-append, IsPermutation-middle, IsPermutation-reverse}
-use Rattle.std.specs.Prelude.{IsPermutation}
 use mathlib.Core.Path.{Path}
 use Rattle.chord_base.specs.declared.event.What.{What}
 use Rattle.chord_base.specs.declared.event.Entry.{Entry}
@@ -65,21 +63,6 @@ left_above ps e es below = rw (eq-eqb e.number e.number refl)
     (kept_agree (λ n. not ((e.number == n) || is_among ps n)) (λ n. not (is_among ps n)) es
     (λ x i. let l = in_below e.number es x below i in ap (λ (b : Bool). not (b || is_among ps x.number)) (ne_eqb e.number x.number (λ q. omega (arith, q, l)))))
 
--- a part and the rest are all, in another order
-pub both_parts : (f : ℕ → Bool) (h : List Entry) → IsPermutation (kept (λ n. not (f n)) h ++ kept f h) h
-both_parts f [] = IsPermutation-refl []
-both_parts f (e ∷ h) =
-    let before = both_parts f h in
-    elim (either (f e.number)) [
-      | inl y ↦ rw y (IsPermutation-trans (kept (λ n. not (f n)) h ++ e ∷ kept f h) (e ∷ (kept (λ n. not (f n)) h ++ kept f h)) (e ∷ h)
-          (IsPermutation-middle (kept (λ n. not (f n)) h) e (kept f h)) (IsPermutation-cons e (kept (λ n. not (f n)) h ++ kept f h) h before))
-      | inr o ↦ rw o (IsPermutation-cons e (kept (λ n. not (f n)) h ++ kept f h) h before)
-    ]
-
--- what goes and what stays are all, in another order
-pub gone_and_left : (p : Program) (es ps : List Entry) → MayGo p es ps → IsPermutation (left_by ps es ++ ps) es
-gone_and_left p es ps may = subst (λ (qs : List Entry). IsPermutation (left_by ps es ++ qs) es) may.part (both_parts (is_among ps) es)
-
 -- ## Tasks
 
 -- a body on top that may not go on is quiet
@@ -120,7 +103,7 @@ task_quiet code limits t is over b = cases (view_of t).top refl
 
 -- ## What is in memory
 
-module _ (code : Parts) (limits : Limits) (es : List Entry) (spent : Bool) (done : List Entry) (t : Task) (m : IsInMemory code limits es spent done (Some t)) where
+module _ (code : Parts) (limits : Limits) (es : List Entry) (spent : Bool) (t : Task) (m : IsInMemory code limits es spent (Some t)) where
   -- the program that is played
   abbrev p : Program
   p = code_program code limits
@@ -133,19 +116,12 @@ module _ (code : Parts) (limits : Limits) (es : List Entry) (spent : Bool) (done
   pub asks_at_desk : (b : ℕ) (w : What) → Asks p (view_of t).past b w → Asks p es b w
   asks_at_desk b w a = part_asks p (two (left_by (view_of t).past es) (view_of t).past) es parts_of 1 b w a
 
-  -- what was done and the past of the task are all, in another order
-  all_done : IsPermutation (done ++ t.past.items) es
-  all_done = IsPermutation-trans (done ++ t.past.items) (left_by (view_of t).past es ++ (view_of t).past) es
-      (IsPermutation-append done (left_by (view_of t).past es) t.past.items (view_of t).past m.held (IsPermutation-reverse t.past.items))
-      (gone_and_left p es (view_of t).past m.played.1)
-
-  -- the past of a task that may not go on is done
-  pub task_done : is_ready_of t ≡ false → IsInMemory code limits es spent (done ++ t.past.items) None
+  -- a task that may not go on is quiet
+  pub task_done : is_ready_of t ≡ false → IsInMemory code limits es spent None
   task_done over = record {
     rises = m.rises;
     told = m.told;
     played = tt;
-    held = all_done;
     quiet = λ s. parts_quiet p (two (left_by (view_of t).past es) (view_of t).past) es parts_of
         (λ c. elim (either (c == 0)) [
           | inl y ↦ rw y (m.quiet s)
@@ -153,13 +129,12 @@ module _ (code : Parts) (limits : Limits) (es : List Entry) (spent : Bool) (done
         ]);
   }
 
-  -- where the run is full, the past of any task is done
-  pub task_laid : IsInMemory code limits es true (done ++ t.past.items) None
+  -- where the run is full, any task may be laid down
+  pub task_laid : IsInMemory code limits es true None
   task_laid = record {
     rises = m.rises;
     told = m.told;
     played = tt;
-    held = all_done;
     quiet = λ s. let z : true ≡ false = s in absurd (cc);
   }
 
@@ -179,12 +154,11 @@ module _ (code : Parts) (limits : Limits) (es : List Entry) (spent : Bool) (done
         (subst (IsStory p) (s.3 ∙ noted_parts.keeps 1) (merged_story p s.0 h sound s.2 s.1)).is_defined c
 
     -- the task with the entry is in memory
-    pub noted : (t' : Task) → IsTaskOf code limits t' → (view_of t').past ≡ entry n b w ∷ (view_of t).past → IsInMemory code limits (entry n b w ∷ es) spent done (Some t')
+    pub noted : (t' : Task) → IsTaskOf code limits t' → (view_of t').past ≡ entry n b w ∷ (view_of t).past → IsInMemory code limits (entry n b w ∷ es) spent (Some t')
     noted t' is past = record {
       rises = (below, m.rises);
       told = parts_told p (grown (two (left_by (view_of t).past es) (view_of t).past) 1 (entry n b w)) (entry n b w ∷ es) noted_parts;
       played = (is, subst (MayGo p (entry n b w ∷ es)) (sym past) (part_goes p (grown (two (left_by (view_of t).past es) (view_of t).past) 1 (entry n b w)) (entry n b w ∷ es) noted_parts 1));
-      held = subst (IsPermutation done) (sym same) m.held;
       quiet = λ s. subst (AreQuiet p) (sym same) (m.quiet s);
     }
       where

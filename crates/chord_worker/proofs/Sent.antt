@@ -21,10 +21,11 @@ use Rattle.chord_task.specs.declared.parcel.Parcel.{Parcel}
 use Rattle.chord_task.specs.declared.task.Task.{Task}
 use Rattle.chord_task.specs.Standing.{view_of}
 use Rattle.chord_worker.specs.declared.worker.Worker.{Worker}
-use Rattle.chord_worker.specs.Playing.{IsNotedAs}
+use Rattle.chord_worker.specs.Playing.{DrawsOne, IsNotedAs}
 use Rattle.chord_worker.specs.Resting.{IsInMemory, MayContinue, IsStock, IsStockTask, IsAtRest, IsSameRole}
 use Rattle.chord_worker.specs.Sending.{IsSentOff, Minds}
 use Rattle.chord_worker.proofs.Attending.{role_on}
+use Rattle.chord_worker.proofs.Listed.{lists_same, lists_more}
 use Rattle.chord_worker.proofs.Parked.{letter_links, call_links}
 use Rattle.chord_worker.proofs.Parts.{all_kept, kept_rises}
 
@@ -38,12 +39,11 @@ pub alone_gone : (n : ℕ) → without n (n ∷ []) ≡ []
 alone_gone n = rw (eq-eqb n n refl) refl
 
 -- where a task's past has gone, the rest is in memory
-pub task_gone : (code : Parts) (limits : Limits) (es : List Entry) (spent : Bool) (done : List Entry) (t : Task) → IsInMemory code limits es spent done (Some t) → IsInMemory code limits (left_by (view_of t).past es) spent done None
-task_gone code limits es spent done t m = record {
+pub task_gone : (code : Parts) (limits : Limits) (es : List Entry) (spent : Bool) (t : Task) → IsInMemory code limits es spent (Some t) → IsInMemory code limits (left_by (view_of t).past es) spent None
+task_gone code limits es spent t m = record {
   rises = kept_rises (λ n. not (is_among (view_of t).past n)) es m.rises;
   told = m.played.1.stays;
   played = tt;
-  held = m.held;
   quiet = m.quiet;
 }
 
@@ -52,35 +52,35 @@ module _ (s : Space Parcel) (w : Worker) (t : Task) (r : IsAtRest s (record w { 
     -- the message may be linked with a letter
     pub letter_may : MayLink (program_of s) v n o j [] vs
     letter_may = subst (λ (z : View). MayLink (program_of s) z n o j [] vs) (sym noted.drawn)
-        (letter_links (program_of s) (view w.desk) r.free n noted.body noted.below o j vs (noted.memory (view w.desk).spent w.done r.memory).told)
+        (letter_links (program_of s) (view w.desk) r.free n noted.body noted.below o j vs (noted.memory (view w.desk).spent r.memory).told)
 
     -- what is in memory once it was sent
-    pub letter_memory : (u : View) (k : ℕ) → IsSentOff v u n k [] → IsInMemory (space_code s) (space_limits s) u.kept (view w.desk).spent w.done (Some t')
-    letter_memory u k sent = subst (λ (es : List Entry). IsInMemory (space_code s) (space_limits s) es (view w.desk).spent w.done (Some t'))
-        (sym (sent.kept ∙ all_kept v.kept ∙ ap (λ (z : View). z.kept) noted.drawn)) (noted.memory (view w.desk).spent w.done r.memory)
+    pub letter_memory : (u : View) (k : ℕ) → IsSentOff v u n k [] → IsInMemory (space_code s) (space_limits s) u.kept (view w.desk).spent (Some t')
+    letter_memory u k sent = subst (λ (es : List Entry). IsInMemory (space_code s) (space_limits s) es (view w.desk).spent (Some t'))
+        (sym (sent.kept ∙ all_kept v.kept ∙ ap (λ (z : View). z.kept) noted.drawn)) (noted.memory (view w.desk).spent r.memory)
 
   module _ (o : Object) (j : ℕ) (vs : List value.Value) (noted : IsNotedAs (space_code s) (space_limits s) (view w.desk) v t t' n (Called o j vs)) where
     -- the call may be linked with its task
     pub task_may : MayLink (program_of s) v n o j (view_of t').past vs
     task_may = subst (λ (z : View). MayLink (program_of s) z n o j (view_of t').past vs) (sym noted.drawn)
         (call_links (program_of s) (view w.desk) r.free n noted.body noted.below o j vs (view_of t') noted.task.task noted.task.is_defined (view_of t).past noted.past (noted.top refl) noted.asks
-        (noted.memory (view w.desk).spent w.done r.memory).played.1)
+        (noted.memory (view w.desk).spent r.memory).played.1)
 
     -- a body of the task is left
     pub task_left : (view_of t').top ≢ None
     task_left e = let z : Path (Option ℕ) None (Some noted.body) = sym e ∙ noted.top refl in cc
 
     -- what is in memory once it was sent
-    pub task_memory : (u : View) (k : ℕ) → IsSentOff v u n k (view_of t').past → IsInMemory (space_code s) (space_limits s) u.kept (view w.desk).spent w.done None
-    task_memory u k sent = subst (λ (es : List Entry). IsInMemory (space_code s) (space_limits s) es (view w.desk).spent w.done None)
+    pub task_memory : (u : View) (k : ℕ) → IsSentOff v u n k (view_of t').past → IsInMemory (space_code s) (space_limits s) u.kept (view w.desk).spent None
+    task_memory u k sent = subst (λ (es : List Entry). IsInMemory (space_code s) (space_limits s) es (view w.desk).spent None)
         (sym (sent.kept ∙ ap (λ (z : View). left_by (view_of t').past z.kept) noted.drawn))
-        (task_gone (space_code s) (space_limits s) (entry n noted.body (Called o j vs) ∷ (view w.desk).kept) (view w.desk).spent w.done t' (noted.memory (view w.desk).spent w.done r.memory))
+        (task_gone (space_code s) (space_limits s) (entry n noted.body (Called o j vs) ∷ (view w.desk).kept) (view w.desk).spent t' (noted.memory (view w.desk).spent r.memory))
 
   module _ (what : What) (noted : IsNotedAs (space_code s) (space_limits s) (view w.desk) v t t' n what) (message : fresh_after n what [] ≡ n ∷ []) (room : (view w.desk).spent ≡ false) (stock : w.spare ≢ None)
       (w' : Worker) (k : ℕ) (es : List Entry) (sent : IsSentOff v (view w'.desk) n k es) (same : IsSameDesk w.desk w'.desk) (spare : w'.spare ≡ w.spare) (spent : w'.spent ≡ w.spent) where
     -- the worker minds the message
-    pub now_minds : IsInMemory (space_code s) (space_limits s) (view w'.desk).kept (view w.desk).spent w'.done w'.task → MayContinue w'.task → Minds s w' n k
-    now_minds memory goes_on = let x = in_stock (space_code s) (space_limits s) w.spare r.stock stock in record {
+    pub now_minds : IsInMemory (space_code s) (space_limits s) (view w'.desk).kept (view w.desk).spent w'.task → MayContinue w'.task → DrawsOne (view w.desk).draws v.draws w.draws.items w'.draws.items → w'.taken.items ≡ w.taken.items → Minds s w' n k
+    now_minds memory goes_on one taken = let x = in_stock (space_code s) (space_limits s) w.spare r.stock stock in record {
       desk = same.0 ∙ r.desk;
       told = spent ∙ r.told ∙ room;
       room = sent.spent ∙ ap (λ (z : View). z.spent) noted.drawn ∙ room;
@@ -90,11 +90,12 @@ module _ (s : Space Parcel) (w : Worker) (t : Task) (r : IsAtRest s (record w { 
         fresh = sent.fresh ∙ ap (λ (z : View). without n z.fresh) noted.drawn ∙ ap (λ (xs : List ℕ). without n (fresh_after n what xs)) r.free.fresh ∙ ap (without n) message ∙ alone_gone n;
       };
       duty = ap messages_and_bags (sent.duties ∙ ap (λ (z : View). duty_on n k ∷ z.duties) noted.drawn ∙ ap (λ (ds : List Duty). duty_on n k ∷ ds) (r.duties room));
-      memory = subst (λ (b : Bool). IsInMemory (space_code s) (space_limits s) (view w'.desk).kept b w'.done w'.task) room memory;
+      memory = subst (λ (b : Bool). IsInMemory (space_code s) (space_limits s) (view w'.desk).kept b w'.task) room memory;
       goes_on = goes_on;
       stock = x.0;
       spare = spare ∙ x.1;
       is_stock = x.2;
+      listed = lists_same w'.draws.items w'.draws.items w'.taken.items w'.taken.items v.draws (view w'.desk).draws refl refl sent.draws (lists_more w.draws.items w'.draws.items w.taken.items w'.taken.items (view w.desk).draws v.draws one taken r.listed);
     }
 
     -- and has its role still

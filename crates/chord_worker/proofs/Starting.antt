@@ -1,5 +1,5 @@
 -- A worker that begins: the first one with `Main`, another one with nothing, and one that starts a firing.
-use Rattle.std.proofs.Common.{◌≡◌, ℕ, Bool, true, false, not, ◌==◌, List, [], ◌∷◌, Option, Some, None, IsSome, reverse, refl, sym, ap, ◌∙◌, subst, inl, inr, ⊎_elim, arith, if◌then◌else◌}
+use Rattle.std.proofs.Common.{◌≡◌, ℕ, Bool, true, false, not, ◌==◌, ◌++◌, List, [], ◌∷◌, Option, Some, None, IsSome, reverse, refl, sym, ap, ◌∙◌, subst, inl, inr, ⊎_elim, arith, if◌then◌else◌}
 use Rattle.std.proofs.lemmas.Bool.{eq-eqb, eqb-true, eqb-false, ne_eqb}
 use Rattle.std.specs.Prelude.{IsPermutation}
 use mathlib.Core.Path.{Path}
@@ -36,7 +36,7 @@ use Rattle.chord_task.specs.declared.task.Task.{Task}
 use Rattle.chord_task.specs.Parcels.{past_in, TaskIn, entries_of, IsParcelOf}
 use Rattle.chord_task.specs.Standing.{view_of, body_number, may_go, body_may_go, is_ready_of, IsTop, IsBodyStack, IsTaskOf, MainBegins}
 use Rattle.chord_worker.specs.Parted.{IsParted, with_part, two}
-use Rattle.chord_worker.specs.Resting.{IsInMemory, MayContinue, IsHandFree, IsAtRest, IsSameRole}
+use Rattle.chord_worker.specs.Resting.{IsInMemory, MayContinue, IsHandFree, IsAtRest, IsSameRole, all_in}
 use Rattle.chord_worker.specs.Stepping.{PlaysFiring}
 use Rattle.chord_worker.proofs.Parts.{kept_agree, kept_nothing, all_kept, none_kept, left_is, part_goes, part_came, parts_told}
 
@@ -208,13 +208,12 @@ left_other p part es m a b apart none =
         ]
 
 -- what comes with a firing is in memory with the task that came
-pub started_memory : (code : Parts) (limits : Limits) (es : List Entry) (done : List Entry) (t : Task) → IsInMemory code limits es false done None → IsTaskOf code limits t → ArePlaces (code_program code limits) es (view_of t).past
-    → IsInMemory code limits (together es (view_of t).past) false done (Some t)
-started_memory code limits es done t m is places = record {
+pub started_memory : (code : Parts) (limits : Limits) (es : List Entry) (t : Task) → IsInMemory code limits es false None → IsTaskOf code limits t → ArePlaces (code_program code limits) es (view_of t).past
+    → IsInMemory code limits (together es (view_of t).past) false (Some t)
+started_memory code limits es t m is places = record {
   rises = parted.rises;
   told = parts_told p (with_part (two es []) 1 ps) (together es ps) parted;
   played = (is, part_goes p (with_part (two es []) 1 ps) (together es ps) parted 1);
-  held = subst (IsPermutation done) (sym left) m.held;
   quiet = λ e. subst (AreQuiet p) (sym left) (m.quiet e);
 }
   where
@@ -237,28 +236,29 @@ some_task None f b = absurd b.1
 some_task (Some t) f b = (t, refl)
 
 -- what a firing's parcel brings is in memory with its task, which may go on
-started_with : (code : Parts) (limits : Limits) (es : List Entry) (done : List Entry) (x : Option Task) (f : ℕ) → IsInMemory code limits es false done None → TaskIn code limits x → ComesWithFiring (code_program code limits) es f (past_in x)
-    → IsInMemory code limits (together es (past_in x)) false done x × MayContinue x
-started_with code limits es done None f m keeps comes = absurd comes.begins.1
-started_with code limits es done (Some t) f m keeps comes = (started_memory code limits es done t m keeps.0 comes.places, started_goes code limits t keeps.0 f comes.begins comes.only)
+started_with : (code : Parts) (limits : Limits) (es : List Entry) (x : Option Task) (f : ℕ) → IsInMemory code limits es false None → TaskIn code limits x → ComesWithFiring (code_program code limits) es f (past_in x)
+    → IsInMemory code limits (together es (past_in x)) false x × MayContinue x
+started_with code limits es None f m keeps comes = absurd comes.begins.1
+started_with code limits es (Some t) f m keeps comes = (started_memory code limits es t m keeps.0 comes.places, started_goes code limits t keeps.0 f comes.begins comes.only)
 
 module _ (s : Space Parcel) (w : Worker) (r : IsAtRest s w) (none : w.task ≡ None) (room : (view w.desk).spent ≡ false) (d : Desk Parcel) (same : IsSameDesk w.desk d) (q : Parcel) (f : ℕ) (c : Word)
     (view_is : view d ≡ played (saw (firing_started (view w.desk) f (entries_of q)) f c)) (keeps : IsParcelOf q (space_code s) (space_limits s)) (comes : ComesWithFiring (program_of s) (view w.desk).kept f (entries_of q)) where
   -- a worker that started a firing is at rest
   pub rest_started : IsAtRest s (record w { desk = d; task = q.task })
   rest_started =
-      let memory : IsInMemory (space_code s) (space_limits s) (view w.desk).kept false w.done None = subst (λ (x : Option Task). IsInMemory (space_code s) (space_limits s) (view w.desk).kept false w.done x) none
-      (subst (λ (b : Bool). IsInMemory (space_code s) (space_limits s) (view w.desk).kept b w.done w.task) room r.memory) in
-      let with_it = started_with (space_code s) (space_limits s) (view w.desk).kept w.done q.task f memory keeps.1 comes in
+      let memory : IsInMemory (space_code s) (space_limits s) (view w.desk).kept false None = subst (λ (x : Option Task). IsInMemory (space_code s) (space_limits s) (view w.desk).kept false x) none
+      (subst (λ (b : Bool). IsInMemory (space_code s) (space_limits s) (view w.desk).kept b w.task) room r.memory) in
+      let with_it = started_with (space_code s) (space_limits s) (view w.desk).kept q.task f memory keeps.1 comes in
       let spent : (view d).spent ≡ false = ap (λ (z : View). z.spent) view_is ∙ room in record {
         desk = same.0 ∙ r.desk;
         told = r.told ∙ room ∙ sym spent;
         free = subst IsHandFree (sym view_is) (record { claims = r.free.claims; flight = r.free.flight; fresh = r.free.fresh });
         duties = λ e. ap (λ (z : View). z.duties) view_is ∙ r.duties room;
-        memory = subst (λ (b : Bool). IsInMemory (space_code s) (space_limits s) (view d).kept b w.done q.task) (sym spent)
-            (subst (λ (es : List Entry). IsInMemory (space_code s) (space_limits s) es false w.done q.task) (sym (ap (λ (z : View). z.kept) view_is)) with_it.0);
+        memory = subst (λ (b : Bool). IsInMemory (space_code s) (space_limits s) (view d).kept b q.task) (sym spent)
+            (subst (λ (es : List Entry). IsInMemory (space_code s) (space_limits s) es false q.task) (sym (ap (λ (z : View). z.kept) view_is)) with_it.0);
         goes_on = with_it.1;
         stock = r.stock;
+        listed = subst (IsPermutation (w.draws.items ++ all_in w.taken.items)) (sym (ap (λ (z : View). z.draws) view_is)) r.listed;
       }
 
   -- and has its role still

@@ -1,9 +1,7 @@
 -- Two desks become one: what both keep is what each kept, and it is quiet if both were.
 use Rattle.std.proofs.Common.{◌≡◌, ℕ, ◌<◌, ltb, Bool, true, false, not, ◌==◌, ◌||◌, ◌++◌, List, [], ◌∷◌, map, Option, None, refl, sym, ap, ap₂, ◌∙◌, subst, ◌⊎◌, inl, inr, ⊎_elim, arith, if◌then◌else◌}
 use Rattle.std.proofs.lemmas.Bool.{eqb-true, lt-ltb, le-ltb}
-use Rattle.std.proofs.lemmas.List.Sorted.{IsPermutation-refl, IsPermutation-cons, IsPermutation-trans, IsPermutation-append, IsPermutation-append_left, IsPermutation-middle}
 use Rattle.std.proofs.lemmas.List.{append-nil}
-use Rattle.std.specs.Prelude.{IsPermutation}
 use Rattle.chord_base.specs.declared.event.Entry.{Entry}
 use Rattle.chord_base.specs.Meaning.{Program}
 use Rattle.chord_base.specs.Story.{kept, IsTold, IsRising, IsIn, AllBelow, insert, together}
@@ -25,25 +23,10 @@ use Rattle.chord_worker.specs.declared.worker.Worker.{Worker}
 use Rattle.chord_worker.specs.Resting.{IsInMemory, MayContinue, IsHandFree, IsStock, IsAtRest}
 use Rattle.chord_worker.specs.Parted.{two}
 use Rattle.chord_worker.proofs.Parts.{kept_agree, kept_nothing, all_kept, kept_rises, among_in, in_below, parts_quiet}
+use Rattle.chord_worker.proofs.Listed.{lists_same, lists_united}
 use Rattle.chord_worker.proofs.Memory.{two_parted}
 
 -- ## One entry more
-
--- an inserted entry and the others are all, in another order
-insert_all : (e : Entry) (h : List Entry) → IsPermutation (e ∷ h) (insert e h)
-insert_all e [] = IsPermutation-refl (e ∷ [])
-insert_all e (x ∷ h) =
-    elim (either (ltb x.number e.number)) [
-      | inl y ↦ rw y (IsPermutation-refl (e ∷ x ∷ h))
-      | inr o ↦ rw o (IsPermutation-trans (e ∷ x ∷ h) (x ∷ e ∷ h) (x ∷ insert e h) (IsPermutation-middle (e ∷ []) x h) (IsPermutation-cons x (e ∷ h) (insert e h) (insert_all e h)))
-    ]
-
--- two histories together have the entries of both
-pub together_all : (h g : List Entry) → IsPermutation (h ++ g) (together h g)
-together_all h [] = subst (λ (z : List Entry). IsPermutation z h) (sym (append-nil h)) (IsPermutation-refl h)
-together_all h (e ∷ g) = IsPermutation-trans (h ++ e ∷ g) (insert e h ++ g) (together (insert e h) g)
-    (IsPermutation-trans (h ++ e ∷ g) (e ∷ (h ++ g)) (insert e h ++ g) (IsPermutation-middle h e g) (IsPermutation-append_left g (e ∷ h) (insert e h) (insert_all e h)))
-    (together_all (insert e h) g)
 
 -- an inserted entry is there, and so are the others
 insert_in : (e x : Entry) (h : List Entry) → (x ≡ e) ⊎ IsIn x h → IsIn x (insert e h)
@@ -208,14 +191,14 @@ pub place_told : (p : Program) (es : List Entry) → IsPlace p es → IsTold p e
 place_told p es place = subst (IsTold p) place.is (place.merged.told place.place)
 
 module _ (s : Space Parcel) (w o : Worker) (mine : IsAtRest s w) (others : IsAtRest s o) (no_task : w.task ≡ None) (none_there : o.task ≡ None) (d : Desk Parcel) (same : IsSameDesk w.desk d) (view_is : view d ≡ united (view w.desk) (view o.desk)) (place : IsPlace (program_of s) (view d).kept)
-    (w' : Worker) (desk : w'.desk ≡ d) (task : w'.task ≡ w.task) (spare : w'.spare ≡ w.spare) (spent : w'.spent ≡ w.spent || o.spent) (done : w'.done ≡ w.done ++ o.done) where
+    (w' : Worker) (desk : w'.desk ≡ d) (task : w'.task ≡ w.task) (spare : w'.spare ≡ w.spare) (spent : w'.spent ≡ w.spent || o.spent) (draws : w'.draws.items ≡ w.draws.items) (taken : w'.taken.items ≡ (w.taken.items ++ o.draws ∷ []) ++ o.taken.items) where
   -- what the first one had in memory
-  first_memory : IsInMemory (space_code s) (space_limits s) (view w.desk).kept (view w.desk).spent w.done None
-  first_memory = subst (λ (x : Option Task). IsInMemory (space_code s) (space_limits s) (view w.desk).kept (view w.desk).spent w.done x) no_task mine.memory
+  first_memory : IsInMemory (space_code s) (space_limits s) (view w.desk).kept (view w.desk).spent None
+  first_memory = subst (λ (x : Option Task). IsInMemory (space_code s) (space_limits s) (view w.desk).kept (view w.desk).spent x) no_task mine.memory
 
   -- what the other one had in memory
-  other_memory : IsInMemory (space_code s) (space_limits s) (view o.desk).kept (view o.desk).spent o.done None
-  other_memory = subst (λ (x : Option Task). IsInMemory (space_code s) (space_limits s) (view o.desk).kept (view o.desk).spent o.done x) none_there others.memory
+  other_memory : IsInMemory (space_code s) (space_limits s) (view o.desk).kept (view o.desk).spent None
+  other_memory = subst (λ (x : Option Task). IsInMemory (space_code s) (space_limits s) (view o.desk).kept (view o.desk).spent x) none_there others.memory
 
   -- both were told of the limit if one was
   first_room : (a b : Bool) → (a || b) ≡ false → a ≡ false
@@ -228,14 +211,12 @@ module _ (s : Space Parcel) (w o : Worker) (mine : IsAtRest s w) (others : IsAtR
   other_room false b e = e
 
   -- what both have in memory
-  both_memory : IsInMemory (space_code s) (space_limits s) (together (view w.desk).kept (view o.desk).kept) ((view w.desk).spent || (view o.desk).spent) (w.done ++ o.done) None
+  both_memory : IsInMemory (space_code s) (space_limits s) (together (view w.desk).kept (view o.desk).kept) ((view w.desk).spent || (view o.desk).spent) None
   both_memory =
       let here = subst (IsPlace (program_of s)) (ap (λ (z : View). z.kept) view_is) place in record {
         rises = place_rises (program_of s) (together (view w.desk).kept (view o.desk).kept) here;
         told = place_told (program_of s) (together (view w.desk).kept (view o.desk).kept) here;
         played = tt;
-        held = IsPermutation-trans (w.done ++ o.done) ((view w.desk).kept ++ (view o.desk).kept) (together (view w.desk).kept (view o.desk).kept)
-            (IsPermutation-append w.done (view w.desk).kept o.done (view o.desk).kept first_memory.held other_memory.held) (together_all (view w.desk).kept (view o.desk).kept);
         quiet = λ e. both_quiet (program_of s) (view w.desk).kept (view o.desk).kept (place_rises (program_of s) (together (view w.desk).kept (view o.desk).kept) here) other_memory.rises first_memory.told other_memory.told
             (first_memory.quiet (first_room (view w.desk).spent (view o.desk).spent e)) (other_memory.quiet (other_room (view w.desk).spent (view o.desk).spent e));
       }
@@ -249,9 +230,10 @@ module _ (s : Space Parcel) (w o : Worker) (mine : IsAtRest s w) (others : IsAtR
         free = subst IsHandFree (sym v) (record { claims = mine.free.claims; flight = mine.free.flight; fresh = ap₂ (λ (a b : List ℕ). a ++ b) mine.free.fresh others.free.fresh });
         duties = λ e. let f : ((view w.desk).spent || (view o.desk).spent) ≡ false = sym (ap (λ (z : View). z.spent) v) ∙ e in
             ap (λ (z : View). z.duties) v ∙ ap₂ (λ (a b : List Duty). map reset_duty (a ++ b)) (mine.duties (first_room (view w.desk).spent (view o.desk).spent f)) (others.duties (other_room (view w.desk).spent (view o.desk).spent f));
-        memory = subst (λ (z : View). IsInMemory (space_code s) (space_limits s) z.kept z.spent w'.done w'.task) (sym v)
-            (subst (λ (x : Option Task). IsInMemory (space_code s) (space_limits s) (together (view w.desk).kept (view o.desk).kept) ((view w.desk).spent || (view o.desk).spent) w'.done x) (sym (task ∙ no_task))
-            (subst (λ (es : List Entry). IsInMemory (space_code s) (space_limits s) (together (view w.desk).kept (view o.desk).kept) ((view w.desk).spent || (view o.desk).spent) es None) (sym done) both_memory));
+        memory = subst (λ (z : View). IsInMemory (space_code s) (space_limits s) z.kept z.spent w'.task) (sym v)
+            (subst (λ (x : Option Task). IsInMemory (space_code s) (space_limits s) (together (view w.desk).kept (view o.desk).kept) ((view w.desk).spent || (view o.desk).spent) x) (sym (task ∙ no_task)) both_memory);
         goes_on = subst MayContinue (sym (task ∙ no_task)) tt;
         stock = subst (IsStock (space_code s) (space_limits s)) (sym spare) mine.stock;
+        listed = lists_same w.draws.items w'.draws.items ((w.taken.items ++ o.draws ∷ []) ++ o.taken.items) w'.taken.items (together (view w.desk).draws (view o.desk).draws) (view w'.desk).draws draws taken (ap (λ (z : View). z.draws) v)
+            (lists_united w.draws.items (view w.desk).draws o.draws (view o.desk).draws w.taken.items o.taken.items mine.listed others.listed);
       }

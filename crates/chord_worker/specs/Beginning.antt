@@ -1,5 +1,5 @@
 -- What stands in the parcels of a firing's members, and the firing's body before it is played or posted.
-use Rattle.std.specs.Prelude.{◌≡◌, ℕ, ◌<◌, true, false, List, [], ◌∷◌, Option, Some, None}
+use Rattle.std.specs.Prelude.{◌≡◌, ℕ, ◌<◌, true, false, List, [], ◌∷◌, ◌++◌, Option, Some, None, IsPermutation}
 use Rattle.chord_base.specs.declared.event.Entry.{Entry}
 use Rattle.chord_base.specs.declared.event.Limits.{Limits}
 use Rattle.chord_base.specs.declared.event.What.TheVariants.{Fired}
@@ -20,7 +20,7 @@ use Rattle.chord_task.specs.declared.task.Task.{Task}
 use Rattle.chord_task.specs.Gathering.{AreGathered}
 use Rattle.chord_task.specs.Standing.{view_of, IsTaskOf, MayResume, is_ready_of}
 use Rattle.chord_worker.specs.declared.worker.Worker.{Worker}
-use Rattle.chord_worker.specs.Resting.{IsHandFree, IsInMemory, MayContinue, IsStock}
+use Rattle.chord_worker.specs.Resting.{IsHandFree, IsInMemory, MayContinue, IsStock, all_in}
 
 -- the first task, if there is one, else the second
 abbrev pub first_of : Option Task → Option Task → Option Task
@@ -60,18 +60,19 @@ pub record FitsFiring (code : Parts) (limits : Limits) (before now : List Entry)
   pub may : MayResume code limits t f k o ms vs
   pub both : HasBoth (code_program code limits) before (entry f f (Fired k o ms vs) ∷ (view_of t).past) now
 
--- the task has the body of the firing f on top, and what the desk keeps beside its past is in memory
+-- the task has the body of the firing f on top, whose entry the worker has listed, and what the desk keeps beside the task's past is what it kept before
 pub record HasBegun (s : Space Parcel) (w : Worker) (v : View) (f : ℕ) (t : Task) : Type 0 where
   pub desk : IsDeskOf s w.desk
   pub told : w.spent ≡ false
   pub room : v.spent ≡ false
   pub free : IsHandFree v
-  pub memory : IsInMemory (space_code s) (space_limits s) v.kept false w.done w.task
+  pub memory : IsInMemory (space_code s) (space_limits s) v.kept false w.task
   pub goes_on : MayContinue w.task
   pub stock : IsStock (space_code s) (space_limits s) w.spare
   pub duties : (view w.desk).duties ≡ []
   pub low : f < s.events
-  pub seen : view w.desk ≡ record v { kept = (view w.desk).kept; claims = []; unposted = f ∷ v.unposted; drawn = true; duties = (view w.desk).duties; looked = (view w.desk).looked }
+  pub listed : IsPermutation (w.draws.items ++ all_in w.taken.items) (view w.desk).draws
+  pub seen : view w.desk ≡ record v { kept = (view w.desk).kept; draws = (view w.desk).draws; claims = []; unposted = f ∷ v.unposted; drawn = true; duties = (view w.desk).duties; looked = (view w.desk).looked }
   pub task : IsTaskOf (space_code s) (space_limits s) t
   pub ready : is_ready_of t ≡ true
   pub top : (view_of t).top ≡ Some f

@@ -1,5 +1,5 @@
 -- What a task is while it is played: its next ask, and the entry that this becomes.
-use Rattle.std.specs.Prelude.{◌≡◌, ◌<◌, ◌+◌, ℕ, Bool, false, List, ◌∷◌, Option, Some}
+use Rattle.std.specs.Prelude.{◌≡◌, ◌<◌, ◌+◌, ℕ, Bool, false, List, [], ◌∷◌, ◌++◌, Option, Some}
 use Rattle.chord_base.specs.declared.event.Entry.{Entry}
 use Rattle.chord_base.specs.declared.event.Limits.{Limits}
 use Rattle.chord_base.specs.declared.event.What.{What}
@@ -47,7 +47,7 @@ pub record IsNotedAs (code : Parts) (limits : Limits) (v w : View) (t t' : Task)
   pub task : IsTaskOf code limits t'
   pub past : (view_of t').past ≡ entry n body what ∷ (view_of t).past
   pub top : is_end what ≡ false → (view_of t').top ≡ Some body
-  pub memory : (spent : Bool) (done : List Entry) → IsInMemory code limits v.kept spent done (Some t) → IsInMemory code limits (entry n body what ∷ v.kept) spent done (Some t')
+  pub memory : (spent : Bool) → IsInMemory code limits v.kept spent (Some t) → IsInMemory code limits (entry n body what ∷ v.kept) spent (Some t')
   pub named : (o : Object) → Names what o → o.number < n
   pub of_code : IsOfCode code what
 
@@ -55,10 +55,11 @@ pub record IsNotedAs (code : Parts) (limits : Limits) (v w : View) (t t' : Task)
 abbrev pub HeardOfLimit : View → View → Type 0
 HeardOfLimit v w = (count : ℕ) × (w ≡ saw_count (was_told v) count)
 
--- the desk was told that the limit is reached, and the task has done what it had
-pub record WasToldFull (v w : View) (t t' : Task) : Type 0 where
-  pub told : HeardOfLimit v w
-  pub past : t'.past ≡ t.past
+-- what a desk drew and a list got the same entry
+pub record DrawsOne (vs vs' ds ds' : List Entry) : Type 0 where
+  pub entry : Entry
+  pub drawn : vs' ≡ entry ∷ vs
+  pub list : ds' ≡ ds ++ entry ∷ []
 
 -- whatever the ask and the task before it are, the ask became the entry n of the desk and of the task
 abbrev pub IsNotedFrom : Space Parcel → View → View → Option Ask → Task → Task → ℕ → Type 0

@@ -1,5 +1,6 @@
--- A worker at rest: what its desk keeps is what it has in memory, its task may go on, and every other body that it keeps has ended or waits.
-use Rattle.std.specs.Prelude.{◌≡◌, ℕ, Bool, true, false, List, [], ◌∷◌, Option, Some, None, IsPermutation}
+-- A worker at rest: its lists have what its desk drew, its task may go on, and every other body that its desk keeps has ended or waits.
+use Rattle.std.specs.Prelude.{◌≡◌, ℕ, Bool, true, false, List, [], ◌∷◌, ◌++◌, Option, Some, None, Vec, flat_map, IsPermutation}
+use Rattle.std.specs.Global.{Global}
 use Rattle.chord_base.specs.declared.event.Entry.{Entry}
 use Rattle.chord_base.specs.declared.event.Limits.{Limits}
 use Rattle.chord_base.specs.Story.{IsRising, IsTold}
@@ -26,12 +27,11 @@ abbrev pub MayBePlayed : Parts → Limits → List Entry → Option Task → Typ
 MayBePlayed code limits es None = Unit {0}
 MayBePlayed code limits es (Some t) = IsTaskOf code limits t × MayGo (code_program code limits) es (view_of t).past
 
--- what a desk keeps is in memory: the past of a task, and the entries of what is done. What is done is quiet, unless the run is full
-pub record IsInMemory (code : Parts) (limits : Limits) (kept : List Entry) (spent : Bool) (done : List Entry) (task : Option Task) : Type 0 where
+-- the past of the task is a part of what the desk keeps, and the rest is quiet, unless the run is full
+pub record IsInMemory (code : Parts) (limits : Limits) (kept : List Entry) (spent : Bool) (task : Option Task) : Type 0 where
   pub rises : IsRising kept
   pub told : IsTold (code_program code limits) kept
   pub played : MayBePlayed code limits kept task
-  pub held : IsPermutation done (beside_task task kept)
   pub quiet : spent ≡ false → AreQuiet (code_program code limits) (beside_task task kept)
 
 -- the task, if there is one, may go on
@@ -57,15 +57,21 @@ abbrev pub IsStock : Parts → Limits → Option Task → Type 0
 IsStock code limits None = Unit {0}
 IsStock code limits (Some t) = IsStockTask code limits t
 
+-- the entries in these lists
+abbrev pub all_in : List (Vec Entry Global) → List Entry
+all_in lists = flat_map (λ (list : Vec Entry Global). list.items) lists
+
 -- the worker is at rest
 pub record IsAtRest (s : Space Parcel) (w : Worker) : Type 0 where
   pub desk : IsDeskOf s w.desk
   pub told : w.spent ≡ (view w.desk).spent
   pub free : IsHandFree (view w.desk)
   pub duties : (view w.desk).spent ≡ false → (view w.desk).duties ≡ []
-  pub memory : IsInMemory (space_code s) (space_limits s) (view w.desk).kept (view w.desk).spent w.done w.task
+  pub memory : IsInMemory (space_code s) (space_limits s) (view w.desk).kept (view w.desk).spent w.task
   pub goes_on : MayContinue w.task
   pub stock : IsStock (space_code s) (space_limits s) w.spare
+  -- its lists have what its desk drew, and what the desks of the workers that it took in drew
+  pub listed : IsPermutation (w.draws.items ++ all_in w.taken.items) (view w.desk).draws
 
 -- both views are of one desk, which was neither split nor joined, and no draw is forgotten
 pub record IsSameRole (v w : View) : Type 0 where
@@ -79,5 +85,6 @@ pub record IsSeen (v w : View) (i : ℕ) (x : Word) : Type 0 where
   pub role : IsSameRole v w
   pub spent : w.spent ≡ v.spent
   pub kept : w.kept ≡ v.kept
+  pub draws : w.draws ≡ v.draws
   pub count : w.looked.count ≡ v.looked.count
   pub seen : w.looked.seen ≡ record { number = i; word = x } ∷ v.looked.seen

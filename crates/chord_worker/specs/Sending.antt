@@ -1,5 +1,5 @@
 -- A message is sent off: linked with its parcel, and armed; and then the worker minds it.
-use Rattle.std.specs.Prelude.{◌≡◌, ℕ, false, List, [], ◌∷◌, ◌++◌, Option, Some, None}
+use Rattle.std.specs.Prelude.{◌≡◌, ℕ, false, List, [], ◌∷◌, ◌++◌, Some, None, IsPermutation}
 use Rattle.chord_bag.specs.Reads.{messages_and_bags}
 use Rattle.chord_base.specs.declared.event.Entry.{Entry}
 use Rattle.chord_rule.specs.declared.view.View.{View}
@@ -10,11 +10,12 @@ use Rattle.chord_space.specs.Desks.{view, space_code, space_limits, IsDeskOf}
 use Rattle.chord_task.specs.declared.parcel.Parcel.{Parcel}
 use Rattle.chord_task.specs.declared.task.Task.{Task}
 use Rattle.chord_worker.specs.declared.worker.Worker.{Worker}
-use Rattle.chord_worker.specs.Resting.{IsHandFree, IsInMemory, MayContinue, IsStockTask, IsSameRole}
+use Rattle.chord_worker.specs.Resting.{IsHandFree, IsInMemory, MayContinue, IsStockTask, IsSameRole, all_in}
 
 -- the message m was linked in the bag k and armed, and these entries went with its parcel
 pub record IsSentOff (v w : View) (m k : ℕ) (es : List Entry) : Type 0 where
   pub kept : w.kept ≡ left_by es v.kept
+  pub draws : w.draws ≡ v.draws
   pub fresh : w.fresh ≡ without m v.fresh
   pub claims : w.claims ≡ v.claims
   pub flight : w.flight ≡ None
@@ -29,13 +30,9 @@ pub record Minds (s : Space Parcel) (w : Worker) (m k : ℕ) : Type 0 where
   pub room : (view w.desk).spent ≡ false
   pub free : IsHandFree (view w.desk)
   pub duty : messages_and_bags (view w.desk).duties ≡ (m, k) ∷ []
-  pub memory : IsInMemory (space_code s) (space_limits s) (view w.desk).kept false w.done w.task
+  pub memory : IsInMemory (space_code s) (space_limits s) (view w.desk).kept false w.task
   pub goes_on : MayContinue w.task
   pub stock : Task
   pub spare : w.spare ≡ Some stock
   pub is_stock : IsStockTask (space_code s) (space_limits s) stock
-
--- what a task did, if there was one, is done
-abbrev pub IsLaidDown : List Entry → Option Task → List Entry → Type 0
-IsLaidDown done None done' = done' ≡ done
-IsLaidDown done (Some t) done' = done' ≡ done ++ t.past.items
+  pub listed : IsPermutation (w.draws.items ++ all_in w.taken.items) (view w.desk).draws

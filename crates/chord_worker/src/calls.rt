@@ -1,5 +1,5 @@
 //! The calls of a worker that the pool makes, but for its steps.
-ghost use Rattle.std.specs.Prelude.{◌≡◌, ◌≢◌, ◌||◌, ℕ, ◌<◌, ◌-◌, List, [], ◌∷◌, Option, true, false, Some, None, OnOk, IfOk, min, is_some, IsPermutation};
+ghost use Rattle.std.specs.Prelude.{◌≡◌, ◌≢◌, ◌||◌, ℕ, ◌<◌, ◌-◌, List, [], ◌∷◌, ◌++◌, Option, true, false, Some, None, OnOk, IfOk, min, is_some, flat_map, IsPermutation};
 ghost use Rattle.chord_base.specs.Story.{IsSound};
 ghost use Rattle.chord_rule.specs.Kinds.{newcomer, newcomer_first, lent_one, saw, saw_count, united};
 ghost use Rattle.chord_rule.specs.Tells.{a_word};
@@ -12,12 +12,11 @@ ghost use Rattle.chord_worker.specs.Resting.{IsAtRest, IsSameRole, IsSeen};
 ghost use Rattle.chord_worker.specs.Stepping.{PlaysFiring};
 
 use crate::worker::{Gate, Worker};
-use chord_base::event::{Limits, What};
+use chord_base::event::{Entry, Limits, What};
 use chord_code::code::Code;
 use chord_space::{Desk, Space};
 use chord_task::apart::Apart;
 use chord_task::parcel::Parcel;
-use chord_task::pasts::Pasts;
 use chord_task::task::Task;
 use chord_word::Cell;
 use std::alloc::{AllocError, Global};
@@ -29,15 +28,22 @@ fn told_either(mine: bool, other: bool) -> bool
     mine || other
 }
 
-/// `Main` begins, with room for all entries that the run may come to, so that none is moved later. Where there is none, its list grows.
-fn main_task(alloc: Global, code: &Code, limits: &Limits) -> Result<Task, AllocError>
+/// `Main` begins, and its entry goes to a list with room for all entries that the run may come to, so that none is moved later. Where
+/// there is none, the list grows.
+fn main_task(
+    alloc: Global,
+    code: &Code,
+    limits: &Limits,
+    draws: &mut Vec<Entry>,
+) -> Result<Task, AllocError>
     requires { MainBegins code.now limits.now }
     ensures task { IfOk result (λ t. IsTaskOf code.now limits.now t) }
     ensures past { IfOk result (λ t. (view_of t).past ≡ record { number = 0; body = 0; what = What.Begun } ∷ []) }
     ensures top { IfOk result (λ t. (view_of t).top ≡ Some 0) }
+    ensures listed { OnOk result (draws.new.items ≡ draws.old.items ++ record { number = 0; body = 0; what = What.Begun } ∷ []) }
 {
-    let mut main = Task::main(alloc, code, limits)?;
-    let _ = main.past.reserve(limits.events as usize);
+    let _ = draws.reserve(limits.events as usize);
+    let main = Task::main(alloc, code, limits, draws)?;
     Ok(main)
 }
 
@@ -57,15 +63,16 @@ impl Worker {
         ensures { IfOk result (λ w. IsAtRest space.now w × IsSameRole (view desk) (view w.desk) × ((view w.desk).drawn ≡ true) × ((view w.desk).spent ≡ true → w.task ≡ None)) }
     {
         let mut desk = desk;
-        let task = main_task(alloc, code, limits)?;
+        let mut draws = Vec::new(alloc);
+        let task = main_task(alloc, code, limits, &mut draws)?;
         let task = Apart::new(alloc, task)?;
-        let done = Pasts::new(alloc);
         match space.draw(&mut desk, 0, &What::Begun) {
             Ok(_) => Ok(Worker {
                 desk,
                 task: Some(task),
                 spare: None,
-                done,
+                draws,
+                taken: Vec::new(alloc),
                 spent: false,
             }),
             Err(_) => unreachable!(),
@@ -83,7 +90,8 @@ impl Worker {
             desk: space.split(&mut self.desk),
             task: None,
             spare: None,
-            done: Pasts::new(alloc),
+            draws: Vec::new(alloc),
+            taken: Vec::new(alloc),
             spent: false,
         }
     }
@@ -157,8 +165,8 @@ impl Worker {
         }
     }
 
-    /// Takes in another worker that has nothing to play: the desk takes over what the other one keeps. Want of memory is an `Err`,
-    /// after which entries are lost.
+    /// Takes in another worker that has nothing to play: the desk takes over what the other one keeps and drew. Want of memory is an
+    /// `Err`, after which entries are lost.
     pub fn take_in(&mut self, space: &Space<Parcel>, other: Worker) -> Result<(), AllocError>
         requires rest { IsAtRest space.now self.old × IsAtRest space.now other }
         requires tasks { (self.old.task ≡ None) × (other.task ≡ None) }
@@ -171,29 +179,39 @@ impl Worker {
             desk,
             task: _,
             spare: _,
-            done,
+            draws,
+            taken,
             spent,
         } = other;
         space.join(&mut self.desk, desk);
         self.spent = told_either(self.spent, spent);
-        self.done.append(done)?;
+        let mut taken = taken;
+        self.taken.push(draws)?;
+        self.taken.append(&mut taken)?;
         Ok(())
     }
 
-    /// The desk, and all entries that it keeps, of a worker with nothing to play.
-    pub fn into_parts(self, space: &Space<Parcel>) -> (Desk<Parcel>, Pasts)
+    /// The desk of a worker with nothing to play, and the lists of entries, each as one worker drew them: its own and those of the
+    /// workers that it took in. Want of memory is an `Err`.
+    pub fn into_parts(
+        self,
+        space: &Space<Parcel>,
+    ) -> Result<(Desk<Parcel>, Vec<Vec<Entry>>), AllocError>
         requires rest { IsAtRest space.now self }
         requires task { self.task ≡ None }
-        ensures desk { result.0 ≡ self.desk }
-        ensures entries { IsPermutation result.1 (view self.desk).kept }
+        ensures desk { IfOk result (λ r. r.0 ≡ self.desk) }
+        ensures entries { IfOk result (λ r. IsPermutation (flat_map (λ list. list.items) r.1.items) (view self.desk).draws) }
     {
         let Worker {
             desk,
             task: _,
             spare: _,
-            done,
+            draws,
+            taken,
             spent: _,
         } = self;
-        (desk, done)
+        let mut lists = taken;
+        lists.push(draws)?;
+        Ok((desk, lists))
     }
 }

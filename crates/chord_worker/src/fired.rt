@@ -1,5 +1,5 @@
 //! The body of a firing begins: in the task of the caller that it serves, or in a new one.
-ghost use Rattle.std.specs.Prelude.{◌≡◌, ◌≢◌, ◌⊎◌, ◌<◌, ◌≤◌, ◌∷◌, ◌++◌, false, length, List, [], None, Some};
+ghost use Rattle.std.specs.Prelude.{◌≡◌, ◌≢◌, ◌⊎◌, ◌<◌, ◌≤◌, ◌∷◌, ◌++◌, false, length, vec_len, vec_capacity, List, [], None, Some};
 ghost use Rattle.chord_base.specs.Story.{IsSound};
 ghost use Rattle.chord_rule.specs.declared.view.View.{View};
 ghost use Rattle.chord_space.specs.Desks.{view, space_code, space_limits, program_of, IsDeskOf};
@@ -8,6 +8,7 @@ ghost use Rattle.chord_task.specs.declared.parcel.Parcel.{Parcel as TheParcel};
 ghost use Rattle.chord_task.specs.declared.task.Task.{Task as ATask};
 ghost use Rattle.chord_task.specs.Arguments.{for_entry, AreTwice};
 ghost use Rattle.chord_task.specs.Gathering.{AreGathered, gathered_in};
+ghost use Rattle.chord_task.specs.Past.{AddsOne};
 ghost use Rattle.chord_task.specs.Stacks.{task_begun};
 ghost use Rattle.chord_task.specs.Standing.{view_of, IsTaskOf, MayResume};
 ghost use Rattle.chord_vm.specs.Frames.{laid};
@@ -17,7 +18,7 @@ ghost use Rattle.chord_worker.specs.Resting.{IsAtRest, IsSameRole};
 ghost use Rattle.chord_worker.specs.Stepping.{HasTakenOn};
 
 use crate::worker::{Gate, Worker};
-use chord_base::event::Limits;
+use chord_base::event::{Entry, Limits};
 use chord_base::members::Members;
 use chord_base::value::Object;
 use chord_code::code::Code;
@@ -46,9 +47,9 @@ pub(crate) struct Unpacked {
     pub caller: Option<Apart<Task>>,
 }
 
-/// A second task, which the first one's firing has no use for.
+/// A task that is played no more, or a second one, which the first one's firing has no use for.
 #[inline(never)]
-fn lay_off(task: Apart<Task>) {
+pub(crate) fn lay_off(task: Apart<Task>) {
     drop(task);
 }
 
@@ -159,7 +160,9 @@ fn begin_with_several(
     drawn: Drawn,
     members: &Members,
     arguments: &mut Gathered,
+    draws: &mut Vec<Entry>,
 )
+    requires place { vec_len draws.old < vec_capacity draws.old }
     requires several { arguments.old.more ≢ None }
     requires task { IsTaskOf code.now task.old.limits task.old }
     requires may { MayResume code.now task.old.limits task.old drawn.number drawn.chord drawn.object members.now (laid (for_entry (gathered_in arguments.old.one arguments.old.more))) }
@@ -168,6 +171,7 @@ fn begin_with_several(
     ensures task { IsTaskOf code.now task.old.limits task.new }
     ensures past { task_begun (view_of task.old) drawn.number drawn.chord drawn.object members.now (laid (for_entry (gathered_in arguments.old.one arguments.old.more))) (view_of task.new) }
     ensures top { (view_of task.new).top ≡ Some drawn.number }
+    ensures listed { AddsOne task.old.past task.new.past draws.old.items draws.new.items }
     ensures none { (arguments.new.one.first ≡ []) × (arguments.new.more ≡ None) }
 {
     match arguments.more.take() {
@@ -184,6 +188,7 @@ fn begin_with_several(
                 drawn.object,
                 members,
                 gathered,
+                draws,
             );
         }
     }
@@ -198,7 +203,9 @@ fn begin_body(
     drawn: Drawn,
     members: &Members,
     arguments: &mut Gathered,
+    draws: &mut Vec<Entry>,
 )
+    requires place { vec_len draws.old < vec_capacity draws.old }
     requires task { IsTaskOf code.now task.old.limits task.old }
     requires may { MayResume code.now task.old.limits task.old drawn.number drawn.chord drawn.object members.now (laid (for_entry (gathered_in arguments.old.one arguments.old.more))) }
     requires few { length (laid (for_entry (gathered_in arguments.old.one arguments.old.more))) ≤ 64 }
@@ -206,14 +213,23 @@ fn begin_body(
     ensures task { IsTaskOf code.now task.old.limits task.new }
     ensures past { task_begun (view_of task.old) drawn.number drawn.chord drawn.object members.now (laid (for_entry (gathered_in arguments.old.one arguments.old.more))) (view_of task.new) }
     ensures top { (view_of task.new).top ≡ Some drawn.number }
+    ensures listed { AddsOne task.old.past task.new.past draws.old.items draws.new.items }
     ensures none { (arguments.new.one.first ≡ []) × (arguments.new.more ≡ None) }
 {
     match &arguments.more {
         None => {
             let one = mem::replace(&mut arguments.one, Enclosed::nothing());
-            task.resume_one(code, drawn.number, drawn.chord, drawn.object, members, one);
+            task.resume_one(
+                code,
+                drawn.number,
+                drawn.chord,
+                drawn.object,
+                members,
+                one,
+                draws,
+            );
         }
-        Some(_) => begin_with_several(task, code, drawn, members, arguments),
+        Some(_) => begin_with_several(task, code, drawn, members, arguments, draws),
     }
 }
 
@@ -248,7 +264,7 @@ impl Worker {
 
     /// The parcels of a firing's members were handed over: the arguments go to the firing's body, which begins in the task of the
     /// caller that it serves, or in the one in stock. A worker that has no task plays the body itself; else the body is posted
-    /// with its task. Takes no memory.
+    /// with its task. Its entry goes to the list of what the worker drew, in which there is room. Takes no memory.
     pub(crate) fn begin_fired<G: Gate>(
         &mut self,
         space: &Space<Parcel>,
@@ -262,6 +278,7 @@ impl Worker {
         requires code { code.now ≡ space_code space.now }
         requires limits { limits.now ≡ space_limits space.now }
         requires sound { IsSound (program_of space.now) }
+        requires place { vec_len self.old.draws < vec_capacity self.old.draws }
         requires fired { (v : View) × (qs : List TheParcel) × HasUnpacked unpacked.old.arguments.one unpacked.old.arguments.more unpacked.old.caller qs × HasFired space.now self.old v drawn.object drawn.chord members.now drawn.number qs }
         ensures desk { IsDeskOf space.now self.new.desk }
         ensures rest { IsAtRest space.now self.new }
@@ -279,6 +296,7 @@ impl Worker {
             drawn,
             members,
             &mut unpacked.arguments,
+            &mut self.draws,
         );
         self.take_on(space, code, limits, gate, drawn.number, task);
     }

@@ -141,7 +141,15 @@ impl Worker {
         ensures bare { OnOk result (OwnsNothing asked.new) }
     {
         let mut task = task;
-        match draw_own(alloc, space, code, &mut self.desk, &mut task, asked)? {
+        match draw_own(
+            alloc,
+            space,
+            code,
+            &mut self.desk,
+            &mut task,
+            asked,
+            &mut self.draws,
+        )? {
             Some(number) => {
                 send_letter(
                     space,
@@ -153,17 +161,17 @@ impl Worker {
                     method,
                     held,
                 );
-                self.settle(alloc, task)?;
+                self.settle(task);
                 let message = Minded {
                     number,
                     object,
                     method,
                 };
-                self.mind(rt, alloc, space, code, limits, gate, message)?;
+                self.mind(rt, space, code, limits, gate, message)?;
                 Ok(())
             }
             None => {
-                self.lay_down(task)?;
+                self.lay_down(task);
                 Ok(())
             }
         }
@@ -202,7 +210,15 @@ impl Worker {
         ensures bare { OnOk result (OwnsNothing asked.new) }
     {
         let mut task = task;
-        match draw_own(alloc, space, code, &mut self.desk, &mut task, asked)? {
+        match draw_own(
+            alloc,
+            space,
+            code,
+            &mut self.desk,
+            &mut task,
+            asked,
+            &mut self.draws,
+        )? {
             Some(number) => {
                 send_task(
                     space,
@@ -220,11 +236,11 @@ impl Worker {
                     object,
                     method,
                 };
-                self.mind(rt, alloc, space, code, limits, gate, message)?;
+                self.mind(rt, space, code, limits, gate, message)?;
                 Ok(())
             }
             None => {
-                self.lay_down(task)?;
+                self.lay_down(task);
                 Ok(())
             }
         }

@@ -5,7 +5,7 @@ ghost use Rattle.chord_match.specs.Findings.{IsMatch};
 ghost use Rattle.chord_rule.specs.Made.{key};
 ghost use Rattle.chord_rule.specs.declared.view.View.{View};
 ghost use Rattle.chord_space.specs.Desks.{view, heads, space_code, space_limits, program_of, IsDeskOf};
-ghost use Rattle.chord_worker.specs.Sending.{Minds, IsLaidDown};
+ghost use Rattle.chord_worker.specs.Sending.{Minds};
 ghost use Rattle.chord_worker.specs.Resting.{IsAtRest, IsSameRole};
 ghost use Rattle.chord_worker.specs.Stepping.{StillPlays, WasMinded};
 
@@ -20,7 +20,7 @@ use chord_match::{Finding, Missed, find, fire_to};
 use chord_space::Space;
 use chord_task::parcel::Parcel;
 use crossbeam_utils::Backoff;
-use std::alloc::{AllocError, Global};
+use std::alloc::AllocError;
 use std::sync::Wait;
 
 /// A message that a worker minds.
@@ -32,28 +32,21 @@ pub(crate) struct Minded {
 }
 
 impl Worker {
-    /// The limit on events is reached: what the worker plays is done.
-    pub(crate) fn give_up(&mut self) -> Result<(), AllocError>
+    /// The limit on events is reached: what the worker plays is not played on.
+    pub(crate) fn give_up(&mut self)
         ensures same { (self.new.desk ≡ self.old.desk) × (self.new.spare ≡ self.old.spare) × (self.new.spent ≡ true) }
-        ensures none { OnOk result (self.new.task ≡ None) }
-        ensures done { OnOk result (IsLaidDown self.old.done self.old.task self.new.done) }
+        ensures lists { (self.new.draws ≡ self.old.draws) × (self.new.taken ≡ self.old.taken) }
+        ensures none { self.new.task ≡ None }
     {
         match self.task.take() {
-            None => {
-                self.spent = true;
-                Ok(())
-            }
-            Some(task) => {
-                self.lay_down(task)?;
-                Ok(())
-            }
+            None => self.spent = true,
+            Some(task) => self.lay_down(task),
         }
     }
 
     /// Fires the chord with these members, unless one is gone. Whether there is nothing left to mind.
     fn try_to_fire<G: Gate>(
         &mut self,
-        alloc: Global,
         space: &Space<Parcel>,
         code: &Code,
         limits: &Limits,
@@ -77,6 +70,7 @@ impl Worker {
         ensures same { IfOk result (λ b. b ≡ false → StillPlays (view self.old.desk).kept self.old.task self.new) }
     {
         let object = message.object;
+        self.draws.reserve(1)?;
         let mut unpacked = Unpacked::nothing();
         match fire_to(
             space,
@@ -104,7 +98,7 @@ impl Worker {
             }
             Err(Missed::Spent) => {
                 unpacked.lay_aside();
-                self.give_up()?;
+                self.give_up();
                 Ok(true)
             }
         }
@@ -113,7 +107,6 @@ impl Worker {
     /// Looks for a chord with the message, and fires it. Whether there is nothing left to mind.
     fn attend<G: Gate>(
         &mut self,
-        alloc: Global,
         space: &Space<Parcel>,
         code: &Code,
         limits: &Limits,
@@ -146,7 +139,7 @@ impl Worker {
         ) {
             Finding::Match(chord) => {
                 let over = self.try_to_fire(
-                    alloc, space, code, limits, gate, message, chord, &members, &nexts,
+                    space, code, limits, gate, message, chord, &members, &nexts,
                 )?;
                 Ok(over)
             }
@@ -160,7 +153,6 @@ impl Worker {
     pub(crate) fn mind<R: Wait, G: Gate>(
         &mut self,
         rt: &R,
-        alloc: Global,
         space: &Space<Parcel>,
         code: &Code,
         limits: &Limits,
@@ -177,10 +169,10 @@ impl Worker {
         ensures role { OnOk result (IsSameRole (view self.old.desk) (view self.new.desk)) }
         ensures minded { OnOk result (WasMinded G.knows (view self.old.desk).kept self.old.task self.new message.number) }
     {
-        if self.attend(alloc, space, code, limits, gate, message)? {
+        if self.attend(space, code, limits, gate, message)? {
             return Ok(());
         }
-        self.mind_on(rt, alloc, space, code, limits, gate, message)?;
+        self.mind_on(rt, space, code, limits, gate, message)?;
         Ok(())
     }
 
@@ -189,7 +181,6 @@ impl Worker {
     fn mind_on<R: Wait, G: Gate>(
         &mut self,
         rt: &R,
-        alloc: Global,
         space: &Space<Parcel>,
         code: &Code,
         limits: &Limits,
@@ -208,7 +199,7 @@ impl Worker {
     {
         let backoff = Backoff::new();
         for _ in rt.forever() {
-            if self.attend(alloc, space, code, limits, gate, message)? {
+            if self.attend(space, code, limits, gate, message)? {
                 return Ok(());
             }
             backoff.snooze();

@@ -1,6 +1,5 @@
 //! A task comes to its next ask, which becomes an entry of the run.
-ghost use Rattle.std.specs.Prelude.{◌≡◌, ◌≢◌, ◌<◌, ℕ, true, false, List, Some, None, IfOk, OnOk, MatchResult, IfSome, IfNone};
-ghost use Rattle.chord_base.specs.declared.event.Entry.{Entry as AnEntry};
+ghost use Rattle.std.specs.Prelude.{◌≡◌, ◌≢◌, ◌<◌, ℕ, true, false, Some, None, IfOk, OnOk, MatchResult, IfSome, IfNone};
 ghost use Rattle.chord_base.specs.Story.{IsSound};
 ghost use Rattle.chord_code.specs.declared.parts.Parts.{Parts};
 ghost use Rattle.chord_space.specs.Desks.{view, space_code, space_limits, program_of, IsDeskOf, IsSameDesk, MayDraw};
@@ -8,10 +7,10 @@ ghost use Rattle.chord_task.specs.declared.task.Task.{Task as ATask};
 ghost use Rattle.chord_task.specs.Standing.{view_of};
 ghost use Rattle.chord_task.specs.Turning.{RunsOn, HasCome, OwnsNothing};
 ghost use Rattle.chord_vm.specs.Frames.{what_of_ask};
-ghost use Rattle.chord_worker.specs.Playing.{IsDrawnAs, IsNotedFrom, HeardOfLimit, WasToldFull};
+ghost use Rattle.chord_worker.specs.Playing.{DrawsOne, IsDrawnAs, IsNotedFrom, HeardOfLimit};
 ghost use Rattle.chord_worker.specs.Resting.{IsInMemory, IsStock, IsStockTask};
 
-use chord_base::event::Limits;
+use chord_base::event::{Entry, Limits};
 use chord_code::code::Code;
 use chord_space::{AsEntry, Desk, Space, Spent};
 use chord_task::apart::Apart;
@@ -92,7 +91,8 @@ fn draw_ask(
     }
 }
 
-/// The ask of the task becomes an entry of the desk and of the task. Its number, or nothing where the limit on events is reached.
+/// The ask of the task becomes an entry of the desk and of the task, and of the list of what the worker drew. Its number, or nothing
+/// where the limit on events is reached.
 #[inline(never)]
 pub(crate) fn draw_own(
     alloc: Global,
@@ -101,23 +101,26 @@ pub(crate) fn draw_own(
     desk: &mut Desk<Parcel>,
     task: &mut Apart<Task>,
     asked: &mut Option<Ask>,
+    draws: &mut Vec<Entry>,
 ) -> Result<Option<u32>, AllocError>
     requires desk { IsDeskOf space.now desk.old }
     requires room { (view desk.old).spent ≡ false }
     requires code { code.now ≡ space_code space.now }
     requires some { asked.old ≢ None }
-    requires came { (a : Ask) → asked.old ≡ Some a → (t : ATask) × HasCome (space_code space.now) (space_limits space.now) t task.old (what_of_ask a) × (done : List AnEntry) × IsInMemory (space_code space.now) (space_limits space.now) (view desk.old).kept false done (Some t) }
+    requires came { (a : Ask) → asked.old ≡ Some a → (t : ATask) × HasCome (space_code space.now) (space_limits space.now) t task.old (what_of_ask a) × IsInMemory (space_code space.now) (space_limits space.now) (view desk.old).kept false (Some t) }
     requires sound { IsSound (program_of space.now) }
     ensures desk { IsSameDesk desk.old desk.new }
     ensures noted { IfOk result (λ x. IfSome x (λ n. IsNotedFrom space.now (view desk.old) (view desk.new) asked.old task.old task.new n)) }
     ensures within { IfOk result (λ x. IfSome x (λ n. n < space.now.events)) }
-    ensures told { IfOk result (λ x. IfNone x (WasToldFull (view desk.old) (view desk.new) task.old task.new)) }
+    ensures listed { IfOk result (λ x. IfSome x (λ _. DrawsOne (view desk.old).draws (view desk.new).draws draws.old.items draws.new.items)) }
+    ensures told { IfOk result (λ x. IfNone x (HeardOfLimit (view desk.old) (view desk.new))) }
+    ensures same { IfOk result (λ x. IfNone x (draws.new.items ≡ draws.old.items)) }
     ensures bare { OnOk result (OwnsNothing asked.new) }
 {
     let body = top_number(&task.value);
     match draw_ask(space, desk, body, asked) {
         Ok(number) => {
-            task.value.settle(alloc, code, number, asked)?;
+            task.value.settle(alloc, code, number, asked, draws)?;
             Ok(Some(number))
         }
         Err(_) => {

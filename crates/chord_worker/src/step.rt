@@ -1,18 +1,19 @@
 //! A worker plays its task to the next ask, and does what follows from it.
-ghost use Rattle.std.specs.Prelude.{◌≡◌, ◌≢◌, ◌⊎◌, ℕ, Bool, true, false, List, ◌++◌, Some, None, OnOk};
+ghost use Rattle.std.specs.Prelude.{◌≡◌, ◌≢◌, ◌⊎◌, ℕ, Bool, true, false, List, Some, None, OnOk};
 ghost use Rattle.chord_base.specs.declared.event.Entry.{Entry as AnEntry};
 ghost use Rattle.chord_base.specs.declared.event.Limits.{Limits as TheLimits};
 ghost use Rattle.chord_base.specs.Story.{IsSound};
 ghost use Rattle.chord_code.specs.declared.parts.Parts.{Parts};
 ghost use Rattle.chord_space.specs.Desks.{view, space_code, space_limits, program_of, IsDeskOf};
 ghost use Rattle.chord_task.specs.declared.task.Task.{Task as TheTask};
-ghost use Rattle.chord_task.specs.Standing.{IsTaskOf};
+ghost use Rattle.chord_task.specs.Standing.{view_of, IsTaskOf};
 ghost use Rattle.chord_task.specs.Turning.{HasCome, OwnsNothing};
 ghost use Rattle.chord_vm.specs.Frames.{what_of_ask};
 ghost use Rattle.chord_worker.specs.Playing.{IsNoMessage};
 ghost use Rattle.chord_worker.specs.Resting.{IsInMemory, IsStock, MayContinue, IsAtRest, IsSameRole};
 ghost use Rattle.chord_worker.specs.Stepping.{HasGoneOn, PlaysNoOther, PlaysNext};
 
+use crate::fired::lay_off;
 use crate::playing::{draw_own, see_to_stock};
 use crate::worker::{Gate, Worker};
 use chord_base::event::Limits;
@@ -41,61 +42,48 @@ pub(crate) fn put_task(place: &mut Option<Apart<Task>>, task: Apart<Task>)
 }
 
 impl Worker {
-    /// The task is played on if it may go on; else what it did is done.
+    /// The task is played on if it may go on; else the worker has no more use for it.
     #[inline(always)]
-    pub(crate) fn settle(&mut self, alloc: Global, task: Apart<Task>) -> Result<(), AllocError>
+    pub(crate) fn settle(&mut self, task: Apart<Task>)
         requires none { self.old.task ≡ None }
         ensures same { (self.new.desk ≡ self.old.desk) × (self.new.spent ≡ self.old.spent) }
+        ensures lists { (self.new.draws ≡ self.old.draws) × (self.new.taken ≡ self.old.taken) }
         ensures spare { self.old.spare ≢ None → self.new.spare ≡ self.old.spare }
-        ensures stock { OnOk result ((code : Parts) (limits : TheLimits) → IsTaskOf code limits task → IsStock code limits self.old.spare → IsStock code limits self.new.spare) }
-        ensures task { OnOk result ((self.new.task ≡ None) ⊎ (self.new.task ≡ Some task)) }
-        ensures settled { OnOk result ((code : Parts) (limits : TheLimits) (kept : List AnEntry) (spent : Bool) → IsInMemory code limits kept spent self.old.done (Some task) → IsInMemory code limits kept spent self.new.done self.new.task × MayContinue self.new.task) }
+        ensures stock { (code : Parts) (limits : TheLimits) → IsTaskOf code limits task → IsStock code limits self.old.spare → IsStock code limits self.new.spare }
+        ensures task { (self.new.task ≡ None) ⊎ (self.new.task ≡ Some task) }
+        ensures settled { (code : Parts) (limits : TheLimits) (kept : List AnEntry) (spent : Bool) → IsInMemory code limits kept spent (Some task) → IsInMemory code limits kept spent self.new.task × MayContinue self.new.task }
     {
         if task.value.is_ready() {
             put_task(&mut self.task, task);
-            return Ok(());
+            return;
         }
-        self.retire(alloc, task)?;
-        Ok(())
+        self.retire(task);
     }
 
-    /// What the task did is done. Where no body is left in it and none is in stock, it goes there: its memory serves for the next body.
+    /// A task that may not go on. Where no body is left in it and none is in stock, it goes there: its memory serves for the next body.
     #[inline(never)]
-    fn retire(&mut self, alloc: Global, task: Apart<Task>) -> Result<(), AllocError>
+    fn retire(&mut self, task: Apart<Task>)
         ensures same { (self.new.desk ≡ self.old.desk) × (self.new.task ≡ self.old.task) × (self.new.spent ≡ self.old.spent) }
+        ensures lists { (self.new.draws ≡ self.old.draws) × (self.new.taken ≡ self.old.taken) }
         ensures spare { self.old.spare ≢ None → self.new.spare ≡ self.old.spare }
-        ensures stock { OnOk result ((code : Parts) (limits : TheLimits) → IsTaskOf code limits task → IsStock code limits self.old.spare → IsStock code limits self.new.spare) }
-        ensures done { OnOk result (self.new.done ≡ self.old.done ++ task.past.items) }
+        ensures stock { (code : Parts) (limits : TheLimits) → IsTaskOf code limits task → IsStock code limits self.old.spare → IsStock code limits self.new.spare }
+        ensures serves { self.old.spare ≡ None → (view_of task).top ≡ None → self.new.spare ≢ None }
     {
         if self.spare.is_some() || !task.value.over() {
-            return self.finish(task);
+            return;
         }
         let mut task = task;
-        let past = task.value.renew(alloc)?;
+        task.value.renew();
         put_task(&mut self.spare, task);
-        self.done.add(past)?;
-        Ok(())
     }
 
-    /// What the task did is done.
-    #[inline(never)]
-    fn finish(&mut self, task: Apart<Task>) -> Result<(), AllocError>
-        ensures same { (self.new.desk ≡ self.old.desk) × (self.new.spare ≡ self.old.spare) × (self.new.task ≡ self.old.task) × (self.new.spent ≡ self.old.spent) }
-        ensures done { OnOk result (self.new.done ≡ self.old.done ++ task.past.items) }
-    {
-        let past = task.into_inner().into_past();
-        self.done.add(past)?;
-        Ok(())
-    }
-
-    /// The limit on events is reached: what the task did is done.
-    pub(crate) fn lay_down(&mut self, task: Apart<Task>) -> Result<(), AllocError>
+    /// The limit on events is reached: the task is not played on.
+    pub(crate) fn lay_down(&mut self, task: Apart<Task>)
         ensures same { (self.new.desk ≡ self.old.desk) × (self.new.spare ≡ self.old.spare) × (self.new.task ≡ self.old.task) × (self.new.spent ≡ true) }
-        ensures done { OnOk result (self.new.done ≡ self.old.done ++ task.past.items) }
+        ensures lists { (self.new.draws ≡ self.old.draws) × (self.new.taken ≡ self.old.taken) }
     {
         self.spent = true;
-        self.finish(task)?;
-        Ok(())
+        lay_off(task);
     }
 
     /// An ask that is no message becomes an entry.
@@ -123,13 +111,21 @@ impl Worker {
         ensures bare { OnOk result (OwnsNothing asked.new) }
     {
         let mut task = task;
-        match draw_own(alloc, space, code, &mut self.desk, &mut task, asked)? {
+        match draw_own(
+            alloc,
+            space,
+            code,
+            &mut self.desk,
+            &mut task,
+            asked,
+            &mut self.draws,
+        )? {
             Some(_) => {
-                self.settle(alloc, task)?;
+                self.settle(task);
                 Ok(())
             }
             None => {
-                self.lay_down(task)?;
+                self.lay_down(task);
                 Ok(())
             }
         }
@@ -201,8 +197,8 @@ impl Worker {
     }
 
     /// Plays the task to its next ask, which becomes an entry of the run, and does what follows: a message is linked and armed, and
-    /// minded until it is taken or no chord with it is enabled; a firing's body begins; what a task did that is over is done. Where
-    /// the limit on events is reached the task is laid down. So afterwards the desk keeps a newer entry than all that it kept, or the
+    /// minded until it is taken or no chord with it is enabled; a firing's body begins; the memory of a task that is over serves for
+    /// another. Where the limit on events is reached the task is laid down. So afterwards the desk keeps a newer entry than all that it kept, or the
     /// task went away with its call, or the desk was told of the limit. The gate knows of each body that the worker begins to play.
     /// Want of memory is an `Err`, after which entries may be lost.
     pub fn step<R: Wait, G: Gate>(

@@ -1,10 +1,10 @@
-//! A worker: its desk, the task that it plays, and what is done.
+//! A worker: its desk, the task that it plays, and what it drew.
 ghost use Rattle.std.specs.Prelude.{ℕ};
 
+use chord_base::event::Entry;
 use chord_space::Desk;
 use chord_task::apart::Apart;
 use chord_task::parcel::Parcel;
-use chord_task::pasts::Pasts;
 use chord_task::task::Task;
 
 /// Is told of each body that begins to be played.
@@ -26,8 +26,10 @@ pub struct Worker {
     pub(crate) task: Option<Apart<Task>>,
     /// Room for the body of a firing that serves no call.
     pub(crate) spare: Option<Apart<Task>>,
-    /// The entries of what is done.
-    pub(crate) done: Pasts,
+    /// The entries that it drew, the oldest first.
+    pub(crate) draws: Vec<Entry>,
+    /// The lists of the workers that it took in.
+    pub(crate) taken: Vec<Vec<Entry>>,
     /// Whether it was told that the limit on events is reached.
     pub(crate) spent: bool,
 }

@@ -1,9 +1,7 @@
-use Rattle.std.proofs.Common.{◌∙◌, ap, reverse}
-use Rattle.chord_task.proofs.Reserved.{longer_task}
+use Rattle.std.proofs.Common.{List, ◌++◌, ◌∷◌, [], ◌∙◌, ap}
+use Rattle.chord_base.specs.declared.event.Entry.{Entry}
+use Rattle.chord_base.specs.declared.event.What.TheVariants.{Begun}
 use Rattle.chord_worker.proofs.calls.main_task.Goals as goal
 
-pub returns-clause-task : goal.returns-clause-task
-returns-clause-task c = longer_task c.args.code.now c.args.limits.now c.in_ok-main.main c.reserve.new.self c.reserve.ensures.items c.reserve.ensures.len c.reserve.ensures.capacity c.in_ok-main.ensures.task
-
-pub returns-clause-past : goal.returns-clause-past
-returns-clause-past c = ap reverse c.reserve.ensures.items ∙ c.in_ok-main.ensures.past
+pub returns-clause-listed : goal.returns-clause-listed
+returns-clause-listed c = c.in_ok-main.ensures.listed ∙ ap (λ (es : List Entry). es ++ record { number = 0; body = 0; what = Begun } ∷ []) c.reserve.ensures.items

@@ -1,4 +1,3 @@
-use Rattle.std.proofs.Common.{Some}
 use Rattle.chord_vm.specs.Frames.{what_of_ask}
 use Rattle.chord_task.proofs.Coming.{keeps_ask, came_kept}
 use Rattle.chord_task.proofs.task.Task.come_kept.Goals as goal

@@ -1,4 +1,3 @@
-use Rattle.std.proofs.Common.{◌≡◌, [], sym, subst}
 use Rattle.chord_task.proofs.Tasks.{renewed_task}
 use Rattle.chord_task.proofs.task.Task.renew.Goals as goal
 

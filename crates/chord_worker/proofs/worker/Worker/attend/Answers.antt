@@ -16,14 +16,14 @@ find-requires-clause-duty g c =
 pub try_to_fire-requires-clause-minds : goal.try_to_fire-requires-clause-minds
 try_to_fire-requires-clause-minds g c =
     let f = c.in-Match.ensures.finding in
-    still_minds c.args.space.now c.args.self.now (record c.args.self.now { desk = c.find.new.desk }) _ _ c.requires.minds c.find.ensures.desk refl
+    still_minds c.args.space.now c.args.self.now (record c.args.self.now { desk = c.find.new.desk }) _ _ c.requires.minds c.find.ensures.desk refl refl
     (looks_on _ _ _ (cell_looks (view c.args.self.now.desk) c.args.message.number (record { cell = a_cell.Pending; next = f.next })) f.sought.grows.only)
 
 pub returns-in-Busy-clause-again : goal.returns-in-Busy-clause-again
 returns-in-Busy-clause-again g c = λ e.
     let v = view c.args.self.now.desk in
     let m = c.args.message.number in
-    still_minds c.args.space.now c.args.self.now (record c.args.self.now { desk = c.find.new.desk }) _ _ c.requires.minds c.find.ensures.desk refl
+    still_minds c.args.space.now c.args.self.now (record c.args.self.now { desk = c.find.new.desk }) _ _ c.requires.minds c.find.ensures.desk refl refl
     (⊎_elim
     (λ t. subst (IsOnlyLooks v) (sym t.1.1) (cell_looks v m (record { cell = a_cell.Claimed; next = t.1.0 })))
     (λ b. looks_on _ _ _ (cell_looks v m (record { cell = a_cell.Pending; next = b.next })) b.sought.grows.only)
@@ -35,8 +35,8 @@ returns-in-Left-clause-over g c = λ e.
     let m = c.args.message.number in
     let w' = record c.args.self.now { desk = c.find.new.desk } in (
       ⊎_elim
-          (λ t. minded c.args.space.now c.args.self.now w' _ _ c.requires.minds c.find.ensures.desk refl (read_so v m (a_cell.Woken t.0) t.1) (cell_looks v m (record { cell = a_cell.Woken t.0; next = t.1 })) t.2)
-          (λ t. minded c.args.space.now c.args.self.now w' _ _ c.requires.minds c.find.ensures.desk refl t.0 (looks_on _ _ _ (cell_looks v m (record { cell = a_cell.Pending; next = t.1.next })) t.1.sought.grows.only) t.2)
+          (λ t. minded c.args.space.now c.args.self.now w' _ _ c.requires.minds c.find.ensures.desk refl refl (read_so v m (a_cell.Woken t.0) t.1) (cell_looks v m (record { cell = a_cell.Woken t.0; next = t.1 })) t.2)
+          (λ t. minded c.args.space.now c.args.self.now w' _ _ c.requires.minds c.find.ensures.desk refl refl t.0 (looks_on _ _ _ (cell_looks v m (record { cell = a_cell.Pending; next = t.1.next })) t.1.sought.grows.only) t.2)
           c.in-Left.ensures.finding,
       λ z. let k : true ≡ false = sym z ∙ c.requires.minds.told in absurd (cc),
     )
@@ -46,7 +46,7 @@ returns-in-Taken-clause-over g c = λ e.
     let v = view c.args.self.now.desk in
     let m = c.args.message.number in
     let t = c.in-Taken.ensures.finding in (
-      minded c.args.space.now c.args.self.now (record c.args.self.now { desk = c.find.new.desk }) _ _ c.requires.minds c.find.ensures.desk refl (read_so v m a_cell.Consumed t.0) (cell_looks v m (record { cell = a_cell.Consumed; next = t.0 })) t.1,
+      minded c.args.space.now c.args.self.now (record c.args.self.now { desk = c.find.new.desk }) _ _ c.requires.minds c.find.ensures.desk refl refl (read_so v m a_cell.Consumed t.0) (cell_looks v m (record { cell = a_cell.Consumed; next = t.0 })) t.1,
       λ z. let k : true ≡ false = sym z ∙ c.requires.minds.told in absurd (cc),
     )
 

@@ -21,10 +21,10 @@ begin_body-requires-clause-twice g c = twice _ _ _ _ _ _ _ _ c.requires.fired.3 
 pub take_on-requires-clause-begun : goal.take_on-requires-clause-begun
 take_on-requires-clause-begun g c = (
   c.requires.fired.0,
-  begun_there _ _ _ _ _ _ _ _ c.requires.fired.3 c.requires.sound _ c.requires.code c.chords_are_right.ensures _ (c.take.ensures.value ∙ c.requires.fired.2.caller_is) _ c.take_task-task.ensures.task (gathered_in c.args.unpacked.now.arguments.one c.args.unpacked.now.arguments.more) c.requires.fired.2.gathered.values c.requires.fired.2.gathered.twice _ c.take_task-task.ensures.spare _ (rw (c.deref_mut.ensures.value ∙ c.task.view_is) at c.begin_body.ensures.task) (rw (c.deref_mut.ensures.value ∙ c.task.view_is) at c.begin_body.ensures.past) c.begin_body.ensures.top,
+  begun_there _ _ _ _ _ _ _ _ c.requires.fired.3 c.requires.sound _ c.requires.code c.chords_are_right.ensures _ (c.take.ensures.value ∙ c.requires.fired.2.caller_is) _ c.take_task-task.ensures.task (gathered_in c.args.unpacked.now.arguments.one c.args.unpacked.now.arguments.more) c.requires.fired.2.gathered.values c.requires.fired.2.gathered.twice _ c.take_task-task.ensures.spare _ (rw (c.deref_mut.ensures.value ∙ c.task.view_is) at c.begin_body.ensures.task) (rw (c.deref_mut.ensures.value ∙ c.task.view_is) at c.begin_body.ensures.past) c.begin_body.ensures.top c.begin_body.new.draws (rw (c.deref_mut.ensures.value ∙ c.task.view_is) at c.begin_body.ensures.listed),
 )
 
 pub returns-clause-taken : goal.returns-clause-taken
 returns-clause-taken g c = λ v qs unpacked fired.
     c.take_on.ensures.taken v
-    (begun_there _ _ _ _ _ _ _ _ fired c.requires.sound _ c.requires.code c.chords_are_right.ensures _ (c.take.ensures.value ∙ unpacked.caller_is) _ c.take_task-task.ensures.task (gathered_in c.args.unpacked.now.arguments.one c.args.unpacked.now.arguments.more) unpacked.gathered.values unpacked.gathered.twice _ c.take_task-task.ensures.spare _ (rw (c.deref_mut.ensures.value ∙ c.task.view_is) at c.begin_body.ensures.task) (rw (c.deref_mut.ensures.value ∙ c.task.view_is) at c.begin_body.ensures.past) c.begin_body.ensures.top)
+    (begun_there _ _ _ _ _ _ _ _ fired c.requires.sound _ c.requires.code c.chords_are_right.ensures _ (c.take.ensures.value ∙ unpacked.caller_is) _ c.take_task-task.ensures.task (gathered_in c.args.unpacked.now.arguments.one c.args.unpacked.now.arguments.more) unpacked.gathered.values unpacked.gathered.twice _ c.take_task-task.ensures.spare _ (rw (c.deref_mut.ensures.value ∙ c.task.view_is) at c.begin_body.ensures.task) (rw (c.deref_mut.ensures.value ∙ c.task.view_is) at c.begin_body.ensures.past) c.begin_body.ensures.top c.begin_body.new.draws (rw (c.deref_mut.ensures.value ∙ c.task.view_is) at c.begin_body.ensures.listed))

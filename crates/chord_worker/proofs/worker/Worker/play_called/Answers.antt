@@ -1,4 +1,4 @@
-use Rattle.std.proofs.Common.{ℕ, ◌<◌, Bool, Some, None, List, ◌∷◌, Option, refl, sym, ap, ◌∙◌, subst, inl, inr, arith}
+use Rattle.std.proofs.Common.{◌≡◌, ℕ, ◌<◌, Bool, Some, None, List, ◌∷◌, Option, refl, sym, ap, ◌∙◌, subst, inl, inr, arith, Vec, Global}
 use Rattle.chord_base.specs.declared.event.Entry.{Entry}
 use Rattle.chord_base.specs.declared.event.What.TheVariants.{Called}
 use Rattle.chord_vm.specs.declared.ask.Ask.{Ask}
@@ -13,8 +13,8 @@ use Rattle.chord_space.specs.Desks.{view, space_code, space_limits, IsSameDesk}
 use Rattle.chord_task.specs.declared.parcel.Parcel.{Parcel}
 use Rattle.chord_task.specs.declared.task.Task.{Task}
 use Rattle.chord_task.specs.Standing.{view_of}
-use Rattle.chord_worker.specs.Playing.{IsNotedFrom, WasToldFull}
-use Rattle.chord_worker.proofs.Given.{only_ask, told_full, value_of_some, where_none}
+use Rattle.chord_worker.specs.Playing.{DrawsOne, HeardOfLimit, IsNotedFrom}
+use Rattle.chord_worker.proofs.Given.{only_ask, value_of_some, where_none}
 use Rattle.chord_worker.specs.Resting.{IsInMemory, MayContinue}
 use Rattle.chord_worker.proofs.Resting.{rest_told}
 use Rattle.chord_worker.proofs.Attending.{role_on}
@@ -30,8 +30,7 @@ draw_own-requires-clause-came g c = λ a e.
     let same = only_ask c.args.asked.now (ask.Call c.args.object c.args.method c.args.held.first) a c.requires.asked e in (
       c.requires.came.0,
       subst (λ (b : Ask). HasCome (space_code s) (space_limits s) c.requires.came.0 c.args.task (what_of_ask b)) same c.requires.came.1,
-      w.done,
-      subst (λ (b : Bool). IsInMemory (space_code s) (space_limits s) (view w.desk).kept b w.done (Some c.requires.came.0)) c.requires.room c.requires.came.2.memory,
+      subst (λ (b : Bool). IsInMemory (space_code s) (space_limits s) (view w.desk).kept b (Some c.requires.came.0)) c.requires.room c.requires.came.2.memory,
     )
 
 pub send_task-requires-clause-bounds : goal.send_task-requires-clause-bounds
@@ -52,7 +51,7 @@ pub mind-requires-clause-minds : goal.mind-requires-clause-minds
 mind-requires-clause-minds g c =
     let s = c.args.space.now in
     let w = c.args.self.now in
-    let w' = record w { desk = c.send_task.new.desk } in
+    let w' = record w { desk = c.send_task.new.desk; draws = c.draw_own.new.draws } in
     let what = Called c.args.object c.args.method c.args.held.first in
     let noted = (value_of_some _ c.in-Some.number (IsNotedFrom c.args.space.now (view c.args.self.now.desk) (view c.draw_own.new.desk) c.args.asked.now c.args.task c.draw_own.new.task) c.in-Some.is c.in_ok-number.ensures.noted (ask.Call c.args.object c.args.method c.args.held.first) c.requires.came.0 c.requires.asked c.requires.came.1) in
     let k = key c.args.object c.args.method in
@@ -60,18 +59,21 @@ mind-requires-clause-minds g c =
     let sent = c.send_task.ensures.sent in
     let same : IsSameDesk w.desk c.send_task.new.desk = (c.send_task.ensures.desk.0 ∙ c.draw_own.ensures.desk.0, c.send_task.ensures.desk.1 ∙ c.draw_own.ensures.desk.1) in
     now_minds s w c.requires.came.0 c.requires.came.2 c.draw_own.new.task c.in-Some.number v what noted refl c.requires.room c.requires.stock w' k (view_of c.draw_own.new.task).past sent same refl refl
-    (subst (λ (x : Option Task). IsInMemory (space_code s) (space_limits s) (view w'.desk).kept (view w.desk).spent w.done x) (sym c.requires.none)
+    (subst (λ (x : Option Task). IsInMemory (space_code s) (space_limits s) (view w'.desk).kept (view w.desk).spent x) (sym c.requires.none)
     (task_memory s w c.requires.came.0 c.requires.came.2 c.draw_own.new.task c.in-Some.number v c.args.object c.args.method c.args.held.first noted (view w'.desk) k sent))
     (subst MayContinue (sym c.requires.none) tt)
+    (value_of_some _ c.in-Some.number (λ _. DrawsOne (view w.desk).draws (view c.draw_own.new.desk).draws w.draws.items c.draw_own.new.draws.items) c.in-Some.is c.in_ok-number.ensures.listed) refl
 
-pub returns-in_ok-lay_down-in-None-clause-rest : goal.returns-in_ok-lay_down-in-None-clause-rest
-returns-in_ok-lay_down-in-None-clause-rest g c =
+pub returns-in-None-clause-rest : goal.returns-in-None-clause-rest
+returns-in-None-clause-rest g c =
     let s = c.args.space.now in
     let w = c.args.self.now in
     let d = c.lay_down.ensures.same.0 in
-    let told = subst (λ (x : Desk Parcel). WasToldFull (view w.desk) (view x) c.requires.came.0 c.draw_own.new.task) (sym d) (told_full (space_code c.args.space.now) (space_limits c.args.space.now) c.requires.came.0 c.args.task (Called c.args.object c.args.method c.args.held.first) c.requires.came.1 (view c.args.self.now.desk) (view c.draw_own.new.desk) c.draw_own.new.task (where_none _ (WasToldFull (view c.args.self.now.desk) (view c.draw_own.new.desk) c.args.task c.draw_own.new.task) c.in-None.is c.in_ok-number.ensures.told)) in
+    let told = subst (λ (x : Desk Parcel). HeardOfLimit (view w.desk) (view x)) (sym d) (where_none _ (HeardOfLimit (view c.args.self.now.desk) (view c.draw_own.new.desk)) c.in-None.is c.in_ok-number.ensures.told) in
     let same = subst (λ (x : Desk Parcel). IsSameDesk w.desk x) (sym d) c.draw_own.ensures.desk in
-    rest_told s w c.requires.came.0 c.requires.came.2 c.lay_down.new.self same c.draw_own.new.task told c.lay_down.ensures.same.1 (c.lay_down.ensures.same.2 ∙ c.requires.none) c.lay_down.ensures.same.3 c.in_ok-lay_down-in-None.ensures.done
+    rest_told s w c.requires.came.0 c.requires.came.2 c.lay_down.new.self same told c.lay_down.ensures.same.1 (c.lay_down.ensures.same.2 ∙ c.requires.none) c.lay_down.ensures.same.3
+    (ap (λ (x : Vec Entry Global). x.items) c.lay_down.ensures.lists.0 ∙ where_none _ (c.draw_own.new.draws.items ≡ w.draws.items) c.in-None.is c.in_ok-number.ensures.same)
+    (ap (λ (x : Vec (Vec Entry Global) Global). x.items) c.lay_down.ensures.lists.1)
 
 pub returns-in_ok-mind-in-Some-clause-went : goal.returns-in_ok-mind-in-Some-clause-went
 returns-in_ok-mind-in-Some-clause-went g c =
@@ -84,8 +86,8 @@ returns-in_ok-mind-in-Some-clause-went g c =
     (went_called (view c.args.self.now.desk).kept c.requires.came.0 c.in-Some.number x refl noted.below c.mind.new.self g.G.Gate.knows es kept
     (subst (λ (y : Option Task). WasMinded g.G.Gate.knows es y c.mind.new.self c.in-Some.number) c.requires.none c.in_ok-mind-in-Some.ensures.minded))
 
-pub returns-in_ok-lay_down-in-None-clause-went : goal.returns-in_ok-lay_down-in-None-clause-went
-returns-in_ok-lay_down-in-None-clause-went g c = inr (inr (ap (λ (x : Desk Parcel). (view x).spent) c.lay_down.ensures.same.0 ∙ ap (λ (z : View). z.spent) (told_full (space_code c.args.space.now) (space_limits c.args.space.now) c.requires.came.0 c.args.task (Called c.args.object c.args.method c.args.held.first) c.requires.came.1 (view c.args.self.now.desk) (view c.draw_own.new.desk) c.draw_own.new.task (where_none _ (WasToldFull (view c.args.self.now.desk) (view c.draw_own.new.desk) c.args.task c.draw_own.new.task) c.in-None.is c.in_ok-number.ensures.told)).told.1))
+pub returns-in-None-clause-went : goal.returns-in-None-clause-went
+returns-in-None-clause-went g c = inr (inr (ap (λ (x : Desk Parcel). (view x).spent) c.lay_down.ensures.same.0 ∙ ap (λ (z : View). z.spent) (where_none _ (HeardOfLimit (view c.args.self.now.desk) (view c.draw_own.new.desk)) c.in-None.is c.in_ok-number.ensures.told).1))
 
 pub returns-in_ok-mind-in-Some-clause-plays : goal.returns-in_ok-mind-in-Some-clause-plays
 returns-in_ok-mind-in-Some-clause-plays g c =
@@ -94,8 +96,8 @@ returns-in_ok-mind-in-Some-clause-plays g c =
     (subst (PlaysNoOther c.requires.came.0) (sym c.requires.none) tt)
     (λ told. c.in_ok-mind-in-Some.ensures.over.1 (c.in_ok-mind-in-Some.ensures.over.0.told ∙ told)) c.in_ok-mind-in-Some.ensures.minded)
 
-pub returns-in_ok-lay_down-in-None-clause-plays : goal.returns-in_ok-lay_down-in-None-clause-plays
-returns-in_ok-lay_down-in-None-clause-plays g c = inl (subst (PlaysNoOther c.args.task) (sym (c.lay_down.ensures.same.2 ∙ c.requires.none)) tt)
+pub returns-in-None-clause-plays : goal.returns-in-None-clause-plays
+returns-in-None-clause-plays g c = inl (subst (PlaysNoOther c.args.task) (sym (c.lay_down.ensures.same.2 ∙ c.requires.none)) tt)
 
 pub send_task-requires-clause-task : goal.send_task-requires-clause-task
 send_task-requires-clause-task g c = (value_of_some _ c.in-Some.number (IsNotedFrom c.args.space.now (view c.args.self.now.desk) (view c.draw_own.new.desk) c.args.asked.now c.args.task c.draw_own.new.task) c.in-Some.is c.in_ok-number.ensures.noted (ask.Call c.args.object c.args.method c.args.held.first) c.requires.came.0 c.requires.asked c.requires.came.1).task
@@ -110,7 +112,7 @@ pub returns-in_ok-mind-in-Some-clause-role : goal.returns-in_ok-mind-in-Some-cla
 returns-in_ok-mind-in-Some-clause-role g c =
     let s = c.args.space.now in
     let w = c.args.self.now in
-    let w' = record w { desk = c.send_task.new.desk } in
+    let w' = record w { desk = c.send_task.new.desk; draws = c.draw_own.new.draws } in
     let what = Called c.args.object c.args.method c.args.held.first in
     let noted = (value_of_some _ c.in-Some.number (IsNotedFrom c.args.space.now (view c.args.self.now.desk) (view c.draw_own.new.desk) c.args.asked.now c.args.task c.draw_own.new.task) c.in-Some.is c.in_ok-number.ensures.noted (ask.Call c.args.object c.args.method c.args.held.first) c.requires.came.0 c.requires.asked c.requires.came.1) in
     let k = key c.args.object c.args.method in

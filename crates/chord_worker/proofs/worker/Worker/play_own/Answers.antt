@@ -1,4 +1,5 @@
-use Rattle.std.proofs.Common.{Bool, Some, None, refl, sym, ap, subst, ◌∙◌, inl, inr}
+use Rattle.std.proofs.Common.{◌≡◌, Bool, Some, None, refl, sym, ap, subst, ◌∙◌, inl, inr, Vec, Global}
+use Rattle.chord_base.specs.declared.event.Entry.{Entry}
 use Rattle.chord_base.specs.Story.{IsIn}
 use Rattle.chord_rule.specs.declared.view.View.{View}
 use Rattle.chord_rule.specs.Kinds.{entry}
@@ -6,9 +7,9 @@ use Rattle.chord_space.specs.declared.space.Desk.{Desk}
 use Rattle.chord_space.specs.Desks.{view, space_code, space_limits, IsSameDesk}
 use Rattle.chord_task.specs.declared.parcel.Parcel.{Parcel}
 use Rattle.chord_vm.specs.Frames.{what_of_ask}
-use Rattle.chord_worker.specs.Playing.{IsNotedAs, IsNotedFrom, WasToldFull}
+use Rattle.chord_worker.specs.Playing.{DrawsOne, IsNotedAs, IsNotedFrom, HeardOfLimit}
 use Rattle.chord_worker.specs.Resting.{IsInMemory}
-use Rattle.chord_worker.proofs.Given.{some_ask, told_full, value_of_some, where_none}
+use Rattle.chord_worker.proofs.Given.{some_ask, value_of_some, where_none}
 use Rattle.chord_worker.proofs.Resting.{rest_noted, role_noted, rest_told, role_told}
 use Rattle.chord_worker.specs.Stepping.{PlaysNoOther}
 use Rattle.chord_worker.proofs.Stepping.{newest_is_kept, no_other, still_no_other}
@@ -16,10 +17,10 @@ use Rattle.chord_worker.proofs.worker.Worker.play_own.Goals as goal
 
 pub draw_own-requires-clause-came : goal.draw_own-requires-clause-came
 draw_own-requires-clause-came c = λ a e. let y = c.requires.came a e in
-    (y.0, y.1, c.args.self.now.done, subst (λ (b : Bool). IsInMemory (space_code c.args.space.now) (space_limits c.args.space.now) (view c.args.self.now.desk).kept b c.args.self.now.done (Some y.0)) c.requires.room y.2.memory)
+    (y.0, y.1, subst (λ (b : Bool). IsInMemory (space_code c.args.space.now) (space_limits c.args.space.now) (view c.args.self.now.desk).kept b (Some y.0)) c.requires.room y.2.memory)
 
-pub returns-in_ok-settle-in-Some-clause-rest : goal.returns-in_ok-settle-in-Some-clause-rest
-returns-in_ok-settle-in-Some-clause-rest c =
+pub returns-in-Some-clause-rest : goal.returns-in-Some-clause-rest
+returns-in-Some-clause-rest c =
     let s = c.args.space.now in
     let w = c.args.self.now in
     let a = some_ask c.args.asked.now c.requires.some in
@@ -29,12 +30,16 @@ returns-in_ok-settle-in-Some-clause-rest c =
     let d = c.settle.ensures.same.0 in
     let moved = subst (λ (x : Desk Parcel). IsNotedAs (space_code s) (space_limits s) (view w.desk) (view x) y.0 c.draw_own.new.task n (what_of_ask a.0)) (sym d) noted in
     let same = subst (λ (x : Desk Parcel). IsSameDesk w.desk x) (sym d) c.draw_own.ensures.desk in
-    let memory = moved.memory (view w.desk).spent w.done y.2.memory in
-    let settled = c.in_ok-settle-in-Some.ensures.settled (space_code s) (space_limits s) _ _ memory in
-    rest_noted s w y.0 y.2 c.settle.new.self same c.draw_own.new.task n (what_of_ask a.0) moved (c.requires.plain a.0 a.1) c.settle.ensures.same.1 (c.in_ok-settle-in-Some.ensures.stock (space_code s) (space_limits s) memory.played.0 y.2.stock) settled.0 settled.1
+    let memory = moved.memory (view w.desk).spent y.2.memory in
+    let settled = c.settle.ensures.settled (space_code s) (space_limits s) _ _ memory in
+    rest_noted s w y.0 y.2 c.settle.new.self same c.draw_own.new.task n (what_of_ask a.0) moved (c.requires.plain a.0 a.1) c.settle.ensures.same.1 (c.settle.ensures.stock (space_code s) (space_limits s) memory.played.0 y.2.stock) settled.0 settled.1
+    (subst (λ (x : Desk Parcel). DrawsOne (view w.desk).draws (view x).draws w.draws.items c.settle.new.self.draws.items) (sym d)
+    (subst (λ (x : Vec Entry Global). DrawsOne (view w.desk).draws (view c.draw_own.new.desk).draws w.draws.items x.items) (sym c.settle.ensures.lists.0)
+    (value_of_some _ n (λ _. DrawsOne (view w.desk).draws (view c.draw_own.new.desk).draws w.draws.items c.draw_own.new.draws.items) c.in-Some.is c.in_ok-draw_own.ensures.listed)))
+    (ap (λ (x : Vec (Vec Entry Global) Global). x.items) c.settle.ensures.lists.1)
 
-pub returns-in_ok-settle-in-Some-clause-role : goal.returns-in_ok-settle-in-Some-clause-role
-returns-in_ok-settle-in-Some-clause-role c =
+pub returns-in-Some-clause-role : goal.returns-in-Some-clause-role
+returns-in-Some-clause-role c =
     let s = c.args.space.now in
     let w = c.args.self.now in
     let a = some_ask c.args.asked.now c.requires.some in
@@ -46,32 +51,34 @@ returns-in_ok-settle-in-Some-clause-role c =
     let same = subst (λ (x : Desk Parcel). IsSameDesk w.desk x) (sym d) c.draw_own.ensures.desk in
     role_noted s w y.0 y.2 c.settle.new.self same c.draw_own.new.task n (what_of_ask a.0) moved
 
-pub returns-in_ok-lay_down-in-None-clause-rest : goal.returns-in_ok-lay_down-in-None-clause-rest
-returns-in_ok-lay_down-in-None-clause-rest c =
+pub returns-in-None-clause-rest : goal.returns-in-None-clause-rest
+returns-in-None-clause-rest c =
     let s = c.args.space.now in
     let w = c.args.self.now in
     let a = some_ask c.args.asked.now c.requires.some in
     let y = c.requires.came a.0 a.1 in
-    let told = told_full (space_code s) (space_limits s) y.0 c.args.task (what_of_ask a.0) y.1 (view w.desk) (view c.draw_own.new.desk) c.draw_own.new.task (where_none _ (WasToldFull (view w.desk) (view c.draw_own.new.desk) c.args.task c.draw_own.new.task) c.in-None.is c.in_ok-draw_own.ensures.told) in
+    let told = where_none _ (HeardOfLimit (view w.desk) (view c.draw_own.new.desk)) c.in-None.is c.in_ok-draw_own.ensures.told in
     let d = c.lay_down.ensures.same.0 in
-    let moved = subst (λ (x : Desk Parcel). WasToldFull (view w.desk) (view x) y.0 c.draw_own.new.task) (sym d) told in
+    let moved = subst (λ (x : Desk Parcel). HeardOfLimit (view w.desk) (view x)) (sym d) told in
     let same = subst (λ (x : Desk Parcel). IsSameDesk w.desk x) (sym d) c.draw_own.ensures.desk in
-    rest_told s w y.0 y.2 c.lay_down.new.self same c.draw_own.new.task moved c.lay_down.ensures.same.1 (c.lay_down.ensures.same.2 ∙ c.requires.none) c.lay_down.ensures.same.3 c.in_ok-lay_down-in-None.ensures.done
+    rest_told s w y.0 y.2 c.lay_down.new.self same moved c.lay_down.ensures.same.1 (c.lay_down.ensures.same.2 ∙ c.requires.none) c.lay_down.ensures.same.3
+    (ap (λ (x : Vec Entry Global). x.items) c.lay_down.ensures.lists.0 ∙ where_none _ (c.draw_own.new.draws.items ≡ w.draws.items) c.in-None.is c.in_ok-draw_own.ensures.same)
+    (ap (λ (x : Vec (Vec Entry Global) Global). x.items) c.lay_down.ensures.lists.1)
 
-pub returns-in_ok-lay_down-in-None-clause-role : goal.returns-in_ok-lay_down-in-None-clause-role
-returns-in_ok-lay_down-in-None-clause-role c =
+pub returns-in-None-clause-role : goal.returns-in-None-clause-role
+returns-in-None-clause-role c =
     let s = c.args.space.now in
     let w = c.args.self.now in
     let a = some_ask c.args.asked.now c.requires.some in
     let y = c.requires.came a.0 a.1 in
-    let told = told_full (space_code s) (space_limits s) y.0 c.args.task (what_of_ask a.0) y.1 (view w.desk) (view c.draw_own.new.desk) c.draw_own.new.task (where_none _ (WasToldFull (view w.desk) (view c.draw_own.new.desk) c.args.task c.draw_own.new.task) c.in-None.is c.in_ok-draw_own.ensures.told) in
+    let told = where_none _ (HeardOfLimit (view w.desk) (view c.draw_own.new.desk)) c.in-None.is c.in_ok-draw_own.ensures.told in
     let d = c.lay_down.ensures.same.0 in
-    let moved = subst (λ (x : Desk Parcel). WasToldFull (view w.desk) (view x) y.0 c.draw_own.new.task) (sym d) told in
+    let moved = subst (λ (x : Desk Parcel). HeardOfLimit (view w.desk) (view x)) (sym d) told in
     let same = subst (λ (x : Desk Parcel). IsSameDesk w.desk x) (sym d) c.draw_own.ensures.desk in
-    role_told s w y.0 y.2 c.lay_down.new.self same c.draw_own.new.task moved
+    role_told s w y.0 y.2 c.lay_down.new.self same moved
 
-pub returns-in_ok-settle-in-Some-clause-went : goal.returns-in_ok-settle-in-Some-clause-went
-returns-in_ok-settle-in-Some-clause-went c =
+pub returns-in-Some-clause-went : goal.returns-in-Some-clause-went
+returns-in-Some-clause-went c =
     let s = c.args.space.now in
     let w = c.args.self.now in
     let a = some_ask c.args.asked.now c.requires.some in
@@ -82,25 +89,25 @@ returns-in_ok-settle-in-Some-clause-went c =
     let x = entry n noted.body (what_of_ask a.0) in
     inl (newest_is_kept (view w.desk).kept c.args.task n x refl noted.below c.settle.new.self (subst (IsIn x) (sym kept) (inl refl)))
 
-pub returns-in_ok-lay_down-in-None-clause-went : goal.returns-in_ok-lay_down-in-None-clause-went
-returns-in_ok-lay_down-in-None-clause-went c =
+pub returns-in-None-clause-went : goal.returns-in-None-clause-went
+returns-in-None-clause-went c =
     let s = c.args.space.now in
     let w = c.args.self.now in
     let a = some_ask c.args.asked.now c.requires.some in
     let y = c.requires.came a.0 a.1 in
-    let told = told_full (space_code s) (space_limits s) y.0 c.args.task (what_of_ask a.0) y.1 (view w.desk) (view c.draw_own.new.desk) c.draw_own.new.task (where_none _ (WasToldFull (view w.desk) (view c.draw_own.new.desk) c.args.task c.draw_own.new.task) c.in-None.is c.in_ok-draw_own.ensures.told) in
+    let told = where_none _ (HeardOfLimit (view w.desk) (view c.draw_own.new.desk)) c.in-None.is c.in_ok-draw_own.ensures.told in
     let d = c.lay_down.ensures.same.0 in
-    inr (inr (ap (λ (x : Desk Parcel). (view x).spent) d ∙ ap (λ (z : View). z.spent) told.told.1))
+    inr (inr (ap (λ (x : Desk Parcel). (view x).spent) d ∙ ap (λ (z : View). z.spent) told.1))
 
-pub returns-in_ok-settle-in-Some-clause-plays : goal.returns-in_ok-settle-in-Some-clause-plays
-returns-in_ok-settle-in-Some-clause-plays c =
+pub returns-in-Some-clause-plays : goal.returns-in-Some-clause-plays
+returns-in-Some-clause-plays c =
     let s = c.args.space.now in
     let w = c.args.self.now in
     let a = some_ask c.args.asked.now c.requires.some in
     let y = c.requires.came a.0 a.1 in
     let n = c.in-Some.field-0 in
     let noted = value_of_some _ n (IsNotedFrom s (view w.desk) (view c.draw_own.new.desk) c.args.asked.now c.args.task c.draw_own.new.task) c.in-Some.is c.in_ok-draw_own.ensures.noted a.0 y.0 a.1 y.1 in
-    still_no_other c.args.task y.0 c.settle.new.self.task (sym y.1.view) (no_other y.0 c.draw_own.new.task (entry n noted.body (what_of_ask a.0)) c.settle.new.self.task noted.past c.in_ok-settle-in-Some.ensures.task)
+    still_no_other c.args.task y.0 c.settle.new.self.task (sym y.1.view) (no_other y.0 c.draw_own.new.task (entry n noted.body (what_of_ask a.0)) c.settle.new.self.task noted.past c.settle.ensures.task)
 
-pub returns-in_ok-lay_down-in-None-clause-plays : goal.returns-in_ok-lay_down-in-None-clause-plays
-returns-in_ok-lay_down-in-None-clause-plays c = subst (PlaysNoOther c.args.task) (sym (c.lay_down.ensures.same.2 ∙ c.requires.none)) tt
+pub returns-in-None-clause-plays : goal.returns-in-None-clause-plays
+returns-in-None-clause-plays c = subst (PlaysNoOther c.args.task) (sym (c.lay_down.ensures.same.2 ∙ c.requires.none)) tt

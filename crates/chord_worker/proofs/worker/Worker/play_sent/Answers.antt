@@ -1,4 +1,5 @@
-use Rattle.std.proofs.Common.{ℕ, ◌<◌, Bool, Some, None, [], refl, sym, ap, ◌∙◌, subst, inl, inr, arith}
+use Rattle.std.proofs.Common.{◌≡◌, ℕ, ◌<◌, Bool, Some, None, [], refl, sym, ap, ◌∙◌, subst, inl, inr, arith, Vec, Global}
+use Rattle.chord_base.specs.declared.event.Entry.{Entry}
 use Rattle.chord_base.specs.declared.event.What.TheVariants.{Sent}
 use Rattle.chord_vm.specs.declared.ask.Ask.{Ask}
 use Rattle.chord_vm.specs.declared.ask.Ask.TheVariants as ask
@@ -10,8 +11,8 @@ use Rattle.chord_rule.specs.Made.{key}
 use Rattle.chord_space.specs.declared.space.Desk.{Desk}
 use Rattle.chord_space.specs.Desks.{view, space_code, space_limits, IsSameDesk}
 use Rattle.chord_task.specs.declared.parcel.Parcel.{Parcel}
-use Rattle.chord_worker.specs.Playing.{IsNotedFrom, WasToldFull}
-use Rattle.chord_worker.proofs.Given.{only_ask, told_full, value_of_some, where_none}
+use Rattle.chord_worker.specs.Playing.{DrawsOne, HeardOfLimit, IsNotedFrom}
+use Rattle.chord_worker.proofs.Given.{only_ask, value_of_some, where_none}
 use Rattle.chord_worker.specs.Sending.{IsSentOff}
 use Rattle.chord_worker.specs.Resting.{IsInMemory}
 use Rattle.chord_worker.proofs.Resting.{rest_told}
@@ -29,8 +30,7 @@ draw_own-requires-clause-came g c = λ a e.
     let same = only_ask c.args.asked.now (ask.Send c.args.object c.args.method c.args.held.first) a c.requires.asked e in (
       c.requires.came.0,
       subst (λ (b : Ask). HasCome (space_code s) (space_limits s) c.requires.came.0 c.args.task (what_of_ask b)) same c.requires.came.1,
-      w.done,
-      subst (λ (b : Bool). IsInMemory (space_code s) (space_limits s) (view w.desk).kept b w.done (Some c.requires.came.0)) c.requires.room c.requires.came.2.memory,
+      subst (λ (b : Bool). IsInMemory (space_code s) (space_limits s) (view w.desk).kept b (Some c.requires.came.0)) c.requires.room c.requires.came.2.memory,
     )
 
 pub send_letter-requires-clause-bounds : goal.send_letter-requires-clause-bounds
@@ -59,18 +59,23 @@ mind-requires-clause-minds g c =
     let v = view c.draw_own.new.desk in
     let sent = subst (λ (x : Desk Parcel). IsSentOff v (view x) c.in-Some.number k []) (sym d) c.send_letter.ensures.sent in
     let same = subst (λ (x : Desk Parcel). IsSameDesk w.desk x) (sym d) (c.send_letter.ensures.desk.0 ∙ c.draw_own.ensures.desk.0, c.send_letter.ensures.desk.1 ∙ c.draw_own.ensures.desk.1) in
-    let settled = c.in_ok-settle-in-Some.ensures.settled (space_code s) (space_limits s) (view w'.desk).kept (view w.desk).spent
+    let settled = c.settle.ensures.settled (space_code s) (space_limits s) (view w'.desk).kept (view w.desk).spent
     (letter_memory s w c.requires.came.0 c.requires.came.2 c.draw_own.new.task c.in-Some.number v c.args.object c.args.method c.args.held.first noted (view w'.desk) k sent) in
     now_minds s w c.requires.came.0 c.requires.came.2 c.draw_own.new.task c.in-Some.number v what noted refl c.requires.room c.requires.stock w' k [] sent same (c.settle.ensures.spare c.requires.stock) c.settle.ensures.same.1 settled.0 settled.1
+    (subst (λ (x : Vec Entry Global). DrawsOne (view w.desk).draws v.draws w.draws.items x.items) (sym c.settle.ensures.lists.0)
+    (value_of_some _ c.in-Some.number (λ _. DrawsOne (view w.desk).draws (view c.draw_own.new.desk).draws w.draws.items c.draw_own.new.draws.items) c.in-Some.is c.in_ok-number.ensures.listed))
+    (ap (λ (x : Vec (Vec Entry Global) Global). x.items) c.settle.ensures.lists.1)
 
-pub returns-in_ok-lay_down-in-None-clause-rest : goal.returns-in_ok-lay_down-in-None-clause-rest
-returns-in_ok-lay_down-in-None-clause-rest g c =
+pub returns-in-None-clause-rest : goal.returns-in-None-clause-rest
+returns-in-None-clause-rest g c =
     let s = c.args.space.now in
     let w = c.args.self.now in
     let d = c.lay_down.ensures.same.0 in
-    let told = subst (λ (x : Desk Parcel). WasToldFull (view w.desk) (view x) c.requires.came.0 c.draw_own.new.task) (sym d) (told_full (space_code c.args.space.now) (space_limits c.args.space.now) c.requires.came.0 c.args.task (Sent c.args.object c.args.method c.args.held.first) c.requires.came.1 (view c.args.self.now.desk) (view c.draw_own.new.desk) c.draw_own.new.task (where_none _ (WasToldFull (view c.args.self.now.desk) (view c.draw_own.new.desk) c.args.task c.draw_own.new.task) c.in-None.is c.in_ok-number.ensures.told)) in
+    let told = subst (λ (x : Desk Parcel). HeardOfLimit (view w.desk) (view x)) (sym d) (where_none _ (HeardOfLimit (view c.args.self.now.desk) (view c.draw_own.new.desk)) c.in-None.is c.in_ok-number.ensures.told) in
     let same = subst (λ (x : Desk Parcel). IsSameDesk w.desk x) (sym d) c.draw_own.ensures.desk in
-    rest_told s w c.requires.came.0 c.requires.came.2 c.lay_down.new.self same c.draw_own.new.task told c.lay_down.ensures.same.1 (c.lay_down.ensures.same.2 ∙ c.requires.none) c.lay_down.ensures.same.3 c.in_ok-lay_down-in-None.ensures.done
+    rest_told s w c.requires.came.0 c.requires.came.2 c.lay_down.new.self same told c.lay_down.ensures.same.1 (c.lay_down.ensures.same.2 ∙ c.requires.none) c.lay_down.ensures.same.3
+    (ap (λ (x : Vec Entry Global). x.items) c.lay_down.ensures.lists.0 ∙ where_none _ (c.draw_own.new.draws.items ≡ w.draws.items) c.in-None.is c.in_ok-number.ensures.same)
+    (ap (λ (x : Vec (Vec Entry Global) Global). x.items) c.lay_down.ensures.lists.1)
 
 pub returns-in_ok-mind-in-Some-clause-went : goal.returns-in_ok-mind-in-Some-clause-went
 returns-in_ok-mind-in-Some-clause-went g c =
@@ -80,8 +85,8 @@ returns-in_ok-mind-in-Some-clause-went g c =
     gone_on (view c.args.self.now.desk).kept c.args.task c.requires.came.0 c.mind.new.self (sym c.requires.came.1.view)
     (went_sent (view c.args.self.now.desk).kept c.requires.came.0 c.in-Some.number x refl noted.below c.mind.new.self g.G.Gate.knows (view c.settle.new.self.desk).kept c.settle.new.self.task kept c.in_ok-mind-in-Some.ensures.minded)
 
-pub returns-in_ok-lay_down-in-None-clause-went : goal.returns-in_ok-lay_down-in-None-clause-went
-returns-in_ok-lay_down-in-None-clause-went g c = inr (inr (ap (λ (x : Desk Parcel). (view x).spent) c.lay_down.ensures.same.0 ∙ ap (λ (z : View). z.spent) (told_full (space_code c.args.space.now) (space_limits c.args.space.now) c.requires.came.0 c.args.task (Sent c.args.object c.args.method c.args.held.first) c.requires.came.1 (view c.args.self.now.desk) (view c.draw_own.new.desk) c.draw_own.new.task (where_none _ (WasToldFull (view c.args.self.now.desk) (view c.draw_own.new.desk) c.args.task c.draw_own.new.task) c.in-None.is c.in_ok-number.ensures.told)).told.1))
+pub returns-in-None-clause-went : goal.returns-in-None-clause-went
+returns-in-None-clause-went g c = inr (inr (ap (λ (x : Desk Parcel). (view x).spent) c.lay_down.ensures.same.0 ∙ ap (λ (z : View). z.spent) (where_none _ (HeardOfLimit (view c.args.self.now.desk) (view c.draw_own.new.desk)) c.in-None.is c.in_ok-number.ensures.told).1))
 
 pub returns-in_ok-mind-in-Some-clause-plays : goal.returns-in_ok-mind-in-Some-clause-plays
 returns-in_ok-mind-in-Some-clause-plays g c =
@@ -89,11 +94,11 @@ returns-in_ok-mind-in-Some-clause-plays g c =
     let x = entry c.in-Some.number noted.body (Sent c.args.object c.args.method c.args.held.first) in
     plays_next g.G.Gate.knows (view c.args.self.now.desk).kept c.args.task c.requires.came.0 c.mind.new.self (sym c.requires.came.1.view)
     (plays_minded g.G.Gate.knows (view c.args.self.now.desk).kept (view c.settle.new.self.desk).kept c.requires.came.0 c.in-Some.number c.settle.new.self.task c.mind.new.self noted.below
-    (no_other c.requires.came.0 c.draw_own.new.task x c.settle.new.self.task noted.past c.in_ok-settle-in-Some.ensures.task)
+    (no_other c.requires.came.0 c.draw_own.new.task x c.settle.new.self.task noted.past c.settle.ensures.task)
     (λ told. c.in_ok-mind-in-Some.ensures.over.1 (c.in_ok-mind-in-Some.ensures.over.0.told ∙ told)) c.in_ok-mind-in-Some.ensures.minded)
 
-pub returns-in_ok-lay_down-in-None-clause-plays : goal.returns-in_ok-lay_down-in-None-clause-plays
-returns-in_ok-lay_down-in-None-clause-plays g c = inl (subst (PlaysNoOther c.args.task) (sym (c.lay_down.ensures.same.2 ∙ c.requires.none)) tt)
+pub returns-in-None-clause-plays : goal.returns-in-None-clause-plays
+returns-in-None-clause-plays g c = inl (subst (PlaysNoOther c.args.task) (sym (c.lay_down.ensures.same.2 ∙ c.requires.none)) tt)
 
 pub send_letter-requires-clause-named : goal.send_letter-requires-clause-named
 send_letter-requires-clause-named g c = (value_of_some _ c.in-Some.number (IsNotedFrom c.args.space.now (view c.args.self.now.desk) (view c.draw_own.new.desk) c.args.asked.now c.args.task c.draw_own.new.task) c.in-Some.is c.in_ok-number.ensures.noted (ask.Send c.args.object c.args.method c.args.held.first) c.requires.came.0 c.requires.asked c.requires.came.1).of_code

@@ -1,4 +1,5 @@
-use Rattle.std.proofs.Common.{◌≡◌, true, refl, sym, ap, ◌∙◌, subst, inr}
+use Rattle.std.proofs.Common.{◌≡◌, true, refl, sym, ap, ◌∙◌, subst, inr, Vec, Global}
+use Rattle.chord_base.specs.declared.event.Entry.{Entry}
 use Rattle.chord_match.specs.declared.claiming.Missed.TheVariants as a_miss
 use Rattle.chord_match.specs.Fires.{IsMissedBy}
 use Rattle.chord_rule.specs.declared.view.View.{View}
@@ -16,29 +17,30 @@ fire_to-requires-clause-empty g c = record { gathered = rw c.nothing-unpacked.en
 pub begin_fired-requires-clause-fired : goal.begin_fired-requires-clause-fired
 begin_fired-requires-clause-fired g c =
     let f = c.in-Ok.ensures.fired in
-    (view c.args.self.now.desk, f.0, f.1, found_fired _ _ _ _ _ c.requires.minds _ _ _ _ c.requires.found.1 _ c.fire_to.ensures.desk _ _ f.2)
+    (view c.args.self.now.desk, f.0, f.1, found_fired _ _ _ _ _ c.requires.minds _ _ _ _ c.requires.found.1 _ c.fire_to.ensures.desk _ _ f.2 c.reserve.new.self c.reserve.ensures.items)
 
 pub returns-in-Ok-clause-minded : goal.returns-in-Ok-clause-minded
 returns-in-Ok-clause-minded g c = λ e.
     let found = c.requires.found.1 in
     let f = c.in-Ok.ensures.fired in
     taken_minded g.G.Gate.knows _ _ _ _ _ (message_older _ _ _ _ _ _ _ f.2.came found.own)
-    (c.begin_fired.ensures.taken (view c.args.self.now.desk) f.0 f.1 (found_fired _ _ _ _ _ c.requires.minds _ _ _ _ found _ c.fire_to.ensures.desk _ _ f.2))
+    (c.begin_fired.ensures.taken (view c.args.self.now.desk) f.0 f.1 (found_fired _ _ _ _ _ c.requires.minds _ _ _ _ found _ c.fire_to.ensures.desk _ _ f.2 c.reserve.new.self c.reserve.ensures.items))
 
 pub returns-in-Err-Lost-clause-again : goal.returns-in-Err-Lost-clause-again
 returns-in-Err-Lost-clause-again g c = λ e.
     let lost = rw c.in-Err-Lost.field-0-is at c.in-Err-Lost.ensures.missed in
-    still_minds c.args.space.now c.args.self.now (record c.args.self.now { desk = c.fire_to.new.desk }) _ _ c.requires.minds c.fire_to.ensures.desk refl (lost_looks _ _ lost.same)
+    still_minds c.args.space.now c.args.self.now (record c.args.self.now { desk = c.fire_to.new.desk; draws = c.reserve.new.self }) _ _ c.requires.minds c.fire_to.ensures.desk refl c.reserve.ensures.items (lost_looks _ _ lost.same)
 
-pub returns-in_ok-give_up-in-Err-Spent-clause-over : goal.returns-in_ok-give_up-in-Err-Spent-clause-over
-returns-in_ok-give_up-in-Err-Spent-clause-over g c = λ e.
+pub returns-in-Err-Spent-clause-over : goal.returns-in-Err-Spent-clause-over
+returns-in-Err-Spent-clause-over g c = λ e.
     let d = c.give_up.ensures.same.0 in
     let turned : IsMissedBy c.args.space.now.events (view c.args.self.now.desk) (view c.fire_to.new.desk) c.args.members.now c.args.nexts.now a_miss.Spent = rw c.in-Err-Spent.field-0-is at c.in-Err-Spent.ensures.missed in
-    let none = c.in_ok-give_up-in-Err-Spent.ensures.none in (
+    let none = c.give_up.ensures.none in (
       refused c.args.space.now c.args.self.now c.give_up.new.self _ _ c.requires.minds
           (subst (λ (x : Desk Parcel). IsSameDesk c.args.self.now.desk x) (sym d) c.fire_to.ensures.desk)
           (subst (λ (x : Desk Parcel). view x ≡ record (view c.args.self.now.desk) { looked = (view x).looked; spent = true }) (sym d) turned.same)
-          none c.give_up.ensures.same.2 c.give_up.ensures.same.1 c.in_ok-give_up-in-Err-Spent.ensures.done,
+          none c.give_up.ensures.same.2 c.give_up.ensures.same.1
+          (ap (λ (x : Vec Entry Global). x.items) c.give_up.ensures.lists.0 ∙ c.reserve.ensures.items) (ap (λ (x : Vec (Vec Entry Global) Global). x.items) c.give_up.ensures.lists.1),
       λ z. none,
     )
 
@@ -47,7 +49,7 @@ returns-in-Err-Lost-clause-same g c = λ e.
     let lost = rw c.in-Err-Lost.field-0-is at c.in-Err-Lost.ensures.missed in
     (refl, ap (λ (z : View). z.kept) lost.same)
 
-pub returns-in_ok-give_up-in-Err-Spent-clause-minded : goal.returns-in_ok-give_up-in-Err-Spent-clause-minded
-returns-in_ok-give_up-in-Err-Spent-clause-minded g c = λ e.
+pub returns-in-Err-Spent-clause-minded : goal.returns-in-Err-Spent-clause-minded
+returns-in-Err-Spent-clause-minded g c = λ e.
     let turned : IsMissedBy c.args.space.now.events (view c.args.self.now.desk) (view c.fire_to.new.desk) c.args.members.now c.args.nexts.now a_miss.Spent = rw c.in-Err-Spent.field-0-is at c.in-Err-Spent.ensures.missed in
     inr (inr (ap (λ (x : Desk Parcel). (view x).spent) c.give_up.ensures.same.0 ∙ ap (λ (z : View). z.spent) turned.same))
