@@ -1,7 +1,6 @@
 -- A worker is at rest again after an entry of its task, and where it was told that the limit is reached.
 use Rattle.std.proofs.Common.{◌≡◌, ℕ, true, false, ◌∷◌, Option, Some, None, sym, ap, ◌∙◌, subst}
 use Rattle.chord_base.specs.declared.event.What.{What}
-use Rattle.chord_base.specs.declared.event.Entry.{Entry}
 use Rattle.chord_rule.specs.declared.view.View.{View}
 use Rattle.chord_rule.specs.Kinds.{entry}
 use Rattle.chord_space.specs.declared.space.Space.{Space}

@@ -1,4 +1,4 @@
-use Rattle.std.proofs.Common.{◌≡◌, ℕ, ◌<◌, Bool, Some, None, List, ◌∷◌, Option, refl, sym, ap, ◌∙◌, subst, inl, inr, arith, Vec, Global}
+use Rattle.std.proofs.Common.{◌≡◌, ℕ, ◌<◌, Bool, Some, List, ◌∷◌, Option, refl, sym, ap, ◌∙◌, subst, inl, inr, arith, Vec, Global}
 use Rattle.chord_base.specs.declared.event.Entry.{Entry}
 use Rattle.chord_base.specs.declared.event.What.TheVariants.{Called}
 use Rattle.chord_vm.specs.declared.ask.Ask.{Ask}

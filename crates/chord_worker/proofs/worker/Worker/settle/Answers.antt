@@ -1,5 +1,4 @@
-use Rattle.std.proofs.Common.{None, List, sym, ap, ◌∙◌, subst, Option}
-use Rattle.chord_base.specs.declared.event.Entry.{Entry}
+use Rattle.std.proofs.Common.{sym, ap, ◌∙◌, subst, Option}
 use Rattle.chord_task.specs.declared.task.Task.{Task}
 use Rattle.chord_task.specs.Standing.{is_ready_of}
 use Rattle.chord_worker.specs.Resting.{IsInMemory, MayContinue}

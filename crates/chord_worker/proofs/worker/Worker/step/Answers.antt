@@ -1,5 +1,5 @@
 use Rattle.std.proofs.Common.{◌≡◌, Some, sym, ap, ◌∙◌, subst}
-use Rattle.chord_space.specs.Desks.{view, space_code, space_limits}
+use Rattle.chord_space.specs.Desks.{view, space_limits}
 use Rattle.chord_code.specs.declared.parts.Parts.{Parts}
 use Rattle.chord_base.specs.declared.event.Limits.{Limits}
 use Rattle.chord_task.specs.Standing.{view_of}
