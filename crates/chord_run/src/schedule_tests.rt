@@ -1,5 +1,5 @@
-//! Two workers of one run that play in turns, in an order that a seed gives. The table is closed, and what they drew is put in order and judged by
-//! the plain machine of the code.
+//! Two workers of one run that play in turns, in an order that a seed gives. What they drew is put in order, and judged by the plain
+//! machine of the code.
 ghost use Rattle.std.specs.Prelude.{◌≡◌, ◌<◌, ◌≤◌, [], true, false, None, IfOk, IfSome, OnOk};
 ghost use Rattle.chord_code.specs.Sound.{IsSoundCode};
 ghost use Rattle.chord_rule.specs.Kinds.{newcomer_first};
@@ -239,7 +239,7 @@ fn sweep<R: Wait>(
     Ok(())
 }
 
-/// The first worker and one that it hires play in turns, and then it plays alone. The first worker, with what both drew, or None where a
+/// The first worker and one that it hires play in turns, and then it plays alone. The first worker, with what both kept, or None where a
 /// task was not over after so many turns.
 fn play<R: Wait>(
     rt: &R,
@@ -305,7 +305,7 @@ fn in_order(alloc: Global, entries: &[Entry]) -> Result<Vec<Entry>, AllocError> 
     Ok(ordered)
 }
 
-/// How many entries of a schedule are a run of the code, how many stand in the lists of both, and how many were drawn.
+/// How many entries of a schedule are a run of the code, how many are in the workers' lists, and how many were drawn.
 #[derive(Clone, Copy, Debug, PartialEq, Eq)]
 struct Verdict {
     run: usize,

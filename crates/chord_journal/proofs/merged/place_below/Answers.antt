@@ -2,7 +2,7 @@ use Rattle.std.proofs.Common.{◌++◌, ap, ◌∙◌}
 use Rattle.std.proofs.lemmas.List.Sorted.{IsPermutation-trans}
 use Rattle.chord_journal.specs.Gathered.{in_places}
 use Rattle.chord_journal.proofs.Merging.{beside_between, beside_between_same}
-use Rattle.chord_journal.proofs.merged.place_past.Goals as goal
+use Rattle.chord_journal.proofs.merged.place_below.Goals as goal
 
 pub loop-place-preserved-then-is_hole : goal.loop-place-preserved-then-is_hole
 loop-place-preserved-then-is_hole c =
