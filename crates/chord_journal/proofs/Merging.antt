@@ -3,7 +3,9 @@ use Rattle.std.proofs.Common.{◌≡◌, ℕ, zero, suc, ◌+◌, ◌==◌, ◌<
 use Rattle.std.specs.Prelude.{slice_set}
 use Rattle.std.specs.List.Sorted.{IsPermutation}
 use Rattle.std.proofs.lemmas.List.Sorted.{IsPermutation-refl, IsPermutation-trans, IsPermutation-cons, IsPermutation-sym, IsPermutation-middle, IsPermutation-append_left, IsPermutation-append_right, IsPermutation-append_comm, length_permutation}
-use Rattle.std.proofs.lemmas.List.{append-nil}
+use Rattle.std.proofs.lemmas.List.{append-nil, flat_map_more}
+use Rattle.std.proofs.lemmas.List.Concat.{flat_map-cons}
+use Rattle.std.specs.List.{flat_map}
 use Rattle.chord_base.specs.declared.event.Entry.{Entry}
 use Rattle.chord_journal.specs.Gathered.{in_places, StandInPlace, IsNumberNext, IsHole}
 
@@ -71,7 +73,7 @@ appended_to_placed es rest left e next is =
     let numbered = number_of_next rest left e (length es) next is in
     ap (λ l. l ++ left) (placed_last 0 es e (omega (arith, numbered))) ∙ append_assoc (in_places 0 es) (e ∷ []) left ∙ ap (λ l. in_places 0 es ++ l) (sym is)
 
--- one that is placed_kept, and one that is not
+-- one that stands in its place is kept
 pub placed_kept : (strays others given : List Entry) (n : ℕ) (e : Entry) (es left : List Entry) → strays ++ in_places n es ≡ given → es ≡ e ∷ left → e.number ≡ n → others ≡ strays ++ e ∷ [] → others ++ in_places (n + 1) left ≡ given
 placed_kept strays others given n e es left had is numbered more =
     let same : (e.number == n) ≡ true = grind (arith, numbered) in
@@ -79,7 +81,7 @@ placed_kept strays others given n e es left had is numbered more =
     let parts : (strays ++ e ∷ []) ++ in_places (suc n) left ≡ strays ++ e ∷ in_places (suc n) left = append_assoc strays (e ∷ []) (in_places (suc n) left) in
     rw (more, add-one n) (parts ∙ ap (λ l. strays ++ l) (sym here) ∙ ap (λ l. strays ++ in_places n l) (sym is) ∙ had)
 
--- one that is not in its place is not
+-- one that does not is left out
 pub without_hole_kept : (strays given : List Entry) (n : ℕ) (e : Entry) (es left : List Entry) → strays ++ in_places n es ≡ given → es ≡ e ∷ left → (e.number == n) ≡ false → strays ++ in_places (n + 1) left ≡ given
 without_hole_kept strays given n e es left had is other =
     let here : in_places n (e ∷ left) ≡ in_places (suc n) left = rw other refl in
@@ -132,24 +134,61 @@ beside_between_same before after rest left between same =
     let moved : IsPermutation (before ++ rest) (after ++ left) = rw same (IsPermutation-refl _) in
     beside_between before after rest left between moved
 
--- what came of one list more
-pub one_past_more : (came before after strays others past left : List Entry) → IsPermutation came (before ++ (strays ++ (past ++ left))) → IsPermutation (before ++ (strays ++ past)) (after ++ others) → IsPermutation came (after ++ (others ++ left))
-one_past_more came before after strays others past left had moved =
+-- three lists before a fourth
+parted : {A : Type 0} (first second third fourth : List A) → (first ++ (second ++ third)) ++ fourth ≡ first ++ (second ++ (third ++ fourth))
+parted first second third fourth = append_assoc first (second ++ third) fourth ∙ ap (λ l. first ++ l) (append_assoc second third fourth)
+
+-- of several lists, what all but one have
+abbrev beside_one : {X A : Type 0} → (X → List A) → List X → ℕ → List A
+beside_one f [] i = []
+beside_one f (x ∷ xs) zero = flat_map f xs
+beside_one f (x ∷ xs) (suc i) = f x ++ beside_one f xs i
+
+-- all have what one of them and the others have
+one_beside : {X A : Type 0} (f : X → List A) (xs : List X) (i : ℕ) (d : X) → i < length xs → IsPermutation (flat_map f xs) (f (get_or xs i d) ++ beside_one f xs i)
+one_beside f [] i d within = absurd (omega (arith, within))
+one_beside f (x ∷ xs) zero d within = rw (flat_map-cons f x xs) (IsPermutation-refl _)
+one_beside f (x ∷ xs) (suc i) d within =
+    let below = IsPermutation-append_right (f x) _ _ (one_beside f xs i d (omega (arith, within))) in
+    rw (flat_map-cons f x xs) (IsPermutation-trans _ _ _ below (turned (f x) (f (get_or xs i d)) (beside_one f xs i)))
+
+-- and so where that one is another now
+other_beside : {X A : Type 0} (f : X → List A) (xs : List X) (i : ℕ) (x : X) → i < length xs → IsPermutation (flat_map f (slice_set xs i x)) (f x ++ beside_one f xs i)
+other_beside f [] i x within = absurd (omega (arith, within))
+other_beside f (y ∷ xs) zero x within = rw (flat_map-cons f x xs) (IsPermutation-refl _)
+other_beside f (y ∷ xs) (suc i) x within =
+    let below = IsPermutation-append_right (f y) _ _ (other_beside f xs i x (omega (arith, within))) in
+    rw (flat_map-cons f y (slice_set xs i x)) (IsPermutation-trans _ _ _ below (turned (f y) (f x) (beside_one f xs i)))
+
+-- what went from one of several lists to the places and the strays
+pub one_list_less : {X : Type 0} (f : X → List Entry) (xs : List X) (i : ℕ) (x d : X) (before after strays others : List Entry) → i < length xs → IsPermutation (before ++ (strays ++ f (get_or xs i d))) (after ++ (others ++ f x))
+    → IsPermutation (before ++ (strays ++ flat_map f xs)) (after ++ (others ++ flat_map f (slice_set xs i x)))
+one_list_less f xs i x d before after strays others within moved =
+    let left = beside_one f xs i in
+    let had = IsPermutation-append_right before _ _ (IsPermutation-append_right strays _ _ (one_beside f xs i d within)) in
+    let has = IsPermutation-append_right after _ _ (IsPermutation-append_right others _ _ (IsPermutation-sym _ _ (other_beside f xs i x within))) in
     let more = IsPermutation-append_left left _ _ moved in
-    let parted : (before ++ (strays ++ past)) ++ left ≡ before ++ (strays ++ (past ++ left)) =
-    append_assoc before (strays ++ past) left ∙ ap (λ l. before ++ l) (append_assoc strays past left) in
-    IsPermutation-trans _ _ _ had (rw (parted, append_assoc after others left) at more)
+    IsPermutation-trans _ _ _ had (IsPermutation-trans _ _ _ (rw (parted before strays (f (get_or xs i d)) left, parted after others (f x) left) at more) has)
+
+-- one list more that is to be taken from its front
+pub one_rest_more : {X Y A : Type 0} (f : X → List A) (g : Y → List A) (xs : List X) (x : X) (y : Y) (ys left : List Y) (all : List A) → flat_map f xs ++ flat_map g ys ≡ all → ys ≡ y ∷ left → f x ≡ g y → flat_map f (xs ++ x ∷ []) ++ flat_map g left ≡ all
+one_rest_more f g xs x y ys left all had is same =
+    ap (λ l. l ++ flat_map g left) (sym (flat_map_more f [] xs x)) ∙ append_assoc (flat_map f xs) (f x) (flat_map g left)
+    ∙ ap (λ l. flat_map f xs ++ l) (ap (λ l. l ++ flat_map g left) same ∙ sym (flat_map-cons g y left) ∙ ap (flat_map g) (sym is)) ∙ had
+
+-- one list more behind the strays
+pub one_list_aside : {X A : Type 0} (f : X → List A) (xs left : List X) (x : X) (strays others all : List A) → strays ++ flat_map f xs ≡ all → xs ≡ x ∷ left → others ≡ strays ++ f x → others ++ flat_map f left ≡ all
+one_list_aside f xs left x strays others all had is more =
+    ap (λ l. l ++ flat_map f left) more ∙ append_assoc strays (f x) (flat_map f left) ∙ ap (λ l. strays ++ l) (sym (flat_map-cons f x left) ∙ ap (flat_map f) (sym is)) ∙ had
 
 -- where as many entries stand as came, and there is no stray, each stands in its place
-pub complete : (came es strays left : List Entry) → length es ≡ length came → strays ≡ [] → left ≡ [] → IsPermutation came (in_places 0 es ++ (strays ++ left)) → IsPermutation came es × StandInPlace (length es) es
-complete came es strays left long none no_more moved =
-    let whole : IsPermutation came (in_places 0 es) = rw (none, no_more, append-nil (in_places 0 es)) at moved in
+pub complete : (came es strays : List Entry) → length es ≡ length came → strays ≡ [] → IsPermutation came (in_places 0 es ++ strays) → IsPermutation came es × StandInPlace (length es) es
+complete came es strays long none moved =
+    let whole : IsPermutation came (in_places 0 es) = rw (none, append-nil (in_places 0 es)) at moved in
     let count = length_permutation came (in_places 0 es) whole in
     let all : length (in_places 0 es) ≡ length es = omega (arith, long, count) in
     (rw (all_placed 0 es all) at whole, λ i d within. (let stands = stand_from 0 es all i d within in omega (arith, stands)))
 
--- what is placed_kept beside_between the strays
-pub apart : (came es strays left others : List Entry) → left ≡ [] → others ≡ strays ++ in_places 0 es → IsPermutation came (in_places 0 es ++ (strays ++ left)) → IsPermutation came others
-apart came es strays left others no_more is moved =
-    let whole : IsPermutation came (in_places 0 es ++ strays) = rw (no_more, append-nil strays) at moved in
-    rw is (IsPermutation-trans _ _ _ whole (IsPermutation-append_comm (in_places 0 es) strays))
+-- where there are others, those that stand in their places go behind the strays
+pub apart : (came es strays others : List Entry) → others ≡ strays ++ in_places 0 es → IsPermutation came (in_places 0 es ++ strays) → IsPermutation came others
+apart came es strays others is moved = rw is (IsPermutation-trans _ _ _ moved (IsPermutation-append_comm (in_places 0 es) strays))

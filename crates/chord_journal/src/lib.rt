@@ -18,6 +18,6 @@ mod write;
 pub use counts::write_counts;
 pub use gathered::gather;
 pub use lines::{write_and_look, write_lines};
-pub use merged::gather_pasts;
+pub use merged::gather_lists;
 pub use reading::{JournalFault, read};
 pub use write::write_text;

@@ -1,5 +1,5 @@
-//! A journal from pasts, each of which has its entries in the order of their numbers.
-ghost use Rattle.std.specs.Prelude.{◌≡◌, ◌≤◌, ◌<◌, ◌^◌, ◌++◌, ◌∷◌, [], true, ⊤, length, IfOk, OnOk, MatchOption, IsPermutation, flat_map};
+//! A journal from lists, each of which has its entries in the order of their numbers.
+ghost use Rattle.std.specs.Prelude.{◌≡◌, ◌≤◌, ◌<◌, ◌^◌, ◌++◌, ◌∷◌, true, length, IfOk, OnOk, IfSome, IsPermutation, flat_map};
 ghost use Rattle.std.specs.Vec.{vec_capacity};
 ghost use Rattle.chord_journal.specs.Gathered.{AreOfJournal, StandInPlace, IsNumberNext, IsHole, in_places};
 
@@ -10,48 +10,50 @@ use std::alloc::{AllocError, Global};
 use std::collections::VecDeque;
 use std::mem;
 
-/// The journal of the entries of these pasts. Each entry is moved once, to the place of its number, and leaves holes for those before it that come later.
-/// Where each past has its entries in the order of their numbers, as a task keeps what it did, memory is gone through in its order.
+/// As many places as are filled from all lists before the next ones are, so that what is written to them lies near.
+const STRETCH: usize = 1024;
+
+/// The journal of the entries of these lists. Each entry is moved once, to the place of its number, and leaves holes for those before it that come later.
+/// Where each list has its entries in the order of their numbers, as a worker draws them, memory is gone through in its order.
 ///
 /// # Errors
 ///
-/// `AllocError` where there is no memory for the entries beside the pasts, or for sorting, which is asked for only where a number is there twice.
-pub fn gather_pasts(alloc: Global, pasts: Vec<Vec<Entry>>) -> Result<Journal, AllocError>
-    requires { AreOfJournal (flat_map (λ past. past.items) pasts.items) }
-    ensures { IfOk result (λ journal. IsPermutation (flat_map (λ past. past.items) pasts.items) journal) }
+/// `AllocError` where there is no memory for the entries beside the lists, or for sorting, which is asked for only where a number is there twice.
+pub fn gather_lists(alloc: Global, lists: Vec<Vec<Entry>>) -> Result<Journal, AllocError>
+    requires { AreOfJournal (flat_map (λ list. list.items) lists.items) }
+    ensures { IfOk result (λ journal. IsPermutation (flat_map (λ list. list.items) lists.items) journal) }
 {
-    let mut pasts = pasts;
-    if pasts.len() == 1 {
-        let past = pasts.take_last();
-        return gather(alloc, past);
+    let mut lists = lists;
+    if lists.len() == 1 {
+        let list = lists.take_last();
+        return gather(alloc, list);
     }
-    gather_several(alloc, pasts)
+    gather_several(alloc, lists)
 }
 
-/// The journal of the entries of several pasts.
-fn gather_several(alloc: Global, pasts: Vec<Vec<Entry>>) -> Result<Journal, AllocError>
-    requires { AreOfJournal (flat_map (λ past. past.items) pasts.items) }
-    ensures { IfOk result (λ journal. IsPermutation (flat_map (λ past. past.items) pasts.items) journal) }
+/// The journal of the entries of several lists.
+fn gather_several(alloc: Global, lists: Vec<Vec<Entry>>) -> Result<Journal, AllocError>
+    requires { AreOfJournal (flat_map (λ list. list.items) lists.items) }
+    ensures { IfOk result (λ journal. IsPermutation (flat_map (λ list. list.items) lists.items) journal) }
 {
-    let (entries, placed) = merged(alloc, pasts)?;
+    let (entries, placed) = merged(alloc, lists)?;
     if placed == entries.len() {
         return Ok(Journal::of_entries(entries));
     }
     gather(alloc, entries)
 }
 
-/// The entries of the pasts side by side, and how many stand in the places of their numbers, from the front on: all, where no number is there twice.
-fn merged(alloc: Global, pasts: Vec<Vec<Entry>>) -> Result<(Vec<Entry>, usize), AllocError>
-    requires few { length (flat_map (λ past. past.items) pasts.items) ≤ 65536 }
-    ensures moved { IfOk result (λ r. IsPermutation (flat_map (λ past. past.items) pasts.items) r.0.items) }
+/// The entries of the lists side by side, and how many stand in the places of their numbers, from the front on: all, where no number is there twice.
+fn merged(alloc: Global, lists: Vec<Vec<Entry>>) -> Result<(Vec<Entry>, usize), AllocError>
+    requires few { length (flat_map (λ list. list.items) lists.items) ≤ 65536 }
+    ensures moved { IfOk result (λ r. IsPermutation (flat_map (λ list. list.items) lists.items) r.0.items) }
     ensures placed { IfOk result (λ r. StandInPlace r.1 r.0.items) }
 {
-    let count = count_of(&pasts);
+    let count = count_of(&lists);
     let mut strays = Vec::new(alloc);
     let mut entries = Vec::with_capacity(alloc, count)?;
-    for past in pasts {
-        place_past(past, &mut entries, &mut strays)?;
-    }
+    let rests = rests_of(alloc, lists)?;
+    place_all(rests, count, &mut entries, &mut strays)?;
     // as many as came are there, so none is a hole
     if strays.is_empty() && entries.len() == count {
         return Ok((entries, count));
@@ -60,16 +62,27 @@ fn merged(alloc: Global, pasts: Vec<Vec<Entry>>) -> Result<(Vec<Entry>, usize), 
     Ok((strays, 0))
 }
 
-/// How many entries the pasts have.
-fn count_of(pasts: &[Vec<Entry>]) -> usize
-    requires few { length (flat_map (λ past. past.items) pasts.now) ≤ 65536 }
-    ensures { result ≡ length (flat_map (λ past. past.items) pasts.now) }
+/// How many entries the lists have.
+fn count_of(lists: &[Vec<Entry>]) -> usize
+    requires few { length (flat_map (λ list. list.items) lists.now) ≤ 65536 }
+    ensures { result ≡ length (flat_map (λ list. list.items) lists.now) }
 {
     let mut count = 0;
-    for past in pasts {
-        count += past.len();
+    for list in lists {
+        count += list.len();
     }
     count
+}
+
+/// The lists, from whose fronts entries are to be taken.
+fn rests_of(alloc: Global, lists: Vec<Vec<Entry>>) -> Result<Vec<VecDeque<Entry>>, AllocError>
+    ensures { IfOk result (λ rests. flat_map (λ rest. rest.items) rests.items ≡ flat_map (λ list. list.items) lists.items) }
+{
+    let mut rests = Vec::new(alloc);
+    for list in lists {
+        rests.push(VecDeque::from_vec(list))?;
+    }
+    Ok(rests)
 }
 
 /// What stands in a place whose entry has not come.
@@ -83,18 +96,21 @@ fn hole() -> Entry
     }
 }
 
-/// The number of the next entry of a past.
-fn next_number(rest: &VecDeque<Entry>) -> Option<usize>
-    ensures next { MatchOption result (rest.now.items ≡ []) (λ number. IsNumberNext number rest.now.items) }
-    ensures range { MatchOption result ⊤ (λ number. number < 2 ^ 32) }
+/// The number of the next entry of a list, if it is below this one.
+fn next_below(rest: &VecDeque<Entry>, reach: usize) -> Option<usize>
+    ensures next { IfSome result (λ number. IsNumberNext number rest.now.items) }
+    ensures range { IfSome result (λ number. number < 2 ^ 32) }
 {
     match rest.front() {
         None => None,
-        Some(entry) => Some(entry.number as usize),
+        Some(entry) => {
+            let number = entry.number as usize;
+            if number < reach { Some(number) } else { None }
+        }
     }
 }
 
-/// Whether the next entry of a past has this number.
+/// Whether the next entry of a list has this number.
 fn is_next(rest: &VecDeque<Entry>, number: usize) -> bool
     ensures { result ≡ true → IsNumberNext number rest.now.items }
 {
@@ -111,7 +127,7 @@ fn is_hole(entries: &[Entry], place: usize) -> bool
     place < entries.len() && entries[place].number as usize != place
 }
 
-/// Takes the next entry of a past.
+/// Takes the next entry of a list.
 fn take_next(rest: &mut VecDeque<Entry>) -> Entry
     requires { 0 < length rest.old.items }
     ensures { rest.old.items ≡ result ∷ rest.new.items }
@@ -122,7 +138,7 @@ fn take_next(rest: &mut VecDeque<Entry>) -> Entry
     }
 }
 
-/// Moves the next entry of a past behind the others, which is its place.
+/// Moves the next entry of a list behind the others, which is its place.
 fn append_next(rest: &mut VecDeque<Entry>, entries: &mut Vec<Entry>)
     requires next { IsNumberNext (length entries.old.items) rest.old.items }
     requires room { length entries.old.items < vec_capacity entries.old }
@@ -132,7 +148,7 @@ fn append_next(rest: &mut VecDeque<Entry>, entries: &mut Vec<Entry>)
     entries.push_reserved(take_next(rest));
 }
 
-/// Moves the next entry of a past behind the others, and those after it for as long as each has the number of the place to which it comes.
+/// Moves the next entry of a list behind the others, and those after it for as long as each has the number of the place to which it comes.
 fn append_run(rest: &mut VecDeque<Entry>, entries: &mut Vec<Entry>)
     requires next { IsNumberNext (length entries.old.items) rest.old.items }
     requires room { length entries.old.items < vec_capacity entries.old }
@@ -159,7 +175,7 @@ fn leave_holes(entries: &mut Vec<Entry>, place: usize)
     }
 }
 
-/// Moves the next entry of a past into the hole that stands in its place.
+/// Moves the next entry of a list into the hole that stands in its place.
 fn fill(rest: &mut VecDeque<Entry>, entries: &mut Vec<Entry>, place: usize)
     requires next { IsNumberNext place rest.old.items }
     requires hole { IsHole place entries.old.items }
@@ -170,7 +186,7 @@ fn fill(rest: &mut VecDeque<Entry>, entries: &mut Vec<Entry>, place: usize)
     mem::forget(mem::replace(&mut entries[place], take_next(rest)));
 }
 
-/// Moves the next entry of a past aside.
+/// Moves the next entry of a list aside.
 fn set_aside(rest: &mut VecDeque<Entry>, strays: &mut Vec<Entry>) -> Result<(), AllocError>
     requires { 0 < length rest.old.items }
     ensures moved { OnOk result (strays.new.items ++ rest.new.items ≡ strays.old.items ++ rest.old.items) }
@@ -180,25 +196,82 @@ fn set_aside(rest: &mut VecDeque<Entry>, strays: &mut Vec<Entry>) -> Result<(), 
     Ok(())
 }
 
-/// Moves the entries of a past to the places of their numbers. One for which there is no place, or another in its place, is a stray.
-fn place_past(
-    past: Vec<Entry>,
+/// Moves the next entries of a list to the places of their numbers, up to one whose number is not below this one. One for which there is no place, or another in its place, is a stray.
+fn place_below(
+    rest: &mut VecDeque<Entry>,
+    reach: usize,
     entries: &mut Vec<Entry>,
     strays: &mut Vec<Entry>,
 ) -> Result<(), AllocError>
-    ensures { OnOk result (IsPermutation (in_places 0 entries.old.items ++ (strays.old.items ++ past.items)) (in_places 0 entries.new.items ++ strays.new.items)) }
+    ensures { OnOk result (IsPermutation (in_places 0 entries.old.items ++ (strays.old.items ++ rest.old.items)) (in_places 0 entries.new.items ++ (strays.new.items ++ rest.new.items))) }
 {
-    let mut rest = VecDeque::from_vec(past);
-    while let Some(place) = next_number(&rest) {
+    while let Some(place) = next_below(rest, reach) {
         if is_hole(entries, place) {
-            fill(&mut rest, entries, place);
+            fill(rest, entries, place);
         } else if entries.len() <= place && place < entries.capacity() {
             leave_holes(entries, place);
-            append_run(&mut rest, entries);
+            append_run(rest, entries);
         } else {
-            set_aside(&mut rest, strays)?;
+            set_aside(rest, strays)?;
         }
     }
+    Ok(())
+}
+
+/// Moves the next entries of each list so.
+fn place_stretch(
+    rests: &mut [VecDeque<Entry>],
+    reach: usize,
+    entries: &mut Vec<Entry>,
+    strays: &mut Vec<Entry>,
+) -> Result<(), AllocError>
+    ensures moved { OnOk result (IsPermutation (in_places 0 entries.old.items ++ (strays.old.items ++ flat_map (λ rest. rest.items) rests.old)) (in_places 0 entries.new.items ++ (strays.new.items ++ flat_map (λ rest. rest.items) rests.new))) }
+    ensures count { length rests.new ≡ length rests.old }
+{
+    for rest in rests.iter_mut() {
+        place_below(rest, reach, entries, strays)?;
+    }
+    Ok(())
+}
+
+/// Moves what is left of a list aside.
+fn set_rest_aside(rest: VecDeque<Entry>, strays: &mut Vec<Entry>) -> Result<(), AllocError>
+    ensures { OnOk result (strays.new.items ≡ strays.old.items ++ rest.items) }
+{
+    let mut rest = rest;
+    while !rest.is_empty() {
+        set_aside(&mut rest, strays)?;
+    }
+    Ok(())
+}
+
+/// Moves what is left of all lists aside.
+fn set_all_aside(rests: Vec<VecDeque<Entry>>, strays: &mut Vec<Entry>) -> Result<(), AllocError>
+    ensures { OnOk result (strays.new.items ≡ strays.old.items ++ flat_map (λ rest. rest.items) rests.items) }
+{
+    for rest in rests {
+        set_rest_aside(rest, strays)?;
+    }
+    Ok(())
+}
+
+/// Moves the entries of all lists to the places of their numbers, stretch by stretch. What is left behind the last stretch are strays.
+fn place_all(
+    rests: Vec<VecDeque<Entry>>,
+    count: usize,
+    entries: &mut Vec<Entry>,
+    strays: &mut Vec<Entry>,
+) -> Result<(), AllocError>
+    requires few { count ≤ 65536 }
+    ensures { OnOk result (IsPermutation (in_places 0 entries.old.items ++ (strays.old.items ++ flat_map (λ rest. rest.items) rests.items)) (in_places 0 entries.new.items ++ strays.new.items)) }
+{
+    let mut rests = rests;
+    let mut reach = 0;
+    while reach < count {
+        reach += STRETCH;
+        place_stretch(&mut rests, reach, entries, strays)?;
+    }
+    set_all_aside(rests, strays)?;
     Ok(())
 }
 

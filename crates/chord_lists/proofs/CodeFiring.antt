@@ -1,25 +1,22 @@
 -- What a firing makes of the bodies of a run of a code.
-use Rattle.std.proofs.Common.{◌≡◌, ℕ, suc, ◌<◌, ◌≤◌, Bool, true, false, ◌==◌, List, [], ◌∷◌, ◌++◌, length, Option, Some, None, refl, sym, ap, ◌∙◌, subst, arith, inl, inr, set, reverse, length-append}
+use Rattle.std.proofs.Common.{◌≡◌, ℕ, suc, ◌<◌, ◌≤◌, true, false, ◌==◌, List, [], ◌∷◌, ◌++◌, length, Option, Some, None, refl, sym, ap, ◌∙◌, subst, arith, inl, inr, set, reverse, length-append}
 use Rattle.std.specs.Prelude.{slice_get}
 use Rattle.std.proofs.lemmas.Option.{slice_get_within}
 use Rattle.std.proofs.lemmas.List.{length-set}
-use Rattle.std.proofs.lemmas.Bool.{eq-eqb, eqb-true, eqb-false, ne_eqb}
+use Rattle.std.proofs.lemmas.Bool.{eq-eqb, eqb-true, eqb-false}
 use Rattle.chord_base.specs.declared.value.Object.{Object}
 use Rattle.chord_base.specs.declared.value.Value.{Value}
 use Rattle.chord_base.specs.declared.event.Entry.{Entry}
 use Rattle.chord_base.specs.declared.event.Limits.{Limits}
-use Rattle.chord_base.specs.Messages.{Message, has, pending, AreDifferent}
+use Rattle.chord_base.specs.Messages.{Message, has, pending}
 use Rattle.chord_base.specs.Bodies.{doing, served_among, or_none}
-use Rattle.chord_base.specs.Machine.{Takes, Fires}
+use Rattle.chord_base.specs.Machine.{Fires}
 use Rattle.chord_base.specs.Story.{IsDefined, IsSound, AllBelow, grown}
 use Rattle.chord_base.proofs.Waits.{either}
 use Rattle.chord_base.proofs.Merged.{merged_fire, merged_story}
 use Rattle.chord_base.proofs.Calls.{served_member}
-use Rattle.chord_base.proofs.Firings.{members_differ}
 use Rattle.chord_code.specs.declared.parts.Parts.{Parts}
 use Rattle.chord_code.specs.Meaning.{code_program}
-use Rattle.chord_code.specs.Valid.{IsValid}
-use Rattle.chord_code.proofs.Validity.{valid_different}
 use Rattle.chord_task.specs.declared.task.Task.{Task}
 use Rattle.chord_task.specs.Stacks.{FitsCall, BeginsDefined}
 use Rattle.chord_task.specs.declared.body.Body.{Body}
@@ -27,24 +24,18 @@ use Rattle.std.specs.Prelude.{is_none}
 use Rattle.chord_task.specs.Standing.{body_number, body_waits, HasRoomIf, view_of, IsTaskOf, waits_of, MayResume, IsResumable}
 use Rattle.chord_task.proofs.Asking.{waits_yes}
 use Rattle.chord_lists.specs.Engine.{IsRunOfLength, fired}
-use Rattle.chord_lists.specs.declared.code_bodies.Tag.{Tag}
 use Rattle.chord_lists.specs.declared.code_bodies.CodeBodies.{CodeBodies}
-use Rattle.chord_lists.specs.CodeStands.{past_of, views, home_in, home, held_in, held_at, ready_in, ready_at, over_in, over_at, AreReady, IsAmongReady, Awaits, AllHeld, held_values, EmptiedAll, HostsCall, FitsAt, Serves, StandsAfter}
+use Rattle.chord_lists.specs.CodeStands.{past_of, views, home, ready_in, ready_at, over_in, over_at, AreReady, IsAmongReady, Awaits, AreMessagesAt, sent_values, HostsCall, FitsAt, Serves, StandsAfter}
 use Rattle.chord_lists.proofs.Spots.{set_other, end_at, before_end, past_end, one_some, nothing_some, has_first, has_later}
 use Rattle.chord_lists.proofs.CodeTasks.{one_call, resumable}
-use Rattle.chord_lists.proofs.CodeSteps.{stands_merged, task_below, keeps_more, views_set, tasks_set, awaits_set, pending_under}
-use Rattle.chord_lists.proofs.Held.{held_on}
-use Rattle.chord_lists.proofs.Laying.{takes_held}
+use Rattle.chord_lists.proofs.CodeSteps.{stands_merged, task_below, OneMore, more_home, keeps_more, journal_more, views_set, tasks_set, awaits_set, pending_under}
+use Rattle.chord_lists.proofs.Laying.{takes_sent}
 
 -- ---- what a firing takes
 
--- all messages that a firing takes are held, and their arguments are its values
-pub firing_held : (code : Parts) (limits : Limits) (bodies : CodeBodies) (h : List Entry) (k : ℕ) (o : Object) (ms : List ℕ) (vs : List Value) → StandsAfter code limits bodies h → Fires (code_program code limits) h k o ms vs → AllHeld (views bodies.tasks.items) bodies.tags.items ms × (held_values (views bodies.tasks.items) bodies.tags.items ms ≡ vs)
-firing_held code limits bodies h k o ms vs s f = takes_held (views bodies.tasks.items) bodies.tags.items h o f.0 ms vs s.held f.2
-
--- the messages that a firing takes are different
-pub firing_different : (code : Parts) (limits : Limits) (h : List Entry) (k : ℕ) (o : Object) (ms : List ℕ) (vs : List Value) → IsValid code → Fires (code_program code limits) h k o ms vs → AreDifferent ms
-firing_different code limits h k o ms vs valid f = members_differ (code_program code limits) h k o f.0 ms vs f.1 (valid_different code valid o.class k f.0 f.1) f
+-- all that a firing takes are messages in the list of all entries, and their arguments are its values
+pub firing_sent : (code : Parts) (limits : Limits) (bodies : CodeBodies) (h : List Entry) (n k : ℕ) (o : Object) (ms : List ℕ) (vs : List Value) → StandsAfter code limits bodies h → IsRunOfLength (code_program code limits) n h → Fires (code_program code limits) h k o ms vs → AreMessagesAt bodies.entries.items ms × (sent_values bodies.entries.items ms ≡ vs)
+firing_sent code limits bodies h n k o ms vs s played f = takes_sent bodies.entries.items h o f.0 ms vs s.journal played.within f.2
 
 -- in a sound program a task that begins the body of a firing stays defined
 fire_defined : (code : Parts) (limits : Limits) (bodies : CodeBodies) (h : List Entry) (n i k : ℕ) (o : Object) (ms : List ℕ) (vs : List Value) (t : Task) → IsSound (code_program code limits) → StandsAfter code limits bodies h → length h ≡ n → Fires (code_program code limits) h k o ms vs → views bodies.tasks.items i ≡ (view_of t).past → BeginsDefined (code_program code limits) (view_of t) n k o ms vs
@@ -72,12 +63,12 @@ may_resume code limits bodies h n i k o ms vs t call sound s so_long f serves ta
 -- the task whose call a firing serves
 pub record IsCaller (code : Parts) (limits : Limits) (bodies : CodeBodies) (n k : ℕ) (o : Object) (ms : List ℕ) (vs : List Value) (call : ℕ) : Type 0 where
   pub task : Task
-  pub there : slice_get bodies.tasks.items (home bodies.tags.items call) ≡ Some task
+  pub there : slice_get bodies.tasks.items (home bodies.homes.items call) ≡ Some task
   pub is : IsTaskOf code limits task
   pub waits : waits_of call task ≡ true
   pub may : MayResume code task.limits task n k o ms vs
   pub member : has call ms ≡ true
-  pub tagged : call < length bodies.tags.items
+  pub homed : call < length bodies.homes.items
 
 -- the call that a firing serves is that of a task that waits for it, in which the new body may begin
 pub caller : (code : Parts) (limits : Limits) (bodies : CodeBodies) (h : List Entry) (n k : ℕ) (o : Object) (ms : List ℕ) (vs : List Value) (call : ℕ) → IsSound (code_program code limits) → StandsAfter code limits bodies h → length h ≡ n → (f : Fires (code_program code limits) h k o ms vs) → served_among ((code_program code limits).is_sync o.class) f.0 ms ≡ Some call → IsCaller code limits bodies n k o ms vs call
@@ -87,15 +78,15 @@ caller code limits bodies h n k o ms vs call sound s so_long f serves =
     let x = m.1 in
     let a = s.calls call x.0 x.1 (ap (λ (d : Object). p.is_sync d.class x.0.method) x.2 ∙ x.3) in
     let l = pending_under p h call x.0 s.past x.1 in
-    let k' = s.tasks (home bodies.tags.items call) a.0 a.1 in
+    let k' = s.tasks (home bodies.homes.items call) a.0 a.1 in
     record {
       task = a.0;
       there = a.1;
       is = k';
       waits = a.2;
-      may = may_resume code limits bodies h n (home bodies.tags.items call) k o ms vs a.0 (Some call) sound s so_long f serves k' (ap past_of a.1) (waits_yes code limits a.0 call k' a.2) (resumable code limits a.0 call k' a.2);
+      may = may_resume code limits bodies h n (home bodies.homes.items call) k o ms vs a.0 (Some call) sound s so_long f serves k' (ap past_of a.1) (waits_yes code limits a.0 call k' a.2) (resumable code limits a.0 call k' a.2);
       member = m.0;
-      tagged = omega (arith, l, s.tagged);
+      homed = omega (arith, l, s.homed);
     }
 
 -- a firing that serves no call may begin in a task without entries
@@ -176,10 +167,6 @@ host code limits bodies h at n k o ms vs sound s so_long f fits = by_call fits.c
 
 -- ---- the bodies after a firing
 
--- the tag of an entry that is no message
-abbrev pub bare_tag : ℕ → Tag
-bare_tag at = record { task = at; held = None }
-
 -- a firing is no message, and its members are pending no longer
 fired_pending : (n k : ℕ) (o : Object) (ms : List ℕ) (vs : List Value) (h : List Entry) (q : ℕ) (m : Message) → pending q (fired n k o ms vs ∷ h) ≡ Some m → (pending q h ≡ Some m) × (has q ms ≡ false)
 fired_pending n k o ms vs h q m e =
@@ -188,56 +175,24 @@ fired_pending n k o ms vs h q m e =
       | inr f ↦ elim (either (has q ms)) [ inl y ↦ nothing_some m (rw (f, y) at e) | inr g ↦ (rw (f, g) at e, g) ]
     ]
 
--- a message that a firing does not take is pending after it if it was before
-others_pending : (n k : ℕ) (o : Object) (ms : List ℕ) (vs : List Value) (h : List Entry) (q : ℕ) → (n == q) ≡ false → has q ms ≡ false → pending q (fired n k o ms vs ∷ h) ≡ pending q h
-others_pending n k o ms vs h q a b = rw (a, b) refl
-
 -- after a firing the bodies stand, wherever the new body began, if the tasks keep what they did and the rest waits on
-pub stands_fired : (code : Parts) (limits : Limits) (before after : CodeBodies) (between : List Tag) (h : List Entry) (n k at : ℕ) (o : Object) (ms : List ℕ) (vs : List Value) → IsRunOfLength (code_program code limits) n h → StandsAfter code limits before h → Fires (code_program code limits) h k o ms vs → EmptiedAll ms before.tags.items between → after.tags.items ≡ between ++ bare_tag at ∷ [] → ((j : ℕ) → grown (views before.tasks.items) at (fired n k o ms vs) j ≡ views after.tasks.items j) → ((i : ℕ) (t : Task) → slice_get after.tasks.items i ≡ Some t → IsTaskOf code limits t) → AreReady after.tasks.items (reverse after.ready.items) → ((q : ℕ) → has q ms ≡ false → Awaits before.tasks.items q (home before.tags.items q) → Awaits after.tasks.items q (home before.tags.items q)) → length after.tasks.items ≤ suc (length h) → StandsAfter code limits after (fired n k o ms vs ∷ h)
-stands_fired code limits before after between h n k at o ms vs played s f emptied tags grows tasks ready awaits few =
+pub stands_fired : (code : Parts) (limits : Limits) (before after : CodeBodies) (h : List Entry) (n k at : ℕ) (o : Object) (ms : List ℕ) (vs : List Value) → IsRunOfLength (code_program code limits) n h → StandsAfter code limits before h → Fires (code_program code limits) h k o ms vs → after.entries.items ≡ before.entries.items ++ fired n k o ms vs ∷ [] → after.homes.items ≡ before.homes.items ++ at ∷ [] → ((j : ℕ) → grown (views before.tasks.items) at (fired n k o ms vs) j ≡ views after.tasks.items j) → ((i : ℕ) (t : Task) → slice_get after.tasks.items i ≡ Some t → IsTaskOf code limits t) → AreReady after.tasks.items (reverse after.ready.items) → ((q : ℕ) → has q ms ≡ false → Awaits before.tasks.items q (home before.homes.items q) → Awaits after.tasks.items q (home before.homes.items q)) → length after.tasks.items ≤ suc (length h) → StandsAfter code limits after (fired n k o ms vs ∷ h)
+stands_fired code limits before after h n k at o ms vs played s f listed homes grows tasks ready awaits few =
     let p = code_program code limits in
     let e = fired n k o ms vs in
-    let tag : Tag = bare_tag at in
-    let long : length between ≡ length h = emptied.tagged ∙ s.tagged in
-    let homes : (i : ℕ) → i < length h → home after.tags.items i ≡ home before.tags.items i =
-    λ i l. ap (λ z. home z i) tags ∙ ap home_in (before_end between tag i (λ d. omega (arith, d, l, long))) ∙ emptied.homes i
-    in
-    let here : home after.tags.items (length h) ≡ at = subst (λ i. home after.tags.items i ≡ at) long (ap (λ z. home z (length between)) tags ∙ ap home_in (end_at between tag)) in
+    let one : OneMore before.homes.items after.homes.items (length h) at = more_home before.homes.items after.homes.items at (length h) s.homed homes in
     record {
       past = (s.past, record { numbered = sym played.so_long; comes = (refl, f) });
-      keeps = λ i. keeps_more p before.tags.items after.tags.items (views before.tasks.items) h e at s.past (sym played.so_long) (record { old = homes; here = here }) s.keeps i ∙ grows i;
+      journal = journal_more before.entries.items after.entries.items h e s.journal listed;
+      keeps = λ i. keeps_more p before.homes.items after.homes.items (views before.tasks.items) h e at s.past (sym played.so_long) one s.keeps i ∙ grows i;
       tasks = tasks;
       ready = ready;
       calls =
           λ q m is sync.
           let old = fired_pending n k o ms vs h q m is in
           let l = pending_under p h q m s.past old.0 in
-          subst (λ j. Awaits after.tasks.items q j) (sym (homes q l)) (awaits q old.1 (s.calls q m old.0 sync));
-      held =
-          λ q m is.
-          let old = fired_pending n k o ms vs h q m is in
-          let l = pending_under p h q m s.past old.0 in
-          let left : held_at between q ≡ held_at before.tags.items q = emptied.held q ∙ rw old.1 refl in
-          let kept : held_at after.tags.items q ≡ held_at before.tags.items q = ap (λ z. held_at z q) tags ∙ ap held_in (before_end between tag q (λ d. omega (arith, d, l, long))) ∙ left in
-          held_on (views before.tasks.items) (views after.tasks.items) before.tags.items after.tags.items at e q m grows (homes q l) kept (s.held q m old.0);
-      only =
-          λ q a is.
-          elim (either (length between == q)) [
-            | inl y ↦
-                (let i = eqb-true (length between) q y in
-                let bare : held_at after.tags.items q ≡ None = ap (λ z. held_at z q) tags ∙ subst (λ j. held_at (between ++ tag ∷ []) j ≡ None) i (ap held_in (end_at between tag)) in
-                nothing_some a (sym bare ∙ is))
-            | inr y ↦
-                (let old : held_at between q ≡ Some a = sym (ap (λ z. held_at z q) tags ∙ ap held_in (before_end between tag q (eqb-false (length between) q y))) ∙ is in
-                elim (either (has q ms)) [
-                  | inl g ↦ nothing_some a (sym (emptied.held q ∙ rw g refl) ∙ old)
-                  | inr g ↦
-                      (let x = s.only q a (sym (emptied.held q ∙ rw g refl) ∙ old) in
-                      let apart : (n == q) ≡ false = ne_eqb n q (λ d. eqb-false (length between) q y (omega (arith, d, long, played.so_long))) in
-                      (x.0, others_pending n k o ms vs h q apart g ∙ x.1))
-                ])
-          ];
-      tagged = ap length tags ∙ length-append between (tag ∷ []) ∙ omega (arith, long);
+          subst (λ j. Awaits after.tasks.items q j) (sym (one.old q l)) (awaits q old.1 (s.calls q m old.0 sync));
+      homed = ap length homes ∙ length-append before.homes.items (at ∷ []) ∙ omega (arith, s.homed);
       few = few;
     }
 
@@ -255,16 +210,16 @@ ready_among tasks at t ready ready' a p =
     }
 
 -- the new body is in a task that was there
-pub fired_at : (code : Parts) (limits : Limits) (before after : CodeBodies) (between : List Tag) (h : List Entry) (at n k : ℕ) (o : Object) (ms : List ℕ) (vs : List Value) (t : Task) → IsRunOfLength (code_program code limits) n h → StandsAfter code limits before h → Fires (code_program code limits) h k o ms vs → (c : IsHost code limits before at n k o ms vs) → EmptiedAll ms before.tags.items between → IsTaskOf code limits t → (view_of t).past ≡ fired n k o ms vs ∷ (view_of c.task).past → after.tasks.items ≡ set before.tasks.items at t → IsAmongReady at (reverse before.ready.items) (reverse after.ready.items) → after.tags.items ≡ between ++ bare_tag at ∷ [] → StandsAfter code limits after (fired n k o ms vs ∷ h)
-fired_at code limits before after between h at n k o ms vs t played s f c emptied task past tasks ready tags =
+pub fired_at : (code : Parts) (limits : Limits) (before after : CodeBodies) (h : List Entry) (at n k : ℕ) (o : Object) (ms : List ℕ) (vs : List Value) (t : Task) → IsRunOfLength (code_program code limits) n h → StandsAfter code limits before h → Fires (code_program code limits) h k o ms vs → (c : IsHost code limits before at n k o ms vs) → IsTaskOf code limits t → (view_of t).past ≡ fired n k o ms vs ∷ (view_of c.task).past → after.entries.items ≡ before.entries.items ++ fired n k o ms vs ∷ [] → after.tasks.items ≡ set before.tasks.items at t → IsAmongReady at (reverse before.ready.items) (reverse after.ready.items) → after.homes.items ≡ before.homes.items ++ at ∷ [] → StandsAfter code limits after (fired n k o ms vs ∷ h)
+fired_at code limits before after h at n k o ms vs t played s f c task past listed tasks ready homes =
     let xs = before.tasks.items in
-    stands_fired code limits before after between h n k at o ms vs played s f emptied tags
+    stands_fired code limits before after h n k at o ms vs played s f listed homes
     (λ j. views_set xs at t c.task (fired n k o ms vs) c.there past j ∙ ap (λ z. views z j) (sym tasks))
     (subst (λ z. (i : ℕ) (x : Task) → slice_get z i ≡ Some x → IsTaskOf code limits x) (sym tasks) (tasks_set code limits xs at t c.task c.there task s.tasks))
     (subst (λ z. AreReady z (reverse after.ready.items)) (sym tasks) (ready_among xs at t (reverse before.ready.items) (reverse after.ready.items) s.ready ready))
     (λ q out a.
-    subst (λ z. Awaits z q (home before.tags.items q)) (sym tasks)
-    (awaits_set xs at t c.task q (home before.tags.items q) c.there (λ w. let z : true ≡ false = sym (c.awaits q w) ∙ out in cc) a))
+    subst (λ z. Awaits z q (home before.homes.items q)) (sym tasks)
+    (awaits_set xs at t c.task q (home before.homes.items q) c.there (λ w. let z : true ≡ false = sym (c.awaits q w) ∙ out in cc) a))
     (let i = ap length tasks in let l = length-set xs at t in let m = s.few in omega (arith, i, l, m))
 
 -- one more task keeps its one entry, and the others what they kept
@@ -303,15 +258,15 @@ ready_new tasks t ready a =
     }
 
 -- the new body has a task of its own
-pub fired_alone : (code : Parts) (limits : Limits) (before after : CodeBodies) (between : List Tag) (h : List Entry) (n k : ℕ) (o : Object) (ms : List ℕ) (vs : List Value) (t : Task) → IsRunOfLength (code_program code limits) n h → StandsAfter code limits before h → Fires (code_program code limits) h k o ms vs → EmptiedAll ms before.tags.items between → IsTaskOf code limits t → (view_of t).past ≡ fired n k o ms vs ∷ [] → after.tasks.items ≡ before.tasks.items ++ t ∷ [] → reverse after.ready.items ≡ length before.tasks.items ∷ reverse before.ready.items → after.tags.items ≡ between ++ bare_tag (length before.tasks.items) ∷ [] → StandsAfter code limits after (fired n k o ms vs ∷ h)
-fired_alone code limits before after between h n k o ms vs t played s f emptied task past tasks ready tags =
+pub fired_alone : (code : Parts) (limits : Limits) (before after : CodeBodies) (h : List Entry) (n k : ℕ) (o : Object) (ms : List ℕ) (vs : List Value) (t : Task) → IsRunOfLength (code_program code limits) n h → StandsAfter code limits before h → Fires (code_program code limits) h k o ms vs → IsTaskOf code limits t → (view_of t).past ≡ fired n k o ms vs ∷ [] → after.entries.items ≡ before.entries.items ++ fired n k o ms vs ∷ [] → after.tasks.items ≡ before.tasks.items ++ t ∷ [] → reverse after.ready.items ≡ length before.tasks.items ∷ reverse before.ready.items → after.homes.items ≡ before.homes.items ++ length before.tasks.items ∷ [] → StandsAfter code limits after (fired n k o ms vs ∷ h)
+fired_alone code limits before after h n k o ms vs t played s f task past listed tasks ready homes =
     let xs = before.tasks.items in
-    stands_fired code limits before after between h n k (length xs) o ms vs played s f emptied tags
+    stands_fired code limits before after h n k (length xs) o ms vs played s f listed homes
     (λ j. views_new xs t (fired n k o ms vs) past j ∙ ap (λ z. views z j) (sym tasks))
     (subst (λ z. (i : ℕ) (x : Task) → slice_get z i ≡ Some x → IsTaskOf code limits x) (sym tasks) (tasks_more code limits xs t task s.tasks))
     (subst (λ z. AreReady z (reverse after.ready.items)) (sym tasks) (subst (λ (z : List ℕ). AreReady (xs ++ t ∷ []) z) (sym ready) (ready_new xs t (reverse before.ready.items) s.ready)))
     (λ q out a.
-    subst (λ z. Awaits z q (home before.tags.items q)) (sym tasks)
-    (let l = slice_get_within xs (home before.tags.items q) a.0 a.1 in
-    (a.0, before_end xs t (home before.tags.items q) (λ d. omega (arith, d, l)) ∙ a.1, a.2)))
+    subst (λ z. Awaits z q (home before.homes.items q)) (sym tasks)
+    (let l = slice_get_within xs (home before.homes.items q) a.0 a.1 in
+    (a.0, before_end xs t (home before.homes.items q) (λ d. omega (arith, d, l)) ∙ a.1, a.2)))
     (let i = ap length tasks in let l = length-append xs (t ∷ []) in let m = s.few in omega (arith, i, l, m))

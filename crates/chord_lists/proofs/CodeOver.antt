@@ -32,15 +32,15 @@ none_asks code limits bodies h s none b =
     (λ i c. quiet_at code limits bodies h s none i c (slice_get bodies.tasks.items i) refl) b
 
 -- another list of ready tasks
-pub stands_ready : (code : Parts) (limits : Limits) (before : CodeBodies) (ready : Vec ℕ Global) (h : List Entry) → StandsAfter code limits before h → AreReady before.tasks.items (reverse ready.items) → StandsAfter code limits (record { tasks = before.tasks; ready = ready; tags = before.tags; over = before.over }) h
+pub stands_ready : (code : Parts) (limits : Limits) (before : CodeBodies) (ready : Vec ℕ Global) (h : List Entry) → StandsAfter code limits before h → AreReady before.tasks.items (reverse ready.items) → StandsAfter code limits (record { tasks = before.tasks; ready = ready; entries = before.entries; homes = before.homes; over = before.over }) h
 stands_ready code limits before ready h s r =
-    record { past = s.past; keeps = s.keeps; tasks = s.tasks; ready = r; calls = s.calls; held = s.held; only = s.only; tagged = s.tagged; few = s.few }
+    record { past = s.past; journal = s.journal; keeps = s.keeps; tasks = s.tasks; ready = r; calls = s.calls; homed = s.homed; few = s.few }
 
 -- another list of tasks that are over
-pub stands_over : (code : Parts) (limits : Limits) (before : CodeBodies) (over : Vec ℕ Global) (h : List Entry) → StandsAfter code limits before h → StandsAfter code limits (record { tasks = before.tasks; ready = before.ready; tags = before.tags; over = over }) h
+pub stands_over : (code : Parts) (limits : Limits) (before : CodeBodies) (over : Vec ℕ Global) (h : List Entry) → StandsAfter code limits before h → StandsAfter code limits (record { tasks = before.tasks; ready = before.ready; entries = before.entries; homes = before.homes; over = over }) h
 stands_over code limits before over h s =
-    record { past = s.past; keeps = s.keeps; tasks = s.tasks; ready = s.ready; calls = s.calls; held = s.held; only = s.only; tagged = s.tagged; few = s.few }
+    record { past = s.past; journal = s.journal; keeps = s.keeps; tasks = s.tasks; ready = s.ready; calls = s.calls; homed = s.homed; few = s.few }
 
 -- where no task may go on the engine is told so, and the bodies stand as before
-pub went_over : (code : Parts) (limits : Limits) (before : CodeBodies) (ready : Vec ℕ Global) (h : List Entry) → StandsAfter code limits before h → ((i : ℕ) → ready_at before.tasks.items i ≡ false) → AreReady before.tasks.items (reverse ready.items) → NoneAsks (code_program code limits) h × StandsAfter code limits (record { tasks = before.tasks; ready = ready; tags = before.tags; over = before.over }) h
+pub went_over : (code : Parts) (limits : Limits) (before : CodeBodies) (ready : Vec ℕ Global) (h : List Entry) → StandsAfter code limits before h → ((i : ℕ) → ready_at before.tasks.items i ≡ false) → AreReady before.tasks.items (reverse ready.items) → NoneAsks (code_program code limits) h × StandsAfter code limits (record { tasks = before.tasks; ready = ready; entries = before.entries; homes = before.homes; over = before.over }) h
 went_over code limits before ready h s none r = (none_asks code limits before h s none, stands_ready code limits before ready h s r)

@@ -46,8 +46,8 @@ pub record AsksIn (tasks : List Task) (at b n : ℕ) : Type 0 where
   pub known : b < n
 
 -- a body that asks in a run asks in its home, and its task may go on
-pub asks_in : (code : Parts) (limits : Limits) (bodies : CodeBodies) (h : List Entry) (b : ℕ) (a : Asked) → StandsAfter code limits bodies h → asked (code_program code limits) (doing (code_program code limits) h b) ≡ Some a → AsksIn bodies.tasks.items (home bodies.tags.items b) b (length h)
-asks_in code limits bodies h b a s e = by_task (slice_get bodies.tasks.items (home bodies.tags.items b)) refl (place_knows p (views bodies.tasks.items) h b (stands_merged code limits bodies h s))
+pub asks_in : (code : Parts) (limits : Limits) (bodies : CodeBodies) (h : List Entry) (b : ℕ) (a : Asked) → StandsAfter code limits bodies h → asked (code_program code limits) (doing (code_program code limits) h b) ≡ Some a → AsksIn bodies.tasks.items (home bodies.homes.items b) b (length h)
+asks_in code limits bodies h b a s e = by_task (slice_get bodies.tasks.items (home bodies.homes.items b)) refl (place_knows p (views bodies.tasks.items) h b (stands_merged code limits bodies h s))
   where
     p : Program
     p = code_program code limits
@@ -57,12 +57,12 @@ asks_in code limits bodies h b a s e = by_task (slice_get bodies.tasks.items (ho
         seen_under (code_program code limits) (length h) b h (run_is_told (code_program code limits) h s.past) (past_below (code_program code limits) h (length h) s.past (omega arith))
         (placed_seen (doing (code_program code limits) h b) (asked_placed (code_program code limits) (doing (code_program code limits) h b) a e))
 
-    by_task : (o : Option Task) → slice_get bodies.tasks.items (home bodies.tags.items b) ≡ o → (doing (code_program code limits) (past_of o) b ≡ Unplaced) ⊎ (doing (code_program code limits) (past_of o) b ≡ doing (code_program code limits) h b) → AsksIn bodies.tasks.items (home bodies.tags.items b) b (length h)
+    by_task : (o : Option Task) → slice_get bodies.tasks.items (home bodies.homes.items b) ≡ o → (doing (code_program code limits) (past_of o) b ≡ Unplaced) ⊎ (doing (code_program code limits) (past_of o) b ≡ doing (code_program code limits) h b) → AsksIn bodies.tasks.items (home bodies.homes.items b) b (length h)
     by_task None g (inl u) = (let z : Absent ≡ Unplaced = u in cc)
     by_task None g (inr same) = nothing_some a (ap (asked (code_program code limits)) same ∙ e)
-    by_task (Some t) g (inl u) = absurd ((s.tasks (home bodies.tags.items b) t g).task.placed b u)
+    by_task (Some t) g (inl u) = absurd ((s.tasks (home bodies.homes.items b) t g).task.placed b u)
     by_task (Some t) g (inr same) =
-        let r = asks_ready code limits t b a (s.tasks (home bodies.tags.items b) t g) (ap (asked (code_program code limits)) same ∙ e) in
+        let r = asks_ready code limits t b a (s.tasks (home bodies.homes.items b) t g) (ap (asked (code_program code limits)) same ∙ e) in
         record { task = t; there = g; top = r.0; ready = r.1; known = known }
 
 -- the place of a task that may go on may go on
@@ -71,7 +71,7 @@ unfolding ready_at
 ready_there tasks i t g r = ap ready_in g ∙ r
 
 -- what an own entry says of the task that makes it
-pub entry_asks_in : (code : Parts) (limits : Limits) (bodies : CodeBodies) (h : List Entry) (e : Entry) → StandsAfter code limits bodies h → IsOwn e.what → MayFollow (code_program code limits) h e → AsksIn bodies.tasks.items (home bodies.tags.items e.body) e.body (length h)
+pub entry_asks_in : (code : Parts) (limits : Limits) (bodies : CodeBodies) (h : List Entry) (e : Entry) → StandsAfter code limits bodies h → IsOwn e.what → MayFollow (code_program code limits) h e → AsksIn bodies.tasks.items (home bodies.homes.items e.body) e.body (length h)
 entry_asks_in code limits bodies h e s o f =
     let a = own_asks (code_program code limits) h e.number e.body e.what o f.comes in
     asks_in code limits bodies h e.body (record { what = e.what; depth = a.0 }) s a.1
@@ -88,7 +88,7 @@ same_ask : (p : Program) (h : List Entry) (b : ℕ) (v w : What) → Asks p h b 
 same_ask p h b v w x y = ap (λ (a : Asked). a.what) (one_some (record { what = v; depth = x.0 }) (record { what = w; depth = y.0 }) (asked p (doing p h b)) x.1 y.1)
 
 -- the task whose body is to make the entry made it
-pub made_again : (code : Parts) (limits : Limits) (before after : CodeBodies) (h : List Entry) (e : Entry) (at : ℕ) (turn : Turn) → StandsAfter code limits before h → IsOwn e.what → MayFollow (code_program code limits) h e → at ≡ home before.tags.items e.body → WentAt (code_program code limits) before.tasks.items at (StandsAfter code limits after) h turn → StandsAfter code limits after (e ∷ h)
+pub made_again : (code : Parts) (limits : Limits) (before after : CodeBodies) (h : List Entry) (e : Entry) (at : ℕ) (turn : Turn) → StandsAfter code limits before h → IsOwn e.what → MayFollow (code_program code limits) h e → at ≡ home before.homes.items e.body → WentAt (code_program code limits) before.tasks.items at (StandsAfter code limits after) h turn → StandsAfter code limits after (e ∷ h)
 made_again code limits before after h e at turn s o f i w =
     let p = code_program code limits in
     let x = entry_asks_in code limits before h e s o f in

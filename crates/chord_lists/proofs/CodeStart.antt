@@ -1,5 +1,5 @@
 -- The bodies of a run of a code in which `Main` has just begun.
-use Rattle.std.proofs.Common.{◌≡◌, ℕ, zero, suc, true, false, ◌==◌, List, [], ◌∷◌, length, Option, Some, None, refl, sym, ap, ◌∙◌, subst, arith, inl, inr, reverse}
+use Rattle.std.proofs.Common.{◌≡◌, ℕ, zero, suc, true, false, ◌==◌, List, [], ◌∷◌, length, Some, refl, sym, ap, ◌∙◌, subst, arith, inl, inr, reverse}
 use Rattle.std.specs.Prelude.{slice_get}
 use Rattle.std.proofs.lemmas.Bool.{eqb-true}
 use Rattle.chord_base.specs.declared.event.Limits.{Limits}
@@ -11,9 +11,8 @@ use Rattle.chord_code.specs.Meaning.{code_program}
 use Rattle.chord_task.specs.declared.task.Task.{Task}
 use Rattle.chord_task.specs.Standing.{view_of, IsTaskOf, MainBegins}
 use Rattle.chord_lists.specs.Engine.{main_begun}
-use Rattle.chord_lists.specs.declared.code_bodies.Tag.{Tag}
 use Rattle.chord_lists.specs.declared.code_bodies.CodeBodies.{CodeBodies}
-use Rattle.chord_lists.specs.CodeStands.{views, home, held_at, ready_in, ready_at, AreReady, StandsAfter}
+use Rattle.chord_lists.specs.CodeStands.{views, home, ready_in, ready_at, AreReady, StandsAfter}
 use Rattle.chord_lists.proofs.Spots.{one_some, nothing_some}
 
 -- Main begins in a sound program
@@ -28,12 +27,8 @@ none_pending i m e =
       | inr o ↦ nothing_some m (rw o at e)
     ]
 
--- the tag of `Main`'s first entry
-abbrev pub first_tag : Tag
-first_tag = record { task = 0; held = None }
-
 -- the one task keeps the one entry
-first_keeps : (t : Task) → (view_of t).past ≡ main_begun → (i : ℕ) → kept (λ n. home (first_tag ∷ []) n == i) main_begun ≡ views (t ∷ []) i
+first_keeps : (t : Task) → (view_of t).past ≡ main_begun → (i : ℕ) → kept (λ n. home (0 ∷ []) n == i) main_begun ≡ views (t ∷ []) i
 first_keeps t e zero = sym e
 first_keeps t e (suc i) = elim (either (0 == suc i)) [ inl y ↦ (let f = eqb-true 0 (suc i) y in absurd (omega (arith, f))) | inr o ↦ rw o refl ]
 
@@ -51,22 +46,16 @@ first_ready t = record { all = λ i e. by_place i e }
     by_place zero e = refl
     by_place (suc i) e = (let z : false ≡ true = e in cc)
 
--- nothing is held when `Main` has just begun
-none_held : (q a : ℕ) {A : Type 0} → held_at (first_tag ∷ []) q ≡ Some a → A
-none_held zero a e = nothing_some a e
-none_held (suc q) a e = nothing_some a e
-
 -- a task in which `Main` has just begun stands after that entry
-pub started : (code : Parts) (limits : Limits) (bodies : CodeBodies) (t : Task) → IsSound (code_program code limits) → IsTaskOf code limits t → (view_of t).past ≡ main_begun → bodies.tasks.items ≡ t ∷ [] → bodies.ready.items ≡ 0 ∷ [] → bodies.tags.items ≡ first_tag ∷ [] → StandsAfter code limits bodies main_begun
-started code limits bodies t sound k past tasks ready tags =
+pub started : (code : Parts) (limits : Limits) (bodies : CodeBodies) (t : Task) → IsSound (code_program code limits) → IsTaskOf code limits t → (view_of t).past ≡ main_begun → bodies.tasks.items ≡ t ∷ [] → bodies.ready.items ≡ 0 ∷ [] → bodies.entries.items ≡ main_begun → bodies.homes.items ≡ 0 ∷ [] → StandsAfter code limits bodies main_begun
+started code limits bodies t sound k past tasks ready entries homes =
     record {
       past = (tt, record { numbered = refl; comes = (refl, refl) });
-      keeps = λ i. ap (λ z. kept (λ n. home z n == i) main_begun) tags ∙ first_keeps t past i ∙ ap (λ z. views z i) (sym tasks);
+      journal = ap reverse entries;
+      keeps = λ i. ap (λ z. kept (λ n. home z n == i) main_begun) homes ∙ first_keeps t past i ∙ ap (λ z. views z i) (sym tasks);
       tasks = subst (λ z. (i : ℕ) (u : Task) → slice_get z i ≡ Some u → IsTaskOf code limits u) (sym tasks) (first_task code limits t k);
       ready = subst (λ z. AreReady z (reverse bodies.ready.items)) (sym tasks) (subst (λ (z : List ℕ). AreReady (t ∷ []) (reverse z)) (sym ready) (first_ready t));
       calls = λ q m e s. absurd (none_pending q m e);
-      held = λ q m e. absurd (none_pending q m e);
-      only = λ q a e. none_held q a (ap (λ z. held_at z q) (sym tags) ∙ e);
-      tagged = ap length tags;
+      homed = ap length homes;
       few = (let l = ap length tasks in omega (arith, l));
     }

@@ -1,6 +1,6 @@
 -- What an entry makes of the bodies of a run of a code.
 use Rattle.std.proofs.Common.{◌≡◌, ℕ, ◌-◌, ◌<◌, ◌≤◌, Bool, true, false, ◌==◌, List, [], ◌∷◌, ◌++◌, length, Option, Some, None, refl, sym, ap, ◌∙◌, subst, arith, inl, inr, set, reverse, length-append}
-use Rattle.std.specs.Prelude.{slice_get, option_to_list, if◌then◌else◌}
+use Rattle.std.specs.Prelude.{slice_get, option_to_list}
 use Rattle.std.proofs.lemmas.List.{length-set, length-append, reverse-append, append-nil}
 use Rattle.std.proofs.lemmas.Bool.{eq-eqb, eqb-true, eqb-false}
 use Rattle.chord_base.specs.declared.value.Object.{Object}
@@ -37,12 +37,11 @@ use Rattle.chord_task.specs.Standing.{view_of, IsTaskOf, is_ready_of, waits_of}
 use Rattle.chord_task.proofs.Standing.{seen_under}
 use Rattle.chord_lists.specs.Engine.{IsRunOfLength}
 use Rattle.chord_lists.specs.declared.engine.Turn.{Turn}
-use Rattle.chord_lists.specs.declared.code_bodies.Tag.{Tag}
 use Rattle.chord_lists.specs.declared.code_bodies.CodeBodies.{CodeBodies}
+use Rattle.chord_task.specs.Past.{AddsOne}
 use Rattle.chord_task.specs.Turning.{MayTurn, Turned}
-use Rattle.chord_lists.specs.CodeStands.{past_of, views, home_in, home, held_in, held_at, ready_in, ready_at, AreReady, Awaits, entry_message, message_there, message_held, StandsAfter, tag_of, IsTagged, WentAt}
+use Rattle.chord_lists.specs.CodeStands.{past_of, views, home_in, home, ready_in, ready_at, AreReady, Awaits, StandsAfter, turn_of, WentAt}
 use Rattle.chord_lists.proofs.Spots.{set_same, set_other, end_at, before_end, one_some, nothing_some}
-use Rattle.chord_lists.proofs.Held.{newest_there, held_on}
 use Rattle.chord_lists.proofs.CodeTasks.{ready_not_waiting, call_waits}
 
 -- ---- the run in its tasks
@@ -52,12 +51,12 @@ pub told_at : (code : Parts) (limits : Limits) (tasks : List Task) → ((i : ℕ
 told_at code limits tasks f i None e = tt
 told_at code limits tasks f i (Some t) e = (f i t e).task.told
 
--- the run is kept in the tasks, each entry where its tag says
+-- the run is kept in the tasks, each entry in its home
 abbrev pub stands_merged : (code : Parts) (limits : Limits) (bodies : CodeBodies) (h : List Entry) → StandsAfter code limits bodies h → IsMerged (code_program code limits) (views bodies.tasks.items) h
 stands_merged code limits bodies h s =
     record {
       past = s.past;
-      at = home bodies.tags.items;
+      at = home bodies.homes.items;
       keeps = s.keeps;
       told = λ i. told_at code limits bodies.tasks.items s.tasks i (slice_get bodies.tasks.items i) refl;
     }
@@ -70,7 +69,7 @@ view_at tasks i t e = ap past_of e
 pub task_below : (code : Parts) (limits : Limits) (bodies : CodeBodies) (h : List Entry) (i : ℕ) → StandsAfter code limits bodies h → AllBelow (length h) (views bodies.tasks.items i)
 task_below code limits bodies h i s =
     subst (λ (l : List Entry). AllBelow (length h) l) (s.keeps i)
-    (kept_below (length h) (λ n. home bodies.tags.items n == i) h (past_below (code_program code limits) h (length h) s.past (omega arith)))
+    (kept_below (length h) (λ n. home bodies.homes.items n == i) h (past_below (code_program code limits) h (length h) s.past (omega arith)))
 
 -- in a sound program a task that notes its next ask stays defined
 note_defined : (code : Parts) (limits : Limits) (bodies : CodeBodies) (h : List Entry) (i : ℕ) (w : What) (t : Task) → IsSound (code_program code limits) → StandsAfter code limits bodies h → slice_get bodies.tasks.items i ≡ Some t → IsNext (code_program code limits) (view_of t) w → StaysDefined (code_program code limits) (view_of t) (length h) w
@@ -173,16 +172,24 @@ kept_same f g n (e ∷ h) a s =
       | inr o ↦ rw (s e.number a.0, o, kept_same f g n h a.1 s)
     ]
 
--- the tags of all entries and of one more, which stands in this task
-pub record OneMore (tags after : List Tag) (n at : ℕ) : Type 0 where
-  pub old : (i : ℕ) → i < n → home after i ≡ home tags i
+-- the homes of all entries and of one more, which this task made
+pub record OneMore (homes after : List ℕ) (n at : ℕ) : Type 0 where
+  pub old : (i : ℕ) → i < n → home after i ≡ home homes i
   pub here : home after n ≡ at
 
--- with one more entry and its tag each place keeps what it kept, and its home the entry too
-pub keeps_more : (p : Program) (tags after : List Tag) (v : ℕ → List Entry) (h : List Entry) (e : Entry) (at : ℕ) → IsPast p h → e.number ≡ length h → OneMore tags after (length h) at → ((i : ℕ) → kept (λ n. home tags n == i) h ≡ v i) → (i : ℕ) → kept (λ n. home after n == i) (e ∷ h) ≡ grown v at e i
-keeps_more p tags after v h e at past number m keeps i =
+-- one more home at the end
+pub more_home : (homes after : List ℕ) (at n : ℕ) → length homes ≡ n → after ≡ homes ++ at ∷ [] → OneMore homes after n at
+more_home homes after at n long is =
+    record {
+      old = λ i l. ap (λ z. home z i) is ∙ ap home_in (before_end homes at i (λ d. omega (arith, d, l, long)));
+      here = ap (λ z. home z n) is ∙ subst (λ i. home (homes ++ at ∷ []) i ≡ at) long (ap home_in (end_at homes at));
+    }
+
+-- with one more entry each place keeps what it kept, and its home the entry too
+pub keeps_more : (p : Program) (homes after : List ℕ) (v : ℕ → List Entry) (h : List Entry) (e : Entry) (at : ℕ) → IsPast p h → e.number ≡ length h → OneMore homes after (length h) at → ((i : ℕ) → kept (λ n. home homes n == i) h ≡ v i) → (i : ℕ) → kept (λ n. home after n == i) (e ∷ h) ≡ grown v at e i
+keeps_more p homes after v h e at past number m keeps i =
     let old : kept (λ n. home after n == i) h ≡ v i =
-    kept_same (λ n. home after n == i) (λ n. home tags n == i) (length h) h (past_below p h (length h) past (omega arith)) (λ n l. ap (λ z. z == i) (m.old n l)) ∙ keeps i
+    kept_same (λ n. home after n == i) (λ n. home homes n == i) (length h) h (past_below p h (length h) past (omega arith)) (λ n l. ap (λ z. z == i) (m.old n l)) ∙ keeps i
     in
     let there : home after e.number ≡ at = ap (home after) number ∙ m.here in
     elim (either (at == i)) [ inl y ↦ rw (there, y, old) | inr o ↦ rw (there, o, old) ]
@@ -261,37 +268,16 @@ pending_under p (x ∷ h) n m past e =
           ]
     ]
 
--- one more tag at the end
-more_home : (tags : List Tag) (m : Tag) (at : ℕ) → m.task ≡ at → OneMore tags (tags ++ m ∷ []) (length tags) at
-more_home tags m at e =
-    record {
-      old = λ i l. ap home_in (before_end tags m i (λ d. omega (arith, d, l)));
-      here = ap home_in (end_at tags m) ∙ e;
-    }
+-- what a past and the list of all entries got is the newest entry of that past
+pub listed_one : (past past' list list' : List Entry) (e : Entry) → AddsOne past past' list list' → reverse past' ≡ e ∷ reverse past → list' ≡ list ++ e ∷ []
+listed_one past past' list list' e a is =
+    let z : a.entry ∷ reverse past ≡ e ∷ reverse past = sym (reverse-append past (a.entry ∷ [])) ∙ sym (ap reverse a.past) ∙ is in
+    let same : a.entry ≡ e = cc in
+    a.list ∙ ap (λ x. list ++ x ∷ []) same
 
--- one more tag leaves what is held of the entries before it
-pub more_held : (tags : List Tag) (m : Tag) (n : ℕ) → n < length tags → held_at (tags ++ m ∷ []) n ≡ held_at tags n
-more_held tags m n l = ap held_in (before_end tags m n (λ d. omega (arith, d, l)))
-
--- the message of the newest entry of a task is held
-held_new : (tags : List Tag) (at : ℕ) (v : ℕ → List Entry) (e : Entry) (h : List Entry) (m : Message) → v at ≡ e ∷ h → message_of e.what ≡ Some m → message_held v (tags ++ tag_of at (length h) e.what ∷ []) (length tags) ≡ Some m
-held_new tags at v e h m past is =
-    let tag = end_at tags (tag_of at (length h) e.what) in
-    ap (λ (o : Option Tag). message_there (v (home_in o)) (held_in o)) tag
-    ∙ ap (λ o. message_there (v at) (Rattle.std.specs.Prelude.option_map (λ (_ : Message). length h) o)) is
-    ∙ ap (λ l. entry_message (slice_get (reverse l) (length h))) past ∙ ap entry_message (newest_there e h) ∙ is
-
--- what is held of an entry is its message
-only_new : (tags : List Tag) (at place : ℕ) (w : What) (q a : ℕ) → length tags ≡ q → held_at (tags ++ tag_of at place w ∷ []) q ≡ Some a → (m : Message) × (message_of w ≡ Some m)
-only_new tags at place w q a e is = by_message (message_of w) refl
-  where
-    by_message : (o : Option Message) → message_of w ≡ o → (m : Message) × (message_of w ≡ Some m)
-    by_message (Some m) i = (m, i)
-    by_message None i =
-        let here : held_at (tags ++ tag_of at place w ∷ []) q ≡ None =
-        subst (λ j. held_at (tags ++ tag_of at place w ∷ []) j ≡ None) e (ap held_in (end_at tags (tag_of at place w)) ∙ ap (λ o. Rattle.std.specs.Prelude.option_map (λ (_ : Message). place) o) i)
-        in
-        nothing_some a (sym here ∙ is)
+-- the list of all entries, which got one more
+pub journal_more : (entries after h : List Entry) (e : Entry) → reverse entries ≡ h → after ≡ entries ++ e ∷ [] → reverse after ≡ e ∷ h
+journal_more entries after h e is more = ap reverse more ∙ reverse-append entries (e ∷ []) ∙ ap (λ l. e ∷ l) is
 
 -- ---- a task makes an entry
 
@@ -324,9 +310,9 @@ noted_body code limits t t' n w u =
     let b : u.noted.0 ≡ u.next.body = cc in
     rw b at u.noted.2
 
--- a task noted its next ask and the entry was tagged: the entry may follow, and the bodies stand after it
-pub went_at : (code : Parts) (limits : Limits) (before after : CodeBodies) (h : List Entry) (n at : ℕ) (t t' : Task) (w : What) (turn : Turn) → IsValid code → IsSound (code_program code limits) → n < 65536 → IsRunOfLength (code_program code limits) n h → StandsAfter code limits before h → slice_get before.tasks.items at ≡ Some t → is_ready_of t ≡ true → Turned code limits t t' n w → IsTagged at (length (view_of t).past) w before.tags.items after.tags.items turn → after.tasks.items ≡ set before.tasks.items at t' → after.ready.items ≡ before.ready.items → WentAt (code_program code limits) before.tasks.items at (StandsAfter code limits after) h turn
-went_at code limits before after h n at t t' w turn valid sound room played s g r u tagged tasks ready =
+-- a task noted its next ask, and the entry came to the list of all: it may follow, and the bodies stand after it
+pub went_at : (code : Parts) (limits : Limits) (before after : CodeBodies) (h : List Entry) (n at : ℕ) (t t' : Task) (w : What) (turn : Turn) → IsValid code → IsSound (code_program code limits) → n < 65536 → IsRunOfLength (code_program code limits) n h → StandsAfter code limits before h → slice_get before.tasks.items at ≡ Some t → is_ready_of t ≡ true → Turned code limits t t' n w → AddsOne t.past t'.past before.entries.items after.entries.items → after.homes.items ≡ before.homes.items ++ at ∷ [] → turn ≡ turn_of w → after.tasks.items ≡ set before.tasks.items at t' → after.ready.items ≡ before.ready.items → WentAt (code_program code limits) before.tasks.items at (StandsAfter code limits after) h turn
+went_at code limits before after h n at t t' w turn valid sound room played s g r u listed homes is tasks ready =
     let p = code_program code limits in
     let v = views before.tasks.items in
     let b = u.next.body in
@@ -346,12 +332,7 @@ went_at code limits before after h n at t t' w turn valid sound room played s g 
     let among : WhatAmong (was_made h) w = objects_were_made p e h (code_is_tame code limits (valid_within code valid)) (valid_methods code limits valid) past in
     let within : IsWhatWithin w = what_within h w u.next.own played.within (omega (arith, number, room)) among fits in
     let note = noted_body code limits t t' n w u in
-    let long : length before.tags.items ≡ n = s.tagged ∙ played.so_long in
-    let tag : Tag = tag_of at (length (view_of t).past) w in
-    let one : OneMore before.tags.items after.tags.items (length h) at =
-    subst (λ k. OneMore before.tags.items after.tags.items k at) s.tagged
-    (subst (λ x. OneMore before.tags.items x (length before.tags.items) at) (sym tagged.tags) (more_home before.tags.items tag at refl))
-    in
+    let one : OneMore before.homes.items after.homes.items (length h) at = more_home before.homes.items after.homes.items at (length h) s.homed homes in
     let grows : (i : ℕ) → grown v at e i ≡ views after.tasks.items i = λ i. views_set before.tasks.items at t' t e g note i ∙ ap (λ x. views x i) (sym tasks) in
     record {
       entry = e;
@@ -362,55 +343,33 @@ went_at code limits before after h n at t t' w turn valid sound room played s g 
             after =
                 record {
                   past = past;
-                  keeps = λ i. keeps_more p before.tags.items after.tags.items v h e at s.past number one s.keeps i ∙ grows i;
+                  journal = journal_more before.entries.items after.entries.items h e s.journal (listed_one t.past t'.past before.entries.items after.entries.items e listed note);
+                  keeps = λ i. keeps_more p before.homes.items after.homes.items v h e at s.past number one s.keeps i ∙ grows i;
                   tasks = subst (λ x. (i : ℕ) (y : Task) → slice_get x i ≡ Some y → IsTaskOf code limits y) (sym tasks) (tasks_set code limits before.tasks.items at t' t g u.task s.tasks);
                   ready = subst (λ x. AreReady x (reverse after.ready.items)) (sym tasks) (subst (λ (x : List ℕ). AreReady (set before.tasks.items at t') (reverse x)) (sym ready) (ready_set before.tasks.items at t' t (reverse before.ready.items) g r s.ready));
                   calls =
                       λ q m is sync.
-                      subst (λ x. Awaits x q (home after.tags.items q)) (sym tasks)
+                      subst (λ x. Awaits x q (home after.homes.items q)) (sym tasks)
                       (elim (either (n == q)) [
                         | inl y ↦
                             (let i : n ≡ q = eqb-true n q y in
                             let sent : message_of w ≡ Some m = rw y at is in
                             let called = sync_called p w m sent (sound.kinds h e past) sync in
                             let waits : waits_of n t' ≡ true = call_waits code limits t t' n m.object m.method m.arguments (subst (λ x. Turned code limits t t' n x) called u) in
-                            let there : at ≡ home after.tags.items q = sym one.here ∙ ap (home after.tags.items) (sym number ∙ i) in
+                            let there : at ≡ home after.homes.items q = sym one.here ∙ ap (home after.homes.items) (sym number ∙ i) in
                             subst (λ k. Awaits (set before.tasks.items at t') q k) there (t', set_same before.tasks.items at t' t g, subst (λ k. waits_of k t' ≡ true) i waits))
                         | inr o ↦
                             (let old : pending q h ≡ Some m = rw (o, own_members w u.next.own) at is in
                             let l = pending_under p h q m s.past old in
                             let k = s.calls q m old sync in
-                            subst (λ j. Awaits (set before.tasks.items at t') q j) (sym (one.old q l)) (awaits_set before.tasks.items at t' t q (home before.tags.items q) g (ready_not_waiting q t r) k))
+                            subst (λ j. Awaits (set before.tasks.items at t') q j) (sym (one.old q l)) (awaits_set before.tasks.items at t' t q (home before.homes.items q) g (ready_not_waiting q t r) k))
                       ]);
-                  held =
-                      λ q m is.
-                      elim (either (n == q)) [
-                        | inl y ↦
-                            (let i : length before.tags.items ≡ q = long ∙ eqb-true n q y in
-                            let here : views after.tasks.items at ≡ e ∷ (view_of t).past = ap (λ x. views x at) tasks ∙ ap past_of (set_same before.tasks.items at t' t g) ∙ note in
-                            subst (λ x. message_held (views after.tasks.items) x q ≡ Some m) (sym tagged.tags)
-                            (subst (λ k. message_held (views after.tasks.items) (before.tags.items ++ tag ∷ []) k ≡ Some m) i (held_new before.tags.items at (views after.tasks.items) e (view_of t).past m here (rw y at is))))
-                        | inr o ↦
-                            (let old : pending q h ≡ Some m = rw (o, own_members w u.next.own) at is in
-                            let l = pending_under p h q m s.past old in
-                            let kept : held_at after.tags.items q ≡ held_at before.tags.items q = ap (λ z. held_at z q) tagged.tags ∙ more_held before.tags.items tag q (omega (arith, l, s.tagged)) in
-                            held_on v (views after.tasks.items) before.tags.items after.tags.items at e q m grows (one.old q l) kept (s.held q m old))
-                      ];
-                  only =
-                      λ q a is.
-                      elim (either (n == q)) [
-                        | inl y ↦ (let x = only_new before.tags.items at (length (view_of t).past) w q a (omega (arith, long, eqb-true n q y)) (ap (λ z. held_at z q) (sym tagged.tags) ∙ is) in (x.0, rw y x.1))
-                        | inr o ↦
-                            (let apart : length before.tags.items ≡ q → ⊥ = λ d. eqb-false n q o (omega (arith, d, long)) in
-                            let x = s.only q a (sym (ap held_in (before_end before.tags.items tag q apart)) ∙ ap (λ z. held_at z q) (sym tagged.tags) ∙ is) in
-                            (x.0, rw (o, own_members w u.next.own) x.1))
-                      ];
-                  tagged = ap length tagged.tags ∙ length-append before.tags.items (tag ∷ []) ∙ omega (arith, s.tagged);
+                  homed = ap length homes ∙ length-append before.homes.items (at ∷ []) ∙ omega (arith, s.homed);
                   few = (let i = ap length tasks in let k = length-set before.tasks.items at t' in omega (arith, i, k, s.few));
                 };
             no_firing = own_members w u.next.own;
           };
       own = u.next.own;
       top = (t, g, u.next.on_top);
-      is = tagged.is;
+      is = is;
     }

@@ -1,10 +1,9 @@
 -- What the engine over a code uses of one task.
-use Rattle.std.proofs.Common.{◌≡◌, ℕ, true, false, ◌==◌, inl, inr, List, ◌∷◌, Option, Some, None, refl, sym, ap, ◌∙◌, subst, ◌⊎◌}
+use Rattle.std.proofs.Common.{◌≡◌, ℕ, true, false, ◌==◌, inl, inr, ◌∷◌, Option, Some, None, refl, sym, ap, ◌∙◌, ◌⊎◌}
 use Rattle.std.proofs.lemmas.Bool.{eqb-true, eqb-false}
 use Rattle.chord_base.specs.declared.event.Limits.{Limits}
 use Rattle.chord_base.specs.declared.event.What.{What}
 use Rattle.chord_base.specs.declared.event.What.TheVariants.{Begun, Made, Sent, Called, Printed, Fired, Ended}
-use Rattle.chord_base.specs.declared.value.Object.{Object}
 use Rattle.chord_base.specs.Meaning.{Program, Asked}
 use Rattle.chord_base.specs.Bodies.{Doing, Absent, Unplaced, Ready, Waits, Over, doing, asked}
 use Rattle.chord_base.specs.Printed.{is_end}
@@ -20,9 +19,7 @@ use Rattle.chord_task.specs.Standing.{view_of, IsTaskOf, is_ready_of, waits_of, 
 use Rattle.chord_task.proofs.Stacks.{called_waits}
 use Rattle.chord_task.proofs.Asking.{not_ready_nothing, waits_no}
 use Rattle.chord_task.specs.Turning.{Turned, sent_to}
-use Rattle.chord_lists.specs.declared.engine.Turn.{Turn}
-use Rattle.chord_lists.specs.declared.code_bodies.Tag.{Tag}
-use Rattle.chord_lists.specs.CodeStands.{IsTagged, IsTaggedAs}
+use Rattle.chord_lists.specs.CodeStands.{turn_to, turn_of}
 
 -- ---- ready and waiting tasks
 
@@ -82,18 +79,15 @@ asks_ready code limits t b a k e =
 
 -- ---- a task goes on
 
--- an entry that got the tag of what it is to got its tag
-pub tagged_as : (at place : ℕ) (sent : Option (Object × ℕ)) (w : What) (before after : List Tag) (turn : Turn) → sent ≡ sent_to w → IsTaggedAs at place sent before after turn → IsTagged at place w before after turn
-tagged_as at place sent w before after turn e x = by_what w (subst (λ s. IsTaggedAs at place s before after turn) e x)
-  where
-    by_what : (v : What) → IsTaggedAs at place (sent_to v) before after turn → IsTagged at place v before after turn
-    by_what Begun x = record { tags = x.tags; is = x.is }
-    by_what (Made c) x = record { tags = x.tags; is = x.is }
-    by_what (Sent o j vs) x = record { tags = x.tags; is = x.is }
-    by_what (Called o j vs) x = record { tags = x.tags; is = x.is }
-    by_what (Printed t) x = record { tags = x.tags; is = x.is }
-    by_what (Fired k o ms vs) x = record { tags = x.tags; is = x.is }
-    by_what (Ended y) x = record { tags = x.tags; is = x.is }
+-- the engine is told what an entry is by what it is to
+pub turn_told : (w : What) → turn_to (sent_to w) ≡ turn_of w
+turn_told Begun = refl
+turn_told (Made c) = refl
+turn_told (Sent o j vs) = refl
+turn_told (Called o j vs) = refl
+turn_told (Printed t) = refl
+turn_told (Fired k o ms vs) = refl
+turn_told (Ended y) = refl
 
 -- after a call the body on top waits for it
 waits_called : (p : Program) (u t : TaskView) (n : ℕ) (w : What) → IsNext p u w → task_noted u n w t → (is_end w ≡ false → t.top ≡ u.top) → is_end w ≡ false → (o : _) (j : ℕ) (vs : _) → w ≡ Called o j vs → TopWaitsFor p t n

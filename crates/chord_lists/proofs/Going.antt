@@ -1,5 +1,5 @@
 -- Whether a run of a code may go on.
-use Rattle.std.proofs.Common.{◌≡◌, ℕ, zero, suc, ◌+◌, ◌<◌, ◌≤◌, true, false, ◌==◌, List, [], ◌∷◌, ◌++◌, length, Option, Some, None, refl, sym, ap, ◌∙◌, subst, arith, inl, inr, reverse, take, drop, get_or, ⊎_elim}
+use Rattle.std.proofs.Common.{◌≡◌, ℕ, zero, suc, ◌+◌, ◌<◌, ◌≤◌, Bool, true, false, ◌==◌, List, [], ◌∷◌, ◌++◌, length, Option, Some, None, refl, sym, ap, ◌∙◌, subst, arith, inl, inr, reverse, take, drop, get_or, ⊎_elim}
 use Rattle.std.specs.Prelude.{slice_get, if◌then◌else◌}
 use Rattle.std.proofs.lemmas.List.{reverse-append, reverse-reverse, take_more, length-reverse}
 use Rattle.std.proofs.lemmas.Bool.{eqb-true, eqb-false, cases_lt}
@@ -22,16 +22,14 @@ use Rattle.chord_code.specs.declared.parts.Parts.{Parts}
 use Rattle.chord_code.specs.Meaning.{code_program}
 use Rattle.chord_task.proofs.Asking.{ready_can}
 use Rattle.chord_lists.specs.Engine.{main_begun, fired, IsRunOfLength}
-use Rattle.chord_lists.specs.declared.code_bodies.Tag.{Tag}
 use Rattle.chord_lists.specs.declared.code_bodies.CodeBodies.{CodeBodies}
 use Rattle.chord_lists.specs.Bag.{Address, address_to, HasMessages, Lists}
-use Rattle.chord_lists.specs.CodeStands.{past_of, views, home, held_at, ready_at, StandsAfter}
-use Rattle.chord_lists.specs.CodeGoes.{IsNoted, message_by, AreTagged, CanFire, FiresAt, LacksAt}
+use Rattle.chord_lists.specs.CodeStands.{past_of, views, entry_message, message_at, ready_at, StandsAfter}
+use Rattle.chord_lists.specs.CodeGoes.{IsNoted, message_left, is_taken, AreMarked, CanFire, FiresAt, LacksAt}
 use Rattle.chord_lists.proofs.Bags.{lists_none, lists_on, lists_more, message_to}
 use Rattle.chord_lists.proofs.Taking.{lacks_fires}
 use Rattle.chord_lists.proofs.PendingEntries.{pending_entry}
 use Rattle.chord_lists.proofs.Spots.{one_some, nothing_some}
-use Rattle.chord_lists.proofs.Held.{held_place}
 use Rattle.chord_lists.proofs.CodeSteps.{stands_merged, ready_task}
 use Rattle.chord_lists.proofs.CodeOver.{none_asks}
 
@@ -64,16 +62,20 @@ take_all [] (suc k) l = absurd (omega (arith, l))
 take_all (e ∷ es) (suc k) l = ap suc (take_all es k (omega (arith, l)))
 
 -- the first entries, and the next
-more_is : (es : List Entry) (k : ℕ) (x : Entry) → k < length es → x ≡ get_or es k x → reverse (take (k + 1) es) ≡ x ∷ reverse (take k es)
+pub more_is : (es : List Entry) (k : ℕ) (x : Entry) → k < length es → x ≡ get_or es k x → reverse (take (k + 1) es) ≡ x ∷ reverse (take k es)
 more_is es k x l is = ap reverse (take_more es k x l) ∙ reverse-append (take k es) (get_or es k x ∷ []) ∙ ap (λ e. e ∷ reverse (take k es)) (sym is)
 
 -- an entry and those before it are within bounds if all are
 within_next : (es : List Entry) (k : ℕ) (x : Entry) → k < length es → x ≡ get_or es k x → AreWithin (reverse es) → AreWithin (x ∷ reverse (take k es))
 within_next es k x l is w = subst AreWithin (more_is es k x l is) (within_tail (reverse (drop (k + 1) es)) (reverse (take (k + 1) es)) (subst AreWithin (reverse_parts es (k + 1)) w))
 
+-- the first entries are as many as were taken
+pub first_length : (es : List Entry) (k : ℕ) → k ≤ length es → length (reverse (take k es)) ≡ k
+first_length es k l = length-reverse (take k es) ∙ take_all es k l
+
 -- an entry has the number of its place
 pub number_at : (es : List Entry) (k : ℕ) (x : Entry) → k < length es → x ≡ get_or es k x → AreWithin (reverse es) → x.number ≡ k
-number_at es k x l is w = (within_next es k x l is w).1 ∙ length-reverse (take k es) ∙ take_all es k (omega (arith, l))
+number_at es k x l is w = (within_next es k x l is w).1 ∙ first_length es k (omega (arith, l))
 
 -- the first entries of a run, and the next
 pub record NextEntry (p : Program) (es : List Entry) (k : ℕ) (x : Entry) : Type 0 where
@@ -171,34 +173,16 @@ pending_past h i w l = by_pending (pending i h) refl
 pub lists_all : (h : List Entry) (n : ℕ) (index : Address → List ℕ) → AreWithin h → n ≡ length h → Lists (early n (λ i. pending i h)) n index → Lists (λ i. pending i h) n index
 lists_all h n index w e s = subst (λ f. Lists f n index) (λ z i. early_all n (λ j. pending j h) i (λ l. pending_past h i w (omega (arith, e, l))) z) s
 
--- an entry whose place is not held is not pending
-pub not_held : (tags : List Tag) (h : List Entry) (n : ℕ) → AreTagged tags h → held_at tags n ≡ None → pending n h ≡ None
-not_held tags h n a e = by_pending (pending n h) refl
-  where
-    by_pending : (o : Option Message) → pending n h ≡ o → pending n h ≡ None
-    by_pending None i = i
-    by_pending (Some m) i = (let k = a.held n m i in nothing_some k.0 (sym e ∙ k.1))
-
--- and one whose place is held is
-pub is_held : (tags : List Tag) (es : List Entry) (n x : ℕ) (e : Entry) → AreTagged tags (reverse es) → held_at tags n ≡ Some x → slice_get es n ≡ Some e → (m : Message) × (pending n (reverse es) ≡ Some m) × (message_of e.what ≡ Some m)
-is_held tags es n x e a i g =
-    let m = a.only n x i in
-    let y = pending_entry (reverse es) n m.0 a.within m.1 in
-    let same : y.0 ≡ e = one_some y.0 e (slice_get es n) (ap (λ l. slice_get l n) (sym (reverse-reverse es)) ∙ y.1) g in
-    (m.0, m.1, ap (λ (z : Entry). message_of z.what) (sym same) ∙ y.2)
+-- a number of which it is known whether it is pending
+lists_either : (f : ℕ → Option Message) (n : ℕ) (old new : Address → List ℕ) (o : Option Message) → Lists (early n f) n old → f n ≡ o → IsNoted n o old new → Lists (early (n + 1) f) (n + 1) new
+lists_either f n old new None s e p = subst (λ index. Lists (early (n + 1) f) (n + 1) index) (λ z k. sym (p k) z) (lists_pass f n old s e)
+lists_either f n old new (Some m) s e p = lists_noted f n old new m s e p
 
 -- one more number
-pub lists_next : (tags : List Tag) (es : List Entry) (n : ℕ) (e : Entry) (old new : Address → List ℕ) → AreTagged tags (reverse es) → slice_get es n ≡ Some e → (o : Option ℕ) → held_at tags n ≡ o → IsNoted n (message_by o e.what) old new → Lists (early n (λ i. pending i (reverse es))) n old → Lists (early (n + 1) (λ i. pending i (reverse es))) (n + 1) new
-lists_next tags es n e old new a g None i p s =
-    subst (λ index. Lists (early (n + 1) (λ j. pending j (reverse es))) (n + 1) index) (λ z k. sym (p k) z)
-    (lists_pass (λ j. pending j (reverse es)) n old s (not_held tags (reverse es) n a i))
-lists_next tags es n e old new a g (Some x) i p s =
-    let m = is_held tags es n x e a i g in
-    lists_noted (λ j. pending j (reverse es)) n old new m.0 s m.1 (subst (λ o. IsNoted n o old new) m.2 p)
-
--- where the bodies stand, the tags hold the places of exactly the pending messages
-pub stands_tagged : (code : Parts) (limits : Limits) (bodies : CodeBodies) (h : List Entry) → StandsAfter code limits bodies h → AreWithin h → AreTagged bodies.tags.items h
-stands_tagged code limits bodies h s w = record { within = w; held = λ q m e. (let k = held_place (views bodies.tasks.items (home bodies.tags.items q)) (held_at bodies.tags.items q) m (s.held q m e) in (k.0, k.1)); only = s.only; tagged = s.tagged }
+pub lists_next : (taken : List Bool) (es : List Entry) (n : ℕ) (e : Entry) (b : Bool) (old new : Address → List ℕ) → AreMarked taken es (reverse es) → slice_get es n ≡ Some e → is_taken taken n ≡ b → IsNoted n (message_left b (message_of e.what)) old new → Lists (early n (λ i. pending i (reverse es))) n old → Lists (early (n + 1) (λ i. pending i (reverse es))) (n + 1) new
+lists_next taken es n e b old new a g is p s =
+    let left : pending n (reverse es) ≡ message_left b (message_of e.what) = a.left n ∙ ap (λ z. message_left z (message_at es n)) is ∙ ap (λ o. message_left b (entry_message o)) g in
+    lists_either (λ i. pending i (reverse es)) n old new (message_left b (message_of e.what)) s left p
 
 -- ---- chords
 

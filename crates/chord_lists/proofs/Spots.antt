@@ -75,7 +75,7 @@ has_before n [] ys e = (let z : false ≡ true = e in cc)
 has_before n (x ∷ xs) ys e = elim (either (n == x)) [ inl y ↦ rw y refl | inr o ↦ rw o (has_before n xs ys (rw o at e)) ]
 
 -- and so is a number among the second
-has_behind : (n : ℕ) (xs ys : List ℕ) → has n ys ≡ true → has n (xs ++ ys) ≡ true
+pub has_behind : (n : ℕ) (xs ys : List ℕ) → has n ys ≡ true → has n (xs ++ ys) ≡ true
 has_behind n [] ys e = e
 has_behind n (x ∷ xs) ys e = has_later n x (xs ++ ys) (has_behind n xs ys e)
 

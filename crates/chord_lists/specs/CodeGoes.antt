@@ -1,33 +1,43 @@
 -- Whether a run may go on: which messages are pending, and whether a chord has all of its.
-use Rattle.std.specs.Prelude.{◌≡◌, ℕ, List, length, Option, Some, None, slice_get}
+use Rattle.std.specs.Prelude.{◌≡◌, ◌||◌, ℕ, List, [], ◌∷◌, ◌++◌, length, Option, Some, None, Bool, true, false, get_or, slice_get}
 use Rattle.chord_base.specs.declared.value.Object.{Object}
 use Rattle.chord_base.specs.declared.value.Value.{Value}
-use Rattle.chord_base.specs.declared.event.What.{What}
 use Rattle.chord_base.specs.declared.event.Entry.{Entry}
 use Rattle.chord_base.specs.Meaning.{Program}
-use Rattle.chord_base.specs.Messages.{Message, message_of, pending}
+use Rattle.chord_base.specs.Messages.{Message, message_of, has, pending}
 use Rattle.chord_base.specs.Machine.{Fires}
-use Rattle.chord_base.specs.Bounds.{AreWithin}
-use Rattle.chord_lists.specs.declared.code_bodies.Tag.{Tag}
 use Rattle.chord_lists.specs.Bag.{Address, address_of, HasMessages, LacksAMessage, IsPushed}
-use Rattle.chord_lists.specs.CodeStands.{held_at}
+use Rattle.chord_lists.specs.CodeStands.{message_at}
 
 -- the message of this number came, if there is one
 abbrev pub IsNoted : ℕ → Option Message → (Address → List ℕ) → (Address → List ℕ) → Type 0
 IsNoted n None old new = (k : Address) → new k ≡ old k
 IsNoted n (Some m) old new = IsPushed (address_of m) n old new
 
--- the message of an entry whose place is held
-abbrev pub message_by : Option ℕ → What → Option Message
-message_by None w = None
-message_by (Some place) w = message_of w
+-- a message, if no firing has taken it
+abbrev pub message_left : Bool → Option Message → Option Message
+message_left true m = None
+message_left false m = m
 
--- the tags hold the places of exactly the pending messages
-pub record AreTagged (tags : List Tag) (h : List Entry) : Type 0 where
-  pub within : AreWithin h
-  pub held : (q : ℕ) (m : Message) → pending q h ≡ Some m → (place : ℕ) × (held_at tags q ≡ Some place)
-  pub only : (q place : ℕ) → held_at tags q ≡ Some place → (m : Message) × (pending q h ≡ Some m)
-  pub tagged : length tags ≡ length h
+-- whether the entry of a number was taken, by a list that says it of each; one that is not there yet is none to take
+abbrev pub is_taken : List Bool → ℕ → Bool
+is_taken taken n = get_or taken n true
+
+-- these numbers were taken too
+pub record HasTaken (ms : List ℕ) (old new : List Bool) : Type 0 where
+  pub taken : (n : ℕ) → is_taken new n ≡ (has n ms || is_taken old n)
+  pub long : length new ≡ length old
+
+-- one entry more, which took these numbers, and which none has taken
+pub record HasTakenNext (ms : List ℕ) (old new : List Bool) : Type 0 where
+  pub between : List Bool
+  pub before : HasTaken ms old between
+  pub is : new ≡ between ++ false ∷ []
+
+-- of the entries of a history, which are the first of these, it is said whether a firing has taken them
+pub record AreMarked (taken : List Bool) (entries h : List Entry) : Type 0 where
+  pub left : (n : ℕ) → pending n h ≡ message_left (is_taken taken n) (message_at entries n)
+  pub long : length taken ≡ length h
 
 -- some chord may fire
 abbrev pub CanFire : Program → List Entry → Type 0

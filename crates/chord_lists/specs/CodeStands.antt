@@ -1,7 +1,5 @@
--- What the bodies of a run of a code are after a history: tasks, in whose pasts the entries stand; and where each entry and
--- each pending message stands.
-use Rattle.std.specs.Global.{Vec}
-use Rattle.std.specs.Prelude.{is_none, set, ◌≡◌, ℕ, ◌≤◌, ◌==◌, List, [], ◌∷◌, ◌++◌, reverse, length, Bool, true, false, Option, Some, None, slice_get, option_map, if◌then◌else◌}
+-- What the bodies of a run of a code are after a history: its entries in order, and tasks, each of which made some of them.
+use Rattle.std.specs.Prelude.{is_none, ◌≡◌, ℕ, ◌≤◌, ◌==◌, List, [], ◌∷◌, ◌++◌, reverse, length, Bool, true, false, Option, Some, None, slice_get}
 use Rattle.chord_base.specs.declared.event.Entry.{Entry}
 use Rattle.chord_base.specs.declared.event.Limits.{Limits}
 use Rattle.chord_base.specs.declared.event.What.{What}
@@ -20,10 +18,9 @@ use Rattle.chord_task.specs.Standing.{view_of, IsTaskOf, is_ready_of, waits_of}
 use Rattle.chord_lists.specs.Engine.{IsRunOfLength, Made}
 use Rattle.chord_lists.specs.declared.engine.Turn.{Turn}
 use Rattle.chord_lists.specs.declared.engine.Turn.TheVariants as a_turn
-use Rattle.chord_lists.specs.declared.code_bodies.Tag.{Tag}
 use Rattle.chord_lists.specs.declared.code_bodies.CodeBodies.{CodeBodies}
 
--- ## Tasks and tags
+-- ## Tasks and the entries that they made
 
 -- place i keeps what task i did
 abbrev pub past_of : Option Task → List Entry
@@ -34,23 +31,14 @@ past_of (Some t) = (view_of t).past
 abbrev pub views : List Task → ℕ → List Entry
 views tasks i = past_of (slice_get tasks i)
 
--- the task that keeps the entry of a number
-abbrev pub home_in : Option Tag → ℕ
+-- the task that made the entry of a number
+abbrev pub home_in : Option ℕ → ℕ
 home_in None = 0
-home_in (Some m) = m.task
+home_in (Some task) = task
 
--- the task that keeps the entry of this number
-abbrev pub home : List Tag → ℕ → ℕ
-home tags n = home_in (slice_get tags n)
-
--- where the pending message of a number stands in the past of its task
-abbrev pub held_in : Option Tag → Option ℕ
-held_in None = None
-held_in (Some m) = m.held
-
--- where the pending message of this number stands in the past of its task
-abbrev pub held_at : List Tag → ℕ → Option ℕ
-held_at tags n = held_in (slice_get tags n)
+-- the task that made the entry of this number
+abbrev pub home : List ℕ → ℕ → ℕ
+home homes n = home_in (slice_get homes n)
 
 -- ## Ready tasks
 
@@ -85,41 +73,20 @@ pub record IsAmongReady (at : ℕ) (old new : List ℕ) : Type 0 where
 abbrev pub Awaits : List Task → ℕ → ℕ → Type 0
 Awaits tasks q i = (t : Task) × (slice_get tasks i ≡ Some t) × (waits_of q t ≡ true)
 
--- ## Messages
-
--- the message of an entry, if there is an entry
-abbrev pub entry_message : Option Entry → Option Message
-entry_message None = None
-entry_message (Some e) = message_of e.what
-
--- the message at a place of a past, which is counted from the oldest entry
-abbrev pub message_there : List Entry → Option ℕ → Option Message
-message_there h None = None
-message_there h (Some place) = entry_message (slice_get (reverse h) place)
-
--- the pending message of this number, as it stands in what the places keep
-abbrev pub message_held : (ℕ → List Entry) → List Tag → ℕ → Option Message
-message_held view tags n = message_there (view (home tags n)) (held_at tags n)
-
 -- ## The whole
 
--- what the bodies are after a history: its entries stand in the pasts of tasks, each where its tag says; each pending call has its caller, and the tag of each pending message says where it stands
+-- what the bodies are after a history: its entries stand in one list, and each is of the past of its task; each pending call has its caller
 pub record StandsAfter (code : Parts) (limits : Limits) (bodies : CodeBodies) (h : List Entry) : Type 0 where
   pub past : IsPast (code_program code limits) h
-  pub keeps : (i : ℕ) → kept (λ n. home bodies.tags.items n == i) h ≡ views bodies.tasks.items i
+  pub journal : reverse bodies.entries.items ≡ h
+  pub keeps : (i : ℕ) → kept (λ n. home bodies.homes.items n == i) h ≡ views bodies.tasks.items i
   pub tasks : (i : ℕ) (t : Task) → slice_get bodies.tasks.items i ≡ Some t → IsTaskOf code limits t
   pub ready : AreReady bodies.tasks.items (reverse bodies.ready.items)
-  pub calls : (q : ℕ) (m : Message) → pending q h ≡ Some m → (code_program code limits).is_sync m.object.class m.method ≡ true → Awaits bodies.tasks.items q (home bodies.tags.items q)
-  pub held : (q : ℕ) (m : Message) → pending q h ≡ Some m → message_held (views bodies.tasks.items) bodies.tags.items q ≡ Some m
-  pub only : (q place : ℕ) → held_at bodies.tags.items q ≡ Some place → (m : Message) × (pending q h ≡ Some m)
-  pub tagged : length bodies.tags.items ≡ length h
+  pub calls : (q : ℕ) (m : Message) → pending q h ≡ Some m → (code_program code limits).is_sync m.object.class m.method ≡ true → Awaits bodies.tasks.items q (home bodies.homes.items q)
+  pub homed : length bodies.homes.items ≡ length h
   pub few : length bodies.tasks.items ≤ length h
 
 -- ## A task goes on
-
--- what is kept of an entry of a task, which stands at this place of its past
-abbrev pub tag_of : ℕ → ℕ → What → Tag
-tag_of at place w = record { task = at; held = option_map (λ _. place) (message_of w) }
 
 -- what an entry with this message, or none, is to the engine
 abbrev pub turn_by : Option Message → Turn
@@ -135,16 +102,6 @@ abbrev pub turn_to : Option (Object × ℕ) → Turn
 turn_to None = a_turn.Plain
 turn_to (Some to) = a_turn.Message to.0 to.1
 
--- an entry that is a message to this, or none, got its tag, and the engine is told what it is
-pub record IsTaggedAs (at place : ℕ) (sent : Option (Object × ℕ)) (before after : List Tag) (turn : Turn) : Type 0 where
-  pub tags : after ≡ before ++ record { task = at; held = option_map (λ _. place) sent } ∷ []
-  pub is : turn ≡ turn_to sent
-
--- an entry of this task, at this place of its past, got its tag, and the engine is told what it is
-pub record IsTagged (at place : ℕ) (w : What) (before after : List Tag) (turn : Turn) : Type 0 where
-  pub tags : after ≡ before ++ tag_of at place w ∷ []
-  pub is : turn ≡ turn_of w
-
 -- the task of this place has made an entry, its next ask
 pub record WentAt (p : Program) (tasks : List Task) (at : ℕ) (after : List Entry → Type 0) (h : List Entry) (turn : Turn) : Type 0 where
   pub entry : Entry
@@ -153,79 +110,35 @@ pub record WentAt (p : Program) (tasks : List Task) (at : ℕ) (after : List Ent
   pub top : (t : Task) × (slice_get tasks at ≡ Some t) × ((view_of t).top ≡ Some entry.body)
   pub is : turn ≡ turn_of entry.what
 
--- ## What is gathered
-
--- the entries of a place, newest first
-abbrev pub left_in : Option (Vec Entry) → List Entry
-left_in None = []
-left_in (Some v) = reverse v.items
-
--- each place has what its task did
-abbrev pub AreLeft : List Task → List (Vec Entry) → Type 0
-AreLeft tasks pasts = (i : ℕ) → left_in (slice_get pasts i) ≡ views tasks i
-
--- each entry has the number of its place
-abbrev pub NumbersArePlaces : List Entry → Type 0
-NumbersArePlaces [] = Unit {0}
-NumbersArePlaces (e ∷ h) = (e.number ≡ length h) × NumbersArePlaces h
-
--- the places have the entries of this history, each where its tag says
-pub record IsLeft (pasts : List (Vec Entry)) (tags : List Tag) (h : List Entry) : Type 0 where
-  pub in_order : NumbersArePlaces h
-  pub tagged : length tags ≡ length h
-  pub keeps : (i : ℕ) → kept (λ n. home tags n == i) h ≡ left_in (slice_get pasts i)
-
--- the place has an entry
-abbrev pub HasNewest : List (Vec Entry) → ℕ → Type 0
-HasNewest pasts at = (v : Vec Entry) × (slice_get pasts at ≡ Some v) × (v.items ≡ [] → ⊥)
-
--- the newest entry of the place went, and was this
-pub record IsNewestTaken (before : List (Vec Entry)) (at : ℕ) (e : Entry) (after : List (Vec Entry)) : Type 0 where
-  pub place : Vec Entry
-  pub there : slice_get before at ≡ Some place
-  pub left : Vec Entry
-  pub last : place.items ≡ left.items ++ e ∷ []
-  pub is : after ≡ set before at left
-
 -- ## What a firing takes
 
--- the message is held
-abbrev pub IsHeldAt : (ℕ → List Entry) → List Tag → ℕ → Type 0
-IsHeldAt view tags n = (m : Message) × (message_held view tags n ≡ Some m)
+-- the message of an entry, if there is an entry
+abbrev pub entry_message : Option Entry → Option Message
+entry_message None = None
+entry_message (Some e) = message_of e.what
 
--- each of these messages is held
-abbrev pub AllHeld : (ℕ → List Entry) → List Tag → List ℕ → Type 0
-AllHeld view tags [] = Unit {0}
-AllHeld view tags (n ∷ ns) = IsHeldAt view tags n × AllHeld view tags ns
+-- the message that is the entry of this number
+abbrev pub message_at : List Entry → ℕ → Option Message
+message_at entries n = entry_message (slice_get entries n)
+
+-- the entry of this number is a message
+abbrev pub IsMessageAt : List Entry → ℕ → Type 0
+IsMessageAt entries n = (m : Message) × (message_at entries n ≡ Some m)
+
+-- the entry of each of these numbers is a message
+abbrev pub AreMessagesAt : List Entry → List ℕ → Type 0
+AreMessagesAt entries [] = Unit {0}
+AreMessagesAt entries (n ∷ ns) = IsMessageAt entries n × AreMessagesAt entries ns
 
 -- the arguments of a message, and none where there is none
-abbrev pub arguments_held : Option Message → List Value
-arguments_held None = []
-arguments_held (Some m) = m.arguments
+abbrev pub sent_arguments : Option Message → List Value
+sent_arguments None = []
+sent_arguments (Some m) = m.arguments
 
 -- the arguments of these messages, one after another
-abbrev pub held_values : (ℕ → List Entry) → List Tag → List ℕ → List Value
-held_values view tags [] = []
-held_values view tags (n ∷ ns) = arguments_held (message_held view tags n) ++ held_values view tags ns
-
--- this message was taken from its place
-pub record Emptied (n : ℕ) (before : List Tag) (place : ℕ) (after : List Tag) : Type 0 where
-  pub was : held_at before n ≡ Some place
-  pub held : (i : ℕ) → held_at after i ≡ (if n == i then None else held_at before i)
-  pub homes : (i : ℕ) → home after i ≡ home before i
-  pub tagged : length after ≡ length before
-
--- this message was taken, and its arguments were added to the values
-pub record HasAdded (view : ℕ → List Entry) (n : ℕ) (before : List Tag) (old : List Value) (after : List Tag) (new : List Value) : Type 0 where
-  pub place : ℕ
-  pub emptied : Emptied n before place after
-  pub values : new ≡ old ++ arguments_held (message_held view before n)
-
--- these messages were taken
-pub record EmptiedAll (ns : List ℕ) (before after : List Tag) : Type 0 where
-  pub held : (i : ℕ) → held_at after i ≡ (if has i ns then None else held_at before i)
-  pub homes : (i : ℕ) → home after i ≡ home before i
-  pub tagged : length after ≡ length before
+abbrev pub sent_values : List Entry → List ℕ → List Value
+sent_values entries [] = []
+sent_values entries (n ∷ ns) = sent_arguments (message_at entries n) ++ sent_values entries ns
 
 -- a firing serves this call, if it serves one
 pub record Serves (p : Program) (k : ℕ) (o : Object) (ms : List ℕ) (call : Option ℕ) : Type 0 where
@@ -236,7 +149,7 @@ pub record Serves (p : Program) (k : ℕ) (o : Object) (ms : List ℕ) (call : O
 -- the task of this place waits for the call, if there is one, and else has no body left
 abbrev pub HostsCall : CodeBodies → ℕ → Option ℕ → Type 0
 HostsCall bodies at None = over_at bodies.tasks.items at ≡ true
-HostsCall bodies at (Some call) = at ≡ home bodies.tags.items call
+HostsCall bodies at (Some call) = at ≡ home bodies.homes.items call
 
 -- the body of a firing may begin in the task of this place
 pub record FitsAt (p : Program) (bodies : CodeBodies) (k : ℕ) (o : Object) (ms : List ℕ) (at : ℕ) : Type 0 where

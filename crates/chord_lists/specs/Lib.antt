@@ -6,8 +6,6 @@
 pub mod Bag
 -- what the engine keeps from entry to entry, over any program
 pub mod Engine
--- where the message of an entry stands
-pub mod Places
 -- what the bodies of a run of a code are
 pub mod CodeStands
 -- whether a run of a code may go on

@@ -1,17 +1,17 @@
-//! The bodies of a run of a code: tasks, and where each entry and each pending message stands.
+//! The bodies of a run of a code: tasks, and the entries that these made.
 #![tactic(auto)]
 
-ghost use Rattle.std.specs.Prelude.{◌^◌, ◌≡◌, ◌<◌, ◌≤◌, ◌+◌, ℕ, ◌++◌, ◌∷◌, [], List, reverse, length, IfOk, OnOk, IfSome, IfNone, Some, None, true, false, slice_get};
+ghost use Rattle.std.specs.Prelude.{◌^◌, ◌≡◌, ◌<◌, ◌≤◌, ◌+◌, ℕ, ◌++◌, [], List, reverse, length, IfOk, OnOk, IfSome, IfNone, Some, None, true, false, slice_get};
+ghost use Rattle.chord_base.specs.Bounds.{IsJournal};
 ghost use Rattle.chord_base.specs.Story.{IsOwn, IsSound};
 ghost use Rattle.chord_base.specs.declared.event.Entry.{Entry};
 ghost use Rattle.chord_base.specs.Bodies.{served_among};
-ghost use Rattle.chord_base.specs.Messages.{AreDifferent, Message, has};
+ghost use Rattle.chord_base.specs.Messages.{has};
 ghost use Rattle.chord_code.specs.Meaning.{code_program, method_is_sync};
-ghost use Rattle.chord_lists.specs.Engine.{main_begun, IsRunOfLength, MayGoOn, Went, MayBegin, Began, Ends};
-ghost use Rattle.chord_lists.specs.CodeStands.{StandsAfter, AreReady, IsAmongReady, ready_at, over_at, IsTaggedAs, WentAt, AreLeft, IsLeft, HasNewest, IsNewestTaken, views, held_at, entry_message, arguments_held, message_held, IsHeldAt, AllHeld, held_values, Emptied, EmptiedAll, HasAdded, home, Serves, FitsAt, MayReplay, Replayed};
+ghost use Rattle.chord_lists.specs.Engine.{main_begun, IsRunOfLength, MayGoOn, Went, MayBegin, Began};
+ghost use Rattle.chord_lists.specs.CodeStands.{StandsAfter, AreReady, IsAmongReady, ready_at, over_at, turn_to, WentAt, IsMessageAt, AreMessagesAt, message_at, sent_arguments, sent_values, home, Serves, FitsAt, MayReplay, Replayed};
 
 use crate::engine::Turn;
-use crate::place::Held;
 use chord_base::event::{Entry, Limits, What};
 use chord_base::journal::Journal;
 use chord_base::members::Members;
@@ -21,14 +21,8 @@ use chord_task::task::Task;
 use std::alloc::{AllocError, Global};
 use std::mem;
 
-/// What is kept of an entry: the task in whose past it stands, and, of a message that no firing has taken, its place there.
-#[derive(Drop)]
-pub struct Tag {
-    pub task: u16,
-    pub held: Held,
-}
-
-/// The bodies of a run of a code: the tasks, the places of those that may go on, and a tag for each entry.
+/// The bodies of a run of a code: the tasks, the places of those that may go on, the entries of the run in order, and the task
+/// that made each of them.
 ///
 /// Each task that may go on stands in `ready`. One that stands there and may not is passed over. In `over` stand places of
 /// tasks that had no body left when they were put there: a firing that serves no call begins in one of them, if it has none still.
@@ -36,49 +30,18 @@ pub struct Tag {
 pub struct CodeBodies {
     pub tasks: Vec<Task>,
     pub ready: Vec<u32>,
-    pub tags: Vec<Tag>,
+    pub entries: Vec<Entry>,
+    pub homes: Vec<u16>,
     pub over: Vec<u32>,
 }
 
-/// Marks a message of this task, at this place of its past.
-fn tag_message(
-    tags: &mut Vec<Tag>,
-    at: u16,
-    place: u32,
-    object: Object,
-    method: u8,
-) -> Result<Turn, AllocError>
-    requires later { 0 < place }
-    requires room { place < 65536 }
-    ensures { IfOk result (λ turn. (turn ≡ Turn.Message object method) × (tags.new.items ≡ tags.old.items ++ record { task = at; held = Some place } ∷ [])) }
-{
-    tags.push(Tag {
-        task: at,
-        held: Held::at(place),
-    })?;
-    Ok(Turn::Message(object, method))
-}
-
-/// Marks an entry of this task, at this place of its past. If it is a message, this is what it is to.
-fn tag_entry(
-    tags: &mut Vec<Tag>,
-    at: u16,
-    place: u32,
-    sent: Option<(Object, u8)>,
-) -> Result<Turn, AllocError>
-    requires later { 0 < place }
-    requires room { place < 65536 }
-    ensures { IfOk result (λ turn. IsTaggedAs at place sent tags.old.items tags.new.items turn) }
+/// What an entry is to the engine that is a message to this, or none.
+fn turn_to(sent: Option<(Object, u8)>) -> Turn
+    ensures { result ≡ turn_to sent }
 {
     match sent {
-        Some((object, method)) => tag_message(tags, at, place, object, method),
-        None => {
-            tags.push(Tag {
-                task: at,
-                held: Held::none(),
-            })?;
-            Ok(Turn::Plain)
-        }
+        Some((object, method)) => Turn::Message(object, method),
+        None => Turn::Plain,
     }
 }
 
@@ -170,18 +133,6 @@ fn place_of(at: u32) -> u16
     at as u16
 }
 
-/// The place of the next entry of a past.
-#[inline(always)]
-fn place_in(past: &[Entry]) -> u32
-    requires later { 0 < length past.now }
-    requires room { length past.now < 65536 }
-    ensures place { result ≡ length past.now }
-    ensures later { 0 < result }
-    ensures room { result < 65536 }
-{
-    past.len() as u32
-}
-
 /// The task of this place makes the entry of this number.
 fn make(
     alloc: Global,
@@ -199,11 +150,10 @@ fn make(
 {
     let _parts = code.parts();
     let task = &mut bodies.tasks[at as usize];
-    let place = place_in(&task.past);
-    let sent = task.turn(alloc, code, limits, number)?;
-    let turn = tag_entry(&mut bodies.tags, place_of(at), place, sent)?;
+    let sent = task.turn(alloc, code, limits, number, &mut bodies.entries)?;
     keep_over(task, &mut bodies.over, at)?;
-    Ok(turn)
+    bodies.homes.push(place_of(at))?;
+    Ok(turn_to(sent))
 }
 
 /// The bodies of a run in which `Main` has just begun.
@@ -211,24 +161,23 @@ pub fn begin_run(alloc: Global, code: &Code, limits: &Limits) -> Result<CodeBodi
     requires sound { IsSound (code_program code.now limits.now) }
     ensures { IfOk result (λ bodies. StandsAfter code.now limits.now bodies main_begun) }
 {
-    let mut main = Task::main(alloc, code, limits)?;
     let events = limits.events as usize;
     // where there is room for all that the run may come to, nothing is moved later; where there is none, lists grow
-    let _ = main.past.reserve(events);
+    let mut entries = Vec::new(alloc);
+    let _ = entries.reserve(events);
+    let main = Task::main(alloc, code, limits, &mut entries)?;
     let mut tasks = Vec::new(alloc);
     tasks.push(main)?;
     let mut ready = Vec::new(alloc);
     ready.push(0)?;
-    let mut tags = Vec::new(alloc);
-    let _ = tags.reserve(events);
-    tags.push(Tag {
-        task: 0,
-        held: Held::none(),
-    })?;
+    let mut homes = Vec::new(alloc);
+    let _ = homes.reserve(events);
+    homes.push(0)?;
     Ok(CodeBodies {
         tasks,
         ready,
-        tags,
+        entries,
+        homes,
         over: Vec::new(alloc),
     })
 }
@@ -255,85 +204,19 @@ pub fn go_on(
     }
 }
 
-/// What the tasks did.
-fn pasts_of(alloc: Global, tasks: Vec<Task>) -> Result<Vec<Vec<Entry>>, AllocError>
-    ensures { IfOk result (λ pasts. AreLeft tasks.items pasts.items) }
-{
-    let mut pasts = Vec::new(alloc);
-    for task in tasks {
-        pasts.push(task.into_past())?;
-    }
-    Ok(pasts)
-}
-
-/// Takes the newest entry of this past.
-fn take_newest(pasts: &mut Vec<Vec<Entry>>, at: u32) -> Entry
-    requires { HasNewest pasts.old.items at }
-    ensures { IsNewestTaken pasts.old.items at result pasts.new.items }
-{
-    match pasts[at as usize].pop() {
-        None => unreachable!(),
-        Some(entry) => entry,
-    }
-}
-
-/// The entries of all pasts in the order of their numbers: the tag of each says in which of them it is the newest.
-fn gather(alloc: Global, pasts: Vec<Vec<Entry>>, tags: Vec<Tag>) -> Result<Vec<Entry>, AllocError>
-    requires { (h : List Entry) × IsLeft pasts.items tags.items h }
-    ensures { IfOk result (λ entries. (h : List Entry) → IsLeft pasts.items tags.items h → reverse entries.items ≡ h) }
-{
-    let mut pasts = pasts;
-    let mut tags = tags;
-    let mut entries = Vec::with_capacity(alloc, tags.len())?;
-    while let Some(tag) = tags.pop() {
-        let entry = take_newest(&mut pasts, tag.task as u32);
-        entries.push(entry)?;
-    }
-    entries.reverse();
-    Ok(entries)
-}
-
-/// The entries of all pasts in the order of their numbers. Where one task made all, as where no body runs beside `Main`, its past is moved.
-fn entries_of(
-    alloc: Global,
-    pasts: Vec<Vec<Entry>>,
-    tags: Vec<Tag>,
-) -> Result<Vec<Entry>, AllocError>
-    requires { (h : List Entry) × IsLeft pasts.items tags.items h }
-    ensures { IfOk result (λ entries. (h : List Entry) → IsLeft pasts.items tags.items h → reverse entries.items ≡ h) }
-{
-    let mut pasts = pasts;
-    match pasts.pop() {
-        None => gather(alloc, pasts, tags),
-        Some(past) => {
-            if past.len() == tags.len() {
-                return Ok(past);
-            }
-            pasts.push(past)?;
-            gather(alloc, pasts, tags)
-        }
-    }
-}
-
 /// The journal of all that the bodies did.
-pub fn journal_of(
-    alloc: Global,
-    code: &Code,
-    limits: &Limits,
-    bodies: CodeBodies,
-) -> Result<Journal, AllocError>
-    requires { Ends (code_program code.now limits.now) (StandsAfter code.now limits.now bodies) }
-    ensures { IfOk result (λ journal. (h : List Entry) → StandsAfter code.now limits.now bodies h → journal ≡ reverse h) }
+pub fn journal_of(bodies: CodeBodies) -> Journal
+    requires { IsJournal bodies.entries.items }
+    ensures { result ≡ bodies.entries.items }
 {
     let CodeBodies {
-        tasks,
+        tasks: _,
         ready: _,
-        tags,
+        entries,
+        homes: _,
         over: _,
     } = bodies;
-    let pasts = pasts_of(alloc, tasks)?;
-    let entries = entries_of(alloc, pasts, tags)?;
-    Ok(Journal::of_entries(entries))
+    Journal::of_entries(entries)
 }
 
 /// Whether callers of this method of the class wait.
@@ -362,27 +245,12 @@ pub fn served_by(code: &Code, class: u16, methods: &[u8], numbers: &[u16]) -> Op
     None
 }
 
-/// The task that keeps the entry of this number.
-fn home_of(tags: &[Tag], number: u32) -> u32
-    requires { number < length tags.now }
-    ensures { result ≡ home tags.now number }
+/// The task that made the entry of this number.
+fn home_of(homes: &[u16], number: u32) -> u32
+    requires { number < length homes.now }
+    ensures { result ≡ home homes.now number }
 {
-    match tags.get(number as usize) {
-        None => unreachable!(),
-        Some(tag) => tag.task as u32,
-    }
-}
-
-/// Takes the message of this number, and gives its place.
-fn take_held(tags: &mut Vec<Tag>, number: u32) -> usize
-    requires { (place : ℕ) × (held_at tags.old.items number ≡ Some place) }
-    ensures { Emptied number tags.old.items result tags.new.items }
-{
-    let tag = &mut tags[number as usize];
-    match tag.held.take() {
-        None => unreachable!(),
-        Some(place) => place as usize,
-    }
+    homes[number as usize] as u32
 }
 
 /// Adds copies of these values. A lone number that comes first is written where it comes to stand.
@@ -401,61 +269,40 @@ fn add_list(alloc: Global, values: &mut Values, more: &[Value]) -> Result<(), Al
     values.add_copies(alloc, more)
 }
 
-/// Adds the arguments of the message at this place of a past.
+/// Adds the arguments of the message that is the entry of this number.
 #[inline(always)]
 fn add_arguments(
     alloc: Global,
     values: &mut Values,
-    past: &[Entry],
-    place: usize,
+    entries: &[Entry],
+    number: u32,
 ) -> Result<(), AllocError>
-    requires there { (m : Message) × (entry_message (slice_get past.now place) ≡ Some m) }
-    requires few { length values.old + length (arguments_held (entry_message (slice_get past.now place))) ≤ 64 }
-    ensures { OnOk result (values.new ≡ values.old ++ arguments_held (entry_message (slice_get past.now place))) }
+    requires there { IsMessageAt entries.now number }
+    requires few { length values.old + length (sent_arguments (message_at entries.now number)) ≤ 64 }
+    ensures { OnOk result (values.new ≡ values.old ++ sent_arguments (message_at entries.now number)) }
 {
-    match &past[place].what {
+    match &entries[number as usize].what {
         What::Sent(_, _, arguments) => add_list(alloc, values, arguments.items()),
         What::Called(_, _, arguments) => add_list(alloc, values, arguments.items()),
         _ => unreachable!(),
     }
 }
 
-/// Takes the message of this number, and adds its arguments to the values.
+/// Adds the arguments of these messages, one after another.
 #[inline(always)]
-fn take_arguments(
+fn add_all_arguments(
     alloc: Global,
-    tasks: &[Task],
-    tags: &mut Vec<Tag>,
-    number: u32,
     values: &mut Values,
-) -> Result<(), AllocError>
-    requires held { IsHeldAt (views tasks.now) tags.old.items number }
-    requires few { length values.old + length (arguments_held (message_held (views tasks.now) tags.old.items number)) ≤ 64 }
-    ensures { OnOk result (HasAdded (views tasks.now) number tags.old.items values.old tags.new.items values.new) }
-{
-    let at = home_of(tags, number);
-    let place = take_held(tags, number);
-    add_arguments(alloc, values, &tasks[at as usize].past, place)
-}
-
-/// Takes these messages. The values are their arguments, one after another.
-#[inline(always)]
-fn take_all_held(
-    alloc: Global,
-    tasks: &[Task],
-    tags: &mut Vec<Tag>,
+    entries: &[Entry],
     members: &[u16],
-    values: &mut Values,
 ) -> Result<(), AllocError>
-    requires held { AllHeld (views tasks.now) tags.old.items members.now }
-    requires different { AreDifferent members.now }
-    requires few { length (held_values (views tasks.now) tags.old.items members.now) ≤ 64 }
+    requires there { AreMessagesAt entries.now members.now }
+    requires few { length (sent_values entries.now members.now) ≤ 64 }
     requires none { values.old ≡ [] }
-    ensures values { OnOk result (values.new ≡ held_values (views tasks.now) tags.old.items members.now) }
-    ensures rest { OnOk result (EmptiedAll members.now tags.old.items tags.new.items) }
+    ensures { OnOk result (values.new ≡ sent_values entries.now members.now) }
 {
     for number in members {
-        take_arguments(alloc, tasks, tags, u32::from(*number), values)?;
+        add_arguments(alloc, values, entries, u32::from(*number))?;
     }
     Ok(())
 }
@@ -481,20 +328,21 @@ fn begin_at(
 {
     let _parts = code.parts();
     let mut values = Values::none();
-    take_all_held(
-        alloc,
-        &bodies.tasks,
-        &mut bodies.tags,
-        members.items(),
-        &mut values,
-    )?;
+    add_all_arguments(alloc, &mut values, &bodies.entries, members.items())?;
+    bodies.entries.reserve(1)?;
     let task = &mut bodies.tasks[at as usize];
-    task.resume_with(alloc, code, number, chord, object, members, &mut values)?;
+    task.resume_with(
+        alloc,
+        code,
+        number,
+        chord,
+        object,
+        members,
+        &mut values,
+        &mut bodies.entries,
+    )?;
     put_ready(&mut bodies.ready, at)?;
-    bodies.tags.push(Tag {
-        task: place_of(at),
-        held: Held::none(),
-    })?;
+    bodies.homes.push(place_of(at))?;
     Ok(())
 }
 
@@ -528,21 +376,22 @@ fn begin_alone(
     let at = place_after(&bodies.tasks);
     let _parts = code.parts();
     let mut values = Values::none();
-    take_all_held(
-        alloc,
-        &bodies.tasks,
-        &mut bodies.tags,
-        members.items(),
-        &mut values,
-    )?;
+    add_all_arguments(alloc, &mut values, &bodies.entries, members.items())?;
+    bodies.entries.reserve(1)?;
     let mut task = Task::spare(alloc, code, limits)?;
-    task.resume_with(alloc, code, number, chord, object, members, &mut values)?;
+    task.resume_with(
+        alloc,
+        code,
+        number,
+        chord,
+        object,
+        members,
+        &mut values,
+        &mut bodies.entries,
+    )?;
     bodies.tasks.push(task)?;
     bodies.ready.push(at)?;
-    bodies.tags.push(Tag {
-        task: place_of(at),
-        held: Held::none(),
-    })?;
+    bodies.homes.push(place_of(at))?;
     Ok(())
 }
 
@@ -566,7 +415,7 @@ pub fn begin_body(
 {
     match served {
         Some(call) => {
-            let at = home_of(&bodies.tags, call);
+            let at = home_of(&bodies.homes, call);
             begin_at(
                 alloc, code, limits, bodies, number, chord, object, members, at,
             )?;
@@ -601,7 +450,7 @@ pub fn repeat(
     requires may { MayReplay (code_program code.now limits.now) (StandsAfter code.now limits.now bodies.old) entry.now }
     ensures { IfOk result (λ _. Replayed (code_program code.now limits.now) (StandsAfter code.now limits.now bodies.old) (StandsAfter code.now limits.now bodies.new) entry.now) }
 {
-    let at = home_of(&bodies.tags, entry.body);
+    let at = home_of(&bodies.homes, entry.body);
     let _ = make(alloc, code, limits, bodies, at, entry.number)?;
     Ok(())
 }

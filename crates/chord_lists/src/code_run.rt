@@ -1,20 +1,20 @@
 //! Plays a code, and tells of a run of it whether it may go on.
 #![tactic(auto)]
 
-ghost use Rattle.std.specs.Prelude.{◌≡◌, ℕ, ◌<◌, ◌≤◌, ◌⊎◌, List, length, reverse, slice_get, true, false, Some, IfOk};
+ghost use Rattle.std.specs.Prelude.{◌≡◌, ℕ, ◌<◌, ◌≤◌, ◌⊎◌, List, length, reverse, slice_get, true, false, Some, IfOk, OnOk};
 ghost use Rattle.chord_base.specs.declared.event.Entry.{Entry};
 ghost use Rattle.chord_base.specs.declared.value.Object.{Object};
 ghost use Rattle.chord_base.specs.Bounds.{AreWithin, IsJournal};
 ghost use Rattle.chord_base.specs.Machine.{IsRun, IsComplete, MayFollow, NoneFires};
-ghost use Rattle.chord_base.specs.Messages.{Message, message_of, pending};
+ghost use Rattle.chord_base.specs.Messages.{Message, members_of, message_of, pending};
 ghost use Rattle.chord_code.specs.Meaning.{code_program};
 ghost use Rattle.chord_code.specs.Sound.{IsSoundCode};
 ghost use Rattle.chord_lists.specs.Bag.{HasMessages, LacksAMessage, Lists, numbers_of};
 ghost use Rattle.chord_lists.specs.CodeStands.{StandsAfter};
-ghost use Rattle.chord_lists.specs.CodeGoes.{IsNoted, message_by, AreTagged, CanFire, FiresAt, LacksAt};
+ghost use Rattle.chord_lists.specs.CodeGoes.{IsNoted, message_left, HasTaken, HasTakenNext, AreMarked, CanFire, FiresAt, LacksAt};
 
 use crate::bag::Bag;
-use crate::code_bodies::{CodeBodies, Tag, next_ready};
+use crate::code_bodies::{CodeBodies, next_ready};
 use crate::code_play::CodePlay;
 use crate::engine::{self, Playable, find_chord};
 use chord_base::event::{Entry, Limits, What};
@@ -77,29 +77,63 @@ fn note_entry(alloc: Global, bag: &mut Bag, entry: &Entry) -> Result<(), AllocEr
     }
 }
 
-/// Notes the entry, if it is a message whose arguments are held.
-fn note_pending(alloc: Global, bag: &mut Bag, tag: &Tag, entry: &Entry) -> Result<(), AllocError>
+/// Notes the entry, if it is a message and none has taken it.
+fn note_left(alloc: Global, bag: &mut Bag, taken: bool, entry: &Entry) -> Result<(), AllocError>
     requires { entry.now.number < 65536 }
-    ensures { IfOk result (λ _. IsNoted entry.now.number (message_by tag.now.held entry.now.what) (numbers_of bag.old) (numbers_of bag.new)) }
+    ensures { IfOk result (λ _. IsNoted entry.now.number (message_left taken (message_of entry.now.what)) (numbers_of bag.old) (numbers_of bag.new)) }
 {
-    match tag.held.place() {
-        None => Ok(()),
-        Some(_) => {
-            note_entry(alloc, bag, entry)?;
-            Ok(())
+    if taken {
+        return Ok(());
+    }
+    note_entry(alloc, bag, entry)?;
+    Ok(())
+}
+
+/// Says of these numbers that they were taken.
+fn take_numbers(taken: &mut Vec<bool>, numbers: &[u16])
+    ensures { HasTaken numbers.now taken.old.items taken.new.items }
+{
+    for number in numbers {
+        let at = *number as usize;
+        if at < taken.len() {
+            taken[at] = true;
         }
     }
 }
 
+/// Says of one entry more that none has taken it, and of those that it takes that they were taken.
+fn take_next(taken: &mut Vec<bool>, what: &What) -> Result<(), AllocError>
+    ensures { OnOk result (HasTakenNext (members_of what.now) taken.old.items taken.new.items) }
+{
+    if let What::Fired(_, _, members, _) = what {
+        take_numbers(taken, members.items());
+    }
+    taken.push(false)?;
+    Ok(())
+}
+
+/// Of each entry, whether a firing has taken it.
+fn taken_of(alloc: Global, entries: &[Entry]) -> Result<Vec<bool>, AllocError>
+    requires { AreWithin (reverse entries.now) }
+    ensures { IfOk result (λ taken. AreMarked taken.items entries.now (reverse entries.now)) }
+{
+    let mut taken = Vec::with_capacity(alloc, entries.len())?;
+    for entry in entries {
+        take_next(&mut taken, &entry.what)?;
+    }
+    Ok(taken)
+}
+
 /// The pending messages, by what they are to.
-fn pending_bag(alloc: Global, tags: &[Tag], entries: &[Entry]) -> Result<Bag, AllocError>
-    requires tagged { AreTagged tags.now (reverse entries.now) }
+fn pending_bag(alloc: Global, entries: &[Entry]) -> Result<Bag, AllocError>
+    requires within { AreWithin (reverse entries.now) }
     requires few { length entries.now ≤ 65536 }
     ensures { IfOk result (λ bag. Lists (λ i. pending i (reverse entries.now)) (length entries.now) (numbers_of bag)) }
 {
+    let taken = taken_of(alloc, entries)?;
     let mut bag = Bag::new(alloc);
     for i in 0..entries.len() {
-        note_pending(alloc, &mut bag, &tags[i], &entries[i])?;
+        note_left(alloc, &mut bag, taken[i], &entries[i])?;
     }
     Ok(bag)
 }
@@ -158,7 +192,7 @@ pub fn may_go_on(
     match next_ready(&bodies.tasks, &mut bodies.ready) {
         Some(_) => Ok(true),
         None => {
-            let bag = pending_bag(alloc, &bodies.tags, entries)?;
+            let bag = pending_bag(alloc, entries)?;
             Ok(fires(&program, &bag, entries))
         }
     }

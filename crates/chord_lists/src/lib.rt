@@ -10,4 +10,3 @@ mod code_bodies;
 mod code_play;
 pub mod code_run;
 mod engine;
-mod place;

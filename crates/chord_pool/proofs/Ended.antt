@@ -1,25 +1,26 @@
 -- What is known of a run that was closed and gathered.
-use Rattle.std.proofs.Common.{◌≡◌, ℕ, ◌≤◌, ◌==◌, true, false, List, length, min, reverse, ◌++◌, sym, ap, ◌∙◌, subst, arith, Option, Some}
+use Rattle.std.proofs.Common.{◌≡◌, ℕ, ◌≤◌, ◌==◌, true, false, List, length, min, reverse, sym, ap, ◌∙◌, subst, arith, Option, Some}
 use Rattle.std.proofs.lemmas.List.{length-reverse}
 use Rattle.std.proofs.lemmas.List.Sorted.{IsPermutation-sym, IsPermutation-reverse}
 use Rattle.std.specs.List.Sorted.{IsPermutation}
+use mathlib.Core.Option.{some}
+use lib.ListN.{get_elem?}
 use Rattle.chord_base.specs.declared.event.Entry.{Entry}
 use Rattle.chord_base.specs.declared.event.Limits.{Limits}
 use Rattle.chord_base.specs.Bounds.{AreWithin, IsJournal}
 use Rattle.chord_base.specs.Machine.{IsPast, IsFinal}
-use Rattle.chord_base.specs.Story.{IsIn}
+use Rattle.chord_base.specs.Story.{IsIn, kept}
 use Rattle.chord_base.proofs.Collected.{view_in}
 use Rattle.chord_code.specs.declared.parts.Parts.{Parts}
 use Rattle.chord_code.specs.Meaning.{code_program}
 use Rattle.chord_journal.specs.Gathered.{AreOfJournal}
 use Rattle.chord_rule.specs.declared.view.View.{View}
 use Rattle.chord_rule.specs.Closing.{MayClose, AreQuiet}
-use Rattle.chord_rule.specs.Keeping.{desk}
+use Rattle.chord_rule.specs.Keeping.{desk, at_desk}
+use Rattle.chord_rule.proofs.Keeping.{desk_keeps}
 use Rattle.chord_space.specs.Sealed.{IsSealed}
 use Rattle.chord_task.specs.declared.parcel.Parcel.{Parcel}
 use Rattle.chord_task.specs.Parcels.{entries_of, arguments_of, IsParcelOf}
-use Rattle.chord_pool.specs.Homes.{home_items}
-use Rattle.chord_pool.proofs.Gathering as gathering
 use Rattle.chord_pool.proofs.Journals.{of_journal, is_history, in_other_order}
 
 -- what a journal is that was gathered from a table which a desk with this view closed
@@ -41,7 +42,7 @@ sealed_for was before code limits id v slots drawn same s =
 module _ (code : Parts) (limits : Limits) (id : ℕ) (v : View) (slots : List (Option Parcel)) (drawn : ℕ) (s : IsSealed entries_of arguments_of IsParcelOf code limits id v slots drawn)
     (small : limits.events ≤ 65536) (here : v.gone ≡ false) (first : v.first ≡ true) (alone : v.lent ≡ 0)
     (bounds : (h : List Entry) → IsPast (code_program code limits) h → length h ≤ 65536 → AreWithin h)
-    (held es : List Entry) (is : es ≡ held ++ home_items slots drawn) (same : IsPermutation held v.kept) where
+    (es : List Entry) (same : IsPermutation es v.draws) where
   -- the run has as many entries as the counter says, or as are allowed
   long : length s.unseen.journal ≡ min s.moment.count limits.events
   long = s.rule.agrees.stands.keeping.long
@@ -52,11 +53,23 @@ module _ (code : Parts) (limits : Limits) (id : ℕ) (v : View) (slots : List (O
 
   -- the entries are those of the run
   moved : IsPermutation es s.unseen.journal
-  moved = subst (λ (xs : List Entry). IsPermutation xs s.unseen.journal) (sym is) (gathering.gathered code limits id v slots drawn s small here first alone held same)
+  moved = subst (IsPermutation es) s.journal same
 
   -- they are those of a journal
   pub of_run : AreOfJournal es
   of_run = let l = long in of_journal es s.unseen.journal moved (omega (arith, l, small)) within
+
+  -- the place of each entry
+  abbrev place : ℕ → ℕ
+  place = s.rule.agrees.stands.keeping.merged.at
+
+  -- the closing desk keeps entries of the run
+  desk_entries : kept (λ k. place k == desk id) s.unseen.journal ≡ v.kept
+  desk_entries = s.rule.agrees.stands.keeping.merged.keeps (desk id) ∙ desk_keeps entries_of s.moment.views s.moment.homes id ∙ ap at_desk s.desk
+
+  -- the closing desk is the first one
+  at_first : get_elem? s.moment.views 0 ≡ some v
+  at_first = ap (get_elem? s.moment.views) (sym (s.rule.agrees.firsts.leads id v s.desk first)) ∙ s.desk
 
   -- the journal that has them is the run
   pub ended : (out : List Entry) → IsPermutation es out → IsJournal out → IsGathered code limits v drawn out
@@ -67,11 +80,10 @@ module _ (code : Parts) (limits : Limits) (id : ℕ) (v : View) (slots : List (O
         run = subst (IsPast p) (sym run) s.rule.agrees.stands.keeping.merged.past;
         whole = λ may quiet. subst (IsFinal p) (sym run) (s.complete may quiet);
         full = λ told. let reached = (s.rule.desks.right id v s.desk).told here told in omega (arith, count, reached);
-        counted = λ c saw. count ∙ ap (λ (x : ℕ). min x limits.events) ((s.rule.alone.alone v (gathering.at_first code limits id v slots drawn s small here first alone) alone).counter c saw);
+        counted = λ c saw. count ∙ ap (λ (x : ℕ). min x limits.events) ((s.rule.alone.alone v at_first alone).counter c saw);
         few = omega (arith, count);
         drawn_is = s.drawn_is ∙ long ∙ sym count;
         keeps = λ e i.
-            let there : IsIn e s.unseen.journal = view_in (λ k. gathering.place code limits id v slots drawn s small here first alone k == desk 0) e s.unseen.journal
-            (subst (IsIn e) (sym (gathering.desk_entries code limits id v slots drawn s small here first alone)) i) in
+            let there : IsIn e s.unseen.journal = view_in (λ k. place k == desk id) e s.unseen.journal (subst (IsIn e) (sym desk_entries) i) in
             in_other_order e (reverse out) out (IsPermutation-sym out (reverse out) (IsPermutation-reverse out)) (subst (IsIn e) (sym run) there);
       }

@@ -1,5 +1,3 @@
-pub mod Gathering
-pub mod Homes
 pub mod Journals
 pub mod Ended
 pub mod Handing

@@ -6,5 +6,3 @@
 pub mod Players
 -- when the first worker may close the table
 pub mod Ending
--- the entries that the parcels at home keep
-pub mod Homes

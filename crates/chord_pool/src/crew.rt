@@ -66,7 +66,7 @@ fn take_one(space: &Space<Parcel>, main: &mut Worker, player: Player) -> Result<
 ///
 /// # Errors
 ///
-/// `AllocError` where one of them met want of memory, and where there is no memory for the lists of their pasts side by side.
+/// `AllocError` where one of them met want of memory, and where there is no memory for the lists of what they drew side by side.
 pub(crate) fn take_all(
     space: &Space<Parcel>,
     main: &mut Worker,

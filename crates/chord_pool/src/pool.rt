@@ -32,7 +32,7 @@ use std::thread::Threads;
 ///
 /// # Errors
 ///
-/// `AllocError` where one of them met want of memory, and where there is no memory for the lists of their pasts side by side.
+/// `AllocError` where one of them met want of memory, and where there is no memory for the lists of what they drew side by side.
 fn taken_in(space: &Space<Parcel>, main: Player, others: Vec<Player>) -> Result<Worker, AllocError>
     requires back { main.failed ≡ false → IsBack space.now main.worker others.items }
     ensures last { IfOk result (λ last. IsLast space.now last) }
@@ -138,7 +138,7 @@ pub fn play<R: Threads + Wait + Sync, G: Gate + Sync>(
         shared: &shared,
     };
     let last = play_all(rt, alloc, &run, desk, workers, gate)?;
-    let (desk, entries) = last.into_parts(&space);
+    let (desk, entries) = last.into_parts(&space)?;
     let ended = finish(alloc, space, code, limits, desk, entries)?;
     Ok(ended)
 }

@@ -1,5 +1,5 @@
-//! Two workers of one run that play in turns, in an order that a seed gives. What they kept is closed, put in order, and judged by the
-//! plain machine of the code.
+//! Two workers of one run that play in turns, in an order that a seed gives. What they drew is put in order, and judged by the plain
+//! machine of the code.
 ghost use Rattle.std.specs.Prelude.{◌≡◌, ◌<◌, ◌≤◌, [], true, false, None, IfOk, IfSome, OnOk};
 ghost use Rattle.chord_code.specs.Sound.{IsSoundCode};
 ghost use Rattle.chord_rule.specs.Kinds.{newcomer_first};
@@ -13,9 +13,8 @@ use chord_base::event::{Entry, Limits};
 use chord_base::prefix::run_length;
 use chord_code::code::Code;
 use chord_plain::plain::Plain;
-use chord_space::{Closed, Desk, Space};
+use chord_space::{Desk, Space};
 use chord_task::parcel::Parcel;
-use chord_task::pasts::Pasts;
 use chord_word::Cell;
 use chord_worker::Worker;
 use std::alloc::{AllocError, Global};
@@ -283,43 +282,12 @@ fn play<R: Wait>(
     Ok(Some(first))
 }
 
-/// The entries of the parcel of number i go behind those that are there, if it is at home.
-fn take_home(closed: &mut Closed<Parcel>, i: u32, pasts: &mut Pasts) -> Result<(), AllocError>
-    requires bounds { i < closed.old.events }
-    ensures events { closed.new.events ≡ closed.old.events }
-{
-    match closed.parcel(i) {
-        None => Ok(()),
-        Some(parcel) => {
-            let Parcel { arguments: _, task } = parcel;
-            match task {
-                None => Ok(()),
-                Some(task) => {
-                    let past = task.into_inner().into_past();
-                    pasts.add(past)?;
-                    Ok(())
-                }
-            }
-        }
-    }
-}
-
-/// The entries of all parcels at home go behind those that are there.
-fn take_homes(closed: &mut Closed<Parcel>, events: u32, pasts: &mut Pasts) -> Result<(), AllocError>
-    requires bounds { events ≤ closed.old.events }
-{
-    for i in 0..events {
-        take_home(closed, i, pasts)?;
-    }
-    Ok(())
-}
-
-/// The entries of all pasts, one behind the other.
-fn entries_of(alloc: Global, pasts: Pasts) -> Result<Vec<Entry>, AllocError> {
+/// The entries of all lists, one behind the other.
+fn entries_of(alloc: Global, lists: Vec<Vec<Entry>>) -> Result<Vec<Entry>, AllocError> {
     let mut entries = Vec::new(alloc);
-    for past in pasts.into_lists() {
-        let mut past = past;
-        entries.append(&mut past)?;
+    for list in lists {
+        let mut list = list;
+        entries.append(&mut list)?;
     }
     Ok(entries)
 }
@@ -337,15 +305,15 @@ fn in_order(alloc: Global, entries: &[Entry]) -> Result<Vec<Entry>, AllocError> 
     Ok(ordered)
 }
 
-/// How many entries of a schedule are a run of the code, how many were kept, and how many were drawn.
+/// How many entries of a schedule are a run of the code, how many are in the workers' lists, and how many were drawn.
 #[derive(Clone, Copy, Debug, PartialEq, Eq)]
 struct Verdict {
     run: usize,
-    kept: usize,
+    listed: usize,
     drawn: u32,
 }
 
-/// Plays the schedule of a seed, and judges what was kept.
+/// Plays the schedule of a seed, and judges what was drawn.
 fn judged<R: Wait>(
     rt: &R,
     alloc: Global,
@@ -361,17 +329,15 @@ fn judged<R: Wait>(
     match play(rt, alloc, &space, code, limits, desk, seed)? {
         None => Ok(None),
         Some(last) => {
-            let (desk, pasts) = last.into_parts(&space);
-            let mut pasts = pasts;
-            let mut closed = space.close(desk);
+            let (desk, lists) = last.into_parts(&space)?;
+            let closed = space.close(desk);
             let drawn = closed.drawn();
-            take_homes(&mut closed, limits.events, &mut pasts)?;
-            let entries = entries_of(alloc, pasts)?;
-            let kept = entries.len();
+            let entries = entries_of(alloc, lists)?;
+            let listed = entries.len();
             let ordered = in_order(alloc, &entries)?;
             let limits = *limits;
             let run = run_length(alloc, &Plain { code, limits }, &ordered)?;
-            Ok(Some(Verdict { run, kept, drawn }))
+            Ok(Some(Verdict { run, listed, drawn }))
         }
     }
 }
@@ -394,7 +360,7 @@ fn schedules<R: Abort + Wait>(rt: &R, alloc: Global, case: &Case) -> Result<(), 
             judged(rt, alloc, &code, &limits, seed)?,
             Some(Verdict {
                 run: case.entries as usize,
-                kept: case.entries as usize,
+                listed: case.entries as usize,
                 drawn: case.entries,
             }),
             "{name} {seed}"

@@ -1,4 +1,4 @@
--- Two pasts of a journal of four entries, of which one stands between the entries of the other.
+-- Two lists of the entries of a journal of four entries, of which one stands between the entries of the other.
 use Rattle.std.proofs.Common.{◌≡◌, ℕ, zero, suc, ◌<◌, [], ◌∷◌, length, refl, arith}
 use Rattle.std.specs.Prelude.{All, Any}
 use Rattle.chord_base.specs.declared.event.Entry.{Entry}

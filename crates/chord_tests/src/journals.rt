@@ -7,7 +7,7 @@ ghost use Rattle.chord_journal.specs.Gathered.{AreOfJournal};
 use chord_base::event::{Entry, What};
 use chord_base::journal::Journal;
 use chord_io::{Failed, MemSink};
-use chord_journal::{JournalFault, gather, gather_pasts, read, write_lines, write_text};
+use chord_journal::{JournalFault, gather, gather_lists, read, write_lines, write_text};
 use std::alloc::{AllocError, Global};
 use std::fmt::Write;
 use std::process::Abort;
@@ -385,62 +385,62 @@ fn gathers_entries_by_their_numbers(rt: HostRuntime) -> Result<(), Fail> {
     Ok(())
 }
 
-/// A past of one entry.
-fn past_of(alloc: Global, entry: Entry) -> Result<Vec<Entry>, AllocError>
-    ensures { IfOk result (λ past. past.items ≡ entry ∷ []) }
+/// A list of one entry.
+fn list_of(alloc: Global, entry: Entry) -> Result<Vec<Entry>, AllocError>
+    ensures { IfOk result (λ list. list.items ≡ entry ∷ []) }
 {
-    let mut past = Vec::with_capacity(alloc, 1)?;
-    past.push(entry)?;
-    Ok(past)
+    let mut list = Vec::with_capacity(alloc, 1)?;
+    list.push(entry)?;
+    Ok(list)
 }
 
-/// Two entries of a journal in a past each, the later one in the first.
+/// Two entries of a journal in a list each, the later one in the first.
 fn parted(alloc: Global) -> Result<Vec<Vec<Entry>>, AllocError>
-    ensures { IfOk result (λ pasts. AreOfJournal (flat_map (λ past. past.items) pasts.items)) }
+    ensures { IfOk result (λ lists. AreOfJournal (flat_map (λ list. list.items) lists.items)) }
 {
-    let later = past_of(alloc, made(1, 7))?;
-    let first = past_of(alloc, begun())?;
-    let mut pasts = Vec::new(alloc);
-    pasts.push(later)?;
-    pasts.push(first)?;
-    Ok(pasts)
+    let later = list_of(alloc, made(1, 7))?;
+    let first = list_of(alloc, begun())?;
+    let mut lists = Vec::new(alloc);
+    lists.push(later)?;
+    lists.push(first)?;
+    Ok(lists)
 }
 
 #[test]
-fn gathers_pasts_by_their_numbers(rt: HostRuntime) -> Result<(), Fail> {
-    let journal = gather_pasts(rt.alloc(), parted(rt.alloc())?)?;
+fn gathers_lists_by_their_numbers(rt: HostRuntime) -> Result<(), Fail> {
+    let journal = gather_lists(rt.alloc(), parted(rt.alloc())?)?;
     let taken = b"journal 1 2\n0 0 begun\n1 0 made 7\n";
     let written = text_written(rt.alloc(), &journal, 100, taken)?;
     assert_eq!(rt; written, (Ok(()), true));
     Ok(())
 }
 
-/// A past of two entries.
-fn past_of_two(alloc: Global, first: Entry, second: Entry) -> Result<Vec<Entry>, AllocError>
-    ensures { IfOk result (λ past. past.items ≡ first ∷ second ∷ []) }
+/// A list of two entries.
+fn list_of_two(alloc: Global, first: Entry, second: Entry) -> Result<Vec<Entry>, AllocError>
+    ensures { IfOk result (λ list. list.items ≡ first ∷ second ∷ []) }
 {
-    let mut past = Vec::with_capacity(alloc, 2)?;
-    past.push(first)?;
-    past.push(second)?;
-    Ok(past)
+    let mut list = Vec::with_capacity(alloc, 2)?;
+    list.push(first)?;
+    list.push(second)?;
+    Ok(list)
 }
 
-/// The entries of a journal in two pasts, of which the second begins before the first and goes on behind it, with one without entries between them.
+/// The entries of a journal in two lists, of which the second begins before the first and goes on behind it, with one without entries between them.
 fn crossing(alloc: Global) -> Result<Vec<Vec<Entry>>, AllocError>
-    ensures { IfOk result (λ pasts. AreOfJournal (flat_map (λ past. past.items) pasts.items)) }
+    ensures { IfOk result (λ lists. AreOfJournal (flat_map (λ list. list.items) lists.items)) }
 {
-    let inner = past_of_two(alloc, made(1, 7), made(2, 8))?;
-    let outer = past_of_two(alloc, begun(), made(3, 9))?;
-    let mut pasts = Vec::new(alloc);
-    pasts.push(inner)?;
-    pasts.push(Vec::new(alloc))?;
-    pasts.push(outer)?;
-    Ok(pasts)
+    let inner = list_of_two(alloc, made(1, 7), made(2, 8))?;
+    let outer = list_of_two(alloc, begun(), made(3, 9))?;
+    let mut lists = Vec::new(alloc);
+    lists.push(inner)?;
+    lists.push(Vec::new(alloc))?;
+    lists.push(outer)?;
+    Ok(lists)
 }
 
 #[test]
-fn gathers_pasts_that_cross(rt: HostRuntime) -> Result<(), Fail> {
-    let journal = gather_pasts(rt.alloc(), crossing(rt.alloc())?)?;
+fn gathers_lists_that_cross(rt: HostRuntime) -> Result<(), Fail> {
+    let journal = gather_lists(rt.alloc(), crossing(rt.alloc())?)?;
     let taken = b"journal 1 4\n0 0 begun\n1 0 made 7\n2 0 made 8\n3 0 made 9\n";
     let written = text_written(rt.alloc(), &journal, 100, taken)?;
     assert_eq!(rt; written, (Ok(()), true));

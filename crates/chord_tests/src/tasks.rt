@@ -55,13 +55,13 @@ fn main_prints(rt: HostRuntime) -> Result<(), Fail> {
         turns: 9,
         depth: 9,
     };
-    let mut task = Task::main(rt.alloc(), &code, &limits)?;
+    let mut list = Vec::new(rt.alloc());
+    let mut task = Task::main(rt.alloc(), &code, &limits, &mut list)?;
     assert!(rt; task.is_ready());
     let first = task.ask(rt.alloc(), &code, &limits)?;
     assert_eq!(rt; printed(first), Some(1));
     assert!(rt; !task.over());
-    let past = task.into_past();
-    assert_eq!(rt; past.len(), 1);
+    assert_eq!(rt; list.len(), 1);
     let spare = Task::spare(rt.alloc(), &code, &limits)?;
     assert!(rt; spare.over());
     Ok(())

@@ -52,7 +52,7 @@ use Rattle.chord_worker.specs.Resting.{IsInMemory, IsStock, IsAtRest, IsSameRole
 use Rattle.chord_worker.proofs.Begun.{alone_both, alone_defined, called_both, called_defined}
 use Rattle.chord_worker.proofs.Fitting.{comes_waiting}
 use Rattle.chord_worker.proofs.Given.{one_top}
-use Rattle.chord_worker.proofs.Listed.{lists_same, lists_more, one_drawn}
+use Rattle.chord_worker.proofs.Listed.{lists_same, one_more_listed, one_drawn}
 use Rattle.chord_worker.proofs.Parked.{below_parked, seen_there}
 use Rattle.chord_worker.proofs.Parts.{in_below}
 use Rattle.chord_worker.proofs.Unpacked.{HasNone, HasCaller, held_twice, one_caller, values_in}
@@ -203,7 +203,7 @@ module _ (s : Space Parcel) (w : Worker) (v : View) (o : Object) (k : ℕ) (ms :
     memory = fired.memory;
     goes_on = fired.goes_on;
     stock = is_stock;
-    listed = lists_more w.draws.items list.items w.taken.items w.taken.items v.draws (view w.desk).draws (one_drawn t.past u.past w.draws.items list.items v.draws (view w.desk).draws newest one past (ap (λ (z : View). z.draws) fired.fired.view)) refl fired.listed;
+    listed = one_more_listed w.draws.items list.items w.taken.items w.taken.items v.draws (view w.desk).draws (one_drawn t.past u.past w.draws.items list.items v.draws (view w.desk).draws newest one past (ap (λ (z : View). z.draws) fired.fired.view)) refl fired.listed;
     duties = fired.duties;
     low = fired.fired.low;
     seen = fired.fired.view ∙ seen_kept;

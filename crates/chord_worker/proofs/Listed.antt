@@ -20,8 +20,8 @@ lists_same ds ds' ts ts' vs vs' d t v p =
     (subst (λ (us : List (Vec Entry Global)). IsPermutation (ds ++ all_in us) vs) (sym t) p))
 
 -- one entry more is listed
-pub lists_more : (ds ds' : List Entry) (ts ts' : List (Vec Entry Global)) (vs vs' : List Entry) → DrawsOne vs vs' ds ds' → ts' ≡ ts → IsPermutation (ds ++ all_in ts) vs → IsPermutation (ds' ++ all_in ts') vs'
-lists_more ds ds' ts ts' vs vs' one t p =
+pub one_more_listed : (ds ds' : List Entry) (ts ts' : List (Vec Entry Global)) (vs vs' : List Entry) → DrawsOne vs vs' ds ds' → ts' ≡ ts → IsPermutation (ds ++ all_in ts) vs → IsPermutation (ds' ++ all_in ts') vs'
+one_more_listed ds ds' ts ts' vs vs' one t p =
     lists_same (ds ++ one.entry ∷ []) ds' ts ts' (one.entry ∷ vs) vs' one.list t one.drawn
     (subst (λ (xs : List Entry). IsPermutation xs (one.entry ∷ vs)) (sym (append_assoc ds (one.entry ∷ []) (all_in ts)))
     (IsPermutation-trans (ds ++ one.entry ∷ all_in ts) (one.entry ∷ (ds ++ all_in ts)) (one.entry ∷ vs)

@@ -9,7 +9,7 @@ use Rattle.chord_task.specs.declared.parcel.Parcel.{Parcel}
 use Rattle.chord_task.specs.declared.task.Task.{Task}
 use Rattle.chord_worker.specs.declared.worker.Worker.{Worker}
 use Rattle.chord_worker.specs.Playing.{DrawsOne, HeardOfLimit, IsNotedAs, IsNoMessage}
-use Rattle.chord_worker.proofs.Listed.{lists_same, lists_more}
+use Rattle.chord_worker.proofs.Listed.{lists_same, one_more_listed}
 use Rattle.chord_worker.proofs.Memory.{task_laid}
 use Rattle.chord_worker.specs.Resting.{IsInMemory, MayContinue, IsHandFree, IsStock, IsAtRest, IsSameRole}
 
@@ -25,7 +25,7 @@ module _ (s : Space Parcel) (w : Worker) (t : Task) (r : IsAtRest s (record w { 
       memory = subst (λ (z : View). IsInMemory (space_code s) (space_limits s) z.kept z.spent w'.task) (sym noted.drawn) memory;
       goes_on = goes_on;
       stock = stock;
-      listed = lists_more w.draws.items w'.draws.items w.taken.items w'.taken.items (view w.desk).draws (view w'.desk).draws one taken r.listed;
+      listed = one_more_listed w.draws.items w'.draws.items w.taken.items w'.taken.items (view w.desk).draws (view w'.desk).draws one taken r.listed;
     }
 
     -- the desk has its role still

@@ -25,7 +25,7 @@ use Rattle.chord_worker.specs.Playing.{DrawsOne, IsNotedAs}
 use Rattle.chord_worker.specs.Resting.{IsInMemory, MayContinue, IsStock, IsStockTask, IsAtRest, IsSameRole}
 use Rattle.chord_worker.specs.Sending.{IsSentOff, Minds}
 use Rattle.chord_worker.proofs.Attending.{role_on}
-use Rattle.chord_worker.proofs.Listed.{lists_same, lists_more}
+use Rattle.chord_worker.proofs.Listed.{lists_same, one_more_listed}
 use Rattle.chord_worker.proofs.Parked.{letter_links, call_links}
 use Rattle.chord_worker.proofs.Parts.{all_kept, kept_rises}
 
@@ -95,7 +95,7 @@ module _ (s : Space Parcel) (w : Worker) (t : Task) (r : IsAtRest s (record w { 
       stock = x.0;
       spare = spare ∙ x.1;
       is_stock = x.2;
-      listed = lists_same w'.draws.items w'.draws.items w'.taken.items w'.taken.items v.draws (view w'.desk).draws refl refl sent.draws (lists_more w.draws.items w'.draws.items w.taken.items w'.taken.items (view w.desk).draws v.draws one taken r.listed);
+      listed = lists_same w'.draws.items w'.draws.items w'.taken.items w'.taken.items v.draws (view w'.desk).draws refl refl sent.draws (one_more_listed w.draws.items w'.draws.items w.taken.items w'.taken.items (view w.desk).draws v.draws one taken r.listed);
     }
 
     -- and has its role still

@@ -2,5 +2,5 @@ use Rattle.std.proofs.Common.{◌≡◌, length, take}
 use Rattle.std.specs.List.{flat_map}
 use Rattle.chord_journal.proofs.merged.count_of.Given as goal
 
-abbrev pub invariant-loop-past : goal.invariant-loop-past
-invariant-loop-past l = l.count ≡ length (flat_map (λ past. past.items) (take l.past-index l.pasts))
+abbrev pub invariant-loop-list : goal.invariant-loop-list
+invariant-loop-list l = l.count ≡ length (flat_map (λ list. list.items) (take l.list-index l.lists))

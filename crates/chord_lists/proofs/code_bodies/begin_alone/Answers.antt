@@ -1,4 +1,4 @@
-use Rattle.std.proofs.Common.{◌≡◌, ◌∙◌, ◌++◌, ◌∷◌, [], sym, ap, subst, arith, length, reverse, Option, List, ℕ}
+use Rattle.std.proofs.Common.{◌≡◌, ◌∙◌, ◌++◌, ◌∷◌, [], sym, ap, subst, arith, length, reverse, List, ℕ}
 use Rattle.std.specs.Prelude.{slice_get}
 use Rattle.std.proofs.lemmas.List.{reverse-append}
 use Rattle.chord_base.specs.declared.value.Value.{Value}
@@ -7,9 +7,10 @@ use Rattle.chord_base.specs.Bodies.{served_among}
 use Rattle.chord_code.specs.Meaning.{code_program}
 use Rattle.chord_task.specs.Standing.{view_of, IsTaskOf, MayResume}
 use Rattle.chord_lists.specs.Engine.{fired}
-use Rattle.chord_lists.specs.CodeStands.{views, held_values}
+use Rattle.chord_lists.specs.CodeStands.{sent_values}
 use Rattle.chord_lists.proofs.Spots.{one_some}
-use Rattle.chord_lists.proofs.CodeFiring.{firing_held, firing_different, may_begin, bare_tag, fired_alone}
+use Rattle.chord_lists.proofs.CodeFiring.{firing_sent, may_begin, fired_alone}
+use Rattle.chord_lists.proofs.CodeSteps.{listed_one}
 use Rattle.chord_lists.proofs.code_bodies.begin_alone.Goals as goal
 
 pub place_after-at-requires : goal.place_after-at-requires
@@ -19,24 +20,18 @@ place_after-at-requires c =
     let e = ap length c.deref.ensures.value in
     omega (arith, e, l, m.2.so_long, c.requires.room)
 
-pub take_all_held-requires-clause-held : goal.take_all_held-requires-clause-held
-take_all_held-requires-clause-held c =
+pub add_all_arguments-requires-clause-there : goal.add_all_arguments-requires-clause-there
+add_all_arguments-requires-clause-there c =
     let m = c.requires.may in
-    rw (c.items.ensures.numbers, c.deref-2.ensures.value) (firing_held c.args.code.now c.args.limits.now c.args.bodies.now m.0 c.args.chord c.args.object c.args.members.now m.1 m.3 m.4).0
+    rw (c.items.ensures.numbers, c.deref-2.ensures.value) (firing_sent c.args.code.now c.args.limits.now c.args.bodies.now m.0 c.args.number c.args.chord c.args.object c.args.members.now m.1 m.3 m.2 m.4).0
 
-pub take_all_held-requires-clause-few : goal.take_all_held-requires-clause-few
-take_all_held-requires-clause-few c =
+pub add_all_arguments-requires-clause-few : goal.add_all_arguments-requires-clause-few
+add_all_arguments-requires-clause-few c =
     let m = c.requires.may in
-    let held = firing_held c.args.code.now c.args.limits.now c.args.bodies.now m.0 c.args.chord c.args.object c.args.members.now m.1 m.3 m.4 in
-    let v = views c.args.bodies.now.tasks.items in
+    let sent = firing_sent c.args.code.now c.args.limits.now c.args.bodies.now m.0 c.args.number c.args.chord c.args.object c.args.members.now m.1 m.3 m.2 m.4 in
     let few = m.5.3.few_values in
-    let l = ap (λ (ms : List ℕ). length (held_values v c.args.bodies.now.tags.items ms)) c.items.ensures.numbers ∙ ap length held.1 in
+    let l = ap (λ (ms : List ℕ). length (sent_values c.args.bodies.now.entries.items ms)) c.items.ensures.numbers ∙ ap length sent.1 in
     rw c.deref-2.ensures.value (omega (arith, few, l))
-
-pub take_all_held-requires-clause-different : goal.take_all_held-requires-clause-different
-take_all_held-requires-clause-different c =
-    let m = c.requires.may in
-    rw c.items.ensures.numbers (firing_different c.args.code.now c.args.limits.now m.0 c.args.chord c.args.object c.args.members.now m.1 c.parts-parts.ensures.valid m.4)
 
 pub resume_with-requires-clause-may : goal.resume_with-requires-clause-may
 resume_with-requires-clause-may c =
@@ -45,8 +40,8 @@ resume_with-requires-clause-may c =
     let code = c.args.code.now in
     let limits = c.args.limits.now in
     let serves = ap (λ js. served_among ((code_program code limits).is_sync c.args.object.class) js c.args.members.now) (one_some f.0 c.requires.call.methods (slice_get ((code_program code limits).chords c.args.object.class) c.args.chord) f.1 c.requires.call.chord) ∙ c.requires.call.is in
-    let held = firing_held code limits c.args.bodies.now m.0 c.args.chord c.args.object c.args.members.now m.1 m.3 m.4 in
-    let first : c.take_all_held.new.values ≡ m.1 = (rw c.deref-2.ensures.value at c.in_ok-take_all_held.ensures.values) ∙ ap (λ (ms : List ℕ). held_values (views c.args.bodies.now.tasks.items) c.args.bodies.now.tags.items ms) c.items.ensures.numbers ∙ held.1 in
+    let sent = firing_sent code limits c.args.bodies.now m.0 c.args.number c.args.chord c.args.object c.args.members.now m.1 m.3 m.2 m.4 in
+    let first : c.add_all_arguments.new.values ≡ m.1 = (rw c.deref-2.ensures.value at c.in_ok-add_all_arguments.ensures) ∙ ap (λ (ms : List ℕ). sent_values c.args.bodies.now.entries.items ms) c.items.ensures.numbers ∙ sent.1 in
     let t = c.in_ok-task.task in
     let spare = c.in_ok-task.ensures in
     subst (λ (vs : List Value). MayResume code t.limits t c.args.number c.args.chord c.args.object c.args.members.now vs) (sym first)
@@ -57,8 +52,8 @@ returns c =
     λ h vs played s f.
     let code = c.args.code.now in
     let limits = c.args.limits.now in
-    let held = firing_held code limits c.args.bodies.now h c.args.chord c.args.object c.args.members.now vs s f in
-    let first : c.take_all_held.new.values ≡ vs = (rw c.deref-2.ensures.value at c.in_ok-take_all_held.ensures.values) ∙ ap (λ (ms : List ℕ). held_values (views c.args.bodies.now.tasks.items) c.args.bodies.now.tags.items ms) c.items.ensures.numbers ∙ held.1 in
+    let sent = firing_sent code limits c.args.bodies.now h c.args.number c.args.chord c.args.object c.args.members.now vs s played f in
+    let first : c.add_all_arguments.new.values ≡ vs = (rw c.deref-2.ensures.value at c.in_ok-add_all_arguments.ensures) ∙ ap (λ (ms : List ℕ). sent_values c.args.bodies.now.entries.items ms) c.items.ensures.numbers ∙ sent.1 in
     let spare = c.in_ok-task.ensures in
     let past : (view_of c.resume_with.new.self).past ≡ fired c.args.number c.args.chord c.args.object c.args.members.now vs ∷ [] =
     c.in_ok-resume_with.ensures.past ∙ ap (λ (z : List Value). fired c.args.number c.args.chord c.args.object c.args.members.now z ∷ (view_of c.in_ok-task.task).past) first
@@ -66,8 +61,11 @@ returns c =
     in
     let task = subst (λ l. IsTaskOf code l c.resume_with.new.self) spare.task.limited c.in_ok-resume_with.ensures.task in
     let at : c.place_after-at.result ≡ length c.args.bodies.now.tasks.items = c.place_after-at.ensures.place ∙ ap length c.deref.ensures.value in
-    let emptied = rw c.items.ensures.numbers at c.in_ok-take_all_held.ensures.rest in
-    fired_alone code limits c.args.bodies.now _ c.take_all_held.new.tags.items h c.args.number c.args.chord c.args.object c.args.members.now vs c.resume_with.new.self played s f emptied task past
+    let e = fired c.args.number c.args.chord c.args.object c.args.members.now vs in
+    let list = c.reserve.new.self.items in
+    let past' : reverse c.resume_with.new.self.past ≡ e ∷ reverse c.in_ok-task.task.past = past ∙ ap (λ (l : List Entry). e ∷ l) (sym spare.past) in
+    let entries = listed_one c.in_ok-task.task.past c.resume_with.new.self.past list c.resume_with.new.list.items e c.in_ok-resume_with.ensures.listed past' ∙ ap (λ l. l ++ e ∷ []) c.reserve.ensures.items in
+    fired_alone code limits c.args.bodies.now _ h c.args.number c.args.chord c.args.object c.args.members.now vs c.resume_with.new.self played s f task past entries
     c.in_ok-push.ensures.items
     (ap reverse c.in_ok-push-2.ensures.items ∙ reverse-append c.args.bodies.now.ready.items (c.place_after-at.result ∷ []) ∙ ap (λ i. i ∷ reverse c.args.bodies.now.ready.items) at)
-    (c.in_ok-push-3.ensures.items ∙ ap (λ (held : Option ℕ). c.take_all_held.new.tags.items ++ record { task = c.place_of.result; held = held } ∷ []) c.none.ensures ∙ ap (λ i. c.take_all_held.new.tags.items ++ bare_tag i ∷ []) (c.place_of.ensures ∙ at))
+    (c.in_ok-push-3.ensures.items ∙ ap (λ i. c.args.bodies.now.homes.items ++ i ∷ []) (c.place_of.ensures ∙ at))

@@ -9,7 +9,7 @@ home_of-at-requires c =
     let m = c.requires.may in
     let serves = call_served c.args.code.now c.args.limits.now m.0 c.args.chord c.args.object c.args.members.now m.1 (Some c.in-Some.call) m.4 (rw c.in-Some.is at c.requires.call) in
     let k = caller c.args.code.now c.args.limits.now c.args.bodies.now m.0 c.args.number c.args.chord c.args.object c.args.members.now m.1 c.in-Some.call c.requires.sound m.3 m.2.so_long m.4 serves in
-    rw c.deref.ensures.value k.tagged
+    rw c.deref.ensures.value k.homed
 
 pub begin_at-requires-clause-fits : goal.begin_at-requires-clause-fits
 begin_at-requires-clause-fits c =

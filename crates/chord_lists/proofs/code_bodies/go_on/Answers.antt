@@ -1,5 +1,10 @@
-use Rattle.chord_lists.proofs.CodeOver.{went_over}
+use Rattle.chord_lists.proofs.CodeOver.{stands_ready, went_over}
 use Rattle.chord_lists.proofs.code_bodies.go_on.Goals as goal
+
+pub make-requires-clause-may : goal.make-requires-clause-may
+make-requires-clause-may c =
+    let m = c.requires.may in
+    (m.0, m.1, stands_ready c.args.code.now c.args.limits.now c.args.bodies.now c.next_ready.new.ready m.0 m.2 (rw c.deref.ensures.value at c.next_ready.ensures.ready))
 
 pub returns-in-None : goal.returns-in-None
 returns-in-None c =

@@ -1,15 +1,13 @@
-use Rattle.std.proofs.Common.{◌≡◌, ◌∙◌, ◌==◌, length, sym, ap, subst, refl, arith, true}
+use Rattle.std.proofs.Common.{◌≡◌, ◌∙◌, ◌++◌, ◌∷◌, [], sym, ap, subst, refl, arith, true}
 use Rattle.std.proofs.lemmas.Option.{get_or_from_slice_get, slice_get_within}
-use Rattle.std.proofs.lemmas.List.{length-reverse}
 use Rattle.chord_code.specs.Meaning.{code_program}
 use Rattle.chord_task.specs.declared.task.Task.{Task}
 use Rattle.chord_task.specs.Standing.{view_of, IsTaskOf, is_ready_of}
+use Rattle.chord_task.specs.Past.{AddsOne}
 use Rattle.chord_task.specs.Turning.{MayTurn, Turned}
-use Rattle.chord_lists.specs.CodeStands.{IsTagged, IsTaggedAs, home, past_of}
+use Rattle.chord_lists.specs.CodeStands.{turn_to}
 use Rattle.chord_lists.proofs.CodeSteps.{ready_task, may_turn, went_at}
-use Rattle.chord_lists.proofs.CodeTasks.{tagged_as}
-use Rattle.chord_lists.proofs.Places.{ready_past}
-use Rattle.chord_lists.proofs.Gathering.{kept_few}
+use Rattle.chord_lists.proofs.CodeTasks.{turn_told}
 use Rattle.chord_lists.proofs.code_bodies.make.Goals as goal
 
 pub index_mut-task-requires : goal.index_mut-task-requires
@@ -18,30 +16,6 @@ index_mut-task-requires c =
     let t = ready_task xs c.args.at c.requires.ready in
     let l = slice_get_within xs c.args.at t.0 t.1 in
     omega (arith, l)
-
-pub place_in-place-requires-clause-room : goal.place_in-place-requires-clause-room
-place_in-place-requires-clause-room c =
-    let xs = c.args.bodies.now.tasks.items in
-    let task = c.index_mut-task.result.now in
-    let t = ready_task xs c.args.at c.requires.ready in
-    let m = c.requires.may in
-    let e : task ≡ t.0 = c.index_mut-task.ensures.value ∙ get_or_from_slice_get xs c.args.at t.0 task t.1 in
-    let long : length task.past.items ≡ length (view_of t.0).past = sym (length-reverse task.past.items) ∙ ap (λ (x : Task). length (view_of x).past) e in
-    let all = ap length (m.2.keeps c.args.at ∙ ap past_of t.1) in
-    let few = kept_few (λ n. home c.args.bodies.now.tags.items n == c.args.at) m.0 in
-    let past = ap length c.deref.ensures.value in
-    omega (arith, past, long, all, few, m.1.so_long, c.requires.room)
-
-pub place_in-place-requires-clause-later : goal.place_in-place-requires-clause-later
-place_in-place-requires-clause-later c =
-    let xs = c.args.bodies.now.tasks.items in
-    let task = c.index_mut-task.result.now in
-    let t = ready_task xs c.args.at c.requires.ready in
-    let e : task ≡ t.0 = c.index_mut-task.ensures.value ∙ get_or_from_slice_get xs c.args.at t.0 task t.1 in
-    let long : length task.past.items ≡ length (view_of t.0).past = sym (length-reverse task.past.items) ∙ ap (λ (x : Task). length (view_of x).past) e in
-    let some = ready_past c.args.code.now c.args.limits.now t.0 (c.requires.may.2.tasks c.args.at t.0 t.1) t.2 in
-    let past = ap length c.deref.ensures.value in
-    omega (arith, past, long, some)
 
 pub place_of-requires : goal.place_of-requires
 place_of-requires c =
@@ -82,15 +56,14 @@ returns c =
     λ h played s.
     let code = c.args.code.now in
     let limits = c.args.limits.now in
-    let xs = c.args.bodies.now.tasks.items in
-    let tags = c.args.bodies.now.tags.items in
+    let bodies = c.args.bodies.now in
+    let xs = bodies.tasks.items in
     let task = c.index_mut-task.result.now in
     let t = ready_task xs c.args.at c.requires.ready in
     let e : task ≡ t.0 = c.index_mut-task.ensures.value ∙ get_or_from_slice_get xs c.args.at t.0 task t.1 in
-    let w = c.in_ok-sent.ensures in
+    let w = c.in_ok-sent.ensures.turned in
     let u = subst (λ (x : Task). Turned code limits x c.turn.new.self c.args.number w.0) e w.1 in
-    let long : length task.past.items ≡ length (view_of t.0).past = sym (length-reverse task.past.items) ∙ ap (λ (x : Task). length (view_of x).past) e in
-    let place : c.place_in-place.result ≡ length (view_of t.0).past = c.place_in-place.ensures.place ∙ ap length c.deref.ensures.value ∙ long in
-    let tagged = subst (λ k. IsTagged c.args.at k w.0 tags c.tag_entry.new.tags.items c.in_ok-turn.turn) place
-    (tagged_as c.args.at c.place_in-place.result c.in_ok-sent.sent w.0 tags c.tag_entry.new.tags.items c.in_ok-turn.turn w.2 (subst (λ a. IsTaggedAs a c.place_in-place.result c.in_ok-sent.sent tags c.tag_entry.new.tags.items c.in_ok-turn.turn) c.place_of.ensures c.in_ok-turn.ensures)) in
-    went_at code limits c.args.bodies.now _ h c.args.number c.args.at t.0 c.turn.new.self w.0 c.in_ok-turn.turn c.parts-parts.ensures.valid c.requires.sound c.requires.room played s t.1 t.2 u tagged refl refl
+    let listed = subst (λ (x : Task). AddsOne x.past c.turn.new.self.past bodies.entries.items c.turn.new.list.items) e c.in_ok-sent.ensures.listed in
+    let homes = c.in_ok-push.ensures.items ∙ ap (λ i. bodies.homes.items ++ i ∷ []) c.place_of.ensures in
+    let is = c.turn_to.ensures ∙ ap turn_to w.2 ∙ turn_told w.0 in
+    went_at code limits bodies _ h c.args.number c.args.at t.0 c.turn.new.self w.0 c.turn_to.result c.parts-parts.ensures.valid c.requires.sound c.requires.room played s t.1 t.2 u listed homes is refl refl

@@ -8,17 +8,17 @@ home_of-at-requires c =
     let m = c.requires.may in
     let x = entry_asks_in c.args.code.now c.args.limits.now c.args.bodies.now m.0 c.args.entry.now m.2 c.requires.own m.3 in
     let e = ap length c.deref.ensures.value in
-    omega (arith, e, x.known, m.2.tagged)
+    omega (arith, e, x.known, m.2.homed)
 
 pub make-requires-clause-ready : goal.make-requires-clause-ready
 make-requires-clause-ready c =
     let m = c.requires.may in
     let x = entry_asks_in c.args.code.now c.args.limits.now c.args.bodies.now m.0 c.args.entry.now m.2 c.requires.own m.3 in
-    let at : c.home_of-at.result ≡ home c.args.bodies.now.tags.items c.args.entry.now.body = c.home_of-at.ensures ∙ ap (λ z. home z c.args.entry.now.body) c.deref.ensures.value in
-    subst (λ i. ready_at c.args.bodies.now.tasks.items i ≡ true) (sym at) (ready_there c.args.bodies.now.tasks.items (home c.args.bodies.now.tags.items c.args.entry.now.body) x.task x.there x.ready)
+    let at : c.home_of-at.result ≡ home c.args.bodies.now.homes.items c.args.entry.now.body = c.home_of-at.ensures ∙ ap (λ z. home z c.args.entry.now.body) c.deref.ensures.value in
+    subst (λ i. ready_at c.args.bodies.now.tasks.items i ≡ true) (sym at) (ready_there c.args.bodies.now.tasks.items (home c.args.bodies.now.homes.items c.args.entry.now.body) x.task x.there x.ready)
 
 pub returns : goal.returns
 returns c =
     λ h played s f within.
-    let at : c.home_of-at.result ≡ home c.args.bodies.now.tags.items c.args.entry.now.body = c.home_of-at.ensures ∙ ap (λ z. home z c.args.entry.now.body) c.deref.ensures.value in
+    let at : c.home_of-at.result ≡ home c.args.bodies.now.homes.items c.args.entry.now.body = c.home_of-at.ensures ∙ ap (λ z. home z c.args.entry.now.body) c.deref.ensures.value in
     made_again c.args.code.now c.args.limits.now c.args.bodies.now c.make.new.bodies h c.args.entry.now c.home_of-at.result c.in_ok-make.field-0 s c.requires.own f at (c.in_ok-make.ensures h played s)

@@ -7,7 +7,7 @@ use Rattle.chord_base.specs.Machine.{MayFollow, NoneFires}
 use Rattle.chord_code.specs.Meaning.{code_program}
 use Rattle.chord_lists.specs.CodeStands.{StandsAfter}
 use Rattle.chord_lists.specs.CodeGoes.{CanFire}
-use Rattle.chord_lists.proofs.Going.{no_entries, begun_follows, ready_follows, fire_follows, nothing_follows, stands_tagged}
+use Rattle.chord_lists.proofs.Going.{no_entries, begun_follows, ready_follows, fire_follows, nothing_follows}
 use Rattle.chord_lists.proofs.code_run.may_go_on.Goals as goal
 
 pub returns-then-is_empty-clause-yes : goal.returns-then-is_empty-clause-yes
@@ -20,8 +20,8 @@ returns-then-is_empty-clause-yes c =
 pub pending_bag-requires-clause-few : goal.pending_bag-requires-clause-few
 pending_bag-requires-clause-few c = (let l = ap length c.entries-entries.ensures.entries in omega (arith, l, c.entries-entries.ensures.within.few))
 
-pub pending_bag-requires-clause-tagged : goal.pending_bag-requires-clause-tagged
-pending_bag-requires-clause-tagged c = rw c.deref-in-None.ensures.value (stands_tagged c.args.code.now c.args.limits.now c.in_ok-bodies.bodies (reverse c.entries-entries.result.now) c.in_ok-bodies.ensures (subst (λ (es : List Entry). AreWithin (reverse es)) (sym c.entries-entries.ensures.entries) c.entries-entries.ensures.within.within))
+pub pending_bag-requires-clause-within : goal.pending_bag-requires-clause-within
+pending_bag-requires-clause-within c = subst (λ (es : List Entry). AreWithin (reverse es)) (sym c.entries-entries.ensures.entries) c.entries-entries.ensures.within.within
 
 pub returns-in-Some-clause-yes : goal.returns-in-Some-clause-yes
 returns-in-Some-clause-yes c =

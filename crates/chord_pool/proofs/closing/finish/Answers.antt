@@ -1,20 +1,20 @@
-use Rattle.std.proofs.Common.{◌≡◌, ℕ, ◌++◌, ap, ◌∙◌, subst, arith}
+use Rattle.std.proofs.Common.{◌≡◌, ap, ◌∙◌, subst, arith}
+use Rattle.std.specs.List.{flat_map}
 use Rattle.chord_base.specs.declared.event.Limits.{Limits}
 use Rattle.chord_base.specs.Story.{IsIn}
 use Rattle.chord_rule.specs.declared.view.View.{View}
 use Rattle.chord_space.specs.Desks.{view, space_code, space_limits}
 use Rattle.chord_space.specs.Ends.{parcels}
-use Rattle.chord_pool.specs.Homes.{home_items}
 use Rattle.chord_pool.proofs.Ended.{IsGathered, sealed_for, of_run, ended}
 use Rattle.chord_pool.proofs.closing.finish.Goals as goal
 
-pub gather_pasts-requires : goal.gather_pasts-requires
-gather_pasts-requires c =
+pub gather_lists-requires : goal.gather_lists-requires
+gather_lists-requires c =
     let code = c.args.code.now in let limits = c.args.limits.now in let slots = parcels c.close-closed.result in let drawn = c.close-closed.result.drawn in let sized = c.args.space.sized in
     let same : (space_limits c.args.space).events ≡ limits.events = ap (λ (y : Limits). y.events) c.requires.code.1 in
     let s = sealed_for (space_code c.args.space) (space_limits c.args.space) code limits c.args.desk.seat.id (view c.args.desk) slots drawn c.requires.code c.close-closed.ensures.sealed in
     of_run code limits c.args.desk.seat.id (view c.args.desk) slots drawn s (omega (arith, sized, same)) c.args.desk.settled.6 c.requires.alone.0 c.requires.alone.1 (c.entries_are_within.ensures.within limits)
-    c.args.entries _ (c.into_lists.ensures ∙ c.in_ok-take_homes.ensures.entries ∙ ap (λ (n : ℕ). c.args.entries ++ home_items slots n) c.drawn-drawn.ensures) c.requires.held
+    (flat_map (λ list. list.items) c.args.entries.items) c.requires.held
 
 -- what is known of the journal
 known : (c : goal.After-entries-within) → IsGathered c.args.code.now c.args.limits.now (view c.args.desk) c.close-closed.result.drawn c.in_ok-journal.journal
@@ -23,7 +23,7 @@ known c =
     let same : (space_limits c.args.space).events ≡ limits.events = ap (λ (y : Limits). y.events) c.requires.code.1 in
     let s = sealed_for (space_code c.args.space) (space_limits c.args.space) code limits c.args.desk.seat.id (view c.args.desk) slots drawn c.requires.code c.close-closed.ensures.sealed in
     ended code limits c.args.desk.seat.id (view c.args.desk) slots drawn s (omega (arith, sized, same)) c.args.desk.settled.6 c.requires.alone.0 c.requires.alone.1 (c.entries_are_within.ensures.within limits)
-    c.args.entries _ (c.into_lists.ensures ∙ c.in_ok-take_homes.ensures.entries ∙ ap (λ (n : ℕ). c.args.entries ++ home_items slots n) c.drawn-drawn.ensures) c.requires.held c.in_ok-journal.journal c.in_ok-journal.ensures c.entries-within.ensures.within
+    (flat_map (λ list. list.items) c.args.entries.items) c.requires.held c.in_ok-journal.journal c.in_ok-journal.ensures c.entries-within.ensures.within
 
 pub returns-clause-run : goal.returns-clause-run
 returns-clause-run c = (known c).run
@@ -42,8 +42,8 @@ returns-clause-few c = (known c).few
 
 pub returns-clause-closed : goal.returns-clause-closed
 returns-clause-closed c =
-    let rest = c.in_ok-take_homes.ensures.rest in let after = c.release.ensures.rest in
-    (after.0 ∙ rest.0 ∙ (known c).drawn_is, (λ e i. (known c).keeps e (subst (λ (v : View). IsIn e v.kept) (after.2 ∙ rest.1 ∙ c.close-closed.ensures.view) i)))
+    let after = c.release.ensures.rest in
+    (after.0 ∙ (known c).drawn_is, (λ e i. (known c).keeps e (subst (λ (v : View). IsIn e v.kept) (after.2 ∙ c.close-closed.ensures.view) i)))
 
 pub returns-clause-view : goal.returns-clause-view
-returns-clause-view c = c.release.ensures.rest.2 ∙ c.in_ok-take_homes.ensures.rest.1 ∙ c.close-closed.ensures.view
+returns-clause-view c = c.release.ensures.rest.2 ∙ c.close-closed.ensures.view

@@ -15,15 +15,15 @@ play_all-requires-clause-run g c = λ κs inside. one_run c.in_ok-space.space c.
 pub returns-clause-whole : goal.returns-clause-whole
 returns-clause-whole g c =
     let ended = c.in_ok-ended.ensures in
-    ended_as c.in_ok-space.space c.in_ok-last.last c.into_parts-desk.result.0 c.args.code.now c.args.limits.now (length c.in_ok-ended.ended.0) (IsComplete (code_program c.args.code.now c.args.limits.now) c.in_ok-ended.ended.0)
-    c.in_ok-last.ensures.over c.into_parts-desk.ensures.desk c.in_ok-space.ensures.0 c.in_ok-space.ensures.1 ended.whole ended.full ended.counted
+    ended_as c.in_ok-space.space c.in_ok-last.last c.in_ok-desk.desk c.args.code.now c.args.limits.now (length c.in_ok-ended.ended.0) (IsComplete (code_program c.args.code.now c.args.limits.now) c.in_ok-ended.ended.0)
+    c.in_ok-last.ensures.over c.in_ok-desk.ensures.desk c.in_ok-space.ensures.0 c.in_ok-space.ensures.1 ended.whole ended.full ended.counted
 
 pub returns-clause-short : goal.returns-clause-short
 returns-clause-short g c =
     let ended = c.in_ok-ended.ensures in λ less.
     ⊎_elim (λ complete. complete) (λ full. absurd (omega (arith, less, full)))
-    (ended_as c.in_ok-space.space c.in_ok-last.last c.into_parts-desk.result.0 c.args.code.now c.args.limits.now (length c.in_ok-ended.ended.0) (IsComplete (code_program c.args.code.now c.args.limits.now) c.in_ok-ended.ended.0)
-    c.in_ok-last.ensures.over c.into_parts-desk.ensures.desk c.in_ok-space.ensures.0 c.in_ok-space.ensures.1 ended.whole ended.full ended.counted)
+    (ended_as c.in_ok-space.space c.in_ok-last.last c.in_ok-desk.desk c.args.code.now c.args.limits.now (length c.in_ok-ended.ended.0) (IsComplete (code_program c.args.code.now c.args.limits.now) c.in_ok-ended.ended.0)
+    c.in_ok-last.ensures.over c.in_ok-desk.ensures.desk c.in_ok-space.ensures.0 c.in_ok-space.ensures.1 ended.whole ended.full ended.counted)
 
 pub returns-clause-crew : goal.returns-clause-crew
-returns-clause-crew g c = ap (λ (v : View). v.splits + 1) (c.in_ok-ended.ensures.view ∙ ap (λ (d : Desk Parcel). view d) c.into_parts-desk.ensures.desk) ∙ c.in_ok-last.ensures.crew
+returns-clause-crew g c = ap (λ (v : View). v.splits + 1) (c.in_ok-ended.ensures.view ∙ ap (λ (d : Desk Parcel). view d) c.in_ok-desk.ensures.desk) ∙ c.in_ok-last.ensures.crew
