@@ -1,3 +1,4 @@
+pub mod Crossing
 pub mod Journals
 pub mod Ended
 pub mod Handing

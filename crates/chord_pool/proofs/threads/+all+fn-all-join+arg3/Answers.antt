@@ -1,3 +1,9 @@
+use denote.Param.Send.{sendable, param_send, param_sync, arg_send}
+use Rattle.std.proofs.Crossing.{crosses}
+use denote.Exit.{no}
+use denote.Param.{param}
+use Rattle.chord_pool.proofs.threads.+all+fn-all-join+arg3.Lts-all as lts
+use Rattle.chord_pool.proofs.Crossing.{player_sent, one_goes}
 use Rattle.std.proofs.Common.{◌∷◌, [], ◌∙◌, length, length-append, ap, sym, subst, arith}
 use Rattle.chord_pool.specs.Players.{HaveAllPlayed}
 use Rattle.chord_pool.proofs.Handing.{played_more}
@@ -17,3 +23,9 @@ returns-clause-count g t c =
 
 pub returns-clause-room : goal.returns-clause-room
 returns-clause-room g t c = let others = c.join-one.ensures.second.2 in let room = c.back.ensures.room in let same = c.in-Some.ensures.room in omega (arith, others, room, same)
+
+pub join-one-requires-send-F : goal.join-one-requires-send-F
+join-one-requires-send-F g t c κs within = param_send 1 (lts.arg-1-1 g.row.R g.row.G g.R.laws g.G.laws g.R.Threads-dict g.R.Wait-dict g.G.Gate-dict κs) (arg_send _ no _ (one_goes (param 1 g.row.G) (param 0 g.row.R) _ _ _ _ _ _ _ _ _ _ _ _ _ (search param_sync) (search param_sync)))
+
+pub join-one-requires-send-A : goal.join-one-requires-send-A
+join-one-requires-send-A g t c κs within = search (player_sent, sendable, crosses) depth 60 fits 20000
