@@ -1,7 +1,7 @@
 #!/usr/bin/env python3
 """Plays the programs of bench/workloads by 1, 4 and 64 workers and on one thread: wall clock a firing, without the start of the process, and the ratios. Each
-stands beside a program of the same meaning over Go's channels, and `load 60` beside one over the bounded channels of Rust's standard library (bench/peers),
-where their compilers are there."""
+stands beside a program of the same meaning over Go's channels, `uncontended` beside its bare atomic steps and writes in C, and `load 60` beside a program over
+the bounded channels of Rust's standard library (bench/peers), where their compilers are there."""
 
 import os
 import shutil
@@ -18,7 +18,11 @@ PAIRS = 60  # of `load`, whose buffer Rust's program has too
 SUM = b'303000\n'
 COUNTS = b'begun 1 made 3 sent 12243 called 12001 fired 12181 printed 1 ended 12182\n'
 LOAD_FIRINGS = 12181
-PEERS = {'Go': (['go', 'build', '-o'], 'workloads.go'), 'Rust': (['rustc', '-O', '-o'], 'buffer.rs')}
+PEERS = {
+    'Go': (['go', 'build', '-o'], 'workloads.go'),
+    'Rust': (['rustc', '-O', '-o'], 'buffer.rs'),
+    'C': (['cc', '-O2', '-pthread', '-o'], 'steps.c'),
+}
 
 
 def nanoseconds(command, source, wanted, firings=1):
@@ -50,8 +54,14 @@ def ours(words, source, wanted, firings):
     return nanoseconds(words, source, wanted, firings) - nanoseconds(words, EMPTY, b'') / firings
 
 
-def measure(program, name, wanted, go):
-    """One workload: each number of workers beside one thread, four beside one, and both beside Go."""
+def steps(command, workers):
+    """The least time of a firing in bare atomic steps, of some runs."""
+    environment = common.environment()
+    return min(float(subprocess.run([command, str(workers)], stdout=subprocess.PIPE, env=environment, check=True).stdout) for _ in range(RUNS))
+
+
+def measure(program, name, wanted, go, bare):
+    """One workload: each number of workers beside one thread, four beside one, both beside Go, and where the workload is that one, beside its bare steps."""
     with open(f'{common.TOP}/bench/workloads/{name}.cs', 'rb') as file:
         source = file.read()
     journal = subprocess.run([program, 'run', '--one', '--journal'], input=source, stdout=subprocess.PIPE, check=True).stdout
@@ -61,6 +71,9 @@ def measure(program, name, wanted, go):
     for workers, took in by.items():
         common.tell(f'{name}, {workers} workers beside one thread', took, alone, 'ns a firing')
     common.tell(f'{name}, 4 workers beside 1 worker', by[4], by[1], 'ns a firing')
+    if bare and name == 'uncontended':
+        for workers in (1, 4):
+            common.tell(f'{name}, {workers} workers beside the bare steps in C', by[workers], steps(bare, workers), 'ns a firing')
     if go:
         theirs = nanoseconds([go, name], b'', wanted, firings) - nanoseconds([go, 'nothing'], b'', b'\n') / firings
         common.tell(f'{name}, 4 workers beside channels of Go', by[4], theirs, 'ns a firing')
@@ -78,9 +91,9 @@ def measure_load(program, rust):
 def main():
     program = common.program()
     with tempfile.TemporaryDirectory() as work:
-        go, rust = peer('Go', work), peer('Rust', work)
+        go, rust, bare = peer('Go', work), peer('Rust', work), peer('C', work)
         for name, wanted in WORKLOADS.items():
-            measure(program, name, wanted, go)
+            measure(program, name, wanted, go, bare)
         if rust:
             measure_load(program, rust)
 

@@ -26,6 +26,7 @@ fn hire_one(
         failed: false,
         place: 0,
         misses: 0,
+        counted: false,
     })?;
     Ok(())
 }

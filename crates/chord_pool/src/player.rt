@@ -24,6 +24,8 @@ pub(crate) struct Player {
     pub place: u32,
     /// How many of its last looks found none.
     pub misses: u32,
+    /// Whether it counts among those at work. It does for as long as it finds one firing after the other.
+    pub counted: bool,
 }
 
 /// How many of the newest numbers are looked at again after a look that found nothing: a firing becomes ready soon after its draw.
@@ -33,8 +35,15 @@ const FAR_LOOK: u32 = 32;
 /// How many rounds a worker plays for one turn of the loop without end.
 const ROUNDS: u32 = 1024;
 
-/// Looks at the cell of number i, and starts its firing where it is ready. Whether it plays it now.
-fn try_start<'a, G: Gate>(run: &Run<'a>, worker: &mut Worker, i: u32, gate: &G) -> bool
+/// Looks at the cell of number i, and starts its firing where it is ready. Whether it plays it now. A worker that is not counted among
+/// those at work is so before it starts one, so that nobody finds neither the firing nor anybody at work.
+fn try_start<'a, G: Gate>(
+    run: &Run<'a>,
+    worker: &mut Worker,
+    i: u32,
+    gate: &G,
+    counted: bool,
+) -> bool
     requires run { IsOneRun run.now.space.now run.now.code.now run.now.limits.now }
     requires worker { IsFit run.now.space.now worker.old }
     requires idle { worker.old.task ≡ None }
@@ -46,10 +55,10 @@ fn try_start<'a, G: Gate>(run: &Run<'a>, worker: &mut Worker, i: u32, gate: &G) 
 {
     match worker.look(run.space, i) {
         Cell::Ready => {
-            run.shared.begin();
+            run.shared.begin_if(!counted);
             let started = worker.start(run.space, run.code, run.limits, i, gate);
             if !started {
-                run.shared.end();
+                run.shared.end_if(!counted);
             }
             started
         }
@@ -64,6 +73,7 @@ fn sweep<'a, G: Gate>(
     from: u32,
     below: u32,
     gate: &G,
+    counted: bool,
 ) -> Option<u32>
     requires run { IsOneRun run.now.space.now run.now.code.now run.now.limits.now }
     requires worker { IsFit run.now.space.now worker.old }
@@ -76,7 +86,7 @@ fn sweep<'a, G: Gate>(
     ensures seen { IfNone result (AreUnready from below (view worker.new.desk).looked.seen) }
 {
     for i in from..below {
-        if try_start(run, worker, i, gate) {
+        if try_start(run, worker, i, gate, counted) {
             return Some(i);
         }
     }
@@ -84,7 +94,13 @@ fn sweep<'a, G: Gate>(
 }
 
 /// Looks for a firing from this place on. Where the next look begins; whether it plays one now, the worker says.
-fn find_work<'a, G: Gate>(run: &Run<'a>, worker: &mut Worker, place: u32, gate: &G) -> u32
+fn find_work<'a, G: Gate>(
+    run: &Run<'a>,
+    worker: &mut Worker,
+    place: u32,
+    gate: &G,
+    counted: bool,
+) -> u32
     requires run { IsOneRun run.now.space.now run.now.code.now run.now.limits.now }
     requires worker { IsFit run.now.space.now worker.old }
     requires idle { worker.old.task ≡ None }
@@ -93,7 +109,7 @@ fn find_work<'a, G: Gate>(run: &Run<'a>, worker: &mut Worker, place: u32, gate: 
     ensures none { worker.new.task ≡ None → FoundNone run.now.space.now place (view worker.new.desk) }
 {
     let count = worker.count(run.space);
-    match sweep(run, worker, place, count, gate) {
+    match sweep(run, worker, place, count, gate, counted) {
         Some(i) => i,
         None => count.saturating_sub(NEAR),
     }
@@ -112,7 +128,7 @@ fn find_far<'a, G: Gate>(run: &Run<'a>, worker: &mut Worker, from: u32, place: u
     if from == 0 {
         return place;
     }
-    find_work(run, worker, 0, gate)
+    find_work(run, worker, 0, gate, false)
 }
 
 impl Player {
@@ -138,18 +154,24 @@ impl Player {
             .worker
             .step(rt, alloc, run.space, run.code, run.limits, gate)
         {
-            Ok(()) => {
-                if !self.worker.has_task() {
-                    run.shared.end();
-                }
-                true
-            }
+            Ok(()) => true,
             Err(_) => {
                 self.failed = true;
                 run.shared.stop();
                 false
             }
         }
+    }
+
+    /// The worker has found a firing to play, and goes on.
+    fn found(&mut self, pause: &Pause) -> bool
+        ensures same { (self.new.worker ≡ self.old.worker) × (self.new.failed ≡ self.old.failed) × (self.new.place ≡ self.old.place) }
+        ensures on { result ≡ true }
+    {
+        self.counted = true;
+        self.misses = 0;
+        pause.reset();
+        true
     }
 
     /// Looks for a firing to play. Whether the worker goes on: it does while it finds one, or another is at work.
@@ -172,18 +194,22 @@ impl Player {
             self.misses = 0;
         }
         let from = self.place;
-        self.place = find_work(run, &mut self.worker, from, gate);
+        self.place = find_work(run, &mut self.worker, from, gate, self.counted);
+        if self.worker.has_task() {
+            return self.found(pause);
+        }
+        if self.counted {
+            self.counted = false;
+            run.shared.end();
+            return true;
+        }
         // Where nobody is at work, what the near look did not find is looked for among all numbers, before the worker goes.
-        if working == 0 && !self.worker.has_task() {
+        if working == 0 {
             self.place = find_far(run, &mut self.worker, from, self.place, gate);
             if !self.worker.has_task() {
                 return false;
             }
-        }
-        if self.worker.has_task() {
-            self.misses = 0;
-            pause.reset();
-            return true;
+            return self.found(pause);
         }
         self.misses = self.misses.saturating_add(1);
         pause.rest(rt, run.shared, working);
@@ -276,6 +302,7 @@ pub(crate) fn work<'a, R: Wait, G: Gate>(
             return player;
         }
         if !player.rounds(rt, alloc, run, gate, &pause) {
+            run.shared.end_if(player.counted);
             run.shared.leave();
             return player;
         }

@@ -6,14 +6,14 @@ use std::time::Duration;
 /// Who is at work, and whether all are to stop.
 #[derive(Drop)]
 pub(crate) struct Shared {
-    // How many workers have a task. That of `Main` counts from the beginning.
+    // How many workers play, or have just played and look for more. That of `Main` counts from the beginning.
     working: AtomicU64,
     // 1 from want of memory on.
     stopped: AtomicU64,
 }
 
 impl Shared {
-    /// One worker has a task.
+    /// One worker is at work.
     pub(crate) fn new() -> Shared {
         Shared {
             working: AtomicU64::new(1),
@@ -21,7 +21,7 @@ impl Shared {
         }
     }
 
-    /// How many workers have a task, and so may post a firing.
+    /// How many workers are at work, and so may post a firing.
     pub(crate) fn working(&self) -> u64 {
         self.working.load(Ordering::SeqCst)
     }
@@ -33,15 +33,24 @@ impl Shared {
             .park_timeout(rt, seen, Duration::from_micros(micros));
     }
 
-    /// One worker more has a task.
-    pub(crate) fn begin(&self) {
-        self.working.fetch_add(1, Ordering::SeqCst);
+    /// One worker more is at work, if this one did not count.
+    pub(crate) fn begin_if(&self, is_new: bool) {
+        if is_new {
+            self.working.fetch_add(1, Ordering::SeqCst);
+        }
     }
 
-    /// The task of a worker is over, or has gone away with a parcel. Whoever sleeps is not woken, even if this was the last one: the worker mostly finds
-    /// another task at once, and a wake-up is a call of the system.
+    /// A worker is at work no more, since it found no firing to play. Whoever sleeps is not woken, even if this was the last one: those that sleep look again
+    /// by themselves, and a wake-up is a call of the system.
     pub(crate) fn end(&self) {
         self.working.fetch_sub(1, Ordering::SeqCst);
+    }
+
+    /// The same, if it counted.
+    pub(crate) fn end_if(&self, counted: bool) {
+        if counted {
+            self.end();
+        }
     }
 
     /// A worker goes for good: those that sleep are to look once more, and go too.
