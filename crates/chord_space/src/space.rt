@@ -1,5 +1,5 @@
 //! The space and its desks.
-ghost use Rattle.std.specs.Prelude.{◌≡◌, ℕ, ◌+◌, ◌*◌, ◌<◌, ◌≤◌, false, [], None, IfOk};
+ghost use Rattle.std.specs.Prelude.{◌≡◌, ℕ, ◌+◌, ◌*◌, ◌<◌, ◌≤◌, false, [], None, IfOk, replicate};
 ghost use Rattle.chord_code.specs.Sound.{IsSoundCode};
 ghost use Rattle.chord_rule.specs.Kinds.{newcomer_first};
 ghost use Rattle.chord_space.specs.Ruled.{Ruled};
@@ -57,6 +57,9 @@ pub struct Desk<P> {
 #[derive(Clone, Copy, Debug, PartialEq, Eq, Drop)]
 pub struct Spent;
 
+/// The words of an entry, less those of a slot with a parcel.
+const WORDS_AN_EVENT: usize = 6;
+
 /// How many methods the code's largest class has. Each object of a table has as many heads: an event of a code whose classes
 /// are small takes a few words, where the limit on methods would ask for all sixteen.
 fn heads_of(code: &Code) -> usize
@@ -70,6 +73,19 @@ fn heads_of(code: &Code) -> usize
         }
     }
     most
+}
+
+/// So many words that are 0, which a table for these events copies.
+///
+/// Their memory is given back once the table is made, with that of a list of its slots beside it. The two have room for an entry of each event then, so that
+/// the first list of a run lies in pages that were touched before, also where classes are small.
+fn zeros(alloc: Global, words: usize, events: usize) -> Result<Vec<u64>, AllocError>
+    requires few { events ≤ 65536 }
+    ensures { IfOk result (λ zeros. zeros.items ≡ replicate words 0) }
+{
+    let mut zeros = Vec::with_capacity(alloc, words.max(WORDS_AN_EVENT * events))?;
+    zeros.resize(words, 0)?;
+    Ok(zeros)
 }
 
 impl<P: Carry> Space<P> {
@@ -92,7 +108,7 @@ impl<P: Carry> Space<P> {
         let events = limits.events;
         let count = events as usize;
         let heads = heads_of(code);
-        let words = vec![in alloc; 0u64; 1 + 2 * count + heads * count]?;
+        let words = zeros(alloc, 1 + 2 * count + heads * count, count)?;
         let key = Key {
             code: Snapshot::of(code),
             limits: *limits,
