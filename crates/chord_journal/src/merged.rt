@@ -23,19 +23,6 @@ pub fn gather_lists(alloc: Global, lists: Vec<Vec<Entry>>) -> Result<Journal, Al
     requires { AreOfJournal (flat_map (λ list. list.items) lists.items) }
     ensures { IfOk result (λ journal. IsPermutation (flat_map (λ list. list.items) lists.items) journal) }
 {
-    let mut lists = lists;
-    if lists.len() == 1 {
-        let list = lists.take_last();
-        return gather(alloc, list);
-    }
-    gather_several(alloc, lists)
-}
-
-/// The journal of the entries of several lists.
-fn gather_several(alloc: Global, lists: Vec<Vec<Entry>>) -> Result<Journal, AllocError>
-    requires { AreOfJournal (flat_map (λ list. list.items) lists.items) }
-    ensures { IfOk result (λ journal. IsPermutation (flat_map (λ list. list.items) lists.items) journal) }
-{
     let (entries, placed) = merged(alloc, lists)?;
     if placed == entries.len() {
         return Ok(Journal::of_entries(entries));

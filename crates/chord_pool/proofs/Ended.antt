@@ -1,6 +1,6 @@
 -- What is known of a run that was closed and gathered.
 use Rattle.std.proofs.Common.{◌≡◌, ℕ, ◌≤◌, ◌==◌, true, false, List, length, min, reverse, sym, ap, ◌∙◌, subst, arith, Option, Some}
-use Rattle.std.proofs.lemmas.List.{length-reverse}
+use Rattle.std.proofs.lemmas.List.{length-reverse, reverse-reverse}
 use Rattle.std.proofs.lemmas.List.Sorted.{IsPermutation-sym, IsPermutation-reverse}
 use Rattle.std.specs.List.Sorted.{IsPermutation}
 use mathlib.Core.Option.{some}
@@ -58,6 +58,13 @@ module _ (code : Parts) (limits : Limits) (id : ℕ) (v : View) (slots : List (O
   -- they are those of a journal
   pub of_run : AreOfJournal es
   of_run = let l = long in of_journal es s.unseen.journal moved (omega (arith, l, small)) within
+
+  -- in the order in which they were drawn they are the journal
+  pub in_order : (list : List Entry) → list ≡ reverse v.draws → IsJournal list
+  in_order list drawn_so =
+      let l = long in
+      let count = length-reverse s.unseen.journal in
+      subst IsJournal (sym (drawn_so ∙ ap reverse s.journal)) (record { few = omega (arith, l, count, small); within = subst AreWithin (sym (reverse-reverse s.unseen.journal)) within })
 
   -- the place of each entry
   abbrev place : ℕ → ℕ

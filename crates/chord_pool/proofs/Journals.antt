@@ -1,5 +1,6 @@
 -- The entries of a run in some order are those of a journal, and the journal that has them is the run.
-use Rattle.std.proofs.Common.{◌≡◌, inl, inr, ℕ, zero, suc, ◌<◌, ◌≤◌, List, [], ◌∷◌, length, reverse, refl, sym, ◌∙◌, arith}
+use Rattle.std.proofs.Common.{◌≡◌, inl, inr, ℕ, zero, suc, ◌<◌, ◌≤◌, List, [], ◌∷◌, ◌++◌, length, reverse, refl, sym, ap, ◌∙◌, arith, Vec, Global}
+use Rattle.std.proofs.lemmas.List.{length-append}
 use Rattle.std.specs.Prelude.{All, Contains}
 use Rattle.std.specs.List.Sorted.{IsPermutation}
 use Rattle.std.proofs.lemmas.List.Elements.{All-nil, All-cons}
@@ -62,3 +63,11 @@ pub is_history : (es h out : List Entry) → IsPermutation es h → IsPermutatio
 is_history es h out moved gathered within journal =
     let same : IsPermutation (reverse out) h = IsPermutation-trans _ _ _ (IsPermutation-sym _ _ (IsPermutation-reverse out)) (IsPermutation-trans _ _ _ (IsPermutation-sym _ _ gathered) moved) in
     collected (reverse out) h (numbered (reverse out) journal.within) (numbered h within) (sym (length_permutation (reverse out) h same)) (λ e i. in_other_order e (reverse out) h same i)
+
+-- where there is one list, the last one is all
+pub last_of_one : (lists rest : List (Vec Entry Global)) (list : Vec Entry Global) → length lists ≡ 1 → lists ≡ rest ++ list ∷ [] → lists ≡ list ∷ []
+last_of_one lists [] list one last = last
+last_of_one lists (x ∷ rest) list one last =
+    let long : length lists ≡ suc (length (rest ++ list ∷ [])) = ap length last in
+    let behind = length-append rest (list ∷ []) in
+    absurd (omega (arith, one, long, behind))

@@ -1,9 +1,12 @@
 //! The end of a run: the table is closed, and what was drawn is gathered.
-ghost use Rattle.std.specs.Prelude.{◌≡◌, ℕ, ◌≤◌, true, [], None, IfOk, IsPermutation, flat_map, length, min, Some};
+ghost use Rattle.std.specs.Prelude.{◌≡◌, ℕ, ◌≤◌, true, [], ◌∷◌, None, IfOk, IsPermutation, flat_map, length, min, reverse, Some, Vec};
+ghost use Rattle.std.specs.Global.{Global};
+ghost use Rattle.chord_base.specs.Bounds.{IsJournal};
 ghost use Rattle.chord_base.specs.declared.event.Entry.{Entry};
 ghost use Rattle.chord_base.specs.Machine.{IsRun, IsComplete};
 ghost use Rattle.chord_base.specs.Story.{IsIn};
 ghost use Rattle.chord_code.specs.Meaning.{code_program};
+ghost use Rattle.chord_journal.specs.Gathered.{AreOfJournal};
 ghost use Rattle.chord_rule.specs.Closing.{MayClose, AreQuiet};
 ghost use Rattle.chord_space.specs.Desks.{view, space_code, space_limits, IsDeskOf};
 ghost use Rattle.chord_space.specs.Ends.{parcels, closing_view};
@@ -17,12 +20,32 @@ use chord_space::{Closed, Desk, Space};
 use chord_task::parcel::Parcel;
 use std::alloc::{AllocError, Global};
 
-/// Closes the table with its first desk, which has lent none, and has no claim and nothing in flight. The entries that it drew, and
-/// those that the desks drew which it took in, are gathered from the lists in which they are handed over: they are the run.
+#[tactic(auto, using(crate::proofs::Journals::last_of_one))]
+/// The journal of the entries of these lists. One that is alone is the journal already.
 ///
 /// # Errors
 ///
-/// `AllocError` where there is no memory for the entries beside the lists that have them, or for sorting them.
+/// `AllocError` where there is no memory for the entries beside several lists that have them, or for sorting them.
+fn journal_of(alloc: Global, lists: Vec<Vec<Entry>>) -> Result<Journal, AllocError>
+    requires held { AreOfJournal (flat_map (λ list. list.items) lists.items) }
+    requires alone { (list : Vec Entry Global) → lists.items ≡ list ∷ [] → IsJournal list.items }
+    ensures { IfOk result (λ journal. IsPermutation (flat_map (λ list. list.items) lists.items) journal) }
+{
+    let mut lists = lists;
+    if lists.len() == 1 {
+        let list = lists.take_last();
+        return Ok(Journal::of_entries(list));
+    }
+    gather_lists(alloc, lists)
+}
+
+/// Closes the table with its first desk, which has lent none, and has no claim and nothing in flight. The entries that it drew, and
+/// those that the desks drew which it took in, are gathered from the lists in which they are handed over: they are the run. One list
+/// alone has them in the order in which they were drawn.
+///
+/// # Errors
+///
+/// `AllocError` where there is no memory for the entries beside several lists that have them, or for sorting them.
 pub(crate) fn finish(
     alloc: Global,
     space: Space<Parcel>,
@@ -36,6 +59,7 @@ pub(crate) fn finish(
     requires alone { ((view desk).first ≡ true) × ((view desk).lent ≡ 0) }
     requires idle { ((view desk).claims ≡ []) × ((view desk).flight ≡ None) }
     requires held { IsPermutation (flat_map (λ list. list.items) entries.items) (view desk).draws }
+    requires order { (list : Vec Entry Global) → entries.items ≡ list ∷ [] → list.items ≡ reverse (view desk).draws }
     ensures run { IfOk result (λ r. IsRun (code_program code.now limits.now) r.0) }
     ensures whole { IfOk result (λ r. MayClose (view desk) → AreQuiet (code_program code.now limits.now) (view desk).kept → IsComplete (code_program code.now limits.now) r.0) }
     ensures full { IfOk result (λ r. (view desk).spent ≡ true → length r.0 ≡ limits.now.events) }
@@ -49,7 +73,7 @@ pub(crate) fn finish(
     let mut closed = space.close(desk);
     // the journal may then lie where the table lay, and the system has fewer pages to clear
     closed.release();
-    let journal = gather_lists(alloc, entries)?;
+    let journal = journal_of(alloc, entries)?;
     let _within = journal.entries();
     Ok((journal, closed))
 }

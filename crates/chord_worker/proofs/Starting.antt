@@ -1,7 +1,6 @@
 -- A worker that begins: the first one with `Main`, another one with nothing, and one that starts a firing.
-use Rattle.std.proofs.Common.{◌≡◌, ℕ, Bool, true, false, not, ◌==◌, ◌++◌, List, [], ◌∷◌, Option, Some, None, IsSome, reverse, refl, sym, ap, ◌∙◌, subst, inl, inr, ⊎_elim, arith, if◌then◌else◌}
+use Rattle.std.proofs.Common.{◌≡◌, ℕ, Bool, true, false, not, ◌==◌, List, [], ◌∷◌, Option, Some, None, IsSome, reverse, refl, sym, ap, ◌∙◌, subst, inl, inr, ⊎_elim, arith, if◌then◌else◌}
 use Rattle.std.proofs.lemmas.Bool.{eq-eqb, eqb-true, eqb-false, ne_eqb}
-use Rattle.std.specs.Prelude.{IsPermutation}
 use mathlib.Core.Path.{Path}
 use Rattle.chord_base.specs.declared.event.End.{End}
 use Rattle.chord_base.specs.declared.event.What.{What}
@@ -36,7 +35,7 @@ use Rattle.chord_task.specs.declared.task.Task.{Task}
 use Rattle.chord_task.specs.Parcels.{past_in, TaskIn, entries_of, IsParcelOf}
 use Rattle.chord_task.specs.Standing.{view_of, body_number, may_go, body_may_go, is_ready_of, IsTop, IsBodyStack, IsTaskOf, MainBegins}
 use Rattle.chord_worker.specs.Parted.{IsParted, with_part, two}
-use Rattle.chord_worker.specs.Resting.{IsInMemory, MayContinue, IsHandFree, IsAtRest, IsSameRole, all_in}
+use Rattle.chord_worker.specs.Resting.{IsInMemory, MayContinue, IsHandFree, IsAtRest, IsSameRole, AreListed}
 use Rattle.chord_worker.specs.Stepping.{PlaysFiring}
 use Rattle.chord_worker.proofs.Parts.{kept_agree, kept_nothing, all_kept, none_kept, left_is, part_goes, part_came, parts_told}
 
@@ -258,7 +257,7 @@ module _ (s : Space Parcel) (w : Worker) (r : IsAtRest s w) (none : w.task ≡ N
             (subst (λ (es : List Entry). IsInMemory (space_code s) (space_limits s) es false q.task) (sym (ap (λ (z : View). z.kept) view_is)) with_it.0);
         goes_on = with_it.1;
         stock = r.stock;
-        listed = subst (IsPermutation (w.draws.items ++ all_in w.taken.items)) (sym (ap (λ (z : View). z.draws) view_is)) r.listed;
+        listed = subst (AreListed w.draws.items w.taken.items) (sym (ap (λ (z : View). z.draws) view_is)) r.listed;
       }
 
   -- and has its role still

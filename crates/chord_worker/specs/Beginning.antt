@@ -1,5 +1,5 @@
 -- What stands in the parcels of a firing's members, and the firing's body before it is played or posted.
-use Rattle.std.specs.Prelude.{◌≡◌, ℕ, ◌<◌, true, false, List, [], ◌∷◌, ◌++◌, Option, Some, None, IsPermutation}
+use Rattle.std.specs.Prelude.{◌≡◌, ℕ, ◌<◌, true, false, List, [], ◌∷◌, Option, Some, None}
 use Rattle.chord_base.specs.declared.event.Entry.{Entry}
 use Rattle.chord_base.specs.declared.event.Limits.{Limits}
 use Rattle.chord_base.specs.declared.event.What.TheVariants.{Fired}
@@ -20,7 +20,7 @@ use Rattle.chord_task.specs.declared.task.Task.{Task}
 use Rattle.chord_task.specs.Gathering.{AreGathered}
 use Rattle.chord_task.specs.Standing.{view_of, IsTaskOf, MayResume, is_ready_of}
 use Rattle.chord_worker.specs.declared.worker.Worker.{Worker}
-use Rattle.chord_worker.specs.Resting.{IsHandFree, IsInMemory, MayContinue, IsStock, all_in}
+use Rattle.chord_worker.specs.Resting.{IsHandFree, IsInMemory, MayContinue, IsStock, AreListed}
 
 -- the first task, if there is one, else the second
 abbrev pub first_of : Option Task → Option Task → Option Task
@@ -71,7 +71,7 @@ pub record HasBegun (s : Space Parcel) (w : Worker) (v : View) (f : ℕ) (t : Ta
   pub stock : IsStock (space_code s) (space_limits s) w.spare
   pub duties : (view w.desk).duties ≡ []
   pub low : f < s.events
-  pub listed : IsPermutation (w.draws.items ++ all_in w.taken.items) (view w.desk).draws
+  pub listed : AreListed w.draws.items w.taken.items (view w.desk).draws
   pub seen : view w.desk ≡ record v { kept = (view w.desk).kept; draws = (view w.desk).draws; claims = []; unposted = f ∷ v.unposted; drawn = true; duties = (view w.desk).duties; looked = (view w.desk).looked }
   pub task : IsTaskOf (space_code s) (space_limits s) t
   pub ready : is_ready_of t ≡ true

@@ -1,5 +1,5 @@
 -- A worker between a firing that it drew, whose parcels it was handed, and the beginning of the firing's body.
-use Rattle.std.specs.Prelude.{◌≡◌, ◌++◌, ℕ, false, List, [], Some, IsPermutation}
+use Rattle.std.specs.Prelude.{◌≡◌, ℕ, false, List, [], Some}
 use Rattle.chord_base.specs.declared.value.Object.{Object}
 use Rattle.chord_match.specs.Fires.{IsFired}
 use Rattle.chord_rule.specs.declared.view.View.{View}
@@ -9,7 +9,7 @@ use Rattle.chord_task.specs.declared.parcel.Parcel.{Parcel}
 use Rattle.chord_task.specs.declared.task.Task.{Task}
 use Rattle.chord_task.specs.Parcels.{entries_of, arguments_of, IsParcelOf}
 use Rattle.chord_worker.specs.declared.worker.Worker.{Worker}
-use Rattle.chord_worker.specs.Resting.{IsHandFree, IsInMemory, MayContinue, IsStockTask, all_in}
+use Rattle.chord_worker.specs.Resting.{IsHandFree, IsInMemory, MayContinue, IsStockTask, AreListed}
 
 -- before the firing the worker had nothing in hand but the message that it minded, and its lists had what its desk drew; the firing was drawn, and none of its duties is left
 pub record HasFired (s : Space Parcel) (w : Worker) (v : View) (object : Object) (chord : ℕ) (members : List ℕ) (f : ℕ) (parcels : List Parcel) : Type 0 where
@@ -22,6 +22,6 @@ pub record HasFired (s : Space Parcel) (w : Worker) (v : View) (object : Object)
   pub stock : Task
   pub spare : w.spare ≡ Some stock
   pub is_stock : IsStockTask (space_code s) (space_limits s) stock
-  pub listed : IsPermutation (w.draws.items ++ all_in w.taken.items) v.draws
+  pub listed : AreListed w.draws.items w.taken.items v.draws
   pub duties : (view w.desk).duties ≡ []
   pub fired : IsFired entries_of arguments_of (λ q. IsParcelOf q (space_code s) (space_limits s)) (program_of s) s.events v (view w.desk) object chord members f parcels

@@ -1,5 +1,5 @@
 -- A worker at rest: its lists have what its desk drew, its task may go on, and every other body that its desk keeps has ended or waits.
-use Rattle.std.specs.Prelude.{◌≡◌, ℕ, Bool, true, false, List, [], ◌∷◌, ◌++◌, Option, Some, None, Vec, flat_map, IsPermutation}
+use Rattle.std.specs.Prelude.{◌≡◌, ℕ, Bool, true, false, List, [], ◌∷◌, ◌++◌, Option, Some, None, Vec, flat_map, reverse, IsPermutation}
 use Rattle.std.specs.Global.{Global}
 use Rattle.chord_base.specs.declared.event.Entry.{Entry}
 use Rattle.chord_base.specs.declared.event.Limits.{Limits}
@@ -61,6 +61,11 @@ IsStock code limits (Some t) = IsStockTask code limits t
 abbrev pub all_in : List (Vec Entry Global) → List Entry
 all_in lists = flat_map (λ (list : Vec Entry Global). list.items) lists
 
+-- a worker's own list and those that it took over have what its desk drew; where none was taken over, its own has it in the order in which it was drawn
+pub record AreListed (own : List Entry) (taken : List (Vec Entry Global)) (drawn : List Entry) : Type 0 where
+  pub moved : IsPermutation (own ++ all_in taken) drawn
+  pub in_order : taken ≡ [] → own ≡ reverse drawn
+
 -- the worker is at rest
 pub record IsAtRest (s : Space Parcel) (w : Worker) : Type 0 where
   pub desk : IsDeskOf s w.desk
@@ -71,7 +76,7 @@ pub record IsAtRest (s : Space Parcel) (w : Worker) : Type 0 where
   pub goes_on : MayContinue w.task
   pub stock : IsStock (space_code s) (space_limits s) w.spare
   -- its lists have what its desk drew, and what the desks of the workers that it took in drew
-  pub listed : IsPermutation (w.draws.items ++ all_in w.taken.items) (view w.desk).draws
+  pub listed : AreListed w.draws.items w.taken.items (view w.desk).draws
 
 -- both views are of one desk, which was neither split nor joined, and no draw is forgotten
 pub record IsSameRole (v w : View) : Type 0 where

@@ -1,5 +1,5 @@
 -- A message is sent off: linked with its parcel, and armed; and then the worker minds it.
-use Rattle.std.specs.Prelude.{◌≡◌, ℕ, false, List, [], ◌∷◌, ◌++◌, Some, None, IsPermutation}
+use Rattle.std.specs.Prelude.{◌≡◌, ℕ, false, List, [], ◌∷◌, Some, None}
 use Rattle.chord_bag.specs.Reads.{messages_and_bags}
 use Rattle.chord_base.specs.declared.event.Entry.{Entry}
 use Rattle.chord_rule.specs.declared.view.View.{View}
@@ -10,7 +10,7 @@ use Rattle.chord_space.specs.Desks.{view, space_code, space_limits, IsDeskOf}
 use Rattle.chord_task.specs.declared.parcel.Parcel.{Parcel}
 use Rattle.chord_task.specs.declared.task.Task.{Task}
 use Rattle.chord_worker.specs.declared.worker.Worker.{Worker}
-use Rattle.chord_worker.specs.Resting.{IsHandFree, IsInMemory, MayContinue, IsStockTask, IsSameRole, all_in}
+use Rattle.chord_worker.specs.Resting.{IsHandFree, IsInMemory, MayContinue, IsStockTask, IsSameRole, AreListed}
 
 -- the message m was linked in the bag k and armed, and these entries went with its parcel
 pub record IsSentOff (v w : View) (m k : ℕ) (es : List Entry) : Type 0 where
@@ -35,4 +35,4 @@ pub record Minds (s : Space Parcel) (w : Worker) (m k : ℕ) : Type 0 where
   pub stock : Task
   pub spare : w.spare ≡ Some stock
   pub is_stock : IsStockTask (space_code s) (space_limits s) stock
-  pub listed : IsPermutation (w.draws.items ++ all_in w.taken.items) (view w.desk).draws
+  pub listed : AreListed w.draws.items w.taken.items (view w.desk).draws

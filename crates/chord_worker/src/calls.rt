@@ -1,5 +1,7 @@
 //! The calls of a worker that the pool makes, but for its steps.
-ghost use Rattle.std.specs.Prelude.{◌≡◌, ◌≢◌, ◌||◌, ℕ, ◌<◌, ◌-◌, List, [], ◌∷◌, ◌++◌, Option, true, false, Some, None, OnOk, IfOk, min, is_some, flat_map, IsPermutation};
+ghost use Rattle.std.specs.Prelude.{◌≡◌, ◌≢◌, ◌||◌, ℕ, ◌<◌, ◌-◌, List, [], ◌∷◌, ◌++◌, Option, true, false, Some, None, OnOk, IfOk, min, is_some, flat_map, reverse, IsPermutation, Vec};
+ghost use Rattle.std.specs.Global.{Global};
+ghost use Rattle.chord_base.specs.declared.event.Entry.{Entry};
 ghost use Rattle.chord_base.specs.Story.{IsSound};
 ghost use Rattle.chord_rule.specs.Kinds.{newcomer, newcomer_first, lent_one, saw, saw_count, united};
 ghost use Rattle.chord_rule.specs.Tells.{a_word};
@@ -192,7 +194,7 @@ impl Worker {
     }
 
     /// The desk of a worker with nothing to play, and the lists of entries, each as one worker drew them: its own and those of the
-    /// workers that it took in. Want of memory is an `Err`.
+    /// workers that it took in. One list alone has what the desk drew in the order in which it was drawn. Want of memory is an `Err`.
     pub fn into_parts(
         self,
         space: &Space<Parcel>,
@@ -201,6 +203,7 @@ impl Worker {
         requires task { self.task ≡ None }
         ensures desk { IfOk result (λ r. r.0 ≡ self.desk) }
         ensures entries { IfOk result (λ r. IsPermutation (flat_map (λ list. list.items) r.1.items) (view self.desk).draws) }
+        ensures alone { IfOk result (λ r. (list : Vec Entry Global) → r.1.items ≡ list ∷ [] → list.items ≡ reverse (view self.desk).draws) }
     {
         let Worker {
             desk,

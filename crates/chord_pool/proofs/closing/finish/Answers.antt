@@ -5,16 +5,24 @@ use Rattle.chord_base.specs.Story.{IsIn}
 use Rattle.chord_rule.specs.declared.view.View.{View}
 use Rattle.chord_space.specs.Desks.{view, space_code, space_limits}
 use Rattle.chord_space.specs.Ends.{parcels}
-use Rattle.chord_pool.proofs.Ended.{IsGathered, sealed_for, of_run, ended}
+use Rattle.chord_pool.proofs.Ended.{IsGathered, sealed_for, of_run, in_order, ended}
 use Rattle.chord_pool.proofs.closing.finish.Goals as goal
 
-pub gather_lists-requires : goal.gather_lists-requires
-gather_lists-requires c =
+pub journal_of-requires-clause-held : goal.journal_of-requires-clause-held
+journal_of-requires-clause-held c =
     let code = c.args.code.now in let limits = c.args.limits.now in let slots = parcels c.close-closed.result in let drawn = c.close-closed.result.drawn in let sized = c.args.space.sized in
     let same : (space_limits c.args.space).events ≡ limits.events = ap (λ (y : Limits). y.events) c.requires.code.1 in
     let s = sealed_for (space_code c.args.space) (space_limits c.args.space) code limits c.args.desk.seat.id (view c.args.desk) slots drawn c.requires.code c.close-closed.ensures.sealed in
     of_run code limits c.args.desk.seat.id (view c.args.desk) slots drawn s (omega (arith, sized, same)) c.args.desk.settled.6 c.requires.alone.0 c.requires.alone.1 (c.entries_are_within.ensures.within limits)
     (flat_map (λ list. list.items) c.args.entries.items) c.requires.held
+
+pub journal_of-requires-clause-alone : goal.journal_of-requires-clause-alone
+journal_of-requires-clause-alone c =
+    let code = c.args.code.now in let limits = c.args.limits.now in let slots = parcels c.close-closed.result in let drawn = c.close-closed.result.drawn in let sized = c.args.space.sized in
+    let same : (space_limits c.args.space).events ≡ limits.events = ap (λ (y : Limits). y.events) c.requires.code.1 in
+    let s = sealed_for (space_code c.args.space) (space_limits c.args.space) code limits c.args.desk.seat.id (view c.args.desk) slots drawn c.requires.code c.close-closed.ensures.sealed in
+    λ list one. in_order code limits c.args.desk.seat.id (view c.args.desk) slots drawn s (omega (arith, sized, same)) c.args.desk.settled.6 c.requires.alone.0 c.requires.alone.1 (c.entries_are_within.ensures.within limits)
+    (flat_map (λ list. list.items) c.args.entries.items) c.requires.held list.items (c.requires.order list one)
 
 -- what is known of the journal
 known : (c : goal.After-entries-within) → IsGathered c.args.code.now c.args.limits.now (view c.args.desk) c.close-closed.result.drawn c.in_ok-journal.journal

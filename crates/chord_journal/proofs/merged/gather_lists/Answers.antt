@@ -2,7 +2,7 @@ use Rattle.std.proofs.Common.{◌∙◌}
 use Rattle.std.proofs.lemmas.Result.{IfOk-weaker}
 use Rattle.std.proofs.lemmas.List.Sorted.{IsPermutation-trans}
 use Rattle.chord_journal.proofs.Gathering.{placed_is_journal, of_journal_moved}
-use Rattle.chord_journal.proofs.merged.gather_several.Goals as goal
+use Rattle.chord_journal.proofs.merged.gather_lists.Goals as goal
 
 pub of_entries-requires : goal.of_entries-requires
 of_entries-requires c =
