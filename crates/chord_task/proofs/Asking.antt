@@ -100,7 +100,7 @@ not_waiting : (n : Next) (w : What) (q : ℕ) → given_of n ≡ Some w → n �
 not_waiting n w q g e = (let z : ◌≡◌ {A = Option What} None (Some w) = sym (ap given_of e) ∙ g in cc)
 
 -- the task with the ask of its body on top
-pub task_asked : (code : Parts) (limits : Limits) (t : Task) (b b' : Body) (w : What) → IsTaskOf code limits t → t.top ≡ Some b → AskedBody code b b' → given_of b'.next ≡ Some w → IsTaskOf code limits (record { past = t.past; top = Some b'; below = t.below; spare = t.spare; ended = t.ended; values = t.values; limits = t.limits })
+pub task_asked : (code : Parts) (limits : Limits) (t : Task) (b b' : Body) (w : What) → IsTaskOf code limits t → t.top ≡ Some b → AskedBody code b b' → given_of b'.next ≡ Some w → IsTaskOf code limits (record { past = t.past; top = Some b'; below = t.below; spare = t.spare; ended = t.ended; values = t.values; limits = t.limits; enclosed = t.enclosed })
 task_asked code limits t b b' w k top a g =
     let p = code_program code limits in
     let h = (view_of t).past in
@@ -295,4 +295,4 @@ pub view_asked : (code : Parts) (limits : Limits) (t : Task) (b b' : Body) (w : 
 view_asked code limits t b b' w k top a g =
     let e : Some b'.number ≡ body_number t.top = ap Some a.number ∙ sym (ap body_number top) in
     subst (λ z. IsNext (code_program code limits) (stack_view (view_of t).past z) w) e
-    (given_next code limits (record { past = t.past; top = Some b'; below = t.below; spare = t.spare; ended = t.ended; values = t.values; limits = t.limits }) w (task_asked code limits t b b' w k top a g) g)
+    (given_next code limits (record { past = t.past; top = Some b'; below = t.below; spare = t.spare; ended = t.ended; values = t.values; limits = t.limits; enclosed = t.enclosed }) w (task_asked code limits t b b' w k top a g) g)

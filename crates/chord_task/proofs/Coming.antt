@@ -77,7 +77,7 @@ came_kept code limits t t' b n w runs k view past top given =
             given = given;
             task =
                 subst (λ l. IsTaskOf code l (with_body t' b)) (sym k.limited)
-                (subst (λ o. IsTaskOf code limits (record { past = t'.past; top = o; below = t'.below; spare = t'.spare; ended = t'.ended; values = t'.values; limits = t'.limits })) top k);
+                (subst (λ o. IsTaskOf code limits (record { past = t'.past; top = o; below = t'.below; spare = t'.spare; ended = t'.ended; values = t'.values; limits = t'.limits; enclosed = t'.enclosed })) top k);
           };
       next = subst (λ v. IsNext (code_program code limits) v w) view (given_next code limits t' w k (ap given_by top ∙ given_is w b.next given));
       view = seen_so t' b top ∙ view;

@@ -195,7 +195,7 @@ begun_up code limits h top bs n k o ms vs f line b l s =
     }
 
 -- the task with the new body on top
-pub task_resumed : (code : Parts) (limits : Limits) (t : Task) (past : List Entry) (below : Vec Caller Global) (values : Option (Vec Value Global)) (n k : ℕ) (o : Object) (ms : List ℕ) (vs : List Value) (f : Box Frames Global) (line : ChordLine) → MayBeList values → IsTaskOf code limits t → MayResume code limits t n k o ms vs → slice_get (chord_lines code o.class) k ≡ Some line → body_in_block code line.block (room_of limits t.top) (a_value.Ref o ∷ vs) limits.turns ≡ Some (machine_of f.value) → past ≡ t.past ++ entry n n (Fired k o ms vs) ∷ [] → reverse below.items ≡ callers_of t.top ++ reverse t.below.items → IsTaskOf code limits (record { past = past; top = Some (record { number = n; frames = f; next = nexts.Runs }); below = below; spare = None; ended = t.ended; values = values; limits = t.limits })
+pub task_resumed : (code : Parts) (limits : Limits) (t : Task) (past : List Entry) (below : Vec Caller Global) (values : Option (Vec Value Global)) (n k : ℕ) (o : Object) (ms : List ℕ) (vs : List Value) (f : Box Frames Global) (line : ChordLine) → MayBeList values → IsTaskOf code limits t → MayResume code limits t n k o ms vs → slice_get (chord_lines code o.class) k ≡ Some line → body_in_block code line.block (room_of limits t.top) (a_value.Ref o ∷ vs) limits.turns ≡ Some (machine_of f.value) → past ≡ t.past ++ entry n n (Fired k o ms vs) ∷ [] → reverse below.items ≡ callers_of t.top ++ reverse t.below.items → IsTaskOf code limits (record { past = past; top = Some (record { number = n; frames = f; next = nexts.Runs }); below = below; spare = None; ended = t.ended; values = values; limits = t.limits; enclosed = t.enclosed })
 task_resumed code limits t past below values n k o ms vs f line list task may l s items bodies =
     let p = code_program code limits in
     let h = (view_of t).past in
@@ -267,10 +267,10 @@ waits_goes : (n : Next) (q : ℕ) → n ≡ nexts.Waits q → may_go n ≡ true 
 waits_goes n q e g = (let z : false ≡ true = sym (ap may_go e) ∙ g in cc)
 
 -- the task with more room
-pub task_roomier : (code : Parts) (limits : Limits) (t : Task) (past : List Entry) (below : Vec Caller Global) (top top' : Option Body) (spare ended : Option (Box Frames Global)) (values : Option (Vec Value Global)) → t.top ≡ top → IsTaskOf code limits t → is_ready_of t ≡ true → past ≡ t.past → below.items ≡ t.below.items → IsRoomierTop top top' → HasRoomFor code t.limits spare → MayBeList values → IsTaskOf code limits (record { past = past; top = top'; below = below; spare = spare; ended = ended; values = values; limits = t.limits })
-task_roomier code limits t past below None top' spare ended values i k g p q r s v = (let z : false ≡ true = sym (ap body_may_go i) ∙ g in cc)
-task_roomier code limits t past below (Some b) None spare ended values i k g p q r s v = absurd r
-task_roomier code limits t past below (Some b) (Some b') spare ended values i k g p q r s v =
+pub task_roomier : (code : Parts) (limits : Limits) (t : Task) (past : List Entry) (below : Vec Caller Global) (top top' : Option Body) (spare ended : Option (Box Frames Global)) (values : Option (Vec Value Global)) (enclosed : Args) → t.top ≡ top → IsTaskOf code limits t → is_ready_of t ≡ true → past ≡ t.past → below.items ≡ t.below.items → IsRoomierTop top top' → HasRoomFor code t.limits spare → MayBeList values → IsTaskOf code limits (record { past = past; top = top'; below = below; spare = spare; ended = ended; values = values; limits = t.limits; enclosed = enclosed })
+task_roomier code limits t past below None top' spare ended values enclosed i k g p q r s v = (let z : false ≡ true = sym (ap body_may_go i) ∙ g in cc)
+task_roomier code limits t past below (Some b) None spare ended values enclosed i k g p q r s v = absurd r
+task_roomier code limits t past below (Some b) (Some b') spare ended values enclosed i k g p q r s v =
     let m = code_program code limits in
     let h = (view_of t).past in
     let up : may_go b.next ≡ true = sym (ap body_may_go i) ∙ g in

@@ -16,6 +16,7 @@ use Rattle.chord_code.specs.declared.parts.Parts.{Parts}
 use Rattle.chord_code.specs.Machine.{IsForward}
 use Rattle.chord_code.specs.Meaning.{code_program, stands}
 use Rattle.chord_vm.specs.declared.frames.Frames.{Frames}
+use Rattle.chord_task.specs.declared.args.Args.{Args}
 use Rattle.chord_task.specs.declared.body.Next.TheVariants as nexts
 use Rattle.chord_task.specs.declared.body.Body.{Body}
 use Rattle.chord_task.specs.declared.body.Caller.{Caller}
@@ -70,7 +71,7 @@ may_answer code limits t b n w k may top e = by_value (answer_of n w) refl
         )
 
 -- the task after its ask became an entry
-pub task_gave : (code : Parts) (limits : Limits) (t : Task) (past : List Entry) (b b' : Body) (n : ℕ) (w : What) → IsTaskOf code limits t → (may : MayNote code limits t n) → t.top ≡ Some b → b.next ≡ nexts.Gave w → b'.number ≡ b.number → AnsweredWith (answer_of n w) n b.frames.value b' → past ≡ t.past ++ entry n b.number w ∷ [] → IsTaskOf code limits (record { past = past; top = Some b'; below = t.below; spare = t.spare; ended = t.ended; values = t.values; limits = t.limits }) × task_noted (view_of t) n may.what (view_of (record { past = past; top = Some b'; below = t.below; spare = t.spare; ended = t.ended; values = t.values; limits = t.limits })) × (is_end may.what ≡ false → (view_of (record { past = past; top = Some b'; below = t.below; spare = t.spare; ended = t.ended; values = t.values; limits = t.limits })).top ≡ (view_of t).top)
+pub task_gave : (code : Parts) (limits : Limits) (t : Task) (past : List Entry) (b b' : Body) (n : ℕ) (w : What) → IsTaskOf code limits t → (may : MayNote code limits t n) → t.top ≡ Some b → b.next ≡ nexts.Gave w → b'.number ≡ b.number → AnsweredWith (answer_of n w) n b.frames.value b' → past ≡ t.past ++ entry n b.number w ∷ [] → IsTaskOf code limits (record { past = past; top = Some b'; below = t.below; spare = t.spare; ended = t.ended; values = t.values; limits = t.limits; enclosed = t.enclosed }) × task_noted (view_of t) n may.what (view_of (record { past = past; top = Some b'; below = t.below; spare = t.spare; ended = t.ended; values = t.values; limits = t.limits; enclosed = t.enclosed })) × (is_end may.what ≡ false → (view_of (record { past = past; top = Some b'; below = t.below; spare = t.spare; ended = t.ended; values = t.values; limits = t.limits; enclosed = t.enclosed })).top ≡ (view_of t).top)
 task_gave code limits t past b b' n w k may top e i r items =
     let p = code_program code limits in
     let h = (view_of t).past in
@@ -100,7 +101,7 @@ task_gave code limits t past b b' n w k may top e i r items =
     )
 
 -- the last body of a task ends
-pub task_last : (code : Parts) (limits : Limits) (t : Task) (past : List Entry) (below : Vec Caller Global) (ended : Option (Box Frames Global)) (b : Body) (n : ℕ) (x y : End) → IsTaskOf code limits t → (may : MayNote code limits t n) → t.top ≡ Some b → b.next ≡ nexts.Ends x y → t.below.items ≡ [] → below.items ≡ [] → past ≡ t.past ++ entry n b.number (Ended x) ∷ [] → vec_len below ≡ vec_len t.below → vec_capacity below ≡ vec_capacity t.below → IsTaskOf code limits (record { past = past; top = None; below = below; spare = t.spare; ended = ended; values = t.values; limits = t.limits }) × task_noted (view_of t) n may.what (view_of (record { past = past; top = None; below = below; spare = t.spare; ended = ended; values = t.values; limits = t.limits })) × (is_end may.what ≡ false → (view_of (record { past = past; top = None; below = below; spare = t.spare; ended = ended; values = t.values; limits = t.limits })).top ≡ (view_of t).top)
+pub task_last : (code : Parts) (limits : Limits) (t : Task) (past : List Entry) (below : Vec Caller Global) (ended : Option (Box Frames Global)) (b : Body) (n : ℕ) (x y : End) → IsTaskOf code limits t → (may : MayNote code limits t n) → t.top ≡ Some b → b.next ≡ nexts.Ends x y → t.below.items ≡ [] → below.items ≡ [] → past ≡ t.past ++ entry n b.number (Ended x) ∷ [] → vec_len below ≡ vec_len t.below → vec_capacity below ≡ vec_capacity t.below → IsTaskOf code limits (record { past = past; top = None; below = below; spare = t.spare; ended = ended; values = t.values; limits = t.limits; enclosed = t.enclosed }) × task_noted (view_of t) n may.what (view_of (record { past = past; top = None; below = below; spare = t.spare; ended = ended; values = t.values; limits = t.limits; enclosed = t.enclosed })) × (is_end may.what ≡ false → (view_of (record { past = past; top = None; below = below; spare = t.spare; ended = ended; values = t.values; limits = t.limits; enclosed = t.enclosed })).top ≡ (view_of t).top)
 task_last code limits t past below ended b n x y k may top e none left items long room =
     let p = code_program code limits in
     let h = (view_of t).past in
@@ -152,7 +153,7 @@ pub caller_parked : (code : Parts) (limits : Limits) (t : Task) (rest : List Cal
 caller_parked code limits t rest b c k top e = (let s = caller_at code limits t rest b c k top e in (s.1.0.0, s.1.0.2))
 
 -- a body ends, and its caller goes on
-pub task_back : (code : Parts) (limits : Limits) (t : Task) (past : List Entry) (below : Vec Caller Global) (ended : Option (Box Frames Global)) (b : Body) (c : Caller) (c' : Body) (n : ℕ) (x y : End) → IsTaskOf code limits t → (may : MayNote code limits t n) → t.top ≡ Some b → b.next ≡ nexts.Ends x y → t.below.items ≡ below.items ++ c ∷ [] → CalledBack y (waiting_body c) c' → past ≡ t.past ++ entry n b.number (Ended x) ∷ [] → IsTaskOf code limits (record { past = past; top = Some c'; below = below; spare = t.spare; ended = ended; values = t.values; limits = t.limits }) × task_noted (view_of t) n may.what (view_of (record { past = past; top = Some c'; below = below; spare = t.spare; ended = ended; values = t.values; limits = t.limits })) × (is_end may.what ≡ false → (view_of (record { past = past; top = Some c'; below = below; spare = t.spare; ended = ended; values = t.values; limits = t.limits })).top ≡ (view_of t).top)
+pub task_back : (code : Parts) (limits : Limits) (t : Task) (past : List Entry) (below : Vec Caller Global) (ended : Option (Box Frames Global)) (b : Body) (c : Caller) (c' : Body) (n : ℕ) (x y : End) → IsTaskOf code limits t → (may : MayNote code limits t n) → t.top ≡ Some b → b.next ≡ nexts.Ends x y → t.below.items ≡ below.items ++ c ∷ [] → CalledBack y (waiting_body c) c' → past ≡ t.past ++ entry n b.number (Ended x) ∷ [] → IsTaskOf code limits (record { past = past; top = Some c'; below = below; spare = t.spare; ended = ended; values = t.values; limits = t.limits; enclosed = t.enclosed }) × task_noted (view_of t) n may.what (view_of (record { past = past; top = Some c'; below = below; spare = t.spare; ended = ended; values = t.values; limits = t.limits; enclosed = t.enclosed })) × (is_end may.what ≡ false → (view_of (record { past = past; top = Some c'; below = below; spare = t.spare; ended = ended; values = t.values; limits = t.limits; enclosed = t.enclosed })).top ≡ (view_of t).top)
 task_back code limits t past below ended b c c' n x y k may top e parts back items =
     let p = code_program code limits in
     let h = (view_of t).past in
@@ -187,7 +188,7 @@ no_length [] e = refl
 no_length (x ∷ xs) e = absurd (omega (arith, e))
 
 -- a body ends, whether a caller waits for it or none
-pub task_ended : (code : Parts) (limits : Limits) (t : Task) (past : List Entry) (below : Vec Caller Global) (ended : Option (Box Frames Global)) (top : Option Body) (b : Body) (n : ℕ) (x y : End) → IsTaskOf code limits t → (may : MayNote code limits t n) → t.top ≡ Some b → b.next ≡ nexts.Ends x y → HasReturned y t.below below top → past ≡ t.past ++ entry n b.number (Ended x) ∷ [] → vec_capacity below ≡ vec_capacity t.below → IsTaskOf code limits (record { past = past; top = top; below = below; spare = t.spare; ended = ended; values = t.values; limits = t.limits }) × task_noted (view_of t) n may.what (view_of (record { past = past; top = top; below = below; spare = t.spare; ended = ended; values = t.values; limits = t.limits })) × (is_end may.what ≡ false → (view_of (record { past = past; top = top; below = below; spare = t.spare; ended = ended; values = t.values; limits = t.limits })).top ≡ (view_of t).top)
+pub task_ended : (code : Parts) (limits : Limits) (t : Task) (past : List Entry) (below : Vec Caller Global) (ended : Option (Box Frames Global)) (top : Option Body) (b : Body) (n : ℕ) (x y : End) → IsTaskOf code limits t → (may : MayNote code limits t n) → t.top ≡ Some b → b.next ≡ nexts.Ends x y → HasReturned y t.below below top → past ≡ t.past ++ entry n b.number (Ended x) ∷ [] → vec_capacity below ≡ vec_capacity t.below → IsTaskOf code limits (record { past = past; top = top; below = below; spare = t.spare; ended = ended; values = t.values; limits = t.limits; enclosed = t.enclosed }) × task_noted (view_of t) n may.what (view_of (record { past = past; top = top; below = below; spare = t.spare; ended = ended; values = t.values; limits = t.limits; enclosed = t.enclosed })) × (is_end may.what ≡ false → (view_of (record { past = past; top = top; below = below; spare = t.spare; ended = ended; values = t.values; limits = t.limits; enclosed = t.enclosed })).top ≡ (view_of t).top)
 task_ended code limits t past below ended None b n x y k may top e h items room =
     task_last code limits t past below ended b n x y k may top e (no_length t.below.items (omega (arith, h.0, t.below.ok.0))) (no_length below.items (omega (arith, h.1, below.ok.0))) items (omega (arith, h.0, h.1)) room
 task_ended code limits t past below ended (Some c) b n x y k may top e h items room =
@@ -236,3 +237,26 @@ renewed_task code limits t past over none k =
   where
     stack_none : (code : Parts) (limits : Limits) (h : List Entry) (o : Option Body) (cs : List Caller) → o ≡ None → IsBodyStack code limits h o cs → waiting_bodies cs ≡ []
     stack_none code limits h o cs e s = subst (λ z. IsBodyStack code limits h z cs) e s
+
+-- room does not rest on the arguments that a task encloses
+room_encloses : (code : Parts) (t : Task) (arguments : Args) → IsResumable code t → IsResumable code (record t { enclosed = arguments })
+room_encloses code t arguments r = record { below = r.below; frames = r.frames; spare = r.spare; room = r.room; values = r.values }
+
+-- nor does room where the body on top waits
+waiting_encloses : (code : Parts) (t : Task) (arguments : Args) (top : Option Body) → HasRoomIf code t top → HasRoomIf code (record t { enclosed = arguments }) top
+waiting_encloses code t arguments None r = room_encloses code t arguments r
+waiting_encloses code t arguments (Some b) r = λ q e. room_encloses code t arguments (r q e)
+
+-- a task stays one whatever arguments it encloses
+pub task_encloses : (code : Parts) (limits : Limits) (t : Task) (arguments : Args) → IsTaskOf code limits t → IsTaskOf code limits (record t { enclosed = arguments })
+task_encloses code limits t arguments k =
+    record {
+      forward = k.forward;
+      limited = k.limited;
+      task = k.task;
+      is_defined = k.is_defined;
+      stack = k.stack;
+      room = waiting_encloses code t arguments t.top k.room;
+      kept = k.kept;
+      kept_values = k.kept_values;
+    }

@@ -36,7 +36,7 @@ use Rattle.chord_task.proofs.Tasks.{stack_at, may_answer, task_gave, task_ended,
 
 -- a task with another body on top
 abbrev pub with_body : Task → Body → Task
-with_body t b = record { past = t.past; top = Some b; below = t.below; spare = t.spare; ended = t.ended; values = t.values; limits = t.limits }
+with_body t b = record { past = t.past; top = Some b; below = t.below; spare = t.spare; ended = t.ended; values = t.values; limits = t.limits; enclosed = t.enclosed }
 
 -- a body with other frames
 abbrev pub with_frames : Body → Box Frames Global → Body
@@ -109,7 +109,7 @@ is_asked_for code limits t b f a k r top adv =
       number = refl;
       frames = refl;
       given = (next_given a).1;
-      task = subst (λ l. IsTaskOf code l (record { past = t.past; top = Some (record { number = b.number; frames = f; next = (next_given a).0 }); below = t.below; spare = t.spare; ended = t.ended; values = t.values; limits = t.limits })) (sym k.limited) (task_asked code limits t b (record { number = b.number; frames = f; next = (next_given a).0 }) (what_of_ask a) k top (has_asked code t b f a r top adv) (given_is (what_of_ask a) (next_given a).0 (next_given a).1));
+      task = subst (λ l. IsTaskOf code l (record { past = t.past; top = Some (record { number = b.number; frames = f; next = (next_given a).0 }); below = t.below; spare = t.spare; ended = t.ended; values = t.values; limits = t.limits; enclosed = t.enclosed })) (sym k.limited) (task_asked code limits t b (record { number = b.number; frames = f; next = (next_given a).0 }) (what_of_ask a) k top (has_asked code t b f a r top adv) (given_is (what_of_ask a) (next_given a).0 (next_given a).1));
     }
 
 -- the ask is the next ask
@@ -165,8 +165,8 @@ roomy code t s n w b a m past below top spare values limits ready is =
     let e : r.0 ≡ b = same_body r.0 b (sym r.1 ∙ is) in
     let q : IsRoomier a.body b = subst (λ (z : Body). IsRoomier a.body z) e r.2 in
     let q' : IsRoomier a.asked (with_next b a.asked.next) = (q.0 ∙ sym a.number, refl, q.2 ∙ sym (ap (λ (x : Box Frames Global). machine_of x.value) a.frames), q.3 ∙ sym (ap (λ (x : Box Frames Global). x.value.awaited) a.frames)) in
-    let k0 = task_roomier code t.limits (with_body t a.asked) s.past s.below (Some a.asked) (Some (with_next b a.asked.next)) s.spare s.ended s.values refl a.task (given_goes w a.asked.next a.given) past below q' spare values in
-    let k : IsTaskOf code t.limits (with_body s (with_next b a.asked.next)) = subst (λ l. IsTaskOf code t.limits (record { past = s.past; top = Some (with_next b a.asked.next); below = s.below; spare = s.spare; ended = s.ended; values = s.values; limits = l })) (sym limits) k0 in
+    let k0 = task_roomier code t.limits (with_body t a.asked) s.past s.below (Some a.asked) (Some (with_next b a.asked.next)) s.spare s.ended s.values s.enclosed refl a.task (given_goes w a.asked.next a.given) past below q' spare values in
+    let k : IsTaskOf code t.limits (with_body s (with_next b a.asked.next)) = subst (λ l. IsTaskOf code t.limits (record { past = s.past; top = Some (with_next b a.asked.next); below = s.below; spare = s.spare; ended = s.ended; values = s.values; limits = l; enclosed = s.enclosed })) (sym limits) k0 in
     let h : (view_of s).past ≡ (view_of t).past = ap reverse past in
     let view : (view_of t).top ≡ Some b.number = ap body_number a.on_top ∙ ap Some (sym q.0) in
     record {
@@ -210,12 +210,12 @@ roomy_asked code t s n w b x v e =
     run_asked code x.task.forward v (waiting_of b.frames.value) (suc (weight code g.2.0)) g.2.0 g.2.2
 
 -- the ask became an entry, and the body goes on, or waits
-pub settled_gave : (code : Parts) (t s : Task) (n : ℕ) (w : What) (b : Body) (x : Roomy code t s n w b) (v : What) → x.asked ≡ nexts.Gave v → (past : List Entry) (b' : Body) → b'.number ≡ b.number → AnsweredWith (answer_of n v) n b.frames.value b' → past ≡ s.past ++ entry n b.number v ∷ [] → HasSettled code t n w (record { past = past; top = Some b'; below = s.below; spare = s.spare; ended = s.ended; values = s.values; limits = s.limits })
+pub settled_gave : (code : Parts) (t s : Task) (n : ℕ) (w : What) (b : Body) (x : Roomy code t s n w b) (v : What) → x.asked ≡ nexts.Gave v → (past : List Entry) (b' : Body) → b'.number ≡ b.number → AnsweredWith (answer_of n v) n b.frames.value b' → past ≡ s.past ++ entry n b.number v ∷ [] → HasSettled code t n w (record { past = past; top = Some b'; below = s.below; spare = s.spare; ended = s.ended; values = s.values; limits = s.limits; enclosed = s.enclosed })
 settled_gave code t s n w b x v e past b' i r items =
     has_settled code t s _ n w b x (task_gave code t.limits (with_body s (with_next b x.asked)) past (with_next b x.asked) b' n v x.task x.may refl e i r items)
 
 -- the end became an entry, and the caller goes on, or no body is left
-pub settled_end : (code : Parts) (t s : Task) (n : ℕ) (w : What) (b : Body) (x : Roomy code t s n w b) (y : End) → x.asked ≡ nexts.Ends y y → (past : List Entry) (below : Vec Caller Global) (ended : Option (Box Frames Global)) (top : Option Body) → HasReturned y s.below below top → past ≡ s.past ++ entry n b.number (Ended y) ∷ [] → vec_capacity below ≡ vec_capacity s.below → HasSettled code t n w (record { past = past; top = top; below = below; spare = s.spare; ended = ended; values = s.values; limits = s.limits })
+pub settled_end : (code : Parts) (t s : Task) (n : ℕ) (w : What) (b : Body) (x : Roomy code t s n w b) (y : End) → x.asked ≡ nexts.Ends y y → (past : List Entry) (below : Vec Caller Global) (ended : Option (Box Frames Global)) (top : Option Body) → HasReturned y s.below below top → past ≡ s.past ++ entry n b.number (Ended y) ∷ [] → vec_capacity below ≡ vec_capacity s.below → HasSettled code t n w (record { past = past; top = top; below = below; spare = s.spare; ended = ended; values = s.values; limits = s.limits; enclosed = s.enclosed })
 settled_end code t s n w b x y e past below ended top h items room =
     has_settled code t s _ n w b x (task_ended code t.limits (with_body s (with_next b x.asked)) past below ended top (with_next b x.asked) n y y x.task x.may refl e h items room)
 

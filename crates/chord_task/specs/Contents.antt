@@ -1,4 +1,4 @@
--- Where the arguments of a parcel lie. No public clause names this file.
+-- Where the arguments of a message on its way lie. No public clause names this file.
 use Rattle.std.specs.Prelude.{[], ◌∷◌}
 use Rattle.chord_base.specs.declared.value.Value.TheVariants as value
 use Rattle.chord_task.specs.declared.args.Args.{Args}

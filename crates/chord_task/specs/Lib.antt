@@ -13,5 +13,7 @@ pub mod Parcels
 pub mod Turning
 -- what was gathered from the parcels of a firing
 pub mod Gathering
--- where the arguments of a parcel lie
+-- where the arguments of a message on its way lie
 pub mod Contents
+-- what a parcel has in its place
+pub mod Freight

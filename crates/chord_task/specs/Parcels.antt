@@ -5,7 +5,7 @@ use Rattle.chord_base.specs.declared.event.Entry.{Entry}
 use Rattle.chord_base.specs.declared.event.Limits.{Limits}
 use Rattle.chord_code.specs.declared.parts.Parts.{Parts}
 use Rattle.chord_task.specs.declared.task.Task.{Task}
-use Rattle.chord_task.specs.declared.parcel.Parcel.{Parcel}
+use Rattle.chord_task.specs.declared.parcel.Opened.{Opened as Parcel}
 use Rattle.chord_task.specs.Standing.{view_of, IsTaskOf}
 
 -- the past of a task, if there is one

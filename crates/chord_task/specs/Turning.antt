@@ -66,7 +66,7 @@ pub record IsAskedFor (code : Parts) (t : Task) (w : What) : Type 0 where
   pub number : asked.number ≡ body.number
   pub frames : asked.frames ≡ body.frames
   pub given : GivenBy w asked.next
-  pub task : IsTaskOf code t.limits (record { past = t.past; top = Some asked; below = t.below; spare = t.spare; ended = t.ended; values = t.values; limits = t.limits })
+  pub task : IsTaskOf code t.limits (record { past = t.past; top = Some asked; below = t.below; spare = t.spare; ended = t.ended; values = t.values; limits = t.limits; enclosed = t.enclosed })
 
 -- what is known of an ask that is with its caller, before it becomes the entry of this number
 pub record MaySettle (code : Parts) (t : Task) (n : ℕ) (w : What) : Type 0 where

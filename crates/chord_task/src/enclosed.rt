@@ -1,4 +1,4 @@
-//! The arguments that a parcel encloses: in its own place, or in memory of their own.
+//! The arguments of a message on its way: in place, or in memory of their own.
 #![tactic(auto)]
 
 ghost use Rattle.std.specs.Prelude.{◌≡◌, ◌==◌, [], IfOk, length};
@@ -10,21 +10,21 @@ use chord_base::value::{Value, Values};
 use std::alloc::{AllocError, Global};
 use std::marker::Model;
 
-/// The arguments of a message as its parcel has them, in two words, so that a slot of the shared table is small: a table has one for
-/// each entry that a run may have, and few of them are in use. Contracts see the arguments.
+/// The arguments of a message on its way, in two words. Those of a call lie in the task that waits for it, and others are a parcel
+/// themselves. Contracts see the arguments.
 #[derive(Drop)]
 pub struct Enclosed {
     pub(crate) contents: Contents,
 }
 
-/// Where the arguments of a parcel lie.
+/// Where the arguments of a message on its way lie.
 #[derive(Drop)]
 pub(crate) enum Contents {
     /// There is none.
     Nothing,
-    /// A number alone, in the parcel.
+    /// A number alone, in place.
     Number(LoneNumber),
-    /// An object alone, in the parcel.
+    /// An object alone, in place.
     Object(LoneObject),
     /// Others, twice in memory.
     Apart(Apart<Args>),

@@ -17,6 +17,7 @@ ghost use Rattle.chord_task.specs.Standing.{view_of, IsTaskOf, HasGiven, IsReser
 
 use crate::args::{Args, part_all};
 use crate::body::{Body, Caller, Next, call_back, come_to_ask, given, note_ask, put_after};
+use crate::enclosed::Enclosed;
 use crate::past::{Past, append};
 use chord_base::event::{End, Entry, Limits, What};
 use chord_base::hand::Hand;
@@ -51,6 +52,8 @@ pub struct Task {
     pub values: Option<Vec<Value>>,
     /// The limits of its run.
     pub limits: Limits,
+    /// The arguments of the call with which it is on its way. There are none while it is with a worker.
+    pub enclosed: Enclosed,
 }
 
 /// The line of a chord of a class.
@@ -315,6 +318,7 @@ impl Task {
             ended: None,
             values: None,
             limits: *limits,
+            enclosed: Enclosed::nothing(),
         })
     }
 
@@ -337,6 +341,7 @@ impl Task {
             ended: None,
             values: Some(values),
             limits: *limits,
+            enclosed: Enclosed::nothing(),
         })
     }
 

@@ -292,7 +292,7 @@ impl Task {
         ensures items { OnOk result ((b : ABody) → self.old.top ≡ Some b → list.new.items ≡ list.old.items ++ record { number = number; body = b.number; what = What.Ended end.old } ∷ []) }
         ensures below { OnOk result (vec_capacity self.new.below ≡ vec_capacity self.old.below) }
         ensures ended { OnOk result (HasReturned end.old self.old.below self.new.below self.new.top) }
-        ensures rest { OnOk result (self.new ≡ record { past = self.new.past; top = self.new.top; below = self.new.below; spare = self.old.spare; ended = self.new.ended; values = self.old.values; limits = self.old.limits }) }
+        ensures rest { OnOk result (self.new ≡ record { past = self.new.past; top = self.new.top; below = self.new.below; spare = self.old.spare; ended = self.new.ended; values = self.old.values; limits = self.old.limits; enclosed = self.old.enclosed }) }
         ensures bare { OnOk result (IsBareEnd end.new) }
     {
         let maker = number_of(&self.top);

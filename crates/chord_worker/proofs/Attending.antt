@@ -25,7 +25,7 @@ use Rattle.chord_word.specs.declared.cells.Word.{Word}
 use Rattle.chord_space.specs.declared.space.Desk.{Desk}
 use Rattle.chord_space.specs.declared.space.Space.{Space}
 use Rattle.chord_space.specs.Desks.{view, space_code, space_limits, program_of, IsSameDesk}
-use Rattle.chord_task.specs.declared.parcel.Parcel.{Parcel}
+use Rattle.chord_task.specs.declared.parcel.Opened.{Opened as Parcel}
 use Rattle.chord_worker.specs.declared.worker.Worker.{Worker}
 use Rattle.chord_task.specs.Parcels.{entries_of, arguments_of, IsParcelOf}
 use Rattle.chord_worker.specs.Firing.{HasFired}

@@ -35,7 +35,7 @@ use Rattle.chord_task.specs.declared.args.Args.{Args}
 use Rattle.chord_task.specs.declared.body.Body.{Body}
 use Rattle.chord_task.specs.declared.body.Next.{Next}
 use Rattle.chord_task.specs.declared.body.Next.TheVariants as nexts
-use Rattle.chord_task.specs.declared.parcel.Parcel.{Parcel}
+use Rattle.chord_task.specs.declared.parcel.Opened.{Opened as Parcel}
 use Rattle.chord_task.specs.declared.task.Task.{Task}
 use Rattle.chord_task.specs.Arguments.{for_entry, AreTwice}
 use Rattle.chord_task.specs.Parcels.{entries_of, arguments_of}

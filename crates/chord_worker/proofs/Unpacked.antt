@@ -14,7 +14,7 @@ use Rattle.chord_match.specs.Fires.{all_together, laid_together, AreOlder, IsCom
 use Rattle.chord_rule.specs.declared.view.Claim.{Claim}
 use Rattle.chord_rule.specs.Coming.{ComesWithMessage}
 use Rattle.chord_task.specs.declared.args.Args.{Args}
-use Rattle.chord_task.specs.declared.parcel.Parcel.{Parcel}
+use Rattle.chord_task.specs.declared.parcel.Opened.{Opened as Parcel}
 use Rattle.chord_task.specs.declared.task.Task.{Task}
 use Rattle.chord_task.specs.Arguments.{for_entry, AreTwice}
 use Rattle.chord_task.specs.Gathering.{AreGathered}

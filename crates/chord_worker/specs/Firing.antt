@@ -5,7 +5,7 @@ use Rattle.chord_match.specs.Fires.{IsFired}
 use Rattle.chord_rule.specs.declared.view.View.{View}
 use Rattle.chord_space.specs.declared.space.Space.{Space}
 use Rattle.chord_space.specs.Desks.{view, space_code, space_limits, program_of, IsDeskOf}
-use Rattle.chord_task.specs.declared.parcel.Parcel.{Parcel}
+use Rattle.chord_task.specs.declared.parcel.Opened.{Opened as Parcel}
 use Rattle.chord_task.specs.declared.task.Task.{Task}
 use Rattle.chord_task.specs.Parcels.{entries_of, arguments_of, IsParcelOf}
 use Rattle.chord_worker.specs.declared.worker.Worker.{Worker}

@@ -16,7 +16,7 @@ use Rattle.chord_rule.specs.Made.{Names}
 use Rattle.chord_space.specs.declared.space.Space.{Space}
 use Rattle.chord_space.specs.Desks.{space_code, space_limits, program_of}
 use Rattle.chord_space.specs.Ruled.{IsOfCode}
-use Rattle.chord_task.specs.declared.parcel.Parcel.{Parcel}
+use Rattle.chord_task.specs.declared.parcel.Opened.{Opened as Parcel}
 use Rattle.chord_task.specs.declared.task.Task.{Task}
 use Rattle.chord_task.specs.Standing.{view_of, IsTaskOf}
 use Rattle.chord_task.specs.Turning.{HasCome}

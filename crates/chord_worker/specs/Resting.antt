@@ -11,7 +11,7 @@ use Rattle.chord_rule.specs.Closing.{AreQuiet}
 use Rattle.chord_rule.specs.Kinds.{left_by, MayGo}
 use Rattle.chord_space.specs.declared.space.Space.{Space}
 use Rattle.chord_space.specs.Desks.{view, space_code, space_limits, IsDeskOf}
-use Rattle.chord_task.specs.declared.parcel.Parcel.{Parcel}
+use Rattle.chord_task.specs.declared.parcel.Opened.{Opened as Parcel}
 use Rattle.chord_task.specs.declared.task.Task.{Task}
 use Rattle.chord_task.specs.Standing.{view_of, IsTaskOf, IsResumable, is_ready_of}
 use Rattle.chord_word.specs.declared.cells.Word.{Word}

@@ -7,7 +7,7 @@ use Rattle.chord_rule.specs.Duties.{duty_on}
 use Rattle.chord_rule.specs.Kinds.{left_by, without}
 use Rattle.chord_space.specs.declared.space.Space.{Space}
 use Rattle.chord_space.specs.Desks.{view, space_code, space_limits, IsDeskOf}
-use Rattle.chord_task.specs.declared.parcel.Parcel.{Parcel}
+use Rattle.chord_task.specs.declared.parcel.Opened.{Opened as Parcel}
 use Rattle.chord_task.specs.declared.task.Task.{Task}
 use Rattle.chord_worker.specs.declared.worker.Worker.{Worker}
 use Rattle.chord_worker.specs.Resting.{IsHandFree, IsInMemory, MayContinue, IsStockTask, IsSameRole, AreListed}

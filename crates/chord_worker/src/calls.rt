@@ -18,7 +18,7 @@ use chord_base::event::{Entry, Limits, What};
 use chord_code::code::Code;
 use chord_space::{Desk, Space};
 use chord_task::apart::Apart;
-use chord_task::parcel::Parcel;
+use chord_task::parcel::{Opened, Parcel};
 use chord_task::task::Task;
 use chord_word::Cell;
 use std::alloc::{AllocError, Global};
@@ -158,7 +158,8 @@ impl Worker {
         let _parts = code.parts();
         let _events = limits.events;
         match space.start(&mut self.desk, i) {
-            Ok(Parcel { arguments: _, task }) => {
+            Ok(parcel) => {
+                let Opened { arguments: _, task } = parcel.open();
                 self.task = task;
                 gate.started(i);
                 true

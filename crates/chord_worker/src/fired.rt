@@ -4,7 +4,7 @@ ghost use Rattle.chord_base.specs.Story.{IsSound};
 ghost use Rattle.chord_rule.specs.declared.view.View.{View};
 ghost use Rattle.chord_space.specs.Desks.{view, space_code, space_limits, program_of, IsDeskOf};
 ghost use Rattle.chord_task.specs.declared.args.Args.{Args as TheArgs};
-ghost use Rattle.chord_task.specs.declared.parcel.Parcel.{Parcel as TheParcel};
+ghost use Rattle.chord_task.specs.declared.parcel.Opened.{Opened as TheParcel};
 ghost use Rattle.chord_task.specs.declared.task.Task.{Task as ATask};
 ghost use Rattle.chord_task.specs.Arguments.{for_entry, AreTwice};
 ghost use Rattle.chord_task.specs.Gathering.{AreGathered, gathered_in};
@@ -28,7 +28,7 @@ use chord_space::Space;
 use chord_task::apart::Apart;
 use chord_task::enclosed::Enclosed;
 use chord_task::gathered::Gathered;
-use chord_task::parcel::{Parcel, packed};
+use chord_task::parcel::{Opened, Parcel, packed};
 use chord_task::task::Task;
 use std::mem;
 
@@ -110,7 +110,7 @@ impl Receive<Parcel> for Unpacked {
     ghost holds = { λ u qs. HasUnpacked u.arguments.one u.arguments.more u.caller qs };
 
     fn receive(&mut self, parcel: Parcel) {
-        let Parcel { arguments, task } = parcel;
+        let Opened { arguments, task } = parcel.open();
         gather(&mut self.arguments, arguments);
         keep_task(&mut self.caller, task);
     }

@@ -15,7 +15,7 @@ returns-clause-task c =
     let b = c.in-Some.body in
     let b' = c.come_to_ask.new.body in
     let t = c.args.self.now in
-    IfOk-weaker c.given.result (λ ask. given_of b'.next ≡ Some (what_of_ask ask)) (λ _. IsTaskOf c.args.code.now c.args.limits.now (record { past = t.past; top = Some b'; below = t.below; spare = t.spare; ended = t.ended; values = t.values; limits = t.limits }))
+    IfOk-weaker c.given.result (λ ask. given_of b'.next ≡ Some (what_of_ask ask)) (λ _. IsTaskOf c.args.code.now c.args.limits.now (record { past = t.past; top = Some b'; below = t.below; spare = t.spare; ended = t.ended; values = t.values; limits = t.limits; enclosed = t.enclosed }))
     (λ ask gave. task_asked c.args.code.now c.args.limits.now t b b' (what_of_ask ask) c.requires.task c.in-Some.is c.in_ok-come_to_ask-in-Some.ensures gave) c.given.ensures
 
 pub returns-clause-next : goal.returns-clause-next

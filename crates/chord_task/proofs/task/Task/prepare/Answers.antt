@@ -12,7 +12,7 @@ returns-clause-task c =
     let b = c.in-Some.body in
     let b' = c.come_to_ask.new.body in
     let t = c.args.self.now in
-    IfOk-weaker c.come_to_ask.result (λ _. AskedBody c.args.code.now b b') (λ _. IsTaskOf c.args.code.now c.args.limits.now (record { past = t.past; top = Some b'; below = t.below; spare = t.spare; ended = t.ended; values = t.values; limits = t.limits }))
+    IfOk-weaker c.come_to_ask.result (λ _. AskedBody c.args.code.now b b') (λ _. IsTaskOf c.args.code.now c.args.limits.now (record { past = t.past; top = Some b'; below = t.below; spare = t.spare; ended = t.ended; values = t.values; limits = t.limits; enclosed = t.enclosed }))
     (λ _ a.
     let w = asked_gives c.args.code.now b b' b.next refl a.by in
     task_asked c.args.code.now c.args.limits.now t b b' w.0 c.requires.task c.in-Some.is a w.1) c.come_to_ask.ensures

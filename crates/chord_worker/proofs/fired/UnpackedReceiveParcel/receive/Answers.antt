@@ -9,4 +9,4 @@ gather-requires c =
     record { room = (arguments_in r.0, r.1.gathered, subst (λ (n : ℕ). n < 8) (sym (as_many r.0)) r.2) }
 
 pub returns : goal.returns
-returns c = record { received = λ qs u. rw c.keep_task.ensures (unpacked_more _ _ _ _ _ qs c.args.parcel c.gather.ensures.added u) }
+returns c = record { received = λ qs u. rw (c.keep_task.ensures, ← c.open-arguments.ensures) (unpacked_more _ _ _ _ _ qs c.open-arguments.result c.gather.ensures.added u) }

@@ -5,7 +5,7 @@ use Rattle.chord_match.specs.Fires.{IsMissedBy}
 use Rattle.chord_rule.specs.declared.view.View.{View}
 use Rattle.chord_space.specs.declared.space.Desk.{Desk}
 use Rattle.chord_space.specs.Desks.{view, IsSameDesk}
-use Rattle.chord_task.specs.declared.parcel.Parcel.{Parcel}
+use Rattle.chord_task.specs.declared.parcel.Opened.{Opened as Parcel}
 use Rattle.chord_task.proofs.Gathering.{none_gathered}
 use Rattle.chord_worker.proofs.Attending.{found_fired, still_minds, refused, lost_looks}
 use Rattle.chord_worker.proofs.Stepping.{message_older, taken_minded}
