@@ -14,10 +14,7 @@ use Rattle.std.specs.contracts.alloc.Global as Heap
 use Rattle.atomic_table.proofs.send_lease.SendLease.TheSendSync as lease
 use Rattle.atomic_table.proofs.shared.Seat.TheSendSync.{the_send}
 use Rattle.atomic_table.proofs.shared.Shared.TheSendSync as table
-use Rattle.chord_base.specs.contracts.event.Entry as Entry
 use Rattle.chord_base.specs.contracts.text.Text as Text
-use Rattle.chord_base.specs.contracts.value.Value as Value
-use Rattle.chord_base.specs.contracts.value.Values as Values
 use Rattle.chord_code.specs.contracts.code.Code as Code
 use Rattle.chord_code.specs.contracts.instruction.Instruction as Instruction
 use Rattle.chord_code.specs.contracts.parts.Block as Block
@@ -28,38 +25,9 @@ use Rattle.chord_base.specs.contracts.event.Limits as Limits
 use Rattle.chord_space.specs.contracts.space.Space as Space
 use Rattle.chord_task.specs.contracts.parcel.Parcel as Parcel
 use Rattle.chord_task.specs.contracts.parcel.ParcelCarry.TheImpl as carry
-use Rattle.chord_task.specs.contracts.past.Past as Past
-use Rattle.chord_task.specs.contracts.task.Task as Task
+use Rattle.chord_task.proofs.Crossing.{entry_sent, task_sent, parcel_sent}
 use Rattle.chord_pool.specs.contracts.player.Player as Player
 use Rattle.chord_pool.specs.contracts.shared.Shared as Shared
-
--- a text may
-text_sent : IsSend Text.the_row
-text_sent = search (sendable, crosses) depth 20
-
--- a value may
-value_sent : IsSend Value.the_row
-value_sent = search (text_sent, sendable, crosses) depth 20
-
--- values may
-values_sent : IsSend Values.the_row
-values_sent = search (value_sent, sendable, crosses) depth 60 fits 20000
-
--- an entry may
-entry_sent : IsSend Entry.the_row
-entry_sent = search (text_sent, values_sent, sendable, crosses) depth 60 fits 20000
-
--- a past may
-past_sent : IsSend Past.the_row
-past_sent = search (sendable, crosses) depth 20
-
--- a task may
-task_sent : IsSend Task.the_row
-task_sent = search (past_sent, values_sent, value_sent, sendable, crosses) depth 60 fits 20000
-
--- a parcel may
-parcel_sent : IsSend Parcel.the_row
-parcel_sent = search (values_sent, task_sent, sendable, crosses) depth 60 fits 20000
 
 -- a player may
 pub player_sent : IsSend Player.the_row

@@ -19,7 +19,7 @@ use Rattle.chord_rule.specs.Closing.{MayClose, AreQuiet}
 use Rattle.chord_rule.specs.Keeping.{desk, at_desk}
 use Rattle.chord_rule.proofs.Keeping.{desk_keeps}
 use Rattle.chord_space.specs.Sealed.{IsSealed}
-use Rattle.chord_task.specs.declared.parcel.Parcel.{Parcel}
+use Rattle.chord_task.specs.declared.parcel.Opened.{Opened as Parcel}
 use Rattle.chord_task.specs.Parcels.{entries_of, arguments_of, IsParcelOf}
 use Rattle.chord_pool.proofs.Journals.{of_journal, is_history, in_other_order}
 

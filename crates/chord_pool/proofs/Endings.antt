@@ -14,7 +14,7 @@ use Rattle.chord_space.specs.declared.space.Desk.{Desk}
 use Rattle.chord_space.specs.declared.space.Space.{Space}
 use Rattle.chord_space.specs.Desks.{view, events, space_code, space_limits}
 use Rattle.chord_task.specs.declared.task.Task.{Task}
-use Rattle.chord_task.specs.declared.parcel.Parcel.{Parcel}
+use Rattle.chord_task.specs.declared.parcel.Opened.{Opened as Parcel}
 use Rattle.chord_word.specs.declared.cells.Word.{Word}
 use Rattle.chord_worker.specs.declared.worker.Worker.{Worker}
 use Rattle.chord_worker.specs.Resting.{IsSameRole, IsSeen, beside_task}

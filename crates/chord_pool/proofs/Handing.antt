@@ -1,7 +1,7 @@
 -- Lists of players that are handed to threads and come back.
 use Rattle.std.proofs.Common.{◌≡◌, List, [], ◌∷◌, ◌++◌, option_to_list, Option, Some, None, IfSome, subst}
 use Rattle.chord_space.specs.declared.space.Space.{Space}
-use Rattle.chord_task.specs.declared.parcel.Parcel.{Parcel}
+use Rattle.chord_task.specs.declared.parcel.Opened.{Opened as Parcel}
 use Rattle.chord_pool.specs.declared.player.Player.{Player}
 use Rattle.chord_pool.specs.Players.{MayPlay, HasPlayed, MayAllPlay, HaveAllPlayed}
 

@@ -4,7 +4,7 @@ use Rattle.chord_base.specs.Story.{IsIn}
 use Rattle.chord_base.specs.declared.event.Entry.{Entry}
 use Rattle.chord_space.specs.Ends.{closing_view}
 use Rattle.chord_space.specs.declared.closed.Closed.{Closed}
-use Rattle.chord_task.specs.declared.parcel.Parcel.{Parcel}
+use Rattle.chord_task.specs.declared.parcel.Opened.{Opened as Parcel}
 
 -- a closed table of a journal that so many workers made: as many entries were drawn on it as the journal has, each entry that the desk which closed it kept stands there, and that desk was split once for each other worker
 pub record IsTableOf (journal : List Entry) (workers : ℕ) (table : Closed Parcel) : Type 0 where

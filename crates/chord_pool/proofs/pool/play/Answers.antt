@@ -4,7 +4,7 @@ use Rattle.chord_code.specs.Meaning.{code_program}
 use Rattle.chord_rule.specs.declared.view.View.{View}
 use Rattle.chord_space.specs.declared.space.Desk.{Desk}
 use Rattle.chord_space.specs.Desks.{view}
-use Rattle.chord_task.specs.declared.parcel.Parcel.{Parcel}
+use Rattle.chord_task.specs.declared.parcel.Opened.{Opened as Parcel}
 use Rattle.chord_pool.proofs.Crews.{one_run}
 use Rattle.chord_pool.proofs.Endings.{ended_as}
 use Rattle.chord_pool.proofs.pool.play.Goals as goal
