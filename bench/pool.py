@@ -1,8 +1,10 @@
 #!/usr/bin/env python3
 """Plays the programs of bench/workloads by 1, 4 and 64 workers and on one thread: wall clock a firing, without the start of the process, and the ratios. Each
-stands beside a program of the same meaning over Go's channels, `uncontended` beside its bare atomic steps and writes in C, and `load 60` beside a program over
-the bounded channels of Rust's standard library (bench/peers), where their compilers are there."""
+stands beside a pool of the same algorithm in Rust, over crossbeam's deques, and a program of the same meaning over Go's channels, `uncontended` beside its bare
+atomic steps and writes in C, and `load 60` beside a program over the bounded channels of Rust's standard library (bench/peers), where their compilers, and the
+sources of crossbeam, are there."""
 
+import glob
 import os
 import shutil
 import subprocess
@@ -23,6 +25,24 @@ PEERS = {
     'Rust': (['rustc', '-O', '-o'], 'buffer.rs'),
     'C': (['cc', '-O2', '-pthread', '-o'], 'steps.c'),
 }
+CRATES = '/usr/share/cargo/registry'  # where Debian puts the sources of crates, those of crossbeam-deque with librust-crossbeam-deque-dev
+MANIFEST = f'''
+[package]
+name = "pool"
+version = "0.0.0"
+edition = "2021"
+[[bin]]
+name = "pool"
+path = "{common.TOP}/bench/peers/pool.rs"
+[dependencies]
+crossbeam-deque = "0.8"
+crossbeam-utils = "0.8"
+[profile.release]
+lto = "fat"
+codegen-units = 1
+panic = "abort"
+'''
+OFFLINE = ['--offline', '--config', 'source.crates-io.replace-with="debian"', '--config', f'source.debian.directory="{CRATES}"']
 
 
 def nanoseconds(command, source, wanted, firings=1):
@@ -49,9 +69,28 @@ def peer(language, work):
     return made
 
 
+def same_pool(work):
+    """The pool of the same algorithm in Rust, if cargo and the sources of crossbeam are there. All that cargo writes is written below this folder."""
+    if shutil.which('cargo') is None or not glob.glob(f'{CRATES}/crossbeam-deque-0.8.*'):
+        print('beside a pool in Rust: not measured, cargo or the sources of crossbeam-deque are not here')
+        return None
+    made = f'{work}/pool'
+    os.makedirs(made)
+    with open(f'{made}/Cargo.toml', 'w', encoding='utf-8') as file:
+        file.write(MANIFEST)
+    build = ['cargo', 'build', '--quiet', '--release', '--target-dir', f'{made}/target', *OFFLINE]
+    subprocess.run(build, check=True, cwd=made, env={**os.environ, 'CARGO_HOME': f'{made}/home'})
+    return f'{made}/target/release/pool'
+
+
 def ours(words, source, wanted, firings):
     """The time of a firing without the start: what a run of nothing takes in these words is taken off."""
     return nanoseconds(words, source, wanted, firings) - nanoseconds(words, EMPTY, b'') / firings
+
+
+def theirs(words, name, wanted, nothing, firings):
+    """The same of a peer's program, which is told the workload's name behind these words, and which writes so much where it plays nothing."""
+    return nanoseconds([*words, name], b'', wanted, firings) - nanoseconds([*words, 'nothing'], b'', nothing) / firings
 
 
 def steps(command, workers):
@@ -60,8 +99,9 @@ def steps(command, workers):
     return min(float(subprocess.run([command, str(workers)], stdout=subprocess.PIPE, env=environment, check=True).stdout) for _ in range(RUNS))
 
 
-def measure(program, name, wanted, go, bare):
-    """One workload: each number of workers beside one thread, four beside one, both beside Go, and where the workload is that one, beside its bare steps."""
+def measure(program, name, wanted, pool, go, bare):
+    """One workload: each number of workers beside one thread, four beside one, both beside the same pool and Go, and where the workload is that one, beside its
+    bare steps."""
     with open(f'{common.TOP}/bench/workloads/{name}.cs', 'rb') as file:
         source = file.read()
     journal = subprocess.run([program, 'run', '--one', '--journal'], input=source, stdout=subprocess.PIPE, check=True).stdout
@@ -74,26 +114,30 @@ def measure(program, name, wanted, go, bare):
     if bare and name == 'uncontended':
         for workers in (1, 4):
             common.tell(f'{name}, {workers} workers beside the bare steps in C', by[workers], steps(bare, workers), 'ns a firing')
+    if pool:
+        for workers in (1, 4):
+            took = theirs([pool, str(workers)], name, wanted, b'', firings)
+            common.tell(f'{name}, {workers} workers beside a pool of the same algorithm in Rust', by[workers], took, 'ns a firing')
     if go:
-        theirs = nanoseconds([go, name], b'', wanted, firings) - nanoseconds([go, 'nothing'], b'', b'\n') / firings
-        common.tell(f'{name}, 4 workers beside channels of Go', by[4], theirs, 'ns a firing')
-        common.tell(f'{name}, one thread beside channels of Go', alone, theirs, 'ns a firing')
+        took = theirs([go], name, wanted, b'\n', firings)
+        common.tell(f'{name}, 4 workers beside channels of Go', by[4], took, 'ns a firing')
+        common.tell(f'{name}, one thread beside channels of Go', alone, took, 'ns a firing')
 
 
 def measure_load(program, rust):
     """The large program that the command makes, beside Rust's."""
     load = [program, 'load', str(PAIRS), '--workers', '4']
     by_workers = nanoseconds(load, b'', SUM + COUNTS, LOAD_FIRINGS)
-    theirs = nanoseconds([rust, str(PAIRS)], b'', SUM, LOAD_FIRINGS)
-    common.tell(f'load {PAIRS}, 4 workers beside channels of Rust, each with its start', by_workers, theirs, 'ns a firing')
+    by_channels = nanoseconds([rust, str(PAIRS)], b'', SUM, LOAD_FIRINGS)
+    common.tell(f'load {PAIRS}, 4 workers beside channels of Rust, each with its start', by_workers, by_channels, 'ns a firing')
 
 
 def main():
     program = common.program()
     with tempfile.TemporaryDirectory() as work:
-        go, rust, bare = peer('Go', work), peer('Rust', work), peer('C', work)
+        pool, go, rust, bare = same_pool(work), peer('Go', work), peer('Rust', work), peer('C', work)
         for name, wanted in WORKLOADS.items():
-            measure(program, name, wanted, go, bare)
+            measure(program, name, wanted, pool, go, bare)
         if rust:
             measure_load(program, rust)
 
