@@ -1,21 +1,26 @@
 #!/usr/bin/env python3
-"""Plays the programs of bench/workloads by 1, 4 and 64 workers and on one thread: wall clock a firing, without the start of the process, and the ratios. Each
-stands beside a pool of the same algorithm in Rust, over crossbeam's deques, and a program of the same meaning over Go's channels, `uncontended` beside its bare
-atomic steps and writes in C, and `load 60` beside a program over the bounded channels of Rust's standard library (bench/peers), where their compilers, and the
-sources of crossbeam, are there."""
+"""Plays the programs of bench/workloads by 1, 4 and 64 workers and on one thread: wall clock a firing, and the ratios. Each stands beside a pool of the same
+algorithm in Rust, over crossbeam's deques, and beside a program of the same meaning over Go's channels, `uncontended` beside its bare atomic steps and writes in
+C, and `load 60` beside a program over the bounded channels of Rust's standard library (bench/peers), where their compilers and the sources of crossbeam are
+there.
+
+What is compared runs in turns, round after round, since a machine may be half as fast a minute later, and the ratios are those of medians. From a run is taken
+what the same program takes that plays no round: its start, and the making of its table. The pool in Rust touches its table as it goes, so whole runs stand beside
+each ratio."""
 
 import glob
 import os
 import shutil
+import statistics
 import subprocess
 import tempfile
 import time
 
 import common
 
-RUNS = 7
-EMPTY = b'class P { static void Main() { } }'  # what a process costs that plays nothing
-WORKLOADS = {'uncontended': b'done\n', 'buffer': b'8004000\n', 'lock': b'done\n', 'santa': b'600\n'}
+RUNS = 15
+# What each workload prints, and how often it goes round, which is 0 in the same program that plays no round.
+WORKLOADS = {'uncontended': (b'done\n', [b'3900']), 'buffer': (b'8004000\n', [b'2000']), 'lock': (b'done\n', [b'250']), 'santa': (b'600\n', [b'2400', b'600'])}
 PAIRS = 60  # of `load`, whose buffer Rust's program has too
 SUM = b'303000\n'
 COUNTS = b'begun 1 made 3 sent 12243 called 12001 fired 12181 printed 1 ended 12182\n'
@@ -33,7 +38,7 @@ version = "0.0.0"
 edition = "2021"
 [[bin]]
 name = "pool"
-path = "{common.TOP}/bench/peers/pool.rs"
+path = "{common.TOP}/bench/peers/pool/main.rs"
 [dependencies]
 crossbeam-deque = "0.8"
 crossbeam-utils = "0.8"
@@ -43,19 +48,6 @@ codegen-units = 1
 panic = "abort"
 '''
 OFFLINE = ['--offline', '--config', 'source.crates-io.replace-with="debian"', '--config', f'source.debian.directory="{CRATES}"']
-
-
-def nanoseconds(command, source, wanted, firings=1):
-    """The least wall clock a firing of some runs, each of which writes what is due."""
-    environment = common.environment()
-    best = None
-    for _ in range(RUNS):
-        before = time.monotonic()
-        ran = subprocess.run(command, input=source, stdout=subprocess.PIPE, env=environment, check=True)
-        took = time.monotonic() - before
-        assert ran.stdout == wanted, ran.stdout
-        best = took if best is None else min(best, took)
-    return best / firings * 1e9
 
 
 def peer(language, work):
@@ -83,61 +75,107 @@ def same_pool(work):
     return f'{made}/target/release/pool'
 
 
-def ours(words, source, wanted, firings):
-    """The time of a firing without the start: what a run of nothing takes in these words is taken off."""
-    return nanoseconds(words, source, wanted, firings) - nanoseconds(words, EMPTY, b'') / firings
+def seconds(command, source, wanted):
+    """The wall clock of one run, which writes what is wanted, if something is, and what it wrote."""
+    before = time.monotonic()
+    ran = subprocess.run(command, input=source, stdout=subprocess.PIPE, env=common.environment(), check=True)
+    took = time.monotonic() - before
+    assert wanted in (None, ran.stdout), ran.stdout
+    return took, ran.stdout
 
 
-def theirs(words, name, wanted, nothing, firings):
-    """The same of a peer's program, which is told the workload's name behind these words, and which writes so much where it plays nothing."""
-    return nanoseconds([*words, name], b'', wanted, firings) - nanoseconds([*words, 'nothing'], b'', nothing) / firings
+def in_turns(runs):
+    """The times of these runs, each a command, its standard input and what it writes, which are made in turns."""
+    times = {name: [] for name in runs}
+    for _ in range(RUNS):
+        for name, run in runs.items():
+            times[name].append(seconds(*run)[0])
+    return times
 
 
-def steps(command, workers):
-    """The least time of a firing in bare atomic steps, of some runs."""
-    environment = common.environment()
-    return min(float(subprocess.run([command, str(workers)], stdout=subprocess.PIPE, env=environment, check=True).stdout) for _ in range(RUNS))
+def by_workers(number):
+    """What runs by so many workers are called here."""
+    return '1 worker' if number == 1 else f'{number} workers'
 
 
-def measure(program, name, wanted, pool, go, bare):
-    """One workload: each number of workers beside one thread, four beside one, both beside the same pool and Go, and where the workload is that one, beside its
-    bare steps."""
+def of_a_firing(times, way, firings, of):
+    """The nanoseconds of a firing, by the median or the least of the runs that were made in this way."""
+    return (of(times[way]) - of(times[f'{way}, no round'])) / firings * 1e9
+
+
+def told(name, times, one, other, firings):
+    """Prints how the firings of two ways stand: by medians, with those by the least runs and the medians of whole runs beside them."""
+    medians = [of_a_firing(times, way, firings, statistics.median) for way in (one, other)]
+    least = [of_a_firing(times, way, firings, min) for way in (one, other)]
+    whole = [statistics.median(times[way]) * 1e3 for way in (one, other)]
+    common.tell(f'{name}, {one} beside {other}', *medians, 'ns a firing', f'least {least[0]:.0f} and {least[1]:.0f}, whole runs {whole[0]:.1f} and {whole[1]:.1f} ms')
+
+
+def without_rounds(source, rounds):
+    """The same program that plays no round."""
+    for number in rounds:
+        assert number in source
+        source = source.replace(number, b'0')
+    return source
+
+
+def runs_of(name, program, pool, go):
+    """What is run of a workload: each program in each way, and the same where it plays no round."""
+    wanted, rounds = WORKLOADS[name]
     with open(f'{common.TOP}/bench/workloads/{name}.cs', 'rb') as file:
         source = file.read()
-    journal = subprocess.run([program, 'run', '--one', '--journal'], input=source, stdout=subprocess.PIPE, check=True).stdout
-    firings = journal.count(b' fired ')
-    alone = ours([program, 'run', '--one'], source, wanted, firings)
-    by = {workers: ours([program, 'run', '--workers', str(workers)], source, wanted, firings) for workers in (1, 4, 64)}
-    for workers, took in by.items():
-        common.tell(f'{name}, {workers} workers beside one thread', took, alone, 'ns a firing')
-    common.tell(f'{name}, 4 workers beside 1 worker', by[4], by[1], 'ns a firing')
-    if bare and name == 'uncontended':
-        for workers in (1, 4):
-            common.tell(f'{name}, {workers} workers beside the bare steps in C', by[workers], steps(bare, workers), 'ns a firing')
-    if pool:
-        for workers in (1, 4):
-            took = theirs([pool, str(workers)], name, wanted, b'', firings)
-            common.tell(f'{name}, {workers} workers beside a pool of the same algorithm in Rust', by[workers], took, 'ns a firing')
+    runs = {}
+    for way, words in {'one thread': ['--one'], **{by_workers(n): ['--workers', str(n)] for n in (1, 4, 64)}}.items():
+        runs[way] = [program, 'run', *words], source, wanted
+        runs[f'{way}, no round'] = [program, 'run', *words], without_rounds(source, rounds), None
+    for workers in ('1', '4') if pool else ():
+        runs[f'a pool in Rust by {workers}'] = [pool, workers, name], b'', wanted
+        runs[f'a pool in Rust by {workers}, no round'] = [pool, workers, 'nothing'], b'', b''
     if go:
-        took = theirs([go], name, wanted, b'\n', firings)
-        common.tell(f'{name}, 4 workers beside channels of Go', by[4], took, 'ns a firing')
-        common.tell(f'{name}, one thread beside channels of Go', alone, took, 'ns a firing')
+        runs['channels of Go'] = [go, name], b'', wanted
+        runs['channels of Go, no round'] = [go, 'nothing'], b'', b'\n'
+    return runs
+
+
+def measure(name, program, pool, go):
+    """One workload: each number of workers beside one thread, four beside one, and both beside the same pool in Rust and Go. Its times and firings."""
+    runs = runs_of(name, program, pool, go)
+    command, source, wanted = runs['one thread']
+    firings = seconds([*command, '--journal'], source, None)[1].removeprefix(wanted).count(b' fired ')
+    times = in_turns(runs)
+    for workers in (1, 4, 64):
+        told(name, times, by_workers(workers), 'one thread', firings)
+    told(name, times, '4 workers', '1 worker', firings)
+    for workers in (1, 4) if pool else ():
+        told(name, times, by_workers(workers), f'a pool in Rust by {workers}', firings)
+    if go:
+        told(name, times, '4 workers', 'channels of Go', firings)
+        told(name, times, 'one thread', 'channels of Go', firings)
+    return times, firings
+
+
+def measure_steps(bare, times, firings):
+    """The bare steps of `uncontended` in C, which take their time themselves, beside its runs."""
+    for workers in (1, 4):
+        steps = [float(seconds([bare, str(workers)], b'', None)[1]) for _ in range(RUNS)]
+        took, least = (of_a_firing(times, by_workers(workers), firings, of) for of in (statistics.median, min))
+        common.tell(f'uncontended, {by_workers(workers)} beside the bare steps in C', took, statistics.median(steps), 'ns a firing', f'least {least:.0f} and {min(steps):.0f}')
 
 
 def measure_load(program, rust):
-    """The large program that the command makes, beside Rust's."""
-    load = [program, 'load', str(PAIRS), '--workers', '4']
-    by_workers = nanoseconds(load, b'', SUM + COUNTS, LOAD_FIRINGS)
-    by_channels = nanoseconds([rust, str(PAIRS)], b'', SUM, LOAD_FIRINGS)
-    common.tell(f'load {PAIRS}, 4 workers beside channels of Rust, each with its start', by_workers, by_channels, 'ns a firing')
+    """The large program that the command makes, beside Rust's, each with its start."""
+    times = in_turns({'workers': ([program, 'load', str(PAIRS), '--workers', '4'], b'', SUM + COUNTS), 'channels': ([rust, str(PAIRS)], b'', SUM)})
+    workers, channels = (statistics.median(times[name]) / LOAD_FIRINGS * 1e9 for name in ('workers', 'channels'))
+    common.tell(f'load {PAIRS}, 4 workers beside channels of Rust, each with its start', workers, channels, 'ns a firing')
 
 
 def main():
     program = common.program()
     with tempfile.TemporaryDirectory() as work:
         pool, go, rust, bare = same_pool(work), peer('Go', work), peer('Rust', work), peer('C', work)
-        for name, wanted in WORKLOADS.items():
-            measure(program, name, wanted, pool, go, bare)
+        measured = {name: measure(name, program, pool, go) for name in WORKLOADS}
+        if bare:
+            measure_steps(bare, *measured['uncontended'])
         if rust:
             measure_load(program, rust)
 
