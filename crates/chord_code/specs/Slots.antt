@@ -1,7 +1,13 @@
 -- The slots of a block.
-use Rattle.std.specs.Prelude.{ℕ, zero, suc, List, [], ◌∷◌, Option, Some, None}
+use Rattle.std.specs.Prelude.{◌≡◌, ◌⊎◌, ◌≤◌, ℕ, zero, suc, List, [], ◌∷◌, Option, Some, None, slice_get}
 use Rattle.chord_base.specs.declared.value.Value.{Value}
 use Rattle.chord_base.specs.declared.value.Value.TheVariants as a_value
+use Rattle.chord_code.specs.declared.parts.Block.{Block}
+
+-- so many slots has the largest of these blocks, or it is 0 where no block has any
+pub record IsMostSlots (blocks : List Block) (n : ℕ) : Type 0 where
+  pub bound : (i : ℕ) (b : Block) → slice_get blocks i ≡ Some b → b.slots ≤ n
+  pub reached : (n ≡ 0) ⊎ ((i : ℕ) × (b : Block) × (slice_get blocks i ≡ Some b) × (b.slots ≡ n))
 
 -- a value before others, if these are there
 abbrev pub with_first : Value → Option (List Value) → Option (List Value)

@@ -4,25 +4,42 @@
 ghost use Rattle.std.specs.Prelude.{◌≡◌, ℕ, ◌<◌, length, slice_get, Some};
 ghost use Rattle.chord_code.specs.Valid.{IsValid};
 ghost use Rattle.chord_code.specs.Meaning.{chord_lines, listed_methods, method_is_sync};
+ghost use Rattle.chord_code.specs.Slots.{IsMostSlots};
 
-use crate::parts::{ChordLine, Parts};
+use crate::parts::{Block, ChordLine, Parts};
 use std::marker::Model;
 
 /// The code of a program. It is valid; contracts see its parts.
 #[derive(Drop)]
 pub struct Code {
     parts: Parts,
+    // Known once and for all, since frames have to have room for any block each time a body begins.
+    most_slots: u32,
 }
 
 impl Model for Code {
     ghost use Rattle.chord_code.specs.declared.parts.Parts.{Parts};
     ghost use Rattle.chord_code.specs.Valid.{IsValid};
+    ghost use Rattle.chord_code.specs.Slots.{IsMostSlots};
 
     ghost Value = { Parts };
 
     ghost view = { λ c. c.parts };
 
-    ghost invariant = { λ c. IsValid c.parts };
+    ghost invariant = { λ c. IsValid c.parts × IsMostSlots c.parts.blocks c.most_slots };
+}
+
+/// How many slots the largest of these blocks has; 0 where there is none.
+fn most_slots_of(blocks: &[Block]) -> u32
+    ensures { IsMostSlots blocks.now result }
+{
+    let mut most = 0;
+    for block in blocks {
+        if most < block.slots {
+            most = block.slots;
+        }
+    }
+    most
 }
 
 impl Code {
@@ -31,7 +48,15 @@ impl Code {
         requires { IsValid parts }
         ensures { result ≡ parts }
     {
-        Code { parts }
+        let most_slots = most_slots_of(parts.blocks.items());
+        Code { parts, most_slots }
+    }
+
+    /// How many slots its largest block has.
+    pub fn most_slots(&self) -> u32
+        ensures { IsMostSlots self.now.blocks result }
+    {
+        self.most_slots
     }
 
     /// The parts.

@@ -51,12 +51,7 @@ pub fn spare(alloc: Global, code: &Code, limits: &Limits) -> Result<Frames, Allo
     ensures room { IfOk result (λ frames. IsRoomFor code.now frames) }
     ensures limits { IfOk result (λ frames. frames.limits ≡ limits.now) }
 {
-    let mut most = 0;
-    for block in code.parts().blocks.items() {
-        if most < block.slots as usize {
-            most = block.slots as usize;
-        }
-    }
+    let most = code.most_slots() as usize;
     let top = Frame {
         block: 0,
         place: 0,
@@ -89,13 +84,7 @@ pub fn can_begin(code: &Code, limits: &Limits, frames: &Frames) -> bool
     if frames.limits.depth != limits.depth {
         return false;
     }
-    let most = frames.top.slots.capacity();
-    for block in code.parts().blocks.items() {
-        if most < block.slots as usize {
-            return false;
-        }
-    }
-    true
+    frames.top.slots.capacity() >= code.most_slots() as usize
 }
 
 /// Moves the last values, so many, to the end of another list, in their order.
