@@ -92,28 +92,35 @@ fn new_frames(alloc: Global, code: &Code, limits: &Limits) -> Result<Box<Frames>
     Ok(boxed)
 }
 
-/// Frames with room for each block: those of a body that has ended, where they have it, and else new ones.
-fn frames_for(
-    alloc: Global,
-    code: &Code,
-    limits: &Limits,
-    ended: &mut Option<Box<Frames>>,
-) -> Result<Box<Frames>, AllocError>
-    ensures { IfOk result (λ f. IsSpareOf code.now limits.now f.value) }
+/// Whether frames of a body that has ended stand here, with room for each block.
+#[inline(always)]
+fn may_serve(code: &Code, limits: &Limits, ended: &Option<Box<Frames>>) -> bool
+    ensures { result ≡ true → (f : Box TheFrames Global) × (ended.now ≡ Some f) × IsSpareOf code.now limits.now f.value }
 {
-    match ended.take() {
-        None => new_frames(alloc, code, limits),
-        Some(frames) => {
-            if can_begin(code, limits, &*frames) {
-                return Ok(frames);
-            }
-            new_frames(alloc, code, limits)
-        }
+    match ended {
+        None => false,
+        Some(frames) => can_begin(code, limits, &**frames),
     }
 }
 
-/// Puts frames into an empty stock.
+/// Puts new frames into an empty stock.
 #[inline(never)]
+fn put_new(
+    alloc: Global,
+    code: &Code,
+    limits: &Limits,
+    spare: &mut Option<Box<Frames>>,
+) -> Result<(), AllocError>
+    requires { spare.old ≡ None }
+    ensures kept { HasRoomFor code.now limits.now spare.new }
+    ensures some { OnOk result ((f : Box TheFrames Global) × (spare.new ≡ Some f) × IsSpareOf code.now limits.now f.value) }
+{
+    *spare = Some(new_frames(alloc, code, limits)?);
+    Ok(())
+}
+
+/// Puts frames into an empty stock: those of a body that has ended, where they have room for each block, and else new ones.
+#[inline(always)]
 fn restock(
     alloc: Global,
     code: &Code,
@@ -125,8 +132,11 @@ fn restock(
     ensures kept { HasRoomFor code.now limits.now spare.new }
     ensures some { OnOk result ((f : Box TheFrames Global) × (spare.new ≡ Some f) × IsSpareOf code.now limits.now f.value) }
 {
-    *spare = Some(frames_for(alloc, code, limits, ended)?);
-    Ok(())
+    if may_serve(code, limits, ended) {
+        mem::swap(spare, ended);
+        return Ok(());
+    }
+    put_new(alloc, code, limits, spare)
 }
 
 /// Sees to frames in stock.
@@ -145,6 +155,19 @@ fn reserve_spare(
         Some(_) => Ok(()),
         None => restock(alloc, code, limits, spare, ended),
     }
+}
+
+/// Sees to room for one more item. As a rule there is some, and then nothing is called.
+#[inline(always)]
+fn reserve_one<T>(list: &mut Vec<T>) -> Result<(), AllocError>
+    ensures items { list.new.items ≡ list.old.items }
+    ensures room { OnOk result (vec_len list.new < vec_capacity list.new) }
+{
+    if list.len() < list.capacity() {
+        return Ok(());
+    }
+    list.reserve(1)?;
+    Ok(())
 }
 
 /// Sees to a list in stock.
@@ -422,8 +445,8 @@ impl Task {
         ensures listed { list.new.items ≡ list.old.items }
         ensures place { OnOk result (vec_len list.new < vec_capacity list.new) }
     {
-        list.reserve(1)?;
-        self.below.reserve(1)?;
+        reserve_one(list)?;
+        reserve_one(&mut self.below)?;
         reserve_spare(alloc, code, &self.limits, &mut self.spare, &mut self.ended)?;
         reserve_values(alloc, &mut self.values)?;
         reserve_top(alloc, &mut self.top)

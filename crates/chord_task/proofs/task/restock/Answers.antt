@@ -1,5 +1,5 @@
-use Rattle.std.proofs.Common.{refl}
+use Rattle.std.proofs.Common.{◌∙◌}
 use Rattle.chord_task.proofs.task.restock.Goals as goal
 
-pub returns-clause-some : goal.returns-clause-some
-returns-clause-some c = (c.in_ok-frames_for.field-0, refl, c.in_ok-frames_for.ensures)
+pub returns-then-may_serve-clause-some : goal.returns-then-may_serve-clause-some
+returns-then-may_serve-clause-some c = let found = c.may_serve.ensures c.if-may_serve.ensures in (found.0, c.swap.ensures.x_after ∙ found.1, found.2)

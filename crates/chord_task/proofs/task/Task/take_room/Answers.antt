@@ -7,6 +7,6 @@ pub returns-clause-ready : goal.returns-clause-ready
 returns-clause-ready c =
     let some = c.in_ok-reserve_spare.ensures.some in
     let list = c.in_ok-reserve_values.ensures.some in
-    let below = c.in_ok-reserve-2.ensures.ok in
-    on_ok_follows (IsReadyFor c.reserve_top.new.top) (IsReserved c.args.code.now (record { past = c.args.self.now.past; top = c.reserve_top.new.top; below = c.reserve-2.new.self; spare = c.reserve_spare.new.spare; ended = c.reserve_spare.new.ended; values = c.reserve_values.new.values; limits = c.args.self.now.limits; enclosed = c.args.self.now.enclosed })) c.reserve_top.result
+    let below = c.in_ok-reserve_one-2.ensures.room in
+    on_ok_follows (IsReadyFor c.reserve_top.new.top) (IsReserved c.args.code.now (record { past = c.args.self.now.past; top = c.reserve_top.new.top; below = c.reserve_one-2.new.list; spare = c.reserve_spare.new.spare; ended = c.reserve_spare.new.ended; values = c.reserve_values.new.values; limits = c.args.self.now.limits; enclosed = c.args.self.now.enclosed })) c.reserve_top.result
     (λ r. record { below = omega (arith, below); frames = some.0; spare = some.1; room = some.2; values = list; top = r }) c.reserve_top.ensures.ready
