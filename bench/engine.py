@@ -1,6 +1,7 @@
 #!/usr/bin/env python3
-"""Sends a message and calls what matches it, over and over, on one thread: the time of a firing, n firings beside twice as many, beside plain queues in C
-built with -O2, and beside goroutines where Go is installed. Times are of the process, user and system, and the start of the program is taken off."""
+"""Sends a message and calls what matches it, over and over, on one thread: the time of a firing, n firings beside twice as many, in a program of a thousand classes
+more beside one without, beside plain queues in C built with -O2, and beside goroutines where Go is installed. Times are of the process, user and system, and the
+start of the program is taken off."""
 
 import os
 import resource
@@ -28,6 +29,10 @@ class Q {
   }
 }
 '''
+
+# A class with a chord that nobody uses, of which a larger program has many.
+MORE = 1000
+ASIDE = 'class X{} { public int G(int a) & public async P(int s) { int i = 0; while (i < s) i = i + a; return i; } }\n'
 
 # A message waits in a queue, the call takes it from there, and each of the four steps is noted.
 PLAIN = '''
@@ -137,9 +142,10 @@ def seconds(command, source, wanted, runs=RUNS):
     return (after.ru_utime + after.ru_stime - before.ru_utime - before.ru_stime) / runs
 
 
-def ours(program, count):
-    """The time of a run of so many firings."""
-    return seconds([program, 'run', '--one'], SOURCE.replace('COUNT', str(count)).encode(), f'{count}\n'.encode())
+def ours(program, count, more=0):
+    """The time of a run of so many firings, in a program with so many classes more."""
+    source = ''.join(ASIDE.replace('{}', str(i), 1) for i in range(more)) + SOURCE.replace('COUNT', str(count))
+    return seconds([program, 'run', '--one'], source.encode(), f'{count}\n'.encode())
 
 
 def plain(work):
@@ -166,6 +172,8 @@ def main():
     one, two = ours(program, COUNT) - start, ours(program, 2 * COUNT) - start
     firing = two / (2 * COUNT) * 1e9
     common.tell('twice as many firings', two * 1e3, one * 1e3, 'ms', '2.4 at most is wanted')
+    large = (ours(program, 2 * COUNT, MORE) - ours(program, 1, MORE)) / (2 * COUNT) * 1e9
+    common.tell(f'a firing among {MORE} classes more beside one without', large, firing, 'ns')
     with tempfile.TemporaryDirectory() as work:
         common.tell('a firing beside plain queues in C', firing, plain(work), 'ns', '300 ns at most are wanted')
         beside = goroutines(work)
