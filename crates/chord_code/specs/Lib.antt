@@ -3,6 +3,8 @@
 pub mod Valid
 -- the slots of a block
 pub mod Slots
+-- the methods of a chord
+pub mod Headers
 -- what each instruction does to a machine
 pub mod Machine
 -- a bound on the instructions up to the next ask

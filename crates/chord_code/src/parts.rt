@@ -2,6 +2,7 @@
 #![tactic(auto)]
 
 ghost use Rattle.std.specs.Prelude.{◌≡◌, ℕ, ◌<◌, ◌≤◌, List, [], ◌∷◌, ◌++◌, length, OnOk, IfOk};
+ghost use Rattle.chord_base.specs.Messages.{has};
 
 use crate::instruction::Instructions;
 use crate::lines::Lines;
@@ -12,20 +13,38 @@ use std::marker::Model;
 /// The most methods of a chord.
 pub const MAX_HEADERS: usize = 8;
 
+/// So many methods, as many as a class may have, have a mark in each chord.
+const MARKED: usize = 16;
+
 /// The methods of a chord in header order, at most eight. Contracts see the list of their numbers.
+///
+/// For each method that a class may have a mark says whether it stands among them: an engine asks that of each chord of a class, after
+/// each message.
 #[derive(Drop)]
 pub struct MethodNumbers {
     numbers: Vec<u8>,
+    marks: [bool; MARKED],
 }
 
 impl Model for MethodNumbers {
-    ghost use Rattle.std.specs.Prelude.{ℕ, ◌≤◌, List, length};
+    ghost use Rattle.std.specs.Prelude.{ℕ, ◌×◌, ◌≤◌, List, length};
+    ghost use Rattle.chord_code.specs.Headers.{AreMarked};
 
     ghost Value = { List ℕ };
 
     ghost view = { λ m. m.numbers.items };
 
-    ghost invariant = { λ m. length m.numbers.items ≤ 8 };
+    ghost invariant = { λ m. (length m.numbers.items ≤ 8) × AreMarked m.numbers.items m.marks };
+}
+
+/// Whether a number stands among these.
+pub(crate) fn stands_among(number: u8, numbers: &[u8]) -> bool
+    ensures { result ≡ has number numbers.now }
+{
+    match numbers.split_first() {
+        None => false,
+        Some((first, rest)) => number == *first || stands_among(number, rest),
+    }
 }
 
 impl MethodNumbers {
@@ -35,6 +54,7 @@ impl MethodNumbers {
     {
         MethodNumbers {
             numbers: Vec::new(alloc),
+            marks: [false; MARKED],
         }
     }
 
@@ -44,7 +64,20 @@ impl MethodNumbers {
         ensures added { OnOk result (self.new ≡ self.old ++ number ∷ []) }
     {
         self.numbers.push(number)?;
+        if (number as usize) < MARKED {
+            self.marks[number as usize] = true;
+        }
         Ok(())
+    }
+
+    /// Whether a method stands among them.
+    pub fn has(&self, method: u8) -> bool
+        ensures { result ≡ has method self.now }
+    {
+        match self.marks.get(method as usize) {
+            Some(mark) => *mark,
+            None => stands_among(method, self.numbers.as_slice()),
+        }
     }
 
     /// The methods.

@@ -7,7 +7,7 @@ ghost use Rattle.chord_base.specs.Meaning.{OneSync, NoneSync};
 ghost use Rattle.chord_code.specs.Valid.{IsValid, IsClassLine, IsChordLine, IsBlock, IsRight, BuildsBefore, Closes, AllLess, class_is_sync};
 
 use crate::instruction::Instruction;
-use crate::parts::{Block, ChordLine, ClassLine, MethodLine, Parts};
+use crate::parts::{Block, ChordLine, ClassLine, MethodLine, Parts, stands_among};
 
 /// The most classes of a program.
 pub const MAX_CLASSES: usize = 1024;
@@ -151,16 +151,6 @@ fn are_different(numbers: &[u8]) -> bool
     match numbers.split_first() {
         None => true,
         Some((first, rest)) => !stands_among(*first, rest) && are_different(rest),
-    }
-}
-
-/// Whether a number stands among these.
-fn stands_among(number: u8, numbers: &[u8]) -> bool
-    ensures { result ≡ has number numbers.now }
-{
-    match numbers.split_first() {
-        None => false,
-        Some((first, rest)) => number == *first || stands_among(number, rest),
     }
 }
 

@@ -160,15 +160,6 @@ fn first(busy: Option<u32>, more: Option<u32>) -> Option<u32>
     }
 }
 
-fn has_method(methods: &[u8], method: u8) -> bool
-    ensures { result ≡ has method methods.now }
-{
-    let Some((first, rest)) = methods.split_first() else {
-        return false;
-    };
-    method == *first || has_method(rest, method)
-}
-
 // Empties the place; as a rule nothing stands there, and then nothing is written.
 fn clear(members: &mut Members)
     ensures { members.new ≡ [] }
@@ -186,8 +177,7 @@ fn line_with(lines: &[ChordLine], from: usize, method: u8) -> usize
     ensures here { IsWith method (map methods_of lines.now) result }
 {
     for at in from..lines.len() {
-        let methods = lines[at].methods.items();
-        if has_method(methods, method) {
+        if lines[at].methods.has(method) {
             return at;
         }
     }
