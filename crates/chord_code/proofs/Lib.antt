@@ -7,6 +7,8 @@ pub mod Sound
 pub mod SoundProp
 pub mod Tame
 pub mod Each
+pub mod Places
+pub mod Headers
 pub mod Validity
 pub mod Failing
 pub mod Bounded

@@ -27,7 +27,7 @@ pub struct MethodNumbers {
 }
 
 impl Model for MethodNumbers {
-    ghost use Rattle.std.specs.Prelude.{ℕ, ◌×◌, ◌≤◌, List, length};
+    ghost use Rattle.std.specs.Prelude.{ℕ, ◌≤◌, List, length};
     ghost use Rattle.chord_code.specs.Headers.{AreMarked};
 
     ghost Value = { List ℕ };
