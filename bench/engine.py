@@ -1,7 +1,7 @@
 #!/usr/bin/env python3
 """Sends a message and calls what matches it, over and over, on one thread: the time of a firing, n firings beside twice as many, in a program of a thousand classes
-more beside one without, beside plain queues in C built with -O2, and beside goroutines where Go is installed. Times are of the process, user and system, and the
-start of the program is taken off."""
+more and in a class of ninety chords more beside those without, there by one worker too, beside plain queues in C built with -O2, and beside goroutines where Go is
+installed. Times are of the process, user and system, and the start of the program is taken off."""
 
 import os
 import resource
@@ -33,6 +33,11 @@ class Q {
 # A class with a chord that nobody uses, of which a larger program has many.
 MORE = 1000
 ASIDE = 'class X{} { public int G(int a) & public async P(int s) { int i = 0; while (i < s) i = i + a; return i; } }\n'
+
+# Chords of the class to whose methods nothing is sent: each two of fourteen methods, all but one.
+CHORDS = 90
+PAIRS = [(i, j) for i in range(14) for j in range(i)][:CHORDS]
+BESIDE = ''.join(f' public async M{i}() & public async M{j}() {{}}' for i, j in PAIRS)
 
 # A message waits in a queue, the call takes it from there, and each of the four steps is noted.
 PLAIN = '''
@@ -142,10 +147,16 @@ def seconds(command, source, wanted, runs=RUNS):
     return (after.ru_utime + after.ru_stime - before.ru_utime - before.ru_stime) / runs
 
 
-def ours(program, count, more=0):
-    """The time of a run of so many firings, in a program with so many classes more."""
-    source = ''.join(ASIDE.replace('{}', str(i), 1) for i in range(more)) + SOURCE.replace('COUNT', str(count))
-    return seconds([program, 'run', '--one'], source.encode(), f'{count}\n'.encode())
+def ours(program, count, more=0, beside='', way=('--one',)):
+    """The time of a run of so many firings in this way, in a program with so many classes more, and with these chords beside the class's own."""
+    source = SOURCE.replace('COUNT', str(count)).replace('class A {', f'class A {{{beside}', 1)
+    source = ''.join(ASIDE.replace('{}', str(i), 1) for i in range(more)) + source
+    return seconds([program, 'run', *way], source.encode(), f'{count}\n'.encode())
+
+
+def firing_of(program, **how):
+    """The nanoseconds of a firing."""
+    return (ours(program, 2 * COUNT, **how) - ours(program, 1, **how)) / (2 * COUNT) * 1e9
 
 
 def plain(work):
@@ -172,8 +183,10 @@ def main():
     one, two = ours(program, COUNT) - start, ours(program, 2 * COUNT) - start
     firing = two / (2 * COUNT) * 1e9
     common.tell('twice as many firings', two * 1e3, one * 1e3, 'ms', '2.4 at most is wanted')
-    large = (ours(program, 2 * COUNT, MORE) - ours(program, 1, MORE)) / (2 * COUNT) * 1e9
-    common.tell(f'a firing among {MORE} classes more beside one without', large, firing, 'ns')
+    common.tell(f'a firing among {MORE} classes more beside one without', firing_of(program, more=MORE), firing, 'ns')
+    for name, way in [('on one thread', ['--one']), ('by one worker', ['--workers', '1'])]:
+        with_chords, without = firing_of(program, beside=BESIDE, way=way), firing_of(program, way=way)
+        common.tell(f'a firing among {CHORDS} chords more beside one without, {name}', with_chords, without, 'ns')
     with tempfile.TemporaryDirectory() as work:
         common.tell('a firing beside plain queues in C', firing, plain(work), 'ns', '300 ns at most are wanted')
         beside = goroutines(work)
