@@ -13,28 +13,28 @@ use std::marker::Model;
 /// The most methods of a chord.
 pub const MAX_HEADERS: usize = 8;
 
-/// So many methods, as many as a class may have, have a mark in each chord.
-const MARKED: usize = 16;
+/// So many methods, as many as a class may have, have a flag in each chord.
+const FLAGS: usize = 16;
 
 /// The methods of a chord in header order, at most eight. Contracts see the list of their numbers.
 ///
-/// For each method that a class may have a mark says whether it stands among them: an engine asks that of each chord of a class, after
+/// For each method that a class may have a flag says whether it stands among them: an engine asks that of each chord of a class, after
 /// each message.
 #[derive(Drop)]
 pub struct MethodNumbers {
     numbers: Vec<u8>,
-    marks: [bool; MARKED],
+    flags: [bool; FLAGS],
 }
 
 impl Model for MethodNumbers {
     ghost use Rattle.std.specs.Prelude.{ℕ, ◌≤◌, List, length};
-    ghost use Rattle.chord_code.specs.Headers.{AreMarked};
+    ghost use Rattle.chord_code.specs.Headers.{AreFlags};
 
     ghost Value = { List ℕ };
 
     ghost view = { λ m. m.numbers.items };
 
-    ghost invariant = { λ m. (length m.numbers.items ≤ 8) × AreMarked m.numbers.items m.marks };
+    ghost invariant = { λ m. (length m.numbers.items ≤ 8) × AreFlags m.numbers.items m.flags };
 }
 
 /// Whether a number stands among these.
@@ -54,7 +54,7 @@ impl MethodNumbers {
     {
         MethodNumbers {
             numbers: Vec::new(alloc),
-            marks: [false; MARKED],
+            flags: [false; FLAGS],
         }
     }
 
@@ -64,18 +64,19 @@ impl MethodNumbers {
         ensures added { OnOk result (self.new ≡ self.old ++ number ∷ []) }
     {
         self.numbers.push(number)?;
-        if (number as usize) < MARKED {
-            self.marks[number as usize] = true;
+        if (number as usize) < FLAGS {
+            self.flags[number as usize] = true;
         }
         Ok(())
     }
 
     /// Whether a method stands among them.
+    #[inline]
     pub fn has(&self, method: u8) -> bool
         ensures { result ≡ has method self.now }
     {
-        match self.marks.get(method as usize) {
-            Some(mark) => *mark,
+        match self.flags.get(method as usize) {
+            Some(flag) => *flag,
             None => stands_among(method, self.numbers.as_slice()),
         }
     }
