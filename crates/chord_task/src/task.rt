@@ -1,7 +1,7 @@
 //! A stack of bodies, each waiting for the one above it, and the entries that they made.
 #![tactic(auto)]
 
-ghost use Rattle.std.specs.Prelude.{◌≡◌, ◌≢◌, ℕ, ◌+◌, ◌-◌, ◌<◌, ◌≤◌, List, [], ◌∷◌, ◌++◌, true, false, IfOk, OnOk, IsOk, IsTrue, ◌↔◌, Some, None, length, slice_get, is_none, option_copied, vec_len, vec_capacity, Box};
+ghost use Rattle.std.specs.Prelude.{◌≡◌, ◌≢◌, ℕ, ◌+◌, ◌-◌, ◌<◌, ◌≤◌, List, [], ◌∷◌, ◌++◌, true, false, IfOk, OnOk, IsOk, IsSomeAnd, IsTrue, ◌↔◌, Some, None, length, slice_get, is_none, option_copied, vec_len, vec_capacity, Box};
 ghost use Rattle.chord_base.specs.declared.event.Limits.{Limits as TheLimits};
 ghost use Rattle.chord_base.specs.declared.event.What.{What as AWhat};
 ghost use Rattle.chord_base.specs.Printed.{is_end};
@@ -95,7 +95,7 @@ fn new_frames(alloc: Global, code: &Code, limits: &Limits) -> Result<Box<Frames>
 /// Whether frames of a body that has ended stand here, with room for each block.
 #[inline(always)]
 fn may_serve(code: &Code, limits: &Limits, ended: &Option<Box<Frames>>) -> bool
-    ensures { IsTrue result ↔ (f : Box TheFrames Global) × (ended.now ≡ Some f) × IsSpareOf code.now limits.now f.value }
+    ensures { IsTrue result ↔ IsSomeAnd ended.now (λ f. IsSpareOf code.now limits.now f.value) }
 {
     match ended {
         None => false,
@@ -131,7 +131,7 @@ fn restock(
     requires { spare.old ≡ None }
     ensures kept { HasRoomFor code.now limits.now spare.new }
     ensures some { OnOk result ((f : Box TheFrames Global) × (spare.new ≡ Some f) × IsSpareOf code.now limits.now f.value) }
-    ensures served { (f : Box TheFrames Global) → ended.old ≡ Some f → IsSpareOf code.now limits.now f.value → (spare.new ≡ Some f) × (ended.new ≡ None) × IsOk result }
+    ensures served { IsSomeAnd ended.old (λ f. IsSpareOf code.now limits.now f.value) → (spare.new ≡ ended.old) × (ended.new ≡ None) × IsOk result }
 {
     if may_serve(code, limits, ended) {
         mem::swap(spare, ended);
@@ -151,7 +151,7 @@ fn reserve_spare(
     requires { HasRoomFor code.now limits.now spare.old }
     ensures kept { HasRoomFor code.now limits.now spare.new }
     ensures some { OnOk result ((f : Box TheFrames Global) × (spare.new ≡ Some f) × IsSpareOf code.now limits.now f.value) }
-    ensures served { (f : Box TheFrames Global) → spare.old ≡ None → ended.old ≡ Some f → IsSpareOf code.now limits.now f.value → (spare.new ≡ Some f) × (ended.new ≡ None) × IsOk result }
+    ensures served { spare.old ≡ None → IsSomeAnd ended.old (λ f. IsSpareOf code.now limits.now f.value) → (spare.new ≡ ended.old) × (ended.new ≡ None) × IsOk result }
 {
     match spare {
         Some(_) => Ok(()),
