@@ -25,7 +25,7 @@ use Rattle.chord_lists.specs.Engine.{main_begun, fired, IsRunOfLength}
 use Rattle.chord_lists.specs.declared.code_bodies.CodeBodies.{CodeBodies}
 use Rattle.chord_lists.specs.Bag.{Address, address_to, HasMessages, Lists}
 use Rattle.chord_lists.specs.CodeStands.{past_of, views, entry_message, message_at, ready_at, StandsAfter}
-use Rattle.chord_lists.specs.CodeGoes.{IsNoted, message_left, is_taken, AreMarked, CanFire, FiresAt, LacksAt}
+use Rattle.chord_lists.specs.CodeGoes.{IsNoted, message_left, is_taken, MarksTaken, CanFire, FiresAt, LacksAt}
 use Rattle.chord_lists.proofs.Bags.{lists_none, lists_on, lists_more, message_to}
 use Rattle.chord_lists.proofs.Taking.{lacks_fires}
 use Rattle.chord_lists.proofs.PendingEntries.{pending_entry}
@@ -179,7 +179,7 @@ lists_either f n old new None s e p = subst (λ index. Lists (early (n + 1) f) (
 lists_either f n old new (Some m) s e p = lists_noted f n old new m s e p
 
 -- one more number
-pub lists_next : (taken : List Bool) (es : List Entry) (n : ℕ) (e : Entry) (b : Bool) (old new : Address → List ℕ) → AreMarked taken es (reverse es) → slice_get es n ≡ Some e → is_taken taken n ≡ b → IsNoted n (message_left b (message_of e.what)) old new → Lists (early n (λ i. pending i (reverse es))) n old → Lists (early (n + 1) (λ i. pending i (reverse es))) (n + 1) new
+pub lists_next : (taken : List Bool) (es : List Entry) (n : ℕ) (e : Entry) (b : Bool) (old new : Address → List ℕ) → MarksTaken taken es (reverse es) → slice_get es n ≡ Some e → is_taken taken n ≡ b → IsNoted n (message_left b (message_of e.what)) old new → Lists (early n (λ i. pending i (reverse es))) n old → Lists (early (n + 1) (λ i. pending i (reverse es))) (n + 1) new
 lists_next taken es n e b old new a g is p s =
     let left : pending n (reverse es) ≡ message_left b (message_of e.what) = a.left n ∙ ap (λ z. message_left z (message_at es n)) is ∙ ap (λ o. message_left b (entry_message o)) g in
     lists_either (λ i. pending i (reverse es)) n old new (message_left b (message_of e.what)) s left p

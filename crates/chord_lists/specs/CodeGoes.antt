@@ -35,7 +35,7 @@ pub record HasTakenNext (ms : List ℕ) (old new : List Bool) : Type 0 where
   pub is : new ≡ between ++ false ∷ []
 
 -- of the entries of a history, which are the first of these, it is said whether a firing has taken them
-pub record AreMarked (taken : List Bool) (entries h : List Entry) : Type 0 where
+pub record MarksTaken (taken : List Bool) (entries h : List Entry) : Type 0 where
   pub left : (n : ℕ) → pending n h ≡ message_left (is_taken taken n) (message_at entries n)
   pub long : length taken ≡ length h
 

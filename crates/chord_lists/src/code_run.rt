@@ -11,7 +11,7 @@ ghost use Rattle.chord_code.specs.Meaning.{code_program};
 ghost use Rattle.chord_code.specs.Sound.{IsSoundCode};
 ghost use Rattle.chord_lists.specs.Bag.{HasMessages, LacksAMessage, Lists, numbers_of};
 ghost use Rattle.chord_lists.specs.CodeStands.{StandsAfter};
-ghost use Rattle.chord_lists.specs.CodeGoes.{IsNoted, message_left, HasTaken, HasTakenNext, AreMarked, CanFire, FiresAt, LacksAt};
+ghost use Rattle.chord_lists.specs.CodeGoes.{IsNoted, message_left, HasTaken, HasTakenNext, MarksTaken, CanFire, FiresAt, LacksAt};
 
 use crate::bag::Bag;
 use crate::code_bodies::{CodeBodies, next_ready};
@@ -115,7 +115,7 @@ fn take_next(taken: &mut Vec<bool>, what: &What) -> Result<(), AllocError>
 /// Of each entry, whether a firing has taken it.
 fn taken_of(alloc: Global, entries: &[Entry]) -> Result<Vec<bool>, AllocError>
     requires { AreWithin (reverse entries.now) }
-    ensures { IfOk result (λ taken. AreMarked taken.items entries.now (reverse entries.now)) }
+    ensures { IfOk result (λ taken. MarksTaken taken.items entries.now (reverse entries.now)) }
 {
     let mut taken = Vec::with_capacity(alloc, entries.len())?;
     for entry in entries {
