@@ -138,14 +138,14 @@ fn pending_bag(alloc: Global, entries: &[Entry]) -> Result<Bag, AllocError>
     Ok(bag)
 }
 
-/// Whether a chord of the object to which this entry is a message has all its messages.
+/// Whether a chord that has the method to which this entry is a message has all its messages.
 fn fires_at<'a>(program: &CodePlay<'a>, bag: &Bag, entry: &Entry) -> bool
     ensures yes { result ≡ true → FiresAt (code_program program.now.code.now program.now.limits.now) (numbers_of bag.now) }
     ensures no { result ≡ false → LacksAt (code_program program.now.code.now program.now.limits.now) (numbers_of bag.now) entry.now }
 {
     match &entry.what {
-        What::Sent(object, _, _) => find_chord(program, bag, *object).is_some(),
-        What::Called(object, _, _) => find_chord(program, bag, *object).is_some(),
+        What::Sent(object, method, _) => find_chord(program, bag, *object, *method).is_some(),
+        What::Called(object, method, _) => find_chord(program, bag, *object, *method).is_some(),
         _ => false,
     }
 }
