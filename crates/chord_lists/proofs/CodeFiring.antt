@@ -17,6 +17,7 @@ use Rattle.chord_base.proofs.Merged.{merged_fire, merged_story}
 use Rattle.chord_base.proofs.Calls.{served_member}
 use Rattle.chord_code.specs.declared.parts.Parts.{Parts}
 use Rattle.chord_code.specs.Meaning.{code_program}
+use Rattle.chord_code.proofs.Places.{set_other}
 use Rattle.chord_task.specs.declared.task.Task.{Task}
 use Rattle.chord_task.specs.Stacks.{FitsCall, BeginsDefined}
 use Rattle.chord_task.specs.declared.body.Body.{Body}
@@ -26,7 +27,7 @@ use Rattle.chord_task.proofs.Asking.{waits_yes}
 use Rattle.chord_lists.specs.Engine.{IsRunOfLength, fired}
 use Rattle.chord_lists.specs.declared.code_bodies.CodeBodies.{CodeBodies}
 use Rattle.chord_lists.specs.CodeStands.{past_of, views, home, ready_in, ready_at, over_in, over_at, AreReady, IsAmongReady, Awaits, AreMessagesAt, sent_values, HostsCall, FitsAt, Serves, StandsAfter}
-use Rattle.chord_lists.proofs.Spots.{set_other, end_at, before_end, past_end, one_some, nothing_some, has_first, has_later}
+use Rattle.chord_lists.proofs.Spots.{end_at, before_end, past_end, one_some, nothing_some, has_first, has_later}
 use Rattle.chord_lists.proofs.CodeTasks.{one_call, resumable}
 use Rattle.chord_lists.proofs.CodeSteps.{stands_merged, task_below, OneMore, more_home, keeps_more, journal_more, views_set, tasks_set, awaits_set, pending_under}
 use Rattle.chord_lists.proofs.Laying.{takes_sent}

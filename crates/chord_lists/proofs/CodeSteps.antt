@@ -31,6 +31,7 @@ use Rattle.chord_code.specs.Valid.{IsValid}
 use Rattle.chord_code.proofs.Validity.{valid_within, valid_methods}
 use Rattle.chord_code.specs.Within.{IsAskWithin}
 use Rattle.chord_code.proofs.Tame.{code_is_tame, code_asks_within}
+use Rattle.chord_code.proofs.Places.{set_same, set_other}
 use Rattle.chord_task.specs.declared.task.Task.{Task}
 use Rattle.chord_task.specs.Stacks.{IsNext, StaysDefined}
 use Rattle.chord_task.specs.Standing.{view_of, IsTaskOf, is_ready_of, waits_of}
@@ -41,7 +42,7 @@ use Rattle.chord_lists.specs.declared.code_bodies.CodeBodies.{CodeBodies}
 use Rattle.chord_task.specs.Past.{AddsOne}
 use Rattle.chord_task.specs.Turning.{MayTurn, Turned}
 use Rattle.chord_lists.specs.CodeStands.{past_of, views, home_in, home, ready_in, ready_at, AreReady, Awaits, StandsAfter, turn_of, WentAt}
-use Rattle.chord_lists.proofs.Spots.{set_same, set_other, end_at, before_end, one_some, nothing_some}
+use Rattle.chord_lists.proofs.Spots.{end_at, before_end, one_some, nothing_some}
 use Rattle.chord_lists.proofs.CodeTasks.{ready_not_waiting, call_waits}
 
 -- ---- the run in its tasks

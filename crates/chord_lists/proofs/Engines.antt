@@ -14,10 +14,11 @@ use Rattle.chord_base.specs.Bounds.{AreWithin, IsWhatWithin, IsMessageWithin, Is
 use Rattle.chord_base.proofs.Waits.{either}
 use Rattle.chord_base.proofs.Final.{final_when}
 use Rattle.chord_base.proofs.Pending.{none_fires_on, none_fires_with, none_fires_after, fires_without, pending_other}
-use Rattle.chord_lists.specs.Bag.{Address, address_to, LacksMessage, LacksAMessage, IsPushed, ArePopped, Lists}
+use Rattle.chord_lists.specs.Bag.{Address, address_to, LacksMessage, IsPushed, ArePopped, Lists}
 use Rattle.chord_lists.specs.Engine as engine
-use Rattle.chord_lists.specs.Engine.{fired, State, IsOver}
+use Rattle.chord_lists.specs.Engine.{fired, EachLacksAMessage, State, IsOver}
 use Rattle.chord_lists.proofs.Bags.{without_all, lists_none, lists_on, lists_more, lists_taken}
+use Rattle.chord_lists.proofs.Spots.{has_first, has_later}
 use Rattle.chord_lists.proofs.Taking.{pops_pending, lacks_fires}
 
 -- ---- bounds
@@ -136,31 +137,32 @@ lists_entry h e n index number none s =
 
 -- ---- enabled chords
 
--- a pending member of a firing is a message to its object
-takes_object : (h : List Entry) (o : Object) (js ms : List ℕ) (vs : List value.Value) (n : ℕ) → has n ms ≡ true → Takes h o js ms vs
-    → (m : Message) × (pending n h ≡ Some m) × (m.object ≡ o)
-takes_object h o [] [] vs n s t = let z : false ≡ true = s in cc
-takes_object h o [] (i ∷ ms) vs n s t = absurd t
-takes_object h o (j ∷ js) [] vs n s t = absurd t
-takes_object h o (j ∷ js) (i ∷ ms) vs n s t =
+-- a pending member of a firing is a message to its object, and to a method of its chord
+takes_message : (h : List Entry) (o : Object) (js ms : List ℕ) (vs : List value.Value) (n : ℕ) → has n ms ≡ true → Takes h o js ms vs
+    → (m : Message) × (pending n h ≡ Some m) × (m.object ≡ o) × (has m.method js ≡ true)
+takes_message h o [] [] vs n s t = let z : false ≡ true = s in cc
+takes_message h o [] (i ∷ ms) vs n s t = absurd t
+takes_message h o (j ∷ js) [] vs n s t = absurd t
+takes_message h o (j ∷ js) (i ∷ ms) vs n s t =
     elim (either (n == i)) [
-      | inl y ↦ (record { object = o; method = j; arguments = t.0 }, ap (λ z. pending z h) (eqb-true n i y) ∙ t.2, refl)
-      | inr out ↦ takes_object h o js ms t.1 n (rw out at s) t.4
+      | inl y ↦ (record { object = o; method = j; arguments = t.0 }, ap (λ z. pending z h) (eqb-true n i y) ∙ t.2, refl, has_first j js)
+      | inr out ↦ (let r = takes_message h o js ms t.1 n (rw out at s) t.4 in (r.0, r.1, r.2, has_later r.0.method j js r.3))
     ]
 
--- a message after which each chord of its object lacks a message
+-- a message after which each chord of its object that has its method lacks a message
 idle_message : (p : Program) (h : List Entry) (e : Entry) (m : Message) (n : ℕ) (index : Address → List ℕ) → message_of e.what ≡ Some m
     → members_of e.what ≡ [] → NoneFires p h → Lists (λ i. pending i (e ∷ h)) n index
-    → ((k : ℕ) (js : List ℕ) → slice_get (p.chords m.object.class) k ≡ Some js → LacksAMessage m.object js index) → NoneFires p (e ∷ h)
+    → EachLacksAMessage p m.object m.method index → NoneFires p (e ∷ h)
 idle_message p h e m n index is none idle lists lacks =
     none_fires_with p e h none idle
     (λ k o ms vs s f.
-    let r = takes_object (e ∷ h) o f.0 ms vs e.number s f.2 in
+    let r = takes_message (e ∷ h) o f.0 ms vs e.number s f.2 in
     let here : pending e.number (e ∷ h) ≡ Some m = rw (eq-eqb e.number e.number refl) is in
     let same : Some r.0 ≡ Some m = sym r.1 ∙ here in
     let q : r.0 ≡ m = cc in
     let o' : m.object ≡ o = sym (ap (λ z. z.object) q) ∙ r.2 in
-    let l = lacks k f.0 (subst (λ z. slice_get (p.chords z.class) k ≡ Some f.0) (sym o') f.1) in
+    let j' : has m.method f.0 ≡ true = subst (λ (z : Message). has z.method f.0 ≡ true) q r.3 in
+    let l = lacks k f.0 (subst (λ z. slice_get (p.chords z.class) k ≡ Some f.0) (sym o') f.1) j' in
     lacks_fires (e ∷ h) n index o f.0 ms vs l.0 l.1 lists l.2 (subst (λ z. LacksMessage z l.1 index) o' l.3) f.2)
 
 -- a message, and a firing of what is then pending
@@ -210,10 +212,10 @@ state_plain p before after index n s e m none =
       is_fresh = none_fires_on p e s.history none s.is_fresh;
     }
 
--- a message whose number the bag notes keeps the engine's state, with its object to look at
+-- a message whose number the bag notes keeps the engine's state, with its object and method to look at
 pub state_message : (p : Program) (before after : List Entry → Type 0) (old new : Address → List ℕ) (n : ℕ) (o : Object) (j : ℕ)
     (s : State p before old None n) (e : Entry) → engine.Made p after s.history e → engine.IsMessageTo o j e.what
-    → IsPushed (address_to o j) n old new → State p after new (Some o) (n + 1)
+    → IsPushed (address_to o j) n old new → State p after new (Some (o, j)) (n + 1)
 state_message p before after old new n o j s e m is pushed =
     let number : e.number ≡ n = m.follows.numbered ∙ s.played.so_long in
     let sent : Message = record { object = o; method = j; arguments = is.0 } in
@@ -223,7 +225,7 @@ state_message p before after old new n o j s e m is pushed =
       played = record { past = (s.played.past, m.follows); within = m.within; so_long = omega (arith, s.played.so_long) };
       bodies = m.after;
       lists = lists_entry s.history e n new number m.no_firing (subst (λ x. Lists (λ i. if n == i then x else pending i s.history) (suc n) new) (sym is.1) more);
-      is_fresh = record { before = s.history; last = e; sent = sent; is = refl; numbered = m.follows.numbered; idle = s.is_fresh; is_message = is.1; no_firing = m.no_firing; object = refl };
+      is_fresh = record { before = s.history; last = e; sent = sent; is = refl; numbered = m.follows.numbered; idle = s.is_fresh; is_message = is.1; no_firing = m.no_firing; object = refl; method = refl };
     }
 
 -- where no body has a next ask the run is over
@@ -232,20 +234,20 @@ pub state_over : (p : Program) (before after : List Entry → Type 0) (index : A
 state_over p before after index n s some done stands =
     (s.history, s.played, stands, final_when p s.history s.played.past (omega (arith, s.played.so_long, some)) done s.is_fresh)
 
--- no chord of the fresh object is enabled
-pub state_idle : (p : Program) (stands : List Entry → Type 0) (index : Address → List ℕ) (o : Object) (n : ℕ) → State p stands index (Some o) n
-    → ((k : ℕ) (js : List ℕ) → slice_get (p.chords o.class) k ≡ Some js → LacksAMessage o js index) → State p stands index None n
-state_idle p stands index o n s f =
+-- no chord of the fresh object that has the fresh method is enabled
+pub state_idle : (p : Program) (stands : List Entry → Type 0) (index : Address → List ℕ) (o : Object) (j n : ℕ) → State p stands index (Some (o, j)) n
+    → EachLacksAMessage p o j index → State p stands index None n
+state_idle p stands index o j n s f =
     let m = s.is_fresh in
-    let lacks : (k : ℕ) (js : List ℕ) → slice_get (p.chords m.sent.object.class) k ≡ Some js → LacksAMessage m.sent.object js index =
-    subst (λ (d : Object). (k : ℕ) (js : List ℕ) → slice_get (p.chords d.class) k ≡ Some js → LacksAMessage d js index) (sym m.object) f
+    let lacks : EachLacksAMessage p m.sent.object m.sent.method index =
+    subst (λ i. EachLacksAMessage p m.sent.object i index) (sym m.method) (subst (λ (d : Object). EachLacksAMessage p d j index) (sym m.object) f)
     in
     let lists : Lists (λ i. pending i (m.last ∷ m.before)) n index = subst (λ h. Lists (λ i. pending i h) n index) m.is s.lists in
     let idle : NoneFires p (m.last ∷ m.before) = idle_message p m.before m.last m.sent n index m.is_message m.no_firing m.idle lists lacks in
     record { history = s.history; played = s.played; bodies = s.bodies; lists = s.lists; is_fresh = subst (NoneFires p) (sym m.is) idle }
 
 -- a firing of what went from the bag may come
-pub state_may_begin : (p : Program) (stands : List Entry → Type 0) (old new : Address → List ℕ) (fresh : Option Object) (n k : ℕ) (o : Object)
+pub state_may_begin : (p : Program) (stands : List Entry → Type 0) (old new : Address → List ℕ) (fresh : Option (Object × ℕ)) (n k : ℕ) (o : Object)
     (js ms : List ℕ) → State p stands old fresh n → n < 65536 → slice_get (p.chords o.class) k ≡ Some js → k < 256 → 0 < length js → length js ≤ 8
     → ArePopped o js ms old new → engine.MayBegin p stands n k o ms
 state_may_begin p stands old new fresh n k o js ms s room c chord some few t =
@@ -253,10 +255,10 @@ state_may_begin p stands old new fresh n k o js ms s room c chord some few t =
     (s.history, taken.0, s.played, s.bodies, (js, c, taken.1), fired_within s.history n k o js ms taken.0 s.played.within s.played.so_long room chord some few taken.1)
 
 -- a firing of popped members keeps the engine's state
-pub state_fired : (p : Program) (before after : List Entry → Type 0) (old new : Address → List ℕ) (n k : ℕ) (o : Object) (js ms : List ℕ)
-    → State p before old (Some o) n → n < 65536 → slice_get (p.chords o.class) k ≡ Some js → k < 256 → 0 < length js → length js ≤ 8
+pub state_fired : (p : Program) (before after : List Entry → Type 0) (old new : Address → List ℕ) (n k : ℕ) (o : Object) (j : ℕ) (js ms : List ℕ)
+    → State p before old (Some (o, j)) n → n < 65536 → slice_get (p.chords o.class) k ≡ Some js → k < 256 → 0 < length js → length js ≤ 8
     → ArePopped o js ms old new → engine.Began p before after n k o ms → State p after new None (n + 1)
-state_fired p before after old new n k o js ms s room c chord some few t began =
+state_fired p before after old new n k o j js ms s room c chord some few t began =
     let taken = pops_pending s.history n o js ms old new s.lists t in
     let vs = taken.0 in
     let fires : Fires p s.history k o ms vs = (js, c, taken.1) in

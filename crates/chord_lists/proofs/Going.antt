@@ -25,11 +25,11 @@ use Rattle.chord_lists.specs.Engine.{main_begun, fired, IsRunOfLength}
 use Rattle.chord_lists.specs.declared.code_bodies.CodeBodies.{CodeBodies}
 use Rattle.chord_lists.specs.Bag.{Address, address_to, HasMessages, Lists}
 use Rattle.chord_lists.specs.CodeStands.{past_of, views, entry_message, message_at, ready_at, StandsAfter}
-use Rattle.chord_lists.specs.CodeGoes.{IsNoted, message_left, is_taken, AreMarked, CanFire, FiresAt, LacksAt}
+use Rattle.chord_lists.specs.CodeGoes.{IsNoted, message_left, is_taken, MarksTaken, CanFire, FiresAt, LacksAt}
 use Rattle.chord_lists.proofs.Bags.{lists_none, lists_on, lists_more, message_to}
 use Rattle.chord_lists.proofs.Taking.{lacks_fires}
 use Rattle.chord_lists.proofs.PendingEntries.{pending_entry}
-use Rattle.chord_lists.proofs.Spots.{one_some, nothing_some}
+use Rattle.chord_lists.proofs.Spots.{one_some, nothing_some, has_first}
 use Rattle.chord_lists.proofs.CodeSteps.{stands_merged, ready_task}
 use Rattle.chord_lists.proofs.CodeOver.{none_asks}
 
@@ -179,7 +179,7 @@ lists_either f n old new None s e p = subst (λ index. Lists (early (n + 1) f) (
 lists_either f n old new (Some m) s e p = lists_noted f n old new m s e p
 
 -- one more number
-pub lists_next : (taken : List Bool) (es : List Entry) (n : ℕ) (e : Entry) (b : Bool) (old new : Address → List ℕ) → AreMarked taken es (reverse es) → slice_get es n ≡ Some e → is_taken taken n ≡ b → IsNoted n (message_left b (message_of e.what)) old new → Lists (early n (λ i. pending i (reverse es))) n old → Lists (early (n + 1) (λ i. pending i (reverse es))) (n + 1) new
+pub lists_next : (taken : List Bool) (es : List Entry) (n : ℕ) (e : Entry) (b : Bool) (old new : Address → List ℕ) → MarksTaken taken es (reverse es) → slice_get es n ≡ Some e → is_taken taken n ≡ b → IsNoted n (message_left b (message_of e.what)) old new → Lists (early n (λ i. pending i (reverse es))) n old → Lists (early (n + 1) (λ i. pending i (reverse es))) (n + 1) new
 lists_next taken es n e b old new a g is p s =
     let left : pending n (reverse es) ≡ message_left b (message_of e.what) = a.left n ∙ ap (λ z. message_left z (message_at es n)) is ∙ ap (λ o. message_left b (entry_message o)) g in
     lists_either (λ i. pending i (reverse es)) n old new (message_left b (message_of e.what)) s left p
@@ -202,7 +202,7 @@ can_fire p h n index s f =
     let t = all_taken h n index f.0 f.2 s f.4 in
     (f.1, f.0, t.0, t.1, (f.2, f.3, t.2))
 
--- where each message's object lacks one for each chord, none fires
+-- where each chord that has the method of a message lacks one, none fires
 pub none_can : (p : Program) (es : List Entry) (n : ℕ) (index : Address → List ℕ) → HaveMethods p → AreWithin (reverse es) → Lists (λ i. pending i (reverse es)) n index → ((i : ℕ) (e : Entry) → slice_get es i ≡ Some e → LacksAt p index e) → NoneFires p (reverse es)
 none_can p es n index some w s f k o ms vs fires = by_methods fires.0 ms (some o.class k fires.0 fires.1) fires.1 fires.2
   where
@@ -213,7 +213,7 @@ none_can p es n index some w s f k o ms vs fires = by_methods fires.0 ms (some o
         let m : Message = record { object = o; method = j; arguments = t.0 } in
         let y = pending_entry (reverse es) i m w t.2 in
         let g : slice_get es i ≡ Some y.0 = ap (λ x. slice_get x i) (sym (reverse-reverse es)) ∙ y.1 in
-        let lacks = f i y.0 g m y.2 k (j ∷ js) c in
+        let lacks = f i y.0 g m y.2 k (j ∷ js) c (has_first j js) in
         lacks_fires (reverse es) n index o (j ∷ js) (i ∷ ms') vs lacks.0 lacks.1 s lacks.2 lacks.3 t
 
 -- ---- the answer
@@ -245,7 +245,7 @@ pub no_entries : (es : List Entry) → length es ≡ 0 → reverse es ≡ []
 no_entries [] e = refl
 no_entries (x ∷ es) e = absurd (omega (arith, e))
 
--- one more entry whose object lacks a message for each chord
+-- one more entry whose method has only chords that lack a message
 pub lacks_more : (p : Program) (index : Address → List ℕ) (es : List Entry) (k : ℕ) (x : Entry) → slice_get es k ≡ Some x → LacksAt p index x → ((i : ℕ) (e : Entry) → i < k → slice_get es i ≡ Some e → LacksAt p index e) → (i : ℕ) (e : Entry) → i < k + 1 → slice_get es i ≡ Some e → LacksAt p index e
 lacks_more p index es k x g l before i e lt s =
     ⊎_elim (λ less. before i e less s)

@@ -8,7 +8,7 @@ use Rattle.chord_base.specs.Messages.{message_of, members_of, has}
 use Rattle.chord_base.proofs.Waits.{either}
 use Rattle.chord_lists.specs.CodeStands.{entry_message, message_at}
 use Rattle.chord_lists.proofs.Spots.{has_behind}
-use Rattle.chord_lists.specs.CodeGoes.{is_taken, HasTaken, HasTakenNext, AreMarked}
+use Rattle.chord_lists.specs.CodeGoes.{is_taken, HasTaken, HasTakenNext, MarksTaken}
 
 -- what stands at a place before the last one stands there without it
 before_last : (xs : List Bool) (x : Bool) (n : ℕ) → (length xs ≡ n → ⊥) → get_or (xs ++ x ∷ []) n true ≡ get_or xs n true
@@ -23,7 +23,7 @@ last_is [] x = refl
 last_is (y ∷ xs) x = last_is xs x
 
 -- one entry more
-pub marked_next : (taken after : List Bool) (es h : List Entry) (e : Entry) → AreMarked taken es h → e.number ≡ length h → slice_get es (length h) ≡ Some e → HasTakenNext (members_of e.what) taken after → AreMarked after es (e ∷ h)
+pub marked_next : (taken after : List Bool) (es h : List Entry) (e : Entry) → MarksTaken taken es h → e.number ≡ length h → slice_get es (length h) ≡ Some e → HasTakenNext (members_of e.what) taken after → MarksTaken after es (e ∷ h)
 marked_next taken after es h e a number there t =
     let end : length t.between ≡ length h = t.before.long ∙ a.long in
     record {

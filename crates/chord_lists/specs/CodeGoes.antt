@@ -6,7 +6,8 @@ use Rattle.chord_base.specs.declared.event.Entry.{Entry}
 use Rattle.chord_base.specs.Meaning.{Program}
 use Rattle.chord_base.specs.Messages.{Message, message_of, has, pending}
 use Rattle.chord_base.specs.Machine.{Fires}
-use Rattle.chord_lists.specs.Bag.{Address, address_of, HasMessages, LacksAMessage, IsPushed}
+use Rattle.chord_lists.specs.Bag.{Address, address_of, HasMessages, IsPushed}
+use Rattle.chord_lists.specs.Engine.{EachLacksAMessage}
 use Rattle.chord_lists.specs.CodeStands.{message_at}
 
 -- the message of this number came, if there is one
@@ -35,7 +36,7 @@ pub record HasTakenNext (ms : List ℕ) (old new : List Bool) : Type 0 where
   pub is : new ≡ between ++ false ∷ []
 
 -- of the entries of a history, which are the first of these, it is said whether a firing has taken them
-pub record AreMarked (taken : List Bool) (entries h : List Entry) : Type 0 where
+pub record MarksTaken (taken : List Bool) (entries h : List Entry) : Type 0 where
   pub left : (n : ℕ) → pending n h ≡ message_left (is_taken taken n) (message_at entries n)
   pub long : length taken ≡ length h
 
@@ -47,6 +48,6 @@ CanFire p h = (k : ℕ) × (o : Object) × (ms : List ℕ) × (vs : List Value) 
 abbrev pub FiresAt : Program → (Address → List ℕ) → Type 0
 FiresAt p index = (o : Object) × (k : ℕ) × (js : List ℕ) × (slice_get (p.chords o.class) k ≡ Some js) × HasMessages o js index
 
--- each chord of the object to which the entry is a message lacks one
+-- each chord that has the method to which the entry is a message lacks one
 abbrev pub LacksAt : Program → (Address → List ℕ) → Entry → Type 0
-LacksAt p index e = (m : Message) → message_of e.what ≡ Some m → (k : ℕ) (js : List ℕ) → slice_get (p.chords m.object.class) k ≡ Some js → LacksAMessage m.object js index
+LacksAt p index e = (m : Message) → message_of e.what ≡ Some m → EachLacksAMessage p m.object m.method index

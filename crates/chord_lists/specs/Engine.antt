@@ -1,21 +1,21 @@
 -- The engine of one thread, over any program: what it keeps from entry to entry.
 --
 -- `stands` says what the bodies of the program are after a history. Histories have their newest entry first.
-use Rattle.std.specs.Prelude.{◌≡◌, ℕ, ◌+◌, ◌≤◌, ◌⊎◌, List, [], ◌∷◌, length, Option, Some, None}
+use Rattle.std.specs.Prelude.{◌≡◌, ℕ, ◌+◌, ◌≤◌, ◌⊎◌, List, [], ◌∷◌, length, Option, Some, None, true, slice_get}
 use Rattle.chord_base.specs.declared.value.Object.{Object}
 use Rattle.chord_base.specs.declared.value.Value as value
 use Rattle.chord_base.specs.declared.event.What.{What}
 use Rattle.chord_base.specs.declared.event.What.TheVariants.{Begun, Fired}
 use Rattle.chord_base.specs.declared.event.Entry.{Entry}
 use Rattle.chord_base.specs.Meaning.{Program}
-use Rattle.chord_base.specs.Messages.{Message, message_of, members_of, pending}
+use Rattle.chord_base.specs.Messages.{Message, message_of, members_of, has, pending}
 use Rattle.chord_base.specs.Machine.{MayFollow, Fires, NoneFires, NoneAsks, IsPast, IsFinal}
 use Rattle.chord_base.specs.Bounds.{AreWithin}
 use Rattle.chord_lists.specs.declared.engine.Turn.{Turn}
 use Rattle.chord_lists.specs.declared.engine.Turn.TheVariants as a_turn
 use Rattle.chord_lists.specs.declared.engine.Step.{Step}
 use Rattle.chord_lists.specs.declared.engine.Step.TheVariants.{Done, Idle, Fresh}
-use Rattle.chord_lists.specs.Bag.{Address, Lists}
+use Rattle.chord_lists.specs.Bag.{Address, LacksAMessage, Lists}
 
 -- the history in which `Main` has just begun
 abbrev pub main_begun : List Entry
@@ -66,8 +66,12 @@ abbrev pub Began : Program → (List Entry → Type 0) → (List Entry → Type 
 Began p before after n k o ms =
     (h : List Entry) (vs : List value.Value) → IsRunOfLength p n h → before h → Fires p h k o ms vs → after (fired n k o ms vs ∷ h)
 
--- the last entry is a message to this object, and before it no chord was enabled
-pub record IsAfterMessage (p : Program) (h : List Entry) (o : Object) : Type 0 where
+-- each chord of the object that has this method lacks a message
+abbrev pub EachLacksAMessage : Program → Object → ℕ → (Address → List ℕ) → Type 0
+EachLacksAMessage p o j index = (k : ℕ) (js : List ℕ) → slice_get (p.chords o.class) k ≡ Some js → has j js ≡ true → LacksAMessage o js index
+
+-- the last entry is a message to this method of this object, and before it no chord was enabled
+pub record IsAfterMessage (p : Program) (h : List Entry) (o : Object) (j : ℕ) : Type 0 where
   pub before : List Entry
   pub last : Entry
   pub sent : Message
@@ -77,14 +81,15 @@ pub record IsAfterMessage (p : Program) (h : List Entry) (o : Object) : Type 0 w
   pub is_message : message_of last.what ≡ Some sent
   pub no_firing : members_of last.what ≡ []
   pub object : sent.object ≡ o
+  pub method : sent.method ≡ j
 
--- the one object of which a chord may be enabled, if there may be one
-abbrev pub IsFresh : Program → List Entry → Option Object → Type 0
+-- the one object, and the one method of it, of which a chord may be enabled, if there may be one
+abbrev pub IsFresh : Program → List Entry → Option (Object × ℕ) → Type 0
 IsFresh p h None = NoneFires p h
-IsFresh p h (Some o) = IsAfterMessage p h o
+IsFresh p h (Some to) = IsAfterMessage p h to.0 to.1
 
 -- the engine after n entries: the bodies stand there, and the bag lists exactly the pending messages
-pub record State (p : Program) (stands : List Entry → Type 0) (index : Address → List ℕ) (fresh : Option Object) (n : ℕ) : Type 0 where
+pub record State (p : Program) (stands : List Entry → Type 0) (index : Address → List ℕ) (fresh : Option (Object × ℕ)) (n : ℕ) : Type 0 where
   pub history : List Entry
   pub played : IsRunOfLength p n history
   pub bodies : stands history
@@ -99,7 +104,7 @@ IsOver p stands n = (h : List Entry) × IsRunOfLength p n h × stands h × IsFin
 abbrev pub Stepped : Program → (List Entry → Type 0) → (Address → List ℕ) → ℕ → Step → Type 0
 Stepped p stands index n Done = IsOver p stands n
 Stepped p stands index n Idle = State p stands index None (n + 1)
-Stepped p stands index n (Fresh o) = State p stands index (Some o) (n + 1)
+Stepped p stands index n (Fresh o j) = State p stands index (Some (o, j)) (n + 1)
 
 -- the bodies stand after a run that is complete or has n entries, and no more than n
 pub record IsPlayedOut (p : Program) (stands : List Entry → Type 0) (n : ℕ) : Type 0 where

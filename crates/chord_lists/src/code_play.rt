@@ -131,6 +131,16 @@ impl<'a> Playable for CodePlay<'a> {
         }
     }
 
+    fn has_method(&self, class: u16, chord: u16, method: u8) -> bool {
+        match self.code.parts().classes.items().get(class as usize) {
+            None => unreachable!(),
+            Some(line) => match line.chords.items().get(chord as usize) {
+                None => unreachable!(),
+                Some(line) => line.methods.has(method),
+            },
+        }
+    }
+
     fn journal(&self, _alloc: Global, bodies: CodeBodies) -> Result<Journal, AllocError> {
         Ok(journal_of(bodies))
     }

@@ -11,7 +11,7 @@ ghost use Rattle.chord_code.specs.Meaning.{code_program};
 ghost use Rattle.chord_code.specs.Sound.{IsSoundCode};
 ghost use Rattle.chord_lists.specs.Bag.{HasMessages, LacksAMessage, Lists, numbers_of};
 ghost use Rattle.chord_lists.specs.CodeStands.{StandsAfter};
-ghost use Rattle.chord_lists.specs.CodeGoes.{IsNoted, message_left, HasTaken, HasTakenNext, AreMarked, CanFire, FiresAt, LacksAt};
+ghost use Rattle.chord_lists.specs.CodeGoes.{IsNoted, message_left, HasTaken, HasTakenNext, MarksTaken, CanFire, FiresAt, LacksAt};
 
 use crate::bag::Bag;
 use crate::code_bodies::{CodeBodies, next_ready};
@@ -115,7 +115,7 @@ fn take_next(taken: &mut Vec<bool>, what: &What) -> Result<(), AllocError>
 /// Of each entry, whether a firing has taken it.
 fn taken_of(alloc: Global, entries: &[Entry]) -> Result<Vec<bool>, AllocError>
     requires { AreWithin (reverse entries.now) }
-    ensures { IfOk result (λ taken. AreMarked taken.items entries.now (reverse entries.now)) }
+    ensures { IfOk result (λ taken. MarksTaken taken.items entries.now (reverse entries.now)) }
 {
     let mut taken = Vec::with_capacity(alloc, entries.len())?;
     for entry in entries {
@@ -138,14 +138,14 @@ fn pending_bag(alloc: Global, entries: &[Entry]) -> Result<Bag, AllocError>
     Ok(bag)
 }
 
-/// Whether a chord of the object to which this entry is a message has all its messages.
+/// Whether a chord that has the method to which this entry is a message has all its messages.
 fn fires_at<'a>(program: &CodePlay<'a>, bag: &Bag, entry: &Entry) -> bool
     ensures yes { result ≡ true → FiresAt (code_program program.now.code.now program.now.limits.now) (numbers_of bag.now) }
     ensures no { result ≡ false → LacksAt (code_program program.now.code.now program.now.limits.now) (numbers_of bag.now) entry.now }
 {
     match &entry.what {
-        What::Sent(object, _, _) => find_chord(program, bag, *object).is_some(),
-        What::Called(object, _, _) => find_chord(program, bag, *object).is_some(),
+        What::Sent(object, method, _) => find_chord(program, bag, *object, *method).is_some(),
+        What::Called(object, method, _) => find_chord(program, bag, *object, *method).is_some(),
         _ => false,
     }
 }

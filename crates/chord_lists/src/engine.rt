@@ -7,10 +7,10 @@
 ghost use Rattle.std.specs.Prelude.{◌≡◌, ℕ, ◌+◌, ◌<◌, ◌≤◌, ◌⊎◌, List, length, reverse, slice_get, Option, Some, None, IfOk, IfSome, IfNone};
 ghost use Rattle.chord_base.specs.declared.event.Entry.{Entry};
 ghost use Rattle.chord_base.specs.Meaning.{HaveMethods, Program};
-ghost use Rattle.chord_base.specs.Messages.{AreDifferent};
+ghost use Rattle.chord_base.specs.Messages.{AreDifferent, has};
 ghost use Rattle.chord_base.specs.Machine.{IsRun, IsComplete};
-ghost use Rattle.chord_lists.specs.Bag.{HasMessages, LacksAMessage, numbers_of};
-ghost use Rattle.chord_lists.specs.Engine.{main_begun, MayGoOn, MayBegin, Went, Began, Ends, IsPlayedOut, State, Stepped};
+ghost use Rattle.chord_lists.specs.Bag.{HasMessages, numbers_of};
+ghost use Rattle.chord_lists.specs.Engine.{main_begun, MayGoOn, MayBegin, Went, Began, Ends, IsPlayedOut, EachLacksAMessage, State, Stepped};
 
 use crate::bag::Bag;
 use chord_base::event::Limits;
@@ -87,20 +87,29 @@ pub trait Playable {
         ensures few { length result.now ≤ 8 }
         ensures different { AreDifferent result.now };
 
+    /// Whether a chord of the class has a method.
+    fn has_method(&self, class: u16, chord: u16, method: u8) -> bool
+        requires { chord < length ((program self.now).chords class) }
+        ensures { (js : List ℕ) → slice_get ((program self.now).chords class) chord ≡ Some js → result ≡ has method js };
+
     /// The journal of all that the bodies did.
     fn journal(&self, alloc: Global, bodies: Self::Bodies) -> Result<Journal, AllocError>
         requires { Ends (program self.now) (stands self.now bodies) }
         ensures { IfOk result (λ journal. (h : List Entry) → stands self.now bodies h → journal ≡ reverse h) };
 }
 
-/// A chord of the object that is enabled.
+/// A chord of the object that has the method and is enabled.
+///
+/// A message enables only chords that have its method, so no other is looked at.
 #[inline(always)]
-pub fn find_chord<P: Playable>(program: &P, bag: &Bag, object: Object) -> Option<u16>
+pub fn find_chord<P: Playable>(program: &P, bag: &Bag, object: Object, method: u8) -> Option<u16>
     ensures some { IfSome result (λ k. (js : List ℕ) × (slice_get ((P.program program.now).chords object.class) k ≡ Some js) × HasMessages object js (numbers_of bag.now)) }
-    ensures none { IfNone result ((k : ℕ) (js : List ℕ) → slice_get ((P.program program.now).chords object.class) k ≡ Some js → LacksAMessage object js (numbers_of bag.now)) }
+    ensures none { IfNone result (EachLacksAMessage (P.program program.now) object method (numbers_of bag.now)) }
 {
     for chord in 0..program.count(object.class) {
-        if bag.has_all(object, program.methods(object.class, chord)) {
+        if program.has_method(object.class, chord, method)
+            && bag.has_all(object, program.methods(object.class, chord))
+        {
             return Some(chord);
         }
     }
@@ -113,8 +122,8 @@ enum Step {
     Done,
     /// An entry, after which no chord is enabled.
     Idle,
-    /// A message to this object, of which a chord may now be enabled.
-    Fresh(Object),
+    /// A message to this method of this object, of which a chord that has the method may now be enabled.
+    Fresh(Object, u8),
 }
 
 /// Lets some body go on.
@@ -136,7 +145,7 @@ fn take_turn<P: Playable>(
         Turn::Plain => Ok(Step::Idle),
         Turn::Message(object, method) => {
             bag.note(alloc, object, method, number as u16)?;
-            Ok(Step::Fresh(object))
+            Ok(Step::Fresh(object, method))
         }
     }
 }
@@ -152,7 +161,7 @@ fn fire<P: Playable>(
     number: u32,
 ) -> Result<(), AllocError>
     requires room { number < 65536 }
-    requires state { State (P.program program.now) (P.stands program.now bodies.old) (numbers_of bag.old) (Some object) number }
+    requires state { (j : ℕ) × State (P.program program.now) (P.stands program.now bodies.old) (numbers_of bag.old) (Some (object, j)) number }
     requires there { (js : List ℕ) × (slice_get ((P.program program.now).chords object.class) chord ≡ Some js) × HasMessages object js (numbers_of bag.old) }
     ensures { IfOk result (λ _. State (P.program program.now) (P.stands program.now bodies.new) (numbers_of bag.new) None (number + 1)) }
 {
@@ -163,13 +172,13 @@ fn fire<P: Playable>(
     Ok(())
 }
 
-/// Makes the next entry: a firing where a chord of the fresh object is enabled, and otherwise what a body asks.
+/// Makes the next entry: a firing where the fresh message has enabled a chord, and otherwise what a body asks.
 fn advance<P: Playable>(
     alloc: Global,
     program: &P,
     bodies: &mut P::Bodies,
     bag: &mut Bag,
-    fresh: Option<Object>,
+    fresh: Option<(Object, u8)>,
     number: u32,
 ) -> Result<Step, AllocError>
     requires some { 0 < number }
@@ -179,7 +188,7 @@ fn advance<P: Playable>(
 {
     match fresh {
         None => take_turn(alloc, program, bodies, bag, number),
-        Some(object) => match find_chord(program, bag, object) {
+        Some((object, method)) => match find_chord(program, bag, object, method) {
             None => take_turn(alloc, program, bodies, bag, number),
             Some(chord) => {
                 fire(alloc, program, bodies, bag, object, chord, number)?;
@@ -206,7 +215,7 @@ fn play_bodies<P: Playable>(
         match advance(alloc, program, &mut bodies, &mut bag, fresh, number)? {
             Step::Done => return Ok(bodies),
             Step::Idle => fresh = None,
-            Step::Fresh(object) => fresh = Some(object),
+            Step::Fresh(object, method) => fresh = Some((object, method)),
         }
     }
     Ok(bodies)

@@ -1,6 +1,6 @@
 use Rattle.std.proofs.Common.{◌≡◌, ◌<◌, ◌∙◌, length, reverse, take, subst, sym, arith, Some}
 use Rattle.std.specs.Prelude.{slice_get}
-use Rattle.chord_lists.specs.CodeGoes.{AreMarked}
+use Rattle.chord_lists.specs.CodeGoes.{MarksTaken}
 use Rattle.chord_lists.proofs.Spots.{got}
 use Rattle.chord_lists.proofs.Taken.{marked_next}
 use Rattle.chord_lists.proofs.Going.{number_at, more_is, first_length}
@@ -16,4 +16,4 @@ loop-entry-preserved c =
     let long : length h ≡ k = first_length es k (omega (arith, lt)) in
     let number : e.number ≡ length h = number_at es k e lt c.entry-item.is c.requires ∙ sym long in
     let there = subst (λ i. slice_get es i ≡ Some e) (sym long) (got es k e lt c.entry-item.is) in
-    subst (λ g. AreMarked c.take_next.new.taken.items es g) (sym (more_is es k e lt c.entry-item.is)) (marked_next c.loop-entry.taken.items c.take_next.new.taken.items es h e c.loop-entry.invariant number there c.in_ok-take_next.ensures)
+    subst (λ g. MarksTaken c.take_next.new.taken.items es g) (sym (more_is es k e lt c.entry-item.is)) (marked_next c.loop-entry.taken.items c.take_next.new.taken.items es h e c.loop-entry.invariant number there c.in_ok-take_next.ensures)

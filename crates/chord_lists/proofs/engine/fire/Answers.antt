@@ -8,7 +8,7 @@ begin-requires-clause-may g c =
     let index = numbers_of c.take_all.new.self in
     let methods = c.methods-methods.result.now in
     let members = c.take_all.new.members in
-    state_may_begin _ _ _ index _ _ c.args.chord c.args.object methods members c.requires.state c.requires.room m.value m.numbered m.some m.few
+    state_may_begin _ _ _ index _ _ c.args.chord c.args.object methods members c.requires.state.1 c.requires.room m.value m.numbered m.some m.few
     c.take_all.ensures
 
 pub returns : goal.returns
@@ -18,5 +18,5 @@ returns g c =
     let index = numbers_of c.take_all.new.self in
     let methods = c.methods-methods.result.now in
     let members = c.take_all.new.members in
-    state_fired _ _ stands _ index _ c.args.chord _ methods members c.requires.state c.requires.room m.value m.numbered m.some m.few
+    state_fired _ _ stands _ index _ c.args.chord _ _ methods members c.requires.state.1 c.requires.room m.value m.numbered m.some m.few
     c.take_all.ensures c.in_ok-begin.ensures
