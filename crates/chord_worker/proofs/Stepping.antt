@@ -14,6 +14,7 @@ use Rattle.chord_rule.specs.declared.view.View.{View}
 use Rattle.chord_rule.specs.Kinds.{is_among, entry, left_by}
 use Rattle.chord_rule.specs.Numbers.{HasNumber}
 use Rattle.chord_rule.specs.Tells.{CameNext}
+use Rattle.chord_space.specs.declared.space.Desk.{Desk}
 use Rattle.chord_space.specs.declared.space.Space.{Space}
 use Rattle.chord_space.specs.Desks.{view}
 use Rattle.chord_task.specs.declared.parcel.Opened.{Opened as Parcel}
@@ -77,6 +78,22 @@ taken_minded knows es x w f m low (inr plays) = inr (inl (f, low, plays))
 pub minded_since : (knows : ℕ → Type 0) (es es' : List Entry) (x x' : Option Task) (w : Worker) (m : ℕ) → x' ≡ x → es' ≡ es → WasMinded knows es' x' w m → WasMinded knows es x w m
 minded_since knows es es' x x' w m e k minded = subst (λ (y : Option Task). WasMinded knows es y w m) e (subst (λ (h : List Entry). WasMinded knows h x' w m) k minded)
 
+-- what is kept and played alone says what was minded
+pub minded_as : (knows : ℕ → Type 0) (es : List Entry) (x : Option Task) (w w' : Worker) (m : ℕ) → w'.desk ≡ w.desk → w'.task ≡ w.task → WasMinded knows es x w m → WasMinded knows es x w' m
+minded_as knows es x w w' m desk task (inl same) = inl (task ∙ same.0, ap (λ (d : Desk Parcel). (view d).kept) desk ∙ same.1)
+minded_as knows es x w w' m desk task (inr (inl plays)) =
+    let p = plays.2 in
+    let kept = ap (λ (d : Desk Parcel). (view d).kept) desk in
+    inr (inl (plays.0, plays.1, record {
+      idle = p.idle;
+      known = p.known;
+      fired = p.fired;
+      numbered = p.numbered;
+      there = subst (IsIn p.fired) (sym kept) p.there;
+      stay = λ e i. subst (IsIn e) (sym kept) (p.stay e i);
+    }))
+minded_as knows es x w w' m desk task (inr (inr told)) = inr (inr (ap (λ (d : Desk Parcel). (view d).spent) desk ∙ told))
+
 -- ## A step
 
 module _ (before : List Entry) (t : Task) (n : ℕ) (x : Entry) (number : x.number ≡ n) (below : AllBelow n before) (w : Worker) where
@@ -85,10 +102,10 @@ module _ (before : List Entry) (t : Task) (n : ℕ) (x : Entry) (number : x.numb
   newest_is_kept i = (x, i, subst (λ (k : ℕ). AllBelow k before) (sym number) below)
 
   -- an asynchronous message was minded, whose entry the desk kept
-  pub went_sent : (knows : ℕ → Type 0) (es : List Entry) (y : Option Task) → es ≡ x ∷ before → WasMinded knows es y w n → HasGoneOn before t w
-  went_sent knows es y is (inl same) = inl (newest_is_kept (subst (IsIn x) (sym (same.1 ∙ is)) (inl refl)))
-  went_sent knows es y is (inr (inl plays)) = inl (newest_is_kept (plays.2.stay x (subst (IsIn x) (sym is) (inl refl))))
-  went_sent knows es y is (inr (inr told)) = inr (inr told)
+  pub went_sent : (knows : ℕ → Type 0) (es : List Entry) (y : Option Task) → IsIn x es → WasMinded knows es y w n → HasGoneOn before t w
+  went_sent knows es y i (inl same) = inl (newest_is_kept (subst (IsIn x) (sym same.1) i))
+  went_sent knows es y i (inr (inl plays)) = inl (newest_is_kept (plays.2.stay x i))
+  went_sent knows es y i (inr (inr told)) = inr (inr told)
 
   -- a call was minded, whose task was away with it
   pub went_called : (knows : ℕ → Type 0) (es : List Entry) → es ≡ left_by (x ∷ (view_of t).past) (x ∷ before) → WasMinded knows es None w n → HasGoneOn before t w

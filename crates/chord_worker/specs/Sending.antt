@@ -2,6 +2,7 @@
 use Rattle.std.specs.Prelude.{◌≡◌, ℕ, false, List, [], ◌∷◌, Some, None}
 use Rattle.chord_bag.specs.Reads.{messages_and_bags}
 use Rattle.chord_base.specs.declared.event.Entry.{Entry}
+use Rattle.chord_base.specs.Story.{IsIn}
 use Rattle.chord_rule.specs.declared.view.View.{View}
 use Rattle.chord_rule.specs.Duties.{duty_on}
 use Rattle.chord_rule.specs.Kinds.{left_by, without}
@@ -11,6 +12,7 @@ use Rattle.chord_task.specs.declared.parcel.Opened.{Opened as Parcel}
 use Rattle.chord_task.specs.declared.task.Task.{Task}
 use Rattle.chord_worker.specs.declared.worker.Worker.{Worker}
 use Rattle.chord_worker.specs.Resting.{IsHandFree, IsInMemory, MayContinue, IsStockTask, IsSameRole, AreListed}
+use Rattle.chord_worker.specs.Stepping.{WasMinded}
 
 -- the message m was linked in the bag k and armed, and these entries went with its parcel
 pub record IsSentOff (v w : View) (m k : ℕ) (es : List Entry) : Type 0 where
@@ -36,3 +38,7 @@ pub record Minds (s : Space Parcel) (w : Worker) (m k : ℕ) : Type 0 where
   pub spare : w.spare ≡ Some stock
   pub is_stock : IsStockTask (space_code s) (space_limits s) stock
   pub listed : AreListed w.draws.items w.taken.items (view w.desk).draws
+
+-- the worker, whose desk kept these entries, ended its last body and then minded the message m
+abbrev pub WasMindedLast : (ℕ → Type 0) → List Entry → Worker → ℕ → Type 0
+WasMindedLast knows before w m = (es : List Entry) × ((e : Entry) → IsIn e before → IsIn e es) × WasMinded knows es None w m

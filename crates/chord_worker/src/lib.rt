@@ -6,6 +6,7 @@
 #![tactic(auto)]
 
 mod calls;
+mod ending;
 mod fired;
 mod messages;
 mod minding;

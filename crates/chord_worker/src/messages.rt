@@ -161,12 +161,16 @@ impl Worker {
                     method,
                     held,
                 );
-                self.settle(task);
                 let message = Minded {
                     number,
                     object,
                     method,
                 };
+                if task.value.comes_to_end(code, limits) {
+                    self.end_and_mind(rt, alloc, space, code, limits, gate, task, message)?;
+                    return Ok(());
+                }
+                self.settle(task);
                 self.mind(rt, space, code, limits, gate, message)?;
                 Ok(())
             }

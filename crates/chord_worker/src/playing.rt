@@ -1,5 +1,6 @@
 //! A task comes to its next ask, which becomes an entry of the run.
-ghost use Rattle.std.specs.Prelude.{◌≡◌, ◌≢◌, ◌<◌, ℕ, true, false, Some, None, IfOk, OnOk, MatchResult, IfSome, IfNone};
+ghost use Rattle.std.specs.Prelude.{◌≡◌, ◌≢◌, ◌<◌, ℕ, true, false, Some, None, IfOk, OnOk, MatchResult, IfSome, IfNone, vec_len};
+ghost use Rattle.chord_base.specs.declared.event.End.{End as AnEnd};
 ghost use Rattle.chord_base.specs.Story.{IsSound};
 ghost use Rattle.chord_code.specs.declared.parts.Parts.{Parts};
 ghost use Rattle.chord_space.specs.Desks.{view, space_code, space_limits, program_of, IsDeskOf, IsSameDesk, MayDraw};
@@ -113,6 +114,7 @@ pub(crate) fn draw_own(
     ensures noted { IfOk result (λ x. IfSome x (λ n. IsNotedFrom space.now (view desk.old) (view desk.new) asked.old task.old task.new n)) }
     ensures within { IfOk result (λ x. IfSome x (λ n. n < space.now.events)) }
     ensures listed { IfOk result (λ x. IfSome x (λ _. DrawsOne (view desk.old).draws (view desk.new).draws draws.old.items draws.new.items)) }
+    ensures over { IfOk result (λ x. IfSome x (λ _. (e : AnEnd) → asked.old ≡ Some (Ask.End e) → vec_len task.old.below ≡ 0 → task.new.top ≡ None)) }
     ensures told { IfOk result (λ x. IfNone x (HeardOfLimit (view desk.old) (view desk.new))) }
     ensures same { IfOk result (λ x. IfNone x (draws.new.items ≡ draws.old.items)) }
     ensures bare { OnOk result (OwnsNothing asked.new) }
