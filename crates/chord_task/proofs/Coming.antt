@@ -62,6 +62,12 @@ came_run code limits t b f a k r top adv =
       limited = k.limited;
     }
 
+-- the body on top, whose frames have come to the ask where they stand
+pub came_so : (code : Parts) (limits : Limits) (t : Task) (b : Body) (a : Ask) → IsTaskOf code limits t → RunsOn t.top → t.top ≡ Some b → Advanced code (machine_of b.frames.value) a b.frames.value → HasCome code limits t t (what_of_ask a)
+came_so code limits t b a k r top adv =
+    let so : with_body t b ≡ t = ap (λ o. record { past = t.past; top = o; below = t.below; spare = t.spare; ended = t.ended; values = t.values; limits = t.limits; enclosed = t.enclosed }) (sym top) in
+    subst (λ s. HasCome code limits t s (what_of_ask a)) so (came_run code limits t b b.frames a k r top adv)
+
 -- the ask that a task kept was taken out
 pub came_kept : (code : Parts) (limits : Limits) (t t' : Task) (b : Body) (n : Next) (w : What) → n ≡ nexts.Runs → IsTaskOf code limits t' → view_of t' ≡ view_of t → t'.past ≡ t.past → t'.top ≡ Some b → GivenBy w b.next → HasCome code limits t (with_body t' (with_next b n)) w
 came_kept code limits t t' b n w runs k view past top given =

@@ -1,7 +1,10 @@
 //! A task comes to its next ask, which is with its caller until it becomes an entry.
 #![tactic(auto)]
 
-ghost use Rattle.std.specs.Prelude.{◌≡◌, ◌≢◌, true, OnOk, Some, None};
+ghost use Rattle.std.specs.Prelude.{◌≡◌, ◌≢◌, true, OnOk, Some, None, vec_len};
+ghost use Rattle.chord_base.specs.declared.event.End.TheVariants.{Gives};
+ghost use Rattle.chord_base.specs.declared.event.What.TheVariants.{Ended};
+ghost use Rattle.chord_base.specs.declared.value.Value.TheVariants as a_value;
 ghost use Rattle.chord_vm.specs.Frames.{what_of_ask};
 ghost use Rattle.chord_task.specs.declared.body.Next.TheVariants as nexts;
 ghost use Rattle.chord_task.specs.Standing.{IsTaskOf, GivenBy, is_ready_of};
@@ -12,7 +15,7 @@ use crate::task::Task;
 use chord_base::event::{Limits, What};
 use chord_code::code::Code;
 use chord_vm::ask::Ask;
-use chord_vm::step::advance_to;
+use chord_vm::step::{advance_to, ends_next};
 use std::alloc::{AllocError, Global};
 use std::mem;
 
@@ -100,5 +103,23 @@ impl Task {
             Some(body) => take_kept(&mut body.next, asked),
         }
         Ok(())
+    }
+    /// Whether the body on top is the only one, and comes to its end next, without a value. It has come there then, since nothing is left to run.
+    pub fn comes_to_end(&self, code: &Code, limits: &Limits) -> bool
+        requires task { IsTaskOf code.now limits.now self.now }
+        ensures alone { result ≡ true → vec_len self.now.below ≡ 0 }
+        ensures came { result ≡ true → HasCome code.now limits.now self.now self.now (Ended (Gives a_value.Unit)) }
+    {
+        let _limits = limits;
+        if !self.runs() {
+            return false;
+        }
+        if !self.below.is_empty() {
+            return false;
+        }
+        match &self.top {
+            None => false,
+            Some(body) => ends_next(code, &*body.frames),
+        }
     }
 }

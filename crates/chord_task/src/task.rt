@@ -9,6 +9,7 @@ ghost use Rattle.chord_code.specs.declared.parts.Parts.{Parts};
 ghost use Rattle.chord_code.specs.Meaning.{code_program, chord_lines};
 ghost use Rattle.chord_vm.specs.declared.frames.Frames.{Frames as TheFrames};
 ghost use Rattle.chord_vm.specs.Frames.{laid, what_of_ask};
+ghost use Rattle.chord_task.specs.declared.body.Body.{Body as ABody};
 ghost use Rattle.chord_task.specs.Arguments.{for_entry, AreTwice, MayBeList, IsList};
 ghost use Rattle.chord_task.specs.Past.{AddsOne};
 ghost use Rattle.chord_task.specs.Turning.{RunsOn};
@@ -191,6 +192,7 @@ fn reserve_values(alloc: Global, values: &mut Option<Vec<Value>>) -> Result<(), 
 fn take_last(top: &mut Option<Body>) -> Option<Box<Frames>>
     requires runs { RunsOn top.old }
     ensures none { top.new ≡ None }
+    ensures frames { (b : ABody) → top.old ≡ Some b → result ≡ Some b.frames }
 {
     match mem::replace(top, None) {
         None => None,

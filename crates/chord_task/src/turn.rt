@@ -2,6 +2,7 @@
 #![tactic(auto)]
 
 ghost use Rattle.std.specs.Prelude.{◌≡◌, ◌≢◌, ℕ, List, ◌<◌, ◌+◌, ◌++◌, ◌∷◌, [], IfOk, OnOk, None, Some, true, vec_len, vec_capacity};
+ghost use Rattle.chord_base.specs.declared.event.End.{End as AnEnd};
 ghost use Rattle.chord_code.specs.Meaning.{code_program};
 ghost use Rattle.chord_vm.specs.Frames.{what_of_ask};
 ghost use Rattle.chord_task.specs.declared.body.Body.{Body as ABody};
@@ -338,6 +339,7 @@ impl Task {
         ensures settled { IfOk result (λ sent. (a : Ask) × (asked.old ≡ Some a) × HasSettled code.now self.old number (what_of_ask a) self.new × (sent ≡ sent_to (what_of_ask a))) }
         ensures listed { OnOk result (AddsOne self.old.past self.new.past list.old.items list.new.items) }
         ensures bare { OnOk result (OwnsNothing asked.new) }
+        ensures over { OnOk result ((e : AnEnd) → asked.old ≡ Some (Ask.End e) → vec_len self.old.below ≡ 0 → self.new.top ≡ None) }
     {
         self.take_room(alloc, code, list)?;
         match &mut self.top {

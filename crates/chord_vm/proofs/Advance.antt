@@ -1,8 +1,9 @@
 -- From one instruction to the next ask.
-use Rattle.std.proofs.Common.{◌≡◌, ℕ, ℤ, zero, suc, ◌+◌, ◌<◌, List, [], ◌∷◌, Option, Some, None, length, get_or, refl, sym, ◌∙◌, ap, arith, ⊎_elim}
+use Rattle.std.proofs.Common.{◌≡◌, ℕ, ℤ, zero, suc, ◌+◌, ◌<◌, List, [], ◌∷◌, Option, Some, None, length, get_or, refl, sym, ◌∙◌, ap, arith, ◌⊎◌, inl, inr, ⊎_elim}
 use Rattle.std.specs.Prelude.{slice_get}
 use Rattle.std.proofs.lemmas.Option.{slice_get_past}
 use Rattle.std.proofs.lemmas.Bool.{cases_lt}
+use Rattle.chord_base.specs.declared.event.End.TheVariants.{Gives}
 use Rattle.chord_base.specs.declared.event.What.{What}
 use Rattle.chord_base.specs.declared.event.What.TheVariants.{Made, Sent, Called, Printed, Ended}
 use Rattle.chord_vm.specs.declared.ask.Ask.{Ask}
@@ -11,11 +12,12 @@ use Rattle.chord_code.specs.declared.instruction.Instruction.{Instruction}
 use Rattle.chord_code.specs.declared.instruction.Instruction.TheVariants as instr
 use Rattle.chord_base.specs.declared.value.Value.{Value}
 use Rattle.chord_base.specs.declared.value.Value.TheVariants as a_value
+use Rattle.chord_code.specs.declared.awaited.Awaited.TheVariants.{ForNothing}
 use Rattle.chord_code.specs.declared.parts.Block.{Block}
 use Rattle.chord_code.specs.declared.parts.Parts.{Parts}
 use Rattle.chord_vm.specs.declared.frames.Frames.{Frames}
 use Rattle.chord_code.specs.Machine.{Machine, Waiting, Did, Goes, Asking, Bad, instr_in, fetch, act, step, loads, goes_on, run, ComesTo, ComesToAsk}
-use Rattle.chord_vm.specs.Frames.{machine_of, waiting_of, SteppedTo, HasStepped, Advanced, instructions_of, instructions_in, with_pushed}
+use Rattle.chord_vm.specs.Frames.{machine_of, waiting_of, SteppedTo, HasStepped, Advanced, instructions_of, instructions_in, frame_with, with_pushed}
 use Rattle.chord_vm.specs.declared.step.After.{After}
 use Rattle.chord_vm.specs.declared.step.After.TheVariants as steps
 
@@ -117,6 +119,11 @@ block_at code m b d e = get_at code.blocks m.top.block b (block_in code m d) e
 pub at_work : (code : Parts) (m : Machine) (b : Block) → ComesToAsk code m → b ≡ get_or code.blocks m.top.block b → instructions_in code m.top.block ≡ Some b.instructions
 at_work code m b d e = ap instructions_of (block_at code m b d e)
 
+-- the instructions of a block that was found among these
+pub work_of : (code code' : Parts) (blocks : List Block) (n : ℕ) (b : Block) → code' ≡ code → blocks ≡ code'.blocks → n < length blocks → b ≡ get_or blocks n b → instructions_in code n ≡ Some b.instructions
+work_of code code' blocks n b same is l e =
+    ap (λ l. instructions_of (slice_get l n)) (ap (λ p. p.blocks) (sym same) ∙ sym is) ∙ ap instructions_of (get_at blocks n b l e)
+
 -- the instruction at a place of a block is that of its instructions
 instr_of : (o : Option Block) (xs : List Instruction) (p : ℕ) → instructions_of o ≡ Some xs → instr_in o p ≡ slice_get xs p
 instr_of None xs p e = absurd (no e)
@@ -168,3 +175,20 @@ place_past code m xs v d h e =
 -- the place behind a number is in the code
 pub place_behind : (code : Parts) (m : Machine) (xs : List Instruction) (n : ℤ) → ComesToAsk code m → instructions_in code m.top.block ≡ Some xs → fetch code m.top.block m.top.place ≡ Some (instr.Int n) → m.top.place + 1 < length xs
 place_behind code m xs n d h e = place_past code m xs (a_value.Int n) d h (number_pushed code m n e)
+
+-- the machine whose instruction is its end
+end_here : (code : Parts) (m : Machine) (f : Frames) → fetch code m.top.block m.top.place ≡ Some instr.End → Advanced code m (ask.End (Gives a_value.Unit)) f
+end_here code m f e =
+    let w : Waiting = record { machine = m; awaited = ForNothing } in
+    (w, now code m (Ended (Gives a_value.Unit)) w (ap (λ o. act code o m) e))
+
+-- the machine behind a jump to this place
+abbrev jumped : ℕ → Machine → Machine
+jumped p m = record { top = frame_with m.top p m.top.stack m.top.slots; below = m.below; turns = m.turns }
+
+-- the machine whose instruction is its end, or a jump to it
+pub end_next : (code : Parts) (m : Machine) (xs : List Instruction) (p : ℕ) (f : Frames) → instructions_in code m.top.block ≡ Some xs → (p ≡ m.top.place) ⊎ (slice_get xs m.top.place ≡ Some (instr.Jump p)) → slice_get xs p ≡ Some instr.End → Advanced code m (ask.End (Gives a_value.Unit)) f
+end_next code m xs p f h (inl e) end = end_here code m f (fetch_at code m xs h ∙ ap (slice_get xs) (sym e) ∙ end)
+end_next code m xs p f h (inr j) end =
+    advanced_on code m (jumped p m) (ask.End (Gives a_value.Unit)) f (ap (λ o. act code o m) (fetch_at code m xs h ∙ j))
+    (end_here code (jumped p m) f (fetch_at code (jumped p m) xs h ∙ end))

@@ -1,7 +1,7 @@
 //! The instructions of a block at work.
 #![tactic(auto)]
 
-ghost use Rattle.std.specs.Prelude.{◌≡◌, ◌≢◌, ℕ, ℤ, suc, ◌+◌, ◌^◌, ◌<◌, ◌≤◌, Bool, true, false, List, [], ◌∷◌, Option, IfOk, IfSome, OnOk, Some, None, length, slice_get, vec_len, vec_capacity};
+ghost use Rattle.std.specs.Prelude.{◌≡◌, ◌≢◌, ◌⊎◌, ℕ, ℤ, suc, ◌+◌, ◌^◌, ◌<◌, ◌≤◌, Bool, true, false, List, [], ◌∷◌, Option, IfOk, IfSome, OnOk, Some, None, length, slice_get, vec_len, vec_capacity};
 ghost use Rattle.chord_base.specs.Operators.{Computed, Is, Trapped, Mistyped, compute as compute_of, text_of, negated, denied, IsComputed};
 ghost use Rattle.chord_code.specs.Valid.{IsValid};
 ghost use Rattle.chord_code.specs.Within.{IsInstructionWithin};
@@ -754,4 +754,38 @@ pub fn advance(
     let mut asked = None;
     run(alloc, code.parts(), frames, &mut asked)?;
     Ok(put(asked))
+}
+
+/// The place at which a body goes on that stands at a place: that of its jump, if it stands at one.
+fn through_jump(instructions: &[Instruction], place: usize) -> usize
+    ensures { (result ≡ place) ⊎ (slice_get instructions.now place ≡ Some (Instruction.Jump result)) }
+{
+    match instructions.get(place) {
+        Some(Instruction::Jump(to)) => *to as usize,
+        _ => place,
+    }
+}
+
+/// Whether `end` stands at a place.
+fn ends_at(instructions: &[Instruction], place: usize) -> bool
+    ensures { result ≡ true → slice_get instructions.now place ≡ Some Instruction.End }
+{
+    match instructions.get(place) {
+        Some(Instruction::End) => true,
+        _ => false,
+    }
+}
+
+/// Whether the body comes to its end next, without a value: its next instruction is `end`, or a jump that leads to one.
+pub fn ends_next(code: &Code, frames: &Frames) -> bool
+    ensures { result ≡ true → Advanced code.now (machine_of frames.now) (Ask.End (End.Gives Value.Unit)) frames.now }
+{
+    match code.parts().blocks.items().get(frames.top.block) {
+        None => false,
+        Some(block) => {
+            let instructions = block.instructions.items();
+            let place = through_jump(instructions, frames.top.place);
+            ends_at(instructions, place)
+        }
+    }
 }
