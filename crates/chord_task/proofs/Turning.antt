@@ -1,5 +1,5 @@
 -- A task whose ask is with its caller, before and after the ask becomes an entry.
-use Rattle.std.proofs.Common.{◌≡◌, ℕ, suc, true, false, List, [], ◌∷◌, Option, Some, None, refl, sym, ap, ◌∙◌, subst, Box, Global, Vec, ◌++◌, length, vec_len, vec_capacity}
+use Rattle.std.proofs.Common.{◌≡◌, ℕ, suc, true, false, List, [], ◌∷◌, Option, Some, None, refl, sym, ap, ◌∙◌, subst, arith, Box, Global, Vec, ◌++◌, length, vec_len, vec_capacity}
 use Rattle.std.specs.Prelude.{reverse}
 use Rattle.chord_base.specs.declared.event.End.{End}
 use Rattle.chord_base.specs.declared.event.Entry.{Entry}
@@ -221,13 +221,13 @@ settled_end code t s n w b x y e past below ended top h items room =
 
 -- a list with a last item is not empty
 no_last : {A : Type 0} (xs ys : List A) (x : A) → xs ≡ ys ++ x ∷ [] → length xs ≡ 0 → ⊥
-no_last xs [] x e none = let z : 1 ≡ 0 = sym (ap length e) ∙ none in cc
-no_last xs (y ∷ ys) x e none = let z : suc (length (ys ++ x ∷ [])) ≡ 0 = sym (ap length e) ∙ none in cc
+no_last xs [] x e none = let z : length (x ∷ []) ≡ 0 = sym (ap length e) ∙ none in absurd (omega (arith, z))
+no_last xs (y ∷ ys) x e none = let z : suc (length (ys ++ x ∷ [])) ≡ 0 = sym (ap length e) ∙ none in absurd (omega (arith, z))
 
 -- a body that ended with no body below it has none on top after it
 pub over_alone : (y : End) (old before after : Vec Caller Global) (top : Option Body) → HasReturned y before after top → before.items ≡ old.items → vec_len old ≡ 0 → top ≡ None
 over_alone y old before after None h e none = refl
-over_alone y old before after (Some b) h e none = absurd (no_last old.items after.items h.0 (sym e ∙ h.1) none)
+over_alone y old before after (Some b) h e none = absurd (no_last old.items after.items h.0 (sym e ∙ h.1) (omega (arith, none, old.ok.0)))
 
 -- the callers below can be answered
 pub roomy_ready : (code : Parts) (t s : Task) (n : ℕ) (w : What) (b : Body) → Roomy code t s n w b → LastIsReady s.below.items
