@@ -1,5 +1,5 @@
 -- A task whose ask is with its caller, before and after the ask becomes an entry.
-use Rattle.std.proofs.Common.{◌≡◌, ℕ, suc, true, false, List, [], ◌∷◌, Option, Some, None, refl, sym, ap, ◌∙◌, subst, Box, Global, Vec, ◌++◌, vec_capacity}
+use Rattle.std.proofs.Common.{◌≡◌, ℕ, suc, true, false, List, [], ◌∷◌, Option, Some, None, refl, sym, ap, ◌∙◌, subst, arith, Box, Global, Vec, ◌++◌, length, vec_len, vec_capacity}
 use Rattle.std.specs.Prelude.{reverse}
 use Rattle.chord_base.specs.declared.event.End.{End}
 use Rattle.chord_base.specs.declared.event.Entry.{Entry}
@@ -218,6 +218,16 @@ settled_gave code t s n w b x v e past b' i r items =
 pub settled_end : (code : Parts) (t s : Task) (n : ℕ) (w : What) (b : Body) (x : Roomy code t s n w b) (y : End) → x.asked ≡ nexts.Ends y y → (past : List Entry) (below : Vec Caller Global) (ended : Option (Box Frames Global)) (top : Option Body) → HasReturned y s.below below top → past ≡ s.past ++ entry n b.number (Ended y) ∷ [] → vec_capacity below ≡ vec_capacity s.below → HasSettled code t n w (record { past = past; top = top; below = below; spare = s.spare; ended = ended; values = s.values; limits = s.limits; enclosed = s.enclosed })
 settled_end code t s n w b x y e past below ended top h items room =
     has_settled code t s _ n w b x (task_ended code t.limits (with_body s (with_next b x.asked)) past below ended top (with_next b x.asked) n y y x.task x.may refl e h items room)
+
+-- a list with a last item is not empty
+no_last : {A : Type 0} (xs ys : List A) (x : A) → xs ≡ ys ++ x ∷ [] → length xs ≡ 0 → ⊥
+no_last xs [] x e none = let z : length (x ∷ []) ≡ 0 = sym (ap length e) ∙ none in absurd (omega (arith, z))
+no_last xs (y ∷ ys) x e none = let z : suc (length (ys ++ x ∷ [])) ≡ 0 = sym (ap length e) ∙ none in absurd (omega (arith, z))
+
+-- a body that ended with no body below it has none on top after it
+pub over_alone : (y : End) (old before after : Vec Caller Global) (top : Option Body) → HasReturned y before after top → before.items ≡ old.items → vec_len old ≡ 0 → top ≡ None
+over_alone y old before after None h e none = refl
+over_alone y old before after (Some b) h e none = absurd (no_last old.items after.items h.0 (sym e ∙ h.1) (omega (arith, none, old.ok.0)))
 
 -- the callers below can be answered
 pub roomy_ready : (code : Parts) (t s : Task) (n : ℕ) (w : What) (b : Body) → Roomy code t s n w b → LastIsReady s.below.items

@@ -167,7 +167,8 @@ pub(crate) fn call_back(place: &mut Body, caller: Caller, end: End) -> Box<Frame
     requires ready { IsReady Awaited.ForValue caller.frames.value }
     requires awaited { caller.frames.value.awaited ≡ Awaited.ForValue }
     requires runs { place.old.next ≡ Next.Runs }
-    ensures { CalledBack end (waiting_body caller) place.new }
+    ensures called { CalledBack end (waiting_body caller) place.new }
+    ensures frames { result ≡ place.old.frames }
 {
     let Caller {
         number,

@@ -224,6 +224,7 @@ pub(crate) fn end_top(
     requires ready { LastIsReady below.old.items }
     ensures capacity { vec_capacity below.new ≡ vec_capacity below.old }
     ensures ended { HasReturned end below.old below.new top.new }
+    ensures frames { (b : ABody) → top.old ≡ Some b → ended.new ≡ Some b.frames }
 {
     match below.pop() {
         None => *ended = take_last(top),

@@ -187,8 +187,8 @@ abbrev jumped : ℕ → Machine → Machine
 jumped p m = record { top = frame_with m.top p m.top.stack m.top.slots; below = m.below; turns = m.turns }
 
 -- the machine whose instruction is its end, or a jump to it
-pub end_next : (code : Parts) (m : Machine) (xs : List Instruction) (p : ℕ) (f : Frames) → instructions_in code m.top.block ≡ Some xs → (p ≡ m.top.place) ⊎ (slice_get xs m.top.place ≡ Some (instr.Jump p)) → slice_get xs p ≡ Some instr.End → Advanced code m (ask.End (Gives a_value.Unit)) f
-end_next code m xs p f h (inl e) end = end_here code m f (fetch_at code m xs h ∙ ap (slice_get xs) (sym e) ∙ end)
-end_next code m xs p f h (inr j) end =
+pub advanced_to_end : (code : Parts) (m : Machine) (xs : List Instruction) (p : ℕ) (f : Frames) → instructions_in code m.top.block ≡ Some xs → (p ≡ m.top.place) ⊎ (slice_get xs m.top.place ≡ Some (instr.Jump p)) → slice_get xs p ≡ Some instr.End → Advanced code m (ask.End (Gives a_value.Unit)) f
+advanced_to_end code m xs p f h (inl e) end = end_here code m f (fetch_at code m xs h ∙ ap (slice_get xs) (sym e) ∙ end)
+advanced_to_end code m xs p f h (inr j) end =
     advanced_on code m (jumped p m) (ask.End (Gives a_value.Unit)) f (ap (λ o. act code o m) (fetch_at code m xs h ∙ j))
     (end_here code (jumped p m) f (fetch_at code (jumped p m) xs h ∙ end))

@@ -7,7 +7,7 @@ use Rattle.chord_vm.specs.declared.ask.Ask.{Ask}
 use Rattle.chord_vm.specs.declared.ask.Ask.TheVariants as ask
 use Rattle.chord_vm.specs.declared.frames.Frames.{Frames}
 use Rattle.chord_task.specs.Turning.{HasSettled}
-use Rattle.chord_task.proofs.Turning.{roomy, roomy_fits, roomy_asked, settled_gave, settled_end, roomy_ready, adds_from}
+use Rattle.chord_task.proofs.Turning.{roomy, roomy_fits, roomy_asked, settled_gave, settled_end, roomy_ready, adds_from, over_alone}
 use Rattle.chord_task.proofs.task.Task.settle.Goals as goal
 
 pub answer-requires-clause-fits : goal.answer-requires-clause-fits
@@ -102,3 +102,7 @@ returns-in_ok-end_turn-in-End-clause-settled c =
 
 pub returns-in_ok-end_turn-in-End-clause-listed : goal.returns-in_ok-end_turn-in-End-clause-listed
 returns-in_ok-end_turn-in-End-clause-listed c = let h = c.in_ok-end_turn-in-End.ensures in adds_from c.take_room.ensures.past c.take_room.ensures.listed (record { entry = _; past = h.past c.in-Some.body refl; list = h.items c.in-Some.body refl })
+
+pub returns-in_ok-end_turn-in-End-clause-over : goal.returns-in_ok-end_turn-in-End-clause-over
+returns-in_ok-end_turn-in-End-clause-over c = λ e _ none.
+    over_alone c.in-End.end c.args.self.now.below c.take_room.new.self.below c.end_turn.new.self.below c.end_turn.new.self.top c.in_ok-end_turn-in-End.ensures.ended c.take_room.ensures.below none
