@@ -1,5 +1,5 @@
 -- What a step leaves behind: what is kept after a firing that was posted or is played, and after a message that was minded.
-use Rattle.std.proofs.Common.{◌≡◌, ℕ, ◌<◌, true, not, List, [], ◌∷◌, Option, Some, None, refl, sym, ap, ◌∙◌, subst, ◌⊎◌, inl, inr, arith}
+use Rattle.std.proofs.Common.{◌≡◌, ℕ, ◌<◌, true, not, List, [], ◌∷◌, Option, Some, None, sym, ap, ◌∙◌, subst, ◌⊎◌, inl, inr, arith}
 use Rattle.chord_base.specs.declared.event.Entry.{Entry}
 use Rattle.chord_base.specs.declared.event.What.TheVariants.{Fired}
 use Rattle.chord_base.specs.declared.value.Object.{Object}
@@ -84,14 +84,18 @@ minded_as knows es x w w' m desk task (inl same) = inl (task ∙ same.0, ap (λ 
 minded_as knows es x w w' m desk task (inr (inl plays)) =
     let p = plays.2 in
     let kept = ap (λ (d : Desk Parcel). (view d).kept) desk in
-    inr (inl (plays.0, plays.1, record {
-      idle = p.idle;
-      known = p.known;
-      fired = p.fired;
-      numbered = p.numbered;
-      there = subst (IsIn p.fired) (sym kept) p.there;
-      stay = λ e i. subst (IsIn e) (sym kept) (p.stay e i);
-    }))
+    inr (inl (
+      plays.0,
+      plays.1,
+      record {
+        idle = p.idle;
+        known = p.known;
+        fired = p.fired;
+        numbered = p.numbered;
+        there = subst (IsIn p.fired) (sym kept) p.there;
+        stay = λ e i. subst (IsIn e) (sym kept) (p.stay e i);
+      },
+    ))
 minded_as knows es x w w' m desk task (inr (inr told)) = inr (inr (ap (λ (d : Desk Parcel). (view d).spent) desk ∙ told))
 
 -- ## A step

@@ -167,7 +167,7 @@ impl Worker {
                     method,
                 };
                 if task.value.comes_to_end(code, limits) {
-                    self.end_and_mind(rt, alloc, space, code, limits, gate, task, message)?;
+                    self.end_and_mind(rt, alloc, space, code, limits, gate, task, asked, message)?;
                     return Ok(());
                 }
                 self.settle(task);

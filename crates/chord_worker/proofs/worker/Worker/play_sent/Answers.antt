@@ -1,6 +1,9 @@
-use Rattle.std.proofs.Common.{◌≡◌, ℕ, ◌<◌, Bool, Some, [], refl, sym, ap, ◌∙◌, subst, inl, inr, arith, Vec, Global}
+use Rattle.std.proofs.Common.{◌≡◌, ℕ, ◌<◌, Bool, Some, None, [], refl, sym, ap, ◌∙◌, subst, inl, inr, arith, Vec, Global}
 use Rattle.chord_base.specs.declared.event.Entry.{Entry}
-use Rattle.chord_base.specs.declared.event.What.TheVariants.{Sent}
+use Rattle.chord_base.specs.declared.event.End.TheVariants.{Gives}
+use Rattle.chord_base.specs.declared.event.What.TheVariants.{Sent, Ended}
+use Rattle.chord_base.specs.declared.value.Value.TheVariants as a_value
+use Rattle.chord_base.specs.Story.{IsIn}
 use Rattle.chord_vm.specs.declared.ask.Ask.{Ask}
 use Rattle.chord_vm.specs.declared.ask.Ask.TheVariants as ask
 use Rattle.chord_vm.specs.Frames.{what_of_ask}
@@ -12,7 +15,8 @@ use Rattle.chord_space.specs.declared.space.Desk.{Desk}
 use Rattle.chord_space.specs.Desks.{view, space_code, space_limits, IsSameDesk}
 use Rattle.chord_task.specs.declared.parcel.Opened.{Opened as Parcel}
 use Rattle.chord_worker.specs.Playing.{DrawsOne, HeardOfLimit, IsNotedFrom}
-use Rattle.chord_worker.proofs.Given.{only_ask, value_of_some, where_none}
+use Rattle.chord_task.proofs.Turning.{runs_ready}
+use Rattle.chord_worker.proofs.Given.{only_ask, value_of_some, where_none, came_runs}
 use Rattle.chord_worker.specs.Sending.{IsSentOff}
 use Rattle.chord_worker.specs.Resting.{IsInMemory}
 use Rattle.chord_worker.proofs.Resting.{rest_told}
@@ -83,7 +87,7 @@ returns-in_ok-mind-in-Some-clause-went g c =
     let x = entry c.in-Some.number noted.body (Sent c.args.object c.args.method c.args.held.first) in
     let kept = ap (λ (d : Desk Parcel). (view d).kept) c.settle.ensures.same.0 ∙ c.send_letter.ensures.sent.kept ∙ all_kept (view c.draw_own.new.desk).kept ∙ ap (λ (z : View). z.kept) noted.drawn in
     gone_on (view c.args.self.now.desk).kept c.args.task c.requires.came.0 c.mind.new.self (sym c.requires.came.1.view)
-    (went_sent (view c.args.self.now.desk).kept c.requires.came.0 c.in-Some.number x refl noted.below c.mind.new.self g.G.Gate.knows (view c.settle.new.self.desk).kept c.settle.new.self.task kept c.in_ok-mind-in-Some.ensures.minded)
+    (went_sent (view c.args.self.now.desk).kept c.requires.came.0 c.in-Some.number x refl noted.below c.mind.new.self g.G.Gate.knows (view c.settle.new.self.desk).kept c.settle.new.self.task (subst (IsIn x) (sym kept) (inl refl)) c.in_ok-mind-in-Some.ensures.minded)
 
 pub returns-in-None-clause-went : goal.returns-in-None-clause-went
 returns-in-None-clause-went g c = inr (inr (ap (λ (x : Desk Parcel). (view x).spent) c.lay_down.ensures.same.0 ∙ ap (λ (z : View). z.spent) (where_none _ (HeardOfLimit (view c.args.self.now.desk) (view c.draw_own.new.desk)) c.in-None.is c.in_ok-number.ensures.told).1))
@@ -116,3 +120,60 @@ returns-in_ok-mind-in-Some-clause-role g c =
     let sent = subst (λ (x : Desk Parcel). IsSentOff v (view x) c.in-Some.number k []) (sym d) c.send_letter.ensures.sent in
     let same = subst (λ (x : Desk Parcel). IsSameDesk w.desk x) (sym d) (c.send_letter.ensures.desk.0 ∙ c.draw_own.ensures.desk.0, c.send_letter.ensures.desk.1 ∙ c.draw_own.ensures.desk.1) in
     role_on (view w.desk) (view w'.desk) (view c.mind.new.self.desk) (minds_role s w c.requires.came.0 c.requires.came.2 c.draw_own.new.task c.in-Some.number v what noted refl c.requires.room c.requires.stock w' k [] sent same (c.settle.ensures.spare c.requires.stock) c.settle.ensures.same.1) c.in_ok-mind-in-Some.ensures.role
+
+pub comes_to_end-requires : goal.comes_to_end-requires
+comes_to_end-requires g c =
+    let noted = (value_of_some _ c.in-Some.number (IsNotedFrom c.args.space.now (view c.args.self.now.desk) (view c.draw_own.new.desk) c.args.asked.now c.args.task c.draw_own.new.task) c.in-Some.is c.in_ok-number.ensures.noted (ask.Send c.args.object c.args.method c.args.held.first) c.requires.came.0 c.requires.asked c.requires.came.1) in
+    record { task = rw (c.deref.ensures ∙ c.task.view_is, c.requires.code, c.requires.limits) noted.task }
+
+pub end_and_mind-requires-clause-bounds : goal.end_and_mind-requires-clause-bounds
+end_and_mind-requires-clause-bounds g c =
+    let low = (value_of_some _ c.in-Some.number (λ (n : ℕ). n < c.args.space.now.events) c.in-Some.is c.in_ok-number.ensures.within) in
+    let named = (value_of_some _ c.in-Some.number (IsNotedFrom c.args.space.now (view c.args.self.now.desk) (view c.draw_own.new.desk) c.args.asked.now c.args.task c.draw_own.new.task) c.in-Some.is c.in_ok-number.ensures.noted (ask.Send c.args.object c.args.method c.args.held.first) c.requires.came.0 c.requires.asked c.requires.came.1).named c.args.object (inl refl) in
+    (low, (omega (arith, low, named)), c.send_letter.ensures.bounds.0, c.send_letter.ensures.bounds.1)
+
+pub end_and_mind-requires-clause-came : goal.end_and_mind-requires-clause-came
+end_and_mind-requires-clause-came g c = rw (c.deref.ensures ∙ c.task.view_is, c.requires.code, c.requires.limits) at (c.comes_to_end.ensures.came c.if-comes_to_end.true)
+
+pub end_and_mind-requires-clause-minds : goal.end_and_mind-requires-clause-minds
+end_and_mind-requires-clause-minds g c =
+    let s = c.args.space.now in
+    let w = c.args.self.now in
+    let noted = (value_of_some _ c.in-Some.number (IsNotedFrom c.args.space.now (view c.args.self.now.desk) (view c.draw_own.new.desk) c.args.asked.now c.args.task c.draw_own.new.task) c.in-Some.is c.in_ok-number.ensures.noted (ask.Send c.args.object c.args.method c.args.held.first) c.requires.came.0 c.requires.asked c.requires.came.1) in
+    let k = key c.args.object c.args.method in
+    let v = view c.draw_own.new.desk in
+    let came = rw (c.deref.ensures ∙ c.task.view_is, c.requires.code, c.requires.limits) at (c.comes_to_end.ensures.came c.if-comes_to_end.true) in
+    let same : IsSameDesk w.desk c.send_letter.new.desk = (c.send_letter.ensures.desk.0 ∙ c.draw_own.ensures.desk.0, c.send_letter.ensures.desk.1 ∙ c.draw_own.ensures.desk.1) in
+    let memory = letter_memory s w c.requires.came.0 c.requires.came.2 c.draw_own.new.task c.in-Some.number v c.args.object c.args.method c.args.held.first noted (view c.send_letter.new.desk) k c.send_letter.ensures.sent in
+    now_minds s w c.requires.came.0 c.requires.came.2 c.draw_own.new.task c.in-Some.number v (Sent c.args.object c.args.method c.args.held.first) noted refl c.requires.room c.requires.stock _ k [] c.send_letter.ensures.sent same refl refl memory
+    (runs_ready c.draw_own.new.task (came_runs (space_code s) (space_limits s) c.draw_own.new.task c.draw_own.new.task (Ended (Gives a_value.Unit)) came))
+    (value_of_some _ c.in-Some.number (λ _. DrawsOne (view w.desk).draws (view c.draw_own.new.desk).draws w.draws.items c.draw_own.new.draws.items) c.in-Some.is c.in_ok-number.ensures.listed) refl
+
+pub returns-then-comes_to_end-clause-role : goal.returns-then-comes_to_end-clause-role
+returns-then-comes_to_end-clause-role g c =
+    let s = c.args.space.now in
+    let w = c.args.self.now in
+    let noted = (value_of_some _ c.in-Some.number (IsNotedFrom c.args.space.now (view c.args.self.now.desk) (view c.draw_own.new.desk) c.args.asked.now c.args.task c.draw_own.new.task) c.in-Some.is c.in_ok-number.ensures.noted (ask.Send c.args.object c.args.method c.args.held.first) c.requires.came.0 c.requires.asked c.requires.came.1) in
+    let k = key c.args.object c.args.method in
+    let v = view c.draw_own.new.desk in
+    let same : IsSameDesk w.desk c.send_letter.new.desk = (c.send_letter.ensures.desk.0 ∙ c.draw_own.ensures.desk.0, c.send_letter.ensures.desk.1 ∙ c.draw_own.ensures.desk.1) in
+    role_on (view w.desk) (view c.send_letter.new.desk) (view c.end_and_mind.new.self.desk)
+    (minds_role s w c.requires.came.0 c.requires.came.2 c.draw_own.new.task c.in-Some.number v (Sent c.args.object c.args.method c.args.held.first) noted refl c.requires.room c.requires.stock (record w { desk = c.send_letter.new.desk }) k [] c.send_letter.ensures.sent same refl refl)
+    c.in_ok-end_and_mind-in-Some.ensures.role
+
+pub returns-then-comes_to_end-clause-went : goal.returns-then-comes_to_end-clause-went
+returns-then-comes_to_end-clause-went g c =
+    let noted = (value_of_some _ c.in-Some.number (IsNotedFrom c.args.space.now (view c.args.self.now.desk) (view c.draw_own.new.desk) c.args.asked.now c.args.task c.draw_own.new.task) c.in-Some.is c.in_ok-number.ensures.noted (ask.Send c.args.object c.args.method c.args.held.first) c.requires.came.0 c.requires.asked c.requires.came.1) in
+    let x = entry c.in-Some.number noted.body (Sent c.args.object c.args.method c.args.held.first) in
+    let kept = c.send_letter.ensures.sent.kept ∙ all_kept (view c.draw_own.new.desk).kept ∙ ap (λ (z : View). z.kept) noted.drawn in
+    let minded = c.in_ok-end_and_mind-in-Some.ensures.minded in
+    gone_on (view c.args.self.now.desk).kept c.args.task c.requires.came.0 c.end_and_mind.new.self (sym c.requires.came.1.view)
+    (went_sent (view c.args.self.now.desk).kept c.requires.came.0 c.in-Some.number x refl noted.below c.end_and_mind.new.self g.G.Gate.knows minded.0 None (minded.1 x (subst (IsIn x) (sym kept) (inl refl))) minded.2)
+
+pub returns-then-comes_to_end-clause-plays : goal.returns-then-comes_to_end-clause-plays
+returns-then-comes_to_end-clause-plays g c =
+    let noted = (value_of_some _ c.in-Some.number (IsNotedFrom c.args.space.now (view c.args.self.now.desk) (view c.draw_own.new.desk) c.args.asked.now c.args.task c.draw_own.new.task) c.in-Some.is c.in_ok-number.ensures.noted (ask.Send c.args.object c.args.method c.args.held.first) c.requires.came.0 c.requires.asked c.requires.came.1) in
+    let minded = c.in_ok-end_and_mind-in-Some.ensures.minded in
+    let over = c.in_ok-end_and_mind-in-Some.ensures.over in
+    plays_next g.G.Gate.knows (view c.args.self.now.desk).kept c.args.task c.requires.came.0 c.end_and_mind.new.self (sym c.requires.came.1.view)
+    (plays_minded g.G.Gate.knows (view c.args.self.now.desk).kept minded.0 c.requires.came.0 c.in-Some.number None c.end_and_mind.new.self noted.below tt (λ told. over.1 (over.0.told ∙ told)) minded.2)
