@@ -11,7 +11,7 @@ use Rattle.chord_task.specs.declared.task.Task.{Task}
 use Rattle.chord_task.specs.Standing.{is_ready_of}
 use Rattle.chord_worker.specs.declared.worker.Worker.{Worker}
 use Rattle.chord_worker.specs.Playing.{DrawsOne, HeardOfLimit, IsNotedAs, IsNoMessage}
-use Rattle.chord_worker.specs.Resting.{IsInMemory, MayContinue, IsHandFree, IsStock, IsAtRest, IsSameRole}
+use Rattle.chord_worker.specs.Resting.{IsInMemory, MayContinue, IsHandFree, IsStock, IsAtRest}
 use Rattle.chord_worker.specs.Sending.{Minds}
 use Rattle.chord_worker.proofs.Listed.{lists_same, one_more_listed}
 use Rattle.chord_worker.proofs.Memory.{task_done, task_laid}
@@ -36,15 +36,6 @@ module _ (s : Space Parcel) (w : Worker) (t : Task) (m k : ℕ) (minds : Minds s
       listed = one_more_listed w.draws.items w'.draws.items w.taken.items w'.taken.items (view w.desk).draws (view w'.desk).draws one taken minds.listed;
     }
 
-    -- the desk has its role still
-    pub ended_role : IsSameRole (view w.desk) (view w'.desk)
-    ended_role = record {
-      first = ap (λ (z : View). z.first) noted.drawn;
-      lent = ap (λ (z : View). z.lent) noted.drawn;
-      splits = ap (λ (z : View). z.splits) noted.drawn;
-      drawn = λ e. ap (λ (z : View). z.drawn) noted.drawn;
-    }
-
   module _ (told : HeardOfLimit (view w.desk) (view w'.desk)) where
     -- it was told that the limit is reached, and is at rest
     pub ended_told : w'.spare ≡ w.spare → w'.task ≡ None → w'.spent ≡ true → w'.draws.items ≡ w.draws.items → w'.taken.items ≡ w.taken.items → IsAtRest s w'
@@ -59,15 +50,6 @@ module _ (s : Space Parcel) (w : Worker) (t : Task) (m k : ℕ) (minds : Minds s
       goes_on = subst MayContinue (sym task) tt;
       stock = subst (IsStock (space_code s) (space_limits s)) (sym (stock ∙ minds.spare)) minds.is_stock;
       listed = lists_same w.draws.items w'.draws.items w.taken.items w'.taken.items (view w.desk).draws (view w'.desk).draws draws taken (ap (λ (z : View). z.draws) told.1) minds.listed;
-    }
-
-    -- the desk has its role still
-    pub told_role : IsSameRole (view w.desk) (view w'.desk)
-    told_role = record {
-      first = ap (λ (z : View). z.first) told.1;
-      lent = ap (λ (z : View). z.lent) told.1;
-      splits = ap (λ (z : View). z.splits) told.1;
-      drawn = λ e. ap (λ (z : View). z.drawn) told.1 ∙ e;
     }
 
 -- a worker at rest may put another task into its stock

@@ -1,6 +1,8 @@
 -- A worker is at rest again after an entry of its task, and where it was told that the limit is reached.
 use Rattle.std.proofs.Common.{◌≡◌, ℕ, true, false, ◌∷◌, Option, Some, None, sym, ap, ◌∙◌, subst}
+use Rattle.chord_base.specs.declared.event.Limits.{Limits}
 use Rattle.chord_base.specs.declared.event.What.{What}
+use Rattle.chord_code.specs.declared.parts.Parts.{Parts}
 use Rattle.chord_rule.specs.declared.view.View.{View}
 use Rattle.chord_rule.specs.Kinds.{entry}
 use Rattle.chord_space.specs.declared.space.Space.{Space}
@@ -12,6 +14,24 @@ use Rattle.chord_worker.specs.Playing.{DrawsOne, HeardOfLimit, IsNotedAs, IsNoMe
 use Rattle.chord_worker.proofs.Listed.{lists_same, one_more_listed}
 use Rattle.chord_worker.proofs.Memory.{task_laid}
 use Rattle.chord_worker.specs.Resting.{IsInMemory, MayContinue, IsHandFree, IsStock, IsAtRest, IsSameRole}
+
+-- a desk that drew an entry has its role still
+pub role_noted : (code : Parts) (limits : Limits) (v u : View) (t t' : Task) (n : ℕ) (what : What) → IsNotedAs code limits v u t t' n what → IsSameRole v u
+role_noted code limits v u t t' n what noted = record {
+  first = ap (λ (z : View). z.first) noted.drawn;
+  lent = ap (λ (z : View). z.lent) noted.drawn;
+  splits = ap (λ (z : View). z.splits) noted.drawn;
+  drawn = λ e. ap (λ (z : View). z.drawn) noted.drawn;
+}
+
+-- and so has one that was told that the limit is reached
+pub role_told : (v u : View) → HeardOfLimit v u → IsSameRole v u
+role_told v u told = record {
+  first = ap (λ (z : View). z.first) told.1;
+  lent = ap (λ (z : View). z.lent) told.1;
+  splits = ap (λ (z : View). z.splits) told.1;
+  drawn = λ e. ap (λ (z : View). z.drawn) told.1 ∙ e;
+}
 
 module _ (s : Space Parcel) (w : Worker) (t : Task) (r : IsAtRest s (record w { task = Some t })) (w' : Worker) (same : IsSameDesk w.desk w'.desk) where
   module _ (t' : Task) (n : ℕ) (what : What) (noted : IsNotedAs (space_code s) (space_limits s) (view w.desk) (view w'.desk) t t' n what) where
@@ -28,15 +48,6 @@ module _ (s : Space Parcel) (w : Worker) (t : Task) (r : IsAtRest s (record w { 
       listed = one_more_listed w.draws.items w'.draws.items w.taken.items w'.taken.items (view w.desk).draws (view w'.desk).draws one taken r.listed;
     }
 
-    -- the desk has its role still
-    pub role_noted : IsSameRole (view w.desk) (view w'.desk)
-    role_noted = record {
-      first = ap (λ (z : View). z.first) noted.drawn;
-      lent = ap (λ (z : View). z.lent) noted.drawn;
-      splits = ap (λ (z : View). z.splits) noted.drawn;
-      drawn = λ e. ap (λ (z : View). z.drawn) noted.drawn;
-    }
-
   module _ (told : HeardOfLimit (view w.desk) (view w'.desk)) where
     -- the desk was told that the limit is reached
     pub rest_told : w'.spare ≡ w.spare → w'.task ≡ None → w'.spent ≡ true → w'.draws.items ≡ w.draws.items → w'.taken.items ≡ w.taken.items → IsAtRest s w'
@@ -51,13 +62,4 @@ module _ (s : Space Parcel) (w : Worker) (t : Task) (r : IsAtRest s (record w { 
       goes_on = subst MayContinue (sym task) tt;
       stock = subst (IsStock (space_code s) (space_limits s)) (sym stock) r.stock;
       listed = lists_same w.draws.items w'.draws.items w.taken.items w'.taken.items (view w.desk).draws (view w'.desk).draws draws taken (ap (λ (z : View). z.draws) told.1) r.listed;
-    }
-
-    -- the desk has its role still
-    pub role_told : IsSameRole (view w.desk) (view w'.desk)
-    role_told = record {
-      first = ap (λ (z : View). z.first) told.1;
-      lent = ap (λ (z : View). z.lent) told.1;
-      splits = ap (λ (z : View). z.splits) told.1;
-      drawn = λ e. ap (λ (z : View). z.drawn) told.1 ∙ e;
     }

@@ -20,8 +20,9 @@ use Rattle.chord_worker.specs.Playing.{DrawsOne, HeardOfLimit, IsNotedFrom}
 use Rattle.chord_worker.specs.Resting.{IsAtRest, IsSameRole}
 use Rattle.chord_worker.specs.Stepping.{WasMinded}
 use Rattle.chord_worker.proofs.Attending.{role_on}
-use Rattle.chord_worker.proofs.Ended.{ended_minds, ended_role, ended_told, told_role, rest_stocked}
+use Rattle.chord_worker.proofs.Ended.{ended_minds, ended_told, rest_stocked}
 use Rattle.chord_worker.proofs.Given.{value_of_some, where_none}
+use Rattle.chord_worker.proofs.Resting.{role_noted, role_told}
 use Rattle.chord_worker.proofs.Stepping.{minded_as}
 use Rattle.chord_worker.proofs.worker.Worker.end_and_mind.Goals as goal
 
@@ -60,7 +61,7 @@ returns-in_ok-mind-in-Some-clause-role g c =
     let w = c.args.self.now in
     let n = c.in-Some.field-0 in
     let noted = value_of_some _ n (IsNotedFrom s (view w.desk) (view c.draw_own.new.desk) c.replace.new.dest c.args.task c.draw_own.new.task) c.in-Some.is c.in_ok-draw_own.ensures.noted (ask.End (Gives a_value.Unit)) c.args.task c.replace.ensures.after c.requires.came in
-    let here = ended_role s w c.args.task c.args.message.number (key c.args.message.object c.args.message.method) c.requires.minds (record w { desk = c.draw_own.new.desk }) c.draw_own.ensures.desk c.draw_own.new.task n (Ended (Gives a_value.Unit)) noted in
+    let here = role_noted (space_code s) (space_limits s) (view w.desk) (view c.draw_own.new.desk) c.args.task c.draw_own.new.task n (Ended (Gives a_value.Unit)) noted in
     role_on (view w.desk) (view c.draw_own.new.desk) (view c.retire.new.self.desk) here
     (subst (λ (d : Desk Parcel). IsSameRole (view c.draw_own.new.desk) (view d)) (sym c.retire.ensures.same.0) c.in_ok-mind-in-Some.ensures.role)
 
@@ -93,12 +94,9 @@ returns-in-None-clause-over g c =
 
 pub returns-in-None-clause-role : goal.returns-in-None-clause-role
 returns-in-None-clause-role g c =
-    let s = c.args.space.now in
     let w = c.args.self.now in
-    let d = c.lay_down.ensures.same.0 in
-    let told = subst (λ (x : Desk Parcel). HeardOfLimit (view w.desk) (view x)) (sym d) (where_none _ (HeardOfLimit (view w.desk) (view c.draw_own.new.desk)) c.in-None.is c.in_ok-draw_own.ensures.told) in
-    let same = subst (λ (x : Desk Parcel). IsSameDesk w.desk x) (sym d) c.draw_own.ensures.desk in
-    told_role s w c.args.task c.args.message.number (key c.args.message.object c.args.message.method) c.requires.minds c.lay_down.new.self same told
+    let told = where_none _ (HeardOfLimit (view w.desk) (view c.draw_own.new.desk)) c.in-None.is c.in_ok-draw_own.ensures.told in
+    role_told (view w.desk) (view c.lay_down.new.self.desk) (subst (λ (x : Desk Parcel). HeardOfLimit (view w.desk) (view x)) (sym c.lay_down.ensures.same.0) told)
 
 pub returns-in-None-clause-minded : goal.returns-in-None-clause-minded
 returns-in-None-clause-minded g c =

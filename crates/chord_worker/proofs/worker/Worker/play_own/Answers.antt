@@ -49,7 +49,7 @@ returns-in-Some-clause-role c =
     let d = c.settle.ensures.same.0 in
     let moved = subst (λ (x : Desk Parcel). IsNotedAs (space_code s) (space_limits s) (view w.desk) (view x) y.0 c.draw_own.new.task n (what_of_ask a.0)) (sym d) noted in
     let same = subst (λ (x : Desk Parcel). IsSameDesk w.desk x) (sym d) c.draw_own.ensures.desk in
-    role_noted s w y.0 y.2 c.settle.new.self same c.draw_own.new.task n (what_of_ask a.0) moved
+    role_noted (space_code s) (space_limits s) (view w.desk) (view c.settle.new.self.desk) y.0 c.draw_own.new.task n (what_of_ask a.0) moved
 
 pub returns-in-None-clause-rest : goal.returns-in-None-clause-rest
 returns-in-None-clause-rest c =
@@ -75,7 +75,7 @@ returns-in-None-clause-role c =
     let d = c.lay_down.ensures.same.0 in
     let moved = subst (λ (x : Desk Parcel). HeardOfLimit (view w.desk) (view x)) (sym d) told in
     let same = subst (λ (x : Desk Parcel). IsSameDesk w.desk x) (sym d) c.draw_own.ensures.desk in
-    role_told s w y.0 y.2 c.lay_down.new.self same moved
+    role_told (view w.desk) (view c.lay_down.new.self.desk) moved
 
 pub returns-in-Some-clause-went : goal.returns-in-Some-clause-went
 returns-in-Some-clause-went c =
