@@ -1,5 +1,5 @@
 -- A worker that minds a message ends the body that sent it.
-use Rattle.std.proofs.Common.{◌≡◌, ℕ, true, false, ◌∷◌, Option, Some, None, sym, ap, ◌∙◌, subst}
+use Rattle.std.proofs.Common.{◌≡◌, ◌≢◌, ℕ, true, false, ◌∷◌, Option, Some, None, sym, ap, ◌∙◌, subst}
 use Rattle.chord_bag.specs.Reads.{messages_and_bags}
 use Rattle.chord_base.specs.declared.event.What.{What}
 use Rattle.chord_rule.specs.declared.view.View.{View}
@@ -64,3 +64,10 @@ rest_stocked s w x stock r = record {
   stock = stock;
   listed = r.listed;
 }
+
+-- what is in stock stays, and where nothing is in stock something comes there
+pub stays_stocked : (x y : Option Task) → (x ≢ None → y ≡ x) → (x ≡ None → y ≢ None) → y ≢ None
+stays_stocked None y same serves = serves refl
+stays_stocked (Some t) y same serves = λ e.
+    let z : Some t ≡ None = sym (same (λ f. let y : Some t ≡ None = f in absurd (cc))) ∙ e in
+    absurd (cc)

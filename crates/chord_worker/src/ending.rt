@@ -1,5 +1,5 @@
 //! A body that has sent its last message ends before the message is minded.
-ghost use Rattle.std.specs.Prelude.{◌≡◌, ◌<◌, true, None, Some, OnOk, vec_len};
+ghost use Rattle.std.specs.Prelude.{◌≡◌, ◌≢◌, ◌<◌, true, None, Some, OnOk, vec_len};
 ghost use Rattle.chord_base.specs.Story.{IsSound};
 ghost use Rattle.chord_base.specs.declared.event.End.TheVariants.{Gives};
 ghost use Rattle.chord_base.specs.declared.event.What.TheVariants.{Ended};
@@ -31,7 +31,7 @@ impl Worker {
     ///
     /// So the worker has no task when it fires, and plays the firing's body itself. In a chain of bodies, each of which sends what
     /// the next one takes, no other worker has to find each of them, whose processor has read none of it. The end comes in the place
-    /// of the ask that became the message.
+    /// of the ask that became the message. There is a task in stock then: the one that ended, unless the firing's body left the old one there.
     pub(crate) fn end_and_mind<R: Wait, G: Gate>(
         &mut self,
         rt: &R,
@@ -57,6 +57,7 @@ impl Worker {
         ensures over { OnOk result (IsAtRest space.now self.new × (self.new.spent ≡ true → self.new.task ≡ None)) }
         ensures role { OnOk result (IsSameRole (view self.old.desk) (view self.new.desk)) }
         ensures minded { OnOk result (WasMindedLast G.knows (view self.old.desk).kept self.new message.number) }
+        ensures stocked { OnOk result (self.new.spare ≢ None) }
         ensures bare { OnOk result (OwnsNothing asked.new) }
     {
         let mut task = task;

@@ -11,7 +11,7 @@ use Rattle.chord_space.specs.declared.space.Desk.{Desk}
 use Rattle.chord_space.specs.Desks.{view, space_code, space_limits, IsSameDesk}
 use Rattle.chord_task.specs.declared.parcel.Opened.{Opened as Parcel}
 use Rattle.chord_task.specs.declared.task.Task.{Task}
-use Rattle.chord_task.specs.Standing.{body_may_go}
+use Rattle.chord_task.specs.Standing.{body_may_go, body_number}
 use Rattle.chord_task.specs.Turning.{HasCome}
 use Rattle.chord_vm.specs.declared.ask.Ask.{Ask}
 use Rattle.chord_vm.specs.declared.ask.Ask.TheVariants as ask
@@ -20,7 +20,7 @@ use Rattle.chord_worker.specs.Playing.{DrawsOne, HeardOfLimit, IsNotedFrom}
 use Rattle.chord_worker.specs.Resting.{IsAtRest, IsSameRole}
 use Rattle.chord_worker.specs.Stepping.{WasMinded}
 use Rattle.chord_worker.proofs.Attending.{role_on}
-use Rattle.chord_worker.proofs.Ended.{ended_minds, ended_told, rest_stocked}
+use Rattle.chord_worker.proofs.Ended.{ended_minds, ended_told, rest_stocked, stays_stocked}
 use Rattle.chord_worker.proofs.Given.{value_of_some, where_none}
 use Rattle.chord_worker.proofs.Resting.{role_noted, role_told}
 use Rattle.chord_worker.proofs.Stepping.{minded_as}
@@ -54,6 +54,12 @@ returns-in_ok-mind-in-Some-clause-over g c =
       subst (IsAtRest s) (sym c.retire.ensures.rest) (rest_stocked s c.mind.new.self c.retire.new.self.spare stock r.0),
       λ e. c.retire.ensures.same.1 ∙ r.1 (sym c.retire.ensures.same.2 ∙ e),
     )
+
+pub returns-in_ok-mind-in-Some-clause-stocked : goal.returns-in_ok-mind-in-Some-clause-stocked
+returns-in_ok-mind-in-Some-clause-stocked g c =
+    let n = c.in-Some.field-0 in
+    let top = value_of_some _ n (λ _. (e : End) → c.replace.new.dest ≡ Some (ask.End e) → vec_len c.args.task.below ≡ 0 → c.draw_own.new.task.top ≡ None) c.in-Some.is c.in_ok-draw_own.ensures.over (Gives a_value.Unit) c.replace.ensures.after c.requires.alone in
+    stays_stocked c.mind.new.self.spare c.retire.new.self.spare c.retire.ensures.spare (λ none. c.retire.ensures.serves none (ap body_number top))
 
 pub returns-in_ok-mind-in-Some-clause-role : goal.returns-in_ok-mind-in-Some-clause-role
 returns-in_ok-mind-in-Some-clause-role g c =
@@ -103,3 +109,8 @@ returns-in-None-clause-minded g c =
     let w = c.args.self.now in
     let told = where_none _ (HeardOfLimit (view w.desk) (view c.draw_own.new.desk)) c.in-None.is c.in_ok-draw_own.ensures.told in
     ((view w.desk).kept, (λ e i. i), inr (inr (ap (λ (x : Desk Parcel). (view x).spent) c.lay_down.ensures.same.0 ∙ ap (λ (z : View). z.spent) told.1)))
+
+pub returns-in-None-clause-stocked : goal.returns-in-None-clause-stocked
+returns-in-None-clause-stocked g c = λ e.
+    let stock : Some c.requires.minds.stock ≡ None = sym c.requires.minds.spare ∙ sym c.lay_down.ensures.same.1 ∙ e in
+    absurd (cc)
