@@ -1,5 +1,5 @@
 -- A worker that minds a message ends the body that sent it.
-use Rattle.std.proofs.Common.{◌≡◌, ◌≢◌, ℕ, true, false, ◌∷◌, Option, Some, None, sym, ap, ◌∙◌, subst}
+use Rattle.std.proofs.Common.{◌≡◌, ◌≢◌, ℕ, true, false, ◌∷◌, Option, Some, None, refl, sym, ap, ◌∙◌, subst}
 use Rattle.chord_bag.specs.Reads.{messages_and_bags}
 use Rattle.chord_base.specs.declared.event.What.{What}
 use Rattle.chord_rule.specs.declared.view.View.{View}
