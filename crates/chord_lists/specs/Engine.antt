@@ -1,14 +1,14 @@
 -- The engine of one thread, over any program: what it keeps from entry to entry.
 --
 -- `stands` says what the bodies of the program are after a history. Histories have their newest entry first.
-use Rattle.std.specs.Prelude.{◌≡◌, ℕ, ◌+◌, ◌≤◌, ◌⊎◌, List, [], ◌∷◌, length, Option, Some, None, true, slice_get}
+use Rattle.std.specs.Prelude.{◌≡◌, ℕ, ◌+◌, ◌<◌, ◌≤◌, ◌⊎◌, List, [], ◌∷◌, length, Option, Some, None, true, false, slice_get}
 use Rattle.chord_base.specs.declared.value.Object.{Object}
 use Rattle.chord_base.specs.declared.value.Value as value
 use Rattle.chord_base.specs.declared.event.What.{What}
 use Rattle.chord_base.specs.declared.event.What.TheVariants.{Begun, Fired}
 use Rattle.chord_base.specs.declared.event.Entry.{Entry}
 use Rattle.chord_base.specs.Meaning.{Program}
-use Rattle.chord_base.specs.Messages.{Message, message_of, members_of, has, pending}
+use Rattle.chord_base.specs.Messages.{AreDifferent, Message, message_of, members_of, has, pending}
 use Rattle.chord_base.specs.Machine.{MayFollow, Fires, NoneFires, NoneAsks, IsPast, IsFinal}
 use Rattle.chord_base.specs.Bounds.{AreWithin}
 use Rattle.chord_lists.specs.declared.engine.Turn.{Turn}
@@ -30,6 +30,18 @@ pub record IsRunOfLength (p : Program) (n : ℕ) (h : List Entry) : Type 0 where
 -- a firing of a chord as an entry
 abbrev pub fired : ℕ → ℕ → Object → List ℕ → List value.Value → Entry
 fired n k o ms vs = record { number = n; body = n; what = Fired k o ms vs }
+
+-- the chord of this number has these methods, and as many as a firing can take messages of
+pub record IsChord (chords : List (List ℕ)) (k : ℕ) (js : List ℕ) : Type 0 where
+  pub is : slice_get chords k ≡ Some js
+  pub numbered : k < 256
+  pub some : 0 < length js
+  pub few : length js ≤ 8
+  pub different : AreDifferent js
+
+-- the chords from this number on and before that one lack the method
+abbrev pub LackMethod : ℕ → List (List ℕ) → ℕ → ℕ → Type 0
+LackMethod j chords from to = (k : ℕ) (js : List ℕ) → from ≤ k → k < to → slice_get chords k ≡ Some js → has j js ≡ false
 
 -- the bodies stand after a run of n entries
 abbrev pub MayGoOn : Program → (List Entry → Type 0) → ℕ → Type 0

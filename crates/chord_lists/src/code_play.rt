@@ -2,17 +2,32 @@
 #![tactic(auto)]
 
 ghost use Rattle.chord_base.specs.Story.{IsSound};
-ghost use Rattle.chord_code.specs.Meaning.{code_program};
+ghost use Rattle.std.specs.Prelude.{◌≡◌};
+ghost use Rattle.chord_code.specs.Meaning.{chord_lines, code_program};
+ghost use Rattle.chord_code.specs.Valid.{IsValid};
 ghost use Rattle.chord_code.proofs.SoundProp.{sound_prop};
 
 use crate::code_bodies::{CodeBodies, begin_body, begin_run, go_on, journal_of, repeat, served_by};
-use crate::engine::{Playable, Turn};
+use crate::engine::{Candidate, Playable, Turn};
 use chord_base::event::{Entry, Limits, What};
 use chord_base::journal::Journal;
 use chord_base::members::Members;
 use chord_base::value::Object;
 use chord_code::code::Code;
+use chord_code::parts::ChordLine;
 use std::alloc::{AllocError, Global};
+
+/// The chords of a class; of one that is not there, none.
+#[inline]
+fn lines_of(code: &Code, class: u16) -> &[ChordLine]
+    ensures lines { result.now ≡ chord_lines code.now class }
+    ensures valid { IsValid code.now }
+{
+    match code.parts().classes.items().get(class as usize) {
+        Some(line) => line.chords.items(),
+        None => &[],
+    }
+}
 
 /// A code under limits, and sound under them.
 #[derive(Drop)]
@@ -23,9 +38,17 @@ pub struct CodePlay<'a> {
 }
 
 impl<'a> CodePlay<'a> {
-    ghost use Rattle.std.specs.Prelude.{◌≡◌, ◌<◌, IfOk};
+    ghost use Rattle.std.specs.Prelude.{◌≡◌, ◌<◌, length, slice_get, Some, IfOk};
     ghost use Rattle.chord_code.specs.Meaning.{code_program};
     ghost use Rattle.chord_lists.specs.CodeStands.{StandsAfter, MayReplay, Replayed};
+
+    /// The methods of a chord of the class, in header order.
+    fn methods(&self, class: u16, chord: u16) -> &[u8]
+        requires { chord < length ((code_program self.now.code.now self.now.limits.now).chords class) }
+        ensures { slice_get ((code_program self.now.code.now self.now.limits.now).chords class) chord ≡ Some result.now }
+    {
+        lines_of(self.code, class)[chord as usize].methods.items()
+    }
 
     /// The bodies make this entry again.
     pub fn replay(
@@ -114,31 +137,18 @@ impl<'a> Playable for CodePlay<'a> {
         Ok(())
     }
 
-    fn count(&self, class: u16) -> u16 {
-        match self.code.parts().classes.items().get(class as usize) {
-            None => 0,
-            Some(line) => line.chords.items().len() as u16,
+    #[inline]
+    fn chord_with(&self, class: u16, from: u16, method: u8) -> Option<Candidate<'_>> {
+        let lines = lines_of(self.code, class);
+        for at in from as usize..lines.len() {
+            if lines[at].methods.has(method) {
+                return Some(Candidate {
+                    chord: at as u16,
+                    methods: lines[at].methods.items(),
+                });
+            }
         }
-    }
-
-    fn methods(&self, class: u16, chord: u16) -> &[u8] {
-        match self.code.parts().classes.items().get(class as usize) {
-            None => unreachable!(),
-            Some(line) => match line.chords.items().get(chord as usize) {
-                None => unreachable!(),
-                Some(line) => line.methods.items(),
-            },
-        }
-    }
-
-    fn has_method(&self, class: u16, chord: u16, method: u8) -> bool {
-        match self.code.parts().classes.items().get(class as usize) {
-            None => unreachable!(),
-            Some(line) => match line.chords.items().get(chord as usize) {
-                None => unreachable!(),
-                Some(line) => line.methods.has(method),
-            },
-        }
+        None
     }
 
     fn journal(&self, _alloc: Global, bodies: CodeBodies) -> Result<Journal, AllocError> {

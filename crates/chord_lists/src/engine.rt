@@ -7,10 +7,10 @@
 ghost use Rattle.std.specs.Prelude.{◌≡◌, ℕ, ◌+◌, ◌<◌, ◌≤◌, ◌⊎◌, List, length, reverse, slice_get, Option, Some, None, IfOk, IfSome, IfNone};
 ghost use Rattle.chord_base.specs.declared.event.Entry.{Entry};
 ghost use Rattle.chord_base.specs.Meaning.{HaveMethods, Program};
-ghost use Rattle.chord_base.specs.Messages.{AreDifferent, has};
+ghost use Rattle.chord_base.specs.Messages.{has};
 ghost use Rattle.chord_base.specs.Machine.{IsRun, IsComplete};
 ghost use Rattle.chord_lists.specs.Bag.{HasMessages, numbers_of};
-ghost use Rattle.chord_lists.specs.Engine.{main_begun, MayGoOn, MayBegin, Went, Began, Ends, IsPlayedOut, EachLacksAMessage, State, Stepped};
+ghost use Rattle.chord_lists.specs.Engine.{main_begun, IsChord, LackMethod, MayGoOn, MayBegin, Went, Began, Ends, IsPlayedOut, EachLacksAMessage, State, Stepped};
 
 use crate::bag::Bag;
 use chord_base::event::Limits;
@@ -28,6 +28,14 @@ pub enum Turn {
     Plain,
     /// A message to this method of this object.
     Message(Object, u8),
+}
+
+/// A chord of a class that has the method that was asked for.
+#[derive(Clone, Copy)]
+pub struct Candidate<'a> {
+    pub chord: u16,
+    /// In header order.
+    pub methods: &'a [u8],
 }
 
 /// A program that the engine can play: its chords, and the bodies of a run.
@@ -74,23 +82,13 @@ pub trait Playable {
         requires may { MayBegin (program self.now) (stands self.now bodies.old) number chord object members.old }
         ensures { IfOk result (λ _. Began (program self.now) (stands self.now bodies.old) (stands self.now bodies.new) number chord object members.old) };
 
-    /// How many chords the class has.
-    fn count(&self, class: u16) -> u16
-        ensures { result ≡ length ((program self.now).chords class) };
-
-    /// The methods of a chord of the class, in header order.
-    fn methods(&self, class: u16, chord: u16) -> &[u8]
-        requires { chord < length ((program self.now).chords class) }
-        ensures value { slice_get ((program self.now).chords class) chord ≡ Some result.now }
-        ensures numbered { chord < 256 }
-        ensures some { 0 < length result.now }
-        ensures few { length result.now ≤ 8 }
-        ensures different { AreDifferent result.now };
-
-    /// Whether a chord of the class has a method.
-    fn has_method(&self, class: u16, chord: u16, method: u8) -> bool
-        requires { chord < length ((program self.now).chords class) }
-        ensures { (js : List ℕ) → slice_get ((program self.now).chords class) chord ≡ Some js → result ≡ has method js };
+    /// The first chord of the class from this one on that has the method; nothing where there is none.
+    fn chord_with(&self, class: u16, from: u16, method: u8) -> Option<Candidate<'_>>
+        ensures chord { IfSome result (λ found. IsChord ((program self.now).chords class) found.chord found.methods.now) }
+        ensures from { IfSome result (λ found. from ≤ found.chord) }
+        ensures has { IfSome result (λ found. has method found.methods.now ≡ true) }
+        ensures skipped { IfSome result (λ found. LackMethod method ((program self.now).chords class) from found.chord) }
+        ensures none { IfNone result (LackMethod method ((program self.now).chords class) from (length ((program self.now).chords class))) };
 
     /// The journal of all that the bodies did.
     fn journal(&self, alloc: Global, bodies: Self::Bodies) -> Result<Journal, AllocError>
@@ -102,16 +100,22 @@ pub trait Playable {
 ///
 /// A message enables only chords that have its method, so no other is looked at.
 #[inline(always)]
-pub fn find_chord<P: Playable>(program: &P, bag: &Bag, object: Object, method: u8) -> Option<u16>
-    ensures some { IfSome result (λ k. (js : List ℕ) × (slice_get ((P.program program.now).chords object.class) k ≡ Some js) × HasMessages object js (numbers_of bag.now)) }
+pub fn find_chord<'a, P: Playable>(
+    program: &'a P,
+    bag: &Bag,
+    object: Object,
+    method: u8,
+) -> Option<Candidate<'a>>
+    ensures chord { IfSome result (λ found. IsChord ((P.program program.now).chords object.class) found.chord found.methods.now) }
+    ensures some { IfSome result (λ found. HasMessages object found.methods.now (numbers_of bag.now)) }
     ensures none { IfNone result (EachLacksAMessage (P.program program.now) object method (numbers_of bag.now)) }
 {
-    for chord in 0..program.count(object.class) {
-        if program.has_method(object.class, chord, method)
-            && bag.has_all(object, program.methods(object.class, chord))
-        {
-            return Some(chord);
+    let mut from = 0;
+    while let Some(found) = program.chord_with(object.class, from, method) {
+        if bag.has_all(object, found.methods) {
+            return Some(found);
         }
+        from = found.chord + 1;
     }
     None
 }
@@ -158,14 +162,15 @@ fn fire<P: Playable>(
     bag: &mut Bag,
     object: Object,
     chord: u16,
+    methods: &[u8],
     number: u32,
 ) -> Result<(), AllocError>
     requires room { number < 65536 }
     requires state { (j : ℕ) × State (P.program program.now) (P.stands program.now bodies.old) (numbers_of bag.old) (Some (object, j)) number }
-    requires there { (js : List ℕ) × (slice_get ((P.program program.now).chords object.class) chord ≡ Some js) × HasMessages object js (numbers_of bag.old) }
+    requires chord { IsChord ((P.program program.now).chords object.class) chord methods.now }
+    requires messages { HasMessages object methods.now (numbers_of bag.old) }
     ensures { IfOk result (λ _. State (P.program program.now) (P.stands program.now bodies.new) (numbers_of bag.new) None (number + 1)) }
 {
-    let methods = program.methods(object.class, chord);
     let mut members = Members::new();
     bag.take_all(object, methods, &mut members);
     program.begin(alloc, bodies, number, chord, object, methods, &mut members)?;
@@ -190,8 +195,9 @@ fn advance<P: Playable>(
         None => take_turn(alloc, program, bodies, bag, number),
         Some((object, method)) => match find_chord(program, bag, object, method) {
             None => take_turn(alloc, program, bodies, bag, number),
-            Some(chord) => {
-                fire(alloc, program, bodies, bag, object, chord, number)?;
+            Some(found) => {
+                let Candidate { chord, methods } = found;
+                fire(alloc, program, bodies, bag, object, chord, methods, number)?;
                 Ok(Step::Idle)
             }
         },
