@@ -4,7 +4,7 @@
 //! completed, if there is one; otherwise some body goes on.
 #![tactic(auto)]
 
-ghost use Rattle.std.specs.Prelude.{◌≡◌, ℕ, ◌+◌, ◌<◌, ◌≤◌, ◌⊎◌, List, length, reverse, slice_get, Option, Some, None, IfOk, IfSome, IfNone};
+ghost use Rattle.std.specs.Prelude.{◌≡◌, ℕ, ◌+◌, ◌<◌, ◌≤◌, ◌⊎◌, List, length, reverse, slice_get, true, Option, Some, None, IfOk, IfSome, IfNone};
 ghost use Rattle.chord_base.specs.declared.event.Entry.{Entry};
 ghost use Rattle.chord_base.specs.Meaning.{HaveMethods, Program};
 ghost use Rattle.chord_base.specs.Messages.{has};
