@@ -8,7 +8,7 @@ use Rattle.chord_code.specs.declared.parts.Parts.{Parts}
 use Rattle.chord_code.specs.Meaning.{code_program, chord_lines, methods_of}
 use Rattle.chord_code.specs.Valid.{IsValid}
 use Rattle.chord_code.proofs.Validity.{valid_chords, valid_different, valid_methods}
-use Rattle.chord_lists.specs.Engine.{IsChord}
+use Rattle.chord_lists.specs.Engine.{HasChord}
 
 -- the number of its lines is that of its chords
 pub lines_count : (code : Parts) (limits : Limits) (c : ℕ) (lines : List ChordLine) → lines ≡ chord_lines code c → length lines ≡ length ((code_program code limits).chords c)
@@ -29,7 +29,7 @@ pub methods_there : (code : Parts) (limits : Limits) (c k : ℕ) (lines : List C
 methods_there code limits c k lines line js e lt is = ap (λ z. slice_get (map methods_of z) k) (sym e) ∙ methods_at lines k line lt ∙ ap Some (sym is)
 
 -- a line of a valid code is a chord, where it has no more than eight methods
-pub chord_there : (code : Parts) (limits : Limits) (c k : ℕ) (lines : List ChordLine) (line : ChordLine) (js : List ℕ) → IsValid code → lines ≡ chord_lines code c → k < length lines → js ≡ (get_or lines k line).methods → length (get_or lines k line).methods ≤ 8 → IsChord ((code_program code limits).chords c) k js
+pub chord_there : (code : Parts) (limits : Limits) (c k : ℕ) (lines : List ChordLine) (line : ChordLine) (js : List ℕ) → IsValid code → lines ≡ chord_lines code c → k < length lines → js ≡ (get_or lines k line).methods → length (get_or lines k line).methods ≤ 8 → HasChord ((code_program code limits).chords c) k js
 chord_there code limits c k lines line js valid e lt is few =
     let there = methods_there code limits c k lines line js e lt is in
     let most = lines_few code c lines valid e in

@@ -31,8 +31,8 @@ pub record IsRunOfLength (p : Program) (n : ℕ) (h : List Entry) : Type 0 where
 abbrev pub fired : ℕ → ℕ → Object → List ℕ → List value.Value → Entry
 fired n k o ms vs = record { number = n; body = n; what = Fired k o ms vs }
 
--- the chord of this number has these methods, and as many as a firing can take messages of
-pub record IsChord (chords : List (List ℕ)) (k : ℕ) (js : List ℕ) : Type 0 where
+-- the chord of this number has these methods: each once, some, and no more than a firing takes messages
+pub record HasChord (chords : List (List ℕ)) (k : ℕ) (js : List ℕ) : Type 0 where
   pub is : slice_get chords k ≡ Some js
   pub numbered : k < 256
   pub some : 0 < length js

@@ -10,7 +10,7 @@ ghost use Rattle.chord_base.specs.Meaning.{HaveMethods, Program};
 ghost use Rattle.chord_base.specs.Messages.{has};
 ghost use Rattle.chord_base.specs.Machine.{IsRun, IsComplete};
 ghost use Rattle.chord_lists.specs.Bag.{HasMessages, numbers_of};
-ghost use Rattle.chord_lists.specs.Engine.{main_begun, IsChord, LackMethod, MayGoOn, MayBegin, Went, Began, Ends, IsPlayedOut, EachLacksAMessage, State, Stepped};
+ghost use Rattle.chord_lists.specs.Engine.{main_begun, HasChord, LackMethod, MayGoOn, MayBegin, Went, Began, Ends, IsPlayedOut, EachLacksAMessage, State, Stepped};
 
 use crate::bag::Bag;
 use chord_base::event::Limits;
@@ -84,7 +84,7 @@ pub trait Playable {
 
     /// The first chord of the class from this one on that has the method; nothing where there is none.
     fn chord_with(&self, class: u16, from: u16, method: u8) -> Option<Candidate<'_>>
-        ensures chord { IfSome result (λ found. IsChord ((program self.now).chords class) found.chord found.methods.now) }
+        ensures chord { IfSome result (λ found. HasChord ((program self.now).chords class) found.chord found.methods.now) }
         ensures from { IfSome result (λ found. from ≤ found.chord) }
         ensures has { IfSome result (λ found. has method found.methods.now ≡ true) }
         ensures skipped { IfSome result (λ found. LackMethod method ((program self.now).chords class) from found.chord) }
@@ -106,7 +106,7 @@ pub fn find_chord<'a, P: Playable>(
     object: Object,
     method: u8,
 ) -> Option<Candidate<'a>>
-    ensures chord { IfSome result (λ found. IsChord ((P.program program.now).chords object.class) found.chord found.methods.now) }
+    ensures chord { IfSome result (λ found. HasChord ((P.program program.now).chords object.class) found.chord found.methods.now) }
     ensures some { IfSome result (λ found. HasMessages object found.methods.now (numbers_of bag.now)) }
     ensures none { IfNone result (EachLacksAMessage (P.program program.now) object method (numbers_of bag.now)) }
 {
@@ -167,7 +167,7 @@ fn fire<P: Playable>(
 ) -> Result<(), AllocError>
     requires room { number < 65536 }
     requires state { (j : ℕ) × State (P.program program.now) (P.stands program.now bodies.old) (numbers_of bag.old) (Some (object, j)) number }
-    requires chord { IsChord ((P.program program.now).chords object.class) chord methods.now }
+    requires chord { HasChord ((P.program program.now).chords object.class) chord methods.now }
     requires messages { HasMessages object methods.now (numbers_of bag.old) }
     ensures { IfOk result (λ _. State (P.program program.now) (P.stands program.now bodies.new) (numbers_of bag.new) None (number + 1)) }
 {
@@ -195,8 +195,7 @@ fn advance<P: Playable>(
         None => take_turn(alloc, program, bodies, bag, number),
         Some((object, method)) => match find_chord(program, bag, object, method) {
             None => take_turn(alloc, program, bodies, bag, number),
-            Some(found) => {
-                let Candidate { chord, methods } = found;
+            Some(Candidate { chord, methods }) => {
                 fire(alloc, program, bodies, bag, object, chord, methods, number)?;
                 Ok(Step::Idle)
             }
