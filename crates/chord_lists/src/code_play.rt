@@ -1,8 +1,8 @@
 //! Plays a code.
 #![tactic(auto)]
 
-ghost use Rattle.chord_base.specs.Story.{IsSound};
 ghost use Rattle.std.specs.Prelude.{◌≡◌};
+ghost use Rattle.chord_base.specs.Story.{IsSound};
 ghost use Rattle.chord_code.specs.Meaning.{chord_lines, code_program};
 ghost use Rattle.chord_code.specs.Valid.{IsValid};
 ghost use Rattle.chord_code.proofs.SoundProp.{sound_prop};

@@ -30,11 +30,10 @@ pub enum Turn {
     Message(Object, u8),
 }
 
-/// A chord of a class that has the method that was asked for.
+/// A chord of a class that has the method that was asked for: its number, and its methods in header order.
 #[derive(Clone, Copy)]
 pub struct Candidate<'a> {
     pub chord: u16,
-    /// In header order.
     pub methods: &'a [u8],
 }
 
