@@ -42,24 +42,19 @@ pub record HasStopped (s : Space Parcel) (w : Worker) : Type 0 where
 abbrev pub AreUnready : ℕ → ℕ → List Look → Type 0
 AreUnready from to looks = (i : ℕ) → from ≤ i → i < to → (x : Word) × LastSeen i x looks × (x.cell ≢ Ready)
 
--- the desk looked at the counter, and last saw no firing ready below it, from this number on
-pub record FoundNone (s : Space Parcel) (from : ℕ) (v : View) : Type 0 where
+-- the desk looked at the counter, and last saw no firing ready among the numbers below it, from the first of these on and below the second
+pub record FoundNoneBelow (s : Space Parcel) (from below : ℕ) (v : View) : Type 0 where
   pub count : ℕ
   pub counted : v.looked.count ≡ Some count
-  pub unready : AreUnready from (min count s.events) v.looked.seen
+  pub unready : AreUnready from (min below (min count s.events)) v.looked.seen
+
+-- the desk looked at the counter, and last saw no firing ready below it, from this number on
+abbrev pub FoundNone : Space Parcel → ℕ → View → Type 0
+FoundNone s from v = FoundNoneBelow s from s.events v
 
 -- a worker may stop where it was told that the limit is reached, or found no firing to start
 abbrev pub MayStop : Space Parcel → Worker → Type 0
 MayStop s w = ((view w.desk).spent ≡ true) ⊎ FoundNone s 0 (view w.desk)
-
--- a worker that had no task has one now, or found no firing to start from this number or a lower one on
-abbrev pub HasLookedFrom : Space Parcel → ℕ → Worker → Type 0
-HasLookedFrom s place w = (w.task ≢ None) ⊎ ((from : ℕ) × (from ≤ place) × FoundNone s from (view w.desk))
-
--- a worker went on with its task, or looked for one from this number on
-pub record HadARound (s : Space Parcel) (place : ℕ) (v w : Worker) : Type 0 where
-  pub went : (t : Task) → v.task ≡ Some t → HasGoneOn (view v.desk).kept t w
-  pub looked : v.task ≡ None → HasLookedFrom s place w
 
 -- between these views the cell i was seen, last in another state than ready, and no other cell and no counter
 pub record SawUnready (v w : View) (i : ℕ) : Type 0 where
@@ -76,6 +71,19 @@ MayPlay s x = x.failed ≡ false → IsSettled s x.worker
 -- a player that has not failed has nothing to play, and may stop
 abbrev pub HasPlayed : Space Parcel → Player → Type 0
 HasPlayed s x = x.failed ≡ false → HasStopped s x.worker × MayStop s x.worker
+
+-- the player knows how many numbers the counter said were given
+abbrev pub KnowsCount : Space Parcel → Player → Type 0
+KnowsCount s x = (count : ℕ) × ((view x.worker.desk).looked.count ≡ Some count) × (x.known ≡ min count s.events)
+
+-- a player that had no task has one now, or found no firing to start among the numbers that it knew of, from its place or a lower one on, and knows how many are given now
+abbrev pub HasLooked : Space Parcel → Player → Player → Type 0
+HasLooked s x y = (y.worker.task ≢ None) ⊎ ((from : ℕ) × (from ≤ x.place) × FoundNoneBelow s from x.known (view y.worker.desk) × KnowsCount s y)
+
+-- a player went on with its task, or looked for one
+pub record HadARound (s : Space Parcel) (x y : Player) : Type 0 where
+  pub went : (t : Task) → x.worker.task ≡ Some t → HasGoneOn (view x.worker.desk).kept t y.worker
+  pub looked : x.worker.task ≡ None → HasLooked s x y
 
 -- it plays at the same desk, unless it fails
 abbrev pub PlaysOn : Player → Player → Type 0

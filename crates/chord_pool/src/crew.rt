@@ -25,6 +25,7 @@ fn hire_one(
         worker,
         failed: false,
         place: 0,
+        known: 0,
         misses: 0,
         counted: false,
     })?;

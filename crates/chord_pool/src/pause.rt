@@ -7,7 +7,7 @@ use std::sync::Wait;
 /// The first sleep, in microseconds.
 const FIRST_NAP_MICROS: u64 = 50;
 /// How often a sleep is twice as long as the one before.
-const LONGER_NAPS: u32 = 5;
+const LONGER_NAPS: u32 = 4;
 
 /// How long an idle worker has waited.
 #[derive(Drop)]

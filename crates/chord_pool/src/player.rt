@@ -5,7 +5,7 @@ ghost use Rattle.chord_space.specs.Desks.{view};
 ghost use Rattle.chord_task.specs.declared.task.Task.{Task as TheTask};
 ghost use Rattle.chord_worker.specs.Resting.{IsAtRest, IsSameRole};
 ghost use Rattle.chord_worker.specs.Stepping.{HasGoneOn};
-ghost use Rattle.chord_pool.specs.Players.{IsOneRun, IsFit, IsSettled, HasStopped, AreUnready, FoundNone, SawUnready, HasLookedFrom, HadARound, MayPlay, HasPlayed, PlaysOn};
+ghost use Rattle.chord_pool.specs.Players.{IsOneRun, IsFit, IsSettled, HasStopped, AreUnready, FoundNoneBelow, FoundNone, SawUnready, KnowsCount, HasLooked, HadARound, MayPlay, HasPlayed, PlaysOn};
 
 use crate::pause::Pause;
 use crate::run::Run;
@@ -22,6 +22,8 @@ pub(crate) struct Player {
     pub failed: bool,
     /// The number from which it goes on to look for a firing.
     pub place: u32,
+    /// How many numbers were given when it last looked.
+    pub known: u32,
     /// How many of its last looks found none.
     pub misses: u32,
     /// Whether it counts among those at work. It does for as long as it finds one firing after the other.
@@ -93,42 +95,28 @@ fn sweep<'a, G: Gate>(
     None
 }
 
-/// Looks for a firing from this place on. Where the next look begins; whether it plays one now, the worker says.
+/// Looks for a firing from this place on, below that number. Where the next look begins; whether it plays one now, the worker says.
 fn find_work<'a, G: Gate>(
     run: &Run<'a>,
     worker: &mut Worker,
     place: u32,
+    below: u32,
     gate: &G,
     counted: bool,
 ) -> u32
     requires run { IsOneRun run.now.space.now run.now.code.now run.now.limits.now }
     requires worker { IsFit run.now.space.now worker.old }
     requires idle { worker.old.task ≡ None }
+    requires bounds { below ≤ run.now.space.now.events }
     ensures worker { IsFit run.now.space.now worker.new }
     ensures role { IsSameRole (view worker.old.desk) (view worker.new.desk) }
-    ensures none { worker.new.task ≡ None → FoundNone run.now.space.now place (view worker.new.desk) }
+    ensures count { worker.new.task ≡ None → (view worker.new.desk).looked.count ≡ (view worker.old.desk).looked.count }
+    ensures seen { worker.new.task ≡ None → AreUnready place below (view worker.new.desk).looked.seen }
 {
-    let count = worker.count(run.space);
-    match sweep(run, worker, place, count, gate, counted) {
+    match sweep(run, worker, place, below, gate, counted) {
         Some(i) => i,
-        None => count.saturating_sub(NEAR),
+        None => below.saturating_sub(NEAR),
     }
-}
-
-/// Looks for a firing among all numbers, unless the look before, which found none, began at the first. Where the next look begins.
-fn find_far<'a, G: Gate>(run: &Run<'a>, worker: &mut Worker, from: u32, place: u32, gate: &G) -> u32
-    requires run { IsOneRun run.now.space.now run.now.code.now run.now.limits.now }
-    requires worker { IsFit run.now.space.now worker.old }
-    requires idle { worker.old.task ≡ None }
-    requires seen { FoundNone run.now.space.now from (view worker.old.desk) }
-    ensures worker { IsFit run.now.space.now worker.new }
-    ensures role { IsSameRole (view worker.old.desk) (view worker.new.desk) }
-    ensures none { worker.new.task ≡ None → FoundNone run.now.space.now 0 (view worker.new.desk) }
-{
-    if from == 0 {
-        return place;
-    }
-    find_work(run, worker, 0, gate, false)
 }
 
 impl Player {
@@ -174,7 +162,51 @@ impl Player {
         true
     }
 
+    /// Looks for a firing from its place on: among all numbers, or else among those that it knew of before.
+    fn look<'a, G: Gate>(&mut self, run: &Run<'a>, gate: &G, among_all: bool)
+        requires run { IsOneRun run.now.space.now run.now.code.now run.now.limits.now }
+        requires worker { IsFit run.now.space.now self.old.worker }
+        requires idle { self.old.worker.task ≡ None }
+        ensures worker { IsFit run.now.space.now self.new.worker }
+        ensures role { IsSameRole (view self.old.worker.desk) (view self.new.worker.desk) }
+        ensures same { (self.new.failed ≡ self.old.failed) × (self.new.counted ≡ self.old.counted) × (self.new.misses ≡ self.old.misses) }
+        ensures all { among_all ≡ true → self.new.worker.task ≡ None → FoundNone run.now.space.now self.old.place (view self.new.worker.desk) }
+        ensures knew { self.new.worker.task ≡ None → FoundNoneBelow run.now.space.now self.old.place self.old.known (view self.new.worker.desk) }
+        ensures knows { self.new.worker.task ≡ None → KnowsCount run.now.space.now self.new }
+    {
+        let count = self.worker.count(run.space);
+        let below = if among_all {
+            count
+        } else {
+            self.known.min(count)
+        };
+        self.known = count;
+        self.place = find_work(run, &mut self.worker, self.place, below, gate, self.counted);
+    }
+
+    /// Looks for a firing among all numbers, unless the look before, which found none, began at the first.
+    fn look_far<'a, G: Gate>(&mut self, run: &Run<'a>, gate: &G, from: u32)
+        requires run { IsOneRun run.now.space.now run.now.code.now run.now.limits.now }
+        requires worker { IsFit run.now.space.now self.old.worker }
+        requires idle { self.old.worker.task ≡ None }
+        requires seen { FoundNone run.now.space.now from (view self.old.worker.desk) }
+        requires knows { KnowsCount run.now.space.now self.old }
+        ensures worker { IsFit run.now.space.now self.new.worker }
+        ensures role { IsSameRole (view self.old.worker.desk) (view self.new.worker.desk) }
+        ensures same { self.new.failed ≡ self.old.failed }
+        ensures none { self.new.worker.task ≡ None → FoundNone run.now.space.now 0 (view self.new.worker.desk) }
+        ensures knows { self.new.worker.task ≡ None → KnowsCount run.now.space.now self.new }
+    {
+        if from > 0 {
+            self.place = 0;
+            self.look(run, gate, true);
+        }
+    }
+
     /// Looks for a firing to play. Whether the worker goes on: it does while it finds one, or another is at work.
+    ///
+    /// A worker that is not counted among those at work leaves a firing that was drawn since its last look: whoever posted it comes
+    /// to it soon as a rule, and has in its processor's memory what it is about. Taken over at once, each costs more than it takes.
     fn idle<'a, R: Wait, G: Gate>(&mut self, rt: &R, run: &Run<'a>, gate: &G, pause: &Pause) -> bool
         requires run { IsOneRun run.now.space.now run.now.code.now run.now.limits.now }
         requires worker { IsFit run.now.space.now self.old.worker }
@@ -184,7 +216,7 @@ impl Player {
         ensures on { PlaysOn self.old self.new }
         ensures sane { result ≡ true → self.new.failed ≡ false }
         ensures stops { result ≡ false → HasPlayed run.now.space.now self.new }
-        ensures looked { result ≡ true → HasLookedFrom run.now.space.now self.old.place self.new.worker }
+        ensures looked { result ≡ true → HasLooked run.now.space.now self.old self.new }
     {
         // Read before the look: what is posted later is posted by a worker that is at work now, or by one of those whose work
         // this look finds.
@@ -194,7 +226,7 @@ impl Player {
             self.misses = 0;
         }
         let from = self.place;
-        self.place = find_work(run, &mut self.worker, from, gate, self.counted);
+        self.look(run, gate, self.counted || working == 0);
         if self.worker.has_task() {
             return self.found(pause);
         }
@@ -205,7 +237,7 @@ impl Player {
         }
         // Where nobody is at work, what the near look did not find is looked for among all numbers, before the worker goes.
         if working == 0 {
-            self.place = find_far(run, &mut self.worker, from, self.place, gate);
+            self.look_far(run, gate, from);
             if !self.worker.has_task() {
                 return false;
             }
@@ -232,7 +264,7 @@ impl Player {
         ensures on { PlaysOn self.old self.new }
         ensures sane { result ≡ true → self.new.failed ≡ false }
         ensures stops { result ≡ false → HasPlayed run.now.space.now self.new }
-        ensures went { result ≡ true → HadARound run.now.space.now self.old.place self.old.worker self.new.worker }
+        ensures went { result ≡ true → HadARound run.now.space.now self.old self.new }
     {
         if self.worker.has_task() {
             return self.advance(rt, alloc, run, gate);
@@ -266,7 +298,7 @@ impl Player {
         ensures on { PlaysOn self.old self.new }
         ensures sane { result ≡ true → self.new.failed ≡ false }
         ensures stops { result ≡ false → HasPlayed run.now.space.now self.new }
-        ensures went { result ≡ true → (before : ThePlayer) × HadARound run.now.space.now before.place before.worker self.new.worker }
+        ensures went { result ≡ true → (before : ThePlayer) × HadARound run.now.space.now before self.new }
     {
         if run.shared.has_stopped() {
             self.failed = true;

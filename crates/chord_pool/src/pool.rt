@@ -69,6 +69,7 @@ fn play_together<'a, R: Threads + Wait + Sync, G: Gate + Sync>(
         worker: main,
         failed: false,
         place: 0,
+        known: 0,
         misses: 0,
         counted: true,
     };

@@ -7,4 +7,4 @@ use Rattle.chord_pool.proofs.player.Player.rounds.Given as goal
 abbrev pub invariant-loop-round : goal.invariant-loop-round
 invariant-loop-round g l =
     MayPlay l.run.space.now l.self × PlaysOn l.fn.self l.self × (l.self.failed ≡ false)
-    × (0 < l._round → (before : Player) × HadARound l.run.space.now before.place before.worker l.self.worker)
+    × (0 < l._round → (before : Player) × HadARound l.run.space.now before l.self)
