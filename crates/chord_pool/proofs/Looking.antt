@@ -1,5 +1,5 @@
 -- What a worker that looks for a firing has seen.
-use Rattle.std.proofs.Common.{◌≡◌, ◌≢◌, ℕ, ◌+◌, ◌≤◌, true, false, Option, Some, None, is_some, refl, sym, ap, ◌∙◌, subst, inl, inr, arith}
+use Rattle.std.proofs.Common.{◌≡◌, ◌≢◌, ℕ, ◌+◌, true, false, Option, Some, None, is_some, refl, sym, ap, ◌∙◌, subst, inl, inr, arith}
 use mathlib.Core.Logic.{dite}
 use native.Mathlib.Decide.{ℕ_discrete}
 use Rattle.chord_rule.specs.declared.view.View.{View}
@@ -42,10 +42,6 @@ unready_more from i v w was saw_it k above low = dite (ℕ_discrete k i)
 -- no cell was looked at yet
 pub unready_none : (n : ℕ) (v : View) → AreUnready n n v.looked.seen
 unready_none n v k above low = absurd (omega (arith, above, low))
-
--- what is so below a number is so below a lower one
-pub unready_less : (from below less : ℕ) (v : View) → less ≤ below → AreUnready from below v.looked.seen → AreUnready from less v.looked.seen
-unready_less from below less v low all k above lower = all k above (omega (arith, low, lower))
 
 -- a worker without a task has none
 pub none_there : (x : Option Task) → is_some x ≡ false → x ≡ None

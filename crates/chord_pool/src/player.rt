@@ -190,12 +190,10 @@ impl Player {
         requires worker { IsFit run.now.space.now self.old.worker }
         requires idle { self.old.worker.task ≡ None }
         requires seen { FoundNone run.now.space.now from (view self.old.worker.desk) }
-        requires knows { KnowsCount run.now.space.now self.old }
         ensures worker { IsFit run.now.space.now self.new.worker }
         ensures role { IsSameRole (view self.old.worker.desk) (view self.new.worker.desk) }
         ensures same { self.new.failed ≡ self.old.failed }
         ensures none { self.new.worker.task ≡ None → FoundNone run.now.space.now 0 (view self.new.worker.desk) }
-        ensures knows { self.new.worker.task ≡ None → KnowsCount run.now.space.now self.new }
     {
         if from > 0 {
             self.place = 0;
