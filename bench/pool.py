@@ -2,7 +2,7 @@
 """Plays the programs of bench/workloads by 1, 4 and 64 workers and on one thread: wall clock a firing, and the ratios. Each stands beside a pool of the same
 algorithm in Rust, over crossbeam's deques, and beside a program of the same meaning over Go's channels, `uncontended` beside its bare atomic steps and writes in
 C, and `load 60` beside a program over the bounded channels of Rust's standard library (bench/peers), where their compilers and the sources of crossbeam are
-there.
+there. Bodies that compute (`compute`) show how four workers share what they can share.
 
 What is compared runs in turns, round after round, since a machine may be half as fast a minute later, and the ratios are those of medians. From a run is taken
 what the same program takes that plays no round: its start, and the making of its table. The pool in Rust touches its table as it goes, so whole runs stand beside
@@ -21,6 +21,7 @@ import common
 RUNS = 15
 # What each workload prints, and how often it goes round, which is 0 in the same program that plays no round.
 WORKLOADS = {'uncontended': (b'done\n', [b'3900']), 'buffer': (b'8004000\n', [b'2000']), 'lock': (b'done\n', [b'250']), 'santa': (b'600\n', [b'2400', b'600'])}
+TURNS = b'8000'  # of each body of `compute`
 PAIRS = 60  # of `load`, whose buffer Rust's program has too
 SUM = b'303000\n'
 COUNTS = b'begun 1 made 3 sent 12243 called 12001 fired 12181 printed 1 ended 12182\n'
@@ -162,6 +163,20 @@ def measure_steps(bare, times, firings):
         common.tell(f'uncontended, {by_workers(workers)} beside the bare steps in C', took, statistics.median(steps), 'ns a firing', f'least {least:.0f} and {min(steps):.0f}')
 
 
+def measure_sharing(program):
+    """Bodies that compute, by one worker and by four, less the same program that computes nothing: how much of the time is left."""
+    with open(f'{common.TOP}/bench/workloads/compute.cs', 'rb') as file:
+        source = file.read()
+    runs = {}
+    for workers in (1, 4):
+        command = [program, 'run', '--workers', str(workers)]
+        runs[by_workers(workers)] = command, source, b'done\n'
+        runs[f'{by_workers(workers)}, no turn'] = command, without_rounds(source, [TURNS]), b'done\n'
+    times = in_turns(runs)
+    four, one = ((statistics.median(times[by_workers(n)]) - statistics.median(times[f'{by_workers(n)}, no turn'])) * 1e3 for n in (4, 1))
+    common.tell('compute, 4 workers beside 1 worker', four, one, 'ms')
+
+
 def measure_load(program, rust):
     """The large program that the command makes, beside Rust's, each with its start."""
     times = in_turns({'workers': ([program, 'load', str(PAIRS), '--workers', '4'], b'', SUM + COUNTS), 'channels': ([rust, str(PAIRS)], b'', SUM)})
@@ -176,6 +191,7 @@ def main():
         measured = {name: measure(name, program, pool, go) for name in WORKLOADS}
         if bare:
             measure_steps(bare, *measured['uncontended'])
+        measure_sharing(program)
         if rust:
             measure_load(program, rust)
 
