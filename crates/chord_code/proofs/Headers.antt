@@ -1,10 +1,12 @@
--- The flags of a chord's methods, when one more is added.
-use Rattle.std.proofs.Common.{◌≡◌, ◌≢◌, ℕ, ◌<◌, ◌≤◌, Bool, true, false, ◌==◌, ◌||◌, List, [], ◌∷◌, ◌++◌, length, Some, inl, inr, refl, sym, ap, ◌∙◌, subst, arith, set, length-append}
+-- The methods of a chord: their flags, when one more is added, and where a line with one of them stands.
+use Rattle.std.proofs.Common.{◌≡◌, ◌≢◌, ℕ, zero, suc, ◌+◌, ◌<◌, ◌≤◌, Bool, true, false, ◌==◌, ◌||◌, List, [], ◌∷◌, ◌++◌, length, map, get_or, Some, inl, inr, ⊎_elim, refl, sym, ap, ◌∙◌, subst, arith, set, length-append}
 use Rattle.std.specs.Prelude.{slice_get}
-use Rattle.std.proofs.lemmas.Bool.{eq-eqb, eqb-true}
+use Rattle.std.proofs.lemmas.Bool.{cases_lt, eq-eqb, eqb-true}
 use Rattle.chord_base.specs.Messages.{has}
 use Rattle.chord_base.proofs.Waits.{either}
-use Rattle.chord_code.specs.Headers.{AreFlags}
+use Rattle.chord_code.specs.Headers.{AreFlags, LackHeader}
+use Rattle.chord_code.specs.Meaning.{methods_of}
+use Rattle.chord_code.specs.declared.parts.ChordLine.{ChordLine}
 use Rattle.chord_code.proofs.Places.{set_same, set_other}
 
 -- a number that is added stands among them
@@ -52,3 +54,16 @@ added_with n ns new flags is few low are = subst (λ z. (length z ≤ 8) × AreF
 -- and so has one to which a number without a flag was added
 pub added_past : (n : ℕ) (ns new : List ℕ) (flags : List Bool) → new ≡ ns ++ n ∷ [] → length ns < 8 → 16 ≤ n → AreFlags ns flags → (length new ≤ 8) × AreFlags new flags
 added_past n ns new flags is few high are = subst (λ z. (length z ≤ 8) × AreFlags z flags) (sym is) (one_more n ns few, flagged_past n ns flags high are)
+
+-- the chord of a number has the methods of the line there
+pub methods_at : (lines : List ChordLine) (k : ℕ) (line : ChordLine) → k < length lines → slice_get (map methods_of lines) k ≡ Some (methods_of (get_or lines k line))
+methods_at [] k line lt = absurd (omega (arith, lt))
+methods_at (x ∷ lines) zero line lt = refl
+methods_at (x ∷ lines) (suc k) line lt = methods_at lines k line (omega (arith, lt))
+
+-- one chord more lacks the method
+pub lack_more : (j : ℕ) (chords : List (List ℕ)) (from n : ℕ) (ms : List ℕ) → slice_get chords n ≡ Some ms → has j ms ≡ false → LackHeader j chords from n → LackHeader j chords from (n + 1)
+lack_more j chords from n ms is off before k js low lt e =
+    ⊎_elim (λ less. before k js low less e)
+    (λ le. let q : k ≡ n = omega (arith, le, lt) in let z : Some ms ≡ Some js = sym is ∙ ap (slice_get chords) (sym q) ∙ e in let y : ms ≡ js = cc in subst (λ z. has j z ≡ false) y off)
+    (cases_lt k n)

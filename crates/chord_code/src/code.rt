@@ -1,9 +1,9 @@
 //! A valid code.
 #![tactic(auto)]
 
-ghost use Rattle.std.specs.Prelude.{◌≡◌, ℕ, ◌<◌, length, slice_get, Some};
+ghost use Rattle.std.specs.Prelude.{◌≡◌};
 ghost use Rattle.chord_code.specs.Valid.{IsValid};
-ghost use Rattle.chord_code.specs.Meaning.{chord_lines, listed_methods, method_is_sync};
+ghost use Rattle.chord_code.specs.Meaning.{chord_lines};
 ghost use Rattle.chord_code.specs.Slots.{IsMostSlots};
 
 use crate::parts::{Block, ChordLine, Parts};
@@ -67,20 +67,15 @@ impl Code {
         &self.parts
     }
 
-    /// The effective chords of a class.
+    /// The effective chords of a class; of one that is not there, none.
+    #[inline]
     pub fn chords(&self, class: u16) -> &[ChordLine]
-        requires { class < length self.now.classes }
-        ensures { result.now ≡ chord_lines self.now class }
+        ensures chords { result.now ≡ chord_lines self.now class }
+        ensures valid { IsValid self.now }
     {
-        self.parts.classes.items()[class as usize].chords.items()
-    }
-
-    /// Whether callers of the method wait.
-    pub fn is_sync(&self, class: u16, method: u8) -> bool
-        requires class { class < length self.now.classes }
-        requires method { method < length (listed_methods self.now class) }
-        ensures { result ≡ method_is_sync self.now class method }
-    {
-        self.parts.classes.items()[class as usize].methods.items()[method as usize].sync
+        match self.parts.classes.items().get(class as usize) {
+            Some(line) => line.chords.items(),
+            None => &[],
+        }
     }
 }

@@ -1,8 +1,10 @@
 //! The parts of a code: its classes, with their methods and chords, and its blocks.
 #![tactic(auto)]
 
-ghost use Rattle.std.specs.Prelude.{◌≡◌, ℕ, ◌<◌, ◌≤◌, List, [], ◌∷◌, ◌++◌, length, OnOk, IfOk};
+ghost use Rattle.std.specs.Prelude.{◌≡◌, ℕ, ◌<◌, ◌≤◌, List, [], ◌∷◌, ◌++◌, length, map, OnOk, IfOk};
 ghost use Rattle.chord_base.specs.Messages.{has};
+ghost use Rattle.chord_code.specs.Headers.{LackHeader, HasHeader};
+ghost use Rattle.chord_code.specs.Meaning.{methods_of};
 
 use crate::instruction::Instructions;
 use crate::lines::Lines;
@@ -95,6 +97,22 @@ impl MethodNumbers {
 pub struct ChordLine {
     pub block: u32,
     pub methods: MethodNumbers,
+}
+
+/// The first of these lines from this one on whose chord has the method; where there is none, how many lines there are.
+#[inline]
+pub fn line_with(lines: &[ChordLine], from: usize, method: u8) -> usize
+    requires from { from ≤ length lines.now }
+    ensures place { (from ≤ result) × (result ≤ length lines.now) }
+    ensures skipped { LackHeader method (map methods_of lines.now) from result }
+    ensures here { HasHeader method (map methods_of lines.now) result }
+{
+    for at in from..lines.len() {
+        if lines[at].methods.has(method) {
+            return at;
+        }
+    }
+    lines.len()
 }
 
 /// The effective chords of a class, from number 0.

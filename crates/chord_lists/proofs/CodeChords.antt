@@ -7,6 +7,7 @@ use Rattle.chord_code.specs.declared.parts.ChordLine.{ChordLine}
 use Rattle.chord_code.specs.declared.parts.Parts.{Parts}
 use Rattle.chord_code.specs.Meaning.{code_program, chord_lines, methods_of}
 use Rattle.chord_code.specs.Valid.{IsValid}
+use Rattle.chord_code.proofs.Headers.{methods_at}
 use Rattle.chord_code.proofs.Validity.{valid_chords, valid_different, valid_methods}
 use Rattle.chord_lists.specs.Engine.{HasChord}
 
@@ -17,12 +18,6 @@ lines_count code limits c lines e = ap length e ∙ sym (length-map (chord_lines
 -- there are at most 256
 pub lines_few : (code : Parts) (c : ℕ) (lines : List ChordLine) → IsValid code → lines ≡ chord_lines code c → length lines ≤ 256
 lines_few code c lines valid e = (let n = lines_count code (record { events = 0; turns = 0; depth = 0 }) c lines e in let l = valid_chords code valid c in omega (arith, n, l))
-
--- the chord of a number has the methods of the line there
-pub methods_at : (lines : List ChordLine) (k : ℕ) (line : ChordLine) → k < length lines → slice_get (map methods_of lines) k ≡ Some (get_or lines k line).methods
-methods_at [] k line lt = absurd (omega (arith, lt))
-methods_at (x ∷ lines) zero line lt = refl
-methods_at (x ∷ lines) (suc k) line lt = methods_at lines k line (omega (arith, lt))
 
 -- the methods of a chord are those of its line
 pub methods_there : (code : Parts) (limits : Limits) (c k : ℕ) (lines : List ChordLine) (line : ChordLine) (js : List ℕ) → lines ≡ chord_lines code c → k < length lines → js ≡ (get_or lines k line).methods → slice_get ((code_program code limits).chords c) k ≡ Some js

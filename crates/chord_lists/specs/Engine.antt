@@ -39,10 +39,6 @@ pub record HasChord (chords : List (List ℕ)) (k : ℕ) (js : List ℕ) : Type 
   pub few : length js ≤ 8
   pub different : AreDifferent js
 
--- the chords from this number on and before that one lack the method
-abbrev pub LackMethod : ℕ → List (List ℕ) → ℕ → ℕ → Type 0
-LackMethod j chords from to = (k : ℕ) (js : List ℕ) → from ≤ k → k < to → slice_get chords k ≡ Some js → has j js ≡ false
-
 -- the bodies stand after a run of n entries
 abbrev pub MayGoOn : Program → (List Entry → Type 0) → ℕ → Type 0
 MayGoOn p stands n = (h : List Entry) × IsRunOfLength p n h × stands h

@@ -1,10 +1,8 @@
 //! Plays a code.
 #![tactic(auto)]
 
-ghost use Rattle.std.specs.Prelude.{◌≡◌};
 ghost use Rattle.chord_base.specs.Story.{IsSound};
-ghost use Rattle.chord_code.specs.Meaning.{chord_lines, code_program};
-ghost use Rattle.chord_code.specs.Valid.{IsValid};
+ghost use Rattle.chord_code.specs.Meaning.{code_program};
 ghost use Rattle.chord_code.proofs.SoundProp.{sound_prop};
 
 use crate::code_bodies::{CodeBodies, begin_body, begin_run, go_on, journal_of, repeat, served_by};
@@ -14,20 +12,8 @@ use chord_base::journal::Journal;
 use chord_base::members::Members;
 use chord_base::value::Object;
 use chord_code::code::Code;
-use chord_code::parts::ChordLine;
+use chord_code::parts::line_with;
 use std::alloc::{AllocError, Global};
-
-/// The chords of a class; of one that is not there, none.
-#[inline]
-fn lines_of(code: &Code, class: u16) -> &[ChordLine]
-    ensures lines { result.now ≡ chord_lines code.now class }
-    ensures valid { IsValid code.now }
-{
-    match code.parts().classes.items().get(class as usize) {
-        Some(line) => line.chords.items(),
-        None => &[],
-    }
-}
 
 /// A code under limits, and sound under them.
 #[derive(Drop)]
@@ -47,7 +33,7 @@ impl<'a> CodePlay<'a> {
         requires { chord < length ((code_program self.now.code.now self.now.limits.now).chords class) }
         ensures { slice_get ((code_program self.now.code.now self.now.limits.now).chords class) chord ≡ Some result.now }
     {
-        lines_of(self.code, class)[chord as usize].methods.items()
+        self.code.chords(class)[chord as usize].methods.items()
     }
 
     /// The bodies make this entry again.
@@ -139,16 +125,18 @@ impl<'a> Playable for CodePlay<'a> {
 
     #[inline]
     fn chord_with(&self, class: u16, from: u16, method: u8) -> Option<Candidate<'_>> {
-        let lines = lines_of(self.code, class);
-        for at in from as usize..lines.len() {
-            if lines[at].methods.has(method) {
-                return Some(Candidate {
-                    chord: at as u16,
-                    methods: lines[at].methods.items(),
-                });
-            }
+        let lines = self.code.chords(class);
+        if from as usize > lines.len() {
+            return None;
         }
-        None
+        let at = line_with(lines, from as usize, method);
+        if at >= lines.len() {
+            return None;
+        }
+        Some(Candidate {
+            chord: at as u16,
+            methods: lines[at].methods.items(),
+        })
     }
 
     fn journal(&self, _alloc: Global, bodies: CodeBodies) -> Result<Journal, AllocError> {

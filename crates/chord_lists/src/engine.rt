@@ -9,8 +9,9 @@ ghost use Rattle.chord_base.specs.declared.event.Entry.{Entry};
 ghost use Rattle.chord_base.specs.Meaning.{HaveMethods, Program};
 ghost use Rattle.chord_base.specs.Messages.{has};
 ghost use Rattle.chord_base.specs.Machine.{IsRun, IsComplete};
+ghost use Rattle.chord_code.specs.Headers.{LackHeader};
 ghost use Rattle.chord_lists.specs.Bag.{HasMessages, numbers_of};
-ghost use Rattle.chord_lists.specs.Engine.{main_begun, HasChord, LackMethod, MayGoOn, MayBegin, Went, Began, Ends, IsPlayedOut, EachLacksAMessage, State, Stepped};
+ghost use Rattle.chord_lists.specs.Engine.{main_begun, HasChord, MayGoOn, MayBegin, Went, Began, Ends, IsPlayedOut, EachLacksAMessage, State, Stepped};
 
 use crate::bag::Bag;
 use chord_base::event::Limits;
@@ -86,8 +87,8 @@ pub trait Playable {
         ensures chord { IfSome result (λ found. HasChord ((program self.now).chords class) found.chord found.methods.now) }
         ensures from { IfSome result (λ found. from ≤ found.chord) }
         ensures has { IfSome result (λ found. has method found.methods.now ≡ true) }
-        ensures skipped { IfSome result (λ found. LackMethod method ((program self.now).chords class) from found.chord) }
-        ensures none { IfNone result (LackMethod method ((program self.now).chords class) from (length ((program self.now).chords class))) };
+        ensures skipped { IfSome result (λ found. LackHeader method ((program self.now).chords class) from found.chord) }
+        ensures none { IfNone result (LackHeader method ((program self.now).chords class) from (length ((program self.now).chords class))) };
 
     /// The journal of all that the bodies did.
     fn journal(&self, alloc: Global, bodies: Self::Bodies) -> Result<Journal, AllocError>

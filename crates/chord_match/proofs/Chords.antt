@@ -2,12 +2,15 @@
 use Rattle.std.proofs.Common.{zero, suc, map, ◌≤◌, ◌≡◌, ⊎_elim, ℕ, ◌+◌, ◌<◌, true, false, List, [], ◌∷◌, length, slice_get, slice_index_or, refl, sym, ap, ◌∙◌, subst, arith, Option, Some, None}
 use mathlib.Core.Logic.{dite}
 use Rattle.std.proofs.Math.Decide.{dec_lt}
+use Rattle.std.proofs.lemmas.List.{length-map}
 use Rattle.chord_base.specs.Messages.{has}
 use Rattle.chord_code.specs.declared.parts.ChordLine.{ChordLine}
+use Rattle.chord_code.specs.Headers.{LackHeader}
 use Rattle.chord_code.specs.Meaning.{methods_of}
+use Rattle.chord_code.proofs.Headers.{methods_at}
 use Rattle.chord_bag.specs.declared.walk.Sought.{Sought}
 use Rattle.chord_match.specs.declared.search.Own.{Own}
-use Rattle.chord_match.specs.Searching.{KeepsKnown, IsStuck, AreWithout, AreStuck, firstly}
+use Rattle.chord_match.specs.Searching.{KeepsKnown, IsStuck, AreStuck, firstly}
 use Rattle.chord_match.proofs.Knowing.{stuck_kept}
 use Rattle.chord_match.proofs.Lists.{all_below_more}
 
@@ -34,18 +37,12 @@ are_more own jss n js a busy more here on stuck s = cases busy more stuck s
       (let t = s.1 in (t.0, t.1, let low = t.2 in omega (arith, low), t.3, t.4, t.5)),
     )
 
--- one chord more is without the method
-pub without_more : (method : ℕ) (jss : List (List ℕ)) (from n : ℕ) (js : List ℕ) → slice_get jss n ≡ Some js → has method js ≡ false → AreWithout method jss from n → AreWithout method jss from (n + 1)
-without_more method jss from n js here off s = λ q ks a b e. ⊎_elim
-    (λ same. let z : Some js ≡ Some ks = sym here ∙ ap (slice_get jss) (sym same) ∙ e in let y : js ≡ ks = cc in subst (λ (x : List ℕ). has method x ≡ false) y off)
-    (λ low. s q ks a low e) (all_below_more q n b)
-
 -- no chord is stuck where none has the method
-pub none_stuck : (own : Own) (jss : List (List ℕ)) (n : ℕ) (a : List (Option Sought)) → AreWithout own.method jss 0 n → AreStuck own jss n a None
+pub none_stuck : (own : Own) (jss : List (List ℕ)) (n : ℕ) (a : List (Option Sought)) → LackHeader own.method jss 0 n → AreStuck own jss n a None
 none_stuck own jss n a s = λ q js l e h. let z : false ≡ true = sym (s q js (omega arith) l e) ∙ h in absurd (cc)
 
 -- the chords that are stuck are all where none behind them has the method
-pub all_stuck : (own : Own) (jss : List (List ℕ)) (n m : ℕ) (a : List (Option Sought)) (busy : Option ℕ) → n ≤ m → AreWithout own.method jss n m → AreStuck own jss n a busy → AreStuck own jss m a busy
+pub all_stuck : (own : Own) (jss : List (List ℕ)) (n m : ℕ) (a : List (Option Sought)) (busy : Option ℕ) → n ≤ m → LackHeader own.method jss n m → AreStuck own jss n a busy → AreStuck own jss m a busy
 all_stuck own jss n m a None most off s = λ q js l e h. before q js l e h
   where
     before : (q : ℕ) (js : List ℕ) → q < m → slice_get jss q ≡ Some js → has own.method js ≡ true → IsStuck own js a None
@@ -57,15 +54,8 @@ all_stuck own jss n m a (Some i) most off s = ((λ q js l e h. before q js l e h
 
 -- the methods of the line of this number
 pub chord_line_at : (lines : List ChordLine) (n : ℕ) (line : ChordLine) → line ≡ slice_index_or lines n line → n < length lines → slice_get (map methods_of lines) n ≡ Some (methods_of line)
-chord_line_at [] n line e l = absurd (omega (arith, l))
-chord_line_at (x ∷ lines) zero line e l = ap (λ (z : ChordLine). Some (methods_of z)) (sym e)
-chord_line_at (x ∷ lines) (suc n) line e l = chord_line_at lines n line e (omega (arith, l))
-
--- as many chords as lines
-pub length_mapped : (lines : List ChordLine) → length (map methods_of lines) ≡ length lines
-length_mapped [] = refl
-length_mapped (x ∷ lines) = ap suc (length_mapped lines)
+chord_line_at lines n line e l = methods_at lines n line l ∙ ap (λ (z : ChordLine). Some (methods_of z)) (sym e)
 
 -- all lines were gone through
 pub all_lines : (own : Own) (lines : List ChordLine) (n : ℕ) (a : List (Option Sought)) (busy : Option ℕ) → length lines ≤ n → n ≤ length lines → AreStuck own (map methods_of lines) n a busy → AreStuck own (map methods_of lines) (length (map methods_of lines)) a busy
-all_lines own lines n a busy all most s = subst (λ (z : ℕ). AreStuck own (map methods_of lines) z a busy) (let e = length_mapped lines in omega (arith, e, all, most)) s
+all_lines own lines n a busy all most s = subst (λ (z : ℕ). AreStuck own (map methods_of lines) z a busy) (let e = length-map lines methods_of in omega (arith, e, all, most)) s

@@ -110,14 +110,6 @@ abbrev pub firstly : Option ℕ → Option ℕ → Option ℕ
 firstly (Some i) more = Some i
 firstly None more = more
 
--- the chords from this number on and below that one do not have the method
-abbrev pub AreWithout : ℕ → List (List ℕ) → ℕ → ℕ → Type 0
-AreWithout method jss from to = (q : ℕ) (js : List ℕ) → from ≤ q → q < to → slice_get jss q ≡ Some js → has method js ≡ false
-
--- the chord of this number has the method, if there is one
-abbrev pub IsWith : ℕ → List (List ℕ) → ℕ → Type 0
-IsWith method jss at = (js : List ℕ) → slice_get jss at ≡ Some js → has method js ≡ true
-
 -- each of the first so many chords with the method is stuck: all by bare bags, or i is in another hand for one of them
 abbrev pub AreStuck : Own → List (List ℕ) → ℕ → List (Option Sought) → Option ℕ → Type 0
 AreStuck own jss m known None = (q : ℕ) (js : List ℕ) → q < m → slice_get jss q ≡ Some js → has own.method js ≡ true → IsStuck own js known None

@@ -2,8 +2,8 @@
 ghost use Rattle.std.specs.Prelude.{◌≡◌, ℕ, ◌<◌, ◌≤◌, ◌+◌, List, [], length, map, replicate, slice_get, true, Option, Some, None};
 ghost use Rattle.chord_base.specs.Messages.{has, AreDifferent};
 ghost use Rattle.chord_bag.specs.declared.walk.Sought.{Sought};
-ghost use Rattle.chord_code.specs.Meaning.{chord_lines, methods_of};
-ghost use Rattle.chord_code.specs.Valid.{IsValid};
+ghost use Rattle.chord_code.specs.Headers.{LackHeader, HasHeader};
+ghost use Rattle.chord_code.specs.Meaning.{methods_of};
 ghost use Rattle.chord_rule.specs.declared.view.View.{View};
 ghost use Rattle.chord_rule.specs.declared.view.Duty.{Duty};
 ghost use Rattle.chord_rule.specs.Duties.{HasDuty};
@@ -12,7 +12,7 @@ ghost use Rattle.chord_space.specs.Desks.{view, heads, space_code, program_of, I
 ghost use Rattle.chord_word.specs.declared.cells.Cell.TheVariants.{Pending};
 ghost use Rattle.chord_match.specs.Findings.{IsFinding, read_so};
 ghost use Rattle.chord_match.specs.Noting.{all_told};
-ghost use Rattle.chord_match.specs.Searching.{Searching, Learned, Picked, Gathered, AreWithout, IsWith, IsThrough, firstly};
+ghost use Rattle.chord_match.specs.Searching.{Searching, Learned, Picked, Gathered, IsThrough, firstly};
 
 use crate::alone::gather_one;
 use crate::nexts::Nexts;
@@ -23,7 +23,7 @@ use chord_base::value::Object;
 use chord_code::carry::Carry;
 use chord_code::code::Code;
 use chord_code::laws::chords_are_right;
-use chord_code::parts::ChordLine;
+use chord_code::parts::{ChordLine, line_with};
 use chord_space::{Desk, Space};
 use chord_word::Cell;
 
@@ -169,28 +169,13 @@ fn clear(members: &mut Members)
     }
 }
 
-// The first line from this one on whose chord has the method; where there is none, how many lines there are.
-fn line_with(lines: &[ChordLine], from: usize, method: u8) -> usize
-    requires from { from ≤ length lines.now }
-    ensures place { (from ≤ result) × (result ≤ length lines.now) }
-    ensures skipped { AreWithout method (map methods_of lines.now) from result }
-    ensures here { IsWith method (map methods_of lines.now) result }
-{
-    for at in from..lines.len() {
-        if lines[at].methods.has(method) {
-            return at;
-        }
-    }
-    lines.len()
-}
-
 // The line behind this one whose chord has the method, where the second such line of all was found before.
 fn line_behind(lines: &[ChordLine], at: usize, second: usize, method: u8) -> usize
     requires at { at < length lines.now }
-    requires second { (second ≤ length lines.now) × AreWithout method (map methods_of lines.now) (at + 1) second × IsWith method (map methods_of lines.now) second }
+    requires second { (second ≤ length lines.now) × LackHeader method (map methods_of lines.now) (at + 1) second × HasHeader method (map methods_of lines.now) second }
     ensures place { (at < result) × (result ≤ length lines.now) }
-    ensures skipped { AreWithout method (map methods_of lines.now) (at + 1) result }
-    ensures here { IsWith method (map methods_of lines.now) result }
+    ensures skipped { LackHeader method (map methods_of lines.now) (at + 1) result }
+    ensures here { HasHeader method (map methods_of lines.now) result }
 {
     if at < second {
         second
@@ -216,8 +201,8 @@ fn through_several<P: Carry>(
     requires bounds { (object.number < space.now.events) × (object.class < 1024) }
     requires searching { (v : View) × Searching space.now.events v (view desk.old) object own.now (replicate 16 None) }
     requires lines { (length lines.now ≤ 256) × ((k : ℕ) (js : List ℕ) → slice_get (map methods_of lines.now) k ≡ Some js → ((j : ℕ) → has j js ≡ true → j < heads space.now) × (length js ≤ 8) × AreDifferent js) }
-    requires from { (from ≤ length lines.now) × AreWithout own.now.method (map methods_of lines.now) 0 from × IsWith own.now.method (map methods_of lines.now) from }
-    requires second { (second ≤ length lines.now) × AreWithout own.now.method (map methods_of lines.now) (from + 1) second × IsWith own.now.method (map methods_of lines.now) second }
+    requires from { (from ≤ length lines.now) × LackHeader own.now.method (map methods_of lines.now) 0 from × HasHeader own.now.method (map methods_of lines.now) from }
+    requires second { (second ≤ length lines.now) × LackHeader own.now.method (map methods_of lines.now) (from + 1) second × HasHeader own.now.method (map methods_of lines.now) second }
     ensures desk { IsSameDesk desk.old desk.new }
     ensures through { (v : View) → Searching space.now.events v (view desk.old) object own.now (replicate 16 None) → (known : List (Option Sought)) × IsThrough space.now.events v (view desk.new) object own.now (map methods_of lines.now) known members.new nexts.new result }
 {
@@ -275,17 +260,6 @@ fn through<P: Carry>(
     }
 }
 
-// The chords of a class; of one that is not there, none.
-fn lines_of(code: &Code, class: u16) -> &[ChordLine]
-    ensures lines { result.now ≡ chord_lines code.now class }
-    ensures valid { IsValid code.now }
-{
-    match code.parts().classes.items().get(class as usize) {
-        Some(line) => line.chords.items(),
-        None => &[],
-    }
-}
-
 /// Looks for a chord with message m, to this method of this object, on which the desk has a duty: looks at m, and then seeks
 /// the bags of the other methods of each chord with m's method, none of them twice. `Match` goes before `Busy`, and `Busy` before
 /// `Left`. The duty is laid down with `Left` and `Taken` alone. On a first desk that has lent none and has nothing in hand it is
@@ -333,7 +307,7 @@ pub fn find<P: Carry>(
         method,
         next: word.next,
     };
-    let lines = lines_of(code, object.class);
+    let lines = code.chords(object.class);
     match through(space, desk, object, &own, lines, members, nexts) {
         Verdict::Match(chord) => return Finding::Match(chord),
         Verdict::Without(Some(i)) => return Finding::Busy(i),

@@ -1,4 +1,5 @@
 use Rattle.std.proofs.Common.{◌≡◌, ◌<◌, ℕ, List, Some, length, map, slice_get, inr, sym, ap, ◌∙◌, subst, arith}
+use Rattle.std.proofs.lemmas.List.{length-map}
 use Rattle.chord_code.specs.declared.parts.ChordLine.{ChordLine}
 use Rattle.chord_code.specs.declared.parts.Parts.{Parts}
 use Rattle.chord_code.specs.Laws.{ChordsAreRight}
@@ -12,7 +13,6 @@ use Rattle.chord_space.specs.Widest.{widest}
 use Rattle.chord_space.proofs.Widths.{chord_within}
 use Rattle.chord_match.specs.declared.search.Verdict.{Verdict}
 use Rattle.chord_match.specs.declared.search.Verdict.TheVariants as a_verdict
-use Rattle.chord_match.proofs.Chords.{length_mapped}
 use Rattle.chord_match.proofs.Finds.{Tells, told_through, stands_read, down_rests, claimed_by_another}
 use Rattle.chord_match.proofs.search.find.Given.{Over}
 use Rattle.chord_match.proofs.search.find.Goals.{After-through}
@@ -20,11 +20,11 @@ use Rattle.chord_match.proofs.search.find.Goals as goal
 
 pub through-requires-clause-lines : goal.through-requires-clause-lines
 through-requires-clause-lines g c =
-    let o = c.args.object in let p = program_of c.args.space.now in let lines = c.lines_of-lines.result.now in
+    let o = c.args.object in let p = program_of c.args.space.now in let lines = c.chords-lines.result.now in
     let right = subst (λ (z : Parts). ChordsAreRight (code_program z (space_limits c.args.space.now))) c.requires.code (c.chords_are_right.ensures (space_limits c.args.space.now)) in
-    let same : map methods_of lines ≡ p.chords o.class = ap (map methods_of) (c.lines_of-lines.ensures.lines ∙ ap (λ (z : Parts). chord_lines z o.class) c.requires.code) in
-    let few = right.few_chords o.class in let mapped = length_mapped lines in let long = ap length same in
-    (omega (arith, few, mapped, long), (λ k js e. let here : slice_get (p.chords o.class) k ≡ Some js = ap (λ (z : List (List ℕ)). slice_get z k) (sym same) ∙ e in ((λ j y. subst (λ (z : Parts). j < widest z) c.requires.code (chord_within c.args.code.now c.lines_of-lines.ensures.valid o.class k j js (ap (λ (z : List ChordLine). slice_get (map methods_of z) k) (sym c.lines_of-lines.ensures.lines) ∙ e) y)), right.few_headers o.class k js here, right.different o.class k js here)))
+    let same : map methods_of lines ≡ p.chords o.class = ap (map methods_of) (c.chords-lines.ensures.chords ∙ ap (λ (z : Parts). chord_lines z o.class) c.requires.code) in
+    let few = right.few_chords o.class in let mapped = length-map lines methods_of in let long = ap length same in
+    (omega (arith, few, mapped, long), (λ k js e. let here : slice_get (p.chords o.class) k ≡ Some js = ap (λ (z : List (List ℕ)). slice_get z k) (sym same) ∙ e in ((λ j y. subst (λ (z : Parts). j < widest z) c.requires.code (chord_within c.args.code.now c.chords-lines.ensures.valid o.class k j js (ap (λ (z : List ChordLine). slice_get (map methods_of z) k) (sym c.chords-lines.ensures.chords) ∙ e) y)), right.few_headers o.class k js here, right.different o.class k js here)))
 
 pub through-requires-clause-searching : goal.through-requires-clause-searching
 through-requires-clause-searching g c =
@@ -55,11 +55,11 @@ module _ (g : Over) (c : After-through g) where
 
   told : Told c.through.result
   told =
-      let s = c.args.space.now in let o = c.args.object in let lines = c.lines_of-lines.result.now in
+      let s = c.args.space.now in let o = c.args.object in let lines = c.chords-lines.result.now in
       let right = subst (λ (z : Parts). ChordsAreRight (code_program z (space_limits s))) c.requires.code (c.chords_are_right.ensures (space_limits s)) in
       let low : o.number < 65536 = (let a = c.requires.bounds.1 in let b = s.sized.4 in omega (arith, a, b)) in
       let few : c.args.method < 16 = (let a = c.requires.bounds.3 in let is = s.sized.5 in let b = s.sized.6 in omega (arith, a, is, b)) in
-      let same = ap (map methods_of) (c.lines_of-lines.ensures.lines ∙ ap (λ (z : Parts). chord_lines z o.class) c.requires.code) in
+      let same = ap (map methods_of) (c.chords-lines.ensures.chords ∙ ap (λ (z : Parts). chord_lines z o.class) c.requires.code) in
       told_through s.events (program_of s) (view c.args.desk.now) (view c.look_cell-word.new.desk) (view c.through.new.desk) o c.args.m c.args.method c.look_cell-word.result (map methods_of lines) c.through.new.members c.through.new.nexts c.through.result
       right low few same c.look_cell-word.ensures.looked c.in-Pending.is c.requires.bounds.0 c.requires.duty c.through.ensures.through
 

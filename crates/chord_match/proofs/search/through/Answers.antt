@@ -1,8 +1,9 @@
 use Rattle.std.proofs.Common.{◌≡◌, ◌+◌, ℕ, List, Some, None, length, map, replicate, slice_get, sym, ap, ◌∙◌, arith}
+use Rattle.std.proofs.lemmas.List.{length-map}
+use Rattle.chord_code.specs.Headers.{LackHeader}
 use Rattle.chord_code.specs.Meaning.{methods_of}
 use Rattle.chord_space.specs.Desks.{view}
-use Rattle.chord_match.specs.Searching.{AreWithout}
-use Rattle.chord_match.proofs.Chords.{chord_line_at, length_mapped, are_more, none_stuck, all_stuck}
+use Rattle.chord_match.proofs.Chords.{chord_line_at, are_more, none_stuck, all_stuck}
 use Rattle.chord_match.proofs.Knowing.{all_gathered}
 use Rattle.chord_match.proofs.search.through.Goals as goal
 
@@ -25,7 +26,7 @@ returns-in-Stuck-clause-through g c v t =
     let js = c.items-methods.result.now in let at = c.line_with-at.result in let most = c.line_with-at.ensures.place.1 in let other = c.if-at-lines.false in
     let here : slice_get (map methods_of c.args.lines.now) at ≡ Some js = chord_line_at c.args.lines.now at c.index-lines-at.result c.index-lines-at.is (omega (arith, most, other)) ∙ ap (λ (z : List ℕ). Some z) (ap methods_of c.index-lines-at.is ∙ sym c.items-methods.ensures.numbers) in
     let got = c.in-Stuck.ensures.gathered v t in let jss = map methods_of c.args.lines.now in let own = c.args.own.now in
-    let last = c.if-more-lines.false in let long = length_mapped c.args.lines.now in
-    let off : AreWithout own.method jss (at + 1) (length jss) = λ q ks a b e. c.line_with-more.ensures.skipped q ks a (omega (arith, b, last, long)) e in
+    let last = c.if-more-lines.false in let long = length-map c.args.lines.now methods_of in
+    let off : LackHeader own.method jss (at + 1) (length jss) = λ q ks a b e. c.line_with-more.ensures.skipped q ks a (omega (arith, b, last, long)) e in
     let one = are_more own jss at js got.0 None c.in-Stuck.busy here (c.line_with-at.ensures.here js here) got.1.gathered (none_stuck own jss at got.0 c.line_with-at.ensures.skipped) in
     (got.0, record { stands = got.1.moves.stands; verdict = all_stuck own jss (at + 1) (length jss) got.0 c.in-Stuck.busy (omega (arith, most, other, long)) off one })

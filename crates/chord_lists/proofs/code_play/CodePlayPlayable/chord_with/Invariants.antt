@@ -1,7 +1,0 @@
-use Rattle.std.proofs.Common.{◌≤◌, map}
-use Rattle.chord_code.specs.Meaning.{methods_of}
-use Rattle.chord_lists.specs.Engine.{LackMethod}
-use Rattle.chord_lists.proofs.code_play.CodePlayPlayable.chord_with.Given as goal
-
-abbrev pub invariant-loop-at : goal.invariant-loop-at
-invariant-loop-at l = (l.from ≤ l.at) × LackMethod l.method (map methods_of l.lines) l.from l.at
