@@ -154,6 +154,7 @@ impl Player {
     /// The worker has found a firing to play, and goes on.
     fn found(&mut self, pause: &Pause) -> bool
         ensures same { (self.new.worker ≡ self.old.worker) × (self.new.failed ≡ self.old.failed) × (self.new.place ≡ self.old.place) }
+        ensures counts { (self.new.counted ≡ true) × (self.new.misses ≡ 0) }
         ensures on { result ≡ true }
     {
         self.counted = true;
@@ -215,6 +216,7 @@ impl Player {
         ensures sane { result ≡ true → self.new.failed ≡ false }
         ensures stops { result ≡ false → HasPlayed run.now.space.now self.new }
         ensures looked { result ≡ true → HasLooked run.now.space.now self.old self.new }
+        ensures counts { result ≡ true → self.new.counted ≡ is_some self.new.worker.task }
     {
         // Read before the look: what is posted later is posted by a worker that is at work now, or by one of those whose work
         // this look finds.
