@@ -377,7 +377,7 @@ fn calls_on(
     depth: u32,
     start: Start,
 ) -> Result<(Expr, &[Token]), Fault>
-    requires depth { depth ≤ 200 }
+    requires depth { depth ≤ 202 }
     requires first { next (token_kinds tokens.now) ≡ number_of grammar.DOT }
     ensures ok { IfOk result (λ r. (calls : DotTrees) × (see_expr r.0 ≡ PrimaryExpr (see_start start) calls) × Reads count grammar.Dots depth (token_kinds tokens.now) (token_kinds r.1.now) (node_dots calls)) }
     ensures err { IfErr result (λ fault. StopsAs grammar.Dots depth (token_kinds tokens.now) fault) }
@@ -441,7 +441,6 @@ fn start(
     requires ahead { ahead ≡ next (token_kinds tokens.now) }
     ensures ok { IfOk result (λ r. Reads count grammar.Operand_start depth (token_kinds tokens.now) (token_kinds r.1.now) (node_start (see_start r.0))) }
     ensures err { IfErr result (λ fault. StopsAs grammar.Operand_start depth (token_kinds tokens.now) fault) }
-    ensures not_tall { IfOk result (λ _. depth ≤ 200) }
 {
     if ahead == terminal::NAME {
         return start_name(alloc, count, tokens, depth);
@@ -467,7 +466,6 @@ fn start_name(
     requires first { next (token_kinds tokens.now) ≡ number_of grammar.NAME }
     ensures ok { IfOk result (λ r. Reads count grammar.Operand_start depth (token_kinds tokens.now) (token_kinds r.1.now) (node_start (see_start r.0))) }
     ensures err { IfErr result (λ fault. StopsAs grammar.Operand_start depth (token_kinds tokens.now) fault) }
-    ensures not_tall { IfOk result (λ _. depth ≤ 200) }
 {
     let (name, rest) = name_of(alloc, count, tokens, depth)?;
     if next(rest) == terminal::OPEN {
@@ -489,7 +487,6 @@ fn start_new(
     requires first { next (token_kinds tokens.now) ≡ number_of grammar.NEW }
     ensures ok { IfOk result (λ r. Reads count grammar.Operand_start depth (token_kinds tokens.now) (token_kinds r.1.now) (node_start (see_start r.0))) }
     ensures err { IfErr result (λ fault. StopsAs grammar.Operand_start depth (token_kinds tokens.now) fault) }
-    ensures not_tall { IfOk result (λ _. depth ≤ 200) }
 {
     let (at, rest) = take(count, tokens, terminal::NEW, depth)?;
     let (name, rest) = name_of(alloc, count, rest, depth)?;
@@ -510,7 +507,6 @@ fn start_group(
     requires first { next (token_kinds tokens.now) ≡ number_of grammar.OPEN }
     ensures ok { IfOk result (λ r. Reads count grammar.Operand_start depth (token_kinds tokens.now) (token_kinds r.1.now) (node_start (see_start r.0))) }
     ensures err { IfErr result (λ fault. StopsAs grammar.Operand_start depth (token_kinds tokens.now) fault) }
-    ensures not_tall { IfOk result (λ _. depth ≤ 200) }
 {
     let (at, rest) = take(count, tokens, terminal::OPEN, depth)?;
     let (inner, rest) = expr(alloc, count, rest, depth)?;
@@ -533,7 +529,6 @@ fn start_token(
     requires open { next (token_kinds tokens.now) ≢ number_of grammar.OPEN }
     ensures ok { IfOk result (λ r. Reads count grammar.Operand_start depth (token_kinds tokens.now) (token_kinds r.1.now) (node_start (see_start r.0))) }
     ensures err { IfErr result (λ fault. StopsAs grammar.Operand_start depth (token_kinds tokens.now) fault) }
-    ensures not_tall { IfOk result (λ _. depth ≤ 200) }
 {
     if ahead == terminal::THIS {
         let (at, rest) = take(count, tokens, terminal::THIS, depth)?;
@@ -566,7 +561,7 @@ pub fn dots_next(
     tokens: &[Token],
     depth: u32,
 ) -> Result<(Vec<Dot>, &[Token]), Fault>
-    requires depth { depth ≤ 200 }
+    requires depth { depth ≤ 202 }
     ensures ok { IfOk result (λ r. Reads count grammar.Dots depth (token_kinds tokens.now) (token_kinds r.1.now) (node_dots (dots (map see_dot r.0.items)))) }
     ensures err { IfErr result (λ fault. StopsAs grammar.Dots depth (token_kinds tokens.now) fault) }
 {
@@ -588,7 +583,7 @@ pub fn dot(
     tokens: &[Token],
     depth: u32,
 ) -> Result<(Dot, &[Token]), Fault>
-    requires depth { depth ≤ 200 }
+    requires depth { depth ≤ 202 }
     ensures ok { IfOk result (λ r. Reads count grammar.Dot depth (token_kinds tokens.now) (token_kinds r.1.now) (node_dot (see_dot r.0))) }
     ensures err { IfErr result (λ fault. StopsAs grammar.Dot depth (token_kinds tokens.now) fault) }
 {
@@ -606,7 +601,7 @@ pub fn actuals(
     tokens: &[Token],
     depth: u32,
 ) -> Result<(Actuals, &[Token]), Fault>
-    requires depth { depth ≤ 200 }
+    requires depth { depth ≤ 202 }
     ensures ok { IfOk result (λ r. Reads count grammar.Actuals depth (token_kinds tokens.now) (token_kinds r.1.now) (node_actuals (see_actuals r.0))) }
     ensures err { IfErr result (λ fault. StopsAs grammar.Actuals depth (token_kinds tokens.now) fault) }
 {

@@ -7,7 +7,7 @@ ghost use Rattle.chord_parser.specs.declared.faults.Fault.TheVariants.{Memory};
 use std::alloc::{AllocError, AllocFailed};
 
 /// With the number of tokens that are left there.
-#[derive(Clone, Copy, Debug, PartialEq, Eq)]
+#[derive(Clone, Copy)]
 pub enum Fault {
     /// No memory was found.
     Memory,

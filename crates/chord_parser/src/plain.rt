@@ -2,7 +2,7 @@
 #![tactic(auto)]
 
 /// A word that stands in the place of a result.
-#[derive(Clone, Copy, Debug, PartialEq, Eq)]
+#[derive(Clone, Copy)]
 pub enum ResultKeyword {
     /// `async`
     Async,

@@ -103,6 +103,7 @@ fn item(alloc: Global, count: u32, tokens: &[Token], depth: u32) -> Result<(Item
 }
 
 /// Expr and the terminal behind it, which has no number in the tree.
+#[inline(always)]
 fn expr_before(
     alloc: Global,
     count: u32,
@@ -123,6 +124,7 @@ fn expr_before(
 }
 
 /// "=" Expr ";"
+#[inline(always)]
 fn value_end(
     alloc: Global,
     count: u32,
@@ -173,9 +175,7 @@ fn local(
 {
     let (at, rest) = take(count, tokens, wanted, depth + 1)?;
     let (name, rest) = name_of(alloc, count, rest, depth + 1)?;
-    let (assign, rest) = take(count, rest, terminal::ASSIGN, depth + 1)?;
-    let (value, rest) = expr(alloc, count, rest, depth + 1)?;
-    let rest = skip(count, rest, terminal::SEMICOLON, depth + 1)?;
+    let (assign, value, rest) = value_end(alloc, count, rest, depth + 1)?;
     Ok((
         Item::local(ValueType::Basic { basic, at }, name, assign, value),
         rest,
