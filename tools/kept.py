@@ -1,8 +1,8 @@
 #!/usr/bin/env python3
-"""What `rt ci` has kept on this machine: says it, or lays libraries of it into a checkout, which then checks a crate above them without proving them again.
+"""What `rt ci` has kept on this machine: says it, or lays it into a checkout, which then checks a crate above the libraries without proving them again.
 
     tools/kept.py                        prints of each crate whether its library is kept, and how many of its must-fail edits
-    tools/kept.py CHECKOUT [CRATE ..]    lays the libraries that are kept, or those of these crates, into another clone of the repository
+    tools/kept.py CHECKOUT [CRATE ..]    lays the libraries and the program that are kept, or those of these crates, into a clone of the repository
 
 A library is laid where its files are those that were proved: `rt` compares their stamp, and proves anew what differs. Libraries of `rt ci` and those
 that `rt lib` made do not mix, so a crate between two that are laid is removed first (its folder `out`)."""
@@ -67,16 +67,19 @@ def stamp_of(crate, checkout):
 
 
 def lay(crate, folder, checkout):
-    """Lays one library."""
+    """Lays one library with its stamp, or the program, whose files can be started."""
     out = f'{checkout}/crates/{crate}/out'
     shutil.rmtree(f'{out}/rlib', ignore_errors=True)
     with open(f'{folder}/made.json', encoding='utf-8') as file:
-        made = json.load(file)
-    for number, (path, _) in enumerate(made['files']):
+        paths = [path for path, _ in json.load(file)['files']]
+    for number, path in enumerate(paths):
         os.makedirs(os.path.dirname(f'{out}/{path}'), exist_ok=True)
         shutil.copyfile(f'{folder}/{number}', f'{out}/{path}')
-    with open(f'{out}/rlib/stamp', 'w', encoding='utf-8') as file:
-        file.write(stamp_of(crate, checkout))
+        if not path.startswith('rlib/'):
+            os.chmod(f'{out}/{path}', 0o755)
+    if os.path.isdir(f'{out}/rlib'):
+        with open(f'{out}/rlib/stamp', 'w', encoding='utf-8') as file:
+            file.write(stamp_of(crate, checkout))
     print(f'laid {crate}')
 
 
