@@ -1,4 +1,5 @@
-//! Runs that workers make: what they write and how many entries they have, however many workers there are; and two bodies side by side.
+//! Runs that workers make: what they write, how many entries they have and of which bodies the gate is told, however many workers there are; and two bodies
+//! side by side.
 use crate::sources::SANTA;
 use crate::tests::{PLAYED, words_of};
 use crate::{Gate, Report, chord};
@@ -12,6 +13,9 @@ use std::thread::{Threads, yield_now};
 
 /// How often the gate looks whether the other body has started.
 const LOOKS: u32 = 1_000_000;
+
+/// A gate counts the bodies of runs of no more entries than these.
+const MOST_ENTRIES: usize = 1024;
 
 const WORDS: [&str; 5] = [
     "run --workers 1",
@@ -50,6 +54,56 @@ impl Gate for Meeting {
         }
         self.missed.fetch_add(1, Ordering::SeqCst);
     }
+}
+
+/// A gate that counts how often it was told of each body of a short run.
+#[derive(Drop)]
+struct Counting {
+    told: Vec<AtomicU64>,
+}
+
+impl Counting {
+    /// It was told of none.
+    fn new(alloc: Global) -> Result<Counting, AllocError> {
+        let mut told = Vec::new(alloc);
+        for _ in 0..MOST_ENTRIES {
+            told.push(AtomicU64::new(0))?;
+        }
+        Ok(Counting { told })
+    }
+
+    /// Whether it was told of each body of the run that a report has once, and of nothing else. Where the run is full, a body whose firing was drawn may
+    /// not have begun.
+    fn told_once(&self, report: &Report) -> bool {
+        let entries = match &report.journal {
+            Some(journal) => journal.entries(),
+            None => return false,
+        };
+        for (number, count) in self.told.iter().enumerate() {
+            let told = count.load(Ordering::SeqCst);
+            let begins = match entries.get(number) {
+                Some(entry) => begins_a_body(&entry.what),
+                None => false,
+            };
+            if told > begins as u64 || told < begins as u64 && report.status != 6 {
+                return false;
+            }
+        }
+        entries.len() <= MOST_ENTRIES
+    }
+}
+
+impl Gate for Counting {
+    fn started(&self, body: u32) {
+        if let Some(count) = self.told.get(body as usize) {
+            count.fetch_add(1, Ordering::SeqCst);
+        }
+    }
+}
+
+/// Whether an entry is the beginning of a body.
+fn begins_a_body(what: &What) -> bool {
+    matches!(what, What::Begun | What::Fired(_, _, _, _))
 }
 
 /// The top call over memory.
@@ -92,11 +146,13 @@ fn workers_make_the_runs(rt: HostRuntime) -> Result<(), Fail> {
         for case in &PLAYED {
             let alloc = rt.alloc();
             let mut sink = MemSink::new(alloc, 100, 4096, Vec::new(alloc))?;
-            let report = answer(&rt, alloc, words, case.source, &mut sink, &open_gate())?;
+            let gate = Counting::new(alloc)?;
+            let report = answer(&rt, alloc, words, case.source, &mut sink, &gate)?;
             let name = case.name;
             assert_eq!(rt; sink.taken(), case.written.as_bytes(), "{name}");
             assert_eq!(rt; report.status, case.status, "{name}");
             assert_eq!(rt; entries_of(&report), case.entries, "{name}");
+            assert!(rt; gate.told_once(&report), "{name}");
         }
     }
     Ok(())
@@ -107,11 +163,13 @@ fn santa(rt: HostRuntime) -> Result<(), Fail> {
     for words in &WORDS {
         let alloc = rt.alloc();
         let mut sink = MemSink::new(alloc, 100, 4096, Vec::new(alloc))?;
-        let report = answer(&rt, alloc, words, SANTA, &mut sink, &open_gate())?;
+        let gate = Counting::new(alloc)?;
+        let report = answer(&rt, alloc, words, SANTA, &mut sink, &gate)?;
         // one line of 19 bytes and three of 17, in whatever order, each with its line feed
         assert_eq!(rt; sink.taken().len(), 20 + 3 * 18);
         assert_eq!(rt; report.status, 0);
         assert_eq!(rt; entries_of(&report), 159);
+        assert!(rt; gate.told_once(&report), "{words}");
     }
     Ok(())
 }
