@@ -1,7 +1,7 @@
 //! What a body does after a list of entries, as a value.
 #![tactic(auto)]
 
-ghost use Rattle.std.specs.Prelude.{◌≡◌, ◌++◌, [], ◌∷◌, ◌+◌, map, Some, IfOk};
+ghost use Rattle.std.specs.Prelude.{◌≡◌, ◌++◌, [], ◌∷◌, ◌+◌, Some, IfOk};
 ghost use Rattle.chord_base.specs.Bodies.{replied, placed, answered, Over};
 ghost use Rattle.chord_base.specs.Called.{start_of};
 ghost use Rattle.chord_base.specs.BodyTable.{doing_of};

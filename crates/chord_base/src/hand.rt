@@ -1,7 +1,7 @@
 //! Up to eight items, handed over one by one and without memory.
 #![tactic(auto)]
 
-ghost use Rattle.std.specs.Prelude.{◌≡◌, ℕ, ◌<◌, ◌≤◌, List, [], ◌∷◌, ◌++◌, length, IsTrue, ◌↔◌, MatchOption};
+ghost use Rattle.std.specs.Prelude.{◌≡◌, ◌<◌, ◌≤◌, List, [], ◌∷◌, ◌++◌, length, IsTrue, ◌↔◌, MatchOption};
 ghost use Rattle.chord_base.specs.Hands.{items_in, HasNoGap, settled, left_over};
 
 use std::marker::Model;

@@ -1,7 +1,7 @@
 //! The journal of a run, and its status.
 #![tactic(auto)]
 
-ghost use Rattle.std.specs.Prelude.{◌≡◌, ℕ, length, slice_get};
+ghost use Rattle.std.specs.Prelude.{◌≡◌, slice_get};
 ghost use Rattle.std.specs.List.{list_any};
 ghost use Rattle.chord_base.specs.Bounds.{IsJournal};
 ghost use Rattle.chord_base.specs.Printed.{call_in, has_failed, is_end, is_trap, main_ended, serves_caller, status_of};

@@ -1,11 +1,11 @@
 //! The operators on values, as code that is at work evaluates them.
 #![tactic(auto)]
 
-ghost use Rattle.std.specs.Prelude.{◌≡◌, ◌≢◌, ◌+◌, List, ◌++◌, length, IfOk, Some, ℤ, int_lt, not};
+ghost use Rattle.std.specs.Prelude.{◌≡◌, ◌≢◌, IfOk, Some};
 ghost use Rattle.std.specs.Int.{int_wrapping_div};
 ghost use Rattle.std.specs.Int.RustNames.{int_rem};
 ghost use mir.Syntax.{w32};
-ghost use Rattle.chord_base.specs.Operators.{Computed, Is, Trapped, Mistyped, compute as computed, joined, compared, negated, denied, text_of, unless_zero, IsComputed};
+ghost use Rattle.chord_base.specs.Operators.{Is, Mistyped, compute as computed, joined, negated, denied, text_of, unless_zero, IsComputed};
 
 use crate::equal::same_value;
 use crate::event::Trap;

@@ -4,7 +4,7 @@
 //! programs, and the test of the definitions.
 #![tactic(auto)]
 
-ghost use Rattle.std.specs.Prelude.{◌≡◌, ℕ, ◌∷◌, [], List, map, length, reverse, take, IsTrue, IfOk, OnOk, ◌↔◌, Some, None};
+ghost use Rattle.std.specs.Prelude.{◌≡◌, ℕ, ◌∷◌, map, reverse, IsTrue, IfOk, ◌↔◌, Some, None};
 ghost use Rattle.chord_base.specs.declared.event.What.{What};
 ghost use Rattle.chord_base.specs.Messages.{maker};
 ghost use Rattle.chord_base.specs.Bodies.{served, served_among, serves, begun, own, waiting, answered, heard, asked};

@@ -10,7 +10,7 @@ use Rattle.chord_tree.specs.Terms.{Term, Terms, VariableTerm, ThisTerm, NumberTe
 use Rattle.chord_tree.specs.Walk.{Role, Used, Alone, Receiver, Spot, AtTerm, AtItem, over_stmt, over_block, over_items, spot_of_term, spot_of_item}
 use Rattle.chord_base.specs.declared.static_type.StaticType.{StaticType}
 use Rattle.chord_base.specs.declared.static_type.StaticType.TheVariants as ty
-use Rattle.chord_bodies.specs.Resolved.{ExprOf, ExprsOf, StmtOf, StmtsOf}
+use Rattle.chord_bodies.specs.Resolved.{ExprOf, StmtsOf}
 use Rattle.chord_bodies.specs.Resolved as to
 use Rattle.chord_bodies.specs.Types.{Scope, ExprIs, ExprsAre, StmtIs, StmtsAre, ValueDue, Extends, declared, prints}
 use Rattle.chord_classes.specs.Table.{Shape, methods_at, class_named}

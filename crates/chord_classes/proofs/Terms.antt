@@ -16,7 +16,7 @@ use Rattle.chord_base.specs.declared.operation.Operation.{Operation as AnOperati
 use Rattle.chord_base.specs.declared.operation.Operation.TheVariants as by
 use Rattle.chord_bodies.specs.Resolved.{ExprOf, ExprsOf}
 use Rattle.chord_bodies.specs.Resolved as to
-use Rattle.chord_bodies.specs.Types.{Scope, ExprIs, ExprsAre, fits, prints}
+use Rattle.chord_bodies.specs.Types.{Scope, ExprIs, ExprsAre, fits}
 use Rattle.chord_bodies.specs.Types as bodies
 use Rattle.chord_classes.specs.Table.{Method, Builder, Found, Shape, method_from, method_named, methods_at, class_from, class_named}
 use Rattle.chord_classes.specs.Types.{type_written, type_known, is_sync, value_type, result_known, signature, signatures, built_from}

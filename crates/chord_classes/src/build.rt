@@ -1,7 +1,7 @@
 //! The table of a program, class by class in the order of the text.
 #![tactic(auto)]
 
-ghost use Rattle.std.specs.Prelude.{◌≡◌, List, [], ◌∷◌, ◌++◌, length, map, flat_map, IfOk, option_map, is_some, ◌||◌};
+ghost use Rattle.std.specs.Prelude.{◌≡◌, [], ◌∷◌, ◌++◌, map, flat_map, IfOk, option_map, is_some, ◌||◌};
 ghost use Rattle.chord_tree.specs.View.{tree_of, see_class, see_header, see_member};
 ghost use Rattle.chord_tree.specs.Walk.{headers_of, member_headers};
 ghost use Rattle.chord_classes.specs.Table.{is_main, method_named, inherited, first_builder, shape_of, table_of};

@@ -4,7 +4,7 @@
 ghost use Rattle.std.specs.Prelude.{◌≡◌, ◌<◌, ◌^◌, [], ◌∷◌, None};
 ghost use Rattle.std.specs.Option.{ForSome};
 ghost use Rattle.chord_classes.specs.NameRules.{when};
-ghost use Rattle.chord_classes.specs.Least.{lesser, least, keys};
+ghost use Rattle.chord_classes.specs.Least.{least, keys};
 
 /// The least break that was noted, if one was. A break is one number: 32 times its token, and its rule.
 #[derive(Clone, Copy, Drop)]

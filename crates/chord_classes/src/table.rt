@@ -4,7 +4,7 @@
 //! with its base. So a look-up takes time logarithmic in the program, however many classes stand above one.
 #![tactic(auto)]
 
-ghost use Rattle.std.specs.Prelude.{◌≡◌, ℕ, List, [], ◌∷◌, ◌++◌, length, map, IfOk, Option, Some, None, is_some, option_map};
+ghost use Rattle.std.specs.Prelude.{◌≡◌, List, [], ◌∷◌, ◌++◌, length, map, IfOk, Option, Some, None, is_some, option_map};
 ghost use Rattle.chord_tree.specs.View.{see_class, see_member};
 ghost use Rattle.chord_tree.specs.Walk.{headers_of};
 ghost use Rattle.chord_classes.specs.Table.{class_named, method_named, methods_at, derives, base_of, inherited, first_builder, shape_of};

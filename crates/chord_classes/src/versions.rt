@@ -2,7 +2,7 @@
 //! they have in common, so that a look-up and a new version take time logarithmic in the number.
 #![tactic(auto)]
 
-ghost use Rattle.std.specs.Prelude.{◌≡◌, ◌<◌, [], OnOk, IfOk, length, cond, nat_eq, ◌%◌, ◌/◌};
+ghost use Rattle.std.specs.Prelude.{◌≡◌, ◌<◌, [], IfOk, length, ◌%◌, ◌/◌};
 ghost use Rattle.chord_classes.specs.Forks.{AreForks, IsVersion, IsNextVersion, IsFork, side, fork_of, under, with_side};
 
 use std::alloc::{AllocError, Global};

@@ -1,7 +1,7 @@
 //! The parts of a code: its classes, with their methods and chords, and its blocks.
 #![tactic(auto)]
 
-ghost use Rattle.std.specs.Prelude.{◌≡◌, ℕ, ◌<◌, ◌≤◌, List, [], ◌∷◌, ◌++◌, length, map, OnOk, IfOk};
+ghost use Rattle.std.specs.Prelude.{◌≡◌, ℕ, ◌<◌, ◌≤◌, List, [], ◌∷◌, ◌++◌, length, map, OnOk};
 ghost use Rattle.chord_base.specs.Messages.{has};
 ghost use Rattle.chord_code.specs.Headers.{LackHeader, HasHeader};
 ghost use Rattle.chord_code.specs.Meaning.{methods_of};

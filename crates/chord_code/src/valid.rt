@@ -1,8 +1,8 @@
 //! Whether parts are those of a valid code.
 #![tactic(auto)]
 
-ghost use Rattle.std.specs.Prelude.{◌≡◌, ◌<◌, ◌≤◌, ◌-◌, ℕ, List, length, IsTrue, ◌↔◌, slice_get, Some};
-ghost use Rattle.chord_base.specs.Messages.{AreDifferent, has};
+ghost use Rattle.std.specs.Prelude.{◌≡◌, ◌<◌, ◌≤◌, ◌-◌, ℕ, length, IsTrue, ◌↔◌, slice_get, Some};
+ghost use Rattle.chord_base.specs.Messages.{AreDifferent};
 ghost use Rattle.chord_base.specs.Meaning.{OneSync, NoneSync};
 ghost use Rattle.chord_code.specs.Valid.{IsValid, IsClassLine, IsChordLine, IsBlock, IsRight, BuildsBefore, Closes, AllLess, class_is_sync};
 

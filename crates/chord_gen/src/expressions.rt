@@ -1,7 +1,7 @@
 //! The code of expressions: operands from left to right, then the instruction.
 #![tactic(auto)]
 
-ghost use Rattle.std.specs.Prelude.{◌≡◌, ◌++◌, ◌∷◌, length, map, OnOk};
+ghost use Rattle.std.specs.Prelude.{◌≡◌, ◌++◌, length, map, OnOk};
 ghost use Rattle.chord_bodies.specs.View.{view_expr, view_link, view_call, expr_list, binary, links_on, calls_on};
 ghost use Rattle.chord_bodies.specs.Resolved as to;
 ghost use Rattle.chord_gen.specs.Emitted.{expr_code, exprs_code};

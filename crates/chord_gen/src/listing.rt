@@ -1,14 +1,14 @@
 //! The listing of a code as text.
 #![tactic(auto)]
 
-ghost use Rattle.std.specs.Prelude.{◌≡◌, ◌<◌, ℕ, ◌≤◌, OnOk, OnErr, decimal, false};
+ghost use Rattle.std.specs.Prelude.{◌≡◌, ◌<◌, ◌≤◌, OnOk, OnErr, decimal, false};
 ghost use Rattle.std.specs.List.{flat_map};
 ghost use Rattle.std.specs.Fmt.{signed_decimal, digit_glyph};
 ghost use Rattle.chord_io.specs.Faults.{Rose};
 ghost use Rattle.chord_io.specs.Pieces.{Took, TookProperPrefix};
 ghost use Rattle.chord_io.specs.Pen.{Writes};
 ghost use Rattle.chord_code.specs.declared.instruction.Instruction.TheVariants as i;
-ghost use Rattle.chord_gen.specs.Listing.{numbered, number_listed, byte_listed, flag_listed, name_listed, operands_listed, instruction_listed, block_listed, kind_listed, method_listed, chord_listed, builder_listed, class_listed, listing_text};
+ghost use Rattle.chord_gen.specs.Listing.{numbered, number_listed, flag_listed, name_listed, operands_listed, instruction_listed, block_listed, kind_listed, method_listed, chord_listed, builder_listed, class_listed, listing_text};
 
 use chord_base::text::Text;
 use chord_code::code::Code;

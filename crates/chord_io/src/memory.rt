@@ -1,8 +1,7 @@
 //! A source and a sink in memory, which fail at the calls that they are told to.
-ghost use Rattle.std.specs.Prelude.{◌≡◌, ℕ, ◌<◌, ◌≤◌, ◌-◌, ◌↔◌, ◌++◌, List, [], length, take, drop, min, Option, Some, IfOk, OnErr, IsErr, IsTrue, Contains, vec_len, vec_capacity};
+ghost use Rattle.std.specs.Prelude.{◌≡◌, ◌<◌, ◌≤◌, ◌-◌, ◌↔◌, ◌++◌, [], length, take, drop, min, Some, IfOk, OnErr, IsErr, IsTrue, Contains, vec_len, vec_capacity};
 ghost use Rattle.chord_io.specs.Faults.{Rose, one_more};
 ghost use Rattle.chord_io.specs.Memory.{Supply, Store, ReadFails, WriteFails};
-ghost use Rattle.chord_io.specs.Pieces.{Gave, IsSpent, Took};
 
 use crate::count::one_more;
 use crate::{Failed, Sink, Source};

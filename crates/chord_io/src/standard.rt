@@ -1,6 +1,6 @@
 //! A source over std's reader and a sink over std's writer: the edge of the program.
 //! What a terminal, a file or a pipe gives or gets is said by no clause: these tell no bytes.
-ghost use Rattle.std.specs.Prelude.{◌≡◌, ℕ, ◌<◌, ◌≤◌, List, length, take, Option, None, IfOk, OnOk, OnErr};
+ghost use Rattle.std.specs.Prelude.{◌≡◌, ◌<◌, ◌≤◌, length, None, IfOk, OnOk, OnErr};
 ghost use Rattle.std.specs.Io.KnownBytes.{ReadConsumes, WriteAppends};
 ghost use Rattle.chord_io.specs.Faults.{Rose, one_more};
 

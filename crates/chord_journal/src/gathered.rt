@@ -1,5 +1,5 @@
 //! A journal from its entries, in whatever order they were kept.
-ghost use Rattle.std.specs.Prelude.{◌≡◌, ◌≤◌, ◌<◌, IfOk, OnOk, IsPermutation, length};
+ghost use Rattle.std.specs.Prelude.{◌≤◌, ◌<◌, IfOk, OnOk, IsPermutation, length};
 ghost use Rattle.std.specs.List.Sorted.{IsNonDecreasingBy};
 ghost use Rattle.chord_journal.specs.Gathered.{AreOfJournal, StandInPlace};
 

@@ -1,5 +1,5 @@
 //! Reading the line of an entry.
-ghost use Rattle.std.specs.Prelude.{◌≡◌, ℕ, ◌<◌};
+ghost use Rattle.std.specs.Prelude.{◌<◌};
 ghost use Rattle.chord_base.specs.declared.event.What.TheVariants.{Sent, Called};
 ghost use Rattle.chord_journal.specs.Reading.{ReadsAs, sending_at, calling_at, made_at, printed_at, ended_at, firing_at, end_at, what_at, entry_at};
 

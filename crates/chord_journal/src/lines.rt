@@ -1,5 +1,5 @@
 //! The lines that a run printed.
-ghost use Rattle.std.specs.Prelude.{◌≡◌, ℕ, ◌≤◌, ◌++◌, ◌∷◌, [], IfOk, OnOk, OnErr};
+ghost use Rattle.std.specs.Prelude.{◌≡◌, ◌≤◌, ◌++◌, ◌∷◌, [], IfOk, OnOk, OnErr};
 ghost use Rattle.std.specs.List.{list_any};
 ghost use Rattle.chord_base.specs.Printed.{is_trap as is_trap_of, lines, line_of};
 ghost use Rattle.chord_io.specs.Faults.{Rose};

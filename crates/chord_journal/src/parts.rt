@@ -1,5 +1,5 @@
 //! Reading the parts of a line from its front.
-ghost use Rattle.std.specs.Prelude.{◌≡◌, ℕ, ◌<◌, ◌≤◌, None, IfOk, OnErr, IfSome, EachIndex, length, slice_index};
+ghost use Rattle.std.specs.Prelude.{◌≡◌, ◌<◌, ◌≤◌, None, IfOk, OnErr, IfSome, EachIndex, length, slice_index};
 ghost use Rattle.std.specs.List.{prefix_len};
 ghost use Rattle.std.specs.Char.{is_ascii_digit};
 ghost use Rattle.chord_journal.specs.Reading.{ReadsAs, decimal_at, negative_at, value_if_below, int_at, byte_at, text_at, object_at};

@@ -10,7 +10,6 @@ ghost use Rattle.chord_journal.specs.declared.reading.JournalFault.TheVariants a
 
 use crate::line::read_entry;
 use crate::parts::{LineFault, after, read_number};
-use chord_base::event::Entry;
 use chord_base::journal::Journal;
 use std::alloc::{AllocFailed, Global};
 use thiserror::Error;

@@ -1,5 +1,5 @@
 //! Reading values and numbers that stand behind blanks.
-ghost use Rattle.std.specs.Prelude.{◌≡◌, ℕ, ◌<◌, ◌≤◌, IfOk};
+ghost use Rattle.std.specs.Prelude.{◌≡◌, ◌<◌, ◌≤◌, IfOk};
 ghost use Rattle.chord_journal.specs.Reading.{ReadsAs, value_at, next_value_at, values_at, next_number_at, numbers_at};
 ghost use Rattle.chord_journal.specs.Reading as reading;
 

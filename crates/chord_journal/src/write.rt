@@ -1,5 +1,5 @@
 //! Writing the text of a journal.
-ghost use Rattle.std.specs.Prelude.{◌≡◌, ℕ, ◌≤◌, OnOk, OnErr, ◌<◌, false, decimal};
+ghost use Rattle.std.specs.Prelude.{◌≡◌, ◌≤◌, OnOk, OnErr, ◌<◌, false, decimal};
 ghost use Rattle.std.specs.Fmt.{digit_glyph, signed_decimal};
 ghost use Rattle.std.specs.List.{flat_map};
 ghost use Rattle.chord_base.specs.Bounds.{IsJournal};
@@ -7,7 +7,7 @@ ghost use Rattle.chord_io.specs.Faults.{Rose};
 ghost use Rattle.chord_io.specs.Pieces.{Took, TookProperPrefix};
 ghost use Rattle.chord_io.specs.Pen.{Writes};
 ghost use Rattle.chord_journal.specs.Typed.{IsInt, IsText, IsTypedValue, AreTypedValues, IsTypedEnd, IsTypedWhat, AreTyped};
-ghost use Rattle.chord_journal.specs.Text.{bytes_text, byte_text, object_text, value_text, values_text, numbers_text, message_text, firing_text, trap_text, end_text, what_text, entry_text, header_text, journal_text};
+ghost use Rattle.chord_journal.specs.Text.{bytes_text, object_text, value_text, values_text, numbers_text, message_text, firing_text, trap_text, end_text, what_text, entry_text, header_text, journal_text};
 
 use chord_base::event::{End, Entry, Trap, What};
 use chord_base::journal::Journal;

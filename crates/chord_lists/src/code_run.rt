@@ -1,22 +1,21 @@
 //! Plays a code, and tells of a run of it whether it may go on.
 #![tactic(auto)]
 
-ghost use Rattle.std.specs.Prelude.{◌≡◌, ℕ, ◌<◌, ◌≤◌, ◌⊎◌, List, length, reverse, slice_get, true, false, Some, IfOk, OnOk};
+ghost use Rattle.std.specs.Prelude.{◌≡◌, ◌<◌, ◌≤◌, ◌⊎◌, length, reverse, true, false, Some, IfOk, OnOk};
 ghost use Rattle.chord_base.specs.declared.event.Entry.{Entry};
-ghost use Rattle.chord_base.specs.declared.value.Object.{Object};
 ghost use Rattle.chord_base.specs.Bounds.{AreWithin, IsJournal};
 ghost use Rattle.chord_base.specs.Machine.{IsRun, IsComplete, MayFollow, NoneFires};
-ghost use Rattle.chord_base.specs.Messages.{Message, members_of, message_of, pending};
+ghost use Rattle.chord_base.specs.Messages.{members_of, message_of, pending};
 ghost use Rattle.chord_code.specs.Meaning.{code_program};
 ghost use Rattle.chord_code.specs.Sound.{IsSoundCode};
-ghost use Rattle.chord_lists.specs.Bag.{HasMessages, LacksAMessage, Lists, numbers_of};
+ghost use Rattle.chord_lists.specs.Bag.{Lists, numbers_of};
 ghost use Rattle.chord_lists.specs.CodeStands.{StandsAfter};
 ghost use Rattle.chord_lists.specs.CodeGoes.{IsNoted, message_left, HasTaken, HasTakenNext, MarksTaken, CanFire, FiresAt, LacksAt};
 
 use crate::bag::Bag;
 use crate::code_bodies::{CodeBodies, next_ready};
 use crate::code_play::CodePlay;
-use crate::engine::{self, Playable, find_chord};
+use crate::engine::{find_chord};
 use chord_base::event::{Entry, Limits, What};
 use chord_base::journal::Journal;
 use chord_code::code::Code;

@@ -1,5 +1,5 @@
 -- The chords of a class that a search went through.
-use Rattle.std.proofs.Common.{zero, suc, map, ◌≤◌, ◌≡◌, ⊎_elim, ℕ, ◌+◌, ◌<◌, true, false, List, [], ◌∷◌, length, slice_get, slice_index_or, refl, sym, ap, ◌∙◌, subst, arith, Option, Some, None}
+use Rattle.std.proofs.Common.{map, ◌≤◌, ◌≡◌, ⊎_elim, ℕ, ◌+◌, ◌<◌, true, false, List, length, slice_get, slice_index_or, sym, ap, ◌∙◌, subst, arith, Option, Some, None}
 use mathlib.Core.Logic.{dite}
 use Rattle.std.proofs.Math.Decide.{dec_lt}
 use Rattle.std.proofs.lemmas.List.{length-map}

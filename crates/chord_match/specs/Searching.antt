@@ -1,5 +1,5 @@
 -- What is known while a chord is looked for.
-use Rattle.std.specs.Prelude.{◌≡◌, ◌≢◌, ℕ, ◌<◌, ◌≤◌, true, false, List, ◌++◌, length, slice_get, slice_index_or, Option, Some, None}
+use Rattle.std.specs.Prelude.{◌≡◌, ◌≢◌, ℕ, ◌<◌, true, List, ◌++◌, length, slice_get, slice_index_or, Option, Some, None}
 use Rattle.chord_base.specs.Messages.{has}
 use Rattle.chord_base.specs.declared.value.Object.{Object}
 use Rattle.chord_rule.specs.declared.view.View.{View}

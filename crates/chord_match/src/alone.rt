@@ -1,5 +1,5 @@
 //! A chord whose bags were not sought is gathered, and nothing is noted.
-ghost use Rattle.std.specs.Prelude.{◌≡◌, ◌≢◌, ℕ, ◌<◌, ◌≤◌, ◌+◌, List, length, replicate, slice_index_or, true, Option, None};
+ghost use Rattle.std.specs.Prelude.{◌≡◌, ℕ, ◌<◌, ◌≤◌, ◌+◌, List, length, replicate, slice_index_or, true, Option, None};
 ghost use Rattle.chord_base.specs.Messages.{has, AreDifferent};
 ghost use Rattle.chord_bag.specs.declared.walk.Sought.{Sought};
 ghost use Rattle.chord_rule.specs.declared.view.View.{View};

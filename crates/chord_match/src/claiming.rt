@@ -1,5 +1,5 @@
 //! The members of a firing are claimed in order; where one is gone, or the journal is full, all claims are given back.
-ghost use Rattle.std.specs.Prelude.{◌≡◌, ℕ, ◌<◌, ◌≤◌, List, Option, length, MatchResult};
+ghost use Rattle.std.specs.Prelude.{ℕ, ◌<◌, List, Option, MatchResult};
 ghost use Rattle.chord_code.specs.Laws.{ChordsAreRight};
 ghost use Rattle.chord_space.specs.Desks.{view, program_of, IsDeskOf, IsSameDesk};
 ghost use Rattle.chord_match.specs.Claiming.{Taking, WereClaimed, IsDrawn, IsMissed};

@@ -10,7 +10,7 @@ ghost use Rattle.chord_rule.specs.Duties.{HasDuty};
 ghost use Rattle.chord_rule.specs.Made.{key};
 ghost use Rattle.chord_space.specs.Desks.{view, heads, space_code, program_of, IsDeskOf, IsSameDesk};
 ghost use Rattle.chord_word.specs.declared.cells.Cell.TheVariants.{Pending};
-ghost use Rattle.chord_match.specs.Findings.{IsFinding, read_so};
+ghost use Rattle.chord_match.specs.Findings.{IsFinding};
 ghost use Rattle.chord_match.specs.Noting.{all_told};
 ghost use Rattle.chord_match.specs.Searching.{Searching, Learned, Picked, Gathered, IsThrough, firstly};
 

@@ -1,7 +1,7 @@
 //! How a block begins, above the one at work or alone.
 #![tactic(auto)]
 
-ghost use Rattle.std.specs.Prelude.{◌≡◌, ◌∷◌, [], IfOk, OnOk};
+ghost use Rattle.std.specs.Prelude.{◌≡◌, ◌∷◌, IfOk, OnOk};
 ghost use Rattle.chord_code.specs.Machine.{body_in_block};
 ghost use Rattle.chord_vm.specs.Frames.{machine_of, shown_frame};
 ghost use Rattle.chord_plain.specs.Effects.{IsFound, IsFrameOf};

@@ -1,7 +1,7 @@
 //! What each instruction does to the frames of a body, or that it is not defined there.
 #![tactic(auto)]
 
-ghost use Rattle.std.specs.Prelude.{◌≡◌, ℕ, suc, ◌+◌, ◌^◌, ◌<◌, ◌≤◌, ◌∷◌, [], IfOk, Some, slice_get};
+ghost use Rattle.std.specs.Prelude.{◌≡◌, ℕ, ◌+◌, ◌^◌, ◌<◌, ◌≤◌, ◌∷◌, [], IfOk, Some, slice_get};
 ghost use Rattle.chord_code.specs.Within.{IsInstructionWithin};
 ghost use Rattle.chord_code.specs.Machine.{act, operate as operate_of, negates, denies, skips, again as again_of, if_deeper, makes_object, builder_of as the_builder_of, init_by, goes_back, loads, store_top, pop_top, pops, send_by, call_by, print_top, end_with, pushed};
 ghost use Rattle.chord_vm.specs.Frames.{machine_of};

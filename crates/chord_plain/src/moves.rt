@@ -1,7 +1,7 @@
 //! What instructions have in common: how a body goes on, asks and ends.
 #![tactic(auto)]
 
-ghost use Rattle.std.specs.Prelude.{◌≡◌, ℕ, suc, ◌+◌, ◌^◌, ◌<◌, ◌∷◌, IfOk};
+ghost use Rattle.std.specs.Prelude.{◌≡◌, suc, ◌+◌, ◌^◌, ◌<◌, ◌∷◌, IfOk};
 ghost use Rattle.chord_code.specs.Machine.{goes, asks, ends};
 ghost use Rattle.chord_vm.specs.Frames.{machine_of};
 ghost use Rattle.chord_plain.specs.Effects.{IsEffect};

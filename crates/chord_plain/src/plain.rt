@@ -1,16 +1,16 @@
 //! The meaning of a code, as calls.
 #![tactic(auto)]
 
-ghost use Rattle.std.specs.Prelude.{◌≡◌, ◌-◌, IfOk, slice_get, map};
-ghost use Rattle.chord_base.specs.Called.{start_of, asked_by, methods_by};
+ghost use Rattle.std.specs.Prelude.{◌≡◌, ◌-◌, IfOk};
+ghost use Rattle.chord_base.specs.Called.{asked_by};
 ghost use Rattle.chord_code.specs.Fuel.{comes_to};
-ghost use Rattle.chord_code.specs.Meaning.{code_program, asked_of, asked_at, place, chord_lines, methods_of as the_methods_of, method_is_sync};
+ghost use Rattle.chord_code.specs.Meaning.{code_program, asked_of, asked_at, place};
 ghost use Rattle.chord_vm.specs.Frames.{machine_of};
 ghost use Rattle.chord_plain.specs.Effects.{point_of_reached};
 
 use crate::classes::{chords_of, methods_of};
 use crate::running::{Reached, after_all, run};
-use chord_base::event::{End, Limits, Trap, What};
+use chord_base::event::{End, Limits, What};
 use chord_base::meaning::{Meaning, Next, Start};
 use chord_code::code::Code;
 use chord_vm::frames::Frames;

@@ -1,7 +1,7 @@
 //! A body from ask to ask, and from its beginning through its answers.
 #![tactic(auto)]
 
-ghost use Rattle.std.specs.Prelude.{◌≡◌, ◌-◌, ◌∷◌, [], IfOk, reverse};
+ghost use Rattle.std.specs.Prelude.{◌≡◌, ◌-◌, ◌∷◌, [], IfOk};
 ghost use Rattle.chord_base.specs.Called.{start_of};
 ghost use Rattle.chord_code.specs.Valid.{IsValid};
 ghost use Rattle.chord_code.specs.Machine.{step as step_of, pops, pred_of, with_answer, with_object as the_object, begins_block};

@@ -1,8 +1,8 @@
 //! The first worker hires the others, and takes them in when they have come back.
-ghost use Rattle.std.specs.Prelude.{◌≡◌, ℕ, ◌+◌, ◌<◌, ◌≤◌, [], ◌∷◌, List, IfOk, length};
+ghost use Rattle.std.specs.Prelude.{◌≡◌, ◌+◌, ◌<◌, ◌≤◌, [], ◌∷◌, List, IfOk, length};
 ghost use Rattle.chord_pool.specs.declared.player.Player.{Player as ThePlayer};
 ghost use Rattle.chord_space.specs.Desks.{view};
-ghost use Rattle.chord_pool.specs.Players.{MayPlay, HasPlayed, IsCrew, IsBack};
+ghost use Rattle.chord_pool.specs.Players.{IsCrew, IsBack};
 
 use crate::player::Player;
 use chord_space::Space;

@@ -1,11 +1,11 @@
 //! A worker at its thread: it plays what it has, and looks for more.
-ghost use Rattle.std.specs.Prelude.{◌≡◌, ◌≢◌, ℕ, ◌<◌, ◌≤◌, true, false, None, Some, is_some, OnOk, IfSome, IfNone};
+ghost use Rattle.std.specs.Prelude.{◌≡◌, ◌≢◌, ◌<◌, ◌≤◌, true, false, None, Some, is_some, IfNone};
 ghost use Rattle.chord_pool.specs.declared.player.Player.{Player as ThePlayer};
 ghost use Rattle.chord_space.specs.Desks.{view};
 ghost use Rattle.chord_task.specs.declared.task.Task.{Task as TheTask};
-ghost use Rattle.chord_worker.specs.Resting.{IsAtRest, IsSameRole};
+ghost use Rattle.chord_worker.specs.Resting.{IsSameRole};
 ghost use Rattle.chord_worker.specs.Stepping.{HasGoneOn};
-ghost use Rattle.chord_pool.specs.Players.{IsOneRun, IsFit, IsSettled, HasStopped, AreUnready, FoundNoneBelow, FoundNone, SawUnready, KnowsCount, HasLooked, HadARound, MayPlay, HasPlayed, PlaysOn};
+ghost use Rattle.chord_pool.specs.Players.{IsOneRun, IsFit, AreUnready, FoundNoneBelow, FoundNone, SawUnready, KnowsCount, HasLooked, HadARound, MayPlay, HasPlayed, PlaysOn};
 
 use crate::pause::Pause;
 use crate::run::Run;

@@ -1,12 +1,12 @@
 //! Many threads play one run.
-ghost use Rattle.std.specs.Prelude.{◌≡◌, ◌⊎◌, ℕ, ◌+◌, ◌<◌, ◌≤◌, false, [], IfOk, length};
+ghost use Rattle.std.specs.Prelude.{◌≡◌, ◌⊎◌, ◌+◌, ◌<◌, ◌≤◌, false, [], IfOk, length};
 ghost use Rattle.chord_base.specs.declared.event.Entry.{Entry};
 ghost use Rattle.chord_base.specs.Machine.{IsRun, IsComplete};
 ghost use Rattle.chord_base.specs.Story.{IsIn};
 ghost use Rattle.chord_code.specs.Meaning.{code_program};
 ghost use Rattle.chord_code.specs.Sound.{IsSoundCode};
 ghost use Rattle.chord_rule.specs.Kinds.{newcomer_first};
-ghost use Rattle.chord_space.specs.Desks.{view, space_code, space_limits, IsDeskOf};
+ghost use Rattle.chord_space.specs.Desks.{view, IsDeskOf};
 ghost use Rattle.chord_space.specs.Ends.{closing_view};
 ghost use Rattle.chord_pool.specs.Players.{IsOneRun, IsCrew, IsBack};
 ghost use Rattle.chord_pool.specs.Ending.{IsLast, IsRunOver};

@@ -1,12 +1,11 @@
 //! The methods that are new in a class, and the limit on the methods of a class.
 #![tactic(auto)]
 
-ghost use Rattle.std.specs.Prelude.{◌≡◌, ◌-◌, List, [], ◌∷◌, ◌++◌, length, map, flat_map, drop, IfOk, OnOk, is_some, ◌||◌};
+ghost use Rattle.std.specs.Prelude.{◌≡◌, ◌-◌, [], ◌∷◌, length, map, flat_map, drop, IfOk, OnOk};
 ghost use Rattle.chord_tree.specs.View.{see_header, see_member};
 ghost use Rattle.chord_tree.specs.Walk.{member_headers};
-ghost use Rattle.chord_classes.specs.Table.{is_main, method_named, inherited};
+ghost use Rattle.chord_classes.specs.Table.{inherited};
 ghost use Rattle.chord_classes.specs.ChordRules.{header_tokens, new_headers};
-ghost use Rattle.chord_classes.specs.MethodViews.{see_method};
 ghost use Rattle.chord_classes.specs.Entries.{IsGrown};
 ghost use Rattle.chord_classes.specs.Least.{least, keys};
 ghost use Rattle.chord_rules.specs.Growing.{IsCounted};

@@ -1,7 +1,7 @@
 //! What the arguments of the command line request.
 #![tactic(auto)]
 
-ghost use Rattle.std.specs.Prelude.{◌≡◌, ◌≤◌, IfErr, IfNone, IfOk, IfSome, option_map};
+ghost use Rattle.std.specs.Prelude.{◌≡◌, IfErr, IfNone, IfOk, IfSome, option_map};
 ghost use Rattle.std.specs.Str.{all_ascii_digits};
 ghost use Rattle.clap.specs.Words.{found_of, rows_of};
 ghost use Rattle.chord_run.specs.declared.command.Request as asked;

@@ -1,7 +1,7 @@
 //! The run of a code, whichever engine makes it.
 #![tactic(auto)]
 
-ghost use Rattle.std.specs.Prelude.{◌≡◌, ◌<◌, ◌≤◌, IfOk, Some, length};
+ghost use Rattle.std.specs.Prelude.{◌<◌, ◌≤◌, IfOk, Some, length};
 ghost use Rattle.chord_base.specs.Machine.{IsComplete, IsRun};
 ghost use Rattle.chord_code.specs.Meaning.{code_program};
 ghost use Rattle.chord_code.specs.Sound.{IsSoundCode};

@@ -1,7 +1,7 @@
 //! Where a byte stands in a text: its line and its column.
 #![tactic(auto)]
 
-ghost use Rattle.std.specs.Prelude.{◌≡◌, ◌+◌, ◌≤◌, ◌<◌, length, drop};
+ghost use Rattle.std.specs.Prelude.{◌≡◌, ◌+◌, ◌≤◌, length};
 ghost use Rattle.chord_run.specs.Positions.{breaks_after, position_of};
 
 /// A place in a text. Both parts count from 1, and the column counts bytes.

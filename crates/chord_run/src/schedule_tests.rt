@@ -1,6 +1,6 @@
 //! Two workers of one run that play in turns, in an order that a seed gives. What they drew is put in order, and judged by the plain
 //! machine of the code.
-ghost use Rattle.std.specs.Prelude.{◌≡◌, ◌<◌, ◌≤◌, [], true, false, None, IfOk, IfSome, OnOk};
+ghost use Rattle.std.specs.Prelude.{◌≡◌, ◌<◌, ◌≤◌, true, false, None, IfOk, IfSome, OnOk};
 ghost use Rattle.chord_code.specs.Sound.{IsSoundCode};
 ghost use Rattle.chord_rule.specs.Kinds.{newcomer_first};
 ghost use Rattle.chord_space.specs.Desks.{view, IsDeskOf};

@@ -9,7 +9,7 @@ ghost use Rattle.chord_code.specs.Sound.{IsSoundCode};
 ghost use Rattle.chord_gen.specs.Listing.{listing_text};
 ghost use Rattle.chord_run.specs.Answers.{Answers, AnswersContents, AnswersSource, IsSilence, IsSilent};
 ghost use Rattle.chord_run.specs.Command.{AreAccepted, IsBounded, Requested, Requests, argument_bytes};
-ghost use Rattle.chord_run.specs.Due.{HasStatus, MakesRun, source_contents};
+ghost use Rattle.chord_run.specs.Due.{HasStatus, source_contents};
 ghost use Rattle.chord_run.specs.Load.{load_text};
 ghost use Rattle.chord_run.specs.Refusals.{PointsAt};
 ghost use Rattle.chord_run.specs.Reports.{ReportsCode, ReportsNoMemory, ReportsPlayed, ReportsRefusal, ReportsRun, ReportsText, due_status};

@@ -3,7 +3,7 @@ use Rattle.std.proofs.Common.{◌≡◌, ℕ, zero, suc, ◌+◌, ◌<◌, ◌�
 use Rattle.chord_base.specs.declared.value.Value.{Value}
 use Rattle.chord_base.specs.declared.static_type.StaticType.{StaticType}
 use Rattle.chord_base.specs.declared.static_type.StaticType.TheVariants as ty
-use Rattle.chord_bodies.specs.Resolved.{ExprOf, ExprsOf, StmtOf, StmtsOf, BodyOf, ClassOf, ChordOf, Resolved, IntOf, FlagOf, TextOf, Load, This, Negate, Deny, Operate, Both, Either, New, Call, NoExprs, MoreExprs, Store, Do, Send, Print, IfThen, IfElse, While, Return, Give, Block, NoStmts, MoreStmts}
+use Rattle.chord_bodies.specs.Resolved.{ExprOf, StmtOf, StmtsOf, BodyOf, Store, Do, Send, Print, IfThen, IfElse, While, Return, Give, Block, NoStmts, MoreStmts}
 use Rattle.chord_bodies.specs.Resolved as body
 use Rattle.std.proofs.lemmas.Bool.{false≢true}
 use Rattle.chord_bodies.specs.Types.{Signatures, HaveAll, Scope, Extends, ValueDue, ExprIs, StmtIs, StmtsAre, is_true, returns, one_returns, this_in, opening, slot_types, BodyIs}

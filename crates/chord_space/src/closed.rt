@@ -1,5 +1,5 @@
 //! A table is closed by the first desk once it is alone; its parcels are taken, and its memory is given back.
-ghost use Rattle.std.specs.Prelude.{◌≡◌, ℕ, ◌<◌, ◌≤◌, true, [], Some, None, slice_get, slice_set};
+ghost use Rattle.std.specs.Prelude.{◌≡◌, ◌<◌, true, [], Some, None, slice_get, slice_set};
 ghost use Rattle.chord_space.specs.Sealed.{AllFilled, slots_filled, slot_count};
 
 use crate::looks::at_most;

@@ -1,10 +1,9 @@
 //! Entries and firings are drawn: the one step that is an event of the join machine.
-ghost use Rattle.std.specs.Prelude.{◌≡◌, ◌⊎◌, ℕ, ◌+◌, ◌<◌, ◌≤◌, true, false, List, ◌∷◌, Some, slice_get, MatchResult, IfOk, IfErr, IsOk};
-ghost use Rattle.chord_base.specs.declared.event.What.TheVariants.{Begun, Fired};
+ghost use Rattle.std.specs.Prelude.{◌≡◌, ℕ, ◌+◌, ◌<◌, ◌≤◌, false, List, ◌∷◌, Some, slice_get, MatchResult, IfOk, IfErr, IsOk};
+ghost use Rattle.chord_base.specs.declared.event.What.TheVariants.{Fired};
 ghost use Rattle.chord_base.specs.declared.value.Value.{Value};
 ghost use Rattle.chord_base.specs.declared.value.Object as value;
-ghost use Rattle.chord_base.specs.Bodies.{Asks};
-ghost use Rattle.chord_base.specs.Story.{AllBelow, IsOwn};
+ghost use Rattle.chord_base.specs.Story.{AllBelow};
 ghost use Rattle.chord_rule.specs.Kinds.{entry, drew, firing_drawn, was_told, saw_count};
 ghost use Rattle.chord_rule.specs.Claims.{AreClaimed};
 ghost use Rattle.chord_rule.specs.Coming.{IsPlace};

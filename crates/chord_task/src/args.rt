@@ -1,7 +1,7 @@
 //! The arguments of messages, held twice, so that a firing needs no copy.
 #![tactic(auto)]
 
-ghost use Rattle.std.specs.Prelude.{◌≡◌, ℕ, ◌+◌, ◌≤◌, List, [], ◌++◌, length, vec_capacity, None, Some};
+ghost use Rattle.std.specs.Prelude.{◌≡◌, ◌+◌, ◌≤◌, ◌++◌, length, vec_capacity, None, Some};
 ghost use Rattle.chord_vm.specs.Frames.{laid};
 ghost use Rattle.chord_task.specs.Arguments.{for_entry, for_body, IsList, MayBeList, StandInOne};
 

@@ -6,7 +6,6 @@ ghost use Rattle.chord_base.specs.declared.event.End.TheVariants.{Gives};
 ghost use Rattle.chord_base.specs.declared.event.What.TheVariants.{Ended};
 ghost use Rattle.chord_base.specs.declared.value.Value.TheVariants as a_value;
 ghost use Rattle.chord_vm.specs.Frames.{what_of_ask};
-ghost use Rattle.chord_task.specs.declared.body.Next.TheVariants as nexts;
 ghost use Rattle.chord_task.specs.Standing.{IsTaskOf, GivenBy, is_ready_of};
 ghost use Rattle.chord_task.specs.Turning.{RunsOn, IsKept, HasCome};
 

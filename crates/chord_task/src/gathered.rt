@@ -1,7 +1,7 @@
 //! The arguments of a firing's messages, as their parcels come: where one message has values they stay in its own enclosure.
 #![tactic(auto)]
 
-ghost use Rattle.std.specs.Prelude.{◌≡◌, ℕ, ◌+◌, ◌<◌, ◌≤◌, List, [], ◌∷◌, ◌++◌, length, None, Some};
+ghost use Rattle.std.specs.Prelude.{◌≡◌, ◌+◌, ◌<◌, ◌≤◌, List, [], ◌∷◌, ◌++◌, length, None, Some};
 ghost use Rattle.chord_task.specs.declared.args.Args.{Args as TheArgs};
 ghost use Rattle.chord_task.specs.Gathering.{AreGathered};
 

@@ -53,7 +53,7 @@ pub(crate) struct LoneObject {
 }
 
 impl Model for LoneObject {
-    ghost use Rattle.std.specs.Prelude.{ℕ, ◌<◌, ◌/◌, ◌%◌};
+    ghost use Rattle.std.specs.Prelude.{◌<◌, ◌/◌, ◌%◌};
     ghost use Rattle.chord_base.specs.declared.value.Object as base;
 
     ghost Value = { base.Object };

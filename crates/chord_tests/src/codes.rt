@@ -1,5 +1,5 @@
 //! The codes and the tables of the tests by hand, and what their parcels keep.
-ghost use Rattle.std.specs.Prelude.{◌≡◌, ℕ, ◌≤◌, ◌<◌, false, List, [], ◌∷◌, None, IfOk};
+ghost use Rattle.std.specs.Prelude.{◌≡◌, ◌≤◌, ◌<◌, false, [], ◌∷◌, None, IfOk};
 ghost use Rattle.chord_rule.specs.Kinds.{newcomer_first};
 ghost use Rattle.chord_space.specs.Desks.{view, IsDeskOf};
 ghost use Rattle.chord_tests.specs.Pairs.{main_body, pair_code, IsPairTable, IsLetter};

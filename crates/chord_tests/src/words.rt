@@ -1,5 +1,4 @@
 //! chord_word: the words that the manual lists, in both directions, and the words that are none.
-ghost use Rattle.std.specs.Prelude.{◌≡◌, ℕ, ◌+◌, ◌*◌, ◌^◌, ◌<◌, ◌≤◌};
 ghost use Rattle.chord_word.specs.Cells.{WordFits};
 ghost use Rattle.chord_word.specs.Places.{PlaceFits};
 

@@ -6,12 +6,12 @@ use Rattle.chord_tree.specs.Terms.{term}
 use Rattle.chord_tree.specs.Walk.{over_value}
 use Rattle.chord_bodies.specs.declared.expr.Expr.{Expr}
 use Rattle.chord_bodies.specs.declared.stmt.Stmt.{Stmt}
-use Rattle.chord_bodies.specs.Resolved.{StmtOf, StmtsOf}
+use Rattle.chord_bodies.specs.Resolved.{StmtOf}
 use Rattle.chord_bodies.specs.Resolved as to
 use Rattle.chord_bodies.specs.View.{view_expr, view_stmt, stmt_list}
 use Rattle.chord_classes.specs.Types.{type_known}
 use Rattle.chord_classes.specs.Site as sites
-use Rattle.chord_classes.specs.Site.{after, stmt_locals, block_locals, items_locals}
+use Rattle.chord_classes.specs.Site.{after, stmt_locals, items_locals}
 use Rattle.chord_classes.specs.TypeRules.{is_bool, when_typed}
 use Rattle.chord_classes.specs.ItemRules.{value_of}
 use Rattle.chord_classes.specs.Resolve.{resolved, resolved_stmt, resolved_items}

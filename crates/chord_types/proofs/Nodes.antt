@@ -7,7 +7,7 @@ use Rattle.chord_tree.specs.Tree.{ExprTree, exprs}
 use Rattle.chord_tree.specs.Terms.{Term, Terms, GroupTerm, MinusTerm, NotTerm, OperationTerm, NewTerm, OwnCallTerm, CallTerm, term, terms, first_token}
 use Rattle.chord_tree.specs.Walk.{Role, Used, Receiver}
 use Rattle.chord_base.specs.declared.static_type.StaticType.{StaticType}
-use Rattle.chord_bodies.specs.Resolved.{ExprOf, ExprsOf}
+use Rattle.chord_bodies.specs.Resolved.{ExprOf}
 use Rattle.chord_bodies.specs.Resolved as to
 use Rattle.chord_bodies.specs.View.{view_expr, expr_list}
 use Rattle.chord_classes.specs.Table.{class_named}

@@ -7,7 +7,7 @@ use Rattle.chord_tree.specs.Terms.{term}
 use Rattle.chord_bodies.specs.declared.expr.Expr.{Expr}
 use Rattle.chord_bodies.specs.declared.stmt.Stmt.{Stmt}
 use Rattle.chord_bodies.specs.Resolved as to
-use Rattle.chord_bodies.specs.Resolved.{StmtOf, StmtsOf}
+use Rattle.chord_bodies.specs.Resolved.{StmtOf}
 use Rattle.chord_bodies.specs.View.{view_expr, view_stmt, stmt_list}
 use Rattle.chord_classes.specs.Types.{type_known}
 use Rattle.chord_classes.specs.Site as sites

@@ -2,14 +2,12 @@
 #![tactic(auto)]
 
 ghost use Rattle.std.specs.Prelude.{◌≡◌, ℕ, cond, not, map, is_none, Option, Some, None, option_map};
-ghost use Rattle.chord_tree.specs.Walk as walk;
-ghost use Rattle.chord_base.specs.declared.static_type.StaticType as ty;
 ghost use Rattle.chord_classes.specs.Table.{formal_types, class_named};
 ghost use Rattle.chord_classes.specs.Types.{value_type};
 ghost use Rattle.chord_classes.specs.TypedTerms.{NewTyped, typed_call, own_target, target_on};
 ghost use Rattle.chord_classes.specs.NameRules.{when, may_reach, class_formals, barred_class};
 ghost use Rattle.chord_classes.specs.Typed.{judged, target_type};
-ghost use Rattle.chord_classes.specs.Least.{keys, least};
+ghost use Rattle.chord_classes.specs.Least.{least};
 ghost use Rattle.chord_classes.specs.AllNotes.{typed_term_keys};
 ghost use Rattle.chord_classes.specs.MethodViews.{see_access};
 ghost use Rattle.chord_types.specs.Views.{see_role, see_passed, see_target};

@@ -1,7 +1,7 @@
 //! Expressions: what they are resolved to, their types, and what they break.
 #![tactic(auto)]
 
-ghost use Rattle.std.specs.Prelude.{◌≡◌, Bool, true, false, map, IfOk};
+ghost use Rattle.std.specs.Prelude.{Bool, true, false, map, IfOk};
 ghost use Rattle.chord_tree.specs.Tree.{exprs, dots, links};
 ghost use Rattle.chord_tree.specs.Terms.{Term, term_after, term, started, terms, called, operated, GroupTerm, MinusTerm, NotTerm, OwnCallTerm, NewTerm};
 ghost use Rattle.chord_tree.specs.Walk.{Used, Receiver};

@@ -4,7 +4,6 @@
 ghost use Rattle.std.specs.Prelude.{◌≡◌, ◌+◌, length, ◌&&◌, not, IfOk, OnOk, map, flat_map, is_some, option_map};
 ghost use Rattle.std.specs.Borrow.{Bor};
 ghost use Rattle.chord_tree.specs.declared.names.ValueType as written_types;
-ghost use Rattle.chord_tree.specs.Tree.{ClassTree};
 ghost use Rattle.chord_tree.specs.View.{see_header, see_member};
 ghost use Rattle.chord_tree.specs.ViewStmts.{see_block};
 ghost use Rattle.chord_tree.specs.Walk.{body_of};

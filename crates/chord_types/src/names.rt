@@ -7,7 +7,7 @@ ghost use Rattle.chord_classes.specs.NameRules.{is_print, is_used, may_be_consol
 ghost use Rattle.chord_classes.specs.Resolve.{slot_of};
 ghost use Rattle.chord_classes.specs.TypedTerms.{VariableTyped, ThisTyped, NumberTyped, LiteralTyped, PrintTyped, is_console};
 ghost use Rattle.chord_classes.specs.Typed.{judged};
-ghost use Rattle.chord_classes.specs.Least.{keys, least};
+ghost use Rattle.chord_classes.specs.Least.{least};
 ghost use Rattle.chord_classes.specs.AllNotes.{typed_term_keys};
 ghost use Rattle.chord_tree.specs.Terms.{VariableTerm};
 ghost use Rattle.chord_tree.specs.Walk as walk;

@@ -2,13 +2,13 @@
 #![tactic(auto)]
 
 ghost use Rattle.std.specs.Prelude.{◌≡◌, ◌&&◌, [], ◌∷◌, map, false};
-ghost use Rattle.chord_tree.specs.Terms.{term, started, called};
-ghost use Rattle.chord_tree.specs.Tree.{items, dots};
-ghost use Rattle.chord_tree.specs.ViewExprs.{see_expr, see_start, see_dot};
+ghost use Rattle.chord_tree.specs.Terms.{term, started};
+ghost use Rattle.chord_tree.specs.Tree.{items};
+ghost use Rattle.chord_tree.specs.ViewExprs.{see_expr, see_start};
 ghost use Rattle.chord_tree.specs.ViewStmts.{see_stmt, see_item, see_block};
 ghost use Rattle.chord_classes.specs.ItemRules.{is_true_word, surely, block_surely, items_surely};
 
-use chord_tree::exprs::{Dot, Expr, Start};
+use chord_tree::exprs::{Expr, Start};
 use chord_tree::stmts::{Block, Item, Stmt};
 
 /// Whether an expression begins with the word `true`.

@@ -47,7 +47,7 @@ pub struct Site<'t, 'a> {
 }
 
 impl<'t, 'a> Site<'t, 'a> {
-    ghost use Rattle.std.specs.Prelude.{◌≡◌, ◌+◌, [], ◌∷◌, ◌++◌, OnOk, OnErr, IfOk, option_and_then, is_none, is_some};
+    ghost use Rattle.std.specs.Prelude.{◌≡◌, OnOk, IfOk, option_and_then, is_some};
     ghost use Rattle.chord_classes.specs.Types.{type_written};
     ghost use Rattle.chord_types.specs.Sites.{see_site, Declares};
 

@@ -1,7 +1,7 @@
 //! The frames of one body: its blocks at work, and how they begin and are answered without memory.
 #![tactic(auto)]
 
-ghost use Rattle.std.specs.Prelude.{◌≡◌, ◌≢◌, ℕ, ◌+◌, ◌-◌, ◌<◌, ◌≤◌, true, false, List, [], ◌∷◌, ◌++◌, IfOk, OnOk, Some, None, length, slice_get, vec_len, vec_capacity, reverse, replicate};
+ghost use Rattle.std.specs.Prelude.{◌≡◌, ◌≢◌, ◌+◌, ◌-◌, ◌<◌, ◌≤◌, true, false, List, [], ◌∷◌, ◌++◌, IfOk, OnOk, Some, None, length, slice_get, vec_len, vec_capacity, reverse, replicate};
 ghost use Rattle.chord_code.specs.Slots.{first_slots};
 ghost use Rattle.chord_code.specs.Machine.{body_in_block, with_answer, with_object, pops};
 ghost use Rattle.chord_vm.specs.Frames.{machine_of, IsSpacious, IsReady, HasRoom, IsMoved, IsRoomFor, laid};

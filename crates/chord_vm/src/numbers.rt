@@ -1,7 +1,7 @@
 //! Operators whose right operand is a number that stands in the code.
 #![tactic(auto)]
 
-ghost use Rattle.std.specs.Prelude.{◌≡◌, ◌≢◌, ℕ, ℤ, ◌+◌, ◌^◌, ◌<◌, true, ◌∷◌, IfSome};
+ghost use Rattle.std.specs.Prelude.{◌≡◌, ◌≢◌, ℤ, ◌+◌, ◌^◌, ◌<◌, true, ◌∷◌, IfSome};
 ghost use Rattle.chord_base.specs.Operators.{Is, Mistyped, compute as compute_of};
 ghost use Rattle.chord_code.specs.declared.parts.Parts.{Parts as TheParts};
 ghost use Rattle.chord_code.specs.Machine.{Machine, Goes, Bad, act, operate as operate_of};

@@ -1,12 +1,12 @@
 //! The instructions of a block at work.
 #![tactic(auto)]
 
-ghost use Rattle.std.specs.Prelude.{◌≡◌, ◌≢◌, ◌⊎◌, ℕ, ℤ, suc, ◌+◌, ◌^◌, ◌<◌, ◌≤◌, Bool, true, false, List, [], ◌∷◌, Option, IfOk, IfSome, OnOk, Some, None, length, slice_get, vec_len, vec_capacity};
-ghost use Rattle.chord_base.specs.Operators.{Computed, Is, Trapped, Mistyped, compute as compute_of, text_of, negated, denied, IsComputed};
+ghost use Rattle.std.specs.Prelude.{◌≡◌, ◌≢◌, ◌⊎◌, suc, ◌+◌, ◌^◌, ◌<◌, ◌≤◌, true, false, [], ◌∷◌, Option, IfOk, OnOk, Some, None, slice_get, vec_len, vec_capacity};
+ghost use Rattle.chord_base.specs.Operators.{text_of};
 ghost use Rattle.chord_code.specs.Valid.{IsValid};
 ghost use Rattle.chord_code.specs.Within.{IsInstructionWithin};
-ghost use Rattle.chord_code.specs.Machine.{Machine, Did, Goes, step as step_of, Asking, Bad, act, operate as operate_of, negates, denies, skips, again as again_of, if_deeper, makes_object, builder_of, init_by, fetch, ComesToAsk, loads, store_top, pops, pop_top, goes_back, send_by, call_by, print_top, end_with};
-ghost use Rattle.chord_vm.specs.Frames.{shown_frame, machine_of, HasStepped, frame_with, Advanced, IsMoved, changes_block, instructions_in, gives_always, with_pushed};
+ghost use Rattle.chord_code.specs.Machine.{Did, Goes, step as step_of, Bad, act, operate as operate_of, negates, denies, skips, again as again_of, if_deeper, makes_object, builder_of, init_by, fetch, ComesToAsk, loads, store_top, pops, pop_top, goes_back, send_by, call_by, print_top, end_with};
+ghost use Rattle.chord_vm.specs.Frames.{shown_frame, machine_of, HasStepped, frame_with, Advanced, changes_block, instructions_in, with_pushed};
 ghost use Rattle.chord_vm.specs.declared.frames.Frames.{Frames as TheFrames};
 ghost use Rattle.chord_vm.specs.declared.ask.Ask.{Ask as AnAsk};
 

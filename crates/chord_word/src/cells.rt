@@ -1,5 +1,5 @@
 //! The words of cells and heads: how a message stands in the table, and which message follows it.
-ghost use Rattle.std.specs.Prelude.{◌≡◌, ◌≢◌, ◌⊎◌, ◌↔◌, ℕ, ◌+◌, ◌*◌, ◌/◌, ◌%◌, ◌^◌, ◌<◌, ◌≤◌, IsTrue, Option, Some, None, IsNone, IfSome, MatchOption};
+ghost use Rattle.std.specs.Prelude.{◌≡◌, ◌≢◌, ◌⊎◌, ◌↔◌, ℕ, ◌+◌, ◌<◌, ◌≤◌, IsTrue, Option, Some, None, IsNone, IfSome, MatchOption};
 ghost use Rattle.chord_word.specs.Cells.{state_of, link_of, waker_of, word_of, HasNext, WordFits, ShowsCell, IsNoCell};
 
 use crate::parts::part;

@@ -1,5 +1,5 @@
 //! A part of a word: the number in a run of its bits.
-ghost use Rattle.std.specs.Prelude.{◌≡◌, ℕ, ◌+◌, ◌/◌, ◌%◌, ◌^◌, ◌<◌, ◌≤◌};
+ghost use Rattle.std.specs.Prelude.{◌≡◌, ◌/◌, ◌%◌, ◌^◌, ◌<◌};
 
 /// The number in the `width` bits of `word` from bit `from` on.
 #[inline]

@@ -1,5 +1,5 @@
 //! The words of places: of which object and method a message is.
-ghost use Rattle.std.specs.Prelude.{◌≡◌, ◌≢◌, ◌⊎◌, ◌↔◌, ℕ, ◌+◌, ◌*◌, ◌/◌, ◌%◌, ◌^◌, ◌<◌, ◌≤◌, Some, None, IsNone, IfSome};
+ghost use Rattle.std.specs.Prelude.{◌≡◌, ◌↔◌, ℕ, ◌+◌, ◌<◌, Some, None, IsNone, IfSome};
 ghost use Rattle.chord_base.specs.declared.value.Object.{Object};
 ghost use Rattle.chord_word.specs.Places.{PlaceFits, place_word, ShowsPlace, IsNoPlace};
 

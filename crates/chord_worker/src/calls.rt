@@ -1,9 +1,9 @@
 //! The calls of a worker that the pool makes, but for its steps.
-ghost use Rattle.std.specs.Prelude.{◌≡◌, ◌≢◌, ◌||◌, ℕ, ◌<◌, ◌-◌, List, [], ◌∷◌, ◌++◌, Option, true, false, Some, None, OnOk, IfOk, min, is_some, flat_map, reverse, IsPermutation, Vec};
+ghost use Rattle.std.specs.Prelude.{◌≡◌, ◌≢◌, ◌||◌, ℕ, ◌<◌, ◌-◌, [], ◌∷◌, ◌++◌, Option, true, false, Some, None, OnOk, IfOk, min, is_some, flat_map, reverse, IsPermutation, Vec};
 ghost use Rattle.std.specs.Global.{Global};
 ghost use Rattle.chord_base.specs.declared.event.Entry.{Entry};
 ghost use Rattle.chord_base.specs.Story.{IsSound};
-ghost use Rattle.chord_rule.specs.Kinds.{newcomer, newcomer_first, lent_one, saw, saw_count, united};
+ghost use Rattle.chord_rule.specs.Kinds.{newcomer_first, lent_one, saw, saw_count, united};
 ghost use Rattle.chord_rule.specs.Tells.{a_word};
 ghost use Rattle.chord_task.specs.Standing.{view_of, IsTaskOf, MainBegins};
 ghost use Rattle.chord_word.specs.declared.cells.Cell.{Cell as TheCell};

@@ -1,8 +1,7 @@
 //! Messages are sent off with their parcels, and followed until somebody else minds them.
-ghost use Rattle.std.specs.Prelude.{◌≡◌, ◌≢◌, ◌⊎◌, ◌<◌, ℕ, true, false, [], Some, None, OnOk};
+ghost use Rattle.std.specs.Prelude.{◌≡◌, ◌≢◌, ◌<◌, true, false, [], Some, None, OnOk};
 ghost use Rattle.chord_base.specs.Story.{IsSound};
 ghost use Rattle.chord_base.specs.declared.event.What.TheVariants.{Sent, Called};
-ghost use Rattle.chord_base.specs.declared.value.Object.{Object as TheObject};
 ghost use Rattle.chord_rule.specs.Made.{key};
 ghost use Rattle.chord_space.specs.Desks.{view, heads, space_code, space_limits, program_of, IsDeskOf, IsSameDesk};
 ghost use Rattle.chord_space.specs.Gives.{MayLink};

@@ -1,5 +1,5 @@
 //! A worker minds a message that it sent off: it looks for chords with the message, and fires one.
-ghost use Rattle.std.specs.Prelude.{◌≡◌, ◌<◌, ℕ, true, false, None, IfOk, OnOk};
+ghost use Rattle.std.specs.Prelude.{◌≡◌, ◌<◌, true, false, None, IfOk, OnOk};
 ghost use Rattle.chord_base.specs.Story.{IsSound};
 ghost use Rattle.chord_match.specs.Findings.{IsMatch};
 ghost use Rattle.chord_rule.specs.Made.{key};

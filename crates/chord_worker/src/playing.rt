@@ -1,8 +1,7 @@
 //! A task comes to its next ask, which becomes an entry of the run.
-ghost use Rattle.std.specs.Prelude.{◌≡◌, ◌≢◌, ◌<◌, ℕ, true, false, Some, None, IfOk, OnOk, MatchResult, IfSome, IfNone, vec_len};
+ghost use Rattle.std.specs.Prelude.{◌≡◌, ◌≢◌, ◌<◌, false, Some, None, IfOk, OnOk, MatchResult, IfSome, IfNone, vec_len};
 ghost use Rattle.chord_base.specs.declared.event.End.{End as AnEnd};
 ghost use Rattle.chord_base.specs.Story.{IsSound};
-ghost use Rattle.chord_code.specs.declared.parts.Parts.{Parts};
 ghost use Rattle.chord_space.specs.Desks.{view, space_code, space_limits, program_of, IsDeskOf, IsSameDesk, MayDraw};
 ghost use Rattle.chord_task.specs.declared.task.Task.{Task as ATask};
 ghost use Rattle.chord_task.specs.Standing.{view_of};

@@ -9,8 +9,8 @@ use Rattle.chord_tree.specs.Tree.{exprs, dots, links, MinusExpr, NotExpr, GroupS
 use Rattle.chord_tree.specs.Terms.{term_after, term, terms, called, started, operated, LiteralTerm}
 use Rattle.chord_tree.specs.Walk.{Used, Receiver}
 use Rattle.chord_tree.specs.ViewExprs.{see_expr, see_dot, see_link, see_start, see_own_call, see_creation, see_chain, see_calls}
-use Rattle.chord_tree.proofs.SeenExprs.{seen_chain, seen_chained, seen_minus, seen_not, seen_alone, seen_calls, seen_called, seen_start_variable, seen_start_call, seen_start_this, seen_start_new, seen_start_number, seen_start_literal, seen_start_true, seen_start_false, seen_start_chain_group, seen_start_group}
-use Rattle.chord_tree.proofs.Weights.{total, weigh_expr, weigh_link, weigh_start, weigh_dot, weigh_actuals, weigh_calls, weigh_parts, of_chain, weigh_chain, weigh_minus, weigh_not, weigh_alone, weigh_calls, weigh_called, of_calls, weigh_start_call, weigh_start_new, weigh_start_chain_group, weigh_start_group, weigh_own_call, weigh_creation, of_own_call, of_creation, of_link, of_actuals, of_dot, one_of}
+use Rattle.chord_tree.proofs.SeenExprs.{seen_chain, seen_chained, seen_minus, seen_not, seen_alone, seen_called, seen_start_variable, seen_start_call, seen_start_this, seen_start_new, seen_start_number, seen_start_literal, seen_start_true, seen_start_false, seen_start_chain_group, seen_start_group}
+use Rattle.chord_tree.proofs.Weights.{total, weigh_expr, weigh_link, weigh_start, weigh_dot, weigh_calls, weigh_parts, of_chain, weigh_chain, weigh_minus, weigh_not, weigh_alone, weigh_calls, weigh_called, of_calls, weigh_start_call, weigh_start_new, weigh_start_chain_group, weigh_start_group, weigh_own_call, weigh_creation, of_own_call, of_creation, of_link, of_actuals, of_dot, one_of}
 use Rattle.chord_bodies.specs.Resolved as to
 use Rattle.chord_bodies.specs.View.{LinkOf, view_expr, binary, expr_list}
 use Rattle.chord_bodies.proofs.Viewed.{viewed_negate, viewed_deny, viewed_this, viewed_new, viewed_link}

@@ -6,7 +6,7 @@ use Rattle.chord_word.specs.declared.cells.Cell.TheVariants as a_cell
 use Rattle.chord_rule.specs.declared.view.View.{View}
 use Rattle.chord_rule.specs.Claims.{HasThe}
 use Rattle.chord_rule.specs.Kinds as kinds
-use Rattle.chord_rule.specs.Kinds.{saw, saw_count}
+use Rattle.chord_rule.specs.Kinds.{saw}
 use Rattle.chord_rule.specs.Tells.{word, a_word, unclaims}
 use Rattle.chord_rule.proofs.Moving.{give_step}
 use Rattle.chord_space.specs.Ruled.{Ruled}

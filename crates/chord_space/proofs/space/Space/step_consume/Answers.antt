@@ -13,7 +13,7 @@ use Rattle.chord_rule.specs.Coming.{ComesWithMessage}
 use Rattle.chord_rule.specs.Claims.{HasThe}
 use Rattle.chord_base.specs.Story.{AllBelow}
 use Rattle.chord_rule.specs.Kinds as kinds
-use Rattle.chord_rule.specs.Kinds.{saw, saw_count}
+use Rattle.chord_rule.specs.Kinds.{saw}
 use Rattle.chord_rule.specs.Tells.{word, a_word, consumes, slot_returns}
 use Rattle.chord_rule.proofs.Lists.{some_is}
 use Rattle.chord_rule.proofs.Moving.{consume_step, empty_step}
