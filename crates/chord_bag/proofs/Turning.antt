@@ -21,15 +21,16 @@ use Rattle.chord_rule.specs.Duties.{has_come_to, move_duty}
 use Rattle.chord_rule.specs.Kinds.{is_down, looked_head, looked_cell, saw_head}
 use Rattle.chord_rule.specs.Bags.{IsArmed, head_number}
 use Rattle.chord_rule.specs.Heading.{WasHead}
+use Rattle.chord_rule.specs.Looks.{LastHead}
 use Rattle.chord_rule.specs.Tells.{IsLook}
 use Rattle.chord_rule.specs.Ways.{way_onward, way_begun, gone_on, on_way, IsAt, IsLinkedCell, IsSettledCell, IsAloneDesk, HasWay, IsCutShort, HasLooksLeft, ReadsPast, WentPast}
 use Rattle.chord_bag.specs.declared.walk.Sought.{Sought}
 use Rattle.chord_bag.specs.declared.walk.Sought.TheVariants.{Found, Bare, Busy}
 use Rattle.chord_bag.specs.declared.walk.Turn.{Turn}
 use Rattle.chord_bag.specs.declared.walk.Turn.TheVariants.{Over, On, Past}
-use Rattle.chord_bag.specs.Reads.{AllAt, AllRead, KeepsEnds, IsOnlyLooks, with_looks, is_claimed, is_passed, after_cell, messages_and_bags}
-use Rattle.chord_bag.specs.Seeking.{IsSought, BeganAtHead, newest_linked}
-use Rattle.chord_bag.specs.Walking.{Going, IsGoing, IsTurn, ComesToTurn, gone_so_far}
+use Rattle.chord_bag.specs.Reads.{AllAt, AllRead, HasRead, KeepsEnds, IsOnlyLooks, with_looks, is_claimed, is_passed, after_cell, messages_and_bags}
+use Rattle.chord_bag.specs.Seeking.{IsSought, IsMetStanding, IsTidy, BeganAtHead, newest_linked, newest_looks}
+use Rattle.chord_bag.specs.Walking.{Going, IsGoing, IsTurn, IsPastAlone, IsAtHead, ComesToTurn, gone_so_far}
 use Rattle.chord_bag.proofs.Walks.{all_start, all_move, head_keeps, cell_keeps, keeps_on, head_keeps_messages, cell_keeps_messages}
 
 -- what comes after a look that read this cell
@@ -138,6 +139,21 @@ same_linked i c (w ∷ ws) = cases (has_come_to i w.place)
     cases true = refl
     cases false = refl
 
+-- a look at the message to which the newest way has come is the newest one on it
+one_look_more : (i : ℕ) (c : Word) (ws : List Way) → IsAt i ws → newest_looks (on_way i c ws) ≡ record { number = i; word = c } ∷ newest_looks ws
+one_look_more i c [] at = absurd at
+one_look_more i c (w ∷ ws) at = let t : has_come_to i w.place ≡ true = ap (has_come_to i) at ∙ eq-eqb i i refl in ap (λ (b : Bool). (if b then gone_on w i c else w).looks) t
+
+-- what comes after a cell that is not consumed is no step past it
+past_alone : (i : ℕ) (busy next : Option ℕ) (c : Cell) → IsPastAlone (by_cell i busy next c) c
+past_alone i busy next Pending = λ e. cc
+past_alone i busy next Empty = λ e. cc
+past_alone i busy next Claimed = λ e. cc
+past_alone i busy next Consumed = tt
+past_alone i busy next (Woken q) = λ e. cc
+past_alone i busy next Ready = λ e. cc
+past_alone i busy next Started = λ e. cc
+
 -- past a consumed message
 consumed_past : (i : ℕ) (busy : Option ℕ) (word : Word) (next : Option ℕ) (u : View) → IsAt i u.looked.ways → (c : Cell) → by_cell i busy word.next c ≡ Past next → word.cell ≡ c → WentPast (looked_cell u i word) i next
 consumed_past i busy word next u at Consumed e is = newest u.looked.ways at
@@ -163,6 +179,8 @@ one_turn n i busy word u w c look is = subst (λ (z : View). IsTurn n u z i busy
       seek_turned n k v u i busy s word.next word.cell (look.linked at) look.within (λ a. look.alone a (inl at)) (subst (λ (z : View). HasLooksLeft n z.looked.ways) look.looked look.room);
   longer = λ k v s. longer n k v u i busy s word;
   linked = same_linked i word u.looked.ways;
+  heads = refl;
+  read = λ at. (word, one_look_more i word u.looked.ways at, past_alone i busy word.next word.cell);
   past = λ next e at. consumed_past i busy word next u at word.cell e refl;
 })
 
@@ -228,6 +246,38 @@ head_read n k v u place busy head h s = record {
     going : (b : Option ℕ) → IsGoing n s.way u.duties b → IsGoing n s.way (saw_head u head h).duties b
     going None g = g
     going (Some i) g = g
+
+-- what was read standing stays so with one look more
+still_standing : (ws xs : List Way) (l : Look) (i : ℕ) → newest_looks xs ≡ l ∷ newest_looks ws → IsMetStanding ws i → IsMetStanding xs i
+still_standing ws xs l i more m = (m.0, m.1, subst (HasRead i m.0) (sym more) (inr m.2))
+
+-- a tidy bag stays so with looks at its cells
+pub still_tidy : (k : ℕ) (u w : View) (l : Look) → w.looked.heads ≡ u.looked.heads → newest_looks w.looked.ways ≡ l ∷ newest_looks u.looked.ways → IsTidy k u → IsTidy k w
+still_tidy k u w l heads more t = (t.0, subst (LastHead (head_number k) t.0) (sym heads) t.1, kept t.0 t.2)
+  where
+    kept : (h : Option ℕ) → IfSome h (IsMetStanding u.looked.ways) → IfSome h (IsMetStanding w.looked.ways)
+    kept None s = tt
+    kept (Some i) s = still_standing u.looked.ways w.looked.ways l i more s
+
+-- a bag whose head leads to a message that was just read, and not consumed, is tidy
+pub tidy_here : (k i : ℕ) (u w : View) (word : Word) → w.looked.heads ≡ u.looked.heads → newest_looks w.looked.ways ≡ record { number = i; word = word } ∷ newest_looks u.looked.ways → word.cell ≢ Consumed
+    → (place : Option ℕ) → place ≡ Some i → LastHead (head_number k) place u.looked.heads → IsTidy k w
+tidy_here k i u w word heads more standing place is last = (
+  Some i,
+  subst (LastHead (head_number k) (Some i)) (sym heads) (subst (λ (x : Option ℕ). LastHead (head_number k) x u.looked.heads) is last),
+  (word.cell, standing, subst (HasRead i word.cell) (sym more) (inl (refl, refl))),
+)
+
+-- a walk behind a message that was read, and not consumed, leaves a tidy bag
+pub tidy_behind : (k n i : ℕ) (busy place : Option ℕ) (at_head : Bool) (u w : View) (t : Turn) → IsTurn n u w i busy t → IsAt i u.looked.ways → place ≡ Some i → ((word : Word) → IsPastAlone t word.cell → word.cell ≢ Consumed)
+    → IsAtHead k u place at_head → IsTidy k w
+tidy_behind k n i busy place true u w t turn at is standing last = let r = turn.read at in tidy_here k i u w r.0 turn.heads r.1 (standing r.0 r.2) place is last
+tidy_behind k n i busy place false u w t turn at is standing tidy = let r = turn.read at in still_tidy k u w (record { number = i; word = r.0 }) turn.heads r.1 tidy
+
+-- a bag whose head leads nowhere is tidy
+pub tidy_at_end : (k : ℕ) (v : View) (at_head : Bool) (place : Option ℕ) → place ≡ None → IsAtHead k v place at_head → IsTidy k v
+tidy_at_end k v true place is last = (None, subst (λ (x : Option ℕ). LastHead (head_number k) x v.looked.heads) is last, tt)
+tidy_at_end k v false place is tidy = tidy
 
 -- a walk that has come to its end
 pub walk_ended : (n k : ℕ) (v w : View) (busy : Option ℕ) → Going n k v w None busy → IsSought n k v w (seek_ended busy)

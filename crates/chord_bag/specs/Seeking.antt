@@ -1,7 +1,9 @@
 -- What the answers of a walk through a bag say.
-use Rattle.std.specs.Prelude.{◌≡◌, ℕ, ◌<◌, ◌⊎◌, List, [], ◌∷◌, ◌++◌, Option, Some, None}
-use Rattle.chord_word.specs.declared.cells.Cell.TheVariants.{Empty, Pending, Claimed}
+use Rattle.std.specs.Prelude.{◌≡◌, ◌≢◌, ℕ, ◌<◌, ◌⊎◌, List, [], ◌∷◌, ◌++◌, Option, Some, None, IfSome}
+use Rattle.chord_word.specs.declared.cells.Cell.{Cell}
+use Rattle.chord_word.specs.declared.cells.Cell.TheVariants.{Empty, Pending, Claimed, Consumed}
 use Rattle.chord_rule.specs.declared.view.Duty.{Duty}
+use Rattle.chord_rule.specs.declared.view.Look.{Look}
 use Rattle.chord_rule.specs.declared.view.View.{View}
 use Rattle.chord_rule.specs.declared.view.Way.{Way}
 use Rattle.chord_base.specs.declared.event.Entry.{Entry}
@@ -13,6 +15,7 @@ use Rattle.chord_space.specs.Desks.{space_code, space_limits, program_of}
 use Rattle.chord_rule.specs.Bags.{head_number}
 use Rattle.chord_rule.specs.Heading.{WasHead}
 use Rattle.chord_rule.specs.Kinds.{is_down}
+use Rattle.chord_rule.specs.Looks.{LastHead}
 use Rattle.chord_rule.specs.Ways.{IsWholeWay, IsAloneDesk}
 use Rattle.chord_bag.specs.declared.walk.Sought.{Sought}
 use Rattle.chord_bag.specs.declared.walk.Sought.TheVariants.{Found, Bare, Busy}
@@ -51,6 +54,19 @@ IsWalked k ds _ = Unit {0}
 abbrev pub newest_linked : List Way → List ℕ
 newest_linked [] = []
 newest_linked (w ∷ ws) = w.linked
+
+-- what the newest way has read
+abbrev pub newest_looks : List Way → List Look
+newest_looks [] = []
+newest_looks (w ∷ ws) = w.looks
+
+-- the newest way read the message i, and not consumed
+abbrev pub IsMetStanding : List Way → ℕ → Type 0
+IsMetStanding ws i = (c : Cell) × (c ≢ Consumed) × HasRead i c (newest_looks ws)
+
+-- the head of the bag k, as the desk last read or wrote it, leads nowhere, or to a message that its newest way read, and not consumed
+abbrev pub IsTidy : ℕ → View → Type 0
+IsTidy k v = (head : Option ℕ) × LastHead (head_number k) head v.looked.heads × IfSome head (IsMetStanding v.looked.ways)
 
 -- the newest way of the view w began at a moment under the rule, at which the desk had the view v, with a look at the head of the bag k; it knows the messages that had been linked there
 abbrev pub BeganAtHead : {P : Type 0} → (P → List Entry) → (P → List value.Value) → (P → Parts → Limits → Type 0) → Space P → View → View → ℕ → Type 0

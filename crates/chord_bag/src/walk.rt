@@ -2,10 +2,11 @@
 ghost use Rattle.std.specs.Prelude.{◌≡◌, ℕ, ◌<◌, Option, Some, None, IfSome};
 ghost use Rattle.chord_rule.specs.Bags.{head_number};
 ghost use Rattle.chord_rule.specs.Kinds.{saw_head};
+ghost use Rattle.chord_rule.specs.Looks.{LastHead};
 ghost use Rattle.chord_rule.specs.Made.{key};
-ghost use Rattle.chord_rule.specs.Ways.{WentPast};
+ghost use Rattle.chord_rule.specs.Ways.{IsAloneDesk, WentPast};
 ghost use Rattle.chord_space.specs.Desks.{view, heads, IsDeskOf, IsSameDesk};
-ghost use Rattle.chord_bag.specs.Seeking.{IsSought, BeganAtHead};
+ghost use Rattle.chord_bag.specs.Seeking.{IsSought, BeganAtHead, IsTidy};
 ghost use Rattle.chord_bag.specs.Walking.{IsTurn};
 
 use chord_base::value::Object;
@@ -66,6 +67,7 @@ fn tidy<P: Carry>(
     requires past { WentPast (view desk.old) i next }
     ensures desk { IsSameDesk desk.old desk.new }
     ensures looked { (head : Option ℕ) × (view desk.new ≡ saw_head (view desk.old) (head_number (key object method)) head) }
+    ensures alone { IsAloneDesk (view desk.old) → LastHead (head_number (key object method)) (Some i) (view desk.old).looked.heads → (result ≡ true) × LastHead (head_number (key object method)) next (view desk.new).looked.heads }
 {
     space.bypass(desk, Pointer::Head(object, method), Some(i), next)
 }
@@ -73,8 +75,8 @@ fn tidy<P: Carry>(
 /// Goes through the bag of this object and method, from its head over the nexts, to the first message that is pending, or that
 /// is not armed; a bag's messages are all different, so the walk ends. Consumed messages that it meets at the head leave the bag,
 /// so that no later walk meets them. The one way that it went tells its answer. On a first
-/// desk that has lent none and has nothing in hand it is never Busy. On a desk without a claim, what was read claimed is
-/// claimed by another.
+/// desk that has lent none and has nothing in hand it is never Busy, and the bag's head then leads to no consumed message. On a
+/// desk without a claim, what was read claimed is claimed by another.
 ///
 /// The way knows the messages that had been linked in the bag when its head was read. Bare, or Busy with a claimed message, the
 /// way went to the bag's end, and so each of these was looked at on it or is consumed (`chord_space::laws::ways_miss_none`).
@@ -88,6 +90,7 @@ pub fn seek<P: Carry>(space: &Space<P>, desk: &mut Desk<P>, object: Object, meth
     ensures desk { IsSameDesk desk.old desk.new }
     ensures sought { IsSought space.now.events (key object method) (view desk.old) (view desk.new) result }
     ensures began { BeganAtHead P.entries P.arguments P.keeps_to space.now (view desk.old) (view desk.new) (key object method) }
+    ensures tidy { IsAloneDesk (view desk.old) → IsTidy (key object method) (view desk.new) }
 {
     let mut place = space.look_head(desk, object, method);
     let mut busy = None;

@@ -22,6 +22,7 @@ use Rattle.chord_rule.specs.Whole.{Held, Whole}
 use Rattle.chord_rule.proofs.Bridge.{exchange_cell, exchange_head}
 use Rattle.chord_rule.proofs.BypassSteps.{bypassed_order, whole_bypass_head, whole_bypass_cell}
 use Rattle.chord_rule.proofs.KeySteps.{head_key}
+use Rattle.chord_rule.proofs.Knowing as knowing
 use Rattle.chord_rule.proofs.Wholes as wholes
 
 -- the word of a consumed message tells its next
@@ -50,7 +51,7 @@ module _ {P : Type 0} (entries : P → List Entry) (arguments : P → List value
         u,
         tt,
         whole_bypass_head entries arguments keeps_to p n small m u whole id me.0 at live (head_number (key o j)) from to is past,
-        all_tells (link_of (Some from)) (saw_head me.0 (head_number (key o j)) to, me.1) (refl, (λ _. refl), (λ ne. absurd (ne refl))),
+        all_tells (link_of (Some from)) (saw_head me.0 (head_number (key o j)) to, me.1) (refl, (λ _. refl), (λ ne. absurd (ne refl)), (λ _ _ _. refl)),
       ))
       (λ m u whole at good ne. (
         saw_head me.0 (head_number (key o j)) (m.heads (head_number (key o j))),
@@ -58,7 +59,12 @@ module _ {P : Type 0} (entries : P → List Entry) (arguments : P → List value
         u,
         tt,
         wholes.whole_saw_head entries arguments keeps_to p n small m u whole id me.0 at live (head_number (key o j)),
-        all_tells (link_of (m.heads (head_number (key o j)))) (saw_head me.0 (head_number (key o j)) (m.heads (head_number (key o j))), me.1) (refl, (λ e. absurd (ne (same_link (m.heads (head_number (key o j))) (Some from) e))), (λ _. (m.heads (head_number (key o j)), refl, good, ne, refl))),
+        all_tells (link_of (m.heads (head_number (key o j)))) (saw_head me.0 (head_number (key o j)) (m.heads (head_number (key o j))), me.1) (
+          refl,
+          (λ e. absurd (ne (same_link (m.heads (head_number (key o j))) (Some from) e))),
+          (λ _. (m.heads (head_number (key o j)), refl, good, ne, refl)),
+          (λ is_first none_lent last. absurd (ne (knowing.remembered_head entries arguments keeps_to p n small m u whole id me.0 at live is_first none_lent (head_number (key o j)) (Some from) last))),
+        ),
       ))
     where
       all_tells : (x : ℕ) (w : Me (Option P) View) → BypassTells (head_number (key o j)) from to (step n (head_at n width o.number j) (link_of (Some from)) (link_of to) none) me x w
@@ -77,7 +83,7 @@ module _ {P : Type 0} (entries : P → List Entry) (arguments : P → List value
         record u { order = bypassed_order u.order i to },
         tt,
         whole_bypass_cell entries arguments keeps_to p n small m u whole id me.0 at live i from to is past,
-        all_tells (word a_cell.Consumed from) (saw me.0 i (a_word a_cell.Consumed to), me.1) (refl, (λ _. refl), (λ ne. absurd (ne refl))),
+        all_tells (word a_cell.Consumed from) (saw me.0 i (a_word a_cell.Consumed to), me.1) (refl, (λ _. refl), (λ ne. absurd (ne refl)), (λ _ _ _. refl)),
       ))
       (λ m u whole at good ne. (
         saw me.0 i (m.cells i),
@@ -85,7 +91,12 @@ module _ {P : Type 0} (entries : P → List Entry) (arguments : P → List value
         u,
         tt,
         wholes.whole_saw entries arguments keeps_to p n small m u whole id me.0 at live i,
-        all_tells (word_of (m.cells i)) (saw me.0 i (m.cells i), me.1) (refl, (λ e. absurd (ne e)), (λ _. (m.cells i, good, (λ is. ne (ap word_of is)), refl, refl))),
+        all_tells (word_of (m.cells i)) (saw me.0 i (m.cells i), me.1) (
+          refl,
+          (λ e. absurd (ne e)),
+          (λ _. (m.cells i, good, (λ is. ne (ap word_of is)), refl, refl)),
+          (λ is_first none_lent last. absurd (ne (ap word_of (knowing.remembered_cell entries arguments keeps_to p n small m u whole id me.0 at live is_first none_lent i (a_word a_cell.Consumed from) last)))),
+        ),
       ))
     where
       all_tells : (x : ℕ) (w : Me (Option P) View) → BypassCellTells i from to (step n (1 + i) (word a_cell.Consumed from) (word a_cell.Consumed to) none) me x w → bypasses_cell (step n (1 + i) (word a_cell.Consumed from) (word a_cell.Consumed to) none) me x w

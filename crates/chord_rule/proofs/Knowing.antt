@@ -1,5 +1,5 @@
--- What a desk knows by the rule: which bag a message is in, what stands in a cell that it remembers, and, alone, that nobody else
--- has a message in hand.
+-- What a desk knows by the rule: which bag a message is in, and, alone, what stands in a cell or a head that it remembers and that
+-- nobody else has a message in hand.
 use Rattle.std.proofs.Common.{◌≡◌, ◌≢◌, ◌⊎◌, inl, inr, ⊎_elim, ℕ, ◌<◌, ◌≤◌, Bool, true, false, List, [], refl, sym, ap, ◌∙◌, subst, arith, Option, Some, None}
 use mathlib.Core.Path.{Path}
 use mathlib.Core.Logic.{dite}
@@ -24,6 +24,7 @@ use Rattle.chord_rule.specs.Claims.{HasThe}
 use Rattle.chord_rule.specs.Draws.{draws_at}
 use Rattle.chord_rule.specs.Hands.{hand, Holds}
 use Rattle.chord_rule.specs.Kinds.{gone}
+use Rattle.chord_rule.specs.Looks.{LastHead}
 use Rattle.chord_rule.specs.Made.{IsMade, IsKey, key}
 use Rattle.chord_rule.specs.Messages.{IsOpen}
 use Rattle.chord_rule.specs.StandsFor.{Unseen}
@@ -78,6 +79,10 @@ module _ {P : Type 0} (entries : P → List Entry) (arguments : P → List value
   -- alone, the first desk knows what stands in each cell that it remembers
   pub remembered_cell : v.first ≡ true → v.lent ≡ 0 → (i : ℕ) (c : Word) → LastSeen i c v.looked.seen → m.cells i ≡ c
   remembered_cell is_first none_lent i c last = (whole.alone.alone v (ap (get_elem? m.views) (sym (law.firsts.leads id v at is_first)) ∙ at) none_lent).cell i c last
+
+  -- alone, the first desk knows where each head leads that it remembers
+  pub remembered_head : v.first ≡ true → v.lent ≡ 0 → (k : ℕ) (x : Option ℕ) → LastHead k x v.looked.heads → m.heads k ≡ x
+  remembered_head is_first none_lent k x last = (whole.alone.alone v (ap (get_elem? m.views) (sym (law.firsts.leads id v at is_first)) ∙ at) none_lent).head k x last
 
   -- alone, each other desk is gone
   others_gone : v.first ≡ true → v.lent ≡ 0 → (j : ℕ) (w : View) → j ≢ id → get_elem? m.views j ≡ some w → w ≡ gone

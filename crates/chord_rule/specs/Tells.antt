@@ -21,6 +21,7 @@ use Rattle.chord_rule.specs.Bags.{IsArmed, head_number}
 use Rattle.chord_rule.specs.Claims.{HasThe, HasClaimOn, AreClaimed}
 use Rattle.chord_rule.specs.Coming.{IsPlace, ComesWithMessage, ComesWithFiring}
 use Rattle.chord_rule.specs.Duties.{HasDuty}
+use Rattle.chord_rule.specs.Looks.{LastHead}
 use Rattle.chord_rule.specs.Made.{Names, key}
 use Rattle.chord_rule.specs.Ways.{HasDutyOn, KnowsBag, KnowsObject, LastSeen, IsAt, IsAloneDesk, IsLinkedCell, IsSettledCell, HasLooksLeft}
 use Rattle.chord_rule.specs.Heading.{WasHead}
@@ -174,6 +175,7 @@ module _ {S : Type 0} where
   BypassTells head from to s m x w = (w.1 ≡ m.1)
       × (x ≡ s.first → w.0 ≡ saw_head m.0 head to)
       × (x ≢ s.first → (h : Option ℕ) × (x ≡ link_of h) × LinkOk h × (h ≢ Some from) × (w.0 ≡ saw_head m.0 head h))
+      × (m.0.first ≡ true → m.0.lent ≡ 0 → LastHead head (Some from) m.0.looked.heads → x ≡ s.first)
 
   -- a head is moved past consumed messages, or was read
   abbrev pub bypasses_head : Object → ℕ → Step (Option S) → Me (Option S) View → ℕ → Me (Option S) View → Type 0
@@ -184,6 +186,7 @@ module _ {S : Type 0} where
   BypassCellTells i from to s m x w = (w.1 ≡ m.1)
       × (x ≡ s.first → w.0 ≡ saw m.0 i (a_word a_cell.Consumed to))
       × (x ≢ s.first → (c : Word) × WordFits c × (c ≢ a_word a_cell.Consumed from) × (x ≡ word_of c) × (w.0 ≡ saw m.0 i c))
+      × (m.0.first ≡ true → m.0.lent ≡ 0 → LastSeen i (a_word a_cell.Consumed from) m.0.looked.seen → x ≡ s.first)
 
   -- the next of a consumed message is moved past consumed messages, or its cell was read
   abbrev pub bypasses_cell : Step (Option S) → Me (Option S) View → ℕ → Me (Option S) View → Type 0

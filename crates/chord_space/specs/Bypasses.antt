@@ -5,9 +5,10 @@ use Rattle.chord_word.specs.declared.cells.Word.{Word}
 use Rattle.chord_rule.specs.declared.view.View.{View}
 use Rattle.chord_rule.specs.Bags.{head_number}
 use Rattle.chord_rule.specs.Kinds.{saw, saw_head}
+use Rattle.chord_rule.specs.Looks.{LastHead}
 use Rattle.chord_rule.specs.Made.{key}
 use Rattle.chord_rule.specs.Tells.{a_word}
-use Rattle.chord_rule.specs.Ways.{WentPast}
+use Rattle.chord_rule.specs.Ways.{LastSeen, WentPast}
 use Rattle.chord_space.specs.declared.bypasses.Pointer.{Pointer}
 use Rattle.chord_space.specs.declared.bypasses.Pointer.TheVariants.{Head, Next}
 
@@ -20,6 +21,11 @@ IsPointerBelow n width (Next i) = i < n
 abbrev pub MayBypass : View → Pointer → (from to : Option ℕ) → Type 0
 MayBypass v (Head o j) from to = (x : ℕ) × (from ≡ Some x) × WentPast v x to
 MayBypass v (Next i) from to = WentPast v i to
+
+-- what the desk last read or wrote of the pointer: the head, or the word of a consumed message
+abbrev pub LastPointed : View → Pointer → Option ℕ → Type 0
+LastPointed v (Head o j) from = LastHead (head_number (key o j)) from v.looked.heads
+LastPointed v (Next i) from = LastSeen i (a_word Consumed from) v.looked.seen
 
 -- the desk remembers where the pointer leads
 abbrev pub pointed : View → Pointer → Option ℕ → View

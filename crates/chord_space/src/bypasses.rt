@@ -2,12 +2,13 @@
 ghost use Rattle.std.specs.Prelude.{◌≡◌, ◌≢◌, ℕ, ◌<◌, true, false, Option, Some, IfSome};
 ghost use Rattle.chord_rule.specs.Bags.{head_number};
 ghost use Rattle.chord_rule.specs.Kinds.{saw, saw_head};
+ghost use Rattle.chord_rule.specs.Looks.{LastHead};
 ghost use Rattle.chord_rule.specs.Made.{key};
 ghost use Rattle.chord_rule.specs.Tells.{a_word};
-ghost use Rattle.chord_rule.specs.Ways.{WentPast};
+ghost use Rattle.chord_rule.specs.Ways.{LastSeen, WentPast};
 ghost use Rattle.chord_word.specs.declared.cells.Cell.TheVariants.{Consumed};
 ghost use Rattle.chord_word.specs.declared.cells.Word.{Word};
-ghost use Rattle.chord_space.specs.Bypasses.{IsPointerBelow, MayBypass, pointed, PointsElsewhere};
+ghost use Rattle.chord_space.specs.Bypasses.{IsPointerBelow, LastPointed, MayBypass, pointed, PointsElsewhere};
 ghost use Rattle.chord_space.specs.Desks.{view, heads, IsDeskOf, IsSameDesk};
 
 use crate::claims::message_word;
@@ -43,6 +44,7 @@ impl<P: Carry> Space<P> {
         ensures desk { IsSameDesk desk.old desk.new }
         ensures moved { result ≡ true → view desk.new ≡ saw_head (view desk.old) (head_number (key object method)) to }
         ensures refused { result ≡ false → (h : Option ℕ) × (h ≢ Some from) × (view desk.new ≡ saw_head (view desk.old) (head_number (key object method)) h) }
+        ensures alone { (view desk.old).first ≡ true → (view desk.old).lent ≡ 0 → LastHead (head_number (key object method)) (Some from) (view desk.old).looked.heads → result ≡ true }
     {
         let words = &self.table.shared;
         let head = self.head_word(object, method);
@@ -66,6 +68,7 @@ impl<P: Carry> Space<P> {
         ensures desk { IsSameDesk desk.old desk.new }
         ensures moved { result ≡ true → view desk.new ≡ saw_head (view desk.old) (head_number (key object method)) to }
         ensures refused { result ≡ false → (h : Option ℕ) × (h ≢ Some from) × (view desk.new ≡ saw_head (view desk.old) (head_number (key object method)) h) }
+        ensures alone { (view desk.old).first ≡ true → (view desk.old).lent ≡ 0 → LastHead (head_number (key object method)) (Some from) (view desk.old).looked.heads → result ≡ true }
     {
         self.step_bypass_head::<Brand>(desk, object, method, from, to)
     }
@@ -77,6 +80,7 @@ impl<P: Carry> Space<P> {
         ensures desk { IsSameDesk desk.old desk.new }
         ensures moved { result ≡ true → view desk.new ≡ saw (view desk.old) i (a_word Consumed to) }
         ensures refused { result ≡ false → (c : Word) × (c ≢ a_word Consumed from) × (view desk.new ≡ saw (view desk.old) i c) }
+        ensures alone { (view desk.old).first ≡ true → (view desk.old).lent ≡ 0 → LastSeen i (a_word Consumed from) (view desk.old).looked.seen → result ≡ true }
     {
         let words = &self.table.shared;
         let first = message_word(Cell::Consumed, from);
@@ -87,7 +91,8 @@ impl<P: Carry> Space<P> {
 
     /// Moves a head, or the next of a consumed message, from `from` to `to`, past consumed messages: the desk went a way on which
     /// it read consumed the message of this next, or the message `from` at the head, and each that followed before `to`, where that
-    /// way led. It is false exactly where the one exchange read another head or word of the cell.
+    /// way led. It is false exactly where the one exchange read another head or word of the cell; on a first desk that has lent none
+    /// it is true where the desk last read or wrote `from` there.
     ///
     /// Pairs with `link` at a head, and with every other bypass: who looks there afterwards does not meet what was bypassed, and
     /// misses nothing (`laws::ways_miss_none`).
@@ -104,6 +109,7 @@ impl<P: Carry> Space<P> {
         ensures desk { IsSameDesk desk.old desk.new }
         ensures moved { result ≡ true → view desk.new ≡ pointed (view desk.old) at to }
         ensures refused { result ≡ false → PointsElsewhere (view desk.old) (view desk.new) at from }
+        ensures alone { (view desk.old).first ≡ true → (view desk.old).lent ≡ 0 → LastPointed (view desk.old) at from → result ≡ true }
     {
         match at {
             Pointer::Head(object, method) => match from {

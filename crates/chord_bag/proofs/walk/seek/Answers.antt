@@ -1,12 +1,13 @@
-use Rattle.std.proofs.Common.{Some, None, ℕ, Option, sym, ap, ◌∙◌, subst, arith}
+use Rattle.std.proofs.Common.{inl, Bool, Some, None, ℕ, Option, refl, sym, ap, ◌∙◌, subst, arith}
 use Rattle.chord_rule.specs.declared.view.View.{View}
 use Rattle.chord_rule.specs.Bags.{head_number}
+use Rattle.chord_rule.specs.Looks.{LastHead}
 use Rattle.chord_rule.specs.Made.{key}
 use Rattle.chord_space.specs.Desks.{view}
 use Rattle.chord_bag.specs.declared.walk.Turn.{Turn}
 use Rattle.chord_bag.specs.Seeking.{newest_linked}
-use Rattle.chord_bag.specs.Walking.{Going, ComesToTurn, gone_so_far}
-use Rattle.chord_bag.proofs.Turning.{seek_starts, room_left, low, walk_ended, head_began, still_began, place_below, walk_at, head_read}
+use Rattle.chord_bag.specs.Walking.{Going, ComesToTurn, IsAtHead, IsPastAlone, gone_so_far}
+use Rattle.chord_bag.proofs.Turning.{seek_starts, room_left, low, walk_ended, head_began, still_began, place_below, walk_at, head_read, still_alone, still_tidy, tidy_behind, tidy_at_end}
 use Rattle.chord_bag.proofs.walk.seek.Goals as goal
 
 pub loop-place-init : goal.loop-place-init
@@ -16,6 +17,7 @@ loop-place-init g c =
       e.desk,
       seek_starts c.args.space.now.events (key c.args.object c.args.method) (view c.args.desk.now) (view c.look_head-place.new.desk) e.looked.linked c.look_head-place.result e.looked.is e.room,
       head_began g.P.Carry.entries g.P.Carry.arguments g.P.Carry.keeps_to c.args.space.now (view c.args.desk.now) (view c.look_head-place.new.desk) (key c.args.object c.args.method) c.look_head-place.result e.looked,
+      (λ _. subst (λ (z : View). LastHead (head_number (key c.args.object c.args.method)) c.look_head-place.result z.looked.heads) (sym e.looked.is) (inl (refl, refl))),
     )
 
 pub look_on-requires-clause-bounds : goal.look_on-requires-clause-bounds
@@ -57,6 +59,8 @@ loop-place-preserved-in-On g c =
       (e.desk.0 ∙ i.1.0, e.desk.1 ∙ i.1.1),
       subst (λ (t : Turn). ComesToTurn n k v (view c.look_on.new.desk) c.loop-place.busy t) c.in-On.is (e.turned.comes k v s),
       still_began g.P.Carry.entries g.P.Carry.arguments g.P.Carry.keeps_to c.args.space.now v u (view c.look_on.new.desk) k e.turned.linked i.3,
+      (λ a. tidy_behind k n c.in-Some.i c.loop-place.busy c.loop-place.place c.loop-place.at_head u (view c.look_on.new.desk) c.look_on.result e.turned (walk_at n k v u c.in-Some.i c.loop-place.busy s) c.in-Some.is
+          (λ word past. subst (λ (t : Turn). IsPastAlone t word.cell) c.in-On.is past) (i.4 a)),
     )
 
 pub loop-place-preserved : goal.loop-place-preserved
@@ -68,6 +72,8 @@ loop-place-preserved g c =
       (e.desk.0 ∙ i.1.0, e.desk.1 ∙ i.1.1),
       subst (λ (t : Turn). ComesToTurn n k v (view c.look_on.new.desk) c.loop-place.busy t) c.in-Past.is (e.turned.comes k v s),
       still_began g.P.Carry.entries g.P.Carry.arguments g.P.Carry.keeps_to c.args.space.now v u (view c.look_on.new.desk) k e.turned.linked i.3,
+      (λ a. let r = e.turned.read (walk_at n k v u c.in-Some.i c.loop-place.busy s) in
+          subst (IsAtHead k (view c.look_on.new.desk) c.in-Past.next) (sym c.if-at_head.false) (still_tidy k u (view c.look_on.new.desk) (record { number = c.in-Some.i; word = r.0 }) e.turned.heads r.1 (subst (IsAtHead k u c.loop-place.place) c.if-at_head.false (i.4 a)))),
     )
 
 pub tidy-at_head-requires-clause-bounds : goal.tidy-at_head-requires-clause-bounds
@@ -93,6 +99,9 @@ loop-place-preserved-then-at_head g c =
       (t.desk.0 ∙ e.desk.0 ∙ i.1.0, t.desk.1 ∙ e.desk.1 ∙ i.1.1),
       subst (λ (z : View). Going n k v z c.in-Past.next c.loop-place.busy) (sym t.looked.1) (head_read n k v (view c.look_on.new.desk) c.in-Past.next c.loop-place.busy (head_number k) t.looked.0 after),
       still_began g.P.Carry.entries g.P.Carry.arguments g.P.Carry.keeps_to c.args.space.now v u (view c.tidy-at_head.new.desk) k (ap (λ (z : View). newest_linked z.looked.ways) t.looked.1 ∙ e.turned.linked) i.3,
+      (λ a. let last = subst (λ (z : Bool × Option ℕ). IsAtHead k u z.1 z.0) (λ j. (c.if-at_head.true j, c.in-Some.is j)) (i.4 a) in
+          let moved = t.alone (still_alone v (view c.look_on.new.desk) after.only a) (subst (LastHead (head_number k) (Some c.in-Some.i)) (sym e.turned.heads) last) in
+          subst (IsAtHead k (view c.tidy-at_head.new.desk) c.in-Past.next) (sym moved.0) moved.1),
     )
 
 pub returns-in-Over-clause-sought : goal.returns-in-Over-clause-sought
@@ -113,3 +122,16 @@ pub returns-in-Some-busy-clause-sought : goal.returns-in-Some-busy-clause-sought
 returns-in-Some-busy-clause-sought g c =
     let n = c.args.space.now.events in let k = key c.args.object c.args.method in let v = view c.args.desk.now in let u = view c.loop-place.desk in
     walk_ended n k v u (Some c.in-Some-busy.i) (subst (λ (z : Option ℕ × Option ℕ). Going n k v u z.0 z.1) (λ j. (c.in_default.is j, c.in-Some-busy.is j)) c.loop-place.invariant.2)
+
+pub returns-in-Over-clause-tidy : goal.returns-in-Over-clause-tidy
+returns-in-Over-clause-tidy g c = λ a.
+    let n = c.args.space.now.events in let k = key c.args.object c.args.method in let v = view c.args.desk.now in let u = view c.loop-place.desk in
+    let s = subst (λ (x : Option ℕ). Going n k v u x c.loop-place.busy) c.in-Some.is c.loop-place.invariant.2 in
+    tidy_behind k n c.in-Some.i c.loop-place.busy c.loop-place.place c.loop-place.at_head u (view c.look_on.new.desk) c.look_on.result c.look_on.ensures.turned (walk_at n k v u c.in-Some.i c.loop-place.busy s) c.in-Some.is
+        (λ word past. subst (λ (t : Turn). IsPastAlone t word.cell) c.in-Over.is past) (c.loop-place.invariant.4 a)
+
+pub returns-in-None-clause-tidy : goal.returns-in-None-clause-tidy
+returns-in-None-clause-tidy g c = λ a. tidy_at_end (key c.args.object c.args.method) (view c.loop-place.desk) c.loop-place.at_head c.loop-place.place c.in_default.is (c.loop-place.invariant.4 a)
+
+pub returns-in-Some-busy-clause-tidy : goal.returns-in-Some-busy-clause-tidy
+returns-in-Some-busy-clause-tidy g c = λ a. tidy_at_end (key c.args.object c.args.method) (view c.loop-place.desk) c.loop-place.at_head c.loop-place.place c.in_default.is (c.loop-place.invariant.4 a)

@@ -42,3 +42,7 @@ pub returns-clause-refused : goal.returns-clause-refused
 returns-clause-refused g c = λ miss. let told = c.compare_exchange-found.ensures.2 c.args.i c.args.from c.args.to refl c.message_word-first.ensures c.message_word-last.ensures in
     let other = told.2 (λ e. let z : true ≡ false = sym (eq-eqb c.compare_exchange-found.result c.message_word-first.result e) ∙ miss in absurd (cc)) in
     (other.0, other.2, other.4)
+
+pub returns-clause-alone : goal.returns-clause-alone
+returns-clause-alone g c = λ is_first none_lent last. let told = c.compare_exchange-found.ensures.2 c.args.i c.args.from c.args.to refl c.message_word-first.ensures c.message_word-last.ensures in
+    eq-eqb c.compare_exchange-found.result c.message_word-first.result (told.3 is_first none_lent last)

@@ -10,10 +10,12 @@ use Rattle.chord_code.specs.Meaning.{code_program}
 use Rattle.chord_word.specs.Cells.{link_of}
 use Rattle.chord_rule.specs.Bags.{head_number}
 use Rattle.chord_rule.specs.Kinds.{saw_head}
+use Rattle.chord_rule.specs.Looks.{LastHead}
 use Rattle.chord_rule.specs.Made.{key}
 use Rattle.chord_rule.specs.Moment.{head_at}
 use Rattle.chord_rule.specs.Tells.{bypasses_head}
 use Rattle.chord_rule.proofs.Bypassing.{bypass_head_step}
+use Rattle.chord_space.specs.Desks.{view}
 use Rattle.chord_space.specs.Ruled.{Ruled}
 use Rattle.chord_space.specs.Widest.{widest}
 use Rattle.chord_space.proofs.Nexts.{link_fits}
@@ -51,3 +53,8 @@ pub returns-clause-refused : goal.returns-clause-refused
 returns-clause-refused g c = λ miss. let told = c.compare_exchange-found.ensures.2 c.args.from c.args.to c.pack_head-first.ensures.value c.pack_head-last.ensures.value in
     let other = told.2 (λ e. let z : true ≡ false = sym (eq-eqb c.compare_exchange-found.result c.pack_head-first.result e) ∙ miss in absurd (cc)) in
     (other.0, other.3, subst (λ (y : Object × ℕ). c.compare_exchange-found.new.seat.me.0 ≡ saw_head c.args.desk.now.seat.me.0 (head_number (key y.0 y.1)) other.0) (λ k. (c.requires.address.0 k, c.requires.address.1 k)) other.4)
+
+pub returns-clause-alone : goal.returns-clause-alone
+returns-clause-alone g c = λ is_first none_lent last. let told = c.compare_exchange-found.ensures.2 c.args.from c.args.to c.pack_head-first.ensures.value c.pack_head-last.ensures.value in
+    let at : head_number (key g.J.Addressed.object g.J.Addressed.method) ≡ head_number (key c.args.object c.args.method) = (λ k. head_number (key (c.requires.address.0 k) (c.requires.address.1 k))) in
+    eq-eqb c.compare_exchange-found.result c.pack_head-first.result (told.3 is_first none_lent (subst (λ (x : ℕ). LastHead x (Some c.args.from) (view c.args.desk.now).looked.heads) (sym at) last))
