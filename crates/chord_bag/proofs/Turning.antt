@@ -29,7 +29,7 @@ use Rattle.chord_bag.specs.declared.walk.Sought.TheVariants.{Found, Bare, Busy}
 use Rattle.chord_bag.specs.declared.walk.Turn.{Turn}
 use Rattle.chord_bag.specs.declared.walk.Turn.TheVariants.{Over, On, Past}
 use Rattle.chord_bag.specs.Reads.{AllAt, AllRead, HasRead, KeepsEnds, IsOnlyLooks, with_looks, is_claimed, is_passed, after_cell, messages_and_bags}
-use Rattle.chord_bag.specs.Seeking.{IsSought, IsMetStanding, IsTidy, BeganAtHead, newest_linked, newest_looks}
+use Rattle.chord_bag.specs.Seeking.{IsSought, IsReadUnconsumed, IsTidy, BeganAtHead, newest_linked, newest_looks}
 use Rattle.chord_bag.specs.Walking.{Going, IsGoing, IsTurn, IsPastAlone, IsAtHead, ComesToTurn, gone_so_far}
 use Rattle.chord_bag.proofs.Walks.{all_start, all_move, head_keeps, cell_keeps, keeps_on, head_keeps_messages, cell_keeps_messages}
 
@@ -247,32 +247,32 @@ head_read n k v u place busy head h s = record {
     going None g = g
     going (Some i) g = g
 
--- what was read standing stays so with one look more
-still_standing : (ws xs : List Way) (l : Look) (i : ℕ) → newest_looks xs ≡ l ∷ newest_looks ws → IsMetStanding ws i → IsMetStanding xs i
-still_standing ws xs l i more m = (m.0, m.1, subst (HasRead i m.0) (sym more) (inr m.2))
+-- what was read, and not consumed, stays so with one look more
+still_unconsumed : (ws xs : List Way) (l : Look) (i : ℕ) → newest_looks xs ≡ l ∷ newest_looks ws → IsReadUnconsumed ws i → IsReadUnconsumed xs i
+still_unconsumed ws xs l i more m = (m.0, m.1, subst (HasRead i m.0) (sym more) (inr m.2))
 
 -- a tidy bag stays so with looks at its cells
 pub still_tidy : (k : ℕ) (u w : View) (l : Look) → w.looked.heads ≡ u.looked.heads → newest_looks w.looked.ways ≡ l ∷ newest_looks u.looked.ways → IsTidy k u → IsTidy k w
 still_tidy k u w l heads more t = (t.0, subst (LastHead (head_number k) t.0) (sym heads) t.1, kept t.0 t.2)
   where
-    kept : (h : Option ℕ) → IfSome h (IsMetStanding u.looked.ways) → IfSome h (IsMetStanding w.looked.ways)
+    kept : (h : Option ℕ) → IfSome h (IsReadUnconsumed u.looked.ways) → IfSome h (IsReadUnconsumed w.looked.ways)
     kept None s = tt
-    kept (Some i) s = still_standing u.looked.ways w.looked.ways l i more s
+    kept (Some i) s = still_unconsumed u.looked.ways w.looked.ways l i more s
 
 -- a bag whose head leads to a message that was just read, and not consumed, is tidy
 pub tidy_here : (k i : ℕ) (u w : View) (word : Word) → w.looked.heads ≡ u.looked.heads → newest_looks w.looked.ways ≡ record { number = i; word = word } ∷ newest_looks u.looked.ways → word.cell ≢ Consumed
     → (place : Option ℕ) → place ≡ Some i → LastHead (head_number k) place u.looked.heads → IsTidy k w
-tidy_here k i u w word heads more standing place is last = (
+tidy_here k i u w word heads more unconsumed place is last = (
   Some i,
   subst (LastHead (head_number k) (Some i)) (sym heads) (subst (λ (x : Option ℕ). LastHead (head_number k) x u.looked.heads) is last),
-  (word.cell, standing, subst (HasRead i word.cell) (sym more) (inl (refl, refl))),
+  (word.cell, unconsumed, subst (HasRead i word.cell) (sym more) (inl (refl, refl))),
 )
 
 -- a walk behind a message that was read, and not consumed, leaves a tidy bag
 pub tidy_behind : (k n i : ℕ) (busy place : Option ℕ) (at_head : Bool) (u w : View) (t : Turn) → IsTurn n u w i busy t → IsAt i u.looked.ways → place ≡ Some i → ((word : Word) → IsPastAlone t word.cell → word.cell ≢ Consumed)
     → IsAtHead k u place at_head → IsTidy k w
-tidy_behind k n i busy place true u w t turn at is standing last = let r = turn.read at in tidy_here k i u w r.0 turn.heads r.1 (standing r.0 r.2) place is last
-tidy_behind k n i busy place false u w t turn at is standing tidy = let r = turn.read at in still_tidy k u w (record { number = i; word = r.0 }) turn.heads r.1 tidy
+tidy_behind k n i busy place true u w t turn at is unconsumed last = let r = turn.read at in tidy_here k i u w r.0 turn.heads r.1 (unconsumed r.0 r.2) place is last
+tidy_behind k n i busy place false u w t turn at is unconsumed tidy = let r = turn.read at in still_tidy k u w (record { number = i; word = r.0 }) turn.heads r.1 tidy
 
 -- a bag whose head leads nowhere is tidy
 pub tidy_at_end : (k : ℕ) (v : View) (at_head : Bool) (place : Option ℕ) → place ≡ None → IsAtHead k v place at_head → IsTidy k v

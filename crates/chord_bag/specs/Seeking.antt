@@ -61,12 +61,12 @@ newest_looks [] = []
 newest_looks (w ∷ ws) = w.looks
 
 -- the newest way read the message i, and not consumed
-abbrev pub IsMetStanding : List Way → ℕ → Type 0
-IsMetStanding ws i = (c : Cell) × (c ≢ Consumed) × HasRead i c (newest_looks ws)
+abbrev pub IsReadUnconsumed : List Way → ℕ → Type 0
+IsReadUnconsumed ws i = (c : Cell) × (c ≢ Consumed) × HasRead i c (newest_looks ws)
 
 -- the head of the bag k, as the desk last read or wrote it, leads nowhere, or to a message that its newest way read, and not consumed
 abbrev pub IsTidy : ℕ → View → Type 0
-IsTidy k v = (head : Option ℕ) × LastHead (head_number k) head v.looked.heads × IfSome head (IsMetStanding v.looked.ways)
+IsTidy k v = (head : Option ℕ) × LastHead (head_number k) head v.looked.heads × IfSome head (IsReadUnconsumed v.looked.ways)
 
 -- the newest way of the view w began at a moment under the rule, at which the desk had the view v, with a look at the head of the bag k; it knows the messages that had been linked there
 abbrev pub BeganAtHead : {P : Type 0} → (P → List Entry) → (P → List value.Value) → (P → Parts → Limits → Type 0) → Space P → View → View → ℕ → Type 0

@@ -1,5 +1,5 @@
 //! A message that can be claimed is looked for in one bag.
-ghost use Rattle.std.specs.Prelude.{◌≡◌, ℕ, ◌<◌, Option, Some, None, IfSome};
+ghost use Rattle.std.specs.Prelude.{◌≡◌, ℕ, ◌<◌, true, Option, Some, None, IfSome};
 ghost use Rattle.chord_rule.specs.Bags.{head_number};
 ghost use Rattle.chord_rule.specs.Kinds.{saw_head};
 ghost use Rattle.chord_rule.specs.Looks.{LastHead};
