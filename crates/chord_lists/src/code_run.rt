@@ -15,7 +15,7 @@ ghost use Rattle.chord_lists.specs.CodeGoes.{IsNoted, message_left, HasTaken, Ha
 use crate::bag::Bag;
 use crate::code_bodies::{CodeBodies, next_ready};
 use crate::code_play::CodePlay;
-use crate::engine::{find_chord};
+use crate::engine::{self, Playable, find_chord};
 use chord_base::event::{Entry, Limits, What};
 use chord_base::journal::Journal;
 use chord_code::code::Code;

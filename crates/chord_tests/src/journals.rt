@@ -9,6 +9,7 @@ use chord_base::journal::Journal;
 use chord_io::{Failed, MemSink};
 use chord_journal::{JournalFault, gather, gather_lists, read, write_lines, write_text};
 use std::alloc::{AllocError, Global};
+use std::fmt::Write;
 use std::process::Abort;
 use std::test::Fail;
 

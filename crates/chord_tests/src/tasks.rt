@@ -12,7 +12,7 @@ use chord_code::parts::{Block, Parts};
 use chord_code::valid::valid;
 use chord_task::task::Task;
 use chord_vm::ask::Ask;
-use std::alloc::{Global};
+use std::alloc::Global;
 use std::test::Fail;
 
 /// The code of a `Main` that prints 7.

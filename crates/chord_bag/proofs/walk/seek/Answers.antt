@@ -128,7 +128,7 @@ returns-in-Over-clause-tidy g c = λ a.
     let n = c.args.space.now.events in let k = key c.args.object c.args.method in let v = view c.args.desk.now in let u = view c.loop-place.desk in
     let s = subst (λ (x : Option ℕ). Going n k v u x c.loop-place.busy) c.in-Some.is c.loop-place.invariant.2 in
     tidy_behind k n c.in-Some.i c.loop-place.busy c.loop-place.place c.loop-place.at_head u (view c.look_on.new.desk) c.look_on.result c.look_on.ensures.turned (walk_at n k v u c.in-Some.i c.loop-place.busy s) c.in-Some.is
-        (λ word past. subst (λ (t : Turn). IsPastAlone t word.cell) c.in-Over.is past) (c.loop-place.invariant.4 a)
+    (λ word past. subst (λ (t : Turn). IsPastAlone t word.cell) c.in-Over.is past) (c.loop-place.invariant.4 a)
 
 pub returns-in-None-clause-tidy : goal.returns-in-None-clause-tidy
 returns-in-None-clause-tidy g c = λ a. tidy_at_end (key c.args.object c.args.method) (view c.loop-place.desk) c.loop-place.at_head c.loop-place.place c.in_default.is (c.loop-place.invariant.4 a)
