@@ -30,7 +30,7 @@ use Rattle.chord_bag.specs.declared.walk.Turn.{Turn}
 use Rattle.chord_bag.specs.declared.walk.Turn.TheVariants.{Over, On, Past}
 use Rattle.chord_bag.specs.Reads.{AllAt, AllRead, HasRead, KeepsEnds, IsOnlyLooks, with_looks, is_claimed, is_passed, after_cell, messages_and_bags}
 use Rattle.chord_bag.specs.Seeking.{IsSought, IsReadUnconsumed, IsTidy, BeganAtHead, newest_linked, newest_looks}
-use Rattle.chord_bag.specs.Walking.{Going, IsGoing, IsTurn, IsPastAlone, IsAtHead, ComesToTurn, gone_so_far}
+use Rattle.chord_bag.specs.Walking.{Going, IsGoing, IsTurn, PassesConsumed, IsAtHead, ComesToTurn, gone_so_far}
 use Rattle.chord_bag.proofs.Walks.{all_start, all_move, head_keeps, cell_keeps, keeps_on, head_keeps_messages, cell_keeps_messages}
 
 -- what comes after a look that read this cell
@@ -144,15 +144,15 @@ one_look_more : (i : ℕ) (c : Word) (ws : List Way) → IsAt i ws → newest_lo
 one_look_more i c [] at = absurd at
 one_look_more i c (w ∷ ws) at = let t : has_come_to i w.place ≡ true = ap (has_come_to i) at ∙ eq-eqb i i refl in ap (λ (b : Bool). (if b then gone_on w i c else w).looks) t
 
--- what comes after a cell that is not consumed is no step past it
-past_alone : (i : ℕ) (busy next : Option ℕ) (c : Cell) → IsPastAlone (by_cell i busy next c) c
-past_alone i busy next Pending = λ e. cc
-past_alone i busy next Empty = λ e. cc
-past_alone i busy next Claimed = λ e. cc
-past_alone i busy next Consumed = tt
-past_alone i busy next (Woken q) = λ e. cc
-past_alone i busy next Ready = λ e. cc
-past_alone i busy next Started = λ e. cc
+-- what comes after a consumed cell is the step past it
+passes_consumed : (i : ℕ) (busy next : Option ℕ) (c : Cell) → PassesConsumed (by_cell i busy next c) c
+passes_consumed i busy next Pending = λ e. cc
+passes_consumed i busy next Empty = λ e. cc
+passes_consumed i busy next Claimed = λ e. cc
+passes_consumed i busy next Consumed = tt
+passes_consumed i busy next (Woken q) = λ e. cc
+passes_consumed i busy next Ready = λ e. cc
+passes_consumed i busy next Started = λ e. cc
 
 -- past a consumed message
 consumed_past : (i : ℕ) (busy : Option ℕ) (word : Word) (next : Option ℕ) (u : View) → IsAt i u.looked.ways → (c : Cell) → by_cell i busy word.next c ≡ Past next → word.cell ≡ c → WentPast (looked_cell u i word) i next
@@ -180,7 +180,7 @@ one_turn n i busy word u w c look is = subst (λ (z : View). IsTurn n u z i busy
   longer = λ k v s. longer n k v u i busy s word;
   linked = same_linked i word u.looked.ways;
   heads = refl;
-  read = λ at. (word, one_look_more i word u.looked.ways at, past_alone i busy word.next word.cell);
+  read = λ at. (word, one_look_more i word u.looked.ways at, passes_consumed i busy word.next word.cell);
   past = λ next e at. consumed_past i busy word next u at word.cell e refl;
 })
 
@@ -260,7 +260,7 @@ still_tidy k u w l heads more t = (t.0, subst (LastHead (head_number k) t.0) (sy
     kept (Some i) s = still_unconsumed u.looked.ways w.looked.ways l i more s
 
 -- a bag whose head leads to a message that was just read, and not consumed, is tidy
-pub tidy_here : (k i : ℕ) (u w : View) (word : Word) → w.looked.heads ≡ u.looked.heads → newest_looks w.looked.ways ≡ record { number = i; word = word } ∷ newest_looks u.looked.ways → word.cell ≢ Consumed
+tidy_here : (k i : ℕ) (u w : View) (word : Word) → w.looked.heads ≡ u.looked.heads → newest_looks w.looked.ways ≡ record { number = i; word = word } ∷ newest_looks u.looked.ways → word.cell ≢ Consumed
     → (place : Option ℕ) → place ≡ Some i → LastHead (head_number k) place u.looked.heads → IsTidy k w
 tidy_here k i u w word heads more unconsumed place is last = (
   Some i,
@@ -269,7 +269,7 @@ tidy_here k i u w word heads more unconsumed place is last = (
 )
 
 -- a walk behind a message that was read, and not consumed, leaves a tidy bag
-pub tidy_behind : (k n i : ℕ) (busy place : Option ℕ) (at_head : Bool) (u w : View) (t : Turn) → IsTurn n u w i busy t → IsAt i u.looked.ways → place ≡ Some i → ((word : Word) → IsPastAlone t word.cell → word.cell ≢ Consumed)
+pub tidy_behind : (k n i : ℕ) (busy place : Option ℕ) (at_head : Bool) (u w : View) (t : Turn) → IsTurn n u w i busy t → IsAt i u.looked.ways → place ≡ Some i → ((word : Word) → PassesConsumed t word.cell → word.cell ≢ Consumed)
     → IsAtHead k u place at_head → IsTidy k w
 tidy_behind k n i busy place true u w t turn at is unconsumed last = let r = turn.read at in tidy_here k i u w r.0 turn.heads r.1 (unconsumed r.0 r.2) place is last
 tidy_behind k n i busy place false u w t turn at is unconsumed tidy = let r = turn.read at in still_tidy k u w (record { number = i; word = r.0 }) turn.heads r.1 tidy

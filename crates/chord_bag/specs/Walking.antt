@@ -45,10 +45,10 @@ ComesToTurn n k v w busy (Over s) = IsSought n k v w s
 ComesToTurn n k v w busy (On place more) = Going n k v w place more
 ComesToTurn n k v w busy (Past place) = Going n k v w place busy
 
--- the walk goes past a message only where it read it consumed
-abbrev pub IsPastAlone : Turn → Cell → Type 0
-IsPastAlone (Past place) c = Unit {0}
-IsPastAlone _ c = c ≢ Consumed
+-- the walk goes past each message that it reads consumed
+abbrev pub PassesConsumed : Turn → Cell → Type 0
+PassesConsumed (Past place) c = Unit {0}
+PassesConsumed _ c = c ≢ Consumed
 
 -- while the walk is at the head of the bag k, the head that the desk last read or wrote leads to its place; afterwards the bag is tidy
 abbrev pub IsAtHead : ℕ → View → Option ℕ → Bool → Type 0
@@ -61,6 +61,6 @@ pub record IsTurn (n : ℕ) (u w : View) (i : ℕ) (busy : Option ℕ) (t : Turn
   pub longer : (k : ℕ) (v : View) → Going n k v u (Some i) busy → gone_so_far w.looked.ways ≡ gone_so_far u.looked.ways + 1
   pub linked : newest_linked w.looked.ways ≡ newest_linked u.looked.ways
   pub heads : w.looked.heads ≡ u.looked.heads
-  pub read : IsAt i u.looked.ways → (word : Word) × (newest_looks w.looked.ways ≡ record { number = i; word = word } ∷ newest_looks u.looked.ways) × IsPastAlone t word.cell
+  pub read : IsAt i u.looked.ways → (word : Word) × (newest_looks w.looked.ways ≡ record { number = i; word = word } ∷ newest_looks u.looked.ways) × PassesConsumed t word.cell
   -- past a consumed message
   pub past : (next : Option ℕ) → t ≡ Past next → IsAt i u.looked.ways → WentPast w i next

@@ -6,7 +6,7 @@ use Rattle.chord_rule.specs.Made.{key}
 use Rattle.chord_space.specs.Desks.{view}
 use Rattle.chord_bag.specs.declared.walk.Turn.{Turn}
 use Rattle.chord_bag.specs.Seeking.{newest_linked}
-use Rattle.chord_bag.specs.Walking.{Going, ComesToTurn, IsAtHead, IsPastAlone, gone_so_far}
+use Rattle.chord_bag.specs.Walking.{Going, ComesToTurn, IsAtHead, PassesConsumed, gone_so_far}
 use Rattle.chord_bag.proofs.Turning.{seek_starts, room_left, low, walk_ended, head_began, still_began, place_below, walk_at, head_read, still_alone, still_tidy, tidy_behind, tidy_at_end}
 use Rattle.chord_bag.proofs.walk.seek.Goals as goal
 
@@ -60,7 +60,7 @@ loop-place-preserved-in-On g c =
       subst (λ (t : Turn). ComesToTurn n k v (view c.look_on.new.desk) c.loop-place.busy t) c.in-On.is (e.turned.comes k v s),
       still_began g.P.Carry.entries g.P.Carry.arguments g.P.Carry.keeps_to c.args.space.now v u (view c.look_on.new.desk) k e.turned.linked i.3,
       (λ a. tidy_behind k n c.in-Some.i c.loop-place.busy c.loop-place.place c.loop-place.at_head u (view c.look_on.new.desk) c.look_on.result e.turned (walk_at n k v u c.in-Some.i c.loop-place.busy s) c.in-Some.is
-          (λ word past. subst (λ (t : Turn). IsPastAlone t word.cell) c.in-On.is past) (i.4 a)),
+          (λ word past. subst (λ (t : Turn). PassesConsumed t word.cell) c.in-On.is past) (i.4 a)),
     )
 
 pub loop-place-preserved : goal.loop-place-preserved
@@ -128,7 +128,7 @@ returns-in-Over-clause-tidy g c = λ a.
     let n = c.args.space.now.events in let k = key c.args.object c.args.method in let v = view c.args.desk.now in let u = view c.loop-place.desk in
     let s = subst (λ (x : Option ℕ). Going n k v u x c.loop-place.busy) c.in-Some.is c.loop-place.invariant.2 in
     tidy_behind k n c.in-Some.i c.loop-place.busy c.loop-place.place c.loop-place.at_head u (view c.look_on.new.desk) c.look_on.result c.look_on.ensures.turned (walk_at n k v u c.in-Some.i c.loop-place.busy s) c.in-Some.is
-    (λ word past. subst (λ (t : Turn). IsPastAlone t word.cell) c.in-Over.is past) (c.loop-place.invariant.4 a)
+    (λ word past. subst (λ (t : Turn). PassesConsumed t word.cell) c.in-Over.is past) (c.loop-place.invariant.4 a)
 
 pub returns-in-None-clause-tidy : goal.returns-in-None-clause-tidy
 returns-in-None-clause-tidy g c = λ a. tidy_at_end (key c.args.object c.args.method) (view c.loop-place.desk) c.loop-place.at_head c.loop-place.place c.in_default.is (c.loop-place.invariant.4 a)
