@@ -14,7 +14,7 @@ use Rattle.chord_worker.specs.declared.worker.Worker.{Worker}
 use Rattle.chord_worker.specs.Resting.{IsAtRest, IsSameRole}
 use Rattle.chord_pool.specs.declared.player.Player.{Player}
 use Rattle.chord_pool.specs.Players.{IsOneRun, HasPlayed, PlaysOn, HaveAllPlayed, IsCrew, IsBack}
-use Rattle.chord_pool.proofs.Handing.{may_more}
+use Rattle.chord_pool.proofs.Handing.{hired_more}
 
 -- the first worker has lent one desk more, to a worker with nothing to play
 pub hired : (s : Space Parcel) (main after : Worker) (others : List Player) (one : Player) → IsCrew s main others → (view main.desk).splits ≡ length others
@@ -29,7 +29,7 @@ hired s main after others one crew splits rest task lent one_rest one_task =
         first = ap (λ (v : View). v.first) lent ∙ crew.first;
         drawn = ap (λ (v : View). v.drawn) lent ∙ crew.drawn;
         lent = (let was = crew.lent in omega (arith, more, long, was));
-        all = may_more s others one crew.all (λ sane. record { rest = one_rest; over = λ told. one_task });
+        all = hired_more s others one crew.all ((λ sane. record { rest = one_rest; over = λ told. one_task }), one_task);
       },
       omega (arith, count, long, splits),
       long,

@@ -1,5 +1,5 @@
 -- Workers of one run: which of them may draw, which have nothing to play, and how they are handed to threads and come back.
-use Rattle.std.specs.Prelude.{◌≡◌, ◌≢◌, ◌⊎◌, ◌<◌, ◌≤◌, ℕ, false, true, List, [], ◌∷◌, length, min, Some, None}
+use Rattle.std.specs.Prelude.{◌≡◌, ◌≢◌, ◌⊎◌, ◌<◌, ◌≤◌, ℕ, false, true, List, [], ◌∷◌, length, min, Option, Some, None, is_some}
 use Rattle.chord_base.specs.declared.event.Limits.{Limits}
 use Rattle.chord_base.specs.Story.{IsSound}
 use Rattle.chord_code.specs.declared.parts.Parts.{Parts}
@@ -16,6 +16,7 @@ use Rattle.chord_worker.specs.declared.worker.Worker.{Worker}
 use Rattle.chord_worker.specs.Resting.{IsAtRest, IsSameRole}
 use Rattle.chord_worker.specs.Stepping.{HasGoneOn}
 use Rattle.chord_pool.specs.declared.player.Player.{Player}
+use Rattle.chord_pool.specs.declared.shared.AtWork.{AtWork}
 
 -- the code and the limits are those of the space, and its runs are those of a sound program
 pub record IsOneRun (s : Space Parcel) (code : Parts) (limits : Limits) : Type 0 where
@@ -37,6 +38,10 @@ pub record IsSettled (s : Space Parcel) (w : Worker) : Type 0 where
 pub record HasStopped (s : Space Parcel) (w : Worker) : Type 0 where
   pub rest : IsAtRest s w
   pub task : w.task ≡ None
+
+-- a worker that plays a task counts among those at work
+abbrev pub CountsIfItPlays : Option AtWork → Worker → Type 0
+CountsIfItPlays at_work w = w.task ≢ None → is_some at_work ≡ true
 
 -- each cell from `from` up to below `to` was last seen in another state than ready
 abbrev pub AreUnready : ℕ → ℕ → List Look → Type 0
@@ -89,23 +94,27 @@ pub record HadARound (s : Space Parcel) (x y : Player) : Type 0 where
 abbrev pub PlaysOn : Player → Player → Type 0
 PlaysOn x y = y.failed ≡ false → IsSameRole (view x.worker.desk) (view y.worker.desk)
 
--- each of these may go on
-abbrev pub MayAllPlay : Space Parcel → List Player → Type 0
-MayAllPlay s [] = Unit {0}
-MayAllPlay s (x ∷ xs) = MayPlay s x × MayAllPlay s xs
+-- a player that was hired may go on, and has nothing to play yet
+abbrev pub IsHired : Space Parcel → Player → Type 0
+IsHired s x = MayPlay s x × (x.worker.task ≡ None)
+
+-- each of these was hired
+abbrev pub AreHired : Space Parcel → List Player → Type 0
+AreHired s [] = Unit {0}
+AreHired s (x ∷ xs) = IsHired s x × AreHired s xs
 
 -- each of these that has not failed has nothing to play
 abbrev pub HaveAllPlayed : Space Parcel → List Player → Type 0
 HaveAllPlayed s [] = Unit {0}
 HaveAllPlayed s (x ∷ xs) = HasPlayed s x × HaveAllPlayed s xs
 
--- the first worker, and the others that it has hired: each may go on
+-- the first worker, which may go on, and the others that it has hired
 pub record IsCrew (s : Space Parcel) (main : Worker) (others : List Player) : Type 0 where
   pub settled : IsSettled s main
   pub first : (view main.desk).first ≡ true
   pub drawn : (view main.desk).drawn ≡ true
   pub lent : (view main.desk).lent ≡ length others
-  pub all : MayAllPlay s others
+  pub all : AreHired s others
 
 -- the first worker, and others that have come back from their threads
 pub record IsBack (s : Space Parcel) (main : Worker) (others : List Player) : Type 0 where

@@ -27,7 +27,6 @@ fn hire_one(
         place: 0,
         known: 0,
         misses: 0,
-        counted: false,
     })?;
     Ok(())
 }

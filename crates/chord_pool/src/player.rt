@@ -5,10 +5,11 @@ ghost use Rattle.chord_space.specs.Desks.{view};
 ghost use Rattle.chord_task.specs.declared.task.Task.{Task as TheTask};
 ghost use Rattle.chord_worker.specs.Resting.{IsSameRole};
 ghost use Rattle.chord_worker.specs.Stepping.{HasGoneOn};
-ghost use Rattle.chord_pool.specs.Players.{IsOneRun, IsFit, AreUnready, FoundNoneBelow, FoundNone, SawUnready, KnowsCount, HasLooked, HadARound, MayPlay, HasPlayed, PlaysOn};
+ghost use Rattle.chord_pool.specs.Players.{IsOneRun, IsFit, AreUnready, FoundNoneBelow, FoundNone, SawUnready, KnowsCount, HasLooked, HadARound, MayPlay, HasPlayed, PlaysOn, CountsIfItPlays};
 
 use crate::pause::Pause;
 use crate::run::Run;
+use crate::shared::AtWork;
 use chord_word::Cell;
 use chord_worker::{Gate, Worker};
 use std::alloc::Global;
@@ -26,8 +27,6 @@ pub(crate) struct Player {
     pub known: u32,
     /// How many of its last looks found none.
     pub misses: u32,
-    /// Whether it counts among those at work. It does for as long as it finds one firing after the other.
-    pub counted: bool,
 }
 
 /// How many of the newest numbers are looked at again after a look that found nothing: a firing becomes ready soon after its draw.
@@ -37,14 +36,14 @@ const FAR_LOOK: u32 = 32;
 /// How many rounds a worker plays for one turn of the loop without end.
 const ROUNDS: u32 = 1024;
 
-/// Looks at the cell of number i, and starts its firing where it is ready. Whether it plays it now. A worker that is not counted among
-/// those at work is so before it starts one, so that nobody finds neither the firing nor anybody at work.
+/// Looks at the cell of number i, and starts its firing where it is ready. Whether it plays it now. A worker is at work before it starts
+/// one, so that nobody finds neither the firing nor anybody at work.
 fn try_start<'a, G: Gate>(
     run: &Run<'a>,
     worker: &mut Worker,
     i: u32,
     gate: &G,
-    counted: bool,
+    at_work: &mut Option<AtWork<'a>>,
 ) -> bool
     requires run { IsOneRun run.now.space.now run.now.code.now run.now.limits.now }
     requires worker { IsFit run.now.space.now worker.old }
@@ -53,14 +52,17 @@ fn try_start<'a, G: Gate>(
     ensures worker { IsFit run.now.space.now worker.new }
     ensures role { IsSameRole (view worker.old.desk) (view worker.new.desk) }
     ensures task { result ≡ is_some worker.new.task }
+    ensures counts { result ≡ true → is_some at_work.new ≡ true }
+    ensures as_before { result ≡ false → is_some at_work.new ≡ is_some at_work.old }
     ensures seen { result ≡ false → SawUnready (view worker.old.desk) (view worker.new.desk) i }
 {
     match worker.look(run.space, i) {
         Cell::Ready => {
-            run.shared.begin_if(!counted);
+            let was_at_work = at_work.is_some();
+            run.shared.begin_if_idle(at_work);
             let started = worker.start(run.space, run.code, run.limits, i, gate);
-            if !started {
-                run.shared.end_if(!counted);
+            if !started && !was_at_work {
+                *at_work = None;
             }
             started
         }
@@ -75,7 +77,7 @@ fn sweep<'a, G: Gate>(
     from: u32,
     below: u32,
     gate: &G,
-    counted: bool,
+    at_work: &mut Option<AtWork<'a>>,
 ) -> Option<u32>
     requires run { IsOneRun run.now.space.now run.now.code.now run.now.limits.now }
     requires worker { IsFit run.now.space.now worker.old }
@@ -84,11 +86,13 @@ fn sweep<'a, G: Gate>(
     ensures worker { IsFit run.now.space.now worker.new }
     ensures role { IsSameRole (view worker.old.desk) (view worker.new.desk) }
     ensures task { is_some result ≡ is_some worker.new.task }
+    ensures counts { is_some result ≡ true → is_some at_work.new ≡ true }
+    ensures as_before { IfNone result (is_some at_work.new ≡ is_some at_work.old) }
     ensures count { IfNone result ((view worker.new.desk).looked.count ≡ (view worker.old.desk).looked.count) }
     ensures seen { IfNone result (AreUnready from below (view worker.new.desk).looked.seen) }
 {
     for i in from..below {
-        if try_start(run, worker, i, gate, counted) {
+        if try_start(run, worker, i, gate, at_work) {
             return Some(i);
         }
     }
@@ -102,7 +106,7 @@ fn find_work<'a, G: Gate>(
     place: u32,
     below: u32,
     gate: &G,
-    counted: bool,
+    at_work: &mut Option<AtWork<'a>>,
 ) -> u32
     requires run { IsOneRun run.now.space.now run.now.code.now run.now.limits.now }
     requires worker { IsFit run.now.space.now worker.old }
@@ -110,10 +114,12 @@ fn find_work<'a, G: Gate>(
     requires bounds { below ≤ run.now.space.now.events }
     ensures worker { IsFit run.now.space.now worker.new }
     ensures role { IsSameRole (view worker.old.desk) (view worker.new.desk) }
+    ensures counts { worker.new.task ≢ None → is_some at_work.new ≡ true }
+    ensures as_before { worker.new.task ≡ None → is_some at_work.new ≡ is_some at_work.old }
     ensures count { worker.new.task ≡ None → (view worker.new.desk).looked.count ≡ (view worker.old.desk).looked.count }
     ensures seen { worker.new.task ≡ None → AreUnready place below (view worker.new.desk).looked.seen }
 {
-    match sweep(run, worker, place, below, gate, counted) {
+    match sweep(run, worker, place, below, gate, at_work) {
         Some(i) => i,
         None => below.saturating_sub(NEAR),
     }
@@ -154,23 +160,30 @@ impl Player {
     /// The worker has found a firing to play, and goes on.
     fn found(&mut self, pause: &Pause) -> bool
         ensures same { (self.new.worker ≡ self.old.worker) × (self.new.failed ≡ self.old.failed) × (self.new.place ≡ self.old.place) }
-        ensures counts { (self.new.counted ≡ true) × (self.new.misses ≡ 0) }
+        ensures misses { self.new.misses ≡ 0 }
         ensures on { result ≡ true }
     {
-        self.counted = true;
         self.misses = 0;
         pause.reset();
         true
     }
 
     /// Looks for a firing from its place on: among all numbers, or else among those that it knew of before.
-    fn look<'a, G: Gate>(&mut self, run: &Run<'a>, gate: &G, among_all: bool)
+    fn look<'a, G: Gate>(
+        &mut self,
+        run: &Run<'a>,
+        gate: &G,
+        at_work: &mut Option<AtWork<'a>>,
+        among_all: bool,
+    )
         requires run { IsOneRun run.now.space.now run.now.code.now run.now.limits.now }
         requires worker { IsFit run.now.space.now self.old.worker }
         requires idle { self.old.worker.task ≡ None }
         ensures worker { IsFit run.now.space.now self.new.worker }
         ensures role { IsSameRole (view self.old.worker.desk) (view self.new.worker.desk) }
-        ensures same { (self.new.failed ≡ self.old.failed) × (self.new.counted ≡ self.old.counted) × (self.new.misses ≡ self.old.misses) }
+        ensures same { (self.new.failed ≡ self.old.failed) × (self.new.misses ≡ self.old.misses) }
+        ensures counts { self.new.worker.task ≢ None → is_some at_work.new ≡ true }
+        ensures as_before { self.new.worker.task ≡ None → is_some at_work.new ≡ is_some at_work.old }
         ensures all { among_all ≡ true → self.new.worker.task ≡ None → FoundNone run.now.space.now self.old.place (view self.new.worker.desk) }
         ensures knew { self.new.worker.task ≡ None → FoundNoneBelow run.now.space.now self.old.place self.old.known (view self.new.worker.desk) }
         ensures knows { self.new.worker.task ≡ None → KnowsCount run.now.space.now self.new }
@@ -182,11 +195,17 @@ impl Player {
             self.known.min(count)
         };
         self.known = count;
-        self.place = find_work(run, &mut self.worker, self.place, below, gate, self.counted);
+        self.place = find_work(run, &mut self.worker, self.place, below, gate, at_work);
     }
 
     /// Looks for a firing among all numbers, unless the look before, which found none, began at the first.
-    fn look_far<'a, G: Gate>(&mut self, run: &Run<'a>, gate: &G, from: u32)
+    fn look_far<'a, G: Gate>(
+        &mut self,
+        run: &Run<'a>,
+        gate: &G,
+        at_work: &mut Option<AtWork<'a>>,
+        from: u32,
+    )
         requires run { IsOneRun run.now.space.now run.now.code.now run.now.limits.now }
         requires worker { IsFit run.now.space.now self.old.worker }
         requires idle { self.old.worker.task ≡ None }
@@ -194,19 +213,27 @@ impl Player {
         ensures worker { IsFit run.now.space.now self.new.worker }
         ensures role { IsSameRole (view self.old.worker.desk) (view self.new.worker.desk) }
         ensures same { self.new.failed ≡ self.old.failed }
+        ensures counts { self.new.worker.task ≢ None → is_some at_work.new ≡ true }
         ensures none { self.new.worker.task ≡ None → FoundNone run.now.space.now 0 (view self.new.worker.desk) }
     {
         if from > 0 {
             self.place = 0;
-            self.look(run, gate, true);
+            self.look(run, gate, at_work, true);
         }
     }
 
     /// Looks for a firing to play. Whether the worker goes on: it does while it finds one, or another is at work.
     ///
-    /// A worker that is not counted among those at work leaves a firing that was drawn since its last look: whoever posted it comes
+    /// A worker that does not count among those at work leaves a firing that was drawn since its last look: whoever posted it comes
     /// to it soon as a rule, and has in its processor's memory what it is about. Taken over at once, each costs more than it takes.
-    fn idle<'a, R: Wait, G: Gate>(&mut self, rt: &R, run: &Run<'a>, gate: &G, pause: &Pause) -> bool
+    fn idle<'a, R: Wait, G: Gate>(
+        &mut self,
+        rt: &R,
+        run: &Run<'a>,
+        gate: &G,
+        pause: &Pause,
+        at_work: &mut Option<AtWork<'a>>,
+    ) -> bool
         requires run { IsOneRun run.now.space.now run.now.code.now run.now.limits.now }
         requires worker { IsFit run.now.space.now self.old.worker }
         requires idle { self.old.worker.task ≡ None }
@@ -216,7 +243,7 @@ impl Player {
         ensures sane { result ≡ true → self.new.failed ≡ false }
         ensures stops { result ≡ false → HasPlayed run.now.space.now self.new }
         ensures looked { result ≡ true → HasLooked run.now.space.now self.old self.new }
-        ensures counts { result ≡ true → self.new.counted ≡ is_some self.new.worker.task }
+        ensures counts { result ≡ true → is_some at_work.new ≡ is_some self.new.worker.task }
     {
         // Read before the look: what is posted later is posted by a worker that is at work now, or by one of those whose work
         // this look finds.
@@ -226,18 +253,18 @@ impl Player {
             self.misses = 0;
         }
         let from = self.place;
-        self.look(run, gate, self.counted || working == 0);
+        let counted = at_work.is_some();
+        self.look(run, gate, at_work, counted || working == 0);
         if self.worker.has_task() {
             return self.found(pause);
         }
-        if self.counted {
-            self.counted = false;
-            run.shared.end();
+        if counted {
+            *at_work = None;
             return true;
         }
         // Where nobody is at work, what the near look did not find is looked for among all numbers, before the worker goes.
         if working == 0 {
-            self.look_far(run, gate, from);
+            self.look_far(run, gate, at_work, from);
             if !self.worker.has_task() {
                 return false;
             }
@@ -256,14 +283,17 @@ impl Player {
         run: &Run<'a>,
         gate: &G,
         pause: &Pause,
+        at_work: &mut Option<AtWork<'a>>,
     ) -> bool
         requires run { IsOneRun run.now.space.now run.now.code.now run.now.limits.now }
         requires may { MayPlay run.now.space.now self.old }
         requires sane { self.old.failed ≡ false }
+        requires counts { CountsIfItPlays at_work.old self.old.worker }
         ensures may { MayPlay run.now.space.now self.new }
         ensures on { PlaysOn self.old self.new }
         ensures sane { result ≡ true → self.new.failed ≡ false }
         ensures stops { result ≡ false → HasPlayed run.now.space.now self.new }
+        ensures counts { result ≡ true → CountsIfItPlays at_work.new self.new.worker }
         ensures went { result ≡ true → HadARound run.now.space.now self.old self.new }
     {
         if self.worker.has_task() {
@@ -276,7 +306,7 @@ impl Player {
             self.failed = true;
             return false;
         }
-        self.idle(rt, run, gate, pause)
+        self.idle(rt, run, gate, pause, at_work)
     }
 
     /// Many rounds. Whether the worker goes on.
@@ -290,14 +320,17 @@ impl Player {
         run: &Run<'a>,
         gate: &G,
         pause: &Pause,
+        at_work: &mut Option<AtWork<'a>>,
     ) -> bool
         requires run { IsOneRun run.now.space.now run.now.code.now run.now.limits.now }
         requires may { MayPlay run.now.space.now self.old }
         requires sane { self.old.failed ≡ false }
+        requires counts { CountsIfItPlays at_work.old self.old.worker }
         ensures may { MayPlay run.now.space.now self.new }
         ensures on { PlaysOn self.old self.new }
         ensures sane { result ≡ true → self.new.failed ≡ false }
         ensures stops { result ≡ false → HasPlayed run.now.space.now self.new }
+        ensures counts { result ≡ true → CountsIfItPlays at_work.new self.new.worker }
         ensures went { result ≡ true → (before : ThePlayer) × HadARound run.now.space.now before self.new }
     {
         if run.shared.has_stopped() {
@@ -305,7 +338,7 @@ impl Player {
             return false;
         }
         for _round in 0..ROUNDS {
-            if !self.round(rt, alloc, run, gate, pause) {
+            if !self.round(rt, alloc, run, gate, pause, at_work) {
                 return false;
             }
         }
@@ -320,22 +353,20 @@ pub(crate) fn work<'a, R: Wait, G: Gate>(
     alloc: Global,
     run: &Run<'a>,
     player: Player,
+    at_work: Option<AtWork<'a>>,
     gate: &G,
 ) -> Player
     requires run { IsOneRun run.now.space.now run.now.code.now run.now.limits.now }
     requires may { MayPlay run.now.space.now player }
+    requires counts { CountsIfItPlays at_work player.worker }
     ensures played { HasPlayed run.now.space.now result }
     ensures on { PlaysOn player result }
 {
-    let mut player = player;
+    let (mut player, mut at_work) = (player, at_work);
     let pause = Pause::new();
     for _ in rt.forever() {
-        if player.failed {
-            return player;
-        }
-        if !player.rounds(rt, alloc, run, gate, &pause) {
-            run.shared.end_if(player.counted);
-            run.shared.leave();
+        if player.failed || !player.rounds(rt, alloc, run, gate, &pause, &mut at_work) {
+            run.shared.leave(at_work);
             return player;
         }
     }

@@ -71,7 +71,6 @@ fn play_together<'a, R: Threads + Wait + Sync, G: Gate + Sync>(
         place: 0,
         known: 0,
         misses: 0,
-        counted: true,
     };
     let (main, others) = share(rt, alloc, run, main, others, gate);
     let last = taken_in(run.space, main, others)?;

@@ -1,19 +1,38 @@
-//! What the workers of a run tell one another. No clause rests on it.
+//! What the workers of a run tell one another.
+ghost use Rattle.std.specs.Prelude.{◌≡◌, true, is_some};
+
 use std::sync::Wait;
 use std::sync::atomic::{AtomicU64, Ordering};
 use std::time::Duration;
 
+/// What a worker holds for as long as it counts among those at work: while it finds one firing after the other.
+///
+/// `Shared` alone makes it, nothing copies it, and where it is dropped the worker counts no more: so the number of those at work is
+/// the number of workers that hold one, whatever they do.
+pub(crate) struct AtWork<'a> {
+    shared: &'a Shared,
+}
+
+impl Drop for AtWork<'_> {
+    /// Whoever sleeps is not woken, even if this was the last worker: those that sleep look again by themselves, and a wake-up is a
+    /// call of the system.
+    fn drop(self) {
+        let AtWork { shared } = self;
+        shared.working.fetch_sub(1, Ordering::SeqCst);
+    }
+}
+
 /// Who is at work, and whether all are to stop.
 #[derive(Drop)]
 pub(crate) struct Shared {
-    // How many workers play, or have just played and look for more. That of `Main` counts from the beginning.
+    // How many workers play, or have just played and look for more.
     working: AtomicU64,
     // 1 from want of memory on.
     stopped: AtomicU64,
 }
 
 impl Shared {
-    /// One worker is at work.
+    /// The worker of `Main` is at work, before any of them begins: where nobody is, they go.
     pub(crate) fn new() -> Shared {
         Shared {
             working: AtomicU64::new(1),
@@ -33,28 +52,24 @@ impl Shared {
             .park_timeout(rt, seen, Duration::from_micros(micros));
     }
 
-    /// One worker more is at work, if this one did not count.
-    pub(crate) fn begin_if(&self, is_new: bool) {
-        if is_new {
+    /// What the worker of `Main` holds, for which `new` counted. It is asked for once, at that worker's thread.
+    pub(crate) fn main_at_work<'a>(&'a self) -> AtWork<'a> {
+        AtWork { shared: self }
+    }
+
+    /// A worker is at work from here on, if it was not.
+    pub(crate) fn begin_if_idle<'a>(&'a self, at_work: &mut Option<AtWork<'a>>)
+        ensures counts { is_some at_work.new ≡ true }
+    {
+        if at_work.is_none() {
             self.working.fetch_add(1, Ordering::SeqCst);
+            *at_work = Some(AtWork { shared: self });
         }
     }
 
-    /// A worker is at work no more, since it found no firing to play. Whoever sleeps is not woken, even if this was the last one: those that sleep look again
-    /// by themselves, and a wake-up is a call of the system.
-    pub(crate) fn end(&self) {
-        self.working.fetch_sub(1, Ordering::SeqCst);
-    }
-
-    /// The same, if it counted.
-    pub(crate) fn end_if(&self, counted: bool) {
-        if counted {
-            self.end();
-        }
-    }
-
-    /// A worker goes for good: those that sleep are to look once more, and go too.
-    pub(crate) fn leave(&self) {
+    /// A worker goes for good, and is at work no more: those that sleep are to look once more, and go too.
+    pub(crate) fn leave<'a>(&'a self, at_work: Option<AtWork<'a>>) {
+        drop(at_work);
         self.working.wake_all();
     }
 

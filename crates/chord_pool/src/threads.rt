@@ -1,7 +1,7 @@
 //! The workers of a run go to threads of their own, and come back.
 ghost use Rattle.std.specs.Prelude.{◌≡◌, ◌<◌, ◌≤◌, ◌++◌, ◌∷◌, [], IfSome, IfNone, option_to_list, length, vec_capacity};
 ghost use Rattle.std.specs.Thread.{IsSync};
-ghost use Rattle.chord_pool.specs.Players.{IsOneRun, MayPlay, HasPlayed, PlaysOn, MayAllPlay, HaveAllPlayed};
+ghost use Rattle.chord_pool.specs.Players.{IsOneRun, MayPlay, HasPlayed, PlaysOn, IsHired, AreHired, HaveAllPlayed};
 
 use crate::player::{Player, work};
 use crate::run::Run;
@@ -12,8 +12,8 @@ use std::thread::{Threads, join};
 
 /// The last of them.
 fn last<'a>(run: &Run<'a>, players: &mut Vec<Player>) -> Option<Player>
-    requires may { MayAllPlay run.now.space.now players.old.items }
-    ensures may { IfSome result (λ one. MayPlay run.now.space.now one × MayAllPlay run.now.space.now players.new.items) }
+    requires hired { AreHired run.now.space.now players.old.items }
+    ensures hired { IfSome result (λ one. IsHired run.now.space.now one × AreHired run.now.space.now players.new.items) }
     ensures items { players.old.items ≡ players.new.items ++ option_to_list result }
     ensures none { IfNone result (HaveAllPlayed run.now.space.now players.new.items) }
     ensures fewer { IfSome result (λ _. length players.new.items < length players.old.items) }
@@ -45,7 +45,7 @@ fn all<'a, R: Threads + Wait + Sync, G: Gate + Sync>(
     gate: &G,
 ) -> Vec<Player>
     requires run { IsOneRun run.now.space.now run.now.code.now run.now.limits.now }
-    requires may { MayAllPlay run.now.space.now players.items }
+    requires hired { AreHired run.now.space.now players.items }
     ensures played { HaveAllPlayed run.now.space.now result.items }
     ensures count { length result.items ≡ length players.items }
     ensures room { vec_capacity players ≤ vec_capacity result }
@@ -58,7 +58,7 @@ fn all<'a, R: Threads + Wait + Sync, G: Gate + Sync>(
     let (one, others) = join(
         rt,
         move || -> Player
-            requires { IsOneRun space.now code.now limits.now × MayPlay space.now one }
+            requires { IsOneRun space.now code.now limits.now × IsHired space.now one }
             ensures { HasPlayed space.entry.now result }
         {
             work(
@@ -71,11 +71,12 @@ fn all<'a, R: Threads + Wait + Sync, G: Gate + Sync>(
                     shared,
                 },
                 one,
+                None,
                 gate,
             )
         },
         move || -> Vec<Player>
-            requires { IsSync R.row × IsOneRun space.now code.now limits.now × MayAllPlay space.now players.items }
+            requires { IsSync R.row × IsOneRun space.now code.now limits.now × AreHired space.now players.items }
             ensures { HaveAllPlayed space.entry.now result.items × (length result.items ≡ length players.items) × (vec_capacity players ≤ vec_capacity result) }
         {
             all(
@@ -106,7 +107,7 @@ pub(crate) fn share<'a, R: Threads + Wait + Sync, G: Gate + Sync>(
 ) -> (Player, Vec<Player>)
     requires run { IsOneRun run.now.space.now run.now.code.now run.now.limits.now }
     requires main { MayPlay run.now.space.now main }
-    requires others { MayAllPlay run.now.space.now others.items }
+    requires others { AreHired run.now.space.now others.items }
     ensures main { HasPlayed run.now.space.now result.0 × PlaysOn main result.0 }
     ensures told { G.knows 0 }
     ensures others { HaveAllPlayed run.now.space.now result.1.items × (length result.1.items ≡ length others.items) }
@@ -129,11 +130,12 @@ pub(crate) fn share<'a, R: Threads + Wait + Sync, G: Gate + Sync>(
                     shared,
                 },
                 main,
+                Some(shared.main_at_work()),
                 gate,
             )
         },
         move || -> Vec<Player>
-            requires { IsSync R.row × IsOneRun space.now code.now limits.now × MayAllPlay space.now others.items }
+            requires { IsSync R.row × IsOneRun space.now code.now limits.now × AreHired space.now others.items }
             ensures { HaveAllPlayed space.entry.now result.items × (length result.items ≡ length others.items) }
         {
             all(

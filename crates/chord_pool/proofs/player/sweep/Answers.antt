@@ -12,4 +12,5 @@ loop-i-preserved g c =
       role_stays (view c.args.worker.now.desk) (view c.loop-i.worker.desk) (view c.try_start.new.worker.desk) was.2 now.role,
       saw_it.count ∙ was.3,
       unready_more c.args.from c.loop-i.i (view c.loop-i.worker.desk) (view c.try_start.new.worker.desk) was.4 saw_it,
+      now.as_before refl ∙ was.5,
     )

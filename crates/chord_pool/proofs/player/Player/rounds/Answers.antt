@@ -9,8 +9,9 @@ loop-round-preserved g c =
       now.may,
       (λ sane. role_stays (view c.args.self.now.worker.desk) (view c.loop-round.self.worker.desk) (view c.round.new.self.worker.desk) (was.1 was.2) (now.on sane)),
       now.sane refl,
+      now.counts refl,
       (λ _. (c.loop-round.self, now.went refl)),
     )
 
 pub returns-clause-went : goal.returns-clause-went
-returns-clause-went g c = λ _. c.loop-round.invariant.3 (omega arith)
+returns-clause-went g c = λ _. c.loop-round.invariant.4 (omega arith)
