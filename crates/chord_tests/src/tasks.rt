@@ -1,8 +1,9 @@
 //! A task of a small code, on its happy path.
 #![tactic(auto)]
 
-ghost use Rattle.std.specs.Prelude.{◌≡◌, [], ◌∷◌, pos, IfOk};
+ghost use Rattle.std.specs.Prelude.{◌≡◌, true, [], ◌∷◌, pos, IfOk};
 ghost use Rattle.chord_code.specs.declared.instruction.Instruction.TheVariants as instr;
+ghost use Rattle.chord_task.specs.Standing.{MainBegins, IsTaskOf, is_ready_of};
 
 use chord_base::event::{Entry, Limits};
 use chord_code::code::Code;
@@ -12,7 +13,7 @@ use chord_code::parts::{Block, Parts};
 use chord_code::valid::valid;
 use chord_task::task::Task;
 use chord_vm::ask::Ask;
-use std::alloc::Global;
+use std::alloc::{AllocError, Global};
 use std::test::Fail;
 
 /// Of a run of that code.
@@ -54,40 +55,63 @@ fn printed(ask: Ask) -> Option<usize> {
     }
 }
 
-/// Whether the task of `Main` is ready at its beginning, how many bytes it prints first, and whether it is over then. What it drew goes into the list.
-fn first_of_main(
+/// Whether a task is ready, how many bytes it prints next, and whether it is over then.
+fn first_ask(
     alloc: Global,
-    list: &mut Vec<Entry>,
-) -> Result<(bool, Option<usize>, bool), Fail> {
-    let code = seven(alloc)?;
-    let mut task = Task::main(alloc, &code, &LIMITS, list)?;
+    code: &Code,
+    task: &mut Task,
+) -> Result<(bool, Option<usize>, bool), AllocError>
+    requires task { IsTaskOf code.now (record { events = 9; turns = 9; depth = 9 }) task.old }
+    requires ready { is_ready_of task.old ≡ true }
+{
     let is_ready = task.is_ready();
-    let first = task.ask(alloc, &code, &LIMITS)?;
+    let first = task.ask(alloc, code, &LIMITS)?;
     Ok((is_ready, printed(first), task.over()))
 }
 
+/// The same of the task of `Main`. What it drew goes into the list.
+fn first_of_main(
+    alloc: Global,
+    code: &Code,
+    list: &mut Vec<Entry>,
+) -> Result<(bool, Option<usize>, bool), AllocError>
+    requires { MainBegins code.now (record { events = 9; turns = 9; depth = 9 }) }
+{
+    let mut task = Task::main(alloc, code, &LIMITS, list)?;
+    first_ask(alloc, code, &mut task)
+}
+
 /// Whether a spare task is over.
-fn spare_is_over(alloc: Global) -> Result<bool, Fail> {
-    let code = seven(alloc)?;
-    let spare = Task::spare(alloc, &code, &LIMITS)?;
+fn spare_is_over(alloc: Global, code: &Code) -> Result<bool, AllocError> {
+    let spare = Task::spare(alloc, code, &LIMITS)?;
     Ok(spare.over())
 }
 
-/// The same as `first_of_main`, and how many entries it drew.
-fn drawn_by_main(alloc: Global) -> Result<(bool, Option<usize>, bool, usize), Fail> {
+/// What `first_of_main` says of the code that prints 7, and whether a spare task for it is over.
+fn told_of_seven(
+    alloc: Global,
+    list: &mut Vec<Entry>,
+) -> Result<(bool, Option<usize>, bool, bool), Fail> {
+    let code = seven(alloc)?;
+    let (is_ready, length, is_over) = first_of_main(alloc, &code, list)?;
+    let spare = spare_is_over(alloc, &code)?;
+    Ok((is_ready, length, is_over, spare))
+}
+
+/// The same, and how many entries the task of `Main` drew.
+fn drawn_by_seven(alloc: Global) -> Result<(bool, Option<usize>, bool, bool, usize), Fail> {
     let mut list = Vec::new(alloc);
-    let (is_ready, length, is_over) = first_of_main(alloc, &mut list)?;
-    Ok((is_ready, length, is_over, list.len()))
+    let (is_ready, length, is_over, spare) = told_of_seven(alloc, &mut list)?;
+    Ok((is_ready, length, is_over, spare, list.len()))
 }
 
 #[test]
 fn main_prints(rt: HostRuntime) -> Result<(), Fail> {
-    let (is_ready, length, is_over, drawn) = drawn_by_main(rt.alloc())?;
+    let (is_ready, length, is_over, spare, drawn) = drawn_by_seven(rt.alloc())?;
     assert!(rt; is_ready);
     assert_eq!(rt; length, Some(1));
     assert!(rt; !is_over);
-    assert_eq!(rt; drawn, 1);
-    let spare = spare_is_over(rt.alloc())?;
     assert!(rt; spare);
+    assert_eq!(rt; drawn, 1);
     Ok(())
 }
