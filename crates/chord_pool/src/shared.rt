@@ -7,8 +7,8 @@ use std::time::Duration;
 
 /// What a worker holds for as long as it counts among those at work: while it finds one firing after the other.
 ///
-/// `Shared` alone makes it, nothing copies it, and where it is dropped the worker counts no more: so the number of those at work is
-/// the number of workers that hold one, whatever they do.
+/// `Shared` alone makes it, nothing copies it, and where it is dropped the worker counts no more. So the number of those at work is
+/// the number of workers that hold one, as long as none forgets its own and `main_at_work` is asked once.
 pub(crate) struct AtWork<'a> {
     shared: &'a Shared,
 }

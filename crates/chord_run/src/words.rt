@@ -20,12 +20,6 @@ pub enum WordsFault {
     Refused,
 }
 
-impl From<AllocError> for WordsFault {
-    fn from(_error: AllocError) -> WordsFault {
-        WordsFault::Memory
-    }
-}
-
 /// What was given on the command line.
 pub fn matches_among<'a>(
     alloc: Global,

@@ -1,4 +1,4 @@
-use Rattle.std.proofs.Common.{ℕ, ◌+◌, false, true, ap, ◌∙◌}
+use Rattle.std.proofs.Common.{ℕ, ◌+◌, false, ap, ◌∙◌}
 use Rattle.chord_pool.proofs.Crews.{come_back}
 use Rattle.chord_pool.proofs.pool.play_together.Goals as goal
 
