@@ -27,11 +27,10 @@ use Rattle.chord_task.specs.contracts.parcel.Parcel as Parcel
 use Rattle.chord_task.specs.contracts.parcel.ParcelCarry.TheImpl as carry
 use Rattle.chord_task.proofs.Crossing.{entry_sent, task_sent, parcel_sent}
 use Rattle.chord_pool.specs.contracts.player.Player as Player
-use Rattle.chord_pool.specs.contracts.shared.Shared as Shared
 
 -- a player may
 pub player_sent : IsSend Player.the_row
-player_sent = search (the_send, parcel_sent, task_sent, entry_sent, sendable, crosses) depth 60 fits 20000
+player_sent = search (lease.the_send, lease.the_sync, table.the_send, table.the_sync, the_send, parcel_sent, task_sent, entry_sent, sendable, crosses) depth 60 fits 20000
 
 -- threads may share a text
 text_shared : IsSync Text.the_row
@@ -69,10 +68,6 @@ limits_shared = search (sendable, crosses) depth 60 fits 20000
 space_shared : IsSync (Space.the_row Parcel.the_row carry.ghosts)
 space_shared = search (parcel_sent, lease.the_sync, table.the_sync, sendable, crosses) depth 60 fits 20000
 
--- what the workers tell one another
-told_shared : IsSync Shared.the_row
-told_shared = search (sendable, crosses) depth 60 fits 20000
-
 -- what is moved there as a part of more
 moved : (R : RattleType) → IsSend R → IsSend (as_row (row_field R))
 moved R s = as_row_send (row_field R) s
@@ -82,13 +77,13 @@ lent : (ℓ : Lifetime) (κ : Lft) (R : RattleType) → IsSync R → IsSend (as_
 lent ℓ κ R s = as_row_send (row_field (ShrRef ℓ κ R)) (shr_send ℓ κ R s)
 
 -- what goes to a thread with the first player
-pub main_goes : (gate runtime : RattleType) (name : List ℕ) (a b c d e f : Lifetime) (i j k l m n : Lft) → IsSync gate → IsSync runtime → IsSend (TupleAt name (ShrRef a i gate ∷ ShrRef b j runtime ∷ Heap.the_row ∷ ShrRef c k (Space.the_row Parcel.the_row carry.ghosts) ∷ ShrRef d l Code.the_row ∷ ShrRef e m Limits.the_row ∷ ShrRef f n Shared.the_row ∷ Player.the_row ∷ []))
-main_goes gate runtime name a b c d e f i j k l m n told runs =
-    declared_send (type_at name (ShrRef a i gate ∷ ShrRef b j runtime ∷ Heap.the_row ∷ ShrRef c k (Space.the_row Parcel.the_row carry.ghosts) ∷ ShrRef d l Code.the_row ∷ ShrRef e m Limits.the_row ∷ ShrRef f n Shared.the_row ∷ Player.the_row ∷ []))
-    (lent a i gate told, (lent b j runtime runs, (moved Heap.the_row send, (lent c k (Space.the_row Parcel.the_row carry.ghosts) space_shared, (lent d l Code.the_row code_shared, (lent e m Limits.the_row limits_shared, (lent f n Shared.the_row told_shared, (moved Player.the_row player_sent, tt))))))))
+pub main_goes : (gate runtime : RattleType) (name : List ℕ) (a b c d e : Lifetime) (i j k l m : Lft) → IsSync gate → IsSync runtime → IsSend (TupleAt name (ShrRef a i gate ∷ ShrRef c k (Space.the_row Parcel.the_row carry.ghosts) ∷ ShrRef d l Code.the_row ∷ ShrRef e m Limits.the_row ∷ ShrRef b j runtime ∷ Heap.the_row ∷ Player.the_row ∷ []))
+main_goes gate runtime name a b c d e i j k l m told runs =
+    declared_send (type_at name (ShrRef a i gate ∷ ShrRef c k (Space.the_row Parcel.the_row carry.ghosts) ∷ ShrRef d l Code.the_row ∷ ShrRef e m Limits.the_row ∷ ShrRef b j runtime ∷ Heap.the_row ∷ Player.the_row ∷ []))
+    (lent a i gate told, (lent c k (Space.the_row Parcel.the_row carry.ghosts) space_shared, (lent d l Code.the_row code_shared, (lent e m Limits.the_row limits_shared, (lent b j runtime runs, (moved Heap.the_row send, (moved Player.the_row player_sent, tt)))))))
 
 -- and with another one
-pub one_goes : (gate runtime : RattleType) (name : List ℕ) (a b c d e f : Lifetime) (i j k l m n : Lft) → IsSync gate → IsSync runtime → IsSend (TupleAt name (ShrRef a i runtime ∷ Heap.the_row ∷ ShrRef c k (Space.the_row Parcel.the_row carry.ghosts) ∷ ShrRef d l Code.the_row ∷ ShrRef e m Limits.the_row ∷ ShrRef f n Shared.the_row ∷ Player.the_row ∷ ShrRef b j gate ∷ []))
-one_goes gate runtime name a b c d e f i j k l m n told runs =
-    declared_send (type_at name (ShrRef a i runtime ∷ Heap.the_row ∷ ShrRef c k (Space.the_row Parcel.the_row carry.ghosts) ∷ ShrRef d l Code.the_row ∷ ShrRef e m Limits.the_row ∷ ShrRef f n Shared.the_row ∷ Player.the_row ∷ ShrRef b j gate ∷ []))
-    (lent a i runtime runs, (moved Heap.the_row send, (lent c k (Space.the_row Parcel.the_row carry.ghosts) space_shared, (lent d l Code.the_row code_shared, (lent e m Limits.the_row limits_shared, (lent f n Shared.the_row told_shared, (moved Player.the_row player_sent, (lent b j gate told, tt))))))))
+pub one_goes : (gate runtime : RattleType) (name : List ℕ) (a b c d e : Lifetime) (i j k l m : Lft) → IsSync gate → IsSync runtime → IsSend (TupleAt name (ShrRef c k (Space.the_row Parcel.the_row carry.ghosts) ∷ ShrRef d l Code.the_row ∷ ShrRef e m Limits.the_row ∷ ShrRef a i runtime ∷ Heap.the_row ∷ Player.the_row ∷ ShrRef b j gate ∷ []))
+one_goes gate runtime name a b c d e i j k l m told runs =
+    declared_send (type_at name (ShrRef c k (Space.the_row Parcel.the_row carry.ghosts) ∷ ShrRef d l Code.the_row ∷ ShrRef e m Limits.the_row ∷ ShrRef a i runtime ∷ Heap.the_row ∷ Player.the_row ∷ ShrRef b j gate ∷ []))
+    (lent c k (Space.the_row Parcel.the_row carry.ghosts) space_shared, (lent d l Code.the_row code_shared, (lent e m Limits.the_row limits_shared, (lent a i runtime runs, (moved Heap.the_row send, (moved Player.the_row player_sent, (lent b j gate told, tt)))))))

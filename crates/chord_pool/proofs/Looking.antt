@@ -23,14 +23,24 @@ seen_once v w i x look unready = record {
   others = λ k y apart was. subst (LastSeen k y) (sym look.seen) (inr (apart, was));
 }
 
--- a look at a cell that was ready, and at the next one no longer
-pub seen_twice : (v u w : View) (i : ℕ) (x : Word) (c : Cell) (next : Option ℕ) → IsSeen v u i x → w ≡ saw u i (a_word c next) → c ≢ Ready → SawUnready v w i
-seen_twice v u w i x c next look again unready = record {
+-- a firing that was ready no longer, as its cell told
+pub refused_once : (v w : View) (i : ℕ) (c : Cell) (next : Option ℕ) → w ≡ saw v i (a_word c next) → c ≢ Ready → SawUnready v w i
+refused_once v w i c next told unready = record {
   word = a_word c next;
-  last = subst (λ (z : View). LastSeen i (a_word c next) z.looked.seen) (sym again) (inl (refl, refl));
+  last = subst (λ (z : View). LastSeen i (a_word c next) z.looked.seen) (sym told) (inl (refl, refl));
   unready = unready;
-  count = ap (λ (z : View). z.looked.count) again ∙ look.count;
-  others = λ k y apart was. subst (λ (z : View). LastSeen k y z.looked.seen) (sym again) (inr (apart, subst (LastSeen k y) (sym look.seen) (inr (apart, was))));
+  count = ap (λ (z : View). z.looked.count) told;
+  others = λ k y apart was. subst (λ (z : View). LastSeen k y z.looked.seen) (sym told) (inr (apart, was));
+}
+
+-- a look at a cell, and one more at which it was not ready
+pub seen_twice : (v u w : View) (i : ℕ) (x : Word) → IsSeen v u i x → SawUnready u w i → SawUnready v w i
+seen_twice v u w i x look again = record {
+  word = again.word;
+  last = again.last;
+  unready = again.unready;
+  count = again.count ∙ look.count;
+  others = λ k y apart was. again.others k y apart (subst (LastSeen k y) (sym look.seen) (inr (apart, was)));
 }
 
 -- one more cell that was not ready

@@ -1,11 +1,14 @@
 -- Workers of one run: which of them may draw, which have nothing to play, and how they are handed to threads and come back.
-use Rattle.std.specs.Prelude.{◌≡◌, ◌≢◌, ◌⊎◌, ◌<◌, ◌≤◌, ℕ, false, true, List, [], ◌∷◌, length, min, Option, Some, None, is_some}
+use Rattle.std.specs.Prelude.{◌≡◌, ◌≢◌, ◌⊎◌, ◌<◌, ◌≤◌, ℕ, false, true, List, [], ◌∷◌, length, min, Some, None, All}
+use Rattle.atomic_table.specs.Seated.{TableId}
 use Rattle.chord_base.specs.declared.event.Limits.{Limits}
 use Rattle.chord_base.specs.Story.{IsSound}
 use Rattle.chord_code.specs.declared.parts.Parts.{Parts}
 use Rattle.chord_rule.specs.declared.view.Look.{Look}
 use Rattle.chord_rule.specs.declared.view.View.{View}
 use Rattle.chord_rule.specs.Ways.{LastSeen}
+use Rattle.chord_roll.specs.declared.card.Card.{Card}
+use Rattle.chord_roll.specs.Cards.{counts, hired, last_read, stops, roll_of, IsFirstCard, IsSameCard}
 use Rattle.chord_space.specs.declared.space.Space.{Space}
 use Rattle.chord_space.specs.Desks.{view, space_code, space_limits, program_of}
 use Rattle.chord_task.specs.declared.parcel.Opened.{Opened as Parcel}
@@ -16,7 +19,6 @@ use Rattle.chord_worker.specs.declared.worker.Worker.{Worker}
 use Rattle.chord_worker.specs.Resting.{IsAtRest, IsSameRole}
 use Rattle.chord_worker.specs.Stepping.{HasGoneOn}
 use Rattle.chord_pool.specs.declared.player.Player.{Player}
-use Rattle.chord_pool.specs.declared.shared.AtWork.{AtWork}
 
 -- the code and the limits are those of the space, and its runs are those of a sound program
 pub record IsOneRun (s : Space Parcel) (code : Parts) (limits : Limits) : Type 0 where
@@ -39,9 +41,13 @@ pub record HasStopped (s : Space Parcel) (w : Worker) : Type 0 where
   pub rest : IsAtRest s w
   pub task : w.task ≡ None
 
--- a worker that plays a task counts among those at work
-abbrev pub CountsIfItPlays : Option AtWork → Worker → Type 0
-CountsIfItPlays at_work w = w.task ≢ None → is_some at_work ≡ true
+-- a player that failed has told all to stop, or was told that they are to
+abbrev pub TellsIfItFails : Player → Type 0
+TellsIfItFails x = x.failed ≡ true → stops x.card ≡ true
+
+-- a player that plays a task counts among those at work
+abbrev pub CountsIfItPlays : Player → Type 0
+CountsIfItPlays x = x.worker.task ≢ None → counts x.card ≡ true
 
 -- each cell from `from` up to below `to` was last seen in another state than ready
 abbrev pub AreUnready : ℕ → ℕ → List Look → Type 0
@@ -57,9 +63,9 @@ pub record FoundNoneBelow (s : Space Parcel) (from below : ℕ) (v : View) : Typ
 abbrev pub FoundNone : Space Parcel → ℕ → View → Type 0
 FoundNone s from v = FoundNoneBelow s from s.events v
 
--- a worker may stop where it was told that the limit is reached, or found no firing to start
-abbrev pub MayStop : Space Parcel → Worker → Type 0
-MayStop s w = ((view w.desk).spent ≡ true) ⊎ FoundNone s 0 (view w.desk)
+-- a player may stop where it was told that the limit is reached, or found no firing to start and read that nobody is at work
+abbrev pub MayStop : Space Parcel → Player → Type 0
+MayStop s x = ((view x.worker.desk).spent ≡ true) ⊎ (FoundNone s 0 (view x.worker.desk) × (last_read x.card ≡ Some 0))
 
 -- between these views the cell i was seen, last in another state than ready, and no other cell and no counter
 pub record SawUnready (v w : View) (i : ℕ) : Type 0 where
@@ -75,7 +81,7 @@ MayPlay s x = x.failed ≡ false → IsSettled s x.worker
 
 -- a player that has not failed has nothing to play, and may stop
 abbrev pub HasPlayed : Space Parcel → Player → Type 0
-HasPlayed s x = x.failed ≡ false → HasStopped s x.worker × MayStop s x.worker
+HasPlayed s x = x.failed ≡ false → HasStopped s x.worker × MayStop s x
 
 -- the player knows how many numbers the counter said were given
 abbrev pub KnowsCount : Space Parcel → Player → Type 0
@@ -90,13 +96,13 @@ pub record HadARound (s : Space Parcel) (x y : Player) : Type 0 where
   pub went : (t : Task) → x.worker.task ≡ Some t → HasGoneOn (view x.worker.desk).kept t y.worker
   pub looked : x.worker.task ≡ None → HasLooked s x y
 
--- it plays at the same desk, unless it fails
+-- it has the same card, and plays at the same desk unless it fails
 abbrev pub PlaysOn : Player → Player → Type 0
-PlaysOn x y = y.failed ≡ false → IsSameRole (view x.worker.desk) (view y.worker.desk)
+PlaysOn x y = IsSameCard x.card y.card × (y.failed ≡ false → IsSameRole (view x.worker.desk) (view y.worker.desk))
 
 -- a player that was hired may go on, and has nothing to play yet
 abbrev pub IsHired : Space Parcel → Player → Type 0
-IsHired s x = MayPlay s x × (x.worker.task ≡ None)
+IsHired s x = MayPlay s x × (x.worker.task ≡ None) × (x.failed ≡ false)
 
 -- each of these was hired
 abbrev pub AreHired : Space Parcel → List Player → Type 0
@@ -107,6 +113,16 @@ AreHired s (x ∷ xs) = IsHired s x × AreHired s xs
 abbrev pub HaveAllPlayed : Space Parcel → List Player → Type 0
 HaveAllPlayed s [] = Unit {0}
 HaveAllPlayed s (x ∷ xs) = HasPlayed s x × HaveAllPlayed s xs
+
+-- the cards of these players are of this roll
+abbrev pub AreOfRoll : TableId → List Player → Type 0
+AreOfRoll r xs = All (λ x. roll_of x.card ≡ r) xs
+
+-- the first card of a roll, and those of others, which were all made from it
+pub record AreCards (main : Card) (others : List Player) : Type 0 where
+  pub first : IsFirstCard main
+  pub count : hired main ≡ length others
+  pub all : AreOfRoll (roll_of main) others
 
 -- the first worker, which may go on, and the others that it has hired
 pub record IsCrew (s : Space Parcel) (main : Worker) (others : List Player) : Type 0 where

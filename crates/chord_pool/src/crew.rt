@@ -2,7 +2,7 @@
 ghost use Rattle.std.specs.Prelude.{◌≡◌, ◌+◌, ◌<◌, ◌≤◌, [], ◌∷◌, List, IfOk, length};
 ghost use Rattle.chord_pool.specs.declared.player.Player.{Player as ThePlayer};
 ghost use Rattle.chord_space.specs.Desks.{view};
-ghost use Rattle.chord_pool.specs.Players.{IsCrew, IsBack};
+ghost use Rattle.chord_pool.specs.Players.{IsCrew, AreCards, IsBack};
 
 use crate::player::Player;
 use chord_space::Space;
@@ -10,24 +10,22 @@ use chord_task::parcel::Parcel;
 use chord_worker::Worker;
 use std::alloc::{AllocError, Global};
 
-/// One more worker, with a desk of its own.
+/// One more worker, with a desk and a card of its own.
 fn hire_one(
     alloc: Global,
     space: &Space<Parcel>,
-    main: &mut Worker,
+    main: &mut Player,
     others: &mut Vec<Player>,
 ) -> Result<(), AllocError>
-    requires crew { IsCrew space.now main.old others.old.items × ((view main.old.desk).splits ≡ length others.old.items) × (length others.old.items < 65535) }
-    ensures crew { IfOk result (λ _. IsCrew space.now main.new others.new.items × ((view main.new.desk).splits ≡ length others.new.items) × (length others.new.items ≡ length others.old.items + 1)) }
+    requires crew { IsCrew space.now main.old.worker others.old.items × ((view main.old.worker.desk).splits ≡ length others.old.items) × (length others.old.items < 65535) }
+    requires cards { AreCards main.old.card others.old.items }
+    ensures same { main.new.failed ≡ main.old.failed }
+    ensures crew { IfOk result (λ _. IsCrew space.now main.new.worker others.new.items × ((view main.new.worker.desk).splits ≡ length others.new.items) × (length others.new.items ≡ length others.old.items + 1)) }
+    ensures cards { IfOk result (λ _. AreCards main.new.card others.new.items) }
 {
-    let worker = main.hired(alloc, space);
-    others.push(Player {
-        worker,
-        failed: false,
-        place: 0,
-        known: 0,
-        misses: 0,
-    })?;
+    let card = main.card.hire()?;
+    let worker = main.worker.hired(alloc, space);
+    others.push(Player::new(worker, card))?;
     Ok(())
 }
 
@@ -35,13 +33,16 @@ fn hire_one(
 pub(crate) fn hire(
     alloc: Global,
     space: &Space<Parcel>,
-    main: &mut Worker,
+    main: &mut Player,
     workers: u32,
 ) -> Result<Vec<Player>, AllocError>
-    requires crew { IsCrew space.now main.old [] × ((view main.old.desk).splits ≡ 0) }
+    requires crew { IsCrew space.now main.old.worker [] × ((view main.old.worker.desk).splits ≡ 0) }
+    requires card { AreCards main.old.card [] }
     requires few { (1 ≤ workers) × (workers ≤ 64) }
-    ensures crew { IfOk result (λ others. IsCrew space.now main.new others.items) }
-    ensures count { IfOk result (λ others. ((view main.new.desk).splits ≡ length others.items) × (length others.items + 1 ≡ workers)) }
+    ensures same { main.new.failed ≡ main.old.failed }
+    ensures crew { IfOk result (λ others. IsCrew space.now main.new.worker others.items) }
+    ensures cards { IfOk result (λ others. AreCards main.new.card others.items) }
+    ensures count { IfOk result (λ others. ((view main.new.worker.desk).splits ≡ length others.items) × (length others.items + 1 ≡ workers)) }
 {
     let mut others = Vec::new(alloc);
     for _ in 1..workers {

@@ -1,5 +1,5 @@
 //! How an idle worker waits: it spins, then yields, then sleeps, a little longer each time. No clause rests on it.
-use crate::shared::Shared;
+use chord_roll::Card;
 use crossbeam_utils::Backoff;
 use std::cell::Cell;
 use std::sync::Wait;
@@ -31,14 +31,14 @@ impl Pause {
         self.naps.set(0);
     }
 
-    /// Waits a little, while so many workers have a task.
-    pub(crate) fn rest<R: Wait>(&self, rt: &R, shared: &Shared, working: u64) {
+    /// Waits a little, while so many workers are at work.
+    pub(crate) fn rest<R: Wait>(&self, rt: &R, card: &Card, working: u64) {
         if !self.backoff.is_completed() {
             self.backoff.snooze();
             return;
         }
         let naps = self.naps.get().min(LONGER_NAPS);
-        shared.sleep(rt, working, FIRST_NAP_MICROS << naps);
+        card.sleep(rt, working, FIRST_NAP_MICROS << naps);
         self.naps.set(naps + 1);
     }
 }

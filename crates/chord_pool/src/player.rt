@@ -1,15 +1,16 @@
 //! A worker at its thread: it plays what it has, and looks for more.
 ghost use Rattle.std.specs.Prelude.{◌≡◌, ◌≢◌, ◌<◌, ◌≤◌, true, false, None, Some, is_some, IfNone};
+ghost use Rattle.chord_roll.specs.Cards.{counts, stops, HasReadNothing, IsSameCard};
 ghost use Rattle.chord_pool.specs.declared.player.Player.{Player as ThePlayer};
 ghost use Rattle.chord_space.specs.Desks.{view};
 ghost use Rattle.chord_task.specs.declared.task.Task.{Task as TheTask};
 ghost use Rattle.chord_worker.specs.Resting.{IsSameRole};
 ghost use Rattle.chord_worker.specs.Stepping.{HasGoneOn};
-ghost use Rattle.chord_pool.specs.Players.{IsOneRun, IsFit, AreUnready, FoundNoneBelow, FoundNone, SawUnready, KnowsCount, HasLooked, HadARound, MayPlay, HasPlayed, PlaysOn, CountsIfItPlays};
+ghost use Rattle.chord_pool.specs.Players.{IsOneRun, IsFit, AreUnready, FoundNoneBelow, FoundNone, SawUnready, KnowsCount, HasLooked, HadARound, MayPlay, HasPlayed, PlaysOn, CountsIfItPlays, TellsIfItFails};
 
 use crate::pause::Pause;
 use crate::run::Run;
-use crate::shared::AtWork;
+use chord_roll::Card;
 use chord_word::Cell;
 use chord_worker::{Gate, Worker};
 use std::alloc::Global;
@@ -19,6 +20,8 @@ use std::sync::Wait;
 #[derive(Drop)]
 pub(crate) struct Player {
     pub worker: Worker,
+    /// Whether it is at work, and how many are.
+    pub card: Card,
     /// It met want of memory, or was told that another one did.
     pub failed: bool,
     /// The number from which it goes on to look for a firing.
@@ -36,14 +39,36 @@ const FAR_LOOK: u32 = 32;
 /// How many rounds a worker plays for one turn of the loop without end.
 const ROUNDS: u32 = 1024;
 
-/// Looks at the cell of number i, and starts its firing where it is ready. Whether it plays it now. A worker is at work before it starts
-/// one, so that nobody finds neither the firing nor anybody at work.
+/// Starts the firing of number i where it is ready still, by a worker that counts among those at work: so nobody finds neither the firing
+/// nor anybody at work. Whether it plays it now.
+fn start_at_work<'a, G: Gate>(
+    run: &Run<'a>,
+    worker: &mut Worker,
+    i: u32,
+    gate: &G,
+    card: &Card,
+) -> bool
+    requires run { IsOneRun run.now.space.now run.now.code.now run.now.limits.now }
+    requires worker { IsFit run.now.space.now worker.old }
+    requires idle { worker.old.task ≡ None }
+    requires bounds { i < run.now.space.now.events }
+    requires counts { counts card.now ≡ true }
+    ensures worker { IsFit run.now.space.now worker.new }
+    ensures role { IsSameRole (view worker.old.desk) (view worker.new.desk) }
+    ensures task { result ≡ is_some worker.new.task }
+    ensures refused { result ≡ false → SawUnready (view worker.old.desk) (view worker.new.desk) i }
+{
+    let _ = card.is_at_work();
+    worker.start(run.space, run.code, run.limits, i, gate)
+}
+
+/// Looks at the cell of number i, and starts its firing where it is ready. Whether it plays it now.
 fn try_start<'a, G: Gate>(
     run: &Run<'a>,
     worker: &mut Worker,
     i: u32,
     gate: &G,
-    at_work: &mut Option<AtWork<'a>>,
+    card: &mut Card,
 ) -> bool
     requires run { IsOneRun run.now.space.now run.now.code.now run.now.limits.now }
     requires worker { IsFit run.now.space.now worker.old }
@@ -52,17 +77,18 @@ fn try_start<'a, G: Gate>(
     ensures worker { IsFit run.now.space.now worker.new }
     ensures role { IsSameRole (view worker.old.desk) (view worker.new.desk) }
     ensures task { result ≡ is_some worker.new.task }
-    ensures counts { result ≡ true → is_some at_work.new ≡ true }
-    ensures as_before { result ≡ false → is_some at_work.new ≡ is_some at_work.old }
+    ensures card { HasReadNothing card.old card.new }
+    ensures counts { result ≡ true → counts card.new ≡ true }
+    ensures as_before { result ≡ false → counts card.new ≡ counts card.old }
     ensures seen { result ≡ false → SawUnready (view worker.old.desk) (view worker.new.desk) i }
 {
     match worker.look(run.space, i) {
         Cell::Ready => {
-            let was_at_work = at_work.is_some();
-            run.shared.begin_if_idle(at_work);
-            let started = worker.start(run.space, run.code, run.limits, i, gate);
+            let was_at_work = card.is_at_work();
+            card.begin();
+            let started = start_at_work(run, worker, i, gate, card);
             if !started && !was_at_work {
-                *at_work = None;
+                card.end();
             }
             started
         }
@@ -77,7 +103,7 @@ fn sweep<'a, G: Gate>(
     from: u32,
     below: u32,
     gate: &G,
-    at_work: &mut Option<AtWork<'a>>,
+    card: &mut Card,
 ) -> Option<u32>
     requires run { IsOneRun run.now.space.now run.now.code.now run.now.limits.now }
     requires worker { IsFit run.now.space.now worker.old }
@@ -86,13 +112,14 @@ fn sweep<'a, G: Gate>(
     ensures worker { IsFit run.now.space.now worker.new }
     ensures role { IsSameRole (view worker.old.desk) (view worker.new.desk) }
     ensures task { is_some result ≡ is_some worker.new.task }
-    ensures counts { is_some result ≡ true → is_some at_work.new ≡ true }
-    ensures as_before { IfNone result (is_some at_work.new ≡ is_some at_work.old) }
+    ensures card { HasReadNothing card.old card.new }
+    ensures counts { is_some result ≡ true → counts card.new ≡ true }
+    ensures as_before { IfNone result (counts card.new ≡ counts card.old) }
     ensures count { IfNone result ((view worker.new.desk).looked.count ≡ (view worker.old.desk).looked.count) }
     ensures seen { IfNone result (AreUnready from below (view worker.new.desk).looked.seen) }
 {
     for i in from..below {
-        if try_start(run, worker, i, gate, at_work) {
+        if try_start(run, worker, i, gate, card) {
             return Some(i);
         }
     }
@@ -106,7 +133,7 @@ fn find_work<'a, G: Gate>(
     place: u32,
     below: u32,
     gate: &G,
-    at_work: &mut Option<AtWork<'a>>,
+    card: &mut Card,
 ) -> u32
     requires run { IsOneRun run.now.space.now run.now.code.now run.now.limits.now }
     requires worker { IsFit run.now.space.now worker.old }
@@ -114,18 +141,33 @@ fn find_work<'a, G: Gate>(
     requires bounds { below ≤ run.now.space.now.events }
     ensures worker { IsFit run.now.space.now worker.new }
     ensures role { IsSameRole (view worker.old.desk) (view worker.new.desk) }
-    ensures counts { worker.new.task ≢ None → is_some at_work.new ≡ true }
-    ensures as_before { worker.new.task ≡ None → is_some at_work.new ≡ is_some at_work.old }
+    ensures card { HasReadNothing card.old card.new }
+    ensures counts { worker.new.task ≢ None → counts card.new ≡ true }
+    ensures as_before { worker.new.task ≡ None → counts card.new ≡ counts card.old }
     ensures count { worker.new.task ≡ None → (view worker.new.desk).looked.count ≡ (view worker.old.desk).looked.count }
     ensures seen { worker.new.task ≡ None → AreUnready place below (view worker.new.desk).looked.seen }
 {
-    match sweep(run, worker, place, below, gate, at_work) {
+    match sweep(run, worker, place, below, gate, card) {
         Some(i) => i,
         None => below.saturating_sub(NEAR),
     }
 }
 
 impl Player {
+    /// One that has not played yet.
+    pub(crate) fn new(worker: Worker, card: Card) -> Player
+        ensures { (result.worker ≡ worker) × (result.card ≡ card) × (result.failed ≡ false) }
+    {
+        Player {
+            worker,
+            card,
+            failed: false,
+            place: 0,
+            known: 0,
+            misses: 0,
+        }
+    }
+
     /// One step of the task. Whether the worker goes on.
     fn advance<'a, R: Wait, G: Gate>(
         &mut self,
@@ -140,8 +182,10 @@ impl Player {
         requires sane { self.old.failed ≡ false }
         ensures may { MayPlay run.now.space.now self.new }
         ensures on { PlaysOn self.old self.new }
+        ensures card { counts self.new.card ≡ counts self.old.card }
         ensures sane { result ≡ true → self.new.failed ≡ false }
         ensures failed { result ≡ false → self.new.failed ≡ true }
+        ensures told { TellsIfItFails self.new }
         ensures went { result ≡ true → (t : TheTask) → self.old.worker.task ≡ Some t → HasGoneOn (view self.old.worker.desk).kept t self.new.worker }
     {
         match self
@@ -151,7 +195,7 @@ impl Player {
             Ok(()) => true,
             Err(_) => {
                 self.failed = true;
-                run.shared.stop();
+                self.card.stop();
                 false
             }
         }
@@ -159,7 +203,7 @@ impl Player {
 
     /// The worker has found a firing to play, and goes on.
     fn found(&mut self, pause: &Pause) -> bool
-        ensures same { (self.new.worker ≡ self.old.worker) × (self.new.failed ≡ self.old.failed) × (self.new.place ≡ self.old.place) }
+        ensures same { (self.new.worker ≡ self.old.worker) × (self.new.failed ≡ self.old.failed) × (self.new.place ≡ self.old.place) × (self.new.card ≡ self.old.card) }
         ensures misses { self.new.misses ≡ 0 }
         ensures on { result ≡ true }
     {
@@ -169,21 +213,16 @@ impl Player {
     }
 
     /// Looks for a firing from its place on: among all numbers, or else among those that it knew of before.
-    fn look<'a, G: Gate>(
-        &mut self,
-        run: &Run<'a>,
-        gate: &G,
-        at_work: &mut Option<AtWork<'a>>,
-        among_all: bool,
-    )
+    fn look<'a, G: Gate>(&mut self, run: &Run<'a>, gate: &G, among_all: bool)
         requires run { IsOneRun run.now.space.now run.now.code.now run.now.limits.now }
         requires worker { IsFit run.now.space.now self.old.worker }
         requires idle { self.old.worker.task ≡ None }
         ensures worker { IsFit run.now.space.now self.new.worker }
         ensures role { IsSameRole (view self.old.worker.desk) (view self.new.worker.desk) }
         ensures same { (self.new.failed ≡ self.old.failed) × (self.new.misses ≡ self.old.misses) }
-        ensures counts { self.new.worker.task ≢ None → is_some at_work.new ≡ true }
-        ensures as_before { self.new.worker.task ≡ None → is_some at_work.new ≡ is_some at_work.old }
+        ensures card { HasReadNothing self.old.card self.new.card }
+        ensures counts { self.new.worker.task ≢ None → counts self.new.card ≡ true }
+        ensures as_before { self.new.worker.task ≡ None → counts self.new.card ≡ counts self.old.card }
         ensures all { among_all ≡ true → self.new.worker.task ≡ None → FoundNone run.now.space.now self.old.place (view self.new.worker.desk) }
         ensures knew { self.new.worker.task ≡ None → FoundNoneBelow run.now.space.now self.old.place self.old.known (view self.new.worker.desk) }
         ensures knows { self.new.worker.task ≡ None → KnowsCount run.now.space.now self.new }
@@ -195,17 +234,18 @@ impl Player {
             self.known.min(count)
         };
         self.known = count;
-        self.place = find_work(run, &mut self.worker, self.place, below, gate, at_work);
+        self.place = find_work(
+            run,
+            &mut self.worker,
+            self.place,
+            below,
+            gate,
+            &mut self.card,
+        );
     }
 
     /// Looks for a firing among all numbers, unless the look before, which found none, began at the first.
-    fn look_far<'a, G: Gate>(
-        &mut self,
-        run: &Run<'a>,
-        gate: &G,
-        at_work: &mut Option<AtWork<'a>>,
-        from: u32,
-    )
+    fn look_far<'a, G: Gate>(&mut self, run: &Run<'a>, gate: &G, from: u32)
         requires run { IsOneRun run.now.space.now run.now.code.now run.now.limits.now }
         requires worker { IsFit run.now.space.now self.old.worker }
         requires idle { self.old.worker.task ≡ None }
@@ -213,12 +253,13 @@ impl Player {
         ensures worker { IsFit run.now.space.now self.new.worker }
         ensures role { IsSameRole (view self.old.worker.desk) (view self.new.worker.desk) }
         ensures same { self.new.failed ≡ self.old.failed }
-        ensures counts { self.new.worker.task ≢ None → is_some at_work.new ≡ true }
+        ensures card { HasReadNothing self.old.card self.new.card }
+        ensures counts { self.new.worker.task ≢ None → counts self.new.card ≡ true }
         ensures none { self.new.worker.task ≡ None → FoundNone run.now.space.now 0 (view self.new.worker.desk) }
     {
         if from > 0 {
             self.place = 0;
-            self.look(run, gate, at_work, true);
+            self.look(run, gate, true);
         }
     }
 
@@ -226,53 +267,56 @@ impl Player {
     ///
     /// A worker that does not count among those at work leaves a firing that was drawn since its last look: whoever posted it comes
     /// to it soon as a rule, and has in its processor's memory what it is about. Taken over at once, each costs more than it takes.
-    fn idle<'a, R: Wait, G: Gate>(
-        &mut self,
-        rt: &R,
-        run: &Run<'a>,
-        gate: &G,
-        pause: &Pause,
-        at_work: &mut Option<AtWork<'a>>,
-    ) -> bool
+    fn idle<'a, R: Wait, G: Gate>(&mut self, rt: &R, run: &Run<'a>, gate: &G, pause: &Pause) -> bool
         requires run { IsOneRun run.now.space.now run.now.code.now run.now.limits.now }
         requires worker { IsFit run.now.space.now self.old.worker }
         requires idle { self.old.worker.task ≡ None }
         requires sane { self.old.failed ≡ false }
         ensures may { MayPlay run.now.space.now self.new }
         ensures on { PlaysOn self.old self.new }
-        ensures sane { result ≡ true → self.new.failed ≡ false }
+        ensures sane { self.new.failed ≡ false }
         ensures stops { result ≡ false → HasPlayed run.now.space.now self.new }
         ensures looked { result ≡ true → HasLooked run.now.space.now self.old self.new }
-        ensures counts { result ≡ true → is_some at_work.new ≡ is_some self.new.worker.task }
+        ensures counts { result ≡ true → counts self.new.card ≡ is_some self.new.worker.task }
     {
         // Read before the look: what is posted later is posted by a worker that is at work now, or by one of those whose work
         // this look finds.
-        let working = run.shared.working();
+        let working = self.card.read();
         if self.misses == FAR_LOOK {
             self.place = 0;
             self.misses = 0;
         }
         let from = self.place;
-        let counted = at_work.is_some();
-        self.look(run, gate, at_work, counted || working == 0);
+        let counted = self.card.is_at_work();
+        self.look(run, gate, counted || working == 0);
         if self.worker.has_task() {
             return self.found(pause);
         }
         if counted {
-            *at_work = None;
+            self.card.end();
             return true;
         }
         // Where nobody is at work, what the near look did not find is looked for among all numbers, before the worker goes.
         if working == 0 {
-            self.look_far(run, gate, at_work, from);
+            self.look_far(run, gate, from);
             if !self.worker.has_task() {
                 return false;
             }
             return self.found(pause);
         }
         self.misses = self.misses.saturating_add(1);
-        pause.rest(rt, run.shared, working);
+        pause.rest(rt, &self.card, working);
         true
+    }
+
+    /// The worker goes for good, and is at work no more: those that sleep are to look once more, and go too.
+    fn leave(&mut self)
+        ensures same { (self.new.worker ≡ self.old.worker) × (self.new.failed ≡ self.old.failed) }
+        ensures card { HasReadNothing self.old.card self.new.card × (stops self.new.card ≡ stops self.old.card) }
+        ensures counts { counts self.new.card ≡ false }
+    {
+        self.card.end();
+        self.card.wake_all();
     }
 
     /// One round: a step of the task, or a look for another. Whether the worker goes on.
@@ -283,17 +327,17 @@ impl Player {
         run: &Run<'a>,
         gate: &G,
         pause: &Pause,
-        at_work: &mut Option<AtWork<'a>>,
     ) -> bool
         requires run { IsOneRun run.now.space.now run.now.code.now run.now.limits.now }
         requires may { MayPlay run.now.space.now self.old }
         requires sane { self.old.failed ≡ false }
-        requires counts { CountsIfItPlays at_work.old self.old.worker }
+        requires counts { CountsIfItPlays self.old }
         ensures may { MayPlay run.now.space.now self.new }
         ensures on { PlaysOn self.old self.new }
         ensures sane { result ≡ true → self.new.failed ≡ false }
         ensures stops { result ≡ false → HasPlayed run.now.space.now self.new }
-        ensures counts { result ≡ true → CountsIfItPlays at_work.new self.new.worker }
+        ensures told { TellsIfItFails self.new }
+        ensures counts { result ≡ true → CountsIfItPlays self.new }
         ensures went { result ≡ true → HadARound run.now.space.now self.old self.new }
     {
         if self.worker.has_task() {
@@ -302,11 +346,11 @@ impl Player {
         if self.worker.is_spent() {
             return false;
         }
-        if run.shared.has_stopped() {
+        if self.card.has_stopped() {
             self.failed = true;
             return false;
         }
-        self.idle(rt, run, gate, pause, at_work)
+        self.idle(rt, run, gate, pause)
     }
 
     /// Many rounds. Whether the worker goes on.
@@ -320,25 +364,25 @@ impl Player {
         run: &Run<'a>,
         gate: &G,
         pause: &Pause,
-        at_work: &mut Option<AtWork<'a>>,
     ) -> bool
         requires run { IsOneRun run.now.space.now run.now.code.now run.now.limits.now }
         requires may { MayPlay run.now.space.now self.old }
         requires sane { self.old.failed ≡ false }
-        requires counts { CountsIfItPlays at_work.old self.old.worker }
+        requires counts { CountsIfItPlays self.old }
         ensures may { MayPlay run.now.space.now self.new }
         ensures on { PlaysOn self.old self.new }
         ensures sane { result ≡ true → self.new.failed ≡ false }
         ensures stops { result ≡ false → HasPlayed run.now.space.now self.new }
-        ensures counts { result ≡ true → CountsIfItPlays at_work.new self.new.worker }
+        ensures told { TellsIfItFails self.new }
+        ensures counts { result ≡ true → CountsIfItPlays self.new }
         ensures went { result ≡ true → (before : ThePlayer) × HadARound run.now.space.now before self.new }
     {
-        if run.shared.has_stopped() {
+        if self.card.has_stopped() {
             self.failed = true;
             return false;
         }
         for _round in 0..ROUNDS {
-            if !self.round(rt, alloc, run, gate, pause, at_work) {
+            if !self.round(rt, alloc, run, gate, pause) {
                 return false;
             }
         }
@@ -346,27 +390,29 @@ impl Player {
     }
 }
 
-/// A worker plays until the run is full, or one of the workers met want of memory, or it finds no firing to start among all numbers
-/// and nobody is at work. Of the last no clause says that nobody is.
+/// A worker plays until the run is full, or one of the workers met want of memory, or it finds no firing to start among all numbers,
+/// and has read that nobody is at work.
 pub(crate) fn work<'a, R: Wait, G: Gate>(
     rt: &R,
     alloc: Global,
     run: &Run<'a>,
     player: Player,
-    at_work: Option<AtWork<'a>>,
     gate: &G,
 ) -> Player
     requires run { IsOneRun run.now.space.now run.now.code.now run.now.limits.now }
     requires may { MayPlay run.now.space.now player }
-    requires counts { CountsIfItPlays at_work player.worker }
+    requires sane { player.failed ≡ false }
+    requires counts { CountsIfItPlays player }
     ensures played { HasPlayed run.now.space.now result }
     ensures on { PlaysOn player result }
+    ensures told { TellsIfItFails result }
+    ensures left { counts result.card ≡ false }
 {
-    let (mut player, mut at_work) = (player, at_work);
+    let mut player = player;
     let pause = Pause::new();
     for _ in rt.forever() {
-        if player.failed || !player.rounds(rt, alloc, run, gate, &pause, &mut at_work) {
-            run.shared.leave(at_work);
+        if !player.rounds(rt, alloc, run, gate, &pause) {
+            player.leave();
             return player;
         }
     }

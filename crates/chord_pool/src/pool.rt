@@ -16,11 +16,11 @@ use crate::crew::{hire, take_all};
 use crate::ending::play_alone;
 use crate::player::Player;
 use crate::run::Run;
-use crate::shared::Shared;
 use crate::threads::share;
 use chord_base::event::Limits;
 use chord_base::journal::Journal;
 use chord_code::code::Code;
+use chord_roll::Card;
 use chord_space::{Closed, Desk, Space};
 use chord_task::parcel::Parcel;
 use chord_worker::{Gate, Worker};
@@ -63,15 +63,10 @@ fn play_together<'a, R: Threads + Wait + Sync, G: Gate + Sync>(
     ensures crew { IfOk result (λ last. (view last.desk).splits + 1 ≡ workers) }
     ensures told { IfOk result (λ _. G.knows 0) }
 {
-    let mut main = main;
+    let mut main = Player::new(main, Card::first(alloc)?);
     let others = hire(alloc, run.space, &mut main, workers)?;
-    let main = Player {
-        worker: main,
-        failed: false,
-        place: 0,
-        known: 0,
-        misses: 0,
-    };
+    // Before any of the others begins: where nobody is at work, they go.
+    main.card.begin();
     let (main, others) = share(rt, alloc, run, main, others, gate);
     let last = taken_in(run.space, main, others)?;
     Ok(last)
@@ -104,8 +99,9 @@ fn play_all<'a, R: Threads + Wait + Sync, G: Gate + Sync>(
 ///
 /// `limits.events` is 1 to 65,536, `limits.depth` 1 to 256, `workers` 1 to 64. A journal of fewer entries is complete. The table
 /// drew as many entries as the journal has, and each entry that the desk that closed it kept stands in the journal. That desk is
-/// the first one, and each other worker had a desk that was split from it. `gate.started` is called once for each body, on the
-/// worker that begins to play it; the clauses say so of `Main`. It is not promised that the call returns.
+/// the first one, and each other worker had a desk that was split from it. `gate.started` is called for each body by the worker that
+/// begins to play it; that the gate knows of `Main` is a clause, and that it is told once is tested. It is not promised that the call
+/// returns.
 ///
 /// # Errors
 ///
@@ -131,12 +127,10 @@ pub fn play<R: Threads + Wait + Sync, G: Gate + Sync>(
     ensures told { IfOk result (λ _. G.knows 0) }
 {
     let (space, desk) = Space::make(alloc, code, limits)?;
-    let shared = Shared::new();
     let run = Run {
         space: &space,
         code,
         limits,
-        shared: &shared,
     };
     let last = play_all(rt, alloc, &run, desk, workers, gate)?;
     let (desk, entries) = last.into_parts(&space)?;

@@ -1,7 +1,8 @@
 //! The workers of a run go to threads of their own, and come back.
-ghost use Rattle.std.specs.Prelude.{◌≡◌, ◌<◌, ◌≤◌, ◌++◌, ◌∷◌, [], IfSome, IfNone, option_to_list, length, vec_capacity};
+ghost use Rattle.std.specs.Prelude.{◌≡◌, ◌<◌, false, ◌≤◌, ◌++◌, ◌∷◌, [], IfSome, IfNone, option_to_list, length, vec_capacity};
 ghost use Rattle.std.specs.Thread.{IsSync};
-ghost use Rattle.chord_pool.specs.Players.{IsOneRun, MayPlay, HasPlayed, PlaysOn, IsHired, AreHired, HaveAllPlayed};
+ghost use Rattle.chord_roll.specs.Cards.{roll_of};
+ghost use Rattle.chord_pool.specs.Players.{IsOneRun, MayPlay, HasPlayed, PlaysOn, CountsIfItPlays, AreOfRoll, IsHired, AreHired, HaveAllPlayed};
 
 use crate::player::{Player, work};
 use crate::run::Run;
@@ -54,43 +55,30 @@ fn all<'a, R: Threads + Wait + Sync, G: Gate + Sync>(
     let Some(one) = last(run, &mut players) else {
         return players;
     };
-    let (space, code, limits, shared) = (run.space, run.code, run.limits, run.shared);
+    let (space, code, limits) = (run.space, run.code, run.limits);
     let (one, others) = join(
         rt,
         move || -> Player
             requires { IsOneRun space.now code.now limits.now × IsHired space.now one }
             ensures { HasPlayed space.entry.now result }
         {
-            work(
-                rt,
-                alloc,
-                &Run {
-                    space,
-                    code,
-                    limits,
-                    shared,
-                },
-                one,
-                None,
-                gate,
-            )
+            let run = Run {
+                space,
+                code,
+                limits,
+            };
+            work(rt, alloc, &run, one, gate)
         },
         move || -> Vec<Player>
             requires { IsSync R.row × IsOneRun space.now code.now limits.now × AreHired space.now players.items }
             ensures { HaveAllPlayed space.entry.now result.items × (length result.items ≡ length players.items) × (vec_capacity players ≤ vec_capacity result) }
         {
-            all(
-                rt,
-                alloc,
-                &Run {
-                    space,
-                    code,
-                    limits,
-                    shared,
-                },
-                players,
-                gate,
-            )
+            let run = Run {
+                space,
+                code,
+                limits,
+            };
+            all(rt, alloc, &run, players, gate)
         },
     );
     back(others, one)
@@ -106,50 +94,38 @@ pub(crate) fn share<'a, R: Threads + Wait + Sync, G: Gate + Sync>(
     gate: &G,
 ) -> (Player, Vec<Player>)
     requires run { IsOneRun run.now.space.now run.now.code.now run.now.limits.now }
-    requires main { MayPlay run.now.space.now main }
+    requires main { MayPlay run.now.space.now main × CountsIfItPlays main × (main.failed ≡ false) }
+    requires cards { AreOfRoll (roll_of main.card) others.items }
     requires others { AreHired run.now.space.now others.items }
     ensures main { HasPlayed run.now.space.now result.0 × PlaysOn main result.0 }
     ensures told { G.knows 0 }
     ensures others { HaveAllPlayed run.now.space.now result.1.items × (length result.1.items ≡ length others.items) }
 {
-    let (space, code, limits, shared) = (run.space, run.code, run.limits, run.shared);
+    let (space, code, limits) = (run.space, run.code, run.limits);
     join(
         rt,
         move || -> Player
-            requires { IsOneRun space.now code.now limits.now × MayPlay space.now main }
+            requires { IsOneRun space.now code.now limits.now × MayPlay space.now main × CountsIfItPlays main × (main.failed ≡ false) }
             ensures { HasPlayed space.entry.now result × PlaysOn main result × G.knows 0 }
         {
             gate.started(0);
-            work(
-                rt,
-                alloc,
-                &Run {
-                    space,
-                    code,
-                    limits,
-                    shared,
-                },
-                main,
-                Some(shared.main_at_work()),
-                gate,
-            )
+            let run = Run {
+                space,
+                code,
+                limits,
+            };
+            work(rt, alloc, &run, main, gate)
         },
         move || -> Vec<Player>
             requires { IsSync R.row × IsOneRun space.now code.now limits.now × AreHired space.now others.items }
             ensures { HaveAllPlayed space.entry.now result.items × (length result.items ≡ length others.items) }
         {
-            all(
-                rt,
-                alloc,
-                &Run {
-                    space,
-                    code,
-                    limits,
-                    shared,
-                },
-                others,
-                gate,
-            )
+            let run = Run {
+                space,
+                code,
+                limits,
+            };
+            all(rt, alloc, &run, others, gate)
         },
     )
 }

@@ -1,9 +1,11 @@
 //! The tests of public calls that stand apart from their crates: a check of a crate's tests proves its library once more.
-//! Stands on: chord_bag, chord_base, chord_classes, chord_code, chord_io, chord_journal, chord_lexer, chord_match, chord_rule, chord_space, chord_task, chord_tree, chord_vm, chord_word. Used by: nobody.
-//! Promise: nothing but its tests; each module tests the crate that its first line names.
+//! Stands on: chord_bag, chord_base, chord_classes, chord_code, chord_io, chord_journal, chord_lexer, chord_match, chord_roll, chord_rule, chord_space, chord_task, chord_tree, chord_vm, chord_word. Used by: nobody.
+//! Promise: nothing but its tests; the first line of each module says what it tests.
 //! Not here: tests of calls that are private to their crate, which stand there, and those of whole sources (chord_run).
 #![tactic(auto)]
 
+#[cfg(test)]
+mod cards;
 #[cfg(test)]
 mod classes;
 #[cfg(test)]

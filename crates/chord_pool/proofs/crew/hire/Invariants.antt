@@ -1,8 +1,8 @@
 -- The crew so far, with as many others as the counter says.
 use Rattle.std.proofs.Common.{◌≡◌, ◌+◌, ◌≤◌, length}
 use Rattle.chord_space.specs.Desks.{view}
-use Rattle.chord_pool.specs.Players.{IsCrew}
+use Rattle.chord_pool.specs.Players.{IsCrew, AreCards}
 use Rattle.chord_pool.proofs.crew.hire.Given as goal
 
 abbrev pub invariant-loop : goal.invariant-loop
-invariant-loop l = IsCrew l.space l.main l.others.items × ((view l.main.desk).splits ≡ length l.others.items) × (length l.others.items + 1 ≡ l.counter) × (l.counter ≤ l.workers) × (l.workers ≤ 64)
+invariant-loop l = IsCrew l.space l.main.worker l.others.items × AreCards l.main.card l.others.items × ((view l.main.worker.desk).splits ≡ length l.others.items) × (length l.others.items + 1 ≡ l.counter) × (l.counter ≤ l.workers) × (l.workers ≤ 64) × (l.main.failed ≡ l.fn.main.failed)

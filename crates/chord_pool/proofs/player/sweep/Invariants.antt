@@ -1,5 +1,6 @@
--- The worker has found nothing so far: each cell up to here was not ready, and it counts among those at work if it did.
-use Rattle.std.proofs.Common.{◌≡◌, None, is_some}
+-- The worker has found nothing so far: each cell up to here was not ready, and it counts among those at work if it did, on the card that it had.
+use Rattle.std.proofs.Common.{◌≡◌, None}
+use Rattle.chord_roll.specs.Cards.{counts, HasReadNothing}
 use Rattle.chord_space.specs.Desks.{view}
 use Rattle.chord_worker.specs.Resting.{IsSameRole}
 use Rattle.chord_pool.specs.Players.{IsFit, AreUnready}
@@ -9,4 +10,4 @@ abbrev pub invariant-loop-i : goal.invariant-loop-i
 invariant-loop-i g l =
     IsFit l.run.space.now l.worker × (l.worker.task ≡ None) × IsSameRole (view l.fn.worker.desk) (view l.worker.desk)
     × ((view l.worker.desk).looked.count ≡ (view l.fn.worker.desk).looked.count) × AreUnready l.from l.i (view l.worker.desk).looked.seen
-    × (is_some l.at_work ≡ is_some l.fn.at_work)
+    × (counts l.card ≡ counts l.fn.card) × HasReadNothing l.fn.card l.card

@@ -5,11 +5,9 @@ use Rattle.chord_pool.proofs.player.try_start.Goals as goal
 pub returns-else-not-started-clause-seen : goal.returns-else-not-started-clause-seen
 returns-else-not-started-clause-seen g c = λ e.
     let look = c.look.ensures.seen in
-    let refused = c.start-started.ensures.refused e in
-    seen_twice (view c.args.worker.now.desk) (view c.look.new.self.desk) (view c.start-started.new.self.desk) c.args.i look.0 refused.0 refused.1 look.2 refused.3 refused.2
+    seen_twice (view c.args.worker.now.desk) (view c.look.new.self.desk) (view c.start_at_work-started.new.worker.desk) c.args.i look.0 look.2 (c.start_at_work-started.ensures.refused e)
 
 pub returns-then-not-was_at_work-clause-seen : goal.returns-then-not-was_at_work-clause-seen
 returns-then-not-was_at_work-clause-seen g c = λ e.
     let look = c.look.ensures.seen in
-    let refused = c.start-started.ensures.refused e in
-    seen_twice (view c.args.worker.now.desk) (view c.look.new.self.desk) (view c.start-started.new.self.desk) c.args.i look.0 refused.0 refused.1 look.2 refused.3 refused.2
+    seen_twice (view c.args.worker.now.desk) (view c.look.new.self.desk) (view c.start_at_work-started.new.worker.desk) c.args.i look.0 look.2 (c.start_at_work-started.ensures.refused e)

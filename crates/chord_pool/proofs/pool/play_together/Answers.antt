@@ -1,4 +1,4 @@
-use Rattle.std.proofs.Common.{ℕ, ◌+◌, false, ap, ◌∙◌}
+use Rattle.std.proofs.Common.{ℕ, ◌+◌, ap, ◌∙◌}
 use Rattle.chord_pool.proofs.Crews.{come_back}
 use Rattle.chord_pool.proofs.pool.play_together.Goals as goal
 
@@ -6,11 +6,11 @@ pub taken_in-requires : goal.taken_in-requires
 taken_in-requires g c =
     let back = c.share-main.ensures in
     record {
-      back = come_back c.args.run.now.space.now (record { worker = c.hire.new.main; failed = false; place = 0; known = 0; misses = 0 }) c.share-main.result.0 c.in_ok-others.others.items c.share-main.result.1.items c.in_ok-others.ensures.crew back.main.0 back.main.1 back.others.0 back.others.1;
+      back = come_back c.args.run.now.space.now (record { worker = c.hire.new.main.worker; card = c.begin.new.self; failed = c.hire.new.main.failed; place = c.hire.new.main.place; known = c.hire.new.main.known; misses = c.hire.new.main.misses }) c.share-main.result.0 c.in_ok-others.others.items c.share-main.result.1.items c.in_ok-others.ensures.crew back.main.0 back.main.1 back.others.0 back.others.1;
     }
 
 pub returns-clause-crew : goal.returns-clause-crew
 returns-clause-crew g c =
     let hired = c.in_ok-others.ensures.count in
-    let role = c.share-main.ensures.main.1 c.in_ok-last.ensures.sane in
+    let role = c.share-main.ensures.main.1.1 c.in_ok-last.ensures.sane in
     ap (λ (n : ℕ). n + 1) (c.in_ok-last.ensures.splits ∙ role.splits ∙ hired.0) ∙ hired.1

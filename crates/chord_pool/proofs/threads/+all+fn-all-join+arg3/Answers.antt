@@ -25,7 +25,7 @@ pub returns-clause-room : goal.returns-clause-room
 returns-clause-room g t c = let others = c.join-one.ensures.second.2 in let room = c.back.ensures.room in let same = c.in-Some.ensures.room in omega (arith, others, room, same)
 
 pub join-one-requires-send-F : goal.join-one-requires-send-F
-join-one-requires-send-F g t c κs within = param_send 1 (lts.arg-1-1 g.row.R g.row.G g.R.laws g.G.laws g.R.Threads-dict g.R.Wait-dict g.G.Gate-dict κs) (arg_send _ no _ (one_goes (param 1 g.row.G) (param 0 g.row.R) _ _ _ _ _ _ _ _ _ _ _ _ _ (search param_sync) (search param_sync)))
+join-one-requires-send-F g t c κs within = param_send 1 (lts.arg-1-1 g.row.R g.row.G g.R.laws g.G.laws g.R.Threads-dict g.R.Wait-dict g.G.Gate-dict κs) (arg_send _ no _ (one_goes (param 1 g.row.G) (param 0 g.row.R) _ _ _ _ _ _ _ _ _ _ _ (search param_sync) (search param_sync)))
 
 pub join-one-requires-send-A : goal.join-one-requires-send-A
 join-one-requires-send-A g t c κs within = search (player_sent, sendable, crosses) depth 60 fits 20000

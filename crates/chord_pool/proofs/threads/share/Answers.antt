@@ -14,7 +14,7 @@ pub returns-clause-others : goal.returns-clause-others
 returns-clause-others g c = c.join.ensures.second
 
 pub join-requires-send-F : goal.join-requires-send-F
-join-requires-send-F g c κs within = param_send 1 _ (arg_send _ yes _ (main_goes _ _ _ _ _ _ _ _ _ _ _ _ _ _ _ c.type_bounds.sync-G c.type_bounds.sync-R))
+join-requires-send-F g c κs within = param_send 1 _ (arg_send _ yes _ (main_goes _ _ _ _ _ _ _ _ _ _ _ _ _ c.type_bounds.sync-G c.type_bounds.sync-R))
 
 pub join-requires-send-A : goal.join-requires-send-A
 join-requires-send-A g c κs within = search (player_sent, sendable, crosses) depth 60 fits 20000

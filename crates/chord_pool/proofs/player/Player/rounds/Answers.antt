@@ -1,4 +1,4 @@
-use Rattle.std.proofs.Common.{arith, refl}
+use Rattle.std.proofs.Common.{arith, refl, ◌∙◌}
 use Rattle.chord_space.specs.Desks.{view}
 use Rattle.chord_pool.proofs.Endings.{role_stays}
 use Rattle.chord_pool.proofs.player.Player.rounds.Goals as goal
@@ -7,7 +7,7 @@ pub loop-round-preserved : goal.loop-round-preserved
 loop-round-preserved g c =
     let was = c.loop-round.invariant in let now = c.if-not-round.ensures in (
       now.may,
-      (λ sane. role_stays (view c.args.self.now.worker.desk) (view c.loop-round.self.worker.desk) (view c.round.new.self.worker.desk) (was.1 was.2) (now.on sane)),
+      ((now.on.0.0 ∙ was.1.0.0, now.on.0.1 ∙ was.1.0.1), λ sane. role_stays (view c.args.self.now.worker.desk) (view c.loop-round.self.worker.desk) (view c.round.new.self.worker.desk) (was.1.1 was.2) (now.on.1 sane)),
       now.sane refl,
       now.counts refl,
       (λ _. (c.loop-round.self, now.went refl)),

@@ -6,5 +6,5 @@ use Rattle.chord_pool.proofs.player.Player.rounds.Given as goal
 
 abbrev pub invariant-loop-round : goal.invariant-loop-round
 invariant-loop-round g l =
-    MayPlay l.run.space.now l.self × PlaysOn l.fn.self l.self × (l.self.failed ≡ false) × CountsIfItPlays l.at_work l.self.worker
+    MayPlay l.run.space.now l.self × PlaysOn l.fn.self l.self × (l.self.failed ≡ false) × CountsIfItPlays l.self
     × (0 < l._round → (before : Player) × HadARound l.run.space.now before l.self)
