@@ -81,6 +81,20 @@ up_goes code limits t is b up = cases t.top refl is.stack
       | inr o ↦ absurd (not_other (λ q. let z : Some y.number ≡ Some b = sym (ap body_number e) ∙ q in let k : y.number ≡ b = cc in eqb-false y.number b o k))
     ]
 
+-- and the body is on top of it
+up_is_top : (code : Parts) (limits : Limits) (t : Task) → IsTaskOf code limits t → (b : ℕ) → IsUp (doing (code_program code limits) (view_of t).past b) → (view_of t).top ≡ Some b
+up_is_top code limits t is b up = cases t.top refl
+  where
+    not_other : ((view_of t).top ≡ Some b → ⊥) → ⊥
+    not_other o = up_asks (code_program code limits) (doing (code_program code limits) (view_of t).past b) up (is.is_defined b) (is.task.quiet b o)
+
+    cases : (x : Option Body) → t.top ≡ x → (view_of t).top ≡ Some b
+    cases None e = absurd (not_other (λ q. let z : Path (Option ℕ) None (Some b) = sym (ap body_number e) ∙ q in cc))
+    cases (Some y) e = elim (either (y.number == b)) [
+      | inl same ↦ ap body_number e ∙ ap (λ (n : ℕ). Some n) (eqb-true y.number b same)
+      | inr o ↦ absurd (not_other (λ q. let z : Some y.number ≡ Some b = sym (ap body_number e) ∙ q in let k : y.number ≡ b = cc in eqb-false y.number b o k))
+    ]
+
 -- the body is up, or lacks its call
 abbrev IsFresh : Doing → Type 0
 IsFresh (Ready s k rs) = Unit {0}
@@ -166,6 +180,16 @@ fresh_up (Over x) f u = f
 pub started_goes : (code : Parts) (limits : Limits) (t : Task) → IsTaskOf code limits t → (f : ℕ) → BeginsThere f (view_of t).past → ((e : Entry) → IsIn e (view_of t).past → e.body ≡ f → e.number ≡ f) → is_ready_of t ≡ true
 started_goes code limits t is f b only = up_goes code limits t is f
     (fresh_up (doing (code_program code limits) (view_of t).past f) (only_fresh (code_program code limits) (view_of t).past f is.task.told b only) (is.task.placed f))
+
+-- the body of the firing is on top of the task that comes with it
+started_top : (code : Parts) (limits : Limits) (es : List Entry) (x : Option Task) (f : ℕ) → TaskIn code limits x → ComesWithFiring (code_program code limits) es f (past_in x) → (t : Task) × (x ≡ Some t) × ((view_of t).top ≡ Some f)
+started_top code limits es None f keeps comes = absurd comes.begins.1
+started_top code limits es (Some t) f keeps comes = (
+  t,
+  refl,
+  up_is_top code limits t keeps.0 f
+      (fresh_up (doing (code_program code limits) (view_of t).past f) (only_fresh (code_program code limits) (view_of t).past f keeps.0.task.told comes.begins comes.only) (keeps.0.task.placed f)),
+)
 
 -- ## What is in memory
 
@@ -275,6 +299,7 @@ module _ (s : Space Parcel) (w : Worker) (r : IsAtRest s w) (none : w.task ≡ N
       let now : (view d).kept ≡ together (view w.desk).kept (entries_of q) = ap (λ (z : View). z.kept) view_is in record {
         idle = none;
         known = known;
+        on_top = started_top (space_code s) (space_limits s) (view w.desk).kept q.task f keeps.1 comes;
         fired = comes.begins.0;
         numbered = comes.begins.2;
         there = subst (IsIn comes.begins.0) (sym now) (together_right comes.begins.0 (view w.desk).kept (entries_of q) comes.begins.1);

@@ -1,5 +1,5 @@
 -- What a step leaves behind: what is kept after a firing that was posted or is played, and after a message that was minded.
-use Rattle.std.proofs.Common.{◌≡◌, ℕ, ◌<◌, true, not, List, [], ◌∷◌, Option, Some, None, sym, ap, ◌∙◌, subst, ◌⊎◌, inl, inr, arith}
+use Rattle.std.proofs.Common.{◌≡◌, ℕ, ◌<◌, true, not, List, [], ◌∷◌, Option, Some, None, refl, sym, ap, ◌∙◌, subst, ◌⊎◌, inl, inr, arith}
 use Rattle.chord_base.specs.declared.event.Entry.{Entry}
 use Rattle.chord_base.specs.declared.event.What.TheVariants.{Fired}
 use Rattle.chord_base.specs.declared.value.Object.{Object}
@@ -61,6 +61,7 @@ module _ (knows : ℕ → Type 0) (s : Space Parcel) (w : Worker) (v : View) (f 
   plays_it known none = record {
     idle = none;
     known = known;
+    on_top = (t, refl, b.top);
     fired = b.begins.0;
     numbered = b.begins.2;
     there = view_in (is_among (view_of t).past) b.begins.0 (view w.desk).kept (subst (IsIn b.begins.0) (sym b.both.goes.part) b.begins.1);
@@ -90,6 +91,7 @@ minded_as knows es x w w' m desk task (inr (inl plays)) =
       record {
         idle = p.idle;
         known = p.known;
+        on_top = (p.on_top.0, task ∙ p.on_top.1, p.on_top.2);
         fired = p.fired;
         numbered = p.numbered;
         there = subst (IsIn p.fired) (sym kept) p.there;
@@ -133,7 +135,7 @@ plays_minded knows before es t n y w below same_one over (inr (inl plays)) =
     let p = plays.2 in
     let low = plays.1 in
     let fired = p.numbered in
-    inr (p.fired, p.there, all_below n p.fired.number before (omega (arith, low, fired)) below, subst knows (sym fired) p.known)
+    inr (p.fired, p.there, all_below n p.fired.number before (omega (arith, low, fired)) below, subst knows (sym fired) p.known, (p.on_top.0, p.on_top.1, p.on_top.2 ∙ ap (λ (n : ℕ). Some n) (sym fired)))
 plays_minded knows before es t n y w below same_one over (inr (inr told)) = inl (subst (PlaysNoOther t) (sym (over told)) tt)
 
 -- it is no other than a task that is seen alike

@@ -24,13 +24,17 @@ abbrev pub PlaysNoOther : Task → Option Task → Type 0
 PlaysNoOther t None = Unit {0}
 PlaysNoOther t (Some t') = (x : Entry) × ((view_of t').past ≡ x ∷ (view_of t).past)
 
--- one of these entries was drawn after all of those, and the gate knows of the body that began with it
-abbrev pub HasKnownBody : (ℕ → Type 0) → List Entry → List Entry → Type 0
-HasKnownBody knows before now = (e : Entry) × IsIn e now × AllBelow e.number before × knows e.number
+-- the worker plays a task with this body on top
+abbrev pub PlaysBody : ℕ → Worker → Type 0
+PlaysBody b w = (t : Task) × (w.task ≡ Some t) × ((view_of t).top ≡ Some b)
+
+-- the worker plays a body that began with an entry of its desk which was drawn after all of these, and of which the gate knows
+abbrev pub PlaysKnownBody : (ℕ → Type 0) → List Entry → Worker → Type 0
+PlaysKnownBody knows before w = (e : Entry) × IsIn e (view w.desk).kept × AllBelow e.number before × knows e.number × PlaysBody e.number w
 
 -- the worker, whose desk kept these entries, plays no other task than this one, or a body of which the gate knows
 abbrev pub PlaysNext : (ℕ → Type 0) → List Entry → Task → Worker → Type 0
-PlaysNext knows before t w = PlaysNoOther t w.task ⊎ HasKnownBody knows before (view w.desk).kept
+PlaysNext knows before t w = PlaysNoOther t w.task ⊎ PlaysKnownBody knows before w
 
 -- the worker still plays this task, and its desk keeps these entries
 abbrev pub StillPlays : List Entry → Option Task → Worker → Type 0
@@ -40,6 +44,7 @@ StillPlays before x w = (w.task ≡ x) × ((view w.desk).kept ≡ before)
 pub record PlaysFiring (knows : ℕ → Type 0) (before : List Entry) (x : Option Task) (w : Worker) (f : ℕ) : Type 0 where
   pub idle : x ≡ None
   pub known : knows f
+  pub on_top : PlaysBody f w
   pub fired : Entry
   pub numbered : fired.number ≡ f
   pub there : IsIn fired (view w.desk).kept
