@@ -42,6 +42,10 @@ impl Card {
     ghost use Rattle.chord_roll.specs.Cards.{counts, hired, last_read, stops, tells, roll_of, IsFirstCard, IsSameCard, HasReadNothing};
 
     /// A new roll with one card, which does not count.
+    ///
+    /// # Errors
+    ///
+    /// `AllocError` where no memory is found.
     pub fn first(alloc: Global) -> Result<Card, AllocError>
         ensures { IfOk result (λ card. IsFirstCard card × (hired card ≡ 0) × (counts card ≡ false) × (stops card ≡ false)) }
     {
@@ -55,6 +59,10 @@ impl Card {
     }
 
     /// One more card of this roll, which does not count. Only the first card makes others, at most 65,535.
+    ///
+    /// # Errors
+    ///
+    /// `AllocError` where the roll can be shared no more, as `Arc::clone` says.
     pub fn hire(&mut self) -> Result<Card, AllocError>
         requires first { IsFirstCard self.old × (hired self.old < 65535) }
         ensures same { HasReadNothing self.old self.new × (counts self.new ≡ counts self.old) × (stops self.new ≡ stops self.old) }
