@@ -9,7 +9,9 @@ use denote.Struct.Field.{row_field}
 use denote.Struct.Tuple.{TupleAt, type_at}
 use denote.Param.Send.{IsSend, IsSync, sendable, shr_send}
 use denote.Param.SendFields.{declared_send, as_row_send}
-use Rattle.std.proofs.Crossing.{crosses, send}
+use Rattle.std.proofs.Crossing.{crosses, send, Vec-send}
+use Rattle.std.specs.contracts.vec.Vec as Vec
+use Rattle.std.specs.contracts.impls.GlobalAllocator.TheImpl.{ghosts}
 use Rattle.std.specs.contracts.alloc.Global as Heap
 use Rattle.atomic_table.proofs.send_lease.SendLease.TheSendSync as lease
 use Rattle.atomic_table.proofs.shared.Seat.TheSendSync.{the_send}
@@ -76,14 +78,16 @@ moved R s = as_row_send (row_field R) s
 lent : (ℓ : Lifetime) (κ : Lft) (R : RattleType) → IsSync R → IsSend (as_row (row_field (ShrRef ℓ κ R)))
 lent ℓ κ R s = as_row_send (row_field (ShrRef ℓ κ R)) (shr_send ℓ κ R s)
 
--- what goes to a thread with the first player
-pub main_goes : (gate runtime : RattleType) (name : List ℕ) (a b c d e : Lifetime) (i j k l m : Lft) → IsSync gate → IsSync runtime → IsSend (TupleAt name (ShrRef a i gate ∷ ShrRef c k (Space.the_row Parcel.the_row carry.ghosts) ∷ ShrRef d l Code.the_row ∷ ShrRef e m Limits.the_row ∷ ShrRef b j runtime ∷ Heap.the_row ∷ Player.the_row ∷ []))
-main_goes gate runtime name a b c d e i j k l m told runs =
-    declared_send (type_at name (ShrRef a i gate ∷ ShrRef c k (Space.the_row Parcel.the_row carry.ghosts) ∷ ShrRef d l Code.the_row ∷ ShrRef e m Limits.the_row ∷ ShrRef b j runtime ∷ Heap.the_row ∷ Player.the_row ∷ []))
-    (lent a i gate told, (lent c k (Space.the_row Parcel.the_row carry.ghosts) space_shared, (lent d l Code.the_row code_shared, (lent e m Limits.the_row limits_shared, (lent b j runtime runs, (moved Heap.the_row send, (moved Player.the_row player_sent, tt)))))))
+-- what goes to a thread with one or more of them
+goes_with : (R : RattleType) → IsSend R → (gate runtime : RattleType) (name : List ℕ) (a b c d e : Lifetime) (i j k l m : Lft) → IsSync gate → IsSync runtime → IsSend (TupleAt name (ShrRef c k (Space.the_row Parcel.the_row carry.ghosts) ∷ ShrRef d l Code.the_row ∷ ShrRef e m Limits.the_row ∷ ShrRef a i runtime ∷ Heap.the_row ∷ R ∷ ShrRef b j gate ∷ []))
+goes_with R sent gate runtime name a b c d e i j k l m told runs =
+    declared_send (type_at name (ShrRef c k (Space.the_row Parcel.the_row carry.ghosts) ∷ ShrRef d l Code.the_row ∷ ShrRef e m Limits.the_row ∷ ShrRef a i runtime ∷ Heap.the_row ∷ R ∷ ShrRef b j gate ∷ []))
+    (lent c k (Space.the_row Parcel.the_row carry.ghosts) space_shared, (lent d l Code.the_row code_shared, (lent e m Limits.the_row limits_shared, (lent a i runtime runs, (moved Heap.the_row send, (moved R sent, (lent b j gate told, tt)))))))
 
--- and with another one
+-- with one player
 pub one_goes : (gate runtime : RattleType) (name : List ℕ) (a b c d e : Lifetime) (i j k l m : Lft) → IsSync gate → IsSync runtime → IsSend (TupleAt name (ShrRef c k (Space.the_row Parcel.the_row carry.ghosts) ∷ ShrRef d l Code.the_row ∷ ShrRef e m Limits.the_row ∷ ShrRef a i runtime ∷ Heap.the_row ∷ Player.the_row ∷ ShrRef b j gate ∷ []))
-one_goes gate runtime name a b c d e i j k l m told runs =
-    declared_send (type_at name (ShrRef c k (Space.the_row Parcel.the_row carry.ghosts) ∷ ShrRef d l Code.the_row ∷ ShrRef e m Limits.the_row ∷ ShrRef a i runtime ∷ Heap.the_row ∷ Player.the_row ∷ ShrRef b j gate ∷ []))
-    (lent c k (Space.the_row Parcel.the_row carry.ghosts) space_shared, (lent d l Code.the_row code_shared, (lent e m Limits.the_row limits_shared, (lent a i runtime runs, (moved Heap.the_row send, (moved Player.the_row player_sent, (lent b j gate told, tt)))))))
+one_goes = goes_with Player.the_row player_sent
+
+-- with all but the first
+pub others_go : (gate runtime : RattleType) (name : List ℕ) (a b c d e : Lifetime) (i j k l m : Lft) → IsSync gate → IsSync runtime → IsSend (TupleAt name (ShrRef c k (Space.the_row Parcel.the_row carry.ghosts) ∷ ShrRef d l Code.the_row ∷ ShrRef e m Limits.the_row ∷ ShrRef a i runtime ∷ Heap.the_row ∷ Vec.the_row Player.the_row Heap.the_row ghosts ∷ ShrRef b j gate ∷ []))
+others_go = goes_with (Vec.the_row Player.the_row Heap.the_row ghosts) (Vec-send Player.the_row player_sent)

@@ -84,7 +84,10 @@ fn all<'a, R: Threads + Wait + Sync, G: Gate + Sync>(
     back(others, one)
 }
 
-/// The worker that plays `Main` is the first at a thread, and the others are beside it.
+/// The worker that plays `Main` stays at this thread, and the others are beside it.
+///
+/// Where no thread can be made, `join` runs its second closure first: so `Main` is played then before any of the others looks for work,
+/// and they do not wait for what has not begun.
 pub(crate) fn share<'a, R: Threads + Wait + Sync, G: Gate + Sync>(
     rt: &R,
     alloc: Global,
@@ -102,8 +105,19 @@ pub(crate) fn share<'a, R: Threads + Wait + Sync, G: Gate + Sync>(
     ensures others { HaveAllPlayed run.now.space.now result.1.items × (length result.1.items ≡ length others.items) }
 {
     let (space, code, limits) = (run.space, run.code, run.limits);
-    join(
+    let (back, first) = join(
         rt,
+        move || -> Vec<Player>
+            requires { IsSync R.row × IsOneRun space.now code.now limits.now × AreHired space.now others.items }
+            ensures { HaveAllPlayed space.entry.now result.items × (length result.items ≡ length others.items) }
+        {
+            let run = Run {
+                space,
+                code,
+                limits,
+            };
+            all(rt, alloc, &run, others, gate)
+        },
         move || -> Player
             requires { IsOneRun space.now code.now limits.now × MayPlay space.now main × CountsIfItPlays main × (main.failed ≡ false) }
             ensures { HasPlayed space.entry.now result × PlaysOn main result × G.knows 0 }
@@ -116,16 +130,6 @@ pub(crate) fn share<'a, R: Threads + Wait + Sync, G: Gate + Sync>(
             };
             work(rt, alloc, &run, main, gate)
         },
-        move || -> Vec<Player>
-            requires { IsSync R.row × IsOneRun space.now code.now limits.now × AreHired space.now others.items }
-            ensures { HaveAllPlayed space.entry.now result.items × (length result.items ≡ length others.items) }
-        {
-            let run = Run {
-                space,
-                code,
-                limits,
-            };
-            all(rt, alloc, &run, others, gate)
-        },
-    )
+    );
+    (first, back)
 }

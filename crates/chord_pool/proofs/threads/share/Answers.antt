@@ -1,20 +1,20 @@
 use denote.Exit.{yes}
 use denote.Param.Send.{sendable, param_send, arg_send}
 use Rattle.std.proofs.Crossing.{crosses}
-use Rattle.chord_pool.proofs.Crossing.{player_sent, main_goes}
+use Rattle.chord_pool.proofs.Crossing.{player_sent, others_go}
 use Rattle.chord_pool.proofs.threads.share.Goals as goal
 
 pub returns-clause-main : goal.returns-clause-main
-returns-clause-main g c = (c.join.ensures.first.0, c.join.ensures.first.1)
+returns-clause-main g c = (c.join-back.ensures.second.0, c.join-back.ensures.second.1)
 
 pub returns-clause-told : goal.returns-clause-told
-returns-clause-told g c = c.join.ensures.first.2
+returns-clause-told g c = c.join-back.ensures.second.2
 
 pub returns-clause-others : goal.returns-clause-others
-returns-clause-others g c = c.join.ensures.second
+returns-clause-others g c = c.join-back.ensures.first
 
-pub join-requires-send-F : goal.join-requires-send-F
-join-requires-send-F g c κs within = param_send 1 _ (arg_send _ yes _ (main_goes _ _ _ _ _ _ _ _ _ _ _ _ _ c.type_bounds.sync-G c.type_bounds.sync-R))
+pub join-back-requires-send-F : goal.join-back-requires-send-F
+join-back-requires-send-F g c κs within = param_send 1 _ (arg_send _ yes _ (others_go _ _ _ _ _ _ _ _ _ _ _ _ _ c.type_bounds.sync-G c.type_bounds.sync-R))
 
-pub join-requires-send-A : goal.join-requires-send-A
-join-requires-send-A g c κs within = search (player_sent, sendable, crosses) depth 60 fits 20000
+pub join-back-requires-send-A : goal.join-back-requires-send-A
+join-back-requires-send-A g c κs within = search (player_sent, sendable, crosses) depth 60 fits 20000
