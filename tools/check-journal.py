@@ -36,6 +36,10 @@ JOURNAL = 'journal 1 4\n0 0 begun\n1 0 made 1\n2 0 sent o1.1 0 o1.1\n3 0 sent o1
 UNNAMED = 'number  body  what happens                       takes\n0       0     Main begins\n1       0     makes class 1 1\n2       0     sends object 1.method 0(object 1)\n3       0     sends object 1.method 2()\n'
 NAMED = 'number  body  what happens      takes\n0       0     Main begins\n1       0     makes B 1\n2       0     sends B 1.a(B 1)\n3       0     sends B 1.c()\n'
 
+# A text of bytes that a row and a picture may not have as they are: a carriage return, an escape, a zero, and U+FFFF.
+ODD = 'journal 1 2\n0 0 begun\n1 0 printed x610d1b00efbfbf09c3a4\n'
+ODD_TOLD = 'number  body  what happens                         takes\n0       0     Main begins\n1       0     prints "a\\r\\x1b\\x00\\uffff\\tä"\n'
+
 
 def said(words, journal):
     """What the tool writes, and its status."""
@@ -71,6 +75,9 @@ def main():
         source.flush()
         if said(['table', source.name], JOURNAL) != (NAMED, 0):
             wrong.append(f'with inherited methods: {said(["table", source.name], JOURNAL)}')
+    if said(['table'], ODD) != (ODD_TOLD, 0):
+        wrong.append(f'what is not printable: {said(["table"], ODD)}')
+    xml.etree.ElementTree.fromstring(said(['picture'], ODD)[0])
     if said(['table'], 'journal 1 9\n')[1] == 0:
         wrong.append('a journal without its entries is told')
     for line in wrong:

@@ -88,10 +88,31 @@ refused '`--workers` wants a number from 1 to 64 in at most seven digits, not `0
 refused '`--events` wants a number from 16 to 65536 in at most seven digits, not `00000016`' run --one --events=00000016
 refused '`--turns` wants a number from 1 to 1000000 in at most seven digits, not ``' run --one --turns
 refused '`run` takes no number, and not `--one`' run -- --one
+refused '`run` takes no number, and not ``' run --one ''
+refused 'there is no mode ``' ''
+refused 'there is no mode ``' '' run
+refused '`5` is one word too many' load '' 5
 for word in run rules code load --one --journal --workers --events --turns; do
     echo input | "$work/top/chord" help 2>"$work/said" | grep -q -- "^  $word " || { echo "launcher: help does not name $word" >&2; failed=1; }
 done
 [ "$("$work/top/chord" help | wc -l)" -le 26 ] || { echo 'launcher: help is longer than a screen' >&2; failed=1; }
+# what cannot be written is said by the status, and a rule that is not there by another; a link starts what its file lies beside
+mkdir -p "$work/top/docs"
+printf '## Rules\n\n### C01 A rule\n\nIt says so.\n\n### C02 Another\n' > "$work/top/docs/LANGUAGE.md"
+[ "$("$work/top/chord" explain C01)" = "$(printf '### C01 A rule\n\nIt says so.')" ] || { echo 'launcher: a rule is told otherwise' >&2; failed=1; }
+"$work/top/chord" explain C99 2>"$work/said"
+[ $? -eq 70 ] || { echo 'launcher: a rule that is not there is found' >&2; failed=1; }
+said 'there is no rule `C99`'
+if [ -w /dev/full ]; then
+    for word in help 'explain C01'; do
+        # shellcheck disable=SC2086
+        "$work/top/chord" $word >/dev/full 2>/dev/null
+        [ $? -eq 5 ] || { echo "launcher: $word does not say that it was not written" >&2; failed=1; }
+    done
+fi
+ln -s "$work/top/chord" "$work/link"
+echo input | "$work/link" run >/dev/null 2>"$work/said"
+[ $? -eq 2 ] || { echo 'launcher: a link does not start the program' >&2; failed=1; }
 # the program is started with large pages, unless the environment says how memory is asked for
 printf '#!/bin/sh\necho "$GLIBC_TUNABLES"\n' > "$work/top/crates/chord_prog/out/chord_prog"
 "$work/top/chord" run </dev/null | grep -q 'glibc\.malloc\.hugetlb=1' || { echo "launcher: large pages are not asked for" >&2; failed=1; }
