@@ -38,7 +38,7 @@ NAMED = 'number  body  what happens      takes\n0       0     Main begins\n1    
 
 # A text of bytes that a row and a picture may not have as they are: a carriage return, an escape, a zero, and U+FFFF.
 ODD = 'journal 1 2\n0 0 begun\n1 0 printed x610d1b00efbfbf09c3a4\n'
-ODD_TOLD = 'number  body  what happens                         takes\n0       0     Main begins\n1       0     prints "a\\r\\x1b\\x00\\uffff\\tä"\n'
+ODD_TOLD = 'number  body  what happens                   takes\n0       0     Main begins\n1       0     prints "a\\r\\x1b\\x00\\uffff\\tä"\n'
 
 
 def said(words, journal):
