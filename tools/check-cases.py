@@ -1,6 +1,6 @@
 #!/usr/bin/env python3
-"""Does the built program answer each case of cases/*.tsv as its row says, accept what keeps each limit and refuse what passes it (tools/limits.py), and print of
-each program of examples/ the lines beside it?
+"""Does the built program answer each case of cases/*.tsv as its row says, accept what keeps each limit and refuse what passes it (tools/limits.py), print of
+each program of examples/ the lines beside it, and print them by workers too where no thread can be made?
 
     tools/check-cases.py          asks the program that ./build or the gate made
     tools/check-cases.py --try    asks the toolchain's runner, which needs no proof
@@ -9,6 +9,8 @@ each program of examples/ the lines beside it?
 import glob
 import os
 import re
+import resource
+import shutil
 import subprocess
 import sys
 import tempfile
@@ -19,6 +21,8 @@ import limits
 TOP = os.path.dirname(os.path.dirname(os.path.realpath(__file__)))
 PROGRAM = f'{TOP}/crates/chord_prog/out/chord_prog'
 SECONDS = 60
+# A user of no processes, as whom root makes a process that may start no other.
+NOBODY = 54321
 MOST_SHOWN = 20
 TRIED = re.compile(rb'^case=(\d+) run=ended status=(\d+) .*output=(\w+)', re.MULTILINE)
 ESCAPE = re.compile(rb'\\(?:x([0-9A-Fa-f]{2})|\*(\d+)\{([^}]*)\}|(.))', re.DOTALL)
@@ -84,6 +88,31 @@ def tried_answers(cases):
         yield place, (status, written if output == b'expected' else b'something else')
 
 
+def lonely():
+    """From here on this process makes no thread: a limit on processes counts them, and binds no root."""
+    resource.setrlimit(resource.RLIMIT_NPROC, (1, 1))
+    if os.getuid() == 0:
+        os.setgroups([])
+        os.setgid(NOBODY)
+        os.setuid(NOBODY)
+
+
+def without_threads():
+    """Each example by four workers and by 64, none of which gets a thread of its own: what is wrong."""
+    with tempfile.TemporaryDirectory() as folder:
+        os.chmod(folder, 0o755)
+        program = shutil.copy(PROGRAM, f'{folder}/program')
+        for place, _, status, written, source in examples():
+            for workers in ('4', '64'):
+                try:
+                    ran = subprocess.run([program, 'run', '--workers', workers], input=source, stdout=subprocess.PIPE, stderr=subprocess.PIPE, timeout=SECONDS, check=False, preexec_fn=lonely)
+                except subprocess.TimeoutExpired:
+                    yield f'{place}: no end by {workers} workers where no thread can be made'
+                    continue
+                if (ran.returncode, ran.stdout) != (status, written):
+                    yield f'{place}: status {ran.returncode} and {ran.stdout[:200]!r} by {workers} workers where no thread can be made'
+
+
 def main():
     is_tried = sys.argv[1:] == ['--try']
     if not is_tried and not os.access(PROGRAM, os.X_OK):
@@ -99,7 +128,10 @@ def main():
             if failed <= MOST_SHOWN:
                 print(f'{place}: status {got[0]} and {got[1][:200]!r}, not status {status} and {written[:200]!r}', file=sys.stderr)
     print(f'cases: {len(cases) - failed} passed, {failed} failed')
-    return 1 if failed or not cases else 0
+    hung = [] if is_tried else list(without_threads())
+    for line in hung[:MOST_SHOWN]:
+        print(line, file=sys.stderr)
+    return 1 if failed or hung or not cases else 0
 
 
 if __name__ == '__main__':
