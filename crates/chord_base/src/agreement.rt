@@ -3,7 +3,7 @@
 
 ghost use Rattle.chord_base.specs.Agreement.{SameRuns};
 
-/// Agreement: two programs whose bodies ask the same in every run of the first have the same runs.
+/// Agreement: where the bodies of a program ask the same as those of another in every run of the first, each run of the first is one of the other, and each complete run a complete one.
 pub fn same_runs()
     ensures { SameRuns }
 {}

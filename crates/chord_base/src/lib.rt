@@ -3,7 +3,7 @@
 //! Promise: each value is within its limits by its type; `prefix` says how many of some entries are a run; `laws` says what
 //! is true of every run.
 //! Read `specs/` in the order of its `Lib.antt`: it is the language's meaning, and every theorem above cites it.
-//! Not here: what the bodies of a program ask (chord_code, chord_lists), and how a journal is written (chord_journal).
+//! Not here: what the bodies of a program ask (chord_code for codes, chord_source for sources), and how a journal is written (chord_journal).
 #![tactic(auto)]
 
 pub mod agreement;

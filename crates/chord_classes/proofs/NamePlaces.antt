@@ -20,7 +20,7 @@ push_by : (b : Bool) (number : ℕ) (others others' last last' : Option ℕ) →
 push_by true number others others' last last' h e = refl
 push_by false number others others' last last' h e = h ∙ ap (or_place others') e
 
--- the first name_place among names with one more
+-- the first place of a name among names with one more
 place_push : (number : ℕ) (names : List (List ℕ)) (w x : List ℕ) → name_place_from number (names ++ (w ∷ [])) x ≡ or_place (name_place_from number names x) (cond (bytes_eq w x) (Some (number + length names)) None)
 place_push number [] w x = ap (λ z. cond (bytes_eq w x) (Some z) None) (omega arith)
 place_push number (y ∷ ys) w x =

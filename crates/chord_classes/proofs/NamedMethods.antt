@@ -47,7 +47,7 @@ named_from n (m ∷ ms) x i h = named_by (bytes_eq m.header.now.name.text x) n i
 pub unnamed : (names : List (List ℕ)) (ms : List Method) (x : List ℕ) → names ≡ names_of ms → name_place names x ≡ None → ◌≡◌ {A = Option table.Found} None (table.method_named (map see_method ms) x)
 unnamed names ms x e h = sym (unnamed_from 0 ms x (ap (λ z. name_place z x) (sym e) ∙ h))
 
--- the name_place and the method
+-- the place of the name and the method
 pub named : (names : List (List ℕ)) (ms : List Method) (x : List ℕ) (i : ℕ) → names ≡ names_of ms → name_place names x ≡ Some i → (m : Method) × (slice_get ms i ≡ Some m) × (table.method_named (map see_method ms) x ≡ Some (at_place i m))
 named names ms x i e h =
     let r = named_from 0 ms x i (ap (λ z. name_place z x) (sym e) ∙ h) in

@@ -22,7 +22,7 @@ use Rattle.chord_classes.proofs.Inherits.{Begins, get_left}
 use Rattle.chord_classes.proofs.Headers.{shapes_begin, get_last}
 use Rattle.chord_classes.proofs.Planned.{get_behind, get_mapped, length_members}
 
--- what a class of the plan was planned_from from
+-- what a class of the plan was planned from
 pub record Made (p : ProgramTree) (c : ℕ) (x : ClassOf) : Type 0 where
   pub done : List Shape
   pub plans : List ClassOf
@@ -80,7 +80,7 @@ made_at p done plans number (class ∷ more) whole all same bodies h =
       members = λ j m f. bodies j ∙ get_mapped p (length done) class class.members (resolved_classes (table_of p) (length done + 1) more) j m f ∙ ap (λ z. Some (resolved_member (table_of p) z class m)) place;
     }))
 
--- a class of the plan was planned_from from a class of the text
+-- a class of the plan was planned from a class of the text
 pub planned_from : (p : ProgramTree) (c : ℕ) (x : ClassOf) → slice_get (plan_of p) c ≡ Some x → Made p c x
 planned_from p = made_at p [] [] 0 p.classes refl refl refl (λ j. let e : 0 + j ≡ j = omega arith in ap (slice_get (bodies_of p)) e) (λ c x e. absurd (none_some e))
 

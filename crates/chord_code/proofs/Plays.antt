@@ -29,7 +29,7 @@ plays_point code sig r GoesWrong None g h = absurd g
 replied_by : (code : Parts) → IsForward code → (m : Machine) (a : What) (w : Waiting) (e : End) → ComesTo code m a w → point_replied code (At m) e ≡ reply w e
 replied_by code fwd m a w e c = ap (λ d. reply_to d e) (comes_found code fwd m a w c)
 
--- a good play, once it is with_answer by what fits, is good
+-- a good play, once it is answered by what fits, is good
 pub good_left : (sig : Signatures) (r : Option StaticType) (p : Play) (e : End) → Good sig r p → EndFits sig p e → Good sig r (left_of p e)
 good_left sig r (MakesObject c k) (Gives (a_value.Ref o)) g f = g o f
 good_left sig r (MakesObject c k) (Gives a_value.Unit) g f = absurd f

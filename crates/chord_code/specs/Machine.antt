@@ -89,7 +89,7 @@ goes m p s = Goes (with_top m p s m.top.slots m.turns)
 abbrev pub ends : Machine → End → Did
 ends m e = Asking (Ended e) (record { machine = m; awaited = ForNothing })
 
--- at the next place with stack s, once it is with_answer
+-- at the next place with stack s, once it is answered
 abbrev pub asks : Machine → What → Awaited → List Value → Did
 asks m a w s = Asking a (record { machine = with_top m (suc m.top.place) s m.top.slots m.turns; awaited = w })
 
@@ -299,7 +299,7 @@ with_object m None o (Some (xs, s)) = Some (pushed m (a_value.Ref o) s)
 with_object m (Some (b, n)) o (Some (xs, s)) =
     begins_block b (pred_of m.top.room) m.turns (with_stack m.top (a_value.Ref o ∷ s) ∷ m.below) (first_slots n (a_value.Ref o ∷ xs))
 
--- the machine once it is with_answer by a value; a call that ended by a trap ends the body, and so the machine does not go on
+-- the machine once it is answered by a value; a call that ended by a trap ends the body, and so the machine does not go on
 abbrev pub with_answer : Machine → Awaited → Value → Option Machine
 with_answer m ForNothing v = Some m
 with_answer m ForValue v = Some (pushed m v m.top.stack)

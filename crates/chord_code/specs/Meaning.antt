@@ -41,7 +41,7 @@ abbrev pub point_of : Option Machine → Point
 point_of None = Lost
 point_of (Some m) = At m
 
--- only a call may be with_answer by a trap
+-- only a call may be answered by a trap
 abbrev pub failed : Awaited → Trap → Point
 failed ForValue t = FailsBy t
 failed ForNothing t = Lost

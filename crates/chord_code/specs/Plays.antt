@@ -1,4 +1,4 @@
--- What a body does, whatever it is with_answer, as a tree; its kinds; and when a code does the same.
+-- What a body does, whatever it is answered, as a tree; its kinds; and when a code does the same.
 use Rattle.std.specs.Prelude.{◌≡◌, ℕ, ◌-◌, List, [], ◌∷◌, true, false, Option, Some, None}
 use Rattle.chord_base.specs.declared.value.Object.{Object}
 use Rattle.chord_base.specs.declared.value.Value.{Value}
@@ -54,7 +54,7 @@ Good sig r (EndsBody (Gives v)) = Has sig r v
 Good sig r (EndsBody (Traps t)) = Unit {0}
 Good sig r GoesWrong = ⊥
 
--- what is left of a play once its ask is with_answer, as a journal answers
+-- what is left of a play once its ask is answered, as a journal answers
 abbrev pub left_of : Play → End → Play
 left_of (MakesObject c k) (Gives (a_value.Ref o)) = k o
 left_of (SendsMessage o j xs p) (Gives a_value.Unit) = p

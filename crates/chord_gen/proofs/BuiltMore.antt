@@ -55,7 +55,7 @@ pub map_count : {A B : Type 0} (f : A → B) (xs : List A) → length (map f xs)
 map_count f [] = refl
 map_count f (x ∷ xs) = ap suc (map_count f xs)
 
--- a number is numbered_member where 0 stands
+-- a number is noted where 0 stands
 pub noted_there : (ms : List ℕ) (j n d : ℕ) → j < length ms → get_or ms j d ≡ 0 → slice_set ms j n ≡ numbered_member ms j n
 noted_there [] j n d l e = absurd (omega arith)
 noted_there (zero ∷ ms) zero n d l e = refl
@@ -63,7 +63,7 @@ noted_there (suc m ∷ ms) zero n d l e = absurd (omega (arith, e))
 noted_there (zero ∷ ms) (suc j) n d l e = ap (λ z. 0 ∷ z) (noted_there ms j n d (omega arith) e)
 noted_there (suc m ∷ ms) (suc j) n d l e = ap (λ z. suc m ∷ z) (noted_there ms j n d (omega arith) e)
 
--- no number is numbered_member where another stands
+-- no number is noted where another stands
 pub noted_never : (ms : List ℕ) (j n d : ℕ) → j < length ms → (get_or ms j d ≡ 0 → ⊥) → ms ≡ numbered_member ms j n
 noted_never [] j n d l h = refl
 noted_never (zero ∷ ms) zero n d l h = absurd (h refl)
@@ -71,14 +71,14 @@ noted_never (suc m ∷ ms) zero n d l h = refl
 noted_never (zero ∷ ms) (suc j) n d l h = ap (λ z. 0 ∷ z) (noted_never ms j n d (omega arith) h)
 noted_never (suc m ∷ ms) (suc j) n d l h = ap (λ z. suc m ∷ z) (noted_never ms j n d (omega arith) h)
 
--- no number is numbered_member past the end
+-- no number is noted past the end
 pub noted_past : (ms : List ℕ) (j n : ℕ) → length ms ≤ j → ms ≡ numbered_member ms j n
 noted_past [] j n l = refl
 noted_past (m ∷ ms) zero n l = absurd (omega arith)
 noted_past (zero ∷ ms) (suc j) n l = ap (λ z. 0 ∷ z) (noted_past ms j n (omega arith))
 noted_past (suc m ∷ ms) (suc j) n l = ap (λ z. suc m ∷ z) (noted_past ms j n (omega arith))
 
--- where a number is numbered_member there are as many
+-- where a number is noted there are as many
 noted_length : (ms : List ℕ) (j n : ℕ) → length (numbered_member ms j n) ≡ length ms
 noted_length [] j n = refl
 noted_length (zero ∷ ms) zero n = refl
@@ -96,7 +96,7 @@ one_deeper : (k j m old n : ℕ) → ((k ≡ j) × (m ≡ in_place old n)) ⊎ (
 one_deeper k j m old n (inl h) = inl (ap suc h.0, h.1)
 one_deeper k j m old n (inr h) = inr ((λ q. h.0 (omega (arith, q))), h.1)
 
--- what stands where a number was numbered_member: at its place that number, unless another stood there, and elsewhere what stood there
+-- what stands where a number was noted: at its place that number, unless another stood there, and elsewhere what stood there
 noted_get : (ms : List ℕ) (j n k m : ℕ) → slice_get (numbered_member ms j n) k ≡ Some m → (old : ℕ) × (slice_get ms k ≡ Some old) × (((k ≡ j) × (m ≡ in_place old n)) ⊎ ((k ≡ j → ⊥) × (m ≡ old)))
 noted_get [] j n k m e = absurd (none-some _ e)
 noted_get (zero ∷ ms) zero n zero m e = (0, refl, inl (refl, sym (same_Some _ _ e)))
@@ -164,7 +164,7 @@ origins_step p before all n m k classes x w e h =
     ∙ ap (λ z. before ++ z) (append_assoc first (map OfBody x.own) rest)
     ∙ ap (λ z. before ++ origins_from p n z) (sym (dropped_at classes k x e)) ∙ h
 
--- of no member a number is numbered_member at first
+-- of no member a number is noted at first
 zeros_get : (n k v : ℕ) → slice_get (replicate n 0) k ≡ Some v → v ≡ 0
 zeros_get zero k v e = absurd (none-some _ e)
 zeros_get (suc n) zero v e = sym (same_Some _ _ e)
@@ -188,7 +188,7 @@ main_built p blocks builders members n block b m s k w = record {
 }
 
 module _ (p : Resolved) where
-  -- the block of a member is built, and its number numbered_member where it has none
+  -- the block of a member is built, and its number noted where it has none
   pub body_added : (blocks more : List Block) (builders : List (Option ℕ)) (members noted_members : List ℕ) (os : List Origin) (j number : ℕ) (block : Block) → IsBuilt p blocks builders members os
       → block ≡ block_of p (OfBody j) → more ≡ blocks ++ block ∷ [] → number ≡ length blocks → noted_members ≡ numbered_member members j number → IsBuilt p more builders noted_members (os ++ OfBody j ∷ [])
   body_added blocks more builders members noted_members os j number block is b m n k = record {

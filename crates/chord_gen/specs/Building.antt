@@ -36,7 +36,7 @@ pub record IsBuilt (p : Resolved) (blocks : List Block) (builders : List (Option
   pub members_are : (j n : ℕ) → slice_get members j ≡ Some n → n ≡ unwrap_or (block_number (OfBody j) os) 0
   pub all_members : length members ≡ length p.bodies
 
--- a number that is numbered_member for a member that has none yet
+-- a number that is noted for a member that has none yet
 abbrev pub numbered_member : List ℕ → ℕ → ℕ → List ℕ
 numbered_member [] j n = []
 numbered_member (zero ∷ ms) zero n = n ∷ ms

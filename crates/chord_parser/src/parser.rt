@@ -46,7 +46,7 @@ pub fn parse(alloc: Global, tokens: &[Token]) -> Result<Program, ParseFault>
     ensures the_one { (t : ProgramTree) → IsProgram t → spelling t ≡ token_kinds tokens.now → IfOk result (λ p. tree_of p ≡ t) }
     // and only memory may lack, if none of them is too deep
     ensures found { (t : ProgramTree) → IsProgram t → IsNotTall t → spelling t ≡ token_kinds tokens.now → IfErr result (λ fault. fault ≡ faults.Memory) }
-    // where token k is the first that fits no program, or the first that is too deep, that is token_kinds
+    // where token k is the first that fits no program, or the first that is too deep, that is the answer
     ensures at { (k : ℕ) → IsAnswer (token_kinds tokens.now) (faults.At k) → MatchResult result (λ _. ⊥) (λ fault. (fault ≡ faults.Memory) ⊎ (fault ≡ faults.At k)) }
     ensures tall { (k : ℕ) → IsAnswer (token_kinds tokens.now) (faults.Tall k) → MatchResult result (λ _. ⊥) (λ fault. (fault ≡ faults.Memory) ⊎ (fault ≡ faults.Tall k)) }
 {

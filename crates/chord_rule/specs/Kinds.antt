@@ -120,7 +120,7 @@ posting v f = record v { unposted = without f v.unposted; posting = Some f }
 abbrev pub posted : View → List Entry → View
 posted v ps = record v { kept = left_by ps v.kept; posting = None }
 
--- a firing was firing_started, and these entries came with its parcel
+-- a firing was started, and these entries came with its parcel
 abbrev pub firing_started : View → ℕ → List Entry → View
 firing_started v f ps = record v { kept = together v.kept ps; starting = Some f }
 

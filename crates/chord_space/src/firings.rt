@@ -1,4 +1,4 @@
-//! Firings are posted with their parcels, and firing_started by whoever finds them ready.
+//! Firings are posted with their parcels, and started by whoever finds them ready.
 ghost use Rattle.std.specs.Prelude.{◌≡◌, ◌≢◌, ◌⊎◌, ℕ, ◌<◌, None, Option, IfErr, IfOk};
 ghost use Rattle.chord_rule.specs.Kinds.{posting, posted, firing_started, played, saw};
 ghost use Rattle.chord_rule.specs.Coming.{ComesWithFiring};

@@ -37,7 +37,7 @@ pub record IsNext (p : Program) (t : TaskView) (w : What) : Type 0 where
   pub own : IsOwn w
   pub asks : Asks p t.past body w
 
--- the task after it has task_noted an entry
+-- the task after it has noted an entry
 abbrev pub task_noted : TaskView → ℕ → What → TaskView → Type 0
 task_noted t n w t' = (b : ℕ) × (t.top ≡ Some b) × (t'.past ≡ record { number = n; body = b; what = w } ∷ t.past)
 

@@ -255,7 +255,7 @@ body_waits q (Some b) = waits_on q b.next
 abbrev pub waits_of : ℕ → Task → Bool
 waits_of q t = body_waits q t.top
 
--- the value that answers an ask whose entry has this number; none for a call, which is with_answer by an end
+-- the value that answers an ask whose entry has this number; none for a call, which is answered by an end
 abbrev pub answer_of : ℕ → What → Option Value
 answer_of n (Made c) = Some (a_value.Ref (record { number = n; class = c }))
 answer_of n (Sent o j vs) = Some a_value.Unit
@@ -318,7 +318,7 @@ pub record MayResume (code : Parts) (limits : Limits) (t : Task) (n k : ℕ) (o 
   pub above : AllBelow n (view_of t).past
   pub room : IsResumable code t
 
--- an ask that is with_answer at its note, or later
+-- an ask that is answered at its note, or later
 abbrev pub IsAnsweredByNote : What → Type 0
 IsAnsweredByNote (Made c) = Unit {0}
 IsAnsweredByNote (Sent o j vs) = Unit {0}
