@@ -78,6 +78,7 @@ fn try_start<'a, G: Gate>(
     ensures role { IsSameRole (view worker.old.desk) (view worker.new.desk) }
     ensures task { result ≡ is_some worker.new.task }
     ensures card { HasReadNothing card.old card.new }
+    ensures stops { stops card.new ≡ stops card.old }
     ensures counts { result ≡ true → counts card.new ≡ true }
     ensures as_before { result ≡ false → counts card.new ≡ counts card.old }
     ensures seen { result ≡ false → SawUnready (view worker.old.desk) (view worker.new.desk) i }
@@ -113,6 +114,7 @@ fn sweep<'a, G: Gate>(
     ensures role { IsSameRole (view worker.old.desk) (view worker.new.desk) }
     ensures task { is_some result ≡ is_some worker.new.task }
     ensures card { HasReadNothing card.old card.new }
+    ensures stops { stops card.new ≡ stops card.old }
     ensures counts { is_some result ≡ true → counts card.new ≡ true }
     ensures as_before { IfNone result (counts card.new ≡ counts card.old) }
     ensures count { IfNone result ((view worker.new.desk).looked.count ≡ (view worker.old.desk).looked.count) }
@@ -142,6 +144,7 @@ fn find_work<'a, G: Gate>(
     ensures worker { IsFit run.now.space.now worker.new }
     ensures role { IsSameRole (view worker.old.desk) (view worker.new.desk) }
     ensures card { HasReadNothing card.old card.new }
+    ensures stops { stops card.new ≡ stops card.old }
     ensures counts { worker.new.task ≢ None → counts card.new ≡ true }
     ensures as_before { worker.new.task ≡ None → counts card.new ≡ counts card.old }
     ensures count { worker.new.task ≡ None → (view worker.new.desk).looked.count ≡ (view worker.old.desk).looked.count }
@@ -183,6 +186,7 @@ impl Player {
         ensures may { MayPlay run.now.space.now self.new }
         ensures on { PlaysOn self.old self.new }
         ensures card { counts self.new.card ≡ counts self.old.card }
+        ensures heard { result ≡ true → stops self.new.card ≡ stops self.old.card }
         ensures sane { result ≡ true → self.new.failed ≡ false }
         ensures failed { result ≡ false → self.new.failed ≡ true }
         ensures told { TellsIfItFails self.new }
@@ -221,6 +225,7 @@ impl Player {
         ensures role { IsSameRole (view self.old.worker.desk) (view self.new.worker.desk) }
         ensures same { (self.new.failed ≡ self.old.failed) × (self.new.misses ≡ self.old.misses) }
         ensures card { HasReadNothing self.old.card self.new.card }
+        ensures stops { stops self.new.card ≡ stops self.old.card }
         ensures counts { self.new.worker.task ≢ None → counts self.new.card ≡ true }
         ensures as_before { self.new.worker.task ≡ None → counts self.new.card ≡ counts self.old.card }
         ensures all { among_all ≡ true → self.new.worker.task ≡ None → FoundNone run.now.space.now self.old.place (view self.new.worker.desk) }
@@ -254,6 +259,7 @@ impl Player {
         ensures role { IsSameRole (view self.old.worker.desk) (view self.new.worker.desk) }
         ensures same { self.new.failed ≡ self.old.failed }
         ensures card { HasReadNothing self.old.card self.new.card }
+        ensures stops { stops self.new.card ≡ stops self.old.card }
         ensures counts { self.new.worker.task ≢ None → counts self.new.card ≡ true }
         ensures none { self.new.worker.task ≡ None → FoundNone run.now.space.now 0 (view self.new.worker.desk) }
     {
@@ -278,6 +284,7 @@ impl Player {
         ensures stops { result ≡ false → HasPlayed run.now.space.now self.new }
         ensures looked { result ≡ true → HasLooked run.now.space.now self.old self.new }
         ensures counts { result ≡ true → counts self.new.card ≡ is_some self.new.worker.task }
+        ensures heard { stops self.new.card ≡ stops self.old.card }
     {
         // Read before the look: what is posted later is posted by a worker that is at work now, or by one of those whose work
         // this look finds.
@@ -339,6 +346,8 @@ impl Player {
         ensures told { TellsIfItFails self.new }
         ensures counts { result ≡ true → CountsIfItPlays self.new }
         ensures went { result ≡ true → HadARound run.now.space.now self.old self.new }
+        ensures asked { result ≡ true → self.old.worker.task ≡ None → stops self.new.card ≡ false }
+        ensures heard { result ≡ true → stops self.old.card ≡ false → stops self.new.card ≡ false }
     {
         if self.worker.has_task() {
             return self.advance(rt, alloc, run, gate);
@@ -376,6 +385,7 @@ impl Player {
         ensures told { TellsIfItFails self.new }
         ensures counts { result ≡ true → CountsIfItPlays self.new }
         ensures went { result ≡ true → (before : ThePlayer) × HadARound run.now.space.now before self.new }
+        ensures asked { result ≡ true → stops self.new.card ≡ false }
     {
         if self.card.has_stopped() {
             self.failed = true;

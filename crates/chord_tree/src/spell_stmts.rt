@@ -174,51 +174,32 @@ fn put_stmt(alloc: Global, out: &mut Vec<Token>, stmt: &Stmt) -> Result<(), Allo
     ensures { OnOk result (Adds out.old.items out.new.items (node_stmt (see_stmt stmt.now))) }
 {
     match stmt {
-        Stmt::Assign {
-            name,
-            assign: _,
-            value,
-        } => put_assign(alloc, out, name, value),
+        Stmt::Assign { name, value, .. } => put_assign(alloc, out, name, value),
         Stmt::Call {
             name,
             actuals,
             calls,
         } => put_call(alloc, out, name, actuals, calls),
         Stmt::MethodCall { name, first, calls } => put_through(alloc, out, name, first, calls),
-        Stmt::ThisCall {
-            at: _,
-            first,
-            calls,
-        } => put_this(alloc, out, first, calls),
+        Stmt::ThisCall { first, calls, .. } => put_this(alloc, out, first, calls),
         Stmt::New {
-            at: _,
             name,
             actuals,
             calls,
+            ..
         } => put_new(alloc, out, name, actuals, calls),
         Stmt::Block(block) => put_block(alloc, out, block),
         Stmt::Empty => put_mark(out, Mark::Semicolon),
-        Stmt::If {
-            at: _,
-            bracket: _,
-            test,
-            first,
-        } => put_if(alloc, out, test, first),
+        Stmt::If { test, first, .. } => put_if(alloc, out, test, first),
         Stmt::IfElse {
-            at: _,
-            bracket: _,
             test,
             first,
             second,
+            ..
         } => put_if_else(alloc, out, test, first, second),
-        Stmt::While {
-            at: _,
-            bracket: _,
-            test,
-            body,
-        } => put_while(alloc, out, test, body),
-        Stmt::Return { at: _ } => put_return(out),
-        Stmt::ReturnValue { at: _, value } => put_return_value(alloc, out, value),
+        Stmt::While { test, body, .. } => put_while(alloc, out, test, body),
+        Stmt::Return { .. } => put_return(out),
+        Stmt::ReturnValue { value, .. } => put_return_value(alloc, out, value),
     }
 }
 

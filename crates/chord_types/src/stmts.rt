@@ -52,23 +52,18 @@ fn stmt<'t, 'a>(
         Stmt::Empty => Ok(built::Stmt::Block(Vec::new(alloc))),
         Stmt::If {
             at,
-            bracket: _,
             test,
             first,
+            ..
         } => if_then(alloc, site, *at, test, first, breaks),
         Stmt::IfElse {
             at,
-            bracket: _,
             test,
             first,
             second,
+            ..
         } => if_else(alloc, site, *at, test, first, second, breaks),
-        Stmt::While {
-            at,
-            bracket: _,
-            test,
-            body,
-        } => while_loop(alloc, site, *at, test, body, breaks),
+        Stmt::While { at, test, body, .. } => while_loop(alloc, site, *at, test, body, breaks),
         Stmt::Return { at } => Ok(return_nothing(site, *at, breaks)),
         Stmt::ReturnValue { at, value } => return_value(alloc, site, *at, value, breaks),
     }

@@ -1,6 +1,6 @@
--- The worker has found nothing so far: each cell up to here was not ready, and it counts among those at work if it did, on the card that it had.
+-- The worker has found nothing so far: each cell up to here was not ready, and it counts among those at work if it did, on the card that it had, and knows of being told to stop what it did.
 use Rattle.std.proofs.Common.{◌≡◌, None}
-use Rattle.chord_roll.specs.Cards.{counts, HasReadNothing}
+use Rattle.chord_roll.specs.Cards.{counts, stops, HasReadNothing}
 use Rattle.chord_space.specs.Desks.{view}
 use Rattle.chord_worker.specs.Resting.{IsSameRole}
 use Rattle.chord_pool.specs.Players.{IsFit, AreUnready}
@@ -10,4 +10,4 @@ abbrev pub invariant-loop-i : goal.invariant-loop-i
 invariant-loop-i g l =
     IsFit l.run.space.now l.worker × (l.worker.task ≡ None) × IsSameRole (view l.fn.worker.desk) (view l.worker.desk)
     × ((view l.worker.desk).looked.count ≡ (view l.fn.worker.desk).looked.count) × AreUnready l.from l.i (view l.worker.desk).looked.seen
-    × (counts l.card ≡ counts l.fn.card) × HasReadNothing l.fn.card l.card
+    × (counts l.card ≡ counts l.fn.card) × HasReadNothing l.fn.card l.card × (stops l.card ≡ stops l.fn.card)

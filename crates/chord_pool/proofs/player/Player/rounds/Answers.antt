@@ -10,8 +10,9 @@ loop-round-preserved g c =
       ((now.on.0.0 ∙ was.1.0.0, now.on.0.1 ∙ was.1.0.1), λ sane. role_stays (view c.args.self.now.worker.desk) (view c.loop-round.self.worker.desk) (view c.round.new.self.worker.desk) (was.1.1 was.2) (now.on.1 sane)),
       now.sane refl,
       now.counts refl,
+      now.heard refl was.4,
       (λ _. (c.loop-round.self, now.went refl)),
     )
 
 pub returns-clause-went : goal.returns-clause-went
-returns-clause-went g c = λ _. c.loop-round.invariant.4 (omega arith)
+returns-clause-went g c = λ _. c.loop-round.invariant.5 (omega arith)
