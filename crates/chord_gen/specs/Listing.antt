@@ -1,7 +1,7 @@
 -- The listing of a code: one line for each class, method and chord, and for each block and instruction.
-use Rattle.std.specs.Prelude.{ℕ, suc, ◌/◌, ◌%◌, Bool, true, false, List, [], ◌∷◌, ◌++◌, Option, Some, None, codes, decimal}
+use Rattle.std.specs.Prelude.{ℕ, suc, Bool, true, false, List, [], ◌∷◌, ◌++◌, Option, Some, None, codes, decimal}
 use Rattle.std.specs.List.{flat_map}
-use Rattle.std.specs.Fmt.{signed_decimal, digit_glyph}
+use Rattle.std.specs.Fmt.{signed_decimal}
 use Rattle.chord_code.specs.declared.instruction.Instruction.{Instruction}
 use Rattle.chord_code.specs.declared.instruction.Instruction.TheVariants as i
 use Rattle.chord_code.specs.declared.parts.MethodLine.{MethodLine}
@@ -9,6 +9,7 @@ use Rattle.chord_code.specs.declared.parts.ChordLine.{ChordLine}
 use Rattle.chord_code.specs.declared.parts.ClassLine.{ClassLine}
 use Rattle.chord_code.specs.declared.parts.Block.{Block}
 use Rattle.chord_code.specs.declared.parts.Parts.{Parts}
+use Rattle.chord_io.specs.Digits.{byte_text}
 
 -- items, each with its number from n on
 abbrev pub numbered : {A : Type 0} → (ℕ → A → List ℕ) → ℕ → List A → List ℕ
@@ -18,10 +19,6 @@ numbered line n (x ∷ xs) = line n x ++ numbered line (suc n) xs
 -- a number behind a blank
 abbrev pub number_listed : ℕ → List ℕ
 number_listed n = codes " " ++ decimal n
-
--- a byte: two hexadecimal digits in lower case
-abbrev pub byte_listed : ℕ → List ℕ
-byte_listed byte = digit_glyph false (byte / 16) ∷ digit_glyph false (byte % 16) ∷ []
 
 -- a truth value
 abbrev pub flag_listed : Bool → List ℕ
@@ -66,7 +63,7 @@ name_listed i.Back = codes "back"
 abbrev pub operands_listed : Instruction → List ℕ
 operands_listed (i.Int n) = codes " " ++ signed_decimal n
 operands_listed (i.Flag b) = codes " " ++ flag_listed b
-operands_listed (i.Text t) = codes " x" ++ flat_map byte_listed t
+operands_listed (i.Text t) = codes " x" ++ flat_map byte_text t
 operands_listed (i.Load k) = number_listed k
 operands_listed (i.Store k) = number_listed k
 operands_listed (i.Jump a) = number_listed a

@@ -1,9 +1,8 @@
 //! The listing of a code as text.
 #![tactic(auto)]
 
-ghost use Rattle.std.specs.Prelude.{◌≡◌, ◌<◌, ◌≤◌, OnOk, OnErr, decimal, false};
+ghost use Rattle.std.specs.Prelude.{◌≤◌, OnOk, OnErr};
 ghost use Rattle.std.specs.List.{flat_map};
-ghost use Rattle.std.specs.Fmt.{signed_decimal, digit_glyph};
 ghost use Rattle.chord_io.specs.Faults.{Rose};
 ghost use Rattle.chord_io.specs.Pieces.{Took, TookProperPrefix};
 ghost use Rattle.chord_io.specs.Pen.{Writes};
@@ -15,7 +14,6 @@ use chord_code::code::Code;
 use chord_code::instruction::Instruction;
 use chord_code::parts::{Block, ChordLine, ClassLine, MethodLine};
 use chord_io::{Failed, Pen, Sink};
-use itoa::Buffer;
 
 /// Writes the listing of a code. It takes no memory.
 ///
@@ -163,7 +161,7 @@ fn put_instructions<K: Sink>(pen: &mut Pen, sink: &mut K, instructions: &[Instru
 fn put_instruction<K: Sink>(pen: &mut Pen, sink: &mut K, place: usize, instruction: &Instruction)
     ensures { Writes (K.taken sink.old) (K.faults sink.old) pen.old (instruction_listed place instruction.now) (K.taken sink.new) (K.faults sink.new) pen.new }
 {
-    put_decimal(pen, sink, place);
+    pen.put_number(sink, place);
     pen.put(sink, b" ");
     put_name(pen, sink, instruction);
     put_operands(pen, sink, instruction);
@@ -216,7 +214,7 @@ fn put_operands<K: Sink>(pen: &mut Pen, sink: &mut K, instruction: &Instruction)
     match instruction {
         Instruction::Int(number) => {
             pen.put(sink, b" ");
-            put_signed(pen, sink, number);
+            pen.put_signed(sink, number);
         }
         Instruction::Flag(flag) => {
             pen.put(sink, b" ");
@@ -257,19 +255,7 @@ fn put_text<K: Sink>(pen: &mut Pen, sink: &mut K, text: &Text)
     ensures { Writes (K.taken sink.old) (K.faults sink.old) pen.old (operands_listed (i.Text text.now)) (K.taken sink.new) (K.faults sink.new) pen.new }
 {
     pen.put(sink, b" x");
-    for byte in text.items() {
-        let digits = [digit(*byte / 16), digit(*byte % 16)];
-        pen.put(sink, &digits);
-    }
-}
-
-/// Writes a signed number of 32 bits in decimal.
-/// It takes a reference, since what it reads through it is known to have 32 bits.
-fn put_signed<K: Sink>(pen: &mut Pen, sink: &mut K, number: &i32)
-    ensures { Writes (K.taken sink.old) (K.faults sink.old) pen.old (signed_decimal number.now) (K.taken sink.new) (K.faults sink.new) pen.new }
-{
-    let mut buffer = Buffer::new();
-    pen.put(sink, buffer.format(*number).as_bytes());
+    pen.put_hexadecimal(sink, text.items());
 }
 
 /// Writes a number behind a blank.
@@ -277,25 +263,5 @@ fn put_number<K: Sink>(pen: &mut Pen, sink: &mut K, number: usize)
     ensures { Writes (K.taken sink.old) (K.faults sink.old) pen.old (number_listed number) (K.taken sink.new) (K.faults sink.new) pen.new }
 {
     pen.put(sink, b" ");
-    put_decimal(pen, sink, number);
-}
-
-/// Writes a number in decimal.
-fn put_decimal<K: Sink>(pen: &mut Pen, sink: &mut K, number: usize)
-    ensures { Writes (K.taken sink.old) (K.faults sink.old) pen.old (decimal number) (K.taken sink.new) (K.faults sink.new) pen.new }
-{
-    let mut buffer = Buffer::new();
-    pen.put(sink, buffer.format(number).as_bytes());
-}
-
-/// The hexadecimal digit of a number, in lower case.
-fn digit(number: u8) -> u8
-    requires { number < 16 }
-    ensures { result ≡ digit_glyph false number }
-{
-    if number < 10 {
-        b'0' + number
-    } else {
-        b'a' + (number - 10)
-    }
+    pen.put_number(sink, number);
 }

@@ -10,5 +10,7 @@ pub mod Pieces
 pub mod Memory
 -- what a pen does
 pub mod Pen
+-- how bytes are written in digits
+pub mod Digits
 
 -- ## What only the code's own contracts use

@@ -4,8 +4,8 @@ use Rattle.std.specs.Prelude.{nat_lt, nat_le}
 use Rattle.std.specs.List.{flat_map}
 use Rattle.std.specs.Fmt.{digit_glyph}
 use Rattle.std.proofs.lemmas.Bool.Decides.{nat_tests}
-use Rattle.chord_journal.specs.Text.{byte_text}
-use Rattle.chord_journal.specs.Typed.{AreBytes, IsText}
+use Rattle.chord_io.specs.Digits.{byte_text, AreBytes}
+use Rattle.chord_journal.specs.Typed.{IsText}
 use Rattle.chord_journal.specs.Reading.{Read, ◌>>=◌, digit_of, begins_digit, byte_at, text_at}
 use Rattle.chord_journal.proofs.Binds.{bound, guarded, same_read}
 use Rattle.chord_journal.proofs.Repeats.{Each, many_takes, many_again}

@@ -14,7 +14,8 @@ use Rattle.chord_base.specs.declared.event.End.TheVariants.{Gives, Traps}
 use Rattle.chord_base.specs.declared.event.What.{What}
 use Rattle.chord_base.specs.declared.event.What.TheVariants.{Begun, Made, Sent, Called, Printed, Fired, Ended}
 use Rattle.chord_base.specs.declared.event.Entry.{Entry}
-use Rattle.chord_journal.specs.Text.{byte_text, object_text, value_text, values_text, numbers_text, message_text, firing_text, trap_text, end_text, what_text, entry_text, header_text}
+use Rattle.chord_io.specs.Digits.{byte_text}
+use Rattle.chord_journal.specs.Text.{object_text, value_text, values_text, numbers_text, message_text, firing_text, trap_text, end_text, what_text, entry_text, header_text}
 use Rattle.chord_journal.specs.Typed.{AreTypedValues, IsTypedEnd, IsTypedWhat}
 use Rattle.chord_journal.specs.Wrong.{IsEntryAt}
 use Rattle.chord_journal.specs.Reading.{Read, ◌>>=◌, on, after_text, decimal_at, text_at, object_at, value_at, values_at, numbers_at, sending_at, calling_at, made_at, printed_at, ended_at, firing_at, end_at, what_at, entry_at, header_at}

@@ -12,7 +12,7 @@ use Rattle.std.proofs.Math.Seq.{take-append_seam, drop-append_seam}
 use Rattle.std.proofs.lemmas.Bool.Decides.{nat_tests}
 use Rattle.std.specs.Prelude.{ℤ, pos, negsuc}
 use Rattle.std.specs.Fmt.{signed_decimal}
-use Rattle.chord_journal.specs.Typed.{IsInt}
+use Rattle.chord_io.specs.Digits.{IsInt}
 use Rattle.chord_journal.specs.Reading.{Read, ◌>>=◌, decimal_at, int_at, negative_at, is_decimal, value_if_below}
 use Rattle.chord_journal.proofs.Binds.{bound, guarded, passed, same_read}
 

@@ -3,16 +3,7 @@ use Rattle.std.proofs.Common.{◌≡◌, ℕ, ◌<◌, ◌+◌, List, [], ◌∷
 use Rattle.chord_base.specs.declared.value.Value as value
 use Rattle.chord_base.specs.declared.event.Entry.{Entry}
 use Rattle.chord_io.proofs.Joined.{before_next}
-use Rattle.chord_journal.specs.Typed.{AreBytes, IsTypedValue, AreTypedValues, IsTypedWhat, AreTyped}
-
--- one more byte
-bytes_push : (bytes : List ℕ) (b : ℕ) → AreBytes bytes → b < 256 → AreBytes (bytes ++ (b ∷ []))
-bytes_push [] b all here = (here, tt)
-bytes_push (x ∷ bytes) b (first, all) here = (first, bytes_push bytes b all here)
-
--- the bytes before the next place
-pub bytes_next : (bytes : List ℕ) (i : ℕ) (b d : ℕ) → i < length bytes → b ≡ get_or bytes i d → AreBytes (take i bytes) → b < 256 → AreBytes (take (i + 1) bytes)
-bytes_next bytes i b d within at all here = rw (before_next bytes i b d within at) (bytes_push (take i bytes) b all here)
+use Rattle.chord_journal.specs.Typed.{IsTypedValue, AreTypedValues, IsTypedWhat, AreTyped}
 
 -- one more value, and one more entry
 values_push : (vs : List value.Value) (v : value.Value) → AreTypedValues vs → IsTypedValue v → AreTypedValues (vs ++ (v ∷ []))

@@ -9,7 +9,8 @@ use Rattle.chord_base.specs.Bounds.{IsObjectWithin, IsValueWithin, AreValuesWith
 use Rattle.chord_base.specs.declared.value.Object.{Object}
 use Rattle.chord_base.specs.declared.value.Value as value
 use Rattle.chord_base.specs.declared.value.Value.TheVariants as a_value
-use Rattle.chord_journal.specs.Text.{byte_text, object_text, value_text, values_text, numbers_text}
+use Rattle.chord_io.specs.Digits.{byte_text}
+use Rattle.chord_journal.specs.Text.{object_text, value_text, values_text, numbers_text}
 use Rattle.chord_journal.specs.Typed.{IsTypedValue, AreTypedValues}
 use Rattle.chord_journal.specs.Reading.{Read, ◌>>=◌, after_text, decimal_at, int_at, text_at, object_at, value_at, begins_digit, begins_blank, next_value_at, values_at, next_number_at, numbers_at}
 use Rattle.chord_journal.proofs.Binds.{bound, same_read, by_branch}

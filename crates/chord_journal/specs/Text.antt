@@ -1,8 +1,7 @@
 -- The text of a journal: a header with the count of its entries, and then one line for each entry.
 use Rattle.std.specs.Prelude.{ℕ, true, false, List, [], ◌∷◌, ◌++◌, length, codes, decimal}
 use Rattle.std.specs.List.{flat_map}
-use Rattle.std.specs.Fmt.{signed_decimal, digit_glyph}
-use Rattle.std.specs.Prelude.{◌/◌, ◌%◌}
+use Rattle.std.specs.Fmt.{signed_decimal}
 use Rattle.chord_base.specs.declared.value.Object.{Object}
 use Rattle.chord_base.specs.declared.value.Value as value
 use Rattle.chord_base.specs.declared.value.Value.TheVariants as a_value
@@ -13,10 +12,7 @@ use Rattle.chord_base.specs.declared.event.End.TheVariants.{Gives, Traps}
 use Rattle.chord_base.specs.declared.event.What.{What}
 use Rattle.chord_base.specs.declared.event.What.TheVariants.{Begun, Made, Sent, Called, Printed, Fired, Ended}
 use Rattle.chord_base.specs.declared.event.Entry.{Entry}
-
--- a byte: two hexadecimal digits in lower case
-abbrev pub byte_text : ℕ → List ℕ
-byte_text byte = digit_glyph false (byte / 16) ∷ digit_glyph false (byte % 16) ∷ []
+use Rattle.chord_io.specs.Digits.{byte_text}
 
 -- the bytes of a text: an x, and then each byte
 abbrev pub bytes_text : List ℕ → List ℕ

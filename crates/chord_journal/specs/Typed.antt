@@ -1,5 +1,5 @@
 -- What the types of an entry's parts hold of them: ints have 32 bits, and texts are at most 1,024 bytes.
-use Rattle.std.specs.Prelude.{ℕ, ◌<◌, ◌≤◌, List, [], ◌∷◌, length, ℤ, pos, negsuc}
+use Rattle.std.specs.Prelude.{ℕ, ◌≤◌, List, [], ◌∷◌, length}
 use Rattle.chord_base.specs.declared.value.Value as value
 use Rattle.chord_base.specs.declared.value.Value.TheVariants as a_value
 use Rattle.chord_base.specs.declared.event.End.{End}
@@ -7,16 +7,7 @@ use Rattle.chord_base.specs.declared.event.End.TheVariants.{Gives, Traps}
 use Rattle.chord_base.specs.declared.event.What.{What}
 use Rattle.chord_base.specs.declared.event.What.TheVariants.{Begun, Made, Sent, Called, Printed, Fired, Ended}
 use Rattle.chord_base.specs.declared.event.Entry.{Entry}
-
--- a number of 32 bits with a sign
-abbrev pub IsInt : ℤ → Type 0
-IsInt (pos n) = n < 2147483648
-IsInt (negsuc n) = n < 2147483648
-
--- each is a byte
-abbrev pub AreBytes : List ℕ → Type 0
-AreBytes [] = Unit {0}
-AreBytes (b ∷ bytes) = (b < 256) × AreBytes bytes
+use Rattle.chord_io.specs.Digits.{AreBytes, IsInt}
 
 -- at most 1,024 bytes
 pub record IsText (text : List ℕ) : Type 0 where

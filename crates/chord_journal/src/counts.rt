@@ -10,7 +10,6 @@ ghost use Rattle.chord_journal.specs.Counts.{counts_text, is_begun, is_called, i
 use chord_base::event::{Entry, What};
 use chord_base::journal::Journal;
 use chord_io::{Failed, Pen, Sink};
-use itoa::Buffer;
 
 /// Writes the line of counts of a journal: `begun A made B sent C called D fired E printed F ended G`. It takes no memory.
 ///
@@ -47,15 +46,7 @@ fn put_count<K: Sink>(pen: &mut Pen, sink: &mut K, word: &[u8], count: usize)
     ensures { Writes (K.taken sink.old) (K.faults sink.old) pen.old (word.now ++ decimal count) (K.taken sink.new) (K.faults sink.new) pen.new }
 {
     pen.put(sink, word);
-    put_number(pen, sink, count);
-}
-
-/// Writes a number.
-fn put_number<K: Sink>(pen: &mut Pen, sink: &mut K, number: usize)
-    ensures { Writes (K.taken sink.old) (K.faults sink.old) pen.old (decimal number) (K.taken sink.new) (K.faults sink.new) pen.new }
-{
-    let mut buffer = Buffer::new();
-    pen.put(sink, buffer.format(number).as_bytes());
+    pen.put_number(sink, count);
 }
 
 /// Whether `Main` begins.

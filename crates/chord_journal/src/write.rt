@@ -1,12 +1,11 @@
 //! Writing the text of a journal.
-ghost use Rattle.std.specs.Prelude.{◌≡◌, ◌≤◌, OnOk, OnErr, ◌<◌, false, decimal};
-ghost use Rattle.std.specs.Fmt.{digit_glyph, signed_decimal};
+ghost use Rattle.std.specs.Prelude.{◌≤◌, OnOk, OnErr};
 ghost use Rattle.std.specs.List.{flat_map};
 ghost use Rattle.chord_base.specs.Bounds.{IsJournal};
 ghost use Rattle.chord_io.specs.Faults.{Rose};
 ghost use Rattle.chord_io.specs.Pieces.{Took, TookProperPrefix};
 ghost use Rattle.chord_io.specs.Pen.{Writes};
-ghost use Rattle.chord_journal.specs.Typed.{IsInt, IsText, IsTypedValue, AreTypedValues, IsTypedEnd, IsTypedWhat, AreTyped};
+ghost use Rattle.chord_journal.specs.Typed.{IsText, IsTypedValue, AreTypedValues, IsTypedEnd, IsTypedWhat, AreTyped};
 ghost use Rattle.chord_journal.specs.Text.{bytes_text, object_text, value_text, values_text, numbers_text, message_text, firing_text, trap_text, end_text, what_text, entry_text, header_text, journal_text};
 
 use chord_base::event::{End, Entry, Trap, What};
@@ -15,7 +14,6 @@ use chord_base::members::Members;
 use chord_base::text::Text;
 use chord_base::value::{Object, Value, Values};
 use chord_io::{Failed, Pen, Sink};
-use itoa::Buffer;
 
 /// Writes the text of a journal. It takes no memory.
 ///
@@ -33,17 +31,17 @@ pub fn write_text<K: Sink>(journal: &Journal, sink: &mut K) -> Result<(), Failed
 {
     let mut pen = Pen::new();
     let entries = journal.entries();
-    put_header(&mut pen, sink, entries.len() as u32);
+    put_header(&mut pen, sink, entries.len());
     put_entries(&mut pen, sink, entries);
     pen.finish(sink)
 }
 
 /// Writes the header of a journal with this many entries.
-fn put_header<K: Sink>(pen: &mut Pen, sink: &mut K, count: u32)
+fn put_header<K: Sink>(pen: &mut Pen, sink: &mut K, count: usize)
     ensures { Writes (K.taken sink.old) (K.faults sink.old) pen.old (header_text count) (K.taken sink.new) (K.faults sink.new) pen.new }
 {
     pen.put(sink, b"journal 1 ");
-    put_number(pen, sink, count);
+    pen.put_number(sink, count);
     pen.put(sink, b"\n");
 }
 
@@ -62,9 +60,9 @@ fn put_entry<K: Sink>(pen: &mut Pen, sink: &mut K, entry: &Entry)
     ensures written { Writes (K.taken sink.old) (K.faults sink.old) pen.old (entry_text entry.now) (K.taken sink.new) (K.faults sink.new) pen.new }
     ensures typed { IsTypedWhat entry.now.what }
 {
-    put_number(pen, sink, entry.number);
+    pen.put_number(sink, entry.number as usize);
     pen.put(sink, b" ");
-    put_number(pen, sink, entry.body);
+    pen.put_number(sink, entry.body as usize);
     pen.put(sink, b" ");
     put_what(pen, sink, &entry.what);
     pen.put(sink, b"\n");
@@ -79,7 +77,7 @@ fn put_what<K: Sink>(pen: &mut Pen, sink: &mut K, what: &What)
         What::Begun => pen.put(sink, b"begun"),
         What::Made(class) => {
             pen.put(sink, b"made ");
-            put_number(pen, sink, u32::from(*class));
+            pen.put_number(sink, usize::from(*class));
         }
         What::Sent(object, method, values) => {
             pen.put(sink, b"sent ");
@@ -111,7 +109,7 @@ fn put_message<K: Sink>(pen: &mut Pen, sink: &mut K, object: Object, method: u8,
 {
     put_object(pen, sink, object);
     pen.put(sink, b" ");
-    put_number(pen, sink, u32::from(method));
+    pen.put_number(sink, usize::from(method));
     put_values(pen, sink, values);
 }
 
@@ -127,11 +125,11 @@ fn put_firing<K: Sink>(
     ensures written { Writes (K.taken sink.old) (K.faults sink.old) pen.old (firing_text chord object members.now values.now) (K.taken sink.new) (K.faults sink.new) pen.new }
     ensures typed { AreTypedValues values.now }
 {
-    put_number(pen, sink, u32::from(chord));
+    pen.put_number(sink, usize::from(chord));
     pen.put(sink, b" ");
     put_object(pen, sink, object);
     pen.put(sink, b" ");
-    put_number(pen, sink, members.items().len() as u32);
+    pen.put_number(sink, members.items().len());
     put_members(pen, sink, members);
     put_values(pen, sink, values);
 }
@@ -142,7 +140,7 @@ fn put_members<K: Sink>(pen: &mut Pen, sink: &mut K, members: &Members)
 {
     for number in members.items() {
         pen.put(sink, b" ");
-        put_number(pen, sink, *number as u32);
+        pen.put_number(sink, *number as usize);
     }
 }
 
@@ -189,7 +187,7 @@ fn put_value<K: Sink>(pen: &mut Pen, sink: &mut K, value: &Value)
         Value::Unit => pen.put(sink, b"u"),
         Value::Int(number) => {
             pen.put(sink, b"i");
-            put_signed(pen, sink, number);
+            pen.put_signed(sink, number);
         }
         Value::Flag(true) => pen.put(sink, b"t"),
         Value::Flag(false) => pen.put(sink, b"f"),
@@ -198,24 +196,14 @@ fn put_value<K: Sink>(pen: &mut Pen, sink: &mut K, value: &Value)
     }
 }
 
-/// Writes a number of 32 bits in decimal, with its sign where it is negative.
-/// It takes a reference, since what it reads through it is known to have 32 bits.
-fn put_signed<K: Sink>(pen: &mut Pen, sink: &mut K, number: &i32)
-    ensures written { Writes (K.taken sink.old) (K.faults sink.old) pen.old (signed_decimal number.now) (K.taken sink.new) (K.faults sink.new) pen.new }
-    ensures typed { IsInt number.now }
-{
-    let mut buffer = Buffer::new();
-    pen.put(sink, buffer.format(*number).as_bytes());
-}
-
 /// Writes an object: its number and its class.
 fn put_object<K: Sink>(pen: &mut Pen, sink: &mut K, object: Object)
     ensures { Writes (K.taken sink.old) (K.faults sink.old) pen.old (object_text object) (K.taken sink.new) (K.faults sink.new) pen.new }
 {
     pen.put(sink, b"o");
-    put_number(pen, sink, object.number);
+    pen.put_number(sink, object.number as usize);
     pen.put(sink, b".");
-    put_number(pen, sink, u32::from(object.class));
+    pen.put_number(sink, usize::from(object.class));
 }
 
 /// Writes the bytes of a text, two hexadecimal digits each.
@@ -224,28 +212,5 @@ fn put_text<K: Sink>(pen: &mut Pen, sink: &mut K, text: &Text)
     ensures typed { IsText text.now }
 {
     pen.put(sink, b"x");
-    for byte in text.items() {
-        let digits = [digit(*byte / 16), digit(*byte % 16)];
-        pen.put(sink, &digits);
-    }
-}
-
-/// Writes a number in decimal.
-fn put_number<K: Sink>(pen: &mut Pen, sink: &mut K, number: u32)
-    ensures { Writes (K.taken sink.old) (K.faults sink.old) pen.old (decimal number) (K.taken sink.new) (K.faults sink.new) pen.new }
-{
-    let mut buffer = Buffer::new();
-    pen.put(sink, buffer.format(number).as_bytes());
-}
-
-/// The hexadecimal digit of a number, in lower case.
-fn digit(number: u8) -> u8
-    requires { number < 16 }
-    ensures { result ≡ digit_glyph false number }
-{
-    if number < 10 {
-        b'0' + number
-    } else {
-        b'a' + (number - 10)
-    }
+    pen.put_hexadecimal(sink, text.items());
 }

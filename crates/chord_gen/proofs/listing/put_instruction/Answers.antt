@@ -3,4 +3,4 @@ use Rattle.chord_io.proofs.Pens.{Writes-join}
 use Rattle.chord_gen.proofs.listing.put_instruction.Goals as goal
 
 pub returns : goal.returns
-returns g c = Writes-join c.put_decimal.ensures (Writes-join c.put.ensures (Writes-join c.put_name.ensures (Writes-join c.put_operands.ensures c.put-2.ensures)))
+returns g c = Writes-join c.put_number.ensures (Writes-join c.put.ensures (Writes-join c.put_name.ensures (Writes-join c.put_operands.ensures c.put-2.ensures)))
