@@ -8,6 +8,7 @@ ghost use Rattle.chord_classes.specs.Table.{is_main, method_named, inherited, fi
 ghost use Rattle.chord_classes.specs.MethodViews.{see_method, see_builder};
 ghost use Rattle.chord_classes.specs.Entries.{IsGrown};
 
+use crate::mains::is_main;
 use crate::method::{Builder, access_of, method_of};
 use crate::methods::Methods;
 use crate::table::Table;
@@ -107,13 +108,6 @@ pub fn adds_none(table: &Table, base: Option<u32>, own: &Methods, header: &Heade
         return true;
     }
     table.inherits(base, name)
-}
-
-/// Whether a header is that of `Main`, which is no method.
-pub fn is_main(header: &Header) -> bool
-    ensures { result ≡ is_main (see_header header.now) }
-{
-    header.name.text.items() == b"Main".as_slice()
 }
 
 /// A member's headers.

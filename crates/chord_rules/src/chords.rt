@@ -10,8 +10,8 @@ ghost use Rattle.chord_classes.specs.ChordRules.{repeated, second_sync};
 ghost use Rattle.chord_classes.specs.Least.{least, keys};
 
 use crate::headers::counts_sync;
-use chord_classes::build::is_main;
 use chord_classes::least::Least;
+use chord_classes::mains::is_main;
 use chord_classes::names::Names;
 use chord_tree::classes::Header;
 use std::alloc::{AllocError, Global};

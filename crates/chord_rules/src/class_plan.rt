@@ -9,9 +9,10 @@ ghost use Rattle.chord_classes.specs.Plan.{method_plan, header_number, header_nu
 ghost use Rattle.chord_classes.specs.MethodViews.{see_method};
 ghost use Rattle.chord_rules.specs.Planning.{chord_bodies, base_methods, plan_parts};
 
-use crate::headers::{has_main, is_sync};
+use crate::headers::is_sync;
 use crate::numbers::{after, among, narrow};
 use chord_bodies::plan::{ChordPlan, ClassPlan, MethodPlan};
+use chord_classes::mains::has_main;
 use chord_classes::method::Method;
 use chord_classes::table::Table;
 use chord_tree::classes::{Class, Header, Member};

@@ -1,15 +1,14 @@
 //! What a header says of its method.
 #![tactic(auto)]
 
-ghost use Rattle.std.specs.Prelude.{◌≡◌, map};
+ghost use Rattle.std.specs.Prelude.{◌≡◌};
 ghost use Rattle.chord_tree.specs.View.{see_header};
 ghost use Rattle.chord_classes.specs.Table.{has_word, is_virtual_word};
 ghost use Rattle.chord_classes.specs.Types.{is_sync};
-ghost use Rattle.chord_classes.specs.Site.{has_main};
 ghost use Rattle.chord_classes.specs.OverrideRules.{overrides, virtual_word};
 ghost use Rattle.chord_classes.specs.ChordRules.{static_word, counts_sync};
 
-use chord_classes::build::is_main;
+use chord_classes::mains::is_main;
 use chord_tree::classes::{Header, ModifierKeyword, ReturnType};
 
 /// Whether callers of a method wait.
@@ -76,18 +75,6 @@ pub fn is_static(header: &Header) -> bool
 {
     for modifier in &header.modifiers {
         if modifier.keyword == ModifierKeyword::Static {
-            return true;
-        }
-    }
-    false
-}
-
-/// Whether one of the headers is that of `Main`.
-pub fn has_main(headers: &[Header]) -> bool
-    ensures { result ≡ has_main (map see_header headers.now) }
-{
-    for header in headers {
-        if is_main(header) {
             return true;
         }
     }

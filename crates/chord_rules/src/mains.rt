@@ -5,14 +5,14 @@ ghost use Rattle.std.specs.Prelude.{◌≡◌, ◌||◌, IfOk, map, flat_map, un
 ghost use Rattle.chord_tree.specs.View.{see_class, see_header, see_member};
 ghost use Rattle.chord_classes.specs.ChordRules.{is_void, is_right_main, mains_among, member_mains, mains_of, wrong_mains};
 ghost use Rattle.chord_classes.specs.Plan.{main_among, main_in};
-ghost use Rattle.chord_classes.specs.Site.{member_in_main};
 ghost use Rattle.chord_classes.specs.Least.{least, keys};
 ghost use Rattle.chord_rules.specs.Mains.{wrong_from, some_main, main_at};
 
-use crate::headers::{has_main, is_static, may_be_overridden};
+use crate::headers::{is_static, may_be_overridden};
 use crate::numbers::after;
-use chord_classes::build::{headers_of, is_main};
+use chord_classes::build::headers_of;
 use chord_classes::least::Least;
+use chord_classes::mains::{is_main, member_in_main};
 use chord_tree::classes::{Class, Header, Member, ReturnType};
 use std::alloc::AllocError;
 
@@ -101,23 +101,13 @@ pub fn wrong_mains(classes: &[Class], end: u32, breaks: &mut Least)
     breaks.note_if(13, !seen, end);
 }
 
-/// Whether the body of a member is that of `Main`.
-fn is_member_main(member: &Member) -> bool
-    ensures { result ≡ member_in_main (see_member member.now) }
-{
-    match member {
-        Member::Constructor { .. } => false,
-        Member::Chord { headers, .. } => has_main(headers),
-    }
-}
-
 /// The first member that is `Main`, among members of which the first has this number.
 fn main_among(first: u32, members: &[Member]) -> Result<Option<u32>, AllocError>
     ensures { IfOk result (λ found. found ≡ main_among first (map see_member members.now)) }
 {
     let mut number = first;
     for member in members {
-        if is_member_main(member) {
+        if member_in_main(member) {
             return Ok(Some(number));
         }
         number = after(number, 1)?;

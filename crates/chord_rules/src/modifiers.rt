@@ -8,8 +8,8 @@ ghost use Rattle.chord_classes.specs.DeclarationRules.{bears_static, bears_virtu
 ghost use Rattle.chord_classes.specs.Least.{least, keys};
 ghost use Rattle.chord_rules.specs.Bearers.{see_bearer, barred_by, seen_with, header_barred};
 
-use chord_classes::build::is_main;
 use chord_classes::least::Least;
+use chord_classes::mains::is_main;
 use chord_tree::classes::{Header, Modifier, ModifierKeyword};
 
 /// Where a modifier stands: on a constructor, or in a header, which may be that of `Main` alone.

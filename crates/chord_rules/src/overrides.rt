@@ -11,8 +11,8 @@ ghost use Rattle.chord_rules.specs.ClassKeys.{differing, hiding, misfitting, hea
 use crate::agreement::{agree, may_override};
 use crate::first_headers::FirstHeaders;
 use crate::headers::overrides;
-use chord_classes::build::is_main;
 use chord_classes::least::Least;
+use chord_classes::mains::is_main;
 use chord_classes::table::Table;
 use chord_tree::classes::Header;
 

@@ -10,7 +10,7 @@ ghost use Rattle.chord_tree.specs.Walk.{body_of};
 ghost use Rattle.chord_bodies.specs.View.{view_stmt, stmt_list};
 ghost use Rattle.chord_bodies.specs.BodyView.{view_body};
 ghost use Rattle.chord_classes.specs.Types.{type_known};
-ghost use Rattle.chord_classes.specs.Site.{member_formals, headers_due, member_due, has_main, member_in_main};
+ghost use Rattle.chord_classes.specs.Site.{member_formals, headers_due, member_due};
 ghost use Rattle.chord_classes.specs.ItemRules.{undeclared_formals, undeclared_header, undeclared_member, unreturned, block_surely};
 ghost use Rattle.chord_classes.specs.Resolve.{is_builder};
 ghost use Rattle.chord_classes.specs.Least.{keys, least};
@@ -25,8 +25,8 @@ use crate::stmts::block;
 use chord_base::static_type::StaticType;
 use chord_bodies::body::Body;
 use chord_bodies::stmt::Stmt;
-use chord_classes::build::is_main;
 use chord_classes::least::Least;
+use chord_classes::mains::member_in_main;
 use chord_classes::table::Table;
 use chord_tree::classes::{Formal, Header, Member, ReturnType};
 use chord_tree::names::ValueType;
@@ -41,28 +41,6 @@ fn body_of(member: &Member) -> &Block
     match member {
         Member::Constructor { body, .. } => body,
         Member::Chord { body, .. } => body,
-    }
-}
-
-/// Whether one of the headers is that of `Main`.
-fn has_main(headers: &[Header]) -> bool
-    ensures { result ≡ has_main (map see_header headers.now) }
-{
-    for header in headers {
-        if is_main(header) {
-            return true;
-        }
-    }
-    false
-}
-
-/// Whether a body is that of `Main`.
-fn member_in_main(member: &Member) -> bool
-    ensures { result ≡ member_in_main (see_member member.now) }
-{
-    match member {
-        Member::Constructor { .. } => false,
-        Member::Chord { headers, .. } => has_main(headers),
     }
 }
 
