@@ -8,7 +8,7 @@ ghost use Rattle.chord_classes.specs.Table.{is_main, method_named, inherited, fi
 ghost use Rattle.chord_classes.specs.MethodViews.{see_method, see_builder};
 ghost use Rattle.chord_classes.specs.Entries.{IsGrown};
 
-use crate::mains::is_main;
+use crate::main_headers::is_main;
 use crate::method::{Builder, access_of, method_of};
 use crate::methods::Methods;
 use crate::table::Table;

@@ -8,7 +8,7 @@ pub mod build;
 pub mod entry;
 pub mod laws;
 pub mod least;
-pub mod mains;
+pub mod main_headers;
 pub mod method;
 pub mod methods;
 pub mod names;

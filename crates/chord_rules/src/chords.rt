@@ -11,7 +11,7 @@ ghost use Rattle.chord_classes.specs.Least.{least, keys};
 
 use crate::headers::counts_sync;
 use chord_classes::least::Least;
-use chord_classes::mains::is_main;
+use chord_classes::main_headers::is_main;
 use chord_classes::names::Names;
 use chord_tree::classes::Header;
 use std::alloc::{AllocError, Global};

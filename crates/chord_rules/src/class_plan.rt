@@ -12,7 +12,7 @@ ghost use Rattle.chord_rules.specs.Planning.{chord_bodies, base_methods, plan_pa
 use crate::headers::is_sync;
 use crate::numbers::{after, among, narrow};
 use chord_bodies::plan::{ChordPlan, ClassPlan, MethodPlan};
-use chord_classes::mains::has_main;
+use chord_classes::main_headers::has_main;
 use chord_classes::method::Method;
 use chord_classes::table::Table;
 use chord_tree::classes::{Class, Header, Member};

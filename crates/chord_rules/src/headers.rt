@@ -8,7 +8,7 @@ ghost use Rattle.chord_classes.specs.Types.{is_sync};
 ghost use Rattle.chord_classes.specs.OverrideRules.{overrides, virtual_word};
 ghost use Rattle.chord_classes.specs.ChordRules.{static_word, counts_sync};
 
-use chord_classes::mains::is_main;
+use chord_classes::main_headers::is_main;
 use chord_tree::classes::{Header, ModifierKeyword, ReturnType};
 
 /// Whether callers of a method wait.

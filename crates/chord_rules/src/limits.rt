@@ -10,7 +10,7 @@ ghost use Rattle.chord_rules.specs.Limits.{crowded_formals, base_depth};
 
 use crate::numbers::after;
 use chord_classes::least::Least;
-use chord_classes::mains::has_main;
+use chord_classes::main_headers::has_main;
 use chord_classes::table::Table;
 use chord_tree::classes::{Class, Formal, Header, Member};
 use std::alloc::AllocError;

@@ -12,7 +12,7 @@ use crate::headers::{is_static, may_be_overridden};
 use crate::numbers::after;
 use chord_classes::build::headers_of;
 use chord_classes::least::Least;
-use chord_classes::mains::{is_main, member_in_main};
+use chord_classes::main_headers::{is_main, member_in_main};
 use chord_tree::classes::{Class, Header, Member, ReturnType};
 use std::alloc::AllocError;
 

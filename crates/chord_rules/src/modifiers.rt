@@ -9,7 +9,7 @@ ghost use Rattle.chord_classes.specs.Least.{least, keys};
 ghost use Rattle.chord_rules.specs.Bearers.{see_bearer, barred_by, seen_with, header_barred};
 
 use chord_classes::least::Least;
-use chord_classes::mains::is_main;
+use chord_classes::main_headers::is_main;
 use chord_tree::classes::{Header, Modifier, ModifierKeyword};
 
 /// Where a modifier stands: on a constructor, or in a header, which may be that of `Main` alone.

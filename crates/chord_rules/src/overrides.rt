@@ -12,7 +12,7 @@ use crate::agreement::{agree, may_override};
 use crate::first_headers::FirstHeaders;
 use crate::headers::overrides;
 use chord_classes::least::Least;
-use chord_classes::mains::is_main;
+use chord_classes::main_headers::is_main;
 use chord_classes::table::Table;
 use chord_tree::classes::Header;
 

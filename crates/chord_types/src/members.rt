@@ -26,7 +26,7 @@ use chord_base::static_type::StaticType;
 use chord_bodies::body::Body;
 use chord_bodies::stmt::Stmt;
 use chord_classes::least::Least;
-use chord_classes::mains::member_in_main;
+use chord_classes::main_headers::member_in_main;
 use chord_classes::table::Table;
 use chord_tree::classes::{Formal, Header, Member, ReturnType};
 use chord_tree::names::ValueType;
