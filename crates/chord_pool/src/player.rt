@@ -1,6 +1,6 @@
 //! A worker at its thread: it plays what it has, and looks for more.
 ghost use Rattle.std.specs.Prelude.{◌≡◌, ◌≢◌, ◌<◌, ◌≤◌, true, false, None, Some, is_some, IfNone};
-ghost use Rattle.chord_roll.specs.Cards.{counts, stops, HasReadNothing, IsSameCard};
+ghost use Rattle.chord_roll.specs.Cards.{counts, last_read, stops, HasReadNothing, IsSameCard};
 ghost use Rattle.chord_pool.specs.declared.player.Player.{Player as ThePlayer};
 ghost use Rattle.chord_space.specs.Desks.{view};
 ghost use Rattle.chord_task.specs.declared.task.Task.{Task as TheTask};
@@ -216,11 +216,13 @@ impl Player {
         true
     }
 
-    /// Looks for a firing from its place on: among all numbers, or else among those that it knew of before.
+    /// Looks for a firing from its place on: among all numbers, or else among those that it knew of before. One that does not count
+    /// looks among all of them where it has read that nobody is at work, and only then: so none was at work before the look began.
     fn look<'a, G: Gate>(&mut self, run: &Run<'a>, gate: &G, among_all: bool)
         requires run { IsOneRun run.now.space.now run.now.code.now run.now.limits.now }
         requires worker { IsFit run.now.space.now self.old.worker }
         requires idle { self.old.worker.task ≡ None }
+        requires read { among_all ≡ true → counts self.old.card ≡ false → last_read self.old.card ≡ Some 0 }
         ensures worker { IsFit run.now.space.now self.new.worker }
         ensures role { IsSameRole (view self.old.worker.desk) (view self.new.worker.desk) }
         ensures same { (self.new.failed ≡ self.old.failed) × (self.new.misses ≡ self.old.misses) }
@@ -255,6 +257,7 @@ impl Player {
         requires worker { IsFit run.now.space.now self.old.worker }
         requires idle { self.old.worker.task ≡ None }
         requires seen { FoundNone run.now.space.now from (view self.old.worker.desk) }
+        requires read { last_read self.old.card ≡ Some 0 }
         ensures worker { IsFit run.now.space.now self.new.worker }
         ensures role { IsSameRole (view self.old.worker.desk) (view self.new.worker.desk) }
         ensures same { self.new.failed ≡ self.old.failed }
@@ -387,8 +390,8 @@ impl Player {
         ensures went { result ≡ true → (before : ThePlayer) × HadARound run.now.space.now before self.new }
         ensures asked { result ≡ true → stops self.new.card ≡ false }
     {
-        if self.card.has_stopped() {
-            self.failed = true;
+        self.failed = self.card.has_stopped();
+        if self.failed {
             return false;
         }
         for _round in 0..ROUNDS {
