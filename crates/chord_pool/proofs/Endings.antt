@@ -5,7 +5,9 @@ use mathlib.Core.Path.{Path}
 use native.Mathlib.Decide.{ℕ_discrete}
 use Rattle.chord_rule.specs.declared.view.View.{View}
 use Rattle.chord_rule.specs.Closing.{IsAsleep, MayClose, AreQuiet}
+use Rattle.chord_rule.specs.Kinds.{saw}
 use Rattle.chord_rule.specs.Numbers.{HasNumber}
+use Rattle.chord_rule.specs.Tells.{a_word}
 use Rattle.chord_rule.specs.Ways.{LastSeen}
 use Rattle.chord_base.specs.declared.event.Limits.{Limits}
 use Rattle.chord_code.specs.declared.parts.Parts.{Parts}
@@ -15,11 +17,13 @@ use Rattle.chord_space.specs.declared.space.Space.{Space}
 use Rattle.chord_space.specs.Desks.{view, events, space_code, space_limits}
 use Rattle.chord_task.specs.declared.task.Task.{Task}
 use Rattle.chord_task.specs.declared.parcel.Opened.{Opened as Parcel}
+use Rattle.chord_word.specs.declared.cells.Cell.{Cell}
+use Rattle.chord_word.specs.declared.cells.Cell.TheVariants.{Ready}
 use Rattle.chord_word.specs.declared.cells.Word.{Word}
 use Rattle.chord_worker.specs.declared.worker.Worker.{Worker}
 use Rattle.chord_worker.specs.Resting.{IsSameRole, IsSeen, beside_task}
 use Rattle.chord_pool.specs.Players.{IsFit}
-use Rattle.chord_pool.specs.Ending.{AreAwake, IsRunOver}
+use Rattle.chord_pool.specs.Ending.{AreAwake, IsRunOver, SawAsleep, IsUnready}
 
 -- the role of a desk stays over two steps
 pub role_stays : (u v w : View) → IsSameRole u v → IsSameRole v w → IsSameRole u w
@@ -30,6 +34,22 @@ pub awake_more : (i : ℕ) (v w : View) (x : Word) → AreAwake i v.looked.seen 
 awake_more i v w x was look awake k low = dite (ℕ_discrete k i)
     (λ e. (x, subst (LastSeen k x) (sym look.seen) (inl (e, refl)), awake))
     (λ ne. let r = was k (omega (arith, low, ne)) in (r.0, subst (LastSeen k r.0) (sym look.seen) (inr (ne, r.1)), r.2))
+
+-- a look at a cell that somebody has to look after, and in which no firing is ready
+pub stirred_by_look : (v w : View) (i : ℕ) (x : Word) → IsSeen v w i x → IsAsleep x.cell → x.cell ≢ Ready → (k : ℕ) × SawAsleep k w.looked.seen × IsUnready k w.looked.seen
+stirred_by_look v w i x look asleep unready = (i, subst (SawAsleep i) (sym look.seen) (inl (refl, asleep)), (x, subst (LastSeen i x) (sym look.seen) (inl (refl, refl)), unready))
+
+-- a look at a firing that was ready, and then no longer, as its cell told
+pub stirred_by_start : (v u w : View) (i : ℕ) (x : Word) (c : Cell) (next : Option ℕ) → IsSeen v u i x → IsAsleep x.cell → c ≢ Ready → w ≡ saw u i (a_word c next) → (k : ℕ) × SawAsleep k w.looked.seen × IsUnready k w.looked.seen
+stirred_by_start v u w i x c next look asleep unready told = (
+  i,
+  subst (λ (z : View). SawAsleep i z.looked.seen) (sym told) (inr (subst (SawAsleep i) (sym look.seen) (inl (refl, asleep)))),
+  (a_word c next, subst (λ (z : View). LastSeen i (a_word c next) z.looked.seen) (sym told) (inl (refl, refl)), unready),
+)
+
+-- a cell that was looked at in another state than ready
+pub unready_once : (v w : View) (i : ℕ) (x : Word) → IsSeen v w i x → x.cell ≢ Ready → IsUnready i w.looked.seen
+unready_once v w i x look unready = (x, subst (LastSeen i x) (sym look.seen) (inl (refl, refl)), unready)
 
 -- the first worker, alone and with nothing to play, may close where it looked at the counter, which is below the limit, and at each cell below
 pub may_close : (s : Space Parcel) (w : Worker) (n c count : ℕ) → IsFit s w → (view w.desk).first ≡ true → (view w.desk).drawn ≡ true → (view w.desk).lent ≡ 0

@@ -8,6 +8,7 @@ use Rattle.chord_space.specs.declared.space.Space.{Space}
 use Rattle.chord_space.specs.Desks.{view, events}
 use Rattle.chord_task.specs.declared.parcel.Opened.{Opened as Parcel}
 use Rattle.chord_task.specs.declared.task.Task.{Task}
+use Rattle.chord_word.specs.declared.cells.Cell.TheVariants.{Ready}
 use Rattle.chord_word.specs.declared.cells.Word.{Word}
 use Rattle.chord_worker.specs.declared.worker.Worker.{Worker}
 use Rattle.chord_worker.specs.Resting.{IsAtRest}
@@ -17,14 +18,18 @@ use Rattle.chord_worker.specs.Stepping.{HasGoneOn}
 abbrev pub AreAwake : ℕ → List Look → Type 0
 AreAwake count looks = (i : ℕ) → i < count → (x : Word) × LastSeen i x looks × (IsAsleep x.cell → ⊥)
 
--- one of these looks saw a cell asleep
-abbrev pub SawAsleep : List Look → Type 0
-SawAsleep [] = ⊥
-SawAsleep (l ∷ ls) = IsAsleep l.word.cell ⊎ SawAsleep ls
+-- one of these looks saw the cell i asleep
+abbrev pub SawAsleep : ℕ → List Look → Type 0
+SawAsleep i [] = ⊥
+SawAsleep i (l ∷ ls) = ((i ≡ l.number) × IsAsleep l.word.cell) ⊎ SawAsleep i ls
 
--- the worker has a task, or saw a cell that somebody has to look after
+-- the cell i was last seen in another state than ready
+abbrev pub IsUnready : ℕ → List Look → Type 0
+IsUnready i looks = (x : Word) × LastSeen i x looks × (x.cell ≢ Ready)
+
+-- the worker has a task, or saw a cell that somebody has to look after, and no firing that is ready is left there
 abbrev pub IsStirred : Worker → Type 0
-IsStirred w = (w.task ≢ None) ⊎ SawAsleep (view w.desk).looked.seen
+IsStirred w = (w.task ≢ None) ⊎ ((i : ℕ) × SawAsleep i (view w.desk).looked.seen × IsUnready i (view w.desk).looked.seen)
 
 -- the first worker, alone, went on with its task, or looked at the cells and has cause to go on
 pub record HadATurn (v w : Worker) : Type 0 where

@@ -53,7 +53,7 @@ CountsIfItPlays x = x.worker.task ≢ None → counts x.card ≡ true
 abbrev pub AreUnready : ℕ → ℕ → List Look → Type 0
 AreUnready from to looks = (i : ℕ) → from ≤ i → i < to → (x : Word) × LastSeen i x looks × (x.cell ≢ Ready)
 
--- the desk looked at the counter, and last saw no firing ready among the numbers below it, from the first of these on and below the second
+-- the desk looked at the counter, and last saw no firing ready among the numbers that are given, from `from` up to below `below`
 pub record FoundNoneBelow (s : Space Parcel) (from below : ℕ) (v : View) : Type 0 where
   pub count : ℕ
   pub counted : v.looked.count ≡ Some count
@@ -63,7 +63,7 @@ pub record FoundNoneBelow (s : Space Parcel) (from below : ℕ) (v : View) : Typ
 abbrev pub FoundNone : Space Parcel → ℕ → View → Type 0
 FoundNone s from v = FoundNoneBelow s from s.events v
 
--- a player may stop where it was told that the limit is reached, or found no firing to start and read that nobody is at work
+-- a player may stop where it was told that the limit is reached, or last found no firing to start among all numbers and last read that nobody is at work
 abbrev pub MayStop : Space Parcel → Player → Type 0
 MayStop s x = ((view x.worker.desk).spent ≡ true) ⊎ (FoundNone s 0 (view x.worker.desk) × (last_read x.card ≡ Some 0))
 
@@ -100,6 +100,14 @@ pub record HadARound (s : Space Parcel) (x y : Player) : Type 0 where
 abbrev pub PlaysOn : Player → Player → Type 0
 PlaysOn x y = IsSameCard x.card y.card × (y.failed ≡ false → IsSameRole (view x.worker.desk) (view y.worker.desk))
 
+-- a player that went on so far from the first one: it has the same card, plays at the same desk, has not failed and may go on, counts if it plays, and read that nobody told it to stop
+pub record IsOnTheWay (s : Space Parcel) (x y : Player) : Type 0 where
+  pub on : PlaysOn x y
+  pub sane : y.failed ≡ false
+  pub settled : IsSettled s y.worker
+  pub counts_so : CountsIfItPlays y
+  pub told_nothing : stops y.card ≡ false
+
 -- a player that was hired may go on, and has nothing to play yet
 abbrev pub IsHired : Space Parcel → Player → Type 0
 IsHired s x = MayPlay s x × (x.worker.task ≡ None) × (x.failed ≡ false)
@@ -109,7 +117,7 @@ abbrev pub AreHired : Space Parcel → List Player → Type 0
 AreHired s [] = Unit {0}
 AreHired s (x ∷ xs) = IsHired s x × AreHired s xs
 
--- each of these that has not failed has nothing to play
+-- each of these that has not failed has nothing to play, and may stop
 abbrev pub HaveAllPlayed : Space Parcel → List Player → Type 0
 HaveAllPlayed s [] = Unit {0}
 HaveAllPlayed s (x ∷ xs) = HasPlayed s x × HaveAllPlayed s xs

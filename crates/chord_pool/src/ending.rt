@@ -5,7 +5,7 @@ ghost use Rattle.chord_space.specs.Desks.{view};
 ghost use Rattle.chord_word.specs.declared.cells.Word.{Word};
 ghost use Rattle.chord_worker.specs.Resting.{IsSameRole, IsSeen};
 ghost use Rattle.chord_pool.specs.Players.{IsOneRun, IsFit, IsSettled};
-ghost use Rattle.chord_pool.specs.Ending.{AreAwake, IsStirred, HadATurn, IsLast, IsRunOver};
+ghost use Rattle.chord_pool.specs.Ending.{AreAwake, IsUnready, IsStirred, HadATurn, IsLast, IsRunOver};
 
 use crate::run::Run;
 use chord_word::Cell;
@@ -24,6 +24,7 @@ fn is_awake<'a, G: Gate>(run: &Run<'a>, worker: &mut Worker, i: u32, gate: &G) -
     ensures idle { result ≡ true → worker.new.task ≡ None }
     ensures seen { result ≡ true → (x : Word) × IsSeen (view worker.old.desk) (view worker.new.desk) i x × (IsAsleep x.cell → ⊥) }
     ensures stirred { result ≡ false → IsStirred worker.new }
+    ensures started { worker.new.task ≡ None → IsUnready i (view worker.new.desk).looked.seen }
 {
     match worker.look(run.space, i) {
         Cell::Ready => {

@@ -6,7 +6,7 @@ ghost use Rattle.chord_space.specs.Desks.{view};
 ghost use Rattle.chord_task.specs.declared.task.Task.{Task as TheTask};
 ghost use Rattle.chord_worker.specs.Resting.{IsSameRole};
 ghost use Rattle.chord_worker.specs.Stepping.{HasGoneOn};
-ghost use Rattle.chord_pool.specs.Players.{IsOneRun, IsFit, AreUnready, FoundNoneBelow, FoundNone, SawUnready, KnowsCount, HasLooked, HadARound, MayPlay, HasPlayed, PlaysOn, CountsIfItPlays, TellsIfItFails};
+ghost use Rattle.chord_pool.specs.Players.{IsOneRun, IsFit, AreUnready, FoundNoneBelow, FoundNone, SawUnready, KnowsCount, HasLooked, HadARound, MayPlay, HasPlayed, PlaysOn, IsOnTheWay, CountsIfItPlays, TellsIfItFails};
 
 use crate::pause::Pause;
 use crate::run::Run;
@@ -288,6 +288,7 @@ impl Player {
         ensures looked { result ≡ true → HasLooked run.now.space.now self.old self.new }
         ensures counts { result ≡ true → counts self.new.card ≡ is_some self.new.worker.task }
         ensures heard { stops self.new.card ≡ stops self.old.card }
+        ensures stays { counts self.old.card ≡ true → result ≡ true }
     {
         // Read before the look: what is posted later is posted by a worker that is at work now, or by one of those whose work
         // this look finds.
@@ -387,7 +388,7 @@ impl Player {
         ensures stops { result ≡ false → HasPlayed run.now.space.now self.new }
         ensures told { TellsIfItFails self.new }
         ensures counts { result ≡ true → CountsIfItPlays self.new }
-        ensures went { result ≡ true → (before : ThePlayer) × HadARound run.now.space.now before self.new }
+        ensures went { result ≡ true → (before : ThePlayer) × IsOnTheWay run.now.space.now self.old before × HadARound run.now.space.now before self.new }
         ensures asked { result ≡ true → stops self.new.card ≡ false }
     {
         self.failed = self.card.has_stopped();

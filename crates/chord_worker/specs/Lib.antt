@@ -10,6 +10,8 @@ pub mod Stepping
 
 -- messages that are sent off
 pub mod Sending
+-- when a message that is minded is minded on
+pub mod Hindered
 -- a firing that was drawn, before its body begins
 pub mod Firing
 -- a firing's parcels, and its body before it is played or posted

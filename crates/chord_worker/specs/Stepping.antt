@@ -54,6 +54,6 @@ pub record PlaysFiring (knows : ℕ → Type 0) (before : List Entry) (x : Optio
 abbrev pub HasTakenOn : (ℕ → Type 0) → List Entry → Option Task → Worker → ℕ → Type 0
 HasTakenOn knows before x w f = ((x ≢ None) × StillPlays before x w) ⊎ PlaysFiring knows before x w f
 
--- the message m was minded: nothing else is played than before, or a firing that was drawn after m is, or the desk was told that the limit is reached
+-- the message m was minded: nothing else is played than before, or a firing is played that was drawn after m, or the desk was told that the limit is reached
 abbrev pub WasMinded : (ℕ → Type 0) → List Entry → Option Task → Worker → ℕ → Type 0
 WasMinded knows before x w m = StillPlays before x w ⊎ (((f : ℕ) × (m < f) × PlaysFiring knows before x w f) ⊎ ((view w.desk).spent ≡ true))

@@ -47,7 +47,7 @@ pub(crate) struct Unpacked {
     pub caller: Option<Apart<Task>>,
 }
 
-/// A task that is played no more, or a second one, which the first one's firing has no use for.
+/// A task that is played no more, or that of a second caller, which this firing does not serve.
 #[inline(never)]
 pub(crate) fn lay_off(task: Apart<Task>) {
     drop(task);

@@ -1,4 +1,4 @@
-//! Messages are sent off with their parcels, and followed until somebody else minds them.
+//! Messages are sent off with their parcels, and minded until they are taken, left or fired.
 ghost use Rattle.std.specs.Prelude.{◌≡◌, ◌≢◌, ◌<◌, true, false, [], Some, None, OnOk};
 ghost use Rattle.chord_base.specs.Story.{IsSound};
 ghost use Rattle.chord_base.specs.declared.event.What.TheVariants.{Sent, Called};

@@ -11,7 +11,7 @@ loop-round-preserved g c =
       now.sane refl,
       now.counts refl,
       now.heard refl was.4,
-      (λ _. (c.loop-round.self, now.went refl)),
+      (λ _. (c.loop-round.self, record { on = was.1; sane = was.2; settled = was.0 was.2; counts_so = was.3; told_nothing = was.4 }, now.went refl)),
     )
 
 pub returns-clause-went : goal.returns-clause-went

@@ -2,10 +2,10 @@
 use Rattle.std.proofs.Common.{◌≡◌, ◌<◌, false}
 use Rattle.chord_roll.specs.Cards.{stops}
 use Rattle.chord_pool.specs.declared.player.Player.{Player}
-use Rattle.chord_pool.specs.Players.{MayPlay, PlaysOn, CountsIfItPlays, HadARound}
+use Rattle.chord_pool.specs.Players.{MayPlay, PlaysOn, IsOnTheWay, CountsIfItPlays, HadARound}
 use Rattle.chord_pool.proofs.player.Player.rounds.Given as goal
 
 abbrev pub invariant-loop-round : goal.invariant-loop-round
 invariant-loop-round g l =
     MayPlay l.run.space.now l.self × PlaysOn l.fn.self l.self × (l.self.failed ≡ false) × CountsIfItPlays l.self × (stops l.self.card ≡ false)
-    × (0 < l._round → (before : Player) × HadARound l.run.space.now before l.self)
+    × (0 < l._round → (before : Player) × IsOnTheWay l.run.space.now l.fn.self before × HadARound l.run.space.now before l.self)

@@ -1,4 +1,4 @@
-use Rattle.std.proofs.Common.{◌≡◌, true, false, refl, sym, ap, ◌∙◌, subst, ⊎_elim, inl}
+use Rattle.std.proofs.Common.{◌≡◌, true, false, refl, sym, ap, ◌∙◌, subst, ⊎_elim, inl, inr}
 use Rattle.chord_bag.specs.Reads.{IsOnlyLooks}
 use Rattle.chord_match.specs.Findings.{read_so}
 use Rattle.chord_rule.specs.declared.view.View.{View}
@@ -88,3 +88,19 @@ returns-in-Left-clause-minded g c = λ e.
 
 pub returns-in-Taken-clause-minded : goal.returns-in-Taken-clause-minded
 returns-in-Taken-clause-minded g c = λ e. inl (refl, ap (λ (z : View). z.kept) c.in-Taken.ensures.finding.1)
+
+pub returns-in_ok-over-in-Match-clause-hindered : goal.returns-in_ok-over-in-Match-clause-hindered
+returns-in_ok-over-in-Match-clause-hindered g c = λ e.
+    let lost = c.in_ok-over-in-Match.ensures.lost e in
+    inr (record {
+      found = view c.find.new.desk;
+      chord = _;
+      members = c.find.new.members;
+      nexts = c.find.new.nexts;
+      is_match = c.in-Match.ensures.finding;
+      member = lost.0;
+      lost = lost.1;
+    })
+
+pub returns-in-Busy-clause-hindered : goal.returns-in-Busy-clause-hindered
+returns-in-Busy-clause-hindered g c = λ e. inl (_, c.in-Busy.ensures.finding)

@@ -53,3 +53,6 @@ pub returns-in-Err-Spent-clause-minded : goal.returns-in-Err-Spent-clause-minded
 returns-in-Err-Spent-clause-minded g c = λ e.
     let turned : IsMissedBy c.args.space.now.events (view c.args.self.now.desk) (view c.fire_to.new.desk) c.args.members.now c.args.nexts.now a_miss.Spent = rw c.in-Err-Spent.field-0-is at c.in-Err-Spent.ensures.missed in
     inr (inr (ap (λ (x : Desk Parcel). (view x).spent) c.give_up.ensures.same.0 ∙ ap (λ (z : View). z.spent) turned.same))
+
+pub returns-in-Err-Lost-clause-lost : goal.returns-in-Err-Lost-clause-lost
+returns-in-Err-Lost-clause-lost g c = λ e. (_, rw c.in-Err-Lost.field-0-is at c.in-Err-Lost.ensures.missed)
