@@ -1,5 +1,6 @@
 -- What the first worker knows of the cells that it looked at, and when it may close.
-use Rattle.std.proofs.Common.{◌≡◌, ◌≢◌, ◌⊎◌, inl, inr, ⊎_elim, ℕ, ◌+◌, true, false, Option, Some, None, min, refl, sym, ap, ◌∙◌, subst, arith}
+use Rattle.std.proofs.Common.{◌≡◌, ◌≢◌, ◌⊎◌, inl, inr, ⊎_elim, ℕ, ◌+◌, true, false, Option, Some, None, is_some, min, refl, sym, ap, ◌∙◌, subst, arith}
+use Rattle.std.proofs.lemmas.Option.{none-some}
 use mathlib.Core.Logic.{dite}
 use mathlib.Core.Path.{Path}
 use native.Mathlib.Decide.{ℕ_discrete}
@@ -18,7 +19,7 @@ use Rattle.chord_space.specs.Desks.{view, events, space_code, space_limits}
 use Rattle.chord_task.specs.declared.task.Task.{Task}
 use Rattle.chord_task.specs.declared.parcel.Opened.{Opened as Parcel}
 use Rattle.chord_word.specs.declared.cells.Cell.{Cell}
-use Rattle.chord_word.specs.declared.cells.Cell.TheVariants.{Ready}
+use Rattle.chord_word.specs.declared.cells.Cell.TheVariants.{Ready, Woken}
 use Rattle.chord_word.specs.declared.cells.Word.{Word}
 use Rattle.chord_worker.specs.declared.worker.Worker.{Worker}
 use Rattle.chord_worker.specs.Resting.{IsSameRole, IsSeen, beside_task}
@@ -47,9 +48,18 @@ stirred_by_start v u w i x c next look asleep unready told = (
   (a_word c next, subst (λ (z : View). LastSeen i (a_word c next) z.looked.seen) (sym told) (inl (refl, refl)), unready),
 )
 
--- a cell that was looked at in another state than ready
-pub unready_once : (v w : View) (i : ℕ) (x : Word) → IsSeen v w i x → x.cell ≢ Ready → IsUnready i w.looked.seen
-unready_once v w i x look unready = (x, subst (LastSeen i x) (sym look.seen) (inl (refl, refl)), unready)
+-- a firing that was ready no longer, as its cell told
+pub unready_told : (u w : View) (i : ℕ) (c : Cell) (next : Option ℕ) → c ≢ Ready → w ≡ saw u i (a_word c next) → IsUnready i w.looked.seen
+unready_told u w i c next unready told = (a_word c next, subst (λ (z : View). LastSeen i (a_word c next) z.looked.seen) (sym told) (inl (refl, refl)), unready)
+
+-- a woken cell is not ready
+pub woken_unready : (c : Cell) (q : ℕ) → c ≡ Woken q → c ≢ Ready
+woken_unready c q woken ready = absurd (cc)
+
+-- who was told that a task is there has one
+pub task_started : (x : Option Task) → is_some x ≡ true → x ≢ None
+task_started None e h = let z : false ≡ true = e in absurd (cc)
+task_started (Some t) e h = none-some _ (sym h)
 
 -- the first worker, alone and with nothing to play, may close where it looked at the counter, which is below the limit, and at each cell below
 pub may_close : (s : Space Parcel) (w : Worker) (n c count : ℕ) → IsFit s w → (view w.desk).first ≡ true → (view w.desk).drawn ≡ true → (view w.desk).lent ≡ 0

@@ -58,6 +58,7 @@ fn start_at_work<'a, G: Gate>(
     ensures task { result ≡ is_some worker.new.task }
     ensures refused { result ≡ false → SawUnready (view worker.old.desk) (view worker.new.desk) i }
 {
+    // the card is here so that a condition can speak of it
     let _ = card.is_at_work();
     worker.start(run.space, run.code, run.limits, i, gate)
 }
