@@ -4,7 +4,7 @@ use Rattle.chord_io.proofs.Pens.{Writes-join}
 use Rattle.chord_gen.proofs.listing.put_operands.Goals as goal
 
 pub returns-in-Int : goal.returns-in-Int
-returns-in-Int g c = rw c.in-Int.is (Writes-join c.put.ensures c.put_signed.ensures)
+returns-in-Int g c = rw c.in-Int.is (Writes-join c.put.ensures c.put_signed.ensures.written)
 
 pub returns-in-Flag : goal.returns-in-Flag
 returns-in-Flag g c = rw c.in-Flag.is (Writes-join c.put-in-Flag.ensures c.put_flag.ensures)
