@@ -1,7 +1,7 @@
 //! The listing of a code as text.
 #![tactic(auto)]
 
-ghost use Rattle.std.specs.Prelude.{◌≤◌, OnOk, OnErr};
+ghost use Rattle.std.specs.Prelude.{◌≡◌, ◌≤◌, OnOk, OnErr};
 ghost use Rattle.std.specs.List.{flat_map};
 ghost use Rattle.chord_io.specs.Faults.{Rose};
 ghost use Rattle.chord_io.specs.Pieces.{Took, TookProperPrefix};
@@ -19,10 +19,11 @@ use chord_io::{Failed, Pen, Sink};
 ///
 /// # Errors
 ///
-/// `Failed` where the sink failed, which its count of faults shows. A proper prefix of the listing was written.
+/// `Failed` exactly where the sink failed, which its count of faults shows. A proper prefix of the listing was written.
 pub fn listing<K: Sink>(code: &Code, sink: &mut K) -> Result<(), Failed>
     ensures whole { OnOk result (Took (K.taken sink.old) (listing_text code.now) (K.taken sink.new)) }
     ensures prefix { OnErr result (TookProperPrefix (K.taken sink.old) (listing_text code.now) (K.taken sink.new)) }
+    ensures unfailed { OnOk result (K.faults sink.new ≡ K.faults sink.old) }
     ensures failed { OnErr result (Rose (K.faults sink.old) (K.faults sink.new)) }
     ensures never_falls { K.faults sink.old ≤ K.faults sink.new }
 {

@@ -9,7 +9,7 @@ use Rattle.chord_io.proofs.Joined.{Took-nothing, Took-join, TookProperPrefix-fir
 -- an empty text is written by doing nothing
 pub Writes-nothing : (a : Option (List ℕ)) (f : ℕ) (p : Option (List ℕ)) → Writes a f p [] a f p
 Writes-nothing a f None = record { written = (refl, refl); never_falls = omega arith }
-Writes-nothing a f (Some h) = record { written = ([], Took-nothing a, sym (append-nil h)); never_falls = omega arith }
+Writes-nothing a f (Some h) = record { written = ([], Took-nothing a, sym (append-nil h), refl); never_falls = omega arith }
 
 -- two texts, by cases on the pen at the start, between them and at the end
 HasWritten-join :
@@ -26,13 +26,14 @@ HasWritten-join a f (Some held) t b g None u c h r up on first second =
       | None ↦ λ none. (rw (second.0, ← append_assoc held t u) (TookProperPrefix-first a b (held ++ t) u first.0), Rose-before f g h first.1 on)
       | Some left ↦ λ some. absurd (let broken = second.1 in cc)
     ] refl
-HasWritten-join a f (Some held) t b g (Some left) u c h None up on (out, took, same) second =
+HasWritten-join a f (Some held) t b g (Some left) u c h None up on (out, took, same, still) second =
     let whole : held ++ (t ++ u) ≡ out ++ (left ++ u) = sym (append_assoc held t u) ∙ ap (λ x. x ++ u) (sym same) ∙ append_assoc out left u in
     (rw whole (TookProperPrefix-second a b c out (left ++ u) took second.0), Rose-after f g h up second.1)
-HasWritten-join a f (Some held) t b g (Some left) u c h (Some last) up on (out, took, same) (more, took_more, same_more) = (
+HasWritten-join a f (Some held) t b g (Some left) u c h (Some last) up on (out, took, same, still) (more, took_more, same_more, still_more) = (
   out ++ more,
   Took-join a b c out more took took_more,
   append_assoc out more last ∙ ap (λ x. out ++ x) same_more ∙ sym (append_assoc out left u) ∙ ap (λ x. x ++ u) same ∙ append_assoc held t u,
+  still_more ∙ still,
 )
 
 -- two texts that a pen writes one after the other are one
@@ -60,6 +61,6 @@ pub TookProperPrefix-finished :
 TookProperPrefix-finished a f text b g None held c first some rest = absurd (cc)
 TookProperPrefix-finished a f text b g (Some left) held c first some rest =
     let same : left ≡ held = cc in
-    let (out, took, whole) = first.written in
+    let (out, took, whole, still) = first.written in
     let all : out ++ held ≡ text = ap (λ x. out ++ x) (sym same) ∙ whole in
     rw (← all) (TookProperPrefix-second a b c out held took rest)

@@ -3,9 +3,9 @@ use Rattle.std.specs.Prelude.{◌≡◌, ℕ, ◌≤◌, List, ◌++◌, Option,
 use Rattle.chord_io.specs.Faults.{Rose}
 use Rattle.chord_io.specs.Pieces.{Took, TookProperPrefix}
 
--- what a pen held and a text were written but for what it holds now, or a proper prefix of the two where a write failed; a broken pen writes nothing
+-- what a pen held and a text were written but for what it holds now, without a fault, or a proper prefix of the two where a write failed; a broken pen writes nothing
 abbrev pub HasWritten : Option (List ℕ) → ℕ → Option (List ℕ) → List ℕ → Option (List ℕ) → ℕ → Option (List ℕ) → Type 0
-HasWritten before f (Some held) text after g (Some left) = (out : List ℕ) × Took before out after × (out ++ left ≡ held ++ text)
+HasWritten before f (Some held) text after g (Some left) = (out : List ℕ) × Took before out after × (out ++ left ≡ held ++ text) × (g ≡ f)
 HasWritten before f (Some held) text after g None = TookProperPrefix before (held ++ text) after × Rose f g
 HasWritten before f None text after g left = (after ≡ before) × (left ≡ None)
 

@@ -1,7 +1,7 @@
 //! Where the bytes of a run come from and where they go: sources and sinks that count their faults.
 //! Stands on: arrayvec, itoa (texts of numbers). Used by: many crates.
 //! Promise: `read_all` gives exactly the bytes that were left, `write_all` adds exactly the piece,
-//! and a fault is answered only where the count of faults rose (specs/Pieces.antt, specs/Faults.antt).
+//! and a fault is answered exactly where the count of faults rose (specs/Pieces.antt, specs/Faults.antt).
 //! Not here: what the bytes mean, and any text of the program.
 #![tactic(auto)]
 

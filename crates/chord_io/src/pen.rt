@@ -53,13 +53,15 @@ impl Pen {
     ///
     /// # Errors
     ///
-    /// `Failed` where a write failed, which the sink's count of faults shows. A proper prefix of what the pen was given was
+    /// `Failed` exactly where a write failed, which the sink's count of faults shows. A proper prefix of what the pen was given was
     /// written.
     pub fn finish<K: Sink>(self, sink: &mut K) -> Result<(), Failed>
         ensures whole { OnOk result ((before : Option (List ℕ)) (f : ℕ) (text : List ℕ) →
             Writes before f (Some []) text (K.taken sink.old) (K.faults sink.old) self → Took before text (K.taken sink.new)) }
         ensures prefix { OnErr result ((before : Option (List ℕ)) (f : ℕ) (text : List ℕ) →
             Writes before f (Some []) text (K.taken sink.old) (K.faults sink.old) self → TookProperPrefix before text (K.taken sink.new)) }
+        ensures unfailed { OnOk result ((before : Option (List ℕ)) (f : ℕ) (text : List ℕ) →
+            Writes before f (Some []) text (K.taken sink.old) (K.faults sink.old) self → K.faults sink.new ≡ f) }
         ensures failed { OnErr result ((before : Option (List ℕ)) (f : ℕ) (text : List ℕ) →
             Writes before f (Some []) text (K.taken sink.old) (K.faults sink.old) self → Rose f (K.faults sink.new)) }
         ensures never_falls { K.faults sink.old ≤ K.faults sink.new }
@@ -75,6 +77,7 @@ impl Pen {
 fn write_both<K: Sink>(sink: &mut K, first: &[u8], second: &[u8]) -> Result<(), Failed>
     ensures whole { OnOk result (Took (K.taken sink.old) (first.now ++ second.now) (K.taken sink.new)) }
     ensures prefix { OnErr result (TookProperPrefix (K.taken sink.old) (first.now ++ second.now) (K.taken sink.new)) }
+    ensures unfailed { OnOk result (K.faults sink.new ≡ K.faults sink.old) }
     ensures failed { OnErr result (Rose (K.faults sink.old) (K.faults sink.new)) }
     ensures never_falls { K.faults sink.old ≤ K.faults sink.new }
 {

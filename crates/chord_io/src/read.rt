@@ -1,5 +1,5 @@
 //! Reading a source to its end.
-ghost use Rattle.std.specs.Prelude.{◌≡◌, ℕ, ◌<◌, ◌≤◌, ◌+◌, List, length, Ok, IfOk, OnOk, OnErr, IsErrOf, IfSome, vec_len};
+ghost use Rattle.std.specs.Prelude.{◌≡◌, ℕ, ◌<◌, ◌≤◌, ◌+◌, List, length, Ok, IfOk, OnOk, OnErr, IsErrOf, IfSome, vec_len, ◌⊎◌};
 ghost use Rattle.chord_io.specs.Faults.{Rose};
 ghost use Rattle.chord_io.specs.Pieces.{Gave, IsSpent};
 ghost use Rattle.chord_io.specs.declared.read.ReadFault.TheVariants as faults;
@@ -49,6 +49,7 @@ pub fn read_all<S: Source>(alloc: Global, source: &mut S) -> Result<Vec<u8>, Rea
     ensures too_long { IsErrOf result ReadFault.TooLong → (given : List ℕ) × (length given ≡ 1048577)
         × Gave (S.left source.old) given (S.left source.new) }
     ensures failed { IsErrOf result ReadFault.Failed → Rose (S.faults source.old) (S.faults source.new) }
+    ensures unfailed { IsErrOf result ReadFault.Failed ⊎ (S.faults source.new ≡ S.faults source.old) }
     ensures failed_within { IsErrOf result ReadFault.Failed → (given : List ℕ) × (length given ≤ 1048576)
         × Gave (S.left source.old) given (S.left source.new) }
     ensures part { OnErr result ((given : List ℕ) × Gave (S.left source.old) given (S.left source.new)) }
@@ -61,7 +62,7 @@ pub fn read_all<S: Source>(alloc: Global, source: &mut S) -> Result<Vec<u8>, Rea
 ///
 /// # Errors
 ///
-/// `Failed` where a read failed before the source had given more than `most` bytes; the source's count of faults shows it.
+/// `Failed` exactly where a read failed before the source had given more than `most` bytes; the source's count of faults shows it.
 /// `TooLong` exactly where the source gave more than `most` bytes, which ends the reading at `most + 1`. `Memory` where
 /// the call ran out of memory. What was read then is lost.
 pub fn read_up_to<S: Source>(alloc: Global, source: &mut S, most: u32) -> Result<Vec<u8>, ReadFault>
@@ -72,6 +73,7 @@ pub fn read_up_to<S: Source>(alloc: Global, source: &mut S, most: u32) -> Result
     ensures too_long { IsErrOf result ReadFault.TooLong → (given : List ℕ) × (length given ≡ most + 1)
         × Gave (S.left source.old) given (S.left source.new) }
     ensures failed { IsErrOf result ReadFault.Failed → Rose (S.faults source.old) (S.faults source.new) }
+    ensures unfailed { IsErrOf result ReadFault.Failed ⊎ (S.faults source.new ≡ S.faults source.old) }
     ensures failed_within { IsErrOf result ReadFault.Failed → (given : List ℕ) × (length given ≤ most)
         × Gave (S.left source.old) given (S.left source.new) }
     ensures part { OnErr result ((given : List ℕ) × Gave (S.left source.old) given (S.left source.new)) }

@@ -1,5 +1,5 @@
 //! A sink of bytes, and what each write to it tells.
-ghost use Rattle.std.specs.Prelude.{◌≡◌, ℕ, ◌<◌, ◌≤◌, List, length, take, Option, IfOk, OnErr};
+ghost use Rattle.std.specs.Prelude.{◌≡◌, ℕ, ◌≤◌, List, length, take, Option, IfOk, OnOk, OnErr};
 ghost use Rattle.chord_io.specs.Faults.{Rose};
 ghost use Rattle.chord_io.specs.Pieces.{Took};
 
@@ -18,12 +18,13 @@ pub trait Sink {
     ///
     /// # Errors
     ///
-    /// `Failed` where the sink failed, which its count of faults shows. What was taken stays.
+    /// `Failed` exactly where the sink failed, which its count of faults shows. What was taken stays.
     fn write(&mut self, piece: &[u8]) -> Result<usize, Failed>
         ensures within { IfOk result (λ n. n ≤ length piece.now) }
         ensures took { IfOk result (λ n. Took (taken self.old) (take n piece.now) (taken self.new)) }
-        ensures none { IfOk result (λ n. n ≡ 0 → 0 < length piece.now → Rose (faults self.old) (faults self.new)) }
+        ensures none { IfOk result (λ n. n ≡ 0 → length piece.now ≡ 0) }
         ensures kept { OnErr result (taken self.new ≡ taken self.old) }
+        ensures unfailed { OnOk result (faults self.new ≡ faults self.old) }
         ensures failed { OnErr result (Rose (faults self.old) (faults self.new)) }
         ensures never_falls { faults self.old ≤ faults self.new };
 }

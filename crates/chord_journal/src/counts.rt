@@ -15,10 +15,11 @@ use chord_io::{Failed, Pen, Sink};
 ///
 /// # Errors
 ///
-/// `Failed` where the sink failed, which its count of faults shows. A proper prefix of the line was written.
+/// `Failed` exactly where the sink failed, which its count of faults shows. A proper prefix of the line was written.
 pub fn write_counts<K: Sink>(journal: &Journal, sink: &mut K) -> Result<(), Failed>
     ensures whole { OnOk result (Took (K.taken sink.old) (counts_text journal.now) (K.taken sink.new)) }
     ensures prefix { OnErr result (TookProperPrefix (K.taken sink.old) (counts_text journal.now) (K.taken sink.new)) }
+    ensures unfailed { OnOk result (K.faults sink.new ≡ K.faults sink.old) }
     ensures failed { OnErr result (Rose (K.faults sink.old) (K.faults sink.new)) }
     ensures never_falls { K.faults sink.old ≤ K.faults sink.new }
 {

@@ -18,10 +18,11 @@ const LINE_BYTES: usize = MAX_TEXT_BYTES + 1;
 ///
 /// # Errors
 ///
-/// `Failed` where the sink failed, which its count of faults shows. A proper prefix of the lines was written.
+/// `Failed` exactly where the sink failed, which its count of faults shows. A proper prefix of the lines was written.
 pub fn write_lines<K: Sink>(journal: &Journal, sink: &mut K) -> Result<(), Failed>
     ensures whole { OnOk result (Took (K.taken sink.old) (lines journal.now) (K.taken sink.new)) }
     ensures prefix { OnErr result (TookProperPrefix (K.taken sink.old) (lines journal.now) (K.taken sink.new)) }
+    ensures unfailed { OnOk result (K.faults sink.new ≡ K.faults sink.old) }
     ensures failed { OnErr result (Rose (K.faults sink.old) (K.faults sink.new)) }
     ensures never_falls { K.faults sink.old ≤ K.faults sink.new }
 {
@@ -33,11 +34,12 @@ pub fn write_lines<K: Sink>(journal: &Journal, sink: &mut K) -> Result<(), Faile
 ///
 /// # Errors
 ///
-/// `Failed` where the sink failed, which its count of faults shows. A proper prefix of the lines was written.
+/// `Failed` exactly where the sink failed, which its count of faults shows. A proper prefix of the lines was written.
 pub fn write_and_look<K: Sink>(journal: &Journal, sink: &mut K) -> Result<bool, Failed>
     ensures whole { OnOk result (Took (K.taken sink.old) (lines journal.now) (K.taken sink.new)) }
     ensures seen { IfOk result (λ trapped. trapped ≡ list_any (λ e. is_trap_of e.what) journal.now) }
     ensures prefix { OnErr result (TookProperPrefix (K.taken sink.old) (lines journal.now) (K.taken sink.new)) }
+    ensures unfailed { OnOk result (K.faults sink.new ≡ K.faults sink.old) }
     ensures failed { OnErr result (Rose (K.faults sink.old) (K.faults sink.new)) }
     ensures never_falls { K.faults sink.old ≤ K.faults sink.new }
 {
@@ -54,6 +56,7 @@ fn write_line<K: Sink>(entry: &Entry, sink: &mut K) -> Result<bool, Failed>
     ensures whole { OnOk result (Took (K.taken sink.old) (line_of entry.now.what) (K.taken sink.new)) }
     ensures seen { IfOk result (λ traps. traps ≡ is_trap_of entry.now.what) }
     ensures prefix { OnErr result (TookProperPrefix (K.taken sink.old) (line_of entry.now.what) (K.taken sink.new)) }
+    ensures unfailed { OnOk result (K.faults sink.new ≡ K.faults sink.old) }
     ensures failed { OnErr result (Rose (K.faults sink.old) (K.faults sink.new)) }
     ensures never_falls { K.faults sink.old ≤ K.faults sink.new }
 {
@@ -70,6 +73,7 @@ fn write_line<K: Sink>(entry: &Entry, sink: &mut K) -> Result<bool, Failed>
 fn write_text_line<K: Sink>(text: &Text, sink: &mut K) -> Result<(), Failed>
     ensures whole { OnOk result (Took (K.taken sink.old) (text.now ++ 10 ∷ []) (K.taken sink.new)) }
     ensures prefix { OnErr result (TookProperPrefix (K.taken sink.old) (text.now ++ 10 ∷ []) (K.taken sink.new)) }
+    ensures unfailed { OnOk result (K.faults sink.new ≡ K.faults sink.old) }
     ensures failed { OnErr result (Rose (K.faults sink.old) (K.faults sink.new)) }
     ensures never_falls { K.faults sink.old ≤ K.faults sink.new }
 {

@@ -1,5 +1,5 @@
 //! Writing the text of a journal.
-ghost use Rattle.std.specs.Prelude.{◌≤◌, OnOk, OnErr};
+ghost use Rattle.std.specs.Prelude.{◌≡◌, ◌≤◌, OnOk, OnErr};
 ghost use Rattle.std.specs.List.{flat_map};
 ghost use Rattle.chord_base.specs.Bounds.{IsJournal};
 ghost use Rattle.chord_io.specs.Faults.{Rose};
@@ -19,10 +19,11 @@ use chord_io::{Failed, Pen, Sink};
 ///
 /// # Errors
 ///
-/// `Failed` where the sink failed, which its count of faults shows. A proper prefix of the text was written.
+/// `Failed` exactly where the sink failed, which its count of faults shows. A proper prefix of the text was written.
 pub fn write_text<K: Sink>(journal: &Journal, sink: &mut K) -> Result<(), Failed>
     ensures whole { OnOk result (Took (K.taken sink.old) (journal_text journal.now) (K.taken sink.new)) }
     ensures prefix { OnErr result (TookProperPrefix (K.taken sink.old) (journal_text journal.now) (K.taken sink.new)) }
+    ensures unfailed { OnOk result (K.faults sink.new ≡ K.faults sink.old) }
     ensures failed { OnErr result (Rose (K.faults sink.old) (K.faults sink.new)) }
     ensures never_falls { K.faults sink.old ≤ K.faults sink.new }
     // So `read` of the text gives this journal again.

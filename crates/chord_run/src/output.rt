@@ -19,7 +19,7 @@ use chord_journal::{write_and_look, write_counts, write_text};
 ///
 /// # Errors
 ///
-/// `Failed` where the sink failed, which its count of faults shows. A proper prefix of what is due was written.
+/// `Failed` exactly where the sink failed, which its count of faults shows. A proper prefix of what is due was written.
 pub fn write_due<K: Sink>(
     journal: &Journal,
     request: &Request,
@@ -28,6 +28,7 @@ pub fn write_due<K: Sink>(
     ensures whole { OnOk result (Took (K.taken sink.old) (text_due request.now journal.now) (K.taken sink.new)) }
     ensures seen { IfOk result (λ trapped. trapped ≡ list_any (λ e. is_trap e.what) journal.now) }
     ensures prefix { OnErr result (TookProperPrefix (K.taken sink.old) (text_due request.now journal.now) (K.taken sink.new)) }
+    ensures unfailed { OnOk result (K.faults sink.new ≡ K.faults sink.old) }
     ensures failed { OnErr result (Rose (K.faults sink.old) (K.faults sink.new)) }
     ensures never_falls { K.faults sink.old ≤ K.faults sink.new }
 {
@@ -40,6 +41,7 @@ pub fn write_due<K: Sink>(
 fn write_rest<K: Sink>(journal: &Journal, request: &Request, sink: &mut K) -> Result<(), Failed>
     ensures whole { OnOk result (Took (K.taken sink.old) (summary_due (made_from request.now.mode) journal.now ++ journal_due request.now.journal journal.now) (K.taken sink.new)) }
     ensures prefix { OnErr result (TookProperPrefix (K.taken sink.old) (summary_due (made_from request.now.mode) journal.now ++ journal_due request.now.journal journal.now) (K.taken sink.new)) }
+    ensures unfailed { OnOk result (K.faults sink.new ≡ K.faults sink.old) }
     ensures failed { OnErr result (Rose (K.faults sink.old) (K.faults sink.new)) }
     ensures never_falls { K.faults sink.old ≤ K.faults sink.new }
 {
@@ -51,6 +53,7 @@ fn write_rest<K: Sink>(journal: &Journal, request: &Request, sink: &mut K) -> Re
 fn write_summary<K: Sink>(journal: &Journal, mode: Mode, sink: &mut K) -> Result<(), Failed>
     ensures whole { OnOk result (Took (K.taken sink.old) (summary_due (made_from mode) journal.now) (K.taken sink.new)) }
     ensures prefix { OnErr result (TookProperPrefix (K.taken sink.old) (summary_due (made_from mode) journal.now) (K.taken sink.new)) }
+    ensures unfailed { OnOk result (K.faults sink.new ≡ K.faults sink.old) }
     ensures failed { OnErr result (Rose (K.faults sink.old) (K.faults sink.new)) }
     ensures never_falls { K.faults sink.old ≤ K.faults sink.new }
 {
@@ -66,6 +69,7 @@ fn write_summary<K: Sink>(journal: &Journal, mode: Mode, sink: &mut K) -> Result
 fn write_journal<K: Sink>(journal: &Journal, requested: bool, sink: &mut K) -> Result<(), Failed>
     ensures whole { OnOk result (Took (K.taken sink.old) (journal_due requested journal.now) (K.taken sink.new)) }
     ensures prefix { OnErr result (TookProperPrefix (K.taken sink.old) (journal_due requested journal.now) (K.taken sink.new)) }
+    ensures unfailed { OnOk result (K.faults sink.new ≡ K.faults sink.old) }
     ensures failed { OnErr result (Rose (K.faults sink.old) (K.faults sink.new)) }
     ensures never_falls { K.faults sink.old ≤ K.faults sink.new }
 {

@@ -1,13 +1,14 @@
 //! The top call: reads a source, runs it, and writes its lines.
 #![tactic(auto)]
 
-ghost use Rattle.std.specs.Prelude.{◌≡◌, ◌<◌, ◌≤◌, ◌⊎◌, IfOk, None, Some, codes, length};
+ghost use Rattle.std.specs.Prelude.{◌≡◌, ℕ, ◌<◌, ◌≤◌, ◌⊎◌, IfOk, None, Some, codes, length};
 ghost use Rattle.chord_base.specs.Machine.{IsComplete, IsRun};
 ghost use Rattle.chord_io.specs.Faults.{Rose};
 ghost use Rattle.chord_code.specs.Meaning.{code_program};
 ghost use Rattle.chord_code.specs.Sound.{IsSoundCode};
 ghost use Rattle.chord_gen.specs.Listing.{listing_text};
 ghost use Rattle.chord_run.specs.Answers.{Answers, AnswersContents, AnswersSource, IsSilence, IsSilent};
+ghost use Rattle.chord_run.specs.Command as words;
 ghost use Rattle.chord_run.specs.Command.{AreAccepted, IsBounded, Requested, Requests, argument_bytes};
 ghost use Rattle.chord_run.specs.Due.{HasStatus, source_contents};
 ghost use Rattle.chord_run.specs.Load.{load_text};
@@ -55,7 +56,8 @@ pub fn chord<R: Threads + Wait + Sync, S: Source, K: Sink, G: Gate + Sync>(
     ensures headline { IsSilence result (K.taken sink.old) (K.taken sink.new)
         ⊎ Answers (argument_bytes arguments.now) (S.left source.old) result (K.taken sink.old) (K.taken sink.new) }
 
-    // Each status has its cause.
+    // Each status has its cause. A read that failed has 3, and a write that failed has 5: with every other status no fault was
+    // counted.
     ensures status_0 { result.status ≡ 0 → Requested (argument_bytes arguments.now) (λ request.
         Succeeds request (S.left source.old) result (K.taken sink.old) (K.taken sink.new)) }
     ensures status_1 { result.status ≡ 1 → Requested (argument_bytes arguments.now) (λ request.
@@ -64,15 +66,21 @@ pub fn chord<R: Threads + Wait + Sync, S: Source, K: Sink, G: Gate + Sync>(
     ensures status_2_exactly { (result.status ≡ 2) ⊎ (result.status ≡ 7) ⊎ AreAccepted (argument_bytes arguments.now) }
     ensures status_2_unread { result.status ≡ 2 → S.left source.new ≡ S.left source.old }
     ensures status_3 { result.status ≡ 3 → Rose (S.faults source.old) (S.faults source.new) }
+    ensures status_3_exactly { (result.status ≡ 3) ⊎ (S.faults source.new ≡ S.faults source.old) }
     ensures status_4 { result.status ≡ 4 → Requested (argument_bytes arguments.now) (λ request.
         Finishes request (S.left source.old) result (K.taken sink.old) (K.taken sink.new) 4) }
     ensures status_5 { result.status ≡ 5 → Rose (K.faults sink.old) (K.faults sink.new) }
+    ensures status_5_exactly { (result.status ≡ 5) ⊎ (K.faults sink.new ≡ K.faults sink.old) }
     ensures status_5_prefix { result.status ≡ 5 → Requested (argument_bytes arguments.now) (λ request.
         CutsShort request (S.left source.old) result (K.taken sink.old) (K.taken sink.new)) }
     ensures status_6 { result.status ≡ 6 → Requested (argument_bytes arguments.now) (λ request.
         Fills request (S.left source.old) result (K.taken sink.old) (K.taken sink.new)) }
     ensures status_8 { result.status ≡ 8 → Requested (argument_bytes arguments.now) (λ request.
         Finishes request (S.left source.old) result (K.taken sink.old) (K.taken sink.new) 8) }
+
+    // For a source that is made from a number nothing is read.
+    ensures made_unread { (request : asked.Request) (k : ℕ) → Requests (argument_bytes arguments.now) request → words.made_from request.mode ≡ Some k
+        → (S.left source.new ≡ S.left source.old) × (S.faults source.new ≡ S.faults source.old) }
 
     // With 2, 3 and 7 nothing is written, and the report has neither a journal nor a refusal.
     ensures silent { IsSilent result.status → IsSilence result (K.taken sink.old) (K.taken sink.new) }
@@ -114,6 +122,10 @@ fn answer<R: Threads + Wait + Sync, S: Source, K: Sink, G: Gate + Sync>(
     ensures unread { result.status ≡ 2 → S.left source.new ≡ S.left source.old }
     ensures read_fault { result.status ≡ 3 → Rose (S.faults source.old) (S.faults source.new) }
     ensures write_fault { result.status ≡ 5 → Rose (K.faults sink.old) (K.faults sink.new) }
+    ensures read_told { (result.status ≡ 3) ⊎ (S.faults source.new ≡ S.faults source.old) }
+    ensures write_told { (result.status ≡ 5) ⊎ (K.faults sink.new ≡ K.faults sink.old) }
+    ensures made_unread { (request : asked.Request) (k : ℕ) → Requests (argument_bytes arguments.now) request → words.made_from request.mode ≡ Some k
+        → (S.left source.new ≡ S.left source.old) × (S.faults source.new ≡ S.faults source.old) }
     ensures headline { IsSilence result (K.taken sink.old) (K.taken sink.new)
         ⊎ Answers (argument_bytes arguments.now) (S.left source.old) result (K.taken sink.old) (K.taken sink.new) }
 {
@@ -140,6 +152,10 @@ fn answer_request<R: Threads + Wait + Sync, S: Source, K: Sink, G: Gate + Sync>(
     ensures not_silent { result.status ≡ 2 → ⊥ }
     ensures read_fault { result.status ≡ 3 → Rose (S.faults source.old) (S.faults source.new) }
     ensures write_fault { result.status ≡ 5 → Rose (K.faults sink.old) (K.faults sink.new) }
+    ensures read_told { (result.status ≡ 3) ⊎ (S.faults source.new ≡ S.faults source.old) }
+    ensures write_told { (result.status ≡ 5) ⊎ (K.faults sink.new ≡ K.faults sink.old) }
+    ensures made_unread { (k : ℕ) → words.made_from request.now.mode ≡ Some k
+        → (S.left source.new ≡ S.left source.old) × (S.faults source.new ≡ S.faults source.old) }
 {
     match made_from(request.mode) {
         Some(k) => answer_made(rt, alloc, k, request, sink, gate),
@@ -165,6 +181,7 @@ fn answer_made<R: Threads + Wait + Sync, K: Sink, G: Gate + Sync>(
     ensures not_silent { result.status ≡ 2 → ⊥ }
     ensures no_read_fault { result.status ≡ 3 → ⊥ }
     ensures fault { result.status ≡ 5 → Rose (K.faults sink.old) (K.faults sink.new) }
+    ensures told { (result.status ≡ 5) ⊎ (K.faults sink.new ≡ K.faults sink.old) }
 {
     match load_source(alloc, k) {
         Ok(made) => answer_source(rt, alloc, &made, request, sink, gate),
@@ -188,6 +205,8 @@ fn answer_read<R: Threads + Wait + Sync, S: Source, K: Sink, G: Gate + Sync>(
     ensures not_silent { result.status ≡ 2 → ⊥ }
     ensures read_fault { result.status ≡ 3 → Rose (S.faults source.old) (S.faults source.new) }
     ensures write_fault { result.status ≡ 5 → Rose (K.faults sink.old) (K.faults sink.new) }
+    ensures read_told { (result.status ≡ 3) ⊎ (S.faults source.new ≡ S.faults source.old) }
+    ensures write_told { (result.status ≡ 5) ⊎ (K.faults sink.new ≡ K.faults sink.old) }
 {
     match read_all(alloc, source) {
         Err(ReadFault::Failed) => Report::silent(READ_FAULT),
@@ -214,6 +233,7 @@ fn answer_source<R: Threads + Wait + Sync, K: Sink, G: Gate + Sync>(
     ensures not_silent { result.status ≡ 2 → ⊥ }
     ensures no_read_fault { result.status ≡ 3 → ⊥ }
     ensures fault { result.status ≡ 5 → Rose (K.faults sink.old) (K.faults sink.new) }
+    ensures told { (result.status ≡ 5) ⊎ (K.faults sink.new ≡ K.faults sink.old) }
 {
     // a run of the code is one of the source
     same_runs();
@@ -240,6 +260,7 @@ fn answer_code<R: Threads + Wait + Sync, K: Sink, G: Gate + Sync>(
         ⊎ ReportsCode request.now code.now result (K.taken sink.old) (K.taken sink.new) }
     ensures not_silent { result.status ≡ 2 → ⊥ }
     ensures fault { result.status ≡ 5 → Rose (K.faults sink.old) (K.faults sink.new) }
+    ensures told { (result.status ≡ 5) ⊎ (K.faults sink.new ≡ K.faults sink.old) }
 {
     match request.mode {
         Mode::Run => run(rt, alloc, code, request, sink, gate),
@@ -254,6 +275,7 @@ fn accept<K: Sink>(sink: &mut K) -> Report
     ensures table { (result.journal ≡ None) × (result.table ≡ None) }
     ensures written { ReportsText (codes "ok\n") result (K.taken sink.old) (K.taken sink.new) }
     ensures fault { result.status ≡ 5 → Rose (K.faults sink.old) (K.faults sink.new) }
+    ensures told { (result.status ≡ 5) ⊎ (K.faults sink.new ≡ K.faults sink.old) }
 {
     match write_all(sink, b"ok\n") {
         Ok(()) => Report::silent(DONE),
@@ -266,6 +288,7 @@ fn list<K: Sink>(code: &Code, sink: &mut K) -> Report
     ensures table { (result.journal ≡ None) × (result.table ≡ None) }
     ensures written { ReportsText (listing_text code.now) result (K.taken sink.old) (K.taken sink.new) }
     ensures fault { result.status ≡ 5 → Rose (K.faults sink.old) (K.faults sink.new) }
+    ensures told { (result.status ≡ 5) ⊎ (K.faults sink.new ≡ K.faults sink.old) }
 {
     match listing(code, sink) {
         Ok(()) => Report::silent(DONE),
@@ -286,6 +309,7 @@ fn refuse<K: Sink>(
     ensures answered { ReportsNoMemory result (K.taken sink.old) (K.taken sink.new)
         ⊎ ReportsRefusal source.now refusal result (K.taken sink.old) (K.taken sink.new) }
     ensures fault { result.status ≡ 5 → Rose (K.faults sink.old) (K.faults sink.new) }
+    ensures told { (result.status ≡ 5) ⊎ (K.faults sink.new ≡ K.faults sink.old) }
 {
     match line_of(alloc, source, refusal, byte) {
         Err(_) => Report::silent(NO_MEMORY),
@@ -312,6 +336,7 @@ fn run<R: Threads + Wait + Sync, K: Sink, G: Gate + Sync>(
         ⊎ ReportsRun request.now (code_program code.now request.now.limits) result (K.taken sink.old) (K.taken sink.new) }
     ensures not_silent { result.status ≡ 2 → ⊥ }
     ensures fault { result.status ≡ 5 → Rose (K.faults sink.old) (K.faults sink.new) }
+    ensures told { (result.status ≡ 5) ⊎ (K.faults sink.new ≡ K.faults sink.old) }
 {
     let Ok(played) = play_code(rt, alloc, code, request, gate) else {
         return Report::silent(NO_MEMORY);
@@ -328,6 +353,7 @@ fn write_run<K: Sink>(played: Played, request: &Request, full: bool, sink: &mut 
     ensures played { ReportsPlayed request.now played.journal (due_status full played.journal) result (K.taken sink.old) (K.taken sink.new) }
     ensures table { result.table ≡ played.table }
     ensures fault { result.status ≡ 5 → Rose (K.faults sink.old) (K.faults sink.new) }
+    ensures told { (result.status ≡ 5) ⊎ (K.faults sink.new ≡ K.faults sink.old) }
 {
     let Played { journal, table } = played;
     match write_due(&journal, request, sink) {

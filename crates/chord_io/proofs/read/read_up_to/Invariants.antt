@@ -1,4 +1,4 @@
-use Rattle.std.proofs.Common.{◌+◌, ◌≤◌, ◌-◌, vec_len}
+use Rattle.std.proofs.Common.{◌≡◌, ◌+◌, ◌≤◌, ◌-◌, vec_len}
 use Rattle.chord_io.specs.Pieces.{Gave}
 use Rattle.chord_io.proofs.read.read_up_to.Given as goal
 
@@ -6,7 +6,7 @@ abbrev pub invariant-loop-buffer : goal.invariant-loop-buffer
 invariant-loop-buffer g l = record {
   within : vec_len l.bytes ≤ l.most + 1;
   gave : Gave (g.S.Source.left l.initial.source) l.bytes.items (g.S.Source.left l.source);
-  never_falls : g.S.Source.faults l.initial.source ≤ g.S.Source.faults l.source;
+  unfailed : g.S.Source.faults l.source ≡ g.S.Source.faults l.initial.source;
 }
 
 abbrev pub decreases-loop-buffer : goal.decreases-loop-buffer

@@ -1,5 +1,5 @@
 -- Each write takes the next front of the piece.
-use Rattle.std.proofs.Common.{arith, length-drop}
+use Rattle.std.proofs.Common.{◌∙◌, arith, length-drop}
 use Rattle.std.proofs.Math.Seq.{take-add}
 use Rattle.std.proofs.lemmas.List.{take_rest}
 use Rattle.chord_io.proofs.Joined.{Took-join}
@@ -12,5 +12,5 @@ loop-taken-preserved g c =
     record {
       within = omega (arith, c.in_ok-count.ensures.within, length-drop taken c.args.piece.now);
       took = rw (take-add taken c.in_ok-count.count c.args.piece.now) (Took-join _ _ _ _ _ c.loop-taken.invariant.took took);
-      never_falls = omega (arith, c.in_ok-count.ensures.never_falls);
+      unfailed = c.in_ok-count.ensures.unfailed ∙ c.loop-taken.invariant.unfailed;
     }

@@ -1,4 +1,4 @@
-use Rattle.std.proofs.Common.{◌≡◌, ◌≤◌, take}
+use Rattle.std.proofs.Common.{◌≡◌, take}
 use Rattle.std.specs.List.{flat_map, list_any}
 use Rattle.chord_base.specs.Printed.{is_trap, line_of}
 use Rattle.chord_io.specs.Pieces.{Took}
@@ -9,5 +9,5 @@ invariant-loop-entry g l = record {
   took :
       Took (g.K.Sink.taken l.initial.sink) (flat_map (λ e. line_of e.what) (take l.entry-index l.entry-items)) (g.K.Sink.taken l.sink);
   seen : l.trapped ≡ list_any (λ e. is_trap e.what) (take l.entry-index l.entry-items);
-  never_falls : g.K.Sink.faults l.initial.sink ≤ g.K.Sink.faults l.sink;
+  unfailed : g.K.Sink.faults l.sink ≡ g.K.Sink.faults l.initial.sink;
 }
