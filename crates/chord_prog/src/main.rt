@@ -1,6 +1,6 @@
 //! The program: the words of the command line, standard input and standard output go to the top call as they are.
 //! Stands on: chord_run, chord_io. Used by: nobody.
-//! Promise: none; the stored run shows it.
+//! Promise: none of its own; what a run writes is what `chord` promises.
 //! Not here: any decision but that words which are not text are no words of the command line.
 #![tactic(auto)]
 

@@ -77,7 +77,7 @@ fn compile_bodies(alloc: Global, program: &Program, bodies: &[Body]) -> Result<C
     }
 }
 
-/// The fault of a program of whose breaks of the rules on names and types this comes first.
+/// The first break of a program, of which this is the first break of a rule on names and types.
 fn broken(alloc: Global, program: &Program, one: Break) -> CompileFault
     requires few { length (spelling (tree_of program.now)) ≤ 1048576 }
     requires of_types { IsBreak is_type_rule (tree_of program.now) one.rule one.token }

@@ -35,7 +35,7 @@ pub struct Report {
     /// How the call ended; it is the status of the program. A complete run ends with the journal's own status: 8 if a body
     /// that serves no caller ended by a trap, else 4 if `Main` has not ended, else 0. Every other status has a name here.
     pub status: u8,
-    /// The journal of the run, where the source was accepted and the status is none of 2, 3 and 7.
+    /// The journal of the run, where the mode makes one, the source was accepted and the status is none of 2, 3 and 7.
     pub journal: Option<Journal>,
     /// Why the source was refused, where it was and the status is none of 2, 3 and 7.
     pub refusal: Option<Refusal>,

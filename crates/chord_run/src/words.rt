@@ -40,7 +40,8 @@ pub fn matches_among<'a>(
 
 /// Whether memory ran out, or the words are refused.
 fn fault_of(kind: ErrorKind) -> WordsFault
-    ensures { result ≡ WordsFault.Refused → kind ≡ ErrorKind.OutOfMemory → ⊥ }
+    ensures refused { result ≡ WordsFault.Refused → kind ≡ ErrorKind.OutOfMemory → ⊥ }
+    ensures memory { result ≡ WordsFault.Memory → kind ≡ ErrorKind.OutOfMemory }
 {
     match kind {
         ErrorKind::OutOfMemory => WordsFault::Memory,
