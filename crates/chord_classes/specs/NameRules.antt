@@ -24,7 +24,7 @@ is_print name [] = bytes_eq name.text (codes "WriteLine")
 is_print name (actual ∷ []) = bytes_eq name.text (codes "WriteLine")
 is_print name _ = false
 
--- the word `Console` before a dot is no variable
+-- a receiver that is written `Console`, which need not be a variable
 abbrev pub may_be_console : Role → Name → Bool
 may_be_console Receiver name = bytes_eq name.text (codes "Console")
 may_be_console _ name = false

@@ -83,7 +83,7 @@ abbrev pub printed : ExprsOf → ExprOf
 printed NoExprs = to.TextOf []
 printed (MoreExprs value more) = value
 
--- a call or `new` as a statement
+-- a term as a statement: a call on the console prints, another call is made, and of any other term the value is dropped
 abbrev pub resolved_alone : Site → Term → StmtOf
 resolved_alone site (CallTerm receiver dot name brackets actuals) =
     cond (is_console site receiver) (to.Print (printed (all_resolved site actuals))) (done site.table (target_on site (type_of_term site Receiver receiver) name.text) (resolved site receiver) (all_resolved site actuals))

@@ -3,7 +3,7 @@
 
 ghost use Rattle.std.specs.Prelude.{◌≡◌};
 ghost use Rattle.chord_code.specs.Valid.{IsValid};
-ghost use Rattle.chord_code.specs.Meaning.{chord_lines};
+ghost use Rattle.chord_code.specs.Meaning.{chord_lines, method_is_sync};
 ghost use Rattle.chord_code.specs.Slots.{IsMostSlots};
 
 use crate::parts::{Block, ChordLine, Parts};
@@ -76,6 +76,20 @@ impl Code {
         match self.parts.classes.items().get(class as usize) {
             Some(line) => line.chords.items(),
             None => &[],
+        }
+    }
+
+    /// Whether callers of a method of a class wait; of one that is not there, no.
+    pub fn is_sync(&self, class: u16, method: u8) -> bool
+        ensures { result ≡ method_is_sync self.now class method }
+    {
+        let classes = self.parts.classes.items();
+        match classes.get(class as usize) {
+            Some(line) => match line.methods.items().get(method as usize) {
+                Some(method) => method.sync,
+                None => false,
+            },
+            None => false,
         }
     }
 }

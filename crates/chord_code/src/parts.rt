@@ -1,7 +1,7 @@
 //! The parts of a code: its classes, with their methods and chords, and its blocks.
 #![tactic(auto)]
 
-ghost use Rattle.std.specs.Prelude.{◌≡◌, ℕ, ◌<◌, ◌≤◌, List, [], ◌∷◌, ◌++◌, length, map, OnOk};
+ghost use Rattle.std.specs.Prelude.{◌≡◌, ℕ, ◌<◌, ◌≤◌, List, [], ◌∷◌, ◌++◌, length, map, OnOk, OnErr};
 ghost use Rattle.chord_base.specs.Messages.{has};
 ghost use Rattle.chord_code.specs.Headers.{LackHeader, HasHeader};
 ghost use Rattle.chord_code.specs.Meaning.{methods_of};
@@ -64,6 +64,7 @@ impl MethodNumbers {
     pub fn push(&mut self, number: u8) -> Result<(), AllocError>
         requires { length self.old < 8 }
         ensures added { OnOk result (self.new ≡ self.old ++ number ∷ []) }
+        ensures kept { OnErr result (self.new ≡ self.old) }
     {
         self.numbers.push(number)?;
         if (number as usize) < FLAGS {

@@ -86,7 +86,7 @@ fn base_builder(builders: &[Option<u32>], base: Option<u32>) -> Option<u16>
     }
 }
 
-/// Whether a class has a builder: where its base class has one, or it has a constructor.
+/// Whether a class has a builder: where the builder of its base class is given, or it has a constructor.
 fn builds(init: Option<u16>, bodies: &[Body], constructor_body: Option<u32>) -> bool
     ensures { result ≡ (is_told init || has_own (named_body bodies.now constructor_body)) }
 {

@@ -8,7 +8,7 @@ ghost use Rattle.chord_lexer.specs.declared.scan.Lead.TheVariants as leads;
 use crate::scan::{ByteKind, Stop, add, follows};
 use crate::token::{Kind, Token};
 
-/// The largest number that a token has. It stands only after a unary `-`, which is a rule on programs.
+/// The largest number that a token has. That it stands behind a unary `-` alone is a rule on programs.
 const MAX_NUMBER: u64 = 2147483648;
 
 /// The value of the digits at the front, and how many there are, if the value is not too large. Zeros may lead.

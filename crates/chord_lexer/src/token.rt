@@ -33,7 +33,7 @@ pub enum Kind {
     Mark(Mark),
 }
 
-/// The reserved words that the grammar uses, each by its name, and one variant for all others.
+/// The reserved words: those that the grammar uses and `do`, each by its name, and one variant for all others.
 #[derive(Clone, Copy, Debug, PartialEq, Eq)]
 pub enum Keyword {
     Async,

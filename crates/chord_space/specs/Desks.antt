@@ -52,7 +52,7 @@ module _ {P : Type 0} where
   abbrev pub program_of : Space P → Program
   program_of s = code_program (space_code s) (space_limits s)
 
-  -- the desk is of this space, and no slot is out with it
+  -- the desk is of this space
   abbrev pub IsDeskOf : Space P → Desk P → Type 0
   IsDeskOf s d = (d.seat.table_id ≡ s.table.shared.table_id)
 
