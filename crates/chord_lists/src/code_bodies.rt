@@ -219,26 +219,13 @@ pub fn journal_of(bodies: CodeBodies) -> Journal
     Journal::of_entries(entries)
 }
 
-/// Whether callers of this method of the class wait.
-fn is_sync(code: &Code, class: u16, method: u8) -> bool
-    ensures { result ≡ method_is_sync code.now class method }
-{
-    match code.parts().classes.items().get(class as usize) {
-        None => false,
-        Some(line) => match line.methods.items().get(method as usize) {
-            None => false,
-            Some(method) => method.sync,
-        },
-    }
-}
-
 /// The call that a firing of these methods and members serves.
 pub fn served_by(code: &Code, class: u16, methods: &[u8], numbers: &[u16]) -> Option<u32>
     requires { length methods.now ≡ length numbers.now }
     ensures { result ≡ served_among (method_is_sync code.now class) methods.now numbers.now }
 {
     for (i, method) in methods.iter().enumerate() {
-        if is_sync(code, class, *method) {
+        if code.is_sync(class, *method) {
             return Some(u32::from(numbers[i]));
         }
     }

@@ -5,7 +5,6 @@
 //! Not here: how code is run fast (chord_vm), and engines (chord_lists, chord_pool).
 #![tactic(auto)]
 
-mod classes;
 mod effect;
 mod entering;
 mod instructions;

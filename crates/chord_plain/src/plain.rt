@@ -8,7 +8,6 @@ ghost use Rattle.chord_code.specs.Meaning.{code_program, asked_of, asked_at, pla
 ghost use Rattle.chord_vm.specs.Frames.{machine_of};
 ghost use Rattle.chord_plain.specs.Effects.{point_of_reached};
 
-use crate::classes::{chords_of, methods_of};
 use crate::running::{Reached, after_all, run};
 use chord_base::event::{End, Limits, What};
 use chord_base::meaning::{Meaning, Next, Start};
@@ -91,16 +90,13 @@ impl<'a> Meaning for Plain<'a> {
     }
 
     fn chord(&self, alloc: Global, class: u16, chord: u16) -> Result<Option<Vec<u8>>, AllocError> {
-        match chords_of(self.code.parts(), class).get(chord as usize) {
+        match self.code.chords(class).get(chord as usize) {
             None => Ok(None),
             Some(line) => Ok(Some(Vec::from_slice(alloc, line.methods.items())?)),
         }
     }
 
     fn is_sync(&self, class: u16, method: u8) -> bool {
-        match methods_of(self.code.parts(), class).get(method as usize) {
-            None => false,
-            Some(line) => line.sync,
-        }
+        self.code.is_sync(class, method)
     }
 }

@@ -11,7 +11,6 @@ ghost use Rattle.chord_code.specs.Meaning.{begins, stands, point_of, point_repli
 ghost use Rattle.chord_vm.specs.Frames.{machine_of, waiting_of};
 ghost use Rattle.chord_plain.specs.Effects.{IsEffect, IsComeTo, IsFound, IsGoneOn, point_of_reached};
 
-use crate::classes::chords_of;
 use crate::effect::Effect;
 use crate::entering::{begin_above, body_in, framed};
 use crate::instructions::step;
@@ -222,7 +221,7 @@ fn begun(
             body_in(alloc, parts, limits, 0, room, values)
         }
         Start::Chord(chord, object, arguments) => {
-            match chords_of(parts, object.class).get(*chord as usize) {
+            match code.chords(object.class).get(*chord as usize) {
                 None => Ok(None),
                 Some(line) => {
                     let values = object_first(alloc, *object, arguments.items())?;
