@@ -1,5 +1,6 @@
 //! chord_code: which parts are those of a valid code.
 use crate::codes::named;
+use chord_code::code::Code;
 use chord_code::instruction::Instruction;
 use chord_code::lines::Lines;
 use chord_code::parts::{Block, ChordLine, ClassLine, MethodLine, MethodNumbers, Parts};
@@ -129,23 +130,23 @@ fn block(alloc: Global, instruction: Instruction) -> Result<Block, Fail> {
     })
 }
 
-/// Whether the class of a case is valid beside two blocks whose second one has this instruction.
-fn is_valid(alloc: Global, case: &Case, instruction: Instruction) -> Result<bool, Fail> {
+/// The class of a case beside two blocks whose second one has this instruction.
+fn parts(alloc: Global, case: &Case, instruction: Instruction) -> Result<Parts, Fail> {
     let first = block(alloc, Instruction::Drop)?;
     let second = block(alloc, instruction)?;
     let blocks = vec![in alloc; first, second]?;
     let classes = vec![in alloc; class(alloc, case)?]?;
-    Ok(valid(&Parts {
+    Ok(Parts {
         classes: Lines::of_items(classes),
         blocks: Lines::of_items(blocks),
-    }))
+    })
 }
 
 #[test]
 fn a_class_is_valid(rt: HostRuntime) -> Result<(), Fail> {
     for case in &CLASSES {
         let (block, parameters) = (case.block, case.parameters);
-        let found = is_valid(rt.alloc(), case, Instruction::Drop)?;
+        let found = valid(&parts(rt.alloc(), case, Instruction::Drop)?);
         assert_eq!(rt; found, case.expected, "{block}, {parameters}");
     }
     Ok(())
@@ -182,8 +183,25 @@ const RIGHT: [bool; 16] = [
 #[test]
 fn an_instruction_is_right(rt: HostRuntime) -> Result<(), Fail> {
     for case in 0..16u8 {
-        let found = is_valid(rt.alloc(), &CLASSES[0], instruction_of(case))?;
+        let found = valid(&parts(rt.alloc(), &CLASSES[0], instruction_of(case))?);
         assert_eq!(rt; found, RIGHT[case as usize], "instruction {case}");
+    }
+    Ok(())
+}
+
+/// The number of a class and of a method, and whether its callers wait.
+const WAITS: [(u16, u8, bool); 4] = [(0, 0, true), (0, 1, false), (0, 2, false), (1, 0, false)];
+
+#[test]
+fn callers_of_a_method_wait(rt: HostRuntime) -> Result<(), Fail> {
+    let parts = parts(rt.alloc(), &CLASSES[0], Instruction::Drop)?;
+    if !valid(&parts) {
+        return Err(Fail::from("the class is not valid"));
+    }
+    let code = Code::of_parts(parts);
+    for (class, method, expected) in &WAITS {
+        let found = code.is_sync(*class, *method);
+        assert_eq!(rt; found, *expected, "class {class}, method {method}");
     }
     Ok(())
 }
