@@ -1,6 +1,7 @@
 -- Versions that share what they have in common.
-use Rattle.std.proofs.Common.{◌≡◌, ℕ, zero, suc, ◌-◌, ◌<◌, ◌≤◌, ◌%◌, ◌/◌, ◌⊎◌, inl, inr, List, [], ◌∷◌, ◌++◌, Bool, true, false, cond, length, refl, sym, ap, subst, ◌∙◌, Option, Some, None, slice_get, arith, nat_eq, length-append}
+use Rattle.std.proofs.Common.{◌≡◌, ℕ, zero, suc, ◌+◌, ◌-◌, ◌*◌, ◌^◌, ◌<◌, ◌≤◌, ◌%◌, ◌/◌, ◌⊎◌, inl, inr, List, [], ◌∷◌, ◌++◌, Bool, true, false, cond, length, refl, sym, ap, subst, ◌∙◌, Option, Some, None, slice_get, arith, nat_eq, length-append}
 use mathlib.Core.List.{append_assoc}
+use Rattle.std.proofs.Math.Nat.{pow-suc}
 use Rattle.std.proofs.lemmas.Bool.{eqb-true, eqb-false, eq-eqb, ne_eqb, true≢false, false≢true}
 use Rattle.chord_classes.specs.declared.versions.Fork.{Fork}
 use Rattle.chord_classes.specs.Forks.{empty_fork, fork_or_empty, fork_of, side, with_side, under_within, under, IsVersion, AreForks, IsFork, IsNextVersion}
@@ -119,6 +120,7 @@ pub next_at_none : (old new : List Fork) (version : Option ℕ) (value made : �
 next_at_none old new version value made c h p = record {
   more = fork ∷ [];
   forks = p.forks;
+  few = let one : 2 ^ 1 ≡ 2 = refl in omega (arith, one);
   within = let e = ap length p.forks in let f = length-append old (fork ∷ []) in let m = p.last in omega (arith, e, f, m);
   closed = subst AreForks (sym p.forks) (forks_more old fork c (odd_version old version c) (even_version old version c));
   stays = λ other there k. ap (λ z. under z other k) p.forks ∙ under_stays old (fork ∷ []) other k c there;
@@ -205,6 +207,7 @@ pub next_at_more : (old mid new : List Fork) (version : Option ℕ) (k value inn
 next_at_more old mid new version k value inner made c d h w p = record {
   more = w.more ++ (fork ∷ []);
   forks = all;
+  few = few;
   within = let e = ap length p.forks in let f = length-append mid (fork ∷ []) in let m = p.last in omega (arith, e, f, m);
   closed = subst AreForks (sym p.forks) (forks_more mid fork d (odd_with (nat_eq (suc k % 2) 1)) (even_with (nat_eq (suc k % 2) 1)));
   stays = λ other there k. ap (λ z. under z other k) all ∙ under_stays old (w.more ++ (fork ∷ [])) other k c there;
@@ -219,6 +222,14 @@ next_at_more old mid new version k value inner made c d h w p = record {
 
     all : new ≡ old ++ (w.more ++ (fork ∷ []))
     all = p.forks ∙ ap (λ z. z ++ (fork ∷ [])) w.forks ∙ append_assoc old w.more (fork ∷ [])
+
+    few : 2 ^ length (w.more ++ (fork ∷ [])) ≤ 2 * (suc k + 1)
+    few =
+        let one = length-append w.more (fork ∷ []) in
+        let count : suc (length w.more) ≡ length (w.more ++ (fork ∷ [])) = omega (arith, one) in
+        let half = w.few in
+        let twice = pow-suc 2 (length w.more) in
+        subst (λ z. 2 ^ z ≤ 2 * (suc k + 1)) count (omega (arith, twice, half))
 
     here : fork_of new (Some made) ≡ fork
     here = ap fork_or_empty (ap (slice_get new) p.last ∙ ap (λ z. slice_get z (length mid)) p.forks ∙ stands_last mid fork)
