@@ -121,7 +121,7 @@ abbrev pub IsVerdict : ℕ → View → View → Object → Own → List (List �
 IsVerdict n v w o own jss known ms xs (a_verdict.Match k) = (js : List ℕ) × (slice_get jss k ≡ Some js) × (has own.method js ≡ true) × AreMatched v w o own.message own.method own.next js ms xs × MayAllBeClaimed n w o js ms xs
 IsVerdict n v w o own jss known ms xs (a_verdict.Without b) = AreStuck own jss (length jss) known b
 
--- the search went through all chords, or up to the first that has its members
+-- the search of the chords came to this verdict, and this is known of the bags
 pub record IsThrough (n : ℕ) (v w : View) (o : Object) (own : Own) (jss : List (List ℕ)) (known' : List (Option Sought)) (ms : List ℕ) (xs : List (Option ℕ)) (t : Verdict) : Type 0 where
   pub stands : Searching n v w o own known'
   pub verdict : IsVerdict n v w o own jss known' ms xs t

@@ -37,7 +37,7 @@ fn pick_first<P: Carry>(
     }
 }
 
-// A member for each of these methods, which are all different, up to the first that has none.
+// A member for each of these methods, which are all different, or why one of them has none.
 pub(crate) fn gather_one<P: Carry>(
     space: &Space<P>,
     desk: &mut Desk<P>,

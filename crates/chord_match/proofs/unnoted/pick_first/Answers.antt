@@ -4,7 +4,7 @@ use Rattle.chord_rule.specs.Made.{key}
 use Rattle.chord_bag.specs.declared.walk.Sought.{Sought}
 use Rattle.chord_bag.specs.Seeking.{IsSought}
 use Rattle.chord_match.proofs.Knowing.{first_own, first_found, first_bare, first_busy}
-use Rattle.chord_match.proofs.alone.pick_first.Goals as goal
+use Rattle.chord_match.proofs.unnoted.pick_first.Goals as goal
 
 pub returns-then-method-own-clause-picked : goal.returns-then-method-own-clause-picked
 returns-then-method-own-clause-picked g c v known t none low = first_own c.args.space.now.events v (view c.args.desk.now) c.args.object c.args.own.now c.args.method known c.if-method-own.true t
