@@ -69,6 +69,12 @@ pub record MovesTo (n : ℕ) (v u w : View) (o : Object) (own : Own) (j : ℕ) (
 pub record Learned (n : ℕ) (u w : View) (o : Object) (j : ℕ) (known known' : List (Option Sought)) (s : Sought) : Type 0 where
   pub told : (v : View) (own : Own) → Searching n v u o own known → MovesTo n v u w o own j known known' s
 
+-- what a walk came to, as a pick
+abbrev pub pick_of : Sought → Pick
+pick_of (Found i next) = a_pick.Take i next
+pick_of Bare = a_pick.Stuck None
+pick_of (Busy i) = a_pick.Stuck (Some i)
+
 -- there is no member for the method j: its bag was bare, or a message was in another hand
 abbrev pub IsStuckAt : Own → ℕ → List (Option Sought) → Option ℕ → Type 0
 IsStuckAt own j known None = (j ≢ own.method) × (slice_index_or known j None ≡ Some Bare)

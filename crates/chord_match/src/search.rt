@@ -12,7 +12,7 @@ ghost use Rattle.chord_space.specs.Desks.{view, heads, space_code, program_of, I
 ghost use Rattle.chord_word.specs.declared.cells.Cell.TheVariants.{Pending};
 ghost use Rattle.chord_match.specs.Findings.{IsFinding};
 ghost use Rattle.chord_match.specs.Noting.{all_told};
-ghost use Rattle.chord_match.specs.Searching.{Searching, Learned, Picked, Gathered, IsThrough, firstly};
+ghost use Rattle.chord_match.specs.Searching.{Searching, Learned, Picked, Gathered, IsThrough, firstly, pick_of};
 
 use crate::nexts::Nexts;
 use crate::notes::Note;
@@ -54,6 +54,20 @@ pub struct Own {
 pub(crate) enum Pick {
     Take(u32, Option<u32>),
     Stuck(Option<u32>),
+}
+
+impl Pick {
+    /// The member that a walk found, or why it found none.
+    #[inline(always)]
+    pub(crate) fn of(sought: Sought) -> Pick
+        ensures { result ≡ pick_of sought }
+    {
+        match sought {
+            Sought::Found(i, next) => Pick::Take(i, next),
+            Sought::Bare => Pick::Stuck(None),
+            Sought::Busy(i) => Pick::Stuck(Some(i)),
+        }
+    }
 }
 
 /// Whether there is a member for each method, or why not.
@@ -111,11 +125,7 @@ fn pick_member<P: Carry>(
     if method == own.method {
         Pick::Take(own.message, own.next)
     } else {
-        match ask(space, desk, object, method, known) {
-            Sought::Found(i, next) => Pick::Take(i, next),
-            Sought::Bare => Pick::Stuck(None),
-            Sought::Busy(i) => Pick::Stuck(Some(i)),
-        }
+        Pick::of(ask(space, desk, object, method, known))
     }
 }
 
