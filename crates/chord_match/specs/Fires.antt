@@ -40,7 +40,7 @@ pub record IsLost (n : ℕ) (v w : View) (ms : List ℕ) (xs : List (Option ℕ)
   pub below : i < n
   pub looks : List Look
   pub more : w.looked.seen ≡ looks ++ v.looked.seen
-  -- a claim that is given back writes it pending, so this is no claim of the desk's own
+  -- to give a claim back writes the cell pending, so what was read is no claim of the desk's own
   pub read : WasGone i looks
   -- of what it remembers only these looks at cells are new: the ways, which tell it in what bags the members are, are those before
   pub remembered : w.looked ≡ record v.looked { seen = looks ++ v.looked.seen }
