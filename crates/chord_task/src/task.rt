@@ -527,6 +527,7 @@ impl Task {
         ensures top { (view_of self.new).top ≡ Some number }
         ensures listed { AddsOne self.old.past self.new.past list.old.items list.new.items }
         ensures list { HasOneAtMost (for_entry arguments) → IsList self.new.values }
+        ensures ended { self.new.ended ≡ self.old.ended }
     {
         let depth = depth_over(self.limits.depth, &self.top);
         let parts = part_all(&mut self.values, arguments);
@@ -572,6 +573,7 @@ impl Task {
         ensures past { IfOk result (λ _. task_begun (view_of self.old) number chord object members.old values.old (view_of self.new)) }
         ensures top { IfOk result (λ _. (view_of self.new).top ≡ Some number) }
         ensures listed { OnOk result (AddsOne self.old.past self.new.past list.old.items list.new.items) }
+        ensures ended { self.new.ended ≡ self.old.ended }
     {
         let depth = depth_over(self.limits.depth, &self.top);
         let block = line_of(code, object.class, chord).block;
@@ -626,6 +628,7 @@ impl Task {
         ensures past { (view_of self.new).past ≡ [] }
         ensures top { (view_of self.new).top ≡ None }
         ensures task { (code : Parts) (limits : TheLimits) → IsTaskOf code limits self.old → IsTaskOf code limits self.new × IsResumable code self.new }
+        ensures stock { KeepsStock self.old self.new }
     {
         self.past = Past::none();
     }
