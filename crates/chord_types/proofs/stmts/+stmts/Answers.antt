@@ -1,4 +1,5 @@
 use Rattle.std.proofs.Common.{◌+◌, map, drop, arith, refl, sym, ap, subst, ◌∙◌}
+use Rattle.std.specs.Prelude.{sum_by}
 use Rattle.chord_tree.specs.declared.stmts.Block.{out-Block}
 use Rattle.chord_tree.specs.Tree.{AssignStmt, MethodCallStmt, ThisCallStmt, NewStmt, CallStmt, EmptyStmt, ReturnStmt, IfStmt, IfElseStmt, WhileStmt, ReturnValueStmt, StmtItem, dots}
 use Rattle.chord_tree.specs.ViewExprs.{see_expr, see_actuals, see_dot}
@@ -12,9 +13,11 @@ use Rattle.chord_bodies.specs.Resolved as to
 use Rattle.chord_bodies.specs.View.{view_stmt, stmt_list}
 use Rattle.chord_bodies.proofs.Viewed.{viewed_block, viewed_if, viewed_if_else, viewed_while}
 use Rattle.chord_types.specs.StmtChecked.{IsItemChecked, IsBlockChecked, AreItemsChecked}
+use Rattle.chord_types.specs.Flat.{doubled_stmt}
 use Rattle.chord_types.proofs.Oks.{if_ok}
 use Rattle.chord_types.proofs.Lists.{map_last}
 use Rattle.chord_types.proofs.Items.{AreLeft, block_item, if_item, if_else_item, while_item, all_left, one_less, no_items_left, block_checked, scope_grows, seen_plain}
+use Rattle.chord_types.proofs.Doubled.{doubled_if, doubled_if_else, doubled_while, doubled_block, same_sum}
 use Rattle.chord_types.proofs.stmts.+stmts.Goals as goal
 
 pub block_stmt-block-requires : goal.block_stmt-block-requires
@@ -83,7 +86,7 @@ stmt-returns-in-ReturnValue t c =
 pub stmt-returns-in-Empty : goal.stmt-returns-in-Empty
 stmt-returns-in-Empty t c =
     seen_plain c.args.site.now (see_stmt c.args.stmt.now) EmptyStmt c.args.breaks.now.found c.args.breaks.now.found (stmt.Block c.new.result) (ap see_stmt c.in-Empty.is ∙ seen_stmt_empty) refl
-    (record { built = λ e. viewed_block c.new.result ∙ ap (λ z. to.Block (stmt_list (map view_stmt z))) c.new.ensures.items; noted = refl })
+    (record { built = λ e. viewed_block c.new.result ∙ ap (λ z. to.Block (stmt_list (map view_stmt z))) c.new.ensures.items; noted = refl; flat = doubled_block c.new.result ∙ ap (sum_by doubled_stmt) c.new.ensures.items })
 
 pub stmt-returns-in-Return : goal.stmt-returns-in-Return
 stmt-returns-in-Return t c =
@@ -94,7 +97,7 @@ stmt-returns-in-Block t c =
     if_ok c.block_stmt.result _ _ (λ r h. subst (λ z. IsItemChecked c.args.site.now c.block_stmt.new.site (StmtItem z) c.args.breaks.now.found c.block_stmt.new.breaks.found r) (sym (ap see_stmt c.in-Block.is ∙ seen_stmt_block c.in-Block.inner)) h) c.block_stmt.ensures
 
 pub block_stmt-returns : goal.block_stmt-returns
-block_stmt-returns t c = block_item c.args.site.now c.block.new.site (see_block c.args.inner.now) c.args.breaks.now.found c.block.new.breaks.found c.in_ok-stmts.stmts.items (stmt.Block c.in_ok-stmts.stmts) c.in_ok-stmts.ensures (viewed_block c.in_ok-stmts.stmts)
+block_stmt-returns t c = block_item c.args.site.now c.block.new.site (see_block c.args.inner.now) c.args.breaks.now.found c.block.new.breaks.found c.in_ok-stmts.stmts.items (stmt.Block c.in_ok-stmts.stmts) c.in_ok-stmts.ensures (viewed_block c.in_ok-stmts.stmts) (doubled_block c.in_ok-stmts.stmts)
 
 pub stmt-returns-in-If : goal.stmt-returns-in-If
 stmt-returns-in-If t c =
@@ -119,18 +122,18 @@ boxed_stmt-returns t c = subst (λ z. IsItemChecked c.args.site.now c.stmt.new.s
 pub if_then-returns : goal.if_then-returns
 if_then-returns t c = λ bracket.
     if_item c.args.site.now c.args.at bracket (see_expr c.args.test.now) c.args.breaks.now.found c.condition.new.breaks.found c.in_ok-test.test c.boxed_stmt.new.site (see_stmt c.args.first.now) c.boxed_stmt.new.breaks.found c.in_ok-first.first.value (stmt.If c.in_ok-test.test c.in_ok-first.first)
-    c.in_ok-test.ensures c.in_ok-first.ensures (viewed_if c.in_ok-test.test c.in_ok-first.first)
+    c.in_ok-test.ensures c.in_ok-first.ensures (viewed_if c.in_ok-test.test c.in_ok-first.first) (doubled_if c.in_ok-test.test c.in_ok-first.first)
 
 pub while_loop-returns : goal.while_loop-returns
 while_loop-returns t c = λ bracket.
     while_item c.args.site.now c.args.at bracket (see_expr c.args.test.now) c.args.breaks.now.found c.condition.new.breaks.found c.in_ok-test.test c.boxed_stmt.new.site (see_stmt c.args.body.now) c.boxed_stmt.new.breaks.found c.in_ok-body.body.value (stmt.While c.in_ok-test.test c.in_ok-body.body)
-    c.in_ok-test.ensures c.in_ok-body.ensures (viewed_while c.in_ok-test.test c.in_ok-body.body)
+    c.in_ok-test.ensures c.in_ok-body.ensures (viewed_while c.in_ok-test.test c.in_ok-body.body) (doubled_while c.in_ok-test.test c.in_ok-body.body)
 
 pub if_else-returns : goal.if_else-returns
 if_else-returns t c = λ bracket.
     if_else_item c.args.site.now c.args.at bracket (see_expr c.args.test.now) c.args.breaks.now.found c.condition.new.breaks.found c.in_ok-test.test c.boxed_stmt.new.site c.boxed_stmt-2.new.site (see_stmt c.args.first.now) (see_stmt c.args.second.now) c.boxed_stmt.new.breaks.found c.boxed_stmt-2.new.breaks.found
     c.in_ok-first.first.value c.in_ok-second.second.value (stmt.IfElse c.in_ok-test.test c.in_ok-first.first c.in_ok-second.second) c.in_ok-test.ensures c.in_ok-first.ensures c.in_ok-second.ensures
-    (viewed_if_else c.in_ok-test.test c.in_ok-first.first c.in_ok-second.second)
+    (viewed_if_else c.in_ok-test.test c.in_ok-first.first c.in_ok-second.second) (doubled_if_else c.in_ok-test.test c.in_ok-first.first c.in_ok-second.second)
 
 pub block-truncate-requires : goal.block-truncate-requires
 block-truncate-requires t c =
@@ -148,19 +151,24 @@ block-returns t c =
     c.len-count.ensures refl refl refl refl refl refl c.truncate.ensures)
 
 pub items-each-init : goal.items-each-init
-items-each-init t c = subst (λ z. AreLeft c.args.site.now c.args.site.now (map see_item c.args.items.now) (map see_item c.args.items.now) c.args.breaks.now.found c.args.breaks.now.found (map view_stmt z)) (sym c.new-stmts.ensures.items) (all_left c.args.site.now (map see_item c.args.items.now) c.args.breaks.now.found)
+items-each-init t c = (
+  subst (λ z. AreLeft c.args.site.now c.args.site.now (map see_item c.args.items.now) (map see_item c.args.items.now) c.args.breaks.now.found c.args.breaks.now.found (map view_stmt z)) (sym c.new-stmts.ensures.items) (all_left c.args.site.now (map see_item c.args.items.now) c.args.breaks.now.found),
+  ap (sum_by doubled_stmt) c.new-stmts.ensures.items,
+)
 
 pub items-each-preserved : goal.items-each-preserved
 items-each-preserved t c =
     let xs = c.args.items.now in
-    let i = c.each.one-index in
-    subst (λ z. AreLeft c.args.site.now c.item.new.site (map see_item c.args.items.now) (map see_item (drop (c.each.one-index + 1) c.args.items.now)) c.args.breaks.now.found c.item.new.breaks.found z) (sym (ap (map view_stmt) c.in_ok-push.ensures.items ∙ map_last view_stmt c.each.stmts.items c.in_ok-made.made))
-    (one_less c.args.site.now c.each.site c.item.new.site (map see_item xs) (map see_item (drop (i + 1) xs)) (see_item c.one-item.result) c.args.breaks.now.found c.each.breaks.found c.item.new.breaks.found (map view_stmt c.each.stmts.items) c.in_ok-made.made
-    (subst (λ z. AreLeft c.args.site.now c.each.site (map see_item c.args.items.now) (map see_item z) c.args.breaks.now.found c.each.breaks.found (map view_stmt c.each.stmts.items)) (dropped xs i c.one-item.result c.each-test.true c.one-item.is) c.each.invariant)
-    c.in_ok-made.ensures)
+    let i = c.each.one-index in (
+      subst (λ z. AreLeft c.args.site.now c.item.new.site (map see_item c.args.items.now) (map see_item (drop (c.each.one-index + 1) c.args.items.now)) c.args.breaks.now.found c.item.new.breaks.found z) (sym (ap (map view_stmt) c.in_ok-push.ensures.items ∙ map_last view_stmt c.each.stmts.items c.in_ok-made.made))
+          (one_less c.args.site.now c.each.site c.item.new.site (map see_item xs) (map see_item (drop (i + 1) xs)) (see_item c.one-item.result) c.args.breaks.now.found c.each.breaks.found c.item.new.breaks.found (map view_stmt c.each.stmts.items) c.in_ok-made.made
+          (subst (λ z. AreLeft c.args.site.now c.each.site (map see_item c.args.items.now) (map see_item z) c.args.breaks.now.found c.each.breaks.found (map view_stmt c.each.stmts.items)) (dropped xs i c.one-item.result c.each-test.true c.one-item.is) c.each.invariant.0)
+          c.in_ok-made.ensures),
+      same_sum doubled_stmt 0 c.each.stmts.items c.push.new.self.items c.in_ok-made.made c.in_ok-push.ensures.items c.each.invariant.1 c.in_ok-made.ensures.flat,
+    )
 
 pub items-returns : goal.items-returns
-items-returns t c = no_items_left c.args.site.now c.each.site (map see_item c.args.items.now) _ c.args.breaks.now.found c.each.breaks.found c.each.stmts.items (ap (map see_item) (drop_end c.args.items.now c.each.one-index c.each-test.false)) c.each.invariant
+items-returns t c = no_items_left c.args.site.now c.each.site (map see_item c.args.items.now) _ c.args.breaks.now.found c.each.breaks.found c.each.stmts.items (ap (map see_item) (drop_end c.args.items.now c.each.one-index c.each-test.false)) c.each.invariant.0 c.each.invariant.1
 
 pub item-returns-in-Local : goal.item-returns-in-Local
 item-returns-in-Local t c =
