@@ -1,6 +1,6 @@
 -- What is said of a statement, an item or a block that was looked at.
-use Rattle.std.specs.Prelude.{◌≡◌, ℕ, ◌+◌, List, [], ◌∷◌, ◌++◌, map, length, sum_by, Option, None}
-use Rattle.chord_tree.specs.Tree.{ExprTree, StmtTree, BlockTree, ItemTree, ItemTrees, LocalItem, StmtItem, items}
+use Rattle.std.specs.Prelude.{◌≡◌, ℕ, ◌+◌, List, [], ◌∷◌, ◌++◌, map, length, sum_by, Bool, true, false, Option, None}
+use Rattle.chord_tree.specs.Tree.{ExprTree, StmtTree, BlockTree, ItemTree, ItemTrees, BlockStmt, IfStmt, IfElseStmt, WhileStmt, LocalItem, StmtItem, items}
 use Rattle.chord_tree.specs.declared.names.ValueType.{ValueType}
 use Rattle.chord_tree.specs.Walk.{over_value, over_stmt, over_block, over_items}
 use Rattle.chord_tree.specs.Terms.{term}
@@ -47,6 +47,14 @@ resolved_item site (StmtItem stmt) = resolved_stmt site stmt
 abbrev pub item_locals : ItemTree → List ValueType
 item_locals (LocalItem written name assign value) = written ∷ []
 item_locals (StmtItem stmt) = stmt_locals stmt
+
+-- a statement in which no statement stands
+abbrev pub is_plain : StmtTree → Bool
+is_plain (BlockStmt block) = false
+is_plain (IfStmt at bracket test first) = false
+is_plain (IfElseStmt at bracket test first second) = false
+is_plain (WhileStmt at bracket test body) = false
+is_plain _ = true
 
 -- a statement that declares nothing was looked at
 pub record IsPlainStmt (site : sites.Site) (stmt : StmtTree) (old new : Option ℕ) (made : Stmt) : Type 0 where
