@@ -49,12 +49,12 @@ item_locals (LocalItem written name assign value) = written ∷ []
 item_locals (StmtItem stmt) = stmt_locals stmt
 
 -- a statement in which no statement stands
-abbrev pub is_plain : StmtTree → Bool
-is_plain (BlockStmt block) = false
-is_plain (IfStmt at bracket test first) = false
-is_plain (IfElseStmt at bracket test first second) = false
-is_plain (WhileStmt at bracket test body) = false
-is_plain _ = true
+abbrev pub is_plain_stmt : StmtTree → Bool
+is_plain_stmt (BlockStmt block) = false
+is_plain_stmt (IfStmt at bracket test first) = false
+is_plain_stmt (IfElseStmt at bracket test first second) = false
+is_plain_stmt (WhileStmt at bracket test body) = false
+is_plain_stmt _ = true
 
 -- a statement that declares nothing was looked at
 pub record IsPlainStmt (site : sites.Site) (stmt : StmtTree) (old new : Option ℕ) (made : Stmt) : Type 0 where

@@ -13,7 +13,7 @@ ghost use Rattle.chord_classes.specs.ItemRules.{undeclared_type};
 ghost use Rattle.chord_classes.specs.Least.{keys, least};
 ghost use Rattle.chord_types.specs.Checked.{IsAlone, EndsAlone, on_dot};
 ghost use Rattle.chord_types.specs.Sites.{see_site};
-ghost use Rattle.chord_types.specs.StmtChecked.{is_plain, IsPlainStmt, IsCondition, IsItemChecked};
+ghost use Rattle.chord_types.specs.StmtChecked.{is_plain_stmt, IsPlainStmt, IsCondition, IsItemChecked};
 
 use crate::arguments::fit;
 use crate::calls::{judge_call, judge_on, own_target, target_on};
@@ -265,7 +265,7 @@ pub(crate) fn plain_stmt(
     stmt: &Stmt,
     breaks: &mut Least,
 ) -> Result<built::Stmt, AllocError>
-    requires plain { is_plain (see_stmt stmt.now) ≡ true }
+    requires plain { is_plain_stmt (see_stmt stmt.now) ≡ true }
     ensures { IfOk result (λ r. IsItemChecked site.now site.now (StmtItem (see_stmt stmt.now)) breaks.old.found breaks.new.found r) }
 {
     match stmt {
