@@ -13,7 +13,7 @@ ghost use Rattle.chord_classes.specs.Entries.{IsGrown};
 ghost use Rattle.chord_classes.specs.Least.{least};
 ghost use Rattle.chord_rules.specs.ClassKeys.{name_keys, place_keys, inner_keys, class_keys};
 ghost use Rattle.chord_rules.specs.Planning.{AreAlike, base_methods, depths_of, plan_parts};
-ghost use Rattle.chord_rules.specs.Passing.{IsNextClass, HasNextPlan, HasNextShape, ClassesNumbered};
+ghost use Rattle.chord_rules.specs.Passing.{IsNextClass, HasNextPlan, HasNextShape, ClassesNumbered, StopBeforeBreak};
 
 use crate::class_plan::{PlanParts, base_chords, chords_without, class_plan, method_plans};
 use crate::declarations::{base_built, base_missing, declared_again, misnamed_constructors};
@@ -240,6 +240,7 @@ pub fn look<'a>(
     requires numbered { ClassesNumbered (map see_class classes.now) }
     ensures plans { IfOk result (λ plans. breaks.new.found ≡ None → map view_class_plan plans.items ≡ plans_after [] [] 0 (map see_class classes.now)) }
     ensures noted { OnOk result (breaks.new.found ≡ least None (over_plans (class_keys (map see_class classes.now)) [] [] 0 (map see_class classes.now))) }
+    ensures stops { IfOk result (λ plans. StopBeforeBreak (map see_class classes.now) (map view_class_plan plans.items)) }
 {
     let mut progress = Progress {
         table: Table::new(alloc),
