@@ -1,5 +1,5 @@
 -- The rule on groups, header by header: by the labels that were seen, and by the headers before.
-use Rattle.std.proofs.Common.{◌≡◌, ℕ, zero, suc, ◌+◌, ◌<◌, ◌≤◌, List, [], ◌∷◌, ◌++◌, Bool, true, false, cond, not, ◌&&◌, ◌||◌, nat_eq, length, slice_index, refl, sym, ap, ◌∙◌, arith, Option, Some, None, is_some, bytes_eq}
+use Rattle.std.proofs.Common.{◌≡◌, ℕ, zero, suc, ◌+◌, ◌<◌, ◌≤◌, List, [], ◌∷◌, ◌++◌, Bool, true, false, cond, not, ◌&&◌, ◌||◌, nat_eq, length, slice_index, refl, sym, ap, ◌∙◌, append_assoc, arith, Option, Some, None, is_some, bytes_eq}
 use Rattle.std.specs.Prelude.{option_map, unwrap_or}
 use Rattle.std.proofs.Math.Bool.{or-false, or-true}
 use Rattle.std.proofs.lemmas.Bool.{eqb-true}
@@ -16,7 +16,7 @@ use Rattle.chord_classes.proofs.Facts.{none_some, same_some}
 use Rattle.chord_rules.specs.Groups.{label}
 use Rattle.chord_rules.specs.Labels.{labels_of}
 use Rattle.chord_rules.specs.Splits.{any_spared, any_labelled, split_from}
-use Rattle.chord_rules.specs.SplitHeaders.{spared_below, with_label, seen_with_number, splits_at, splits_from}
+use Rattle.chord_rules.specs.SplitHeaders.{overridden_number, spared_below, with_label, seen_with_number, splits_at, splits_from}
 use Rattle.chord_rules.proofs.Labels.{label_of}
 
 -- the number of a method that is found is below the number of methods
@@ -106,6 +106,30 @@ module _ (chords : List ChordOf) (taken : List ℕ) (methods : List Method) (cou
     -- the same from the beginning
     pub all_splits : (headers : List HeaderTree) → splits_from kept taken methods [] headers ≡ split_from chords taken methods [] (overriding methods headers)
     all_splits headers = splits_same headers [] [] (λ header. refl)
+
+-- the number of a method that a header overrides, as a list
+some_number : (over : Bool) (found : Option Found) (n : ℕ) → Some n ≡ cond over (option_map (λ (f : Found). f.number) found) None → cond over (number_in found) [] ≡ n ∷ []
+some_number false found n e = absurd (none_some (sym e))
+some_number true None n e = absurd (none_some (sym e))
+some_number true (Some f) n e = ap (λ z. z ∷ []) (sym (same_some e))
+
+-- no number where a header overrides no method
+no_number : (over : Bool) (found : Option Found) → None ≡ cond over (option_map (λ (f : Found). f.number) found) None → cond over (number_in found) [] ≡ []
+no_number false found e = refl
+no_number true None e = refl
+no_number true (Some f) e = absurd (none_some e)
+
+-- a header that overrides a method, and then those after it
+pub one_overridden : (methods : List Method) (h : HeaderTree) (rest : List HeaderTree) (numbers after : List ℕ) (o : Option ℕ) (n : ℕ) → o ≡ overridden_number methods h → o ≡ Some n → after ≡ numbers ++ (n ∷ [])
+    → numbers ++ overridden methods (h ∷ rest) ≡ after ++ overridden methods rest
+one_overridden methods h rest numbers after o n e is a =
+    ap (λ z. numbers ++ (z ++ overridden methods rest)) (some_number (overrides h) (method_named methods h.name.text) n (sym is ∙ e)) ∙ sym (append_assoc numbers (n ∷ []) (overridden methods rest)) ∙ ap (λ z. z ++ overridden methods rest) (sym a)
+
+-- a header that overrides no method, and then those after it
+pub none_overridden : (methods : List Method) (h : HeaderTree) (rest : List HeaderTree) (numbers after : List ℕ) (o : Option ℕ) → o ≡ overridden_number methods h → o ≡ None → after ≡ numbers
+    → numbers ++ overridden methods (h ∷ rest) ≡ after ++ overridden methods rest
+none_overridden methods h rest numbers after o e is a =
+    ap (λ z. numbers ++ (z ++ overridden methods rest)) (no_number (overrides h) (method_named methods h.name.text) (sym is ∙ e)) ∙ ap (λ z. z ++ overridden methods rest) (sym a)
 
 -- where no method is overridden no header overrides one
 pub none_overriding : (methods : List Method) (headers : List HeaderTree) → overridden methods headers ≡ [] → overriding methods headers ≡ []
