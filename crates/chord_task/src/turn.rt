@@ -1,16 +1,17 @@
 //! A turn of a task: its next ask becomes an entry.
 #![tactic(auto)]
 
-ghost use Rattle.std.specs.Prelude.{◌≡◌, ◌≢◌, ℕ, List, ◌<◌, ◌+◌, ◌++◌, ◌∷◌, [], IfOk, OnOk, None, Some, true, vec_len, vec_capacity};
+ghost use Rattle.std.specs.Prelude.{◌≡◌, ◌≢◌, ℕ, List, ◌<◌, ◌++◌, ◌∷◌, [], IfOk, OnOk, OnErr, None, Some, true, vec_len, vec_capacity};
 ghost use Rattle.chord_base.specs.declared.event.End.{End as AnEnd};
 ghost use Rattle.chord_code.specs.Meaning.{code_program};
 ghost use Rattle.chord_vm.specs.Frames.{what_of_ask};
 ghost use Rattle.chord_task.specs.declared.body.Body.{Body as ABody};
-ghost use Rattle.chord_task.specs.Standing.{view_of, IsTaskOf, is_ready_of, given_by, LastIsReady, HasReturned};
+ghost use Rattle.chord_task.specs.Standing.{view_of, IsTaskOf, is_ready_of, given_by, LastIsReady, HasReturned, WasStocked, SettlesFrames};
 ghost use Rattle.chord_task.specs.Past.{AddsOne};
 ghost use Rattle.chord_task.specs.Turning.{sent_to, sent_of, MayTurn, HasTurned, IsAskedFor, RunsOn, HasSettled, MaySettle, AreBare, IsBareEnd, OwnsNothing};
 
 use crate::body::{Body, Next, put};
+use crate::past::Past;
 use crate::task::{Task, end_top};
 use chord_base::event::{End, Entry, Limits, What};
 use chord_base::text::Text;
@@ -22,25 +23,24 @@ use chord_vm::step::advance_to;
 use std::alloc::{AllocError, Global};
 use std::mem;
 
-/// Adds an entry, for which there is room.
-fn append(list: &mut Vec<Entry>, number: u32, body: u32, what: What)
+/// Adds an entry to a past and to a list in which there is room. It is written to the list at once, and read there for the past.
+fn append(past: &mut Past, list: &mut Vec<Entry>, number: u32, body: u32, what: What)
     requires { vec_len list.old < vec_capacity list.old }
+    ensures past { past.new ≡ past.old ++ record { number = number; body = body; what = what } ∷ [] }
     ensures items { list.new.items ≡ list.old.items ++ record { number = number; body = body; what = what } ∷ [] }
-    ensures len { vec_len list.new ≡ vec_len list.old + 1 }
-    ensures capacity { vec_capacity list.new ≡ vec_capacity list.old }
 {
     list.push_reserved(Entry { number, body, what });
+    past.add_last(list);
 }
 
 /// Adds the entry of an object. Entries are written by functions that take small things alone, since the place of a large one is cleared at each turn.
 #[inline(never)]
-fn append_made(list: &mut Vec<Entry>, number: u32, body: u32, class: u16)
+fn append_made(past: &mut Past, list: &mut Vec<Entry>, number: u32, body: u32, class: u16)
     requires { vec_len list.old < vec_capacity list.old }
+    ensures past { past.new ≡ past.old ++ record { number = number; body = body; what = What.Made class } ∷ [] }
     ensures items { list.new.items ≡ list.old.items ++ record { number = number; body = body; what = What.Made class } ∷ [] }
-    ensures len { vec_len list.new ≡ vec_len list.old + 1 }
-    ensures capacity { vec_capacity list.new ≡ vec_capacity list.old }
 {
-    append(list, number, body, What::Made(class));
+    append(past, list, number, body, What::Made(class));
 }
 
 /// Takes out the text that a body prints.
@@ -57,18 +57,18 @@ fn take_text(asked: &mut Option<Ask>) -> Text
 
 /// Adds the entry of a line.
 #[inline(never)]
-fn append_printed(list: &mut Vec<Entry>, number: u32, body: u32, text: Text)
+fn append_printed(past: &mut Past, list: &mut Vec<Entry>, number: u32, body: u32, text: Text)
     requires { vec_len list.old < vec_capacity list.old }
+    ensures past { past.new ≡ past.old ++ record { number = number; body = body; what = What.Printed text } ∷ [] }
     ensures items { list.new.items ≡ list.old.items ++ record { number = number; body = body; what = What.Printed text } ∷ [] }
-    ensures len { vec_len list.new ≡ vec_len list.old + 1 }
-    ensures capacity { vec_capacity list.new ≡ vec_capacity list.old }
 {
-    append(list, number, body, What::Printed(text));
+    append(past, list, number, body, What::Printed(text));
 }
 
 /// Adds the entry of an asynchronous message, whose arguments are taken. None and a lone number are written as they are read, in small pieces.
 #[inline(never)]
 fn append_sent(
+    past: &mut Past,
     list: &mut Vec<Entry>,
     number: u32,
     body: u32,
@@ -77,13 +77,13 @@ fn append_sent(
     arguments: &mut Values,
 )
     requires { vec_len list.old < vec_capacity list.old }
+    ensures past { past.new ≡ past.old ++ record { number = number; body = body; what = What.Sent object method arguments.old } ∷ [] }
     ensures items { list.new.items ≡ list.old.items ++ record { number = number; body = body; what = What.Sent object method arguments.old } ∷ [] }
-    ensures len { vec_len list.new ≡ vec_len list.old + 1 }
-    ensures capacity { vec_capacity list.new ≡ vec_capacity list.old }
     ensures bare { AreBare arguments.new }
 {
     match arguments.items() {
         [] => append(
+            past,
             list,
             number,
             body,
@@ -91,11 +91,11 @@ fn append_sent(
         ),
         [Value::Int(lone)] => {
             let lone = Values::one(Value::Int(*lone));
-            append(list, number, body, What::Sent(object, method, lone));
+            append(past, list, number, body, What::Sent(object, method, lone));
         }
         _ => {
             let taken = mem::replace(arguments, Values::none());
-            append(list, number, body, What::Sent(object, method, taken));
+            append(past, list, number, body, What::Sent(object, method, taken));
         }
     }
 }
@@ -103,6 +103,7 @@ fn append_sent(
 /// Adds the entry of a call, whose arguments are taken as those of an asynchronous message are.
 #[inline(never)]
 fn append_called(
+    past: &mut Past,
     list: &mut Vec<Entry>,
     number: u32,
     body: u32,
@@ -111,13 +112,13 @@ fn append_called(
     arguments: &mut Values,
 )
     requires { vec_len list.old < vec_capacity list.old }
+    ensures past { past.new ≡ past.old ++ record { number = number; body = body; what = What.Called object method arguments.old } ∷ [] }
     ensures items { list.new.items ≡ list.old.items ++ record { number = number; body = body; what = What.Called object method arguments.old } ∷ [] }
-    ensures len { vec_len list.new ≡ vec_len list.old + 1 }
-    ensures capacity { vec_capacity list.new ≡ vec_capacity list.old }
     ensures bare { AreBare arguments.new }
 {
     match arguments.items() {
         [] => append(
+            past,
             list,
             number,
             body,
@@ -125,11 +126,17 @@ fn append_called(
         ),
         [Value::Int(lone)] => {
             let lone = Values::one(Value::Int(*lone));
-            append(list, number, body, What::Called(object, method, lone));
+            append(past, list, number, body, What::Called(object, method, lone));
         }
         _ => {
             let taken = mem::replace(arguments, Values::none());
-            append(list, number, body, What::Called(object, method, taken));
+            append(
+                past,
+                list,
+                number,
+                body,
+                What::Called(object, method, taken),
+            );
         }
     }
 }
@@ -188,6 +195,7 @@ impl Task {
         requires may { MayTurn (code_program code.now limits.now) (view_of self.old) number }
         ensures turned { IfOk result (λ sent. HasTurned code.now limits.now self.old self.new number sent) }
         ensures listed { OnOk result (AddsOne self.old.past self.new.past list.old.items list.new.items) }
+        ensures stocked { OnOk result (WasStocked code.now self.old self.new) }
     {
         if self.runs() {
             return self.run_turn(alloc, code, limits, number, list);
@@ -239,6 +247,7 @@ impl Task {
         requires may { MayTurn (code_program code.now limits.now) (view_of self.old) number }
         ensures turned { IfOk result (λ sent. HasTurned code.now limits.now self.old self.new number sent) }
         ensures listed { OnOk result (AddsOne self.old.past self.new.past list.old.items list.new.items) }
+        ensures stocked { OnOk result (WasStocked code.now self.old self.new) }
     {
         self.prepare(alloc, code, limits)?;
         self.reserve(alloc, code, list)?;
@@ -261,6 +270,7 @@ impl Task {
         requires may { MayTurn (code_program code.now limits.now) (view_of self.old) number }
         ensures turned { IfOk result (λ sent. HasTurned code.now limits.now self.old self.new number sent) }
         ensures listed { OnOk result (AddsOne self.old.past self.new.past list.old.items list.new.items) }
+        ensures stocked { OnOk result (WasStocked code.now self.old self.new) }
     {
         match &mut self.top {
             None => unreachable!(),
@@ -295,35 +305,37 @@ impl Task {
         ensures ended { OnOk result (HasReturned end.old self.old.below self.new.below self.new.top) }
         ensures rest { OnOk result (self.new ≡ record { past = self.new.past; top = self.new.top; below = self.new.below; spare = self.old.spare; ended = self.new.ended; values = self.old.values; limits = self.old.limits; enclosed = self.old.enclosed }) }
         ensures bare { OnOk result (IsBareEnd end.new) }
+        ensures frames { OnOk result ((b : ABody) → self.old.top ≡ Some b → self.new.ended ≡ Some b.frames) }
+        ensures kept { OnErr result ((end.new ≡ end.old) × (list.new.items ≡ list.old.items)) }
     {
         let maker = number_of(&self.top);
         match end {
             End::Gives(Value::Int(lone)) => {
                 let lone = *lone;
                 append(
+                    &mut self.past,
                     list,
                     number,
                     maker,
                     What::Ended(End::Gives(Value::Int(lone))),
                 );
-                self.past.add_last(list);
                 let second = End::Gives(Value::Int(lone));
                 end_top(&mut self.top, &mut self.below, &mut self.ended, second);
             }
             _ => {
                 let second = end.copied(alloc)?;
                 let first = mem::replace(end, End::Gives(Value::Unit));
-                append(list, number, maker, What::Ended(first));
-                self.past.add_last(list);
+                append(&mut self.past, list, number, maker, What::Ended(first));
                 end_top(&mut self.top, &mut self.below, &mut self.ended, second);
             }
         }
         Ok(())
     }
 
-    /// The ask to which the body on top came becomes the entry of this number: what owns memory is taken out of it, so that what is left may be forgotten. An object, a message and a line are
-    /// answered; a call waits. After an end the body below is answered by it. Gives what a message is to, where the entry is one. Where no memory is
-    /// found, the ask is as it was, and the task can only be dropped.
+    /// The ask to which the body on top came becomes the entry of this number: what owns memory is taken out of it, so that what is left may be
+    /// forgotten. A new object is the body's answer, a message and a line need none, and after a call the body waits. An end answers the body below.
+    /// Gives what a message is to, where the entry is one. Where no memory is found, the ask and the list are as they were, and the task can only be
+    /// dropped.
     #[inline(always)]
     pub fn settle(
         &mut self,
@@ -340,6 +352,8 @@ impl Task {
         ensures listed { OnOk result (AddsOne self.old.past self.new.past list.old.items list.new.items) }
         ensures bare { OnOk result (OwnsNothing asked.new) }
         ensures over { OnOk result ((e : AnEnd) → asked.old ≡ Some (Ask.End e) → vec_len self.old.below ≡ 0 → self.new.top ≡ None) }
+        ensures kept { OnErr result ((asked.new ≡ asked.old) × (list.new.items ≡ list.old.items)) }
+        ensures frames { OnOk result ((a : Ask) → asked.old ≡ Some a → SettlesFrames code.now self.old (what_of_ask a) self.new) }
     {
         self.take_room(alloc, code, list)?;
         match &mut self.top {
@@ -353,25 +367,21 @@ impl Task {
                         Ask::Make(class) => {
                             let class = *class;
                             answer(&mut *body.frames, Value::Ref(Object { number, class }));
-                            append_made(list, number, maker, class);
-                            past.add_last(list);
+                            append_made(past, list, number, maker, class);
                             Ok(None)
                         }
                         // what was sent or printed is not answered: the body runs on
                         Ask::Send(object, method, arguments) => {
-                            append_sent(list, number, maker, *object, *method, arguments);
-                            past.add_last(list);
+                            append_sent(past, list, number, maker, *object, *method, arguments);
                             Ok(Some((*object, *method)))
                         }
                         Ask::Call(object, method, arguments) => {
                             put(&mut body.next, Next::Waits(number));
-                            append_called(list, number, maker, *object, *method, arguments);
-                            past.add_last(list);
+                            append_called(past, list, number, maker, *object, *method, arguments);
                             Ok(Some((*object, *method)))
                         }
                         Ask::Print(_) => {
-                            append_printed(list, number, maker, take_text(asked));
-                            past.add_last(list);
+                            append_printed(past, list, number, maker, take_text(asked));
                             Ok(None)
                         }
                         Ask::End(end) => {

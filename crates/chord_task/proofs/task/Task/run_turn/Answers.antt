@@ -7,6 +7,9 @@ use Rattle.chord_vm.specs.declared.frames.Frames.{Frames}
 use Rattle.chord_vm.specs.declared.ask.Ask.{Ask}
 use Rattle.chord_task.specs.Turning.{sent_to, HasTurned, HasSettled}
 use Rattle.chord_task.proofs.Turning.{ask_put, with_body, with_frames, runs_to_ask, is_asked_for, may_settle, settled_turned}
+use Rattle.chord_task.specs.Standing.{SettlesFrames, WasStocked}
+use Rattle.chord_task.proofs.Tasks.{on_ok_follows}
+use Rattle.chord_task.proofs.Stock.{settled_stock}
 use Rattle.chord_task.proofs.task.Task.run_turn.Goals as goal
 
 pub advance_to-requires : goal.advance_to-requires
@@ -44,3 +47,12 @@ returns-clause-turned c =
           s.2,
       s.3,
     )) c.settle-settled.ensures.settled
+
+pub returns-clause-stocked : goal.returns-clause-stocked
+returns-clause-stocked c =
+    let code = c.args.code.now in
+    let t = c.args.self.now in
+    let b = with_frames c.in-Some.body (with_value c.in-Some.body.frames c.advance_to.new.frames) in
+    let came = c.in_ok-advance_to-in-Some.ensures in
+    on_ok_follows ((a : Ask) → c.advance_to.new.asked ≡ Some a → SettlesFrames code (with_body t b) (what_of_ask a) c.settle-settled.new.self) (WasStocked code t c.settle-settled.new.self) c.settle-settled.result
+    (λ s. settled_stock code t c.settle-settled.new.self b (what_of_ask came.0) (s came.0 came.1)) c.settle-settled.ensures.frames

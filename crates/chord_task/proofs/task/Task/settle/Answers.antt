@@ -6,7 +6,9 @@ use Rattle.chord_vm.specs.Frames.{machine_of}
 use Rattle.chord_vm.specs.declared.ask.Ask.{Ask}
 use Rattle.chord_vm.specs.declared.ask.Ask.TheVariants as ask
 use Rattle.chord_vm.specs.declared.frames.Frames.{Frames}
+use Rattle.chord_task.specs.declared.task.Task.{Task}
 use Rattle.chord_task.specs.Turning.{HasSettled}
+use Rattle.chord_task.proofs.Stock.{settles_on, settles_end}
 use Rattle.chord_task.proofs.Turning.{roomy, roomy_fits, roomy_asked, settled_gave, settled_end, roomy_ready, adds_from, over_alone}
 use Rattle.chord_task.proofs.task.Task.settle.Goals as goal
 
@@ -46,9 +48,9 @@ returns-in-Make-clause-settled c =
     let x = roomy c.args.code.now c.args.self.now c.take_room.new.self c.args.number (Made c.in-Make.class) c.in-Some.body (c.requires.asked a put) (c.requires.may a put) c.take_room.ensures.past c.take_room.ensures.below c.take_room.ensures.top c.take_room.ensures.spare c.take_room.ensures.values c.take_room.ensures.limits c.in_ok-take_room.ensures.ready c.in-Some.is in (
       a,
       put,
-      settled_gave c.args.code.now c.args.self.now c.take_room.new.self c.args.number (Made c.in-Make.class) c.in-Some.body x (Made c.in-Make.class) x.given c.add_last.new.self _ refl
+      settled_gave c.args.code.now c.args.self.now c.take_room.new.self c.args.number (Made c.in-Make.class) c.in-Some.body x (Made c.in-Make.class) x.given c.append_made.new.past _ refl
           (x.runs, subst (λ (f : Frames). with_answer (machine_of f) f.awaited (a_value.Ref (record { number = c.args.number; class = c.in-Make.class })) ≡ Some (machine_of c.answer.new.frames)) c.deref_mut.ensures.value c.answer.ensures)
-          (c.add_last.ensures _ _ (c.deref.ensures.value ∙ c.append_made.ensures.items)),
+          c.append_made.ensures.past,
       refl,
     )
 
@@ -59,9 +61,9 @@ returns-in-Send-clause-settled c =
     let x = roomy c.args.code.now c.args.self.now c.take_room.new.self c.args.number (Sent c.in-Send.object c.in-Send.method c.in-Send.arguments) c.in-Some.body (c.requires.asked a put) (c.requires.may a put) c.take_room.ensures.past c.take_room.ensures.below c.take_room.ensures.top c.take_room.ensures.spare c.take_room.ensures.values c.take_room.ensures.limits c.in_ok-take_room.ensures.ready c.in-Some.is in (
       a,
       put,
-      settled_gave c.args.code.now c.args.self.now c.take_room.new.self c.args.number (Sent c.in-Send.object c.in-Send.method c.in-Send.arguments) c.in-Some.body x (Sent c.in-Send.object c.in-Send.method c.in-Send.arguments) x.given c.add_last-in-Send.new.self _ refl
+      settled_gave c.args.code.now c.args.self.now c.take_room.new.self c.args.number (Sent c.in-Send.object c.in-Send.method c.in-Send.arguments) c.in-Some.body x (Sent c.in-Send.object c.in-Send.method c.in-Send.arguments) x.given c.append_sent.new.past _ refl
           (x.runs, ap (λ p. with_answer (machine_of c.in-Some.body.frames.value) p a_value.Unit) (roomy_asked c.args.code.now c.args.self.now c.take_room.new.self c.args.number (Sent c.in-Send.object c.in-Send.method c.in-Send.arguments) c.in-Some.body x (Sent c.in-Send.object c.in-Send.method c.in-Send.arguments) x.given))
-          (c.add_last-in-Send.ensures _ _ (c.deref-in-Send.ensures.value ∙ c.append_sent.ensures.items)),
+          c.append_sent.ensures.past,
       refl,
     )
 
@@ -72,9 +74,9 @@ returns-in-Call-clause-settled c =
     let x = roomy c.args.code.now c.args.self.now c.take_room.new.self c.args.number (Called c.in-Call.object c.in-Call.method c.in-Call.arguments) c.in-Some.body (c.requires.asked a put) (c.requires.may a put) c.take_room.ensures.past c.take_room.ensures.below c.take_room.ensures.top c.take_room.ensures.spare c.take_room.ensures.values c.take_room.ensures.limits c.in_ok-take_room.ensures.ready c.in-Some.is in (
       a,
       put,
-      settled_gave c.args.code.now c.args.self.now c.take_room.new.self c.args.number (Called c.in-Call.object c.in-Call.method c.in-Call.arguments) c.in-Some.body x (Called c.in-Call.object c.in-Call.method c.in-Call.arguments) x.given c.add_last-in-Call.new.self _ refl
+      settled_gave c.args.code.now c.args.self.now c.take_room.new.self c.args.number (Called c.in-Call.object c.in-Call.method c.in-Call.arguments) c.in-Some.body x (Called c.in-Call.object c.in-Call.method c.in-Call.arguments) x.given c.append_called.new.past _ refl
           (c.put.ensures.put, refl)
-          (c.add_last-in-Call.ensures _ _ (c.deref-in-Call.ensures.value ∙ c.append_called.ensures.items)),
+          c.append_called.ensures.past,
       refl,
     )
 
@@ -85,9 +87,9 @@ returns-in-Print-clause-settled c =
     let x = roomy c.args.code.now c.args.self.now c.take_room.new.self c.args.number (Printed c.take_text.result) c.in-Some.body (c.requires.asked a put) (c.requires.may a put) c.take_room.ensures.past c.take_room.ensures.below c.take_room.ensures.top c.take_room.ensures.spare c.take_room.ensures.values c.take_room.ensures.limits c.in_ok-take_room.ensures.ready c.in-Some.is in (
       a,
       put,
-      settled_gave c.args.code.now c.args.self.now c.take_room.new.self c.args.number (Printed c.take_text.result) c.in-Some.body x (Printed c.take_text.result) x.given c.add_last-in-Print.new.self _ refl
+      settled_gave c.args.code.now c.args.self.now c.take_room.new.self c.args.number (Printed c.take_text.result) c.in-Some.body x (Printed c.take_text.result) x.given c.append_printed.new.past _ refl
           (x.runs, ap (λ p. with_answer (machine_of c.in-Some.body.frames.value) p a_value.Unit) (roomy_asked c.args.code.now c.args.self.now c.take_room.new.self c.args.number (Printed c.take_text.result) c.in-Some.body x (Printed c.take_text.result) x.given))
-          (c.add_last-in-Print.ensures _ _ (c.deref-in-Print.ensures.value ∙ c.append_printed.ensures.items)),
+          c.append_printed.ensures.past,
       refl,
     )
 
@@ -106,3 +108,24 @@ returns-in_ok-end_turn-in-End-clause-listed c = let h = c.in_ok-end_turn-in-End.
 pub returns-in_ok-end_turn-in-End-clause-over : goal.returns-in_ok-end_turn-in-End-clause-over
 returns-in_ok-end_turn-in-End-clause-over c = λ e _ none.
     over_alone c.in-End.end c.args.self.now.below c.take_room.new.self.below c.end_turn.new.self.below c.end_turn.new.self.top c.in_ok-end_turn-in-End.ensures.ended c.take_room.ensures.below none
+
+pub returns-in-Make-clause-frames : goal.returns-in-Make-clause-frames
+returns-in-Make-clause-frames c = λ a e.
+    settles_on c.args.code.now c.args.self.now c.take_room.new.self _ c.args.asked.now a (ask.Make c.in-Make.class) (c.in-Some-asked.is ∙ ap Some c.in-Make.is) refl e c.take_room.ensures.top c.in_ok-take_room.ensures.stocked refl refl
+
+pub returns-in-Send-clause-frames : goal.returns-in-Send-clause-frames
+returns-in-Send-clause-frames c = λ a e.
+    settles_on c.args.code.now c.args.self.now c.take_room.new.self _ c.args.asked.now a (ask.Send c.in-Send.object c.in-Send.method c.in-Send.arguments) (c.in-Some-asked.is ∙ ap Some c.in-Send.is) refl e c.take_room.ensures.top c.in_ok-take_room.ensures.stocked refl refl
+
+pub returns-in-Call-clause-frames : goal.returns-in-Call-clause-frames
+returns-in-Call-clause-frames c = λ a e.
+    settles_on c.args.code.now c.args.self.now c.take_room.new.self _ c.args.asked.now a (ask.Call c.in-Call.object c.in-Call.method c.in-Call.arguments) (c.in-Some-asked.is ∙ ap Some c.in-Call.is) refl e c.take_room.ensures.top c.in_ok-take_room.ensures.stocked refl refl
+
+pub returns-in-Print-clause-frames : goal.returns-in-Print-clause-frames
+returns-in-Print-clause-frames c = λ a e.
+    settles_on c.args.code.now c.args.self.now c.take_room.new.self _ c.args.asked.now a (ask.Print c.take_text.result) (c.in-Some-asked.is ∙ c.take_text.ensures.text) refl e c.take_room.ensures.top c.in_ok-take_room.ensures.stocked refl refl
+
+pub returns-in_ok-end_turn-in-End-clause-frames : goal.returns-in_ok-end_turn-in-End-clause-frames
+returns-in_ok-end_turn-in-End-clause-frames c = λ a e.
+    let h = c.in_ok-end_turn-in-End.ensures in
+    settles_end c.args.code.now c.args.self.now c.take_room.new.self _ c.args.asked.now a c.in-End.end (c.in-Some-asked.is ∙ ap Some c.in-End.is) e c.take_room.ensures.top c.in_ok-take_room.ensures.stocked (ap (λ (t : Task). t.spare) h.rest) (λ b top. h.frames b (sym c.in-Some.is ∙ top))
