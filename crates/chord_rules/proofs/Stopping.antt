@@ -110,8 +110,8 @@ one_unbroken rule classes done table plans after number next class o p were t a 
 }
 
 -- where the first of the classes break no rule, their plans stop before a break
-pub stopped : (classes first rest : List ClassTree) (done : List Shape) (plans : List ClassOf) (number : ℕ) → first ++ rest ≡ classes → WereUnbroken (class_keys classes) first done plans number → StopBeforeBreak classes plans
-stopped classes first rest done plans number whole were =
+pub stop_before_break : (classes first rest : List ClassTree) (done : List Shape) (plans : List ClassOf) (number : ℕ) → first ++ rest ≡ classes → WereUnbroken (class_keys classes) first done plans number → StopBeforeBreak classes plans
+stop_before_break classes first rest done plans number whole were =
     let taken : take (length plans) classes ≡ first ++ [] = ap (λ z. take z classes) were.count ∙ ap (take (length first)) (sym whole) ∙ take-append_seam first rest ∙ sym (append-nil first) in
     record {
       planned = sym (ap (plans_after [] [] 0) taken ∙ were.planned []);

@@ -8,7 +8,7 @@ use Rattle.chord_classes.proofs.Facts.{there_is_some}
 use Rattle.chord_classes.proofs.Search.{item_here}
 use Rattle.chord_rules.specs.ClassKeys.{class_keys}
 use Rattle.chord_rules.specs.Passing.{ClassesNumbered, StopBeforeBreak}
-use Rattle.chord_rules.proofs.Stopping.{WereUnbroken, classes_stopped, numbered_rest, no_some, one_unbroken, stopped, both_parts, all_taken, one_taken}
+use Rattle.chord_rules.proofs.Stopping.{WereUnbroken, classes_stopped, numbered_rest, no_some, one_unbroken, stop_before_break, both_parts, all_taken, one_taken}
 use Rattle.chord_rules.proofs.classes.look.Goals as goal
 
 pub loop-class-preserved : goal.loop-class-preserved
@@ -45,7 +45,7 @@ returns-then-is_some-clause-noted c =
 pub returns-then-is_some-clause-stops : goal.returns-then-is_some-clause-stops
 returns-then-is_some-clause-stops c =
     subst (λ z. StopBeforeBreak (map see_class c.args.classes.now) (map view_class_plan z)) (sym c.into_plans.ensures)
-    (stopped (map see_class c.args.classes.now) _ (map see_class (drop c.loop-class.class-index c.args.classes.now)) c.loop-class.progress.table _ c.loop-class.progress.number
+    (stop_before_break (map see_class c.args.classes.now) _ (map see_class (drop c.loop-class.class-index c.args.classes.now)) c.loop-class.progress.table _ c.loop-class.progress.number
     (both_parts see_class c.args.classes.now c.loop-class.class-index) c.loop-class.invariant.unbroken)
 
 pub returns-clause-plans : goal.returns-clause-plans
@@ -62,5 +62,5 @@ returns-clause-noted c =
 pub returns-clause-stops : goal.returns-clause-stops
 returns-clause-stops c =
     subst (λ z. StopBeforeBreak (map see_class c.args.classes.now) (map view_class_plan z)) (sym c.into_plans-2.ensures)
-    (stopped (map see_class c.args.classes.now) _ (map see_class (drop c.loop-class.class-index c.args.classes.now)) c.loop-class.progress.table _ c.loop-class.progress.number
+    (stop_before_break (map see_class c.args.classes.now) _ (map see_class (drop c.loop-class.class-index c.args.classes.now)) c.loop-class.progress.table _ c.loop-class.progress.number
     (both_parts see_class c.args.classes.now c.loop-class.class-index) c.loop-class.invariant.unbroken)
