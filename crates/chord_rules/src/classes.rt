@@ -1,7 +1,7 @@
 //! The one pass over the classes of a program: what each breaks, and its plan.
 #![tactic(auto)]
 
-ghost use Rattle.std.specs.Prelude.{◌≡◌, ◌-◌, [], ◌++◌, None, IfOk, OnOk, map, length};
+ghost use Rattle.std.specs.Prelude.{◌≡◌, ◌≤◌, ◌-◌, [], ◌++◌, None, IfOk, OnOk, OnErr, map, length};
 ghost use Rattle.chord_tree.specs.View.{see_class};
 ghost use Rattle.chord_tree.specs.Walk.{headers_of};
 ghost use Rattle.chord_bodies.specs.View.{view_method_plan, view_chord_plan, view_class_plan};
@@ -12,6 +12,7 @@ ghost use Rattle.chord_classes.specs.ChordRules.{over_plans};
 ghost use Rattle.chord_classes.specs.Entries.{IsGrown};
 ghost use Rattle.chord_classes.specs.Least.{least};
 ghost use Rattle.chord_rules.specs.ClassKeys.{name_keys, place_keys, inner_keys, class_keys};
+ghost use Rattle.chord_rules.specs.Limits.{base_depth};
 ghost use Rattle.chord_rules.specs.Planning.{AreAlike, base_methods, depths_of, plan_parts};
 ghost use Rattle.chord_rules.specs.Passing.{IsNextClass, HasNextPlan, HasNextShape, ClassesNumbered, StopBeforeBreak};
 
@@ -53,7 +54,8 @@ fn places_break(
     breaks: &mut Least,
 ) -> Result<(), AllocError>
     requires { depths.now ≡ depths_of table.now }
-    ensures { OnOk result (breaks.new.found ≡ least breaks.old.found (place_keys table.now (see_class class.now))) }
+    ensures noted { OnOk result (breaks.new.found ≡ least breaks.old.found (place_keys table.now (see_class class.now))) }
+    ensures large { OnErr result (4294967296 ≤ base_depth depths.now (base_of table.now (see_class class.now))) }
 {
     class_past(table, class, breaks);
     base_past(depths, class, table.base_of(class), breaks)?;
