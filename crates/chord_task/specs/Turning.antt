@@ -74,8 +74,8 @@ pub record MaySettle (code : Parts) (t : Task) (n : ℕ) (w : What) : Type 0 whe
   pub stays : StaysDefined (code_program code t.limits) (view_of t) n w
   pub above : AllBelow n (view_of t).past
 
--- an ask is with its caller, and room was made for its entry: what is known of it is said of the task before that
-pub record IsDue (code : Parts) (before roomy : Task) (n : ℕ) (ask : Option Ask) : Type 0 where
+-- an ask waits for its number: it is with its caller, and room was made for its entry; what is known of it is said of the task before that
+pub record AwaitsNumber (code : Parts) (before roomy : Task) (n : ℕ) (ask : Option Ask) : Type 0 where
   pub room : HasMadeRoom code before roomy
   pub asked : (a : Ask) → ask ≡ Some a → IsAskedFor code before (what_of_ask a)
   pub may : (a : Ask) → ask ≡ Some a → MaySettle code before n (what_of_ask a)

@@ -10,7 +10,7 @@ ghost use Rattle.chord_task.specs.declared.task.Task.{Task as ATask};
 ghost use Rattle.chord_task.specs.Standing.{view_of, IsTaskOf, is_ready_of, given_by, LastIsReady, HasReturned, HasRoomFor, HasMadeRoom, WasStocked, SettlesFrames};
 ghost use Rattle.chord_task.specs.Arguments.{MayBeList};
 ghost use Rattle.chord_task.specs.Past.{AddsOne};
-ghost use Rattle.chord_task.specs.Turning.{sent_to, sent_of, MayTurn, HasTurned, RunsOn, HasSettled, IsDue, IsSecondOf, AreBare, IsBareEnd, OwnsNothing};
+ghost use Rattle.chord_task.specs.Turning.{sent_to, sent_of, MayTurn, HasTurned, RunsOn, HasSettled, AwaitsNumber, IsSecondOf, AreBare, IsBareEnd, OwnsNothing};
 
 use crate::body::{Body, Next, put};
 use crate::past::Past;
@@ -380,10 +380,10 @@ impl Task {
         list: &mut Vec<Entry>,
     ) -> Option<(Object, u8)>
         requires some { asked.old ≢ None }
-        requires due { (t : ATask) × IsDue code.now t self.old number asked.old }
+        requires awaits { (t : ATask) × AwaitsNumber code.now t self.old number asked.old }
         requires place { vec_len list.old < vec_capacity list.old }
         requires second { IsSecondOf second asked.old }
-        ensures settled { (t : ATask) → IsDue code.now t self.old number asked.old → (a : Ask) × (asked.old ≡ Some a) × HasSettled code.now t number (what_of_ask a) self.new × (result ≡ sent_to (what_of_ask a)) }
+        ensures settled { (t : ATask) → AwaitsNumber code.now t self.old number asked.old → (a : Ask) × (asked.old ≡ Some a) × HasSettled code.now t number (what_of_ask a) self.new × (result ≡ sent_to (what_of_ask a)) }
         ensures listed { AddsOne self.old.past self.new.past list.old.items list.new.items }
         ensures bare { OwnsNothing asked.new }
         ensures over { (t : ATask) → HasMadeRoom code.now t self.old → (e : AnEnd) → asked.old ≡ Some (Ask.End e) → vec_len t.below ≡ 0 → self.new.top ≡ None }

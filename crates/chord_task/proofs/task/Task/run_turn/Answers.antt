@@ -4,7 +4,7 @@ use Rattle.chord_code.specs.Machine.{ComesToAsk}
 use Rattle.chord_vm.specs.Frames.{machine_of, what_of_ask, Advanced}
 use Rattle.chord_vm.specs.declared.frames.Frames.{Frames}
 use Rattle.chord_vm.specs.declared.ask.Ask.{Ask}
-use Rattle.chord_task.proofs.Turning.{ask_put, with_body, with_frames, runs_to_ask, is_due, settled_turned}
+use Rattle.chord_task.proofs.Turning.{ask_put, with_body, with_frames, runs_to_ask, awaits_number, settled_turned}
 use Rattle.chord_task.proofs.Stock.{settled_stock}
 use Rattle.chord_task.proofs.task.Task.run_turn.Goals as goal
 
@@ -19,14 +19,14 @@ advance_to-requires c =
 pub settle-sent-requires-clause-some : goal.settle-sent-requires-clause-some
 settle-sent-requires-clause-some c = λ e. let z : None ≡ Some c.in_ok-advance_to-in-Some.ensures.0 = sym e ∙ c.in_ok-advance_to-in-Some.ensures.1 in cc
 
-pub settle-sent-requires-clause-due : goal.settle-sent-requires-clause-due
-settle-sent-requires-clause-due c =
+pub settle-sent-requires-clause-awaits : goal.settle-sent-requires-clause-awaits
+settle-sent-requires-clause-awaits c =
     let code = c.args.code.now in
     let b = c.in-Some.body in
     let f = with_value b.frames c.advance_to.new.frames in
     let advanced : (a : Ask) → c.advance_to.new.asked ≡ Some a → Advanced code (machine_of b.frames.value) a c.advance_to.new.frames = λ a e. subst (λ (g : Frames). Advanced code (machine_of g) a c.advance_to.new.frames) c.deref_mut.ensures.value (ask_put code (machine_of c.deref_mut.result.now) c.advance_to.new.asked c.advance_to.new.frames c.in_ok-advance_to-in-Some.ensures a e) in (
       with_body c.args.self.now (with_frames b f),
-      is_due code c.args.limits.now c.args.self.now c.make_room.new.self b f c.advance_to.new.asked c.args.number c.requires.task c.requires.runs c.in-Some.is advanced c.requires.may c.in-Ok.ensures.room,
+      awaits_number code c.args.limits.now c.args.self.now c.make_room.new.self b f c.advance_to.new.asked c.args.number c.requires.task c.requires.runs c.in-Some.is advanced c.requires.may c.in-Ok.ensures.room,
     )
 
 pub returns-in-Ok-clause-turned : goal.returns-in-Ok-clause-turned
@@ -37,7 +37,7 @@ returns-in-Ok-clause-turned c =
     let b = c.in-Some.body in
     let f = with_value b.frames c.advance_to.new.frames in
     let advanced : (a : Ask) → c.advance_to.new.asked ≡ Some a → Advanced code (machine_of b.frames.value) a c.advance_to.new.frames = λ a e. subst (λ (g : Frames). Advanced code (machine_of g) a c.advance_to.new.frames) c.deref_mut.ensures.value (ask_put code (machine_of c.deref_mut.result.now) c.advance_to.new.asked c.advance_to.new.frames c.in_ok-advance_to-in-Some.ensures a e) in
-    let s = c.settle-sent.ensures.settled (with_body t (with_frames b f)) (is_due code limits t c.make_room.new.self b f c.advance_to.new.asked c.args.number c.requires.task c.requires.runs c.in-Some.is advanced c.requires.may c.in-Ok.ensures.room) in
+    let s = c.settle-sent.ensures.settled (with_body t (with_frames b f)) (awaits_number code limits t c.make_room.new.self b f c.advance_to.new.asked c.args.number c.requires.task c.requires.runs c.in-Some.is advanced c.requires.may c.in-Ok.ensures.room) in
     (what_of_ask s.0, settled_turned code limits t b f s.0 c.args.number c.settle-sent.new.self c.requires.task c.requires.runs c.in-Some.is (advanced s.0 s.1) s.2, s.3)
 
 pub returns-in-Ok-clause-stocked : goal.returns-in-Ok-clause-stocked

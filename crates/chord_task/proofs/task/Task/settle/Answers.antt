@@ -9,31 +9,31 @@ use Rattle.chord_vm.specs.declared.frames.Frames.{Frames}
 use Rattle.chord_task.specs.declared.task.Task.{Task}
 use Rattle.chord_task.specs.Turning.{HasSettled}
 use Rattle.chord_task.proofs.Stock.{settles_on, settles_end}
-use Rattle.chord_task.proofs.Turning.{due_room, roomy_fits, roomy_asked, settled_gave, settled_end, roomy_ready, over_alone}
+use Rattle.chord_task.proofs.Turning.{awaiting_room, roomy_fits, roomy_asked, settled_gave, settled_end, roomy_ready, over_alone}
 use Rattle.chord_task.proofs.task.Task.settle.Goals as goal
 
 pub answer-requires-clause-fits : goal.answer-requires-clause-fits
 answer-requires-clause-fits c =
-    let t = c.requires.due.0 in
+    let t = c.requires.awaits.0 in
     let w = Made c.in-Make.class in
-    let x = due_room c.args.code.now t c.args.self.now c.args.number c.args.asked.now (ask.Make c.in-Make.class) c.in-Some.body c.requires.due.1 (c.in-Some-asked.is ∙ ap Some c.in-Make.is) c.in-Some.is in
+    let x = awaiting_room c.args.code.now t c.args.self.now c.args.number c.args.asked.now (ask.Make c.in-Make.class) c.in-Some.body c.requires.awaits.1 (c.in-Some-asked.is ∙ ap Some c.in-Make.is) c.in-Some.is in
     subst (λ (f : Frames). with_answer (machine_of f) f.awaited (a_value.Ref (record { number = c.args.number; class = c.in-Make.class })) ≡ None → ⊥) (sym c.deref_mut.ensures.value)
     (roomy_fits c.args.code.now t c.args.self.now c.args.number w c.in-Some.body x w x.given).1
 
 pub put-requires : goal.put-requires
 put-requires c =
-    let x = due_room c.args.code.now c.requires.due.0 c.args.self.now c.args.number c.args.asked.now (ask.Call c.in-Call.object c.in-Call.method c.in-Call.arguments) c.in-Some.body c.requires.due.1 (c.in-Some-asked.is ∙ ap Some c.in-Call.is) c.in-Some.is in
+    let x = awaiting_room c.args.code.now c.requires.awaits.0 c.args.self.now c.args.number c.args.asked.now (ask.Call c.in-Call.object c.in-Call.method c.in-Call.arguments) c.in-Some.body c.requires.awaits.1 (c.in-Some-asked.is ∙ ap Some c.in-Call.is) c.in-Some.is in
     record { runs = x.runs }
 
 pub end_turn-requires-clause-runs : goal.end_turn-requires-clause-runs
 end_turn-requires-clause-runs c =
-    let x = due_room c.args.code.now c.requires.due.0 c.args.self.now c.args.number c.args.asked.now (ask.End c.in-End.end) c.in-Some.body c.requires.due.1 (c.in-Some-asked.is ∙ ap Some c.in-End.is) c.in-Some.is in
+    let x = awaiting_room c.args.code.now c.requires.awaits.0 c.args.self.now c.args.number c.args.asked.now (ask.End c.in-End.end) c.in-Some.body c.requires.awaits.1 (c.in-Some-asked.is ∙ ap Some c.in-End.is) c.in-Some.is in
     (c.in-Some.body, refl, x.runs)
 
 pub end_turn-requires-clause-ready : goal.end_turn-requires-clause-ready
 end_turn-requires-clause-ready c =
-    let t = c.requires.due.0 in
-    let x = due_room c.args.code.now t c.args.self.now c.args.number c.args.asked.now (ask.End c.in-End.end) c.in-Some.body c.requires.due.1 (c.in-Some-asked.is ∙ ap Some c.in-End.is) c.in-Some.is in
+    let t = c.requires.awaits.0 in
+    let x = awaiting_room c.args.code.now t c.args.self.now c.args.number c.args.asked.now (ask.End c.in-End.end) c.in-Some.body c.requires.awaits.1 (c.in-Some-asked.is ∙ ap Some c.in-End.is) c.in-Some.is in
     roomy_ready c.args.code.now t c.args.self.now c.args.number (Ended c.in-End.end) c.in-Some.body x
 
 pub end_turn-requires-clause-second : goal.end_turn-requires-clause-second
@@ -43,7 +43,7 @@ pub returns-in-Make-clause-settled : goal.returns-in-Make-clause-settled
 returns-in-Make-clause-settled c = λ t d.
     let a : Ask = ask.Make c.in-Make.class in
     let put : c.args.asked.now ≡ Some a = c.in-Some-asked.is ∙ ap Some c.in-Make.is in
-    let x = due_room c.args.code.now t c.args.self.now c.args.number c.args.asked.now a c.in-Some.body d put c.in-Some.is in (
+    let x = awaiting_room c.args.code.now t c.args.self.now c.args.number c.args.asked.now a c.in-Some.body d put c.in-Some.is in (
       a,
       put,
       settled_gave c.args.code.now t c.args.self.now c.args.number (what_of_ask a) c.in-Some.body x (what_of_ask a) x.given c.append_made.new.past _ refl
@@ -56,7 +56,7 @@ pub returns-in-Send-clause-settled : goal.returns-in-Send-clause-settled
 returns-in-Send-clause-settled c = λ t d.
     let a : Ask = ask.Send c.in-Send.object c.in-Send.method c.in-Send.arguments in
     let put : c.args.asked.now ≡ Some a = c.in-Some-asked.is ∙ ap Some c.in-Send.is in
-    let x = due_room c.args.code.now t c.args.self.now c.args.number c.args.asked.now a c.in-Some.body d put c.in-Some.is in (
+    let x = awaiting_room c.args.code.now t c.args.self.now c.args.number c.args.asked.now a c.in-Some.body d put c.in-Some.is in (
       a,
       put,
       settled_gave c.args.code.now t c.args.self.now c.args.number (what_of_ask a) c.in-Some.body x (what_of_ask a) x.given c.append_sent.new.past _ refl
@@ -69,7 +69,7 @@ pub returns-in-Call-clause-settled : goal.returns-in-Call-clause-settled
 returns-in-Call-clause-settled c = λ t d.
     let a : Ask = ask.Call c.in-Call.object c.in-Call.method c.in-Call.arguments in
     let put : c.args.asked.now ≡ Some a = c.in-Some-asked.is ∙ ap Some c.in-Call.is in
-    let x = due_room c.args.code.now t c.args.self.now c.args.number c.args.asked.now a c.in-Some.body d put c.in-Some.is in (
+    let x = awaiting_room c.args.code.now t c.args.self.now c.args.number c.args.asked.now a c.in-Some.body d put c.in-Some.is in (
       a,
       put,
       settled_gave c.args.code.now t c.args.self.now c.args.number (what_of_ask a) c.in-Some.body x (what_of_ask a) x.given c.append_called.new.past _ refl
@@ -82,7 +82,7 @@ pub returns-in-Print-clause-settled : goal.returns-in-Print-clause-settled
 returns-in-Print-clause-settled c = λ t d.
     let a : Ask = ask.Print c.take_text.result in
     let put : c.args.asked.now ≡ Some a = c.in-Some-asked.is ∙ c.take_text.ensures.text in
-    let x = due_room c.args.code.now t c.args.self.now c.args.number c.args.asked.now a c.in-Some.body d put c.in-Some.is in (
+    let x = awaiting_room c.args.code.now t c.args.self.now c.args.number c.args.asked.now a c.in-Some.body d put c.in-Some.is in (
       a,
       put,
       settled_gave c.args.code.now t c.args.self.now c.args.number (what_of_ask a) c.in-Some.body x (what_of_ask a) x.given c.append_printed.new.past _ refl
@@ -96,7 +96,7 @@ returns-in-End-clause-settled c = λ t d.
     let h = c.end_turn.ensures in
     let a : Ask = ask.End c.in-End.end in
     let put : c.args.asked.now ≡ Some a = c.in-Some-asked.is ∙ ap Some c.in-End.is in
-    let x = due_room c.args.code.now t c.args.self.now c.args.number c.args.asked.now a c.in-Some.body d put c.in-Some.is in
+    let x = awaiting_room c.args.code.now t c.args.self.now c.args.number c.args.asked.now a c.in-Some.body d put c.in-Some.is in
     let s = c.end_turn.new.self in
     (a, put, subst (HasSettled c.args.code.now t c.args.number (what_of_ask a)) (sym h.rest) (settled_end c.args.code.now t c.args.self.now c.args.number (what_of_ask a) c.in-Some.body x c.in-End.end x.given s.past s.below s.ended s.top h.ended (h.past c.in-Some.body refl) h.below), refl)
 
