@@ -5,3 +5,4 @@ pub mod ByHand
 pub mod TwoEntries
 pub mod Crossing
 pub mod Seven
+pub mod Bypassing

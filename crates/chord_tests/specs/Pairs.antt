@@ -147,6 +147,28 @@ pub record KeepsFiring (v : View) (ms : List ℕ) (f : ℕ) : Type 0 where
   pub fresh : v.fresh ≡ []
   pub unposted : HasNumber f v.unposted
 
+-- both messages are pending, and the desk has a duty on each
+pub record HasBoth (v : View) : Type 0 where
+  pub hand : HasInHand v sent_both [] None []
+  pub x : Owes v 2 (key first_object 0)
+  pub y : Owes v 3 (key first_object 1)
+
+-- the claim is on this message to this method of the first object, and this firing was drawn with it, if any
+pub record IsClaimOn (i method : ℕ) (firing : Option ℕ) (c : Claim) : Type 0 where
+  pub numbered : c.number ≡ i
+  pub to_object : c.object ≡ first_object
+  pub to_method : c.method ≡ method
+  pub fired : c.firing ≡ firing
+
+-- the desk has claimed both messages, and drawn this firing with them, if any
+pub record HasClaimedBoth (v : View) (firing : Option ℕ) : Type 0 where
+  pub room : v.spent ≡ false
+  pub x : Claim
+  pub y : Claim
+  pub claims : v.claims ≡ y ∷ x ∷ []
+  pub is_x : IsClaimOn 2 0 firing x
+  pub is_y : IsClaimOn 3 1 firing y
+
 -- the entry of a firing
 abbrev pub SaysFired : What → Type 0
 SaysFired (Fired k o ms vs) = Unit {0}
