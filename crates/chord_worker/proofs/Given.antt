@@ -21,7 +21,8 @@ use Rattle.chord_task.specs.declared.parcel.Opened.{Opened as Parcel}
 use Rattle.chord_task.specs.declared.task.Task.{Task}
 use Rattle.chord_task.specs.Stacks.{TaskView, IsNext, StaysDefined}
 use Rattle.chord_task.specs.Past.{AddsOne}
-use Rattle.chord_task.specs.Standing.{view_of, IsTaskOf}
+use Rattle.chord_task.specs.Standing.{view_of, IsTaskOf, HasRoomFor}
+use Rattle.chord_task.specs.Arguments.{MayBeList}
 use Rattle.chord_task.specs.Turning.{RunsOn, MaySettle, HasSettled, HasCome}
 use Rattle.chord_vm.specs.declared.ask.Ask.{Ask}
 use Rattle.chord_vm.specs.Frames.{what_of_ask}
@@ -58,6 +59,14 @@ module _ (code : Parts) (limits : Limits) (t u : Task) (w : What) (came : HasCom
   -- the frames of the body on top ran to the ask
   pub came_runs : RunsOn u.top
   came_runs = (came.asked.body, came.asked.on_top, came.asked.runs)
+
+  -- frames in stock have room for each block
+  pub came_spare : HasRoomFor code u.limits u.spare
+  came_spare = came.asked.task.kept
+
+  -- the wide list, if there is one, is one
+  pub came_values : MayBeList u.values
+  came_values = came.asked.task.kept_values
 
   -- the list of what the desk drew got the task's entry
   pub noted_one : (v v' : View) (n : ℕ) (t' : Task) (noted : IsNotedAs code limits v v' t t' n w) (list list' : List Entry) → AddsOne u.past t'.past list list' → DrawsOne v.draws v'.draws list list'
