@@ -33,8 +33,8 @@ pub fn ways_miss_none<P: Carry>()
     ensures whole { (code : Parts) (limits : Limits) → WholeWaysMissNone P.entries P.arguments (λ q. P.keeps_to q code limits) }
 {}
 
-/// Each message that a desk has looked at on a way is a message of the journal, linked in the bag of the way, and it was when the
-/// desk read the bag's head.
+/// Each message that a desk has looked at on a way is a message of the journal, linked in the bag whose head the desk read there,
+/// which is the way's own where its object was made; and it was linked when the desk read that head.
 pub fn ways_meet_linked<P: Carry>()
     ensures { (code : Parts) (limits : Limits) → WaysMeetLinked P.entries P.arguments (λ q. P.keeps_to q code limits) }
 {}
