@@ -24,7 +24,7 @@ settle-requires-clause-awaits c =
     let room = rw (c.deref_mut.ensures.value ∙ c.task.view_is, c.requires.code) at c.in_ok-second.ensures.room in (
       c.args.task.now,
       rw (c.requires.code, c.deref_mut-in-Ok.ensures.value)
-      (awaits_drawn (space_code s) (space_limits s) c.args.task.now c.make_room.new.self c.args.asked.now (view c.args.desk.now).kept c.top_number-body.result c.in-Ok.number top c.requires.sound room c.requires.came (λ a e. let d = c.in-Ok.ensures.drawn a e in (d.below, d.place))),
+          (awaits_drawn (space_code s) (space_limits s) c.args.task.now c.make_room.new.self c.args.asked.now (view c.args.desk.now).kept c.top_number-body.result c.in-Ok.number top c.requires.sound room c.requires.came (λ a e. let d = c.in-Ok.ensures.drawn a e in (d.below, d.place))),
     )
 
 pub returns-in-Ok-clause-noted : goal.returns-in-Ok-clause-noted
