@@ -9,3 +9,4 @@ mod Ends
 mod Firings
 pub mod SoundRuns
 mod SourceRuns
+mod Callers

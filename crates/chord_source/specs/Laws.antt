@@ -70,6 +70,6 @@ pub record IsSoundMachine (program : Program) : Type 0 where
   pub sound : IsSound program
   pub chords : ChordsAreRight program
 
--- The join machine of a source whose bodies keep to their static types, and whose plan is as it must be, is one, whatever its limits.
+-- The join machine of a source whose bodies keep to their static types, and whose plan is as it must be, is a sound machine, whatever its limits.
 abbrev pub MachinesAreSound : Type 0
 MachinesAreSound = (sig : Signatures) (p : Resolved) → AreWellTyped sig p → IsPlanned sig p → (limits : Limits) → IsSoundMachine (source_program p limits)

@@ -11,5 +11,7 @@ pub mod Objects
 pub mod Source
 -- Bodies that keep to their types never go wrong, and come to an end; their join machine is sound.
 pub mod Laws
+-- What a run of a sound machine says of its messages and of its callers.
+pub mod Callers
 -- Code that does what a source does, and its runs.
 pub mod Sources
