@@ -18,14 +18,14 @@ pub true_false : true ≡ false → ⊥
 true_false e = false≢true (sym e)
 
 -- the first of two truth values of which neither is true
-pub or_left : (a b : Bool) → (a || b) ≡ false → a ≡ false
-or_left true b h = h
-or_left false b h = refl
+pub neither_left : (a b : Bool) → (a || b) ≡ false → a ≡ false
+neither_left true b h = h
+neither_left false b h = refl
 
 -- the second of two truth values of which neither is true
-pub or_right : (a b : Bool) → (a || b) ≡ false → b ≡ false
-or_right true b h = absurd (true_false h)
-or_right false b h = h
+pub neither_right : (a b : Bool) → (a || b) ≡ false → b ≡ false
+neither_right true b h = absurd (true_false h)
+neither_right false b h = h
 
 -- a condition under which nothing is noted is false
 pub when_not : (b : Bool) (at : ℕ) → when b at ≡ [] → b ≡ false

@@ -27,7 +27,7 @@ use Rattle.chord_classes.specs.Rules.{C05, C09, C10, IsFree, is_header_rule}
 use Rattle.chord_classes.specs.Plan.{header_number}
 use Rattle.chord_classes.specs.Laws.{chord_methods, ChordsKept, Inherits}
 use Rattle.chord_classes.proofs.Every.{Every, every_left, every_right, every_get}
-use Rattle.chord_classes.proofs.Facts.{none_some, same_some, true_false, when_not, unless_not, left_nil, right_nil, truth_left, truth_right, or_left, or_right}
+use Rattle.chord_classes.proofs.Facts.{none_some, same_some, true_false, when_not, unless_not, left_nil, right_nil, truth_left, truth_right, neither_left, neither_right}
 use Rattle.chord_classes.proofs.Terms.{FoundIn, method_is}
 use Rattle.chord_classes.proofs.Kept.{none_contained}
 use Rattle.chord_classes.proofs.Inherits.{Begins, methods_inherited}
@@ -357,7 +357,7 @@ pub one_sync_is : (table : List Shape) (class : ℕ) (headers : List HeaderTree)
     → (seen ≡ true → NoneSync (λ j. is_sync_in ((signatures table).methods class j)) (chord_methods table class headers)) × OneSync (λ j. is_sync_in ((signatures table).methods class j)) (chord_methods table class headers)
 one_sync_is table class [] main k seen h = (λ e. tt, tt)
 one_sync_is table class (x ∷ xs) main k seen h =
-    by_sync (is_sync x.result_type) refl seen (or_left (is_main x) (has_main xs) main) h (λ s g. one_sync_is table class xs (or_right (is_main x) (has_main xs) main) k.1 s g)
+    by_sync (is_sync x.result_type) refl seen (neither_left (is_main x) (has_main xs) main) h (λ s g. one_sync_is table class xs (neither_right (is_main x) (has_main xs) main) k.1 s g)
   where
     by_sync : (b : Bool) → is_sync x.result_type ≡ b → (seen : Bool) → is_main x ≡ false → when (seen && counts_sync x) x.name.at ++ second_sync (seen || counts_sync x) xs ≡ []
         → ((s : Bool) → second_sync s xs ≡ [] → (s ≡ true → NoneSync (λ j. is_sync_in ((signatures table).methods class j)) (chord_methods table class xs)) × OneSync (λ j. is_sync_in ((signatures table).methods class j)) (chord_methods table class xs))
@@ -395,7 +395,7 @@ one_sync_along sig d c i h (j ∷ js) ts l n =
 -- where `Main` is none of the headers each is of a method
 pub no_mains : (P : HeaderTree → Type 0) (headers : List HeaderTree) → has_main headers ≡ false → Every (λ header. is_main header ≡ false → P header) headers → Every P headers
 no_mains P [] m k = tt
-no_mains P (x ∷ xs) m k = (k.0 (or_left (is_main x) (has_main xs) m), no_mains P xs (or_right (is_main x) (has_main xs) m) k.1)
+no_mains P (x ∷ xs) m k = (k.0 (neither_left (is_main x) (has_main xs) m), no_mains P xs (neither_right (is_main x) (has_main xs) m) k.1)
 
 -- what holds of each header of members holds of each header of a chord among them
 of_chord : (P : HeaderTree → Type 0) (members : List MemberTree) (k : ℕ) (headers : List HeaderTree) (body : BlockTree) → slice_get members k ≡ Some (ChordMember headers body) → Every P (flat_map member_headers members) → Every P headers

@@ -19,7 +19,7 @@ use Rattle.chord_classes.specs.Rules.{C04, C06, C07, IsFree, is_header_rule, is_
 use Rattle.chord_classes.specs.Laws.{ChordsPlanned}
 use Rattle.chord_classes.proofs.Heads.{HasHeader, HaveHeaders, have_headers}
 use Rattle.chord_classes.proofs.Every.{Every, every_left, every_right, every_both, every_get, every_map}
-use Rattle.chord_classes.proofs.Facts.{none_some, same_some, true_false, when_not, left_nil, right_nil, or_left, or_right}
+use Rattle.chord_classes.proofs.Facts.{none_some, same_some, true_false, when_not, left_nil, right_nil, neither_left, neither_right}
 use Rattle.chord_classes.proofs.Terms.{FoundIn, method_is}
 use Rattle.chord_classes.proofs.Kept.{none_contained}
 use Rattle.chord_classes.proofs.Inherits.{among_every, methods_inherited}
@@ -75,7 +75,7 @@ others_differ : (name : List ℕ) (before : List (List ℕ)) (headers : List Hea
 others_differ name before [] m h f = tt
 others_differ name before (y ∷ ys) m h f = (
   f y.name.text (unnamed (is_main y) (has_main ys) (named_in y.name.text before) m (when_not _ y.name.at (left_nil _ (repeated (y.name.text ∷ before) ys) h))),
-  others_differ name (y.name.text ∷ before) ys (or_right (is_main y) (has_main ys) m) (right_nil (when (not (is_main y) && named_in y.name.text before) y.name.at) _ h) (λ other k. f other (or_right (bytes_eq other y.name.text) (named_in other before) k)),
+  others_differ name (y.name.text ∷ before) ys (neither_right (is_main y) (has_main ys) m) (right_nil (when (not (is_main y) && named_in y.name.text before) y.name.at) _ h) (λ other k. f other (neither_right (bytes_eq other y.name.text) (named_in other before) k)),
 )
   where
     unnamed : (a b c : Bool) → (a || b) ≡ false → (not a && c) ≡ false → c ≡ false
@@ -87,8 +87,8 @@ different : (table : List Shape) (methods : List Method) (before : List (List �
 different table methods before [] m h ks = tt
 different table methods before (x ∷ xs) m h ks =
     let rest = right_nil (when (not (is_main x) && named_in x.name.text before) x.name.at) (repeated (x.name.text ∷ before) xs) h in
-    let no_main = or_right (is_main x) (has_main xs) m in (
-      not_has table methods x xs ks.0 ks.1 (others_differ x.name.text (x.name.text ∷ before) xs no_main rest (λ other k. or_left (bytes_eq other x.name.text) (named_in other before) k)),
+    let no_main = neither_right (is_main x) (has_main xs) m in (
+      not_has table methods x xs ks.0 ks.1 (others_differ x.name.text (x.name.text ∷ before) xs no_main rest (λ other k. neither_left (bytes_eq other x.name.text) (named_in other before) k)),
       different table methods (x.name.text ∷ before) xs no_main rest ks.1,
     )
 

@@ -15,8 +15,8 @@ use Rattle.chord_task.specs.Standing.{IsRoomierTop, IsStocked, KeepsStock, Keeps
 use Rattle.chord_task.proofs.Turning.{with_body}
 
 -- an entry that is no end leaves the frames as they were
-pub keeps_on : (w : What) (before after : Task) → is_end w ≡ false → after.spare ≡ before.spare → after.ended ≡ before.ended → KeepsFrames w before after
-keeps_on w before after goes_on spare ended =
+pub kept_on : (w : What) (before after : Task) → is_end w ≡ false → after.spare ≡ before.spare → after.ended ≡ before.ended → KeepsFrames w before after
+kept_on w before after goes_on spare ended =
     record {
       spare = spare;
       ends = λ at_end b top. let z : true ≡ false = sym at_end ∙ goes_on in cc;
@@ -41,7 +41,7 @@ end_of o a b put e =
 
 -- an ask that ends no body was settled
 pub settles_on : (code : Parts) (t s t' : Task) (o : Option Ask) (a b : Ask) → o ≡ Some b → is_end (what_of_ask b) ≡ false → o ≡ Some a → IsRoomierTop t.top s.top → IsStocked code t.limits t.spare t.ended s.spare s.ended → t'.spare ≡ s.spare → t'.ended ≡ s.ended → SettlesFrames code t (what_of_ask a) t'
-settles_on code t s t' o a b put goes_on e roomier stocked spare ended = record { between = s; roomier = roomier; stocked = stocked; kept = keeps_on (what_of_ask a) s t' (end_of o a b put e ∙ goes_on) spare ended }
+settles_on code t s t' o a b put goes_on e roomier stocked spare ended = record { between = s; roomier = roomier; stocked = stocked; kept = kept_on (what_of_ask a) s t' (end_of o a b put e ∙ goes_on) spare ended }
 
 -- an end was settled
 pub settles_end : (code : Parts) (t s t' : Task) (o : Option Ask) (a : Ask) (x : End) → o ≡ Some (ask.End x) → o ≡ Some a → IsRoomierTop t.top s.top → IsStocked code t.limits t.spare t.ended s.spare s.ended → t'.spare ≡ s.spare → ((b : Body) → s.top ≡ Some b → t'.ended ≡ Some b.frames) → SettlesFrames code t (what_of_ask a) t'

@@ -363,6 +363,17 @@ IsRoomierTop (Some b) (Some b') = IsRoomier b b'
 IsRoomierTop None (Some b') = ⊥
 IsRoomierTop (Some b) None = ⊥
 
+-- there is room for one more entry, and for a firing after it, and nothing else of the task has changed
+pub record HasMadeRoom (code : Parts) (before after : Task) : Type 0 where
+  pub past : after.past ≡ before.past
+  pub below : after.below.items ≡ before.below.items
+  pub top : IsRoomierTop before.top after.top
+  pub spare : HasRoomFor code before.limits after.spare
+  pub values : MayBeList after.values
+  pub limits : after.limits ≡ before.limits
+  pub ready : IsReserved code after
+  pub stocked : IsStocked code before.limits before.spare before.ended after.spare after.ended
+
 -- `Main` begins
 abbrev pub MainBegins : Parts → Limits → Type 0
 MainBegins code limits = IsSome ((code_program code limits).next Main 1 [])

@@ -1,7 +1,7 @@
 //! A stack of bodies, each waiting for the one above it, and the entries that they made.
 #![tactic(auto)]
 
-ghost use Rattle.std.specs.Prelude.{◌≡◌, ◌≢◌, ◌+◌, ◌-◌, ◌<◌, ◌≤◌, [], ◌∷◌, ◌++◌, true, false, IfOk, OnOk, IsOk, IsSomeAnd, IsTrue, ◌↔◌, Some, None, length, slice_get, is_none, vec_len, vec_capacity, Box};
+ghost use Rattle.std.specs.Prelude.{◌≡◌, ◌≢◌, ◌+◌, ◌-◌, ◌<◌, ◌≤◌, [], ◌∷◌, ◌++◌, true, false, IfOk, OnOk, OnErr, IsOk, IsSomeAnd, IsTrue, ◌↔◌, Some, None, length, slice_get, is_none, vec_len, vec_capacity, Box};
 ghost use Rattle.chord_base.specs.declared.event.Limits.{Limits as TheLimits};
 ghost use Rattle.chord_base.specs.declared.event.What.{What as AWhat};
 ghost use Rattle.chord_base.specs.Printed.{is_end};
@@ -301,6 +301,7 @@ fn reserve_top(alloc: Global, top: &mut Option<Body>) -> Result<(), AllocError>
 fn begun(list: &mut Vec<Entry>) -> Result<Past, AllocError>
     ensures past { IfOk result (λ past. past ≡ record { number = 0; body = 0; what = What.Begun } ∷ []) }
     ensures listed { OnOk result (list.new.items ≡ list.old.items ++ record { number = 0; body = 0; what = What.Begun } ∷ []) }
+    ensures kept { OnErr result (list.new.items ≡ list.old.items) }
 {
     list.reserve(1)?;
     let mut past = Past::none();
@@ -318,7 +319,7 @@ fn begun(list: &mut Vec<Entry>) -> Result<Past, AllocError>
 
 impl Task {
     #[tactic(auto, using(chord_code::proofs::Validity::valid_forward))]
-    /// Body 0, and the entry that begins it, which goes to the list.
+    /// Body 0, and the entry that begins it, which goes to the list. Where no memory is found, nothing was made.
     pub fn main(
         alloc: Global,
         code: &Code,
@@ -330,10 +331,11 @@ impl Task {
         ensures past { IfOk result (λ t. (view_of t).past ≡ record { number = 0; body = 0; what = What.Begun } ∷ []) }
         ensures top { IfOk result (λ t. (view_of t).top ≡ Some 0) }
         ensures listed { OnOk result (list.new.items ≡ list.old.items ++ record { number = 0; body = 0; what = What.Begun } ∷ []) }
+        ensures kept { OnErr result (list.new.items ≡ list.old.items) }
     {
-        let past = begun(list)?;
         let _parts = code.parts();
         let mut frames = new_frames(alloc, code, limits)?;
+        let past = begun(list)?;
         begin(code, &mut *frames, 0, Value::Unit, Hand::new(), 1);
         Ok(Task {
             past,

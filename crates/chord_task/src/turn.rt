@@ -6,9 +6,11 @@ ghost use Rattle.chord_base.specs.declared.event.End.{End as AnEnd};
 ghost use Rattle.chord_code.specs.Meaning.{code_program};
 ghost use Rattle.chord_vm.specs.Frames.{what_of_ask};
 ghost use Rattle.chord_task.specs.declared.body.Body.{Body as ABody};
-ghost use Rattle.chord_task.specs.Standing.{view_of, IsTaskOf, is_ready_of, given_by, LastIsReady, HasReturned, WasStocked, SettlesFrames};
+ghost use Rattle.chord_task.specs.declared.task.Task.{Task as ATask};
+ghost use Rattle.chord_task.specs.Standing.{view_of, IsTaskOf, is_ready_of, given_by, LastIsReady, HasReturned, HasRoomFor, HasMadeRoom, WasStocked, SettlesFrames};
+ghost use Rattle.chord_task.specs.Arguments.{MayBeList};
 ghost use Rattle.chord_task.specs.Past.{AddsOne};
-ghost use Rattle.chord_task.specs.Turning.{sent_to, sent_of, MayTurn, HasTurned, IsAskedFor, RunsOn, HasSettled, MaySettle, AreBare, IsBareEnd, OwnsNothing};
+ghost use Rattle.chord_task.specs.Turning.{sent_to, sent_of, MayTurn, HasTurned, RunsOn, HasSettled, AwaitsNumber, IsSecondOf, AreBare, IsBareEnd, OwnsNothing};
 
 use crate::body::{Body, Next, put};
 use crate::past::Past;
@@ -138,6 +140,38 @@ fn append_called(
                 What::Called(object, method, taken),
             );
         }
+    }
+}
+
+/// Adds the entry of an end, which is taken. A number is looked for first.
+#[inline(always)]
+fn append_ended(past: &mut Past, list: &mut Vec<Entry>, number: u32, body: u32, end: &mut End)
+    requires { vec_len list.old < vec_capacity list.old }
+    ensures past { past.new ≡ past.old ++ record { number = number; body = body; what = What.Ended end.old } ∷ [] }
+    ensures items { list.new.items ≡ list.old.items ++ record { number = number; body = body; what = What.Ended end.old } ∷ [] }
+    ensures bare { IsBareEnd end.new }
+{
+    match end {
+        End::Gives(Value::Int(lone)) => {
+            let lone = End::Gives(Value::Int(*lone));
+            append(past, list, number, body, What::Ended(lone));
+        }
+        _ => {
+            let taken = mem::replace(end, End::Gives(Value::Unit));
+            append(past, list, number, body, What::Ended(taken));
+        }
+    }
+}
+
+/// A copy of the end that this ask is; of another ask, none. A number is looked for first.
+#[inline(always)]
+fn second_end(alloc: Global, asked: &Option<Ask>) -> Result<Option<End>, AllocError>
+    ensures { IfOk result (λ second. IsSecondOf second asked.now) }
+{
+    match asked {
+        Some(Ask::End(End::Gives(Value::Int(lone)))) => Ok(Some(End::Gives(Value::Int(*lone)))),
+        Some(Ask::End(end)) => Ok(Some(end.copied(alloc)?)),
+        _ => Ok(None),
     }
 }
 
@@ -277,85 +311,84 @@ impl Task {
             Some(body) => {
                 let mut asked = None;
                 advance_to(alloc, code, &mut *body.frames, &mut asked)?;
-                let settled = self.settle(alloc, code, number, &mut asked, list);
-                if settled.is_err() {
-                    drop_ask(&mut asked);
+                match self.make_room(alloc, code, &asked, list) {
+                    Ok(second) => {
+                        let sent = self.settle(code, number, &mut asked, second, list);
+                        forget_ask(asked);
+                        Ok(sent)
+                    }
+                    Err(error) => Err(error),
                 }
-                forget_ask(asked);
-                settled
             }
         }
     }
 
-    /// The body on top ends: its end, which is taken, becomes the entry of this number, and its caller gets a copy. A number is looked for first.
-    #[inline(never)]
-    fn end_turn(
-        &mut self,
-        alloc: Global,
-        number: u32,
-        end: &mut End,
-        list: &mut Vec<Entry>,
-    ) -> Result<(), AllocError>
-        requires place { vec_len list.old < vec_capacity list.old }
-        requires runs { RunsOn self.old.top }
-        requires ready { LastIsReady self.old.below.items }
-        ensures past { OnOk result ((b : ABody) → self.old.top ≡ Some b → self.new.past ≡ self.old.past ++ record { number = number; body = b.number; what = What.Ended end.old } ∷ []) }
-        ensures items { OnOk result ((b : ABody) → self.old.top ≡ Some b → list.new.items ≡ list.old.items ++ record { number = number; body = b.number; what = What.Ended end.old } ∷ []) }
-        ensures below { OnOk result (vec_capacity self.new.below ≡ vec_capacity self.old.below) }
-        ensures ended { OnOk result (HasReturned end.old self.old.below self.new.below self.new.top) }
-        ensures rest { OnOk result (self.new ≡ record { past = self.new.past; top = self.new.top; below = self.new.below; spare = self.old.spare; ended = self.new.ended; values = self.old.values; limits = self.old.limits; enclosed = self.old.enclosed }) }
-        ensures bare { OnOk result (IsBareEnd end.new) }
-        ensures frames { OnOk result ((b : ABody) → self.old.top ≡ Some b → self.new.ended ≡ Some b.frames) }
-        ensures kept { OnErr result ((end.new ≡ end.old) × (list.new.items ≡ list.old.items)) }
-    {
-        let maker = number_of(&self.top);
-        match end {
-            End::Gives(Value::Int(lone)) => {
-                let lone = *lone;
-                append(
-                    &mut self.past,
-                    list,
-                    number,
-                    maker,
-                    What::Ended(End::Gives(Value::Int(lone))),
-                );
-                let second = End::Gives(Value::Int(lone));
-                end_top(&mut self.top, &mut self.below, &mut self.ended, second);
-            }
-            _ => {
-                let second = end.copied(alloc)?;
-                let first = mem::replace(end, End::Gives(Value::Unit));
-                append(&mut self.past, list, number, maker, What::Ended(first));
-                end_top(&mut self.top, &mut self.below, &mut self.ended, second);
-            }
-        }
-        Ok(())
-    }
-
-    /// The ask to which the body on top came becomes the entry of this number: what owns memory is taken out of it, so that what is left may be
-    /// forgotten. A new object is the body's answer, a message and a line need none, and after a call the body waits. An end answers the body below.
-    /// Gives what a message is to, where the entry is one. Where no memory is found, the ask and the list are as they were, and the task can only be
-    /// dropped.
+    /// Makes room for the entry of an ask that is with its caller, and for a firing after it, and takes a copy of an end, for the body below. So whoever draws the
+    /// entry's number after that can settle it, whatever memory there is then. Nothing else of the task changes, and nothing of the list.
     #[inline(always)]
-    pub fn settle(
+    pub fn make_room(
         &mut self,
         alloc: Global,
         code: &Code,
-        number: u32,
-        asked: &mut Option<Ask>,
+        asked: &Option<Ask>,
         list: &mut Vec<Entry>,
-    ) -> Result<Option<(Object, u8)>, AllocError>
-        requires some { asked.old ≢ None }
-        requires asked { (a : Ask) → asked.old ≡ Some a → IsAskedFor code.now self.old (what_of_ask a) }
-        requires may { (a : Ask) → asked.old ≡ Some a → MaySettle code.now self.old number (what_of_ask a) }
-        ensures settled { IfOk result (λ sent. (a : Ask) × (asked.old ≡ Some a) × HasSettled code.now self.old number (what_of_ask a) self.new × (sent ≡ sent_to (what_of_ask a))) }
-        ensures listed { OnOk result (AddsOne self.old.past self.new.past list.old.items list.new.items) }
-        ensures bare { OnOk result (OwnsNothing asked.new) }
-        ensures over { OnOk result ((e : AnEnd) → asked.old ≡ Some (Ask.End e) → vec_len self.old.below ≡ 0 → self.new.top ≡ None) }
-        ensures kept { OnErr result ((asked.new ≡ asked.old) × (list.new.items ≡ list.old.items)) }
-        ensures frames { OnOk result ((a : Ask) → asked.old ≡ Some a → SettlesFrames code.now self.old (what_of_ask a) self.new) }
+    ) -> Result<Option<End>, AllocError>
+        requires spare { HasRoomFor code.now self.old.limits self.old.spare }
+        requires values { MayBeList self.old.values }
+        ensures room { OnOk result (HasMadeRoom code.now self.old self.new) }
+        ensures place { OnOk result (vec_len list.new < vec_capacity list.new) }
+        ensures second { IfOk result (λ second. IsSecondOf second asked.now) }
+        ensures listed { list.new.items ≡ list.old.items }
     {
         self.take_room(alloc, code, list)?;
+        second_end(alloc, asked)
+    }
+
+    /// The body on top ends: its end, which is taken, becomes the entry of this number, and its caller gets the copy.
+    #[inline(never)]
+    fn end_turn(&mut self, number: u32, end: &mut End, second: Option<End>, list: &mut Vec<Entry>)
+        requires place { vec_len list.old < vec_capacity list.old }
+        requires runs { RunsOn self.old.top }
+        requires ready { LastIsReady self.old.below.items }
+        requires second { second ≡ Some end.old }
+        ensures past { (b : ABody) → self.old.top ≡ Some b → self.new.past ≡ self.old.past ++ record { number = number; body = b.number; what = What.Ended end.old } ∷ [] }
+        ensures items { (b : ABody) → self.old.top ≡ Some b → list.new.items ≡ list.old.items ++ record { number = number; body = b.number; what = What.Ended end.old } ∷ [] }
+        ensures below { vec_capacity self.new.below ≡ vec_capacity self.old.below }
+        ensures ended { HasReturned end.old self.old.below self.new.below self.new.top }
+        ensures rest { self.new ≡ record { past = self.new.past; top = self.new.top; below = self.new.below; spare = self.old.spare; ended = self.new.ended; values = self.old.values; limits = self.old.limits; enclosed = self.old.enclosed } }
+        ensures bare { IsBareEnd end.new }
+        ensures frames { (b : ABody) → self.old.top ≡ Some b → self.new.ended ≡ Some b.frames }
+    {
+        let maker = number_of(&self.top);
+        append_ended(&mut self.past, list, number, maker, end);
+        match second {
+            None => unreachable!(),
+            Some(second) => end_top(&mut self.top, &mut self.below, &mut self.ended, second),
+        }
+    }
+
+    /// The ask to which the body on top came becomes the entry of this number, once there is room for it: what owns memory is taken out of it, so that what is
+    /// left may be forgotten. A new object is the body's answer, a message and a line need none, and after a call the body waits. An end answers the body
+    /// below by its copy. Gives what a message is to, where the entry is one.
+    #[inline(always)]
+    pub fn settle(
+        &mut self,
+        code: &Code,
+        number: u32,
+        asked: &mut Option<Ask>,
+        second: Option<End>,
+        list: &mut Vec<Entry>,
+    ) -> Option<(Object, u8)>
+        requires some { asked.old ≢ None }
+        requires awaits { (t : ATask) × AwaitsNumber code.now t self.old number asked.old }
+        requires place { vec_len list.old < vec_capacity list.old }
+        requires second { IsSecondOf second asked.old }
+        ensures settled { (t : ATask) → AwaitsNumber code.now t self.old number asked.old → (a : Ask) × (asked.old ≡ Some a) × HasSettled code.now t number (what_of_ask a) self.new × (result ≡ sent_to (what_of_ask a)) }
+        ensures listed { AddsOne self.old.past self.new.past list.old.items list.new.items }
+        ensures bare { OwnsNothing asked.new }
+        ensures over { (t : ATask) → HasMadeRoom code.now t self.old → (e : AnEnd) → asked.old ≡ Some (Ask.End e) → vec_len t.below ≡ 0 → self.new.top ≡ None }
+        ensures frames { (t : ATask) → HasMadeRoom code.now t self.old → (a : Ask) → asked.old ≡ Some a → SettlesFrames code.now t (what_of_ask a) self.new }
+    {
         match &mut self.top {
             None => unreachable!(),
             Some(body) => {
@@ -368,25 +401,25 @@ impl Task {
                             let class = *class;
                             answer(&mut *body.frames, Value::Ref(Object { number, class }));
                             append_made(past, list, number, maker, class);
-                            Ok(None)
+                            None
                         }
                         // what was sent or printed is not answered: the body runs on
                         Ask::Send(object, method, arguments) => {
                             append_sent(past, list, number, maker, *object, *method, arguments);
-                            Ok(Some((*object, *method)))
+                            Some((*object, *method))
                         }
                         Ask::Call(object, method, arguments) => {
                             put(&mut body.next, Next::Waits(number));
                             append_called(past, list, number, maker, *object, *method, arguments);
-                            Ok(Some((*object, *method)))
+                            Some((*object, *method))
                         }
                         Ask::Print(_) => {
                             append_printed(past, list, number, maker, take_text(asked));
-                            Ok(None)
+                            None
                         }
                         Ask::End(end) => {
-                            self.end_turn(alloc, number, end, list)?;
-                            Ok(None)
+                            self.end_turn(number, end, second, list);
+                            None
                         }
                     },
                 }
