@@ -4,8 +4,8 @@ ghost use Rattle.chord_rule.specs.Closing.{IsAsleep};
 ghost use Rattle.chord_space.specs.Desks.{view};
 ghost use Rattle.chord_word.specs.declared.cells.Word.{Word};
 ghost use Rattle.chord_worker.specs.Resting.{IsSameRole, IsSeen};
-ghost use Rattle.chord_pool.specs.Players.{IsOneRun, IsFit, IsSettled};
-ghost use Rattle.chord_pool.specs.Ending.{AreAwake, IsUnready, IsStirred, HadATurn, IsLast, IsRunOver};
+ghost use Rattle.chord_pool.specs.Players.{IsOneRun, IsFit, IsSettled, IsUnready};
+ghost use Rattle.chord_pool.specs.Ending.{AreAwake, IsStirred, HadATurn, IsLast, IsRunOver};
 
 use crate::run::Run;
 use chord_word::Cell;
@@ -23,7 +23,7 @@ fn is_awake<'a, G: Gate>(run: &Run<'a>, worker: &mut Worker, i: u32, gate: &G) -
     ensures role { IsSameRole (view worker.old.desk) (view worker.new.desk) }
     ensures idle { result ≡ true → worker.new.task ≡ None }
     ensures seen { result ≡ true → (x : Word) × IsSeen (view worker.old.desk) (view worker.new.desk) i x × (IsAsleep x.cell → ⊥) }
-    ensures stirred { result ≡ false → IsStirred worker.new }
+    ensures stirred { result ≡ false → IsStirred G.knows worker.old worker.new }
     ensures started { worker.new.task ≡ None → IsUnready i (view worker.new.desk).looked.seen }
 {
     match worker.look(run.space, i) {
@@ -47,7 +47,7 @@ fn are_awake<'a, G: Gate>(run: &Run<'a>, worker: &mut Worker, count: u32, gate: 
     ensures idle { result ≡ true → worker.new.task ≡ None }
     ensures count { result ≡ true → (view worker.new.desk).looked.count ≡ (view worker.old.desk).looked.count }
     ensures seen { result ≡ true → AreAwake count (view worker.new.desk).looked.seen }
-    ensures stirred { result ≡ false → IsStirred worker.new }
+    ensures stirred { result ≡ false → IsStirred G.knows worker.old worker.new }
 {
     for i in 0..count {
         if !is_awake(run, worker, i, gate) {
@@ -70,7 +70,7 @@ fn turn<'a, R: Wait, G: Gate>(
     requires alone { ((view worker.old.desk).first ≡ true) × ((view worker.old.desk).drawn ≡ true) × ((view worker.old.desk).lent ≡ 0) }
     ensures worker { OnOk result (IsSettled run.now.space.now worker.new × IsSameRole (view worker.old.desk) (view worker.new.desk)) }
     ensures over { IfOk result (λ over. over ≡ true → IsRunOver run.now.space.now worker.new) }
-    ensures went { IfOk result (λ over. over ≡ false → HadATurn worker.old worker.new) }
+    ensures went { IfOk result (λ over. over ≡ false → HadATurn G.knows worker.old worker.new) }
 {
     if worker.is_spent() {
         return Ok(true);

@@ -3,6 +3,7 @@ use Rattle.chord_base.proofs.Waits.{either}
 use Rattle.chord_rule.specs.Closing.{IsAsleep}
 use Rattle.chord_space.specs.Desks.{view}
 use Rattle.chord_word.specs.declared.cells.Cell.TheVariants as a_cell
+use Rattle.chord_pool.proofs.Looking.{plays_since}
 use Rattle.chord_pool.proofs.Endings.{stirred_by_look, stirred_by_start, unready_told, woken_unready, task_started}
 use Rattle.chord_pool.proofs.ending.is_awake.Goals as goal
 
@@ -11,7 +12,7 @@ returns-in-Ready-clause-stirred g c = λ e.
     let look = c.look.ensures.seen in
     let ready : look.0.cell ≡ a_cell.Ready = sym look.1 ∙ c.in-Ready.is in
     ⊎_elim
-    (λ started. inl (task_started c.start.new.self.task (sym c.start.ensures.task ∙ started)))
+    (λ started. inl (c.args.i, plays_since g.G.Gate.knows c.args.worker.now c.look.new.self c.start.new.self c.args.i c.requires.idle look.2.kept (c.start.ensures.plays started)))
     (λ refused.
     let r = c.start.ensures.refused refused in
     inr (stirred_by_start (view c.args.worker.now.desk) (view c.look.new.self.desk) (view c.start.new.self.desk) c.args.i look.0 r.0 r.1 look.2 (subst IsAsleep (sym ready) tt) r.2 r.3))

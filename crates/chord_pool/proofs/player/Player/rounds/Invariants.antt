@@ -8,4 +8,4 @@ use Rattle.chord_pool.proofs.player.Player.rounds.Given as goal
 abbrev pub invariant-loop-round : goal.invariant-loop-round
 invariant-loop-round g l =
     MayPlay l.run.space.now l.self × PlaysOn l.fn.self l.self × (l.self.failed ≡ false) × CountsIfItPlays l.self × (stops l.self.card ≡ false)
-    × (0 < l._round → (before : Player) × IsOnTheWay l.run.space.now l.fn.self before × HadARound l.run.space.now before l.self)
+    × (0 < l._round → (before : Player) × IsOnTheWay l.run.space.now l.fn.self before × HadARound g.G.Gate.knows l.run.space.now before l.self)
