@@ -64,7 +64,7 @@ task_started (Some t) e h = none-some _ (sym h)
 
 -- a worker without a task that is stirred after looks, in which its desk kept what it kept
 pub stirred_since : (knows : ℕ → Type 0) (u v w : Worker) → u.task ≡ None → (view v.desk).kept ≡ (view u.desk).kept → IsStirred knows v w → IsStirred knows u w
-stirred_since knows u v w none same = ⊎_elim (λ started. inl (started_since knows u v w none same started)) (λ saw_it. inr saw_it)
+stirred_since knows u v w none same = ⊎_elim (λ started. inl (started_since knows u v w none same started)) (λ saw_it. inr ((saw_it.0.0, saw_it.0.1 ∙ same), saw_it.1))
 
 -- the first worker, alone and with nothing to play, may close where it looked at the counter, which is below the limit, and at each cell below
 pub may_close : (s : Space Parcel) (w : Worker) (n c count : ℕ) → IsFit s w → (view w.desk).first ≡ true → (view w.desk).drawn ≡ true → (view w.desk).lent ≡ 0

@@ -17,7 +17,7 @@ use Rattle.chord_word.specs.declared.cells.Cell.TheVariants.{Ready}
 use Rattle.chord_word.specs.declared.cells.Word.{Word}
 use Rattle.chord_worker.specs.declared.worker.Worker.{Worker}
 use Rattle.chord_worker.specs.Resting.{IsAtRest, IsSameRole}
-use Rattle.chord_worker.specs.Stepping.{HasGoneOn, PlaysNext, PlaysFiring}
+use Rattle.chord_worker.specs.Stepping.{HasGoneOn, PlaysNext, PlaysFiring, StillPlays}
 use Rattle.chord_pool.specs.declared.player.Player.{Player}
 
 -- the code and the limits are those of the space, and its runs are those of a sound program
@@ -96,9 +96,10 @@ KnowsCount s x = (count : ℕ) × ((view x.worker.desk).looked.count ≡ Some co
 abbrev pub HasStarted : (ℕ → Type 0) → Worker → Worker → Type 0
 HasStarted knows v w = (f : ℕ) × PlaysFiring knows (view v.desk).kept v.task w f
 
--- a player that had no task has started a firing, or found none to start among the numbers that it knew of, from its place or a lower one on, and knows how many are given now
+-- a player that had no task has started a firing, or has none and keeps what it kept, found no firing to start among the numbers that it knew of, from its place or a lower one on, and knows how many are given now
 abbrev pub HasLooked : (ℕ → Type 0) → Space Parcel → Player → Player → Type 0
-HasLooked knows s x y = HasStarted knows x.worker y.worker ⊎ ((from : ℕ) × (from ≤ x.place) × FoundNoneBelow s from x.known (view y.worker.desk) × KnowsCount s y)
+HasLooked knows s x y = HasStarted knows x.worker y.worker
+    ⊎ ((from : ℕ) × (from ≤ x.place) × FoundNoneBelow s from x.known (view y.worker.desk) × StillPlays (view x.worker.desk).kept x.worker.task y.worker × KnowsCount s y)
 
 -- a player went on with its task, and plays no other one but a body of which the gate knows, or it looked for a firing
 pub record HadARound (knows : ℕ → Type 0) (s : Space Parcel) (x y : Player) : Type 0 where
@@ -117,6 +118,35 @@ pub record IsOnTheWay (s : Space Parcel) (x y : Player) : Type 0 where
   pub settled : IsSettled s y.worker
   pub counts_so : CountsIfItPlays y
   pub told_nothing : stops y.card ≡ false
+
+-- between two rounds a player has the same worker, the same place, and knows of as many numbers
+pub record IsBetweenRounds (x y : Player) : Type 0 where
+  pub worker : y.worker ≡ x.worker
+  pub place : y.place ≡ x.place
+  pub known : y.known ≡ x.known
+
+-- rounds lead from x to y, and these are the players after each of them, the newest first
+abbrev pub AreRounds : (ℕ → Type 0) → Space Parcel → Player → List Player → Player → Type 0
+AreRounds knows s x [] y = IsBetweenRounds x y
+AreRounds knows s x (z ∷ zs) y = (u : Player) × AreRounds knows s x zs u × HadARound knows s u z × IsBetweenRounds z y
+
+-- all that the player did was rounds
+pub record HadRounds (knows : ℕ → Type 0) (s : Space Parcel) (x y : Player) : Type 0 where
+  pub after_each : List Player
+  pub rounds : AreRounds knows s x after_each y
+
+-- the player had rounds and left off: unless it failed it plays what it played after them, and keeps what it kept
+pub record HasLeftOff (knows : ℕ → Type 0) (s : Space Parcel) (x y : Player) : Type 0 where
+  pub last : Player
+  pub had : HadRounds knows s x last
+  pub off : y.failed ≡ false → StillPlays (view last.worker.desk).kept last.worker.task y.worker
+
+-- each of these players, in this order, had rounds and left off
+abbrev pub HaveAllLeftOff : (ℕ → Type 0) → Space Parcel → List Player → List Player → Type 0
+HaveAllLeftOff knows s [] [] = Unit {0}
+HaveAllLeftOff knows s [] (y ∷ ys) = ⊥
+HaveAllLeftOff knows s (x ∷ xs) [] = ⊥
+HaveAllLeftOff knows s (x ∷ xs) (y ∷ ys) = HasLeftOff knows s x y × HaveAllLeftOff knows s xs ys
 
 -- a player that was hired may go on, and has nothing to play yet
 abbrev pub IsHired : Space Parcel → Player → Type 0

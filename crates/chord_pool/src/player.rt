@@ -5,8 +5,8 @@ ghost use Rattle.chord_pool.specs.declared.player.Player.{Player as ThePlayer};
 ghost use Rattle.chord_space.specs.Desks.{view};
 ghost use Rattle.chord_task.specs.declared.task.Task.{Task as TheTask};
 ghost use Rattle.chord_worker.specs.Resting.{IsSameRole};
-ghost use Rattle.chord_worker.specs.Stepping.{HasGoneOn, PlaysNext, PlaysFiring};
-ghost use Rattle.chord_pool.specs.Players.{IsOneRun, IsFit, AreUnready, FoundNoneBelow, FoundNone, SawUnready, KnowsCount, HasStarted, HasLooked, HadARound, MayPlay, HasPlayed, PlaysOn, IsOnTheWay, CountsIfItPlays, TellsIfItFails};
+ghost use Rattle.chord_worker.specs.Stepping.{HasGoneOn, PlaysNext, PlaysFiring, StillPlays};
+ghost use Rattle.chord_pool.specs.Players.{IsOneRun, IsFit, AreUnready, FoundNoneBelow, FoundNone, SawUnready, KnowsCount, HasStarted, HasLooked, HadARound, HadRounds, HasLeftOff, MayPlay, HasPlayed, PlaysOn, IsOnTheWay, CountsIfItPlays, TellsIfItFails};
 
 use crate::pause::Pause;
 use crate::run::Run;
@@ -226,6 +226,7 @@ impl Player {
 
     /// Looks for a firing from its place on: among all numbers, or else among those that it knew of before. One that does not count
     /// looks among all of them where it has read that nobody is at work, and only then: so none was at work before the look began.
+    /// What one that counts finds among all of them says nothing of when it may go: it may count for the look's sake.
     fn look<'a, G: Gate>(&mut self, run: &Run<'a>, gate: &G, among_all: bool)
         requires run { IsOneRun run.now.space.now run.now.code.now run.now.limits.now }
         requires worker { IsFit run.now.space.now self.old.worker }
@@ -240,7 +241,7 @@ impl Player {
         ensures as_before { self.new.worker.task ≡ None → counts self.new.card ≡ counts self.old.card }
         ensures started { self.new.worker.task ≢ None → HasStarted G.knows self.old.worker self.new.worker }
         ensures kept { self.new.worker.task ≡ None → (view self.new.worker.desk).kept ≡ (view self.old.worker.desk).kept }
-        ensures all { among_all ≡ true → self.new.worker.task ≡ None → FoundNone run.now.space.now self.old.place (view self.new.worker.desk) }
+        ensures all { among_all ≡ true → last_read self.old.card ≡ Some 0 → self.new.worker.task ≡ None → FoundNone run.now.space.now self.old.place (view self.new.worker.desk) }
         ensures knew { self.new.worker.task ≡ None → FoundNoneBelow run.now.space.now self.old.place self.old.known (view self.new.worker.desk) }
         ensures knows { self.new.worker.task ≡ None → KnowsCount run.now.space.now self.new }
     {
@@ -275,6 +276,7 @@ impl Player {
         ensures stops { stops self.new.card ≡ stops self.old.card }
         ensures counts { self.new.worker.task ≢ None → counts self.new.card ≡ true }
         ensures started { self.new.worker.task ≢ None → HasStarted G.knows self.old.worker self.new.worker }
+        ensures kept { self.new.worker.task ≡ None → (view self.new.worker.desk).kept ≡ (view self.old.worker.desk).kept }
         ensures none { self.new.worker.task ≡ None → FoundNone run.now.space.now 0 (view self.new.worker.desk) }
     {
         if from > 0 {
@@ -297,6 +299,7 @@ impl Player {
         ensures sane { self.new.failed ≡ false }
         ensures stops { result ≡ false → HasPlayed run.now.space.now self.new }
         ensures looked { result ≡ true → HasLooked G.knows run.now.space.now self.old self.new }
+        ensures off { result ≡ false → StillPlays (view self.old.worker.desk).kept self.old.worker.task self.new.worker }
         ensures counts { result ≡ true → counts self.new.card ≡ is_some self.new.worker.task }
         ensures heard { stops self.new.card ≡ stops self.old.card }
         ensures stays { counts self.old.card ≡ true → result ≡ true }
@@ -361,6 +364,7 @@ impl Player {
         ensures told { TellsIfItFails self.new }
         ensures counts { result ≡ true → CountsIfItPlays self.new }
         ensures went { result ≡ true → HadARound G.knows run.now.space.now self.old self.new }
+        ensures off { result ≡ false → self.new.failed ≡ false → StillPlays (view self.old.worker.desk).kept self.old.worker.task self.new.worker }
         ensures asked { result ≡ true → self.old.worker.task ≡ None → stops self.new.card ≡ false }
         ensures heard { result ≡ true → stops self.old.card ≡ false → stops self.new.card ≡ false }
     {
@@ -400,6 +404,8 @@ impl Player {
         ensures told { TellsIfItFails self.new }
         ensures counts { result ≡ true → CountsIfItPlays self.new }
         ensures went { result ≡ true → (before : ThePlayer) × IsOnTheWay run.now.space.now self.old before × HadARound G.knows run.now.space.now before self.new }
+        ensures had { result ≡ true → HadRounds G.knows run.now.space.now self.old self.new }
+        ensures off { result ≡ false → HasLeftOff G.knows run.now.space.now self.old self.new }
         ensures asked { result ≡ true → stops self.new.card ≡ false }
     {
         self.failed = self.card.has_stopped();
@@ -430,6 +436,7 @@ pub(crate) fn work<'a, R: Wait, G: Gate>(
     requires counts { CountsIfItPlays player }
     ensures played { HasPlayed run.now.space.now result }
     ensures on { PlaysOn player result }
+    ensures off { HasLeftOff G.knows run.now.space.now player result }
     ensures told { TellsIfItFails result }
     ensures left { counts result.card ≡ false }
 {
