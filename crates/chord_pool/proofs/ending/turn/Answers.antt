@@ -1,4 +1,4 @@
-use Rattle.std.proofs.Common.{ap}
+use Rattle.std.proofs.Common.{ap, rules}
 use Rattle.chord_rule.specs.declared.view.View.{View}
 use Rattle.chord_pool.proofs.Endings.{stirred_since}
 use Rattle.chord_pool.proofs.ending.turn.Goals as goal
@@ -9,5 +9,5 @@ returns-clause-went g c = λ more.
       went = search rules;
       plays = search rules;
       stirred = λ none.
-          stirred_since g.G.Gate.knows c.args.worker.now c.count.new.self c.are_awake.new.worker none (ap (λ (v : View). v.kept) c.count.ensures.counted.2) (c.are_awake.ensures.stirred more);
+          stirred_since g.G.Gate.knows c.args.worker.now c.count-count.new.self c.are_awake.new.worker none (ap (λ (v : View). v.kept) c.count-count.ensures.counted.2) (c.are_awake.ensures.stirred more);
     }

@@ -1,4 +1,4 @@
-use Rattle.std.proofs.Common.{refl, ◌∙◌}
+use Rattle.std.proofs.Common.{refl, rules, ◌∙◌}
 use Rattle.chord_space.specs.Desks.{view}
 use Rattle.chord_pool.proofs.Endings.{role_stays}
 use Rattle.chord_pool.proofs.Rounds.{no_rounds, more_rounds, left_off_later}
@@ -18,6 +18,6 @@ loop-preserved g c = let was = c.loop.invariant in let now = c.if-not-rounds.ens
   more_rounds g.G.Gate.knows c.args.run.now.space.now c.args.player c.loop.player c.rounds.new.self was.6 (now.had refl),
 )
 
-pub returns-clause-off : goal.returns-clause-off
-returns-clause-off g c =
+pub returns-then-not-rounds-clause-off : goal.returns-then-not-rounds-clause-off
+returns-then-not-rounds-clause-off g c =
     left_off_later g.G.Gate.knows c.args.run.now.space.now c.args.player c.loop.player c.rounds.new.self c.leave.new.self c.loop.invariant.6 (c.if-not-rounds.ensures.off refl) c.leave.ensures.same.0 c.leave.ensures.same.1

@@ -19,8 +19,8 @@ returns-clause-played g t c =
     let s = c.args.run.now.space.now in
     subst (HaveAllPlayed s) (sym c.back.ensures.items) (played_more s c.join-one.result.1.items c.join-one.result.0 c.join-one.ensures.second.0 c.join-one.ensures.first.0)
 
-pub returns-else-in_default-clause-off : goal.returns-else-in_default-clause-off
-returns-else-in_default-clause-off g t c = left_off_none g.G.Gate.knows c.args.run.now.space.now _ _ c.in_default.ensures.empty.0 c.in_default.ensures.empty.1
+pub returns-in_default-clause-off : goal.returns-in_default-clause-off
+returns-in_default-clause-off g t c = left_off_none g.G.Gate.knows c.args.run.now.space.now _ _ c.in_default.ensures.empty.0 c.in_default.ensures.empty.1
 
 pub returns-clause-off : goal.returns-clause-off
 returns-clause-off g t c =

@@ -5,7 +5,7 @@ use Rattle.chord_pool.proofs.player.Player.look.Goals as goal
 
 pub returns-clause-started : goal.returns-clause-started
 returns-clause-started g c = λ some.
-    started_since g.G.Gate.knows c.args.self.now.worker c.count.new.self c.find_work.new.worker c.requires.idle (ap (λ (v : View). v.kept) c.count.ensures.counted.2) (c.find_work.ensures.started some)
+    started_since g.G.Gate.knows c.args.self.now.worker c.count-count.new.self c.find_work-self.new.worker c.requires.idle (ap (λ (v : View). v.kept) c.count-count.ensures.counted.2) (c.find_work-self.ensures.started some)
 
 pub returns-clause-kept : goal.returns-clause-kept
-returns-clause-kept g c = λ none. c.find_work.ensures.kept none ∙ ap (λ (v : View). v.kept) c.count.ensures.counted.2
+returns-clause-kept g c = λ none. c.find_work-self.ensures.kept none ∙ ap (λ (v : View). v.kept) c.count-count.ensures.counted.2

@@ -1,4 +1,4 @@
-use Rattle.std.proofs.Common.{arith, refl, ◌∙◌}
+use Rattle.std.proofs.Common.{arith, refl, rules, ◌∙◌}
 use Rattle.chord_space.specs.Desks.{view}
 use Rattle.chord_pool.proofs.Endings.{role_stays}
 use Rattle.chord_pool.proofs.Rounds.{no_rounds, one_round_more, left_off_there}
@@ -28,5 +28,5 @@ returns-clause-had g c = λ _. c.loop-round.invariant.6
 pub returns-then-not-round-clause-off : goal.returns-then-not-round-clause-off
 returns-then-not-round-clause-off g c = λ _. record { last = c.loop-round.self; had = c.loop-round.invariant.6; off = c.if-not-round.ensures.off refl }
 
-pub returns-then-self_failed-clause-off : goal.returns-then-self_failed-clause-off
-returns-then-self_failed-clause-off g c = λ _. left_off_there g.G.Gate.knows c.args.run.now.space.now c.args.self.now _ (no_rounds g.G.Gate.knows c.args.run.now.space.now c.args.self.now _ (record { worker = refl; place = refl; known = refl }))
+pub returns-then-self-clause-off : goal.returns-then-self-clause-off
+returns-then-self-clause-off g c = λ _. left_off_there g.G.Gate.knows c.args.run.now.space.now c.args.self.now _ (no_rounds g.G.Gate.knows c.args.run.now.space.now c.args.self.now _ (record { worker = refl; place = refl; known = refl }))
