@@ -1,4 +1,4 @@
-use Rattle.std.proofs.Common.{refl, rules}
+use Rattle.std.proofs.Common.{rules}
 use Rattle.chord_pool.proofs.Rounds.{no_turns, one_turn_more}
 use Rattle.chord_pool.proofs.ending.play_alone.Goals as goal
 
