@@ -74,9 +74,9 @@ fn paired(alloc: Global) -> Result<ClassLine, AllocError>
     ensures { IfOk result (λ line. line ≡ record { name = 65 ∷ []; builder = None; methods = record { name = 120 ∷ []; sync = false; parameters = 0 } ∷ record { name = 121 ∷ []; sync = false; parameters = 0 } ∷ []; chords = record { block = 1; methods = 0 ∷ 1 ∷ [] } ∷ [] }) }
 {
     let methods = vec![in alloc; MethodLine { name: named(alloc, b"x")?, sync: false, parameters: 0 }, MethodLine { name: named(alloc, b"y")?, sync: false, parameters: 0 }]?;
-    let mut numbers = MethodNumbers::new(alloc);
-    numbers.push(0)?;
-    numbers.push(1)?;
+    let mut numbers = MethodNumbers::new();
+    numbers.push(0);
+    numbers.push(1);
     let chords = vec![in alloc; ChordLine { block: 1, methods: numbers }]?;
     Ok(ClassLine { name: named(alloc, b"A")?, builder: None, methods: Lines::of_items(methods), chords: Lines::of_items(chords) })
 }

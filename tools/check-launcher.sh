@@ -117,6 +117,19 @@ echo input | "$work/link" run >/dev/null 2>"$work/said"
 printf '#!/bin/sh\necho "$GLIBC_TUNABLES"\n' > "$work/top/crates/chord_prog/out/chord_prog"
 "$work/top/chord" run </dev/null | grep -q 'glibc\.malloc\.hugetlb=1' || { echo "launcher: large pages are not asked for" >&2; failed=1; }
 [ "$(GLIBC_TUNABLES=own "$work/top/chord" run </dev/null)" = own ] || { echo "launcher: the environment's word on memory is lost" >&2; failed=1; }
+# whoever ends the launcher ends the program
+printf '#!/bin/sh\necho $$ > "$STAND_IN/id"\nexec sleep 60\n' > "$work/top/crates/chord_prog/out/chord_prog"
+for signal in HUP INT TERM; do
+    rm -f "$work/id"
+    # an interrupt is ignored by what a script starts in the background, and by what that starts
+    python3 -c 'import os, signal, sys; signal.signal(signal.SIGINT, signal.SIG_DFL); os.execv(sys.argv[1], sys.argv[1:])' "$work/top/chord" run </dev/null 2>/dev/null &
+    launched=$!
+    while [ ! -s "$work/id" ]; do sleep 0.02; done
+    kill -s "$signal" "$launched"
+    wait "$launched"
+    [ $? -eq 143 ] || { echo "launcher: $signal does not end it" >&2; failed=1; }
+    kill -0 "$(cat "$work/id")" 2>/dev/null && { echo "launcher: $signal leaves the program running" >&2; failed=1; }
+done
 touch -d '+1 minute' "$work/top/crates/chord_prog/src/main.rt"
 echo 6 > "$work/ends"
 expect 'older than the sources' 6 'tried with rules: input' chord rules

@@ -1,6 +1,7 @@
 -- The body of a member in which no rule is broken keeps to its types.
 use Rattle.std.proofs.Common.{◌≡◌, ℕ, zero, suc, ◌+◌, ◌≤◌, ◌<◌, List, [], ◌∷◌, ◌++◌, Bool, true, false, not, ◌&&◌, length, map, refl, sym, ap, ◌∙◌, Option, Some, None, is_some, slice_get, arith, length-append}
 use Rattle.std.specs.Prelude.{option_map, unwrap_or, flat_map}
+use Rattle.std.proofs.lemmas.List.{length-map}
 use Rattle.chord_tree.specs.declared.names.ValueType.{ValueType}
 use Rattle.chord_tree.specs.declared.classes.Formal.{Formal}
 use Rattle.chord_tree.specs.Tree.{MemberTree, ClassTree}
@@ -61,11 +62,6 @@ length_types : (table : List Shape) (formals : List Formal) → length (types_of
 length_types table [] = refl
 length_types table (f ∷ fs) = ap suc (length_types table fs)
 
--- the static types that written types stand for are as many as these
-length_known : (table : List Shape) (written : List ValueType) → length (map (type_known table) written) ≡ length written
-length_known table [] = refl
-length_known table (w ∷ ws) = ap suc (length_known table ws)
-
 -- each slot that is not in scope is there, without a type
 none_there : (ts : List StaticType) (i : ℕ) → i < length (free ts) → slice_get (free ts) i ≡ Some None
 none_there [] i h = absurd (nowhere h)
@@ -108,7 +104,7 @@ room_of this table formals locals =
     let a = length_given (types_of table formals) in
     let b = length_types table formals in
     let c = length_free (map (type_known table) locals) in
-    let d = length_known table locals in
+    let d = length-map locals (type_known table) in
     let e = length-append (given (types_of table formals)) (free (map (type_known table) locals)) in
     record {
       fits = omega (arith, a, b, c, d, e);

@@ -1,5 +1,5 @@
 -- Small facts on lists of tokens, truth values and options.
-use Rattle.std.proofs.Common.{◌≡◌, ℕ, List, [], ◌∷◌, ◌++◌, Bool, true, false, not, cond, ◌&&◌, refl, sym, ap, Option, Some, None, is_some}
+use Rattle.std.proofs.Common.{◌≡◌, ℕ, List, [], ◌∷◌, ◌++◌, Bool, true, false, not, cond, ◌&&◌, ◌||◌, refl, sym, ap, Option, Some, None, is_some}
 use Rattle.std.specs.Prelude.{is_none}
 use Rattle.std.proofs.lemmas.Bool.{false≢true}
 use Rattle.chord_classes.specs.NameRules.{when}
@@ -16,6 +16,16 @@ same_some e = cc
 -- true is not false
 pub true_false : true ≡ false → ⊥
 true_false e = false≢true (sym e)
+
+-- the first of two truth values of which neither is true
+pub neither_left : (a b : Bool) → (a || b) ≡ false → a ≡ false
+neither_left true b h = h
+neither_left false b h = refl
+
+-- the second of two truth values of which neither is true
+pub neither_right : (a b : Bool) → (a || b) ≡ false → b ≡ false
+neither_right true b h = absurd (true_false h)
+neither_right false b h = h
 
 -- a condition under which nothing is noted is false
 pub when_not : (b : Bool) (at : ℕ) → when b at ≡ [] → b ≡ false

@@ -27,10 +27,11 @@ use Rattle.chord_classes.specs.Rules.{C05, C09, C10, IsFree, is_header_rule}
 use Rattle.chord_classes.specs.Plan.{header_number}
 use Rattle.chord_classes.specs.Laws.{chord_methods, ChordsKept, Inherits}
 use Rattle.chord_classes.proofs.Every.{Every, every_left, every_right, every_get}
-use Rattle.chord_classes.proofs.Facts.{none_some, same_some, true_false, when_not, unless_not, left_nil, right_nil, truth_left, truth_right}
+use Rattle.chord_classes.proofs.Facts.{none_some, same_some, true_false, when_not, unless_not, left_nil, right_nil, truth_left, truth_right, neither_left, neither_right}
 use Rattle.chord_classes.proofs.Terms.{FoundIn, method_is}
 use Rattle.chord_classes.proofs.Kept.{none_contained}
-use Rattle.chord_classes.proofs.Inherits.{Begins, get_left, methods_inherited}
+use Rattle.chord_classes.proofs.Inherits.{Begins, methods_inherited}
+use Rattle.chord_classes.proofs.Lists.{get_left, get_last}
 
 -- The same written types stand for one.
 
@@ -256,11 +257,6 @@ pub shapes_begin : (done : List Shape) (classes : List ClassTree) → Begins don
 shapes_begin done [] j x h = h
 shapes_begin done (c ∷ cs) j x h = shapes_begin (done ++ (shape_of done c ∷ [])) cs j x (get_left done (shape_of done c ∷ []) j x h)
 
--- the element behind a list is the last
-pub get_last : {X : Type 0} (xs : List X) (x : X) → slice_get (xs ++ (x ∷ [])) (length xs) ≡ Some x
-get_last [] x = refl
-get_last (y ∷ ys) x = get_last ys x
-
 -- a class in the table, of which no rule on headers is broken
 record ClassAt (table : List Shape) (number : ℕ) (class : ClassTree) : Type 0 where
   before : List Shape
@@ -361,16 +357,8 @@ pub one_sync_is : (table : List Shape) (class : ℕ) (headers : List HeaderTree)
     → (seen ≡ true → NoneSync (λ j. is_sync_in ((signatures table).methods class j)) (chord_methods table class headers)) × OneSync (λ j. is_sync_in ((signatures table).methods class j)) (chord_methods table class headers)
 one_sync_is table class [] main k seen h = (λ e. tt, tt)
 one_sync_is table class (x ∷ xs) main k seen h =
-    by_sync (is_sync x.result_type) refl seen (not_main (is_main x) (has_main xs) main) h (λ s g. one_sync_is table class xs (rest_main (is_main x) (has_main xs) main) k.1 s g)
+    by_sync (is_sync x.result_type) refl seen (neither_left (is_main x) (has_main xs) main) h (λ s g. one_sync_is table class xs (neither_right (is_main x) (has_main xs) main) k.1 s g)
   where
-    not_main : (a b : Bool) → (a || b) ≡ false → a ≡ false
-    not_main true b h = h
-    not_main false b h = refl
-
-    rest_main : (a b : Bool) → (a || b) ≡ false → b ≡ false
-    rest_main true b h = absurd (true_false h)
-    rest_main false b h = h
-
     by_sync : (b : Bool) → is_sync x.result_type ≡ b → (seen : Bool) → is_main x ≡ false → when (seen && counts_sync x) x.name.at ++ second_sync (seen || counts_sync x) xs ≡ []
         → ((s : Bool) → second_sync s xs ≡ [] → (s ≡ true → NoneSync (λ j. is_sync_in ((signatures table).methods class j)) (chord_methods table class xs)) × OneSync (λ j. is_sync_in ((signatures table).methods class j)) (chord_methods table class xs))
         → (seen ≡ true → NoneSync (λ j. is_sync_in ((signatures table).methods class j)) (chord_methods table class (x ∷ xs))) × OneSync (λ j. is_sync_in ((signatures table).methods class j)) (chord_methods table class (x ∷ xs))
@@ -407,15 +395,7 @@ one_sync_along sig d c i h (j ∷ js) ts l n =
 -- where `Main` is none of the headers each is of a method
 pub no_mains : (P : HeaderTree → Type 0) (headers : List HeaderTree) → has_main headers ≡ false → Every (λ header. is_main header ≡ false → P header) headers → Every P headers
 no_mains P [] m k = tt
-no_mains P (x ∷ xs) m k = (k.0 (first_false (is_main x) (has_main xs) m), no_mains P xs (rest_false (is_main x) (has_main xs) m) k.1)
-  where
-    first_false : (a b : Bool) → (a || b) ≡ false → a ≡ false
-    first_false true b h = h
-    first_false false b h = refl
-
-    rest_false : (a b : Bool) → (a || b) ≡ false → b ≡ false
-    rest_false true b h = absurd (true_false h)
-    rest_false false b h = h
+no_mains P (x ∷ xs) m k = (k.0 (neither_left (is_main x) (has_main xs) m), no_mains P xs (neither_right (is_main x) (has_main xs) m) k.1)
 
 -- what holds of each header of members holds of each header of a chord among them
 of_chord : (P : HeaderTree → Type 0) (members : List MemberTree) (k : ℕ) (headers : List HeaderTree) (body : BlockTree) → slice_get members k ≡ Some (ChordMember headers body) → Every P (flat_map member_headers members) → Every P headers

@@ -1,7 +1,7 @@
 -- A class has the methods of the classes above it, by the same numbers.
-use Rattle.std.proofs.Common.{◌≡◌, ℕ, zero, suc, List, [], ◌∷◌, ◌++◌, Bool, true, false, cond, ◌||◌, nat_eq, length, refl, sym, ap, ◌∙◌, subst, Option, Some, None, is_some, slice_get}
+use Rattle.std.proofs.Common.{◌≡◌, ℕ, List, [], ◌∷◌, ◌++◌, Bool, true, false, cond, ◌||◌, nat_eq, length, refl, sym, ap, ◌∙◌, subst, Option, Some, None, is_some, slice_get}
 use Rattle.std.specs.Prelude.{option_map, option_and_then}
-use Rattle.std.proofs.lemmas.Bool.{false≢true, eqb-true, eq-eqb}
+use Rattle.std.proofs.lemmas.Bool.{false≢true, eqb-true, eq-eqb, or_left, or_right}
 use Rattle.chord_tree.specs.declared.names.Name.{Name}
 use Rattle.chord_tree.specs.Tree.{HeaderTree, ClassTree}
 use Rattle.chord_tree.specs.Walk.{headers_of}
@@ -12,16 +12,11 @@ use Rattle.chord_classes.specs.Laws.{MethodsInherited}
 use Rattle.chord_classes.proofs.Every.{Every, every_both, every_get, every_map}
 use Rattle.chord_classes.proofs.Facts.{none_some, same_some}
 use Rattle.chord_classes.proofs.Terms.{class_is}
+use Rattle.chord_classes.proofs.Lists.{get_left}
 
 -- what stands in the first list stands in the second at the same place
 abbrev pub Begins : {X : Type 0} → List X → List X → Type 0
 Begins {X} xs ys = (j : ℕ) (x : X) → slice_get xs j ≡ Some x → slice_get ys j ≡ Some x
-
--- an element of the first of two lists joined
-pub get_left : {X : Type 0} (xs ys : List X) (j : ℕ) (x : X) → slice_get xs j ≡ Some x → slice_get (xs ++ ys) j ≡ Some x
-get_left [] ys j x h = absurd (none_some h)
-get_left (y ∷ xs) ys zero x h = h
-get_left (y ∷ xs) ys (suc j) x h = get_left xs ys j x h
 
 -- a list that begins each of two lists begins the one that is chosen
 begins_choice : {X : Type 0} (b : Bool) (xs ys zs : List X) → Begins xs ys → Begins xs zs → Begins xs (cond b ys zs)
@@ -49,15 +44,6 @@ AreAbove shapes shape = Every (IsAbove shapes shape) shape.above
 -- the classes above a shape stay so where more shapes come behind
 above_more : (shapes more : List Shape) (shape : Shape) → AreAbove shapes shape → AreAbove (shapes ++ more) shape
 above_more shapes more shape h = every_map (IsAbove shapes shape) (IsAbove (shapes ++ more) shape) shape.above (λ class a. record { itself = a.itself; there = get_left shapes more class a.itself a.there; methods = a.methods; higher = a.higher }) h
-
--- one of two truth values holds where the first does
-or_left : (a b : Bool) → a ≡ true → (a || b) ≡ true
-or_left a b h = rw h refl
-
--- one of two truth values holds where the second does
-or_right : (a b : Bool) → b ≡ true → (a || b) ≡ true
-or_right true b h = refl
-or_right false b h = h
 
 -- the classes above a new class
 new_above : (done : List Shape) (class : ClassTree) (base : Option ℕ) → base_of done class ≡ base → ((c : ℕ) → base ≡ Some c → (s : Shape) × (slice_get done c ≡ Some s)) → Every (AreAbove done) done

@@ -1,5 +1,6 @@
 mod Every
 pub mod Facts
+mod Lists
 pub mod Breaks
 pub mod Leasts
 mod LeastBreak

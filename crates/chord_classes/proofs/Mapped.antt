@@ -15,12 +15,10 @@ use Rattle.chord_classes.specs.Forks.{under, IsVersion, IsNextVersion}
 use Rattle.chord_classes.specs.Entries.{IsEntry, shapes_of}
 use Rattle.chord_classes.specs.Owned.{owner_in, IsOwned, IsOwning, shift, new_method, owned_method, line_in, line_at, owned_in, owned_at, IsMapped, IsShapeTable}
 use Rattle.chord_classes.proofs.TableLookups.{method_append, or_found, own_absent, eq_turned}
-use Rattle.chord_classes.proofs.SharedForks.{stands_earlier, stands_last, empty_version, under_none, version_of_more}
+use Rattle.chord_classes.proofs.SharedForks.{stands_earlier, empty_version, under_none, version_of_more}
 use Rattle.chord_classes.proofs.Adding.{IsNext, appended, inherited_kept, bases_kept, base_below, is_entry, either_at, kept_at, entries_extended, shapes_more}
-
--- what is there is the same where its options are
-same_some : {x y : ℕ} → ◌≡◌ {A = Option ℕ} (Some x) (Some y) → x ≡ y
-same_some e = cc
+use Rattle.chord_classes.proofs.Facts.{same_some, none_some}
+use Rattle.chord_classes.proofs.Lists.{get_last}
 
 -- an element is there at each place of a list
 past : {A : Type 0} (xs : List A) (i : ℕ) → i < length xs → slice_get xs i ≡ None → ⊥
@@ -95,17 +93,13 @@ module _ (shapes : List Shape) (entries : List Entry) (names : List (List ℕ)) 
       by_entry None h = absurd (entry_there class (within class refl) h)
       by_entry (Some entry) h = (t.mapped class entry h).found name
 
-  -- nothing is not something
-  none_some : (x : ℕ) → ◌≡◌ {A = Option ℕ} None (Some x) → ⊥
-  none_some x e = cc
-
   -- the empty version has no owners
   none_owned : (name : List ℕ) (owner : ℕ) → owner_in owners None name ≡ Some owner → ⊥
   none_owned name owner e = none_found (name_place owners.names name) e
     where
       none_found : (o : Option ℕ) → option_and_then (under owners.versions None) o ≡ Some owner → ⊥
-      none_found None e = none_some owner e
-      none_found (Some p) e = none_some owner (sym (under_none owners.versions p) ∙ e)
+      none_found None e = none_some e
+      none_found (Some p) e = none_some (sym (under_none owners.versions p) ∙ e)
 
   -- the owners of a base class's methods are there
   pub base_owner : (base : Option ℕ) (name : List ℕ) (owner : ℕ) → owner_in owners (owned_at entries base) name ≡ Some owner → owner < length entries
@@ -194,7 +188,7 @@ module _ (done : List Shape) (entries : List Entry) (names : List (List ℕ)) (l
       ∙ ap (λ z. or_found z (option_map (shift (length (inherited shapes entry.base))) (method_named (map see_method entry.own.all.items) name))) (new_entry.new name (ap is_some h))
       ∙ ap (λ z. option_map (shift z) (method_named (map see_method entry.own.all.items) name)) (sym new_entry.first)
       ∙ sym (ap (λ z. owned_method all_entries z name) (owned.each name ∙ ap (λ z. cond (is_some z) (Some (length entries)) (owner_in owners (owned_at entries entry.base) name)) h)
-      ∙ ap (λ z. new_method z name) (stands_last entries entry))
+      ∙ ap (λ z. new_method z name) (get_last entries entry))
 
   -- the versions of the new class tell what is to be told of it
   new_mapped : IsMapped shapes all_entries new_lines new_owners (length entries) entry

@@ -5,14 +5,7 @@ use Rattle.chord_classes.specs.Table as table
 use Rattle.chord_classes.specs.declared.method.Method.{Method}
 use Rattle.chord_classes.specs.NamePlaces.{name_place_from, name_place}
 use Rattle.chord_classes.specs.MethodViews.{see_method, at_place, names_of}
-
--- nothing is not something
-none_some : {X : Type 0} {x : X} → ◌≡◌ {A = Option X} None (Some x) → ⊥
-none_some e = cc
-
--- what is there is the same where its options are
-same_some : {X : Type 0} {x y : X} → ◌≡◌ {A = Option X} (Some x) (Some y) → x ≡ y
-same_some e = cc
+use Rattle.chord_classes.proofs.Facts.{same_some, none_some}
 
 -- a method was found at a place
 pub record IsFound (ms : List Method) (n i : ℕ) (o : Option table.Found) : Type 0 where

@@ -15,10 +15,7 @@ use Rattle.chord_classes.proofs.NamePlaces.{or_place, place_end}
 use Rattle.chord_classes.proofs.SharedForks.{version_of_more}
 use Rattle.chord_classes.proofs.GrownMethods.{map_end, named_joined}
 use Rattle.chord_classes.proofs.Search.{item_here}
-
--- what is there is the same where its options are
-same_some : {x y : ℕ} → ◌≡◌ {A = Option ℕ} (Some x) (Some y) → x ≡ y
-same_some e = cc
+use Rattle.chord_classes.proofs.Facts.{same_some}
 
 -- what is there is not nothing
 some_none : {x : ℕ} → ◌≡◌ {A = Option ℕ} None (Some x) → ⊥

@@ -19,11 +19,12 @@ use Rattle.chord_classes.specs.Rules.{C04, C06, C07, IsFree, is_header_rule, is_
 use Rattle.chord_classes.specs.Laws.{ChordsPlanned}
 use Rattle.chord_classes.proofs.Heads.{HasHeader, HaveHeaders, have_headers}
 use Rattle.chord_classes.proofs.Every.{Every, every_left, every_right, every_both, every_get, every_map}
-use Rattle.chord_classes.proofs.Facts.{none_some, same_some, true_false, when_not, left_nil, right_nil}
+use Rattle.chord_classes.proofs.Facts.{none_some, same_some, true_false, when_not, left_nil, right_nil, neither_left, neither_right}
 use Rattle.chord_classes.proofs.Terms.{FoundIn, method_is}
 use Rattle.chord_classes.proofs.Kept.{none_contained}
 use Rattle.chord_classes.proofs.Inherits.{among_every, methods_inherited}
-use Rattle.chord_classes.proofs.Headers.{HeaderKept, laid_is, gives_is, laid_along, gives_along, one_sync_is, one_sync_along, no_mains, shapes_begin, get_last, bytes_itself, bytes_same, class_headers_kept}
+use Rattle.chord_classes.proofs.Headers.{HeaderKept, laid_is, gives_is, laid_along, gives_along, one_sync_is, one_sync_along, no_mains, shapes_begin, bytes_itself, bytes_same, class_headers_kept}
+use Rattle.chord_classes.proofs.Lists.{get_last}
 
 -- Numbers of headers.
 
@@ -74,13 +75,9 @@ others_differ : (name : List ℕ) (before : List (List ℕ)) (headers : List Hea
 others_differ name before [] m h f = tt
 others_differ name before (y ∷ ys) m h f = (
   f y.name.text (unnamed (is_main y) (has_main ys) (named_in y.name.text before) m (when_not _ y.name.at (left_nil _ (repeated (y.name.text ∷ before) ys) h))),
-  others_differ name (y.name.text ∷ before) ys (rest_false (is_main y) (has_main ys) m) (right_nil (when (not (is_main y) && named_in y.name.text before) y.name.at) _ h) (λ other k. f other (rest_false (bytes_eq other y.name.text) (named_in other before) k)),
+  others_differ name (y.name.text ∷ before) ys (neither_right (is_main y) (has_main ys) m) (right_nil (when (not (is_main y) && named_in y.name.text before) y.name.at) _ h) (λ other k. f other (neither_right (bytes_eq other y.name.text) (named_in other before) k)),
 )
   where
-    rest_false : (a b : Bool) → (a || b) ≡ false → b ≡ false
-    rest_false true b h = absurd (true_false h)
-    rest_false false b h = h
-
     unnamed : (a b c : Bool) → (a || b) ≡ false → (not a && c) ≡ false → c ≡ false
     unnamed true b c h k = absurd (true_false h)
     unnamed false b c h k = k
@@ -90,18 +87,10 @@ different : (table : List Shape) (methods : List Method) (before : List (List �
 different table methods before [] m h ks = tt
 different table methods before (x ∷ xs) m h ks =
     let rest = right_nil (when (not (is_main x) && named_in x.name.text before) x.name.at) (repeated (x.name.text ∷ before) xs) h in
-    let no_main = rest_false (is_main x) (has_main xs) m in (
-      not_has table methods x xs ks.0 ks.1 (others_differ x.name.text (x.name.text ∷ before) xs no_main rest (λ other k. first_false (bytes_eq other x.name.text) (named_in other before) k)),
+    let no_main = neither_right (is_main x) (has_main xs) m in (
+      not_has table methods x xs ks.0 ks.1 (others_differ x.name.text (x.name.text ∷ before) xs no_main rest (λ other k. neither_left (bytes_eq other x.name.text) (named_in other before) k)),
       different table methods (x.name.text ∷ before) xs no_main rest ks.1,
     )
-  where
-    rest_false : (a b : Bool) → (a || b) ≡ false → b ≡ false
-    rest_false true b h = absurd (true_false h)
-    rest_false false b h = h
-
-    first_false : (a b : Bool) → (a || b) ≡ false → a ≡ false
-    first_false true b h = h
-    first_false false b h = refl
 
 -- where nothing is left behind the first n there are at most n
 pub few_left : (n : ℕ) (xs : List ℕ) → drop n xs ≡ [] → length xs ≤ n

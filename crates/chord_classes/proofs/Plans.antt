@@ -3,8 +3,8 @@ use Rattle.std.proofs.Common.{◌≡◌, ℕ, zero, suc, ◌+◌, ◌<◌, ◌�
 use Rattle.std.specs.Prelude.{option_map, option_and_then}
 use Rattle.std.proofs.lemmas.Bool.{eqb-true}
 use Rattle.std.proofs.lemmas.Option.{slice_get_within, slice_get-map}
+use Rattle.std.proofs.lemmas.List.{length-map}
 use Rattle.chord_tree.specs.declared.names.Name.{Name}
-use Rattle.chord_tree.specs.declared.names.ValueType.{ValueType}
 use Rattle.chord_tree.specs.declared.classes.Formal.{Formal}
 use Rattle.chord_tree.specs.Tree.{MemberTree, ConstructorMember, ChordMember, ClassTree, ProgramTree}
 use Rattle.chord_base.specs.declared.static_type.StaticType.{StaticType}
@@ -20,13 +20,14 @@ use Rattle.chord_classes.specs.Laws.{PlanKept}
 use Rattle.chord_classes.proofs.Every.{Every, every_get}
 use Rattle.chord_classes.proofs.Facts.{none_some, same_some, true_false, when_not, left_nil, right_nil}
 use Rattle.chord_classes.proofs.Kept.{none_contained}
-use Rattle.chord_classes.proofs.Inherits.{Begins, get_left, base_there, methods_inherited}
-use Rattle.chord_classes.proofs.Headers.{shapes_begin, get_last}
+use Rattle.chord_classes.proofs.Inherits.{Begins, base_there, methods_inherited}
+use Rattle.chord_classes.proofs.Headers.{shapes_begin}
 use Rattle.chord_classes.proofs.Heads.{have_headers}
 use Rattle.chord_classes.proofs.Planned.{chords_planned}
 use Rattle.chord_classes.proofs.Limits.{FewBuiltShape, few_builders, FewOf, SmallShape, shapes_small, few_classes, FewChords, few_chords}
 use Rattle.chord_classes.proofs.Mains.{main_body}
 use Rattle.chord_classes.proofs.Whole.{method_planned, base_derived, chord_owned, built_planned, builder_planned}
+use Rattle.chord_classes.proofs.Lists.{get_left, get_last, get_two}
 
 -- a class in the plan: what it was made from
 record PlanAt (p : ProgramTree) (c : ℕ) (x : ClassOf) : Type 0 where
@@ -39,13 +40,6 @@ record PlanAt (p : ProgramTree) (c : ℕ) (x : ClassOf) : Type 0 where
   count : length done ≡ c
   earlier : Begins done (table_of p)
   built : wrong_constructors p.classes done class ≡ []
-
--- a place behind some items is one of theirs, or the last
-get_two : {X : Type 0} (Q : Type 0) (xs : List X) (x : X) (c : ℕ) (y : X) → slice_get (xs ++ (x ∷ [])) c ≡ Some y → (slice_get xs c ≡ Some y → Q) → (c ≡ length xs → x ≡ y → Q) → Q
-get_two Q [] x zero y e f g = g refl (same_some e)
-get_two Q [] x (suc c) y e f g = absurd (none_some e)
-get_two Q (z ∷ zs) x zero y e f g = f e
-get_two Q (z ∷ zs) x (suc c) y e f g = get_two Q zs x c y e f (λ k l. g (ap suc k) l)
 
 -- each class of a plan was made from a class of the text, where each so far was
 plan_at : (p : ProgramTree) (done : List Shape) (plans : List ClassOf) (number : ℕ) (classes : List ClassTree) → shapes_after done classes ≡ table_of p → length plans ≡ length done → over_shapes (wrong_constructors p.classes) done classes ≡ []
@@ -150,11 +144,6 @@ record HasKind (sig : Signatures) (c j : ℕ) (y : MethodOf) : Type 0 where
   kind : y.is_sync ≡ signature.is_sync
   parameters : y.parameters ≡ length signature.parameters
 
--- the static types that written types stand for are as many as these
-length_known : (table : List Shape) (ws : List ValueType) → length (map (type_known table) ws) ≡ length ws
-length_known table [] = refl
-length_known table (w ∷ ws) = ap suc (length_known table ws)
-
 -- what a plan says of a method, it says of a method that is there
 planned_method : (o : Option Method) (y : MethodOf) → option_map method_plan o ≡ Some y → (m : Method) × (o ≡ Some m) × (method_plan m ≡ y)
 planned_method None y e = absurd (none_some e)
@@ -182,7 +171,7 @@ has_kind p c j x y a e =
       signature = signature (table_of p) m.method;
       there = ap (option_map (signature (table_of p))) m.there;
       kind = ap (λ (z : MethodOf). z.is_sync) (sym m.is);
-      parameters = ap (λ (z : MethodOf). z.parameters) (sym m.is) ∙ sym (length_known (table_of p) m.method.formals);
+      parameters = ap (λ (z : MethodOf). z.parameters) (sym m.is) ∙ sym (length-map m.method.formals (type_known (table_of p)));
     }
 
 -- methods of the plan are as many as those of the table
@@ -198,7 +187,7 @@ few_built_here p few c ps e = by_class (slice_get (table_of p) c) refl e
     by_class None w f = absurd (none_some f)
     by_class (Some s) w f =
         let within = every_get FewBuiltShape (table_of p) c s few w in
-        let known = length_known (table_of p) (built_from s.builder) in
+        let known = length-map (built_from s.builder) (type_known (table_of p)) in
         let same : length (map (type_known (table_of p)) (built_from s.builder)) ≡ length ps = ap length (same_some f) in
         omega (arith, within, known, same)
 

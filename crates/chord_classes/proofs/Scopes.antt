@@ -6,6 +6,7 @@ use Rattle.chord_classes.specs.Table.{Shape}
 use Rattle.chord_classes.specs.Types.{type_known}
 use Rattle.chord_bodies.specs.Types.{Scope, Keeps, Extends, declared}
 use Rattle.chord_classes.proofs.Facts.{none_some, same_some}
+use Rattle.chord_classes.proofs.Lists.{get_left}
 
 -- a slot keeps its own type
 keeps_itself : (x : Option StaticType) → Keeps x x
@@ -90,12 +91,6 @@ pub record HasRoom (table : List Shape) (types scope : Scope) (next : ℕ) (loca
   pub typed : (j : ℕ) (written : ValueType) → slice_get locals j ≡ Some written → slice_get types (next + j) ≡ Some (Some (type_known table written))
   pub agrees : (i : ℕ) (t : StaticType) → slice_get scope i ≡ Some (Some t) → slice_get types i ≡ Some (Some t)
 
--- an element of the first of two lists joined is at its place in both
-get_first : {X : Type 0} (xs ys : List X) (j : ℕ) (x : X) → slice_get xs j ≡ Some x → slice_get (xs ++ ys) j ≡ Some x
-get_first [] ys j x h = absurd (none_some h)
-get_first (a ∷ xs) ys zero x h = h
-get_first (a ∷ xs) ys (suc j) x h = get_first xs ys j x h
-
 -- an element of the second of two lists joined stands behind as many more as the first has
 get_second : {X : Type 0} (xs ys : List X) (j : ℕ) (x : X) → slice_get ys j ≡ Some x → slice_get (xs ++ ys) (length xs + j) ≡ Some x
 get_second [] ys j x h = let same : 0 + j ≡ j = omega arith in ap (slice_get ys) same ∙ h
@@ -106,7 +101,7 @@ pub room_first : (table : List Shape) (types scope : Scope) (next : ℕ) (xs ys 
 room_first table types scope next xs ys r =
     let both = length-append xs ys in
     let all : next + length (xs ++ ys) ≤ length scope = r.fits in
-    record { fits = omega (arith, both, all); free = r.free; typed = λ j w h. r.typed j w (get_first xs ys j w h); agrees = r.agrees }
+    record { fits = omega (arith, both, all); free = r.free; typed = λ j w h. r.typed j w (get_left xs ys j w h); agrees = r.agrees }
 
 -- there is room for the second behind the first
 pub room_rest : (table : List Shape) (types scope : Scope) (next : ℕ) (xs ys : List ValueType) → HasRoom table types scope next (xs ++ ys) → HasRoom table types scope (next + length xs) ys

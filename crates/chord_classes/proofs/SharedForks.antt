@@ -1,13 +1,12 @@
 -- Versions that share what they have in common.
-use Rattle.std.proofs.Common.{◌≡◌, ℕ, zero, suc, ◌-◌, ◌<◌, ◌≤◌, ◌%◌, ◌/◌, ◌⊎◌, inl, inr, List, [], ◌∷◌, ◌++◌, Bool, true, false, cond, length, refl, sym, ap, subst, ◌∙◌, Option, Some, None, slice_get, arith, nat_eq, length-append}
+use Rattle.std.proofs.Common.{◌≡◌, ℕ, zero, suc, ◌+◌, ◌-◌, ◌*◌, ◌^◌, ◌<◌, ◌≤◌, ◌%◌, ◌/◌, ◌⊎◌, inl, inr, List, [], ◌∷◌, ◌++◌, Bool, true, false, cond, length, refl, sym, ap, subst, ◌∙◌, Option, Some, None, slice_get, arith, nat_eq, length-append}
 use mathlib.Core.List.{append_assoc}
+use Rattle.std.proofs.Math.Nat.{pow-suc}
 use Rattle.std.proofs.lemmas.Bool.{eqb-true, eqb-false, eq-eqb, ne_eqb, true≢false, false≢true}
 use Rattle.chord_classes.specs.declared.versions.Fork.{Fork}
 use Rattle.chord_classes.specs.Forks.{empty_fork, fork_or_empty, fork_of, side, with_side, under_within, under, IsVersion, AreForks, IsFork, IsNextVersion}
-
--- what is there is the same where its options are
-some_same : {x y : ℕ} → ◌≡◌ {A = Option ℕ} (Some x) (Some y) → x ≡ y
-some_same e = cc
+use Rattle.chord_classes.proofs.Facts.{same_some}
+use Rattle.chord_classes.proofs.Lists.{get_last}
 
 -- half of a number is not greater than it
 half_least : (k : ℕ) → k / 2 ≤ k
@@ -34,11 +33,6 @@ pub stands_earlier : {A : Type 0} (xs more : List A) (at : ℕ) → at < length 
 stands_earlier [] more at h = absurd (omega (arith, h))
 stands_earlier (x ∷ xs) more zero h = refl
 stands_earlier (x ∷ xs) more (suc at) h = stands_earlier xs more at (let less : suc at < suc (length xs) = h in omega (arith, less))
-
--- what stands behind others stands at their count
-pub stands_last : {A : Type 0} (xs : List A) (x : A) → slice_get (xs ++ (x ∷ [])) (length xs) ≡ Some x
-stands_last [] x = refl
-stands_last (y ∷ ys) x = stands_last ys x
 
 -- forks that come later change no fork of a version that was there
 pub fork_stays : (forks more : List Fork) (version : Option ℕ) → IsVersion (length forks) version → fork_of (forks ++ more) version ≡ fork_of forks version
@@ -119,6 +113,7 @@ pub next_at_none : (old new : List Fork) (version : Option ℕ) (value made : �
 next_at_none old new version value made c h p = record {
   more = fork ∷ [];
   forks = p.forks;
+  few = let one : 2 ^ 1 ≡ 2 = refl in omega (arith, one);
   within = let e = ap length p.forks in let f = length-append old (fork ∷ []) in let m = p.last in omega (arith, e, f, m);
   closed = subst AreForks (sym p.forks) (forks_more old fork c (odd_version old version c) (even_version old version c));
   stays = λ other there k. ap (λ z. under z other k) p.forks ∙ under_stays old (fork ∷ []) other k c there;
@@ -129,7 +124,7 @@ next_at_none old new version value made c h p = record {
     fork = record { value = Some value; odd = (fork_of old version).odd; even = (fork_of old version).even }
 
     here : fork_of new (Some made) ≡ fork
-    here = ap fork_or_empty (ap (slice_get new) p.last ∙ ap (λ z. slice_get z (length old)) p.forks ∙ stands_last old fork)
+    here = ap fork_or_empty (ap (slice_get new) p.last ∙ ap (λ z. slice_get z (length old)) p.forks ∙ get_last old fork)
 
     by_number : (k : ℕ) → under new (Some made) k ≡ cond (nat_eq k 0) (Some value) (under old version k)
     by_number zero = ap (λ (n : Fork). n.value) here
@@ -205,6 +200,7 @@ pub next_at_more : (old mid new : List Fork) (version : Option ℕ) (k value inn
 next_at_more old mid new version k value inner made c d h w p = record {
   more = w.more ++ (fork ∷ []);
   forks = all;
+  few = few;
   within = let e = ap length p.forks in let f = length-append mid (fork ∷ []) in let m = p.last in omega (arith, e, f, m);
   closed = subst AreForks (sym p.forks) (forks_more mid fork d (odd_with (nat_eq (suc k % 2) 1)) (even_with (nat_eq (suc k % 2) 1)));
   stays = λ other there k. ap (λ z. under z other k) all ∙ under_stays old (w.more ++ (fork ∷ [])) other k c there;
@@ -220,14 +216,22 @@ next_at_more old mid new version k value inner made c d h w p = record {
     all : new ≡ old ++ (w.more ++ (fork ∷ []))
     all = p.forks ∙ ap (λ z. z ++ (fork ∷ [])) w.forks ∙ append_assoc old w.more (fork ∷ [])
 
+    few : 2 ^ length (w.more ++ (fork ∷ [])) ≤ 2 * (suc k + 1)
+    few =
+        let one = length-append w.more (fork ∷ []) in
+        let count : suc (length w.more) ≡ length (w.more ++ (fork ∷ [])) = omega (arith, one) in
+        let half = w.few in
+        let twice = pow-suc 2 (length w.more) in
+        subst (λ z. 2 ^ z ≤ 2 * (suc k + 1)) count (omega (arith, twice, half))
+
     here : fork_of new (Some made) ≡ fork
-    here = ap fork_or_empty (ap (slice_get new) p.last ∙ ap (λ z. slice_get z (length mid)) p.forks ∙ stands_last mid fork)
+    here = ap fork_or_empty (ap (slice_get new) p.last ∙ ap (λ z. slice_get z (length mid)) p.forks ∙ get_last mid fork)
 
     longer : length old ≤ length mid
     longer = let e = ap length w.forks in let f = length-append old w.more in omega (arith, e, f)
 
     inner_within : IsVersion (length mid) (Some inner)
-    inner_within at e = let less = w.within in let same : inner ≡ at = some_same e in omega (arith, less, same)
+    inner_within at e = let less = w.within in let same : inner ≡ at = same_some e in omega (arith, less, same)
 
     odd_with : (b : Bool) → IsVersion (length mid) (cond {A = Fork} b (record { value = before.value; odd = Some inner; even = before.even }) (record { value = before.value; odd = before.odd; even = Some inner })).odd
     odd_with true = inner_within

@@ -11,10 +11,8 @@ use Rattle.chord_classes.specs.NamePlaces.{name_place_from, name_place}
 use Rattle.chord_classes.specs.MethodViews.{see_method, see_own}
 use Rattle.chord_classes.specs.Entries.{IsEntry, AreEntries}
 use Rattle.chord_classes.specs.Owned.{shift}
-
--- what is there is the same where its options are
-same_some : {X : Type 0} {x y : X} → ◌≡◌ {A = Option X} (Some x) (Some y) → x ≡ y
-same_some e = cc
+use Rattle.chord_classes.proofs.Facts.{same_some}
+use Rattle.chord_classes.proofs.Search.{map_length}
 
 -- Classes by name.
 
@@ -47,11 +45,6 @@ class_below shapes x p h = let less = class_within 0 shapes x p h in omega (arit
 -- the number of a class fits
 pub class_fits : {shapes : List Shape} {entries : List Entry} {names : List (List ℕ)} → AreEntries shapes entries names → (x : List ℕ) (p : ℕ) → name_place names x ≡ Some p → p < 4294967296
 class_fits {shapes} e x p h = let less = class_below shapes x p (sym (class_found e x) ∙ h) in let count = e.count in let few = e.few in omega (arith, less, count, few)
-
--- a function over a list gives as many elements as there are
-map_length : {A B : Type 0} (f : A → B) (xs : List A) → length (map f xs) ≡ length xs
-map_length f [] = refl
-map_length f (x ∷ xs) = ap suc (map_length f xs)
 
 -- Entries by number.
 

@@ -3,8 +3,8 @@ use Rattle.std.proofs.Common.{◌≡◌, ℕ, zero, suc, ◌+◌, ◌<◌, ◌==
 use Rattle.std.specs.Prelude.{option_map}
 use Rattle.std.proofs.lemmas.Bool.{eq-eqb}
 use Rattle.std.proofs.lemmas.Option.{slice_get_within, slice_get-map}
+use Rattle.std.proofs.lemmas.List.{length-map}
 use Rattle.chord_base.specs.Messages.{has}
-use Rattle.chord_tree.specs.declared.names.ValueType.{ValueType}
 use Rattle.chord_tree.specs.declared.classes.Formal.{Formal}
 use Rattle.chord_tree.specs.Tree.{MemberTree, ConstructorMember, ChordMember, ClassTree, ProgramTree}
 use Rattle.chord_tree.specs.Walk.{headers_of}
@@ -18,9 +18,10 @@ use Rattle.chord_classes.specs.Plan.{method_plan, overridden, spared, chords_wit
 use Rattle.chord_classes.specs.Laws.{IsBuilder}
 use Rattle.chord_classes.proofs.Every.{Every, every_both, every_map, every_get}
 use Rattle.chord_classes.proofs.Facts.{none_some, same_some}
-use Rattle.chord_classes.proofs.Inherits.{Begins, get_left}
-use Rattle.chord_classes.proofs.Headers.{shapes_begin, get_last}
+use Rattle.chord_classes.proofs.Inherits.{Begins}
+use Rattle.chord_classes.proofs.Headers.{shapes_begin}
 use Rattle.chord_classes.proofs.Planned.{get_behind, get_mapped, length_members}
+use Rattle.chord_classes.proofs.Lists.{get_left, get_last, get_two}
 
 -- what a class of the plan was planned from
 pub record Made (p : ProgramTree) (c : ℕ) (x : ClassOf) : Type 0 where
@@ -39,13 +40,6 @@ plans_begin : (done : List Shape) (plans : List ClassOf) (number : ℕ) (classes
 plans_begin done plans number [] j x h = h
 plans_begin done plans number (c ∷ cs) j x h =
     plans_begin (done ++ (shape_of done c ∷ [])) (plans ++ (class_plan done plans number c ∷ [])) (number + length c.members) cs j x (get_left plans (class_plan done plans number c ∷ []) j x h)
-
--- a place behind some items is one of theirs, or the last
-get_two : {X : Type 0} (Q : Type 0) (xs : List X) (x : X) (c : ℕ) (y : X) → slice_get (xs ++ (x ∷ [])) c ≡ Some y → (slice_get xs c ≡ Some y → Q) → (c ≡ length xs → x ≡ y → Q) → Q
-get_two Q [] x zero y e f g = g refl (same_some e)
-get_two Q [] x (suc c) y e f g = absurd (none_some e)
-get_two Q (z ∷ zs) x zero y e f g = f e
-get_two Q (z ∷ zs) x (suc c) y e f g = get_two Q zs x c y e f (λ k l. g (ap suc k) l)
 
 -- each class of a plan was made from a class of the text, where each so far was
 made_at : (p : ProgramTree) (done : List Shape) (plans : List ClassOf) (number : ℕ) (classes : List ClassTree) → shapes_after done classes ≡ table_of p → plans_after done plans number classes ≡ plan_of p → length plans ≡ length done
@@ -120,11 +114,6 @@ built_planned p c ps e =
 
 -- Each method of the signatures is one of the plan.
 
--- the static types that written types stand for are as many as these
-length_known : (table : List Shape) (ws : List ValueType) → length (map (type_known table) ws) ≡ length ws
-length_known table [] = refl
-length_known table (w ∷ ws) = ap suc (length_known table ws)
-
 -- a method of a signature is one of the plan
 pub method_planned : (p : ProgramTree) (c j : ℕ) (m : Signature) → (signatures_of p).methods c j ≡ Some m → (x : ClassOf) × (y : MethodOf) × (slice_get (plan_of p) c ≡ Some x) × (slice_get x.methods j ≡ Some y) × (y.is_sync ≡ m.is_sync) × (y.parameters ≡ length m.parameters)
 method_planned p c j m e =
@@ -139,7 +128,7 @@ method_planned p c j m e =
         let a = planned_from p c x.0 x.1 in
         let here : slice_get (shape_of a.done a.class).methods j ≡ Some y = ap (λ o. slice_get (methods_in o) j) (sym a.shape) ∙ f in
         let planned : slice_get x.0.methods j ≡ Some (method_plan y) = ap (λ (z : ClassOf). slice_get z.methods j) (sym a.is) ∙ slice_get-map method_plan (shape_of a.done a.class).methods j ∙ ap (option_map method_plan) here in
-        (x.0, method_plan y, x.1, planned, ap (λ (z : Signature). z.is_sync) g, sym (length_known (table_of p) y.formals) ∙ ap (λ (z : Signature). length z.parameters) g)
+        (x.0, method_plan y, x.1, planned, ap (λ (z : Signature). z.is_sync) g, sym (length-map y.formals (type_known (table_of p))) ∙ ap (λ (z : Signature). length z.parameters) g)
 
 -- A class derives from its base.
 

@@ -1,5 +1,5 @@
 -- Versions of a map from numbers to numbers, by their forks.
-use Rattle.std.specs.Prelude.{◌≡◌, ℕ, zero, suc, ◌<◌, ◌%◌, ◌/◌, List, [], ◌∷◌, ◌++◌, cond, nat_eq, length, slice_get, Option, Some, None}
+use Rattle.std.specs.Prelude.{◌≡◌, ℕ, zero, suc, ◌<◌, ◌≤◌, ◌+◌, ◌*◌, ◌^◌, ◌%◌, ◌/◌, List, [], ◌∷◌, ◌++◌, cond, nat_eq, length, slice_get, Option, Some, None}
 use Rattle.chord_classes.specs.declared.versions.Fork.{Fork}
 
 -- the fork of the empty version
@@ -52,10 +52,11 @@ pub record IsFork (old new : List Fork) (fork : Fork) (made : ℕ) : Type 0 wher
   pub forks : new ≡ old ++ (fork ∷ [])
   pub last : made ≡ length old
 
--- a version was made of another, with this value under this number
+-- a version was made of another, with this value under this number, by forks as many as the number has halves
 pub record IsNextVersion (old new : List Fork) (version : Option ℕ) (number value made : ℕ) : Type 0 where
   pub more : List Fork
   pub forks : new ≡ old ++ more
+  pub few : 2 ^ length more ≤ 2 * (number + 1)
   pub within : made < length new
   pub closed : AreForks new
   pub stays : (other : Option ℕ) → IsVersion (length old) other → (k : ℕ) → under new other k ≡ under old other k

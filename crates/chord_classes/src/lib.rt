@@ -6,6 +6,7 @@
 
 pub mod build;
 pub mod entry;
+mod index;
 pub mod laws;
 pub mod least;
 pub mod main_headers;

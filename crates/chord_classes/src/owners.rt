@@ -1,7 +1,7 @@
 //! In which class a method is new, by a version of its class and by its name.
 #![tactic(auto)]
 
-ghost use Rattle.std.specs.Prelude.{◌≡◌, IfOk, [], map, is_some, bytes_eq};
+ghost use Rattle.std.specs.Prelude.{◌≡◌, IfOk, [], ◌∷◌, ◌++◌, map, is_some, bytes_eq};
 ghost use Rattle.chord_classes.specs.Table.{method_named};
 ghost use Rattle.chord_classes.specs.MethodViews.{see_method};
 ghost use Rattle.chord_classes.specs.Owned.{IsOwned, IsOwning, owner_in};
@@ -56,7 +56,8 @@ impl<'a> Owners<'a> {
         owner: u32,
     ) -> Result<Owning<'a>, AllocError>
         requires { IsOwned self version }
-        ensures { IfOk result (λ owning. IsOwning self.entry owning.owners version owning.version (bytes_eq name.now) owner) }
+        ensures names { IfOk result (λ owning. owning.owners.names ≡ self.entry.names ++ (name.now ∷ [])) }
+        ensures owning { IfOk result (λ owning. IsOwning self.entry owning.owners version owning.version (bytes_eq name.now) owner) }
     {
         let Owners {
             names,

@@ -15,11 +15,9 @@ ghost use Rattle.chord_classes.specs.Entries.{IsGrown};
 ghost use Rattle.chord_classes.specs.Owned.{line_at, owned_at};
 
 use crate::entry::Entry;
+use crate::index::{Index, Indexed};
 use crate::method::{Builder, Found};
 use crate::methods::Methods;
-use crate::names::Names;
-use crate::owners::{Owners, Owning, with_methods};
-use crate::versions::Versions;
 use chord_base::static_type::StaticType;
 use chord_tree::classes::Class;
 use chord_tree::names::{BasicType, ValueType};
@@ -30,10 +28,7 @@ use std::marker::Model;
 #[derive(Drop)]
 pub struct Table<'a> {
     entries: Vec<Entry<'a>>,
-    names: Names<'a>,
-    /// What each class derives from, itself with it.
-    lines: Versions,
-    owners: Owners<'a>,
+    index: Index<'a>,
 }
 
 impl<'a> Model for Table<'a> {
@@ -46,7 +41,7 @@ impl<'a> Model for Table<'a> {
 
     ghost view = { λ t. shapes_of t.entries.items };
 
-    ghost invariant = { λ t. IsShapeTable (shapes_of t.entries.items) t.entries.items t.names t.lines t.owners };
+    ghost invariant = { λ t. IsShapeTable (shapes_of t.entries.items) t.entries.items t.index.names t.index.lines t.index.owners };
 }
 
 impl<'a> Table<'a> {
@@ -56,9 +51,7 @@ impl<'a> Table<'a> {
     {
         Table {
             entries: Vec::new(alloc),
-            names: Names::new(alloc),
-            lines: Versions::new(alloc),
-            owners: Owners::new(alloc),
+            index: Index::new(alloc),
         }
     }
 
@@ -66,7 +59,7 @@ impl<'a> Table<'a> {
     pub fn class_named(&self, name: &[u8]) -> Option<u32>
         ensures { result ≡ class_named self.now name.now }
     {
-        match self.names.place(name) {
+        match self.index.names.place(name) {
             Some(place) => Some(place as u32),
             None => None,
         }
@@ -119,7 +112,7 @@ impl<'a> Table<'a> {
         let Some(entry) = self.entries.get(class as usize) else {
             return None;
         };
-        let Some(owner) = self.owners.owner(entry.owned, name) else {
+        let Some(owner) = self.index.owners.owner(entry.owned, name) else {
             return None;
         };
         let Some(owner) = self.entries.get(owner as usize) else {
@@ -139,7 +132,7 @@ impl<'a> Table<'a> {
         ensures { result ≡ derives self.now class base }
     {
         match self.entries.get(class as usize) {
-            Some(entry) => self.lines.get(entry.line, base as usize).is_some(),
+            Some(entry) => self.index.lines.get(entry.line, base as usize).is_some(),
             None => class == base,
         }
     }
@@ -168,24 +161,19 @@ impl<'a> Table<'a> {
         ensures { IfOk result (λ table. table ≡ self.entry ++ (shape_of self.entry (see_class class.now) ∷ [])) }
     {
         let first = self.inherited_count(base);
-        let Table {
-            mut entries,
-            names,
-            mut lines,
-            owners,
-        } = self;
+        let Table { mut entries, index } = self;
         let room = u32::MAX as usize;
         if entries.len() >= room || first > room || own.all.len() > room - first {
             return Err(AllocError);
         }
-        let names = names.with(class.name.text.items())?;
         let number = entries.len() as u32;
-        let line = lines.with(line_at(&entries, base), number as usize, number)?;
-        let Owning { owners, version } = with_methods(
-            owners,
-            owned_at(&entries, base),
-            &own.all,
+        let (line, owned) = (line_at(&entries, base), owned_at(&entries, base));
+        let Indexed { index, line, owned } = index.with(
+            class.name.text.items(),
             number,
+            line,
+            owned,
+            &own.all,
         )?;
         entries.push(Entry {
             class,
@@ -194,14 +182,9 @@ impl<'a> Table<'a> {
             own,
             builder,
             line: Some(line),
-            owned: version,
+            owned,
         })?;
-        Ok(Table {
-            entries,
-            names,
-            lines,
-            owners,
-        })
+        Ok(Table { entries, index })
     }
 
     /// The static type that is written, if its class is declared.

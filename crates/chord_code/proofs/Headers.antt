@@ -1,7 +1,8 @@
 -- The methods of a chord: their flags, when one more is added, and where a line with one of them stands.
-use Rattle.std.proofs.Common.{◌≡◌, ◌≢◌, ℕ, zero, suc, ◌+◌, ◌<◌, ◌≤◌, Bool, true, false, ◌==◌, ◌||◌, List, [], ◌∷◌, ◌++◌, length, map, get_or, Some, inl, inr, ⊎_elim, refl, sym, ap, ◌∙◌, subst, arith, set, length-append}
+use Rattle.std.proofs.Common.{◌≡◌, ◌≢◌, ℕ, zero, suc, ◌+◌, ◌<◌, ◌≤◌, Bool, true, false, ◌==◌, ◌||◌, List, [], ◌∷◌, ◌++◌, length, map, get_or, Some, inl, inr, ⊎_elim, refl, sym, ap, ◌∙◌, subst, arith, set, take}
 use Rattle.std.specs.Prelude.{slice_get}
 use Rattle.std.proofs.lemmas.Bool.{cases_lt, eq-eqb, eqb-true}
+use Rattle.std.proofs.lemmas.List.{length-take-le, take_more_set}
 use Rattle.chord_base.specs.Messages.{has}
 use Rattle.chord_base.proofs.Waits.{either}
 use Rattle.chord_code.specs.Headers.{AreFlags, LackHeader}
@@ -43,17 +44,23 @@ flagged_past n ns flags high are j less =
       | inr o ↦ are j less ∙ ap (λ b. Some b) (sym (has_other j n ns o))
     ]
 
--- one number more than fewer than eight makes at most eight
-one_more : (n : ℕ) (ns : List ℕ) → length ns < 8 → length (ns ++ n ∷ []) ≤ 8
-one_more n ns few = omega (arith, few, length-append ns (n ∷ []))
+-- an array of eight whose first numbers are fewer than eight has room for one more behind them
+more_behind : (n count : ℕ) (numbers : List ℕ) → length numbers ≡ 8 → count ≤ 8 → length (take count numbers) < 8 → (count + 1 ≤ 8) × (take (count + 1) (set numbers count n) ≡ take count numbers ++ n ∷ [])
+more_behind n count numbers eight most few =
+    let long = length-take-le count numbers (omega (arith, eight, most)) in
+    (omega (arith, long, few), take_more_set numbers count n (omega (arith, eight, long, few)))
 
--- a list to which a number with a flag was added has few numbers, and their flags
-pub added_with : (n : ℕ) (ns new : List ℕ) (flags : List Bool) → new ≡ ns ++ n ∷ [] → length ns < 8 → n < 16 → AreFlags ns flags → (length new ≤ 8) × AreFlags new (set flags n true)
-added_with n ns new flags is few low are = subst (λ z. (length z ≤ 8) × AreFlags z (set flags n true)) (sym is) (one_more n ns few, flagged_with n ns flags low are)
+-- an array to which a number with a flag was added has few numbers, and their flags
+pub added_with : (n count : ℕ) (numbers : List ℕ) (flags : List Bool) → length numbers ≡ 8 → count ≤ 8 → length (take count numbers) < 8 → n < 16 → AreFlags (take count numbers) flags → (count + 1 ≤ 8) × AreFlags (take (count + 1) (set numbers count n)) (set flags n true)
+added_with n count numbers flags eight most few low are =
+    let more = more_behind n count numbers eight most few in
+    (more.0, subst (λ ns. AreFlags ns (set flags n true)) (sym more.1) (flagged_with n (take count numbers) flags low are))
 
 -- and so has one to which a number without a flag was added
-pub added_past : (n : ℕ) (ns new : List ℕ) (flags : List Bool) → new ≡ ns ++ n ∷ [] → length ns < 8 → 16 ≤ n → AreFlags ns flags → (length new ≤ 8) × AreFlags new flags
-added_past n ns new flags is few high are = subst (λ z. (length z ≤ 8) × AreFlags z flags) (sym is) (one_more n ns few, flagged_past n ns flags high are)
+pub added_past : (n count : ℕ) (numbers : List ℕ) (flags : List Bool) → length numbers ≡ 8 → count ≤ 8 → length (take count numbers) < 8 → 16 ≤ n → AreFlags (take count numbers) flags → (count + 1 ≤ 8) × AreFlags (take (count + 1) (set numbers count n)) flags
+added_past n count numbers flags eight most few high are =
+    let more = more_behind n count numbers eight most few in
+    (more.0, subst (λ ns. AreFlags ns flags) (sym more.1) (flagged_past n (take count numbers) flags high are))
 
 -- the chord of a number has the methods of the line there
 pub methods_at : (lines : List ChordLine) (k : ℕ) (line : ChordLine) → k < length lines → slice_get (map methods_of lines) k ≡ Some (methods_of (get_or lines k line))

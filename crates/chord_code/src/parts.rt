@@ -1,7 +1,7 @@
 //! The parts of a code: its classes, with their methods and chords, and its blocks.
 #![tactic(auto)]
 
-ghost use Rattle.std.specs.Prelude.{◌≡◌, ℕ, ◌<◌, ◌≤◌, List, [], ◌∷◌, ◌++◌, length, map, OnOk, OnErr};
+ghost use Rattle.std.specs.Prelude.{◌≡◌, ℕ, ◌<◌, ◌≤◌, List, [], ◌∷◌, ◌++◌, length, take, map};
 ghost use Rattle.chord_base.specs.Messages.{has};
 ghost use Rattle.chord_code.specs.Headers.{LackHeader, HasHeader};
 ghost use Rattle.chord_code.specs.Meaning.{methods_of};
@@ -9,7 +9,6 @@ ghost use Rattle.chord_code.specs.Meaning.{methods_of};
 use crate::instruction::Instructions;
 use crate::lines::Lines;
 use chord_base::text::Text;
-use std::alloc::{AllocError, Global};
 use std::marker::Model;
 
 /// The most methods of a chord.
@@ -18,25 +17,26 @@ pub const MAX_HEADERS: usize = 8;
 /// So many methods, as many as a class may have, have a flag in each chord.
 const FLAGS: usize = 16;
 
-/// The methods of a chord in header order, at most eight. Contracts see the list of their numbers.
+/// The methods of a chord in header order, at most eight. Contracts see the list of their numbers, which stand in the value itself.
 ///
 /// For each method that a class may have a flag says whether it stands among them: an engine asks that of each chord of a class, after
 /// each message.
 #[derive(Drop)]
 pub struct MethodNumbers {
-    numbers: Vec<u8>,
+    count: u8,
+    numbers: [u8; MAX_HEADERS],
     flags: [bool; FLAGS],
 }
 
 impl Model for MethodNumbers {
-    ghost use Rattle.std.specs.Prelude.{ℕ, ◌≤◌, List, length};
+    ghost use Rattle.std.specs.Prelude.{ℕ, ◌≤◌, List, take};
     ghost use Rattle.chord_code.specs.Headers.{AreFlags};
 
     ghost Value = { List ℕ };
 
-    ghost view = { λ m. m.numbers.items };
+    ghost view = { λ m. take m.count m.numbers };
 
-    ghost invariant = { λ m. (length m.numbers.items ≤ 8) × AreFlags m.numbers.items m.flags };
+    ghost invariant = { λ m. (m.count ≤ 8) × AreFlags (take m.count m.numbers) m.flags };
 }
 
 /// Whether a number stands among these.
@@ -51,26 +51,26 @@ pub(crate) fn stands_among(number: u8, numbers: &[u8]) -> bool
 
 impl MethodNumbers {
     /// No methods.
-    pub fn new(alloc: Global) -> MethodNumbers
+    pub fn new() -> MethodNumbers
         ensures { result ≡ [] }
     {
         MethodNumbers {
-            numbers: Vec::new(alloc),
+            count: 0,
+            numbers: [0; MAX_HEADERS],
             flags: [false; FLAGS],
         }
     }
 
-    /// Adds a method at the end. Where no memory is found the list is as it was.
-    pub fn push(&mut self, number: u8) -> Result<(), AllocError>
+    /// Adds a method at the end.
+    pub fn push(&mut self, number: u8)
         requires { length self.old < 8 }
-        ensures added { OnOk result (self.new ≡ self.old ++ number ∷ []) }
-        ensures kept { OnErr result (self.new ≡ self.old) }
+        ensures { self.new ≡ self.old ++ number ∷ [] }
     {
-        self.numbers.push(number)?;
+        self.numbers[self.count as usize] = number;
+        self.count += 1;
         if (number as usize) < FLAGS {
             self.flags[number as usize] = true;
         }
-        Ok(())
     }
 
     /// Whether a method stands among them.
@@ -80,7 +80,7 @@ impl MethodNumbers {
     {
         match self.flags.get(method as usize) {
             Some(flag) => *flag,
-            None => stands_among(method, self.numbers.as_slice()),
+            None => stands_among(method, self.items()),
         }
     }
 
@@ -89,7 +89,7 @@ impl MethodNumbers {
         ensures numbers { result.now ≡ self.now }
         ensures few { length self.now ≤ 8 }
     {
-        self.numbers.as_slice()
+        &self.numbers[..self.count as usize]
     }
 }
 

@@ -1,7 +1,7 @@
 //! Building all blocks, class by class, and telling their numbers.
 #![tactic(auto)]
 
-ghost use Rattle.std.specs.Prelude.{◌≡◌, ℕ, ◌<◌, ◌+◌, ◌++◌, ◌∷◌, [], List, length, map, IfOk, OnOk, Option, Some, slice_get, cond, ◌||◌};
+ghost use Rattle.std.specs.Prelude.{◌≡◌, ℕ, ◌≤◌, ◌<◌, ◌+◌, ◌++◌, ◌∷◌, [], List, length, map, IfOk, OnOk, OnErr, Option, Some, slice_get, cond, ◌||◌};
 ghost use Rattle.chord_bodies.specs.Resolved.{LayoutOf};
 ghost use Rattle.chord_bodies.specs.View.{view_class_plan};
 ghost use Rattle.chord_gen.specs.Translation.{has_own, has_builder, Origin, OfBuilder, OfBody, origins};
@@ -64,7 +64,8 @@ fn note(members: &mut Vec<u32>, member: u32, number: u32)
 
 /// The number of the next block. That there are 2^32 blocks is taken for too much memory.
 fn next_block(blocks: &Vec<Block>) -> Result<u32, AllocError>
-    ensures { IfOk result (λ number. number ≡ length blocks.now.items) }
+    ensures number { IfOk result (λ number. number ≡ length blocks.now.items) }
+    ensures large { OnErr result (4294967296 ≤ length blocks.now.items) }
 {
     match u32::try_from(blocks.len()) {
         Ok(number) => Ok(number),

@@ -1,7 +1,7 @@
 //! A block's instructions as they are written.
 #![tactic(auto)]
 
-ghost use Rattle.std.specs.Prelude.{◌≡◌, ◌<◌, [], ◌∷◌, ◌++◌, length, OnOk, IfOk, slice_set};
+ghost use Rattle.std.specs.Prelude.{◌≡◌, ◌≤◌, ◌<◌, [], ◌∷◌, ◌++◌, length, OnOk, OnErr, IfOk, slice_set};
 ghost use Rattle.chord_gen.specs.Emitted.{operator_code};
 
 use chord_base::operation::Operation;
@@ -18,7 +18,8 @@ pub fn put(code: &mut Vec<Instruction>, instruction: Instruction) -> Result<(), 
 
 /// The place of the next instruction. A block of 2^32 instructions is taken for too much memory.
 pub fn next_place(code: &Vec<Instruction>) -> Result<u32, AllocError>
-    ensures { IfOk result (λ place. place ≡ length code.now.items) }
+    ensures place { IfOk result (λ place. place ≡ length code.now.items) }
+    ensures large { OnErr result (4294967296 ≤ length code.now.items) }
 {
     match u32::try_from(code.len()) {
         Ok(place) => Ok(place),

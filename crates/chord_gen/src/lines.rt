@@ -90,20 +90,20 @@ fn chord_lines(
 {
     let mut lines = Vec::new(alloc);
     for chord in chords {
-        lines.push(line_of_chord(alloc, members, chord)?)?;
+        lines.push(line_of_chord(members, chord))?;
     }
     Ok(lines)
 }
 
 /// The line of a chord.
-fn line_of_chord(alloc: Global, members: &[u32], chord: &ChordPlan) -> Result<ChordLine, AllocError>
+fn line_of_chord(members: &[u32], chord: &ChordPlan) -> ChordLine
     requires fits { ChordFits chord.now }
-    ensures { IfOk result (λ line. line ≡ told_line members.now (view_chord_plan chord.now)) }
+    ensures { result ≡ told_line members.now (view_chord_plan chord.now) }
 {
-    Ok(ChordLine {
+    ChordLine {
         block: told(members, chord.body),
-        methods: method_numbers(alloc, &chord.methods)?,
-    })
+        methods: method_numbers(&chord.methods),
+    }
 }
 
 /// The number that is told for a member, or 0.
@@ -117,14 +117,14 @@ fn told(members: &[u32], member: u32) -> u32
 }
 
 /// The methods of a chord.
-fn method_numbers(alloc: Global, methods: &[u32]) -> Result<MethodNumbers, AllocError>
+fn method_numbers(methods: &[u32]) -> MethodNumbers
     requires few { length methods.now ≤ 8 }
     requires low { (k j : ℕ) → slice_get methods.now k ≡ Some j → j < 16 }
-    ensures { IfOk result (λ numbers. numbers ≡ methods.now) }
+    ensures { result ≡ methods.now }
 {
-    let mut numbers = MethodNumbers::new(alloc);
+    let mut numbers = MethodNumbers::new();
     for method in methods {
-        numbers.push(*method as u8)?;
+        numbers.push(*method as u8);
     }
-    Ok(numbers)
+    numbers
 }

@@ -1,11 +1,10 @@
--- Pieces given or taken one after the other are one piece, and a count that rose in one call rose over several.
-use Rattle.std.proofs.Common.{◌≡◌, ℕ, ◌≤◌, inl, inr, List, [], ◌++◌, Option, None, Some, IfSome, refl, ap, sym, ◌∙◌, append_assoc, append-nil, arith, length, take, drop, ◌<◌, ◌+◌, ◌∷◌, length-append, add-one, suc, get_or}
+-- Pieces given or taken one after the other are one piece.
+use Rattle.std.proofs.Common.{◌≡◌, ℕ, List, [], ◌++◌, Option, None, Some, IfSome, refl, ap, sym, ◌∙◌, append_assoc, append-nil, arith, length, take, drop, ◌<◌, ◌+◌, ◌∷◌, length-append, add-one, suc, get_or}
 use Rattle.std.proofs.Math.Seq.{drop-cons, take-suc, take-append-add}
 use Rattle.std.proofs.lemmas.List.{length-take-le, take-append-le, take-append-drop}
 use Rattle.std.proofs.lemmas.Grind.{flat_map-append}
 use Rattle.std.specs.List.{flat_map}
 use Rattle.std.specs.Option.{option_map}
-use Rattle.chord_io.specs.Faults.{Rose}
 use Rattle.chord_io.specs.Pieces.{Gave, IsSpent, Took, TookProperPrefix}
 
 -- nothing was taken
@@ -45,16 +44,6 @@ Gave-all (Some bytes) None p gave spent = absurd (cc)
 Gave-all (Some bytes) (Some rest) p gave spent =
     let whole : bytes ≡ p ++ rest = cc in
     sym (whole ∙ ap (λ (x : List ℕ). p ++ x) spent ∙ append-nil p)
-
--- a count that rose in the second of two calls rose over both
-pub Rose-after : (a b c : ℕ) → a ≤ b → Rose b c → Rose a c
-Rose-after a b c grows (inl higher) = inl (omega arith)
-Rose-after a b c grows (inr last) = inr last
-
--- a count that rose in the first of two calls rose over both
-pub Rose-before : (a b c : ℕ) → Rose a b → b ≤ c → Rose a c
-Rose-before a b c (inl higher) grows = inl (omega arith)
-Rose-before a b c (inr last) grows = inr (omega arith)
 
 -- a front of a first text is a front of the two together
 pub TookProperPrefix-first : (a b : Option (List ℕ)) (p q : List ℕ) → TookProperPrefix a p b → TookProperPrefix a (p ++ q) b

@@ -36,7 +36,7 @@ impl Pen {
         }
     }
 
-    /// Writes a piece to the sink, or holds it back.
+    /// Holds a piece back where there is room for it behind what is held, and else writes both to the sink.
     pub fn put<K: Sink>(&mut self, sink: &mut K, piece: &[u8])
         ensures { Writes (K.taken sink.old) (K.faults sink.old) self.old piece.now (K.taken sink.new) (K.faults sink.new) self.new }
     {

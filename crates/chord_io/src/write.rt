@@ -5,11 +5,11 @@ ghost use Rattle.chord_io.specs.Pieces.{Took, TookProperPrefix};
 
 use crate::{Failed, Sink};
 
-/// Writes the whole piece, in as many writes as the sink wants.
+/// Writes the whole piece.
 ///
 /// # Errors
 ///
-/// `Failed` exactly where a write failed, which the sink's count of faults shows.
+/// `Failed` exactly where a write failed, which the sink's count of faults shows; it is the only one that failed.
 /// A proper prefix of the piece was written.
 pub fn write_all<K: Sink>(sink: &mut K, piece: &[u8]) -> Result<(), Failed>
     ensures whole { OnOk result (Took (K.taken sink.old) piece.now (K.taken sink.new)) }

@@ -13,7 +13,7 @@ use std::mem;
 /// As many places as are filled from all lists before the next ones are, so that what is written to them lies near.
 const STRETCH: usize = 1024;
 
-/// The journal of the entries of these lists. Each entry is moved once, to the place of its number, and leaves holes for those before it that come later.
+/// The journal of the entries of these lists. They are laid at the places of their numbers, with holes before them for those that come later.
 /// Where each list has its entries in the order of their numbers, as a worker draws them, memory is gone through in its order.
 ///
 /// # Errors

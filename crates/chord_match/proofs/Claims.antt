@@ -27,7 +27,7 @@ use Rattle.chord_match.specs.declared.claiming.Missed.TheVariants.{Lost, Spent}
 use Rattle.chord_match.specs.Seen.{MayBeClaimed, MayAllBeClaimed, AreSeen}
 use Rattle.chord_match.specs.Fires.{AreLastPending, IsLost, IsTurnedAway, IsMissedBy}
 use Rattle.chord_match.specs.Claiming.{ClaimAt, Taking, WasClaimed, WereClaimed, IsDrawn, missed_by, looked_by, IsWhy, IsMissed}
-use Rattle.chord_match.proofs.Growing.{has_look_left}
+use Rattle.chord_match.proofs.Growing.{last_seen_left}
 use Rattle.chord_match.proofs.Lists.{all_below_more, has_at, different_at}
 
 -- a next that is below n where there is one
@@ -149,7 +149,7 @@ missed_one n v w ms xs at c after low small is ne alone = let i : ℕ = slice_in
   frame = refl;
   looks = record { number = i; word = record { cell = c; next = after } } ∷ [];
   more = refl;
-  why = (number_at ms at low, small, (record { cell = c; next = after }, inl (refl, refl), ne));
+  why = record { place = at; from = omega arith; low = low; is = refl; below = small; read = (record { cell = c; next = after }, inl (refl, refl), ne) };
   remembered = refl;
   alone = alone;
 }
@@ -192,8 +192,16 @@ missed_back n v u w ms xs at c a b x number free apart m is = record {
         ap (λ (z : View). z.looked) is ∙ ap (λ (l : Looked). record l { seen = record { number = i; word = b } ∷ l.seen }) e
         ∙ (λ k. record v.looked { seen = joined k; count = sym (ap (λ (z : View). z.looked.count) is) k })
 
-    on : (x : Missed) → IsWhy n ms u.looked m.looks x → IsWhy n ms w.looked all x
-    on (Lost j) y = (y.0, y.1, (y.2.0, inr (has_look_left j y.2.0 m.looks (record { number = i; word = a } ∷ []) y.2.1), y.2.2))
+    -- the member that was gone stands behind this one, so it is another
+    on : (x : Missed) → IsWhy n ms (at + 1) u.looked m.looks x → IsWhy n ms at w.looked all x
+    on (Lost j) y = let behind = y.from in record {
+      place = y.place;
+      from = omega (arith, behind);
+      low = y.low;
+      is = y.is;
+      below = y.below;
+      read = (y.read.0, inr ((λ e. apart y.place (omega (arith, behind)) y.low (sym e ∙ y.is)), last_seen_left j y.read.0 m.looks (record { number = i; word = a } ∷ []) y.read.1), y.read.2);
+    }
     on Spent y = (y.0, y.1, ap (λ (z : View). z.looked.count) is ∙ y.2)
 
 -- all are claimed: the firing was drawn
@@ -262,11 +270,11 @@ lost_all : (n : ℕ) (v w : View) (ms : List ℕ) (xs : List (Option ℕ)) (i : 
 lost_all n v w ms xs i free m = record {
   same = m.frame;
   claims = ap (λ (z : View). z.claims) m.frame ∙ free;
-  member = m.why.0;
-  below = m.why.1;
+  member = subst (λ (z : ℕ). HasNumber z ms) (sym m.why.is) (number_at ms m.why.place m.why.low);
+  below = m.why.below;
   looks = m.looks;
   more = m.more;
-  read = m.why.2;
+  read = m.why.read;
   remembered = m.remembered;
   alone = m.alone;
 }

@@ -11,7 +11,7 @@ use Rattle.chord_rule.specs.declared.view.Way.{Way}
 use Rattle.chord_rule.specs.Duties.{HasDuty}
 use Rattle.chord_rule.specs.Looks.{HasLook, HasSeen}
 use Rattle.chord_rule.specs.Made.{key}
-use Rattle.chord_rule.specs.Ways.{HasWay, WasRead, KnowsBag, KnowsObject}
+use Rattle.chord_rule.specs.Ways.{HasWay, WasRead, KnowsBag, KnowsObject, LastSeen}
 use Rattle.chord_bag.specs.declared.walk.Sought.{Sought}
 use Rattle.chord_bag.specs.declared.walk.Sought.TheVariants.{Found}
 use Rattle.chord_bag.specs.Reads.{with_looks, messages_and_bags}
@@ -33,6 +33,12 @@ pub has_look_left : (i : ℕ) (c : Word) (us vs : List Look) → HasLook i c us 
 has_look_left i c [] vs h = absurd h
 has_look_left i c (a ∷ us) vs (inl q) = inl q
 has_look_left i c (a ∷ us) vs (inr h) = inr (has_look_left i c us vs h)
+
+-- what a newer look read last, all read last
+pub last_seen_left : (i : ℕ) (c : Word) (us vs : List Look) → LastSeen i c us → LastSeen i c (us ++ vs)
+last_seen_left i c [] vs h = absurd h
+last_seen_left i c (a ∷ us) vs (inl q) = inl q
+last_seen_left i c (a ∷ us) vs (inr h) = inr (h.0, last_seen_left i c us vs h.1)
 
 -- a duty has its message and its bag for good
 pub duty_is_kept : (d : Duty) (ds es : List Duty) → messages_and_bags es ≡ messages_and_bags ds → HasDuty d ds → (e : Duty) × HasDuty e es × (e.message ≡ d.message) × (e.bag ≡ d.bag)

@@ -22,7 +22,7 @@ use Rattle.chord_match.specs.declared.search.Pick.TheVariants as a_pick
 use Rattle.chord_match.specs.declared.search.Step.{Step}
 use Rattle.chord_match.specs.declared.search.Step.TheVariants as a_step
 use Rattle.chord_match.specs.Seen.{bags_of, Grows, MayAllBeClaimed, AreMatched}
-use Rattle.chord_match.specs.Searching.{SaysOf, WasTold, WasToldIf, Searching, KeepsKnown, Moves, Learned, IsStuckAt, Picked, PickedFirst, IsStuck, IsGathered, Gathered}
+use Rattle.chord_match.specs.Searching.{SaysOf, WasTold, WasToldIf, Searching, KeepsKnown, Moves, Learned, pick_of, IsStuckAt, Picked, PickedFirst, IsStuck, IsGathered, Gathered}
 use Rattle.chord_match.proofs.Lists.{different_at, from_place}
 use Rattle.chord_match.proofs.Growing.{grows_refl, grows_trans, sought_grows, answered_on, seen_on, duty_on, knows_on, ready_on, member_on, key_cancels, found_ready, answered}
 
@@ -131,17 +131,11 @@ module _ (n : ℕ) where
   }
 
   module _ (v u w : View) (o : Object) (own : Own) (j : ℕ) (known known' : List (Option Sought)) where
-    -- a member was found
-    pub picked_found : (i : ℕ) (next : Option ℕ) → j ≢ own.method → Learned n u w o j known known' (Found i next) → Searching n v u o own known → Picked n v u w o own j known known' (a_pick.Take i next)
-    picked_found i next ne a t = let r = a.told v own t in record { moves = r.moves; picked = (inr (ne, r.tells.answered), record { seen = r.tells.says.0; known = r.tells.says.1; below = r.tells.below.0; next_below = r.tells.below.1 }) }
-
-    -- the bag was bare
-    pub picked_bare : j ≢ own.method → Learned n u w o j known known' Bare → Searching n v u o own known → Picked n v u w o own j known known' (a_pick.Stuck None)
-    picked_bare ne a t = let r = a.told v own t in record { moves = r.moves; picked = (ne, r.here) }
-
-    -- a message was in another hand
-    pub picked_busy : (i : ℕ) → j ≢ own.method → Learned n u w o j known known' (Busy i) → Searching n v u o own known → Picked n v u w o own j known known' (a_pick.Stuck (Some i))
-    picked_busy i ne a t = let r = a.told v own t in record { moves = r.moves; picked = (ne, r.here) }
+    -- the member is what the walk found, or there is none
+    pub picked_sought : (s : Sought) → j ≢ own.method → Learned n u w o j known known' s → Searching n v u o own known → Picked n v u w o own j known known' (pick_of s)
+    picked_sought (Found i next) ne a t = let r = a.told v own t in record { moves = r.moves; picked = (inr (ne, r.tells.answered), record { seen = r.tells.says.0; known = r.tells.says.1; below = r.tells.below.0; next_below = r.tells.below.1 }) }
+    picked_sought Bare ne a t = let r = a.told v own t in record { moves = r.moves; picked = (ne, r.here) }
+    picked_sought (Busy i) ne a t = let r = a.told v own t in record { moves = r.moves; picked = (ne, r.here) }
 
   -- the own message is picked before its bag is sought
   pub first_own : (v u : View) (o : Object) (own : Own) (j : ℕ) (known : List (Option Sought)) → j ≡ own.method → Searching n v u o own known → PickedFirst n v u u o own j known (a_pick.Take own.message own.next)
@@ -149,20 +143,13 @@ module _ (n : ℕ) where
 
   module _ (v u w : View) (o : Object) (own : Own) (j : ℕ) (known : List (Option Sought)) (e : slice_index_or known j None ≡ None) (low : j < length known) (ne : j ≢ own.method) (t : Searching n v u o own known) where
     -- the bag is sought for the first time, and no other
-    first_sought : (s : Sought) (p : Pick) → Picked n v u w o own j known (slice_set known j (Some s)) p → PickedFirst n v u w o own j known p
-    first_sought s p r = record { after = slice_set known j (Some s); long = length-set known j (Some s); others = λ q no. get_or-set_other known j q (Some s) None no; picked = r }
-
-    -- a member was found
-    pub first_found : (i : ℕ) (next : Option ℕ) → IsSought n (key o j) u w (Found i next) → PickedFirst n v u w o own j known (a_pick.Take i next)
-    first_found i next f = first_sought (Found i next) (a_pick.Take i next) (picked_found v u w o own j known (slice_set known j (Some (Found i next))) i next ne (learned_now u w o j known (Found i next) e low f) t)
-
-    -- the bag was bare
-    pub first_bare : IsSought n (key o j) u w Bare → PickedFirst n v u w o own j known (a_pick.Stuck None)
-    first_bare f = first_sought Bare (a_pick.Stuck None) (picked_bare v u w o own j known (slice_set known j (Some Bare)) ne (learned_now u w o j known Bare e low f) t)
-
-    -- a message was in another hand
-    pub first_busy : (i : ℕ) → IsSought n (key o j) u w (Busy i) → PickedFirst n v u w o own j known (a_pick.Stuck (Some i))
-    first_busy i f = first_sought (Busy i) (a_pick.Stuck (Some i)) (picked_busy v u w o own j known (slice_set known j (Some (Busy i))) i ne (learned_now u w o j known (Busy i) e low f) t)
+    pub first_sought : (s : Sought) → IsSought n (key o j) u w s → PickedFirst n v u w o own j known (pick_of s)
+    first_sought s f = record {
+      after = slice_set known j (Some s);
+      long = length-set known j (Some s);
+      others = λ q no. get_or-set_other known j q (Some s) None no;
+      picked = picked_sought v u w o own j known (slice_set known j (Some s)) s ne (learned_now u w o j known s e low f) t;
+    }
 
   -- a search that went on twice went on
   moves_trans : (v u x w : View) (o : Object) (own : Own) (a b c : List (Option Sought)) → Moves n v u x o own a b → Moves n v x w o own b c → Moves n v u w o own a c

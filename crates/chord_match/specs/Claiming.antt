@@ -5,7 +5,6 @@ use Rattle.chord_base.specs.Story.{AllBelow}
 use Rattle.chord_base.specs.declared.event.What.TheVariants.{Fired}
 use Rattle.chord_base.specs.declared.value.Object.{Object}
 use Rattle.chord_base.specs.declared.value.Value as value
-use Rattle.chord_word.specs.declared.cells.Cell.TheVariants.{Pending}
 use Rattle.chord_word.specs.declared.cells.Word.{Word}
 use Rattle.chord_rule.specs.declared.view.Claim.{Claim}
 use Rattle.chord_rule.specs.declared.view.Look.{Look}
@@ -14,12 +13,10 @@ use Rattle.chord_rule.specs.declared.view.View.{View}
 use Rattle.chord_rule.specs.Claims.{HasThe, AreClaimed}
 use Rattle.chord_rule.specs.Coming.{IsPlace}
 use Rattle.chord_rule.specs.Kinds.{entry, saw, claimed, firing_drawn}
-use Rattle.chord_rule.specs.Looks.{HasLook}
-use Rattle.chord_rule.specs.Numbers.{HasNumber}
 use Rattle.chord_rule.specs.Tells.{CameNext, IsNewClaim}
 use Rattle.chord_match.specs.declared.claiming.Missed.{Missed}
 use Rattle.chord_match.specs.declared.claiming.Missed.TheVariants.{Lost, Spent}
-use Rattle.chord_match.specs.Fires.{AreLastPending}
+use Rattle.chord_match.specs.Fires.{AreLastPending, WasGone}
 use Rattle.chord_match.specs.Seen.{AreSeen}
 
 -- the desk has claimed i, for this object and method and for no firing yet
@@ -72,10 +69,19 @@ abbrev pub missed_by : View → Missed → Looked → View
 missed_by v (Lost i) l = record v { looked = l }
 missed_by v Spent l = record v { looked = l; spent = true }
 
--- a member was read not pending, or the counter had passed the limit
-abbrev pub IsWhy : ℕ → List ℕ → Looked → List Look → Missed → Type 0
-IsWhy n ms l ls (Lost i) = HasNumber i ms × (i < n) × ((c : Word) × HasLook i c ls × (c.cell ≢ Pending))
-IsWhy n ms l ls Spent = (c : ℕ) × (n < c) × (l.count ≡ Some c)
+-- the member i stands at place `at` or behind it, and was gone at the last of these looks at it
+pub record IsGoneFrom (n : ℕ) (ms : List ℕ) (at : ℕ) (ls : List Look) (i : ℕ) : Type 0 where
+  pub place : ℕ
+  pub from : at ≤ place
+  pub low : place < length ms
+  pub is : i ≡ slice_index_or ms place 0
+  pub below : i < n
+  pub read : WasGone i ls
+
+-- a member from place `at` on was gone, or the counter had passed the limit
+abbrev pub IsWhy : ℕ → List ℕ → ℕ → Looked → List Look → Missed → Type 0
+IsWhy n ms at l ls (Lost i) = IsGoneFrom n ms at ls i
+IsWhy n ms at l ls Spent = (c : ℕ) × (n < c) × (l.count ≡ Some c)
 
 -- no member was lost
 abbrev pub IsNotLost : Missed → Type 0
@@ -92,6 +98,6 @@ pub record IsMissed (n : ℕ) (v w : View) (ms : List ℕ) (xs : List (Option �
   pub frame : w ≡ missed_by v x w.looked
   pub looks : List Look
   pub more : w.looked.seen ≡ looks ++ v.looked.seen
-  pub why : IsWhy n ms w.looked looks x
+  pub why : IsWhy n ms at w.looked looks x
   pub remembered : w.looked ≡ looked_by x v.looked looks w.looked.count
   pub alone : v.first ≡ true → v.lent ≡ 0 → AreLastPending v ms xs at → IsNotLost x

@@ -15,7 +15,6 @@ use Rattle.chord_rule.specs.declared.view.View.{View}
 use Rattle.chord_rule.specs.Coming.{IsPlace, ComesWithMessage}
 use Rattle.chord_rule.specs.Duties.{drop_duty}
 use Rattle.chord_rule.specs.Kinds.{entry}
-use Rattle.chord_rule.specs.Looks.{HasLook}
 use Rattle.chord_rule.specs.Numbers.{HasNumber}
 use Rattle.chord_rule.specs.Tells.{CameNext}
 use Rattle.chord_rule.specs.Ways.{LastSeen}
@@ -28,7 +27,11 @@ use Rattle.chord_match.specs.declared.handing.Firing.TheVariants.{Fired, Lost, S
 abbrev pub AreLastPending : View → List ℕ → List (Option ℕ) → ℕ → Type 0
 AreLastPending v ms xs at = (q : ℕ) → at ≤ q → q < length ms → LastSeen (slice_index_or ms q 0) (record { cell = Pending; next = slice_index_or xs q None }) v.looked.seen
 
--- the member i was lost: the exchange on it read a cell that is not pending, and all claims were given back
+-- the last of these looks at the cell i read it not pending
+abbrev pub WasGone : ℕ → List Look → Type 0
+WasGone i ls = (c : Word) × LastSeen i c ls × (c.cell ≢ Pending)
+
+-- the member i was lost: when the desk last looked at it, it was not pending, and all claims were given back
 pub record IsLost (n : ℕ) (v w : View) (ms : List ℕ) (xs : List (Option ℕ)) (i : ℕ) : Type 0 where
   -- the desk is as before but for what it read and wrote
   pub same : w ≡ record v { looked = w.looked }
@@ -37,7 +40,8 @@ pub record IsLost (n : ℕ) (v w : View) (ms : List ℕ) (xs : List (Option ℕ)
   pub below : i < n
   pub looks : List Look
   pub more : w.looked.seen ≡ looks ++ v.looked.seen
-  pub read : (c : Word) × HasLook i c looks × (c.cell ≢ Pending)
+  -- to give a claim back writes the cell pending, so what was read is no claim of the desk's own
+  pub read : WasGone i looks
   -- of what it remembers only these looks at cells are new: the ways, which tell it in what bags the members are, are those before
   pub remembered : w.looked ≡ record v.looked { seen = looks ++ v.looked.seen }
   -- on a first desk alone no member is lost that it last read or wrote pending

@@ -69,6 +69,12 @@ pub record MovesTo (n : ℕ) (v u w : View) (o : Object) (own : Own) (j : ℕ) (
 pub record Learned (n : ℕ) (u w : View) (o : Object) (j : ℕ) (known known' : List (Option Sought)) (s : Sought) : Type 0 where
   pub told : (v : View) (own : Own) → Searching n v u o own known → MovesTo n v u w o own j known known' s
 
+-- what a walk came to, as a pick
+abbrev pub pick_of : Sought → Pick
+pick_of (Found i next) = a_pick.Take i next
+pick_of Bare = a_pick.Stuck None
+pick_of (Busy i) = a_pick.Stuck (Some i)
+
 -- there is no member for the method j: its bag was bare, or a message was in another hand
 abbrev pub IsStuckAt : Own → ℕ → List (Option Sought) → Option ℕ → Type 0
 IsStuckAt own j known None = (j ≢ own.method) × (slice_index_or known j None ≡ Some Bare)
@@ -121,7 +127,7 @@ abbrev pub IsVerdict : ℕ → View → View → Object → Own → List (List �
 IsVerdict n v w o own jss known ms xs (a_verdict.Match k) = (js : List ℕ) × (slice_get jss k ≡ Some js) × (has own.method js ≡ true) × AreMatched v w o own.message own.method own.next js ms xs × MayAllBeClaimed n w o js ms xs
 IsVerdict n v w o own jss known ms xs (a_verdict.Without b) = AreStuck own jss (length jss) known b
 
--- the search went through all chords, or up to the first that has its members
+-- the search of the chords came to this verdict, and this is known of the bags
 pub record IsThrough (n : ℕ) (v w : View) (o : Object) (own : Own) (jss : List (List ℕ)) (known' : List (Option Sought)) (ms : List ℕ) (xs : List (Option ℕ)) (t : Verdict) : Type 0 where
   pub stands : Searching n v w o own known'
   pub verdict : IsVerdict n v w o own jss known' ms xs t

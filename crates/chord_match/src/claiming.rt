@@ -15,7 +15,7 @@ use chord_space::{Desk, Space};
 /// Why nothing was fired.
 #[derive(Drop)]
 pub enum Missed {
-    /// The exchange on this member read a cell that is not pending.
+    /// This member was not pending when the desk last looked at it.
     Lost(u32),
     /// The counter had reached the limit on events.
     Spent,

@@ -5,12 +5,12 @@
 //! Not here: who calls them, and what is done with a firing.
 #![tactic(auto)]
 
-mod alone;
 mod claiming;
 mod handing;
 pub mod nexts;
 mod notes;
 mod search;
+mod unnoted;
 
 pub use claiming::Missed;
 pub use handing::{Firing, Receive, fire, fire_to};

@@ -12,11 +12,11 @@ ghost use Rattle.chord_space.specs.Desks.{view, heads, space_code, program_of, I
 ghost use Rattle.chord_word.specs.declared.cells.Cell.TheVariants.{Pending};
 ghost use Rattle.chord_match.specs.Findings.{IsFinding};
 ghost use Rattle.chord_match.specs.Noting.{all_told};
-ghost use Rattle.chord_match.specs.Searching.{Searching, Learned, Picked, Gathered, IsThrough, firstly};
+ghost use Rattle.chord_match.specs.Searching.{Searching, Learned, Picked, Gathered, IsThrough, firstly, pick_of};
 
-use crate::alone::gather_one;
 use crate::nexts::Nexts;
 use crate::notes::Note;
+use crate::unnoted::gather_one;
 use chord_bag::{Sought, seek};
 use chord_base::members::Members;
 use chord_base::value::Object;
@@ -54,6 +54,20 @@ pub struct Own {
 pub(crate) enum Pick {
     Take(u32, Option<u32>),
     Stuck(Option<u32>),
+}
+
+impl Pick {
+    /// The member that a walk found, or why it found none.
+    #[inline(always)]
+    pub(crate) fn of(sought: Sought) -> Pick
+        ensures { result ≡ pick_of sought }
+    {
+        match sought {
+            Sought::Found(i, next) => Pick::Take(i, next),
+            Sought::Bare => Pick::Stuck(None),
+            Sought::Busy(i) => Pick::Stuck(Some(i)),
+        }
+    }
 }
 
 /// Whether there is a member for each method, or why not.
@@ -111,15 +125,11 @@ fn pick_member<P: Carry>(
     if method == own.method {
         Pick::Take(own.message, own.next)
     } else {
-        match ask(space, desk, object, method, known) {
-            Sought::Found(i, next) => Pick::Take(i, next),
-            Sought::Bare => Pick::Stuck(None),
-            Sought::Busy(i) => Pick::Stuck(Some(i)),
-        }
+        Pick::of(ask(space, desk, object, method, known))
     }
 }
 
-// A member for each of these methods, up to the first that has none.
+// A member for each of these methods, or why one of them has none.
 fn gather<P: Carry>(
     space: &Space<P>,
     desk: &mut Desk<P>,
@@ -184,8 +194,8 @@ fn line_behind(lines: &[ChordLine], at: usize, second: usize, method: u8) -> usi
     }
 }
 
-// The first of several chords with the message that has its members, and these. The first two of the chords were found before, so
-// that no line is looked at twice.
+// A chord with the message, of several, that has its members, and these; or why there is none. The first two of the chords were
+// found before, so that their lines need not be looked for again.
 fn through_several<P: Carry>(
     space: &Space<P>,
     desk: &mut Desk<P>,
@@ -224,9 +234,9 @@ fn through_several<P: Carry>(
     Verdict::Without(busy)
 }
 
-// The first chord with the message that has its members, and these; the caller's place is filled, since to give them back they would
-// be moved from function to function. Where one chord alone has the method, as most often, nothing is noted. The places are
-// empty: `find` sees to that first of all, where a caller has as a rule just made them.
+// A chord with the message that has its members, and these, or why there is none; the caller's place is filled, since to give them
+// back they would be moved from function to function. Where one chord alone has the method, as most often, nothing is noted. The
+// places are empty: `find` sees to that first of all, where a caller has as a rule just made them.
 fn through<P: Carry>(
     space: &Space<P>,
     desk: &mut Desk<P>,
@@ -261,9 +271,10 @@ fn through<P: Carry>(
 }
 
 /// Looks for a chord with message m, to this method of this object, on which the desk has a duty: looks at m, and then seeks
-/// the bags of the other methods of each chord with m's method, none of them twice. `Match` goes before `Busy`, and `Busy` before
-/// `Left`. The duty is laid down with `Left` and `Taken` alone. On a first desk that has lent none and has nothing in hand it is
-/// never Busy. On a desk without a claim, what was read claimed is claimed by another.
+/// bags of the other methods of the chords with m's method, none of them twice. `Match` goes before `Busy`, and `Busy` before
+/// `Left`. The duty is laid down with `Left` and `Taken` alone. On a first desk that has lent none and has no claim and nothing in
+/// flight it is never Busy. Who has what was read claimed is not said here: where this desk has no claim, the rule says that
+/// another one has.
 ///
 /// The members of a match and their nexts are put into the caller's places, whatever stood there; else what stands there says nothing.
 ///

@@ -1,5 +1,7 @@
 -- The rule on modifiers by what was seen before one.
-use Rattle.std.proofs.Common.{◌≡◌, List, [], ◌∷◌, ◌++◌, Bool, true, false, ◌||◌, refl, sym, ap, ◌∙◌}
+use Rattle.std.proofs.Common.{◌≡◌, List, [], ◌∷◌, ◌++◌, Bool, ◌||◌, refl, sym, ap, ◌∙◌}
+use Rattle.std.proofs.Math.Bool.{or-false, or-true}
+use Rattle.std.proofs.lemmas.List.Recursion.{or_push}
 use Rattle.chord_tree.specs.declared.classes.ModifierKeyword.{ModifierKeyword}
 use Rattle.chord_tree.specs.declared.classes.ModifierKeyword.TheVariants as modifiers
 use Rattle.chord_tree.specs.declared.classes.Modifier.{Modifier}
@@ -14,34 +16,18 @@ use Rattle.chord_rules.specs.Bearers.{barred_by, seen_with, barred_from}
 abbrev seen_of : List Modifier → Seen
 seen_of before = record { access = has_word is_access before; of_static = has_word static_word before; of_virtual = has_word is_virtual_word before }
 
--- an `or` whose second part is `true` is true
-or_true : (b : Bool) → (b || true) ≡ true
-or_true true = refl
-or_true false = refl
-
--- an `or` whose second part is `false` is its first part
-or_false : (b : Bool) → (b || false) ≡ b
-or_false true = refl
-or_false false = refl
-
--- an `or` whose second part is an `or` is that of the first two parts and the third
-or_next : (a b c d : Bool) → b ≡ (c || d) → (a || b) ≡ ((a || c) || d)
-or_next true b c d h = refl
-or_next false b c d h = h
-
 -- a word among modifiers and one more
 has_more : (word : ModifierKeyword → Bool) (before : List Modifier) (m : Modifier) → has_word word (before ++ (m ∷ [])) ≡ (has_word word before || word m.keyword)
-has_more word [] m = or_false (word m.keyword)
-has_more word (x ∷ xs) m = or_next (word x.keyword) (has_word word (xs ++ (m ∷ []))) (has_word word xs) (word m.keyword) (has_more word xs m)
+has_more word before m = or_push (has_word word) (λ (x : Modifier). word x.keyword) refl (λ x xs. refl) before m
 
 -- what was seen after one more modifier is, for each kind, what was seen before it or that it is of that kind
 seen_by : (k : ModifierKeyword) (a s v : Bool) → ◌≡◌ {A = Seen} (record { access = a || is_access k; of_static = s || static_word k; of_virtual = v || is_virtual_word k }) (seen_with (record { access = a; of_static = s; of_virtual = v }) k)
-seen_by modifiers.Public a s v = rw (or_true a, or_false s, or_false v) refl
-seen_by modifiers.Protected a s v = rw (or_true a, or_false s, or_false v) refl
-seen_by modifiers.Private a s v = rw (or_true a, or_false s, or_false v) refl
-seen_by modifiers.Static a s v = rw (or_false a, or_true s, or_false v) refl
-seen_by modifiers.Virtual a s v = rw (or_false a, or_false s, or_true v) refl
-seen_by modifiers.Override a s v = rw (or_false a, or_false s, or_true v) refl
+seen_by modifiers.Public a s v = rw (or-true a, or-false s, or-false v) refl
+seen_by modifiers.Protected a s v = rw (or-true a, or-false s, or-false v) refl
+seen_by modifiers.Private a s v = rw (or-true a, or-false s, or-false v) refl
+seen_by modifiers.Static a s v = rw (or-false a, or-true s, or-false v) refl
+seen_by modifiers.Virtual a s v = rw (or-false a, or-false s, or-true v) refl
+seen_by modifiers.Override a s v = rw (or-false a, or-false s, or-true v) refl
 
 -- what is seen of modifiers and one more is what was seen of them and that one
 seen_more : (before : List Modifier) (m : Modifier) → seen_of (before ++ (m ∷ [])) ≡ seen_with (seen_of before) m.keyword

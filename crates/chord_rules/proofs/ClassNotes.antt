@@ -8,7 +8,7 @@ use Rattle.chord_classes.specs.Plan.{base_chords, overridden, class_plan, plans_
 use Rattle.chord_classes.specs.ChordRules.{header_tokens, new_headers, chord_tokens, over_plans}
 use Rattle.chord_classes.specs.DeclarationRules.{overriding}
 use Rattle.chord_classes.specs.Least.{least, keys}
-use Rattle.chord_classes.proofs.Leasts.{noted_four, least_append}
+use Rattle.chord_classes.proofs.Leasts.{noted_four}
 use Rattle.chord_rules.specs.Splits.{split_from, split}
 use Rattle.chord_rules.specs.ClassKeys.{keys_of_member, header_keys, chord_places, name_keys, place_keys, method_limits, inner_keys, class_keys}
 
@@ -41,15 +41,14 @@ class_noted classes done plans others class base owner members o p q r s b n m e
     ∙ ap (λ z. least q (keys 4 (drop (16 - length (inherited done z)) (header_tokens (new_headers (length done) (inherited done z) (headers_of class)))))) b)
     (hs ∙ ap (λ z. least r (inner_keys done z class)) e)
 
--- a class, and then those after it
-pub next_class : (rule : List Shape → List ClassOf → ClassTree → List ℕ) (done table : List Shape) (plans after : List ClassOf) (number next : ℕ) (class : ClassTree) (rest : List ClassTree) (o p : Option ℕ)
+-- a class that breaks no rule, and then those after it
+pub next_class : (rule : List Shape → List ClassOf → ClassTree → List ℕ) (done table : List Shape) (plans after : List ClassOf) (number next : ℕ) (class : ClassTree) (rest : List ClassTree)
     → table ≡ done ++ (shape_of done class ∷ []) → after ≡ plans ++ (class_plan done plans number class ∷ []) → next ≡ number + length class.members
-    → p ≡ least o (rule done plans class) → least o (over_plans rule done plans number (class ∷ rest)) ≡ least p (over_plans rule table after next rest)
-next_class rule done table plans after number next class rest o p t a n h =
-    least_append o (rule done plans class) (over_plans rule (done ++ (shape_of done class ∷ [])) (plans ++ (class_plan done plans number class ∷ [])) (number + length class.members) rest)
-    ∙ ap (λ z. least z (over_plans rule (done ++ (shape_of done class ∷ [])) (plans ++ (class_plan done plans number class ∷ [])) (number + length class.members) rest)) (sym h)
-    ∙ ap (λ z. least p (over_plans rule z (plans ++ (class_plan done plans number class ∷ [])) (number + length class.members) rest)) (sym t)
-    ∙ ap (λ z. least p (over_plans rule table z (number + length class.members) rest)) (sym a) ∙ ap (λ z. least p (over_plans rule table after z rest)) (sym n)
+    → rule done plans class ≡ [] → over_plans rule done plans number (class ∷ rest) ≡ over_plans rule table after next rest
+next_class rule done table plans after number next class rest t a n h =
+    ap (λ z. z ++ over_plans rule (done ++ (shape_of done class ∷ [])) (plans ++ (class_plan done plans number class ∷ [])) (number + length class.members) rest) h
+    ∙ ap (λ z. over_plans rule z (plans ++ (class_plan done plans number class ∷ [])) (number + length class.members) rest) (sym t)
+    ∙ ap (λ z. over_plans rule table z (number + length class.members) rest) (sym a) ∙ ap (λ z. over_plans rule table after z rest) (sym n)
 
 -- the plan of a class, and then those after it
 pub next_plans : (done table : List Shape) (plans after : List ClassOf) (number next : ℕ) (class : ClassTree) (rest : List ClassTree)

@@ -1,7 +1,7 @@
 -- Groups that are split, one overriding header after the other.
-use Rattle.std.proofs.Common.{◌≡◌, ℕ, zero, suc, ◌+◌, ◌<◌, List, [], ◌∷◌, ◌++◌, Bool, true, false, not, ◌&&◌, ◌||◌, ◌⊎◌, inl, inr, nat_eq, length, refl, sym, ap, subst, ◌∙◌, append_assoc, arith}
+use Rattle.std.proofs.Common.{◌≡◌, ℕ, zero, suc, ◌+◌, ◌<◌, List, [], ◌∷◌, ◌++◌, Bool, true, false, not, ◌&&◌, ◌⊎◌, inl, inr, nat_eq, length, refl, sym, ap, subst, ◌∙◌, append_assoc, arith}
 use Rattle.std.specs.Prelude.{Contains}
-use Rattle.std.proofs.lemmas.Bool.{eqb-true, eq-eqb, false≢true}
+use Rattle.std.proofs.lemmas.Bool.{eqb-true, eq-eqb, false≢true, or_cases, or_left, or_right, and_parts, and_from, not-true, not_from_false, false_from_ne_true}
 use Rattle.std.proofs.lemmas.List.{append-nil}
 use Rattle.std.proofs.lemmas.List.Elements.{Contains-append_left, Contains-append_right, Contains-append_cases}
 use Rattle.chord_tree.specs.Tree.{HeaderTree, ClassTree}
@@ -15,43 +15,6 @@ use Rattle.chord_classes.specs.ChordRules.{over_plans}
 use Rattle.chord_rules.specs.Groups.{label}
 use Rattle.chord_rules.specs.Splits.{any_spared, any_labelled, split_from, split, SplitsAreListed}
 use Rattle.chord_rules.proofs.Grouping.{label_grouped, grouped_label}
-
--- one part of an `or` that is true is true
-or_is : (b c : Bool) → (b || c) ≡ true → (b ≡ true) ⊎ (c ≡ true)
-or_is true c h = inl refl
-or_is false c h = inr h
-
--- an `or` whose first part is true is true
-or_left : (b c : Bool) → b ≡ true → (b || c) ≡ true
-or_left b c h = ap (λ z. z || c) h
-
--- an `or` whose second part is true is true
-or_right : (b c : Bool) → c ≡ true → (b || c) ≡ true
-or_right true c h = refl
-or_right false c h = h
-
--- both parts of an `and` that is true are true
-and_is : (b c : Bool) → (b && c) ≡ true → (b ≡ true) × (c ≡ true)
-and_is true c h = (refl, h)
-and_is false c h = absurd (false≢true h)
-
--- an `and` of two parts that are true is true
-and_of : (b c : Bool) → b ≡ true → c ≡ true → (b && c) ≡ true
-and_of b c h k = rw (h, k) refl
-
--- a condition whose negation is true is false
-not_is : (b : Bool) → not b ≡ true → b ≡ false
-not_is false h = refl
-not_is true h = absurd (false≢true h)
-
--- the negation of a condition that is false is true
-is_not : (b : Bool) → b ≡ false → not b ≡ true
-is_not b h = ap not h
-
--- a condition that is not true is false
-false_of : (b : Bool) → (b ≡ true → ⊥) → b ≡ false
-false_of true f = absurd (f refl)
-false_of false f = refl
 
 -- where a token is noted by a condition, the condition is true and the token is its own
 in_when : (b : Bool) (x at : ℕ) → Contains (when b x) at → (b ≡ true) × (x ≡ at)
@@ -67,8 +30,8 @@ module _ (chords : List ChordOf) (taken : List ℕ) (methods : List Method) wher
   -- where one of the first n methods has this label and is not overridden, one of them is of this group and is not
   spared_at : (i n : ℕ) → any_spared chords taken methods i n ≡ true → (m : ℕ) × (m < n) × Grouped chords i m × (among m taken ≡ false)
   spared_at i zero h = absurd (false≢true h)
-  spared_at i (suc n) h = elim (or_is (nat_eq (label chords i) (label chords n) && not (among n taken)) (any_spared chords taken methods i n) h) [
-    | inl a ↦ (let p = and_is (nat_eq (label chords i) (label chords n)) (not (among n taken)) a in (n, omega arith, label_grouped chords i n (eqb-true _ _ p.0), not_is (among n taken) p.1))
+  spared_at i (suc n) h = elim (or_cases (nat_eq (label chords i) (label chords n) && not (among n taken)) (any_spared chords taken methods i n) h) [
+    | inl a ↦ (let p = and_parts (nat_eq (label chords i) (label chords n)) (not (among n taken)) a in (n, omega arith, label_grouped chords i n (eqb-true _ _ p.0), not-true (among n taken) p.1))
     | inr b ↦ (let r = spared_at i n b in let l = r.1 in (r.0, omega arith, r.2, r.3))
   ]
 
@@ -77,7 +40,7 @@ module _ (chords : List ChordOf) (taken : List ℕ) (methods : List Method) wher
   at_spared i zero m l g f = absurd (omega arith)
   at_spared i (suc n) m l g f = elim (below m n l) [
     | inl e ↦ or_left (nat_eq (label chords i) (label chords n) && not (among n taken)) _
-        (and_of _ _ (eq-eqb _ _ (grouped_label g ∙ ap (label chords) e)) (is_not (among n taken) (sym (ap (λ z. among z taken) e) ∙ f)))
+        (and_from _ _ (eq-eqb _ _ (grouped_label g ∙ ap (label chords) e)) (not_from_false (among n taken) (sym (ap (λ z. among z taken) e) ∙ f)))
     | inr k ↦ or_right (nat_eq (label chords i) (label chords n) && not (among n taken)) _ (at_spared i n m k g f)
   ]
     where
@@ -90,7 +53,7 @@ module _ (chords : List ChordOf) (taken : List ℕ) (methods : List Method) wher
   -- where one of these headers has the label of this one, one of them is of its group
   labelled_at : (h : HeaderTree) (hs : List HeaderTree) → any_labelled chords taken methods h hs ≡ true → (other : HeaderTree) × IsAmong other hs × Grouped chords (header_number methods h) (header_number methods other)
   labelled_at h [] t = absurd (false≢true t)
-  labelled_at h (x ∷ xs) t = elim (or_is (nat_eq (label chords (header_number methods h)) (label chords (header_number methods x))) (any_labelled chords taken methods h xs) t) [
+  labelled_at h (x ∷ xs) t = elim (or_cases (nat_eq (label chords (header_number methods h)) (label chords (header_number methods x))) (any_labelled chords taken methods h xs) t) [
     | inl a ↦ (x, inl refl, label_grouped chords (header_number methods h) (header_number methods x) (eqb-true _ _ a))
     | inr b ↦ (let r = labelled_at h xs b in (r.0, inr r.1, r.2))
   ]
@@ -121,8 +84,8 @@ module _ (chords : List ChordOf) (taken : List ℕ) (methods : List Method) wher
   of_list before (h ∷ hs) at c = elim (Contains-append_cases (when (not (any_labelled chords taken methods h before) && any_spared chords taken methods (header_number methods h) (length methods)) h.name.at) (split_from chords taken methods (before ++ (h ∷ [])) hs) at c) [
     | inl a ↦ (
         let w = in_when (not (any_labelled chords taken methods h before) && any_spared chords taken methods (header_number methods h) (length methods)) h.name.at at a in
-        let p = and_is (not (any_labelled chords taken methods h before)) (any_spared chords taken methods (header_number methods h) (length methods)) w.0 in
-        record { ahead = []; header = h; rest = hs; are = refl; token = w.1; alone = ap (any_labelled chords taken methods h) (append-nil before) ∙ not_is _ p.0; some = p.1 })
+        let p = and_parts (not (any_labelled chords taken methods h before)) (any_spared chords taken methods (header_number methods h) (length methods)) w.0 in
+        record { ahead = []; header = h; rest = hs; are = refl; token = w.1; alone = ap (any_labelled chords taken methods h) (append-nil before) ∙ not-true _ p.0; some = p.1 })
     | inr b ↦ (
         let r = of_list (before ++ (h ∷ [])) hs at b in
         record { ahead = h ∷ r.ahead; header = r.header; rest = r.rest; are = ap (λ z. h ∷ z) r.are; token = r.token; alone = ap (any_labelled chords taken methods r.header) (sym (append_assoc before (h ∷ []) r.ahead)) ∙ r.alone; some = r.some })
@@ -133,7 +96,7 @@ module _ (chords : List ChordOf) (taken : List ℕ) (methods : List Method) wher
       → any_spared chords taken methods (header_number methods h) (length methods) ≡ true → Contains (split_from chords taken methods before (ahead ++ (h ∷ rest))) at
   to_list before [] h rest at t a s =
       Contains-append_left (when (not (any_labelled chords taken methods h before) && any_spared chords taken methods (header_number methods h) (length methods)) h.name.at) (split_from chords taken methods (before ++ (h ∷ [])) rest) at
-      (when_in _ h.name.at at (and_of (not (any_labelled chords taken methods h before)) (any_spared chords taken methods (header_number methods h) (length methods)) (is_not _ (ap (any_labelled chords taken methods h) (sym (append-nil before)) ∙ a)) s) t)
+      (when_in _ h.name.at at (and_from (not (any_labelled chords taken methods h before)) (any_spared chords taken methods (header_number methods h) (length methods)) (not_from_false _ (ap (any_labelled chords taken methods h) (sym (append-nil before)) ∙ a)) s) t)
   to_list before (x ∷ xs) h rest at t a s =
       Contains-append_right (when (not (any_labelled chords taken methods x before) && any_spared chords taken methods (header_number methods x) (length methods)) x.name.at) (split_from chords taken methods (before ++ (x ∷ [])) (xs ++ (h ∷ rest))) at
       (to_list (before ++ (x ∷ [])) xs h rest at t (ap (any_labelled chords taken methods h) (append_assoc before (x ∷ []) xs) ∙ a) s)
@@ -167,7 +130,7 @@ split_listed done plans class at s =
     let taken = overridden methods (headers_of class) in
     subst (λ z. Contains (split_from chords taken methods [] z) at) (sym s.are)
     (to_list chords taken methods [] s.before s.header s.rest at s.token
-    (false_of (any_labelled chords taken methods s.header s.before) (λ t. (let r = labelled_at chords taken methods s.header s.before t in s.first r.0 r.1 r.2)))
+    (false_from_ne_true (any_labelled chords taken methods s.header s.before) (λ t. (let r = labelled_at chords taken methods s.header s.before t in s.first r.0 r.1 r.2)))
     (at_spared chords taken methods (header_number methods s.header) (length methods) s.missing s.within s.grouped s.spared))
 
 -- each token that is listed over classes is one at which a class among them overrides a group in part

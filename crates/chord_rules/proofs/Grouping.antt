@@ -1,38 +1,15 @@
 -- Two methods have one label exactly where they are linked directly or through others.
-use Rattle.std.proofs.Common.{◌≡◌, ℕ, List, [], ◌∷◌, Bool, true, false, cond, map, nat_eq, ◌||◌, ◌⊎◌, inl, inr, refl, sym, ap, subst, ◌∙◌}
-use Rattle.std.proofs.lemmas.Bool.{eqb-true, eq-eqb, false≢true}
+use Rattle.std.proofs.Common.{◌≡◌, ℕ, List, [], ◌∷◌, true, false, cond, map, nat_eq, inl, inr, refl, sym, ap, subst, ◌∙◌}
+use Rattle.std.proofs.lemmas.Bool.{eqb-true, eq-eqb, false≢true, both_ways, cases_Bool, or_cases, or_left, or_right}
 use Rattle.chord_bodies.specs.Resolved.{ChordOf}
 use Rattle.chord_classes.specs.Table.{among}
 use Rattle.chord_classes.specs.DeclarationRules.{Linked, here, later, Grouped, itself, through}
 use Rattle.chord_rules.specs.Groups.{label, merged, LabelsGroup}
 
--- a condition is true or false
-bool_is : (b : Bool) → (b ≡ true) ⊎ (b ≡ false)
-bool_is true = inl refl
-bool_is false = inr refl
-
--- no condition is both true and false
-not_both : {b : Bool} → b ≡ true → b ≡ false → ⊥
-not_both t f = false≢true (sym f ∙ t)
-
--- an `or` whose first part is true is true
-or_left : (b c : Bool) → b ≡ true → (b || c) ≡ true
-or_left b c h = ap (λ z. z || c) h
-
--- an `or` whose second part is true is true
-or_right : (b c : Bool) → c ≡ true → (b || c) ≡ true
-or_right true c h = refl
-or_right false c h = h
-
--- one part of an `or` that is true is true
-or_is : (b c : Bool) → (b || c) ≡ true → (b ≡ true) ⊎ (c ≡ true)
-or_is true c h = inl refl
-or_is false c h = inr h
-
 -- a label among the labels of a chord is one of them
 among_map : (f : ℕ → ℕ) (v : ℕ) (k : List ℕ) → among v (map f k) ≡ true → (x : ℕ) × (among x k ≡ true) × (v ≡ f x)
 among_map f v [] h = absurd (false≢true h)
-among_map f v (y ∷ ys) h = elim (or_is (nat_eq v (f y)) (among v (map f ys)) h) [
+among_map f v (y ∷ ys) h = elim (or_cases (nat_eq v (f y)) (among v (map f ys)) h) [
   | inl e ↦ (y, or_left (nat_eq y y) (among y ys) (eq-eqb y y refl), eqb-true v (f y) e)
   | inr m ↦ let r = among_map f v ys m in (r.0, or_right (nat_eq r.0 y) (among r.0 ys) r.1, r.2)
 ]
@@ -40,7 +17,7 @@ among_map f v (y ∷ ys) h = elim (or_is (nat_eq v (f y)) (among v (map f ys)) h
 -- what a function makes of one of some numbers is among what it makes of all of them
 map_among : (f : ℕ → ℕ) (x : ℕ) (k : List ℕ) → among x k ≡ true → among (f x) (map f k) ≡ true
 map_among f x [] h = absurd (false≢true h)
-map_among f x (y ∷ ys) h = elim (or_is (nat_eq x y) (among x ys) h) [
+map_among f x (y ∷ ys) h = elim (or_cases (nat_eq x y) (among x ys) h) [
   | inl e ↦ or_left (nat_eq (f x) (f y)) (among (f x) (map f ys)) (eq-eqb (f x) (f y) (ap f (eqb-true x y e)))
   | inr m ↦ or_right (nat_eq (f x) (f y)) (among (f x) (map f ys)) (map_among f x ys m)
 ]
@@ -102,13 +79,13 @@ label_step : (k : ChordOf) (h : ℕ) (t : List ℕ) (ks : List ChordOf) → k.me
 label_step k h t ks is ih i j e =
     let f = label ks in
     let self : among (f h) (map f (h ∷ t)) ≡ true = or_left (nat_eq (f h) (f h)) (among (f h) (map f t)) (eq-eqb (f h) (f h) refl) in
-    elim (bool_is (among (f i) (map f (h ∷ t)))) [
-      | inl a ↦ elim (bool_is (among (f j) (map f (h ∷ t)))) [
+    elim (cases_Bool (among (f i) (map f (h ∷ t)))) [
+      | inl a ↦ elim (cases_Bool (among (f j) (map f (h ∷ t)))) [
         | inl b ↦ joined k ks ih i j (ap (λ z. among (f i) (map f z)) is ∙ a) (ap (λ z. among (f j) (map f z)) is ∙ b)
-        | inr b ↦ absurd (not_both (subst (λ z. among z (map f (h ∷ t)) ≡ true) (sym (merged_in h t f (f i) a) ∙ e ∙ merged_out h t f (f j) b) self) b)
+        | inr b ↦ absurd (both_ways _ b (subst (λ z. among z (map f (h ∷ t)) ≡ true) (sym (merged_in h t f (f i) a) ∙ e ∙ merged_out h t f (f j) b) self))
       ]
-      | inr a ↦ elim (bool_is (among (f j) (map f (h ∷ t)))) [
-        | inl b ↦ absurd (not_both (subst (λ z. among z (map f (h ∷ t)) ≡ true) (sym (merged_in h t f (f j) b) ∙ sym e ∙ merged_out h t f (f i) a) self) a)
+      | inr a ↦ elim (cases_Bool (among (f j) (map f (h ∷ t)))) [
+        | inl b ↦ absurd (both_ways _ a (subst (λ z. among z (map f (h ∷ t)) ≡ true) (sym (merged_in h t f (f j) b) ∙ sym e ∙ merged_out h t f (f i) a) self))
         | inr b ↦ wider (ih i j (sym (merged_out h t f (f i) a) ∙ e ∙ merged_out h t f (f j) b))
       ]
     ]

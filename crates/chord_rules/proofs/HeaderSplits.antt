@@ -1,7 +1,10 @@
 -- The rule on groups, header by header: by the labels that were seen, and by the headers before.
-use Rattle.std.proofs.Common.{◌≡◌, ℕ, zero, suc, ◌+◌, ◌<◌, ◌≤◌, List, [], ◌∷◌, ◌++◌, Bool, true, false, cond, not, ◌&&◌, ◌||◌, nat_eq, length, slice_index, refl, sym, ap, ◌∙◌, arith, Option, Some, None, is_some, bytes_eq}
+use Rattle.std.proofs.Common.{◌≡◌, ℕ, zero, suc, ◌+◌, ◌<◌, ◌≤◌, List, [], ◌∷◌, ◌++◌, Bool, true, false, cond, not, ◌&&◌, ◌||◌, nat_eq, length, slice_index, refl, sym, ap, ◌∙◌, append_assoc, arith, Option, Some, None, is_some, bytes_eq}
 use Rattle.std.specs.Prelude.{option_map, unwrap_or}
-use Rattle.std.proofs.lemmas.Bool.{false≢true, eq-eqb, eqb-true}
+use Rattle.std.proofs.Math.Bool.{or-false, or-true}
+use Rattle.std.proofs.lemmas.Bool.{eqb-true}
+use Rattle.std.proofs.lemmas.Cmp.{nat_eq_equiv}
+use Rattle.std.proofs.lemmas.List.Recursion.{or_push}
 use Rattle.chord_tree.specs.Tree.{HeaderTree}
 use Rattle.chord_bodies.specs.Resolved.{ChordOf}
 use Rattle.chord_classes.specs.Table.{Method, Found, method_from, method_named, among}
@@ -13,7 +16,7 @@ use Rattle.chord_classes.proofs.Facts.{none_some, same_some}
 use Rattle.chord_rules.specs.Groups.{label}
 use Rattle.chord_rules.specs.Labels.{labels_of}
 use Rattle.chord_rules.specs.Splits.{any_spared, any_labelled, split_from}
-use Rattle.chord_rules.specs.SplitHeaders.{spared_below, with_label, seen_with_number, splits_at, splits_from}
+use Rattle.chord_rules.specs.SplitHeaders.{overridden_number, spared_below, with_label, seen_with_number, splits_at, splits_from}
 use Rattle.chord_rules.proofs.Labels.{label_of}
 
 -- the number of a method that is found is below the number of methods
@@ -25,30 +28,9 @@ number_within j (m ∷ ms) x f h = by_same (bytes_eq m.name x) h (λ e. number_w
     by_same true e more = let same : j ≡ f.number = ap (λ (z : Found). z.number) (same_some e) in omega (arith, same)
     by_same false e more = let less = more e in omega (arith, less)
 
--- whether two numbers are equal does not depend on their order
-turned : (m n : ℕ) → nat_eq m n ≡ nat_eq n m
-turned m n = by_same (nat_eq m n) (nat_eq n m) refl refl
-  where
-    by_same : (b d : Bool) → nat_eq m n ≡ b → nat_eq n m ≡ d → nat_eq m n ≡ nat_eq n m
-    by_same true true e f = e ∙ sym f
-    by_same false false e f = e ∙ sym f
-    by_same true false e f = absurd (false≢true (sym f ∙ eq-eqb n m (sym (eqb-true m n e))))
-    by_same false true e f = absurd (false≢true (sym e ∙ eq-eqb m n (sym (eqb-true n m f))))
-
--- an `or` whose second part is `false` is its first part
-or_none : (b : Bool) → (b || false) ≡ b
-or_none true = refl
-or_none false = refl
-
--- an `or` whose second part is an `or` is that of the first two parts and the third
-or_join : (a b c d : Bool) → b ≡ (c || d) → (a || b) ≡ ((a || c) || d)
-or_join true b c d h = refl
-or_join false b c d h = h
-
 -- a number is among numbers and one more exactly if it is among them or is that one
 among_end : (v : ℕ) (xs : List ℕ) (x : ℕ) → among v (xs ++ (x ∷ [])) ≡ (among v xs || nat_eq v x)
-among_end v [] x = or_none (nat_eq v x)
-among_end v (y ∷ ys) x = or_join (nat_eq v y) (among v (ys ++ (x ∷ []))) (among v ys) (nat_eq v x) (among_end v ys x)
+among_end v xs x = or_push (among v) (nat_eq v) refl (λ y ys. refl) xs x
 
 module _ (chords : List ChordOf) (taken : List ℕ) (methods : List Method) (count : ℕ) where
   -- a label as it is kept
@@ -61,7 +43,7 @@ module _ (chords : List ChordOf) (taken : List ℕ) (methods : List Method) (cou
   spared_same (suc n) i l m =
       ap (λ z. (nat_eq (kept n) z && not (among n taken)) || spared_below kept taken (kept i) n) (label_of count chords i m)
       ∙ ap (λ z. (nat_eq z (label chords i) && not (among n taken)) || spared_below kept taken (kept i) n) (label_of count chords n (omega arith))
-      ∙ ap (λ z. (z && not (among n taken)) || spared_below kept taken (kept i) n) (turned (label chords n) (label chords i))
+      ∙ ap (λ z. (z && not (among n taken)) || spared_below kept taken (kept i) n) (nat_eq_equiv.symm (label chords n) (label chords i))
       ∙ ap (λ z. (nat_eq (label chords i) (label chords n) && not (among n taken)) || z) (spared_same n i (omega arith) m)
 
   -- the labels that were seen are those of the headers before
@@ -71,22 +53,16 @@ module _ (chords : List ChordOf) (taken : List ℕ) (methods : List Method) (cou
   -- one of some headers and one more has the label of this one exactly if one of them has it or that one has
   labelled_end : (header : HeaderTree) (before : List HeaderTree) (h : HeaderTree)
       → any_labelled chords taken methods header (before ++ (h ∷ [])) ≡ (any_labelled chords taken methods header before || nat_eq (label chords (header_number methods header)) (label chords (header_number methods h)))
-  labelled_end header [] h = or_none _
-  labelled_end header (y ∷ ys) h =
-      or_join (nat_eq (label chords (header_number methods header)) (label chords (header_number methods y))) (any_labelled chords taken methods header (ys ++ (h ∷ []))) (any_labelled chords taken methods header ys)
-      (nat_eq (label chords (header_number methods header)) (label chords (header_number methods h))) (labelled_end header ys h)
+  labelled_end header before h =
+      or_push (any_labelled chords taken methods header) (λ (y : HeaderTree). nat_eq (label chords (header_number methods header)) (label chords (header_number methods y))) refl (λ y ys. refl) before h
 
   -- a label that is among others adds nothing to what is among them
   among_again : (v x : ℕ) (seen : List ℕ) → among x seen ≡ true → (among v seen || nat_eq v x) ≡ among v seen
   among_again v x seen h = by_same (nat_eq v x) refl
     where
-      or_true : (b : Bool) → b ≡ true → (b || true) ≡ b
-      or_true true e = refl
-      or_true false e = absurd (false≢true e)
-
       by_same : (b : Bool) → nat_eq v x ≡ b → (among v seen || nat_eq v x) ≡ among v seen
-      by_same false e = ap (λ z. among v seen || z) e ∙ or_none (among v seen)
-      by_same true e = ap (λ z. among v seen || z) e ∙ or_true (among v seen) (ap (λ z. among z seen) (eqb-true v x e) ∙ h)
+      by_same false e = ap (λ z. among v seen || z) e ∙ or-false (among v seen)
+      by_same true e = ap (λ z. among v seen || z) e ∙ or-true (among v seen) ∙ sym (ap (λ z. among z seen) (eqb-true v x e) ∙ h)
 
   -- a label is among labels to which one was added exactly if it is among them or is that one
   with_label_among : (v x : ℕ) (seen : List ℕ) → among v (with_label seen x) ≡ (among v seen || nat_eq v x)
@@ -130,6 +106,30 @@ module _ (chords : List ChordOf) (taken : List ℕ) (methods : List Method) (cou
     -- the same from the beginning
     pub all_splits : (headers : List HeaderTree) → splits_from kept taken methods [] headers ≡ split_from chords taken methods [] (overriding methods headers)
     all_splits headers = splits_same headers [] [] (λ header. refl)
+
+-- the number of a method that a header overrides, as a list
+some_number : (over : Bool) (found : Option Found) (n : ℕ) → Some n ≡ cond over (option_map (λ (f : Found). f.number) found) None → cond over (number_in found) [] ≡ n ∷ []
+some_number false found n e = absurd (none_some (sym e))
+some_number true None n e = absurd (none_some (sym e))
+some_number true (Some f) n e = ap (λ z. z ∷ []) (sym (same_some e))
+
+-- no number where a header overrides no method
+no_number : (over : Bool) (found : Option Found) → None ≡ cond over (option_map (λ (f : Found). f.number) found) None → cond over (number_in found) [] ≡ []
+no_number false found e = refl
+no_number true None e = refl
+no_number true (Some f) e = absurd (none_some e)
+
+-- a header that overrides a method, and then those after it
+pub one_overridden : (methods : List Method) (h : HeaderTree) (rest : List HeaderTree) (numbers after : List ℕ) (o : Option ℕ) (n : ℕ) → o ≡ overridden_number methods h → o ≡ Some n → after ≡ numbers ++ (n ∷ [])
+    → numbers ++ overridden methods (h ∷ rest) ≡ after ++ overridden methods rest
+one_overridden methods h rest numbers after o n e is a =
+    ap (λ z. numbers ++ (z ++ overridden methods rest)) (some_number (overrides h) (method_named methods h.name.text) n (sym is ∙ e)) ∙ sym (append_assoc numbers (n ∷ []) (overridden methods rest)) ∙ ap (λ z. z ++ overridden methods rest) (sym a)
+
+-- a header that overrides no method, and then those after it
+pub none_overridden : (methods : List Method) (h : HeaderTree) (rest : List HeaderTree) (numbers after : List ℕ) (o : Option ℕ) → o ≡ overridden_number methods h → o ≡ None → after ≡ numbers
+    → numbers ++ overridden methods (h ∷ rest) ≡ after ++ overridden methods rest
+none_overridden methods h rest numbers after o e is a =
+    ap (λ z. numbers ++ (z ++ overridden methods rest)) (no_number (overrides h) (method_named methods h.name.text) (sym is ∙ e)) ∙ ap (λ z. z ++ overridden methods rest) (sym a)
 
 -- where no method is overridden no header overrides one
 pub none_overriding : (methods : List Method) (headers : List HeaderTree) → overridden methods headers ≡ [] → overriding methods headers ≡ []

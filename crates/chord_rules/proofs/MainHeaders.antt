@@ -1,5 +1,6 @@
 -- The headers named `Main`, one list after the other.
 use Rattle.std.proofs.Common.{◌≡◌, ℕ, List, [], ◌∷◌, ◌++◌, Bool, true, false, not, ◌||◌, map, refl, sym, ap, ◌∙◌, append_assoc, Option}
+use Rattle.std.proofs.Math.Bool.{or-false, or-true, or_assoc}
 use Rattle.std.proofs.lemmas.List.{append-nil}
 use Rattle.chord_classes.specs.NameRules.{when}
 use Rattle.chord_classes.specs.ChordRules.{MainAt, mains_among, member_mains, wrong_mains}
@@ -9,23 +10,13 @@ use Rattle.chord_classes.specs.Least.{least, keys}
 use Rattle.chord_rules.specs.Mains.{some_main, wrong_from}
 use Rattle.chord_rules.proofs.Noted.{then_noted}
 
--- an `or` whose second part is `false` is its first part
-or_false : (b : Bool) → (b || false) ≡ b
-or_false true = refl
-or_false false = refl
-
--- an `or` whose second part is `true` is true
-or_true : (b : Bool) → (b || true) ≡ true
-or_true true = refl
-or_true false = refl
-
 -- the wrong ones of two lists joined
 wrong_joined : (seen : Bool) (xs ys : List MainAt) → wrong_from seen (xs ++ ys) ≡ wrong_from seen xs ++ wrong_from (seen || some_main xs) ys
-wrong_joined seen [] ys = ap (λ z. wrong_from z ys) (sym (or_false seen))
+wrong_joined seen [] ys = ap (λ z. wrong_from z ys) (sym (or-false seen))
 wrong_joined seen (x ∷ xs) ys =
     ap (λ z. when (seen || not x.right) x.at ++ z) (wrong_joined true xs ys)
     ∙ sym (append_assoc (when (seen || not x.right) x.at) (wrong_from true xs) (wrong_from true ys))
-    ∙ ap (λ z. (when (seen || not x.right) x.at ++ wrong_from true xs) ++ wrong_from z ys) (sym (or_true seen))
+    ∙ ap (λ z. (when (seen || not x.right) x.at ++ wrong_from true xs) ++ wrong_from z ys) (sym (or-true seen))
 
 -- the wrong ones of a list, and then of another
 pub next_mains : (seen after : Bool) (xs ys : List MainAt) (o p : Option ℕ) → after ≡ (seen || some_main xs) → p ≡ least o (keys 13 (wrong_from seen xs)) → least o (keys 13 (wrong_from seen (xs ++ ys))) ≡ least p (keys 13 (wrong_from after ys))
@@ -37,14 +28,9 @@ some_joined : (xs ys : List MainAt) → some_main (xs ++ ys) ≡ (some_main xs |
 some_joined [] ys = refl
 some_joined (x ∷ xs) ys = refl
 
--- an `or` whose second part is an `or` is that of the first two parts and the third
-or_join : (a b c : Bool) → (a || (b || c)) ≡ ((a || b) || c)
-or_join true b c = refl
-or_join false b c = refl
-
 -- whether one was seen, after a list and then after another
 pub next_seen : (seen after : Bool) (xs ys : List MainAt) → after ≡ (seen || some_main xs) → (seen || some_main (xs ++ ys)) ≡ (after || some_main ys)
-next_seen seen after xs ys e = ap (λ z. seen || z) (some_joined xs ys) ∙ or_join seen (some_main xs) (some_main ys) ∙ ap (λ z. z || some_main ys) (sym e)
+next_seen seen after xs ys e = ap (λ z. seen || z) (some_joined xs ys) ∙ sym (or_assoc seen (some_main xs) (some_main ys)) ∙ ap (λ z. z || some_main ys) (sym e)
 
 -- behind a header named `Main` all others are wrong
 behind_one : (xs : List MainAt) → wrong_from true xs ≡ map (λ (main : MainAt). main.at) xs

@@ -3,6 +3,7 @@ use Rattle.std.proofs.Common.{◌≡◌, ℕ, ◌+◌, List, [], ◌∷◌, ◌+
 use Rattle.std.specs.Prelude.{reverse, not, ◌&&◌}
 use Rattle.std.specs.Str.{bytes_eq}
 use Rattle.std.specs.Cmp.Lexicographic.{nat_list_eq_equiv}
+use Rattle.std.proofs.Math.Bool.{or-false, or_assoc, or_comm}
 use Rattle.std.proofs.lemmas.List.{reverse-append, append-nil}
 use Rattle.chord_tree.specs.declared.classes.Formal.{Formal}
 use Rattle.chord_classes.specs.NameRules.{when}
@@ -15,27 +16,10 @@ use Rattle.chord_rules.specs.FormalNames.{formal_names}
 use Rattle.chord_classes.specs.Least.{least, keys}
 use Rattle.chord_rules.proofs.Noted.{then_noted}
 
--- an `or` whose second part is an `or` is that of the first two parts and the third
-or_regroup : (a b c : Bool) → (a || (b || c)) ≡ ((a || b) || c)
-or_regroup true b c = refl
-or_regroup false b c = refl
-
--- an `or` does not depend on the order of its parts
-or_swap : (a b : Bool) → (a || b) ≡ (b || a)
-or_swap true true = refl
-or_swap true false = refl
-or_swap false true = refl
-or_swap false false = refl
-
--- an `or` whose second part is `false` is its first part
-or_false : (a : Bool) → (a || false) ≡ a
-or_false true = refl
-or_false false = refl
-
 -- a name stands among two lists joined exactly if it stands in the first or in the second
 named_append : (x : List ℕ) (ys zs : List (List ℕ)) → named_in x (ys ++ zs) ≡ (named_in x ys || named_in x zs)
 named_append x [] zs = refl
-named_append x (y ∷ ys) zs = ap (λ z. bytes_eq x y || z) (named_append x ys zs) ∙ or_regroup (bytes_eq x y) (named_in x ys) (named_in x zs)
+named_append x (y ∷ ys) zs = ap (λ z. bytes_eq x y || z) (named_append x ys zs) ∙ sym (or_assoc (bytes_eq x y) (named_in x ys) (named_in x zs))
 
 -- there is a place with a name in front exactly if that is the name or there is one among the later names
 is_first : (b : Bool) (n : ℕ) (o : Option ℕ) → is_some (cond b (Some n) o) ≡ (b || is_some o)
@@ -45,7 +29,7 @@ is_first false n o = refl
 -- the last name of a list that is turned round
 last_in : (x y : List ℕ) (ys : List (List ℕ)) → named_in x (reverse (y ∷ ys)) ≡ (bytes_eq y x || named_in x (reverse ys))
 last_in x y ys =
-    ap (named_in x) (reverse-append (y ∷ []) ys) ∙ named_append x (reverse ys) (y ∷ []) ∙ ap (λ z. named_in x (reverse ys) || z) (or_false (bytes_eq x y) ∙ nat_list_eq_equiv.symm x y) ∙ or_swap (named_in x (reverse ys)) (bytes_eq y x)
+    ap (named_in x) (reverse-append (y ∷ []) ys) ∙ named_append x (reverse ys) (y ∷ []) ∙ ap (λ z. named_in x (reverse ys) || z) (or-false (bytes_eq x y) ∙ nat_list_eq_equiv.symm x y) ∙ or_comm (named_in x (reverse ys)) (bytes_eq y x)
 
 -- a name stands among names exactly if it has a place there, from any number on
 named_from : (n : ℕ) (x : List ℕ) (names : List (List ℕ)) → named_in x (reverse names) ≡ is_some (name_place_from n names x)

@@ -1,13 +1,15 @@
 -- The one pass over the classes: one more class.
-use Rattle.std.specs.Prelude.{◌≡◌, ℕ, ◌+◌, List, [], ◌∷◌, ◌++◌, map, length, Option}
+use Rattle.std.specs.Prelude.{◌≡◌, ℕ, ◌+◌, List, [], ◌∷◌, ◌++◌, map, length, take, Option}
 use Rattle.chord_bodies.specs.Resolved.{ClassOf}
 use Rattle.chord_tree.specs.Tree.{ClassTree}
 use Rattle.chord_tree.specs.Node.{IsNumbered}
 use Rattle.chord_tree.specs.ClassNodes.{node_classes}
 use Rattle.chord_bodies.specs.View.{view_class_plan}
 use Rattle.chord_classes.specs.Table.{shape_of}
-use Rattle.chord_classes.specs.Plan.{class_plan}
+use Rattle.chord_classes.specs.Plan.{class_plan, plans_after}
+use Rattle.chord_classes.specs.ChordRules.{over_plans}
 use Rattle.chord_rules.specs.declared.classes.Progress.{Progress}
+use Rattle.chord_rules.specs.ClassKeys.{class_keys}
 use Rattle.chord_rules.specs.Limits.{base_depth}
 use Rattle.chord_rules.specs.Planning.{AreAlike}
 
@@ -35,3 +37,8 @@ pub record IsNextClass (before : Progress) (class : ClassTree) (next : Progress)
 -- Each number in classes is the place of its token, where the first stands at some place.
 abbrev pub ClassesNumbered : List ClassTree → Type 0
 ClassesNumbered classes = (at : ℕ) × IsNumbered (node_classes classes) at
+
+-- The plans are those of the first classes, one for each, and none of these classes breaks a rule.
+pub record StopBeforeBreak (classes : List ClassTree) (plans : List ClassOf) : Type 0 where
+  pub planned : plans ≡ plans_after [] [] 0 (take (length plans) classes)
+  pub unbroken : over_plans (class_keys classes) [] [] 0 (take (length plans) classes) ≡ []

@@ -1,7 +1,7 @@
 //! The one pass over the classes of a program: what each breaks, and its plan.
 #![tactic(auto)]
 
-ghost use Rattle.std.specs.Prelude.{◌≡◌, ◌-◌, [], ◌++◌, None, IfOk, OnOk, map, length};
+ghost use Rattle.std.specs.Prelude.{◌≡◌, ◌≤◌, ◌-◌, [], ◌++◌, None, IfOk, OnOk, OnErr, map, length};
 ghost use Rattle.chord_tree.specs.View.{see_class};
 ghost use Rattle.chord_tree.specs.Walk.{headers_of};
 ghost use Rattle.chord_bodies.specs.View.{view_method_plan, view_chord_plan, view_class_plan};
@@ -12,8 +12,9 @@ ghost use Rattle.chord_classes.specs.ChordRules.{over_plans};
 ghost use Rattle.chord_classes.specs.Entries.{IsGrown};
 ghost use Rattle.chord_classes.specs.Least.{least};
 ghost use Rattle.chord_rules.specs.ClassKeys.{name_keys, place_keys, inner_keys, class_keys};
+ghost use Rattle.chord_rules.specs.Limits.{base_depth};
 ghost use Rattle.chord_rules.specs.Planning.{AreAlike, base_methods, depths_of, plan_parts};
-ghost use Rattle.chord_rules.specs.Passing.{IsNextClass, HasNextPlan, HasNextShape, ClassesNumbered};
+ghost use Rattle.chord_rules.specs.Passing.{IsNextClass, HasNextPlan, HasNextShape, ClassesNumbered, StopBeforeBreak};
 
 use crate::class_plan::{PlanParts, base_chords, chords_without, class_plan, method_plans};
 use crate::declarations::{base_built, base_missing, declared_again, misnamed_constructors};
@@ -53,7 +54,8 @@ fn places_break(
     breaks: &mut Least,
 ) -> Result<(), AllocError>
     requires { depths.now ≡ depths_of table.now }
-    ensures { OnOk result (breaks.new.found ≡ least breaks.old.found (place_keys table.now (see_class class.now))) }
+    ensures noted { OnOk result (breaks.new.found ≡ least breaks.old.found (place_keys table.now (see_class class.now))) }
+    ensures large { OnErr result (4294967296 ≤ base_depth depths.now (base_of table.now (see_class class.now))) }
 {
     class_past(table, class, breaks);
     base_past(depths, class, table.base_of(class), breaks)?;
@@ -240,6 +242,7 @@ pub fn look<'a>(
     requires numbered { ClassesNumbered (map see_class classes.now) }
     ensures plans { IfOk result (λ plans. breaks.new.found ≡ None → map view_class_plan plans.items ≡ plans_after [] [] 0 (map see_class classes.now)) }
     ensures noted { OnOk result (breaks.new.found ≡ least None (over_plans (class_keys (map see_class classes.now)) [] [] 0 (map see_class classes.now))) }
+    ensures stops { IfOk result (λ plans. StopBeforeBreak (map see_class classes.now) (map view_class_plan plans.items)) }
 {
     let mut progress = Progress {
         table: Table::new(alloc),

@@ -5,8 +5,9 @@ ghost use Rattle.std.specs.Prelude.{◌≡◌, ◌||◌, false, map};
 ghost use Rattle.chord_tree.specs.View.{see_class, see_member};
 ghost use Rattle.chord_classes.specs.DeclarationRules.{declared_again, base_missing};
 ghost use Rattle.chord_classes.specs.ChordRules.{misnamed_constructors, base_token, base_has, any_has, has_parameters};
+ghost use Rattle.chord_classes.specs.Resolve.{is_builder};
 ghost use Rattle.chord_classes.specs.Least.{least, keys};
-ghost use Rattle.chord_rules.specs.Constructors.{misnamed_at, is_constructor};
+ghost use Rattle.chord_rules.specs.Constructors.{misnamed_at};
 
 use chord_classes::least::Least;
 use chord_classes::table::Table;
@@ -45,7 +46,7 @@ pub fn misnamed_constructors(class: &Class, breaks: &mut Least)
 /// C12: notes the member if it is a constructor that has another name than its class, or is not the first, and tells whether one was seen.
 fn misnamed(class: &Class, seen: bool, member: &Member, breaks: &mut Least) -> bool
     ensures noted { breaks.new.found ≡ least breaks.old.found (keys 12 (misnamed_at class.now.name.text seen (see_member member.now))) }
-    ensures seen { result ≡ (seen || is_constructor (see_member member.now)) }
+    ensures seen { result ≡ (seen || is_builder (see_member member.now)) }
 {
     match member {
         Member::Constructor { name, .. } => {

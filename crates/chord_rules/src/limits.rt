@@ -1,7 +1,7 @@
 //! The limits on headers, parameters, methods and chords.
 #![tactic(auto)]
 
-ghost use Rattle.std.specs.Prelude.{◌≡◌, ◌-◌, [], ◌∷◌, map, flat_map, length, drop, nat_le, nat_lt, IfOk, OnOk};
+ghost use Rattle.std.specs.Prelude.{◌≡◌, ◌-◌, [], ◌∷◌, map, flat_map, length, drop, nat_le, nat_lt, ◌≤◌, IfOk, OnOk, OnErr};
 ghost use Rattle.chord_tree.specs.View.{see_header, see_member};
 ghost use Rattle.chord_classes.specs.NameRules.{when};
 ghost use Rattle.chord_classes.specs.ChordRules.{base_token, formal_tokens, header_tokens, chord_tokens};
@@ -69,7 +69,8 @@ pub fn class_past(table: &Table, class: &Class, breaks: &mut Least)
 
 /// How many classes are above a class with this base.
 pub fn base_depth(depths: &[u32], base: Option<u32>) -> Result<u32, AllocError>
-    ensures { IfOk result (λ depth. depth ≡ base_depth depths.now base) }
+    ensures depth { IfOk result (λ depth. depth ≡ base_depth depths.now base) }
+    ensures large { OnErr result (4294967296 ≤ base_depth depths.now base) }
 {
     let Some(class) = base else {
         return Ok(0);
@@ -87,7 +88,8 @@ pub fn base_past(
     base: Option<u32>,
     breaks: &mut Least,
 ) -> Result<(), AllocError>
-    ensures { OnOk result (breaks.new.found ≡ least breaks.old.found (keys 4 (base_token class.now.base (nat_lt 16 (base_depth depths.now base))))) }
+    ensures noted { OnOk result (breaks.new.found ≡ least breaks.old.found (keys 4 (base_token class.now.base (nat_lt 16 (base_depth depths.now base))))) }
+    ensures large { OnErr result (4294967296 ≤ base_depth depths.now base) }
 {
     let past = base_depth(depths, base)? > 16;
     if let Some(name) = &class.base {

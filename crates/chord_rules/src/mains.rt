@@ -1,12 +1,12 @@
 //! The rule on `Main`, and the member that is it.
 #![tactic(auto)]
 
-ghost use Rattle.std.specs.Prelude.{◌≡◌, ◌||◌, IfOk, map, flat_map, unwrap_or};
+ghost use Rattle.std.specs.Prelude.{◌≡◌, ◌≤◌, ◌+◌, ◌||◌, IfOk, OnErr, map, flat_map, length, unwrap_or};
 ghost use Rattle.chord_tree.specs.View.{see_class, see_header, see_member};
 ghost use Rattle.chord_classes.specs.ChordRules.{is_void, is_right_main, mains_among, member_mains, mains_of, wrong_mains};
 ghost use Rattle.chord_classes.specs.Plan.{main_among, main_in};
 ghost use Rattle.chord_classes.specs.Least.{least, keys};
-ghost use Rattle.chord_rules.specs.Mains.{wrong_from, some_main, main_at};
+ghost use Rattle.chord_rules.specs.Mains.{wrong_from, some_main, main_at, member_sum};
 
 use crate::headers::{is_static, may_be_overridden};
 use crate::numbers::after;
@@ -103,7 +103,8 @@ pub fn wrong_mains(classes: &[Class], end: u32, breaks: &mut Least)
 
 /// The first member that is `Main`, among members of which the first has this number.
 fn main_among(first: u32, members: &[Member]) -> Result<Option<u32>, AllocError>
-    ensures { IfOk result (λ found. found ≡ main_among first (map see_member members.now)) }
+    ensures found { IfOk result (λ found. found ≡ main_among first (map see_member members.now)) }
+    ensures large { OnErr result (4294967296 ≤ first + length members.now) }
 {
     let mut number = first;
     for member in members {
@@ -117,7 +118,8 @@ fn main_among(first: u32, members: &[Member]) -> Result<Option<u32>, AllocError>
 
 /// The member that is `Main`; where there is none, which is broken, any.
 pub fn main_member(classes: &[Class]) -> Result<u32, AllocError>
-    ensures { IfOk result (λ main. main ≡ unwrap_or (main_in 0 (map see_class classes.now)) 0) }
+    ensures main { IfOk result (λ main. main ≡ unwrap_or (main_in 0 (map see_class classes.now)) 0) }
+    ensures large { OnErr result (4294967296 ≤ member_sum (map see_class classes.now)) }
 {
     match main_in(classes)? {
         Some(number) => Ok(number),
@@ -127,7 +129,8 @@ pub fn main_member(classes: &[Class]) -> Result<u32, AllocError>
 
 /// The first member that is `Main`.
 fn main_in(classes: &[Class]) -> Result<Option<u32>, AllocError>
-    ensures { IfOk result (λ found. found ≡ main_in 0 (map see_class classes.now)) }
+    ensures found { IfOk result (λ found. found ≡ main_in 0 (map see_class classes.now)) }
+    ensures large { OnErr result (4294967296 ≤ member_sum (map see_class classes.now)) }
 {
     let mut number = 0;
     for class in classes {

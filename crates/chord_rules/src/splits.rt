@@ -1,7 +1,7 @@
 //! The rule on groups: a class overrides all methods of a group of its base class, or none.
 #![tactic(auto)]
 
-ghost use Rattle.std.specs.Prelude.{◌≡◌, ◌∷◌, [], IfOk, OnOk, map, slice_index};
+ghost use Rattle.std.specs.Prelude.{◌≡◌, ◌<◌, ◌∷◌, [], IfOk, OnOk, OnErr, map, slice_index};
 ghost use Rattle.chord_tree.specs.View.{see_header};
 ghost use Rattle.chord_bodies.specs.View.{view_chord_plan};
 ghost use Rattle.chord_classes.specs.Table.{inherited};
@@ -58,7 +58,8 @@ pub fn overridden(
 
 /// Whether one of the first methods has this label, and is not overridden.
 fn any_spared(labels: &[u32], taken: &[u32], label: u32, count: usize) -> Result<bool, AllocError>
-    ensures { IfOk result (λ spared. spared ≡ spared_below (slice_index labels.now) taken.now label count) }
+    ensures spared { IfOk result (λ spared. spared ≡ spared_below (slice_index labels.now) taken.now label count) }
+    ensures large { OnErr result (4294967296 < count) }
 {
     let mut left = count;
     while left > 0 {

@@ -26,8 +26,8 @@ use Rattle.chord_task.specs.declared.task.Task.{Task}
 use Rattle.chord_task.specs.Arguments.{MayBeList}
 use Rattle.chord_task.specs.Past.{AddsOne}
 use Rattle.chord_task.specs.Stacks.{TaskView, IsNext, StaysDefined, task_noted}
-use Rattle.chord_task.specs.Standing.{HasReturned, LastIsReady, body_number, view_of, IsTaskOf, GivenBy, AskedBy, AskedBody, may_go, body_may_go, is_ready_of, HasGiven, HasRoomFor, IsReadyFor, IsReserved, IsRoomier, IsRoomierTop, MayNote, MayAnswer, AnsweredWith, answer_of}
-use Rattle.chord_task.specs.Turning.{MayTurn, Turned, RunsOn, IsAskedFor, MaySettle, HasSettled}
+use Rattle.chord_task.specs.Standing.{HasReturned, LastIsReady, HasMadeRoom, body_number, view_of, IsTaskOf, GivenBy, AskedBy, AskedBody, may_go, body_may_go, is_ready_of, HasGiven, HasRoomFor, IsReadyFor, IsReserved, IsRoomier, IsRoomierTop, MayNote, MayAnswer, AnsweredWith, answer_of}
+use Rattle.chord_task.specs.Turning.{MayTurn, Turned, RunsOn, IsAskedFor, MaySettle, AwaitsNumber, HasSettled}
 use Rattle.chord_task.proofs.Asking.{may_run, task_asked, view_asked, given_is, given_next}
 use Rattle.chord_task.proofs.Resuming.{task_roomier}
 use Rattle.chord_task.proofs.Notes.{gave_up}
@@ -125,6 +125,14 @@ may_settle code limits t b f a n k r top adv may =
       above = may.above;
     }
 
+-- it waits for its number, once there is room
+pub awaits_number : (code : Parts) (limits : Limits) (t s : Task) (b : Body) (f : Box Frames Global) (asked : Option Ask) (n : ℕ) → IsTaskOf code limits t → RunsOn t.top → t.top ≡ Some b → ((a : Ask) → asked ≡ Some a → Advanced code (machine_of b.frames.value) a f.value) → MayTurn (code_program code limits) (view_of t) n → HasMadeRoom code (with_body t (with_frames b f)) s → AwaitsNumber code (with_body t (with_frames b f)) s n asked
+awaits_number code limits t s b f asked n k r top adv may room = record {
+  room = room;
+  asked = λ a e. is_asked_for code limits t b f a k r top (adv a e);
+  may = λ a e. may_settle code limits t b f a n k r top (adv a e) may;
+}
+
 -- the task turned
 pub settled_turned : (code : Parts) (limits : Limits) (t : Task) (b : Body) (f : Box Frames Global) (a : Ask) (n : ℕ) (t' : Task) → IsTaskOf code limits t → RunsOn t.top → t.top ≡ Some b → Advanced code (machine_of b.frames.value) a f.value → HasSettled code (with_body t (with_frames b f)) n (what_of_ask a) t' → Turned code limits t t' n (what_of_ask a)
 settled_turned code limits t b f a n t' k r top adv s =
@@ -186,6 +194,10 @@ roomy code t s n w b a m past below top spare values limits ready is =
       past = h;
       top = view;
     }
+
+-- the same of an ask that waits for its number
+pub awaiting_room : (code : Parts) (t s : Task) (n : ℕ) (asked : Option Ask) (a : Ask) (b : Body) → AwaitsNumber code t s n asked → asked ≡ Some a → s.top ≡ Some b → Roomy code t s n (what_of_ask a) b
+awaiting_room code t s n asked a b d put is = roomy code t s n (what_of_ask a) b (d.asked a put) (d.may a put) d.room.past d.room.below d.room.top d.room.spare d.room.values d.room.limits d.room.ready is
 
 -- the task in which the body on top had the ask was noted
 pub has_settled : (code : Parts) (t s t' : Task) (n : ℕ) (w : What) (b : Body) (x : Roomy code t s n w b) → IsTaskOf code t.limits t' × task_noted (view_of (with_body s (with_next b x.asked))) n x.may.what (view_of t') × (is_end x.may.what ≡ false → (view_of t').top ≡ (view_of (with_body s (with_next b x.asked))).top) → HasSettled code t n w t'

@@ -2,6 +2,7 @@
 use Rattle.std.specs.Prelude.{◌≡◌, ◌≤◌, ◌⊎◌, List, [], ◌∷◌, Option, Some, None, Vec, vec_capacity}
 use Rattle.std.specs.Global.{Global}
 use Rattle.chord_base.specs.declared.value.Value.{Value}
+use Rattle.chord_vm.specs.Frames.{laid}
 use Rattle.chord_task.specs.declared.args.Args.{Args}
 
 -- the arguments for the entry of a firing, message by message
@@ -37,3 +38,9 @@ MayBeList (Some list) = IsRoomy list
 -- the values before stand in the entry, or in the list
 abbrev pub StandInOne : List Value → List Value → Type 0
 StandInOne entry list = (list ≡ []) ⊎ (entry ≡ [])
+
+-- at most one of these lists has values
+abbrev pub HasOneAtMost : List (List Value) → Type 0
+HasOneAtMost [] = Unit {0}
+HasOneAtMost ([] ∷ rest) = HasOneAtMost rest
+HasOneAtMost ((x ∷ xs) ∷ rest) = laid rest ≡ []

@@ -1,5 +1,5 @@
 -- What the bodies of a task stand for: where the code of each stands after the answers that its story has.
-use Rattle.std.specs.Prelude.{◌≡◌, ◌≢◌, ◌+◌, ◌-◌, ◌<◌, ◌++◌, vec_len, vec_capacity, Vec, ℕ, List, [], ◌∷◌, Bool, true, false, ◌==◌, Option, Some, None, reverse, IsSome, Box}
+use Rattle.std.specs.Prelude.{◌≡◌, ◌≢◌, ◌+◌, ◌-◌, ◌<◌, ◌++◌, vec_len, vec_capacity, Vec, ℕ, List, [], ◌∷◌, Bool, true, false, ◌==◌, Option, Some, None, reverse, IsSome, IsSomeAnd, Box}
 use Rattle.std.specs.Global.{Global}
 use Rattle.chord_base.specs.declared.value.Object.{Object}
 use Rattle.chord_base.specs.declared.value.Value.{Value}
@@ -153,6 +153,21 @@ HasRoomIf code t (Some b) = (q : ℕ) → b.next ≡ nexts.Waits q → IsResumab
 abbrev pub HasRoomFor : Parts → Limits → Option (Box Frames Global) → Type 0
 HasRoomFor code limits None = Unit {0}
 HasRoomFor code limits (Some f) = IsSpareOf code limits f.value
+
+-- frames for the next body were seen to: those in stock stay, and where there are none, those of a body that has ended serve if they have room for each block
+pub record IsStocked (code : Parts) (limits : Limits) (spare ended spare' ended' : Option (Box Frames Global)) : Type 0 where
+  pub stays : (spare ≡ None → ⊥) → (spare' ≡ spare) × (ended' ≡ ended)
+  pub again : spare ≡ None → IsSomeAnd ended (λ f. IsSpareOf code limits f.value) → (spare' ≡ ended) × (ended' ≡ None)
+
+-- the frames in stock, and those of a body that has ended, are as they were
+abbrev pub KeepsStock : Task → Task → Type 0
+KeepsStock before after = (after.spare ≡ before.spare) × (after.ended ≡ before.ended)
+
+-- after the entry of this ask the frames in stock are as they were, and those of the body on top are kept for another body, if it ended
+pub record KeepsFrames (w : What) (before after : Task) : Type 0 where
+  pub spare : after.spare ≡ before.spare
+  pub ends : is_end w ≡ true → (b : Body) → before.top ≡ Some b → after.ended ≡ Some b.frames
+  pub goes : is_end w ≡ false → after.ended ≡ before.ended
 
 -- a task of this code under these limits
 pub record IsTaskOf (code : Parts) (limits : Limits) (t : Task) : Type 0 where
@@ -348,6 +363,29 @@ IsRoomierTop (Some b) (Some b') = IsRoomier b b'
 IsRoomierTop None (Some b') = ⊥
 IsRoomierTop (Some b) None = ⊥
 
+-- there is room for one more entry, and for a firing after it, and nothing else of the task has changed
+pub record HasMadeRoom (code : Parts) (before after : Task) : Type 0 where
+  pub past : after.past ≡ before.past
+  pub below : after.below.items ≡ before.below.items
+  pub top : IsRoomierTop before.top after.top
+  pub spare : HasRoomFor code before.limits after.spare
+  pub values : MayBeList after.values
+  pub limits : after.limits ≡ before.limits
+  pub ready : IsReserved code after
+  pub stocked : IsStocked code before.limits before.spare before.ended after.spare after.ended
+
 -- `Main` begins
 abbrev pub MainBegins : Parts → Limits → Type 0
 MainBegins code limits = IsSome ((code_program code limits).next Main 1 [])
+
+-- frames for the next body were seen to, and then this ask became an entry
+pub record SettlesFrames (code : Parts) (before : Task) (w : What) (after : Task) : Type 0 where
+  pub between : Task
+  pub roomier : IsRoomierTop before.top between.top
+  pub stocked : IsStocked code before.limits before.spare before.ended between.spare between.ended
+  pub kept : KeepsFrames w between after
+
+-- frames for the next body were seen to before the entry that was added
+pub record WasStocked (code : Parts) (before after : Task) : Type 0 where
+  pub ended : Option (Box Frames Global)
+  pub stocked : IsStocked code before.limits before.spare before.ended after.spare ended

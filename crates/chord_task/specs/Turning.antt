@@ -13,6 +13,7 @@ use Rattle.chord_base.specs.Printed.{is_end}
 use Rattle.chord_base.specs.Story.{AllBelow}
 use Rattle.chord_code.specs.declared.parts.Parts.{Parts}
 use Rattle.chord_code.specs.Meaning.{code_program}
+use Rattle.chord_vm.specs.Frames.{what_of_ask}
 use Rattle.chord_vm.specs.declared.ask.Ask.{Ask}
 use Rattle.chord_vm.specs.declared.ask.Ask.TheVariants as asks
 use Rattle.chord_task.specs.declared.body.Next.{Next}
@@ -20,7 +21,7 @@ use Rattle.chord_task.specs.declared.body.Next.TheVariants as nexts
 use Rattle.chord_task.specs.declared.body.Body.{Body}
 use Rattle.chord_task.specs.declared.task.Task.{Task}
 use Rattle.chord_task.specs.Stacks.{TaskView, IsNext, StaysDefined, task_noted}
-use Rattle.chord_task.specs.Standing.{view_of, IsTaskOf, GivenBy}
+use Rattle.chord_task.specs.Standing.{view_of, IsTaskOf, GivenBy, HasMadeRoom}
 
 -- what is known of an ask before it becomes the entry of this number
 pub record MayTurn (p : Program) (t : TaskView) (n : ℕ) : Type 0 where
@@ -72,6 +73,16 @@ pub record IsAskedFor (code : Parts) (t : Task) (w : What) : Type 0 where
 pub record MaySettle (code : Parts) (t : Task) (n : ℕ) (w : What) : Type 0 where
   pub stays : StaysDefined (code_program code t.limits) (view_of t) n w
   pub above : AllBelow n (view_of t).past
+
+-- an ask waits for its number: it is with its caller, and room was made for its entry; what is known of it is said of the task before that
+pub record AwaitsNumber (code : Parts) (before roomy : Task) (n : ℕ) (ask : Option Ask) : Type 0 where
+  pub room : HasMadeRoom code before roomy
+  pub asked : (a : Ask) → ask ≡ Some a → IsAskedFor code before (what_of_ask a)
+  pub may : (a : Ask) → ask ≡ Some a → MaySettle code before n (what_of_ask a)
+
+-- what stands beside an ask is a copy of the end that it is
+abbrev pub IsSecondOf : Option End → Option Ask → Type 0
+IsSecondOf second asked = (e : End) → asked ≡ Some (asks.End e) → second ≡ Some e
 
 -- the ask became the entry of this number
 pub record HasSettled (code : Parts) (before : Task) (n : ℕ) (w : What) (after : Task) : Type 0 where

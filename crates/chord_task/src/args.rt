@@ -1,9 +1,9 @@
 //! The arguments of messages, held twice, so that a firing needs no copy.
 #![tactic(auto)]
 
-ghost use Rattle.std.specs.Prelude.{◌≡◌, ◌+◌, ◌≤◌, ◌++◌, length, vec_capacity, None, Some};
+ghost use Rattle.std.specs.Prelude.{◌≡◌, ◌+◌, ◌≤◌, ◌⊎◌, [], ◌∷◌, ◌++◌, length, vec_capacity, None, Some};
 ghost use Rattle.chord_vm.specs.Frames.{laid};
-ghost use Rattle.chord_task.specs.Arguments.{for_entry, for_body, IsList, MayBeList, StandInOne};
+ghost use Rattle.chord_task.specs.Arguments.{for_entry, for_body, IsList, MayBeList, StandInOne, HasOneAtMost};
 
 use chord_base::hand::Hand;
 use chord_base::value::{Value, Values};
@@ -31,6 +31,7 @@ fn add_values(entry: &mut Values, list: &mut Vec<Value>, values: Values)
     ensures items { list.new.items ++ entry.new ≡ (list.old.items ++ entry.old) ++ values }
     ensures apart { StandInOne entry.new list.new.items }
     ensures room { vec_capacity list.new ≡ vec_capacity list.old }
+    ensures alone { list.old.items ≡ [] → (entry.old ≡ []) ⊎ (values ≡ []) → list.new.items ≡ [] }
 {
     if values.items().is_empty() {
         return;
@@ -60,6 +61,7 @@ fn part(
     ensures apart { StandInOne entry.new list.new.items }
     ensures hand { hand.new ≡ hand.old ++ for_body arguments.old }
     ensures room { vec_capacity list.new ≡ vec_capacity list.old }
+    ensures alone { list.old.items ≡ [] → HasOneAtMost (entry.old ∷ for_entry arguments.old) → list.new.items ≡ [] }
 {
     match arguments.take_first() {
         None => {}
@@ -78,6 +80,7 @@ pub(crate) fn part_all(wide: &mut Option<Vec<Value>>, arguments: Hand<Args>) -> 
     ensures entry { result.entry ≡ laid (for_entry arguments) }
     ensures body { result.body ≡ for_body arguments }
     ensures list { MayBeList wide.new }
+    ensures kept { HasOneAtMost (for_entry arguments) → IsList wide.new }
 {
     let _full = arguments.is_full();
     match wide.take() {

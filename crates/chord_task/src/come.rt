@@ -6,7 +6,7 @@ ghost use Rattle.chord_base.specs.declared.event.End.TheVariants.{Gives};
 ghost use Rattle.chord_base.specs.declared.event.What.TheVariants.{Ended};
 ghost use Rattle.chord_base.specs.declared.value.Value.TheVariants as a_value;
 ghost use Rattle.chord_vm.specs.Frames.{what_of_ask};
-ghost use Rattle.chord_task.specs.Standing.{IsTaskOf, GivenBy, is_ready_of};
+ghost use Rattle.chord_task.specs.Standing.{IsTaskOf, KeepsStock, GivenBy, is_ready_of};
 ghost use Rattle.chord_task.specs.Turning.{RunsOn, IsKept, HasCome};
 
 use crate::body::Next;
@@ -54,6 +54,7 @@ impl Task {
         requires left { is_ready_of self.old ≡ true }
         ensures some { OnOk result (asked.new ≢ None) }
         ensures came { OnOk result ((a : Ask) → asked.new ≡ Some a → HasCome code.now limits.now self.old self.new (what_of_ask a)) }
+        ensures stock { KeepsStock self.old self.new }
     {
         if self.runs() {
             return self.run_to_ask(alloc, code, limits, asked);
@@ -74,6 +75,7 @@ impl Task {
         requires runs { RunsOn self.old.top }
         ensures some { OnOk result (asked.new ≢ None) }
         ensures came { OnOk result ((a : Ask) → asked.new ≡ Some a → HasCome code.now limits.now self.old self.new (what_of_ask a)) }
+        ensures stock { KeepsStock self.old self.new }
     {
         let _limits = limits;
         match &mut self.top {
@@ -95,6 +97,7 @@ impl Task {
         requires left { is_ready_of self.old ≡ true }
         ensures some { OnOk result (asked.new ≢ None) }
         ensures came { OnOk result ((a : Ask) → asked.new ≡ Some a → HasCome code.now limits.now self.old self.new (what_of_ask a)) }
+        ensures stock { KeepsStock self.old self.new }
     {
         self.prepare(alloc, code, limits)?;
         match &mut self.top {
@@ -103,7 +106,9 @@ impl Task {
         }
         Ok(())
     }
-    /// Whether the body on top is the only one, and comes to its end next, without a value. It has come there then, since nothing is left to run.
+
+    /// Whether the body on top is the only one, and the next that it does is to end without a value. If so, nothing is left to run: the task is
+    /// as `come` would leave it, with this end as its ask, and the caller may draw the end's entry at once.
     pub fn comes_to_end(&self, code: &Code, limits: &Limits) -> bool
         requires task { IsTaskOf code.now limits.now self.now }
         ensures alone { result ≡ true → vec_len self.now.below ≡ 0 }

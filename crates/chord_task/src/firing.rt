@@ -41,6 +41,7 @@ impl Task {
         ensures past { task_begun (view_of self.old) number chord object members.now arguments.first (view_of self.new) }
         ensures top { (view_of self.new).top ≡ Some number }
         ensures listed { AddsOne self.old.past self.new.past list.old.items list.new.items }
+        ensures ended { self.new.ended ≡ self.old.ended }
     {
         let depth = depth_over(self.limits.depth, &self.top);
         match self.spare.take() {
@@ -85,6 +86,7 @@ impl Task {
         ensures past { task_begun (view_of self.old) number chord object members.now arguments.first (view_of self.new) }
         ensures top { (view_of self.new).top ≡ Some number }
         ensures listed { AddsOne self.old.past self.new.past list.old.items list.new.items }
+        ensures ended { self.new.ended ≡ self.old.ended }
     {
         let arguments = arguments.into_args();
         self.resume_on(code, number, chord, object, members, arguments, list);
@@ -111,6 +113,7 @@ impl Task {
         ensures past { task_begun (view_of self.old) number chord object members.now arguments.first (view_of self.new) }
         ensures top { (view_of self.new).top ≡ Some number }
         ensures listed { AddsOne self.old.past self.new.past list.old.items list.new.items }
+        ensures ended { self.new.ended ≡ self.old.ended }
     {
         match arguments.contents {
             Contents::Nothing => {
@@ -155,6 +158,7 @@ impl Task {
         ensures past { task_begun (view_of self.old) number chord object members.now (laid (for_entry (gathered_in arguments.one arguments.more))) (view_of self.new) }
         ensures top { (view_of self.new).top ≡ Some number }
         ensures listed { AddsOne self.old.past self.new.past list.old.items list.new.items }
+        ensures ended { self.new.ended ≡ self.old.ended }
     {
         let Gathered { one, more } = arguments;
         match more {

@@ -1,7 +1,8 @@
 //! Tasks: stacks of bodies, each waiting for the one above it, and the entries that they made.
 //! Stands on: chord_base (entries), chord_code (what a code means), chord_vm (the machine of a body). Used by: many crates.
-//! Promise: the past of a task is a story of its code; `note` and `resume` add exactly the entry that they are told to it and to the
-//! list of whoever drew the entry, and take no memory.
+//! Promise: the past of a task is a story of its code. `turn` adds exactly the next ask of the body on top to it, and to the list of whoever
+//! drew the entry; so do `come` and then `settle`, and `prepare`, `reserve` and then `note`. The calls that resume add exactly the firing that
+//! they are told. `note`, `resume`, `resume_one` and `resume_gathered` take no memory.
 //! Not here: which body goes on next, and which chord fires (the engines).
 #![tactic(auto)]
 

@@ -1,7 +1,7 @@
 //! A stack of bodies, each waiting for the one above it, and the entries that they made.
 #![tactic(auto)]
 
-ghost use Rattle.std.specs.Prelude.{◌≡◌, ◌≢◌, ◌+◌, ◌-◌, ◌<◌, ◌≤◌, [], ◌∷◌, ◌++◌, true, false, IfOk, OnOk, IsOk, IsSomeAnd, IsTrue, ◌↔◌, Some, None, length, slice_get, is_none, vec_len, vec_capacity, Box};
+ghost use Rattle.std.specs.Prelude.{◌≡◌, ◌≢◌, ◌+◌, ◌-◌, ◌<◌, ◌≤◌, [], ◌∷◌, ◌++◌, true, false, IfOk, OnOk, OnErr, IsOk, IsSomeAnd, IsTrue, ◌↔◌, Some, None, length, slice_get, is_none, vec_len, vec_capacity, Box};
 ghost use Rattle.chord_base.specs.declared.event.Limits.{Limits as TheLimits};
 ghost use Rattle.chord_base.specs.declared.event.What.{What as AWhat};
 ghost use Rattle.chord_base.specs.Printed.{is_end};
@@ -10,11 +10,11 @@ ghost use Rattle.chord_code.specs.Meaning.{code_program, chord_lines};
 ghost use Rattle.chord_vm.specs.declared.frames.Frames.{Frames as TheFrames};
 ghost use Rattle.chord_vm.specs.Frames.{laid, what_of_ask};
 ghost use Rattle.chord_task.specs.declared.body.Body.{Body as ABody};
-ghost use Rattle.chord_task.specs.Arguments.{for_entry, AreTwice, MayBeList, IsList};
+ghost use Rattle.chord_task.specs.Arguments.{for_entry, AreTwice, MayBeList, IsList, HasOneAtMost};
 ghost use Rattle.chord_task.specs.Past.{AddsOne};
 ghost use Rattle.chord_task.specs.Turning.{RunsOn};
 ghost use Rattle.chord_task.specs.Stacks.{task_noted, task_begun, IsNext};
-ghost use Rattle.chord_task.specs.Standing.{view_of, IsTaskOf, HasGiven, IsReserved, IsResumable, MayNote, MayResume, is_ready_of, waits_of, room_of, callers_of, WaitsIfAny, LastIsReady, HasReturned, given_by, IsRoomierTop, HasRoomFor, IsSpareOf, IsReadyFor, MainBegins, CanNote};
+ghost use Rattle.chord_task.specs.Standing.{view_of, IsTaskOf, HasGiven, IsReserved, IsResumable, MayNote, MayResume, is_ready_of, waits_of, room_of, callers_of, WaitsIfAny, LastIsReady, HasReturned, given_by, IsRoomierTop, HasRoomFor, IsSpareOf, IsStocked, KeepsStock, KeepsFrames, IsReadyFor, MainBegins, CanNote};
 
 use crate::args::{Args, part_all};
 use crate::body::{Body, Caller, Next, call_back, come_to_ask, given, note_ask, put_after};
@@ -153,6 +153,7 @@ fn reserve_spare(
     ensures kept { HasRoomFor code.now limits.now spare.new }
     ensures some { OnOk result ((f : Box TheFrames Global) × (spare.new ≡ Some f) × IsSpareOf code.now limits.now f.value) }
     ensures served { spare.old ≡ None → IsSomeAnd ended.old (λ f. IsSpareOf code.now limits.now f.value) → (spare.new ≡ ended.old) × (ended.new ≡ None) × IsOk result }
+    ensures stocked { IsStocked code.now limits.now spare.old ended.old spare.new ended.new }
 {
     match spare {
         Some(_) => Ok(()),
@@ -300,6 +301,7 @@ fn reserve_top(alloc: Global, top: &mut Option<Body>) -> Result<(), AllocError>
 fn begun(list: &mut Vec<Entry>) -> Result<Past, AllocError>
     ensures past { IfOk result (λ past. past ≡ record { number = 0; body = 0; what = What.Begun } ∷ []) }
     ensures listed { OnOk result (list.new.items ≡ list.old.items ++ record { number = 0; body = 0; what = What.Begun } ∷ []) }
+    ensures kept { OnErr result (list.new.items ≡ list.old.items) }
 {
     list.reserve(1)?;
     let mut past = Past::none();
@@ -317,7 +319,7 @@ fn begun(list: &mut Vec<Entry>) -> Result<Past, AllocError>
 
 impl Task {
     #[tactic(auto, using(chord_code::proofs::Validity::valid_forward))]
-    /// Body 0, and the entry that begins it, which goes to the list.
+    /// Body 0, and the entry that begins it, which goes to the list. Where no memory is found, nothing was made.
     pub fn main(
         alloc: Global,
         code: &Code,
@@ -329,10 +331,11 @@ impl Task {
         ensures past { IfOk result (λ t. (view_of t).past ≡ record { number = 0; body = 0; what = What.Begun } ∷ []) }
         ensures top { IfOk result (λ t. (view_of t).top ≡ Some 0) }
         ensures listed { OnOk result (list.new.items ≡ list.old.items ++ record { number = 0; body = 0; what = What.Begun } ∷ []) }
+        ensures kept { OnErr result (list.new.items ≡ list.old.items) }
     {
-        let past = begun(list)?;
         let _parts = code.parts();
         let mut frames = new_frames(alloc, code, limits)?;
+        let past = begun(list)?;
         begin(code, &mut *frames, 0, Value::Unit, Hand::new(), 1);
         Ok(Task {
             past,
@@ -403,6 +406,7 @@ impl Task {
         ensures task { IfOk result (λ _. IsTaskOf code.now limits.now self.new) }
         ensures same { IfOk result (λ _. view_of self.new ≡ view_of self.old) }
         ensures gave { IfOk result (λ _. given_by self.new.top ≢ None) }
+        ensures stock { KeepsStock self.old self.new }
     {
         match &mut self.top {
             None => unreachable!(),
@@ -426,6 +430,7 @@ impl Task {
         ensures ready { OnOk result (IsReserved code.now self.new) }
         ensures listed { list.new.items ≡ list.old.items }
         ensures place { OnOk result (vec_len list.new < vec_capacity list.new) }
+        ensures stocked { OnOk result (IsStocked code.now self.old.limits self.old.spare self.old.ended self.new.spare self.new.ended) }
     {
         self.take_room(alloc, code, list)
     }
@@ -449,6 +454,7 @@ impl Task {
         ensures ready { OnOk result (IsReserved code.now self.new) }
         ensures listed { list.new.items ≡ list.old.items }
         ensures place { OnOk result (vec_len list.new < vec_capacity list.new) }
+        ensures stocked { OnOk result (IsStocked code.now self.old.limits self.old.spare self.old.ended self.new.spare self.new.ended) }
     {
         reserve_one(list)?;
         reserve_one(&mut self.below)?;
@@ -465,6 +471,7 @@ impl Task {
         requires place { vec_len list.old < vec_capacity list.old }
         ensures listed { AddsOne self.old.past self.new.past list.old.items list.new.items }
         ensures noted { (code : Parts) (limits : TheLimits) → IsTaskOf code limits self.old → (may : MayNote code limits self.old number) → IsTaskOf code limits self.new × task_noted (view_of self.old) number may.what (view_of self.new) × (is_end may.what ≡ false → (view_of self.new).top ≡ (view_of self.old).top) }
+        ensures frames { (w : AWhat) → given_by self.old.top ≡ Some w → KeepsFrames w self.old self.new }
     {
         match &mut self.top {
             None => unreachable!(),
@@ -521,6 +528,8 @@ impl Task {
         ensures past { task_begun (view_of self.old) number chord object members.now (laid (for_entry arguments)) (view_of self.new) }
         ensures top { (view_of self.new).top ≡ Some number }
         ensures listed { AddsOne self.old.past self.new.past list.old.items list.new.items }
+        ensures list { HasOneAtMost (for_entry arguments) → IsList self.new.values }
+        ensures ended { self.new.ended ≡ self.old.ended }
     {
         let depth = depth_over(self.limits.depth, &self.top);
         let parts = part_all(&mut self.values, arguments);
@@ -566,6 +575,7 @@ impl Task {
         ensures past { IfOk result (λ _. task_begun (view_of self.old) number chord object members.old values.old (view_of self.new)) }
         ensures top { IfOk result (λ _. (view_of self.new).top ≡ Some number) }
         ensures listed { OnOk result (AddsOne self.old.past self.new.past list.old.items list.new.items) }
+        ensures ended { self.new.ended ≡ self.old.ended }
     {
         let depth = depth_over(self.limits.depth, &self.top);
         let block = line_of(code, object.class, chord).block;
@@ -620,6 +630,7 @@ impl Task {
         ensures past { (view_of self.new).past ≡ [] }
         ensures top { (view_of self.new).top ≡ None }
         ensures task { (code : Parts) (limits : TheLimits) → IsTaskOf code limits self.old → IsTaskOf code limits self.new × IsResumable code self.new }
+        ensures stock { KeepsStock self.old self.new }
     {
         self.past = Past::none();
     }

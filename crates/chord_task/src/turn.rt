@@ -1,16 +1,19 @@
 //! A turn of a task: its next ask becomes an entry.
 #![tactic(auto)]
 
-ghost use Rattle.std.specs.Prelude.{◌≡◌, ◌≢◌, ℕ, List, ◌<◌, ◌+◌, ◌++◌, ◌∷◌, [], IfOk, OnOk, None, Some, true, vec_len, vec_capacity};
+ghost use Rattle.std.specs.Prelude.{◌≡◌, ◌≢◌, ℕ, List, ◌<◌, ◌++◌, ◌∷◌, [], IfOk, OnOk, OnErr, None, Some, true, vec_len, vec_capacity};
 ghost use Rattle.chord_base.specs.declared.event.End.{End as AnEnd};
 ghost use Rattle.chord_code.specs.Meaning.{code_program};
 ghost use Rattle.chord_vm.specs.Frames.{what_of_ask};
 ghost use Rattle.chord_task.specs.declared.body.Body.{Body as ABody};
-ghost use Rattle.chord_task.specs.Standing.{view_of, IsTaskOf, is_ready_of, given_by, LastIsReady, HasReturned};
+ghost use Rattle.chord_task.specs.declared.task.Task.{Task as ATask};
+ghost use Rattle.chord_task.specs.Standing.{view_of, IsTaskOf, is_ready_of, given_by, LastIsReady, HasReturned, HasRoomFor, HasMadeRoom, WasStocked, SettlesFrames};
+ghost use Rattle.chord_task.specs.Arguments.{MayBeList};
 ghost use Rattle.chord_task.specs.Past.{AddsOne};
-ghost use Rattle.chord_task.specs.Turning.{sent_to, sent_of, MayTurn, HasTurned, IsAskedFor, RunsOn, HasSettled, MaySettle, AreBare, IsBareEnd, OwnsNothing};
+ghost use Rattle.chord_task.specs.Turning.{sent_to, sent_of, MayTurn, HasTurned, RunsOn, HasSettled, AwaitsNumber, IsSecondOf, AreBare, IsBareEnd, OwnsNothing};
 
 use crate::body::{Body, Next, put};
+use crate::past::Past;
 use crate::task::{Task, end_top};
 use chord_base::event::{End, Entry, Limits, What};
 use chord_base::text::Text;
@@ -22,25 +25,24 @@ use chord_vm::step::advance_to;
 use std::alloc::{AllocError, Global};
 use std::mem;
 
-/// Adds an entry, for which there is room.
-fn append(list: &mut Vec<Entry>, number: u32, body: u32, what: What)
+/// Adds an entry to a past and to a list in which there is room. It is written to the list at once, and read there for the past.
+fn append(past: &mut Past, list: &mut Vec<Entry>, number: u32, body: u32, what: What)
     requires { vec_len list.old < vec_capacity list.old }
+    ensures past { past.new ≡ past.old ++ record { number = number; body = body; what = what } ∷ [] }
     ensures items { list.new.items ≡ list.old.items ++ record { number = number; body = body; what = what } ∷ [] }
-    ensures len { vec_len list.new ≡ vec_len list.old + 1 }
-    ensures capacity { vec_capacity list.new ≡ vec_capacity list.old }
 {
     list.push_reserved(Entry { number, body, what });
+    past.add_last(list);
 }
 
 /// Adds the entry of an object. Entries are written by functions that take small things alone, since the place of a large one is cleared at each turn.
 #[inline(never)]
-fn append_made(list: &mut Vec<Entry>, number: u32, body: u32, class: u16)
+fn append_made(past: &mut Past, list: &mut Vec<Entry>, number: u32, body: u32, class: u16)
     requires { vec_len list.old < vec_capacity list.old }
+    ensures past { past.new ≡ past.old ++ record { number = number; body = body; what = What.Made class } ∷ [] }
     ensures items { list.new.items ≡ list.old.items ++ record { number = number; body = body; what = What.Made class } ∷ [] }
-    ensures len { vec_len list.new ≡ vec_len list.old + 1 }
-    ensures capacity { vec_capacity list.new ≡ vec_capacity list.old }
 {
-    append(list, number, body, What::Made(class));
+    append(past, list, number, body, What::Made(class));
 }
 
 /// Takes out the text that a body prints.
@@ -57,18 +59,18 @@ fn take_text(asked: &mut Option<Ask>) -> Text
 
 /// Adds the entry of a line.
 #[inline(never)]
-fn append_printed(list: &mut Vec<Entry>, number: u32, body: u32, text: Text)
+fn append_printed(past: &mut Past, list: &mut Vec<Entry>, number: u32, body: u32, text: Text)
     requires { vec_len list.old < vec_capacity list.old }
+    ensures past { past.new ≡ past.old ++ record { number = number; body = body; what = What.Printed text } ∷ [] }
     ensures items { list.new.items ≡ list.old.items ++ record { number = number; body = body; what = What.Printed text } ∷ [] }
-    ensures len { vec_len list.new ≡ vec_len list.old + 1 }
-    ensures capacity { vec_capacity list.new ≡ vec_capacity list.old }
 {
-    append(list, number, body, What::Printed(text));
+    append(past, list, number, body, What::Printed(text));
 }
 
 /// Adds the entry of an asynchronous message, whose arguments are taken. None and a lone number are written as they are read, in small pieces.
 #[inline(never)]
 fn append_sent(
+    past: &mut Past,
     list: &mut Vec<Entry>,
     number: u32,
     body: u32,
@@ -77,13 +79,13 @@ fn append_sent(
     arguments: &mut Values,
 )
     requires { vec_len list.old < vec_capacity list.old }
+    ensures past { past.new ≡ past.old ++ record { number = number; body = body; what = What.Sent object method arguments.old } ∷ [] }
     ensures items { list.new.items ≡ list.old.items ++ record { number = number; body = body; what = What.Sent object method arguments.old } ∷ [] }
-    ensures len { vec_len list.new ≡ vec_len list.old + 1 }
-    ensures capacity { vec_capacity list.new ≡ vec_capacity list.old }
     ensures bare { AreBare arguments.new }
 {
     match arguments.items() {
         [] => append(
+            past,
             list,
             number,
             body,
@@ -91,11 +93,11 @@ fn append_sent(
         ),
         [Value::Int(lone)] => {
             let lone = Values::one(Value::Int(*lone));
-            append(list, number, body, What::Sent(object, method, lone));
+            append(past, list, number, body, What::Sent(object, method, lone));
         }
         _ => {
             let taken = mem::replace(arguments, Values::none());
-            append(list, number, body, What::Sent(object, method, taken));
+            append(past, list, number, body, What::Sent(object, method, taken));
         }
     }
 }
@@ -103,6 +105,7 @@ fn append_sent(
 /// Adds the entry of a call, whose arguments are taken as those of an asynchronous message are.
 #[inline(never)]
 fn append_called(
+    past: &mut Past,
     list: &mut Vec<Entry>,
     number: u32,
     body: u32,
@@ -111,13 +114,13 @@ fn append_called(
     arguments: &mut Values,
 )
     requires { vec_len list.old < vec_capacity list.old }
+    ensures past { past.new ≡ past.old ++ record { number = number; body = body; what = What.Called object method arguments.old } ∷ [] }
     ensures items { list.new.items ≡ list.old.items ++ record { number = number; body = body; what = What.Called object method arguments.old } ∷ [] }
-    ensures len { vec_len list.new ≡ vec_len list.old + 1 }
-    ensures capacity { vec_capacity list.new ≡ vec_capacity list.old }
     ensures bare { AreBare arguments.new }
 {
     match arguments.items() {
         [] => append(
+            past,
             list,
             number,
             body,
@@ -125,12 +128,50 @@ fn append_called(
         ),
         [Value::Int(lone)] => {
             let lone = Values::one(Value::Int(*lone));
-            append(list, number, body, What::Called(object, method, lone));
+            append(past, list, number, body, What::Called(object, method, lone));
         }
         _ => {
             let taken = mem::replace(arguments, Values::none());
-            append(list, number, body, What::Called(object, method, taken));
+            append(
+                past,
+                list,
+                number,
+                body,
+                What::Called(object, method, taken),
+            );
         }
+    }
+}
+
+/// Adds the entry of an end, which is taken. A number is looked for first.
+#[inline(always)]
+fn append_ended(past: &mut Past, list: &mut Vec<Entry>, number: u32, body: u32, end: &mut End)
+    requires { vec_len list.old < vec_capacity list.old }
+    ensures past { past.new ≡ past.old ++ record { number = number; body = body; what = What.Ended end.old } ∷ [] }
+    ensures items { list.new.items ≡ list.old.items ++ record { number = number; body = body; what = What.Ended end.old } ∷ [] }
+    ensures bare { IsBareEnd end.new }
+{
+    match end {
+        End::Gives(Value::Int(lone)) => {
+            let lone = End::Gives(Value::Int(*lone));
+            append(past, list, number, body, What::Ended(lone));
+        }
+        _ => {
+            let taken = mem::replace(end, End::Gives(Value::Unit));
+            append(past, list, number, body, What::Ended(taken));
+        }
+    }
+}
+
+/// A copy of the end that this ask is; of another ask, none. A number is looked for first.
+#[inline(always)]
+fn second_end(alloc: Global, asked: &Option<Ask>) -> Result<Option<End>, AllocError>
+    ensures { IfOk result (λ second. IsSecondOf second asked.now) }
+{
+    match asked {
+        Some(Ask::End(End::Gives(Value::Int(lone)))) => Ok(Some(End::Gives(Value::Int(*lone)))),
+        Some(Ask::End(end)) => Ok(Some(end.copied(alloc)?)),
+        _ => Ok(None),
     }
 }
 
@@ -188,6 +229,7 @@ impl Task {
         requires may { MayTurn (code_program code.now limits.now) (view_of self.old) number }
         ensures turned { IfOk result (λ sent. HasTurned code.now limits.now self.old self.new number sent) }
         ensures listed { OnOk result (AddsOne self.old.past self.new.past list.old.items list.new.items) }
+        ensures stocked { OnOk result (WasStocked code.now self.old self.new) }
     {
         if self.runs() {
             return self.run_turn(alloc, code, limits, number, list);
@@ -239,6 +281,7 @@ impl Task {
         requires may { MayTurn (code_program code.now limits.now) (view_of self.old) number }
         ensures turned { IfOk result (λ sent. HasTurned code.now limits.now self.old self.new number sent) }
         ensures listed { OnOk result (AddsOne self.old.past self.new.past list.old.items list.new.items) }
+        ensures stocked { OnOk result (WasStocked code.now self.old self.new) }
     {
         self.prepare(alloc, code, limits)?;
         self.reserve(alloc, code, list)?;
@@ -261,87 +304,91 @@ impl Task {
         requires may { MayTurn (code_program code.now limits.now) (view_of self.old) number }
         ensures turned { IfOk result (λ sent. HasTurned code.now limits.now self.old self.new number sent) }
         ensures listed { OnOk result (AddsOne self.old.past self.new.past list.old.items list.new.items) }
+        ensures stocked { OnOk result (WasStocked code.now self.old self.new) }
     {
         match &mut self.top {
             None => unreachable!(),
             Some(body) => {
                 let mut asked = None;
                 advance_to(alloc, code, &mut *body.frames, &mut asked)?;
-                let settled = self.settle(alloc, code, number, &mut asked, list);
-                if settled.is_err() {
-                    drop_ask(&mut asked);
+                match self.make_room(alloc, code, &asked, list) {
+                    Ok(second) => {
+                        let sent = self.settle(code, number, &mut asked, second, list);
+                        forget_ask(asked);
+                        Ok(sent)
+                    }
+                    Err(error) => Err(error),
                 }
-                forget_ask(asked);
-                settled
             }
         }
     }
 
-    /// The body on top ends: its end, which is taken, becomes the entry of this number, and its caller gets a copy. A number is looked for first.
-    #[inline(never)]
-    fn end_turn(
-        &mut self,
-        alloc: Global,
-        number: u32,
-        end: &mut End,
-        list: &mut Vec<Entry>,
-    ) -> Result<(), AllocError>
-        requires place { vec_len list.old < vec_capacity list.old }
-        requires runs { RunsOn self.old.top }
-        requires ready { LastIsReady self.old.below.items }
-        ensures past { OnOk result ((b : ABody) → self.old.top ≡ Some b → self.new.past ≡ self.old.past ++ record { number = number; body = b.number; what = What.Ended end.old } ∷ []) }
-        ensures items { OnOk result ((b : ABody) → self.old.top ≡ Some b → list.new.items ≡ list.old.items ++ record { number = number; body = b.number; what = What.Ended end.old } ∷ []) }
-        ensures below { OnOk result (vec_capacity self.new.below ≡ vec_capacity self.old.below) }
-        ensures ended { OnOk result (HasReturned end.old self.old.below self.new.below self.new.top) }
-        ensures rest { OnOk result (self.new ≡ record { past = self.new.past; top = self.new.top; below = self.new.below; spare = self.old.spare; ended = self.new.ended; values = self.old.values; limits = self.old.limits; enclosed = self.old.enclosed }) }
-        ensures bare { OnOk result (IsBareEnd end.new) }
-    {
-        let maker = number_of(&self.top);
-        match end {
-            End::Gives(Value::Int(lone)) => {
-                let lone = *lone;
-                append(
-                    list,
-                    number,
-                    maker,
-                    What::Ended(End::Gives(Value::Int(lone))),
-                );
-                self.past.add_last(list);
-                let second = End::Gives(Value::Int(lone));
-                end_top(&mut self.top, &mut self.below, &mut self.ended, second);
-            }
-            _ => {
-                let second = end.copied(alloc)?;
-                let first = mem::replace(end, End::Gives(Value::Unit));
-                append(list, number, maker, What::Ended(first));
-                self.past.add_last(list);
-                end_top(&mut self.top, &mut self.below, &mut self.ended, second);
-            }
-        }
-        Ok(())
-    }
-
-    /// The ask to which the body on top came becomes the entry of this number: what owns memory is taken out of it, so that what is left may be forgotten. An object, a message and a line are
-    /// answered; a call waits. After an end the body below is answered by it. Gives what a message is to, where the entry is one. Where no memory is
-    /// found, the ask is as it was, and the task can only be dropped.
+    /// Makes room for the entry of an ask that is with its caller, and for a firing after it, and takes a copy of an end, for the body below. So whoever draws the
+    /// entry's number after that can settle it, whatever memory there is then. Nothing else of the task changes, and nothing of the list.
     #[inline(always)]
-    pub fn settle(
+    pub fn make_room(
         &mut self,
         alloc: Global,
         code: &Code,
-        number: u32,
-        asked: &mut Option<Ask>,
+        asked: &Option<Ask>,
         list: &mut Vec<Entry>,
-    ) -> Result<Option<(Object, u8)>, AllocError>
-        requires some { asked.old ≢ None }
-        requires asked { (a : Ask) → asked.old ≡ Some a → IsAskedFor code.now self.old (what_of_ask a) }
-        requires may { (a : Ask) → asked.old ≡ Some a → MaySettle code.now self.old number (what_of_ask a) }
-        ensures settled { IfOk result (λ sent. (a : Ask) × (asked.old ≡ Some a) × HasSettled code.now self.old number (what_of_ask a) self.new × (sent ≡ sent_to (what_of_ask a))) }
-        ensures listed { OnOk result (AddsOne self.old.past self.new.past list.old.items list.new.items) }
-        ensures bare { OnOk result (OwnsNothing asked.new) }
-        ensures over { OnOk result ((e : AnEnd) → asked.old ≡ Some (Ask.End e) → vec_len self.old.below ≡ 0 → self.new.top ≡ None) }
+    ) -> Result<Option<End>, AllocError>
+        requires spare { HasRoomFor code.now self.old.limits self.old.spare }
+        requires values { MayBeList self.old.values }
+        ensures room { OnOk result (HasMadeRoom code.now self.old self.new) }
+        ensures place { OnOk result (vec_len list.new < vec_capacity list.new) }
+        ensures second { IfOk result (λ second. IsSecondOf second asked.now) }
+        ensures listed { list.new.items ≡ list.old.items }
     {
         self.take_room(alloc, code, list)?;
+        second_end(alloc, asked)
+    }
+
+    /// The body on top ends: its end, which is taken, becomes the entry of this number, and its caller gets the copy.
+    #[inline(never)]
+    fn end_turn(&mut self, number: u32, end: &mut End, second: Option<End>, list: &mut Vec<Entry>)
+        requires place { vec_len list.old < vec_capacity list.old }
+        requires runs { RunsOn self.old.top }
+        requires ready { LastIsReady self.old.below.items }
+        requires second { second ≡ Some end.old }
+        ensures past { (b : ABody) → self.old.top ≡ Some b → self.new.past ≡ self.old.past ++ record { number = number; body = b.number; what = What.Ended end.old } ∷ [] }
+        ensures items { (b : ABody) → self.old.top ≡ Some b → list.new.items ≡ list.old.items ++ record { number = number; body = b.number; what = What.Ended end.old } ∷ [] }
+        ensures below { vec_capacity self.new.below ≡ vec_capacity self.old.below }
+        ensures ended { HasReturned end.old self.old.below self.new.below self.new.top }
+        ensures rest { self.new ≡ record { past = self.new.past; top = self.new.top; below = self.new.below; spare = self.old.spare; ended = self.new.ended; values = self.old.values; limits = self.old.limits; enclosed = self.old.enclosed } }
+        ensures bare { IsBareEnd end.new }
+        ensures frames { (b : ABody) → self.old.top ≡ Some b → self.new.ended ≡ Some b.frames }
+    {
+        let maker = number_of(&self.top);
+        append_ended(&mut self.past, list, number, maker, end);
+        match second {
+            None => unreachable!(),
+            Some(second) => end_top(&mut self.top, &mut self.below, &mut self.ended, second),
+        }
+    }
+
+    /// The ask to which the body on top came becomes the entry of this number, once there is room for it: what owns memory is taken out of it, so that what is
+    /// left may be forgotten. A new object is the body's answer, a message and a line need none, and after a call the body waits. An end answers the body
+    /// below by its copy. Gives what a message is to, where the entry is one.
+    #[inline(always)]
+    pub fn settle(
+        &mut self,
+        code: &Code,
+        number: u32,
+        asked: &mut Option<Ask>,
+        second: Option<End>,
+        list: &mut Vec<Entry>,
+    ) -> Option<(Object, u8)>
+        requires some { asked.old ≢ None }
+        requires awaits { (t : ATask) × AwaitsNumber code.now t self.old number asked.old }
+        requires place { vec_len list.old < vec_capacity list.old }
+        requires second { IsSecondOf second asked.old }
+        ensures settled { (t : ATask) → AwaitsNumber code.now t self.old number asked.old → (a : Ask) × (asked.old ≡ Some a) × HasSettled code.now t number (what_of_ask a) self.new × (result ≡ sent_to (what_of_ask a)) }
+        ensures listed { AddsOne self.old.past self.new.past list.old.items list.new.items }
+        ensures bare { OwnsNothing asked.new }
+        ensures over { (t : ATask) → HasMadeRoom code.now t self.old → (e : AnEnd) → asked.old ≡ Some (Ask.End e) → vec_len t.below ≡ 0 → self.new.top ≡ None }
+        ensures frames { (t : ATask) → HasMadeRoom code.now t self.old → (a : Ask) → asked.old ≡ Some a → SettlesFrames code.now t (what_of_ask a) self.new }
+    {
         match &mut self.top {
             None => unreachable!(),
             Some(body) => {
@@ -353,30 +400,26 @@ impl Task {
                         Ask::Make(class) => {
                             let class = *class;
                             answer(&mut *body.frames, Value::Ref(Object { number, class }));
-                            append_made(list, number, maker, class);
-                            past.add_last(list);
-                            Ok(None)
+                            append_made(past, list, number, maker, class);
+                            None
                         }
                         // what was sent or printed is not answered: the body runs on
                         Ask::Send(object, method, arguments) => {
-                            append_sent(list, number, maker, *object, *method, arguments);
-                            past.add_last(list);
-                            Ok(Some((*object, *method)))
+                            append_sent(past, list, number, maker, *object, *method, arguments);
+                            Some((*object, *method))
                         }
                         Ask::Call(object, method, arguments) => {
                             put(&mut body.next, Next::Waits(number));
-                            append_called(list, number, maker, *object, *method, arguments);
-                            past.add_last(list);
-                            Ok(Some((*object, *method)))
+                            append_called(past, list, number, maker, *object, *method, arguments);
+                            Some((*object, *method))
                         }
                         Ask::Print(_) => {
-                            append_printed(list, number, maker, take_text(asked));
-                            past.add_last(list);
-                            Ok(None)
+                            append_printed(past, list, number, maker, take_text(asked));
+                            None
                         }
                         Ask::End(end) => {
-                            self.end_turn(alloc, number, end, list)?;
-                            Ok(None)
+                            self.end_turn(number, end, second, list);
+                            None
                         }
                     },
                 }

@@ -97,9 +97,9 @@ fn paired(alloc: Global) -> Result<ClassLine, Fail>
             parameters: 0
         },
     ]?;
-    let mut numbers = MethodNumbers::new(alloc);
-    numbers.push(0)?;
-    numbers.push(1)?;
+    let mut numbers = MethodNumbers::new();
+    numbers.push(0);
+    numbers.push(1);
     let chords = vec![in alloc;
         ChordLine {
             block: 1,

@@ -95,16 +95,16 @@ fn method(alloc: Global, sync: bool, parameters: u8) -> Result<MethodLine, Fail>
 }
 
 /// The headers of the chord.
-fn headers(alloc: Global, first: u8, second: u8) -> Result<MethodNumbers, Fail> {
-    let mut headers = MethodNumbers::new(alloc);
-    headers.push(first)?;
-    headers.push(second)?;
-    Ok(headers)
+fn headers(first: u8, second: u8) -> MethodNumbers {
+    let mut headers = MethodNumbers::new();
+    headers.push(first);
+    headers.push(second);
+    headers
 }
 
 /// The class of a case.
 fn class(alloc: Global, case: &Case) -> Result<ClassLine, Fail> {
-    let methods = headers(alloc, case.methods[0], case.methods[1])?;
+    let methods = headers(case.methods[0], case.methods[1]);
     let chords = vec![in alloc;
         ChordLine {
             block: case.block,

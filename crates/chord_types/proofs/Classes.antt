@@ -1,5 +1,6 @@
 -- What is said of the members of a class and of classes, one after another.
 use Rattle.std.proofs.Common.{◌≡◌, ℕ, ◌+◌, ◌++◌, List, [], ◌∷◌, sym, ap, ◌∙◌, Option, None, map}
+use Rattle.std.specs.Prelude.{sum_by}
 use Rattle.chord_tree.specs.Tree.{MemberTree, ClassTree}
 use Rattle.chord_bodies.specs.declared.body.Body.{Body}
 use Rattle.chord_bodies.specs.Resolved.{BodyOf}
@@ -8,6 +9,7 @@ use Rattle.chord_classes.specs.Table.{Shape}
 use Rattle.chord_classes.specs.Resolve.{resolved_member, resolved_classes}
 use Rattle.chord_classes.specs.Least.{least}
 use Rattle.chord_types.specs.MemberChecked.{IsMemberChecked, member_breaks}
+use Rattle.chord_types.specs.Flat.{doubled_body, AreFlat}
 use Rattle.chord_types.specs.Answer.{AreMembersChecked, AreClassesChecked, members_breaks, classes_breaks}
 use Rattle.chord_classes.proofs.Leasts.{least_append}
 use Rattle.chord_types.proofs.Notes.{nothing_before, nothing_after, append_more}
@@ -28,10 +30,11 @@ member_less table own all rest member found0 found more before bodies body h k =
 }
 
 -- all members were looked at
-pub members_checked : (table : List Shape) (own : ℕ) (all rest : List MemberTree) (found0 found : Option ℕ) (before bodies : List Body) → rest ≡ [] → MembersLeft table own all rest found0 found (map view_body before) (map view_body bodies) → AreMembersChecked table own all found0 found before bodies
-members_checked table own all rest found0 found before bodies e h = record {
+pub members_checked : (table : List Shape) (own : ℕ) (all rest : List MemberTree) (found0 found : Option ℕ) (before bodies : List Body) → rest ≡ [] → MembersLeft table own all rest found0 found (map view_body before) (map view_body bodies) → sum_by doubled_body bodies ≡ sum_by doubled_body before → AreMembersChecked table own all found0 found before bodies
+members_checked table own all rest found0 found before bodies e h hf = record {
   built = λ class n. sym (nothing_after (map view_body bodies)) ∙ ap (λ z. map view_body bodies ++ map (resolved_member table own class) z) (sym e) ∙ h.built class n;
   noted = λ class. ap (λ z. least found (members_breaks table own class z)) (sym e) ∙ h.noted class;
+  flat = hf;
 }
 
 -- Of classes the first were looked at, and what is left gives the whole.
@@ -50,8 +53,9 @@ class_less table number all rest class found0 found more before bodies h k = rec
 }
 
 -- all classes were looked at
-pub classes_checked : (table : List Shape) (number : ℕ) (all rest : List ClassTree) (found0 found : Option ℕ) (bodies : List Body) → rest ≡ [] → ClassesLeft table number all rest found0 found (map view_body bodies) → AreClassesChecked table all found0 found bodies
-classes_checked table number all rest found0 found bodies e h = record {
+pub classes_checked : (table : List Shape) (number : ℕ) (all rest : List ClassTree) (found0 found : Option ℕ) (bodies : List Body) → rest ≡ [] → ClassesLeft table number all rest found0 found (map view_body bodies) → AreFlat bodies → AreClassesChecked table all found0 found bodies
+classes_checked table number all rest found0 found bodies e h hf = record {
   built = λ n. sym (nothing_after (map view_body bodies)) ∙ ap (λ z. map view_body bodies ++ resolved_classes table number z) (sym e) ∙ h.built n;
   noted = ap (λ z. least found (classes_breaks table number z)) (sym e) ∙ h.noted;
+  flat = hf;
 }

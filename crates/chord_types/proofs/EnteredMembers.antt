@@ -1,5 +1,6 @@
 -- What is said of members and of the parameters that are declared, from what is said of their parts.
 use Rattle.std.proofs.Common.{◌≡◌, ℕ, ◌+◌, ◌*◌, ◌++◌, List, [], ◌∷◌, refl, sym, ap, ◌∙◌, Option, Some, None, length, map, option_map, arith}
+use Rattle.std.specs.Prelude.{sum_by}
 use Rattle.std.specs.Borrow.{Bor}
 use Rattle.chord_tree.specs.declared.names.ValueType.{ValueType}
 use Rattle.chord_tree.specs.declared.classes.Formal.{Formal}
@@ -21,6 +22,7 @@ use Rattle.chord_types.specs.declared.site.Site.{Site}
 use Rattle.chord_types.specs.Sites.{see_site, declares, Declares}
 use Rattle.chord_types.specs.StmtChecked.{IsBlockChecked, block_breaks}
 use Rattle.chord_types.specs.MemberChecked.{DeclaresAll, IsEntered, IsMemberChecked, formal_statics, declares_all}
+use Rattle.chord_types.specs.Flat.{doubled_stmt, doubled_body}
 use Rattle.chord_classes.proofs.Leasts.{noted_three, least_append}
 use Rattle.chord_types.proofs.Notes.{nothing_before, nothing_after, append_more}
 use Rattle.chord_types.proofs.Items.{map_append}
@@ -89,10 +91,11 @@ pub member_checked : (table : List Shape) (own : ℕ) (member : MemberTree) (fir
     → late ≡ least mid (keys 2 (undeclared_member table member)) → new ≡ least late (keys 17 (unreturned member))
     → due ≡ option_map (λ (written : Bor ValueType). type_known table written.now) last.due
     → view_body body ≡ record { class = own; is_main = last.in_main; is_constructor = is_builder member; parameters = first.types.items; locals = last.types.items; result = due; stmts = stmt_list (map view_stmt stmts) }
-    → IsMemberChecked table own member old new body
-member_checked table own member first begin last old mid late new stmts due body e hb ht h hl hn hd hv = record {
+    → doubled_body body ≡ sum_by doubled_stmt stmts → IsMemberChecked table own member old new body
+member_checked table own member first begin last old mid late new stmts due body e hb ht h hl hn hd hv hf = record {
   built = λ class n. hv ∙ body_is class (nothing_before mid late (keys 2 (undeclared_member table member)) hl (nothing_before late new (keys 17 (unreturned member)) hn n));
   noted = λ class. noted_three old mid late new (block_breaks (enter table own class member) (body_of member)) (keys 2 (undeclared_member table member)) (keys 17 (unreturned member)) (h.noted ∙ ap (λ z. least old (block_breaks z (body_of member))) (site_is class)) hl hn;
+  flat = hf ∙ h.flat;
 }
   where
     site_is : (class : ClassTree) → see_site begin ≡ enter table own class member

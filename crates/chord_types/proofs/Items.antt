@@ -1,5 +1,6 @@
 -- What is said of statements, items and blocks, from what is said of their parts.
 use Rattle.std.proofs.Common.{◌≡◌, ℕ, ◌+◌, ◌≤◌, ◌++◌, List, [], ◌∷◌, refl, sym, ap, subst, ◌∙◌, Option, None, length, map, take, arith}
+use Rattle.std.specs.Prelude.{sum_by}
 use Rattle.chord_tree.specs.declared.names.ValueType.{ValueType}
 use Rattle.chord_tree.specs.Tree.{ExprTree, StmtTree, BlockTree, ItemTree, LocalItem, StmtItem, BlockStmt, IfStmt, IfElseStmt, WhileStmt, MakeBlock, items}
 use Rattle.chord_tree.specs.Terms.{term}
@@ -19,6 +20,7 @@ use Rattle.chord_classes.specs.Least.{keys, least}
 use Rattle.chord_classes.specs.AllNotes.{term_keys, item_keys}
 use Rattle.chord_types.specs.declared.site.Site.{Site}
 use Rattle.chord_types.specs.Sites.{see_site}
+use Rattle.chord_types.specs.Flat.{doubled, doubled_stmt}
 use Rattle.chord_types.specs.StmtChecked.{IsPlainStmt, IsCondition, IsItemChecked, AreItemsChecked, IsBlockChecked, stmt_breaks, block_breaks, items_breaks, item_breaks, resolved_item, item_locals, behind, after_items}
 use Rattle.chord_classes.proofs.Leasts.{noted_two, least_append}
 use Rattle.chord_types.proofs.Notes.{and_nothing, nothing_before, nothing_after, append_more}
@@ -46,15 +48,17 @@ pub plain_item : (old : Site) (stmt : StmtTree) (found more : Option ℕ) (made 
 plain_item old stmt found more made e h = record {
   built = h.built;
   noted = h.noted;
+  flat = h.flat;
   types = sym (ap (λ z. old.types.items ++ map (type_known old.table.now) z) e ∙ nothing_after old.types.items);
   site = nothing_added (see_site old) (stmt_locals stmt) e;
 }
 
 -- a block is a statement
-pub block_item : (old new : Site) (block : BlockTree) (found more : Option ℕ) (inner : List Stmt) (made : Stmt) → IsBlockChecked old new block found more inner → view_stmt made ≡ to.Block (stmt_list (map view_stmt inner)) → IsItemChecked old new (StmtItem (BlockStmt block)) found more made
-block_item old new block found more inner made h hv = record {
+pub block_item : (old new : Site) (block : BlockTree) (found more : Option ℕ) (inner : List Stmt) (made : Stmt) → IsBlockChecked old new block found more inner → view_stmt made ≡ to.Block (stmt_list (map view_stmt inner)) → doubled_stmt made ≡ sum_by doubled_stmt inner → IsItemChecked old new (StmtItem (BlockStmt block)) found more made
+block_item old new block found more inner made h hv hf = record {
   built = λ e. hv ∙ ap to.Block (h.built e);
   noted = and_nothing found more (block_breaks (see_site old) block) h.noted;
+  flat = hf ∙ h.flat;
   types = h.types;
   site = h.site;
 }
@@ -74,20 +78,22 @@ module _ (old : Site) (at bracket : ℕ) (test : ExprTree) (found mid : Option �
 
   -- `if` without `else`
   pub if_item : (new : Site) (first : StmtTree) (more : Option ℕ) (inner made : Stmt) → IsCondition (see_site old) at test found mid condition → IsItemChecked old new (StmtItem first) mid more inner
-      → view_stmt made ≡ to.IfThen (view_expr condition) (view_stmt inner) → IsItemChecked old new (StmtItem (IfStmt at bracket test first)) found more made
-  if_item new first more inner made h k hv = record {
+      → view_stmt made ≡ to.IfThen (view_expr condition) (view_stmt inner) → doubled_stmt made ≡ doubled condition + doubled_stmt inner → IsItemChecked old new (StmtItem (IfStmt at bracket test first)) found more made
+  if_item new first more inner made h k hv hf = record {
     built = λ e. hv ∙ ap (λ z. to.IfThen z (view_stmt inner)) (h.built (nothing_before mid more (stmt_breaks (see_site old) first) k.noted e)) ∙ ap (to.IfThen (resolved (see_site old) (term test))) (k.built e);
     noted = tested found mid more a x (stmt_breaks (see_site old) first) h.noted k.noted;
+    flat = let b = h.flat in let d = k.flat in omega arith;
     types = k.types;
     site = k.site;
   }
 
   -- `while`
   pub while_item : (new : Site) (first : StmtTree) (more : Option ℕ) (inner made : Stmt) → IsCondition (see_site old) at test found mid condition → IsItemChecked old new (StmtItem first) mid more inner
-      → view_stmt made ≡ to.While (view_expr condition) (view_stmt inner) → IsItemChecked old new (StmtItem (WhileStmt at bracket test first)) found more made
-  while_item new first more inner made h k hv = record {
+      → view_stmt made ≡ to.While (view_expr condition) (view_stmt inner) → doubled_stmt made ≡ doubled condition + doubled_stmt inner → IsItemChecked old new (StmtItem (WhileStmt at bracket test first)) found more made
+  while_item new first more inner made h k hv hf = record {
     built = λ e. hv ∙ ap (λ z. to.While z (view_stmt inner)) (h.built (nothing_before mid more (stmt_breaks (see_site old) first) k.noted e)) ∙ ap (to.While (resolved (see_site old) (term test))) (k.built e);
     noted = tested found mid more a x (stmt_breaks (see_site old) first) h.noted k.noted;
+    flat = let b = h.flat in let d = k.flat in omega arith;
     types = k.types;
     site = k.site;
   }
@@ -95,8 +101,9 @@ module _ (old : Site) (at bracket : ℕ) (test : ExprTree) (found mid : Option �
   -- `if` with `else`
   pub if_else_item : (between new : Site) (first second : StmtTree) (late more : Option ℕ) (one other made : Stmt) → IsCondition (see_site old) at test found mid condition
       → IsItemChecked old between (StmtItem first) mid late one → IsItemChecked between new (StmtItem second) late more other
-      → view_stmt made ≡ to.IfElse (view_expr condition) (view_stmt one) (view_stmt other) → IsItemChecked old new (StmtItem (IfElseStmt at bracket test first second)) found more made
-  if_else_item between new first second late more one other made h k l hv = record {
+      → view_stmt made ≡ to.IfElse (view_expr condition) (view_stmt one) (view_stmt other) → doubled_stmt made ≡ doubled condition + doubled_stmt one + doubled_stmt other
+      → IsItemChecked old new (StmtItem (IfElseStmt at bracket test first second)) found more made
+  if_else_item between new first second late more one other made h k l hv hf = record {
     built = λ e.
         let later = nothing_before late more (stmt_breaks (see_site between) second) l.noted e in
         let earlier = nothing_before mid late (stmt_breaks (see_site old) first) k.noted later in
@@ -104,6 +111,7 @@ module _ (old : Site) (at bracket : ℕ) (test : ExprTree) (found mid : Option �
         ∙ ap (to.IfElse (resolved (see_site old) (term test)) (resolved_stmt (see_site old) first)) (l.built e ∙ ap (λ z. resolved_stmt z second) k.site);
     noted = tested found mid more a x (stmt_breaks (see_site old) first ++ stmt_breaks (after (see_site old) (StmtItem first)) second) h.noted
         (noted_two mid late more (stmt_breaks (see_site old) first) (stmt_breaks (after (see_site old) (StmtItem first)) second) k.noted (l.noted ∙ ap (λ z. least late (stmt_breaks z second)) k.site));
+    flat = let b = h.flat in let d = k.flat in let e = l.flat in omega arith;
     types = l.types ∙ ap (λ z. z ++ map (type_known between.table.now) (stmt_locals second)) k.types ∙ ap (λ z. (old.types.items ++ map (type_known old.table.now) (stmt_locals first)) ++ map (type_known z) (stmt_locals second)) (ap (λ (s : sites.Site). s.table) k.site)
         ∙ sym (append_more old.types.items (map (type_known old.table.now) (stmt_locals first)) (map (type_known old.table.now) (stmt_locals second)))
         ∙ ap (λ z. old.types.items ++ z) (sym (map_append (type_known old.table.now) (stmt_locals first) (stmt_locals second)));
@@ -163,10 +171,11 @@ one_less old now next all rest item found0 found more made one h k = record {
     same_table (StmtItem stmt) e = ap (λ (s : sites.Site). s.table) e
 
 -- all items were looked at
-pub no_items_left : (old now : Site) (all rest : List ItemTree) (found0 found : Option ℕ) (made : List Stmt) → rest ≡ [] → AreLeft old now all rest found0 found (map view_stmt made) → AreItemsChecked old now all found0 found made
-no_items_left old now all rest found0 found made e h = record {
+pub no_items_left : (old now : Site) (all rest : List ItemTree) (found0 found : Option ℕ) (made : List Stmt) → rest ≡ [] → AreLeft old now all rest found0 found (map view_stmt made) → sum_by doubled_stmt made ≡ 0 → AreItemsChecked old now all found0 found made
+no_items_left old now all rest found0 found made e h hf = record {
   built = λ n. ap stmt_list (sym (nothing_after (map view_stmt made)) ∙ ap (λ z. map view_stmt made ++ each_resolved (see_site now) z) (sym e)) ∙ h.built n;
   noted = ap (λ z. least found (items_breaks (see_site now) (items z))) (sym e) ∙ h.noted;
+  flat = hf;
   types = sym (nothing_after now.types.items) ∙ ap (λ z. now.types.items ++ map (type_known now.table.now) (items_locals (items z))) (sym e) ∙ h.types;
   site = ap (after_items (see_site now)) (sym e) ∙ h.site;
 }
@@ -206,6 +215,7 @@ pub block_checked : (old mid new : Site) (all : List ItemTree) (end : ℕ) (foun
 block_checked old mid new all end found more made count h hcount htypes htable hown hmain hdue hnext hscope = record {
   built = h.built;
   noted = h.noted;
+  flat = h.flat;
   types = ap (λ z. z.items) htypes ∙ h.types;
   site = rw (htable, hown, hmain, hdue, hnext, hscope, hcount) (by_parts (after_items (see_site old) all) (see_site mid) h.site (leaves (see_site old) all));
 }

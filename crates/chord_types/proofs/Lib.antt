@@ -3,6 +3,7 @@ mod Notes
 mod Lists
 mod ScopePlaces
 mod Growth
+mod Doubled
 mod CallNotes
 mod PlainStmts
 mod Items

@@ -1,6 +1,6 @@
 -- What is said of an expression, from what is said of its parts, a node at a time.
-use Rattle.std.proofs.Common.{◌≡◌, ℕ, ◌++◌, List, [], ◌∷◌, false, refl, sym, ap, subst, ◌∙◌, Option, Some, None, map, flat_map}
-use Rattle.std.specs.Prelude.{unwrap_or}
+use Rattle.std.proofs.Common.{◌≡◌, ◌≤◌, ℕ, ◌+◌, ◌++◌, List, [], ◌∷◌, false, refl, sym, ap, subst, ◌∙◌, Option, Some, None, map, flat_map, arith}
+use Rattle.std.specs.Prelude.{unwrap_or, sum_by}
 use Rattle.chord_tree.specs.declared.names.Name.{Name}
 use Rattle.chord_tree.specs.declared.exprs.Operator.{Operator}
 use Rattle.chord_tree.specs.Tree.{ExprTree, exprs}
@@ -22,28 +22,31 @@ use Rattle.chord_types.specs.declared.operand.Arguments.{Arguments}
 use Rattle.chord_types.specs.Views.{see_passed}
 use Rattle.chord_types.specs.CallKeys.{call_keys, call_type}
 use Rattle.chord_types.specs.Checked.{IsChecked, AreChecked, IsReceiver, term_breaks, terms_breaks}
+use Rattle.chord_types.specs.Flat.{doubled}
 use Rattle.chord_classes.proofs.Leasts.{noted_two, noted_three}
 use Rattle.chord_types.proofs.Notes.{and_nothing, nothing_before, nothing_after, append_more}
 use Rattle.chord_types.proofs.Lists.{map_last}
 
 -- `-` and its operand
 pub minus_checked : (site : Site) (at : ℕ) (operand : Term) (old mid new : Option ℕ) (x made : Operand) → IsChecked site Used operand old mid x
-    → made.static_type ≡ judged site Used (MinusTyped at x.static_type) → new ≡ least mid (typed_term_keys site Used (MinusTyped at x.static_type)) → view_expr made.expr ≡ to.Negate (view_expr x.expr)
+    → made.static_type ≡ judged site Used (MinusTyped at x.static_type) → new ≡ least mid (typed_term_keys site Used (MinusTyped at x.static_type)) → view_expr made.expr ≡ to.Negate (view_expr x.expr) → doubled made.expr ≡ doubled x.expr
     → IsChecked site Used (MinusTerm at operand) old new made
-minus_checked site at operand old mid new x made h hk hn hv = record {
+minus_checked site at operand old mid new x made h hk hn hv hf = record {
   built = λ e. hv ∙ ap to.Negate (h.built (nothing_before mid new (typed_term_keys site Used (MinusTyped at x.static_type)) hn e));
   typed = hk ∙ ap (λ z. judged site Used (MinusTyped at z)) h.typed;
   noted = noted_two old mid new (term_breaks site Used operand) (term_keys site Used (MinusTerm at operand)) h.noted (hn ∙ ap (λ z. least mid (typed_term_keys site Used (MinusTyped at z))) h.typed);
+  flat = hf ∙ h.flat;
 }
 
 -- `!` and its operand
 pub not_checked : (site : Site) (at : ℕ) (operand : Term) (old mid new : Option ℕ) (x made : Operand) → IsChecked site Used operand old mid x
-    → made.static_type ≡ judged site Used (NotTyped at x.static_type) → new ≡ least mid (typed_term_keys site Used (NotTyped at x.static_type)) → view_expr made.expr ≡ to.Deny (view_expr x.expr)
+    → made.static_type ≡ judged site Used (NotTyped at x.static_type) → new ≡ least mid (typed_term_keys site Used (NotTyped at x.static_type)) → view_expr made.expr ≡ to.Deny (view_expr x.expr) → doubled made.expr ≡ doubled x.expr
     → IsChecked site Used (NotTerm at operand) old new made
-not_checked site at operand old mid new x made h hk hn hv = record {
+not_checked site at operand old mid new x made h hk hn hv hf = record {
   built = λ e. hv ∙ ap to.Deny (h.built (nothing_before mid new (typed_term_keys site Used (NotTyped at x.static_type)) hn e));
   typed = hk ∙ ap (λ z. judged site Used (NotTyped at z)) h.typed;
   noted = noted_two old mid new (term_breaks site Used operand) (term_keys site Used (NotTerm at operand)) h.noted (hn ∙ ap (λ z. least mid (typed_term_keys site Used (NotTyped at z))) h.typed);
+  flat = hf ∙ h.flat;
 }
 
 -- an expression in brackets has the static type of the one inside
@@ -59,6 +62,7 @@ group_checked site role at inner old new x made h he hk hc = record {
     built = λ e. ap view_expr he ∙ h.built e;
     typed = hk ∙ h.typed ∙ group_type site role (type_of_term site Used inner);
     noted = and_nothing old new (term_breaks site Used inner) h.noted;
+    flat = ap doubled he ∙ h.flat;
   };
   console = hc;
 }
@@ -67,9 +71,9 @@ group_checked site role at inner old new x made h he hk hc = record {
 pub operation_checked : (site : Site) (operator : Operator) (at : ℕ) (left right : Term) (old mid late new : Option ℕ) (x y made : Operand)
     → IsChecked site Used left old mid x → IsChecked site Used right mid late y
     → made.static_type ≡ judged site Used (OperationTyped operator at x.static_type y.static_type) → new ≡ least late (typed_term_keys site Used (OperationTyped operator at x.static_type y.static_type))
-    → view_expr made.expr ≡ applied operator x.static_type y.static_type (view_expr x.expr) (view_expr y.expr)
+    → view_expr made.expr ≡ applied operator x.static_type y.static_type (view_expr x.expr) (view_expr y.expr) → doubled made.expr ≤ doubled x.expr + doubled y.expr
     → IsChecked site Used (OperationTerm operator at left right) old new made
-operation_checked site operator at left right old mid late new x y made h k hk hn hv = record {
+operation_checked site operator at left right old mid late new x y made h k hk hn hv hf = record {
   built = λ e.
       let later = nothing_before late new (typed_term_keys site Used (OperationTyped operator at x.static_type y.static_type)) hn e in
       let earlier = nothing_before mid late (term_breaks site Used right) k.noted later in
@@ -77,6 +81,7 @@ operation_checked site operator at left right old mid late new x y made h k hk h
       ∙ ap (λ z. applied operator (type_of_term site Used left) (type_of_term site Used right) z (view_expr y.expr)) (h.built earlier) ∙ ap (applied operator (type_of_term site Used left) (type_of_term site Used right) (resolved site left)) (k.built later);
   typed = hk ∙ types (λ z. judged site Used z);
   noted = noted_three old mid late new (term_breaks site Used left) (term_breaks site Used right) (term_keys site Used (OperationTerm operator at left right)) h.noted k.noted (hn ∙ types (λ z. least late (typed_term_keys site Used z)));
+  flat = let a = h.flat in let b = k.flat in omega arith;
 }
   where
     types : {X : Type 0} (f : TypedTerm → X) → f (OperationTyped operator at x.static_type y.static_type) ≡ f (typed_term site (OperationTerm operator at left right))
@@ -86,14 +91,15 @@ operation_checked site operator at left right old mid late new x y made h k hk h
 pub own_checked : (site : Site) (role : Role) (name : Name) (brackets : ℕ) (actuals : Terms) (old mid new : Option ℕ) (args : Arguments) (target : Option Target) (made : Operand)
     → AreChecked site actuals old mid args → target ≡ own_target site name.text
     → made.static_type ≡ call_type site role target name.at (map see_passed args.passed.items) → new ≡ least mid (call_keys site role target name.at (map see_passed args.passed.items))
-    → view_expr made.expr ≡ call_of site.table target to.This (expr_list (map view_expr args.exprs.items)) → made.is_console ≡ false
+    → view_expr made.expr ≡ call_of site.table target to.This (expr_list (map view_expr args.exprs.items)) → doubled made.expr ≤ sum_by doubled args.exprs.items → made.is_console ≡ false
     → IsReceiver site role (OwnCallTerm name brackets actuals) old new made
-own_checked site role name brackets actuals old mid new args target made a ht hk hn hv hc = record {
+own_checked site role name brackets actuals old mid new args target made a ht hk hn hv hf hc = record {
   checked = record {
     built = λ e. hv ∙ ap (λ z. call_of site.table z to.This (expr_list (map view_expr args.exprs.items))) ht
         ∙ ap (call_of site.table (own_target site name.text) to.This) (a.built (nothing_before mid new (call_keys site role target name.at (map see_passed args.passed.items)) hn e));
     typed = hk ∙ same (λ t ps. call_type site role t name.at ps);
     noted = noted_two old mid new (terms_breaks site actuals) (term_keys site role (OwnCallTerm name brackets actuals)) a.noted (hn ∙ same (λ t ps. least mid (call_keys site role t name.at ps)));
+    flat = let b = a.flat in omega arith;
   };
   console = hc;
 }
@@ -105,14 +111,15 @@ own_checked site role name brackets actuals old mid new args target made a ht hk
 pub new_checked : (site : Site) (role : Role) (at : ℕ) (name : Name) (brackets : ℕ) (actuals : Terms) (old mid new : Option ℕ) (args : Arguments) (class : ℕ) (made : Operand)
     → AreChecked site actuals old mid args → class ≡ unwrap_or (class_named site.table name.text) 0
     → made.static_type ≡ judged site role (NewTyped name (map see_passed args.passed.items)) → new ≡ least mid (typed_term_keys site role (NewTyped name (map see_passed args.passed.items)))
-    → view_expr made.expr ≡ to.New class (expr_list (map view_expr args.exprs.items)) → made.is_console ≡ false
+    → view_expr made.expr ≡ to.New class (expr_list (map view_expr args.exprs.items)) → doubled made.expr ≡ sum_by doubled args.exprs.items → made.is_console ≡ false
     → IsReceiver site role (NewTerm at name brackets actuals) old new made
-new_checked site role at name brackets actuals old mid new args class made a hclass hk hn hv hc = record {
+new_checked site role at name brackets actuals old mid new args class made a hclass hk hn hv hf hc = record {
   checked = record {
     built = λ e. hv ∙ ap (λ z. to.New z (expr_list (map view_expr args.exprs.items))) hclass
         ∙ ap (to.New (unwrap_or (class_named site.table name.text) 0)) (a.built (nothing_before mid new (typed_term_keys site role (NewTyped name (map see_passed args.passed.items))) hn e));
     typed = hk ∙ ap (λ z. judged site role (NewTyped name z)) a.typed;
     noted = noted_two old mid new (terms_breaks site actuals) (term_keys site role (NewTerm at name brackets actuals)) a.noted (hn ∙ ap (λ z. least mid (typed_term_keys site role (NewTyped name z))) a.typed);
+    flat = hf ∙ a.flat;
   };
   console = hc;
 }
@@ -129,9 +136,10 @@ pub call_checked : (site : Site) (role : Role) (receiver : Term) (dot : ℕ) (na
     → IsReceiver site Receiver receiver start old x → AreChecked site actuals old mid args
     → made.static_type ≡ judged site role (typed_call x.is_console x.static_type dot name (map see_passed args.passed.items))
     → new ≡ least mid (typed_term_keys site role (typed_call x.is_console x.static_type dot name (map see_passed args.passed.items)))
-    → view_expr made.expr ≡ call_of site.table (target_on site x.static_type name.text) (view_expr x.expr) (expr_list (map view_expr args.exprs.items)) → made.is_console ≡ false
+    → view_expr made.expr ≡ call_of site.table (target_on site x.static_type name.text) (view_expr x.expr) (expr_list (map view_expr args.exprs.items)) → doubled made.expr ≤ doubled x.expr + sum_by doubled args.exprs.items
+    → made.is_console ≡ false
     → IsReceiver site role (CallTerm receiver dot name brackets actuals) start new made
-call_checked site role receiver dot name brackets actuals start old mid new x args made h a hk hn hv hc = record {
+call_checked site role receiver dot name brackets actuals start old mid new x args made h a hk hn hv hf hc = record {
   checked = record {
     built = λ e.
         let later = nothing_before mid new (typed_term_keys site role (typed_call x.is_console x.static_type dot name (map see_passed args.passed.items))) hn e in
@@ -140,6 +148,7 @@ call_checked site role receiver dot name brackets actuals start old mid new x ar
         ∙ ap (call_of site.table (target_on site (type_of_term site Receiver receiver) name.text) (resolved site receiver)) (a.built later);
     typed = hk ∙ ap (judged site role) same;
     noted = noted_three start old mid new (term_breaks site Receiver receiver) (terms_breaks site actuals) (term_keys site role (CallTerm receiver dot name brackets actuals)) h.checked.noted a.noted (hn ∙ ap (λ z. least mid (typed_term_keys site role z)) same);
+    flat = let b = h.checked.flat in let d = a.flat in omega arith;
   };
   console = hc;
 }
@@ -179,11 +188,12 @@ all_breaks site [] = refl
 all_breaks site (x ∷ xs) = ap (λ z. term_breaks site Used (term x) ++ z) (all_breaks site xs)
 
 -- all arguments were looked at
-pub are_checked : (site : Site) (xs : List ExprTree) (old new : Option ℕ) (args : Arguments) → AreAll site xs old new (map view_expr args.exprs.items) (map see_passed args.passed.items) → AreChecked site (terms (exprs xs)) old new args
-are_checked site xs old new args h = record {
+pub are_checked : (site : Site) (xs : List ExprTree) (old new : Option ℕ) (args : Arguments) → AreAll site xs old new (map view_expr args.exprs.items) (map see_passed args.passed.items) → sum_by doubled args.exprs.items ≡ 0 → AreChecked site (terms (exprs xs)) old new args
+are_checked site xs old new args h hf = record {
   built = λ e. ap expr_list (h.built e) ∙ all_built site xs;
   typed = h.typed ∙ all_passed site xs;
   noted = h.noted ∙ ap (least old) (all_breaks site xs);
+  flat = hf;
 }
 
 -- what a function makes of a list and one element more, laid together, is what it makes of the list and then of that element

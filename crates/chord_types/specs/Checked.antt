@@ -1,5 +1,5 @@
--- What is said of an expression that was looked at: what it is resolved to, its type, and the least of what was noted.
-use Rattle.std.specs.Prelude.{◌≡◌, ℕ, List, [], ◌∷◌, map, Option, None}
+-- What is said of an expression that was looked at: what it is resolved to, its type, the least of what was noted, and that its chains are as long as they can be.
+use Rattle.std.specs.Prelude.{◌≡◌, ℕ, List, [], ◌∷◌, map, sum_by, Option, None}
 use Rattle.chord_tree.specs.Tree.{LinkTree, DotTree, dots, links}
 use Rattle.chord_tree.specs.Terms.{Term, Terms, called, operated}
 use Rattle.chord_tree.specs.Walk.{Role, Used, Alone, Receiver, over_term, over_terms}
@@ -14,6 +14,7 @@ use Rattle.chord_classes.specs.AllNotes.{term_keys, item_keys}
 use Rattle.chord_types.specs.declared.operand.Operand.{Operand}
 use Rattle.chord_types.specs.declared.operand.Arguments.{Arguments}
 use Rattle.chord_types.specs.Views.{see_passed}
+use Rattle.chord_types.specs.Flat.{doubled, doubled_stmt}
 
 -- what an expression and its parts break
 abbrev pub term_breaks : Site → Role → Term → List ℕ
@@ -28,12 +29,14 @@ pub record IsChecked (site : Site) (role : Role) (term : Term) (old new : Option
   pub built : new ≡ None → view_expr operand.expr ≡ resolved site term
   pub typed : operand.static_type ≡ type_of_term site role term
   pub noted : new ≡ least old (term_breaks site role term)
+  pub flat : doubled operand.expr ≡ 0
 
 -- arguments were looked at
 pub record AreChecked (site : Site) (terms : Terms) (old new : Option ℕ) (arguments : Arguments) : Type 0 where
   pub built : new ≡ None → expr_list (map view_expr arguments.exprs.items) ≡ all_resolved site terms
   pub typed : map see_passed arguments.passed.items ≡ passed site terms
   pub noted : new ≡ least old (terms_breaks site terms)
+  pub flat : sum_by doubled arguments.exprs.items ≡ 0
 
 -- an expression was looked at on which calls may go on
 pub record IsReceiver (site : Site) (role : Role) (term : Term) (old new : Option ℕ) (operand : Operand) : Type 0 where
@@ -44,6 +47,7 @@ pub record IsReceiver (site : Site) (role : Role) (term : Term) (old new : Optio
 pub record IsAlone (site : Site) (term : Term) (old new : Option ℕ) (stmt : Stmt) : Type 0 where
   pub built : new ≡ None → view_stmt stmt ≡ resolved_alone site term
   pub noted : new ≡ least old (term_breaks site Alone term)
+  pub flat : doubled_stmt stmt ≡ 0
 
 -- a call on an expression
 abbrev pub on_dot : Term → DotTree → Term

@@ -1,6 +1,8 @@
 -- ## What callers read
 -- What is answered of a program.
 pub mod Answer
+-- Chains in memory that are as long as they can be.
+pub mod Flat
 -- ## What only the code's own contracts use
 -- Variables, arguments and what calls name, as they lie in memory.
 pub mod Views

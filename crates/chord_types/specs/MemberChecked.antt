@@ -15,6 +15,7 @@ use Rattle.chord_classes.specs.Least.{least}
 use Rattle.chord_classes.specs.AllNotes.{term_keys, item_keys, member_keys}
 use Rattle.chord_types.specs.declared.site.Site.{Site}
 use Rattle.chord_types.specs.Sites.{see_site, declares}
+use Rattle.chord_types.specs.Flat.{doubled_body}
 
 -- the parameters of a header
 abbrev pub header_formals : HeaderTree → List Formal
@@ -47,3 +48,4 @@ member_breaks table own class member = over_member after term_keys item_keys (en
 pub record IsMemberChecked (table : List Shape) (own : ℕ) (member : MemberTree) (old new : Option ℕ) (body : Body) : Type 0 where
   pub built : (class : ClassTree) → new ≡ None → view_body body ≡ resolved_member table own class member
   pub noted : (class : ClassTree) → new ≡ least old (member_breaks table own class member)
+  pub flat : doubled_body body ≡ 0

@@ -1,7 +1,7 @@
 //! Members: their bodies resolved, and what they break.
 #![tactic(auto)]
 
-ghost use Rattle.std.specs.Prelude.{◌≡◌, ◌+◌, length, ◌&&◌, not, IfOk, OnOk, map, flat_map, is_some, option_map};
+ghost use Rattle.std.specs.Prelude.{◌≡◌, ◌+◌, length, ◌&&◌, not, IfOk, OnOk, map, flat_map, is_some, option_map, sum_by};
 ghost use Rattle.std.specs.Borrow.{Bor};
 ghost use Rattle.chord_tree.specs.declared.names.ValueType as written_types;
 ghost use Rattle.chord_tree.specs.View.{see_header, see_member};
@@ -15,6 +15,7 @@ ghost use Rattle.chord_classes.specs.ItemRules.{undeclared_formals, undeclared_h
 ghost use Rattle.chord_classes.specs.Resolve.{is_builder};
 ghost use Rattle.chord_classes.specs.Least.{keys, least};
 ghost use Rattle.chord_types.specs.MemberChecked.{header_formals, DeclaresAll, IsEntered, IsMemberChecked};
+ghost use Rattle.chord_types.specs.Flat.{doubled_stmt, doubled_body};
 
 use crate::operand::type_known;
 use crate::plain::note_undeclared;
@@ -206,7 +207,8 @@ fn made(
     stmts: Vec<Stmt>,
 ) -> Body
     requires { _slots ≡ 1 + length parameters.items + length site.types.items }
-    ensures { view_body result ≡ record { class = own; is_main = site.entry.in_main; is_constructor = is_constructor; parameters = parameters.items; locals = site.entry.types.items; result = due; stmts = stmt_list (map view_stmt stmts.items) } }
+    ensures built { view_body result ≡ record { class = own; is_main = site.entry.in_main; is_constructor = is_constructor; parameters = parameters.items; locals = site.entry.types.items; result = due; stmts = stmt_list (map view_stmt stmts.items) } }
+    ensures flat { doubled_body result ≡ sum_by doubled_stmt stmts.items }
 {
     Body {
         class: own,

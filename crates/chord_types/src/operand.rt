@@ -1,12 +1,13 @@
 //! Resolved expressions with their types, to which operators and calls are added.
 #![tactic(auto)]
 
-ghost use Rattle.std.specs.Prelude.{◌≡◌, ◌≤◌, [], ◌∷◌, length, map, cond, IfOk, option_map};
+ghost use Rattle.std.specs.Prelude.{◌≡◌, ◌≤◌, ◌+◌, [], ◌∷◌, length, map, sum_by, cond, IfOk, option_map};
 ghost use Rattle.chord_bodies.specs.Resolved as to;
 ghost use Rattle.chord_bodies.specs.View.{view_expr, view_stmt, view_call, view_link, calls_on, links_on, expr_list};
 ghost use Rattle.chord_classes.specs.Types.{type_known, is_sync, result_known};
 ghost use Rattle.chord_classes.specs.Resolve.{int_of_number, call_of, done, printed};
 ghost use Rattle.chord_types.specs.Views.{see_target};
+ghost use Rattle.chord_types.specs.Flat.{doubled, doubled_link, doubled_call, doubled_stmt};
 
 use crate::site::{Passed, Target};
 use chord_base::static_type::StaticType;
@@ -46,7 +47,8 @@ pub(crate) fn int_of(value: u32) -> i32
 
 /// The text of a literal, if it is not too long.
 pub(crate) fn text_of(alloc: Global, bytes: &[u8]) -> Result<Expr, AllocError>
-    ensures { IfOk result (λ e. length bytes.now ≤ 1024 → view_expr e ≡ to.TextOf bytes.now) }
+    ensures built { IfOk result (λ e. length bytes.now ≤ 1024 → view_expr e ≡ to.TextOf bytes.now) }
+    ensures flat { IfOk result (λ e. doubled e ≡ 0) }
 {
     match Text::of_bytes(alloc, bytes) {
         Ok(text) => Ok(Expr::Text(text)),
@@ -87,7 +89,8 @@ fn is_sync(result_type: &ReturnType) -> bool
 
 /// An expression with one more call on it.
 fn with_call(alloc: Global, receiver: Expr, call: Call) -> Result<Expr, AllocError>
-    ensures { IfOk result (λ e. view_expr e ≡ calls_on (view_expr receiver) (view_call call ∷ [])) }
+    ensures built { IfOk result (λ e. view_expr e ≡ calls_on (view_expr receiver) (view_call call ∷ [])) }
+    ensures flat { IfOk result (λ e. doubled e ≤ doubled receiver + doubled_call call) }
 {
     match receiver {
         Expr::Calls {
@@ -112,7 +115,8 @@ fn with_call(alloc: Global, receiver: Expr, call: Call) -> Result<Expr, AllocErr
 
 /// An expression with one more operator on it.
 pub(crate) fn with_link(alloc: Global, left: Expr, link: Link) -> Result<Expr, AllocError>
-    ensures { IfOk result (λ e. view_expr e ≡ links_on (view_expr left) (view_link link ∷ [])) }
+    ensures built { IfOk result (λ e. view_expr e ≡ links_on (view_expr left) (view_link link ∷ [])) }
+    ensures flat { IfOk result (λ e. doubled e ≤ doubled left + doubled_link link) }
 {
     match left {
         Expr::Chain {
@@ -143,7 +147,8 @@ pub(crate) fn call_of(
     receiver: Expr,
     arguments: Vec<Expr>,
 ) -> Result<Expr, AllocError>
-    ensures { IfOk result (λ e. view_expr e ≡ call_of table.now (option_map see_target target.entry) (view_expr receiver) (expr_list (map view_expr arguments.items))) }
+    ensures built { IfOk result (λ e. view_expr e ≡ call_of table.now (option_map see_target target.entry) (view_expr receiver) (expr_list (map view_expr arguments.items))) }
+    ensures flat { IfOk result (λ e. doubled e ≤ doubled receiver + sum_by doubled arguments.items) }
 {
     match target {
         Some(target) => {
@@ -167,7 +172,8 @@ pub(crate) fn done(
     receiver: Expr,
     arguments: Vec<Expr>,
 ) -> Result<Stmt, AllocError>
-    ensures { IfOk result (λ s. view_stmt s ≡ done table.now (option_map see_target target.entry) (view_expr receiver) (expr_list (map view_expr arguments.items))) }
+    ensures built { IfOk result (λ s. view_stmt s ≡ done table.now (option_map see_target target.entry) (view_expr receiver) (expr_list (map view_expr arguments.items))) }
+    ensures flat { IfOk result (λ s. doubled_stmt s ≤ doubled receiver + sum_by doubled arguments.items) }
 {
     match target {
         None => Ok(Stmt::Do(receiver)),
@@ -188,7 +194,8 @@ pub(crate) fn done(
 
 /// What is printed: without an argument the empty text.
 pub(crate) fn printed(alloc: Global, arguments: Vec<Expr>) -> Result<Expr, AllocError>
-    ensures { IfOk result (λ e. view_expr e ≡ printed (expr_list (map view_expr arguments.items))) }
+    ensures built { IfOk result (λ e. view_expr e ≡ printed (expr_list (map view_expr arguments.items))) }
+    ensures flat { IfOk result (λ e. doubled e ≤ sum_by doubled arguments.items) }
 {
     let mut arguments = arguments;
     if arguments.is_empty() {
@@ -207,7 +214,8 @@ pub(crate) fn ended(
     receiver: Expr,
     arguments: Vec<Expr>,
 ) -> Result<Stmt, AllocError>
-    ensures { IfOk result (λ s. view_stmt s ≡ cond is_console (to.Print (printed (expr_list (map view_expr arguments.items)))) (done table.now (option_map see_target target.entry) (view_expr receiver) (expr_list (map view_expr arguments.items)))) }
+    ensures built { IfOk result (λ s. view_stmt s ≡ cond is_console (to.Print (printed (expr_list (map view_expr arguments.items)))) (done table.now (option_map see_target target.entry) (view_expr receiver) (expr_list (map view_expr arguments.items)))) }
+    ensures flat { IfOk result (λ s. doubled_stmt s ≤ doubled receiver + sum_by doubled arguments.items) }
 {
     if !is_console {
         return done(alloc, table, target, receiver, arguments);

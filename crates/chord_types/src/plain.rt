@@ -1,10 +1,11 @@
 //! Statements in which no statement stands, and conditions: what they are resolved to, and what they break.
 #![tactic(auto)]
 
-ghost use Rattle.std.specs.Prelude.{◌≡◌, IfOk, map, is_some};
-ghost use Rattle.chord_tree.specs.Tree.{AssignStmt, CallStmt, MethodCallStmt, ThisCallStmt, NewStmt, ReturnStmt, ReturnValueStmt, LocalItem, exprs, dots};
+ghost use Rattle.std.specs.Prelude.{◌≡◌, true, IfOk, map, is_some};
+ghost use Rattle.chord_tree.specs.Tree.{AssignStmt, CallStmt, MethodCallStmt, ThisCallStmt, NewStmt, ReturnStmt, ReturnValueStmt, LocalItem, StmtItem, exprs, dots};
 ghost use Rattle.chord_tree.specs.Terms.{Term, OwnCallTerm, called, terms};
 ghost use Rattle.chord_tree.specs.ViewExprs.{see_expr, see_actuals, see_dot};
+ghost use Rattle.chord_tree.specs.ViewStmts.{see_stmt};
 ghost use Rattle.chord_classes.specs.Site.{variable_named};
 ghost use Rattle.chord_classes.specs.Typed.{local_type};
 ghost use Rattle.chord_classes.specs.TypeRules.{is_bool, when_typed};
@@ -12,7 +13,7 @@ ghost use Rattle.chord_classes.specs.ItemRules.{undeclared_type};
 ghost use Rattle.chord_classes.specs.Least.{keys, least};
 ghost use Rattle.chord_types.specs.Checked.{IsAlone, EndsAlone, on_dot};
 ghost use Rattle.chord_types.specs.Sites.{see_site};
-ghost use Rattle.chord_types.specs.StmtChecked.{IsPlainStmt, IsCondition, IsItemChecked};
+ghost use Rattle.chord_types.specs.StmtChecked.{is_plain_stmt, IsPlainStmt, IsCondition, IsItemChecked};
 
 use crate::arguments::fit;
 use crate::calls::{judge_call, judge_on, own_target, target_on};
@@ -28,6 +29,7 @@ use chord_classes::least::Least;
 use chord_classes::table::Table;
 use chord_tree::exprs::{Actuals, Dot, Expr};
 use chord_tree::names::{Name, ValueType};
+use chord_tree::stmts::Stmt;
 use std::alloc::{AllocError, Global};
 
 /// Notes a type name that is not declared.
@@ -252,6 +254,46 @@ pub(crate) fn new_alone(
         Some((last, front)) => {
             let receiver = new_object(alloc, site, Role::Receiver, at, name, actuals, breaks)?;
             calls_alone(alloc, site, receiver, front, last, breaks)
+        }
+    }
+}
+
+/// A statement in which no statement stands.
+pub(crate) fn plain_stmt(
+    alloc: Global,
+    site: &Site,
+    stmt: &Stmt,
+    breaks: &mut Least,
+) -> Result<built::Stmt, AllocError>
+    requires plain { is_plain_stmt (see_stmt stmt.now) ≡ true }
+    ensures { IfOk result (λ r. IsItemChecked site.now site.now (StmtItem (see_stmt stmt.now)) breaks.old.found breaks.new.found r) }
+{
+    match stmt {
+        Stmt::Assign {
+            name,
+            assign: at,
+            value,
+        } => assign(alloc, site, name, *at, value, breaks),
+        Stmt::Call {
+            name,
+            actuals,
+            calls,
+        } => call(alloc, site, name, actuals, calls, breaks),
+        Stmt::MethodCall { name, first, calls } => {
+            method_call(alloc, site, name, first, calls, breaks)
+        }
+        Stmt::ThisCall { at, first, calls } => this_call(alloc, site, *at, first, calls, breaks),
+        Stmt::New {
+            at,
+            name,
+            actuals,
+            calls,
+        } => new_alone(alloc, site, *at, name, actuals, calls, breaks),
+        Stmt::Empty => Ok(built::Stmt::Block(Vec::new(alloc))),
+        Stmt::Return { at } => Ok(return_nothing(site, *at, breaks)),
+        Stmt::ReturnValue { at, value } => return_value(alloc, site, *at, value, breaks),
+        Stmt::Block(_) | Stmt::If { .. } | Stmt::IfElse { .. } | Stmt::While { .. } => {
+            unreachable!()
         }
     }
 }

@@ -10,6 +10,7 @@ ghost use Rattle.chord_classes.specs.Rules.{in_program, is_type_rule, IsFree};
 ghost use Rattle.chord_classes.specs.Least.{least};
 ghost use Rattle.chord_classes.specs.AllNotes.{all_notes};
 ghost use Rattle.chord_types.specs.Answer.{IsTypeFault, AreMembersChecked, AreClassesChecked};
+ghost use Rattle.chord_types.specs.Flat.{AreFlat};
 
 use crate::members::member;
 use chord_bodies::body::Body;
@@ -127,6 +128,7 @@ fn typed_by<'t, 'a>(
 ) -> Result<Typed, TypeFault>
     requires { table.now ≡ table_of (tree_of program.now) }
     ensures typed { IfOk result (λ typed. map view_body typed ≡ bodies_of (tree_of program.now)) }
+    ensures flat { IfOk result (λ typed. AreFlat typed) }
     ensures free { OnOk result (IsFree is_type_rule (tree_of program.now)) }
     ensures fault { IfErr result (λ fault. IsTypeFault (tree_of program.now) fault) }
 {
@@ -140,9 +142,10 @@ fn typed_by<'t, 'a>(
 
 /// The bodies of a program with all names resolved, or its break among the rules on names and types.
 ///
-/// `Rule` comes exactly where one of these rules is broken: C02, C14 to C20 and C22 to C24. It is the one at the least token, and of several there the least rule. Takes time linear in the program, but for the logarithm of a look-up by name.
+/// `Rule` comes exactly where one of these rules is broken: C02, C14 to C20 and C22 to C24. It is the one at the least token, and of several there the least rule. Takes time linear in the program, but for the logarithm of a look-up by name. No chain in a body begins with a chain of its own kind.
 pub fn type_program(alloc: Global, program: &Program) -> Result<Typed, TypeFault>
     ensures typed { IfOk result (λ typed. map view_body typed ≡ bodies_of (tree_of program.now)) }
+    ensures flat { IfOk result (λ typed. AreFlat typed) }
     ensures free { OnOk result (IsFree is_type_rule (tree_of program.now)) }
     ensures fault { IfErr result (λ fault. IsTypeFault (tree_of program.now) fault) }
 {

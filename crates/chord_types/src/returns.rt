@@ -11,7 +11,7 @@ ghost use Rattle.chord_classes.specs.ItemRules.{is_true_word, surely, block_sure
 use chord_tree::exprs::{Expr, Start};
 use chord_tree::stmts::{Block, Item, Stmt};
 
-/// Whether an expression begins with the word `true`.
+/// Whether a start, with no calls on it, is the word `true`.
 fn begins_true(start: &Start) -> bool
     ensures { result ≡ is_true_word (started (see_start start.now) false) }
 {

@@ -7,9 +7,7 @@ ghost use Rattle.chord_tree.specs.ViewExprs.{see_expr};
 ghost use Rattle.chord_tree.specs.ViewStmts.{see_stmt, see_item, see_block};
 ghost use Rattle.chord_types.specs.StmtChecked.{IsItemChecked, AreItemsChecked, IsBlockChecked};
 
-use crate::plain::{
-    assign, call, condition, local, method_call, new_alone, return_nothing, return_value, this_call,
-};
+use crate::plain::{condition, local, plain_stmt};
 use crate::site::Site;
 use chord_bodies::stmt as built;
 use chord_classes::least::Least;
@@ -28,28 +26,7 @@ fn stmt<'t, 'a>(
     ensures { IfOk result (λ r. IsItemChecked site.old site.new (StmtItem (see_stmt stmt.now)) breaks.old.found breaks.new.found r) }
 {
     match stmt {
-        Stmt::Assign {
-            name,
-            assign: at,
-            value,
-        } => assign(alloc, site, name, *at, value, breaks),
-        Stmt::Call {
-            name,
-            actuals,
-            calls,
-        } => call(alloc, site, name, actuals, calls, breaks),
-        Stmt::MethodCall { name, first, calls } => {
-            method_call(alloc, site, name, first, calls, breaks)
-        }
-        Stmt::ThisCall { at, first, calls } => this_call(alloc, site, *at, first, calls, breaks),
-        Stmt::New {
-            at,
-            name,
-            actuals,
-            calls,
-        } => new_alone(alloc, site, *at, name, actuals, calls, breaks),
         Stmt::Block(inner) => block_stmt(alloc, site, inner, breaks),
-        Stmt::Empty => Ok(built::Stmt::Block(Vec::new(alloc))),
         Stmt::If {
             at,
             test,
@@ -64,8 +41,7 @@ fn stmt<'t, 'a>(
             ..
         } => if_else(alloc, site, *at, test, first, second, breaks),
         Stmt::While { at, test, body, .. } => while_loop(alloc, site, *at, test, body, breaks),
-        Stmt::Return { at } => Ok(return_nothing(site, *at, breaks)),
-        Stmt::ReturnValue { at, value } => return_value(alloc, site, *at, value, breaks),
+        _ => plain_stmt(alloc, site, stmt, breaks),
     }
 }
 

@@ -23,7 +23,7 @@ pub enum Ask {
     End(End),
 }
 
-/// Puts an ask where there is none. There is nothing to drop in its place, which an assignment would look for.
+/// Puts an ask. What stood there is forgotten, since an assignment would look for what to drop: those who run a body hand in an empty place.
 #[inline(always)]
 pub(crate) fn put_ask(asked: &mut Option<Ask>, ask: Ask)
     ensures { asked.new ≡ Some ask }

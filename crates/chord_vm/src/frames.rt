@@ -240,7 +240,8 @@ fn fill_with(
 /// A block whose slots are filled comes to work, at its first instruction.
 #[inline(always)]
 fn open(frames: &mut Frames, block: usize, depth: u32)
-    ensures { machine_of frames.new ≡ record { top = record { block = block; place = 0; room = frames.old.limits.depth - depth; stack = []; slots = frames.old.top.slots.items }; below = []; turns = frames.old.limits.turns } }
+    ensures opened { machine_of frames.new ≡ record { top = record { block = block; place = 0; room = frames.old.limits.depth - depth; stack = []; slots = frames.old.top.slots.items }; below = []; turns = frames.old.limits.turns } }
+    ensures awaits { frames.new.awaited ≡ Awaited.ForNothing }
 {
     frames.top.stack.truncate(0);
     frames.below.truncate(0);
@@ -262,7 +263,8 @@ pub fn begin(
 )
     requires fits { body_in_block code.now block (frames.old.limits.depth - depth) (this ∷ laid arguments) frames.old.limits.turns ≢ None }
     requires space { IsSpacious frames.old (slice_get code.now.blocks block) }
-    ensures { body_in_block code.now block (frames.old.limits.depth - depth) (this ∷ laid arguments) frames.old.limits.turns ≡ Some (machine_of frames.new) }
+    ensures begun { body_in_block code.now block (frames.old.limits.depth - depth) (this ∷ laid arguments) frames.old.limits.turns ≡ Some (machine_of frames.new) }
+    ensures awaits { frames.new.awaited ≡ Awaited.ForNothing }
 {
     let block = block as usize;
     let slots = code.parts().blocks.items()[block].slots as usize;
@@ -283,7 +285,8 @@ pub fn begin_with(
 ) -> Result<(), AllocError>
     requires fits { body_in_block code.now block (frames.old.limits.depth - depth) (this ∷ arguments.now) frames.old.limits.turns ≢ None }
     requires space { IsSpacious frames.old (slice_get code.now.blocks block) }
-    ensures { OnOk result (body_in_block code.now block (frames.old.limits.depth - depth) (this ∷ arguments.now) frames.old.limits.turns ≡ Some (machine_of frames.new)) }
+    ensures begun { OnOk result (body_in_block code.now block (frames.old.limits.depth - depth) (this ∷ arguments.now) frames.old.limits.turns ≡ Some (machine_of frames.new)) }
+    ensures awaits { OnOk result (frames.new.awaited ≡ Awaited.ForNothing) }
 {
     let block = block as usize;
     let slots = code.parts().blocks.items()[block].slots as usize;
@@ -408,7 +411,8 @@ pub fn begin_moved(
 )
     requires fits { body_in_block code.now block (frames.old.limits.depth - depth) (this ∷ arguments) frames.old.limits.turns ≢ None }
     requires space { IsSpacious frames.old (slice_get code.now.blocks block) }
-    ensures { body_in_block code.now block (frames.old.limits.depth - depth) (this ∷ arguments) frames.old.limits.turns ≡ Some (machine_of frames.new) }
+    ensures begun { body_in_block code.now block (frames.old.limits.depth - depth) (this ∷ arguments) frames.old.limits.turns ≡ Some (machine_of frames.new) }
+    ensures awaits { frames.new.awaited ≡ Awaited.ForNothing }
 {
     let block = block as usize;
     let slots = code.parts().blocks.items()[block].slots as usize;

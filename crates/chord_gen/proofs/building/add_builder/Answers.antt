@@ -20,7 +20,7 @@ returns-in_ok-push-2-clause-built c =
     let has : has_builder p n ≡ true = q.0 ∙ ap (λ z. is_told z || has_own own) (sym init) ∙ sym c.builds.ensures ∙ c.if-builds.true in
     let block = c.in_ok-block_of_builder.ensures ∙ ap (λ z. record { slots = own_slots own; instructions = then_code 0 z (λ a. own_code own a ++ i.Back ∷ []) }) (ap init_listed init ∙ sym q.1) ∙ ap (builder_block p) (sym e) in
     subst (λ z. IsBuilt p c.push.new.self.items c.push-then-builds.new.self.items members (os ++ cond z (OfBuilder n ∷ []) [])) (sym has)
-    (builder_added p c.args.blocks.now.items c.push.new.self.items c.args.builders.now.items c.push-then-builds.new.self.items members os n c.in_ok-number.number c.in_ok-block_of_builder.field-0 is refl has block c.in_ok-push.ensures.items c.in_ok-number.ensures c.in_ok-push-2.ensures.items)
+    (builder_added p c.args.blocks.now.items c.push.new.self.items c.args.builders.now.items c.push-then-builds.new.self.items members os n c.in_ok-number.number c.in_ok-block_of_builder.field-0 is refl has block c.in_ok-push.ensures.items c.in_ok-number.ensures.number c.in_ok-push-2.ensures.items)
 
 pub returns-in_ok-push-3-clause-built : goal.returns-in_ok-push-3-clause-built
 returns-in_ok-push-3-clause-built c =

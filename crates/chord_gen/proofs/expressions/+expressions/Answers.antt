@@ -229,11 +229,11 @@ right_of_and-expression-requires t c = (omega arith, c.requires.narrow)
 
 pub right_of_and-patch-requires : goal.right_of_and-patch-requires
 right_of_and-patch-requires t c =
-    below_more _ _ _ _ c.in_ok-put-3.ensures (below_more _ _ _ _ c.in_ok-put-2.ensures (below_more _ _ _ _ c.in_ok-expression.ensures (below_put _ _ _ _ c.in_ok-test.ensures c.in_ok-put.ensures)))
+    below_more _ _ _ _ c.in_ok-put-3.ensures (below_more _ _ _ _ c.in_ok-put-2.ensures (below_more _ _ _ _ c.in_ok-expression.ensures (below_put _ _ _ _ c.in_ok-test.ensures.place c.in_ok-put.ensures)))
 
 pub right_of_and-patch-requires-2 : goal.right_of_and-patch-requires-2
 right_of_and-patch-requires-2 t c =
-    let l = below_more _ _ _ _ c.in_ok-put-3.ensures (below_put _ _ _ _ c.in_ok-done.ensures c.in_ok-put-2.ensures) in
+    let l = below_more _ _ _ _ c.in_ok-put-3.ensures (below_put _ _ _ _ c.in_ok-done.ensures.place c.in_ok-put-2.ensures) in
     let m = ap length c.patch.ensures ∙ length-set c.put-3.new.code.items c.in_ok-test.test (i.Skip c.in_ok-other.other) in
     omega (arith, l, m)
 
@@ -241,18 +241,18 @@ pub right_of_and-returns : goal.right_of_and-returns
 right_of_and-returns t c =
     λ front e h.
     c.patch-2.ensures ∙ ap (λ z. slice_set z c.in_ok-done.done (i.Jump c.in_ok-end.end)) c.patch.ensures
-    ∙ ways_patched front (expr_code e (length front)) (expr_code (view_expr c.args.right.now)) (λ b. i.Flag false ∷ []) _ _ _ _ _ _ _ _ _ _ _ h c.in_ok-test.ensures c.in_ok-put.ensures c.in_ok-expression.ensures c.in_ok-done.ensures c.in_ok-put-2.ensures c.in_ok-other.ensures c.in_ok-put-3.ensures c.in_ok-end.ensures
+    ∙ ways_patched front (expr_code e (length front)) (expr_code (view_expr c.args.right.now)) (λ b. i.Flag false ∷ []) _ _ _ _ _ _ _ _ _ _ _ h c.in_ok-test.ensures.place c.in_ok-put.ensures c.in_ok-expression.ensures c.in_ok-done.ensures.place c.in_ok-put-2.ensures c.in_ok-other.ensures.place c.in_ok-put-3.ensures c.in_ok-end.ensures.place
 
 pub right_of_or-expression-requires : goal.right_of_or-expression-requires
 right_of_or-expression-requires t c = (omega arith, c.requires.narrow)
 
 pub right_of_or-patch-requires : goal.right_of_or-patch-requires
 right_of_or-patch-requires t c =
-    below_more _ _ _ _ c.in_ok-expression.ensures (below_more _ _ _ _ c.in_ok-put-3.ensures (below_more _ _ _ _ c.in_ok-put-2.ensures (below_put _ _ _ _ c.in_ok-test.ensures c.in_ok-put.ensures)))
+    below_more _ _ _ _ c.in_ok-expression.ensures (below_more _ _ _ _ c.in_ok-put-3.ensures (below_more _ _ _ _ c.in_ok-put-2.ensures (below_put _ _ _ _ c.in_ok-test.ensures.place c.in_ok-put.ensures)))
 
 pub right_of_or-patch-requires-2 : goal.right_of_or-patch-requires-2
 right_of_or-patch-requires-2 t c =
-    let l = below_more _ _ _ _ c.in_ok-expression.ensures (below_put _ _ _ _ c.in_ok-done.ensures c.in_ok-put-3.ensures) in
+    let l = below_more _ _ _ _ c.in_ok-expression.ensures (below_put _ _ _ _ c.in_ok-done.ensures.place c.in_ok-put-3.ensures) in
     let m = ap length c.patch.ensures ∙ length-set c.expression.new.code.items c.in_ok-test.test (i.Skip c.in_ok-other.other) in
     omega (arith, l, m)
 
@@ -260,4 +260,4 @@ pub right_of_or-returns : goal.right_of_or-returns
 right_of_or-returns t c =
     λ front e h.
     c.patch-2.ensures ∙ ap (λ z. slice_set z c.in_ok-done.done (i.Jump c.in_ok-end.end)) c.patch.ensures
-    ∙ ways_patched front (expr_code e (length front)) (λ b. i.Flag true ∷ []) (expr_code (view_expr c.args.right.now)) _ _ _ _ _ _ _ _ _ _ _ h c.in_ok-test.ensures c.in_ok-put.ensures c.in_ok-put-2.ensures c.in_ok-done.ensures c.in_ok-put-3.ensures c.in_ok-other.ensures c.in_ok-expression.ensures c.in_ok-end.ensures
+    ∙ ways_patched front (expr_code e (length front)) (λ b. i.Flag true ∷ []) (expr_code (view_expr c.args.right.now)) _ _ _ _ _ _ _ _ _ _ _ h c.in_ok-test.ensures.place c.in_ok-put.ensures c.in_ok-put-2.ensures c.in_ok-done.ensures.place c.in_ok-put-3.ensures c.in_ok-other.ensures.place c.in_ok-expression.ensures c.in_ok-end.ensures.place

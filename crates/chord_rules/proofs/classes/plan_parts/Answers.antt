@@ -6,7 +6,7 @@ use Rattle.chord_rules.specs.Planning.{base_methods}
 use Rattle.chord_rules.proofs.classes.plan_parts.Goals as goal
 
 pub returns-clause-number : goal.returns-clause-number
-returns-clause-number c = c.in_ok-number.ensures ∙ c.class_count.ensures
+returns-clause-number c = c.in_ok-number.ensures.same ∙ c.class_count.ensures
 
 pub returns-clause-methods : goal.returns-clause-methods
 returns-clause-methods c =

@@ -8,5 +8,5 @@ returns c = record {
   table = refl;
   plans = ap (map view_class_plan) c.in_ok-push.ensures.items ∙ map_end view_class_plan c.args.progress.plans.items c.in_ok-plan.plan ∙ ap (λ z. map view_class_plan c.args.progress.plans.items ++ (z ∷ [])) c.in_ok-plan.ensures;
   depths = refl;
-  number = c.in_ok-progress.ensures ∙ ap (λ z. c.args.progress.number + z) c.member_count.ensures;
+  number = c.in_ok-progress.ensures.next ∙ ap (λ z. c.args.progress.number + z) c.member_count.ensures;
 }

@@ -31,4 +31,4 @@ returns-in_ok-main_member-in-None-clause-planned c =
     let none = none_before c.look.new.breaks.found (keys 13 (wrong_mains (mains_of (map see_class c.classes-classes.result.now)) c.token_count.result)) (sym c.wrong_mains.ensures ∙ c.in-None.is) in
     c.new.ensures
     ∙ ap (λ z. record { classes = z; main = c.in_ok-main_member-in-None.field-0 }) (c.in_ok-plans.ensures.plans none ∙ ap (plans_after [] [] 0) classes)
-    ∙ ap (λ z. record { classes = plan_of (tree_of c.args.program.now); main = z }) (c.in_ok-main_member-in-None.ensures ∙ ap (λ z. unwrap_or (main_in 0 z) 0) classes)
+    ∙ ap (λ z. record { classes = plan_of (tree_of c.args.program.now); main = z }) (c.in_ok-main_member-in-None.ensures.main ∙ ap (λ z. unwrap_or (main_in 0 z) 0) classes)

@@ -1,5 +1,5 @@
-use Rattle.std.proofs.Common.{false, map, take, option_map, arith, refl, sym, ap, subst, ◌∙◌}
-use Rattle.std.specs.Prelude.{unwrap_or}
+use Rattle.std.proofs.Common.{◌≤◌, ◌+◌, false, map, take, option_map, arith, refl, sym, ap, subst, ◌∙◌}
+use Rattle.std.specs.Prelude.{sum_by, unwrap_or}
 use Rattle.chord_tree.specs.declared.exprs.Calls.{out-Calls}
 use Rattle.chord_tree.specs.declared.exprs.Chain.{out-Chain}
 use Rattle.chord_tree.specs.declared.exprs.Link.{out-Link}
@@ -24,11 +24,13 @@ use Rattle.chord_types.specs.Sites.{see_site}
 use Rattle.chord_classes.specs.AllNotes.{typed_term_keys}
 use Rattle.chord_types.specs.CallKeys.{call_keys, call_type}
 use Rattle.chord_types.specs.Checked.{IsChecked, AreChecked, IsReceiver, on_link, on_dot}
+use Rattle.chord_types.specs.Flat.{doubled}
 use Rattle.chord_tree.proofs.Words.{length_zero}
 use Rattle.chord_types.proofs.Oks.{if_ok}
 use Rattle.chord_types.proofs.Terms.{chain_term, link_term, called_term, dot_term, own_call_term, creation_term}
 use Rattle.chord_types.proofs.Lists.{map_last, take_step, take_all, dots_taken, dots_last, links_taken, total_ends}
 use Rattle.chord_types.proofs.Nodes.{AreAll, none_yet, minus_checked, not_checked, group_checked, operation_checked, own_checked, new_checked, call_checked, are_checked, one_more_checked, moved}
+use Rattle.chord_types.proofs.Doubled.{beside_this, doubled_negate, doubled_deny, doubled_new, doubled_operand, same_sum}
 use Rattle.chord_types.proofs.exprs.+exprs.Goals as goal
 
 pub expr-joined-requires : goal.expr-joined-requires
@@ -156,12 +158,14 @@ minus_of-returns t c =
     minus_checked (see_site c.args.site.now) c.args.at _ c.args.breaks.now.found c.expr.new.breaks.found c.judge_minus-static_type.new.breaks.found c.in_ok-operand.operand _ c.in_ok-operand.ensures
     (c.judge_minus-static_type.ensures.typed (see_site c.args.site.now) Used) (c.judge_minus-static_type.ensures.noted (see_site c.args.site.now) Used)
     (viewed_negate c.in_ok-new.field-0 ∙ ap (λ z. to.Negate (view_expr z)) c.in_ok-new.ensures.ok)
+    (doubled_negate c.in_ok-new.field-0 ∙ ap doubled c.in_ok-new.ensures.ok)
 
 pub not_of-returns : goal.not_of-returns
 not_of-returns t c =
     not_checked (see_site c.args.site.now) c.args.at _ c.args.breaks.now.found c.expr.new.breaks.found c.judge_not-static_type.new.breaks.found c.in_ok-operand.operand _ c.in_ok-operand.ensures
     (c.judge_not-static_type.ensures.typed (see_site c.args.site.now) Used) (c.judge_not-static_type.ensures.noted (see_site c.args.site.now) Used)
     (viewed_deny c.in_ok-new.field-0 ∙ ap (λ z. to.Deny (view_expr z)) c.in_ok-new.ensures.ok)
+    (doubled_deny c.in_ok-new.field-0 ∙ ap doubled c.in_ok-new.ensures.ok)
 
 pub joined-returns : goal.joined-returns
 joined-returns t c =
@@ -182,7 +186,8 @@ link_on-returns t c = λ before start h.
     subst (λ z. IsChecked site Used z start c.judge_operation-static_type.new.breaks.found (record { expr = c.in_ok-with_link.field-0; static_type = c.judge_operation-static_type.result; is_console = false })) (sym (link_term c.args.link.now before))
     (operation_checked site link.operator link.at before (term (see_expr link.operand)) start c.args.breaks.now.found c.expr.new.breaks.found c.judge_operation-static_type.new.breaks.found c.args.left c.in_ok-right.right _ h c.in_ok-right.ensures
     (c.judge_operation-static_type.ensures.typed site Used refl) (c.judge_operation-static_type.ensures.noted site Used refl)
-    (c.in_ok-with_link.ensures ∙ ap (λ (z : LinkOf). binary z.operator (view_expr c.args.left.expr) z.operand) (viewed_link _) ∙ c.resolved_operator.ensures (view_expr c.args.left.expr) (view_expr c.in_ok-right.right.expr)))
+    (c.in_ok-with_link.ensures.built ∙ ap (λ (z : LinkOf). binary z.operator (view_expr c.args.left.expr) z.operand) (viewed_link _) ∙ c.resolved_operator.ensures (view_expr c.args.left.expr) (view_expr c.in_ok-right.right.expr))
+    (subst (λ n. doubled c.in_ok-with_link.field-0 ≤ doubled c.args.left.expr + n) (doubled_operand _) c.in_ok-with_link.ensures.flat))
 
 pub links_on-each-init : goal.links_on-each-init
 links_on-each-init t c = λ u o h. h
@@ -293,7 +298,8 @@ own_call-returns t c =
     (c.own_target-target.ensures ∙ ap (own_target site) c.items.ensures.bytes)
     (c.judge_call-static_type.ensures.typed ∙ ap (λ z. call_type site role (option_map see_target c.own_target-target.result) c.args.name.now.at (map see_passed z)) c.deref-2.ensures.value)
     (c.judge_call-static_type.ensures.noted ∙ ap (λ z. least c.arguments.new.breaks.found (call_keys site role (option_map see_target c.own_target-target.result) c.args.name.now.at (map see_passed z))) c.deref-2.ensures.value)
-    (c.in_ok-call_of.ensures ∙ ap (λ z. call_of site.table (option_map see_target c.own_target-target.result) z (expr_list (map view_expr c.in_ok-exprs.field-0.exprs.items))) viewed_this)
+    (c.in_ok-call_of.ensures.built ∙ ap (λ z. call_of site.table (option_map see_target c.own_target-target.result) z (expr_list (map view_expr c.in_ok-exprs.field-0.exprs.items))) viewed_this)
+    (beside_this (doubled c.in_ok-call_of.field-0) (sum_by doubled c.in_ok-exprs.field-0.exprs.items) c.in_ok-call_of.ensures.flat)
     refl
 
 pub new_object-judge_new-static_type-requires : goal.new_object-judge_new-static_type-requires
@@ -309,6 +315,7 @@ new_object-returns t c =
     (c.judge_new-static_type.ensures.typed ∙ ap (λ z. judged site role (NewTyped c.args.name.now (map see_passed z))) c.deref-2.ensures.value)
     (c.judge_new-static_type.ensures.noted ∙ ap (λ z. least c.arguments.new.breaks.found (typed_term_keys site role (NewTyped c.args.name.now (map see_passed z)))) c.deref-2.ensures.value)
     (viewed_new c.unwrap_or.result c.in_ok-exprs.field-0.exprs)
+    (doubled_new c.unwrap_or.result c.in_ok-exprs.field-0.exprs)
     refl
 
 pub call_on-judge_on-static_type-requires : goal.call_on-judge_on-static_type-requires
@@ -325,7 +332,8 @@ call_on-returns t c = λ before start h.
     (call_checked site role before d.at d.name (out-Actuals d.actuals).at _ start c.args.breaks.now.found c.arguments.new.breaks.found c.judge_on-static_type.new.breaks.found x c.in_ok-exprs.field-0 _ h a
     (c.judge_on-static_type.ensures.typed ∙ ap (λ z. judged site role (typed_call x.is_console x.static_type d.at d.name (map see_passed z))) c.deref-2.ensures.value)
     (c.judge_on-static_type.ensures.noted ∙ ap (λ z. least c.arguments.new.breaks.found (typed_term_keys site role (typed_call x.is_console x.static_type d.at d.name (map see_passed z)))) c.deref-2.ensures.value)
-    (c.in_ok-call_of.ensures ∙ ap (λ z. call_of site.table z (view_expr x.expr) (expr_list (map view_expr c.in_ok-exprs.field-0.exprs.items))) (c.target_on-target.ensures ∙ ap (target_on site x.static_type) c.items.ensures.bytes))
+    (c.in_ok-call_of.ensures.built ∙ ap (λ z. call_of site.table z (view_expr x.expr) (expr_list (map view_expr c.in_ok-exprs.field-0.exprs.items))) (c.target_on-target.ensures ∙ ap (target_on site x.static_type) c.items.ensures.bytes))
+    c.in_ok-call_of.ensures.flat
     refl)
 
 pub calls_on-each-init : goal.calls_on-each-init
@@ -341,19 +349,22 @@ calls_on-returns t c = λ u o h.
     subst (λ z. IsReceiver (see_site c.args.site.now) Receiver (called (dots (map see_dot z)) u) o c.each.breaks.found c.each.receiver) (take_all c.args.calls.now c.each.dot-index c.each-test.false) (c.each.invariant u o h)
 
 pub arguments-each-init : goal.arguments-each-init
-arguments-each-init t c = moved refl (sym (ap (map view_expr) c.new-exprs.ensures.items)) (sym (ap (map see_passed) c.new-passed.ensures.items)) (none_yet (see_site c.args.site.now) c.args.breaks.now.found)
+arguments-each-init t c = (moved refl (sym (ap (map view_expr) c.new-exprs.ensures.items)) (sym (ap (map see_passed) c.new-passed.ensures.items)) (none_yet (see_site c.args.site.now) c.args.breaks.now.found), ap (sum_by doubled) c.new-exprs.ensures.items)
 
 pub arguments-returns : goal.arguments-returns
 arguments-returns t c =
     are_checked (see_site c.args.site.now) (map see_expr c.args.actuals.now) c.args.breaks.now.found c.each.breaks.found (record { exprs = c.each.exprs; passed = c.each.passed })
-    (subst (λ z. AreAll (see_site c.args.site.now) (map see_expr z) c.args.breaks.now.found c.each.breaks.found (map view_expr c.each.exprs.items) (map see_passed c.each.passed.items)) (take_all c.args.actuals.now c.each.actual-index c.each-test.false) c.each.invariant)
+    (subst (λ z. AreAll (see_site c.args.site.now) (map see_expr z) c.args.breaks.now.found c.each.breaks.found (map view_expr c.each.exprs.items) (map see_passed c.each.passed.items)) (take_all c.args.actuals.now c.each.actual-index c.each-test.false) c.each.invariant.0)
+    c.each.invariant.1
 
 pub arguments-each-preserved : goal.arguments-each-preserved
 arguments-each-preserved t c =
     let site = see_site c.args.site.now in
     let xs = c.args.actuals.now in
     let i = c.each.actual-index in
-    let m = one_more_checked site (map see_expr (take i xs)) (see_expr c.actual-item.result) c.args.breaks.now.found c.each.breaks.found c.expr.new.breaks.found (map view_expr c.each.exprs.items) (map see_passed c.each.passed.items) c.in_ok-argument.argument c.first_token.result c.each.invariant c.in_ok-argument.ensures c.first_token.ensures in
-    moved (sym (ap (map see_expr) (take_step xs i c.actual-item.result c.each-test.true c.actual-item.is) ∙ map_last see_expr (take i xs) c.actual-item.result))
-    (sym (ap (map view_expr) c.in_ok-push.ensures.items ∙ map_last view_expr c.each.exprs.items c.in_ok-argument.argument.expr))
-    (sym (ap (map see_passed) c.in_ok-push-2.ensures.items ∙ map_last see_passed c.each.passed.items (record { first = c.first_token.result; static_type = c.in_ok-argument.argument.static_type }))) m
+    let m = one_more_checked site (map see_expr (take i xs)) (see_expr c.actual-item.result) c.args.breaks.now.found c.each.breaks.found c.expr.new.breaks.found (map view_expr c.each.exprs.items) (map see_passed c.each.passed.items) c.in_ok-argument.argument c.first_token.result c.each.invariant.0 c.in_ok-argument.ensures c.first_token.ensures in (
+      moved (sym (ap (map see_expr) (take_step xs i c.actual-item.result c.each-test.true c.actual-item.is) ∙ map_last see_expr (take i xs) c.actual-item.result))
+          (sym (ap (map view_expr) c.in_ok-push.ensures.items ∙ map_last view_expr c.each.exprs.items c.in_ok-argument.argument.expr))
+          (sym (ap (map see_passed) c.in_ok-push-2.ensures.items ∙ map_last see_passed c.each.passed.items (record { first = c.first_token.result; static_type = c.in_ok-argument.argument.static_type }))) m,
+      same_sum doubled 0 c.each.exprs.items c.push.new.self.items c.in_ok-argument.argument.expr c.in_ok-push.ensures.items c.each.invariant.1 c.in_ok-argument.ensures.flat,
+    )

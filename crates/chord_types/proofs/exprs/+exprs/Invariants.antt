@@ -1,4 +1,5 @@
-use Rattle.std.proofs.Common.{ℕ, Option, map, take, ◌+◌, ◌*◌}
+use Rattle.std.proofs.Common.{◌≡◌, ℕ, Option, map, take, ◌+◌, ◌*◌}
+use Rattle.std.specs.Prelude.{sum_by}
 use Rattle.chord_tree.specs.Tree.{dots, links}
 use Rattle.chord_tree.specs.Terms.{Term, called, operated}
 use Rattle.chord_tree.specs.Walk.{Used, Receiver}
@@ -8,11 +9,12 @@ use Rattle.chord_bodies.specs.View.{view_expr}
 use Rattle.chord_types.specs.Views.{see_passed}
 use Rattle.chord_types.specs.Sites.{see_site}
 use Rattle.chord_types.specs.Checked.{IsChecked, IsReceiver}
+use Rattle.chord_types.specs.Flat.{doubled}
 use Rattle.chord_types.proofs.Nodes.{AreAll}
 use Rattle.chord_types.proofs.exprs.+exprs.Given as goal
 
 abbrev pub invariant-arguments-each : goal.invariant-arguments-each
-invariant-arguments-each l = AreAll (see_site l.site) (map see_expr (take l.actual-index l.actuals)) l.initial.breaks.found l.breaks.found (map view_expr l.exprs.items) (map see_passed l.passed.items)
+invariant-arguments-each l = AreAll (see_site l.site) (map see_expr (take l.actual-index l.actuals)) l.initial.breaks.found l.breaks.found (map view_expr l.exprs.items) (map see_passed l.passed.items) × (sum_by doubled l.exprs.items ≡ 0)
 
 abbrev pub invariant-calls_on-each : goal.invariant-calls_on-each
 invariant-calls_on-each l = (t : Term) (o : Option ℕ) → IsReceiver (see_site l.site) Receiver t o l.initial.breaks.found l.fn.first → IsReceiver (see_site l.site) Receiver (called (dots (map see_dot (take l.dot-index l.calls))) t) o l.breaks.found l.receiver

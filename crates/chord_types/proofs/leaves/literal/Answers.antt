@@ -11,9 +11,10 @@ returns c =
     let noted = c.judge_literal.ensures (see_site c.args.site.now) (see_role c.args.role) in
     record {
       checked = record {
-        built = λ e. c.in_ok-text_of.ensures (short_text (length c.args.bytes.now) c.args.at (nothing_there c.args.breaks.now.found c.judge_literal.new.breaks.found (typed_term_keys (see_site c.args.site.now) (see_role c.args.role) (LiteralTyped c.args.bytes.now c.args.at)) noted e));
+        built = λ e. c.in_ok-text_of.ensures.built (short_text (length c.args.bytes.now) c.args.at (nothing_there c.args.breaks.now.found c.judge_literal.new.breaks.found (typed_term_keys (see_site c.args.site.now) (see_role c.args.role) (LiteralTyped c.args.bytes.now c.args.at)) noted e));
         typed = refl;
         noted = noted;
+        flat = c.in_ok-text_of.ensures.flat;
       };
       console = refl;
     }

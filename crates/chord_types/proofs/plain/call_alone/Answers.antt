@@ -14,7 +14,7 @@ use Rattle.chord_classes.specs.AllNotes.{typed_term_keys}
 use Rattle.chord_types.specs.Views.{see_passed}
 use Rattle.chord_types.specs.Sites.{see_site}
 use Rattle.chord_types.specs.Checked.{AreChecked, IsAlone}
-use Rattle.chord_types.proofs.Oks.{if_ok}
+use Rattle.chord_types.proofs.Oks.{if_both}
 use Rattle.chord_types.proofs.Terms.{dot_term}
 use Rattle.chord_types.proofs.PlainStmts.{on_alone}
 use Rattle.chord_types.proofs.plain.call_alone.Goals as goal
@@ -28,9 +28,10 @@ returns c =
     let d = out-Dot c.args.dot.now in
     let x = c.args.receiver in
     let a = subst (λ z. AreChecked site (terms (exprs (map see_expr z))) c.args.breaks.now.found c.arguments.new.breaks.found c.in_ok-exprs.field-0) c.deref.ensures.value c.in_ok-exprs.ensures in
-    if_ok c.ended.result _ _ (λ r v. λ before start h.
+    if_both c.ended.result _ _ _ (λ r v f. λ before start h.
     subst (λ z. IsAlone site z start c.judge_on.new.breaks.found r) (sym (dot_term c.args.dot.now before))
     (on_alone site before d.at d.name (out-Actuals d.actuals).at _ start c.args.breaks.now.found c.arguments.new.breaks.found c.judge_on.new.breaks.found x c.in_ok-exprs.field-0 r h a
     (c.judge_on.ensures.noted ∙ ap (λ z. least c.arguments.new.breaks.found (typed_term_keys site Alone (typed_call x.is_console x.static_type d.at d.name (map see_passed z)))) c.deref-2.ensures.value)
-    (v ∙ ap (λ z. cond x.is_console (to.Print (printed (expr_list (map view_expr c.in_ok-exprs.field-0.exprs.items)))) (done site.table z (view_expr x.expr) (expr_list (map view_expr c.in_ok-exprs.field-0.exprs.items)))) (c.target_on-target.ensures ∙ ap (target_on site x.static_type) c.items.ensures.bytes))))
-    c.ended.ensures
+    (v ∙ ap (λ z. cond x.is_console (to.Print (printed (expr_list (map view_expr c.in_ok-exprs.field-0.exprs.items)))) (done site.table z (view_expr x.expr) (expr_list (map view_expr c.in_ok-exprs.field-0.exprs.items)))) (c.target_on-target.ensures ∙ ap (target_on site x.static_type) c.items.ensures.bytes))
+    f))
+    c.ended.ensures.built c.ended.ensures.flat

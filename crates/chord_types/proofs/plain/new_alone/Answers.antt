@@ -11,6 +11,7 @@ use Rattle.chord_types.specs.Sites.{see_site}
 use Rattle.chord_types.specs.Checked.{IsAlone}
 use Rattle.chord_types.proofs.Oks.{if_ok}
 use Rattle.chord_types.proofs.Lists.{dots_last}
+use Rattle.chord_types.proofs.Doubled.{doubled_do}
 use Rattle.chord_types.proofs.PlainStmts.{new_plain, new_ends}
 use Rattle.chord_types.proofs.plain.new_alone.Goals as goal
 
@@ -30,4 +31,4 @@ returns-in_ok-object-in-None c =
     let begin = NewTerm c.args.at c.args.name.now (out-Actuals c.args.actuals.now).at (terms (exprs (map see_expr (out-Actuals c.args.actuals.now).arguments.items))) in
     new_plain site c.args.at c.args.name.now (see_actuals c.args.actuals.now) (dots (map see_dot c.args.calls.now)) _ _ c.args.breaks.now.found c.new_object.new.breaks.found (stmt.Do c.in_ok-object-in-None.object.expr) (seen_actuals c.args.actuals.now)
     (subst (λ z. IsAlone site (called (dots (map see_dot z)) begin) c.args.breaks.now.found c.new_object.new.breaks.found (stmt.Do c.in_ok-object-in-None.object.expr)) (sym (length_zero _ c.in-None.ensures.cases))
-    (new_ends site c.args.at c.args.name.now _ _ c.args.breaks.now.found c.new_object.new.breaks.found c.in_ok-object-in-None.object (stmt.Do c.in_ok-object-in-None.object.expr) c.in_ok-object-in-None.ensures (viewed_do c.in_ok-object-in-None.object.expr)))
+    (new_ends site c.args.at c.args.name.now _ _ c.args.breaks.now.found c.new_object.new.breaks.found c.in_ok-object-in-None.object (stmt.Do c.in_ok-object-in-None.object.expr) c.in_ok-object-in-None.ensures (viewed_do c.in_ok-object-in-None.object.expr) (doubled_do c.in_ok-object-in-None.object.expr)))

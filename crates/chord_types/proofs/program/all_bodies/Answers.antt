@@ -1,4 +1,4 @@
-use Rattle.std.proofs.Common.{◌≡◌, ◌+◌, map, drop, arith, ap, subst}
+use Rattle.std.proofs.Common.{◌≡◌, ◌+◌, map, drop, arith, ap, subst, ◌∙◌}
 use Rattle.chord_tree.specs.View.{see_class, see_member}
 use Rattle.chord_tree.proofs.Words.{dropped}
 use Rattle.chord_bodies.specs.BodyView.{view_body}
@@ -16,4 +16,5 @@ each-preserved c =
           (subst (λ z. ClassesLeft c.args.table.now c.each.number (map see_class c.args.classes.now) (map see_class z) c.args.breaks.now.found c.each.breaks.found (map view_body c.each.bodies.items)) (dropped xs i c.class-item.result c.each-test.true c.class-item.is) c.each.invariant.1)
           (subst (λ z. AreMembersChecked c.args.table.now z (map see_member c.class-item.result.members.items) c.each.breaks.found c.class_bodies.new.breaks.found c.each.bodies.items c.class_bodies.new.bodies.items) own
           (subst (λ z. AreMembersChecked c.args.table.now c.in-Ok.own (map see_member z) c.each.breaks.found c.class_bodies.new.breaks.found c.each.bodies.items c.class_bodies.new.bodies.items) c.deref.ensures.value c.in_ok-class_bodies.ensures)),
+      c.in_ok-class_bodies.ensures.flat ∙ c.each.invariant.2,
     )

@@ -1,20 +1,22 @@
 use Rattle.std.proofs.Common.{◌+◌, map, drop, arith, refl, sym, ap, subst, ◌∙◌}
+use Rattle.std.specs.Prelude.{sum_by}
 use Rattle.chord_tree.specs.declared.stmts.Block.{out-Block}
-use Rattle.chord_tree.specs.Tree.{AssignStmt, MethodCallStmt, ThisCallStmt, NewStmt, CallStmt, EmptyStmt, ReturnStmt, IfStmt, IfElseStmt, WhileStmt, ReturnValueStmt, StmtItem, dots}
-use Rattle.chord_tree.specs.ViewExprs.{see_expr, see_actuals, see_dot}
+use Rattle.chord_tree.specs.Tree.{IfStmt, IfElseStmt, WhileStmt, StmtItem}
+use Rattle.chord_tree.specs.ViewExprs.{see_expr}
 use Rattle.chord_tree.specs.ViewStmts.{see_stmt, see_item, see_block}
-use Rattle.chord_tree.proofs.SeenStmts.{seen_stmt_assign, seen_stmt_call, seen_stmt_through, seen_stmt_this, seen_stmt_new, seen_stmt_block, seen_stmt_empty, seen_stmt_if, seen_stmt_if_else, seen_stmt_while, seen_stmt_return, seen_stmt_return_value, seen_item_local, seen_item_plain, seen_block}
+use Rattle.chord_tree.proofs.SeenStmts.{seen_stmt_block, seen_stmt_if, seen_stmt_if_else, seen_stmt_while, seen_item_local, seen_item_plain, seen_block}
 use Rattle.chord_tree.proofs.Weights.{total, one_of}
 use Rattle.chord_tree.proofs.WeightsStmts.{weigh_item, weigh_stmt, of_block, of_if, of_if_else, of_while, of_plain, of_braces}
 use Rattle.chord_tree.proofs.Words.{dropped, drop_end}
 use Rattle.chord_bodies.specs.declared.stmt.Stmt.TheVariants as stmt
-use Rattle.chord_bodies.specs.Resolved as to
-use Rattle.chord_bodies.specs.View.{view_stmt, stmt_list}
+use Rattle.chord_bodies.specs.View.{view_stmt}
 use Rattle.chord_bodies.proofs.Viewed.{viewed_block, viewed_if, viewed_if_else, viewed_while}
 use Rattle.chord_types.specs.StmtChecked.{IsItemChecked, IsBlockChecked, AreItemsChecked}
+use Rattle.chord_types.specs.Flat.{doubled_stmt}
 use Rattle.chord_types.proofs.Oks.{if_ok}
 use Rattle.chord_types.proofs.Lists.{map_last}
-use Rattle.chord_types.proofs.Items.{AreLeft, block_item, if_item, if_else_item, while_item, all_left, one_less, no_items_left, block_checked, scope_grows, seen_plain}
+use Rattle.chord_types.proofs.Items.{AreLeft, block_item, if_item, if_else_item, while_item, all_left, one_less, no_items_left, block_checked, scope_grows}
+use Rattle.chord_types.proofs.Doubled.{doubled_if, doubled_if_else, doubled_while, doubled_block, same_sum}
 use Rattle.chord_types.proofs.stmts.+stmts.Goals as goal
 
 pub block_stmt-block-requires : goal.block_stmt-block-requires
@@ -24,7 +26,7 @@ pub stmt-block_stmt-requires : goal.stmt-block_stmt-requires
 stmt-block_stmt-requires t c = let e = ap weigh_stmt c.in-Block.is ∙ of_block c.in-Block.inner in (omega arith, tt)
 
 pub stmt-if_then-requires : goal.stmt-if_then-requires
-stmt-if_then-requires t c = let e = ap weigh_stmt c.in-If.is ∙ of_if c.in-If.at c.in-If.bracket c.in-If.test c.in-If.first in let f = ap weigh_stmt c.deref-in-If.ensures in (omega arith, tt)
+stmt-if_then-requires t c = let e = ap weigh_stmt c.in-If.is ∙ of_if c.in-If.at c.in-If.bracket c.in-If.test c.in-If.first in let f = ap weigh_stmt c.deref.ensures in (omega arith, tt)
 
 pub stmt-if_else-requires : goal.stmt-if_else-requires
 stmt-if_else-requires t c = let e = ap weigh_stmt c.in-IfElse.is ∙ of_if_else c.in-IfElse.at c.in-IfElse.bracket c.in-IfElse.test c.in-IfElse.first c.in-IfElse.second in let f = ap weigh_stmt c.deref-in-IfElse.ensures in let g = ap weigh_stmt c.deref-in-IfElse-2.ensures in (omega arith, tt)
@@ -56,49 +58,16 @@ items-item-requires t c = let e = one_of weigh_item c.args.items.now _ _ c.each-
 pub item-stmt-requires : goal.item-stmt-requires
 item-stmt-requires t c = let e = ap weigh_item c.in-Stmt.is ∙ of_plain c.in-Stmt.inner in (omega arith, tt)
 
-pub stmt-returns-in-Assign : goal.stmt-returns-in-Assign
-stmt-returns-in-Assign t c =
-    if_ok c.assign.result _ _ (λ r h. seen_plain c.args.site.now (see_stmt c.args.stmt.now) (AssignStmt c.in-Assign.name c.in-Assign.at (see_expr c.in-Assign.value)) c.args.breaks.now.found c.assign.new.breaks.found r (ap see_stmt c.in-Assign.is ∙ seen_stmt_assign c.in-Assign.name c.in-Assign.at c.in-Assign.value) refl h) c.assign.ensures
-
-pub stmt-returns-in-Call : goal.stmt-returns-in-Call
-stmt-returns-in-Call t c =
-    if_ok c.call.result _ _ (λ r h. seen_plain c.args.site.now (see_stmt c.args.stmt.now) (CallStmt c.in-Call.name (see_actuals c.in-Call.actuals) (dots (map see_dot c.deref.result.now))) c.args.breaks.now.found c.call.new.breaks.found r (ap see_stmt c.in-Call.is ∙ seen_stmt_call c.in-Call.name c.in-Call.actuals c.in-Call.calls ∙ ap (λ z. CallStmt c.in-Call.name (see_actuals c.in-Call.actuals) (dots (map see_dot z))) (sym c.deref.ensures.value)) refl h) c.call.ensures
-
-pub stmt-returns-in-MethodCall : goal.stmt-returns-in-MethodCall
-stmt-returns-in-MethodCall t c =
-    if_ok c.method_call.result _ _ (λ r h. seen_plain c.args.site.now (see_stmt c.args.stmt.now) (MethodCallStmt c.in-MethodCall.name (see_dot c.in-MethodCall.first) (dots (map see_dot c.deref-in-MethodCall.result.now))) c.args.breaks.now.found c.method_call.new.breaks.found r (ap see_stmt c.in-MethodCall.is ∙ seen_stmt_through c.in-MethodCall.name c.in-MethodCall.first c.in-MethodCall.calls ∙ ap (λ z. MethodCallStmt c.in-MethodCall.name (see_dot c.in-MethodCall.first) (dots (map see_dot z))) (sym c.deref-in-MethodCall.ensures.value)) refl h) c.method_call.ensures
-
-pub stmt-returns-in-ThisCall : goal.stmt-returns-in-ThisCall
-stmt-returns-in-ThisCall t c =
-    if_ok c.this_call.result _ _ (λ r h. seen_plain c.args.site.now (see_stmt c.args.stmt.now) (ThisCallStmt c.in-ThisCall.at (see_dot c.in-ThisCall.first) (dots (map see_dot c.deref-in-ThisCall.result.now))) c.args.breaks.now.found c.this_call.new.breaks.found r (ap see_stmt c.in-ThisCall.is ∙ seen_stmt_this c.in-ThisCall.at c.in-ThisCall.first c.in-ThisCall.calls ∙ ap (λ z. ThisCallStmt c.in-ThisCall.at (see_dot c.in-ThisCall.first) (dots (map see_dot z))) (sym c.deref-in-ThisCall.ensures.value)) refl h) c.this_call.ensures
-
-pub stmt-returns-in-New : goal.stmt-returns-in-New
-stmt-returns-in-New t c =
-    if_ok c.new_alone.result _ _ (λ r h. seen_plain c.args.site.now (see_stmt c.args.stmt.now) (NewStmt c.in-New.at c.in-New.name (see_actuals c.in-New.actuals) (dots (map see_dot c.deref-in-New.result.now))) c.args.breaks.now.found c.new_alone.new.breaks.found r (ap see_stmt c.in-New.is ∙ seen_stmt_new c.in-New.at c.in-New.name c.in-New.actuals c.in-New.calls ∙ ap (λ z. NewStmt c.in-New.at c.in-New.name (see_actuals c.in-New.actuals) (dots (map see_dot z))) (sym c.deref-in-New.ensures.value)) refl h) c.new_alone.ensures
-
-pub stmt-returns-in-ReturnValue : goal.stmt-returns-in-ReturnValue
-stmt-returns-in-ReturnValue t c =
-    if_ok c.return_value.result _ _ (λ r h. seen_plain c.args.site.now (see_stmt c.args.stmt.now) (ReturnValueStmt c.in-ReturnValue.at (see_expr c.in-ReturnValue.value)) c.args.breaks.now.found c.return_value.new.breaks.found r (ap see_stmt c.in-ReturnValue.is ∙ seen_stmt_return_value c.in-ReturnValue.at c.in-ReturnValue.value) refl h) c.return_value.ensures
-
-pub stmt-returns-in-Empty : goal.stmt-returns-in-Empty
-stmt-returns-in-Empty t c =
-    seen_plain c.args.site.now (see_stmt c.args.stmt.now) EmptyStmt c.args.breaks.now.found c.args.breaks.now.found (stmt.Block c.new.result) (ap see_stmt c.in-Empty.is ∙ seen_stmt_empty) refl
-    (record { built = λ e. viewed_block c.new.result ∙ ap (λ z. to.Block (stmt_list (map view_stmt z))) c.new.ensures.items; noted = refl })
-
-pub stmt-returns-in-Return : goal.stmt-returns-in-Return
-stmt-returns-in-Return t c =
-    seen_plain c.args.site.now (see_stmt c.args.stmt.now) (ReturnStmt c.in-Return.at) c.args.breaks.now.found c.return_nothing.new.breaks.found c.return_nothing.result (ap see_stmt c.in-Return.is ∙ seen_stmt_return c.in-Return.at) refl c.return_nothing.ensures
-
 pub stmt-returns-in-Block : goal.stmt-returns-in-Block
 stmt-returns-in-Block t c =
     if_ok c.block_stmt.result _ _ (λ r h. subst (λ z. IsItemChecked c.args.site.now c.block_stmt.new.site (StmtItem z) c.args.breaks.now.found c.block_stmt.new.breaks.found r) (sym (ap see_stmt c.in-Block.is ∙ seen_stmt_block c.in-Block.inner)) h) c.block_stmt.ensures
 
 pub block_stmt-returns : goal.block_stmt-returns
-block_stmt-returns t c = block_item c.args.site.now c.block.new.site (see_block c.args.inner.now) c.args.breaks.now.found c.block.new.breaks.found c.in_ok-stmts.stmts.items (stmt.Block c.in_ok-stmts.stmts) c.in_ok-stmts.ensures (viewed_block c.in_ok-stmts.stmts)
+block_stmt-returns t c = block_item c.args.site.now c.block.new.site (see_block c.args.inner.now) c.args.breaks.now.found c.block.new.breaks.found c.in_ok-stmts.stmts.items (stmt.Block c.in_ok-stmts.stmts) c.in_ok-stmts.ensures (viewed_block c.in_ok-stmts.stmts) (doubled_block c.in_ok-stmts.stmts)
 
 pub stmt-returns-in-If : goal.stmt-returns-in-If
 stmt-returns-in-If t c =
-    let same = ap see_stmt c.in-If.is ∙ seen_stmt_if c.in-If.at c.in-If.bracket c.in-If.test c.in-If.first ∙ ap (λ z. IfStmt c.in-If.at c.in-If.bracket (see_expr c.in-If.test) (see_stmt z)) (sym c.deref-in-If.ensures) in
+    let same = ap see_stmt c.in-If.is ∙ seen_stmt_if c.in-If.at c.in-If.bracket c.in-If.test c.in-If.first ∙ ap (λ z. IfStmt c.in-If.at c.in-If.bracket (see_expr c.in-If.test) (see_stmt z)) (sym c.deref.ensures) in
     if_ok c.if_then.result _ _ (λ r h. subst (λ z. IsItemChecked c.args.site.now c.if_then.new.site (StmtItem z) c.args.breaks.now.found c.if_then.new.breaks.found r) (sym same) (h c.in-If.bracket)) c.if_then.ensures
 
 pub stmt-returns-in-IfElse : goal.stmt-returns-in-IfElse
@@ -119,18 +88,18 @@ boxed_stmt-returns t c = subst (λ z. IsItemChecked c.args.site.now c.stmt.new.s
 pub if_then-returns : goal.if_then-returns
 if_then-returns t c = λ bracket.
     if_item c.args.site.now c.args.at bracket (see_expr c.args.test.now) c.args.breaks.now.found c.condition.new.breaks.found c.in_ok-test.test c.boxed_stmt.new.site (see_stmt c.args.first.now) c.boxed_stmt.new.breaks.found c.in_ok-first.first.value (stmt.If c.in_ok-test.test c.in_ok-first.first)
-    c.in_ok-test.ensures c.in_ok-first.ensures (viewed_if c.in_ok-test.test c.in_ok-first.first)
+    c.in_ok-test.ensures c.in_ok-first.ensures (viewed_if c.in_ok-test.test c.in_ok-first.first) (doubled_if c.in_ok-test.test c.in_ok-first.first)
 
 pub while_loop-returns : goal.while_loop-returns
 while_loop-returns t c = λ bracket.
     while_item c.args.site.now c.args.at bracket (see_expr c.args.test.now) c.args.breaks.now.found c.condition.new.breaks.found c.in_ok-test.test c.boxed_stmt.new.site (see_stmt c.args.body.now) c.boxed_stmt.new.breaks.found c.in_ok-body.body.value (stmt.While c.in_ok-test.test c.in_ok-body.body)
-    c.in_ok-test.ensures c.in_ok-body.ensures (viewed_while c.in_ok-test.test c.in_ok-body.body)
+    c.in_ok-test.ensures c.in_ok-body.ensures (viewed_while c.in_ok-test.test c.in_ok-body.body) (doubled_while c.in_ok-test.test c.in_ok-body.body)
 
 pub if_else-returns : goal.if_else-returns
 if_else-returns t c = λ bracket.
     if_else_item c.args.site.now c.args.at bracket (see_expr c.args.test.now) c.args.breaks.now.found c.condition.new.breaks.found c.in_ok-test.test c.boxed_stmt.new.site c.boxed_stmt-2.new.site (see_stmt c.args.first.now) (see_stmt c.args.second.now) c.boxed_stmt.new.breaks.found c.boxed_stmt-2.new.breaks.found
     c.in_ok-first.first.value c.in_ok-second.second.value (stmt.IfElse c.in_ok-test.test c.in_ok-first.first c.in_ok-second.second) c.in_ok-test.ensures c.in_ok-first.ensures c.in_ok-second.ensures
-    (viewed_if_else c.in_ok-test.test c.in_ok-first.first c.in_ok-second.second)
+    (viewed_if_else c.in_ok-test.test c.in_ok-first.first c.in_ok-second.second) (doubled_if_else c.in_ok-test.test c.in_ok-first.first c.in_ok-second.second)
 
 pub block-truncate-requires : goal.block-truncate-requires
 block-truncate-requires t c =
@@ -148,19 +117,24 @@ block-returns t c =
     c.len-count.ensures refl refl refl refl refl refl c.truncate.ensures)
 
 pub items-each-init : goal.items-each-init
-items-each-init t c = subst (λ z. AreLeft c.args.site.now c.args.site.now (map see_item c.args.items.now) (map see_item c.args.items.now) c.args.breaks.now.found c.args.breaks.now.found (map view_stmt z)) (sym c.new-stmts.ensures.items) (all_left c.args.site.now (map see_item c.args.items.now) c.args.breaks.now.found)
+items-each-init t c = (
+  subst (λ z. AreLeft c.args.site.now c.args.site.now (map see_item c.args.items.now) (map see_item c.args.items.now) c.args.breaks.now.found c.args.breaks.now.found (map view_stmt z)) (sym c.new-stmts.ensures.items) (all_left c.args.site.now (map see_item c.args.items.now) c.args.breaks.now.found),
+  ap (sum_by doubled_stmt) c.new-stmts.ensures.items,
+)
 
 pub items-each-preserved : goal.items-each-preserved
 items-each-preserved t c =
     let xs = c.args.items.now in
-    let i = c.each.one-index in
-    subst (λ z. AreLeft c.args.site.now c.item.new.site (map see_item c.args.items.now) (map see_item (drop (c.each.one-index + 1) c.args.items.now)) c.args.breaks.now.found c.item.new.breaks.found z) (sym (ap (map view_stmt) c.in_ok-push.ensures.items ∙ map_last view_stmt c.each.stmts.items c.in_ok-made.made))
-    (one_less c.args.site.now c.each.site c.item.new.site (map see_item xs) (map see_item (drop (i + 1) xs)) (see_item c.one-item.result) c.args.breaks.now.found c.each.breaks.found c.item.new.breaks.found (map view_stmt c.each.stmts.items) c.in_ok-made.made
-    (subst (λ z. AreLeft c.args.site.now c.each.site (map see_item c.args.items.now) (map see_item z) c.args.breaks.now.found c.each.breaks.found (map view_stmt c.each.stmts.items)) (dropped xs i c.one-item.result c.each-test.true c.one-item.is) c.each.invariant)
-    c.in_ok-made.ensures)
+    let i = c.each.one-index in (
+      subst (λ z. AreLeft c.args.site.now c.item.new.site (map see_item c.args.items.now) (map see_item (drop (c.each.one-index + 1) c.args.items.now)) c.args.breaks.now.found c.item.new.breaks.found z) (sym (ap (map view_stmt) c.in_ok-push.ensures.items ∙ map_last view_stmt c.each.stmts.items c.in_ok-made.made))
+          (one_less c.args.site.now c.each.site c.item.new.site (map see_item xs) (map see_item (drop (i + 1) xs)) (see_item c.one-item.result) c.args.breaks.now.found c.each.breaks.found c.item.new.breaks.found (map view_stmt c.each.stmts.items) c.in_ok-made.made
+          (subst (λ z. AreLeft c.args.site.now c.each.site (map see_item c.args.items.now) (map see_item z) c.args.breaks.now.found c.each.breaks.found (map view_stmt c.each.stmts.items)) (dropped xs i c.one-item.result c.each-test.true c.one-item.is) c.each.invariant.0)
+          c.in_ok-made.ensures),
+      same_sum doubled_stmt 0 c.each.stmts.items c.push.new.self.items c.in_ok-made.made c.in_ok-push.ensures.items c.each.invariant.1 c.in_ok-made.ensures.flat,
+    )
 
 pub items-returns : goal.items-returns
-items-returns t c = no_items_left c.args.site.now c.each.site (map see_item c.args.items.now) _ c.args.breaks.now.found c.each.breaks.found c.each.stmts.items (ap (map see_item) (drop_end c.args.items.now c.each.one-index c.each-test.false)) c.each.invariant
+items-returns t c = no_items_left c.args.site.now c.each.site (map see_item c.args.items.now) _ c.args.breaks.now.found c.each.breaks.found c.each.stmts.items (ap (map see_item) (drop_end c.args.items.now c.each.one-index c.each-test.false)) c.each.invariant.0 c.each.invariant.1
 
 pub item-returns-in-Local : goal.item-returns-in-Local
 item-returns-in-Local t c =

@@ -1,13 +1,15 @@
-use Rattle.std.proofs.Common.{map, drop, ◌+◌, ◌*◌}
+use Rattle.std.proofs.Common.{◌≡◌, map, drop, ◌+◌, ◌*◌}
+use Rattle.std.specs.Prelude.{sum_by}
 use Rattle.chord_tree.specs.ViewStmts.{see_item}
 use Rattle.chord_tree.proofs.Weights.{total}
 use Rattle.chord_tree.proofs.WeightsStmts.{weigh_item, weigh_stmt, weigh_block}
 use Rattle.chord_bodies.specs.View.{view_stmt}
+use Rattle.chord_types.specs.Flat.{doubled_stmt}
 use Rattle.chord_types.proofs.Items.{AreLeft}
 use Rattle.chord_types.proofs.stmts.+stmts.Given as goal
 
 abbrev pub invariant-items-each : goal.invariant-items-each
-invariant-items-each l = AreLeft l.initial.site l.site (map see_item l.items) (map see_item (drop l.one-index l.items)) l.initial.breaks.found l.breaks.found (map view_stmt l.stmts.items)
+invariant-items-each l = AreLeft l.initial.site l.site (map see_item l.items) (map see_item (drop l.one-index l.items)) l.initial.breaks.found l.breaks.found (map view_stmt l.stmts.items) × (sum_by doubled_stmt l.stmts.items ≡ 0)
 
 abbrev pub decreases-stmt : goal.decreases-stmt
 decreases-stmt l = 2 * weigh_stmt l.stmt.now

@@ -7,11 +7,11 @@ use Rattle.chord_classes.proofs.table.Table.derives.Goals as goal
 
 pub returns-in-Some : goal.returns-in-Some
 returns-in-Some c =
-    let t = subst (λ z. IsShapeTable z c.self.inside.entries.items c.self.inside.names c.self.inside.lines c.self.inside.owners) c.self.view_is c.self.invariant in
+    let t = subst (λ z. IsShapeTable z c.self.inside.entries.items c.self.inside.index.names c.self.inside.index.lines c.self.inside.index.owners) c.self.view_is c.self.invariant in
     let here = entry_read c.self.inside.entries.items c.deref.result.now c.args.class c.in-Some.entry.now c.deref.ensures.value c.in-Some.ensures.lookup.0 c.in-Some.ensures.lookup.1 in
     c.is_some.ensures ∙ ap is_some c.get-in-Some.ensures ∙ (t.mapped c.args.class c.in-Some.entry.now here).derives_from c.args.base
 
 pub returns-in-None : goal.returns-in-None
 returns-in-None c =
-    let t = subst (λ z. AreEntries z c.self.inside.entries.items c.self.inside.names) c.self.view_is c.self.invariant.are in
+    let t = subst (λ z. AreEntries z c.self.inside.entries.items c.self.inside.index.names) c.self.view_is c.self.invariant.are in
     derives_alone c.args.self.now c.args.class c.args.base (no_entry t c.deref.result.now c.args.class c.deref.ensures.value c.in-None.ensures.lookup.0)

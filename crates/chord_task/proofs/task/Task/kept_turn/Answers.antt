@@ -1,6 +1,7 @@
-use Rattle.std.proofs.Common.{ap, ◌∙◌}
+use Rattle.std.proofs.Common.{ap, sym, ◌∙◌}
 use Rattle.chord_task.specs.Turning.{sent_of}
 use Rattle.chord_task.proofs.Turning.{may_note, turned, some_given, adds_from}
+use Rattle.chord_task.proofs.Stock.{kept_stock}
 use Rattle.chord_task.proofs.task.Task.kept_turn.Goals as goal
 
 pub note-requires-clause-may : goal.note-requires-clause-may
@@ -27,3 +28,8 @@ returns-clause-turned c =
 
 pub returns-clause-listed : goal.returns-clause-listed
 returns-clause-listed c = adds_from (c.reserve.ensures.past ∙ c.in_ok-prepare.ensures.past) c.reserve.ensures.listed c.note.ensures.listed
+
+pub returns-clause-stocked : goal.returns-clause-stocked
+returns-clause-stocked c =
+    let w = some_given _ c.in_ok-prepare.ensures.gave in
+    kept_stock c.args.code.now c.args.self.now c.prepare.new.self c.reserve.new.self c.note.new.self (c.in_ok-prepare.ensures.task.limited ∙ sym c.requires.task.limited) c.prepare.ensures.stock c.in_ok-reserve.ensures.stocked (c.note.ensures.frames w.0 (c.reserve.ensures.gave ∙ w.1)).spare

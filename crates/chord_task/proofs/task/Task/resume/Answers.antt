@@ -66,7 +66,7 @@ returns-clause-task c =
     in
     let bodies = put_below c.args.self.now.top c.args.self.now.below.items c.put_on_top.new.below.items c.put_on_top.ensures.below in
     rw (c.put_on_top.ensures.top, c.take.ensures.after)
-    (task_resumed c.args.code.now limits c.args.self.now c.append.new.past c.put_on_top.new.below c.part_all-parts.new.wide c.args.number c.args.chord c.args.object c.args.members.now vs _ c.line_of.result.now c.part_all-parts.ensures.list c.requires.task c.requires.may c.line_of.ensures (sym same ∙ c.begin.ensures) items bodies)
+    (task_resumed c.args.code.now limits c.args.self.now c.append.new.past c.put_on_top.new.below c.part_all-parts.new.wide c.args.number c.args.chord c.args.object c.args.members.now vs _ c.line_of.result.now c.part_all-parts.ensures.list c.requires.task c.requires.may c.line_of.ensures (sym same ∙ c.begin.ensures.begun) items bodies)
 
 pub put_on_top-requires-clause-waits : goal.put_on_top-requires-clause-waits
 put_on_top-requires-clause-waits c = waits_below c.args.code.now c.args.self.now.limits c.args.self.now c.args.number c.args.chord c.args.object c.args.members.now (laid (for_entry c.args.arguments)) c.requires.task c.requires.may

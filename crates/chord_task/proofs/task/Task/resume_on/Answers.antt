@@ -64,7 +64,7 @@ returns-clause-task c =
     in
     let bodies = put_below c.args.self.now.top c.args.self.now.below.items c.put_on_top.new.below.items c.put_on_top.ensures.below in
     rw (c.put_on_top.ensures.top, c.take.ensures.after)
-    (task_resumed c.args.code.now limits c.args.self.now c.append.new.past c.put_on_top.new.below c.args.self.now.values c.args.number c.args.chord c.args.object c.args.members.now vs _ c.line_of.result.now c.requires.task.kept_values c.requires.task c.requires.may c.line_of.ensures (sym same ∙ c.begin_moved.ensures) items bodies)
+    (task_resumed c.args.code.now limits c.args.self.now c.append.new.past c.put_on_top.new.below c.args.self.now.values c.args.number c.args.chord c.args.object c.args.members.now vs _ c.line_of.result.now c.requires.task.kept_values c.requires.task c.requires.may c.line_of.ensures (sym same ∙ c.begin_moved.ensures.begun) items bodies)
 
 pub put_on_top-requires-clause-waits : goal.put_on_top-requires-clause-waits
 put_on_top-requires-clause-waits c = waits_below c.args.code.now c.args.self.now.limits c.args.self.now c.args.number c.args.chord c.args.object c.args.members.now c.args.arguments.first c.requires.task c.requires.may

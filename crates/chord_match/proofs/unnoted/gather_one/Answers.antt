@@ -7,7 +7,7 @@ use Rattle.chord_match.specs.Searching.{PickedFirst}
 use Rattle.chord_match.proofs.Finds.{all_none}
 use Rattle.chord_match.proofs.Lists.{has_at, from_place, one_longer}
 use Rattle.chord_match.proofs.Knowing.{IsFirstGathered, part_first, part_all, first_more, first_stuck}
-use Rattle.chord_match.proofs.alone.gather_one.Goals as goal
+use Rattle.chord_match.proofs.unnoted.gather_one.Goals as goal
 
 -- a method of an object has its place among all
 at_method : (wide heads : ℕ) (js : List ℕ) (k : ℕ) (known : List (Option Sought)) → heads ≡ wide → heads ≤ 16 → length known ≡ 16 → slice_index_or js k 0 < wide → slice_index_or js k 0 < length known

@@ -8,7 +8,7 @@ ghost use Rattle.chord_match.specs.Searching.{Searching, PickedFirst, Gathered};
 
 use crate::nexts::Nexts;
 use crate::search::{Own, Pick, Step};
-use chord_bag::{Sought, seek};
+use chord_bag::seek;
 use chord_base::members::Members;
 use chord_base::value::Object;
 use chord_code::carry::Carry;
@@ -28,16 +28,13 @@ fn pick_first<P: Carry>(
     ensures picked { (v : View) (known : List (Option Sought)) → Searching space.now.events v (view desk.old) object own.now known → slice_index_or known method None ≡ None → method < length known → PickedFirst space.now.events v (view desk.old) (view desk.new) object own.now method known result }
 {
     if method == own.method {
-        return Pick::Take(own.message, own.next);
-    }
-    match seek(space, desk, object, method) {
-        Sought::Found(i, next) => Pick::Take(i, next),
-        Sought::Bare => Pick::Stuck(None),
-        Sought::Busy(i) => Pick::Stuck(Some(i)),
+        Pick::Take(own.message, own.next)
+    } else {
+        Pick::of(seek(space, desk, object, method))
     }
 }
 
-// A member for each of these methods, which are all different, up to the first that has none.
+// A member for each of these methods, which are all different, or why one of them has none.
 pub(crate) fn gather_one<P: Carry>(
     space: &Space<P>,
     desk: &mut Desk<P>,

@@ -3,7 +3,7 @@ use Rattle.chord_rule.specs.declared.view.View.{View}
 use Rattle.chord_space.specs.Desks.{view, IsDeskOf, IsSameDesk}
 use Rattle.chord_match.specs.Searching.{Searching}
 use Rattle.chord_match.proofs.Knowing.{IsFirstGathered}
-use Rattle.chord_match.proofs.alone.gather_one.Given as goal
+use Rattle.chord_match.proofs.unnoted.gather_one.Given as goal
 
 abbrev pub invariant-loop-method : goal.invariant-loop-method
 invariant-loop-method g l = IsDeskOf l.space l.desk × IsSameDesk l.fn.desk l.desk
