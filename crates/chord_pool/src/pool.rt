@@ -100,8 +100,9 @@ fn play_all<'a, R: Threads + Wait + Sync, G: Gate + Sync>(
 /// `limits.events` is 1 to 65,536, `limits.depth` 1 to 256, `workers` 1 to 64. A journal of fewer entries is complete. The table
 /// drew as many entries as the journal has, and each entry that the desk that closed it kept stands in the journal. That desk is
 /// the first one, and each other worker had a desk that was split from it. `gate.started` is called for each body by the worker that
-/// begins to play it; that the gate knows of `Main` is a clause, and that it is told once is tested. It is not promised that the call
-/// returns.
+/// begins to play it; that the gate knows of `Main` is a clause, that it knows of each other one is said of what each worker does at
+/// its thread (`HasLeftOff`) and of what the first one does after them (`HasLeftOffAlone`), and that it is told once is tested. It is
+/// not promised that the call returns.
 ///
 /// # Errors
 ///
