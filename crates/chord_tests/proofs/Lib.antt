@@ -4,3 +4,4 @@ pub mod Pairs
 pub mod ByHand
 pub mod TwoEntries
 pub mod Crossing
+pub mod Seven

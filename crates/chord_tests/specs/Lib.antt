@@ -6,3 +6,5 @@ pub mod Pairs
 pub mod Example
 -- the walk over it
 pub mod Walked
+-- the code that prints 7
+pub mod Seven
