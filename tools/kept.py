@@ -25,8 +25,8 @@ REFUSED = re.compile(r'must-fail (\w+)/(\S+)\.edit: refused')
 
 
 def libraries():
-    """The folder of each library that is kept, by its crate."""
-    found = (LIBRARY.match(os.path.basename(folder)) for folder in sorted(glob.glob(f'{KEPT}/proof-*')))
+    """The folder of each library that is kept, by its crate: of several, the one that was kept last."""
+    found = (LIBRARY.match(os.path.basename(folder)) for folder in sorted(glob.glob(f'{KEPT}/proof-*'), key=os.path.getmtime))
     return {it[1]: f'{KEPT}/{it[0]}' for it in found if it}
 
 

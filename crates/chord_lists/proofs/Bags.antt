@@ -6,6 +6,7 @@ use Rattle.chord_base.specs.declared.value.Object.{Object}
 use Rattle.chord_base.specs.Messages.{Message, has}
 use Rattle.chord_base.proofs.Waits.{either}
 use Rattle.chord_lists.specs.Bag.{Address, address_to, address_of, same_address, HasMessages, LacksMessage, IsPushed, IsPopped, ArePopped, Falls, Lists}
+use Rattle.chord_lists.proofs.Spots.{has_first, has_later, has_other}
 
 -- ---- addresses
 
@@ -56,18 +57,6 @@ message_to m o j e =
     ∙ ap (λ i. record { object = o; method = i; arguments = m.arguments }) method
 
 -- ---- numbers in a list
-
--- the first of some numbers is among them
-has_here : (n : ℕ) (ns : List ℕ) → has n (n ∷ ns) ≡ true
-has_here n ns = rw (eq-eqb n n refl) refl
-
--- a number that is among some is among them with one more before them
-has_there : (n m : ℕ) (ns : List ℕ) → has n ns ≡ true → has n (m ∷ ns) ≡ true
-has_there n m ns e = elim (either (n == m)) [ inl y ↦ rw y refl | inr o ↦ rw o e ]
-
--- a number among some that is not their first is among the rest
-has_tail : (n m : ℕ) (ns : List ℕ) → n ≢ m → has n (m ∷ ns) ≡ true → has n ns ≡ true
-has_tail n m ns d e = rw (ne_eqb n m d) at e
 
 -- a number in a list that falls from a bound is below that bound
 falls_below : (n m : ℕ) (ns : List ℕ) → Falls n ns → has m ns ≡ true → m < n
@@ -154,13 +143,13 @@ lists_on held n index s =
 stays_listed : (k h : Address) (n i : ℕ) (old new : Address → List ℕ) → IsPushed k n old new → has i (old h) ≡ true → has i (new h) ≡ true
 stays_listed k h n i old new p e =
     elim (either (same_address k h)) [
-      | inl y ↦ (let q : new h ≡ n ∷ old h = p h ∙ rw y refl in ap (has i) q ∙ has_there i n (old h) e)
+      | inl y ↦ (let q : new h ≡ n ∷ old h = p h ∙ rw y refl in ap (has i) q ∙ has_later i n (old h) e)
       | inr o ↦ (let q : new h ≡ old h = p h ∙ rw o refl in ap (has i) q ∙ e)
     ]
 
 -- the new message stands on top of its list
 listed_first : (k : Address) (n : ℕ) (old new : Address → List ℕ) → IsPushed k n old new → has n (new k) ≡ true
-listed_first k n old new p = let q : new k ≡ n ∷ old k = p k ∙ rw (same_self k) refl in ap (has n) q ∙ has_here n (old k)
+listed_first k n old new p = let q : new k ≡ n ∷ old k = p k ∙ rw (same_self k) refl in ap (has n) q ∙ has_first n (old k)
 
 -- a list that falls from the number of the new message falls from the next number after that message came
 falls_pushed : (k h : Address) (n : ℕ) (old new : Address → List ℕ) → IsPushed k n old new → Falls n (old h) → Falls (suc n) (new h)
@@ -174,7 +163,7 @@ falls_pushed k h n old new p f =
 is_new : (k h : Address) (n i : ℕ) (old new : Address → List ℕ) → IsPushed k n old new → n ≢ i → has i (new h) ≡ true → has i (old h) ≡ true
 is_new k h n i old new p d e =
     elim (either (same_address k h)) [
-      | inl y ↦ (let q : new h ≡ n ∷ old h = p h ∙ rw y refl in has_tail i n (old h) (λ z. d (sym z)) (sym (ap (has i) q) ∙ e))
+      | inl y ↦ (let q : new h ≡ n ∷ old h = p h ∙ rw y refl in has_other i n (old h) (λ z. d (sym z)) (sym (ap (has i) q) ∙ e))
       | inr o ↦ (let q : new h ≡ old h = p h ∙ rw o refl in sym (ap (has i) q) ∙ e)
     ]
 
@@ -219,7 +208,7 @@ lists_more held n old new x s p =
 -- it was there
 pub popped_there : (held : ℕ → Option Message) (n i : ℕ) (k : Address) (old new : Address → List ℕ) → Lists held n old → IsPopped k i old new
     → (m : Message) × (held i ≡ Some m) × (address_of m ≡ k)
-popped_there held n i k old new s p = s.there k i (ap (has i) p.here ∙ has_here i (new k))
+popped_there held n i k old new s p = s.there k i (ap (has i) p.here ∙ has_first i (new k))
 
 -- the rest of its list was there, below it
 rest_there : (held : ℕ → Option Message) (n i m : ℕ) (k : Address) (old new : Address → List ℕ) → Lists held n old → IsPopped k i old new
@@ -227,7 +216,7 @@ rest_there : (held : ℕ → Option Message) (n i m : ℕ) (k : Address) (old ne
 rest_there held n i m k old new s p e =
     let f : Falls n (i ∷ new k) = subst (Falls n) p.here (s.falls k) in
     let l = falls_below i m (new k) f.1 e in
-    (ap (has m) p.here ∙ has_there m i (new k) e, λ d. omega (arith, d, l))
+    (ap (has m) p.here ∙ has_later m i (new k) e, λ d. omega (arith, d, l))
 
 -- and so were the other lists, which do not have it
 other_there : (held : ℕ → Option Message) (n i m : ℕ) (k h : Address) (old new : Address → List ℕ) → Lists held n old → IsPopped k i old new
@@ -272,7 +261,7 @@ stays_there i m k h old new p d e =
       | inl y ↦
           (let q : k ≡ h = same_is k h y in
           let e' : has m (i ∷ new k) ≡ true = sym (ap (has m) p.here) ∙ subst (λ z. has m (old z) ≡ true) (sym q) e in
-          subst (λ z. has m (new z) ≡ true) q (has_tail m i (new k) d e'))
+          subst (λ z. has m (new z) ≡ true) q (has_other m i (new k) d e'))
       | inr o ↦ ap (has m) (p.others h o) ∙ e
     ]
 

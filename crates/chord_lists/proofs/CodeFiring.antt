@@ -26,20 +26,21 @@ use Rattle.chord_task.specs.Standing.{body_number, body_waits, HasRoomIf, view_o
 use Rattle.chord_task.proofs.Asking.{waits_yes}
 use Rattle.chord_lists.specs.Engine.{IsRunOfLength, fired}
 use Rattle.chord_lists.specs.declared.code_bodies.CodeBodies.{CodeBodies}
-use Rattle.chord_lists.specs.CodeStands.{past_of, views, home, ready_in, ready_at, over_in, over_at, AreReady, IsAmongReady, Awaits, AreMessagesAt, sent_values, HostsCall, FitsAt, Serves, StandsAfter}
+use Rattle.chord_lists.specs.CodeStands.{past_of, views, home, ready_in, ready_at, over_in, over_at, AreReady, is_on_top, topped_by, AreOver, Awaits, AreMessagesAt, sent_values, HostsCall, FitsAt, Serves, StandsWith, StandsAfter}
 use Rattle.chord_lists.proofs.Spots.{end_at, before_end, past_end, one_some, nothing_some, has_first, has_later}
 use Rattle.chord_lists.proofs.CodeTasks.{one_call, resumable}
 use Rattle.chord_lists.proofs.CodeSteps.{stands_merged, task_below, OneMore, more_home, keeps_more, journal_more, views_set, tasks_set, awaits_set, pending_under}
 use Rattle.chord_lists.proofs.Laying.{takes_sent}
+use Rattle.chord_lists.proofs.OverTasks.{over_begun, over_more}
 
 -- ---- what a firing takes
 
 -- all that a firing takes are messages in the list of all entries, and their arguments are its values
-pub firing_sent : (code : Parts) (limits : Limits) (bodies : CodeBodies) (h : List Entry) (n k : ℕ) (o : Object) (ms : List ℕ) (vs : List Value) → StandsAfter code limits bodies h → IsRunOfLength (code_program code limits) n h → Fires (code_program code limits) h k o ms vs → AreMessagesAt bodies.entries.items ms × (sent_values bodies.entries.items ms ≡ vs)
+pub firing_sent : {over : List ℕ} (code : Parts) (limits : Limits) (bodies : CodeBodies) (h : List Entry) (n k : ℕ) (o : Object) (ms : List ℕ) (vs : List Value) → StandsWith code limits bodies over h → IsRunOfLength (code_program code limits) n h → Fires (code_program code limits) h k o ms vs → AreMessagesAt bodies.entries.items ms × (sent_values bodies.entries.items ms ≡ vs)
 firing_sent code limits bodies h n k o ms vs s played f = takes_sent bodies.entries.items h o f.0 ms vs s.journal played.within f.2
 
 -- in a sound program a task that begins the body of a firing stays defined
-fire_defined : (code : Parts) (limits : Limits) (bodies : CodeBodies) (h : List Entry) (n i k : ℕ) (o : Object) (ms : List ℕ) (vs : List Value) (t : Task) → IsSound (code_program code limits) → StandsAfter code limits bodies h → length h ≡ n → Fires (code_program code limits) h k o ms vs → views bodies.tasks.items i ≡ (view_of t).past → BeginsDefined (code_program code limits) (view_of t) n k o ms vs
+fire_defined : {over : List ℕ} (code : Parts) (limits : Limits) (bodies : CodeBodies) (h : List Entry) (n i k : ℕ) (o : Object) (ms : List ℕ) (vs : List Value) (t : Task) → IsSound (code_program code limits) → StandsWith code limits bodies over h → length h ≡ n → Fires (code_program code limits) h k o ms vs → views bodies.tasks.items i ≡ (view_of t).past → BeginsDefined (code_program code limits) (view_of t) n k o ms vs
 fire_defined code limits bodies h n i k o ms vs t sound s so_long f here = λ b.
     let p = code_program code limits in
     let v = views bodies.tasks.items in
@@ -51,7 +52,7 @@ fire_defined code limits bodies h n i k o ms vs t sound s so_long f here = λ b.
     subst (λ (l : List Entry). IsDefined p (doing p l b)) (grown_is ∙ e_is) d
 
 -- what a firing needs of the task in which it begins a body
-pub may_resume : (code : Parts) (limits : Limits) (bodies : CodeBodies) (h : List Entry) (n i k : ℕ) (o : Object) (ms : List ℕ) (vs : List Value) (t : Task) (call : Option ℕ) → IsSound (code_program code limits) → StandsAfter code limits bodies h → length h ≡ n → (f : Fires (code_program code limits) h k o ms vs) → served_among ((code_program code limits).is_sync o.class) f.0 ms ≡ call → IsTaskOf code limits t → views bodies.tasks.items i ≡ (view_of t).past → FitsCall (code_program code limits) (view_of t) call → IsResumable code t → MayResume code t.limits t n k o ms vs
+pub may_resume : {over : List ℕ} (code : Parts) (limits : Limits) (bodies : CodeBodies) (h : List Entry) (n i k : ℕ) (o : Object) (ms : List ℕ) (vs : List Value) (t : Task) (call : Option ℕ) → IsSound (code_program code limits) → StandsWith code limits bodies over h → length h ≡ n → (f : Fires (code_program code limits) h k o ms vs) → served_among ((code_program code limits).is_sync o.class) f.0 ms ≡ call → IsTaskOf code limits t → views bodies.tasks.items i ≡ (view_of t).past → FitsCall (code_program code limits) (view_of t) call → IsResumable code t → MayResume code t.limits t n k o ms vs
 may_resume code limits bodies h n i k o ms vs t call sound s so_long f serves task here fits room =
     let p = code_program code limits in
     subst (λ l. MayResume code l t n k o ms vs) (sym task.limited) (record {
@@ -72,7 +73,7 @@ pub record IsCaller (code : Parts) (limits : Limits) (bodies : CodeBodies) (n k 
   pub homed : call < length bodies.homes.items
 
 -- the call that a firing serves is that of a task that waits for it, in which the new body may begin
-pub caller : (code : Parts) (limits : Limits) (bodies : CodeBodies) (h : List Entry) (n k : ℕ) (o : Object) (ms : List ℕ) (vs : List Value) (call : ℕ) → IsSound (code_program code limits) → StandsAfter code limits bodies h → length h ≡ n → (f : Fires (code_program code limits) h k o ms vs) → served_among ((code_program code limits).is_sync o.class) f.0 ms ≡ Some call → IsCaller code limits bodies n k o ms vs call
+pub caller : {over : List ℕ} (code : Parts) (limits : Limits) (bodies : CodeBodies) (h : List Entry) (n k : ℕ) (o : Object) (ms : List ℕ) (vs : List Value) (call : ℕ) → IsSound (code_program code limits) → StandsWith code limits bodies over h → length h ≡ n → (f : Fires (code_program code limits) h k o ms vs) → served_among ((code_program code limits).is_sync o.class) f.0 ms ≡ Some call → IsCaller code limits bodies n k o ms vs call
 caller code limits bodies h n k o ms vs call sound s so_long f serves =
     let p = code_program code limits in
     let m = served_member (p.is_sync o.class) h o f.0 ms vs call f.2 serves in
@@ -117,7 +118,7 @@ over_task tasks i e = by_task (slice_get tasks i) refl e
     by_task (Some t) g r = (t, g, by_top t.top r)
 
 -- a firing that serves no call may begin in a task that is over
-pub over_again : (code : Parts) (limits : Limits) (bodies : CodeBodies) (h : List Entry) (at n k : ℕ) (o : Object) (ms : List ℕ) (vs : List Value) → IsSound (code_program code limits) → StandsAfter code limits bodies h → length h ≡ n → (f : Fires (code_program code limits) h k o ms vs) → served_among ((code_program code limits).is_sync o.class) f.0 ms ≡ None → over_at bodies.tasks.items at ≡ true → IsOverAt code limits bodies at n k o ms vs
+pub over_again : {over : List ℕ} (code : Parts) (limits : Limits) (bodies : CodeBodies) (h : List Entry) (at n k : ℕ) (o : Object) (ms : List ℕ) (vs : List Value) → IsSound (code_program code limits) → StandsWith code limits bodies over h → length h ≡ n → (f : Fires (code_program code limits) h k o ms vs) → served_among ((code_program code limits).is_sync o.class) f.0 ms ≡ None → over_at bodies.tasks.items at ≡ true → IsOverAt code limits bodies at n k o ms vs
 over_again code limits bodies h at n k o ms vs sound s so_long f serves over =
     let t = over_task bodies.tasks.items at over in
     let is = s.tasks at t.0 t.1 in
@@ -143,7 +144,7 @@ call_served code limits h k o ms vs call f s =
     ap (λ js. served_among ((code_program code limits).is_sync o.class) js ms) (one_some f.0 s.methods (slice_get ((code_program code limits).chords o.class) k) f.1 s.chord) ∙ s.is
 
 -- the task of a place that fits is one in which the firing may begin
-pub host : (code : Parts) (limits : Limits) (bodies : CodeBodies) (h : List Entry) (at n k : ℕ) (o : Object) (ms : List ℕ) (vs : List Value) → IsSound (code_program code limits) → StandsAfter code limits bodies h → length h ≡ n → Fires (code_program code limits) h k o ms vs → FitsAt (code_program code limits) bodies k o ms at → IsHost code limits bodies at n k o ms vs
+pub host : {over : List ℕ} (code : Parts) (limits : Limits) (bodies : CodeBodies) (h : List Entry) (at n k : ℕ) (o : Object) (ms : List ℕ) (vs : List Value) → IsSound (code_program code limits) → StandsWith code limits bodies over h → length h ≡ n → Fires (code_program code limits) h k o ms vs → FitsAt (code_program code limits) bodies k o ms at → IsHost code limits bodies at n k o ms vs
 host code limits bodies h at n k o ms vs sound s so_long f fits = by_call fits.call (call_served code limits h k o ms vs fits.call f fits.serves) fits.hosts
   where
     by_call : (call : Option ℕ) → served_among ((code_program code limits).is_sync o.class) f.0 ms ≡ call → HostsCall bodies at call → IsHost code limits bodies at n k o ms vs
@@ -177,8 +178,8 @@ fired_pending n k o ms vs h q m e =
     ]
 
 -- after a firing the bodies stand, wherever the new body began, if the tasks keep what they did and the rest waits on
-pub stands_fired : (code : Parts) (limits : Limits) (before after : CodeBodies) (h : List Entry) (n k at : ℕ) (o : Object) (ms : List ℕ) (vs : List Value) → IsRunOfLength (code_program code limits) n h → StandsAfter code limits before h → Fires (code_program code limits) h k o ms vs → after.entries.items ≡ before.entries.items ++ fired n k o ms vs ∷ [] → after.homes.items ≡ before.homes.items ++ at ∷ [] → ((j : ℕ) → grown (views before.tasks.items) at (fired n k o ms vs) j ≡ views after.tasks.items j) → ((i : ℕ) (t : Task) → slice_get after.tasks.items i ≡ Some t → IsTaskOf code limits t) → AreReady after.tasks.items (reverse after.ready.items) → ((q : ℕ) → has q ms ≡ false → Awaits before.tasks.items q (home before.homes.items q) → Awaits after.tasks.items q (home before.homes.items q)) → length after.tasks.items ≤ suc (length h) → StandsAfter code limits after (fired n k o ms vs ∷ h)
-stands_fired code limits before after h n k at o ms vs played s f listed homes grows tasks ready awaits few =
+pub stands_fired : {over : List ℕ} (code : Parts) (limits : Limits) (before after : CodeBodies) (h : List Entry) (n k at : ℕ) (o : Object) (ms : List ℕ) (vs : List Value) → IsRunOfLength (code_program code limits) n h → StandsWith code limits before over h → Fires (code_program code limits) h k o ms vs → after.entries.items ≡ before.entries.items ++ fired n k o ms vs ∷ [] → after.homes.items ≡ before.homes.items ++ at ∷ [] → ((j : ℕ) → grown (views before.tasks.items) at (fired n k o ms vs) j ≡ views after.tasks.items j) → ((i : ℕ) (t : Task) → slice_get after.tasks.items i ≡ Some t → IsTaskOf code limits t) → AreReady after.tasks.items (reverse after.ready.items) → ((q : ℕ) → has q ms ≡ false → Awaits before.tasks.items q (home before.homes.items q) → Awaits after.tasks.items q (home before.homes.items q)) → length after.tasks.items ≤ suc (length h) → AreOver after.tasks.items (reverse after.over.items) → StandsAfter code limits after (fired n k o ms vs ∷ h)
+stands_fired code limits before after h n k at o ms vs played s f listed homes grows tasks ready awaits few ends =
     let p = code_program code limits in
     let e = fired n k o ms vs in
     let one : OneMore before.homes.items after.homes.items (length h) at = more_home before.homes.items after.homes.items at (length h) s.homed homes in
@@ -195,33 +196,48 @@ stands_fired code limits before after h n k at o ms vs played s f listed homes g
           subst (λ j. Awaits after.tasks.items q j) (sym (one.old q l)) (awaits q old.1 (s.calls q m old.0 sync));
       homed = ap length homes ∙ length-append before.homes.items (at ∷ []) ∙ omega (arith, s.homed);
       few = few;
+      over = ends;
     }
 
--- a task that begins a body is among the ready ones
-ready_among : (tasks : List Task) (at : ℕ) (t : Task) (ready ready' : List ℕ) → AreReady tasks ready → IsAmongReady at ready ready' → AreReady (set tasks at t) ready'
+-- a place that is put on top stands in the list
+topped_has : (at : ℕ) (list : List ℕ) → has at (topped_by at list) ≡ true
+topped_has at [] = has_first at []
+topped_has at (i ∷ list) =
+    elim (either (i == at)) [
+      | inl y ↦ rw y (subst (λ z. has z (i ∷ list) ≡ true) (eqb-true i at y) (has_first i list))
+      | inr o ↦ rw o (has_first at (i ∷ list))
+    ]
+
+-- and so does each that stood there
+topped_keeps : (at j : ℕ) (list : List ℕ) → has j list ≡ true → has j (topped_by at list) ≡ true
+topped_keeps at j list e = elim (either (is_on_top at list)) [ inl y ↦ rw y e | inr o ↦ rw o (has_later j at list e) ]
+
+-- a task that begins a body is put on top of the list of the ready ones
+ready_topped : (tasks : List Task) (at : ℕ) (t : Task) (ready : List ℕ) → AreReady tasks ready → AreReady (set tasks at t) (topped_by at ready)
 unfolding ready_at
-ready_among tasks at t ready ready' a p =
+ready_topped tasks at t ready a =
     record {
       all =
           λ j e.
           elim (either (at == j)) [
-            | inl y ↦ subst (λ z. has z ready' ≡ true) (eqb-true at j y) p.there
-            | inr o ↦ p.kept j (a.all j (sym (ap ready_in (set_other tasks at j t (eqb-false at j o))) ∙ e))
+            | inl y ↦ subst (λ z. has z (topped_by at ready) ≡ true) (eqb-true at j y) (topped_has at ready)
+            | inr o ↦ topped_keeps at j ready (a.all j (sym (ap ready_in (set_other tasks at j t (eqb-false at j o))) ∙ e))
           ];
     }
 
 -- the new body is in a task that was there
-pub fired_at : (code : Parts) (limits : Limits) (before after : CodeBodies) (h : List Entry) (at n k : ℕ) (o : Object) (ms : List ℕ) (vs : List Value) (t : Task) → IsRunOfLength (code_program code limits) n h → StandsAfter code limits before h → Fires (code_program code limits) h k o ms vs → (c : IsHost code limits before at n k o ms vs) → IsTaskOf code limits t → (view_of t).past ≡ fired n k o ms vs ∷ (view_of c.task).past → after.entries.items ≡ before.entries.items ++ fired n k o ms vs ∷ [] → after.tasks.items ≡ set before.tasks.items at t → IsAmongReady at (reverse before.ready.items) (reverse after.ready.items) → after.homes.items ≡ before.homes.items ++ at ∷ [] → StandsAfter code limits after (fired n k o ms vs ∷ h)
-fired_at code limits before after h at n k o ms vs t played s f c task past listed tasks ready homes =
+pub fired_at : (code : Parts) (limits : Limits) (before after : CodeBodies) (h : List Entry) (at n k : ℕ) (o : Object) (ms : List ℕ) (vs : List Value) (t : Task) → IsRunOfLength (code_program code limits) n h → StandsWith code limits before (at ∷ reverse before.over.items) h → Fires (code_program code limits) h k o ms vs → (c : IsHost code limits before at n k o ms vs) → IsTaskOf code limits t → (view_of t).past ≡ fired n k o ms vs ∷ (view_of c.task).past → (view_of t).top ≡ Some n → after.entries.items ≡ before.entries.items ++ fired n k o ms vs ∷ [] → after.tasks.items ≡ set before.tasks.items at t → reverse after.ready.items ≡ topped_by at (reverse before.ready.items) → after.over.items ≡ before.over.items → after.homes.items ≡ before.homes.items ++ at ∷ [] → StandsAfter code limits after (fired n k o ms vs ∷ h)
+fired_at code limits before after h at n k o ms vs t played s f c task past top listed tasks ready over homes =
     let xs = before.tasks.items in
     stands_fired code limits before after h n k at o ms vs played s f listed homes
     (λ j. views_set xs at t c.task (fired n k o ms vs) c.there past j ∙ ap (λ z. views z j) (sym tasks))
     (subst (λ z. (i : ℕ) (x : Task) → slice_get z i ≡ Some x → IsTaskOf code limits x) (sym tasks) (tasks_set code limits xs at t c.task c.there task s.tasks))
-    (subst (λ z. AreReady z (reverse after.ready.items)) (sym tasks) (ready_among xs at t (reverse before.ready.items) (reverse after.ready.items) s.ready ready))
+    (subst (λ z. AreReady z (reverse after.ready.items)) (sym tasks) (subst (λ (z : List ℕ). AreReady (set xs at t) z) (sym ready) (ready_topped xs at t (reverse before.ready.items) s.ready)))
     (λ q out a.
     subst (λ z. Awaits z q (home before.homes.items q)) (sym tasks)
     (awaits_set xs at t c.task q (home before.homes.items q) c.there (λ w. let z : true ≡ false = sym (c.awaits q w) ∙ out in cc) a))
     (let i = ap length tasks in let l = length-set xs at t in let m = s.few in omega (arith, i, l, m))
+    (subst (λ z. AreOver z (reverse after.over.items)) (sym tasks) (subst (λ (z : List ℕ). AreOver (set xs at t) (reverse z)) (sym over) (over_begun xs at n t c.task (reverse before.over.items) c.there top s.over)))
 
 -- one more task keeps its one entry, and the others what they kept
 views_new : (tasks : List Task) (t : Task) (e : Entry) → (view_of t).past ≡ e ∷ [] → (j : ℕ) → grown (views tasks) (length tasks) e j ≡ views (tasks ++ t ∷ []) j
@@ -259,8 +275,8 @@ ready_new tasks t ready a =
     }
 
 -- the new body has a task of its own
-pub fired_alone : (code : Parts) (limits : Limits) (before after : CodeBodies) (h : List Entry) (n k : ℕ) (o : Object) (ms : List ℕ) (vs : List Value) (t : Task) → IsRunOfLength (code_program code limits) n h → StandsAfter code limits before h → Fires (code_program code limits) h k o ms vs → IsTaskOf code limits t → (view_of t).past ≡ fired n k o ms vs ∷ [] → after.entries.items ≡ before.entries.items ++ fired n k o ms vs ∷ [] → after.tasks.items ≡ before.tasks.items ++ t ∷ [] → reverse after.ready.items ≡ length before.tasks.items ∷ reverse before.ready.items → after.homes.items ≡ before.homes.items ++ length before.tasks.items ∷ [] → StandsAfter code limits after (fired n k o ms vs ∷ h)
-fired_alone code limits before after h n k o ms vs t played s f task past listed tasks ready homes =
+pub fired_alone : (code : Parts) (limits : Limits) (before after : CodeBodies) (h : List Entry) (n k : ℕ) (o : Object) (ms : List ℕ) (vs : List Value) (t : Task) → IsRunOfLength (code_program code limits) n h → StandsAfter code limits before h → Fires (code_program code limits) h k o ms vs → IsTaskOf code limits t → (view_of t).past ≡ fired n k o ms vs ∷ [] → (view_of t).top ≡ Some n → after.entries.items ≡ before.entries.items ++ fired n k o ms vs ∷ [] → after.tasks.items ≡ before.tasks.items ++ t ∷ [] → reverse after.ready.items ≡ length before.tasks.items ∷ reverse before.ready.items → after.over.items ≡ before.over.items → after.homes.items ≡ before.homes.items ++ length before.tasks.items ∷ [] → StandsAfter code limits after (fired n k o ms vs ∷ h)
+fired_alone code limits before after h n k o ms vs t played s f task past top listed tasks ready over homes =
     let xs = before.tasks.items in
     stands_fired code limits before after h n k (length xs) o ms vs played s f listed homes
     (λ j. views_new xs t (fired n k o ms vs) past j ∙ ap (λ z. views z j) (sym tasks))
@@ -271,3 +287,4 @@ fired_alone code limits before after h n k o ms vs t played s f task past listed
     (let l = slice_get_within xs (home before.homes.items q) a.0 a.1 in
     (a.0, before_end xs t (home before.homes.items q) (λ d. omega (arith, d, l)) ∙ a.1, a.2)))
     (let i = ap length tasks in let l = length-append xs (t ∷ []) in let m = s.few in omega (arith, i, l, m))
+    (subst (λ z. AreOver z (reverse after.over.items)) (sym tasks) (subst (λ (z : List ℕ). AreOver (xs ++ t ∷ []) (reverse z)) (sym over) (over_more xs t n (reverse before.over.items) top s.over)))

@@ -1,5 +1,5 @@
 -- When no task may go on.
-use Rattle.std.proofs.Common.{◌≡◌, ℕ, false, List, Option, Some, None, refl, sym, ap, ◌∙◌, reverse, Vec, Global}
+use Rattle.std.proofs.Common.{◌≡◌, ℕ, false, List, ◌∷◌, Option, Some, None, refl, sym, ap, ◌∙◌, reverse, Vec, Global}
 use Rattle.std.specs.Prelude.{slice_get}
 use Rattle.chord_base.specs.declared.event.Entry.{Entry}
 use Rattle.chord_base.specs.declared.event.Limits.{Limits}
@@ -12,8 +12,9 @@ use Rattle.chord_task.specs.declared.task.Task.{Task}
 use Rattle.chord_task.specs.Standing.{is_ready_of}
 use Rattle.chord_task.proofs.Parcels.{parked_quiet}
 use Rattle.chord_lists.specs.declared.code_bodies.CodeBodies.{CodeBodies}
-use Rattle.chord_lists.specs.CodeStands.{past_of, views, ready_in, ready_at, AreReady, StandsAfter}
+use Rattle.chord_lists.specs.CodeStands.{past_of, views, ready_in, ready_at, AreReady, AreOver, StandsWith, StandsAfter}
 use Rattle.chord_lists.proofs.CodeSteps.{stands_merged}
+use Rattle.chord_lists.proofs.OverTasks.{over_later}
 
 -- a task whose place may not go on may not go on
 not_ready : (tasks : List Task) (i : ℕ) (t : Task) → slice_get tasks i ≡ Some t → ready_at tasks i ≡ false → is_ready_of t ≡ false
@@ -34,12 +35,17 @@ none_asks code limits bodies h s none b =
 -- another list of ready tasks
 pub stands_ready : (code : Parts) (limits : Limits) (before : CodeBodies) (ready : Vec ℕ Global) (h : List Entry) → StandsAfter code limits before h → AreReady before.tasks.items (reverse ready.items) → StandsAfter code limits (record { tasks = before.tasks; ready = ready; entries = before.entries; homes = before.homes; over = before.over }) h
 stands_ready code limits before ready h s r =
-    record { past = s.past; journal = s.journal; keeps = s.keeps; tasks = s.tasks; ready = r; calls = s.calls; homed = s.homed; few = s.few }
+    record { past = s.past; journal = s.journal; keeps = s.keeps; tasks = s.tasks; ready = r; calls = s.calls; homed = s.homed; few = s.few; over = s.over }
 
--- another list of tasks that are over
-pub stands_over : (code : Parts) (limits : Limits) (before : CodeBodies) (over : Vec ℕ Global) (h : List Entry) → StandsAfter code limits before h → StandsAfter code limits (record { tasks = before.tasks; ready = before.ready; entries = before.entries; homes = before.homes; over = over }) h
-stands_over code limits before over h s =
-    record { past = s.past; journal = s.journal; keeps = s.keeps; tasks = s.tasks; ready = s.ready; calls = s.calls; homed = s.homed; few = s.few }
+-- other places of tasks that are over, whatever list they are to stand in
+pub stands_over : {over : List ℕ} (code : Parts) (limits : Limits) (before : CodeBodies) (list : Vec ℕ Global) (places : List ℕ) (h : List Entry) → StandsWith code limits before over h → AreOver before.tasks.items places → StandsWith code limits (record { tasks = before.tasks; ready = before.ready; entries = before.entries; homes = before.homes; over = list }) places h
+stands_over code limits before list places h s o =
+    record { past = s.past; journal = s.journal; keeps = s.keeps; tasks = s.tasks; ready = s.ready; calls = s.calls; homed = s.homed; few = s.few; over = o }
+
+-- one more place that need not be of a task that is over
+pub stands_later : {over : List ℕ} (code : Parts) (limits : Limits) (bodies : CodeBodies) (at : ℕ) (h : List Entry) → StandsWith code limits bodies over h → StandsWith code limits bodies (at ∷ over) h
+stands_later {over} code limits bodies at h s =
+    record { past = s.past; journal = s.journal; keeps = s.keeps; tasks = s.tasks; ready = s.ready; calls = s.calls; homed = s.homed; few = s.few; over = over_later bodies.tasks.items at over s.over }
 
 -- where no task may go on the engine is told so, and the bodies stand as before
 pub went_over : (code : Parts) (limits : Limits) (before : CodeBodies) (ready : Vec ℕ Global) (h : List Entry) → StandsAfter code limits before h → ((i : ℕ) → ready_at before.tasks.items i ≡ false) → AreReady before.tasks.items (reverse ready.items) → NoneAsks (code_program code limits) h × StandsAfter code limits (record { tasks = before.tasks; ready = ready; entries = before.entries; homes = before.homes; over = before.over }) h

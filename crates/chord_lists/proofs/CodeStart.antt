@@ -12,8 +12,9 @@ use Rattle.chord_task.specs.declared.task.Task.{Task}
 use Rattle.chord_task.specs.Standing.{view_of, IsTaskOf, MainBegins}
 use Rattle.chord_lists.specs.Engine.{main_begun}
 use Rattle.chord_lists.specs.declared.code_bodies.CodeBodies.{CodeBodies}
-use Rattle.chord_lists.specs.CodeStands.{views, home, ready_in, ready_at, AreReady, StandsAfter}
+use Rattle.chord_lists.specs.CodeStands.{views, home, ready_in, ready_at, AreReady, AreOver, StandsAfter}
 use Rattle.chord_lists.proofs.Spots.{one_some, nothing_some}
+use Rattle.chord_lists.proofs.OverTasks.{first_over}
 
 -- Main begins in a sound program
 pub main_begins : (code : Parts) (limits : Limits) → IsSound (code_program code limits) → MainBegins code limits
@@ -47,8 +48,8 @@ first_ready t = record { all = λ i e. by_place i e }
     by_place (suc i) e = (let z : false ≡ true = e in cc)
 
 -- a task in which `Main` has just begun stands after that entry
-pub started : (code : Parts) (limits : Limits) (bodies : CodeBodies) (t : Task) → IsSound (code_program code limits) → IsTaskOf code limits t → (view_of t).past ≡ main_begun → bodies.tasks.items ≡ t ∷ [] → bodies.ready.items ≡ 0 ∷ [] → bodies.entries.items ≡ main_begun → bodies.homes.items ≡ 0 ∷ [] → StandsAfter code limits bodies main_begun
-started code limits bodies t sound k past tasks ready entries homes =
+pub started : (code : Parts) (limits : Limits) (bodies : CodeBodies) (t : Task) → IsSound (code_program code limits) → IsTaskOf code limits t → (view_of t).past ≡ main_begun → (view_of t).top ≡ Some 0 → bodies.tasks.items ≡ t ∷ [] → bodies.ready.items ≡ 0 ∷ [] → bodies.entries.items ≡ main_begun → bodies.homes.items ≡ 0 ∷ [] → StandsAfter code limits bodies main_begun
+started code limits bodies t sound k past top tasks ready entries homes =
     record {
       past = (tt, record { numbered = refl; comes = (refl, refl) });
       journal = ap reverse entries;
@@ -58,4 +59,5 @@ started code limits bodies t sound k past tasks ready entries homes =
       calls = λ q m e s. absurd (none_pending q m e);
       homed = ap length homes;
       few = (let l = ap length tasks in omega (arith, l));
+      over = subst (λ z. AreOver z (reverse bodies.over.items)) (sym tasks) (first_over t 0 (reverse bodies.over.items) top);
     }

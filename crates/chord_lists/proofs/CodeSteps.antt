@@ -1,7 +1,7 @@
 -- What an entry makes of the bodies of a run of a code.
-use Rattle.std.proofs.Common.{◌≡◌, ℕ, ◌-◌, ◌<◌, ◌≤◌, Bool, true, false, ◌==◌, List, [], ◌∷◌, ◌++◌, length, Option, Some, None, refl, sym, ap, ◌∙◌, subst, arith, inl, inr, set, reverse, length-append}
-use Rattle.std.specs.Prelude.{slice_get, option_to_list}
-use Rattle.std.proofs.lemmas.List.{length-set, length-append, reverse-append, append-nil}
+use Rattle.std.proofs.Common.{◌≡◌, ℕ, ◌-◌, ◌<◌, ◌≤◌, Bool, true, false, ◌==◌, List, [], ◌∷◌, ◌++◌, length, Option, Some, None, refl, sym, ap, ◌∙◌, subst, arith, inl, inr, set, reverse, length-append, if◌then◌else◌}
+use Rattle.std.specs.Prelude.{slice_get, option_to_list, is_none}
+use Rattle.std.proofs.lemmas.List.{length-set, length-append, reverse-append, append-nil, append_assoc}
 use Rattle.std.proofs.lemmas.Bool.{eq-eqb, eqb-true, eqb-false}
 use Rattle.chord_base.specs.declared.value.Object.{Object}
 use Rattle.chord_base.specs.declared.value.Value.{Value}
@@ -41,9 +41,10 @@ use Rattle.chord_lists.specs.declared.engine.Turn.{Turn}
 use Rattle.chord_lists.specs.declared.code_bodies.CodeBodies.{CodeBodies}
 use Rattle.chord_task.specs.Past.{AddsOne}
 use Rattle.chord_task.specs.Turning.{MayTurn, Turned}
-use Rattle.chord_lists.specs.CodeStands.{past_of, views, home_in, home, ready_in, ready_at, AreReady, Awaits, StandsAfter, turn_of, WentAt}
+use Rattle.chord_lists.specs.CodeStands.{past_of, views, home_in, home, IsCut, ready_in, ready_at, AreReady, AreOver, Awaits, StandsWith, StandsAfter, turn_of, WentAt}
 use Rattle.chord_lists.proofs.Spots.{end_at, before_end, one_some, nothing_some}
 use Rattle.chord_lists.proofs.CodeTasks.{ready_not_waiting, call_waits}
+use Rattle.chord_lists.proofs.OverTasks.{over_turned}
 
 -- ---- the run in its tasks
 
@@ -53,7 +54,7 @@ told_at code limits tasks f i None e = tt
 told_at code limits tasks f i (Some t) e = (f i t e).task.told
 
 -- the run is kept in the tasks, each entry in its home
-abbrev pub stands_merged : (code : Parts) (limits : Limits) (bodies : CodeBodies) (h : List Entry) → StandsAfter code limits bodies h → IsMerged (code_program code limits) (views bodies.tasks.items) h
+abbrev pub stands_merged : {over : List ℕ} (code : Parts) (limits : Limits) (bodies : CodeBodies) (h : List Entry) → StandsWith code limits bodies over h → IsMerged (code_program code limits) (views bodies.tasks.items) h
 stands_merged code limits bodies h s =
     record {
       past = s.past;
@@ -67,7 +68,7 @@ view_at : (tasks : List Task) (i : ℕ) (t : Task) → slice_get tasks i ≡ Som
 view_at tasks i t e = ap past_of e
 
 -- a task's entries have numbers below the next one
-pub task_below : (code : Parts) (limits : Limits) (bodies : CodeBodies) (h : List Entry) (i : ℕ) → StandsAfter code limits bodies h → AllBelow (length h) (views bodies.tasks.items i)
+pub task_below : {over : List ℕ} (code : Parts) (limits : Limits) (bodies : CodeBodies) (h : List Entry) (i : ℕ) → StandsWith code limits bodies over h → AllBelow (length h) (views bodies.tasks.items i)
 task_below code limits bodies h i s =
     subst (λ (l : List Entry). AllBelow (length h) l) (s.keeps i)
     (kept_below (length h) (λ n. home bodies.homes.items n == i) h (past_below (code_program code limits) h (length h) s.past (omega arith)))
@@ -232,6 +233,10 @@ ready_popped tasks xs ys (Some x) at split last not r =
           ];
     }
 
+-- one more place goes
+pub cut_more : (xs ys zs : List ℕ) (o : Option ℕ) → ys ≡ zs ++ option_to_list o → IsCut xs ys → IsCut xs zs
+cut_more xs ys zs o split c = record { gone = option_to_list o ++ c.gone; is = c.is ∙ ap (λ z. z ++ c.gone) split ∙ append_assoc zs (option_to_list o) c.gone }
+
 -- a list of ready tasks serves while no other task becomes ready
 ready_set : (tasks : List Task) (i : ℕ) (t u : Task) (ready : List ℕ) → slice_get tasks i ≡ Some u → is_ready_of u ≡ true → AreReady tasks ready → AreReady (set tasks i t) ready
 unfolding ready_at
@@ -312,8 +317,8 @@ noted_body code limits t t' n w u =
     rw b at u.noted.2
 
 -- a task noted its next ask, and the entry came to the list of all: it may follow, and the bodies stand after it
-pub went_at : (code : Parts) (limits : Limits) (before after : CodeBodies) (h : List Entry) (n at : ℕ) (t t' : Task) (w : What) (turn : Turn) → IsValid code → IsSound (code_program code limits) → n < 65536 → IsRunOfLength (code_program code limits) n h → StandsAfter code limits before h → slice_get before.tasks.items at ≡ Some t → is_ready_of t ≡ true → Turned code limits t t' n w → AddsOne t.past t'.past before.entries.items after.entries.items → after.homes.items ≡ before.homes.items ++ at ∷ [] → turn ≡ turn_of w → after.tasks.items ≡ set before.tasks.items at t' → after.ready.items ≡ before.ready.items → WentAt (code_program code limits) before.tasks.items at (StandsAfter code limits after) h turn
-went_at code limits before after h n at t t' w turn valid sound room played s g r u listed homes is tasks ready =
+pub went_at : (code : Parts) (limits : Limits) (before after : CodeBodies) (h : List Entry) (n at : ℕ) (t t' : Task) (w : What) (turn : Turn) → IsValid code → IsSound (code_program code limits) → n < 65536 → IsRunOfLength (code_program code limits) n h → StandsAfter code limits before h → slice_get before.tasks.items at ≡ Some t → is_ready_of t ≡ true → Turned code limits t t' n w → AddsOne t.past t'.past before.entries.items after.entries.items → after.homes.items ≡ before.homes.items ++ at ∷ [] → turn ≡ turn_of w → after.tasks.items ≡ set before.tasks.items at t' → after.ready.items ≡ before.ready.items → reverse after.over.items ≡ (if is_none (view_of t').top then at ∷ reverse before.over.items else reverse before.over.items) → WentAt (code_program code limits) before.tasks.items at (StandsAfter code limits after) h turn
+went_at code limits before after h n at t t' w turn valid sound room played s g r u listed homes is tasks ready over =
     let p = code_program code limits in
     let v = views before.tasks.items in
     let b = u.next.body in
@@ -367,6 +372,7 @@ went_at code limits before after h n at t t' w turn valid sound room played s g 
                       ]);
                   homed = ap length homes ∙ length-append before.homes.items (at ∷ []) ∙ omega (arith, s.homed);
                   few = (let i = ap length tasks in let k = length-set before.tasks.items at t' in omega (arith, i, k, s.few));
+                  over = subst (λ x. AreOver x (reverse after.over.items)) (sym tasks) (subst (λ (x : List ℕ). AreOver (set before.tasks.items at t') x) (sym over) (over_turned before.tasks.items at t' t (reverse before.over.items) g s.over));
                 };
             no_firing = own_members w u.next.own;
           };

@@ -20,6 +20,7 @@ use Rattle.chord_task.proofs.Stacks.{called_waits}
 use Rattle.chord_task.proofs.Asking.{not_ready_nothing, waits_no}
 use Rattle.chord_task.specs.Turning.{Turned, sent_to}
 use Rattle.chord_lists.specs.CodeStands.{turn_to, turn_of}
+use Rattle.chord_lists.proofs.Spots.{nothing_some}
 
 -- ---- ready and waiting tasks
 
@@ -62,19 +63,15 @@ top_is : (o : Option ℕ) (b : ℕ) → (o ≡ Some b) ⊎ (o ≡ Some b → ⊥
 top_is None b = inr (λ e. let z : ◌≡◌ {A = Option ℕ} None (Some b) = e in cc)
 top_is (Some c) b = elim (either (c == b)) [ inl y ↦ inl (ap Some (eqb-true c b y)) | inr o ↦ inr (λ e. let z : c ≡ b = cc in eqb-false c b o z) ]
 
--- there is no ask where there is none
-none_asks : (a : Asked) → ◌≡◌ {A = Option Asked} None (Some a) → ⊥
-none_asks a e = cc
-
 -- a body that asks in the past of a task is on top, and the task may go on
 pub asks_ready : (code : Parts) (limits : Limits) (t : Task) (b : ℕ) (a : Asked) → IsTaskOf code limits t → asked (code_program code limits) (doing (code_program code limits) (view_of t).past b) ≡ Some a → ((view_of t).top ≡ Some b) × (is_ready_of t ≡ true)
 asks_ready code limits t b a k e =
     elim (top_is (view_of t).top b) [
       | inl y ↦ (
         y,
-        elim (either (is_ready_of t)) [ inl r ↦ r | inr n ↦ absurd (none_asks a (sym (not_ready_nothing code limits t k n b y) ∙ e)) ],
+        elim (either (is_ready_of t)) [ inl r ↦ r | inr n ↦ nothing_some a (sym (not_ready_nothing code limits t k n b y) ∙ e) ],
       )
-      | inr n ↦ absurd (none_asks a (sym (k.task.quiet b n) ∙ e))
+      | inr n ↦ nothing_some a (sym (k.task.quiet b n) ∙ e)
     ]
 
 -- ---- a task goes on
@@ -106,10 +103,10 @@ waits_called p u t n (Called o' j' vs') a m e f o j vs is = by_state (doing p u.
         let w = called_waits p u n o' j' vs' a s d rs i in
         let past : t.past ≡ record { number = n; body = a.body; what = Called o' j' vs' } ∷ u.past = m.2 ∙ ap (λ y. record { number = n; body = y; what = Called o' j' vs' } ∷ u.past) (sym b) in
         record { body = w.body; on_top = e refl ∙ w.on_top; start = w.start; depth = w.depth; answers = w.answers; place = w.place; is = ap (λ l. doing p l w.body) past ∙ w.is }
-    by_state (Waits s d rs q l) i x = absurd (none_asks _ x)
-    by_state Absent i x = absurd (none_asks _ x)
-    by_state Unplaced i x = absurd (none_asks _ x)
-    by_state (Over y) i x = absurd (none_asks _ x)
+    by_state (Waits s d rs q l) i x = nothing_some _ x
+    by_state Absent i x = nothing_some _ x
+    by_state Unplaced i x = nothing_some _ x
+    by_state (Over y) i x = nothing_some _ x
 
 -- a task that has called waits for its call
 pub call_waits : (code : Parts) (limits : Limits) (t t' : Task) (n : ℕ) (o : _) (j : ℕ) (vs : _) → Turned code limits t t' n (Called o j vs) → waits_of n t' ≡ true

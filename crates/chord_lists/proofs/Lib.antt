@@ -6,6 +6,7 @@ pub mod Engines
 pub mod PendingEntries
 pub mod CodeTasks
 pub mod Spots
+pub mod OverTasks
 pub mod Lacking
 pub mod CodeChords
 pub mod CodeSteps

@@ -1,8 +1,7 @@
 -- Places of lists.
-use Rattle.std.proofs.Common.{◌≡◌, ◌≢◌, ℕ, zero, suc, ◌<◌, ◌≤◌, true, false, ◌==◌, List, [], ◌∷◌, ◌++◌, length, Option, Some, None, refl, sym, ap, subst, ◌∙◌, arith, inl, inr, get_or, reverse}
+use Rattle.std.proofs.Common.{◌≡◌, ◌≢◌, ℕ, zero, suc, ◌<◌, ◌≤◌, true, ◌==◌, List, [], ◌∷◌, ◌++◌, length, Option, Some, None, refl, sym, ap, ◌∙◌, arith, inl, inr, get_or}
 use Rattle.std.specs.Prelude.{slice_get}
 use Rattle.std.proofs.lemmas.Bool.{eqb-true, eqb-false}
-use Rattle.std.proofs.lemmas.List.{reverse-append}
 use Rattle.chord_base.specs.Messages.{has}
 use Rattle.chord_base.proofs.Waits.{either}
 
@@ -54,20 +53,7 @@ has_later n m ns e = elim (either (n == m)) [ inl y ↦ rw y refl | inr o ↦ rw
 pub has_other : (n m : ℕ) (ns : List ℕ) → (n ≡ m → ⊥) → has n (m ∷ ns) ≡ true → has n ns ≡ true
 has_other n m ns d e = elim (either (n == m)) [ inl y ↦ absurd (d (eqb-true n m y)) | inr o ↦ rw o at e ]
 
--- a number among the first of two lists is among both
-has_before : (n : ℕ) (xs ys : List ℕ) → has n xs ≡ true → has n (xs ++ ys) ≡ true
-has_before n [] ys e = (let z : false ≡ true = e in cc)
-has_before n (x ∷ xs) ys e = elim (either (n == x)) [ inl y ↦ rw y refl | inr o ↦ rw o (has_before n xs ys (rw o at e)) ]
-
--- and so is a number among the second
+-- a number among the second of two lists is among both
 pub has_behind : (n : ℕ) (xs ys : List ℕ) → has n ys ≡ true → has n (xs ++ ys) ≡ true
 has_behind n [] ys e = e
 has_behind n (x ∷ xs) ys e = has_later n x (xs ++ ys) (has_behind n xs ys e)
-
--- a number that stands in a list is among it from behind
-pub has_backwards : (xs : List ℕ) (i n : ℕ) → Some n ≡ slice_get xs i → has n (reverse xs) ≡ true
-has_backwards [] i n e = nothing_some n (sym e)
-has_backwards (x ∷ xs) zero n e =
-    let same : n ≡ x = one_some n x (Some x) (sym e) refl in
-    ap (has n) (reverse-append (x ∷ []) xs) ∙ has_behind n (reverse xs) (x ∷ []) (subst (λ z. has n (z ∷ []) ≡ true) same (has_first n []))
-has_backwards (x ∷ xs) (suc i) n e = ap (has n) (reverse-append (x ∷ []) xs) ∙ has_before n (reverse xs) (x ∷ []) (has_backwards xs i n e)

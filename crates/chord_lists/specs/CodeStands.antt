@@ -1,5 +1,5 @@
 -- What the bodies of a run of a code are after a history: its entries in order, and tasks, each of which made some of them.
-use Rattle.std.specs.Prelude.{is_none, ◌≡◌, ℕ, ◌≤◌, ◌==◌, List, [], ◌∷◌, ◌++◌, reverse, length, Bool, true, false, Option, Some, None, slice_get}
+use Rattle.std.specs.Prelude.{is_none, ◌≡◌, ℕ, ◌≤◌, ◌==◌, List, [], ◌∷◌, ◌++◌, reverse, length, Bool, true, false, Option, Some, None, slice_get, if◌then◌else◌}
 use Rattle.chord_base.specs.declared.event.Entry.{Entry}
 use Rattle.chord_base.specs.declared.event.Limits.{Limits}
 use Rattle.chord_base.specs.declared.event.What.{What}
@@ -40,7 +40,27 @@ home_in (Some task) = task
 abbrev pub home : List ℕ → ℕ → ℕ
 home homes n = home_in (slice_get homes n)
 
--- ## Ready tasks
+-- ## Lists of places
+
+-- the last places of the list went, or none
+pub record IsCut (old new : List ℕ) : Type 0 where
+  pub gone : List ℕ
+  pub is : old ≡ new ++ gone
+
+-- whether this place, if there is one, is that one
+abbrev pub is_place : ℕ → Option ℕ → Bool
+is_place at None = false
+is_place at (Some i) = i == at
+
+-- whether the place is on top of the list, whose first item is the topmost
+abbrev pub is_on_top : ℕ → List ℕ → Bool
+is_on_top at list = is_place at (slice_get list 0)
+
+-- the list with the place on top, where it stays if it is there
+abbrev pub topped_by : ℕ → List ℕ → List ℕ
+topped_by at list = if is_on_top at list then list else at ∷ list
+
+-- ## Tasks that may go on, and tasks that wait
 
 -- whether a task, if there is one, may go on
 abbrev pub ready_in : Option Task → Bool
@@ -51,7 +71,17 @@ ready_in (Some t) = is_ready_of t
 unfoldable pub ready_at : List Task → ℕ → Bool
 ready_at tasks i = ready_in (slice_get tasks i)
 
--- whether the task of this place has no body left
+-- each task that may go on stands in the list; others may stand there too
+pub record AreReady (tasks : List Task) (ready : List ℕ) : Type 0 where
+  pub all : (i : ℕ) → ready_at tasks i ≡ true → has i ready ≡ true
+
+-- the task of this place waits for the call
+abbrev pub Awaits : List Task → ℕ → ℕ → Type 0
+Awaits tasks q i = (t : Task) × (slice_get tasks i ≡ Some t) × (waits_of q t ≡ true)
+
+-- ## Tasks that are over
+
+-- whether a task, if there is one, has no body left
 abbrev pub over_in : Option Task → Bool
 over_in None = false
 over_in (Some t) = is_none (view_of t).top
@@ -60,23 +90,14 @@ over_in (Some t) = is_none (view_of t).top
 unfoldable pub over_at : List Task → ℕ → Bool
 over_at tasks i = over_in (slice_get tasks i)
 
--- each task that may go on stands in the list; others may stand there too
-pub record AreReady (tasks : List Task) (ready : List ℕ) : Type 0 where
-  pub all : (i : ℕ) → ready_at tasks i ≡ true → has i ready ≡ true
-
--- a place stands in a list in which all stand that stood there before
-pub record IsAmongReady (at : ℕ) (old new : List ℕ) : Type 0 where
-  pub there : has at new ≡ true
-  pub kept : (i : ℕ) → has i old ≡ true → has i new ≡ true
-
--- the task of this place waits for the call
-abbrev pub Awaits : List Task → ℕ → ℕ → Type 0
-Awaits tasks q i = (t : Task) × (slice_get tasks i ≡ Some t) × (waits_of q t ≡ true)
+-- each task that has no body left stands in the list; others may stand there too
+pub record AreOver (tasks : List Task) (over : List ℕ) : Type 0 where
+  pub all : (i : ℕ) → over_at tasks i ≡ true → has i over ≡ true
 
 -- ## The whole
 
--- what the bodies are after a history: its entries stand in one list, and each is of the past of its task; each pending call has its caller
-pub record StandsAfter (code : Parts) (limits : Limits) (bodies : CodeBodies) (h : List Entry) : Type 0 where
+-- what the bodies are after a history, where these places are of the tasks that are over: its entries stand in one list, and each is of the past of its task; each pending call has its caller
+pub record StandsWith (code : Parts) (limits : Limits) (bodies : CodeBodies) (places : List ℕ) (h : List Entry) : Type 0 where
   pub past : IsPast (code_program code limits) h
   pub journal : reverse bodies.entries.items ≡ h
   pub keeps : (i : ℕ) → kept (λ n. home bodies.homes.items n == i) h ≡ views bodies.tasks.items i
@@ -85,6 +106,11 @@ pub record StandsAfter (code : Parts) (limits : Limits) (bodies : CodeBodies) (h
   pub calls : (q : ℕ) (m : Message) → pending q h ≡ Some m → (code_program code limits).is_sync m.object.class m.method ≡ true → Awaits bodies.tasks.items q (home bodies.homes.items q)
   pub homed : length bodies.homes.items ≡ length h
   pub few : length bodies.tasks.items ≤ length h
+  pub over : AreOver bodies.tasks.items places
+
+-- what the bodies are after a history
+abbrev pub StandsAfter : Parts → Limits → CodeBodies → List Entry → Type 0
+StandsAfter code limits bodies = StandsWith code limits bodies (reverse bodies.over.items)
 
 -- ## A task goes on
 

@@ -1,7 +1,7 @@
 //! The bag: the numbers of the messages that no firing has taken, by what they are to.
 #![tactic(auto)]
 
-ghost use Rattle.std.specs.Prelude.{◌≡◌, ◌≢◌, Some, None, ℕ, ◌+◌, ◌≤◌, ◌==◌, ◌&&◌, List, [], ◌∷◌, length, reverse, vec_len, IfNone, IfSome, OnOk, true, false, if◌then◌else◌};
+ghost use Rattle.std.specs.Prelude.{◌≡◌, ◌≢◌, Some, None, ℕ, ◌+◌, ◌≤◌, ◌==◌, ◌&&◌, max, List, [], ◌∷◌, length, reverse, vec_len, IfNone, IfSome, OnOk, true, false, if◌then◌else◌};
 ghost use Rattle.chord_base.specs.Messages.{AreDifferent};
 ghost use Rattle.chord_lists.specs.Bag.{Address, ArePopped, HasMessage, HasMessages, IsFirstOf, IsPopped, IsPushed, LacksAMessage, LacksBefore, LacksMessage, address_to, items_at, is_apart, numbers_in, numbers_of, older_of, stacked_at, stacked_by};
 ghost use Rattle.chord_lists.specs.declared.bag.Noted.{Noted as ANoted};
@@ -42,10 +42,10 @@ pub struct Bag {
     older: Older,
 }
 
-/// Adds empty lists until there are so many.
+/// Adds empty lists until there are so many, if there are fewer.
 fn lengthen<T: Drop>(alloc: Global, lists: &mut Vec<Vec<T>>, count: usize) -> Result<(), AllocError>
     ensures same { OnOk result ((i : ℕ) → items_at lists.new.items i ≡ items_at lists.old.items i) }
-    ensures long { OnOk result (count ≤ vec_len lists.new) }
+    ensures long { OnOk result (vec_len lists.new ≡ max (vec_len lists.old) count) }
 {
     for _ in lists.len()..count {
         lists.push(Vec::new(alloc))?;

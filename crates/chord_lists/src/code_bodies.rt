@@ -1,15 +1,15 @@
 //! The bodies of a run of a code: tasks, and the entries that these made.
 #![tactic(auto)]
 
-ghost use Rattle.std.specs.Prelude.{◌≡◌, ◌<◌, ◌≤◌, ◌+◌, ℕ, ◌++◌, [], List, reverse, length, IfOk, OnOk, IfSome, IfNone, Some, None, true, false};
+ghost use Rattle.std.specs.Prelude.{◌≡◌, ◌<◌, ◌≤◌, ◌+◌, ℕ, ◌++◌, [], List, reverse, length, IfOk, OnOk, IfSome, IfNone, Some, None, true, false, slice_get, ◌∷◌, is_none, if◌then◌else◌};
 ghost use Rattle.chord_base.specs.Bounds.{IsJournal};
 ghost use Rattle.chord_base.specs.Story.{IsOwn, IsSound};
 ghost use Rattle.chord_base.specs.declared.event.Entry.{Entry};
 ghost use Rattle.chord_base.specs.Bodies.{served_among};
-ghost use Rattle.chord_base.specs.Messages.{has};
 ghost use Rattle.chord_code.specs.Meaning.{code_program, method_is_sync};
 ghost use Rattle.chord_lists.specs.Engine.{main_begun, IsRunOfLength, MayGoOn, Went, MayBegin, Began};
-ghost use Rattle.chord_lists.specs.CodeStands.{StandsAfter, AreReady, IsAmongReady, ready_at, over_at, turn_to, WentAt, IsMessageAt, AreMessagesAt, message_at, sent_arguments, sent_values, home, Serves, FitsAt, MayReplay, Replayed};
+ghost use Rattle.chord_task.specs.Standing.{view_of};
+ghost use Rattle.chord_lists.specs.CodeStands.{StandsAfter, StandsWith, IsCut, AreReady, AreOver, ready_at, over_at, is_on_top, topped_by, turn_to, WentAt, IsMessageAt, AreMessagesAt, message_at, sent_arguments, sent_values, home, Serves, FitsAt, MayReplay, Replayed};
 
 use crate::engine::Turn;
 use chord_base::event::{Entry, Limits, What};
@@ -24,8 +24,8 @@ use std::mem;
 /// The bodies of a run of a code: the tasks, the places of those that may go on, the entries of the run in order, and the task
 /// that made each of them.
 ///
-/// Each task that may go on stands in `ready`. One that stands there and may not is passed over. In `over` stand places of
-/// tasks that had no body left when they were put there: a firing that serves no call begins in one of them, if it has none still.
+/// Each task that may go on stands in `ready`, and each that has no body left in `over`. One that stands in either and is not so
+/// is passed over. A firing that serves no call begins in a task that has no body left, if there is one.
 #[derive(Drop)]
 pub struct CodeBodies {
     pub tasks: Vec<Task>,
@@ -55,10 +55,12 @@ fn goes_at(tasks: &[Task], at: u32) -> bool
     }
 }
 
-/// The place of a task that may go on. It stays on top of the list.
+/// The place of a task that may go on, the topmost in the list. It stays on top, and those above it are taken off.
 pub fn next_ready(tasks: &[Task], ready: &mut Vec<u32>) -> Option<u32>
     requires { AreReady tasks.now (reverse ready.old.items) }
     ensures ready { AreReady tasks.now (reverse ready.new.items) }
+    ensures cut { IsCut ready.old.items ready.new.items }
+    ensures top { result ≡ slice_get (reverse ready.new.items) 0 }
     ensures some { IfSome result (λ at. ready_at tasks.now at ≡ true) }
     ensures none { IfNone result ((i : ℕ) → ready_at tasks.now i ≡ false) }
 {
@@ -74,7 +76,7 @@ pub fn next_ready(tasks: &[Task], ready: &mut Vec<u32>) -> Option<u32>
 
 /// Whether this place is the one on top.
 fn is_on_top(ready: &[u32], at: u32) -> bool
-    ensures { result ≡ true → has at (reverse ready.now) ≡ true }
+    ensures { result ≡ is_on_top at (reverse ready.now) }
 {
     match ready.last() {
         None => false,
@@ -85,7 +87,7 @@ fn is_on_top(ready: &[u32], at: u32) -> bool
 /// Puts the place of a task that may go on on top, if it is not there: a caller that was served at once stands there still.
 #[inline(always)]
 fn put_ready(ready: &mut Vec<u32>, at: u32) -> Result<(), AllocError>
-    ensures { OnOk result (IsAmongReady at (reverse ready.old.items) (reverse ready.new.items)) }
+    ensures { OnOk result (reverse ready.new.items ≡ topped_by at (reverse ready.old.items)) }
 {
     if is_on_top(ready, at) {
         return Ok(());
@@ -105,16 +107,23 @@ fn is_over_at(tasks: &[Task], at: u32) -> bool
 }
 
 /// Keeps the place of a task that has no body left.
-fn keep_over(task: &Task, over: &mut Vec<u32>, at: u32) -> Result<(), AllocError> {
+fn keep_over(task: &Task, over: &mut Vec<u32>, at: u32) -> Result<(), AllocError>
+    ensures { OnOk result (reverse over.new.items ≡ (if is_none (view_of task.now).top then at ∷ reverse over.old.items else reverse over.old.items)) }
+{
     if task.over() {
         over.push(at)?;
     }
     Ok(())
 }
 
-/// The place of a task that has no body left.
+/// The place of a task that has no body left, the topmost in the list. It is taken off, and so are those above it.
 fn next_over(tasks: &[Task], over: &mut Vec<u32>) -> Option<u32>
-    ensures { IfSome result (λ at. over_at tasks.now at ≡ true) }
+    requires { AreOver tasks.now (reverse over.old.items) }
+    ensures some { IfSome result (λ at. over_at tasks.now at ≡ true) }
+    ensures cut { IfSome result (λ at. IsCut over.old.items (over.new.items ++ at ∷ [])) }
+    ensures empty { IfNone result (over.new.items ≡ []) }
+    ensures left { IfSome result (λ at. AreOver tasks.now (at ∷ reverse over.new.items)) }
+    ensures none { IfNone result ((i : ℕ) → over_at tasks.now i ≡ false) }
 {
     while let Some(at) = over.pop() {
         if is_over_at(tasks, at) {
@@ -162,7 +171,7 @@ pub fn begin_run(alloc: Global, code: &Code, limits: &Limits) -> Result<CodeBodi
     ensures { IfOk result (λ bodies. StandsAfter code.now limits.now bodies main_begun) }
 {
     let events = limits.events as usize;
-    // where there is room for all that the run may come to, nothing is moved later; where there is none, lists grow
+    // meant, and said by no clause: where there is room for all that the run may come to, nothing is moved later
     let mut entries = Vec::new(alloc);
     let _ = entries.reserve(events);
     let main = Task::main(alloc, code, limits, &mut entries)?;
@@ -294,7 +303,8 @@ fn add_all_arguments(
     Ok(())
 }
 
-/// Begins the body of a firing in the task of this place: above the caller that it serves, or where no body is left.
+/// Begins the body of a firing in the task of this place: above the caller that it serves, or where no body is left. All other
+/// tasks that have none stand in `over`.
 #[inline(always)]
 fn begin_at(
     alloc: Global,
@@ -309,9 +319,9 @@ fn begin_at(
 ) -> Result<(), AllocError>
     requires room { number < 65536 }
     requires sound { IsSound (code_program code.now limits.now) }
-    requires may { MayBegin (code_program code.now limits.now) (StandsAfter code.now limits.now bodies.old) number chord object members.old }
+    requires may { MayBegin (code_program code.now limits.now) (StandsWith code.now limits.now bodies.old (at ∷ reverse bodies.old.over.items)) number chord object members.old }
     requires fits { FitsAt (code_program code.now limits.now) bodies.old chord object members.old at }
-    ensures { IfOk result (λ _. Began (code_program code.now limits.now) (StandsAfter code.now limits.now bodies.old) (StandsAfter code.now limits.now bodies.new) number chord object members.old) }
+    ensures { IfOk result (λ _. Began (code_program code.now limits.now) (StandsWith code.now limits.now bodies.old (at ∷ reverse bodies.old.over.items)) (StandsAfter code.now limits.now bodies.new) number chord object members.old) }
 {
     let _parts = code.parts();
     let mut values = Values::none();
@@ -342,7 +352,7 @@ fn place_after(tasks: &[Task]) -> u32
     tasks.len() as u32
 }
 
-/// Begins the body of a firing that serves no caller in a task of its own.
+/// Begins the body of a firing that serves no caller in a task of its own, where each task has a body.
 #[inline(never)]
 fn begin_alone(
     alloc: Global,
@@ -358,6 +368,7 @@ fn begin_alone(
     requires sound { IsSound (code_program code.now limits.now) }
     requires may { MayBegin (code_program code.now limits.now) (StandsAfter code.now limits.now bodies.old) number chord object members.old }
     requires call { Serves (code_program code.now limits.now) chord object members.old None }
+    requires none { (i : ℕ) → over_at bodies.old.tasks.items i ≡ false }
     ensures { IfOk result (λ _. Began (code_program code.now limits.now) (StandsAfter code.now limits.now bodies.old) (StandsAfter code.now limits.now bodies.new) number chord object members.old) }
 {
     let at = place_after(&bodies.tasks);

@@ -23,8 +23,8 @@ use std::alloc::{AllocError, Global};
 
 /// Plays a sound code: the journal of a complete run, or of a run of exactly `limits.events` entries.
 ///
-/// `limits.events` is 1 to 65,536, `limits.depth` 1 to 256. A journal of fewer entries is complete. The cost of an entry does
-/// not grow with the entries and tasks so far. Fails where no memory is found.
+/// `limits.events` is 1 to 65,536, `limits.depth` 1 to 256. A journal of fewer entries is complete. Fails where no memory is
+/// found. That the cost of an entry does not grow with the entries and tasks so far is meant, and no clause says it.
 pub fn play(alloc: Global, code: &Code, limits: &Limits) -> Result<Journal, AllocError>
     requires some { 1 ≤ limits.now.events }
     requires bound { limits.now.events ≤ 65536 }
@@ -167,8 +167,8 @@ fn fires<'a>(program: &CodePlay<'a>, bag: &Bag, entries: &[Entry]) -> bool
 
 /// Whether an entry may follow the run of a code that a journal tells. If none may, the run is complete.
 ///
-/// `limits.depth` is 1 to 256. The run is made again, entry by entry, in the time in which it was made. Fails where no memory
-/// is found.
+/// `limits.depth` is 1 to 256. The run is made again, entry by entry, which is meant to take the time in which it was made: no
+/// clause speaks of time. Fails where no memory is found.
 pub fn may_go_on(
     alloc: Global,
     code: &Code,

@@ -32,6 +32,7 @@ pub record IsGathered (code : Parts) (limits : Limits) (v : View) (drawn : ℕ) 
   pub few : length out ≤ limits.events
   pub drawn_is : drawn ≡ length out
   pub keeps : (e : Entry) → IsIn e v.kept → IsIn e out
+  pub drew : v.draws ≡ reverse out
 
 -- a table of this code under these limits, which go by other names
 pub sealed_for : (was : Parts) (before : Limits) (code : Parts) (limits : Limits) (id : ℕ) (v : View) (slots : List (Option Parcel)) (drawn : ℕ) → (was ≡ code) × (before ≡ limits)
@@ -93,4 +94,5 @@ module _ (code : Parts) (limits : Limits) (id : ℕ) (v : View) (slots : List (O
         keeps = λ e i.
             let there : IsIn e s.unseen.journal = view_in (λ k. place k == desk id) e s.unseen.journal (subst (IsIn e) (sym desk_entries) i) in
             in_other_order e (reverse out) out (IsPermutation-sym out (reverse out) (IsPermutation-reverse out)) (subst (IsIn e) (sym run) there);
+        drew = s.journal ∙ sym run;
       }

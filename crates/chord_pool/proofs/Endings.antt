@@ -23,8 +23,9 @@ use Rattle.chord_word.specs.declared.cells.Cell.TheVariants.{Ready, Woken}
 use Rattle.chord_word.specs.declared.cells.Word.{Word}
 use Rattle.chord_worker.specs.declared.worker.Worker.{Worker}
 use Rattle.chord_worker.specs.Resting.{IsSameRole, IsSeen, beside_task}
-use Rattle.chord_pool.specs.Players.{IsFit}
-use Rattle.chord_pool.specs.Ending.{AreAwake, IsRunOver, SawAsleep, IsUnready}
+use Rattle.chord_pool.specs.Players.{IsFit, IsUnready}
+use Rattle.chord_pool.specs.Ending.{AreAwake, IsRunOver, IsStirred, SawAsleep}
+use Rattle.chord_pool.proofs.Looking.{started_since}
 
 -- the role of a desk stays over two steps
 pub role_stays : (u v w : View) → IsSameRole u v → IsSameRole v w → IsSameRole u w
@@ -60,6 +61,10 @@ woken_unready c q woken ready = absurd (cc)
 pub task_started : (x : Option Task) → is_some x ≡ true → x ≢ None
 task_started None e h = let z : false ≡ true = e in absurd (cc)
 task_started (Some t) e h = none-some _ (sym h)
+
+-- a worker without a task that is stirred after looks, in which its desk kept what it kept
+pub stirred_since : (knows : ℕ → Type 0) (u v w : Worker) → u.task ≡ None → (view v.desk).kept ≡ (view u.desk).kept → IsStirred knows v w → IsStirred knows u w
+stirred_since knows u v w none same = ⊎_elim (λ started. inl (started_since knows u v w none same started)) (λ saw_it. inr ((saw_it.0.0, saw_it.0.1 ∙ same), saw_it.1))
 
 -- the first worker, alone and with nothing to play, may close where it looked at the counter, which is below the limit, and at each cell below
 pub may_close : (s : Space Parcel) (w : Worker) (n c count : ℕ) → IsFit s w → (view w.desk).first ≡ true → (view w.desk).drawn ≡ true → (view w.desk).lent ≡ 0

@@ -5,3 +5,4 @@ pub mod Handing
 pub mod Looking
 pub mod Crews
 pub mod Endings
+pub mod Rounds

@@ -17,7 +17,7 @@ use Rattle.chord_word.specs.declared.cells.Cell.TheVariants.{Ready}
 use Rattle.chord_word.specs.declared.cells.Word.{Word}
 use Rattle.chord_worker.specs.declared.worker.Worker.{Worker}
 use Rattle.chord_worker.specs.Resting.{IsAtRest, IsSameRole}
-use Rattle.chord_worker.specs.Stepping.{HasGoneOn}
+use Rattle.chord_worker.specs.Stepping.{HasGoneOn, PlaysNext, PlaysFiring, StillPlays}
 use Rattle.chord_pool.specs.declared.player.Player.{Player}
 
 -- the code and the limits are those of the space, and its runs are those of a sound program
@@ -49,9 +49,13 @@ TellsIfItFails x = x.failed ≡ true → stops x.card ≡ true
 abbrev pub CountsIfItPlays : Player → Type 0
 CountsIfItPlays x = x.worker.task ≢ None → counts x.card ≡ true
 
+-- the cell i was last seen in another state than ready
+abbrev pub IsUnready : ℕ → List Look → Type 0
+IsUnready i looks = (x : Word) × LastSeen i x looks × (x.cell ≢ Ready)
+
 -- each cell from `from` up to below `to` was last seen in another state than ready
 abbrev pub AreUnready : ℕ → ℕ → List Look → Type 0
-AreUnready from to looks = (i : ℕ) → from ≤ i → i < to → (x : Word) × LastSeen i x looks × (x.cell ≢ Ready)
+AreUnready from to looks = (i : ℕ) → from ≤ i → i < to → IsUnready i looks
 
 -- the desk looked at the counter, and last saw no firing ready among the numbers that are given, from `from` up to below `below`
 pub record FoundNoneBelow (s : Space Parcel) (from below : ℕ) (v : View) : Type 0 where
@@ -67,8 +71,9 @@ FoundNone s from v = FoundNoneBelow s from s.events v
 abbrev pub MayStop : Space Parcel → Player → Type 0
 MayStop s x = ((view x.worker.desk).spent ≡ true) ⊎ (FoundNone s 0 (view x.worker.desk) × (last_read x.card ≡ Some 0))
 
--- between these views the cell i was seen, last in another state than ready, and no other cell and no counter
+-- between these views the cell i was seen, last in another state than ready, and no other cell and no counter, and the desk kept what it kept
 pub record SawUnready (v w : View) (i : ℕ) : Type 0 where
+  pub kept : w.kept ≡ v.kept
   pub word : Word
   pub last : LastSeen i word w.looked.seen
   pub unready : word.cell ≢ Ready
@@ -87,14 +92,20 @@ HasPlayed s x = x.failed ≡ false → HasStopped s x.worker × MayStop s x
 abbrev pub KnowsCount : Space Parcel → Player → Type 0
 KnowsCount s x = (count : ℕ) × ((view x.worker.desk).looked.count ≡ Some count) × (x.known ≡ min count s.events)
 
--- a player that had no task has one now, or found no firing to start among the numbers that it knew of, from its place or a lower one on, and knows how many are given now
-abbrev pub HasLooked : Space Parcel → Player → Player → Type 0
-HasLooked s x y = (y.worker.task ≢ None) ⊎ ((from : ℕ) × (from ≤ x.place) × FoundNoneBelow s from x.known (view y.worker.desk) × KnowsCount s y)
+-- a worker that had no task plays a firing of which the gate knows, and whose entry its desk keeps beside all that it kept
+abbrev pub HasStarted : (ℕ → Type 0) → Worker → Worker → Type 0
+HasStarted knows v w = (f : ℕ) × PlaysFiring knows (view v.desk).kept v.task w f
 
--- a player went on with its task, or looked for one
-pub record HadARound (s : Space Parcel) (x y : Player) : Type 0 where
+-- a player that had no task has started a firing, or has none and keeps what it kept, found no firing to start among the numbers that it knew of, from its place or a lower one on, and knows how many are given now
+abbrev pub HasLooked : (ℕ → Type 0) → Space Parcel → Player → Player → Type 0
+HasLooked knows s x y = HasStarted knows x.worker y.worker
+    ⊎ ((from : ℕ) × (from ≤ x.place) × FoundNoneBelow s from x.known (view y.worker.desk) × StillPlays (view x.worker.desk).kept x.worker.task y.worker × KnowsCount s y)
+
+-- a player went on with its task, and plays no other one but a body of which the gate knows, or it looked for a firing
+pub record HadARound (knows : ℕ → Type 0) (s : Space Parcel) (x y : Player) : Type 0 where
   pub went : (t : Task) → x.worker.task ≡ Some t → HasGoneOn (view x.worker.desk).kept t y.worker
-  pub looked : x.worker.task ≡ None → HasLooked s x y
+  pub plays : (t : Task) → x.worker.task ≡ Some t → PlaysNext knows (view x.worker.desk).kept t y.worker
+  pub looked : x.worker.task ≡ None → HasLooked knows s x y
 
 -- it has the same card, and plays at the same desk unless it fails
 abbrev pub PlaysOn : Player → Player → Type 0
@@ -107,6 +118,35 @@ pub record IsOnTheWay (s : Space Parcel) (x y : Player) : Type 0 where
   pub settled : IsSettled s y.worker
   pub counts_so : CountsIfItPlays y
   pub told_nothing : stops y.card ≡ false
+
+-- between two rounds a player has the same worker, the same place, and knows of as many numbers
+pub record IsBetweenRounds (x y : Player) : Type 0 where
+  pub worker : y.worker ≡ x.worker
+  pub place : y.place ≡ x.place
+  pub known : y.known ≡ x.known
+
+-- rounds lead from x to y, and these are the players after each of them, the newest first
+abbrev pub AreRounds : (ℕ → Type 0) → Space Parcel → Player → List Player → Player → Type 0
+AreRounds knows s x [] y = IsBetweenRounds x y
+AreRounds knows s x (z ∷ zs) y = (u : Player) × AreRounds knows s x zs u × HadARound knows s u z × IsBetweenRounds z y
+
+-- all that the player did was rounds
+pub record HadRounds (knows : ℕ → Type 0) (s : Space Parcel) (x y : Player) : Type 0 where
+  pub after_each : List Player
+  pub rounds : AreRounds knows s x after_each y
+
+-- the player had rounds and left off: unless it failed it plays what it played after them, and keeps what it kept
+pub record HasLeftOff (knows : ℕ → Type 0) (s : Space Parcel) (x y : Player) : Type 0 where
+  pub last : Player
+  pub had : HadRounds knows s x last
+  pub off : y.failed ≡ false → StillPlays (view last.worker.desk).kept last.worker.task y.worker
+
+-- each of these players, in this order, had rounds and left off
+abbrev pub HaveAllLeftOff : (ℕ → Type 0) → Space Parcel → List Player → List Player → Type 0
+HaveAllLeftOff knows s [] [] = Unit {0}
+HaveAllLeftOff knows s [] (y ∷ ys) = ⊥
+HaveAllLeftOff knows s (x ∷ xs) [] = ⊥
+HaveAllLeftOff knows s (x ∷ xs) (y ∷ ys) = HasLeftOff knows s x y × HaveAllLeftOff knows s xs ys
 
 -- a player that was hired may go on, and has nothing to play yet
 abbrev pub IsHired : Space Parcel → Player → Type 0

@@ -68,6 +68,7 @@ pub(crate) fn finish(
     ensures view { IfOk result (λ r. closing_view r.1 ≡ view desk) }
     ensures released { IfOk result (λ r. parcels r.1 ≡ []) }
     ensures closed { IfOk result (λ r. (r.1.drawn ≡ length r.0) × ((e : Entry) → IsIn e (closing_view r.1).kept → IsIn e r.0)) }
+    ensures drew { IfOk result (λ r. (closing_view r.1).draws ≡ reverse r.0) }
 {
     entries_are_within(code);
     let mut closed = space.close(desk);

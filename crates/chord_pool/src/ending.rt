@@ -4,8 +4,9 @@ ghost use Rattle.chord_rule.specs.Closing.{IsAsleep};
 ghost use Rattle.chord_space.specs.Desks.{view};
 ghost use Rattle.chord_word.specs.declared.cells.Word.{Word};
 ghost use Rattle.chord_worker.specs.Resting.{IsSameRole, IsSeen};
-ghost use Rattle.chord_pool.specs.Players.{IsOneRun, IsFit, IsSettled};
-ghost use Rattle.chord_pool.specs.Ending.{AreAwake, IsUnready, IsStirred, HadATurn, IsLast, IsRunOver};
+ghost use Rattle.chord_worker.specs.Stepping.{StillPlays};
+ghost use Rattle.chord_pool.specs.Players.{IsOneRun, IsFit, IsSettled, IsUnready};
+ghost use Rattle.chord_pool.specs.Ending.{AreAwake, IsStirred, HadATurn, HasLeftOffAlone, IsLast, IsRunOver};
 
 use crate::run::Run;
 use chord_word::Cell;
@@ -23,7 +24,7 @@ fn is_awake<'a, G: Gate>(run: &Run<'a>, worker: &mut Worker, i: u32, gate: &G) -
     ensures role { IsSameRole (view worker.old.desk) (view worker.new.desk) }
     ensures idle { result ≡ true → worker.new.task ≡ None }
     ensures seen { result ≡ true → (x : Word) × IsSeen (view worker.old.desk) (view worker.new.desk) i x × (IsAsleep x.cell → ⊥) }
-    ensures stirred { result ≡ false → IsStirred worker.new }
+    ensures stirred { result ≡ false → IsStirred G.knows worker.old worker.new }
     ensures started { worker.new.task ≡ None → IsUnready i (view worker.new.desk).looked.seen }
 {
     match worker.look(run.space, i) {
@@ -46,8 +47,9 @@ fn are_awake<'a, G: Gate>(run: &Run<'a>, worker: &mut Worker, count: u32, gate: 
     ensures role { IsSameRole (view worker.old.desk) (view worker.new.desk) }
     ensures idle { result ≡ true → worker.new.task ≡ None }
     ensures count { result ≡ true → (view worker.new.desk).looked.count ≡ (view worker.old.desk).looked.count }
+    ensures kept { result ≡ true → (view worker.new.desk).kept ≡ (view worker.old.desk).kept }
     ensures seen { result ≡ true → AreAwake count (view worker.new.desk).looked.seen }
-    ensures stirred { result ≡ false → IsStirred worker.new }
+    ensures stirred { result ≡ false → IsStirred G.knows worker.old worker.new }
 {
     for i in 0..count {
         if !is_awake(run, worker, i, gate) {
@@ -70,7 +72,8 @@ fn turn<'a, R: Wait, G: Gate>(
     requires alone { ((view worker.old.desk).first ≡ true) × ((view worker.old.desk).drawn ≡ true) × ((view worker.old.desk).lent ≡ 0) }
     ensures worker { OnOk result (IsSettled run.now.space.now worker.new × IsSameRole (view worker.old.desk) (view worker.new.desk)) }
     ensures over { IfOk result (λ over. over ≡ true → IsRunOver run.now.space.now worker.new) }
-    ensures went { IfOk result (λ over. over ≡ false → HadATurn worker.old worker.new) }
+    ensures went { IfOk result (λ over. over ≡ false → HadATurn G.knows worker.old worker.new) }
+    ensures off { IfOk result (λ over. over ≡ true → StillPlays (view worker.old.desk).kept worker.old.task worker.new) }
 {
     if worker.is_spent() {
         return Ok(true);
@@ -101,6 +104,7 @@ pub(crate) fn play_alone<'a, R: Wait, G: Gate>(
     requires run { IsOneRun run.now.space.now run.now.code.now run.now.limits.now }
     requires worker { IsLast run.now.space.now worker }
     ensures over { IfOk result (λ last. IsRunOver run.now.space.now last) }
+    ensures off { IfOk result (λ last. HasLeftOffAlone G.knows worker last) }
     ensures splits { IfOk result (λ last. (view last.desk).splits ≡ (view worker.desk).splits) }
 {
     let mut worker = worker;

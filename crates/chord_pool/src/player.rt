@@ -5,8 +5,8 @@ ghost use Rattle.chord_pool.specs.declared.player.Player.{Player as ThePlayer};
 ghost use Rattle.chord_space.specs.Desks.{view};
 ghost use Rattle.chord_task.specs.declared.task.Task.{Task as TheTask};
 ghost use Rattle.chord_worker.specs.Resting.{IsSameRole};
-ghost use Rattle.chord_worker.specs.Stepping.{HasGoneOn};
-ghost use Rattle.chord_pool.specs.Players.{IsOneRun, IsFit, AreUnready, FoundNoneBelow, FoundNone, SawUnready, KnowsCount, HasLooked, HadARound, MayPlay, HasPlayed, PlaysOn, IsOnTheWay, CountsIfItPlays, TellsIfItFails};
+ghost use Rattle.chord_worker.specs.Stepping.{HasGoneOn, PlaysNext, PlaysFiring, StillPlays};
+ghost use Rattle.chord_pool.specs.Players.{IsOneRun, IsFit, AreUnready, FoundNoneBelow, FoundNone, SawUnready, KnowsCount, HasStarted, HasLooked, HadARound, HadRounds, HasLeftOff, MayPlay, HasPlayed, PlaysOn, IsOnTheWay, CountsIfItPlays, TellsIfItFails};
 
 use crate::pause::Pause;
 use crate::run::Run;
@@ -56,6 +56,7 @@ fn start_at_work<'a, G: Gate>(
     ensures worker { IsFit run.now.space.now worker.new }
     ensures role { IsSameRole (view worker.old.desk) (view worker.new.desk) }
     ensures task { result ≡ is_some worker.new.task }
+    ensures plays { result ≡ true → PlaysFiring G.knows (view worker.old.desk).kept worker.old.task worker.new i }
     ensures refused { result ≡ false → SawUnready (view worker.old.desk) (view worker.new.desk) i }
 {
     // the card is here so that a condition can speak of it
@@ -82,6 +83,7 @@ fn try_start<'a, G: Gate>(
     ensures stops { stops card.new ≡ stops card.old }
     ensures counts { result ≡ true → counts card.new ≡ true }
     ensures as_before { result ≡ false → counts card.new ≡ counts card.old }
+    ensures plays { result ≡ true → PlaysFiring G.knows (view worker.old.desk).kept worker.old.task worker.new i }
     ensures seen { result ≡ false → SawUnready (view worker.old.desk) (view worker.new.desk) i }
 {
     match worker.look(run.space, i) {
@@ -118,6 +120,8 @@ fn sweep<'a, G: Gate>(
     ensures stops { stops card.new ≡ stops card.old }
     ensures counts { is_some result ≡ true → counts card.new ≡ true }
     ensures as_before { IfNone result (counts card.new ≡ counts card.old) }
+    ensures started { is_some result ≡ true → HasStarted G.knows worker.old worker.new }
+    ensures kept { IfNone result ((view worker.new.desk).kept ≡ (view worker.old.desk).kept) }
     ensures count { IfNone result ((view worker.new.desk).looked.count ≡ (view worker.old.desk).looked.count) }
     ensures seen { IfNone result (AreUnready from below (view worker.new.desk).looked.seen) }
 {
@@ -148,6 +152,8 @@ fn find_work<'a, G: Gate>(
     ensures stops { stops card.new ≡ stops card.old }
     ensures counts { worker.new.task ≢ None → counts card.new ≡ true }
     ensures as_before { worker.new.task ≡ None → counts card.new ≡ counts card.old }
+    ensures started { worker.new.task ≢ None → HasStarted G.knows worker.old worker.new }
+    ensures kept { worker.new.task ≡ None → (view worker.new.desk).kept ≡ (view worker.old.desk).kept }
     ensures count { worker.new.task ≡ None → (view worker.new.desk).looked.count ≡ (view worker.old.desk).looked.count }
     ensures seen { worker.new.task ≡ None → AreUnready place below (view worker.new.desk).looked.seen }
 {
@@ -192,6 +198,7 @@ impl Player {
         ensures failed { result ≡ false → self.new.failed ≡ true }
         ensures told { TellsIfItFails self.new }
         ensures went { result ≡ true → (t : TheTask) → self.old.worker.task ≡ Some t → HasGoneOn (view self.old.worker.desk).kept t self.new.worker }
+        ensures plays { result ≡ true → (t : TheTask) → self.old.worker.task ≡ Some t → PlaysNext G.knows (view self.old.worker.desk).kept t self.new.worker }
     {
         match self
             .worker
@@ -219,6 +226,7 @@ impl Player {
 
     /// Looks for a firing from its place on: among all numbers, or else among those that it knew of before. One that does not count
     /// looks among all of them where it has read that nobody is at work, and only then: so none was at work before the look began.
+    /// What one that counts finds among all of them says nothing of when it may go: it may count for the look's sake.
     fn look<'a, G: Gate>(&mut self, run: &Run<'a>, gate: &G, among_all: bool)
         requires run { IsOneRun run.now.space.now run.now.code.now run.now.limits.now }
         requires worker { IsFit run.now.space.now self.old.worker }
@@ -231,7 +239,9 @@ impl Player {
         ensures stops { stops self.new.card ≡ stops self.old.card }
         ensures counts { self.new.worker.task ≢ None → counts self.new.card ≡ true }
         ensures as_before { self.new.worker.task ≡ None → counts self.new.card ≡ counts self.old.card }
-        ensures all { among_all ≡ true → self.new.worker.task ≡ None → FoundNone run.now.space.now self.old.place (view self.new.worker.desk) }
+        ensures started { self.new.worker.task ≢ None → HasStarted G.knows self.old.worker self.new.worker }
+        ensures kept { self.new.worker.task ≡ None → (view self.new.worker.desk).kept ≡ (view self.old.worker.desk).kept }
+        ensures all { among_all ≡ true → last_read self.old.card ≡ Some 0 → self.new.worker.task ≡ None → FoundNone run.now.space.now self.old.place (view self.new.worker.desk) }
         ensures knew { self.new.worker.task ≡ None → FoundNoneBelow run.now.space.now self.old.place self.old.known (view self.new.worker.desk) }
         ensures knows { self.new.worker.task ≡ None → KnowsCount run.now.space.now self.new }
     {
@@ -265,6 +275,8 @@ impl Player {
         ensures card { HasReadNothing self.old.card self.new.card }
         ensures stops { stops self.new.card ≡ stops self.old.card }
         ensures counts { self.new.worker.task ≢ None → counts self.new.card ≡ true }
+        ensures started { self.new.worker.task ≢ None → HasStarted G.knows self.old.worker self.new.worker }
+        ensures kept { self.new.worker.task ≡ None → (view self.new.worker.desk).kept ≡ (view self.old.worker.desk).kept }
         ensures none { self.new.worker.task ≡ None → FoundNone run.now.space.now 0 (view self.new.worker.desk) }
     {
         if from > 0 {
@@ -286,7 +298,8 @@ impl Player {
         ensures on { PlaysOn self.old self.new }
         ensures sane { self.new.failed ≡ false }
         ensures stops { result ≡ false → HasPlayed run.now.space.now self.new }
-        ensures looked { result ≡ true → HasLooked run.now.space.now self.old self.new }
+        ensures looked { result ≡ true → HasLooked G.knows run.now.space.now self.old self.new }
+        ensures off { result ≡ false → StillPlays (view self.old.worker.desk).kept self.old.worker.task self.new.worker }
         ensures counts { result ≡ true → counts self.new.card ≡ is_some self.new.worker.task }
         ensures heard { stops self.new.card ≡ stops self.old.card }
         ensures stays { counts self.old.card ≡ true → result ≡ true }
@@ -350,7 +363,8 @@ impl Player {
         ensures stops { result ≡ false → HasPlayed run.now.space.now self.new }
         ensures told { TellsIfItFails self.new }
         ensures counts { result ≡ true → CountsIfItPlays self.new }
-        ensures went { result ≡ true → HadARound run.now.space.now self.old self.new }
+        ensures went { result ≡ true → HadARound G.knows run.now.space.now self.old self.new }
+        ensures off { result ≡ false → self.new.failed ≡ false → StillPlays (view self.old.worker.desk).kept self.old.worker.task self.new.worker }
         ensures asked { result ≡ true → self.old.worker.task ≡ None → stops self.new.card ≡ false }
         ensures heard { result ≡ true → stops self.old.card ≡ false → stops self.new.card ≡ false }
     {
@@ -389,7 +403,9 @@ impl Player {
         ensures stops { result ≡ false → HasPlayed run.now.space.now self.new }
         ensures told { TellsIfItFails self.new }
         ensures counts { result ≡ true → CountsIfItPlays self.new }
-        ensures went { result ≡ true → (before : ThePlayer) × IsOnTheWay run.now.space.now self.old before × HadARound run.now.space.now before self.new }
+        ensures went { result ≡ true → (before : ThePlayer) × IsOnTheWay run.now.space.now self.old before × HadARound G.knows run.now.space.now before self.new }
+        ensures had { result ≡ true → HadRounds G.knows run.now.space.now self.old self.new }
+        ensures off { result ≡ false → HasLeftOff G.knows run.now.space.now self.old self.new }
         ensures asked { result ≡ true → stops self.new.card ≡ false }
     {
         self.failed = self.card.has_stopped();
@@ -420,6 +436,7 @@ pub(crate) fn work<'a, R: Wait, G: Gate>(
     requires counts { CountsIfItPlays player }
     ensures played { HasPlayed run.now.space.now result }
     ensures on { PlaysOn player result }
+    ensures off { HasLeftOff G.knows run.now.space.now player result }
     ensures told { TellsIfItFails result }
     ensures left { counts result.card ≡ false }
 {

@@ -1,5 +1,5 @@
 //! Many threads play one run.
-ghost use Rattle.std.specs.Prelude.{◌≡◌, ◌⊎◌, ◌+◌, ◌<◌, ◌≤◌, false, [], IfOk, length};
+ghost use Rattle.std.specs.Prelude.{◌≡◌, ◌⊎◌, ◌+◌, ◌<◌, ◌≤◌, false, [], IfOk, length, reverse};
 ghost use Rattle.chord_base.specs.declared.event.Entry.{Entry};
 ghost use Rattle.chord_base.specs.Machine.{IsRun, IsComplete};
 ghost use Rattle.chord_base.specs.Story.{IsIn};
@@ -7,7 +7,7 @@ ghost use Rattle.chord_code.specs.Meaning.{code_program};
 ghost use Rattle.chord_code.specs.Sound.{IsSoundCode};
 ghost use Rattle.chord_rule.specs.Kinds.{newcomer_first};
 ghost use Rattle.chord_space.specs.Desks.{view, IsDeskOf};
-ghost use Rattle.chord_space.specs.Ends.{closing_view};
+ghost use Rattle.chord_space.specs.Ends.{parcels, closing_view};
 ghost use Rattle.chord_pool.specs.Players.{IsOneRun, IsCrew, IsBack};
 ghost use Rattle.chord_pool.specs.Ending.{IsLast, IsRunOver};
 
@@ -98,10 +98,11 @@ fn play_all<'a, R: Threads + Wait + Sync, G: Gate + Sync>(
 /// `limits.events` entries, and the closed table of that run.
 ///
 /// `limits.events` is 1 to 65,536, `limits.depth` 1 to 256, `workers` 1 to 64. A journal of fewer entries is complete. The table
-/// drew as many entries as the journal has, and each entry that the desk that closed it kept stands in the journal. That desk is
-/// the first one, and each other worker had a desk that was split from it. `gate.started` is called for each body by the worker that
-/// begins to play it; that the gate knows of `Main` is a clause, and that it is told once is tested. It is not promised that the call
-/// returns.
+/// drew the entries of the journal, in its order, and each entry that the desk that closed it kept stands there; it has given its memory back, and no parcel is
+/// left. That desk is the first one, and each other worker had a desk that was split from it. `gate.started` is called for each body by the worker that
+/// begins to play it; that the gate knows of `Main` is a clause, that it knows of each other one is said of what each worker does at
+/// its thread (`HasLeftOff`) and of what the first one does after them (`HasLeftOffAlone`), and that it is told once is tested. It is
+/// not promised that the call returns.
 ///
 /// # Errors
 ///
@@ -123,6 +124,8 @@ pub fn play<R: Threads + Wait + Sync, G: Gate + Sync>(
     ensures few { IfOk result (λ r. length r.0 ≤ limits.now.events) }
     ensures short { IfOk result (λ r. length r.0 < limits.now.events → IsComplete (code_program code.now limits.now) r.0) }
     ensures closed { IfOk result (λ r. (r.1.drawn ≡ length r.0) × ((e : Entry) → IsIn e (closing_view r.1).kept → IsIn e r.0)) }
+    ensures drew { IfOk result (λ r. (closing_view r.1).draws ≡ reverse r.0) }
+    ensures released { IfOk result (λ r. parcels r.1 ≡ []) }
     ensures crew { IfOk result (λ r. (closing_view r.1).splits + 1 ≡ workers) }
     ensures told { IfOk result (λ _. G.knows 0) }
 {

@@ -2,7 +2,7 @@
 ghost use Rattle.std.specs.Prelude.{◌≡◌, ◌<◌, false, ◌≤◌, ◌++◌, ◌∷◌, [], IfSome, IfNone, option_to_list, length, vec_capacity};
 ghost use Rattle.std.specs.Thread.{IsSync};
 ghost use Rattle.chord_roll.specs.Cards.{roll_of};
-ghost use Rattle.chord_pool.specs.Players.{IsOneRun, MayPlay, HasPlayed, PlaysOn, CountsIfItPlays, AreOfRoll, IsHired, AreHired, HaveAllPlayed};
+ghost use Rattle.chord_pool.specs.Players.{IsOneRun, MayPlay, HasPlayed, PlaysOn, HasLeftOff, HaveAllLeftOff, CountsIfItPlays, AreOfRoll, IsHired, AreHired, HaveAllPlayed};
 
 use crate::player::{Player, work};
 use crate::run::Run;
@@ -17,6 +17,7 @@ fn last<'a>(run: &Run<'a>, players: &mut Vec<Player>) -> Option<Player>
     ensures hired { IfSome result (λ one. IsHired run.now.space.now one × AreHired run.now.space.now players.new.items) }
     ensures items { players.old.items ≡ players.new.items ++ option_to_list result }
     ensures none { IfNone result (HaveAllPlayed run.now.space.now players.new.items) }
+    ensures empty { IfNone result ((players.old.items ≡ []) × (players.new.items ≡ [])) }
     ensures fewer { IfSome result (λ _. length players.new.items < length players.old.items) }
     ensures room { IfSome result (λ _. length players.new.items < vec_capacity players.new) × (vec_capacity players.new ≡ vec_capacity players.old) }
 {
@@ -48,6 +49,7 @@ fn all<'a, R: Threads + Wait + Sync, G: Gate + Sync>(
     requires run { IsOneRun run.now.space.now run.now.code.now run.now.limits.now }
     requires hired { AreHired run.now.space.now players.items }
     ensures played { HaveAllPlayed run.now.space.now result.items }
+    ensures off { HaveAllLeftOff G.knows run.now.space.now players.items result.items }
     ensures count { length result.items ≡ length players.items }
     ensures room { vec_capacity players ≤ vec_capacity result }
 {
@@ -60,7 +62,7 @@ fn all<'a, R: Threads + Wait + Sync, G: Gate + Sync>(
         rt,
         move || -> Player
             requires { IsOneRun space.now code.now limits.now × IsHired space.now one }
-            ensures { HasPlayed space.entry.now result }
+            ensures { HasPlayed space.entry.now result × HasLeftOff G.knows space.entry.now one result }
         {
             let run = Run {
                 space,
@@ -71,7 +73,7 @@ fn all<'a, R: Threads + Wait + Sync, G: Gate + Sync>(
         },
         move || -> Vec<Player>
             requires { IsSync R.row × IsOneRun space.now code.now limits.now × AreHired space.now players.items }
-            ensures { HaveAllPlayed space.entry.now result.items × (length result.items ≡ length players.items) × (vec_capacity players ≤ vec_capacity result) }
+            ensures { HaveAllPlayed space.entry.now result.items × (length result.items ≡ length players.items) × (vec_capacity players ≤ vec_capacity result) × HaveAllLeftOff G.knows space.entry.now players.items result.items }
         {
             let run = Run {
                 space,
@@ -103,13 +105,14 @@ pub(crate) fn share<'a, R: Threads + Wait + Sync, G: Gate + Sync>(
     ensures main { HasPlayed run.now.space.now result.0 × PlaysOn main result.0 }
     ensures told { G.knows 0 }
     ensures others { HaveAllPlayed run.now.space.now result.1.items × (length result.1.items ≡ length others.items) }
+    ensures off { HasLeftOff G.knows run.now.space.now main result.0 × HaveAllLeftOff G.knows run.now.space.now others.items result.1.items }
 {
     let (space, code, limits) = (run.space, run.code, run.limits);
     let (back, first) = join(
         rt,
         move || -> Vec<Player>
             requires { IsSync R.row × IsOneRun space.now code.now limits.now × AreHired space.now others.items }
-            ensures { HaveAllPlayed space.entry.now result.items × (length result.items ≡ length others.items) }
+            ensures { HaveAllPlayed space.entry.now result.items × (length result.items ≡ length others.items) × HaveAllLeftOff G.knows space.entry.now others.items result.items }
         {
             let run = Run {
                 space,
@@ -120,7 +123,7 @@ pub(crate) fn share<'a, R: Threads + Wait + Sync, G: Gate + Sync>(
         },
         move || -> Player
             requires { IsOneRun space.now code.now limits.now × MayPlay space.now main × CountsIfItPlays main × (main.failed ≡ false) }
-            ensures { HasPlayed space.entry.now result × PlaysOn main result × G.knows 0 }
+            ensures { HasPlayed space.entry.now result × PlaysOn main result × G.knows 0 × HasLeftOff G.knows space.entry.now main result }
         {
             gate.started(0);
             let run = Run {

@@ -12,6 +12,7 @@ pub mod MessageSteps
 pub mod TakenSteps
 pub mod Minding
 pub mod Waiting
+pub mod Naming
 pub mod Standing
 pub mod ParcelSteps
 pub mod YoungerSteps

@@ -4,7 +4,6 @@ use mathlib.Core.Option.{none, some}
 use lib.ListN.{get_elem?}
 use Rattle.atomic_table.specs.Table.{State, Allows, Me, keeps, step}
 use Rattle.chord_base.specs.Meaning.{Program}
-use Rattle.chord_base.specs.Messages.{Message}
 use Rattle.chord_base.specs.declared.value.Object.{Object}
 use Rattle.chord_base.specs.declared.value.Value as value
 use Rattle.chord_base.specs.declared.event.Entry.{Entry}
@@ -12,14 +11,14 @@ use Rattle.chord_word.specs.declared.cells.Word.{Word}
 use Rattle.chord_word.specs.Cells.{word_of, WordFits}
 use Rattle.chord_rule.specs.declared.view.Duty.{Duty}
 use Rattle.chord_rule.specs.declared.view.View.{View}
-use Rattle.chord_rule.specs.Moment.{Moment, Place, head_at}
+use Rattle.chord_rule.specs.Heading.{WasPlace}
+use Rattle.chord_rule.specs.Moment.{Moment, Place, head_at, word_at_place}
 use Rattle.chord_rule.specs.Bags.{IsArmed, cell_of, head_number}
 use Rattle.chord_rule.specs.Duties.{HasDuty, MayRest}
 use Rattle.chord_rule.specs.Kinds.{saw_count, looked_head, looked_cell, rested}
 use Rattle.chord_rule.specs.Made.{key, IsChord}
-use Rattle.chord_rule.specs.Messages.{IsLinked}
 use Rattle.chord_rule.specs.StandsFor.{Unseen}
-use Rattle.chord_rule.specs.Stages.{Stage, Vacant, InHand, Armed, Spent, Posted, Played, Fresh, Placing, Flying, Claiming, Emptying, Unposted, Posting, Starting}
+use Rattle.chord_rule.specs.Stages.{InHand, Claiming}
 use Rattle.chord_rule.specs.Tells.{IsLook, looks_count, looks_head, looks_cell, looks_place, rests}
 use Rattle.chord_rule.specs.Ways.{IsAt, HasDutyOn, HasWay, HasLooksLeft, WereLinked, WayLaw}
 use Rattle.chord_rule.specs.declared.view.Way.{Way}
@@ -30,6 +29,7 @@ use Rattle.chord_rule.proofs.KeySteps.{head_key}
 use Rattle.chord_rule.proofs.Knowing as knowing
 use Rattle.chord_rule.proofs.Lists.{some_is}
 use Rattle.chord_rule.proofs.Moving.{unmoved}
+use Rattle.chord_rule.proofs.Naming as naming
 use Rattle.chord_rule.proofs.Puts.{at_inside}
 use Rattle.chord_rule.proofs.WaySteps.{way_room, linked_numbers, were_linked}
 use Rattle.chord_rule.proofs.Wholes as wholes
@@ -107,8 +107,8 @@ module _ {P : Type 0} (entries : P → List Entry) (arguments : P → List value
       }
 
   -- a look at a place word
-  pub look_place_step : (id : ℕ) (me : Me (Option P) View) (i : ℕ) → i < n → Allows H n id me (1 + n + i) (λ x. x) (looks_place (step n (1 + n + i) 0 0 none) me)
-  look_place_step id me i low = load_place Unseen W n width id me i (looks_place (step n (1 + n + i) 0 0 none) me) low
+  pub look_place_step : (id : ℕ) (me : Me (Option P) View) (i : ℕ) → i < n → Allows H n id me (1 + n + i) (λ x. x) (looks_place entries arguments keeps_to p (step n (1 + n + i) 0 0 none) me)
+  look_place_step id me i low = load_place Unseen W n width id me i (looks_place entries arguments keeps_to p (step n (1 + n + i) 0 0 none) me) low
       (λ m u whole at good. (
         me.0,
         keeps,
@@ -124,34 +124,29 @@ module _ {P : Type 0} (entries : P → List Entry) (arguments : P → List value
             (λ q s. whole.places.within i q s),
             (λ d h is. let t = placed m u whole at d.message d.bag (whole.agrees.tied.duties id me.0 at d h) in (t.0, ap m.places (same ∙ sym is) ∙ t.1, t.2)),
             (λ c h is. ap m.places (same ∙ sym is) ∙ (agreeing.it entries arguments keeps_to p n small m u whole.agrees id me.0 at c.number (InHand id (Claiming c)) (whole.agrees.stands.hands.holds id me.0 at c.number (Claiming c) (h, refl))).1.placed),
+            subst (λ (k : ℕ). WasPlace entries arguments keeps_to p n me.0 k (m.places i)) same (was_place m u whole at),
           )),
         ),
       ))
     where
+      -- what stood in the place word, and whose it is
+      was_place : (m : Moment P) (u : Unseen) (whole : W m u) (at : get_elem? m.views id ≡ some me.0) → WasPlace entries arguments keeps_to p n me.0 i (m.places i)
+      was_place m u whole at = record {
+        moment = m;
+        unseen = u;
+        rule = whole;
+        desk = (id, at);
+        read = refl;
+        word = word_at_place (m.places i);
+        stood = refl;
+        unset = λ e. ap word_at_place e;
+        zero_unset = naming.zero_unset (m.places i);
+        message = λ q e. let t = naming.placed_is u.journal m.cells m.places m.homes u.order u.stage whole.agrees.stands.messages i q e in (t.0, naming.says_message u.journal i t.0 t.1, t.2);
+      }
+
       -- a linked message has a place word, which names its bag
       placed : (m : Moment P) (u : Unseen) (whole : W m u) (at : get_elem? m.views id ≡ some me.0) (k l : ℕ) → u.order.bag k ≡ Some l → (q : Place) × (m.places k ≡ Some q) × (l ≡ key q.0 q.1)
-      placed m u whole at k l b = go (u.stage k) refl
-        where
-          it : (s : Stage) → u.stage k ≡ s → agreeing.It entries arguments keeps_to p n small m u whole.agrees id me.0 at k s
-          it s e = agreeing.it entries arguments keeps_to p n small m u whole.agrees id me.0 at k s e
-
-          of : (x : Message) → IsLinked x (m.places k) (u.order.bag k) → (q : Place) × (m.places k ≡ Some q) × (l ≡ key q.0 q.1)
-          of x t = ((x.object, x.method), t.placed, some_is l (key x.object x.method) (sym b ∙ t.bagged))
-
-          go : (s : Stage) → u.stage k ≡ s → (q : Place) × (m.places k ≡ Some q) × (l ≡ key q.0 q.1)
-          go Vacant e = absurd (let z = sym (it Vacant e).1.unlinked ∙ b in cc)
-          go (InHand j Fresh) e = absurd (let z = sym (it (InHand j Fresh) e).1.unlinked ∙ b in cc)
-          go (InHand j Placing) e = absurd (let z = sym (it (InHand j Placing) e).5 ∙ b in cc)
-          go (InHand j (Flying a c)) e = let t = it (InHand j (Flying a c)) e in of t.0 t.2
-          go (InHand j (Claiming c)) e = let t = it (InHand j (Claiming c)) e in ((c.object, c.method), t.1.placed, some_is l (key c.object c.method) (sym b ∙ t.1.bagged))
-          go (InHand j Emptying) e = let t = it (InHand j Emptying) e in of t.0 t.2
-          go (InHand j Unposted) e = absurd (let z = sym (it (InHand j Unposted) e).1.unlinked ∙ b in cc)
-          go (InHand j Posting) e = absurd (let z = sym (it (InHand j Posting) e).4 ∙ b in cc)
-          go (InHand j Starting) e = absurd (let z = sym (it (InHand j Starting) e).4 ∙ b in cc)
-          go Armed e = let t = it Armed e in of t.0 t.2
-          go Spent e = let t = it Spent e in of t.0 t.2
-          go Posted e = absurd (let z = sym (it Posted e).4 ∙ b in cc)
-          go Played e = absurd (let z = sym (it Played e).4 ∙ b in cc)
+      placed m u whole at k l b = let t = naming.linked_is u.journal m.cells m.places m.homes u.order u.stage whole.agrees.stands.messages k l b in ((t.0.object, t.0.method), t.2.placed, some_is l (key t.0.object t.0.method) (sym b ∙ t.2.bagged))
 
   -- a duty is laid down: each duty on this message in one of its bags may rest
   pub rest_step : (id : ℕ) (me : Me (Option P) View) (d : Duty) → me.0.gone ≡ false → HasDuty d me.0.duties → ((e : Duty) → HasDuty e me.0.duties → e.message ≡ d.message → e.bag ≡ d.bag → MayRest (IsChord p) e)

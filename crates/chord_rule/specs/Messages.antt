@@ -3,7 +3,8 @@ use Rattle.std.specs.Prelude.{◌≡◌, ◌<◌, ℕ, List, Option, Some, None}
 use mathlib.Core.Option.{some, none}
 use Rattle.chord_base.specs.declared.event.What.{What}
 use Rattle.chord_base.specs.declared.event.Entry.{Entry}
-use Rattle.chord_base.specs.Messages.{Message}
+use Rattle.chord_base.specs.Messages.{Message, message_of}
+use Rattle.chord_base.specs.Story.{IsIn}
 use Rattle.chord_word.specs.declared.cells.Cell.{Cell}
 use Rattle.chord_word.specs.declared.cells.Cell.TheVariants as a_cell
 use Rattle.chord_word.specs.declared.cells.Word.{Word}
@@ -11,6 +12,10 @@ use Rattle.chord_rule.specs.Moment.{Home, Place, empty_word}
 use Rattle.chord_rule.specs.Bags.{LinkOrder}
 use Rattle.chord_rule.specs.Made.{key}
 use Rattle.chord_rule.specs.Stages.{Hold, Fresh, Placing, Flying, Claiming, Emptying, Unposted, Posting, Starting, Stage, Vacant, InHand, Armed, Spent, Posted, Played, said_at, message_in, IsFiringEntry, IsNeither, claimed_message}
+
+-- the entry of this number sends or calls the message
+abbrev pub SaysMessage : List Entry → ℕ → Message → Type 0
+SaysMessage h i x = (e : Entry) × IsIn e h × (e.number ≡ i) × (message_of e.what ≡ Some x)
 
 -- the cell of a message that is armed and free
 abbrev pub IsOpen : Cell → Type 0

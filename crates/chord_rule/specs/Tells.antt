@@ -24,7 +24,7 @@ use Rattle.chord_rule.specs.Duties.{HasDuty}
 use Rattle.chord_rule.specs.Looks.{LastHead}
 use Rattle.chord_rule.specs.Made.{Names, key}
 use Rattle.chord_rule.specs.Ways.{HasDutyOn, KnowsBag, KnowsObject, LastSeen, IsAt, IsAloneDesk, IsLinkedCell, IsSettledCell, HasLooksLeft}
-use Rattle.chord_rule.specs.Heading.{WasHead}
+use Rattle.chord_rule.specs.Heading.{WasHead, WasPlace}
 use Rattle.chord_rule.specs.Kinds.{entry, drew, was_told, claimed, firing_drawn, address_set, flown, armed, unclaimed, consumed, emptied, posting, posted, firing_started, played, saw, saw_count, saw_head, looked_head, looked_cell, rested}
 
 -- the word of a cell with this next
@@ -161,12 +161,13 @@ module _ {S : Type 0} where
   abbrev pub looks_cell : Step (Option S) → Me (Option S) View → ℕ → Me (Option S) View → Type 0
   looks_cell s m x w = (i : ℕ) → s.word ≡ 1 + i → (c : Word) × WordFits c × (x ≡ word_of c) × IsLook s.slots m.0 w.0 i c × (w.1 ≡ m.1)
 
-  -- a place word: it is within the table, and it is the place of each bag in which the desk knows the message to be
-  abbrev pub looks_place : Step (Option S) → Me (Option S) View → ℕ → Me (Option S) View → Type 0
-  looks_place s m x w = (w ≡ m) × ((i : ℕ) → s.word ≡ 1 + s.slots + i → (pl : Option Place) × (x ≡ word_at_place pl) × PlaceOk pl
+  -- a place word: it is within the table, it is the place of each bag in which the desk knows the message to be, and it stood there at a moment of the rule
+  abbrev pub looks_place : (S → List Entry) → (S → List value.Value) → (S → Type 0) → Program → Step (Option S) → Me (Option S) View → ℕ → Me (Option S) View → Type 0
+  looks_place entries arguments keeps_to p s m x w = (w ≡ m) × ((i : ℕ) → s.word ≡ 1 + s.slots + i → (pl : Option Place) × (x ≡ word_at_place pl) × PlaceOk pl
       × ((q : Place) → pl ≡ Some q → (q.0.number < s.slots) × (q.1 < 16))
       × ((d : Duty) → HasDuty d m.0.duties → d.message ≡ i → (q : Place) × (pl ≡ Some q) × (d.bag ≡ key q.0 q.1))
-      × ((c : Claim) → HasThe c m.0.claims → c.number ≡ i → pl ≡ Some (c.object, c.method)))
+      × ((c : Claim) → HasThe c m.0.claims → c.number ≡ i → pl ≡ Some (c.object, c.method))
+      × WasPlace entries arguments keeps_to p s.slots m.0 i pl)
 
   -- ## Bypasses
 

@@ -14,3 +14,4 @@ pub mod FirstBreak
 pub mod Compiled
 pub mod Statuses
 pub mod Exhaustive
+pub mod Machines

@@ -1,10 +1,20 @@
--- What holds of each source: it is accepted and has one machine, or it has one cause of a refusal with one line.
-use Rattle.std.specs.Prelude.{◌≡◌, ℕ, ◌⊎◌, List}
+-- What holds of each source: it is accepted and has one machine, which is sound and serves its callers, or it has one cause of a refusal with one line.
+use Rattle.std.specs.Prelude.{◌≡◌, ℕ, ◌⊎◌, List, Option, Some}
+use Rattle.chord_base.specs.Machine.{IsRun}
 use Rattle.chord_base.specs.Meaning.{Program}
+use Rattle.chord_base.specs.declared.event.Entry.{Entry}
 use Rattle.chord_base.specs.declared.event.Limits.{Limits}
+use Rattle.chord_run.specs.Answers.{Answers, IsSilence}
+use Rattle.chord_run.specs.Command.{Requests}
+use Rattle.chord_run.specs.Due.{source_contents}
 use Rattle.chord_run.specs.Refusals.{IsCause, IsLine}
 use Rattle.chord_run.specs.Sources.{IsAccepted, IsMachine}
+use Rattle.chord_run.specs.Written.{IsGiven}
+use Rattle.chord_run.specs.declared.command.Request.{Request}
 use Rattle.chord_run.specs.declared.refusal.Refusal.{Refusal}
+use Rattle.chord_run.specs.declared.report.Report.{Report}
+use Rattle.chord_source.specs.Callers.{ServesCallers}
+use Rattle.chord_source.specs.Laws.{IsSoundMachine}
 
 -- within its limits a source has at most one join machine
 abbrev pub HasOneMachine : Type 0
@@ -37,3 +47,28 @@ IsAcceptedOrHasCause = (source : List ℕ) → IsAccepted source ⊎ ((refusal :
 -- a source with a cause of a refusal is not accepted
 abbrev pub RefusedIsNotAccepted : Type 0
 RefusedIsNotAccepted = (source : List ℕ) (refusal : Refusal) → IsCause source refusal → IsAccepted source → ⊥
+
+-- a join machine of a source is a sound machine
+abbrev pub MachineIsSound : Type 0
+MachineIsSound = (source : List ℕ) (limits : Limits) (program : Program) → IsMachine source limits program → IsSoundMachine program
+
+-- each run of a join machine of a source takes no message twice, and serves its callers
+abbrev pub MachineServesCallers : Type 0
+MachineServesCallers = (source : List ℕ) (limits : Limits) (program : Program) (journal : List Entry) → IsMachine source limits program → IsRun program journal → ServesCallers program journal
+
+-- a journal is a run of a join machine of the source that these arguments are about, takes no message twice, and serves its callers
+pub record IsServedRun (arguments : List (List ℕ)) (left : Option (List ℕ)) (journal : List Entry) : Type 0 where
+  pub request : Request
+  pub requested : Requests arguments request
+  pub source : List ℕ
+  pub given : IsGiven (source_contents request left) source
+  pub program : Program
+  pub machine : IsMachine source request.limits program
+  pub run : IsRun program journal
+  pub serves : ServesCallers program journal
+
+-- where the headline holds, the journal of the report is such a run
+abbrev pub ReportServesCallers : Type 0
+ReportServesCallers =
+    (arguments : List (List ℕ)) (left : Option (List ℕ)) (report : Report) (before after : Option (List ℕ)) (journal : List Entry) →
+    IsSilence report before after ⊎ Answers arguments left report before after → report.journal ≡ Some journal → IsServedRun arguments left journal

@@ -24,7 +24,7 @@ pub mod Sources
 pub mod Refusals
 -- the line and the column of a byte
 pub mod Positions
--- what holds of each source
+-- what holds of each source, of its join machine and of the journal of each report
 pub mod Laws
 -- ## What only the code's own contracts use
 

@@ -1,6 +1,6 @@
 -- What one call reads and writes. Contents are None where they are not specified.
-use Rattle.std.specs.Prelude.{◌≡◌, ℕ, ◌⊎◌, List, Option, Some, None}
-use Rattle.chord_io.specs.Pieces.{Took, TookProperPrefix}
+use Rattle.std.specs.Prelude.{◌≡◌, ℕ, ◌≤◌, ◌⊎◌, List, length, Option, Some, None}
+use Rattle.chord_io.specs.Pieces.{Gave, Took, TookProperPrefix}
 
 -- these are the contents, where they are specified
 abbrev pub IsGiven : Option (List ℕ) → List ℕ → Type 0
@@ -11,6 +11,10 @@ IsGiven (Some left) source = left ≡ source
 abbrev pub IsSpecified : Option (List ℕ) → Type 0
 IsSpecified None = ⊥
 IsSpecified (Some bytes) = Unit {0}
+
+-- a source gave at most this many bytes
+abbrev pub GaveAtMost : ℕ → Option (List ℕ) → Option (List ℕ) → Type 0
+GaveAtMost most before after = (given : List ℕ) × (length given ≤ most) × Gave before given after
 
 -- what is due to be written: the status where all is written, and the text
 pub record Due : Type 0 where

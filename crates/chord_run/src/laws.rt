@@ -1,11 +1,13 @@
-//! What holds of each source, and of some command lines, as the contracts of functions that do nothing.
+//! What holds of each source, of its join machine, and of some command lines, as the contracts of functions that do nothing.
 #![tactic(auto)]
 
 ghost use Rattle.chord_run.specs.Examples.{HasExamples, HasRefusedExamples};
-ghost use Rattle.chord_run.specs.Laws.{AcceptedHasMachine, CauseHasLine, HasOneCause, HasOneLine, HasOneMachine, IsAcceptedOrHasCause, MachineIsOfAccepted, RefusedIsNotAccepted};
+ghost use Rattle.chord_run.specs.Laws.{AcceptedHasMachine, CauseHasLine, HasOneCause, HasOneLine, HasOneMachine, IsAcceptedOrHasCause, MachineIsOfAccepted, MachineIsSound, MachineServesCallers, RefusedIsNotAccepted, ReportServesCallers};
 
 use chord_classes::laws::breaks;
+use chord_gen::laws::accepted;
 use chord_rules::laws::splits;
+use chord_source::laws::{callers, sound};
 
 /// A source is accepted exactly where it has a join machine, and within its limits it has one at most. It is accepted or has
 /// a cause of a refusal, and not both. It has at most one cause, which has one line.
@@ -23,6 +25,22 @@ pub fn sources()
     breaks();
     // the one rule that is no list has one
     splits();
+}
+
+/// The join machine of a source is sound. In each run of it, and so in the journal of each report, no message is taken twice,
+/// each caller that is served goes on with the end of the body of the one firing that took its call, and each other caller
+/// waits.
+pub fn machines()
+    ensures sound { MachineIsSound }
+    ensures runs { MachineServesCallers }
+    ensures reports { ReportServesCallers }
+{
+    // a program that breaks no rule keeps to its types, and its plan is as it must be
+    accepted();
+    // so its machine is sound
+    sound();
+    // and the runs of a sound machine serve their callers
+    callers();
 }
 
 /// What some command lines request, and some that request nothing: what the definition says of words that are written out.

@@ -29,11 +29,12 @@ pub fn status_of_run(journal: &Journal, full: bool, trapped: bool) -> u8
     }
 }
 
-/// Whether `Main` has ended. Its end is nearly always among the last entries, so the search begins with them.
+/// Whether `Main` has ended.
 fn has_main_end(entries: &[Entry]) -> bool
     ensures { result ≡ main_ended entries.now }
 {
     let count = entries.len();
+    // from the back, since this end is nearly always among the last entries
     for i in 0..count {
         if ends_main(&entries[count - 1 - i]) {
             return true;

@@ -1,7 +1,7 @@
 //! The top call: reads a source, runs it, and writes its lines.
 #![tactic(auto)]
 
-ghost use Rattle.std.specs.Prelude.{◌≡◌, ℕ, ◌<◌, ◌≤◌, ◌⊎◌, IfOk, None, Some, codes, length};
+ghost use Rattle.std.specs.Prelude.{◌≡◌, ℕ, ◌<◌, ◌≤◌, ◌⊎◌, IfOk, IsOk, None, Some, codes, length};
 ghost use Rattle.chord_base.specs.Machine.{IsComplete, IsRun};
 ghost use Rattle.chord_io.specs.Faults.{Rose};
 ghost use Rattle.chord_code.specs.Meaning.{code_program};
@@ -17,6 +17,7 @@ ghost use Rattle.chord_run.specs.Reports.{ReportsCode, ReportsNoMemory, ReportsP
 ghost use Rattle.chord_run.specs.Rows.{AreSpecified, CutsShort, Fills, Finishes, IsExact, NoneFailed, Refuses, RefusesOthers, RunsAccepted, Succeeds};
 ghost use Rattle.chord_run.specs.Sources.{IsShort};
 ghost use Rattle.chord_run.specs.Tables.{HasTable};
+ghost use Rattle.chord_run.specs.Written.{GaveAtMost};
 ghost use Rattle.chord_run.specs.declared.command.Request as asked;
 
 use crate::command::{Mode, Request, made_from, request_of};
@@ -56,8 +57,8 @@ pub fn chord<R: Threads + Wait + Sync, S: Source, K: Sink, G: Gate + Sync>(
     ensures headline { IsSilence result (K.taken sink.old) (K.taken sink.new)
         ⊎ Answers (argument_bytes arguments.now) (S.left source.old) result (K.taken sink.old) (K.taken sink.new) }
 
-    // Each status has its cause. A read that failed has 3, and a write that failed has 5: with every other status no fault was
-    // counted.
+    // Each status has its cause. A read that failed has 3, and a write that failed has 5: one call failed then, and with every
+    // other status none.
     ensures status_0 { result.status ≡ 0 → Requested (argument_bytes arguments.now) (λ request.
         Succeeds request (S.left source.old) result (K.taken sink.old) (K.taken sink.new)) }
     ensures status_1 { result.status ≡ 1 → Requested (argument_bytes arguments.now) (λ request.
@@ -77,6 +78,12 @@ pub fn chord<R: Threads + Wait + Sync, S: Source, K: Sink, G: Gate + Sync>(
         Fills request (S.left source.old) result (K.taken sink.old) (K.taken sink.new)) }
     ensures status_8 { result.status ≡ 8 → Requested (argument_bytes arguments.now) (λ request.
         Finishes request (S.left source.old) result (K.taken sink.old) (K.taken sink.new) 8) }
+
+    // Whatever the status, at most one byte more is read than the source of a program may have, and nothing where the arguments
+    // are not accepted.
+    ensures taken { GaveAtMost 1048577 (S.left source.old) (S.left source.new) }
+    ensures unaccepted_unread { (AreAccepted (argument_bytes arguments.now) → ⊥)
+        → (S.left source.new ≡ S.left source.old) × (S.faults source.new ≡ S.faults source.old) }
 
     // For a source that is made from a number nothing is read.
     ensures made_unread { (request : asked.Request) (k : ℕ) → Requests (argument_bytes arguments.now) request → words.made_from request.mode ≡ Some k
@@ -124,6 +131,9 @@ fn answer<R: Threads + Wait + Sync, S: Source, K: Sink, G: Gate + Sync>(
     ensures write_fault { result.status ≡ 5 → Rose (K.faults sink.old) (K.faults sink.new) }
     ensures read_told { (result.status ≡ 3) ⊎ (S.faults source.new ≡ S.faults source.old) }
     ensures write_told { (result.status ≡ 5) ⊎ (K.faults sink.new ≡ K.faults sink.old) }
+    ensures taken { GaveAtMost 1048577 (S.left source.old) (S.left source.new) }
+    ensures unaccepted_unread { (AreAccepted (argument_bytes arguments.now) → ⊥)
+        → (S.left source.new ≡ S.left source.old) × (S.faults source.new ≡ S.faults source.old) }
     ensures made_unread { (request : asked.Request) (k : ℕ) → Requests (argument_bytes arguments.now) request → words.made_from request.mode ≡ Some k
         → (S.left source.new ≡ S.left source.old) × (S.faults source.new ≡ S.faults source.old) }
     ensures headline { IsSilence result (K.taken sink.old) (K.taken sink.new)
@@ -154,6 +164,7 @@ fn answer_request<R: Threads + Wait + Sync, S: Source, K: Sink, G: Gate + Sync>(
     ensures write_fault { result.status ≡ 5 → Rose (K.faults sink.old) (K.faults sink.new) }
     ensures read_told { (result.status ≡ 3) ⊎ (S.faults source.new ≡ S.faults source.old) }
     ensures write_told { (result.status ≡ 5) ⊎ (K.faults sink.new ≡ K.faults sink.old) }
+    ensures taken { GaveAtMost 1048577 (S.left source.old) (S.left source.new) }
     ensures made_unread { (k : ℕ) → words.made_from request.now.mode ≡ Some k
         → (S.left source.new ≡ S.left source.old) × (S.faults source.new ≡ S.faults source.old) }
 {
@@ -207,6 +218,7 @@ fn answer_read<R: Threads + Wait + Sync, S: Source, K: Sink, G: Gate + Sync>(
     ensures write_fault { result.status ≡ 5 → Rose (K.faults sink.old) (K.faults sink.new) }
     ensures read_told { (result.status ≡ 3) ⊎ (S.faults source.new ≡ S.faults source.old) }
     ensures write_told { (result.status ≡ 5) ⊎ (K.faults sink.new ≡ K.faults sink.old) }
+    ensures taken { GaveAtMost 1048577 (S.left source.old) (S.left source.new) }
 {
     match read_all(alloc, source) {
         Err(ReadFault::Failed) => Report::silent(READ_FAULT),
@@ -380,6 +392,7 @@ fn is_full(
     requires run { IsRun (code_program code.now limits.now) journal.now }
     requires few { length journal.now ≤ limits.now.events }
     requires whole { length journal.now < limits.now.events → IsComplete (code_program code.now limits.now) journal.now }
+    ensures sure { length journal.now < limits.now.events → IsOk result }
     ensures gives { IfOk result (λ full. HasStatus (code_program code.now limits.now) limits.now.events journal.now (due_status full journal.now)) }
 {
     if journal.entries().len() < limits.events as usize {

@@ -6,4 +6,7 @@ mod GoodStatements
 mod GoodObjects
 pub mod GoodPlays
 mod Ends
+mod Firings
 pub mod SoundRuns
+mod SourceRuns
+mod Callers

@@ -1,6 +1,7 @@
--- What holds of the bodies of a source that keep to their static types.
+-- What holds of the bodies of a source that keep to their static types, and of its join machine.
 use Rattle.std.specs.Prelude.{◌≡◌, ℕ, zero, suc, List, [], ◌∷◌, Option, Some, None, slice_get}
-use Rattle.chord_base.specs.Meaning.{Start, Main, Chord}
+use Rattle.chord_base.specs.Meaning.{Program, Start, Main, Chord}
+use Rattle.chord_base.specs.Story.{IsSound}
 use Rattle.chord_base.specs.declared.event.End.{End}
 use Rattle.chord_base.specs.declared.event.Limits.{Limits}
 use Rattle.chord_base.specs.declared.static_type.StaticType.{StaticType}
@@ -8,8 +9,9 @@ use Rattle.chord_base.specs.Types.{Signatures, HaveAll}
 use Rattle.chord_bodies.specs.Resolved.{BodyOf, Resolved}
 use Rattle.chord_bodies.specs.Types.{BodyIs}
 use Rattle.chord_bodies.specs.Planned.{IsPlanned}
+use Rattle.chord_code.specs.Laws.{ChordsAreRight}
 use Rattle.chord_code.specs.Plays.{Good, EndFits, Play, MakesObject, SendsMessage, CallsMethod, PrintsLine, EndsBody, GoesWrong, left_of, left_after}
-use Rattle.chord_source.specs.Source.{chord_body, class_chords, play_of}
+use Rattle.chord_source.specs.Source.{chord_body, class_chords, play_of, source_program}
 
 -- each body keeps to its static types
 abbrev pub AreWellTyped : Signatures → Resolved → Type 0
@@ -62,3 +64,12 @@ abbrev pub EachEnds : Type 0
 EachEnds =
     (sig : Signatures) (p : Resolved) → AreWellTyped sig p → IsPlanned sig p → (limits : Limits) (s : Start) (d : ℕ) (r : Option StaticType) → StartFits sig p s r
     → (f : ℕ → End) → SupplyFits sig (play_of p limits s d) f → EndsAfter sig r (play_of p limits s d) f
+
+-- A join machine is sound, and each of its chords has one to eight methods, all different and at most one of them synchronous.
+pub record IsSoundMachine (program : Program) : Type 0 where
+  pub sound : IsSound program
+  pub chords : ChordsAreRight program
+
+-- The join machine of a source whose bodies keep to their static types, and whose plan is as it must be, is a sound machine, whatever its limits.
+abbrev pub MachinesAreSound : Type 0
+MachinesAreSound = (sig : Signatures) (p : Resolved) → AreWellTyped sig p → IsPlanned sig p → (limits : Limits) → IsSoundMachine (source_program p limits)

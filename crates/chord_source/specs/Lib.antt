@@ -9,7 +9,9 @@ pub mod Statements
 pub mod Objects
 -- The join machine of a source.
 pub mod Source
--- Bodies that keep to their types never go wrong, and come to an end.
+-- Bodies that keep to their types never go wrong, and come to an end; their join machine is sound.
 pub mod Laws
+-- What a run of a sound machine says of its messages and of its callers.
+pub mod Callers
 -- Code that does what a source does, and its runs.
 pub mod Sources

@@ -12,9 +12,10 @@ use Rattle.chord_code.specs.Sound.{IsSoundUnder, NamesMethod}
 use Rattle.chord_code.specs.Valid.{IsValid}
 use Rattle.chord_rule.specs.declared.view.View.{View}
 use Rattle.chord_rule.specs.Bags.{head_number}
-use Rattle.chord_rule.specs.Heading.{WasHead}
+use Rattle.chord_rule.specs.Heading.{WasHead, WasPlace}
 use Rattle.chord_rule.specs.Kinds.{looked_head}
 use Rattle.chord_rule.specs.Made.{Names}
+use Rattle.chord_rule.specs.Moment.{Place}
 use Rattle.chord_rule.specs.Tells.{draws}
 use Rattle.chord_rule.specs.Whole.{Held}
 use Rattle.chord_space.specs.Widest.{widest}
@@ -37,3 +38,7 @@ pub record LooksAtHead {P : Type 0} (entries : P → List Entry) (arguments : P 
   pub linked : List ℕ
   pub is : w ≡ looked_head v k linked h
   pub moment : WasHead entries arguments (λ q. keeps_to q code limits) (code_program code limits) limits.events v (head_number k) h linked
+
+-- a look at the place word of the message i read this place, which stood there at that moment
+pub record LooksAtPlace {P : Type 0} (entries : P → List Entry) (arguments : P → List value.Value) (keeps_to : P → Parts → Limits → Type 0) (code : Parts) (limits : Limits) (v : View) (i : ℕ) (place : Option Place) : Type 0 where
+  pub moment : WasPlace entries arguments (λ q. keeps_to q code limits) (code_program code limits) limits.events v i place

@@ -10,9 +10,9 @@ ghost use Rattle.chord_rule.specs.Moment.{Place};
 ghost use Rattle.chord_rule.specs.Tells.{IsLook};
 ghost use Rattle.chord_rule.specs.Ways.{HasLooksLeft};
 ghost use Rattle.chord_space.specs.Desks.{view, heads, space_code, space_limits, program_of, IsDeskOf, IsSameDesk};
-ghost use Rattle.chord_space.specs.Ruled.{LooksAtHead};
+ghost use Rattle.chord_space.specs.Ruled.{LooksAtHead, LooksAtPlace};
 
-use crate::plays::{Headed, LayDown, Resting, SeeCell, SeeCount, SeeHead, SeePlace};
+use crate::plays::{Governed, Headed, LayDown, Resting, SeeCell, SeeCount, SeeHead, SeePlace};
 use crate::space::{Desk, Space};
 use chord_base::value::Object;
 use chord_code::carry::Carry;
@@ -91,12 +91,12 @@ impl<P: Carry> Space<P> {
         unpack_cell(found)
     }
 
-    /// The object and the method of message i, None exactly where the place word that the one load reads is 0. A message on which
-    /// the desk has a duty or a claim has a place.
-    pub fn look_place(&self, desk: &mut Desk<P>, i: u32) -> Option<(Object, u8)>
+    fn step_look_place<J: Governed>(&self, desk: &mut Desk<P>, i: u32) -> Option<(Object, u8)>
+        requires governed { (J.parts ≡ space_code self.now) × (J.limits ≡ space_limits self.now) }
         requires desk { IsDeskOf self.now desk.old }
         requires bounds { i < self.now.events }
         ensures desk { IsSameDesk desk.old desk.new × (view desk.new ≡ view desk.old) }
+        ensures looked { LooksAtPlace P.entries P.arguments P.keeps_to (space_code self.now) (space_limits self.now) (view desk.old) i result }
         ensures within { IfSome result (λ p. (p.0.number < self.now.events) × (p.0.class < 1024) × (p.1 < 16)) }
         ensures duty { (d : Duty) → HasDuty d (view desk.old).duties → d.message ≡ i → (p : Place) × (result ≡ Some p) × (d.bag ≡ key p.0 p.1) }
         ensures claim { (c : Claim) → HasThe c (view desk.old).claims → c.number ≡ i → result ≡ Some (c.object, c.method) }
@@ -105,8 +105,23 @@ impl<P: Carry> Space<P> {
         let found = self
             .table
             .shared
-            .load::<SeePlace>(&mut desk.seat, 1 + count + i as usize);
+            .load::<SeePlace<J>>(&mut desk.seat, 1 + count + i as usize);
         unpack_place(found)
+    }
+
+    /// The object and the method of message i, None exactly where the place word that the one load reads is 0: it stood there at
+    /// that moment, and what it shows is the object and the method to which the journal has the message. A message on which the
+    /// desk has a duty or a claim has a place.
+    pub fn look_place(&self, desk: &mut Desk<P>, i: u32) -> Option<(Object, u8)>
+        requires desk { IsDeskOf self.now desk.old }
+        requires bounds { i < self.now.events }
+        ensures desk { IsSameDesk desk.old desk.new × (view desk.new ≡ view desk.old) }
+        ensures looked { LooksAtPlace P.entries P.arguments P.keeps_to (space_code self.now) (space_limits self.now) (view desk.old) i result }
+        ensures within { IfSome result (λ p. (p.0.number < self.now.events) × (p.0.class < 1024) × (p.1 < 16)) }
+        ensures duty { (d : Duty) → HasDuty d (view desk.old).duties → d.message ≡ i → (p : Place) × (result ≡ Some p) × (d.bag ≡ key p.0 p.1) }
+        ensures claim { (c : Claim) → HasThe c (view desk.old).claims → c.number ≡ i → result ≡ Some (c.object, c.method) }
+    {
+        self.step_look_place::<Brand>(desk, i)
     }
 
     fn step_rest<J: Resting>(&self, desk: &mut Desk<P>, m: u32)

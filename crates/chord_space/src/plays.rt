@@ -252,10 +252,12 @@ impl<P> Play<Option<P>, View> for SeeCell {
 }
 
 /// A place word is looked at.
-pub struct SeePlace;
+pub struct SeePlace<J> {
+    of: PhantomData<J>,
+}
 
-impl<P> Play<Option<P>, View> for SeePlace {
-    ghost then = { looks_place };
+impl<P: Carry, J: Governed> Play<Option<P>, View> for SeePlace<J> {
+    ghost then = { looks_place P.entries P.arguments (λ q. P.keeps_to q J.parts J.limits) (code_program J.parts J.limits) };
 }
 
 /// A head is moved past consumed messages.

@@ -21,8 +21,9 @@ use Rattle.chord_task.specs.declared.parcel.Opened.{Opened as Parcel}
 use Rattle.chord_task.specs.declared.task.Task.{Task}
 use Rattle.chord_task.specs.Stacks.{TaskView, IsNext, StaysDefined}
 use Rattle.chord_task.specs.Past.{AddsOne}
-use Rattle.chord_task.specs.Standing.{view_of, IsTaskOf}
-use Rattle.chord_task.specs.Turning.{RunsOn, MaySettle, HasSettled, HasCome}
+use Rattle.chord_task.specs.Standing.{view_of, IsTaskOf, HasRoomFor, HasMadeRoom}
+use Rattle.chord_task.specs.Arguments.{MayBeList}
+use Rattle.chord_task.specs.Turning.{sent_to, RunsOn, MaySettle, AwaitsNumber, HasSettled, HasCome}
 use Rattle.chord_vm.specs.declared.ask.Ask.{Ask}
 use Rattle.chord_vm.specs.Frames.{what_of_ask}
 use Rattle.chord_worker.specs.declared.worker.Worker.{Worker}
@@ -58,6 +59,14 @@ module _ (code : Parts) (limits : Limits) (t u : Task) (w : What) (came : HasCom
   -- the frames of the body on top ran to the ask
   pub came_runs : RunsOn u.top
   came_runs = (came.asked.body, came.asked.on_top, came.asked.runs)
+
+  -- frames in stock have room for each block
+  pub came_spare : HasRoomFor code u.limits u.spare
+  came_spare = came.asked.task.kept
+
+  -- the wide list, if there is one, is one
+  pub came_values : MayBeList u.values
+  came_values = came.asked.task.kept_values
 
   -- the list of what the desk drew got the task's entry
   pub noted_one : (v v' : View) (n : ℕ) (t' : Task) (noted : IsNotedAs code limits v v' t t' n w) (list list' : List Entry) → AddsOne u.past t'.past list list' → DrawsOne v.draws v'.draws list list'
@@ -109,6 +118,21 @@ module _ (code : Parts) (limits : Limits) (t u : Task) (w : What) (came : HasCom
 
         past : (view_of t').past ≡ entry n b w ∷ (view_of t).past
         past = settled.noted.2 ∙ ap (λ (k : ℕ). entry n k w ∷ (view_of u).past) (one_top (view_of u).top settled.noted.0 b settled.noted.1 top) ∙ ap (λ (v : TaskView). entry n b w ∷ v.past) came.view
+
+-- an ask with its caller, for whose entry there is room, waits for the number that the desk drew
+pub awaits_drawn : (code : Parts) (limits : Limits) (u s : Task) (ask : Option Ask) (es : List Entry) (b n : ℕ) → (view_of u).top ≡ Some b → IsSound (code_program code limits) → HasMadeRoom code u s
+    → ((a : Ask) → ask ≡ Some a → (t : Task) × HasCome code limits t u (what_of_ask a) × IsInMemory code limits es false (Some t)) → ((a : Ask) → ask ≡ Some a → AllBelow n es × IsPlace (code_program code limits) (entry n b (what_of_ask a) ∷ es)) → AwaitsNumber code u s n ask
+awaits_drawn code limits u s ask es b n top sound room came drawn = record {
+  room = room;
+  asked = λ a e. (came a e).1.asked;
+  may = λ a e.
+      let x = came a e in
+      let d = drawn a e in came_may_settle code limits x.0 u (what_of_ask a) x.1 b top es x.2 sound n d.0 d.1;
+}
+
+-- what became an entry is the ask that was there
+pub settled_as : (code : Parts) (u t' : Task) (ask : Option Ask) (n : ℕ) (sent : Option (Object × ℕ)) → ((a : Ask) × (ask ≡ Some a) × HasSettled code u n (what_of_ask a) t' × (sent ≡ sent_to (what_of_ask a))) → (a : Ask) → ask ≡ Some a → HasSettled code u n (what_of_ask a) t'
+settled_as code u t' ask n sent x a e = subst (λ (b : Ask). HasSettled code u n (what_of_ask b) t') (only_ask ask x.0 a x.1 e) x.2
 
 -- ## The stock
 

@@ -1,5 +1,5 @@
 //! Messages are sent off with their parcels, and minded until they are taken, left or fired.
-ghost use Rattle.std.specs.Prelude.{◌≡◌, ◌≢◌, ◌<◌, true, false, [], Some, None, OnOk};
+ghost use Rattle.std.specs.Prelude.{◌≡◌, ◌≢◌, ◌<◌, true, false, [], Some, None, OnOk, OnErr};
 ghost use Rattle.chord_base.specs.Story.{IsSound};
 ghost use Rattle.chord_base.specs.declared.event.What.TheVariants.{Sent, Called};
 ghost use Rattle.chord_rule.specs.Made.{key};
@@ -10,7 +10,7 @@ ghost use Rattle.chord_task.specs.Parcels.{entries_of, arguments_of, IsParcelOf}
 ghost use Rattle.chord_task.specs.declared.task.Task.{Task as TheTask};
 ghost use Rattle.chord_task.specs.Standing.{view_of, IsTaskOf};
 ghost use Rattle.chord_task.specs.Turning.{HasCome, OwnsNothing};
-ghost use Rattle.chord_worker.specs.Resting.{IsAtRest, IsSameRole};
+ghost use Rattle.chord_worker.specs.Resting.{IsAtRest, IsSameRole, IsOutOfMemory};
 ghost use Rattle.chord_worker.specs.Sending.{IsSentOff};
 ghost use Rattle.chord_worker.specs.Stepping.{HasGoneOn, PlaysNext};
 
@@ -138,6 +138,7 @@ impl Worker {
         ensures went { OnOk result (HasGoneOn (view self.old.desk).kept task self.new) }
         ensures plays { OnOk result (PlaysNext G.knows (view self.old.desk).kept task self.new) }
         ensures bare { OnOk result (OwnsNothing asked.new) }
+        ensures short { OnErr result (IsOutOfMemory space.now self.new) }
     {
         let mut task = task;
         match draw_own(
@@ -211,6 +212,7 @@ impl Worker {
         ensures went { OnOk result (HasGoneOn (view self.old.desk).kept task self.new) }
         ensures plays { OnOk result (PlaysNext G.knows (view self.old.desk).kept task self.new) }
         ensures bare { OnOk result (OwnsNothing asked.new) }
+        ensures short { OnErr result (IsOutOfMemory space.now self.new) }
     {
         let mut task = task;
         match draw_own(

@@ -1,5 +1,5 @@
 //! A worker minds a message that it sent off: it looks for chords with the message, and fires one.
-ghost use Rattle.std.specs.Prelude.{◌≡◌, ◌<◌, ℕ, true, false, None, IfOk, OnOk};
+ghost use Rattle.std.specs.Prelude.{◌≡◌, ◌<◌, ℕ, true, false, None, IfOk, OnOk, OnErr};
 ghost use Rattle.chord_base.specs.Story.{IsSound};
 ghost use Rattle.chord_match.specs.Findings.{IsMatch};
 ghost use Rattle.chord_match.specs.Fires.{IsLost};
@@ -8,7 +8,7 @@ ghost use Rattle.chord_rule.specs.declared.view.View.{View};
 ghost use Rattle.chord_space.specs.Desks.{view, heads, space_code, space_limits, program_of, IsDeskOf};
 ghost use Rattle.chord_worker.specs.Hindered.{IsHindered};
 ghost use Rattle.chord_worker.specs.Sending.{Minds};
-ghost use Rattle.chord_worker.specs.Resting.{IsAtRest, IsSameRole};
+ghost use Rattle.chord_worker.specs.Resting.{IsAtRest, IsSameRole, IsOutOfMemory};
 ghost use Rattle.chord_worker.specs.Stepping.{StillPlays, WasMinded};
 
 use crate::fired::{Drawn, Unpacked};
@@ -70,6 +70,7 @@ impl Worker {
         ensures role { OnOk result (IsSameRole (view self.old.desk) (view self.new.desk)) }
         ensures minded { IfOk result (λ b. b ≡ true → WasMinded G.knows (view self.old.desk).kept self.old.task self.new message.number) }
         ensures same { IfOk result (λ b. b ≡ false → StillPlays (view self.old.desk).kept self.old.task self.new) }
+        ensures short { OnErr result (IsOutOfMemory space.now self.new) }
         ensures lost { IfOk result (λ b. b ≡ false → (i : ℕ) × IsLost space.now.events (view self.old.desk) (view self.new.desk) members.now nexts.now i) }
     {
         let object = message.object;
@@ -127,6 +128,7 @@ impl Worker {
         ensures role { OnOk result (IsSameRole (view self.old.desk) (view self.new.desk)) }
         ensures minded { IfOk result (λ b. b ≡ true → WasMinded G.knows (view self.old.desk).kept self.old.task self.new message.number) }
         ensures same { IfOk result (λ b. b ≡ false → StillPlays (view self.old.desk).kept self.old.task self.new) }
+        ensures short { OnErr result (IsOutOfMemory space.now self.new) }
         ensures hindered { IfOk result (λ b. b ≡ false → IsHindered (program_of space.now) space.now.events (view self.old.desk) (view self.new.desk) message.number message.object message.method) }
     {
         let mut members = Members::new();
@@ -172,6 +174,7 @@ impl Worker {
         ensures over { OnOk result (IsAtRest space.now self.new × (self.new.spent ≡ true → self.new.task ≡ None)) }
         ensures role { OnOk result (IsSameRole (view self.old.desk) (view self.new.desk)) }
         ensures minded { OnOk result (WasMinded G.knows (view self.old.desk).kept self.old.task self.new message.number) }
+        ensures short { OnErr result (IsOutOfMemory space.now self.new) }
     {
         if self.attend(space, code, limits, gate, message)? {
             return Ok(());
@@ -200,6 +203,7 @@ impl Worker {
         ensures over { OnOk result (IsAtRest space.now self.new × (self.new.spent ≡ true → self.new.task ≡ None)) }
         ensures role { OnOk result (IsSameRole (view self.old.desk) (view self.new.desk)) }
         ensures minded { OnOk result (WasMinded G.knows (view self.old.desk).kept self.old.task self.new message.number) }
+        ensures short { OnErr result (IsOutOfMemory space.now self.new) }
     {
         let backoff = Backoff::new();
         for _ in rt.forever() {

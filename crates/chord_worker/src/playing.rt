@@ -1,5 +1,5 @@
 //! A task comes to its next ask, which becomes an entry of the run.
-ghost use Rattle.std.specs.Prelude.{◌≡◌, ◌≢◌, ◌<◌, false, Some, None, IfOk, OnOk, MatchResult, IfSome, IfNone, vec_len};
+ghost use Rattle.std.specs.Prelude.{◌≡◌, ◌≢◌, ◌<◌, false, Some, None, IfOk, OnOk, OnErr, MatchResult, IfSome, IfNone, vec_len};
 ghost use Rattle.chord_base.specs.declared.event.End.{End as AnEnd};
 ghost use Rattle.chord_base.specs.Story.{IsSound};
 ghost use Rattle.chord_space.specs.Desks.{view, space_code, space_limits, program_of, IsDeskOf, IsSameDesk, MayDraw};
@@ -92,7 +92,7 @@ fn draw_ask(
 }
 
 /// The ask of the task becomes an entry of the desk and of the task, and of the list of what the worker drew. Its number, or nothing
-/// where the limit on events is reached.
+/// where the limit on events is reached. There is room for the entry before it is drawn: where memory is missing nothing was drawn.
 #[inline(never)]
 pub(crate) fn draw_own(
     alloc: Global,
@@ -117,11 +117,13 @@ pub(crate) fn draw_own(
     ensures told { IfOk result (λ x. IfNone x (HeardOfLimit (view desk.old) (view desk.new))) }
     ensures same { IfOk result (λ x. IfNone x (draws.new.items ≡ draws.old.items)) }
     ensures bare { OnOk result (OwnsNothing asked.new) }
+    ensures undrawn { OnErr result ((view desk.new ≡ view desk.old) × (draws.new.items ≡ draws.old.items)) }
 {
     let body = top_number(&task.value);
+    let second = task.value.make_room(alloc, code, asked, draws)?;
     match draw_ask(space, desk, body, asked) {
         Ok(number) => {
-            task.value.settle(alloc, code, number, asked, draws)?;
+            task.value.settle(code, number, asked, second, draws);
             Ok(Some(number))
         }
         Err(_) => {

@@ -1,5 +1,5 @@
 //! A worker plays its task to the next ask, and does what follows from it.
-ghost use Rattle.std.specs.Prelude.{◌≡◌, ◌≢◌, ◌⊎◌, Bool, true, false, List, Some, None, OnOk};
+ghost use Rattle.std.specs.Prelude.{◌≡◌, ◌≢◌, ◌⊎◌, Bool, true, false, List, Some, None, OnOk, OnErr};
 ghost use Rattle.chord_base.specs.declared.event.Entry.{Entry as AnEntry};
 ghost use Rattle.chord_base.specs.declared.event.Limits.{Limits as TheLimits};
 ghost use Rattle.chord_base.specs.Story.{IsSound};
@@ -10,7 +10,7 @@ ghost use Rattle.chord_task.specs.Standing.{view_of, IsTaskOf};
 ghost use Rattle.chord_task.specs.Turning.{HasCome, OwnsNothing};
 ghost use Rattle.chord_vm.specs.Frames.{what_of_ask};
 ghost use Rattle.chord_worker.specs.Playing.{IsNoMessage};
-ghost use Rattle.chord_worker.specs.Resting.{IsInMemory, IsStock, MayContinue, IsAtRest, IsSameRole};
+ghost use Rattle.chord_worker.specs.Resting.{IsInMemory, IsStock, MayContinue, IsAtRest, IsSameRole, IsOutOfMemory};
 ghost use Rattle.chord_worker.specs.Stepping.{HasGoneOn, PlaysNoOther, PlaysNext};
 
 use crate::fired::lay_off;
@@ -110,6 +110,7 @@ impl Worker {
         ensures went { OnOk result (HasGoneOn (view self.old.desk).kept task self.new) }
         ensures plays { OnOk result (PlaysNoOther task self.new.task) }
         ensures bare { OnOk result (OwnsNothing asked.new) }
+        ensures short { OnErr result (IsOutOfMemory space.now self.new) }
     {
         let mut task = task;
         match draw_own(
@@ -159,6 +160,7 @@ impl Worker {
         ensures went { OnOk result (HasGoneOn (view self.old.desk).kept task self.new) }
         ensures plays { OnOk result (PlaysNext G.knows (view self.old.desk).kept task self.new) }
         ensures bare { OnOk result (OwnsNothing asked.new) }
+        ensures short { OnErr result (IsOutOfMemory space.now self.new) }
     {
         match asked {
             None => unreachable!(),
@@ -201,7 +203,7 @@ impl Worker {
     /// minded until it is taken or no chord with it is enabled; a firing's body begins; the memory of a task that is over serves for
     /// another. Where the limit on events is reached the task is laid down. So afterwards the desk keeps a newer entry than all that it kept, or the
     /// task went away with its call, or the desk was told of the limit. The gate knows of each body that the worker begins to play.
-    /// Want of memory is an `Err`, after which entries may be lost.
+    /// Want of memory is an `Err`: the task is gone, and each entry that was drawn stands in the lists, since there is room for it before it is drawn.
     pub fn step<R: Wait, G: Gate>(
         &mut self,
         rt: &R,
@@ -220,6 +222,7 @@ impl Worker {
         ensures over { OnOk result ((view self.new.desk).spent ≡ true → self.new.task ≡ None) }
         ensures went { OnOk result ((t : TheTask) → self.old.task ≡ Some t → HasGoneOn (view self.old.desk).kept t self.new) }
         ensures plays { OnOk result ((t : TheTask) → self.old.task ≡ Some t → PlaysNext G.knows (view self.old.desk).kept t self.new) }
+        ensures short { OnErr result (IsOutOfMemory space.now self.new) }
     {
         match self.task.take() {
             None => unreachable!(),

@@ -1,4 +1,4 @@
-use Rattle.std.proofs.Common.{◌≡◌, ◌∙◌, ◌++◌, ◌∷◌, [], sym, ap, subst, arith, length, reverse, List, ℕ}
+use Rattle.std.proofs.Common.{◌≡◌, ◌∙◌, ◌++◌, ◌∷◌, [], refl, sym, ap, subst, arith, length, reverse, List, ℕ}
 use Rattle.std.specs.Prelude.{slice_get}
 use Rattle.std.proofs.lemmas.List.{reverse-append}
 use Rattle.chord_base.specs.declared.value.Value.{Value}
@@ -65,7 +65,8 @@ returns c =
     let list = c.reserve.new.self.items in
     let past' : reverse c.resume_with.new.self.past ≡ e ∷ reverse c.in_ok-task.task.past = past ∙ ap (λ (l : List Entry). e ∷ l) (sym spare.past) in
     let entries = listed_one c.in_ok-task.task.past c.resume_with.new.self.past list c.resume_with.new.list.items e c.in_ok-resume_with.ensures.listed past' ∙ ap (λ l. l ++ e ∷ []) c.reserve.ensures.items in
-    fired_alone code limits c.args.bodies.now _ h c.args.number c.args.chord c.args.object c.args.members.now vs c.resume_with.new.self played s f task past entries
+    fired_alone code limits c.args.bodies.now _ h c.args.number c.args.chord c.args.object c.args.members.now vs c.resume_with.new.self played s f task past c.in_ok-resume_with.ensures.top entries
     c.in_ok-push.ensures.items
     (ap reverse c.in_ok-push-2.ensures.items ∙ reverse-append c.args.bodies.now.ready.items (c.place_after-at.result ∷ []) ∙ ap (λ i. i ∷ reverse c.args.bodies.now.ready.items) at)
+    refl
     (c.in_ok-push-3.ensures.items ∙ ap (λ i. c.args.bodies.now.homes.items ++ i ∷ []) (c.place_of.ensures ∙ at))

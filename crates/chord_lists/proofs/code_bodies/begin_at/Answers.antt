@@ -75,9 +75,9 @@ returns c =
     let e' = fired c.args.number c.args.chord c.args.object c.args.members.now vs in
     let listed = subst (λ (t : Task). AddsOne t.past c.resume_with.new.self.past c.reserve.new.self.items c.resume_with.new.list.items) e c.in_ok-resume_with.ensures.listed in
     let entries = listed_one k.task.past c.resume_with.new.self.past c.reserve.new.self.items c.resume_with.new.list.items e' listed past ∙ ap (λ l. l ++ e' ∷ []) c.reserve.ensures.items in
-    fired_at code limits c.args.bodies.now _ h c.args.at c.args.number c.args.chord c.args.object c.args.members.now vs c.resume_with.new.self played s f k task past entries
+    fired_at code limits c.args.bodies.now _ h c.args.at c.args.number c.args.chord c.args.object c.args.members.now vs c.resume_with.new.self played s f k task past c.in_ok-resume_with.ensures.top entries
     refl
-    c.in_ok-put_ready.ensures
+    c.in_ok-put_ready.ensures refl
     (c.in_ok-push.ensures.items ∙ ap (λ i. c.args.bodies.now.homes.items ++ i ∷ []) c.place_of.ensures)
 
 pub place_of-requires : goal.place_of-requires

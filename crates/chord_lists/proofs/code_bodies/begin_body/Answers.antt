@@ -1,7 +1,8 @@
 use Rattle.std.proofs.Common.{◌∙◌, ap, Some}
 use Rattle.chord_lists.specs.CodeStands.{home}
 use Rattle.chord_lists.proofs.CodeFiring.{caller, call_served}
-use Rattle.chord_lists.proofs.CodeOver.{stands_over}
+use Rattle.chord_lists.proofs.CodeOver.{stands_over, stands_later}
+use Rattle.chord_lists.proofs.OverTasks.{none_over}
 use Rattle.chord_lists.proofs.code_bodies.begin_body.Goals as goal
 
 pub home_of-at-requires : goal.home_of-at-requires
@@ -19,10 +20,42 @@ begin_at-requires-clause-fits c =
       hosts = c.home_of-at.ensures ∙ ap (λ z. home z c.in-Some.call) c.deref.ensures.value;
     }
 
+pub begin_at-requires-clause-may : goal.begin_at-requires-clause-may
+begin_at-requires-clause-may c =
+    let m = c.requires.may in
+    (m.0, m.1, m.2, stands_later c.args.code.now c.args.limits.now c.args.bodies.now c.home_of-at.result m.0 m.3, m.4, m.5)
+
+pub next_over-requires : goal.next_over-requires
+next_over-requires c = rw c.deref-in-None.ensures.value (c.requires.may.3.over)
+
+pub begin_at-requires-in-Some-next_over-clause-may : goal.begin_at-requires-in-Some-next_over-clause-may
+begin_at-requires-in-Some-next_over-clause-may c =
+    let m = c.requires.may in
+    let left = rw (c.in-Some-next_over.is, c.deref-in-None.ensures.value) at c.next_over.ensures.left in
+    (m.0, m.1, m.2, stands_over c.args.code.now c.args.limits.now c.args.bodies.now c.next_over.new.over _ m.0 m.3 left, m.4, m.5)
+
+pub begin_alone-requires-clause-may : goal.begin_alone-requires-clause-may
+begin_alone-requires-clause-may c =
+    let m = c.requires.may in
+    let none = rw (c.in-None-next_over.is, c.deref-in-None.ensures.value) at c.next_over.ensures.none in
+    (m.0, m.1, m.2, stands_over c.args.code.now c.args.limits.now c.args.bodies.now c.next_over.new.over _ m.0 m.3 (none_over c.args.bodies.now.tasks.items _ none), m.4, m.5)
+
+pub begin_alone-requires-clause-none : goal.begin_alone-requires-clause-none
+begin_alone-requires-clause-none c = rw (c.in-None-next_over.is, c.deref-in-None.ensures.value) at c.next_over.ensures.none
+
+pub returns-in_ok-begin_at-in-Some : goal.returns-in_ok-begin_at-in-Some
+returns-in_ok-begin_at-in-Some c =
+    λ h vs played s f. c.in_ok-begin_at-in-Some.ensures h vs played (stands_later c.args.code.now c.args.limits.now c.args.bodies.now c.home_of-at.result h s) f
+
 pub returns-in_ok-begin_at-in-Some-next_over : goal.returns-in_ok-begin_at-in-Some-next_over
 returns-in_ok-begin_at-in-Some-next_over c =
-    λ h vs played s f. c.in_ok-begin_at-in-Some-next_over.ensures h vs played (stands_over c.args.code.now c.args.limits.now c.args.bodies.now c.next_over.new.over h s) f
+    λ h vs played s f.
+    let left = rw (c.in-Some-next_over.is, c.deref-in-None.ensures.value) at c.next_over.ensures.left in
+    c.in_ok-begin_at-in-Some-next_over.ensures h vs played (stands_over c.args.code.now c.args.limits.now c.args.bodies.now c.next_over.new.over _ h s left) f
 
 pub returns-in_ok-begin_alone-in-None-next_over : goal.returns-in_ok-begin_alone-in-None-next_over
 returns-in_ok-begin_alone-in-None-next_over c =
-    λ h vs played s f. c.in_ok-begin_alone-in-None-next_over.ensures h vs played (stands_over c.args.code.now c.args.limits.now c.args.bodies.now c.next_over.new.over h s) f
+    λ h vs played s f.
+    let none = rw (c.in-None-next_over.is, c.deref-in-None.ensures.value) at c.next_over.ensures.none in
+    c.in_ok-begin_alone-in-None-next_over.ensures h vs played
+    (stands_over c.args.code.now c.args.limits.now c.args.bodies.now c.next_over.new.over _ h s (none_over c.args.bodies.now.tasks.items _ none)) f

@@ -66,4 +66,4 @@ returns c =
     let listed = subst (λ (x : Task). AddsOne x.past c.turn.new.self.past bodies.entries.items c.turn.new.list.items) e c.in_ok-sent.ensures.listed in
     let homes = c.in_ok-push.ensures.items ∙ ap (λ i. bodies.homes.items ++ i ∷ []) c.place_of.ensures in
     let is = c.turn_to.ensures ∙ ap turn_to w.2 ∙ turn_told w.0 in
-    went_at code limits bodies _ h c.args.number c.args.at t.0 c.turn.new.self w.0 c.turn_to.result c.parts-parts.ensures.valid c.requires.sound c.requires.room played s t.1 t.2 u listed homes is refl refl
+    went_at code limits bodies _ h c.args.number c.args.at t.0 c.turn.new.self w.0 c.turn_to.result c.parts-parts.ensures.valid c.requires.sound c.requires.room played s t.1 t.2 u listed homes is refl refl c.in_ok-keep_over.ensures

@@ -55,3 +55,6 @@ returns-clause-closed c =
 
 pub returns-clause-view : goal.returns-clause-view
 returns-clause-view c = c.release.ensures.rest.2 ∙ c.close-closed.ensures.view
+
+pub returns-clause-drew : goal.returns-clause-drew
+returns-clause-drew c = ap (λ (v : View). v.draws) (c.release.ensures.rest.2 ∙ c.close-closed.ensures.view) ∙ (known c).drew

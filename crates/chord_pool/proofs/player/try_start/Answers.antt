@@ -1,11 +1,15 @@
 use Rattle.chord_space.specs.Desks.{view}
-use Rattle.chord_pool.proofs.Looking.{seen_twice}
+use Rattle.chord_pool.proofs.Looking.{seen_twice, plays_since}
 use Rattle.chord_pool.proofs.player.try_start.Goals as goal
 
 pub returns-else-not-started-clause-seen : goal.returns-else-not-started-clause-seen
 returns-else-not-started-clause-seen g c = λ e.
     let look = c.look.ensures.seen in
     seen_twice (view c.args.worker.now.desk) (view c.look.new.self.desk) (view c.start_at_work-started.new.worker.desk) c.args.i look.0 look.2 (c.start_at_work-started.ensures.refused e)
+
+pub returns-else-not-started-clause-plays : goal.returns-else-not-started-clause-plays
+returns-else-not-started-clause-plays g c = λ e.
+    plays_since g.G.Gate.knows c.args.worker.now c.look.new.self c.start_at_work-started.new.worker c.args.i c.requires.idle c.look.ensures.seen.2.kept (c.start_at_work-started.ensures.plays e)
 
 pub returns-then-not-was_at_work-clause-seen : goal.returns-then-not-was_at_work-clause-seen
 returns-then-not-was_at_work-clause-seen g c = λ e.

@@ -11,7 +11,10 @@ pub returns-clause-told : goal.returns-clause-told
 returns-clause-told g c = c.join-back.ensures.second.2
 
 pub returns-clause-others : goal.returns-clause-others
-returns-clause-others g c = c.join-back.ensures.first
+returns-clause-others g c = (c.join-back.ensures.first.0, c.join-back.ensures.first.1)
+
+pub returns-clause-off : goal.returns-clause-off
+returns-clause-off g c = (c.join-back.ensures.second.3, c.join-back.ensures.first.2)
 
 pub join-back-requires-send-F : goal.join-back-requires-send-F
 join-back-requires-send-F g c κs within = param_send 1 _ (arg_send _ yes _ (others_go _ _ _ _ _ _ _ _ _ _ _ _ _ c.type_bounds.sync-G c.type_bounds.sync-R))

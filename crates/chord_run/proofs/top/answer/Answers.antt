@@ -1,4 +1,5 @@
-use Rattle.std.proofs.Common.{ap, ◌∙◌}
+use Rattle.std.proofs.Common.{[], ap, ◌∙◌, arith}
+use Rattle.chord_io.proofs.Joined.{Gave-nothing}
 use Rattle.chord_run.specs.Command.{made_from}
 use Rattle.chord_run.specs.declared.command.Request.{Request}
 use Rattle.chord_run.proofs.Answering.{request_answered}
@@ -7,6 +8,18 @@ use Rattle.chord_run.proofs.top.answer.Goals as goal
 
 pub returns-in-Ok-clause-headline : goal.returns-in-Ok-clause-headline
 returns-in-Ok-clause-headline g c = request_answered _ _ c.in-Ok.request c.answer_request.result _ _ c.in-Ok.ensures.requested c.answer_request.ensures.answered
+
+pub returns-in-Err-Refused-clause-taken : goal.returns-in-Err-Refused-clause-taken
+returns-in-Err-Refused-clause-taken g c = ([], omega arith, Gave-nothing _)
+
+pub returns-in-Err-Memory-clause-taken : goal.returns-in-Err-Memory-clause-taken
+returns-in-Err-Memory-clause-taken g c = ([], omega arith, Gave-nothing _)
+
+pub returns-in-Ok-clause-taken : goal.returns-in-Ok-clause-taken
+returns-in-Ok-clause-taken g c = c.answer_request.ensures.taken
+
+pub returns-in-Ok-clause-unaccepted_unread : goal.returns-in-Ok-clause-unaccepted_unread
+returns-in-Ok-clause-unaccepted_unread g c none = absurd (none (c.in-Ok.request, c.in-Ok.ensures.requested))
 
 pub returns-in-Ok-clause-made_unread : goal.returns-in-Ok-clause-made_unread
 returns-in-Ok-clause-made_unread g c request k asks made =

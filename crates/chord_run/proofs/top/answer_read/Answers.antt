@@ -10,3 +10,15 @@ returns-in-Err-TooLong-clause-answered g c =
       | inl u ↦ inl (record { silent = inr (inr u.status_is); nothing = u.nothing })
       | inr r ↦ inr (record { source = s.0; given = s.1; answered = long_answers c.args.request.now _ s.0 c.refuse.result _ _ (s.2 (omega (arith, t.1))) r })
     ]
+
+pub returns-in-Err-Failed-clause-taken : goal.returns-in-Err-Failed-clause-taken
+returns-in-Err-Failed-clause-taken g c = c.in-Err-Failed.ensures.part
+
+pub returns-in-Err-Memory-clause-taken : goal.returns-in-Err-Memory-clause-taken
+returns-in-Err-Memory-clause-taken g c = c.in-Err-Memory.ensures.part
+
+pub returns-in-Err-TooLong-clause-taken : goal.returns-in-Err-TooLong-clause-taken
+returns-in-Err-TooLong-clause-taken g c = c.in-Err-TooLong.ensures.part
+
+pub returns-in-Ok-clause-taken : goal.returns-in-Ok-clause-taken
+returns-in-Ok-clause-taken g c = (c.in-Ok.bytes.items, omega (arith, c.in-Ok.ensures.fits, c.in-Ok.bytes.ok.0), c.in-Ok.ensures.gave)

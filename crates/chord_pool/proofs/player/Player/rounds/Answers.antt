@@ -1,7 +1,11 @@
-use Rattle.std.proofs.Common.{arith, refl, ◌∙◌}
+use Rattle.std.proofs.Common.{arith, refl, rules, ◌∙◌}
 use Rattle.chord_space.specs.Desks.{view}
 use Rattle.chord_pool.proofs.Endings.{role_stays}
+use Rattle.chord_pool.proofs.Rounds.{no_rounds, one_round_more, left_off_there}
 use Rattle.chord_pool.proofs.player.Player.rounds.Goals as goal
+
+pub loop-round-init : goal.loop-round-init
+loop-round-init g c = (search rules, search rules, search rules, search rules, search rules, search rules, no_rounds g.G.Gate.knows c.args.run.now.space.now c.args.self.now _ (record { worker = refl; place = refl; known = refl }))
 
 pub loop-round-preserved : goal.loop-round-preserved
 loop-round-preserved g c =
@@ -12,7 +16,17 @@ loop-round-preserved g c =
       now.counts refl,
       now.heard refl was.4,
       (λ _. (c.loop-round.self, record { on = was.1; sane = was.2; settled = was.0 was.2; counts_so = was.3; told_nothing = was.4 }, now.went refl)),
+      one_round_more g.G.Gate.knows c.args.run.now.space.now c.args.self.now c.loop-round.self c.round.new.self was.6 (now.went refl),
     )
 
 pub returns-clause-went : goal.returns-clause-went
 returns-clause-went g c = λ _. c.loop-round.invariant.5 (omega arith)
+
+pub returns-clause-had : goal.returns-clause-had
+returns-clause-had g c = λ _. c.loop-round.invariant.6
+
+pub returns-then-not-round-clause-off : goal.returns-then-not-round-clause-off
+returns-then-not-round-clause-off g c = λ _. record { last = c.loop-round.self; had = c.loop-round.invariant.6; off = c.if-not-round.ensures.off refl }
+
+pub returns-then-self-clause-off : goal.returns-then-self-clause-off
+returns-then-self-clause-off g c = λ _. left_off_there g.G.Gate.knows c.args.run.now.space.now c.args.self.now _ (no_rounds g.G.Gate.knows c.args.run.now.space.now c.args.self.now _ (record { worker = refl; place = refl; known = refl }))

@@ -1,0 +1,67 @@
+-- Rounds of a player, one after the other, and turns of the first worker alone.
+use Rattle.std.proofs.Common.{◌≡◌, ℕ, List, [], ◌∷◌, ◌++◌, refl, sym, ◌∙◌, subst}
+use Rattle.chord_space.specs.declared.space.Space.{Space}
+use Rattle.chord_space.specs.Desks.{view}
+use Rattle.chord_task.specs.declared.parcel.Opened.{Opened as Parcel}
+use Rattle.chord_worker.specs.declared.worker.Worker.{Worker}
+use Rattle.chord_worker.specs.Stepping.{StillPlays}
+use Rattle.chord_pool.specs.declared.player.Player.{Player}
+use Rattle.chord_pool.specs.Players.{HadARound, IsBetweenRounds, AreRounds, HadRounds, HasLeftOff, HaveAllLeftOff}
+use Rattle.chord_pool.specs.Ending.{HadATurn, HadTurns}
+
+-- nothing happens between two rounds, twice
+between_on : (x y z : Player) → IsBetweenRounds x y → IsBetweenRounds y z → IsBetweenRounds x z
+between_on x y z a b = record { worker = b.worker ∙ a.worker; place = b.place ∙ a.place; known = b.known ∙ a.known }
+
+-- nor does it behind rounds
+rounds_stay : (knows : ℕ → Type 0) (s : Space Parcel) (x y z : Player) (ys : List Player) → AreRounds knows s x ys y → IsBetweenRounds y z → AreRounds knows s x ys z
+rounds_stay knows s x y z [] rounds same = between_on x y z rounds same
+rounds_stay knows s x y z (u ∷ us) rounds same = (rounds.0, rounds.1, rounds.2, between_on u y z rounds.3 same)
+
+-- rounds behind others
+rounds_behind : (knows : ℕ → Type 0) (s : Space Parcel) (x y z : Player) (ys zs : List Player) → AreRounds knows s x ys y → AreRounds knows s y zs z → AreRounds knows s x (zs ++ ys) z
+rounds_behind knows s x y z ys [] before after = rounds_stay knows s x y z ys before after
+rounds_behind knows s x y z ys (u ∷ us) before after = (after.0, rounds_behind knows s x y after.0 ys us before after.1, after.2, after.3)
+
+-- a player that has had no round yet
+pub no_rounds : (knows : ℕ → Type 0) (s : Space Parcel) (x y : Player) → IsBetweenRounds x y → HadRounds knows s x y
+no_rounds knows s x y same = record { after_each = []; rounds = same }
+
+-- and one that has had one more
+pub one_round_more : (knows : ℕ → Type 0) (s : Space Parcel) (x y z : Player) → HadRounds knows s x y → HadARound knows s y z → HadRounds knows s x z
+one_round_more knows s x y z had one = record { after_each = z ∷ had.after_each; rounds = (y, had.rounds, one, record { worker = refl; place = refl; known = refl }) }
+
+-- and one that has had several more
+pub more_rounds : (knows : ℕ → Type 0) (s : Space Parcel) (x y z : Player) → HadRounds knows s x y → HadRounds knows s y z → HadRounds knows s x z
+more_rounds knows s x y z had later = record { after_each = later.after_each ++ had.after_each; rounds = rounds_behind knows s x y z had.after_each later.after_each had.rounds later.rounds }
+
+-- a player that leaves off is where it was, if it has not failed
+pub left_off_there : (knows : ℕ → Type 0) (s : Space Parcel) (x y : Player) → HadRounds knows s x y → HasLeftOff knows s x y
+left_off_there knows s x y had = record { last = y; had = had; off = λ sane. (refl, refl) }
+
+-- rounds, and then more of them, after which the player left off and went
+pub left_off_later : (knows : ℕ → Type 0) (s : Space Parcel) (x y z w : Player) → HadRounds knows s x y → HasLeftOff knows s y z → w.worker ≡ z.worker → w.failed ≡ z.failed → HasLeftOff knows s x w
+left_off_later knows s x y z w had later same_worker same_end = record {
+  last = later.last;
+  had = more_rounds knows s x y later.last had later.had;
+  off = λ sane. subst (λ (v : Worker). StillPlays (view later.last.worker.desk).kept later.last.worker.task v) (sym same_worker) (later.off (sym same_end ∙ sane));
+}
+
+-- one more player that has left off
+pub left_off_more : (knows : ℕ → Type 0) (s : Space Parcel) (xs ys : List Player) (x y : Player) → HaveAllLeftOff knows s xs ys → HasLeftOff knows s x y → HaveAllLeftOff knows s (xs ++ x ∷ []) (ys ++ y ∷ [])
+left_off_more knows s [] [] x y all one = (one, tt)
+left_off_more knows s [] (v ∷ ys) x y all one = absurd all
+left_off_more knows s (u ∷ xs) [] x y all one = absurd all
+left_off_more knows s (u ∷ xs) (v ∷ ys) x y all one = (all.0, left_off_more knows s xs ys x y all.1 one)
+
+-- none, where there are none
+pub left_off_none : (knows : ℕ → Type 0) (s : Space Parcel) (xs ys : List Player) → xs ≡ [] → ys ≡ [] → HaveAllLeftOff knows s xs ys
+left_off_none knows s xs ys none none_either = subst (λ (l : List Player). HaveAllLeftOff knows s l ys) (sym none) (subst (HaveAllLeftOff knows s []) (sym none_either) tt)
+
+-- a worker that has had no turn yet
+pub no_turns : (knows : ℕ → Type 0) (w : Worker) → HadTurns knows w w
+no_turns knows w = record { before_each = []; turns = refl }
+
+-- and one that has had one more
+pub one_turn_more : (knows : ℕ → Type 0) (u v w : Worker) → HadTurns knows u v → HadATurn knows v w → HadTurns knows u w
+one_turn_more knows u v w had one = record { before_each = v ∷ had.before_each; turns = (had.turns, one) }

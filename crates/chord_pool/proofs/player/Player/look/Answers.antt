@@ -1,0 +1,11 @@
+use Rattle.std.proofs.Common.{ap, ◌∙◌}
+use Rattle.chord_rule.specs.declared.view.View.{View}
+use Rattle.chord_pool.proofs.Looking.{started_since}
+use Rattle.chord_pool.proofs.player.Player.look.Goals as goal
+
+pub returns-clause-started : goal.returns-clause-started
+returns-clause-started g c = λ some.
+    started_since g.G.Gate.knows c.args.self.now.worker c.count-count.new.self c.find_work-self.new.worker c.requires.idle (ap (λ (v : View). v.kept) c.count-count.ensures.counted.2) (c.find_work-self.ensures.started some)
+
+pub returns-clause-kept : goal.returns-clause-kept
+returns-clause-kept g c = λ none. c.find_work-self.ensures.kept none ∙ ap (λ (v : View). v.kept) c.count-count.ensures.counted.2

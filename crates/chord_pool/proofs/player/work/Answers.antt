@@ -1,0 +1,23 @@
+use Rattle.std.proofs.Common.{refl, rules, ◌∙◌}
+use Rattle.chord_space.specs.Desks.{view}
+use Rattle.chord_pool.proofs.Endings.{role_stays}
+use Rattle.chord_pool.proofs.Rounds.{no_rounds, more_rounds, left_off_later}
+use Rattle.chord_pool.proofs.player.work.Goals as goal
+
+pub loop-init : goal.loop-init
+loop-init g c = (search rules, search rules, search rules, search rules, search rules, search rules, no_rounds g.G.Gate.knows c.args.run.now.space.now c.args.player _ (record { worker = refl; place = refl; known = refl }))
+
+pub loop-preserved : goal.loop-preserved
+loop-preserved g c = let was = c.loop.invariant in let now = c.if-not-rounds.ensures in (
+  tt,
+  tt,
+  now.may,
+  ((now.on.0.0 ∙ was.3.0.0, now.on.0.1 ∙ was.3.0.1), λ sane. role_stays (view c.args.player.worker.desk) (view c.loop.player.worker.desk) (view c.rounds.new.self.worker.desk) (was.3.1 was.5) (now.on.1 sane)),
+  now.counts refl,
+  now.sane refl,
+  more_rounds g.G.Gate.knows c.args.run.now.space.now c.args.player c.loop.player c.rounds.new.self was.6 (now.had refl),
+)
+
+pub returns-then-not-rounds-clause-off : goal.returns-then-not-rounds-clause-off
+returns-then-not-rounds-clause-off g c =
+    left_off_later g.G.Gate.knows c.args.run.now.space.now c.args.player c.loop.player c.rounds.new.self c.leave.new.self c.loop.invariant.6 (c.if-not-rounds.ensures.off refl) c.leave.ensures.same.0 c.leave.ensures.same.1

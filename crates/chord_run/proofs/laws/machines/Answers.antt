@@ -1,0 +1,11 @@
+use Rattle.chord_run.proofs.Machines.{machine_is_sound, report_serves, run_serves}
+use Rattle.chord_run.proofs.laws.machines.Goals as goal
+
+pub returns-clause-sound : goal.returns-clause-sound
+returns-clause-sound c = machine_is_sound c.accepted.ensures c.sound.ensures
+
+pub returns-clause-runs : goal.returns-clause-runs
+returns-clause-runs c = run_serves c.accepted.ensures c.sound.ensures c.callers.ensures
+
+pub returns-clause-reports : goal.returns-clause-reports
+returns-clause-reports c = report_serves c.accepted.ensures c.sound.ensures c.callers.ensures

@@ -1,0 +1,10 @@
+-- Of a source that is made from a number nothing is read.
+use Rattle.std.proofs.Common.{[], arith}
+use Rattle.chord_io.proofs.Joined.{Gave-nothing}
+use Rattle.chord_run.proofs.top.answer_request.Goals as goal
+
+pub returns-in-Some-clause-taken : goal.returns-in-Some-clause-taken
+returns-in-Some-clause-taken g c = ([], omega arith, Gave-nothing _)
+
+pub returns-in-None-clause-taken : goal.returns-in-None-clause-taken
+returns-in-None-clause-taken g c = c.answer_read.ensures.taken
