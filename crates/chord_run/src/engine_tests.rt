@@ -6,7 +6,10 @@ use crate::schedule_tests::{CASES, Case, Open, compiled};
 use chord_base::event::{Entry, Limits};
 use chord_base::prefix::run_length;
 use chord_code::code::Code;
-use chord_lists::code_run::play as play_alone;
+use chord_code::valid::valid;
+use chord_io::MemSink;
+use chord_journal::write_lines;
+use chord_lists::code_run::{may_go_on, play as play_alone};
 use chord_plain::plain::Plain;
 use chord_pool::play as play_shared;
 use std::alloc::{AllocError, Global};
@@ -14,6 +17,13 @@ use std::process::Abort;
 use std::sync::Wait;
 use std::test::Fail;
 use std::thread::Threads;
+
+const ONE_MESSAGE: &str =
+    "class Buffer { public string Get() & public async Put(string s) { return s; } }
+class Program {
+  static void Main() { Buffer b = new Buffer(); b.Put(\"hi\"); Console.WriteLine(b.Get()); }
+}
+";
 
 /// How many of these entries are a run of the code, and how many there are.
 fn lengths(
@@ -72,6 +82,35 @@ fn engines<R: Abort + Threads + Wait + Sync>(
     let whole = (case.entries as usize, case.entries as usize);
     assert_eq!(rt; alone(alloc, &code, &limits)?, whole, "{name}");
     assert_eq!(rt; together(rt, alloc, &code, &limits)?, whole, "{name}");
+    Ok(())
+}
+
+#[test]
+fn parts_of_a_source_are_valid(rt: HostRuntime) -> Result<(), Fail> {
+    for case in &CASES {
+        let code = compiled(rt.alloc(), case.source)?;
+        let name = case.name;
+        assert!(rt; valid(code.parts()), "{name}");
+    }
+    Ok(())
+}
+
+#[test]
+fn a_run_that_stops_at_its_limit(rt: HostRuntime) -> Result<(), Fail> {
+    let alloc = rt.alloc();
+    let code = compiled(alloc, ONE_MESSAGE)?;
+    let limits = Limits {
+        events: 7,
+        turns: 1000,
+        depth: 256,
+    };
+    let journal = play_alone(alloc, &code, &limits)?;
+    let mut sink = MemSink::new(alloc, 100, 100, Vec::new(alloc))?;
+    assert!(rt; write_lines(&journal, &mut sink).is_ok());
+    assert_eq!(rt; sink.taken(), b"hi\n".as_slice());
+    assert_eq!(rt; journal.entries().len(), 7);
+    // Main has printed, and has not ended
+    assert!(rt; may_go_on(alloc, &code, &limits, &journal)?);
     Ok(())
 }
 

@@ -31,6 +31,8 @@ mod engine_tests;
 #[cfg(test)]
 mod parse_tests;
 #[cfg(test)]
+mod piece_tests;
+#[cfg(test)]
 mod schedule_tests;
 #[cfg(test)]
 mod sources;

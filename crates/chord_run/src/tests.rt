@@ -8,7 +8,7 @@ use std::test::Fail;
 use std::thread::Threads;
 
 /// The gate that does nothing.
-struct Open;
+pub(crate) struct Open;
 
 impl Gate for Open {
     fn started(&self, _body: u32) {}

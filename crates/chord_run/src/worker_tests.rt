@@ -158,6 +158,57 @@ fn workers_make_the_runs(rt: HostRuntime) -> Result<(), Fail> {
     Ok(())
 }
 
+/// How many entries of each kind a journal has.
+#[derive(Clone, Copy, Debug, PartialEq, Eq)]
+struct Kinds {
+    begun: u32,
+    made: u32,
+    sent: u32,
+    called: u32,
+    fired: u32,
+    printed: u32,
+    ended: u32,
+}
+
+/// The kinds of the entries of a report's journal.
+fn kinds_of(report: &Report) -> Kinds {
+    let mut kinds = Kinds {
+        begun: 0,
+        made: 0,
+        sent: 0,
+        called: 0,
+        fired: 0,
+        printed: 0,
+        ended: 0,
+    };
+    if let Some(journal) = &report.journal {
+        for entry in journal.entries() {
+            let count = match &entry.what {
+                What::Begun => &mut kinds.begun,
+                What::Made(_) => &mut kinds.made,
+                What::Sent(..) => &mut kinds.sent,
+                What::Called(..) => &mut kinds.called,
+                What::Fired(..) => &mut kinds.fired,
+                What::Printed(_) => &mut kinds.printed,
+                What::Ended(_) => &mut kinds.ended,
+            };
+            *count = count.saturating_add(1);
+        }
+    }
+    kinds
+}
+
+/// How many of the lines are this one.
+fn lines_like(taken: &[u8], wanted: &[u8]) -> u32 {
+    let mut like = 0u32;
+    for line in taken.split(|byte| *byte == b'\n') {
+        if line == wanted {
+            like = like.saturating_add(1);
+        }
+    }
+    like
+}
+
 #[test]
 fn santa(rt: HostRuntime) -> Result<(), Fail> {
     for words in &WORDS {
@@ -165,10 +216,22 @@ fn santa(rt: HostRuntime) -> Result<(), Fail> {
         let mut sink = MemSink::new(alloc, 100, 4096, Vec::new(alloc))?;
         let gate = Counting::new(alloc)?;
         let report = answer(&rt, alloc, words, SANTA, &mut sink, &gate)?;
-        // one line of 19 bytes and three of 17, in whatever order, each with its line feed
+        // four lines, in whatever order
         assert_eq!(rt; sink.taken().len(), 20 + 3 * 18);
+        assert_eq!(rt; lines_like(sink.taken(), b"Santa delivers toys"), 1);
+        assert_eq!(rt; lines_like(sink.taken(), b"Santa meets elves"), 3);
         assert_eq!(rt; report.status, 0);
         assert_eq!(rt; entries_of(&report), 159);
+        let wanted = Kinds {
+            begun: 1,
+            made: 2,
+            sent: 63,
+            called: 4,
+            fired: 42,
+            printed: 4,
+            ended: 43,
+        };
+        assert_eq!(rt; kinds_of(&report), wanted, "{words}");
         assert!(rt; gate.told_once(&report), "{words}");
     }
     Ok(())
