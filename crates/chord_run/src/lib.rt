@@ -27,6 +27,8 @@ pub use report::Report;
 pub use top::chord;
 
 #[cfg(test)]
+mod code_tests;
+#[cfg(test)]
 mod engine_tests;
 #[cfg(test)]
 mod parse_tests;

@@ -1,6 +1,6 @@
 //! What no clause says: which whole sources are programs, and at which token the others are refused.
 //! The numbers of tokens were counted by another reader of sources.
-use crate::sources::{READERS_AND_WRITERS, SANTA};
+use crate::sources::{BUFFER, READERS_AND_WRITERS, SANTA};
 use chord_lexer::lexer::lex;
 use chord_lexer::token::{Kind, Token};
 use chord_parser::parser::{ParseFault, parse};
@@ -8,18 +8,6 @@ use chord_tree::program::Program;
 use chord_tree::spelling::spell;
 use std::alloc::{AllocError, Global};
 use std::test::Fail;
-
-const BUFFER: &[u8] = b"class Buffer {
-  public string Get() & public async Put(string s) { return s; }
-}
-class Program {
-  static void Main() {
-    Buffer b = new Buffer();
-    b.Put(\"hi\");
-    Console.WriteLine(b.Get());
-  }
-}
-";
 
 fn same(left: &Kind, right: &Kind) -> bool {
     match (left, right) {
@@ -176,7 +164,7 @@ fn sources_are_programs_or_refused_at_a_token(rt: HostRuntime) -> Result<(), Fai
             b"class A { A() { x = \"a\" 1; } }",
             "at 10",
         ),
-        ("buffer", BUFFER, "program of 59 tokens"),
+        ("buffer", BUFFER.as_bytes(), "program of 59 tokens"),
         (
             "readers and writers",
             READERS_AND_WRITERS.as_bytes(),

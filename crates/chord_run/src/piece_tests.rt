@@ -1,4 +1,5 @@
 //! The top call over a source that gives one byte a read and a sink that takes one byte a write, where each of their calls fails in turn.
+use crate::sources::BUFFER;
 use crate::tests::{Open, words_of};
 use crate::{Refusal, Report, chord};
 use chord_io::{MemSink, MemSource};
@@ -6,18 +7,6 @@ use std::alloc::{AllocError, Global};
 use std::sync::Wait;
 use std::test::Fail;
 use std::thread::Threads;
-
-const BUFFER: &str = "class Buffer {
-  public string Get() & public async Put(string s) { return s; }
-}
-class Program {
-  static void Main() {
-    Buffer b = new Buffer();
-    b.Put(\"hi\");
-    Console.WriteLine(b.Get());
-  }
-}
-";
 
 /// A sink that takes a line of three bytes has as many calls.
 const WRITES: u32 = 3;

@@ -1,5 +1,24 @@
 //! Sources that several tests play or parse.
 
+/// A text is put into a buffer, got out and printed.
+pub(crate) const BUFFER: &str = "class Buffer {
+  public string Get() & public async Put(string s) { return s; }
+}
+class Program {
+  static void Main() {
+    Buffer b = new Buffer();
+    b.Put(\"hi\");
+    Console.WriteLine(b.Get());
+  }
+}
+";
+
+/// An asynchronous body divides by 0, beside `Main`.
+pub(crate) const DIVIDES_BESIDE_MAIN: &str =
+    "class A { public async Bad(int n) { Console.WriteLine(1 / n); } }
+class P { static void Main() { A a = new A(); a.Bad(0); } }
+";
+
 /// Three readers and a writer share a lock, and `Main` waits until all four have counted themselves.
 pub(crate) const READERS_AND_WRITERS: &str = "class Lock {
   public Lock() { idle(); }

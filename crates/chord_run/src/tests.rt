@@ -1,5 +1,5 @@
 //! The top call on whole sources: what is written, the status, and what the report has.
-use crate::sources::READERS_AND_WRITERS;
+use crate::sources::{DIVIDES_BESIDE_MAIN, READERS_AND_WRITERS};
 use crate::{Gate, Refusal, Report, chord};
 use chord_io::{MemSink, MemSource};
 use std::alloc::{AllocError, Global};
@@ -293,9 +293,7 @@ class P { static void Main() { new A(); } }
     },
     Played {
         name: "a trap of an asynchronous body changes no other",
-        source: "class A { public async Bad(int n) { Console.WriteLine(1 / n); } }
-class P { static void Main() { A a = new A(); a.Bad(0); } }
-",
+        source: DIVIDES_BESIDE_MAIN,
         written: "",
         status: 8,
         entries: 6,
@@ -338,7 +336,7 @@ struct Refused {
     refusal: Refusal,
 }
 
-const REFUSED: [Refused; 16] = [
+const REFUSED: [Refused; 18] = [
     Refused {
         name: "empty input",
         source: "",
@@ -411,6 +409,18 @@ const REFUSED: [Refused; 16] = [
         source: "class P { }",
         written: "refused C13 1:12\n",
         refusal: Refusal::Rule(13, 4),
+    },
+    Refused {
+        name: "no Main behind the brace of a class in the third line",
+        source: "class Buffer {\n  public string Get() & public async Put(string s) { return s; }\n}",
+        written: "refused C13 3:2\n",
+        refusal: Refusal::Rule(13, 22),
+    },
+    Refused {
+        name: "no Main behind the end of that line",
+        source: "class Buffer {\n  public string Get() & public async Put(string s) { return s; }\n}\n",
+        written: "refused C13 4:1\n",
+        refusal: Refusal::Rule(13, 22),
     },
     Refused {
         name: "an unknown name before a second Main",

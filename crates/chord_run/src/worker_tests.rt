@@ -1,9 +1,10 @@
 //! Runs that workers make: what they write, how many entries they have and of which bodies the gate is told, however many workers there are; and two bodies
 //! side by side.
-use crate::sources::SANTA;
+use crate::sources::{DIVIDES_BESIDE_MAIN, SANTA};
 use crate::tests::{PLAYED, words_of};
 use crate::{Gate, Report, chord};
-use chord_base::event::{Entry, What};
+use chord_base::event::{End, Entry, Trap, What};
+use chord_base::value::Value;
 use chord_io::{MemSink, MemSource};
 use std::alloc::{AllocError, Global};
 use std::sync::Wait;
@@ -233,6 +234,58 @@ fn santa(rt: HostRuntime) -> Result<(), Fail> {
         };
         assert_eq!(rt; kinds_of(&report), wanted, "{words}");
         assert!(rt; gate.told_once(&report), "{words}");
+    }
+    Ok(())
+}
+
+/// Of the bodies that ended in the journal of a report, how many there are, how many are `Main` with the unit value, and how many divided by 0.
+fn ends_of(report: &Report) -> (usize, usize, usize) {
+    let entries = match &report.journal {
+        Some(journal) => journal.entries(),
+        None => return (0, 0, 0),
+    };
+    let mut all = 0usize;
+    let mut mains = 0usize;
+    let mut divided = 0usize;
+    for entry in entries {
+        if let What::Ended(end) = &entry.what {
+            all = all.saturating_add(1);
+            match end {
+                End::Gives(Value::Unit) if entry.body == 0 => mains = mains.saturating_add(1),
+                End::Traps(Trap::DivideByZero) if entry.body != 0 => divided =
+                    divided.saturating_add(1),
+                _ => {}
+            }
+        }
+    }
+    (all, mains, divided)
+}
+
+/// What `ends_of` says of a run with these words in which an asynchronous body divides by 0.
+fn ends_beside_main<R: Threads + Wait + Sync>(
+    rt: &R,
+    alloc: Global,
+    words: &str,
+) -> Result<(usize, usize, usize), AllocError> {
+    let mut sink = MemSink::new(alloc, 100, 4096, Vec::new(alloc))?;
+    let report = answer(
+        rt,
+        alloc,
+        words,
+        DIVIDES_BESIDE_MAIN,
+        &mut sink,
+        &open_gate(),
+    )?;
+    Ok(ends_of(&report))
+}
+
+#[test]
+fn a_trap_ends_its_body_and_no_other(rt: HostRuntime) -> Result<(), Fail> {
+    let alone = ends_beside_main(&rt, rt.alloc(), "run --one")?;
+    assert_eq!(rt; alone, (2, 1, 1));
+    for words in &WORDS {
+        let ends = ends_beside_main(&rt, rt.alloc(), words)?;
+        assert_eq!(rt; ends, (2, 1, 1), "{words}");
     }
     Ok(())
 }
