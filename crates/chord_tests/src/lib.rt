@@ -7,6 +7,8 @@
 #[cfg(test)]
 mod asks;
 #[cfg(test)]
+mod bypasses;
+#[cfg(test)]
 mod cards;
 #[cfg(test)]
 mod classes;

@@ -3,7 +3,7 @@ use Rattle.chord_rule.specs.Made.{key}
 use Rattle.chord_space.specs.Desks.{view}
 use Rattle.chord_tests.specs.Pairs.{first_object}
 use Rattle.chord_tests.proofs.Bypassing.{went_past_x}
-use Rattle.chord_tests.proofs.hands.see_consumed_x.Goals as goal
+use Rattle.chord_tests.proofs.bypasses.see_consumed_x.Goals as goal
 
 pub returns-in-None-clause-past : goal.returns-in-None-clause-past
 returns-in-None-clause-past c =

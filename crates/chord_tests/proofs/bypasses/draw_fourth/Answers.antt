@@ -1,7 +1,7 @@
 use Rattle.std.proofs.Common.{◌+◌}
 use Rattle.chord_space.specs.Desks.{view, space_code, space_limits}
 use Rattle.chord_tests.proofs.Bypassing.{may_fire_members, two_members, drawn_both}
-use Rattle.chord_tests.proofs.hands.draw_fourth.Goals as goal
+use Rattle.chord_tests.proofs.bypasses.draw_fourth.Goals as goal
 
 pub draw_firing-requires-clause-members : goal.draw_firing-requires-clause-members
 draw_firing-requires-clause-members c =

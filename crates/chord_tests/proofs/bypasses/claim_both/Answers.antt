@@ -3,7 +3,7 @@ use Rattle.chord_rule.specs.Made.{key}
 use Rattle.chord_space.specs.Desks.{view}
 use Rattle.chord_tests.specs.Pairs.{first_object, sent_both}
 use Rattle.chord_tests.proofs.Bypassing.{claimed_both}
-use Rattle.chord_tests.proofs.hands.claim_both.Goals as goal
+use Rattle.chord_tests.proofs.bypasses.claim_both.Goals as goal
 
 pub returns-clause-claimed : goal.returns-clause-claimed
 returns-clause-claimed c =

@@ -2,7 +2,7 @@ use Rattle.std.proofs.Common.{inl, inr, refl, sym, subst}
 use Rattle.chord_rule.specs.Claims.{HasThe}
 use Rattle.chord_space.specs.Desks.{view}
 use Rattle.chord_tests.proofs.Bypassing.{may_consume_y}
-use Rattle.chord_tests.proofs.hands.consume_both.Goals as goal
+use Rattle.chord_tests.proofs.bypasses.consume_both.Goals as goal
 
 pub consume-requires-2-clause-fired : goal.consume-requires-2-clause-fired
 consume-requires-2-clause-fired c =
