@@ -1,13 +1,13 @@
 -- Where the words of a table lie: the counter, then the cells, the place words and the heads.
 use Rattle.std.specs.Prelude.{ℕ, ◌+◌, ◌*◌, ◌/◌, ◌%◌}
 
--- where the word of a number lies among those of all numbers. Eight numbers that follow each other lie 64 words apart, so that desks which draw them in turn write to cache lines of their own
+-- where the word of a number lies among those of all numbers. Eight numbers that follow each other lie eight words apart, so that desks which draw them in turn write to cache lines of their own
 unfoldable pub spread : ℕ → ℕ
-spread i = i / 512 * 512 + i % 8 * 64 + i / 8 % 64
+spread i = i / 64 * 64 + i % 8 * 8 + i / 8 % 8
 
 -- how many words there are of which each number of a table for n events has one
 unfoldable pub breadth_for : ℕ → ℕ
-breadth_for n = (n + 511) / 512 * 512
+breadth_for n = (n + 63) / 64 * 64
 
 -- the word of the cell of the number i
 abbrev pub cell_at : ℕ → ℕ

@@ -98,7 +98,7 @@ fn spread_of(number: u32) -> usize
     ensures inside { (events : ℕ) → number < events → result < breadth_for events }
 {
     let number = number as usize;
-    number / 512 * 512 + number % 8 * 64 + number / 8 % 64
+    number / 64 * 64 + number % 8 * 8 + number / 8 % 8
 }
 
 /// How many words there are of which each of so many numbers has one.
@@ -107,7 +107,7 @@ fn breadth_of(events: u32) -> usize
     ensures breadth { result ≡ breadth_for events }
     ensures few { result ≤ 65536 }
 {
-    (events as usize + 511) / 512 * 512
+    (events as usize + 63) / 64 * 64
 }
 
 impl<P: Carry> Space<P> {
